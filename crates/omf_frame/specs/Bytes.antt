@@ -1,0 +1,42 @@
+-- Words on bytes and lists that the other definitions share.
+use Rattle.std.specs.Prelude.{ℕ, ◌+◌, ◌-◌, ◌*◌, ◌/◌, ◌%◌, ◌^◌, ◌<◌, Bool, ◌==◌, List, [], ◌∷◌, ◌++◌, Option, Some, None, nat_le, slice_index, if◌then◌else◌}
+use Rattle.std.specs.List.{last_or, list_any}
+
+-- each number of the list is a byte
+abbrev pub AreBytes : List ℕ → Type 0
+AreBytes bytes = (i : ℕ) → slice_index bytes i < 256
+
+-- the bits of n from bit `low` on, `count` of them, as a number
+abbrev pub bits : ℕ → ℕ → ℕ → ℕ
+bits n low count = n / 2 ^ low % 2 ^ count
+
+-- whether bit k of n is set
+abbrev pub has_bit : ℕ → ℕ → Bool
+has_bit n k = bits n k 1 == 1
+
+-- a - b, where it is not below 0
+abbrev pub difference : ℕ → ℕ → Option ℕ
+difference a b = if nat_le b a then Some (a - b) else None
+
+-- whether n is in the list
+abbrev pub is_one_of : List ℕ → ℕ → Bool
+is_one_of ns n = list_any (λ k. k == n) ns
+
+-- the last element
+abbrev pub last : {A : Type 0} → List A → Option A
+last xs = last_or None xs
+
+-- what f gives of each element and of all that stand before it, `before` first
+abbrev pub with_before : {A B : Type 0} → (List A → A → List B) → List A → List A → List B
+with_before f before [] = []
+with_before f before (x ∷ xs) = f before x ++ with_before f (before ++ x ∷ []) xs
+
+-- what f gives of each element and of all that stand after it
+abbrev pub with_after : {A B : Type 0} → (A → List A → List B) → List A → List B
+with_after f [] = []
+with_after f (x ∷ xs) = f x xs ++ with_after f xs
+
+-- the elements in front of the first that passes the test
+abbrev pub up_to : {A : Type 0} → (A → Bool) → List A → List A
+up_to test [] = []
+up_to test (x ∷ xs) = if test x then [] else x ∷ up_to test xs

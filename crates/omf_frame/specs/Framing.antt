@@ -1,0 +1,114 @@
+-- Records and the frame of a module (TIS OMF 1.1, "Object record format" and "Order of records").
+use Rattle.std.specs.Prelude.{◌≡◌, ℕ, ◌+◌, ◌*◌, ◌-◌, ◌/◌, ◌%◌, ◌<◌, ◌⊎◌, List, [], ◌∷◌, ◌++◌, length, sum, take, drop, All, flat_map, Bool, true, false, not, ◌||◌, ◌==◌, nat_le, IsTrue, slice_index, Option}
+use Rattle.omf_frame.specs.Bytes.{is_one_of}
+use Rattle.omf_frame.specs.Fault.{Fault, rule, broken, least, first_step}
+use Rattle.omf_frame.specs.declared.fault.Reason.TheVariants as reason
+
+-- A record: its type byte, its contents and its checksum byte.
+pub record Raw : Type 0 where
+  pub kind : ℕ
+  pub body : List ℕ
+  pub checksum : ℕ
+
+-- The bytes of a record: type, length of contents and checksum (low byte first), contents, checksum.
+abbrev pub raw_bytes : Raw → List ℕ
+raw_bytes r = r.kind ∷ (length r.body + 1) % 256 ∷ (length r.body + 1) / 256 ∷ (r.body ++ r.checksum ∷ [])
+
+-- The checksum byte is 0, or makes the sum of all bytes 0 modulo 256.
+abbrev pub IsRecord : Raw → Type 0
+IsRecord r = (length r.body + 1 < 65536) × ((r.checksum ≡ 0) ⊎ (sum (raw_bytes r) % 256 ≡ 0))
+
+-- The checksum byte that makes the sum 0.
+abbrev pub checksum_of : ℕ → List ℕ → ℕ
+checksum_of kind body = (256 - sum (raw_bytes (record { kind = kind; body = body; checksum = 0 })) % 256) % 256
+
+-- The record of a type and contents, with that checksum byte.
+abbrev pub raw_of : ℕ → List ℕ → Raw
+raw_of kind body = record { kind = kind; body = body; checksum = checksum_of kind body }
+
+-- THEADR, LHEADR, COMENT, MODEND, EXTDEF, PUBDEF, LNAMES, SEGDEF, GRPDEF, FIXUPP, LEDATA, LIDATA, COMDEF.
+abbrev pub is_read : ℕ → Bool
+is_read kind = is_one_of (0x80 ∷ 0x82 ∷ 0x88 ∷ 0x8A ∷ 0x8B ∷ 0x8C ∷ 0x90 ∷ 0x91 ∷ 0x96 ∷ 0x98 ∷ 0x99
+    ∷ 0x9A ∷ 0x9C ∷ 0x9D ∷ 0xA0 ∷ 0xA1 ∷ 0xA2 ∷ 0xA3 ∷ 0xB0 ∷ []) kind
+
+-- TYPDEF, LINNUM, LINSYM, ALIAS, VERNUM: carried unread.
+abbrev pub is_carried : ℕ → Bool
+is_carried kind = is_one_of (0x8E ∷ 0x94 ∷ 0x95 ∷ 0xC4 ∷ 0xC5 ∷ 0xC6 ∷ 0xCC ∷ []) kind
+
+-- LEXTDEF, LPUBDEF, LCOMDEF, LLNAMES, BAKPAT, CEXTDEF, COMDAT, NBKPAT, VENDEXT, libraries: known, and refused by this profile.
+abbrev pub is_unsupported : ℕ → Bool
+is_unsupported kind = is_one_of (0xB4 ∷ 0xB5 ∷ 0xB6 ∷ 0xB7 ∷ 0xB8 ∷ 0xCA ∷ 0xB2 ∷ 0xB3 ∷ 0xBC ∷ 0xC2 ∷ 0xC3
+    ∷ 0xC8 ∷ 0xC9 ∷ 0xCE ∷ 0xF0 ∷ 0xF1 ∷ []) kind
+
+-- A record of this type may stand in a module.
+abbrev pub is_taken : ℕ → Bool
+is_taken kind = is_read kind || is_carried kind
+
+-- THEADR and LHEADR.
+abbrev pub is_header : ℕ → Bool
+is_header kind = is_one_of (0x80 ∷ 0x82 ∷ []) kind
+
+-- MODEND.
+abbrev pub is_end : ℕ → Bool
+is_end kind = is_one_of (0x8A ∷ 0x8B ∷ []) kind
+
+-- The bytes are these records: known types, a header first, a MODEND last and nowhere else.
+pub record IsFramed (bytes : List ℕ) (records : List Raw) : Type 0 where
+  pub spelled : bytes ≡ flat_map raw_bytes records
+  pub each : All IsRecord records
+  pub types : All (λ r. IsTrue (is_taken r.kind)) records
+  pub first : IsTrue (is_header (slice_index bytes 0))
+  pub last : (front : List Raw) × (end : Raw) × (records ≡ front ++ end ∷ []) × IsTrue (is_end end.kind) × All (λ r. IsTrue (not (is_end r.kind))) front
+
+-- The bytes that are there of the record at the front, and whether they are all of it.
+abbrev pub present : List ℕ → List ℕ
+present (t ∷ lo ∷ hi ∷ bytes) = t ∷ lo ∷ hi ∷ take (lo + 256 * hi) bytes
+present bytes = bytes
+
+abbrev pub is_whole : List ℕ → Bool
+is_whole (t ∷ lo ∷ hi ∷ bytes) = nat_le (lo + 256 * hi) (length bytes)
+is_whole _ = false
+
+abbrev pub is_nonempty : List ℕ → Bool
+is_nonempty [] = false
+is_nonempty (b ∷ bytes) = true
+
+-- The bytes after the record at the front.
+abbrev pub after_front : List ℕ → List ℕ
+after_front (t ∷ lo ∷ hi ∷ bytes) = drop (lo + 256 * hi) bytes
+after_front _ = []
+
+-- How many bytes are wanted before the record at hand is next judged.
+abbrev pub wanted : List ℕ → ℕ
+wanted [] = 1
+wanted (t ∷ []) = 2
+wanted (t ∷ lo ∷ []) = 1
+wanted (t ∷ lo ∷ hi ∷ bytes) = lo + 256 * hi - length bytes
+
+-- What the two length bytes say, and the record that its bytes are.
+abbrev pub stated_length : List ℕ → ℕ
+stated_length (t ∷ lo ∷ hi ∷ bytes) = lo + 256 * hi
+stated_length _ = 0
+
+abbrev pub front_record : List ℕ → Raw
+front_record (t ∷ lo ∷ hi ∷ bytes) = record { kind = t; body = take (lo + 256 * hi - 1) bytes; checksum = slice_index bytes (lo + 256 * hi - 1) }
+front_record bytes = record { kind = slice_index bytes 0; body = []; checksum = 0 }
+
+-- The fault of a type byte.
+abbrev pub type_faults : ℕ → List Fault
+type_faults kind = broken (rule (is_taken kind || is_unsupported kind) 0 reason.UnknownType ∷ rule (not (is_unsupported kind)) 0 reason.UnsupportedType ∷ [])
+
+-- The faults of framing of the bytes present of one record, in the order in which they are judged: the input ends before the
+-- record, its type, the input ends inside it, a length of 0, the checksum, a first record that is no header.
+abbrev pub frame_steps : Bool → List ℕ → List (List Fault)
+frame_steps is_first bytes = broken (rule (is_nonempty bytes) 0 reason.NoEnd ∷ [])
+    ∷ type_faults (slice_index bytes 0)
+    ∷ broken (rule (is_whole bytes) (length bytes) reason.Cut ∷ [])
+    ∷ broken (rule (not (stated_length bytes == 0)) 1 reason.EmptyRecord ∷ [])
+    ∷ broken (rule ((slice_index bytes (2 + stated_length bytes) == 0) || (sum bytes % 256 == 0)) (2 + stated_length bytes) reason.Checksum ∷ [])
+    ∷ broken (rule (not is_first || is_header (slice_index bytes 0)) 0 reason.NoHeader ∷ [])
+    ∷ []
+
+-- The first of them.
+abbrev pub frame_fault : Bool → List ℕ → Option Fault
+frame_fault is_first bytes = least (first_step (frame_steps is_first bytes))

@@ -1,0 +1,4 @@
+pub mod Bytes
+pub mod Fault
+pub mod Framing
+pub mod Fields
