@@ -1,0 +1,4 @@
+pub mod Values
+pub mod Location
+pub mod Shortest
+pub mod Reading
