@@ -1,7 +1,7 @@
 -- The trees that bytes spell as blocks, or the first fault, read from left to right; and the bytes that they stand for.
-use Rattle.std.specs.Prelude.{ℕ, zero, suc, ◌+◌, List, [], ◌∷◌, length, nat_le, nat_lt, if◌then◌else◌, Result, Ok, Err, take, drop}
+use Rattle.std.specs.Prelude.{ℕ, zero, suc, ◌+◌, List, [], ◌∷◌, length, nat_le, nat_lt, if◌then◌else◌, Result, Ok, Err, Option, Some, None, take, drop}
 use Rattle.byteorder.specs.Endian.{little_number}
-use Rattle.omf_frame.specs.Fault.{Fault, rule, broken}
+use Rattle.omf_frame.specs.Fault.{Fault, rule, broken, first_step, least}
 use Rattle.omf_frame.specs.declared.fault.Reason.{Reason}
 use Rattle.omf_frame.specs.declared.fault.Reason.TheVariants as reason
 use Rattle.omf_image.specs.declared.limits.Limits.{Limits}
@@ -66,33 +66,39 @@ all_from (suc fuel) m at (b ∷ bytes) = elim (m at (b ∷ bytes)) [
   | Ok a ↦ elim (all_from fuel m a.within a.rest) [ Err e ↦ Err e | Ok bs ↦ Ok (block a.value bs) ]
 ]
 
--- The blocks that bytes spell up to their end, from a place on; or the first Short or TooDeep from the left, Short at a tie.
-abbrev pub read_blocks : ℕ → ℕ → ℕ → List ℕ → Result Blocks Fault
-read_blocks width levels at bytes = all_from (length bytes) (read_block width levels) at bytes
+-- The blocks that bytes spell up to their end, within so many levels; or the first Short or TooDeep from the left, Short at a tie.
+-- Places count from the first block's byte.
+abbrev pub read_blocks : ℕ → ℕ → List ℕ → Result Blocks Fault
+read_blocks width levels bytes = all_from (length bytes) (read_block width levels) 0 bytes
 
--- The faults of blocks, in the order in which they are judged: Short or TooDeep, and then that there are too many bytes.
-abbrev pub block_steps_of : ℕ → ℕ → Result Blocks Fault → List (List Fault)
-block_steps_of limit at (Ok blocks) = [] ∷ broken (rule (nat_le (blocks_size blocks) limit) at reason.DataTooLong ∷ []) ∷ []
-block_steps_of limit at (Err e) = (e ∷ []) ∷ [] ∷ []
-
-abbrev pub block_steps : ℕ → Limits → ℕ → List ℕ → List (List Fault)
-block_steps width limits at bytes = block_steps_of limits.expanded at (read_blocks width limits.nesting at bytes)
-
--- How many bytes the blocks stand for; or their first fault, `within` counted from the first block's byte.
-abbrev pub length_within : ℕ → Result Blocks Fault → Result ℕ Fault
-length_within limit (Ok blocks) = if nat_le (blocks_size blocks) limit then Ok (blocks_size blocks) else Err (fault 0 reason.DataTooLong)
-length_within limit (Err e) = Err e
-
-abbrev pub expanded_length : ℕ → Limits → List ℕ → Result ℕ Fault
-expanded_length width limits bytes = length_within limits.expanded (read_blocks width limits.nesting 0 bytes)
-
--- The blocks, and the bytes that they stand for; none where the blocks have a fault.
+-- The blocks; none where they have a fault.
 abbrev pub blocks_or_none : Result Blocks Fault → Blocks
 blocks_or_none (Ok blocks) = blocks
 blocks_or_none (Err e) = no_blocks
 
 abbrev pub blocks_of : ℕ → Limits → List ℕ → Blocks
-blocks_of width limits bytes = blocks_or_none (read_blocks width limits.nesting 0 bytes)
+blocks_of width limits bytes = blocks_or_none (read_blocks width limits.nesting bytes)
 
+-- The bytes that they stand for.
 abbrev pub expanded : ℕ → Limits → List ℕ → List ℕ
 expanded width limits bytes = blocks_bytes (blocks_of width limits bytes)
+
+-- The first Short or TooDeep, if there is one; and the fault that the blocks stand for too many bytes.
+abbrev pub faults_of : Result Blocks Fault → List Fault
+faults_of (Ok blocks) = []
+faults_of (Err e) = e ∷ []
+
+abbrev pub block_faults : ℕ → Limits → List ℕ → List Fault
+block_faults width limits bytes = faults_of (read_blocks width limits.nesting bytes)
+
+abbrev pub length_faults : ℕ → Limits → List ℕ → List Fault
+length_faults width limits bytes = broken (rule (nat_le (blocks_size (blocks_of width limits bytes)) limits.expanded) 0 reason.DataTooLong ∷ [])
+
+-- How many bytes the blocks stand for, or their first fault.
+abbrev pub length_or : ℕ → Option Fault → Result ℕ Fault
+length_or n None = Ok n
+length_or n (Some e) = Err e
+
+abbrev pub expanded_length : ℕ → Limits → List ℕ → Result ℕ Fault
+expanded_length width limits bytes =
+    length_or (blocks_size (blocks_of width limits bytes)) (least (first_step (block_faults width limits bytes ∷ length_faults width limits bytes ∷ [])))

@@ -1,0 +1,1 @@
+//! Laws over the definitions, each the contract of a function that does nothing.
