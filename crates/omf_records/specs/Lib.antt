@@ -2,3 +2,11 @@ pub mod Values
 pub mod Location
 pub mod Shortest
 pub mod Reading
+pub mod Layout
+pub mod Reads
+pub mod Steps
+pub mod FieldReaders
+pub mod Readers
+pub mod Each
+pub mod Many
+pub mod Meets

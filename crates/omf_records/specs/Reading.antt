@@ -1,6 +1,6 @@
 -- Reading contents from a place on: the typed record that they spell, and every fault of layout on the way.
 -- A field that is not there ends the reading; a refused value is noted, and the reading goes on.
-use Rattle.std.specs.Prelude.{ℕ, zero, suc, ◌+◌, ◌-◌, ◌*◌, List, [], ◌∷◌, ◌++◌, length, Option, Some, None, Bool, true, false, not, ◌==◌, ◌||◌, nat_lt, nat_le, take, drop, ◌^◌, Result, Ok, Err, if◌then◌else◌}
+use Rattle.std.specs.Prelude.{ℕ, zero, suc, ◌+◌, ◌-◌, ◌*◌, List, [], ◌∷◌, ◌++◌, length, Option, Some, None, Bool, true, false, not, ◌==◌, ◌||◌, nat_lt, nat_le, take, drop, Result, Ok, Err, if◌then◌else◌}
 use Rattle.omf_frame.specs.Fault.{Fault, least}
 use Rattle.omf_frame.specs.declared.fault.Reason.{Reason}
 use Rattle.omf_frame.specs.declared.fault.Reason.TheVariants as reason

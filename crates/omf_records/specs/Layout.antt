@@ -1,0 +1,167 @@
+-- What a layout is, and the words that layouts are put together from.
+--
+-- A layout is two relations: which bytes, from which place of the record on, spell which value; and which faults bytes
+-- have that spell none. The place is the offset in the record, counted from its type byte. `Spells` is of exactly these
+-- bytes; `Faults` is of all the bytes that are left of the contents.
+--
+-- The faults are those of the first field at which a reading from left to right stops: all that this field has at once, as both
+-- methods of a fix data byte. A refused value hides what comes after it, and nothing so hidden could be the least fault: it
+-- stands further right, since a refused field has a byte and no layout has a fault in front of its place (`behind` in Reads,
+-- `hidden_right` in Readers).
+--
+-- The words, and their readings (FieldReaders, Readers, Many):
+--   p >>= f            p, and then what follows its value          _>=>_, and _>=>|_ to the end of the bytes
+--   give x             no bytes                                    give_reader
+--   ends x             no bytes, and none may be left              ends_whole
+--   rest               all bytes that are left                     rest_whole
+--   many p             p again and again to the end, with places   each_whole
+--   times n p          n of p                                      times_reader
+--   placed p           p with its place                            placed_reader
+--   checked p refused  p, some values of which are refused         checked_reader
+--   called p f         p, its value by another name                called_reader, called_whole
+--   choose b p q       p if b, else q                              choose_reader, choose_whole
+--   either b p q       the same, where b is a literal              either_whole
+--   when b p           p if b, else nothing                        when_reader
+--   byte, le k, number_of wide, index, name, communal_length, head byte_reader, le_reader, number_reader, ..
+use Rattle.std.specs.Prelude.{◌≡◌, ℕ, zero, suc, ◌+◌, ◌/◌, ◌%◌, ◌<◌, ◌≤◌, ◌⊎◌, ◌≢◌, ◌||◌, Bool, true, false, cond, nat_le, if◌then◌else◌, Option, Some, None, List, [], ◌∷◌, ◌++◌, length}
+use Rattle.omf_frame.specs.Bytes.{is_one_of}
+use Rattle.omf_frame.specs.Fault.{Fault}
+use Rattle.omf_frame.specs.Fields.{IsIndex, IsName, IsLittle, IsCommunalLength}
+use Rattle.omf_frame.specs.declared.fault.Reason.{Reason}
+use Rattle.omf_frame.specs.declared.fault.Reason.TheVariants as reason
+use Rattle.omf_records.specs.Values.{At}
+
+pub record Layout (A : Type 0) : Type 1 where
+  -- the bytes, of which the first stands at the place, are a spelling of the value
+  pub Spells : ℕ → List ℕ → A → Type 0
+  -- the bytes from the place to the end of the contents have the fault
+  pub Faults : ℕ → List ℕ → Fault → Type 0
+
+abbrev pub fault : ℕ → Reason → Fault
+fault at r = record { within = at; reason = r }
+
+-- a spelling of p, and then one of what follows its value
+infixl 10 ◌>>=◌
+abbrev pub ◌>>=◌ : {A B : Type 0} → Layout A → (A → Layout B) → Layout B
+◌>>=◌ {A} {B} p f = record {
+  Spells = λ at bytes y. (front : List ℕ) × (back : List ℕ) × (x : A) × (bytes ≡ front ++ back) × p.Spells at front x × (f x).Spells (at + length front) back y;
+  Faults = λ at bytes e. p.Faults at bytes e ⊎ ((front : List ℕ) × (back : List ℕ) × (x : A) × (bytes ≡ front ++ back) × p.Spells at front x × (f x).Faults (at + length front) back e);
+}
+
+-- no bytes
+abbrev pub give : {A : Type 0} → A → Layout A
+give {A} x = record { Spells = λ at bytes y. (bytes ≡ []) × (y ≡ x); Faults = λ at bytes e. ⊥ }
+
+-- no bytes, and none may be left
+abbrev pub ends : {A : Type 0} → A → Layout A
+ends {A} x = record { Spells = λ at bytes y. (bytes ≡ []) × (y ≡ x); Faults = λ at bytes e. (bytes ≢ []) × (e ≡ fault at reason.Long) }
+
+-- all the bytes that are left
+abbrev pub rest : Layout (List ℕ)
+rest = record { Spells = λ at bytes y. y ≡ bytes; Faults = λ at bytes e. ⊥ }
+
+-- an item's spelling, again and again to the end; each item is given with its place
+abbrev pub SpellsEach : {A : Type 0} → Layout A → ℕ → List ℕ → List (At A) → Type 0
+SpellsEach p at bytes [] = bytes ≡ []
+SpellsEach p at bytes (x ∷ xs) = (front : List ℕ) × (back : List ℕ) × (bytes ≡ front ++ back) × (x.within ≡ at) × p.Spells at front x.item × SpellsEach p (at + length front) back xs
+
+abbrev pub many : {A : Type 0} → Layout A → Layout (List (At A))
+many {A} p = record {
+  Spells = SpellsEach p;
+  Faults = λ at bytes e. (front : List ℕ) × (back : List ℕ) × (xs : List (At A)) × (bytes ≡ front ++ back) × (back ≢ []) × SpellsEach p at front xs × p.Faults (at + length front) back e;
+}
+
+-- n spellings of p
+abbrev pub times : {A : Type 0} → ℕ → Layout A → Layout (List A)
+times zero p = give []
+times (suc n) p = p >>= λ x. times n p >>= λ xs. give (x ∷ xs)
+
+-- A field that is spelled, or else is at fault for the reason that its bytes tell.
+abbrev pub field_or : {A : Type 0} → (List ℕ → Reason) → (A → List ℕ → Type 0) → Layout A
+field_or {A} why P = record {
+  Spells = λ at bytes x. P x bytes;
+  Faults = λ at bytes e. (e ≡ fault at (why bytes)) × ((front : List ℕ) (back : List ℕ) (x : A) → bytes ≡ front ++ back → P x front → ⊥);
+}
+
+-- A field that is spelled, or else does not fit: bytes that begin with no spelling of it are too few.
+abbrev pub field : {A : Type 0} → (A → List ℕ → Type 0) → Layout A
+field P = field_or (λ bytes. reason.Short) P
+
+abbrev pub name : Layout (List ℕ)
+name = field IsName
+
+abbrev pub index : Layout ℕ
+index = field IsIndex
+
+abbrev pub IsByte : ℕ → List ℕ → Type 0
+IsByte n bytes = (n < 256) × (bytes ≡ n ∷ [])
+
+abbrev pub byte : Layout ℕ
+byte = field IsByte
+
+-- a number of k bytes, low byte first
+abbrev pub le : ℕ → Layout ℕ
+le k = field (IsLittle k)
+
+-- 32 bits, or 16
+abbrev pub number_of : Bool → Layout ℕ
+number_of wide = le (cond wide 4 2)
+
+-- The first byte of a communal length is up to 128, or 81H, 84H, 88H; another is refused, whatever comes after it.
+abbrev pub begins_length : ℕ → Bool
+begins_length a = nat_le a 128 || is_one_of (0x81 ∷ 0x84 ∷ 0x88 ∷ []) a
+
+abbrev pub length_reason : List ℕ → Reason
+length_reason [] = reason.Short
+length_reason (a ∷ bytes) = if begins_length a then reason.Short else reason.CommunalLength
+
+abbrev pub communal_length : Layout ℕ
+communal_length = field_or length_reason IsCommunalLength
+
+-- One byte below 128, or two bytes, the high one first, of which that has bit 7 set. Bytes that begin with neither are too few.
+abbrev pub IsHead : ℕ → List ℕ → Type 0
+IsHead n bytes = ((n < 128) × (bytes ≡ n ∷ [])) ⊎ ((32768 ≤ n) × (n < 65536) × (bytes ≡ n / 256 ∷ n % 256 ∷ []))
+
+abbrev pub head : Layout ℕ
+head = field IsHead
+
+abbrev pub IsIn : Reason → List Reason → Type 0
+IsIn r [] = ⊥
+IsIn r (x ∷ xs) = (r ≡ x) ⊎ IsIn r xs
+
+-- a field some of whose values are refused, each for the reasons of a list, at the field's first byte
+abbrev pub checked : {A : Type 0} → Layout A → (A → List Reason) → Layout A
+checked {A} p refused = record {
+  Spells = λ at bytes x. p.Spells at bytes x × (refused x ≡ []);
+  Faults = λ at bytes e. p.Faults at bytes e ⊎ ((front : List ℕ) × (back : List ℕ) × (x : A) × (bytes ≡ front ++ back) × p.Spells at front x × (e.within ≡ at) × IsIn e.reason (refused x));
+}
+
+-- a field and its place
+abbrev pub placed : {A : Type 0} → Layout A → Layout (At A)
+placed {A} p = record {
+  Spells = λ at bytes x. (x.within ≡ at) × p.Spells at bytes x.item;
+  Faults = p.Faults;
+}
+
+-- a layout, and its value by another name
+abbrev pub called : {A B : Type 0} → Layout A → (A → B) → Layout B
+called {A} {B} p f = record {
+  Spells = λ at bytes y. (x : A) × p.Spells at bytes x × (y ≡ f x);
+  Faults = p.Faults;
+}
+
+-- one of two
+abbrev pub choose : {A : Type 0} → Bool → Layout A → Layout A → Layout A
+choose b p q = record {
+  Spells = λ at bytes x. cond b (p.Spells at bytes x) (q.Spells at bytes x);
+  Faults = λ at bytes e. cond b (p.Faults at bytes e) (q.Faults at bytes e);
+}
+
+-- one of two, by a test that is known: a layout is chosen once for all bytes
+abbrev pub either : {A : Type 0} → Bool → Layout A → Layout A → Layout A
+either true p q = p
+either false p q = q
+
+-- a layout that stands there only if b
+abbrev pub when : {A : Type 0} → Bool → Layout A → Layout (Option A)
+when b p = choose b (called p (λ x. Some x)) (give None)
