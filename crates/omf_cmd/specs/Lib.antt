@@ -1,0 +1,5 @@
+pub mod Printed
+pub mod Listing
+pub mod Relocated
+pub mod FaultLine
+pub mod Rows
