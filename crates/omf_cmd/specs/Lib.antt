@@ -3,3 +3,5 @@ pub mod Listing
 pub mod Relocated
 pub mod FaultLine
 pub mod Rows
+pub mod Runs
+pub mod Lines
