@@ -5,3 +5,4 @@ pub mod FaultLine
 pub mod Rows
 pub mod Runs
 pub mod Lines
+pub mod Words
