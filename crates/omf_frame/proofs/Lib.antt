@@ -9,3 +9,4 @@ pub mod Records
 pub mod Standing
 pub mod RunLaws
 pub mod ModuleLaws
+pub mod StepLaws

@@ -104,19 +104,19 @@ module _ (input : List ℕ) (shown : List Raw) (rest : List ℕ) (b number start
       by_end : AreSound (shown ++ r ∷ []) → HasNoEnd shown → slice_index a 0 ≡ r.kind → (e : Bool) → is_end (slice_index a 0) ≡ e
           → GoesOn (shown ++ r ∷ []) [] (passed (open_at a number start)) ⊎ (IsStopped (shown ++ r ∷ []) [] (passed (open_at a number start)) ⊎ HasEnded (shown ++ r ∷ []) (passed (open_at a number start)))
       by_end now_sound none kind true e = inr (inr (record {
-            ended = e;
-            no_fault = refl;
-            at_hand = refl;
-            framed = framed_of shown r now_sound none (ap is_end (sym kind) ∙ e);
-          }))
+        ended = e;
+        no_fault = refl;
+        at_hand = refl;
+        framed = framed_of shown r now_sound none (ap is_end (sym kind) ∙ e);
+      }))
       by_end now_sound none kind false e = inl (record {
-            not_ended = e;
-            no_fault = refl;
-            at_hand = refl;
-            no_end = All-append (λ x. IsTrue (not (is_end x.kind))) shown (r ∷ []) none (all_one (λ x. IsTrue (not (is_end x.kind))) r (ap not (ap is_end (sym kind) ∙ e)));
-            not_whole = refl;
-            sound = refl;
-          })
+        not_ended = e;
+        no_fault = refl;
+        at_hand = refl;
+        no_end = All-append (λ x. IsTrue (not (is_end x.kind))) shown (r ∷ []) none (all_one (λ x. IsTrue (not (is_end x.kind))) r (ap not (ap is_end (sym kind) ∙ e)));
+        not_whole = refl;
+        sound = refl;
+      })
 
   pub going_step : AreBytes a → input ++ b ∷ [] ≡ flat_map raw_bytes shown ++ a → AreSound shown → number ≡ length shown → start ≡ length (flat_map raw_bytes shown)
       → HasNoEnd shown → is_whole rest ≡ false → IsFramingOf (input ++ b ∷ []) (settled (record { shown = shown; held = with_byte (open_at rest number start) b }))
@@ -147,19 +147,19 @@ module _ (input : List ℕ) (shown : List Raw) (rest : List ℕ) (b number start
       by_fault : (o : Option Fault) → standing_fault (number == 0) a ≡ o → IsFramingOf (input ++ b ∷ []) (settled (record { shown = shown; held = with_byte (open_at rest number start) b }))
       by_fault None e = subst (IsFramingOf (input ++ b ∷ [])) (sym (one_more shown number start rest b None e)) (by_whole e (is_whole a) refl)
       by_fault (Some f) e = subst (IsFramingOf (input ++ b ∷ [])) (sym (one_more shown number start rest b (Some f) e)) (record {
-            rest = a;
-            spelled = spelled;
-            sound = sound;
-            number = n;
-            start = s;
-            state = inr (inl (record {
-              not_ended = refl;
-              no_end = none;
-              fault = f;
-              why = ap (λ k. standing_fault (k == 0) (present a)) (sym n) ∙ ap (standing_fault (number == 0)) (present_one rest b part) ∙ e;
-              kept = refl;
-            }));
-          })
+        rest = a;
+        spelled = spelled;
+        sound = sound;
+        number = n;
+        start = s;
+        state = inr (inl (record {
+          not_ended = refl;
+          no_end = none;
+          fault = f;
+          why = ap (λ k. standing_fault (k == 0) (present a)) (sym n) ∙ ap (standing_fault (number == 0)) (present_one rest b part) ∙ e;
+          kept = refl;
+        }));
+      })
 
 -- one byte more
 framing_step : (input : List ℕ) (b : ℕ) (run : Run) → AreBytes (input ++ b ∷ []) → IsFramingOf input run → IsFramingOf (input ++ b ∷ []) (settled (record run { held = with_byte run.held b }))
@@ -222,13 +222,13 @@ framing_all input (b ∷ more) run fit h =
 
 pub framing_from_start : (input : List ℕ) → AreBytes input → IsFramingOf input (run_over before_all input)
 framing_from_start input fit = framing_all [] input before_all fit (record {
-    rest = [];
-    spelled = refl;
-    sound = λ k d h. absurd (nowhere k h);
-    number = refl;
-    start = refl;
-    state = inl (record { not_ended = refl; no_fault = refl; at_hand = refl; no_end = all_none (λ r. IsTrue (not (is_end r.kind))); not_whole = refl; sound = refl });
-  })
+  rest = [];
+  spelled = refl;
+  sound = λ k d h. absurd (nowhere k h);
+  number = refl;
+  start = refl;
+  state = inl (record { not_ended = refl; no_fault = refl; at_hand = refl; no_end = all_none (λ r. IsTrue (not (is_end r.kind))); not_whole = refl; sound = refl });
+})
   where
     nowhere : (k : ℕ) → k < 0 → ⊥
     nowhere k h = omega arith

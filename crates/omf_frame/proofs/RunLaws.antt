@@ -183,7 +183,7 @@ fails_law run piece why place new o f = by_cause f.cause
         let stands_now : standing_fault (n == 0) (present (a ++ piece)) ≡ Some g.0 = ap (standing_fault (n == 0)) (sym next) ∙ g.1 in
         let new_is : new ≡ record { bytes = []; number = n; start = s; ended = false; fault = Some (refused run.held g.0) }
         = f.new_is ∙ ap (λ (x : Bool). record { bytes = []; number = n; start = s; ended = x; fault = Some (Refused why place) }) f.not_ended
-          ∙ ap (λ (x : FrameFault). record { bytes = []; number = n; start = s; ended = false; fault = Some x }) (sym g.2) in
+        ∙ ap (λ (x : FrameFault). record { bytes = []; number = n; start = s; ended = false; fault = Some x }) (sym g.2) in
         ap (λ (x : Held). run_over (record run { held = x }) piece) (held_is run.held f.not_ended h.0) ∙ run_refused run.shown n s a piece g.0 o.not_whole o.sound stands_now
         ∙ ap (λ (x : Held). record run { held = x }) (sym new_is)
 
