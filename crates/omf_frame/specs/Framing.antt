@@ -1,7 +1,8 @@
 -- Records and the frame of a module (TIS OMF 1.1, "Object record format" and "Order of records").
-use Rattle.std.specs.Prelude.{◌≡◌, ℕ, ◌+◌, ◌*◌, ◌-◌, ◌/◌, ◌%◌, ◌<◌, ◌⊎◌, List, [], ◌∷◌, ◌++◌, length, sum, take, drop, All, flat_map, Bool, true, false, not, ◌||◌, ◌==◌, nat_le, IsTrue, slice_index, Option}
+use Rattle.std.specs.Prelude.{◌≡◌, ℕ, ◌+◌, ◌*◌, ◌-◌, ◌/◌, ◌%◌, ◌<◌, ◌⊎◌, List, [], ◌∷◌, ◌++◌, length, sum, take, drop, All, flat_map, Bool, true, false, not, ◌||◌, ◌==◌, nat_le, IsTrue, slice_index, Option, Some, None, if◌then◌else◌}
 use Rattle.omf_frame.specs.Bytes.{is_one_of}
 use Rattle.omf_frame.specs.Fault.{Fault, rule, broken, least, first_step}
+use Rattle.omf_frame.specs.declared.fault.Reason.{Reason}
 use Rattle.omf_frame.specs.declared.fault.Reason.TheVariants as reason
 
 -- A record: its type byte, its contents and its checksum byte.
@@ -112,3 +113,17 @@ frame_steps is_first bytes = broken (rule (is_nonempty bytes) 0 reason.NoEnd ∷
 -- The first of them.
 abbrev pub frame_fault : Bool → List ℕ → Option Fault
 frame_fault is_first bytes = least (first_step (frame_steps is_first bytes))
+
+-- More bytes can take this fault away: the input may go on.
+abbrev pub is_end_of_input : Reason → Bool
+is_end_of_input reason.NoEnd = true
+is_end_of_input reason.Cut = true
+is_end_of_input _ = false
+
+abbrev pub lasting : Option Fault → Option Fault
+lasting None = None
+lasting (Some f) = if is_end_of_input f.reason then None else Some f
+
+-- The fault of framing that stands whatever bytes follow.
+abbrev pub standing_fault : Bool → List ℕ → Option Fault
+standing_fault is_first bytes = lasting (frame_fault is_first bytes)

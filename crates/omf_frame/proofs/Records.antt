@@ -1,0 +1,45 @@
+-- The record that a whole record's bytes are.
+use Rattle.std.proofs.Common.{◌≡◌, ◌⊎◌, inl, inr, ℕ, suc, ◌+◌, ◌*◌, ◌-◌, ◌%◌, ◌<◌, ◌≤◌, Bool, true, false, not, ◌||◌, get_or, List, [], ◌∷◌, None, length, sum, refl, arith}
+use Rattle.std.specs.Prelude.{◌==◌, nat_le, slice_index}
+use borrow.Author.Tests.{eqb-true, eqb-false, leb-true}
+use Rattle.omf_frame.specs.Bytes.{AreBytes}
+use Rattle.omf_frame.specs.Framing.{IsRecord, raw_bytes, front_record, is_whole, is_taken, is_unsupported, is_header, frame_fault, standing_fault}
+use Rattle.omf_frame.specs.Judging.{record_len}
+use Rattle.omf_frame.proofs.Judged.{all_hold}
+use Rattle.omf_frame.proofs.FramingLaws.{raw_front, body_length}
+
+pub small : (bytes : List ℕ) → AreBytes bytes → length bytes ≤ record_len bytes → length bytes ≤ 65538
+small [] fit h = omega arith
+small (t ∷ []) fit h = omega arith
+small (t ∷ lo ∷ []) fit h = omega arith
+small (t ∷ lo ∷ hi ∷ rest) fit h = let low : lo < 256 = fit 1 in let high : hi < 256 = fit 2 in omega arith
+
+either_of : (a b : Bool) → a || b ≡ true → (a ≡ true) ⊎ (b ≡ true)
+either_of true b h = inl refl
+either_of false b h = inr h
+
+checked_is : (c : ℕ) (bytes : List ℕ) → (c == 0) || (sum bytes % 256 == 0) ≡ true → (c ≡ 0) ⊎ (sum bytes % 256 ≡ 0)
+checked_is c bytes h = elim (either_of (c == 0) (sum bytes % 256 == 0) h) [ inl a ↦ inl (eqb-true _ _ a) | inr b ↦ inr (eqb-true _ _ b) ]
+
+-- what stands whole and without fault is a record, and the bytes are its bytes
+pub record_at : (f : Bool) (bytes : List ℕ) → AreBytes bytes → length bytes ≤ record_len bytes → is_whole bytes ≡ true → standing_fault f bytes ≡ None
+    → IsRecord (front_record bytes) × (raw_bytes (front_record bytes) ≡ bytes) × (frame_fault f bytes ≡ None)
+record_at f [] fit short whole sound = cc
+record_at f (t ∷ []) fit short whole sound = cc
+record_at f (t ∷ lo ∷ []) fit short whole sound = cc
+record_at f (t ∷ lo ∷ hi ∷ rest) fit short whole sound =
+    let n : ℕ = lo + 256 * hi in
+    let bytes : List ℕ = t ∷ lo ∷ hi ∷ rest in
+    let low : lo < 256 = fit 1 in
+    let high : hi < 256 = fit 2 in
+    let tests = all_hold (is_taken t) (is_unsupported t) (nat_le n (length rest)) (n == 0) ((slice_index bytes (2 + n) == 0) || (sum bytes % 256 == 0)) (not f || is_header t) (length bytes) (2 + n) whole sound in
+    let some = eqb-false n 0 tests.1 in
+    let enough = leb-true n (length rest) whole in
+    let exact : length rest ≡ n = omega arith in
+    let positive : 0 < n = omega arith in
+    let spelled : raw_bytes (front_record bytes) ≡ bytes = raw_front t lo hi rest low high positive exact in
+    let counted : length (front_record bytes).body + 1 ≡ n = body_length t lo hi rest low high positive exact in
+    let last : 2 + n ≡ suc (suc (suc (n - 1))) = omega arith in
+    let checked : (get_or rest (n - 1) 0 ≡ 0) ⊎ (sum bytes % 256 ≡ 0) = rw last at (checked_is (slice_index bytes (2 + n)) bytes tests.2) in
+    let fits : length (front_record bytes).body + 1 < 65536 = omega arith in
+    ((fits, rw spelled checked), spelled, tests.3)

@@ -1,0 +1,92 @@
+-- What is seen of a framer, and what its calls do.
+use Rattle.std.specs.Prelude.{◌≡◌, ◌⊎◌, ◌≤◌, ◌<◌, ℕ, ◌+◌, ◌*◌, Bool, true, false, ◌&&◌, ◌||◌, ◌==◌, is_some, is_none, min, if◌then◌else◌, List, [], ◌++◌, length, take, slice_index, Option, Some, None, option_map, Result, Ok, Err}
+use Rattle.omf_frame.specs.declared.fault.FrameFault.{FrameFault}
+use Rattle.omf_frame.specs.declared.fault.FrameFault.TheVariants.{Memory, Refused}
+use Rattle.omf_frame.specs.Fault.{Fault}
+use Rattle.omf_frame.specs.Framing.{present, is_whole, wanted, is_end, type_faults, frame_fault, standing_fault}
+use Rattle.omf_frame.specs.Judging.{record_len}
+
+-- The bytes taken of the record at hand, its number and start, whether a MODEND was passed, and a kept fault.
+pub record Held : Type 0 where
+  pub bytes : List ℕ
+  pub number : ℕ
+  pub start : ℕ
+  pub ended : Bool
+  pub fault : Option FrameFault
+
+-- Nothing was taken.
+abbrev pub at_start : Held
+at_start = record { bytes = []; number = 0; start = 0; ended = false; fault = None }
+
+-- Some bytes of a record are taken.
+abbrev pub open_at : List ℕ → ℕ → ℕ → Held
+open_at bytes number start = record { bytes = bytes; number = number; start = start; ended = false; fault = None }
+
+-- The bytes of the record at hand once a piece has come.
+abbrev pub next_bytes : Held → List ℕ → List ℕ
+next_bytes held piece = if held.ended then [] else present (held.bytes ++ piece)
+
+-- A whole record stands.
+abbrev pub stands : Held → Bool
+stands held = is_none held.fault && is_whole held.bytes
+
+-- How many bytes it can take before it next judges.
+abbrev pub want_of : Held → ℕ
+want_of held = if held.ended || is_some held.fault then 0 else wanted held.bytes
+
+-- A fault of the record at hand, with its place.
+abbrev pub refused : Held → Fault → FrameFault
+refused held f = Refused f.reason (record { number = held.number; start = held.start; within = f.within })
+
+-- A feed that succeeds takes what the record at hand still lacks, or the whole piece if that is less, and no fault stands.
+pub record Takes (old : Held) (piece : List ℕ) (taken : ℕ) (whole : Bool) (new : Held) : Type 0 where
+  pub no_fault : old.fault ≡ None
+  pub new_is : new ≡ record old { bytes = next_bytes old piece }
+  pub grown : next_bytes old piece ≡ old.bytes ++ take taken piece
+  pub taken_is : taken + length old.bytes ≡ length (next_bytes old piece)
+  pub bound : taken ≤ length piece
+  pub all_wanted : min (want_of old) (length piece) ≤ taken
+  pub whole_is : whole ≡ stands new
+  pub sound : standing_fault (old.number == 0) (next_bytes old piece) ≡ None
+
+-- Why a feed fails: a growth that was needed was refused, and the type byte has no fault; or the fault that now stands.
+abbrev pub IsCause : Held → List ℕ → FrameFault → Type 0
+IsCause old piece Memory = (length old.bytes < length (next_bytes old piece)) × (type_faults (slice_index (next_bytes old piece) 0) ≡ [])
+IsCause old piece (Refused reason place) = option_map (refused old) (standing_fault (old.number == 0) (next_bytes old piece)) ≡ Some (Refused reason place)
+
+-- A feed that fails keeps its fault and drops the bytes at hand; a kept fault is the answer from then on.
+pub record FailsAs (old : Held) (piece : List ℕ) (fault : FrameFault) (new : Held) : Type 0 where
+  pub not_ended : old.ended ≡ false
+  pub new_is : new ≡ record old { bytes = []; fault = Some fault }
+  pub cause : (old.fault ≡ Some fault) ⊎ ((old.fault ≡ None) × IsCause old piece fault)
+
+-- The record that stands is passed.
+abbrev pub passed : Held → Held
+passed held = record {
+  bytes = [];
+  number = held.number + 1;
+  start = held.start + length held.bytes;
+  ended = is_end (slice_index held.bytes 0);
+  fault = None;
+}
+
+-- What the end of the input means: a kept fault, or none after a MODEND, or the fault of the bytes at hand.
+abbrev pub stop_of : Held → Result (Unit {0}) FrameFault
+stop_of held = at_fault held.fault
+  where
+    at_hand : Option Fault → Result (Unit {0}) FrameFault
+    at_hand None = Ok tt
+    at_hand (Some f) = Err (refused held f)
+
+    at_fault : Option FrameFault → Result (Unit {0}) FrameFault
+    at_fault (Some fault) = Err fault
+    at_fault None = if held.ended then Ok tt else at_hand (frame_fault (held.number == 0) held.bytes)
+
+-- What is true of every framer.
+pub record IsState (held : Held) : Type 0 where
+  pub bounded : held.start ≤ held.number * 65538
+  pub short : length held.bytes ≤ record_len held.bytes
+  pub small : length held.bytes ≤ 65538
+  pub sound : standing_fault (held.number == 0) held.bytes ≡ None
+  pub at_end : held.ended ≡ true → (held.bytes ≡ []) × (held.fault ≡ None)
+  pub at_fault : is_some held.fault ≡ true → held.bytes ≡ []

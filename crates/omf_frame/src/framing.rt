@@ -1,0 +1,85 @@
+//! The first record in some bytes, and its fault of framing.
+
+ghost use Rattle.std.specs.Prelude.{◌≡◌, ◌≤◌, ◌+◌, ◌*◌, length};
+ghost use Rattle.omf_frame.specs.Framing.{is_whole};
+ghost use Rattle.omf_frame.specs.Judging.{record_len, type_fault, whole_fault};
+
+use crate::fault::Reason;
+use crate::kinds::{is_header, is_taken, is_unsupported};
+use crate::sums::byte_sum;
+
+/// What the length bytes say: how many bytes follow them.
+fn stated(low: u8, high: u8) -> usize
+    ensures same { result ≡ low + 256 * high }
+    ensures bound { result ≤ 65535 }
+{
+    usize::from(u16::from_le_bytes([low, high]))
+}
+
+/// How long a record is by its length bytes.
+pub fn len_of(low: u8, high: u8) -> usize
+    ensures same { result ≡ 3 + (low + 256 * high) }
+    ensures bound { result ≤ 65538 }
+{
+    3 + stated(low, high)
+}
+
+/// How long the record is that begins so, as far as its bytes tell.
+pub fn record_len(bytes: &[u8]) -> usize
+    ensures same { result ≡ record_len bytes.now }
+    ensures bound { result ≤ 65538 }
+{
+    match bytes {
+        [_, low, high, ..] => len_of(*low, *high),
+        _ => 3,
+    }
+}
+
+/// Whether the record is all there.
+pub fn is_whole(bytes: &[u8]) -> bool
+    ensures { result ≡ is_whole bytes.now }
+{
+    match bytes {
+        [_, low, high, rest @ ..] => stated(*low, *high) <= rest.len(),
+        _ => false,
+    }
+}
+
+/// The fault of the type byte, with its offset.
+#[tactic(auto, unfolding(crate::specs::Judging::type_fault))]
+pub fn type_fault(bytes: &[u8]) -> Option<(Reason, u32)>
+    ensures { result ≡ type_fault bytes.now }
+{
+    match bytes {
+        [] => None,
+        [kind, ..] if is_unsupported(*kind) => Some((Reason::UnsupportedType, 0)),
+        [kind, ..] if is_taken(*kind) => None,
+        _ => Some((Reason::UnknownType, 0)),
+    }
+}
+
+/// The fault of a whole record whose type is good, with its offset.
+#[tactic(auto, unfolding(crate::specs::Judging::whole_fault))]
+pub fn whole_fault(is_first: bool, bytes: &[u8]) -> Option<(Reason, u32)>
+    ensures { result ≡ whole_fault is_first bytes.now }
+{
+    match bytes {
+        [kind, low, high, rest @ ..] => {
+            let stated = stated(*low, *high);
+            if rest.len() < stated {
+                return None;
+            }
+            if stated == 0 {
+                return Some((Reason::EmptyRecord, 1));
+            }
+            if bytes[2 + stated] != 0 && byte_sum(bytes) != 0 {
+                return Some((Reason::Checksum, (2 + stated) as u32));
+            }
+            if is_first && !is_header(*kind) {
+                return Some((Reason::NoHeader, 0));
+            }
+            None
+        }
+        _ => None,
+    }
+}

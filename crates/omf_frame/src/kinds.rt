@@ -1,0 +1,39 @@
+//! The type bytes of records.
+
+ghost use Rattle.std.specs.Prelude.{◌≡◌};
+ghost use Rattle.omf_frame.specs.Framing.{is_taken, is_unsupported, is_header, is_end};
+
+/// Whether records of the type may stand in a module.
+pub fn is_taken(kind: u8) -> bool
+    ensures { result ≡ is_taken kind }
+{
+    matches!(
+        kind,
+        0x80 | 0x82 | 0x88 | 0x8A..=0x8C | 0x8E | 0x90 | 0x91 | 0x94..=0x96 | 0x98..=0x9A
+            | 0x9C | 0x9D | 0xA0..=0xA3 | 0xB0 | 0xC4..=0xC6 | 0xCC
+    )
+}
+
+/// Whether the type is known, and no record of it may stand in a module.
+pub fn is_unsupported(kind: u8) -> bool
+    ensures { result ≡ is_unsupported kind }
+{
+    matches!(
+        kind,
+        0xB2..=0xB8 | 0xBC | 0xC2 | 0xC3 | 0xC8..=0xCA | 0xCE | 0xF0 | 0xF1
+    )
+}
+
+/// Whether the record begins a module.
+pub fn is_header(kind: u8) -> bool
+    ensures { result ≡ is_header kind }
+{
+    matches!(kind, 0x80 | 0x82)
+}
+
+/// Whether the record ends a module.
+pub fn is_end(kind: u8) -> bool
+    ensures { result ≡ is_end kind }
+{
+    matches!(kind, 0x8A | 0x8B)
+}
