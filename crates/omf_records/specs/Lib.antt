@@ -14,6 +14,7 @@ pub mod Records
 pub mod EntryReaders
 pub mod RecordReaders
 pub mod Reading
+pub mod Gives
 pub mod Laws
 pub mod LawProofs
 pub mod Rows
