@@ -2,10 +2,14 @@
 #![tactic(auto)]
 
 mod at;
+mod entry;
 mod field;
 mod here;
+mod item;
 pub mod laws;
 pub mod rows;
 
 pub use at::{At, LayoutFault};
+pub use entry::{Communal, CommunalSize, Extern, Member, Public};
 pub use here::Here;
+pub use item::{Cursor, Item, Items};
