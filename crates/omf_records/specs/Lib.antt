@@ -15,6 +15,7 @@ pub mod EntryReaders
 pub mod RecordReaders
 pub mod Reading
 pub mod Gives
+pub mod Parts
 pub mod Sizes
 pub mod Laws
 pub mod LawProofs

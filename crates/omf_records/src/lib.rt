@@ -8,8 +8,10 @@ mod here;
 mod item;
 pub mod laws;
 pub mod rows;
+mod subrecord;
 
 pub use at::{At, LayoutFault};
 pub use entry::{Communal, CommunalSize, Extern, Member, Public};
 pub use here::Here;
 pub use item::{Cursor, Item, Items};
+pub use subrecord::{Part, Reference, Subrecord};
