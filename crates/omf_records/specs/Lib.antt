@@ -16,6 +16,7 @@ pub mod RecordReaders
 pub mod Reading
 pub mod Gives
 pub mod Parts
+pub mod Seen
 pub mod Sizes
 pub mod Laws
 pub mod LawProofs

@@ -7,6 +7,7 @@ mod field;
 mod here;
 mod item;
 pub mod laws;
+mod record;
 pub mod rows;
 mod subrecord;
 
@@ -14,4 +15,5 @@ pub use at::{At, LayoutFault};
 pub use entry::{Communal, CommunalSize, Extern, Member, Public};
 pub use here::Here;
 pub use item::{Cursor, Item, Items};
+pub use record::{Blocks, Rec, Segment};
 pub use subrecord::{Part, Reference, Subrecord};
