@@ -1,1 +1,3 @@
 pub mod BlocksLaws
+pub mod LengthLaws
+pub mod LimitLaws
