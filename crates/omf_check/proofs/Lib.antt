@@ -1,0 +1,6 @@
+pub mod UniqueLaws
+pub mod RefusalLaws
+pub mod StepLaws
+pub mod TreeLaws
+pub mod AcceptLaws
+pub mod VerdictLaws

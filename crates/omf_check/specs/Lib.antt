@@ -4,4 +4,5 @@ pub mod Rules
 pub mod WellFormed
 pub mod Refusal
 pub mod Verdict
+pub mod Laws
 pub mod Rows
