@@ -4,3 +4,5 @@ pub mod StepLaws
 pub mod TreeLaws
 pub mod AcceptLaws
 pub mod VerdictLaws
+pub mod CellLaws
+pub mod LimitLaws

@@ -1,5 +1,6 @@
 pub mod Tables
 pub mod Threads
+pub mod Cells
 pub mod Rules
 pub mod WellFormed
 pub mod Refusal

@@ -1,6 +1,6 @@
 //! Laws over the definitions, each the contract of a function that does nothing.
 
-ghost use Rattle.omf_check.specs.Laws.{RefusalsStay, RefusalsAreUnique, NeverBoth, ModulesAreUnique, IsEither, VerdictsDecide};
+ghost use Rattle.omf_check.specs.Laws.{RefusalsStay, RefusalsAreUnique, NeverBoth, ModulesAreUnique, IsEither, VerdictsDecide, CellsAreThreads, LimitsMayGrow};
 
 /// A refusal that is neither NoEnd nor Cut stands, whatever follows the input.
 pub fn refusals_stay()
@@ -30,4 +30,14 @@ pub fn is_either()
 /// The verdict says which, and is right.
 pub fn verdicts_decide()
     ensures { VerdictsDecide }
+{}
+
+/// Eight cells, of which each THREAD sets one, are the threads that a search backwards finds.
+pub fn cells_are_threads()
+    ensures { CellsAreThreads }
+{}
+
+/// A module that is well formed under some limits on blocks is so under any larger ones.
+pub fn limits_may_grow()
+    ensures { LimitsMayGrow }
 {}
