@@ -1,35 +1,17 @@
 -- The cells are the threads found by searching backwards.
-use Rattle.std.proofs.Common.{◌≡◌, ℕ, ◌<◌, ◌%◌, ◌/◌, ◌^◌, Bool, List, [], ◌∷◌, ◌++◌, append_assoc, Option, Some, None, refl, sym, ◌∙◌, ap, arith}
-use Rattle.std.specs.Prelude.{filter_map, fold}
-use Rattle.std.specs.List.{last_or, cons_option}
+use Rattle.std.proofs.Common.{◌≡◌, ℕ, ◌<◌, Bool, List, [], ◌∷◌, ◌++◌, append_assoc, refl, sym, ◌∙◌, ap, arith}
+use Rattle.std.specs.Prelude.{fold}
 use Rattle.std.specs.Option.{option_or}
 use Rattle.std.proofs.lemmas.List.{append-nil}
-use Rattle.std.proofs.lemmas.List.Elements.{filter_map-append}
-use Rattle.omf_frame.specs.Bytes.{last}
 use Rattle.omf_records.specs.Values.{Subrecord, thread_number}
-use Rattle.omf_check.specs.Threads.{Setting, setting_of, thread}
+use Rattle.omf_image.proofs.LastLaws.{last_filter_map}
+use Rattle.omf_check.specs.Threads.{setting_of, thread}
 use Rattle.omf_check.specs.Cells.{Cells, no_cells, set_cell, cells_after}
-
-last_more : {A : Type 0} (o : Option A) (xs : List A) (x : A) → last_or o (xs ++ x ∷ []) ≡ Some x
-last_more o [] x = refl
-last_more o (y ∷ xs) x = last_more (Some y) xs x
-
-last_none : {A : Type 0} (xs : List A) → last (xs ++ []) ≡ last xs
-last_none [] = refl
-last_none (x ∷ xs) = after (Some x) xs
-  where
-    after : {A : Type 0} (o : Option A) (xs : List A) → last_or o (xs ++ []) ≡ last_or o xs
-    after o [] = refl
-    after o (x ∷ xs) = after (Some x) xs
-
-one_more : {A : Type 0} (o : Option A) (ys : List A) → last (ys ++ cons_option o []) ≡ option_or o (last ys)
-one_more None ys = last_none ys
-one_more (Some y) ys = last_more None ys y
 
 -- A thread after one more subrecord.
 pub thread-append : (is_frame : Bool) (k : ℕ) (earlier : List Subrecord) (s : Subrecord) → thread is_frame k (earlier ++ s ∷ []) ≡ option_or (setting_of is_frame k s) (thread is_frame k earlier)
 thread-append is_frame k earlier s =
-    ap last (filter_map-append (setting_of is_frame k) earlier (s ∷ [])) ∙ one_more (setting_of is_frame k s) (filter_map (setting_of is_frame k) earlier)
+    last_filter_map (setting_of is_frame k) earlier s
 
 -- the cells after these subrecords, from cells that are the threads of the earlier ones
 cells_from : (earlier subs : List Subrecord) (cells : Cells) → ((is_frame : Bool) (k : ℕ) → cells is_frame k ≡ thread is_frame k earlier)

@@ -1,7 +1,6 @@
 -- A module within some limits on blocks is within any larger ones.
-use Rattle.std.proofs.Common.{◌≡◌, ℕ, ◌≤◌, List, [], ◌∷◌, ◌++◌, refl, sym, ◌∙◌, ap, subst}
-use Rattle.std.specs.Prelude.{All}
-use Rattle.omf_frame.specs.Fault.{Rule, AreKept}
+use Rattle.std.proofs.Common.{◌≡◌, ℕ, ◌≤◌, List, ◌++◌, refl, sym, ◌∙◌, ap, subst}
+use Rattle.omf_frame.specs.Fault.{AreKept}
 use Rattle.omf_frame.specs.Framing.{Raw}
 use Rattle.omf_records.specs.Reading.{typed}
 use Rattle.omf_records.specs.Values.{Rec, Contents, Header, Iterated, width}
@@ -10,7 +9,7 @@ use Rattle.omf_image.specs.BlockReaders.{blocks_whole}
 use Rattle.omf_image.specs.Blocks.{blocks_size}
 use Rattle.omf_image.specs.Expanding.{blocks_or_none}
 use Rattle.omf_image.specs.declared.limits.Limits.{Limits}
-use Rattle.omf_check.specs.Rules.{rules, contents_rules, data_rules, room, item_limit, item_places}
+use Rattle.omf_check.specs.Rules.{contents_rules, data_rules, room, item_limit, item_places}
 use Rattle.omf_check.specs.Tables.{item_count}
 use Rattle.omf_check.specs.WellFormed.{IsWellFormed, HasTrees, recs}
 use Rattle.omf_check.specs.declared.profile.Profile.{Profile}

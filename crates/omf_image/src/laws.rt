@@ -1,6 +1,6 @@
 //! Laws over the definitions, each the contract of a function that does nothing.
 
-ghost use Rattle.omf_image.specs.Laws.{SizesAreLengths, BlocksAreRead, LengthsAreDecided, LimitsMayGrow};
+ghost use Rattle.omf_image.specs.Laws.{SizesAreLengths, BlocksAreRead, LengthsAreDecided, LimitsMayGrow, LastPieceWins, RunsAreMaximal};
 
 /// Blocks stand for as many bytes as their size says.
 pub fn sizes_are_lengths()
@@ -20,4 +20,14 @@ pub fn lengths_are_decided()
 /// Blocks within some limits are within any larger ones.
 pub fn limits_may_grow()
     ensures { LimitsMayGrow }
+{}
+
+/// One more piece gives the bytes that it covers, and leaves all others as they were.
+pub fn last_piece_wins()
+    ensures { LastPieceWins }
+{}
+
+/// The runs that are computed are all the maximal covered intervals, in rising order.
+pub fn runs_are_maximal()
+    ensures { RunsAreMaximal }
 {}
