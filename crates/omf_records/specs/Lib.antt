@@ -14,6 +14,10 @@ pub mod Records
 pub mod EntryReaders
 pub mod RecordReaders
 pub mod Reading
+pub mod Gives
+pub mod Parts
+pub mod Seen
+pub mod Sizes
 pub mod Laws
 pub mod LawProofs
 pub mod Rows

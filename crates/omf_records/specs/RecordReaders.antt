@@ -8,7 +8,7 @@ use Rattle.omf_records.specs.Values.{At, Comment, Names, Group, Externs, Publics
 use Rattle.omf_records.specs.Layout.{checked, byte, le, number_of, many, name, when, rest, called}
 use Rattle.omf_records.specs.Reads.{Reader, Whole}
 use Rattle.omf_records.specs.FieldReaders.{name_reader, name_shrinks, byte_reader, index_reader, le_reader, number_reader}
-use Rattle.omf_records.specs.Readers.{◌>=>◌, ◌>=>|◌, checked_reader, when_reader, placed_reader, index_at, give_reader, ends_whole, rest_whole, called_whole, either_whole}
+use Rattle.omf_records.specs.Readers.{◌>=>◌, ◌>=>|◌, checked_reader, when_reader, placed_reader, index_at, number_at, give_reader, ends_whole, rest_whole, called_whole, either_whole}
 use Rattle.omf_records.specs.Many.{each_whole}
 use Rattle.omf_records.specs.Entries.{member, external, public_item, communal, reference, subrecord}
 use Rattle.omf_records.specs.EntryReaders.{one_reason, member_reader, member_shrinks, external_reader, external_shrinks, public_reader, public_shrinks, communal_reader, communal_shrinks, reference_reader, subrecord_reader, subrecord_shrinks}
@@ -62,7 +62,7 @@ abbrev pub communals_whole : Whole communals
 communals_whole = called_whole (many communal) Communals (each_whole communal communal_reader communal_shrinks)
 
 abbrev pub data_whole : (wide : Bool) → Whole (data_item wide)
-data_whole wide = index_at >=>| λ s. placed_reader (number_of wide) (number_reader wide) >=>| λ o. called_whole rest (λ bytes. record { segment = s; offset = o; bytes = bytes }) rest_whole
+data_whole wide = index_at >=>| λ s. number_at wide >=>| λ o. called_whole rest (λ bytes. record { segment = s; offset = o; bytes = bytes }) rest_whole
 
 abbrev pub plain_whole : (wide : Bool) → Whole (called (data_item wide) Plain)
 plain_whole wide = called_whole (data_item wide) Plain (data_whole wide)

@@ -1,5 +1,19 @@
 //! The contents of the records of an object module: each is one typed record, or has a first fault of layout.
 #![tactic(auto)]
 
+mod at;
+mod entry;
+mod field;
+mod here;
+mod item;
 pub mod laws;
+mod record;
 pub mod rows;
+mod subrecord;
+
+pub use at::{At, LayoutFault};
+pub use entry::{Communal, CommunalSize, Extern, Member, Public};
+pub use here::Here;
+pub use item::{Cursor, Item, Items};
+pub use record::{Blocks, Rec, Segment};
+pub use subrecord::{Part, Reference, Subrecord};
