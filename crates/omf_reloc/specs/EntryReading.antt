@@ -5,7 +5,7 @@ use Rattle.std.specs.Char.{is_digit}
 use Rattle.std.specs.Str.Parse.{digits_value}
 use Rattle.omf_reloc.specs.declared.frame.Frame.{Frame}
 use Rattle.omf_reloc.specs.Placement.{Placed, real_frame}
-use Rattle.omf_reloc.specs.Entries.{Entry, Blank, SegmentEntry, GroupEntry, ExternalEntry, said}
+use Rattle.omf_reloc.specs.Entries.{Entry, Blank, SegmentEntry, GroupEntry, ExternalEntry}
 
 abbrev pub hexadecimal : ℕ → List ℕ → Option ℕ
 hexadecimal most cs = if nat_lt 0 (length cs) && (nat_le (length cs) most && list_all (λ c. is_digit c 16) cs) then Some (digits_value 16 cs) else None
