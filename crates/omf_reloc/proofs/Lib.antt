@@ -1,1 +1,2 @@
 pub mod PatchLaws
+pub mod EntryLaws

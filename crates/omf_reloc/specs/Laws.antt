@@ -1,7 +1,9 @@
 -- Laws over the definitions, each the contract of a function of the same name.
-use Rattle.std.specs.Prelude.{◌≡◌, ◌⊎◌, ℕ, ◌+◌, ◌<◌, ◌≤◌, List, length, slice_index, All}
+use Rattle.std.specs.Prelude.{◌≡◌, ◌⊎◌, ◌↔◌, ℕ, ◌+◌, ◌<◌, ◌≤◌, List, Some, length, slice_index, All}
 use Rattle.omf_records.specs.Location.{location_size}
 use Rattle.omf_records.specs.Values.{DataItem, location_type, location_offset}
+use Rattle.omf_reloc.specs.Entries.{Entry, Spells}
+use Rattle.omf_reloc.specs.EntryReading.{entry_said}
 use Rattle.omf_reloc.specs.Plain.{PlainFixup}
 use Rattle.omf_reloc.specs.Placement.{Places}
 use Rattle.omf_reloc.specs.Image.{patched}
@@ -26,3 +28,7 @@ pub record StaysInside (pl : Places) (d : DataItem) (fixups : List (ℕ × Plain
 
 abbrev pub PatchesStayInside : Type 0
 PatchesStayInside = (pl : Places) (d : DataItem) (fixups : List (ℕ × PlainFixup)) → AreInside (length d.bytes) fixups → StaysInside pl d fixups
+
+-- The entry that is computed of what a line says is the entry that it spells.
+abbrev pub EntriesAreRead : Type 0
+EntriesAreRead = (text : List ℕ) (e : Entry) → (entry_said text ≡ Some e) ↔ Spells text e
