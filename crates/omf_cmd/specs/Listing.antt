@@ -3,7 +3,7 @@ use Rattle.std.specs.Prelude.{ℕ, List, [], ◌∷◌, ◌++◌, length, flat_m
 use Rattle.std.specs.List.{enumerate_from}
 use Rattle.omf_frame.specs.Bytes.{with_before, is_one_of}
 use Rattle.omf_frame.specs.Framing.{Raw, raw_bytes}
-use Rattle.omf_records.specs.Values.{At, Rec, Contents, Publics, PublicItem, PublicItems}
+use Rattle.omf_records.specs.Values.{Rec, Contents, Publics, PublicItem, PublicItems}
 use Rattle.omf_check.specs.Tables.{names, segments, groups, externals}
 use Rattle.omf_check.specs.WellFormed.{recs}
 use Rattle.omf_cmd.specs.Printed.{hex, line, quoted, named, index_or_dash}

@@ -1,5 +1,5 @@
 -- Words of the printed texts (this profile's rule).
-use Rattle.std.specs.Prelude.{ℕ, ◌-◌, List, [], ◌∷◌, ◌++◌, length, flat_map, replicate, Option, unwrap_or, option_map, true, Bool, ◌==◌, ◌&&◌, not, nat_le, codes, decimal, if◌then◌else◌}
+use Rattle.std.specs.Prelude.{ℕ, ◌-◌, List, [], ◌∷◌, ◌++◌, length, flat_map, replicate, unwrap_or, option_map, true, Bool, ◌==◌, ◌&&◌, not, nat_le, codes, decimal, if◌then◌else◌}
 use Rattle.std.specs.Fmt.{digits}
 use Rattle.std.specs.List.{join_with_byte}
 use Rattle.omf_check.specs.Tables.{entry}

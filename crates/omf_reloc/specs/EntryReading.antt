@@ -5,7 +5,7 @@ use Rattle.std.specs.Char.{is_digit}
 use Rattle.std.specs.Str.Parse.{digits_value}
 use Rattle.omf_reloc.specs.declared.frame.Frame.{Frame}
 use Rattle.omf_reloc.specs.Placement.{Placed, real_frame}
-use Rattle.omf_reloc.specs.Entries.{Entry, Blank, SegmentEntry, GroupEntry, ExternalEntry, said}
+use Rattle.omf_reloc.specs.Entries.{Entry, Blank, SegmentEntry, GroupEntry, ExternalEntry}
 
 abbrev pub hexadecimal : ℕ → List ℕ → Option ℕ
 hexadecimal most cs = if nat_lt 0 (length cs) && (nat_le (length cs) most && list_all (λ c. is_digit c 16) cs) then Some (digits_value 16 cs) else None
@@ -20,6 +20,10 @@ abbrev pub real_of : List ℕ → Option Placed
 real_of address = option_and_then (λ a. option_map (λ f. record { address = a; frame = f }) (real_frame a)) (hexadecimal 8 address)
 
 -- The entry of so many words; none where they are no entry.
+abbrev pub one_word : List ℕ → Option Entry
+one_word [] = Some Blank
+one_word (c ∷ cs) = None
+
 abbrev pub two_words : List ℕ → List ℕ → Option Entry
 two_words w x = if bytes_eq w (codes "G") && bytes_eq x (codes "real") then Some (GroupEntry None) else None
 
@@ -32,7 +36,7 @@ four_words w x y z = if bytes_eq w (codes "S") then option_map SegmentEntry (pla
     else (if bytes_eq w (codes "E") then option_map ExternalEntry (placed_of x y z) else None)
 
 abbrev pub entry_of_words : List (List ℕ) → Option Entry
-entry_of_words ([] ∷ []) = Some Blank
+entry_of_words (w ∷ []) = one_word w
 entry_of_words (w ∷ x ∷ []) = two_words w x
 entry_of_words (w ∷ x ∷ y ∷ []) = three_words w x y
 entry_of_words (w ∷ x ∷ y ∷ z ∷ []) = four_words w x y z

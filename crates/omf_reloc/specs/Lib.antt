@@ -10,3 +10,4 @@ pub mod PlacementText
 pub mod Derive
 pub mod Modules
 pub mod Rows
+pub mod Laws

@@ -4,7 +4,7 @@ use Rattle.std.specs.List.{enumerate_from, slice_split}
 use Rattle.omf_reloc.specs.declared.frame.Frame.{Frame}
 use Rattle.omf_records.specs.Values.{Rec}
 use Rattle.omf_reloc.specs.Placement.{Places, Placed, real_group}
-use Rattle.omf_reloc.specs.Entries.{Entry, Blank, SegmentEntry, GroupEntry, ExternalEntry, said}
+use Rattle.omf_reloc.specs.Entries.{Entry, SegmentEntry, GroupEntry, ExternalEntry, said}
 use Rattle.omf_reloc.specs.EntryReading.{entry_said}
 
 -- The lines of a text, which end at a line feed or at the end of the text, each with its number from 1 and its entry, if it has one.

@@ -7,8 +7,9 @@ use Rattle.omf_reloc.specs.declared.fault.Kind.TheVariants as kinds
 use Rattle.omf_reloc.specs.declared.fault.ReachFault.{ReachFault}
 use Rattle.omf_reloc.specs.declared.fault.ReachFault.TheVariants as fault
 use Rattle.omf_frame.specs.Bytes.{with_after}
-use Rattle.omf_records.specs.Values.{At, Rec, Contents, Fixups, ModEnd, Plain, Iterated, DataItem, Subrecord, Thread, Fixup}
+use Rattle.omf_records.specs.Values.{Rec, Contents, Fixups, ModEnd, Plain, Iterated, DataItem, Subrecord, Thread, Fixup}
 use Rattle.omf_check.specs.Tables.{segments, groups, externals}
+use Rattle.omf_check.specs.declared.segment.SegInfo.{SegInfo}
 use Rattle.omf_reloc.specs.Plain.{Piece, Kept, Fixed, End, pieces, fixups_of_data}
 use Rattle.omf_reloc.specs.Placement.{Places, Placed, placed, absolute_place}
 use Rattle.omf_reloc.specs.Offsets.{outcome, start_offset, cause_of}
@@ -63,16 +64,20 @@ abbrev pub misplaced : Places → ℕ → Option (ℕ × ℕ) → List ReachFaul
 misplaced pl i None = []
 misplaced pl i (Some a) = if lies_at (placed pl.segments i) (absolute_place a.0 a.1) then [] else fault.Absolute i ∷ []
 
--- Every reason why the placement does not fit the module: its lists are not as long as the tables, or an absolute segment is misplaced.
+-- Every reason why the placement does not fit a module with these segments and so many groups and externals: its lists are not as long as the tables,
+-- or an absolute segment is misplaced.
+abbrev pub misfits_of : Places → List SegInfo → ℕ → ℕ → List ReachFault
+misfits_of pl infos group_count external_count =
+    missing kinds.Segment (length infos) (length pl.segments)
+    ++ missing kinds.Group group_count (length pl.groups)
+    ++ missing kinds.External external_count (length pl.externals)
+    ++ extra kinds.Segment (length infos) (length pl.segments)
+    ++ extra kinds.Group group_count (length pl.groups)
+    ++ extra kinds.External external_count (length pl.externals)
+    ++ flat_map (λ s. misplaced pl s.0 s.1.absolute) (enumerate_from 1 infos)
+
 abbrev pub misfits : Places → List Rec → List ReachFault
-misfits pl m =
-    missing kinds.Segment (length (segments m)) (length pl.segments)
-    ++ missing kinds.Group (length (groups m)) (length pl.groups)
-    ++ missing kinds.External (length (externals m)) (length pl.externals)
-    ++ extra kinds.Segment (length (segments m)) (length pl.segments)
-    ++ extra kinds.Group (length (groups m)) (length pl.groups)
-    ++ extra kinds.External (length (externals m)) (length pl.externals)
-    ++ flat_map (λ p. misplaced pl p.0 p.1.absolute) (enumerate_from 1 (segments m))
+misfits pl m = misfits_of pl (segments m) (length (groups m)) (length (externals m))
 
 -- Every reference that does not reach.
 abbrev pub far_faults : Places → List Rec → List ReachFault

@@ -4,6 +4,7 @@
 mod fault;
 mod frame;
 mod given;
+pub mod laws;
 pub mod rows;
 
 pub use fault::{Cause, DeriveFault, Kind, ReachFault, TextFault};
