@@ -1,1 +1,2 @@
 pub mod FieldGives
+pub mod Publics

@@ -10,6 +10,7 @@ pub mod laws;
 mod record;
 pub mod rows;
 mod subrecord;
+mod viewing;
 
 pub use at::{At, LayoutFault};
 pub use entry::{Communal, CommunalSize, Extern, Member, Public};
