@@ -1,2 +1,3 @@
 pub mod FieldGives
 pub mod Publics
+pub mod AtStart

@@ -13,7 +13,7 @@ use crate::field::{byte, index, index_here, le16, name, number, number_here};
 use crate::here::Here;
 use crate::item::Items;
 use crate::record::{Blocks, Rec, Segment};
-use crate::subrecord::{read_reference, Reference};
+use crate::subrecord::{Reference, read_reference};
 use omf_frame::{Index, Reason};
 
 /// THEADR, LHEADR.
@@ -126,7 +126,10 @@ pub(crate) fn externs_at<'a>(here: Here<'a>) -> Result<Rec<'a>, LayoutFault>
 }
 
 /// The base frame's number in a PUBDEF, which stands there only if the segment index is 0.
-fn base_frame<'a>(here: Here<'a>, segment: &At<Index>) -> Result<(Option<u16>, Here<'a>), LayoutFault>
+fn base_frame<'a>(
+    here: Here<'a>,
+    segment: &At<Index>,
+) -> Result<(Option<u16>, Here<'a>), LayoutFault>
     ensures { Gives here.entry.wide result ((base_reader (segment.now.item == 0)).read here.entry.within here.entry.bytes.now) }
 {
     if segment.item.0 != 0 {
@@ -241,4 +244,12 @@ pub(crate) fn mod_end_at<'a>(here: Here<'a>) -> Result<Rec<'a>, LayoutFault>
         type_byte,
         start,
     })
+}
+
+/// A record that is carried unread.
+pub(crate) fn carried_at<'a>(kind: u8, contents: &'a [u8]) -> Result<Rec<'a>, LayoutFault>
+    ensures contents { map_ok contents_seen result ≡ carried_whole.read 3 contents.now }
+    ensures kind { IfOk result (λ r. kind_seen r ≡ kind) }
+{
+    Ok(Rec::Carried { kind, contents })
 }
