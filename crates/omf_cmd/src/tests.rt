@@ -1,5 +1,5 @@
 //! Runs of the program on whole modules. Numbers in modules and placements are hexadecimal.
-use crate::{Job, RunFault, command, run_reloc};
+use crate::{Job, RunFault, command, fault_line, run_reloc};
 use omf_check::Profile;
 use omf_frame::{Place, Reading, Reason, Writing};
 use omf_reloc::{Cause, Kind, ReachFault};
@@ -359,5 +359,56 @@ fn reads_its_words(rt: HostRuntime) -> Result<(), Fail> {
     assert_eq!(rt; job_of(rt.alloc(), &["omf", "--help"])?, None);
     assert_eq!(rt; job_of(rt.alloc(), &["omf", "canon"])?, None);
     assert_eq!(rt; job_of(rt.alloc(), &["omf", "reloc", "reloc"])?, None);
+    Ok(())
+}
+
+/// The fault is printed as this line.
+fn prints(rt: &(impl Abort + AllocGlobal), fault: RunFault, line: &str) -> Result<(), AllocError> {
+    let text = fault_line(rt.alloc(), &fault)?;
+    assert_eq!(rt; text.as_str(), line);
+    Ok(())
+}
+
+#[test]
+fn prints_faults(rt: HostRuntime) -> Result<(), Fail> {
+    prints(&rt, RunFault::Memory, "memory")?;
+    prints(&rt, RunFault::Read, "read")?;
+    prints(&rt, RunFault::Write, "write")?;
+    prints(
+        &rt,
+        refused(Reason::Cut, 4, 34, 2),
+        "refused 2 Cut record 4 at 34 within 2",
+    )?;
+    prints(
+        &rt,
+        refused(Reason::NoEnd, 0, 0, 0),
+        "refused 1 NoEnd record 0 at 0 within 0",
+    )?;
+    prints(&rt, RunFault::Line(3), "placement line 3")?;
+    prints(&rt, RunFault::TooLong, "placement too long")?;
+    Ok(())
+}
+
+#[test]
+fn prints_what_does_not_reach(rt: HostRuntime) -> Result<(), Fail> {
+    let missing = ReachFault::Missing(Kind::External, 1);
+    prints(&rt, RunFault::Reach(missing), "reach 1 Missing external 1")?;
+    let extra = ReachFault::Extra(Kind::Group, 1);
+    prints(&rt, RunFault::Reach(extra), "reach 2 Extra group 1")?;
+    prints(
+        &rt,
+        RunFault::Reach(ReachFault::Absolute(1)),
+        "reach 3 Absolute 1",
+    )?;
+    let too_far = ReachFault::TooFar {
+        number: 4,
+        within: 3,
+        cause: Cause::Target,
+    };
+    prints(
+        &rt,
+        RunFault::Reach(too_far),
+        "reach 4 TooFar Target record 4 within 3",
+    )?;
     Ok(())
 }
