@@ -17,7 +17,7 @@ use Rattle.omf_frame.proofs.FaultLaws.{all_cons, untrue}
 use Rattle.omf_frame.proofs.FramingLaws.{present_raw, front_raw, present-append}
 use Rattle.omf_frame.proofs.Judged.{clean_tests}
 use Rattle.omf_frame.proofs.Records.{record_at}
-use Rattle.omf_frame.proofs.Standing.{present_one, standing_stays, present_twice}
+use Rattle.omf_frame.proofs.Standing.{present_one, standing_stays, present_twice, lasting_some}
 use Rattle.omf_frame.proofs.StepLaws.{raw_framed, of_framed, steps_clean}
 use Rattle.std.proofs.lemmas.Bool.{ne_eqb}
 use Rattle.omf_frame.proofs.RunLaws.{run_joined, run_taken, going, one_more, not_settled, settled_part, kept_settled, kept_byte, held_is}
@@ -158,7 +158,8 @@ module _ (input : List ℕ) (shown : List Raw) (rest : List ℕ) (b number start
           not_ended = refl;
           no_end = none;
           fault = f;
-          why = ap (λ k. standing_fault (k == 0) (present a)) (sym n) ∙ ap (standing_fault (number == 0)) (present_one rest b part) ∙ e;
+          why = lasting_some (frame_fault (length shown == 0) (present a)) f (ap (λ k. standing_fault (k == 0) (present a)) (sym n) ∙ ap (standing_fault (number == 0)) (present_one rest b part) ∙ e);
+          lasts = ap (λ k. standing_fault (k == 0) (present a)) (sym n) ∙ ap (standing_fault (number == 0)) (present_one rest b part) ∙ e;
           kept = refl;
         }));
       })
@@ -185,14 +186,14 @@ framing_step input b run fit h = by_state h.state
         let same : settled (record run { held = with_byte run.held b }) ≡ run
         = ap (λ (x : Held). settled (record run { held = x })) (kept_byte run (refused run.held s.fault) b s.kept) ∙ kept_settled run (refused run.held s.fault) s.kept in
         let stays : standing_fault (length run.shown == 0) (present (h.rest ++ b ∷ [])) ≡ Some s.fault
-        = ap (standing_fault (length run.shown == 0)) (sym (present-append h.rest (b ∷ []))) ∙ standing_stays (length run.shown == 0) (present h.rest) (b ∷ []) s.fault (present_twice h.rest) s.why in
+        = ap (standing_fault (length run.shown == 0)) (sym (present-append h.rest (b ∷ []))) ∙ standing_stays (length run.shown == 0) (present h.rest) (b ∷ []) s.fault (present_twice h.rest) s.lasts in
         subst (IsFramingOf (input ++ b ∷ [])) (sym same) (record {
           rest = h.rest ++ b ∷ [];
           spelled = spelled;
           sound = h.sound;
           number = h.number;
           start = h.start;
-          state = inr (inl (record { not_ended = s.not_ended; no_end = s.no_end; fault = s.fault; why = stays; kept = s.kept }));
+          state = inr (inl (record { not_ended = s.not_ended; no_end = s.no_end; fault = s.fault; why = lasting_some (frame_fault (length run.shown == 0) (present (h.rest ++ b ∷ []))) s.fault stays; lasts = stays; kept = s.kept }));
         })
     by_state (inr (inr e)) =
         let judgment : Held = judged run.held (run.held.bytes ++ b ∷ []) (standing_fault (run.held.number == 0) (run.held.bytes ++ b ∷ [])) in
