@@ -8,7 +8,7 @@ use Rattle.std.proofs.lemmas.Bool.Decides.{leb_tells}
 use Rattle.omf_frame.specs.declared.fault.FrameFault.{FrameFault}
 use Rattle.omf_frame.specs.Bytes.{AreBytes}
 use Rattle.omf_frame.specs.Fault.{Fault}
-use Rattle.omf_frame.specs.Framing.{Raw, IsRecord, IsFramed, raw_bytes, present, is_whole, is_end, is_header, is_taken, is_unsupported, front_record, frame_fault, standing_fault}
+use Rattle.omf_frame.specs.Framing.{Raw, IsRecord, IsFramed, raw_bytes, present, is_whole, is_end, is_header, is_taken, is_unsupported, front_record, frame_fault, standing_fault, lasting}
 use Rattle.omf_frame.specs.Judging.{record_len}
 use Rattle.omf_frame.specs.Framer.{Held, open_at, refused, passed}
 use Rattle.omf_frame.specs.Runs.{Run, before_all, run_over, settled, judged, with_byte, AreSound, HasNoEnd, GoesOn, IsStopped, HasEnded, IsFramingOf}
@@ -17,8 +17,10 @@ use Rattle.omf_frame.proofs.FaultLaws.{all_cons, untrue}
 use Rattle.omf_frame.proofs.FramingLaws.{present_raw, front_raw, present-append}
 use Rattle.omf_frame.proofs.Judged.{clean_tests}
 use Rattle.omf_frame.proofs.Records.{record_at}
-use Rattle.omf_frame.proofs.Standing.{present_one, standing_stays, present_twice}
-use Rattle.omf_frame.proofs.RunLaws.{going, one_more, not_settled, settled_part, kept_settled, kept_byte, held_is}
+use Rattle.omf_frame.proofs.Standing.{present_one, standing_stays, present_twice, lasting_some}
+use Rattle.omf_frame.proofs.StepLaws.{raw_framed, of_framed, steps_clean}
+use Rattle.std.proofs.lemmas.Bool.{ne_eqb}
+use Rattle.omf_frame.proofs.RunLaws.{run_joined, run_taken, going, one_more, not_settled, settled_part, kept_settled, kept_byte, held_is}
 
 -- the first of a list, and the others
 pub all_first : {A : Type 0} (P : A → Type 0) (x : A) (xs : List A) → All P (x ∷ xs) → P x
@@ -156,7 +158,8 @@ module _ (input : List ℕ) (shown : List Raw) (rest : List ℕ) (b number start
           not_ended = refl;
           no_end = none;
           fault = f;
-          why = ap (λ k. standing_fault (k == 0) (present a)) (sym n) ∙ ap (standing_fault (number == 0)) (present_one rest b part) ∙ e;
+          why = lasting_some (frame_fault (length shown == 0) (present a)) f (ap (λ k. standing_fault (k == 0) (present a)) (sym n) ∙ ap (standing_fault (number == 0)) (present_one rest b part) ∙ e);
+          lasts = ap (λ k. standing_fault (k == 0) (present a)) (sym n) ∙ ap (standing_fault (number == 0)) (present_one rest b part) ∙ e;
           kept = refl;
         }));
       })
@@ -183,14 +186,14 @@ framing_step input b run fit h = by_state h.state
         let same : settled (record run { held = with_byte run.held b }) ≡ run
         = ap (λ (x : Held). settled (record run { held = x })) (kept_byte run (refused run.held s.fault) b s.kept) ∙ kept_settled run (refused run.held s.fault) s.kept in
         let stays : standing_fault (length run.shown == 0) (present (h.rest ++ b ∷ [])) ≡ Some s.fault
-        = ap (standing_fault (length run.shown == 0)) (sym (present-append h.rest (b ∷ []))) ∙ standing_stays (length run.shown == 0) (present h.rest) (b ∷ []) s.fault (present_twice h.rest) s.why in
+        = ap (standing_fault (length run.shown == 0)) (sym (present-append h.rest (b ∷ []))) ∙ standing_stays (length run.shown == 0) (present h.rest) (b ∷ []) s.fault (present_twice h.rest) s.lasts in
         subst (IsFramingOf (input ++ b ∷ [])) (sym same) (record {
           rest = h.rest ++ b ∷ [];
           spelled = spelled;
           sound = h.sound;
           number = h.number;
           start = h.start;
-          state = inr (inl (record { not_ended = s.not_ended; no_end = s.no_end; fault = s.fault; why = stays; kept = s.kept }));
+          state = inr (inl (record { not_ended = s.not_ended; no_end = s.no_end; fault = s.fault; why = lasting_some (frame_fault (length run.shown == 0) (present (h.rest ++ b ∷ []))) s.fault stays; lasts = stays; kept = s.kept }));
         })
     by_state (inr (inr e)) =
         let judgment : Held = judged run.held (run.held.bytes ++ b ∷ []) (standing_fault (run.held.number == 0) (run.held.bytes ++ b ∷ [])) in
@@ -272,3 +275,80 @@ framed_once a b x y rs ss f g e =
     = ap (λ l. flat_map raw_bytes l ++ x) (sym rs_are) ∙ ap (λ l. l ++ x) (sym f.spelled) ∙ e ∙ ap (λ l. l ++ y) g.spelled ∙ ap (λ l. flat_map raw_bytes l ++ y) ss_are in
     let same : rs ≡ ss = rs_are ∙ same_records h.0 k.0 h.1 k.1 x y (subst (All IsRecord) rs_are f.each) (subst (All IsRecord) ss_are g.each) h.4 k.4 h.3 k.3 spelled ∙ sym ss_are in
     (f.spelled ∙ ap (flat_map raw_bytes) same ∙ sym g.spelled, same)
+
+-- A module is read to its end.
+module _ (shown : List Raw) (number start : ℕ) where
+  -- a record that may stand here is shown and passed
+  read_one : (r : Raw) → IsRecord r → IsTrue (is_taken r.kind) → IsTrue (not (number == 0) || is_header r.kind)
+      → run_over (going shown number start []) (raw_bytes r) ≡ record { shown = shown ++ r ∷ []; held = passed (open_at (raw_bytes r) number start) }
+  read_one r is known headed =
+      let framed = raw_framed (number == 0) r is known headed in
+      let there : present (raw_bytes r) ≡ raw_bytes r = ap present (sym (append-nil (raw_bytes r))) ∙ present_raw r is.0 [] in
+      let clean : standing_fault (number == 0) (raw_bytes r) ≡ None = ap lasting (steps_clean (number == 0) (raw_bytes r) (of_framed (number == 0) (raw_bytes r) framed)) in
+      run_taken shown number start [] (raw_bytes r) refl there clean
+      ∙ ap (λ (w : Bool). cond w (record { shown = shown ++ front_record (raw_bytes r) ∷ []; held = passed (open_at (raw_bytes r) number start) }) (going shown number start (raw_bytes r))) framed.whole
+      ∙ ap (λ (x : Raw). record { shown = shown ++ x ∷ []; held = passed (open_at (raw_bytes r) number start) }) (front_raw r is.0)
+
+  abbrev pub ended_run : Run
+  ended_run = record { shown = shown; held = record { bytes = []; number = number; start = start; ended = true; fault = None } }
+
+  ended_stays : (x : List ℕ) → run_over ended_run x ≡ ended_run
+  ended_stays [] = refl
+  ended_stays (b ∷ x) = ended_stays x
+
+not_first : (n : ℕ) (k : Bool) → IsTrue (not (n + 1 == 0) || k)
+not_first n k = let more : n + 1 ≡ 0 → ⊥ = λ e. omega (arith, e) in ap (λ b. not b || k) (ne_eqb (n + 1) 0 more)
+
+no_end_here : (b : Bool) → IsTrue (not b) → b ≡ false
+no_end_here true h = absurd (untrue h)
+no_end_here false h = refl
+
+-- the bytes of the last record, and of a record before it
+read_last : (shown : List Raw) (number start : ℕ) (z : Raw) (bytes x : List ℕ) → bytes ≡ raw_bytes z → IsRecord z → IsTrue (is_taken z.kind) → IsTrue (not (number == 0) || is_header z.kind) → IsTrue (is_end z.kind)
+    → run_over (going shown number start []) (bytes ++ x) ≡ ended_run (shown ++ z ∷ []) (number + 1) (start + length bytes)
+read_last shown number start z bytes x b is known headed e =
+    ap (λ l. run_over (going shown number start []) (l ++ x)) b ∙ run_joined (going shown number start []) (raw_bytes z) x
+    ∙ ap (λ (run : Run). run_over run x) (read_one shown number start z is known headed)
+    ∙ ap (λ (k : Bool). run_over (record { shown = shown ++ z ∷ []; held = record { bytes = []; number = number + 1; start = start + length (raw_bytes z); ended = k; fault = None } }) x) e
+    ∙ ended_stays (shown ++ z ∷ []) (number + 1) (start + length (raw_bytes z)) x
+    ∙ ap (λ l. ended_run (shown ++ z ∷ []) (number + 1) (start + length l)) (sym b)
+
+read_next : (shown : List Raw) (number start : ℕ) (y : Raw) (bytes tail x : List ℕ) → bytes ≡ raw_bytes y ++ tail → IsRecord y → IsTrue (is_taken y.kind) → IsTrue (not (number == 0) || is_header y.kind) → IsTrue (not (is_end y.kind))
+    → run_over (going shown number start []) (bytes ++ x) ≡ run_over (going (shown ++ y ∷ []) (number + 1) (start + length (raw_bytes y)) []) (tail ++ x)
+read_next shown number start y bytes tail x b is known headed e =
+    ap (λ l. run_over (going shown number start []) l) (ap (λ l. l ++ x) b ∙ append_assoc (raw_bytes y) tail x) ∙ run_joined (going shown number start []) (raw_bytes y) (tail ++ x)
+    ∙ ap (λ (run : Run). run_over run (tail ++ x)) (read_one shown number start y is known headed)
+    ∙ ap (λ (k : Bool). run_over (record { shown = shown ++ y ∷ []; held = record { bytes = []; number = number + 1; start = start + length (raw_bytes y); ended = k; fault = None } }) (tail ++ x)) (no_end_here (is_end y.kind) e)
+
+read_all : (front : List Raw) (z : Raw) (x : List ℕ) (shown all : List Raw) (number start : ℕ) (bytes : List ℕ) → all ≡ front ++ z ∷ [] → bytes ≡ flat_map raw_bytes all → All IsRecord (front ++ z ∷ []) → All (λ q. IsTrue (is_taken q.kind)) (front ++ z ∷ [])
+    → IsTrue (not (number == 0) || is_header (slice_index bytes 0)) → HasNoEnd front → IsTrue (is_end z.kind)
+    → run_over (going shown number start []) (bytes ++ x) ≡ ended_run (shown ++ all) (number + length all) (start + length bytes)
+read_all [] z x shown all number start bytes a b is known headed none e =
+    let b' : bytes ≡ raw_bytes z = b ∙ ap (flat_map raw_bytes) a ∙ append-nil (raw_bytes z) in
+    let headed' : IsTrue (not (number == 0) || is_header z.kind) = subst (λ l. IsTrue (not (number == 0) || is_header (slice_index l 0))) b' headed in
+    let count : number + 1 ≡ number + length all = omega (arith, ap length a) in
+    read_last shown number start z bytes x b' (all_first IsRecord z [] is) (all_first (λ q. IsTrue (is_taken q.kind)) z [] known) headed' e
+    ∙ ap (λ n. ended_run (shown ++ z ∷ []) n (start + length bytes)) count
+    ∙ ap (λ l. ended_run (shown ++ l) (number + length all) (start + length bytes)) (sym a)
+read_all (y ∷ front) z x shown all number start bytes a b is known headed none e =
+    let others : List Raw = front ++ z ∷ [] in
+    let tail : List ℕ = flat_map raw_bytes others in
+    let b' : bytes ≡ raw_bytes y ++ tail = b ∙ ap (flat_map raw_bytes) a in
+    let headed' : IsTrue (not (number == 0) || is_header y.kind) = subst (λ l. IsTrue (not (number == 0) || is_header (slice_index l 0))) b' headed in
+    let count : number + 1 + length others ≡ number + length all = omega (arith, ap length a) in
+    let far : start + length (raw_bytes y) + length tail ≡ start + length bytes = omega (arith, ap length b', length-append (raw_bytes y) tail) in
+    let same : (shown ++ y ∷ []) ++ others ≡ shown ++ all = append_assoc shown (y ∷ []) others ∙ ap (λ l. shown ++ l) (sym a) in
+    read_next shown number start y bytes tail x b' (all_first IsRecord y others is) (all_first (λ q. IsTrue (is_taken q.kind)) y others known) headed' (all_first (λ q. IsTrue (not (is_end q.kind))) y front none)
+    ∙ read_all front z x (shown ++ y ∷ []) others (number + 1) (start + length (raw_bytes y)) tail refl refl (all_rest IsRecord y others is) (all_rest (λ q. IsTrue (is_taken q.kind)) y others known)
+    (not_first number (is_header (slice_index tail 0))) (all_rest (λ q. IsTrue (not (is_end q.kind))) y front none) e
+    ∙ ap (λ l. ended_run l (number + 1 + length others) (start + length (raw_bytes y) + length tail)) same
+    ∙ ap (λ k. ended_run (shown ++ all) k (start + length (raw_bytes y) + length tail)) count
+    ∙ ap (λ k. ended_run (shown ++ all) (number + length all) k) far
+
+pub module_read : (a x : List ℕ) (rs : List Raw) → IsFramed a rs → run_over before_all (a ++ x) ≡ ended_run rs (length rs) (length a)
+module_read a x rs f =
+    let l = f.last in
+    let are : rs ≡ l.0 ++ l.1 ∷ [] = l.2 in
+    read_all l.0 l.1 x [] rs 0 0 a are f.spelled (subst (All IsRecord) are f.each) (subst (All (λ q. IsTrue (is_taken q.kind))) are f.types) f.first l.4 l.3
+    ∙ ap (λ n. ended_run rs n (0 + length a)) (omega arith)
+    ∙ ap (λ n. ended_run rs (length rs) n) (omega arith)

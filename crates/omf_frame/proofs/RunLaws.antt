@@ -35,7 +35,7 @@ module _ (shown : List Raw) (number start : ℕ) where
   not_settled a h = ap (λ (w : Bool). cond w (record { shown = shown ++ front_record a ∷ []; held = passed (open_at a number start) }) (going a)) h
 
   -- what one feed takes
-  run_taken : (a p : List ℕ) → is_whole a ≡ false → present (a ++ p) ≡ a ++ p → standing_fault (number == 0) (a ++ p) ≡ None
+  pub run_taken : (a p : List ℕ) → is_whole a ≡ false → present (a ++ p) ≡ a ++ p → standing_fault (number == 0) (a ++ p) ≡ None
       → run_over (going a) p ≡ settled (going (a ++ p))
   run_taken a [] h e s = sym (ap (λ (x : List ℕ). settled (going x)) (append-nil a) ∙ not_settled a h)
   run_taken a (b ∷ p) h e s =
@@ -60,7 +60,7 @@ module _ (shown : List Raw) (number start : ℕ) where
   stopped_stays f (b ∷ p) = stopped_stays f p
 
   -- what one feed refuses
-  run_refused : (a p : List ℕ) (g : Fault) → is_whole a ≡ false → standing_fault (number == 0) a ≡ None → standing_fault (number == 0) (present (a ++ p)) ≡ Some g
+  pub run_refused : (a p : List ℕ) (g : Fault) → is_whole a ≡ false → standing_fault (number == 0) a ≡ None → standing_fault (number == 0) (present (a ++ p)) ≡ Some g
       → run_over (going a) p ≡ stopped g
   run_refused a [] g h s e =
       let none : standing_fault (number == 0) (present (a ++ [])) ≡ None = ap (λ x. standing_fault (number == 0) (present x)) (append-nil a) ∙ ap (standing_fault (number == 0)) (present_part a h) ∙ s in

@@ -1,12 +1,12 @@
 -- What more bytes do to the record at hand and to its fault.
-use Rattle.std.proofs.Common.{◌≡◌, ℕ, zero, suc, ◌+◌, ◌*◌, ◌≤◌, Bool, true, false, Option, Some, None, List, [], ◌∷◌, ◌++◌, length, take, refl, sym, ap, ◌∙◌, arith}
+use Rattle.std.proofs.Common.{◌≡◌, ℕ, zero, suc, ◌+◌, ◌*◌, ◌≤◌, Bool, true, false, cond, Option, Some, None, List, [], ◌∷◌, ◌++◌, length, take, refl, sym, ap, ◌∙◌, arith}
 use Rattle.std.specs.Prelude.{option_map}
 use Rattle.std.specs.Option.{option_or}
 use borrow.Author.Tests.{leb-true, leb-false}
 use Rattle.std.proofs.lemmas.List.{length-append, length-take, take_at, take_all, append-nil}
 use Rattle.omf_frame.specs.declared.fault.Reason.{Reason}
 use Rattle.omf_frame.specs.Fault.{Fault}
-use Rattle.omf_frame.specs.Framing.{present, is_whole, standing_fault}
+use Rattle.omf_frame.specs.Framing.{present, is_whole, standing_fault, lasting, is_end_of_input}
 use Rattle.omf_frame.specs.Judging.{found, type_fault, whole_fault}
 use Rattle.omf_frame.proofs.Judged.{standing_is}
 use Rattle.omf_frame.proofs.Growing.{type_same}
@@ -99,3 +99,12 @@ sound_front f x y e h = by_fault (standing_fault f x) refl
 
 pub present_twice : (x : List ℕ) → present (present x) ≡ present x
 present_twice x = ap present (sym (append-nil (present x))) ∙ present-append x [] ∙ ap present (append-nil x)
+
+-- a fault that stands is the fault of framing
+pub lasting_some : (o : Option Fault) (f : Fault) → lasting o ≡ Some f → o ≡ Some f
+lasting_some None f e = cc
+lasting_some (Some g) f e = by_reason (is_end_of_input g.reason) e
+  where
+    by_reason : (b : Bool) → cond b None (Some g) ≡ Some f → Some g ≡ Some f
+    by_reason true e = cc
+    by_reason false e = e

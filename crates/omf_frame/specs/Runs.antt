@@ -70,7 +70,8 @@ pub record IsStopped (records : List Raw) (rest : List ℕ) (held : Held) : Type
   pub not_ended : held.ended ≡ false
   pub no_end : HasNoEnd records
   pub fault : Fault
-  pub why : standing_fault (length records == 0) (present rest) ≡ Some fault
+  pub why : frame_fault (length records == 0) (present rest) ≡ Some fault
+  pub lasts : standing_fault (length records == 0) (present rest) ≡ Some fault
   pub kept : held.fault ≡ Some (refused held fault)
 
 -- They are a module from its header to its MODEND.

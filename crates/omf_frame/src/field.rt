@@ -1,4 +1,4 @@
-//! Fields that say by themselves where they end.
+//! Fields that say by themselves where they end (TIS OMF 1.1, "Frequently used fields").
 
 ghost use Rattle.std.specs.Prelude.{◌≡◌, ◌≤◌, ◌<◌, ◌++◌, ◌∷◌, ℕ, List, drop, length, IfSome, IfNone, OnOk, OnErr};
 ghost use Rattle.omf_frame.specs.Fields.{IsSpelledAt, IsUnspelled, IsPrefixFree, IsShortest, IsLittle, IsIndex, index_bytes, IsName, name_bytes, IsCommunalLength, communal_length_bytes};
@@ -10,7 +10,7 @@ use byteorder::{ByteOrder, LittleEndian};
 use std::alloc::AllocError;
 use std::marker::Model;
 
-/// A field of a record, with its spellings.
+/// A field of a record, with its spellings. No spelling begins another.
 pub trait Field<'a>: Sized {
     /// The bytes spell the value.
     ghost spells: { Self → List ℕ → Type 0 };
@@ -18,14 +18,14 @@ pub trait Field<'a>: Sized {
     /// The shortest of a value's spellings.
     ghost shortest: { Self → List ℕ };
 
-    /// The value that is spelled at a position, and the position after it. `None` where the bytes
-    /// there begin with no spelling.
+    /// The value that is spelled at a position, at most the length, and the position after it. `None` where
+    /// the bytes there begin with no spelling.
     fn read_at(src: &'a [u8], pos: usize) -> Option<(Self, usize)>
         requires { pos ≤ length src.now }
         ensures found { IfSome result (λ p. IsSpelledAt spells src.now pos p.0 p.1) }
         ensures none { IfNone result (IsUnspelled spells (drop pos src.now)) };
 
-    /// Appends the shortest spelling. An `Err` changes nothing.
+    /// Appends the shortest spelling. `out` is unchanged at an `Err`.
     fn put(&self, out: &mut Vec<u8>) -> Result<(), AllocError>
         ensures spelled { spells self.now (shortest self.now) }
         ensures ok { OnOk result (out.new.items ≡ out.old.items ++ shortest self.now) }
@@ -38,7 +38,7 @@ pub trait Field<'a>: Sized {
     ghost is_shortest: { IsShortest spells shortest };
 }
 
-/// A number of two bytes.
+/// A number of two bytes, low byte first.
 #[derive(Clone, Copy, Debug, PartialEq, Eq)]
 pub struct Le16(pub u16);
 
@@ -68,7 +68,7 @@ impl<'a> Field<'a> for Le16 {
     ghost is_shortest = { λ x a h. little_shortest 2 x.0 a h };
 }
 
-/// A number of four bytes.
+/// A number of four bytes, low byte first.
 #[derive(Clone, Copy, Debug, PartialEq, Eq)]
 pub struct Le32(pub u32);
 
@@ -98,7 +98,7 @@ impl<'a> Field<'a> for Le32 {
     ghost is_shortest = { λ x a h. little_shortest 4 x.0 a h };
 }
 
-/// An index into a table, below 32,768.
+/// An index into a table, at most 32,767: one byte, or two with the top bit of the first set.
 #[derive(Clone, Copy, Debug, PartialEq, Eq)]
 pub struct Index(pub u16);
 
@@ -146,7 +146,7 @@ impl<'a> Field<'a> for Index {
     ghost is_shortest = { index_shortest };
 }
 
-/// A name: at most 255 bytes, which are its value.
+/// A name: at most 255 bytes, which are its value. A byte of length precedes them.
 #[derive(Debug, Drop)]
 pub struct Name<'a>(pub &'a [u8]);
 
@@ -205,7 +205,8 @@ fn little_at(src: &[u8], pos: usize, count: usize) -> Option<(u32, usize)>
     Some((LittleEndian::read_uint(&src[pos..end], count) as u32, end))
 }
 
-/// The length of communal data.
+/// A communal length (TIS OMF 1.1, COMDEF): one byte up to 128, or 81H, 84H, 88H and two, three, four
+/// bytes, all unsigned.
 #[derive(Clone, Copy, Debug, PartialEq, Eq)]
 pub struct CommunalLength(pub u32);
 

@@ -1,6 +1,6 @@
 //! One record after another, from bytes in any pieces.
 
-ghost use Rattle.std.specs.Prelude.{◌≡◌, ◌≤◌, ◌<◌, ◌+◌, ◌-◌, ◌^◌, ◌++◌, ◌==◌, [], true, false, None, IsTrue, length, take, slice_index, IfOk, IfErr, OnOk, OnErr, IfSome, OnSome, ℕ, List, is_some};
+ghost use Rattle.std.specs.Prelude.{◌≡◌, ◌≤◌, ◌<◌, ◌+◌, ◌-◌, ◌^◌, ◌++◌, ◌==◌, ◌||◌, [], true, false, None, IsTrue, length, take, slice_index, IfOk, IfErr, OnOk, OnErr, IfSome, OnSome, ℕ, List, is_some};
 ghost use Rattle.omf_frame.specs.Framing.{Raw, IsRecord, raw_bytes, present, front_record, frame_fault, standing_fault, is_whole, is_taken, is_end};
 ghost use Rattle.omf_frame.specs.Judging.{record_len, type_fault};
 ghost use Rattle.omf_frame.specs.Framer.{Held, at_start, open_at, next_bytes, stands, want_of, Takes, IsCause, FailsAs, passed, stop_of};
@@ -205,7 +205,8 @@ impl Framer {
     /// that are missing, then the rest of the record. None while a record is whole, after the end, or
     /// after a fault.
     pub fn want(&self) -> usize
-        ensures { result ≡ want_of self.now }
+        ensures same { result ≡ want_of self.now }
+        ensures none { (result == 0) ≡ (self.now.ended || (is_some self.now.fault || is_whole self.now.bytes)) }
     {
         if self.ended || self.fault.is_some() {
             return 0;

@@ -1,4 +1,4 @@
-//! The type bytes of records.
+//! The type bytes of records (TIS OMF 1.1, "Record types").
 
 ghost use Rattle.std.specs.Prelude.{◌≡◌};
 ghost use Rattle.omf_frame.specs.Framing.{is_taken, is_unsupported, is_header, is_end};

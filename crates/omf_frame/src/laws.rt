@@ -1,6 +1,6 @@
 //! Laws of the definitions, over all inputs.
 
-ghost use Rattle.std.specs.Prelude.{◌≡◌, ◌+◌, ◌<◌, ℕ, Bool, not, ◌||◌, IsTrue, List, [], ◌∷◌, ◌++◌, length, take, flat_map, Some, None};
+ghost use Rattle.std.specs.Prelude.{◌≡◌, ◌+◌, ◌<◌, ℕ, Bool, true, not, ◌||◌, IsTrue, List, [], ◌∷◌, ◌++◌, length, take, flat_map, Some, None};
 ghost use Rattle.omf_frame.specs.declared.fault.Reason.{Reason};
 ghost use Rattle.omf_frame.specs.declared.fault.Place.{Place};
 ghost use Rattle.omf_frame.specs.declared.fault.FrameFault.TheVariants.{Refused};
@@ -33,6 +33,13 @@ pub fn standing_faults_stay()
 /// What a run over an input shows, and the state it ends in, are those of the definitions over the whole input.
 pub fn runs_are_framings()
     ensures { (input : List ℕ) → AreBytes input → IsFramingOf input (run_over before_all input) }
+{}
+
+/// A module at the front of an input is read to its end, and nothing behind it is taken.
+pub fn modules_are_read()
+    ensures { (bytes behind : List ℕ) (records : List Raw) → IsFramed bytes records
+        → run_over before_all (bytes ++ behind)
+        ≡ record { shown = records; held = record { bytes = []; number = length records; start = length bytes; ended = true; fault = None } } }
 {}
 
 /// At most one prefix of an input is framed.

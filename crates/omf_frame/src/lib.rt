@@ -16,8 +16,8 @@ pub use fault::{FrameFault, Place, Reason};
 pub use field::{CommunalLength, Field, Index, Le16, Le32, Name};
 pub use framer::{Fed, Framer, RawRecord};
 pub use laws::{
-    faults_are_least, modules_are_unique, pieces_do_not_matter, records_delimit, runs_are_framings,
-    standing_faults_stay,
+    faults_are_least, modules_are_read, modules_are_unique, pieces_do_not_matter, records_delimit,
+    runs_are_framings, standing_faults_stay,
 };
 pub use sums::checksum;
 pub use write::write_record;
