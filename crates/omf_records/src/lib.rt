@@ -8,6 +8,7 @@ mod field;
 mod here;
 mod item;
 pub mod laws;
+mod put;
 mod record;
 pub mod rows;
 mod subrecord;
