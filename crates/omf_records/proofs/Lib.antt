@@ -1,3 +1,5 @@
 pub mod FieldGives
 pub mod Publics
 pub mod AtStart
+pub mod Shorter
+pub mod Recast

@@ -308,7 +308,7 @@ fn put_displacement(
 /// The target's index and the displacement, those that are there.
 #[tactic(auto, using(crate::specs::Begins::begins_then))]
 fn put_target(out: &mut Vec<u8>, kind: u8, reference: &Reference) -> Result<(), AllocError>
-    ensures put { OnOk result (out.new.items ≡ out.old.items ++ option_bytes datum_bytes reference.now.target ++ option_bytes (little_bytes (width kind)) reference.now.displacement) }
+    ensures put { OnOk result (out.new.items ≡ out.old.items ++ (option_bytes datum_bytes reference.now.target ++ option_bytes (little_bytes (width kind)) reference.now.displacement)) }
     ensures grows { Begins out.old.items out.new.items }
 {
     put_datum_if(out, &reference.target)?;

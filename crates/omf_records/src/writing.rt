@@ -34,7 +34,7 @@ fn put_absolute(out: &mut Vec<u8>, absolute: Option<(u16, u8)>) -> Result<(), Al
 /// The three indices of a SEGDEF.
 #[tactic(auto, using(crate::specs::Begins::begins_then))]
 fn put_indices(out: &mut Vec<u8>, segment: &Segment) -> Result<(), AllocError>
-    ensures put { OnOk result (out.new.items ≡ out.old.items ++ datum_bytes segment.now.name ++ datum_bytes segment.now.class ++ index_bytes segment.now.overlay) }
+    ensures put { OnOk result (out.new.items ≡ out.old.items ++ (datum_bytes segment.now.name ++ (datum_bytes segment.now.class ++ index_bytes segment.now.overlay))) }
     ensures grows { Begins out.old.items out.new.items }
 {
     put_datum(out, &segment.name)?;
@@ -45,7 +45,7 @@ fn put_indices(out: &mut Vec<u8>, segment: &Segment) -> Result<(), AllocError>
 /// The length of a SEGDEF, and what follows it.
 #[tactic(auto, using(crate::specs::Begins::begins_then))]
 fn put_size(out: &mut Vec<u8>, kind: u8, segment: &Segment) -> Result<(), AllocError>
-    ensures put { OnOk result (out.new.items ≡ out.old.items ++ little_bytes (width kind) segment.now.size ++ datum_bytes segment.now.name ++ datum_bytes segment.now.class ++ index_bytes segment.now.overlay) }
+    ensures put { OnOk result (out.new.items ≡ out.old.items ++ (little_bytes (width kind) segment.now.size ++ (datum_bytes segment.now.name ++ (datum_bytes segment.now.class ++ index_bytes segment.now.overlay)))) }
     ensures grows { Begins out.old.items out.new.items }
 {
     put_number(out, kind, segment.size)?;
@@ -74,22 +74,6 @@ fn put_frame(out: &mut Vec<u8>, frame: Option<u16>) -> Result<(), AllocError>
     }
 }
 
-/// The base of a PUBDEF.
-#[tactic(auto, using(crate::specs::Begins::begins_then))]
-fn put_base(
-    out: &mut Vec<u8>,
-    group: &At<Index>,
-    segment: &At<Index>,
-    frame: Option<u16>,
-) -> Result<(), AllocError>
-    ensures put { OnOk result (out.new.items ≡ out.old.items ++ datum_bytes group.now ++ datum_bytes segment.now ++ option_bytes (little_bytes 2) frame) }
-    ensures grows { Begins out.old.items out.new.items }
-{
-    put_datum(out, group)?;
-    put_datum(out, segment)?;
-    put_frame(out, frame)
-}
-
 /// Data or blocks, behind their segment and offset.
 #[tactic(auto, using(crate::specs::Begins::begins_then))]
 fn put_data(
@@ -99,7 +83,7 @@ fn put_data(
     offset: &At<u32>,
     bytes: &[u8],
 ) -> Result<(), AllocError>
-    ensures put { OnOk result (out.new.items ≡ out.old.items ++ datum_bytes segment.now ++ little_bytes (width kind) offset.now.item ++ bytes.now) }
+    ensures put { OnOk result (out.new.items ≡ out.old.items ++ (datum_bytes segment.now ++ (little_bytes (width kind) offset.now.item ++ bytes.now))) }
     ensures grows { Begins out.old.items out.new.items }
 {
     put_datum(out, segment)?;
@@ -135,20 +119,20 @@ fn put_comment(out: &mut Vec<u8>, type_byte: u8, class: u8, text: &[u8]) -> Resu
     put_bytes(out, text)
 }
 
-/// The base of a PUBDEF, and its public names.
+/// The segment index of a PUBDEF's base, its frame, and the public names.
 #[tactic(auto, using(crate::specs::Begins::begins_then))]
 fn put_publics<'a>(
     out: &mut Vec<u8>,
     kind: u8,
-    group: &At<Index>,
     segment: &At<Index>,
     frame: Option<u16>,
     publics: Items<Public<'a>>,
 ) -> Result<(), AllocError>
-    ensures put { OnOk result (out.new.items ≡ out.old.items ++ (datum_bytes group.now ++ datum_bytes segment.now ++ option_bytes (little_bytes 2) frame) ++ flat_map (λ x. public_bytes kind x.item) publics.entry) }
+    ensures put { OnOk result (out.new.items ≡ out.old.items ++ (datum_bytes segment.now ++ (option_bytes (little_bytes 2) frame ++ flat_map (λ x. public_bytes kind x.item) publics.entry))) }
     ensures grows { Begins out.old.items out.new.items }
 {
-    put_base(out, group, segment, frame)?;
+    put_datum(out, segment)?;
+    put_frame(out, frame)?;
     put_items(out, kind, publics)
 }
 
@@ -167,6 +151,7 @@ fn put_group<'a>(
     put_items(out, kind, members)
 }
 
+#[tactic(auto, using(crate::specs::Begins::begins_then))]
 fn put_contents(out: &mut Vec<u8>, rec: &Rec<'_>) -> Result<(), AllocError>
     ensures put { OnOk result (out.new.items ≡ out.old.items ++ contents_bytes (kind_seen rec.now) (contents_seen rec.now)) }
     ensures grows { Begins out.old.items out.new.items }
@@ -189,7 +174,10 @@ fn put_contents(out: &mut Vec<u8>, rec: &Rec<'_>) -> Result<(), AllocError>
             frame,
             publics,
             ..
-        } => put_publics(out, kind, group, segment, *frame, publics.iter()),
+        } => {
+            put_datum(out, group)?;
+            put_publics(out, kind, segment, *frame, publics.iter())
+        }
         Rec::Communals(communals) => put_items(out, kind, communals.iter()),
         Rec::Plain {
             segment,
