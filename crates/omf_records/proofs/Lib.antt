@@ -3,3 +3,4 @@ pub mod Publics
 pub mod AtStart
 pub mod Shorter
 pub mod Recast
+pub mod ShortestLaws
