@@ -1,3 +1,6 @@
 pub mod FieldGives
 pub mod Publics
 pub mod AtStart
+pub mod Shorter
+pub mod Recast
+pub mod ShortestLaws

@@ -1,9 +1,10 @@
 -- Laws of typed records, each the contract of a function.
-use Rattle.std.specs.Prelude.{◌≡◌, ℕ, List, [], ◌∷◌, ◌↔◌, IsTrue}
+use Rattle.std.specs.Prelude.{◌≡◌, ℕ, ◌≤◌, List, [], ◌∷◌, length, ◌↔◌, IsTrue}
 use Rattle.omf_frame.specs.Bytes.{AreBytes}
 use Rattle.omf_frame.specs.Fault.{Fault, is_before}
 use Rattle.omf_frame.specs.Framing.{Raw}
-use Rattle.omf_records.specs.Values.{Rec}
+use Rattle.omf_records.specs.Values.{Rec, alone}
+use Rattle.omf_records.specs.Shortest.{contents_bytes}
 use Rattle.omf_records.specs.Reads.{Meets, Behind}
 use Rattle.omf_records.specs.Records.{contents, IsTyped}
 use Rattle.omf_records.specs.Reading.{read_body, layout_faults, typed}
@@ -32,3 +33,16 @@ FaultsAreLeast = (r : Raw) (f : Fault) → AreBytes r.body → layout_faults r �
 -- No fault stands in front of the contents.
 abbrev pub FaultsStandBehind : Type 0
 FaultsStandBehind = (kind : ℕ) → Behind (contents kind)
+
+-- The shortest contents of a typed record are contents of that record alone, but for its places. They are no longer than its
+-- contents, and made of bytes as those are.
+abbrev pub ShortestAreTyped : Type 0
+ShortestAreTyped = (r : Rec) (body : List ℕ) → IsTyped r body
+    → ((s : Rec) × (s.kind ≡ r.kind) × IsTyped s (contents_bytes r.kind r.contents) × (alone s ≡ alone r))
+    × (length (contents_bytes r.kind r.contents) ≤ length body)
+    × (AreBytes body → AreBytes (contents_bytes r.kind r.contents))
+
+-- Typed records of one type have the same shortest contents exactly where they are equal but for their places.
+abbrev pub ShortestDecide : Type 0
+ShortestDecide = (r s : Rec) (body other : List ℕ) → r.kind ≡ s.kind → IsTyped r body → IsTyped s other
+    → (contents_bytes r.kind r.contents ≡ contents_bytes s.kind s.contents) ↔ (alone r ≡ alone s)

@@ -18,6 +18,7 @@ pub mod Gives
 pub mod Parts
 pub mod Seen
 pub mod Types
+pub mod Begins
 pub mod Sizes
 pub mod Laws
 pub mod LawProofs

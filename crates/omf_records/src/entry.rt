@@ -1,5 +1,7 @@
 //! What records repeat: names, members, external, public and communal names.
-ghost use Rattle.std.specs.Prelude.{◌≡◌};
+ghost use Rattle.std.specs.Prelude.{◌≡◌, ◌++◌, OnOk, OnErr};
+ghost use Rattle.omf_records.specs.Begins.{Begins};
+ghost use Rattle.omf_records.specs.Shortest.{size_bytes};
 ghost use Rattle.omf_records.specs.Gives.{Gives};
 ghost use Rattle.omf_records.specs.EntryReaders.{component_reader, data_type_reader, size_reader};
 ghost use Rattle.omf_records.specs.Sizes.{size_seen, GivesSize};
@@ -8,10 +10,13 @@ use crate::at::{At, LayoutFault};
 use crate::field::{byte, communal_length, index, index_here, name, number};
 use crate::here::Here;
 use crate::item::Item;
-use omf_frame::{Index, Name, Reason};
+use crate::put::{put_byte, put_datum, put_field, put_number};
+use omf_frame::{CommunalLength, Index, Name, Reason};
+use std::alloc::AllocError;
 use std::marker::{Model, PhantomData};
 
 impl<'a> Item for Name<'a> {
+    ghost use Rattle.omf_frame.specs.Fields.{name_bytes};
     ghost use Rattle.omf_records.specs.Layout.{name};
     ghost use Rattle.omf_records.specs.FieldReaders.{name_reader, name_shrinks};
 
@@ -25,6 +30,12 @@ impl<'a> Item for Name<'a> {
 
     fn read(here: Here<'a>) -> Result<(Name<'a>, Here<'a>), LayoutFault> {
         name(here)
+    }
+
+    ghost shortest = { λ k n. name_bytes n };
+
+    fn put(&self, _kind: u8, out: &mut Vec<u8>) -> Result<(), AllocError> {
+        put_field(out, self)
     }
 }
 
@@ -56,6 +67,7 @@ fn component<'a>(here: Here<'a>) -> Result<(u8, Here<'a>), LayoutFault>
 }
 
 impl<'a> Item for Member<'a> {
+    ghost use Rattle.omf_records.specs.Shortest.{member_bytes};
     ghost use Rattle.omf_records.specs.Entries.{member};
     ghost use Rattle.omf_records.specs.EntryReaders.{member_reader, member_shrinks};
 
@@ -72,6 +84,14 @@ impl<'a> Item for Member<'a> {
         let (segment, here) = index_here(here)?;
         let of = PhantomData;
         Ok((Member { segment, of }, here))
+    }
+
+    ghost shortest = { λ k m. member_bytes m };
+
+    #[tactic(auto, using(crate::specs::Begins::begins_then))]
+    fn put(&self, _kind: u8, out: &mut Vec<u8>) -> Result<(), AllocError> {
+        put_byte(out, 0xFF)?;
+        put_datum(out, &self.segment)
     }
 }
 
@@ -91,6 +111,7 @@ impl<'a> Model for Extern<'a> {
 }
 
 impl<'a> Item for Extern<'a> {
+    ghost use Rattle.omf_records.specs.Shortest.{external_bytes};
     ghost use Rattle.omf_records.specs.Entries.{external};
     ghost use Rattle.omf_records.specs.EntryReaders.{external_reader, external_shrinks};
 
@@ -106,6 +127,14 @@ impl<'a> Item for Extern<'a> {
         let (name, here) = name(here)?;
         let (type_index, here) = index(here)?;
         Ok((Extern { name, type_index }, here))
+    }
+
+    ghost shortest = { λ k e. external_bytes e };
+
+    #[tactic(auto, using(crate::specs::Begins::begins_then))]
+    fn put(&self, _kind: u8, out: &mut Vec<u8>) -> Result<(), AllocError> {
+        put_field(out, &self.name)?;
+        put_field(out, &self.type_index)
     }
 }
 
@@ -126,6 +155,7 @@ impl<'a> Model for Public<'a> {
 }
 
 impl<'a> Item for Public<'a> {
+    ghost use Rattle.omf_records.specs.Shortest.{public_bytes};
     ghost use Rattle.omf_records.specs.Entries.{public_item};
     ghost use Rattle.omf_records.specs.EntryReaders.{public_reader, public_shrinks};
 
@@ -149,6 +179,15 @@ impl<'a> Item for Public<'a> {
             },
             here,
         ))
+    }
+
+    ghost shortest = { public_bytes };
+
+    #[tactic(auto, using(crate::specs::Begins::begins_then))]
+    fn put(&self, kind: u8, out: &mut Vec<u8>) -> Result<(), AllocError> {
+        put_field(out, &self.name)?;
+        put_number(out, kind, self.offset)?;
+        put_field(out, &self.type_index)
     }
 }
 
@@ -200,7 +239,26 @@ fn communal_size<'a>(here: Here<'a>) -> Result<(CommunalSize, Here<'a>), LayoutF
     Ok((CommunalSize::Far { count, size }, here))
 }
 
+#[tactic(auto, using(crate::specs::Begins::begins_then))]
+fn put_size(out: &mut Vec<u8>, size: CommunalSize) -> Result<(), AllocError>
+    ensures put { OnOk result (out.new.items ≡ out.old.items ++ size_bytes (size_seen size)) }
+    ensures grows { Begins out.old.items out.new.items }
+{
+    match size {
+        CommunalSize::Near(length) => {
+            put_byte(out, 0x62)?;
+            put_field(out, &CommunalLength(length))
+        }
+        CommunalSize::Far { count, size } => {
+            put_byte(out, 0x61)?;
+            put_field(out, &CommunalLength(count))?;
+            put_field(out, &CommunalLength(size))
+        }
+    }
+}
+
 impl<'a> Item for Communal<'a> {
+    ghost use Rattle.omf_records.specs.Shortest.{communal_bytes};
     ghost use Rattle.omf_records.specs.Entries.{communal};
     ghost use Rattle.omf_records.specs.EntryReaders.{communal_reader, communal_shrinks};
 
@@ -224,5 +282,14 @@ impl<'a> Item for Communal<'a> {
             },
             here,
         ))
+    }
+
+    ghost shortest = { λ k c. communal_bytes c };
+
+    #[tactic(auto, using(crate::specs::Begins::begins_then))]
+    fn put(&self, _kind: u8, out: &mut Vec<u8>) -> Result<(), AllocError> {
+        put_field(out, &self.name)?;
+        put_field(out, &self.type_index)?;
+        put_size(out, self.size)
     }
 }

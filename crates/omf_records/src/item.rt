@@ -1,11 +1,13 @@
 //! Items one after another, to the end of a record's contents.
-ghost use Rattle.std.specs.Prelude.{◌≡◌, ℕ, ◌+◌, ◌-◌, ◌*◌, ◌<◌, ◌≤◌, ◌↔◌, IsTrue, length, drop, take, List, [], Bool};
+ghost use Rattle.std.specs.Prelude.{◌≡◌, ℕ, ◌+◌, ◌-◌, ◌*◌, ◌<◌, ◌≤◌, ◌↔◌, ◌++◌, IsTrue, OnOk, OnErr, flat_map, length, drop, take, List, [], Bool};
 ghost use Rattle.std.specs.Iterator.{YieldsFirst, item_count};
+ghost use Rattle.omf_records.specs.Begins.{Begins};
 ghost use Rattle.omf_records.specs.Layout.{Layout};
 ghost use Rattle.omf_records.specs.Reads.{GivesFrom, Reader, Shrinks, each};
 
 use crate::at::{At, LayoutFault};
 use crate::here::Here;
+use std::alloc::AllocError;
 use std::marker::Model;
 
 /// A place in a record's contents, and the bytes from there on.
@@ -54,6 +56,14 @@ pub trait Item: Sized + Drop {
     /// The first item of the bytes, and what comes after it.
     fn read(from: Self::From) -> Result<(Self, Self::From), LayoutFault>
         ensures { GivesFrom Self.From.place Self.From.rest Self.From.wide (Self.From.wide from) result ((reader (Self.From.wide from)).read (Self.From.place from) (Self.From.rest from)) };
+
+    /// Its shortest spelling, in a record of a type.
+    ghost shortest: { ℕ → Self → List ℕ };
+
+    /// Appends the shortest spelling, in a record of the type `kind`.
+    fn put(&self, kind: u8, out: &mut Vec<u8>) -> Result<(), AllocError>
+        ensures put { OnOk result (out.new.items ≡ out.old.items ++ shortest kind self.now) }
+        ensures grows { Begins out.old.items out.new.items };
 
     /// None is spelled by no bytes.
     ghost shrinks: { (w : Bool) → Shrinks (reader w).read };
@@ -125,4 +135,20 @@ impl<T: Item> Iterator for Items<T> {
             Err(_) => None,
         }
     }
+}
+
+/// Appends the shortest spellings of items, in a record of the type `kind`.
+#[tactic(auto, using(crate::specs::Begins::begins_then, crate::specs::Begins::begins_itself))]
+pub(crate) fn put_items<T: Item>(
+    out: &mut Vec<u8>,
+    kind: u8,
+    items: Items<T>,
+) -> Result<(), AllocError>
+    ensures put { OnOk result (out.new.items ≡ out.old.items ++ flat_map (λ x. T.shortest kind x.item) items) }
+    ensures grows { Begins out.old.items out.new.items }
+{
+    for entry in items {
+        entry.item.put(kind, out)?;
+    }
+    Ok(())
 }

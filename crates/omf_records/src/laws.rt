@@ -1,6 +1,6 @@
 //! Laws of typed records.
 
-ghost use Rattle.omf_records.specs.Laws.{AreUnique, ReadingsMeet, AreDecided, AreTyped, FaultsAreLeast, FaultsStandBehind};
+ghost use Rattle.omf_records.specs.Laws.{AreUnique, ReadingsMeet, AreDecided, AreTyped, FaultsAreLeast, FaultsStandBehind, ShortestAreTyped, ShortestDecide};
 
 /// Two typed records of one type with the same contents are equal.
 pub fn typed_records_are_unique()
@@ -30,4 +30,14 @@ pub fn layout_faults_are_least()
 /// No fault stands in front of the contents.
 pub fn faults_stand_behind()
     ensures { FaultsStandBehind }
+{}
+
+/// The shortest contents of a typed record are contents of exactly that record, and no longer than any other.
+pub fn shortest_contents_are_typed()
+    ensures { ShortestAreTyped }
+{}
+
+/// Typed records of one type have the same shortest contents exactly where they are equal but for their places.
+pub fn shortest_contents_decide()
+    ensures { ShortestDecide }
 {}

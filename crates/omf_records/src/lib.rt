@@ -8,10 +8,12 @@ mod field;
 mod here;
 mod item;
 pub mod laws;
+mod put;
 mod record;
 pub mod rows;
 mod subrecord;
 mod viewing;
+mod writing;
 
 pub use at::{At, LayoutFault};
 pub use dispatch::view;
@@ -20,3 +22,4 @@ pub use here::Here;
 pub use item::{Cursor, Item, Items};
 pub use record::{Blocks, Rec, Segment};
 pub use subrecord::{Part, Reference, Subrecord};
+pub use writing::put_rec;

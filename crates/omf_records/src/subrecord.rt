@@ -1,6 +1,9 @@
 //! Subrecords of a FIXUPP, and the reference that a FIXUP and MODEND's start share.
-ghost use Rattle.std.specs.Prelude.{◌≡◌, ◌<◌, not, List, Option};
-ghost use Rattle.omf_records.specs.Values.{is_location, may_be_self_relative, thread_method, frame_by_thread, frame_bits, target_by_thread, target_bits, has_frame_datum, has_target_datum, has_no_displacement};
+ghost use Rattle.std.specs.Prelude.{◌≡◌, ◌<◌, ◌++◌, not, List, Option, OnOk, OnErr};
+ghost use Rattle.byteorder.specs.Endian.{little_bytes};
+ghost use Rattle.omf_records.specs.Begins.{Begins};
+ghost use Rattle.omf_records.specs.Shortest.{option_bytes, datum_bytes, reference_bytes};
+ghost use Rattle.omf_records.specs.Values.{width, is_location, may_be_self_relative, thread_method, frame_by_thread, frame_bits, target_by_thread, target_bits, has_frame_datum, has_target_datum, has_no_displacement};
 ghost use Rattle.omf_records.specs.Parts.{first_reason};
 ghost use Rattle.omf_records.specs.Gives.{Gives};
 ghost use Rattle.omf_records.specs.Entries.{is_frame_method, wrong_methods, wrong_thread, wrong_location, wrong_head};
@@ -10,7 +13,9 @@ use crate::at::{At, LayoutFault};
 use crate::field::{byte, head, index_here, number};
 use crate::here::Here;
 use crate::item::Item;
+use crate::put::{put_byte, put_bytes, put_datum_if, put_number};
 use omf_frame::{Index, Reason};
+use std::alloc::AllocError;
 use std::marker::{Model, PhantomData};
 
 /// What a FIXUP says after its first two bytes, and MODEND's start (TIS OMF 1.1, "FIXUPP"): the fix data byte,
@@ -242,6 +247,7 @@ fn fixup<'a>(here: Here<'a>, location: u16) -> Result<(Subrecord<'a>, Here<'a>),
 }
 
 impl<'a> Item for Subrecord<'a> {
+    ghost use Rattle.omf_records.specs.Shortest.{subrecord_bytes};
     ghost use Rattle.omf_records.specs.Entries.{subrecord};
     ghost use Rattle.omf_records.specs.EntryReaders.{subrecord_reader, subrecord_shrinks};
 
@@ -261,4 +267,64 @@ impl<'a> Item for Subrecord<'a> {
             fixup(here, head)
         }
     }
+
+    ghost shortest = { subrecord_bytes };
+
+    #[tactic(auto, using(crate::specs::Begins::begins_then))]
+    fn put(&self, kind: u8, out: &mut Vec<u8>) -> Result<(), AllocError> {
+        match &self.part {
+            Part::Thread { first, index } => {
+                put_byte(out, *first)?;
+                put_datum_if(out, index)
+            }
+            Part::Fixup {
+                location,
+                reference,
+            } => {
+                let location = *location;
+                put_bytes(out, &[(location / 256) as u8, (location % 256) as u8])?;
+                put_reference(out, kind, reference)
+            }
+        }
+    }
+}
+
+/// The displacement, if there is one.
+#[tactic(auto, using(crate::specs::Begins::begins_itself))]
+fn put_displacement(
+    out: &mut Vec<u8>,
+    kind: u8,
+    displacement: Option<u32>,
+) -> Result<(), AllocError>
+    ensures put { OnOk result (out.new.items ≡ out.old.items ++ option_bytes (little_bytes (width kind)) displacement) }
+    ensures grows { Begins out.old.items out.new.items }
+{
+    match displacement {
+        Some(value) => put_number(out, kind, value),
+        None => Ok(()),
+    }
+}
+
+/// The target's index and the displacement, those that are there.
+#[tactic(auto, using(crate::specs::Begins::begins_then))]
+fn put_target(out: &mut Vec<u8>, kind: u8, reference: &Reference) -> Result<(), AllocError>
+    ensures put { OnOk result (out.new.items ≡ out.old.items ++ (option_bytes datum_bytes reference.now.target ++ option_bytes (little_bytes (width kind)) reference.now.displacement)) }
+    ensures grows { Begins out.old.items out.new.items }
+{
+    put_datum_if(out, &reference.target)?;
+    put_displacement(out, kind, reference.displacement)
+}
+
+#[tactic(auto, using(crate::specs::Begins::begins_then))]
+pub(crate) fn put_reference(
+    out: &mut Vec<u8>,
+    kind: u8,
+    reference: &Reference,
+) -> Result<(), AllocError>
+    ensures put { OnOk result (out.new.items ≡ out.old.items ++ reference_bytes kind reference.now) }
+    ensures grows { Begins out.old.items out.new.items }
+{
+    put_byte(out, reference.fix.item)?;
+    put_datum_if(out, &reference.frame)?;
+    put_target(out, kind, reference)
 }

@@ -1,0 +1,65 @@
+//! Fields at the end of a vector, in their shortest spellings.
+ghost use Rattle.std.specs.Prelude.{◌≡◌, ◌++◌, ◌∷◌, [], OnOk, OnErr, Option};
+ghost use Rattle.byteorder.specs.Endian.{little_bytes};
+ghost use Rattle.omf_records.specs.Begins.{Begins};
+ghost use Rattle.omf_records.specs.Shortest.{datum_bytes, option_bytes};
+ghost use Rattle.omf_records.specs.Values.{width};
+
+use crate::at::At;
+use omf_frame::{Field, Index, Le16, Le32};
+use std::alloc::AllocError;
+
+/// A field in its shortest spelling.
+#[tactic(auto, using(crate::specs::Begins::begins_itself, crate::specs::Begins::begins_more))]
+pub(crate) fn put_field<'a, F: Field<'a>>(out: &mut Vec<u8>, field: &F) -> Result<(), AllocError>
+    ensures put { OnOk result (out.new.items ≡ out.old.items ++ F.shortest field.now) }
+    ensures grows { Begins out.old.items out.new.items }
+{
+    field.put(out)
+}
+
+#[tactic(auto, using(crate::specs::Begins::begins_itself, crate::specs::Begins::begins_more))]
+pub(crate) fn put_bytes(out: &mut Vec<u8>, bytes: &[u8]) -> Result<(), AllocError>
+    ensures put { OnOk result (out.new.items ≡ out.old.items ++ bytes.now) }
+    ensures grows { Begins out.old.items out.new.items }
+{
+    out.extend_from_slice(bytes)
+}
+
+pub(crate) fn put_byte(out: &mut Vec<u8>, byte: u8) -> Result<(), AllocError>
+    ensures put { OnOk result (out.new.items ≡ out.old.items ++ byte ∷ []) }
+    ensures grows { Begins out.old.items out.new.items }
+{
+    put_bytes(out, &[byte])
+}
+
+/// A number as wide as records of a type have it: 32 bits in an odd type, the low 16 in an even one.
+pub(crate) fn put_number(out: &mut Vec<u8>, kind: u8, value: u32) -> Result<(), AllocError>
+    ensures put { OnOk result (out.new.items ≡ out.old.items ++ little_bytes (width kind) value) }
+    ensures grows { Begins out.old.items out.new.items }
+{
+    if kind % 2 == 1 {
+        return put_field(out, &Le32(value));
+    }
+    put_field(out, &Le16((value % 0x1_0000) as u16))
+}
+
+/// An index that stands somewhere.
+pub(crate) fn put_datum(out: &mut Vec<u8>, datum: &At<Index>) -> Result<(), AllocError>
+    ensures put { OnOk result (out.new.items ≡ out.old.items ++ datum_bytes datum.now) }
+    ensures grows { Begins out.old.items out.new.items }
+{
+    put_field(out, &datum.item)
+}
+
+/// The same, if it is there.
+#[tactic(auto, using(crate::specs::Begins::begins_itself))]
+pub(crate) fn put_datum_if(out: &mut Vec<u8>, datum: &Option<At<Index>>) -> Result<(), AllocError>
+    ensures put { OnOk result (out.new.items ≡ out.old.items ++ option_bytes datum_bytes datum.now) }
+    ensures grows { Begins out.old.items out.new.items }
+{
+    match datum {
+        Some(datum) => put_datum(out, datum),
+        None => Ok(()),
+    }
+}

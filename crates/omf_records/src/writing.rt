@@ -1,0 +1,218 @@
+//! A typed record's contents at the end of a vector, in shortest spellings.
+ghost use Rattle.std.specs.Prelude.{◌≡◌, ◌++◌, ◌∷◌, [], OnOk, OnErr, flat_map};
+ghost use Rattle.byteorder.specs.Endian.{little_bytes};
+ghost use Rattle.omf_frame.specs.Fields.{index_bytes};
+ghost use Rattle.omf_records.specs.Begins.{Begins};
+ghost use Rattle.omf_records.specs.Seen.{contents_seen, kind_seen};
+ghost use Rattle.omf_records.specs.Shortest.{contents_bytes, segment_bytes, reference_bytes, datum_bytes, option_bytes, absolute_bytes, member_bytes, public_bytes};
+ghost use Rattle.omf_records.specs.Values.{width};
+
+use crate::at::At;
+use crate::entry::{Member, Public};
+use crate::item::{Items, put_items};
+use crate::put::{put_byte, put_bytes, put_datum, put_field, put_number};
+use crate::record::{Rec, Segment};
+use crate::subrecord::{Reference, put_reference};
+use omf_frame::{Index, Le16};
+use std::alloc::AllocError;
+
+/// The frame number and offset of an absolute segment.
+#[tactic(auto, using(crate::specs::Begins::begins_then, crate::specs::Begins::begins_itself))]
+fn put_absolute(out: &mut Vec<u8>, absolute: Option<(u16, u8)>) -> Result<(), AllocError>
+    ensures put { OnOk result (out.new.items ≡ out.old.items ++ option_bytes absolute_bytes absolute) }
+    ensures grows { Begins out.old.items out.new.items }
+{
+    match absolute {
+        Some((frame, offset)) => {
+            put_field(out, &Le16(frame))?;
+            put_byte(out, offset)
+        }
+        None => Ok(()),
+    }
+}
+
+/// The three indices of a SEGDEF.
+#[tactic(auto, using(crate::specs::Begins::begins_then))]
+fn put_indices(out: &mut Vec<u8>, segment: &Segment) -> Result<(), AllocError>
+    ensures put { OnOk result (out.new.items ≡ out.old.items ++ (datum_bytes segment.now.name ++ (datum_bytes segment.now.class ++ index_bytes segment.now.overlay))) }
+    ensures grows { Begins out.old.items out.new.items }
+{
+    put_datum(out, &segment.name)?;
+    put_datum(out, &segment.class)?;
+    put_field(out, &segment.overlay)
+}
+
+/// The length of a SEGDEF, and what follows it.
+#[tactic(auto, using(crate::specs::Begins::begins_then))]
+fn put_size(out: &mut Vec<u8>, kind: u8, segment: &Segment) -> Result<(), AllocError>
+    ensures put { OnOk result (out.new.items ≡ out.old.items ++ (little_bytes (width kind) segment.now.size ++ (datum_bytes segment.now.name ++ (datum_bytes segment.now.class ++ index_bytes segment.now.overlay)))) }
+    ensures grows { Begins out.old.items out.new.items }
+{
+    put_number(out, kind, segment.size)?;
+    put_indices(out, segment)
+}
+
+#[tactic(auto, using(crate::specs::Begins::begins_then))]
+fn put_segment(out: &mut Vec<u8>, kind: u8, segment: &Segment) -> Result<(), AllocError>
+    ensures put { OnOk result (out.new.items ≡ out.old.items ++ segment_bytes kind segment.now) }
+    ensures grows { Begins out.old.items out.new.items }
+{
+    put_byte(out, segment.attribute)?;
+    put_absolute(out, segment.absolute)?;
+    put_size(out, kind, segment)
+}
+
+/// The base frame's number of a PUBDEF, if there is one.
+#[tactic(auto, using(crate::specs::Begins::begins_itself))]
+fn put_frame(out: &mut Vec<u8>, frame: Option<u16>) -> Result<(), AllocError>
+    ensures put { OnOk result (out.new.items ≡ out.old.items ++ option_bytes (little_bytes 2) frame) }
+    ensures grows { Begins out.old.items out.new.items }
+{
+    match frame {
+        Some(frame) => put_field(out, &Le16(frame)),
+        None => Ok(()),
+    }
+}
+
+/// Data or blocks, behind their segment and offset.
+#[tactic(auto, using(crate::specs::Begins::begins_then))]
+fn put_data(
+    out: &mut Vec<u8>,
+    kind: u8,
+    segment: &At<Index>,
+    offset: &At<u32>,
+    bytes: &[u8],
+) -> Result<(), AllocError>
+    ensures put { OnOk result (out.new.items ≡ out.old.items ++ (datum_bytes segment.now ++ (little_bytes (width kind) offset.now.item ++ bytes.now))) }
+    ensures grows { Begins out.old.items out.new.items }
+{
+    put_datum(out, segment)?;
+    put_number(out, kind, offset.item)?;
+    put_bytes(out, bytes)
+}
+
+/// The type byte of a MODEND, and its start if there is one.
+#[tactic(auto, using(crate::specs::Begins::begins_then))]
+fn put_end(
+    out: &mut Vec<u8>,
+    kind: u8,
+    type_byte: u8,
+    start: &Option<Reference>,
+) -> Result<(), AllocError>
+    ensures put { OnOk result (out.new.items ≡ out.old.items ++ type_byte ∷ option_bytes (reference_bytes kind) start.now) }
+    ensures grows { Begins out.old.items out.new.items }
+{
+    put_byte(out, type_byte)?;
+    match start {
+        Some(reference) => put_reference(out, kind, reference),
+        None => Ok(()),
+    }
+}
+
+/// The type byte, class byte and text of a COMENT.
+#[tactic(auto, using(crate::specs::Begins::begins_then))]
+fn put_comment(out: &mut Vec<u8>, type_byte: u8, class: u8, text: &[u8]) -> Result<(), AllocError>
+    ensures put { OnOk result (out.new.items ≡ out.old.items ++ type_byte ∷ class ∷ text.now) }
+    ensures grows { Begins out.old.items out.new.items }
+{
+    put_bytes(out, &[type_byte, class])?;
+    put_bytes(out, text)
+}
+
+/// The segment index of a PUBDEF's base, its frame, and the public names.
+#[tactic(auto, using(crate::specs::Begins::begins_then))]
+fn put_publics<'a>(
+    out: &mut Vec<u8>,
+    kind: u8,
+    segment: &At<Index>,
+    frame: Option<u16>,
+    publics: Items<Public<'a>>,
+) -> Result<(), AllocError>
+    ensures put { OnOk result (out.new.items ≡ out.old.items ++ (datum_bytes segment.now ++ (option_bytes (little_bytes 2) frame ++ flat_map (λ x. public_bytes kind x.item) publics.entry))) }
+    ensures grows { Begins out.old.items out.new.items }
+{
+    put_datum(out, segment)?;
+    put_frame(out, frame)?;
+    put_items(out, kind, publics)
+}
+
+/// The index of a name, and items.
+#[tactic(auto, using(crate::specs::Begins::begins_then))]
+fn put_group<'a>(
+    out: &mut Vec<u8>,
+    kind: u8,
+    name: &At<Index>,
+    members: Items<Member<'a>>,
+) -> Result<(), AllocError>
+    ensures put { OnOk result (out.new.items ≡ out.old.items ++ datum_bytes name.now ++ flat_map (λ x. member_bytes x.item) members.entry) }
+    ensures grows { Begins out.old.items out.new.items }
+{
+    put_datum(out, name)?;
+    put_items(out, kind, members)
+}
+
+#[tactic(auto, using(crate::specs::Begins::begins_then))]
+fn put_contents(out: &mut Vec<u8>, rec: &Rec<'_>) -> Result<(), AllocError>
+    ensures put { OnOk result (out.new.items ≡ out.old.items ++ contents_bytes (kind_seen rec.now) (contents_seen rec.now)) }
+    ensures grows { Begins out.old.items out.new.items }
+{
+    let kind = rec.kind();
+    match rec {
+        Rec::Header { name, .. } => put_field(out, name),
+        Rec::Comment {
+            type_byte,
+            class,
+            text,
+        } => put_comment(out, *type_byte, *class, text),
+        Rec::Names(names) => put_items(out, kind, names.iter()),
+        Rec::Segment { segment, .. } => put_segment(out, kind, segment),
+        Rec::Group { name, members } => put_group(out, kind, name, members.iter()),
+        Rec::Externs(externs) => put_items(out, kind, externs.iter()),
+        Rec::Publics {
+            group,
+            segment,
+            frame,
+            publics,
+            ..
+        } => {
+            put_datum(out, group)?;
+            put_publics(out, kind, segment, *frame, publics.iter())
+        }
+        Rec::Communals(communals) => put_items(out, kind, communals.iter()),
+        Rec::Plain {
+            segment,
+            offset,
+            data,
+            ..
+        } => put_data(out, kind, segment, offset, data),
+        Rec::Iterated {
+            segment,
+            offset,
+            blocks,
+        } => put_data(out, kind, segment, offset, blocks.bytes),
+        Rec::Fixups { subrecords, .. } => put_items(out, kind, subrecords.iter()),
+        Rec::ModEnd {
+            type_byte,
+            start,
+            ..
+        } => put_end(out, kind, *type_byte, start),
+        Rec::Carried { contents, .. } => put_bytes(out, contents),
+    }
+}
+
+/// Appends the contents of a typed record in shortest spellings: each index and communal length in its shortest
+/// one. Numbers of a narrow record keep their low 16 bits. An `Err` changes nothing.
+#[tactic(auto, using(crate::specs::Begins::begins_front))]
+pub fn put_rec(out: &mut Vec<u8>, rec: &Rec<'_>) -> Result<(), AllocError>
+    ensures ok { OnOk result (out.new.items ≡ out.old.items ++ contents_bytes (kind_seen rec.now) (contents_seen rec.now)) }
+    ensures err { OnErr result (out.new.items ≡ out.old.items) }
+{
+    let len = out.len();
+    match put_contents(out, rec) {
+        Ok(()) => Ok(()),
+        Err(error) => {
+            out.truncate(len);
+            Err(error)
+        }
+    }
+}
