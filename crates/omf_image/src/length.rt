@@ -3,7 +3,7 @@
 ghost use Rattle.std.specs.Prelude.{◌≡◌, ◌+◌, ◌<◌, ◌≤◌, length, drop, IfOk};
 ghost use Rattle.omf_records.specs.FieldReaders.{le_read};
 ghost use Rattle.omf_image.specs.Blocks.{count_size};
-ghost use Rattle.omf_image.specs.Lengths.{read_to, len_data, len_block, len_all};
+ghost use Rattle.omf_image.specs.Lengths.{read_to, len_data, len_contents, len_block, len_all};
 ghost use Rattle.omf_image.specs.Expanding.{expanded_length};
 
 use crate::limits::Limits;
@@ -72,7 +72,35 @@ pub fn data_at(bytes: &[u8], pos: usize) -> Result<(u64, usize), LayoutFault>
     }
 }
 
-/// How many bytes the block at `pos` stands for, where `levels` more levels are allowed, and the position after it.
+/// How many bytes the contents of a block stand for, and the position after them: the data at `start`, or as many blocks as stated,
+/// where `levels` levels are allowed.
+#[cycle(lengths)]
+pub fn contents_len(
+    bytes: &[u8],
+    wide: bool,
+    levels: u32,
+    blocks: u32,
+    start: usize,
+) -> Result<(u64, usize), LayoutFault>
+    requires { (start ≤ length bytes.now) × (length bytes.now ≤ 65534) }
+    ensures read { read_to bytes.now result ≡ len_contents (len_block (count_size wide) levels) blocks start (drop start bytes.now) }
+    ensures bound { IfOk result (λ r. (start ≤ r.1) × (r.1 ≤ length bytes.now)) }
+{
+    if blocks == 0 {
+        return data_at(bytes, start);
+    }
+    let mut inner: u64 = 0;
+    let mut end = start;
+    for _ in 0..blocks {
+        let (len, next) = block_len(bytes, wide, levels, end)?;
+        inner = inner.saturating_add(len);
+        end = next;
+    }
+    Ok((inner, end))
+}
+
+/// How many bytes the block at `pos` stands for, where `levels` levels are allowed, and the position after it.
+#[cycle(lengths)]
 fn block_len(bytes: &[u8], wide: bool, levels: u32, pos: usize) -> Result<(u64, usize), LayoutFault>
     requires { (pos ≤ length bytes.now) × (length bytes.now ≤ 65534) }
     ensures read { read_to bytes.now result ≡ len_block (count_size wide) levels pos (drop pos bytes.now) }
@@ -83,18 +111,8 @@ fn block_len(bytes: &[u8], wide: bool, levels: u32, pos: usize) -> Result<(u64, 
         return Err(fault_at(pos, Reason::TooDeep));
     }
     let (blocks, start) = word_at(bytes, after_count)?;
-    if blocks == 0 {
-        let (data, end) = data_at(bytes, start)?;
-        return Ok((u64::from(count).saturating_mul(data), end));
-    }
-    let mut inner: u64 = 0;
-    let mut end = start;
-    for _ in 0..blocks {
-        let (len, next) = block_len(bytes, wide, levels - 1, end)?;
-        inner = inner.saturating_add(len);
-        end = next;
-    }
-    Ok((u64::from(count).saturating_mul(inner), end))
+    let (contents, end) = contents_len(bytes, wide, levels - 1, blocks, start)?;
+    Ok((u64::from(count).saturating_mul(contents), end))
 }
 
 /// How many bytes blocks stand for, up to 2^64 - 1, where `levels` levels are allowed.
