@@ -13,7 +13,7 @@ read_blocks width levels bytes = (blocks_whole width levels).read 0 bytes
 
 -- The blocks; none where they have a fault.
 abbrev pub blocks_or_none : Result Blocks Fault → Blocks
-blocks_or_none (Ok blocks) = blocks
+blocks_or_none (Ok trees) = trees
 blocks_or_none (Err e) = NoBlocks
 
 abbrev pub blocks_of : ℕ → Limits → List ℕ → Blocks
@@ -25,7 +25,7 @@ expanded width limits bytes = blocks_bytes (blocks_of width limits bytes)
 
 -- The first Short or TooDeep, if there is one; and the fault that the blocks stand for too many bytes.
 abbrev pub faults_of : Result Blocks Fault → List Fault
-faults_of (Ok _) = []
+faults_of (Ok trees) = []
 faults_of (Err e) = e ∷ []
 
 abbrev pub block_faults : ℕ → Limits → List ℕ → List Fault
