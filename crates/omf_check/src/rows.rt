@@ -4,7 +4,7 @@ ghost use Rattle.std.specs.Prelude.{◌≡◌, ℕ, [], ◌∷◌, ◌++◌, Som
 ghost use Rattle.omf_frame.specs.declared.fault.Reason.TheVariants as reason;
 ghost use Rattle.omf_image.specs.Limits.{profile_limits};
 ghost use Rattle.omf_check.specs.Verdict.{Refused, verdict};
-ghost use Rattle.omf_check.specs.Rows.{any, no_vendors, verdict_of, module_in, place, H, N, S, L, F, M, first_module, without_checksums, wrong_checksum, long_index, threads, defined_thread, undefined_thread, flat, repeated, nested_blocks, blocks_of_nothing, too_many_bytes, most_bytes, with_fixup, big, started, absolute, thread_ahead, comment, communal, public};
+ghost use Rattle.omf_check.specs.Rows.{any, no_vendors, verdict_of, module_in, place, H, N, S, L, F, M, first_module, without_checksums, wrong_checksum, long_index, threads, defined_thread, undefined_thread, flat, repeated, nested_blocks, blocks_of_nothing, too_many_bytes, most_bytes, with_fixup, big, started, absolute, thread_ahead, comment, communal, public, nameless};
 
 /// Six records, and what follows them is not read.
 pub fn a_module()
@@ -128,4 +128,22 @@ pub fn target_before_frame()
 /// The 32,768th name is named.
 pub fn too_many_names()
     ensures { verdict_of (H ++ 0x96 ∷ 0x01 ∷ 0x80 ∷ replicate 32768 0 ++ 0 ∷ M) ≡ Refused reason.TooMany (place 1 6 32770) }
+{}
+
+/// An index of 0 names no segment where one must be named: of data, of a group's member, of a target.
+pub fn index_zero_is_undefined()
+    ensures data { verdict_of (H ++ N ++ S ++ 0xA0 ∷ 0x04 ∷ 0x00 ∷ 0x00 ∷ 0x00 ∷ 0x00 ∷ 0x00 ∷ M) ≡ Refused reason.UndefinedSegment (place 3 23 3) }
+    ensures member { verdict_of (H ++ N ++ S ++ 0x9A ∷ 0x04 ∷ 0x00 ∷ 0x01 ∷ 0xFF ∷ 0x00 ∷ 0x00 ∷ M) ≡ Refused reason.UndefinedSegment (place 3 23 5) }
+    ensures target { verdict_of (with_fixup (0x9C ∷ 0x06 ∷ 0x00 ∷ 0xC4 ∷ 0x01 ∷ 0x04 ∷ 0x01 ∷ 0x00 ∷ 0x00 ∷ [])) ≡ Refused reason.UndefinedSegment (place 4 34 7) }
+{}
+
+/// An index of 0 stands for none elsewhere: a segment's name and class, a group's name, a public's group and segment.
+pub fn index_zero_is_none()
+    ensures { module_in (verdict_of nameless) ≡ Some nameless }
+{}
+
+/// A start by a frame thread of a location's frame, and by a target thread that was never set: both at the fix data byte, where the
+/// smaller number is named.
+pub fn two_faults_at_one_place()
+    ensures { verdict_of (H ++ N ++ S ++ 0x9C ∷ 0x02 ∷ 0x00 ∷ 0x50 ∷ 0x00 ∷ 0x8A ∷ 0x03 ∷ 0x00 ∷ 0x40 ∷ 0x8C ∷ 0x00 ∷ []) ≡ Refused reason.UndefinedThread (place 4 28 4) }
 {}

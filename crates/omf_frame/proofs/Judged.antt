@@ -59,11 +59,22 @@ all_hold true false true false false h len at q n = cc
 all_hold true false true false true false len at q n = cc
 all_hold true false true false true true len at q n = (refl, refl, refl, refl)
 
-some_none : {A B : Type 0} (x : A) (f : A → B) (o : Option A) → o ≡ Some x → option_map f o ≡ None → ⊥
+-- what the tests say where no step has a fault
+pub clean_tests : (t u w e c h : Bool) (len at : ℕ) → least (first_step (steps true t u w e c h len at)) ≡ None → (t ≡ true) × (h ≡ true)
+clean_tests true true w e c h len at n = cc
+clean_tests false true w e c h len at n = cc
+clean_tests false false w e c h len at n = cc
+clean_tests true false false e c h len at n = cc
+clean_tests true false true true c h len at n = cc
+clean_tests true false true false false h len at n = cc
+clean_tests true false true false true false len at n = cc
+clean_tests true false true false true true len at n = (refl, refl)
+
+pub some_none : {A B : Type 0} (x : A) (f : A → B) (o : Option A) → o ≡ Some x → option_map f o ≡ None → ⊥
 some_none x f None e n = cc
 some_none x f (Some y) e n = cc
 
-map_none : {A B : Type 0} (f : A → B) (o : Option A) → option_map f o ≡ None → o ≡ None
+pub map_none : {A B : Type 0} (f : A → B) (o : Option A) → option_map f o ≡ None → o ≡ None
 map_none f None e = refl
 map_none f (Some y) e = cc
 

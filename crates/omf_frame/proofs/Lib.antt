@@ -6,3 +6,7 @@ pub mod FaultLaws
 pub mod FramingLaws
 pub mod States
 pub mod Records
+pub mod Standing
+pub mod RunLaws
+pub mod ModuleLaws
+pub mod StepLaws

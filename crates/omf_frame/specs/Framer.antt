@@ -58,7 +58,7 @@ IsCause old piece (Refused reason place) = option_map (refused old) (standing_fa
 pub record FailsAs (old : Held) (piece : List ℕ) (fault : FrameFault) (new : Held) : Type 0 where
   pub not_ended : old.ended ≡ false
   pub new_is : new ≡ record old { bytes = []; fault = Some fault }
-  pub cause : (old.fault ≡ Some fault) ⊎ ((old.fault ≡ None) × IsCause old piece fault)
+  pub cause : ((old.fault ≡ Some fault) × (new ≡ old)) ⊎ ((old.fault ≡ None) × IsCause old piece fault)
 
 -- The record that stands is passed.
 abbrev pub passed : Held → Held

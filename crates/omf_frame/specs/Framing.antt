@@ -127,3 +127,10 @@ lasting (Some f) = if is_end_of_input f.reason then None else Some f
 -- The fault of framing that stands whatever bytes follow.
 abbrev pub standing_fault : Bool → List ℕ → Option Fault
 standing_fault is_first bytes = lasting (frame_fault is_first bytes)
+
+-- The bytes begin with a whole record.
+pub record HasFront (bytes : List ℕ) : Type 0 where
+  pub is_record : IsRecord (front_record (present bytes))
+  pub whole : raw_bytes (front_record (present bytes)) ≡ present bytes
+  pub parts : bytes ≡ present bytes ++ after_front bytes
+  pub shorter : length (after_front bytes) < length bytes

@@ -6,3 +6,4 @@ pub mod FieldLaws
 pub mod Device
 pub mod Judging
 pub mod Framer
+pub mod Runs

@@ -147,7 +147,7 @@ impl<'a> Field<'a> for Index {
 }
 
 /// A name: at most 255 bytes, which are its value.
-#[derive(Debug)]
+#[derive(Debug, Drop)]
 pub struct Name<'a>(pub &'a [u8]);
 
 impl<'a> Model for Name<'a> {

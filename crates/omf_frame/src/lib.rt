@@ -7,6 +7,7 @@ mod field;
 mod framer;
 mod framing;
 mod kinds;
+mod laws;
 mod sums;
 mod write;
 
@@ -14,5 +15,12 @@ pub use device::{Reading, Sink, Source, Writing};
 pub use fault::{FrameFault, Place, Reason};
 pub use field::{CommunalLength, Field, Index, Le16, Le32, Name};
 pub use framer::{Fed, Framer, RawRecord};
+pub use laws::{
+    faults_are_least, modules_are_unique, pieces_do_not_matter, records_delimit, runs_are_framings,
+    standing_faults_stay,
+};
 pub use sums::checksum;
 pub use write::write_record;
+
+#[cfg(test)]
+mod tests;

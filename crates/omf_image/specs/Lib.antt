@@ -3,6 +3,7 @@ pub mod Parts
 pub mod Overlay
 pub mod Joined
 pub mod Blocks
+pub mod BlockReaders
 pub mod Expanding
 pub mod Rows
 pub mod Laws

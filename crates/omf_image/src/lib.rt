@@ -9,5 +9,5 @@ pub mod rows;
 mod run;
 
 pub use limits::Limits;
-pub use part::Part;
+pub use part::{Part, add_part};
 pub use run::Run;

@@ -1,7 +1,6 @@
 pub mod Values
 pub mod Location
 pub mod Shortest
-pub mod Reading
 pub mod Layout
 pub mod Reads
 pub mod Steps
@@ -10,3 +9,15 @@ pub mod Readers
 pub mod Each
 pub mod Many
 pub mod Meets
+pub mod Entries
+pub mod Records
+pub mod EntryReaders
+pub mod RecordReaders
+pub mod Reading
+pub mod Gives
+pub mod Parts
+pub mod Seen
+pub mod Sizes
+pub mod Laws
+pub mod LawProofs
+pub mod Rows

@@ -7,10 +7,10 @@ use Rattle.omf_frame.specs.Fault.{Fault, reason_number}
 use Rattle.omf_frame.specs.declared.fault.Reason.{Reason}
 use Rattle.omf_frame.specs.declared.fault.Reason.TheVariants as reason
 use Rattle.omf_records.specs.Values.{At}
-use Rattle.omf_records.specs.Layout.{Layout, fault, ◌>>=◌, give, ends, rest, times, checked, IsIn, index, placed, called, choose, when, either}
+use Rattle.omf_records.specs.Layout.{Layout, fault, ◌>>=◌, give, ends, rest, times, checked, IsIn, index, number_of, placed, called, choose, when, either}
 use Rattle.omf_records.specs.Reads.{After, after, Reading, and_then, Takes, Refuses, Reader, Whole, Behind, Falls, Shrinks}
 use Rattle.omf_records.specs.Steps.{and_then_ok, and_then_err, AreBytes-rest, before_here, refused_by}
-use Rattle.omf_records.specs.FieldReaders.{index_reader}
+use Rattle.omf_records.specs.FieldReaders.{index_reader, number_reader}
 
 -- ---- one after the other
 
@@ -173,6 +173,10 @@ module _ {A : Type 0} (p : Layout A) (r : Reader p) where
 -- an index and its place
 abbrev pub index_at : Reader (placed index)
 index_at = placed_reader index index_reader
+
+-- a number of a record's width and its place
+abbrev pub number_at : (wide : Bool) → Reader (placed (number_of wide))
+number_at wide = placed_reader (number_of wide) (number_reader wide)
 
 -- ---- a field some of whose values are refused
 

@@ -1,11 +1,19 @@
 //! The contents of the records of an object module: each is one typed record, or has a first fault of layout.
 #![tactic(auto)]
 
-ghost use Rattle.std.specs.Prelude.{◌≡◌, ℕ, [], ◌∷◌, Ok};
-ghost use Rattle.omf_records.specs.Reading.{read_body};
-ghost use Rattle.omf_records.specs.Values.{Header};
+mod at;
+mod entry;
+mod field;
+mod here;
+mod item;
+pub mod laws;
+mod record;
+pub mod rows;
+mod subrecord;
 
-/// A header's contents are a name.
-pub fn a_header()
-    ensures { read_body 0x80 (1 ∷ 0x41 ∷ []) ≡ Ok (Header (0x41 ∷ [])) }
-{}
+pub use at::{At, LayoutFault};
+pub use entry::{Communal, CommunalSize, Extern, Member, Public};
+pub use here::Here;
+pub use item::{Cursor, Item, Items};
+pub use record::{Blocks, Rec, Segment};
+pub use subrecord::{Part, Reference, Subrecord};

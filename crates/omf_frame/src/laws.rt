@@ -1,0 +1,60 @@
+//! Laws of the definitions, over all inputs.
+
+ghost use Rattle.std.specs.Prelude.{◌≡◌, ◌+◌, ◌<◌, ℕ, Bool, not, ◌||◌, IsTrue, List, [], ◌∷◌, ◌++◌, length, take, flat_map, Some, None};
+ghost use Rattle.omf_frame.specs.declared.fault.Reason.{Reason};
+ghost use Rattle.omf_frame.specs.declared.fault.Place.{Place};
+ghost use Rattle.omf_frame.specs.declared.fault.FrameFault.TheVariants.{Refused};
+ghost use Rattle.omf_frame.specs.Bytes.{AreBytes};
+ghost use Rattle.omf_frame.specs.Fault.{Fault, IsLeast, least, least_or, Rule, AreKept, broken};
+ghost use Rattle.omf_frame.specs.Framing.{Raw, IsRecord, IsFramed, HasFront, raw_bytes, present, after_front, front_record, is_taken, is_header, frame_fault, standing_fault};
+ghost use Rattle.omf_frame.specs.Framer.{Held, at_start, Takes, FailsAs};
+ghost use Rattle.omf_frame.specs.Runs.{Run, run_over, settled, IsFed, IsOpen, IsFramingOf, before_all};
+
+/// However bytes are cut into pieces, what is shown of them and the state are the same.
+///
+/// `run_over` gives a framer one byte after another. A feed does to the state what the bytes that it takes
+/// do, or those for which it is refused; and so do many feeds.
+pub fn pieces_do_not_matter()
+    ensures joined { (run : Run) (a b : List ℕ) → run_over run (a ++ b) ≡ run_over (run_over run a) b }
+    ensures takes { (run : Run) (piece : List ℕ) (taken : ℕ) (whole : Bool) (new : Held) → IsOpen run.held → Takes run.held piece taken whole new
+        → run_over run (take taken piece) ≡ settled (record run { held = new }) }
+    ensures fails { (run : Run) (piece : List ℕ) (why : Reason) (place : Place) (new : Held) → IsOpen run.held → FailsAs run.held piece (Refused why place) new
+        → run_over run piece ≡ record run { held = new } }
+    ensures open_after { (run : Run) (piece : List ℕ) (taken : ℕ) (whole : Bool) (new : Held) → Takes run.held piece taken whole new
+        → IsOpen (settled (record run { held = new })).held }
+    ensures fed { (run end : Run) (pieces : List (List ℕ)) → IsOpen run.held → IsFed run pieces end → run_over run (flat_map (λ piece. piece) pieces) ≡ end }
+{}
+
+/// A fault of framing that stands in the bytes of a record stands whatever bytes follow.
+pub fn standing_faults_stay()
+    ensures { (is_first : Bool) (bytes more : List ℕ) (fault : Fault) → standing_fault is_first (present bytes) ≡ Some fault → standing_fault is_first (present (bytes ++ more)) ≡ Some fault }
+{}
+
+/// What a run over an input shows, and the state it ends in, are those of the definitions over the whole input.
+pub fn runs_are_framings()
+    ensures { (input : List ℕ) → AreBytes input → IsFramingOf input (run_over before_all input) }
+{}
+
+/// At most one prefix of an input is framed.
+pub fn modules_are_unique()
+    ensures { (a b x y : List ℕ) (rs ss : List Raw) → IsFramed a rs → IsFramed b ss → a ++ x ≡ b ++ y → (a ≡ b) × (rs ≡ ss) }
+{}
+
+/// A record and its bytes determine each other, and bytes without a fault of framing begin with a record.
+pub fn records_delimit()
+    ensures present { (r : Raw) (rest : List ℕ) → length r.body + 1 < 65536 → present (raw_bytes r ++ rest) ≡ raw_bytes r }
+    ensures after { (r : Raw) (rest : List ℕ) → length r.body + 1 < 65536 → after_front (raw_bytes r ++ rest) ≡ rest }
+    ensures front { (r : Raw) → length r.body + 1 < 65536 → front_record (raw_bytes r) ≡ r }
+    ensures clean { (is_first : Bool) (r : Raw) → IsRecord r → IsTrue (is_taken r.kind) → IsTrue (not is_first || is_header r.kind) → frame_fault is_first (raw_bytes r) ≡ None }
+    ensures begins { (is_first : Bool) (bytes : List ℕ) → AreBytes bytes → frame_fault is_first (present bytes) ≡ None → HasFront bytes }
+{}
+
+/// The fault that is named is the least: the only one that is among the faults and stands before them all. Rules are
+/// kept exactly where none of them is broken.
+pub fn faults_are_least()
+    ensures least { (fault : Fault) (faults : List Fault) → IsLeast (fault ∷ faults) (least_or fault faults) }
+    ensures none { (faults : List Fault) → least faults ≡ None → faults ≡ [] }
+    ensures only { (faults : List Fault) (f g : Fault) → IsLeast faults f → IsLeast faults g → f ≡ g }
+    ensures kept { (rules : List Rule) → AreKept rules → broken rules ≡ [] }
+    ensures broken { (rules : List Rule) → broken rules ≡ [] → AreKept rules }
+{}

@@ -1,0 +1,5 @@
+use Rattle.omf_records.specs.LawProofs.{decided}
+use Rattle.omf_records.proofs.laws.layouts_are_decided.Goals as goal
+
+pub returns : goal.returns
+returns c = decided

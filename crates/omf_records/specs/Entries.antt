@@ -1,0 +1,106 @@
+-- What records repeat, and what two of them share: the layout of each (TIS OMF 1.1, the page of each record).
+-- `wide` says that the fields whose width depends on the record's type have 32 bits. A refused value has the list of its reasons.
+use Rattle.std.specs.Prelude.{ℕ, ◌==◌, ◌||◌, not, nat_lt, Bool, if◌then◌else◌, List, [], ◌∷◌, ◌++◌}
+use Rattle.omf_frame.specs.Bytes.{is_one_of}
+use Rattle.omf_frame.specs.declared.fault.Reason.{Reason}
+use Rattle.omf_frame.specs.declared.fault.Reason.TheVariants as reason
+use Rattle.omf_records.specs.Values.{At, ExternalItem, PublicItem, CommunalSize, Near, Far, CommunalItem, Reference, Subrecord, Thread, Fixup, thread_is_frame, thread_method, is_segment_relative, location_type, frame_by_thread, frame_bits, target_by_thread, target_bits, has_no_displacement, has_frame_datum, has_target_datum, is_location, may_be_self_relative}
+use Rattle.omf_records.specs.Layout.{Layout, ◌>>=◌, give, name, index, byte, number_of, communal_length, head, checked, placed, called, choose, when}
+
+-- the reason, unless the test holds
+abbrev pub unless : Bool → Reason → List Reason
+unless test r = if test then [] else r ∷ []
+
+-- GRPDEF: the component FFH, and the index of a segment (no other component is taken: this profile's rule).
+abbrev pub wrong_component : ℕ → List Reason
+wrong_component c = unless (c == 0xFF) reason.GroupComponent
+
+abbrev pub member : Layout (At ℕ)
+member = do
+  component ← checked byte wrong_component
+  placed index
+
+-- EXTDEF: a name and a type index.
+abbrev pub external : Layout ExternalItem
+external = do
+  text ← name
+  type_index ← index
+  give (record { name = text; type_index = type_index })
+
+-- PUBDEF: a name, an offset and a type index.
+abbrev pub public_item : Bool → Layout PublicItem
+public_item wide = do
+  text ← name
+  offset ← number_of wide
+  type_index ← index
+  give (record { name = text; offset = offset; type_index = type_index })
+
+-- COMDEF: a name, a type index, the data type 62H (near) and a length, or 61H (far), a number of elements and their size.
+abbrev pub wrong_data_type : ℕ → List Reason
+wrong_data_type t = unless (is_one_of (0x61 ∷ 0x62 ∷ []) t) reason.CommunalType
+
+abbrev pub near_size : Layout CommunalSize
+near_size = called communal_length Near
+
+abbrev pub far_size : Layout CommunalSize
+far_size = do
+  count ← communal_length
+  size ← communal_length
+  give (Far count size)
+
+abbrev pub communal_size : Layout CommunalSize
+communal_size = do
+  data_type ← checked byte wrong_data_type
+  choose (data_type == 0x62) near_size far_size
+
+abbrev pub communal : Layout CommunalItem
+communal = do
+  text ← name
+  type_index ← index
+  size ← communal_size
+  give (record { name = text; type_index = type_index; size = size })
+
+-- The reference of a FIXUP, and of MODEND's start: the fix data byte; a frame datum where it names F0, F1 or F2 and no thread;
+-- a target datum where it names no thread; a displacement where its bit P is 0. Frame methods F3, F6, F7 and target method 3
+-- are refused, where no thread is named (this profile's rule).
+abbrev pub is_frame_method : ℕ → Bool
+is_frame_method m = nat_lt m 3 || (m == 4) || (m == 5)
+
+abbrev pub wrong_methods : ℕ → List Reason
+wrong_methods fix = unless (frame_by_thread fix || is_frame_method (frame_bits fix)) reason.FrameMethod
+    ++ unless (target_by_thread fix || nat_lt (target_bits fix) 3) reason.TargetMethod
+
+abbrev pub reference : Bool → Layout Reference
+reference wide = do
+  fix ← placed (checked byte wrong_methods)
+  frame ← when (has_frame_datum fix.item) (placed index)
+  target ← when (has_target_datum fix.item) (placed index)
+  displacement ← when (not (has_no_displacement fix.item)) (number_of wide)
+  give (record { fix = fix; frame = frame; target = target; displacement = displacement })
+
+-- A THREAD: one byte, of which bit 7 is clear, and an index for F0, F1, F2, T0, T1, T2.
+abbrev pub wrong_thread : ℕ → List Reason
+wrong_thread b = if thread_is_frame b then unless (is_frame_method (thread_method b)) reason.FrameMethod
+    else unless (nat_lt (thread_method b) 3) reason.TargetMethod
+
+abbrev pub thread : ℕ → Layout Subrecord
+thread b = called (when (nat_lt (thread_method b) 3) (placed index)) (Thread b)
+
+-- A FIXUP: two bytes, high byte first, of which bit 15 is set, and a reference. The location type is one of the table, and one
+-- that may be self-relative where bit M is 0.
+abbrev pub wrong_location : ℕ → List Reason
+wrong_location locat = if is_location (location_type locat)
+    then unless (is_segment_relative locat || may_be_self_relative (location_type locat)) reason.SelfRelative
+    else (reason.LocationType ∷ [])
+
+abbrev pub fixup : Bool → ℕ → Layout Subrecord
+fixup wide locat = called (reference wide) (Fixup locat)
+
+-- FIXUPP: a THREAD or a FIXUP.
+abbrev pub wrong_head : ℕ → List Reason
+wrong_head h = if nat_lt h 128 then wrong_thread h else wrong_location h
+
+abbrev pub subrecord : Bool → Layout Subrecord
+subrecord wide = do
+  h ← checked head wrong_head
+  choose (nat_lt h 128) (thread h) (fixup wide h)

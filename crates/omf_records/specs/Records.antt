@@ -1,0 +1,115 @@
+-- The contents of each record: its layout, by the record's type (TIS OMF 1.1, the page of each record).
+use Rattle.std.specs.Prelude.{ℕ, ◌==◌, ◌||◌, not, nat_lt, Bool, List, [], ◌∷◌}
+use Rattle.omf_frame.specs.Bytes.{is_one_of}
+use Rattle.omf_frame.specs.Framing.{is_header, is_end}
+use Rattle.omf_frame.specs.declared.fault.Reason.{Reason}
+use Rattle.omf_frame.specs.declared.fault.Reason.TheVariants as reason
+use Rattle.omf_records.specs.Values.{DataItem, Contents, Header, Comment, Names, Segment, Group, Externs, Publics, Communals, Plain, Iterated, Fixups, ModEnd, Carried, Rec, is_wide, alignment, is_big, has_start}
+use Rattle.omf_records.specs.Layout.{Layout, ◌>>=◌, give, ends, rest, many, name, index, byte, le, number_of, checked, placed, called, when, either}
+use Rattle.omf_records.specs.Entries.{unless, member, external, public_item, communal, reference, subrecord}
+
+-- THEADR, LHEADR: a name.
+abbrev pub header : Layout Contents
+header = do
+  text ← name
+  ends (Header text)
+
+-- COMENT: type byte, class byte, text to the end.
+abbrev pub comment : Layout Contents
+comment = do
+  type_byte ← byte
+  class ← byte
+  called rest (Comment type_byte class)
+
+-- LNAMES: names to the end.
+abbrev pub names : Layout Contents
+names = called (many name) Names
+
+-- SEGDEF: attribute byte; frame number and offset of an absolute segment; length; name, class and overlay index. Alignments
+-- 6 and 7 are refused (this profile's rule), and a length other than 0 where the segment is Big.
+abbrev pub wrong_alignment : ℕ → List Reason
+wrong_alignment attribute = unless (nat_lt (alignment attribute) 6) reason.Alignment
+
+abbrev pub wrong_size : ℕ → ℕ → List Reason
+wrong_size attribute size = unless (not (is_big attribute) || (size == 0)) reason.BigLength
+
+abbrev pub absolute : Layout (ℕ × ℕ)
+absolute = do
+  frame ← le 2
+  offset ← byte
+  give (frame, offset)
+
+abbrev pub segment : Bool → Layout Contents
+segment wide = do
+  attribute ← checked byte wrong_alignment
+  at ← when (alignment attribute == 0) absolute
+  size ← checked (number_of wide) (wrong_size attribute)
+  text ← placed index
+  class ← placed index
+  overlay ← index
+  ends (Segment (record { attribute = attribute; absolute = at; size = size; name = text; class = class; overlay = overlay }))
+
+-- GRPDEF: the index of its name, and members to the end.
+abbrev pub group : Layout Contents
+group = do
+  text ← placed index
+  called (many member) (λ ms. Group (record { name = text; members = ms }))
+
+-- EXTDEF: external names to the end.
+abbrev pub externs : Layout Contents
+externs = called (many external) Externs
+
+-- PUBDEF: group index, segment index, the frame number of the base where the segment index is 0, and public names to the end.
+abbrev pub publics : Bool → Layout Contents
+publics wide = do
+  group ← placed index
+  segment ← placed index
+  frame ← when (segment.item == 0) (le 2)
+  called (many (public_item wide)) (λ ps. Publics (record { group = group; segment = segment; frame = frame; items = ps }))
+
+-- COMDEF: communal names to the end.
+abbrev pub communals : Layout Contents
+communals = called (many communal) Communals
+
+-- LEDATA, LIDATA: segment index, offset, and data or blocks to the end.
+abbrev pub data_item : Bool → Layout DataItem
+data_item wide = do
+  segment ← placed index
+  offset ← placed (number_of wide)
+  called rest (λ bytes. record { segment = segment; offset = offset; bytes = bytes })
+
+-- FIXUPP: subrecords to the end.
+abbrev pub fixups : Bool → Layout Contents
+fixups wide = called (many (subrecord wide)) Fixups
+
+-- MODEND: type byte, and the start where its bit 6 is set.
+abbrev pub mod_end : Bool → Layout Contents
+mod_end wide = do
+  type_byte ← byte
+  start ← when (has_start type_byte) (reference wide)
+  ends (ModEnd type_byte start)
+
+-- TYPDEF, LINNUM, LINSYM, ALIAS, VERNUM: any bytes. (No other type comes this far: a module with one is refused by its type byte.)
+abbrev pub carried : Layout Contents
+carried = called rest Carried
+
+-- The contents of a record of each type.
+abbrev pub contents : ℕ → Layout Contents
+contents kind =
+    either (is_header kind) header (
+    either (kind == 0x88) comment (
+    either (kind == 0x96) names (
+    either (is_one_of (0x98 ∷ 0x99 ∷ []) kind) (segment (is_wide kind)) (
+    either (kind == 0x9A) group (
+    either (kind == 0x8C) externs (
+    either (is_one_of (0x90 ∷ 0x91 ∷ []) kind) (publics (is_wide kind)) (
+    either (kind == 0xB0) communals (
+    either (is_one_of (0xA0 ∷ 0xA1 ∷ []) kind) (called (data_item (is_wide kind)) Plain) (
+    either (is_one_of (0xA2 ∷ 0xA3 ∷ []) kind) (called (data_item (is_wide kind)) Iterated) (
+    either (is_one_of (0x9C ∷ 0x9D ∷ []) kind) (fixups (is_wide kind)) (
+    either (is_end kind) (mod_end (is_wide kind))
+    carried)))))))))))
+
+-- The contents of a record, which begin at offset 3, spell this typed record.
+abbrev pub IsTyped : Rec → List ℕ → Type 0
+IsTyped r body = (contents r.kind).Spells 3 body r.contents

@@ -1,0 +1,228 @@
+//! What records repeat: names, members, external, public and communal names.
+ghost use Rattle.std.specs.Prelude.{◌≡◌};
+ghost use Rattle.omf_records.specs.Gives.{Gives};
+ghost use Rattle.omf_records.specs.EntryReaders.{component_reader, data_type_reader, size_reader};
+ghost use Rattle.omf_records.specs.Sizes.{size_seen, GivesSize};
+
+use crate::at::{At, LayoutFault};
+use crate::field::{byte, communal_length, index, index_here, name, number};
+use crate::here::Here;
+use crate::item::Item;
+use omf_frame::{Index, Name, Reason};
+use std::marker::{Model, PhantomData};
+
+impl<'a> Item for Name<'a> {
+    ghost use Rattle.omf_records.specs.Layout.{name};
+    ghost use Rattle.omf_records.specs.FieldReaders.{name_reader, name_shrinks};
+
+    type From = Here<'a>;
+
+    ghost layout = { λ w. name };
+
+    ghost reader = { λ w. name_reader };
+
+    ghost shrinks = { λ w. name_shrinks };
+
+    fn read(here: Here<'a>) -> Result<(Name<'a>, Here<'a>), LayoutFault> {
+        name(here)
+    }
+}
+
+/// A member of a GRPDEF: the segment's index. The item's own offset is that of the component byte.
+#[derive(Drop)]
+pub struct Member<'a> {
+    pub segment: At<Index>,
+    of: PhantomData<&'a [u8]>,
+}
+
+impl<'a> Model for Member<'a> {
+    ghost use Rattle.std.specs.Prelude.{ℕ};
+    ghost use Rattle.omf_records.specs.Values.{At as Placed};
+
+    ghost Value = { Placed ℕ };
+
+    ghost view = { λ m. m.segment };
+}
+
+/// The byte FFH before each member.
+fn component<'a>(here: Here<'a>) -> Result<(u8, Here<'a>), LayoutFault>
+    ensures { Gives here.entry.wide result (component_reader.read here.entry.within here.entry.bytes.now) }
+{
+    let (component, after) = byte(here)?;
+    if component != 0xFF {
+        return Err(here.fault(Reason::GroupComponent));
+    }
+    Ok((component, after))
+}
+
+impl<'a> Item for Member<'a> {
+    ghost use Rattle.omf_records.specs.Entries.{member};
+    ghost use Rattle.omf_records.specs.EntryReaders.{member_reader, member_shrinks};
+
+    type From = Here<'a>;
+
+    ghost layout = { λ w. member };
+
+    ghost reader = { λ w. member_reader };
+
+    ghost shrinks = { λ w. member_shrinks };
+
+    fn read(here: Here<'a>) -> Result<(Member<'a>, Here<'a>), LayoutFault> {
+        let (_component, here) = component(here)?;
+        let (segment, here) = index_here(here)?;
+        let of = PhantomData;
+        Ok((Member { segment, of }, here))
+    }
+}
+
+/// An external name of an EXTDEF.
+#[derive(Drop)]
+pub struct Extern<'a> {
+    pub name: Name<'a>,
+    pub type_index: Index,
+}
+
+impl<'a> Model for Extern<'a> {
+    ghost use Rattle.omf_records.specs.Values.{ExternalItem};
+
+    ghost Value = { ExternalItem };
+
+    ghost view = { λ e. record { name = e.name; type_index = e.type_index } };
+}
+
+impl<'a> Item for Extern<'a> {
+    ghost use Rattle.omf_records.specs.Entries.{external};
+    ghost use Rattle.omf_records.specs.EntryReaders.{external_reader, external_shrinks};
+
+    type From = Here<'a>;
+
+    ghost layout = { λ w. external };
+
+    ghost reader = { λ w. external_reader };
+
+    ghost shrinks = { λ w. external_shrinks };
+
+    fn read(here: Here<'a>) -> Result<(Extern<'a>, Here<'a>), LayoutFault> {
+        let (name, here) = name(here)?;
+        let (type_index, here) = index(here)?;
+        Ok((Extern { name, type_index }, here))
+    }
+}
+
+/// A public name of a PUBDEF, at an offset in the record's base.
+#[derive(Drop)]
+pub struct Public<'a> {
+    pub name: Name<'a>,
+    pub offset: u32,
+    pub type_index: Index,
+}
+
+impl<'a> Model for Public<'a> {
+    ghost use Rattle.omf_records.specs.Values.{PublicItem};
+
+    ghost Value = { PublicItem };
+
+    ghost view = { λ p. record { name = p.name; offset = p.offset; type_index = p.type_index } };
+}
+
+impl<'a> Item for Public<'a> {
+    ghost use Rattle.omf_records.specs.Entries.{public_item};
+    ghost use Rattle.omf_records.specs.EntryReaders.{public_reader, public_shrinks};
+
+    type From = Here<'a>;
+
+    ghost layout = { public_item };
+
+    ghost reader = { public_reader };
+
+    ghost shrinks = { public_shrinks };
+
+    fn read(here: Here<'a>) -> Result<(Public<'a>, Here<'a>), LayoutFault> {
+        let (name, here) = name(here)?;
+        let (offset, here) = number(here)?;
+        let (type_index, here) = index(here)?;
+        Ok((
+            Public {
+                name,
+                offset,
+                type_index,
+            },
+            here,
+        ))
+    }
+}
+
+/// The size of a communal: of near data its length, of far data the number of elements and the size of one.
+#[derive(Clone, Copy, Debug, Drop, PartialEq, Eq)]
+pub enum CommunalSize {
+    Near(u32),
+    Far { count: u32, size: u32 },
+}
+
+/// A communal name of a COMDEF.
+#[derive(Drop)]
+pub struct Communal<'a> {
+    pub name: Name<'a>,
+    pub type_index: Index,
+    pub size: CommunalSize,
+}
+
+impl<'a> Model for Communal<'a> {
+    ghost use Rattle.omf_records.specs.Values.{CommunalItem};
+    ghost use Rattle.omf_records.specs.Sizes.{size_seen};
+
+    ghost Value = { CommunalItem };
+
+    ghost view = { λ c. record { name = c.name; type_index = c.type_index; size = size_seen c.size } };
+}
+
+/// The data type: 61H far, 62H near.
+fn data_type<'a>(here: Here<'a>) -> Result<(u8, Here<'a>), LayoutFault>
+    ensures { Gives here.entry.wide result (data_type_reader.read here.entry.within here.entry.bytes.now) }
+{
+    let (data_type, after) = byte(here)?;
+    if data_type != 0x61 && data_type != 0x62 {
+        return Err(here.fault(Reason::CommunalType));
+    }
+    Ok((data_type, after))
+}
+
+fn communal_size<'a>(here: Here<'a>) -> Result<(CommunalSize, Here<'a>), LayoutFault>
+    ensures { GivesSize here.entry.wide result (size_reader.read here.entry.within here.entry.bytes.now) }
+{
+    let (data_type, here) = data_type(here)?;
+    if data_type == 0x62 {
+        let (length, here) = communal_length(here)?;
+        return Ok((CommunalSize::Near(length), here));
+    }
+    let (count, here) = communal_length(here)?;
+    let (size, here) = communal_length(here)?;
+    Ok((CommunalSize::Far { count, size }, here))
+}
+
+impl<'a> Item for Communal<'a> {
+    ghost use Rattle.omf_records.specs.Entries.{communal};
+    ghost use Rattle.omf_records.specs.EntryReaders.{communal_reader, communal_shrinks};
+
+    type From = Here<'a>;
+
+    ghost layout = { λ w. communal };
+
+    ghost reader = { λ w. communal_reader };
+
+    ghost shrinks = { λ w. communal_shrinks };
+
+    fn read(here: Here<'a>) -> Result<(Communal<'a>, Here<'a>), LayoutFault> {
+        let (name, here) = name(here)?;
+        let (type_index, here) = index(here)?;
+        let (size, here) = communal_size(here)?;
+        Ok((
+            Communal {
+                name,
+                type_index,
+                size,
+            },
+            here,
+        ))
+    }
+}

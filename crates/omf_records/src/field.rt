@@ -1,0 +1,122 @@
+//! Fields at a place of a record's contents.
+ghost use Rattle.std.specs.Prelude.{◌≡◌, ℕ, ◌+◌, ◌-◌, ◌*◌, ◌<◌, ◌≤◌, length, drop, take, List, cond};
+ghost use Rattle.omf_records.specs.Gives.{Gives, GivesField};
+ghost use Rattle.omf_records.specs.FieldReaders.{name_read, index_read, byte_read, le_read, head_read, length_read};
+ghost use Rattle.omf_records.specs.FieldReaders.{number_reader};
+ghost use Rattle.omf_records.specs.Layout.{length_reason};
+ghost use Rattle.omf_records.specs.Readers.{index_at, number_at};
+
+use crate::at::{At, LayoutFault};
+use crate::here::Here;
+use omf_frame::{CommunalLength, Field, Index, Le16, Le32, Name, Reason};
+
+/// A field, and what comes after it.
+fn field<'a, F: Field<'a>>(here: Here<'a>) -> Result<(F, Here<'a>), LayoutFault>
+    ensures { GivesField F.spells here.entry.wide here.entry.within here.entry.bytes.now result }
+{
+    match F::read_at(here.bytes(), 0) {
+        Some((value, len)) => Ok((value, here.pass(len))),
+        None => Err(here.fault(Reason::Short)),
+    }
+}
+
+pub(crate) fn name<'a>(here: Here<'a>) -> Result<(Name<'a>, Here<'a>), LayoutFault>
+    ensures { Gives here.entry.wide result (name_read here.entry.within here.entry.bytes.now) }
+{
+    field::<Name<'a>>(here)
+}
+
+pub(crate) fn index<'a>(here: Here<'a>) -> Result<(Index, Here<'a>), LayoutFault>
+    ensures { Gives here.entry.wide result (index_read here.entry.within here.entry.bytes.now) }
+{
+    field::<Index>(here)
+}
+
+/// A number of two bytes.
+pub(crate) fn le16<'a>(here: Here<'a>) -> Result<(u16, Here<'a>), LayoutFault>
+    ensures { Gives here.entry.wide result (le_read 2 here.entry.within here.entry.bytes.now) }
+{
+    match field::<Le16>(here) {
+        Ok((Le16(value), after)) => Ok((value, after)),
+        Err(fault) => Err(fault),
+    }
+}
+
+/// A number of four bytes.
+fn le32<'a>(here: Here<'a>) -> Result<(u32, Here<'a>), LayoutFault>
+    ensures { Gives here.entry.wide result (le_read 4 here.entry.within here.entry.bytes.now) }
+{
+    match field::<Le32>(here) {
+        Ok((Le32(value), after)) => Ok((value, after)),
+        Err(fault) => Err(fault),
+    }
+}
+
+/// A number of the record's width: 32 bits, or 16.
+pub(crate) fn number<'a>(here: Here<'a>) -> Result<(u32, Here<'a>), LayoutFault>
+    ensures { Gives here.entry.wide result ((number_reader here.entry.wide).read here.entry.within here.entry.bytes.now) }
+{
+    if here.is_wide() {
+        return le32(here);
+    }
+    let (value, after) = le16(here)?;
+    Ok((u32::from(value), after))
+}
+
+/// Why no communal length stands at the front.
+fn length_fault(bytes: &[u8]) -> Reason
+    ensures { result ≡ length_reason bytes.now }
+{
+    match bytes {
+        [] | [0..=128 | 0x81 | 0x84 | 0x88, ..] => Reason::Short,
+        _ => Reason::CommunalLength,
+    }
+}
+
+pub(crate) fn communal_length<'a>(here: Here<'a>) -> Result<(u32, Here<'a>), LayoutFault>
+    ensures { Gives here.entry.wide result (length_read here.entry.within here.entry.bytes.now) }
+{
+    match field::<CommunalLength>(here) {
+        Ok((CommunalLength(length), after)) => Ok((length, after)),
+        Err(_) => Err(here.fault(length_fault(here.bytes()))),
+    }
+}
+
+/// An index, with its place.
+pub(crate) fn index_here<'a>(here: Here<'a>) -> Result<(At<Index>, Here<'a>), LayoutFault>
+    ensures { Gives here.entry.wide result (index_at.read here.entry.within here.entry.bytes.now) }
+{
+    let (item, after) = index(here)?;
+    let within = here.within();
+    Ok((At { within, item }, after))
+}
+
+/// A number of the record's width, with its place.
+pub(crate) fn number_here<'a>(here: Here<'a>) -> Result<(At<u32>, Here<'a>), LayoutFault>
+    ensures { Gives here.entry.wide result ((number_at here.entry.wide).read here.entry.within here.entry.bytes.now) }
+{
+    let (item, after) = number(here)?;
+    let within = here.within();
+    Ok((At { within, item }, after))
+}
+
+/// One byte.
+pub(crate) fn byte<'a>(here: Here<'a>) -> Result<(u8, Here<'a>), LayoutFault>
+    ensures { Gives here.entry.wide result (byte_read here.entry.within here.entry.bytes.now) }
+{
+    match here.bytes() {
+        [first, ..] => Ok((*first, here.pass(1))),
+        [] => Err(here.fault(Reason::Short)),
+    }
+}
+
+/// One byte below 128, or two bytes, the high one first, of which that has bit 7 set.
+pub(crate) fn head<'a>(here: Here<'a>) -> Result<(u16, Here<'a>), LayoutFault>
+    ensures { Gives here.entry.wide result (head_read here.entry.within here.entry.bytes.now) }
+{
+    match here.bytes() {
+        [first, ..] if *first < 128 => Ok((u16::from(*first), here.pass(1))),
+        [first, second, ..] => Ok((u16::from(*first) * 256 + u16::from(*second), here.pass(2))),
+        _ => Err(here.fault(Reason::Short)),
+    }
+}

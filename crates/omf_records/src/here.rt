@@ -1,0 +1,91 @@
+//! A place in a record's contents.
+ghost use Rattle.std.specs.Prelude.{◌≡◌, ℕ, ◌+◌, ◌≤◌, length, drop};
+ghost use Rattle.omf_frame.specs.Bytes.{AreBytes};
+
+use crate::at::LayoutFault;
+use omf_frame::Reason;
+
+/// The bytes from a place in a record to the end of its contents.
+#[derive(Clone, Copy, Drop)]
+pub struct Here<'a> {
+    within: u32,
+    /// Whether the fields whose width depends on the record's type have 32 bits.
+    wide: bool,
+    bytes: &'a [u8],
+    /// No record is longer.
+    ghost fits: { within + length bytes.now ≤ 65537 },
+    ghost are_bytes: { AreBytes bytes.now },
+}
+
+impl<'a> Here<'a> {
+    ghost use Rattle.std.specs.Prelude.{◌≡◌, ℕ, ◌+◌, ◌≤◌, length, drop};
+    ghost use Rattle.omf_frame.specs.declared.fault.Reason.TheVariants.{Short};
+    ghost use Rattle.omf_records.specs.Layout.{fault};
+    ghost use Rattle.omf_records.specs.Readers.{ends_read};
+
+    /// The start of a record's contents, at offset 3.
+    pub(crate) fn start(wide: bool, body: &'a [u8]) -> Here<'a>
+        requires { length body.now ≤ 65534 }
+        ensures place { result.within ≡ 3 }
+        ensures width { result.wide ≡ wide }
+        ensures bytes { result.bytes.now ≡ body.now }
+    {
+        Here {
+            within: 3,
+            wide,
+            bytes: body,
+        }
+    }
+
+    pub(crate) fn within(self) -> u32
+        ensures { result ≡ self.entry.within }
+    {
+        self.within
+    }
+
+    pub(crate) fn is_wide(self) -> bool
+        ensures { result ≡ self.entry.wide }
+    {
+        self.wide
+    }
+
+    pub(crate) fn bytes(self) -> &'a [u8]
+        ensures { result.now ≡ self.entry.bytes.now }
+    {
+        self.bytes
+    }
+
+    /// The field here is at fault.
+    pub(crate) fn fault(self, reason: Reason) -> LayoutFault
+        ensures { result ≡ fault self.entry.within reason }
+    {
+        LayoutFault {
+            reason,
+            within: self.within,
+        }
+    }
+
+    /// Nothing may be left.
+    pub(crate) fn end(self) -> Result<(), LayoutFault>
+        ensures { result ≡ ends_read tt self.entry.within self.entry.bytes.now }
+    {
+        if self.bytes.is_empty() {
+            return Ok(());
+        }
+        Err(self.fault(Reason::Long))
+    }
+
+    /// The first `n` bytes are passed.
+    pub(crate) fn pass(self, n: usize) -> Here<'a>
+        requires { n ≤ length self.bytes.now }
+        ensures width { result.wide ≡ self.entry.wide }
+        ensures within { result.within ≡ self.entry.within + n }
+        ensures bytes { result.bytes.now ≡ drop n self.entry.bytes.now }
+    {
+        Here {
+            within: self.within + n as u32,
+            wide: self.wide,
+            bytes: &self.bytes[n..],
+        }
+    }
+}

@@ -1,0 +1,128 @@
+//! Items one after another, to the end of a record's contents.
+ghost use Rattle.std.specs.Prelude.{◌≡◌, ℕ, ◌+◌, ◌-◌, ◌*◌, ◌<◌, ◌≤◌, ◌↔◌, IsTrue, length, drop, take, List, [], Bool};
+ghost use Rattle.std.specs.Iterator.{YieldsFirst, item_count};
+ghost use Rattle.omf_records.specs.Layout.{Layout};
+ghost use Rattle.omf_records.specs.Reads.{GivesFrom, Reader, Shrinks, each};
+
+use crate::at::{At, LayoutFault};
+use crate::here::Here;
+use std::marker::Model;
+
+/// A place in a record's contents, and the bytes from there on.
+pub trait Cursor: Copy + Drop {
+    ghost place: { Self → ℕ };
+
+    ghost rest: { Self → List ℕ };
+
+    ghost wide: { Self → Bool };
+
+    /// The offset in the record (its type byte is at 0).
+    fn offset(self) -> u32
+        ensures { result ≡ place self };
+
+    /// No bytes are left.
+    fn is_end(self) -> bool
+        ensures { IsTrue result ↔ rest self ≡ [] };
+}
+
+impl<'a> Cursor for Here<'a> {
+    ghost place = { λ h. h.within };
+
+    ghost rest = { λ h. h.bytes.now };
+
+    ghost wide = { λ h. h.wide };
+
+    fn offset(self) -> u32 {
+        self.within()
+    }
+
+    fn is_end(self) -> bool {
+        self.bytes().is_empty()
+    }
+}
+
+/// What a record repeats.
+pub trait Item: Sized + Drop {
+    type From: Cursor;
+
+    /// How it is spelled, in a record of either width.
+    ghost layout: { Bool → Layout Self };
+
+    /// How it is read.
+    ghost reader: { (w : Bool) → Reader (layout w) };
+
+    /// The first item of the bytes, and what comes after it.
+    fn read(from: Self::From) -> Result<(Self, Self::From), LayoutFault>
+        ensures { GivesFrom Self.From.place Self.From.rest Self.From.wide (Self.From.wide from) result ((reader (Self.From.wide from)).read (Self.From.place from) (Self.From.rest from)) };
+
+    /// None is spelled by no bytes.
+    ghost shrinks: { (w : Bool) → Shrinks (reader w).read };
+}
+
+/// Items that are known to be well spelled, each with its offset in the record. It is seen as the list of
+/// those that are still to come.
+#[derive(Drop)]
+pub struct Items<T: Item> {
+    from: T::From,
+}
+
+impl<T: Item> Model for Items<T> {
+    ghost use Rattle.std.specs.Prelude.{◌≡◌, List, is_ok, true};
+    ghost use Rattle.omf_records.specs.Values.{At as Placed};
+    ghost use Rattle.omf_records.specs.Reads.{each, or_none};
+
+    ghost Value = { List (Placed T) };
+
+    ghost view = { λ s. or_none (each (T.reader (T.From.wide s.from)).read (T.From.place s.from) (T.From.rest s.from)) };
+
+    ghost invariant = { λ s. is_ok (each (T.reader (T.From.wide s.from)).read (T.From.place s.from) (T.From.rest s.from)) ≡ true };
+}
+
+impl<T: Item> Items<T> {
+    ghost use Rattle.std.specs.Prelude.{◌≡◌};
+    ghost use Rattle.omf_records.specs.Reads.{each};
+
+    /// All of the bytes, as items.
+    pub(crate) fn new(from: T::From) -> Result<Items<T>, LayoutFault>
+        ensures { result ≡ each (T.reader (T.From.wide from)).read (T.From.place from) (T.From.rest from) }
+    {
+        let mut left = from;
+        while !left.is_end() {
+            let (_item, after) = T::read(left)?;
+            left = after;
+        }
+        Ok(Items { from })
+    }
+
+    /// The same items, from the first of them on.
+    pub fn iter(&self) -> Items<T>
+        ensures { result ≡ self.now }
+    {
+        Items { from: self.from }
+    }
+}
+
+impl<T: Item> Iterator for Items<T> {
+    type Item = At<T>;
+
+    ghost next_gives = { YieldsFirst (λ s. s) };
+
+    ghost remaining = { item_count (λ s. s) };
+
+    fn next(&mut self) -> Option<At<T>> {
+        let from = self.from;
+        if from.is_end() {
+            return None;
+        }
+        match T::read(from) {
+            Ok((item, after)) => {
+                self.from = after;
+                Some(At {
+                    within: from.offset(),
+                    item,
+                })
+            }
+            Err(_) => None,
+        }
+    }
+}

@@ -1,0 +1,264 @@
+//! Subrecords of a FIXUPP, and the reference that a FIXUP and MODEND's start share.
+ghost use Rattle.std.specs.Prelude.{◌≡◌, ◌<◌, not, List, Option};
+ghost use Rattle.omf_records.specs.Values.{is_location, may_be_self_relative, thread_method, frame_by_thread, frame_bits, target_by_thread, target_bits, has_frame_datum, has_target_datum, has_no_displacement};
+ghost use Rattle.omf_records.specs.Parts.{first_reason};
+ghost use Rattle.omf_records.specs.Gives.{Gives};
+ghost use Rattle.omf_records.specs.Entries.{is_frame_method, wrong_methods, wrong_thread, wrong_location, wrong_head};
+ghost use Rattle.omf_records.specs.EntryReaders.{subhead_reader, fix_reader, datum_reader, displacement_reader, reference_reader, thread_reader, fixup_reader};
+
+use crate::at::{At, LayoutFault};
+use crate::field::{byte, head, index_here, number};
+use crate::here::Here;
+use crate::item::Item;
+use omf_frame::{Index, Reason};
+use std::marker::{Model, PhantomData};
+
+/// What a FIXUP says after its first two bytes, and MODEND's start (TIS OMF 1.1, "FIXUPP"): the fix data byte,
+/// the index of an explicit frame F0, F1 or F2, the index of an explicit target, the displacement if bit P is 0.
+#[derive(Drop)]
+pub struct Reference {
+    pub fix: At<u8>,
+    pub frame: Option<At<Index>>,
+    pub target: Option<At<Index>>,
+    pub displacement: Option<u32>,
+}
+
+impl Model for Reference {
+    ghost use Rattle.omf_records.specs.Values.{Reference as Said};
+
+    ghost Value = { Said };
+
+    ghost view = { λ r. record { fix = r.fix; frame = r.frame; target = r.target; displacement = r.displacement } };
+}
+
+/// A THREAD by its first byte, or a FIXUP by its first two, the high byte first.
+#[derive(Drop)]
+pub enum Part {
+    Thread { first: u8, index: Option<At<Index>> },
+    Fixup { location: u16, reference: Reference },
+}
+
+/// A subrecord of a FIXUPP whose bytes are lent for `'a`.
+#[derive(Drop)]
+pub struct Subrecord<'a> {
+    pub part: Part,
+    of: PhantomData<&'a [u8]>,
+}
+
+impl<'a> Model for Subrecord<'a> {
+    ghost use Rattle.omf_records.specs.Values.{Subrecord as Said};
+    ghost use Rattle.omf_records.specs.Parts.{part_seen};
+
+    ghost Value = { Said };
+
+    ghost view = { λ s. part_seen s.part };
+}
+
+/// F0, F1, F2, F4 or F5.
+fn is_frame_method(method: u8) -> bool
+    ensures { result ≡ is_frame_method method }
+{
+    method < 3 || method == 4 || method == 5
+}
+
+fn thread_method(first: u16) -> u8
+    requires { first < 128 }
+    ensures { result ≡ thread_method first }
+{
+    if first / 64 % 2 == 1 {
+        (first / 4 % 8) as u8
+    } else {
+        (first / 4 % 4) as u8
+    }
+}
+
+/// What is wrong with the first byte of a THREAD.
+fn thread_fault(first: u16) -> Option<Reason>
+    requires { first < 128 }
+    ensures { first_reason result ≡ wrong_thread first }
+{
+    let method = thread_method(first);
+    if first / 64 % 2 == 1 {
+        return if is_frame_method(method) {
+            None
+        } else {
+            Some(Reason::FrameMethod)
+        };
+    }
+    if method < 3 {
+        None
+    } else {
+        Some(Reason::TargetMethod)
+    }
+}
+
+/// One of the location types.
+fn is_location(kind: u16) -> bool
+    ensures { result ≡ is_location kind }
+{
+    kind < 6 || kind == 9 || kind == 11 || kind == 13
+}
+
+fn may_be_self_relative(kind: u16) -> bool
+    ensures { result ≡ may_be_self_relative kind }
+{
+    kind < 2 || kind == 5 || kind == 9 || kind == 13
+}
+
+/// What is wrong with the first two bytes of a FIXUP.
+fn location_fault(location: u16) -> Option<Reason>
+    ensures { first_reason result ≡ wrong_location location }
+{
+    let kind = location / 1024 % 16;
+    if !is_location(kind) {
+        return Some(Reason::LocationType);
+    }
+    if location / 16384 % 2 == 1 || may_be_self_relative(kind) {
+        return None;
+    }
+    Some(Reason::SelfRelative)
+}
+
+fn head_fault(head: u16) -> Option<Reason>
+    ensures { first_reason result ≡ wrong_head head }
+{
+    if head < 128 {
+        thread_fault(head)
+    } else {
+        location_fault(head)
+    }
+}
+
+/// The first byte of a THREAD, or the first two bytes of a FIXUP.
+fn subhead<'a>(here: Here<'a>) -> Result<(u16, Here<'a>), LayoutFault>
+    ensures { Gives here.entry.wide result (subhead_reader.read here.entry.within here.entry.bytes.now) }
+{
+    let (head, after) = head(here)?;
+    match head_fault(head) {
+        Some(reason) => Err(here.fault(reason)),
+        None => Ok((head, after)),
+    }
+}
+
+/// The fix data byte.
+fn fix<'a>(here: Here<'a>) -> Result<(At<u8>, Here<'a>), LayoutFault>
+    ensures { Gives here.entry.wide result (fix_reader.read here.entry.within here.entry.bytes.now) }
+{
+    let (fix, after) = byte(here)?;
+    if fix / 128 == 0 && !is_frame_method(fix / 16 % 8) {
+        return Err(here.fault(Reason::FrameMethod));
+    }
+    if fix / 8 % 2 == 0 && fix % 4 == 3 {
+        return Err(here.fault(Reason::TargetMethod));
+    }
+    let within = here.within();
+    Ok((At { within, item: fix }, after))
+}
+
+/// An index follows for the frame.
+fn has_frame_datum(fix: u8) -> bool
+    ensures { result ≡ has_frame_datum fix }
+{
+    fix / 128 == 0 && fix / 16 % 8 < 3
+}
+
+/// An index follows for the target.
+fn has_target_datum(fix: u8) -> bool
+    ensures { result ≡ has_target_datum fix }
+{
+    fix / 8 % 2 == 0 && fix % 4 < 3
+}
+
+fn has_displacement(fix: u8) -> bool
+    ensures { result ≡ not (has_no_displacement fix) }
+{
+    fix / 4 % 2 == 0
+}
+
+/// An index that stands there only if `is_there`.
+fn datum<'a>(here: Here<'a>, is_there: bool) -> Result<(Option<At<Index>>, Here<'a>), LayoutFault>
+    ensures { Gives here.entry.wide result ((datum_reader is_there).read here.entry.within here.entry.bytes.now) }
+{
+    if !is_there {
+        return Ok((None, here));
+    }
+    let (index, after) = index_here(here)?;
+    Ok((Some(index), after))
+}
+
+fn displacement<'a>(here: Here<'a>, is_there: bool) -> Result<(Option<u32>, Here<'a>), LayoutFault>
+    ensures { Gives here.entry.wide result ((displacement_reader here.entry.wide is_there).read here.entry.within here.entry.bytes.now) }
+{
+    if !is_there {
+        return Ok((None, here));
+    }
+    let (value, after) = number(here)?;
+    Ok((Some(value), after))
+}
+
+pub(crate) fn read_reference<'a>(here: Here<'a>) -> Result<(Reference, Here<'a>), LayoutFault>
+    ensures { Gives here.entry.wide result ((reference_reader here.entry.wide).read here.entry.within here.entry.bytes.now) }
+{
+    let (fix, here) = fix(here)?;
+    let (frame, here) = datum(here, has_frame_datum(fix.item))?;
+    let (target, here) = datum(here, has_target_datum(fix.item))?;
+    let (displacement, here) = displacement(here, has_displacement(fix.item))?;
+    Ok((
+        Reference {
+            fix,
+            frame,
+            target,
+            displacement,
+        },
+        here,
+    ))
+}
+
+/// What comes after the first byte of a THREAD.
+fn thread<'a>(here: Here<'a>, first: u16) -> Result<(Subrecord<'a>, Here<'a>), LayoutFault>
+    requires { first < 128 }
+    ensures { Gives here.entry.wide result ((thread_reader first).read here.entry.within here.entry.bytes.now) }
+{
+    let (index, here) = datum(here, thread_method(first) < 3)?;
+    let part = Part::Thread {
+        first: first as u8,
+        index,
+    };
+    let of = PhantomData;
+    Ok((Subrecord { part, of }, here))
+}
+
+/// What comes after the first two bytes of a FIXUP.
+fn fixup<'a>(here: Here<'a>, location: u16) -> Result<(Subrecord<'a>, Here<'a>), LayoutFault>
+    ensures { Gives here.entry.wide result ((fixup_reader here.entry.wide location).read here.entry.within here.entry.bytes.now) }
+{
+    let (reference, here) = read_reference(here)?;
+    let part = Part::Fixup {
+        location,
+        reference,
+    };
+    let of = PhantomData;
+    Ok((Subrecord { part, of }, here))
+}
+
+impl<'a> Item for Subrecord<'a> {
+    ghost use Rattle.omf_records.specs.Entries.{subrecord};
+    ghost use Rattle.omf_records.specs.EntryReaders.{subrecord_reader, subrecord_shrinks};
+
+    type From = Here<'a>;
+
+    ghost layout = { subrecord };
+
+    ghost reader = { subrecord_reader };
+
+    ghost shrinks = { subrecord_shrinks };
+
+    fn read(here: Here<'a>) -> Result<(Subrecord<'a>, Here<'a>), LayoutFault> {
+        let (head, here) = subhead(here)?;
+        if head < 128 {
+            thread(here, head)
+        } else {
+            fixup(here, head)
+        }
+    }
+}
