@@ -1,2 +1,3 @@
 pub mod PatchLaws
 pub mod EntryLaws
+pub mod ReachLaws

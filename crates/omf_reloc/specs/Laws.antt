@@ -1,11 +1,12 @@
 -- Laws over the definitions, each the contract of a function of the same name.
-use Rattle.std.specs.Prelude.{◌≡◌, ◌⊎◌, ◌↔◌, ℕ, ◌+◌, ◌<◌, ◌≤◌, List, Some, length, slice_index, All}
+use Rattle.std.specs.Prelude.{◌≡◌, ◌⊎◌, ◌↔◌, ℕ, ◌+◌, ◌<◌, ◌≤◌, List, Some, None, length, slice_index, All}
 use Rattle.omf_records.specs.Location.{location_size}
-use Rattle.omf_records.specs.Values.{DataItem, location_type, location_offset}
+use Rattle.omf_records.specs.Values.{DataItem, Rec, location_type, location_offset}
 use Rattle.omf_reloc.specs.Entries.{Entry, Spells}
 use Rattle.omf_reloc.specs.EntryReading.{entry_said}
-use Rattle.omf_reloc.specs.Plain.{PlainFixup}
+use Rattle.omf_reloc.specs.Plain.{PlainFixup, pieces}
 use Rattle.omf_reloc.specs.Placement.{Places}
+use Rattle.omf_reloc.specs.Reach.{causes, all_reference_places, reach_fault, Reaches}
 use Rattle.omf_reloc.specs.Image.{patched}
 
 -- The location of a fixup begins and ends so in the data; it lies inside so many bytes; it is elsewhere than a byte.
@@ -32,3 +33,8 @@ PatchesStayInside = (pl : Places) (d : DataItem) (fixups : List (ℕ × PlainFix
 -- The entry that is computed of what a line says is the entry that it spells.
 abbrev pub EntriesAreRead : Type 0
 EntriesAreRead = (text : List ℕ) (e : Entry) → (entry_said text ≡ Some e) ↔ Spells text e
+
+-- A placement reaches exactly where reach has no fault to name; and each reference that is judged has a place to be named by.
+pub record ReachIsDecided (pl : Places) (m : List Rec) : Type 0 where
+  pub decided : (reach_fault pl m ≡ None) ↔ Reaches pl m
+  pub places : length (causes pl (pieces m)) ≤ length (all_reference_places m)
