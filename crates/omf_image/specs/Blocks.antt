@@ -46,7 +46,7 @@ repeated n (b ∷ bytes) = repeat n (b ∷ bytes)
 abbrev mutual
   pub block_bytes : Block → List ℕ
   block_bytes (Repeat count bytes) = repeated count bytes
-  block_bytes (Nest zero blocks) = []
+  block_bytes (Nest zero _) = []
   block_bytes (Nest (suc n) blocks) = repeated (suc n) (blocks_bytes blocks)
 
   pub blocks_bytes : Blocks → List ℕ
