@@ -1,21 +1,18 @@
 -- Modules of equal skeletons are answered alike by reach, but for where a reference stands that does not.
-use Rattle.std.proofs.Common.{◌≡◌, ℕ, ◌+◌, ◌≤◌, List, [], ◌∷◌, ◌++◌, refl, sym, ◌∙◌, ap, ap₂, Bool, true, false, cond, length, arith, length-append}
-use Rattle.std.specs.Prelude.{map, flat_map, filter_map, zip, slice_get, option_map, option_to_list, Option, Some, None, ◌==◌}
-use Rattle.std.specs.List.{enumerate_from, cons_option}
+use Rattle.std.proofs.Common.{◌≡◌, ℕ, ◌≤◌, List, [], ◌∷◌, ◌++◌, refl, sym, ◌∙◌, ap, ap₂, Bool, true, false, cond, length, arith, length-append}
+use Rattle.std.specs.Prelude.{map, flat_map, filter_map, zip, slice_get, option_map, Option, Some, None, ◌==◌}
 use Rattle.std.proofs.lemmas.List.{length-map, map-append}
 use Rattle.std.proofs.lemmas.Option.{slice_get-map}
-use Rattle.omf_frame.specs.Bytes.{with_before, up_to}
-use Rattle.omf_records.specs.Values.{At, Rec, Contents, Segment, Group, Externs, Communals, Plain, Iterated, Fixups, ModEnd, Subrecord, Thread, Fixup}
+use Rattle.omf_frame.specs.Bytes.{with_before}
+use Rattle.omf_records.specs.Values.{Rec, Contents, Segment, Group, Externs, Communals, Subrecord}
 use Rattle.omf_check.specs.Tables.{segments, groups, externals, subrecords, defined_segments, defined_groups, defined_externals}
 use Rattle.omf_check.specs.declared.segment.SegInfo.{SegInfo}
 use Rattle.omf_reloc.specs.declared.fault.Cause.{Cause}
 use Rattle.omf_reloc.specs.declared.fault.ReachFault.{ReachFault}
 use Rattle.omf_reloc.specs.declared.fault.ReachFault.TheVariants as fault
-use Rattle.omf_reloc.specs.Plain.{Piece, Kept, Fixed, End, PlainFixup, piece_of, pieces, plain_fixup, plain_fixups, fixups_of_data, fixups_in, is_data, is_data_contents}
+use Rattle.omf_reloc.specs.Plain.{Piece, Kept, Fixed, End, PlainFixup, piece_of, pieces}
 use Rattle.omf_reloc.specs.Placement.{Places}
-use Rattle.omf_check.specs.Threads.{PlainReference}
-use Rattle.omf_reloc.specs.Offsets.{cause_of, outcome}
-use Rattle.omf_reloc.specs.Reach.{misfits_of, causes, causes_at, piece_causes, data_contents, fixup_place, reference_places, all_reference_places, far_fault, misfits, far_faults, reach_faults}
+use Rattle.omf_reloc.specs.Reach.{misfits_of, causes, all_reference_places, far_fault, misfits, far_faults, reach_faults}
 use Rattle.omf_canon.specs.Laws.{placeless, reach_answer}
 use Rattle.omf_canon.specs.Skeleton.{skeleton, skeleton_of, join_front}
 use Rattle.omf_canon.proofs.SkeletonLaws.{cause-skeleton}
@@ -106,72 +103,9 @@ same-externals m n h = length-marks (λ r. defined_externals r.contents) m
     ∙ ap length (same-table piece_externals (λ kind fs. refl) (λ r. marks (defined_externals r.contents)) (λ earlier r. externals-piece earlier r.kind r.contents) m n h)
     ∙ sym (length-marks (λ r. defined_externals r.contents) n)
 
--- References: a fixup each, and the start.
-abbrev refs : Piece → ℕ
-refs (Kept r) = 0
-refs (Fixed kind fs) = length fs
-refs (End kind byte None) = 0
-refs (End kind byte (Some r)) = 1
-
-abbrev total : List Piece → ℕ
-total [] = 0
-total (p ∷ ps) = refs p + total ps
-
--- There is a cause, or none, for each fixup behind a data record and for the start.
-module _ (pl : Places) where
-  data-causes : (r : Rec) (c : Contents) (ps : List Piece)
-      → length (causes_at pl (data_contents c) ps) + length (flat_map fixups_in (cond (is_data_contents c) [] (Kept r ∷ up_to is_data ps))) ≤ length (fixups_of_data ps)
-  data-causes r (Plain d) ps = omega (arith, length-map (fixups_of_data ps) (λ f. cause_of (outcome pl d f)))
-  data-causes r (Iterated d) ps = omega (arith, length-map (fixups_of_data ps) (λ f. cause_of (outcome pl d f)))
-  data-causes r _ ps = omega arith
-
-  end-causes : (kind byte : ℕ) (s : Option PlainReference) (ps : List Piece) → length (piece_causes pl (End kind byte s) ps) ≡ refs (End kind byte s)
-  end-causes kind byte None ps = refl
-  end-causes kind byte (Some r) ps = refl
-
-  length-causes : (ps : List Piece) → length (causes pl ps) + length (fixups_of_data ps) ≤ total ps
-  length-causes [] = omega arith
-  length-causes (Kept r ∷ ps) = omega (arith, length-causes ps, data-causes r r.contents ps, length-append (causes_at pl (data_contents r.contents) ps) (causes pl ps))
-  length-causes (Fixed kind fs ∷ ps) = omega (arith, length-causes ps, length-append (map (λ f. (kind, f)) fs) (fixups_of_data ps), length-map {B = ℕ × PlainFixup} fs (λ f. (kind, f)))
-  length-causes (End kind byte s ∷ ps) = omega (arith, length-causes ps, length-append (piece_causes pl (End kind byte s) ps) (causes pl ps), end-causes kind byte s ps)
-
--- And a place for each reference.
-fixup-places : (earlier : List Subrecord) (within : ℕ) (s : Subrecord) → length (option_to_list (fixup_place within s)) ≡ length (plain_fixup earlier s)
-fixup-places earlier within (Thread byte datum) = refl
-fixup-places earlier within (Fixup locat r) = refl
-
-length-cons_option : {A : Type 0} (o : Option A) (xs : List A) → length (cons_option o xs) ≡ length (option_to_list o) + length xs
-length-cons_option None xs = omega arith
-length-cons_option (Some x) xs = omega arith
-
-fixups-places : (earlier : List Subrecord) (subs : List (At Subrecord)) → length (filter_map (λ s. fixup_place s.within s.item) subs) ≡ length (plain_fixups earlier subs)
-fixups-places earlier [] = refl
-fixups-places earlier (s ∷ subs) = omega (
-  arith,
-  length-cons_option (fixup_place s.within s.item) (filter_map (λ t. fixup_place t.within t.item) subs),
-  fixup-places earlier s.within s.item,
-  fixups-places (earlier ++ s.item ∷ []) subs,
-  length-append (plain_fixup earlier s.item) (plain_fixups (earlier ++ s.item ∷ []) subs),
-)
-
-record-places : (earlier : List Subrecord) (kind : ℕ) (c : Contents) → length (reference_places c) ≡ refs (piece_of earlier kind c)
-record-places earlier kind (Fixups subs) = fixups-places earlier subs
-record-places earlier kind (ModEnd byte None) = refl
-record-places earlier kind (ModEnd byte (Some r)) = refl
-record-places earlier kind _ = refl
-
-abbrev numbered_places : ℕ × Rec → List (ℕ × ℕ)
-numbered_places p = map (λ within. (p.0, within)) (reference_places p.1.contents)
-
-length-places : (k : ℕ) (before m : List Rec) → length (flat_map numbered_places (enumerate_from k m)) ≡ total (with_before piece_at before m)
-length-places k before [] = refl
-length-places k before (r ∷ m) = omega (
-  arith,
-  length-append (numbered_places (k, r)) (flat_map numbered_places (enumerate_from (k + 1) m)),
-  length-map {B = ℕ × ℕ} (reference_places r.contents) (λ within. (k, within)),
-  record-places (subrecords before) r.kind r.contents,
-  length-places (k + 1) (before ++ r ∷ []) m,
-)
+-- Each reference that is judged has a place to be named by.
+abbrev HavePlaces : Type 0
+HavePlaces = (pl : Places) (m : List Rec) → length (causes pl (pieces m)) ≤ length (all_reference_places m)
 
 -- So the references that do not reach are told by the causes, but for their places.
 abbrev far : Option Cause → Option ReachFault
@@ -184,11 +118,11 @@ far-placeless (p ∷ ps) [] h = refl
 far-placeless (p ∷ ps) (None ∷ cs) h = far-placeless ps cs (omega (arith, h))
 far-placeless (p ∷ ps) (Some c ∷ cs) h = ap (λ t. fault.TooFar 0 0 c ∷ t) (far-placeless ps cs (omega (arith, h)))
 
-placeless-far : (pl : Places) (m : List Rec) → map placeless (far_faults pl m) ≡ filter_map far (causes pl (pieces m))
-placeless-far pl m = far-placeless (all_reference_places m) (causes pl (pieces m)) (omega (arith, length-causes pl (pieces m), length-places 0 [] m))
+placeless-far : HavePlaces → (pl : Places) (m : List Rec) → map placeless (far_faults pl m) ≡ filter_map far (causes pl (pieces m))
+placeless-far have pl m = far-placeless (all_reference_places m) (causes pl (pieces m)) (have pl m)
 
-same-far : (pl : Places) (m n : List Rec) → skeleton m ≡ skeleton n → map placeless (far_faults pl m) ≡ map placeless (far_faults pl n)
-same-far pl m n h = placeless-far pl m ∙ ap (filter_map far) (cause-skeleton pl m n h) ∙ sym (placeless-far pl n)
+same-far : HavePlaces → (pl : Places) (m n : List Rec) → skeleton m ≡ skeleton n → map placeless (far_faults pl m) ≡ map placeless (far_faults pl n)
+same-far have pl m n h = placeless-far have pl m ∙ ap (filter_map far) (cause-skeleton pl m n h) ∙ sym (placeless-far have pl n)
 
 same-misfits : (pl : Places) (m n : List Rec) → skeleton m ≡ skeleton n → misfits pl m ≡ misfits pl n
 same-misfits pl m n h =
@@ -200,5 +134,5 @@ answer-list : (pl : Places) (m : List Rec) → reach_answer pl m ≡ slice_get (
 answer-list pl m = sym (slice_get-map placeless (reach_faults pl m) 0) ∙ ap (λ l. slice_get l 0) (map-append placeless (misfits pl m) (far_faults pl m))
 
 -- Equal skeletons give equal answers of reach.
-pub reach-skeleton : (pl : Places) (m n : List Rec) → skeleton m ≡ skeleton n → reach_answer pl m ≡ reach_answer pl n
-reach-skeleton pl m n h = answer-list pl m ∙ ap₂ (λ x y. slice_get (map placeless x ++ y) 0) (same-misfits pl m n h) (same-far pl m n h) ∙ sym (answer-list pl n)
+pub reach-skeleton : HavePlaces → (pl : Places) (m n : List Rec) → skeleton m ≡ skeleton n → reach_answer pl m ≡ reach_answer pl n
+reach-skeleton have pl m n h = answer-list pl m ∙ ap₂ (λ x y. slice_get (map placeless x ++ y) 0) (same-misfits pl m n h) (same-far have pl m n h) ∙ sym (answer-list pl n)

@@ -2,10 +2,14 @@
 
 ghost use Rattle.omf_canon.specs.Laws.{EqualSkeletons, CutsAreGreedy};
 
+use omf_reloc::laws::reach_is_decided;
+
 /// Modules of equal skeletons have the same image and start at every placement, and their fixups reach or not for the same causes.
 pub fn equal_skeletons()
     ensures { EqualSkeletons }
-{}
+{
+    reach_is_decided();
+}
 
 /// There is one greedy cut of fixups, and it is the one that is computed.
 pub fn cuts_are_greedy()

@@ -2,8 +2,8 @@
 
 ghost use Rattle.std.specs.Prelude.{◌≡◌, ℕ, [], ◌∷◌, ◌++◌, drop};
 ghost use Rattle.std.specs.List.{repeat};
-ghost use Rattle.omf_check.specs.Rows.{H, N, S, L, F, M, first_module, without_checksums, long_index, communal};
-ghost use Rattle.omf_reloc.specs.Modules.{module_of, with_threads, with_start, many_fixups};
+ghost use Rattle.omf_check.specs.Rows.{H, N, S, L, F, M, first_module, without_checksums, long_index, communal, with_fixup};
+ghost use Rattle.omf_reloc.specs.Modules.{module_of, with_threads, with_start, many_fixups, start_at};
 ghost use Rattle.omf_canon.specs.Canonical.{canonical};
 ghost use Rattle.omf_canon.specs.Skeleton.{skeleton};
 
@@ -37,4 +37,23 @@ pub fn communal_length()
 /// 204 fixups fill a record of 1,024 bytes, and the 205th stands in a record of its own.
 pub fn greedy_cut()
     ensures { canonical (module_of many_fixups) ≡ H ++ N ++ S ++ L ++ 0x9C ∷ 0xFD ∷ 3 ∷ repeat 204 (0xC4 ∷ 1 ∷ 4 ∷ 1 ∷ 1 ∷ []) ++ 0xA0 ∷ F ++ M }
+{}
+
+/// A displacement of 0 is left out of a fixup and kept in a start; the type byte of MODEND keeps bits 7 and 6, and bit 0 is bit 6.
+pub fn displacements()
+    ensures fixup { canonical (module_of (with_fixup (0x9C ∷ 8 ∷ 0 ∷ 0xC4 ∷ 1 ∷ 0 ∷ 1 ∷ 1 ∷ 0 ∷ 0 ∷ 0 ∷ []))) ≡ first_module }
+    ensures start { canonical (module_of (start_at 0x8A)) ≡ H ++ N ++ S ++ 0x8A ∷ 7 ∷ 0 ∷ 0xC1 ∷ 0 ∷ 1 ∷ 1 ∷ 0 ∷ 0 ∷ 0xAC ∷ [] }
+    ensures ignored_bits { canonical (module_of (H ++ 0x8A ∷ 2 ∷ 0 ∷ 0x3F ∷ 0 ∷ [])) ≡ H ++ M }
+    ensures main { canonical (module_of (H ++ 0x8A ∷ 2 ∷ 0 ∷ 0x81 ∷ 0 ∷ [])) ≡ H ++ 0x8A ∷ 2 ∷ 0 ∷ 0x80 ∷ 0xF4 ∷ [] }
+{}
+
+/// FIXUPPs of one type are joined where those between them are gone, and those of two types are not.
+pub fn joined_fixupps()
+    ensures joined { canonical (module_of (H ++ N ++ S ++ L ++ F ++ 0x9D ∷ 3 ∷ 0 ∷ 0 ∷ 1 ∷ 0 ∷ 0x9C ∷ 1 ∷ 0 ∷ 0 ∷ F ++ M)) ≡ H ++ N ++ S ++ L ++ 0x9C ∷ 0x0B ∷ 0 ∷ 0xC4 ∷ 1 ∷ 4 ∷ 1 ∷ 1 ∷ 0xC4 ∷ 1 ∷ 4 ∷ 1 ∷ 1 ∷ 0xC3 ∷ M }
+    ensures apart { canonical (module_of (H ++ N ++ S ++ L ++ F ++ 0x9D ∷ 6 ∷ 0 ∷ 0xC4 ∷ 1 ∷ 4 ∷ 1 ∷ 1 ∷ 0 ∷ M)) ≡ H ++ N ++ S ++ L ++ F ++ 0x9D ∷ 6 ∷ 0 ∷ 0xC4 ∷ 1 ∷ 4 ∷ 1 ∷ 1 ∷ 0x92 ∷ M }
+{}
+
+/// An index 0 in two bytes is one byte, and a long index stays long.
+pub fn public_indices()
+    ensures { canonical (module_of (H ++ N ++ S ++ 0x90 ∷ 0x0A ∷ 0 ∷ 0x80 ∷ 0 ∷ 1 ∷ 1 ∷ 0x58 ∷ 2 ∷ 0 ∷ 0x81 ∷ 0x2C ∷ 0 ∷ M)) ≡ H ++ N ++ S ++ 0x90 ∷ 9 ∷ 0 ∷ 0 ∷ 1 ∷ 1 ∷ 0x58 ∷ 2 ∷ 0 ∷ 0x81 ∷ 0x2C ∷ 0x5E ∷ M }
 {}

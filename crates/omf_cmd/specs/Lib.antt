@@ -6,3 +6,4 @@ pub mod Rows
 pub mod Runs
 pub mod Lines
 pub mod Words
+pub mod Outcome

@@ -1,20 +1,20 @@
 //! Worked examples, each evaluated by the check.
 
-ghost use Rattle.std.specs.Prelude.{◌≡◌, ℕ, [], ◌∷◌, codes, Some, None};
+ghost use Rattle.std.specs.Prelude.{◌≡◌, ℕ, [], ◌∷◌, codes, Err, Some, None};
 ghost use Rattle.omf_frame.specs.declared.fault.Reason.TheVariants as reason;
 ghost use Rattle.omf_image.specs.Limits.{profile_limits};
-ghost use Rattle.omf_check.specs.Rows.{first_module, place, public, flat};
+ghost use Rattle.omf_check.specs.Rows.{first_module, place, public, flat, absolute};
 ghost use Rattle.omf_reloc.specs.declared.fault.Cause.TheVariants as cause;
 ghost use Rattle.omf_reloc.specs.declared.fault.Kind.TheVariants as kind;
 ghost use Rattle.omf_reloc.specs.declared.fault.ReachFault.TheVariants as reach;
-ghost use Rattle.omf_reloc.specs.Modules.{raws_of, module_of, with_threads, with_start, with_blocks, big_end};
+ghost use Rattle.omf_reloc.specs.Modules.{raws_of, module_of, with_threads, with_start, with_blocks, big_end, overlaid, overlapping, displaced, call, jump, early_thread};
 ghost use Rattle.omf_reloc.specs.Rows.{at, frame, places, only, low};
 ghost use Rattle.omf_cmd.specs.declared.fault.RunFault.TheVariants as fault;
 ghost use Rattle.omf_cmd.specs.FaultLine.{fault_line};
 ghost use Rattle.omf_cmd.specs.Listing.{list_text, check_text};
 ghost use Rattle.omf_cmd.specs.Printed.{quoted};
 ghost use Rattle.omf_cmd.specs.Relocated.{image_text, reloc_text};
-ghost use Rattle.omf_cmd.specs.Rows.{lines};
+ghost use Rattle.omf_cmd.specs.Rows.{lines, relocating, prints, not_reached, low_line};
 
 /// What is printed of a module of six records.
 pub fn printed_texts()
@@ -61,4 +61,34 @@ pub fn quoted_names()
 /// A run of 18 bytes has two lines, the first of 16 bytes from where the run begins.
 pub fn two_lines_of_a_run()
     ensures { image_text 1 (λ segment x. Some 0xA5) (λ segment. record { first = 0xFFF9; len = 18 } ∷ []) None ≡ lines (codes "0001:0000FFF9 A5 A5 A5 A5 A5 A5 A5 A5 A5 A5 A5 A5 A5 A5 A5 A5" ∷ codes "0001:00010009 A5 A5" ∷ []) }
+{}
+
+/// A module and a text in one input: what is printed, and what is answered where the placement does not reach.
+pub fn texts_and_images()
+    ensures first { relocating first_module (low_line ∷ []) ≡ prints (codes "0001:00000000 B8 20 00 90" ∷ []) }
+    ensures empty { relocating first_module [] ≡ not_reached (reach.Missing kind.Segment 1) }
+    ensures threads { relocating with_threads (codes "S 20 10 1" ∷ codes "S 50 40 4" ∷ []) ≡ prints (codes "0001:00000000 10 00 40 00" ∷ codes "0002:00000000 10 00" ∷ []) }
+    ensures overlaid { relocating overlaid (low_line ∷ []) ≡ prints (codes "0001:00000000 B8 25 00 90" ∷ []) }
+    ensures overlapping { relocating overlapping (low_line ∷ []) ≡ prints (codes "0001:00000000 10 20 00 00" ∷ []) }
+    ensures beyond { relocating first_module (codes "S 20000 10000 1000" ∷ []) ≡ not_reached (reach.TooFar 4 3 cause.Target) }
+    ensures unsigned { relocating displaced (codes "S 10002 10000 1000" ∷ []) ≡ prints (codes "0001:00000000 B8 FE FF 90" ∷ []) }
+    ensures call { relocating call (low_line ∷ []) ≡ prints (codes "0001:00000000 E8 FD FF 90" ∷ []) }
+    ensures near { relocating jump (low_line ∷ codes "E 100A1 10000 1000" ∷ []) ≡ prints (codes "0001:00000000 EB 7F 00 90" ∷ []) }
+    ensures far { relocating jump (low_line ∷ codes "E 100A2 10000 1000" ∷ []) ≡ not_reached (reach.TooFar 5 3 cause.Distance) }
+    ensures flat { relocating flat (codes "S 401000 0 1B" ∷ codes "G 0 23" ∷ []) ≡ prints (codes "0001:00000000 00 10 40 00 23 00 04 10 40 00" ∷ []) }
+    ensures blocks { relocating with_blocks (low_line ∷ []) ≡ prints (codes "0001:00000000 AA AA BB CC AA AA BB CC AA AA BB CC" ∷ []) }
+{}
+
+/// Groups, real segments and absolute segments by their lines.
+pub fn texts_of_other_lines()
+    ensures start { relocating with_start (low_line ∷ codes "G 10010 1001" ∷ []) ≡ prints (codes "START 1001:00000012" ∷ []) }
+    ensures real_start { relocating with_start (codes "S 10020 real" ∷ codes "G real" ∷ []) ≡ prints (codes "START 1002:00000002" ∷ []) }
+    ensures comment { relocating first_module (codes "S 10020 real ; x" ∷ []) ≡ prints (codes "0001:00000000 B8 00 00 90" ∷ []) }
+    ensures two_spaces { relocating first_module (codes "S 10020  real" ∷ []) ≡ Err (fault.Line 1) }
+    ensures too_high { relocating first_module ([] ∷ codes "S 100000 real" ∷ []) ≡ Err (fault.Line 2) }
+    ensures extra { relocating first_module (low_line ∷ codes "G 0 0" ∷ []) ≡ not_reached (reach.Extra kind.Group 1) }
+    ensures no_group { relocating first_module (codes "G real" ∷ []) ≡ Err (fault.Line 1) }
+    ensures absolute { relocating absolute (codes "S B8000 real" ∷ []) ≡ prints (codes "0001:00000000 B8 00 00 90" ∷ []) }
+    ensures elsewhere { relocating absolute (codes "S B8010 real" ∷ []) ≡ not_reached (reach.Absolute 1) }
+    ensures early { relocating early_thread (low_line ∷ codes "S 10040 10000 1000" ∷ []) ≡ prints (codes "0001:00000000 B8 40 00 90" ∷ []) }
 {}

@@ -1,2 +1,4 @@
 pub mod PatchLaws
 pub mod EntryLaws
+pub mod ReachLaws
+pub mod DeriveLaws

@@ -1,11 +1,16 @@
 -- Laws over the definitions, each the contract of a function of the same name.
-use Rattle.std.specs.Prelude.{◌≡◌, ◌⊎◌, ◌↔◌, ℕ, ◌+◌, ◌<◌, ◌≤◌, List, Some, length, slice_index, All}
+use Rattle.std.specs.Prelude.{◌≡◌, ◌⊎◌, ◌↔◌, ℕ, ◌+◌, ◌<◌, ◌≤◌, List, Some, None, Ok, length, slice_index, All}
+use Rattle.std.specs.List.{AllZip}
 use Rattle.omf_records.specs.Location.{location_size}
-use Rattle.omf_records.specs.Values.{DataItem, location_type, location_offset}
+use Rattle.omf_records.specs.Values.{DataItem, Rec, location_type, location_offset}
+use Rattle.omf_check.specs.Tables.{externals}
+use Rattle.omf_reloc.specs.declared.given.Given.{Given}
+use Rattle.omf_reloc.specs.Derive.{PlacedModule, derived}
 use Rattle.omf_reloc.specs.Entries.{Entry, Spells}
 use Rattle.omf_reloc.specs.EntryReading.{entry_said}
-use Rattle.omf_reloc.specs.Plain.{PlainFixup}
+use Rattle.omf_reloc.specs.Plain.{PlainFixup, pieces}
 use Rattle.omf_reloc.specs.Placement.{Places}
+use Rattle.omf_reloc.specs.Reach.{causes, all_reference_places, reach_fault, Reaches}
 use Rattle.omf_reloc.specs.Image.{patched}
 
 -- The location of a fixup begins and ends so in the data; it lies inside so many bytes; it is elsewhere than a byte.
@@ -32,3 +37,17 @@ PatchesStayInside = (pl : Places) (d : DataItem) (fixups : List (ℕ × PlainFix
 -- The entry that is computed of what a line says is the entry that it spells.
 abbrev pub EntriesAreRead : Type 0
 EntriesAreRead = (text : List ℕ) (e : Entry) → (entry_said text ≡ Some e) ↔ Spells text e
+
+-- A placement reaches exactly where reach has no fault to name; and each reference that is judged has a place to be named by.
+pub record ReachIsDecided (pl : Places) (m : List Rec) : Type 0 where
+  pub decided : (reach_fault pl m ≡ None) ↔ Reaches pl m
+  pub places : length (causes pl (pieces m)) ≤ length (all_reference_places m)
+
+-- A derived placement keeps the segments and groups of its module's place, and has an entry for each external.
+pub record KeepsPlace (m : PlacedModule) (pl : Places) : Type 0 where
+  pub segments : pl.segments ≡ m.1.segments
+  pub groups : pl.groups ≡ m.1.groups
+  pub external_count : length pl.externals ≡ length (externals m.0)
+
+abbrev pub DerivedFit : Type 0
+DerivedFit = (ms : List PlacedModule) (given : List Given) (pls : List Places) → derived ms given ≡ Ok pls → AllZip KeepsPlace ms pls

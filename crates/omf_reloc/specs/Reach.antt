@@ -1,5 +1,5 @@
 -- Whether a placement reaches, and the first reason why it does not.
-use Rattle.std.specs.Prelude.{◌≡◌, ℕ, ◌+◌, List, [], ◌∷◌, ◌++◌, length, map, flat_map, filter_map, zip, Bool, ◌==◌, ◌&&◌, nat_lt, Option, Some, None, option_map, if◌then◌else◌, slice_get}
+use Rattle.std.specs.Prelude.{◌≡◌, ℕ, ◌+◌, All, List, [], ◌∷◌, ◌++◌, length, map, flat_map, filter_map, zip, Bool, ◌==◌, ◌&&◌, nat_lt, Option, Some, None, option_map, if◌then◌else◌, slice_get}
 use Rattle.std.specs.List.{enumerate_from}
 use Rattle.omf_reloc.specs.declared.fault.Cause.{Cause}
 use Rattle.omf_reloc.specs.declared.fault.Kind.{Kind}
@@ -8,7 +8,7 @@ use Rattle.omf_reloc.specs.declared.fault.ReachFault.{ReachFault}
 use Rattle.omf_reloc.specs.declared.fault.ReachFault.TheVariants as fault
 use Rattle.omf_frame.specs.Bytes.{with_after}
 use Rattle.omf_records.specs.Values.{Rec, Contents, Fixups, ModEnd, Plain, Iterated, DataItem, Subrecord, Thread, Fixup}
-use Rattle.omf_check.specs.Tables.{segments, groups, externals}
+use Rattle.omf_check.specs.Tables.{segments, groups, externals, entry}
 use Rattle.omf_check.specs.declared.segment.SegInfo.{SegInfo}
 use Rattle.omf_reloc.specs.Plain.{Piece, Kept, Fixed, End, pieces, fixups_of_data}
 use Rattle.omf_reloc.specs.Placement.{Places, Placed, placed, absolute_place}
@@ -87,9 +87,19 @@ far_faults pl m = filter_map far_fault (zip (all_reference_places m) (causes pl 
 abbrev pub reach_faults : Places → List Rec → List ReachFault
 reach_faults pl m = misfits pl m ++ far_faults pl m
 
--- A placement reaches where there is none; else the first is named.
-abbrev pub Reaches : Places → List Rec → Type 0
-Reaches pl m = reach_faults pl m ≡ []
-
+-- The first of them, if there is one.
 abbrev pub reach_fault : Places → List Rec → Option ReachFault
 reach_fault pl m = slice_get (reach_faults pl m) 0
+
+-- A placement fits a module: its lists are as long as the tables, and each absolute segment lies where its SEGDEF says.
+pub record Fits (pl : Places) (m : List Rec) : Type 0 where
+  pub segment_count : length pl.segments ≡ length (segments m)
+  pub group_count : length pl.groups ≡ length (groups m)
+  pub external_count : length pl.externals ≡ length (externals m)
+  pub absolute : (i number offset : ℕ) (info : SegInfo) → entry (segments m) i ≡ Some info → info.absolute ≡ Some (number, offset)
+      → entry pl.segments i ≡ Some (absolute_place number offset)
+
+-- It reaches: it fits, and every fixup and the start reach. That is so exactly where there is no reason why not.
+pub record Reaches (pl : Places) (m : List Rec) : Type 0 where
+  pub fits : Fits pl m
+  pub each : All (λ c. c ≡ None) (causes pl (pieces m))

@@ -1,6 +1,9 @@
 //! Laws over the definitions, each the contract of a function that does nothing.
 
-ghost use Rattle.omf_reloc.specs.Laws.{PatchesStayInside, EntriesAreRead};
+ghost use Rattle.std.specs.Prelude.{List};
+ghost use Rattle.omf_records.specs.Values.{Rec};
+ghost use Rattle.omf_reloc.specs.Placement.{Places};
+ghost use Rattle.omf_reloc.specs.Laws.{PatchesStayInside, EntriesAreRead, ReachIsDecided, DerivedFit};
 
 /// Fixups whose locations lie inside their data change no byte elsewhere, and keep the data's length.
 pub fn patches_stay_inside()
@@ -10,4 +13,14 @@ pub fn patches_stay_inside()
 /// What a line of a placement text says is read as the entry that it spells, and as none where it spells none.
 pub fn entries_are_read()
     ensures { EntriesAreRead }
+{}
+
+/// A placement reaches exactly where there is no reason to name why it does not.
+pub fn reach_is_decided()
+    ensures { (pl : Places) (m : List Rec) → ReachIsDecided pl m }
+{}
+
+/// A derived placement has its module's segments and groups where they were placed, and an entry for each external.
+pub fn derived_fit()
+    ensures { DerivedFit }
 {}

@@ -1,6 +1,7 @@
 //! What a placement makes of a module: whether every fixup reaches, the image and the start; and how placements are written.
 #![tactic(auto)]
 
+pub mod edges;
 mod fault;
 mod frame;
 mod given;

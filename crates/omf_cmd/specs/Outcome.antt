@@ -1,0 +1,31 @@
+-- What `reloc` answers for a module and the placement text behind it (this profile's rule).
+use Rattle.std.specs.Prelude.{ℕ, List, length, nat_lt, Option, Some, None, Result, Ok, Err, if◌then◌else◌}
+use Rattle.omf_image.specs.declared.limits.Limits.{Limits}
+use Rattle.omf_records.specs.Values.{Rec}
+use Rattle.omf_reloc.specs.declared.fault.ReachFault.{ReachFault}
+use Rattle.omf_reloc.specs.Placement.{Places}
+use Rattle.omf_reloc.specs.PlacementText.{Draft, parsed, resolved}
+use Rattle.omf_reloc.specs.Reach.{reach_fault}
+use Rattle.omf_cmd.specs.declared.fault.RunFault.{RunFault}
+use Rattle.omf_cmd.specs.declared.fault.RunFault.TheVariants as fault
+use Rattle.omf_cmd.specs.Relocated.{reloc_text}
+
+-- The most bytes that a placement text may have.
+abbrev pub text_limit : ℕ
+text_limit = 4194304
+
+-- The text to print, or the first fault: the text is too long, a line is no entry, the frame of a group is not found, the placement does not reach.
+abbrev pub unless_far : Limits → List Rec → Places → Option ReachFault → Result (List ℕ) RunFault
+unless_far limits m pl None = Ok (reloc_text limits pl m)
+unless_far limits m pl (Some f) = Err (fault.Reach f)
+
+abbrev pub of_placement : Limits → List Rec → Result Places ℕ → Result (List ℕ) RunFault
+of_placement limits m (Ok pl) = unless_far limits m pl (reach_fault pl m)
+of_placement limits m (Err n) = Err (fault.Line n)
+
+abbrev pub of_draft : Limits → List Rec → Result Draft ℕ → Result (List ℕ) RunFault
+of_draft limits m (Ok d) = of_placement limits m (resolved m d)
+of_draft limits m (Err n) = Err (fault.Line n)
+
+abbrev pub reloc_outcome : Limits → List Rec → List ℕ → Result (List ℕ) RunFault
+reloc_outcome limits m text = if nat_lt text_limit (length text) then Err fault.TooLong else of_draft limits m (parsed text)
