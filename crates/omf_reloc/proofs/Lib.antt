@@ -2,3 +2,4 @@ pub mod PatchLaws
 pub mod EntryLaws
 pub mod ReachLaws
 pub mod DeriveLaws
+pub mod AddedLaws
