@@ -15,3 +15,6 @@ pub use length::expanded_len;
 pub use limits::Limits;
 pub use part::{Part, add_part};
 pub use run::Run;
+
+#[cfg(test)]
+mod tests;
