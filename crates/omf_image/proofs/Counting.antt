@@ -1,8 +1,7 @@
 -- What is counted without trees is the size of the trees.
-use Rattle.std.proofs.Common.{◌≡◌, inl, inr, ℕ, zero, suc, ◌+◌, ◌-◌, ◌*◌, ◌^◌, ◌<◌, ◌≤◌, Bool, true, false, cond, List, [], ◌∷◌, length, Result, Ok, Err, refl, sym, ◌∙◌, ap, subst, arith}
+use Rattle.std.proofs.Common.{◌≡◌, inl, inr, ℕ, zero, suc, ◌+◌, ◌-◌, ◌*◌, ◌^◌, ◌<◌, ◌≤◌, Bool, cond, List, [], ◌∷◌, length, Result, Ok, Err, refl, sym, ◌∙◌, ap, subst, arith}
 use Rattle.std.specs.Prelude.{map, ◌==◌}
 use Rattle.std.proofs.Math.Nat.{min-eq_left, min-eq_right, min-le_left, min-le_right}
-use Rattle.std.proofs.lemmas.Bool.{eqb-true}
 use Rattle.std.proofs.lemmas.Bool.Decides.{leb_tells}
 use Rattle.omf_frame.specs.Fault.{Fault}
 use Rattle.omf_frame.specs.declared.fault.Reason.TheVariants as reason
@@ -14,6 +13,7 @@ use Rattle.omf_records.specs.Steps.{and_then_ok}
 use Rattle.omf_image.specs.BlockReaders.{block_reader, block_shrinks}
 use Rattle.omf_image.specs.Blocks.{Block, Blocks, Repeat, Nest, gathered, too_deep, block, block_size, blocks_size}
 use Rattle.omf_image.specs.Expanding.{read_blocks}
+use Rattle.omf_image.proofs.ReadingSteps.{then_same, then_when, then_then, is_some}
 use Rattle.omf_image.proofs.LengthLaws.{is_within, is_beyond, judged, length_of}
 use Rattle.omf_image.specs.Lengths.{capped, len_times, len_data, len_contents, len_block, len_all}
 
@@ -52,20 +52,6 @@ cap_sum a b c = ap (λ n. capped (n + c)) (cap_right a b) ∙ cap_left (a + b) c
 
 cap_low : (a : ℕ) → capped a ≤ top
 cap_low a = min-le_right a top
-
--- ---- steps of readings
-
-then_same : {A B : Type 0} (r : Result A Fault) (f g : A → Result B Fault) → ((a : A) → f a ≡ g a) → and_then r f ≡ and_then r g
-then_same (Ok a) f g h = h a
-then_same (Err e) f g h = refl
-
-then_when : {A B : Type 0} (r : Result A Fault) (f g : A → Result B Fault) → ((a : A) → r ≡ Ok a → f a ≡ g a) → and_then r f ≡ and_then r g
-then_when (Ok a) f g h = h a refl
-then_when (Err e) f g h = refl
-
-then_then : {A B C : Type 0} (r : Result A Fault) (f : A → Result B Fault) (g : B → Result C Fault) → and_then (and_then r f) g ≡ and_then r (λ a. and_then (f a) g)
-then_then (Ok a) f g = refl
-then_then (Err e) f g = refl
 
 -- the size of what was read
 abbrev sized : After Block → After ℕ
@@ -118,13 +104,6 @@ deep_count width at bytes = by (le_read width at bytes)
         ≡ size_read (and_then (and_then q (λ a. refuse_first (too_deep a.value) at a)) (λ a. Ok (after (Repeat a.value []) a.within a.rest)))
     by (Ok a) = refl
     by (Err e) = refl
-
-is_some : (n : ℕ) → suc n == 0 ≡ false
-is_some n = by (suc n == 0) refl
-  where
-    by : (b : Bool) → suc n == 0 ≡ b → suc n == 0 ≡ false
-    by true e = absurd (let z = eqb-true (suc n) 0 e in omega (arith, z))
-    by false e = e
 
 module _ (width levels : ℕ) (h : Counts (len_block width levels) (block_reader width levels).read) where
   abbrev inner : Reader (block width levels)

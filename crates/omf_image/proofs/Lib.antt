@@ -5,3 +5,6 @@ pub mod LastLaws
 pub mod RunLaws
 pub mod LengthSteps
 pub mod Counting
+pub mod ReadingSteps
+pub mod Expansion
+pub mod CopySteps

@@ -5,6 +5,7 @@ pub mod Joined
 pub mod Blocks
 pub mod BlockReaders
 pub mod Lengths
+pub mod Copying
 pub mod Expanding
 pub mod Rows
 pub mod Laws

@@ -2,6 +2,7 @@
 //! last piece laid wins.
 #![tactic(auto)]
 
+mod expanding;
 pub mod laws;
 mod length;
 mod limits;
@@ -9,7 +10,11 @@ mod part;
 pub mod rows;
 mod run;
 
+pub use expanding::expand;
 pub use length::expanded_len;
 pub use limits::Limits;
 pub use part::{Part, add_part};
 pub use run::Run;
+
+#[cfg(test)]
+mod tests;

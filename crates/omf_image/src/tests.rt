@@ -1,0 +1,130 @@
+//! Blocks that nest, that stand for nothing, and that stand for too much; parts that are added.
+
+ghost use Rattle.std.specs.Prelude.{◌≤◌, length};
+
+use crate::{Limits, Part, add_part, expand, expanded_len};
+use omf_frame::Reason;
+use omf_records::{Blocks, LayoutFault};
+use std::alloc::Global;
+use std::test::Fail;
+
+/// How many bytes 16-bit blocks stand for, within this profile's limits.
+fn len_of(bytes: &[u8]) -> Result<u32, LayoutFault>
+    requires { length bytes.now ≤ 65534 }
+{
+    expanded_len(Blocks { bytes, wide: false }, Limits::profile())
+}
+
+/// The bytes of 16-bit blocks and the count of bytes moved; None where the blocks have a fault.
+fn bytes_of(alloc: Global, bytes: &[u8]) -> Result<Option<(Vec<u8>, u64)>, Fail>
+    requires { length bytes.now ≤ 65534 }
+{
+    let blocks = Blocks { bytes, wide: false };
+    let limits = Limits::profile();
+    match expanded_len(blocks, limits) {
+        Ok(_) => Ok(Some(expand(alloc, blocks, limits)?)),
+        Err(_) => Ok(None),
+    }
+}
+
+/// So many levels around some bytes.
+fn nest(alloc: Global, level: [u8; 4], count: u32, inner: &[u8]) -> Result<Vec<u8>, Fail> {
+    let mut bytes = Vec::new(alloc);
+    for _ in 0..count {
+        bytes.extend_from_slice(&level)?;
+    }
+    bytes.extend_from_slice(inner)?;
+    Ok(bytes)
+}
+
+#[test]
+fn counts_bytes(rt: HostRuntime) -> Result<(), Fail> {
+    assert_eq!(rt; len_of(&[0, 0, 0, 0, 2, 0xAA, 0xBB]), Ok(0));
+    assert_eq!(rt;
+        len_of(&[1, 0, 0, 0, 2, 0xAA]),
+        Err(LayoutFault {
+            reason: Reason::Short,
+            within: 4
+        })
+    );
+    assert_eq!(rt;
+        len_of(&[0xFF, 0xFF, 1, 0, 0, 1, 0, 0, 1, 0xAA]),
+        Ok(16_776_960)
+    );
+    assert_eq!(rt;
+        len_of(&[0xFF, 0xFF, 1, 0, 1, 1, 0, 0, 1, 0xAA]),
+        Err(LayoutFault {
+            reason: Reason::DataTooLong,
+            within: 0
+        })
+    );
+    Ok(())
+}
+
+#[test]
+fn counts_levels(rt: HostRuntime) -> Result<(), Fail> {
+    let deepest = nest(rt.alloc(), [1, 0, 1, 0], 31, &[1, 0, 0, 0, 1, 0xAA])?;
+    let deeper = nest(rt.alloc(), [1, 0, 1, 0], 32, &[1, 0, 0, 0, 1, 0xAA])?;
+    if deepest.len() < 1000 && deeper.len() < 1000 {
+        assert_eq!(rt; len_of(&deepest), Ok(1));
+        assert_eq!(rt;
+            len_of(&deeper),
+            Err(LayoutFault {
+                reason: Reason::TooDeep,
+                within: 128
+            })
+        );
+    }
+    Ok(())
+}
+
+#[test]
+fn writes_blocks(rt: HostRuntime) -> Result<(), Fail> {
+    let blocks = [3, 0, 2, 0, 2, 0, 0, 0, 1, 0xAA, 1, 0, 0, 0, 2, 0xBB, 0xCC];
+    let (bytes, moved) = bytes_of(rt.alloc(), &blocks)?.expect(&rt, "blocks within the limits");
+    assert_eq!(rt;
+        bytes.as_slice(),
+        [
+            0xAA, 0xAA, 0xBB, 0xCC, 0xAA, 0xAA, 0xBB, 0xCC, 0xAA, 0xAA, 0xBB, 0xCC
+        ]
+        .as_slice()
+    );
+    assert_eq!(rt; (12..=29).contains(&moved), true);
+    Ok(())
+}
+
+#[test]
+fn writes_many_bytes(rt: HostRuntime) -> Result<(), Fail> {
+    let blocks = [0xFF, 0xFF, 1, 0, 0, 1, 0, 0, 1, 0xAA];
+    let (bytes, moved) = bytes_of(rt.alloc(), &blocks)?.expect(&rt, "blocks within the limits");
+    assert_eq!(rt; bytes.len(), 16_776_960);
+    assert_eq!(rt; bytes.iter().all(|byte| *byte == 0xAA), true);
+    assert_eq!(rt; (16_776_960..=16_776_970).contains(&moved), true);
+    Ok(())
+}
+
+#[test]
+fn passes_over_what_stands_for_nothing(rt: HostRuntime) -> Result<(), Fail> {
+    let never = [0, 0, 1, 0, 0xFF, 0xFF, 1, 0, 0xFF, 0xFF, 0, 0, 1, 0xAA];
+    let (bytes, moved) = bytes_of(rt.alloc(), &never)?.expect(&rt, "blocks within the limits");
+    assert_eq!(rt; bytes.is_empty(), true);
+    assert_eq!(rt; moved <= 14, true);
+    let empty = nest(rt.alloc(), [0xFF, 0xFF, 1, 0], 31, &[0xFF, 0xFF, 0, 0, 0])?;
+    assert!(&rt; empty.len() < 1000);
+    let (bytes, moved) = bytes_of(rt.alloc(), &empty)?.expect(&rt, "blocks within the limits");
+    assert_eq!(rt; bytes.is_empty(), true);
+    assert_eq!(rt; moved <= 129, true);
+    Ok(())
+}
+
+#[test]
+fn adds_parts(rt: HostRuntime) -> Result<(), Fail> {
+    let mut bytes = [0xF0, 0xFF, 0x00, 0x90];
+    add_part(&mut bytes, 0, Part::Word, 0x20);
+    assert_eq!(rt; bytes, [0x10, 0x00, 0x00, 0x90]);
+    add_part(&mut bytes, 3, Part::Byte, 0x171);
+    assert_eq!(rt; bytes, [0x10, 0x00, 0x00, 0x01]);
+    add_part(&mut bytes, 0, Part::Dword, 0xFFFF_FFFF);
+    assert_eq!(rt; bytes, [0x0F, 0x00, 0x00, 0x01]);
+    Ok(())
+}
