@@ -1,5 +1,5 @@
 -- What is read at the start of a body by the layout of its type.
-use Rattle.std.proofs.Common.{◌≡◌, ℕ, Bool, List, Result, refl, sym, subst, ◌∙◌}
+use Rattle.std.proofs.Common.{◌≡◌, ℕ, Bool, List, Result, subst, ◌∙◌}
 use Rattle.omf_frame.specs.Fault.{Fault}
 use Rattle.omf_records.specs.declared.here.Here.{Here}
 use Rattle.omf_records.specs.Values.{Contents}

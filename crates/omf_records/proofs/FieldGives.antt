@@ -1,5 +1,5 @@
 -- What a field that was found, or was not, means for its reading.
-use Rattle.std.proofs.Common.{◌≡◌, ℕ, ◌+◌, ◌<◌, ◌≤◌, List, ◌++◌, length, take, drop, Result, Ok, Err, refl, sym, ap, subst, ◌∙◌, arith}
+use Rattle.std.proofs.Common.{◌≡◌, ℕ, ◌+◌, ◌≤◌, List, length, take, drop, Result, Ok, Err, refl, sym, ap, ◌∙◌}
 use Rattle.std.proofs.lemmas.List.{take-append-drop, length-take-le}
 use Rattle.omf_frame.specs.Bytes.{AreBytes}
 use Rattle.omf_frame.specs.Fault.{Fault}
@@ -7,7 +7,7 @@ use Rattle.omf_frame.specs.Fields.{IsUnspelled}
 use Rattle.omf_frame.specs.declared.fault.Reason.{Reason}
 use Rattle.omf_records.specs.declared.here.Here.{Here}
 use Rattle.omf_records.specs.Layout.{fault}
-use Rattle.omf_records.specs.Reads.{After, after, Reading}
+use Rattle.omf_records.specs.Reads.{after, Reading}
 use Rattle.omf_records.specs.FieldReaders.{FieldOk, FieldAgain, FieldRefused, field_refuses, short}
 use Rattle.omf_records.specs.Gives.{Gives, GivesField}
 

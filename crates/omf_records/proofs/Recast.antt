@@ -1,21 +1,20 @@
 -- The shortest contents of each typed record are contents of that record.
-use Rattle.std.proofs.Common.{◌≡◌, ℕ, ◌+◌, ◌*◌, ◌/◌, ◌%◌, ◌<◌, ◌≤◌, ◌⊎◌, inl, inr, Bool, true, false, cond, List, [], ◌∷◌, ◌++◌, length, map, flat_map, Option, Some, None, refl, sym, ap, subst, ◌∙◌, arith}
-use Rattle.std.specs.Prelude.{option_map, ◌==◌, ◌||◌, not, nat_lt}
+use Rattle.std.proofs.Common.{◌≡◌, ℕ, ◌+◌, ◌/◌, ◌%◌, ◌⊎◌, inl, inr, Bool, true, false, cond, List, [], ◌∷◌, ◌++◌, length, map, flat_map, Option, refl, sym, ap, subst, ◌∙◌, arith}
+use Rattle.std.specs.Prelude.{option_map, ◌==◌, not, nat_lt}
 use Rattle.std.proofs.lemmas.Bool.{eqb-true, lt-ltb, le-ltb, or_cases}
-use Rattle.std.proofs.lemmas.List.{length-append, append-nil}
+use Rattle.std.proofs.lemmas.List.{append-nil}
 use Rattle.byteorder.specs.Endian.{little_bytes}
-use Rattle.omf_frame.specs.Bytes.{AreBytes, is_one_of}
+use Rattle.omf_frame.specs.Bytes.{is_one_of}
 use Rattle.omf_frame.specs.Framing.{is_header, is_end}
 use Rattle.omf_frame.specs.Fields.{index_bytes, name_bytes, communal_length_bytes}
-use Rattle.omf_frame.specs.FieldLaws.{are_bytes_cons}
 use Rattle.omf_frame.specs.declared.fault.Reason.{Reason}
 use Rattle.omf_frame.specs.declared.fault.Reason.TheVariants as reason
-use Rattle.omf_records.specs.Values.{At, SegmentItem, GroupItem, ExternalItem, PublicItem, PublicItems, CommunalSize, Near, Far, CommunalItem, DataItem, Reference, Subrecord, Thread, Fixup, Contents, Header, Comment, Names, Segment, Group, Externs, Publics, Communals, Plain, Iterated, Fixups, ModEnd, Carried, is_wide, width, alignment, is_big, thread_method, has_frame_datum, has_target_datum, has_no_displacement, has_start, nowhere, unplaced, reference_alone, subrecord_alone, contents_alone}
-use Rattle.omf_records.specs.Shortest.{option_bytes, datum_bytes, absolute_bytes, member_bytes, external_bytes, public_bytes, size_bytes, communal_bytes, reference_bytes, subrecord_bytes, segment_bytes, data_bytes, contents_bytes}
-use Rattle.omf_records.specs.Layout.{Layout, ◌>>=◌, give, many, index, name, byte, le, number_of, communal_length, head, checked, placed, called, choose, when, either, rest}
-use Rattle.omf_records.specs.Entries.{unless, wrong_component, member, external, public_item, wrong_data_type, near_size, far_size, communal_size, communal, wrong_methods, reference, thread, fixup, wrong_head, subrecord}
-use Rattle.omf_records.specs.Records.{header, comment, names, wrong_alignment, wrong_size, absolute, segment, group, externs, publics, communals, data_item, fixups, mod_end, carried, contents}
-use Rattle.omf_records.proofs.Shorter.{Shorter, shorter_itself, shorter_then, shorter_none, shorter_last, Recast, Recasts, Plainly, itself, recast_plainly, plain_byte, plain_name, plain_index, plain_le, plain_length, plain_checked, recast_placed, recast_index, recast_called, recast_when, plain_when, recast_either, recast_many, items_alone}
+use Rattle.omf_records.specs.Values.{At, PublicItem, CommunalSize, Near, Far, DataItem, Thread, Fixup, Contents, Header, Comment, Names, Segment, Group, Externs, Publics, Communals, Plain, Iterated, Fixups, ModEnd, Carried, is_wide, width, alignment, thread_method, has_frame_datum, has_target_datum, has_no_displacement, has_start, nowhere, unplaced, reference_alone, subrecord_alone, contents_alone}
+use Rattle.omf_records.specs.Shortest.{option_bytes, datum_bytes, absolute_bytes, member_bytes, external_bytes, public_bytes, size_bytes, communal_bytes, reference_bytes, subrecord_bytes, data_bytes, contents_bytes}
+use Rattle.omf_records.specs.Layout.{Layout, many, index, name, le, number_of, placed, called, choose, when, either}
+use Rattle.omf_records.specs.Entries.{unless, wrong_component, member, external, public_item, wrong_data_type, near_size, far_size, communal_size, communal, reference, thread, fixup, subrecord}
+use Rattle.omf_records.specs.Records.{header, comment, names, absolute, segment, group, externs, publics, communals, data_item, fixups, mod_end, carried, contents}
+use Rattle.omf_records.proofs.Shorter.{Shorter, shorter_itself, shorter_then, shorter_last, Recasts, Plainly, itself, recast_plainly, plain_byte, plain_name, plain_index, plain_le, plain_length, recast_placed, recast_index, recast_called, recast_when, plain_when, recast_either, recast_many}
 
 -- a test whose reason is not given holds
 not_refused : (b : Bool) (r : Reason) → unless b r ≡ [] → b ≡ true

@@ -1,15 +1,15 @@
 -- The shortest contents of a typed record are contents of that record: words, and the rule of each combinator.
-use Rattle.std.proofs.Common.{◌≡◌, ℕ, zero, suc, ◌+◌, ◌*◌, ◌/◌, ◌%◌, ◌<◌, ◌≤◌, ◌⊎◌, inl, inr, Bool, true, false, cond, List, [], ◌∷◌, ◌++◌, length, map, flat_map, Option, Some, None, refl, sym, ap, subst, ◌∙◌, arith}
+use Rattle.std.proofs.Common.{◌≡◌, ℕ, zero, suc, ◌+◌, ◌≤◌, inl, inr, Bool, true, false, List, [], ◌∷◌, ◌++◌, length, map, flat_map, Some, None, refl, sym, ap, subst, ◌∙◌, arith}
 use Rattle.std.specs.Prelude.{option_map}
 use Rattle.std.proofs.lemmas.List.{length-append, append-nil}
 use Rattle.byteorder.specs.Endian.{little_bytes}
 use Rattle.omf_frame.specs.Bytes.{AreBytes}
-use Rattle.omf_frame.specs.Fields.{IsIndex, IsName, IsLittle, IsCommunalLength, index_bytes, name_bytes, communal_length_bytes}
+use Rattle.omf_frame.specs.Fields.{IsIndex, IsCommunalLength, index_bytes, name_bytes, communal_length_bytes}
 use Rattle.omf_frame.specs.FieldLaws.{index_shortest, little_shortest, communal_shortest, are_bytes_cons}
 use Rattle.omf_frame.specs.declared.fault.Reason.{Reason}
 use Rattle.omf_records.specs.Values.{At, nowhere, unplaced}
 use Rattle.omf_records.specs.Shortest.{option_bytes, datum_bytes}
-use Rattle.omf_records.specs.Layout.{Layout, many, SpellsEach, index, name, byte, IsByte, le, communal_length, checked, placed, called, when, either, rest, give}
+use Rattle.omf_records.specs.Layout.{Layout, many, index, name, byte, le, communal_length, checked, placed, called, when, either}
 use Rattle.omf_records.specs.Steps.{AreBytes-back, AreBytes-front, AreBytes-none}
 
 -- not longer, and made of bytes if the other is

@@ -4,11 +4,11 @@ use Rattle.std.specs.Prelude.{◌==◌, ◌||◌, not, nat_lt}
 use Rattle.omf_frame.specs.Bytes.{is_one_of}
 use Rattle.omf_frame.specs.Framing.{is_header, is_end}
 use Rattle.omf_frame.specs.declared.fault.Reason.TheVariants as reason
-use Rattle.omf_records.specs.Values.{At, Comment, Names, Group, Externs, Publics, Communals, Plain, Iterated, Fixups, Carried, is_wide, alignment, is_big, has_start}
+use Rattle.omf_records.specs.Values.{Comment, Names, Group, Externs, Publics, Communals, Plain, Iterated, Fixups, Carried, is_wide, alignment, is_big, has_start}
 use Rattle.omf_records.specs.Layout.{checked, byte, le, number_of, many, name, when, rest, called}
 use Rattle.omf_records.specs.Reads.{Reader, Whole}
 use Rattle.omf_records.specs.FieldReaders.{name_reader, name_shrinks, byte_reader, index_reader, le_reader, number_reader}
-use Rattle.omf_records.specs.Readers.{◌>=>◌, ◌>=>|◌, checked_reader, when_reader, placed_reader, index_at, number_at, give_reader, ends_whole, rest_whole, called_whole, either_whole}
+use Rattle.omf_records.specs.Readers.{◌>=>◌, ◌>=>|◌, checked_reader, when_reader, index_at, number_at, give_reader, ends_whole, rest_whole, called_whole, either_whole}
 use Rattle.omf_records.specs.Many.{each_whole}
 use Rattle.omf_records.specs.Entries.{member, external, public_item, communal, reference, subrecord}
 use Rattle.omf_records.specs.EntryReaders.{one_reason, member_reader, member_shrinks, external_reader, external_shrinks, public_reader, public_shrinks, communal_reader, communal_shrinks, reference_reader, subrecord_reader, subrecord_shrinks}

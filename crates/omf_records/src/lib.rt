@@ -23,3 +23,6 @@ pub use item::{Cursor, Item, Items};
 pub use record::{Blocks, Rec, Segment};
 pub use subrecord::{Part, Reference, Subrecord};
 pub use writing::put_rec;
+
+#[cfg(test)]
+mod tests;

@@ -1,4 +1,4 @@
-use Rattle.std.proofs.Common.{◌≡◌, Result, arith, sym, subst}
+use Rattle.std.proofs.Common.{Result, arith, sym, subst}
 use Rattle.omf_frame.specs.Fault.{Fault}
 use Rattle.omf_records.specs.Values.{Contents}
 use Rattle.omf_records.specs.Reads.{Meets}

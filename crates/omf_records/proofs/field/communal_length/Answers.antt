@@ -1,4 +1,4 @@
-use Rattle.std.proofs.Common.{◌≡◌, refl, ap, sym, ◌∙◌, Err}
+use Rattle.std.proofs.Common.{refl, ap, sym, ◌∙◌, Err}
 use Rattle.omf_frame.specs.Fault.{Fault}
 use Rattle.omf_frame.specs.Fields.{IsCommunalLength}
 use Rattle.omf_records.specs.Layout.{length_reason}

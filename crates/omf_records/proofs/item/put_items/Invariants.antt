@@ -1,4 +1,4 @@
-use Rattle.std.proofs.Common.{◌≡◌, ◌++◌, flat_map, List}
+use Rattle.std.proofs.Common.{◌≡◌, ◌++◌, flat_map}
 use Rattle.omf_records.specs.Begins.{Begins}
 use Rattle.omf_records.proofs.item.put_items.Given as goal
 

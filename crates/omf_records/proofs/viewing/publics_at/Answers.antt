@@ -1,4 +1,4 @@
-use Rattle.std.proofs.Common.{◌≡◌, Ok, Err}
+use Rattle.std.proofs.Common.{Ok, Err}
 use Rattle.omf_records.proofs.Publics.{publics_read}
 use Rattle.omf_records.proofs.viewing.publics_at.Goals as goal
 

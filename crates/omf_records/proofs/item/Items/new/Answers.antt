@@ -1,4 +1,4 @@
-use Rattle.std.proofs.Common.{◌≡◌, ap, ◌∙◌}
+use Rattle.std.proofs.Common.{ap, ◌∙◌}
 use Rattle.std.specs.Result.{result_err}
 use Rattle.omf_records.specs.Reads.{after}
 use Rattle.omf_records.specs.Each.{each_turn, with_first_fault, not_yet}
