@@ -1,14 +1,12 @@
 //! The rules of a module, record by record.
 
-ghost use Rattle.std.specs.Prelude.{◌≤◌, ◌<◌, ◌≡◌, length, vec_len, OnOk, OnErr, IsTrue, IfErr, false};
+ghost use Rattle.std.specs.Prelude.{◌≤◌, ◌<◌, ◌≡◌, length, vec_len, OnOk, IsErr, IsTrue, IfErr, false};
+ghost use Rattle.omf_frame.specs.Framing.{is_taken};
 ghost use Rattle.omf_cmd.specs.Runs.{is_of_device};
 
 use crate::fault::RunFault;
-use crate::reading::{
-    Cursor, DataRecord, FixupRecord, IndexAt, LayoutFault, SegmentRecord, read_data, read_end,
-    read_fixup, read_header, read_name, read_segment,
-};
-use omf_frame::{Place, RawRecord, Reason};
+use omf_frame::{Index, Name, Place, RawRecord, Reason};
+use omf_records::{At, Items, LayoutFault, Part, Rec, Segment, Subrecord, view};
 use std::alloc::{AllocError, AllocFailed, Global};
 
 /// The most names, and the most segments, of a module.
@@ -24,15 +22,15 @@ pub struct Fixup {
     pub number: u32,
     pub within: u32,
     pub offset: u16,
-    pub frame: u16,
-    pub target: u16,
+    pub frame: At<Index>,
+    pub target: At<Index>,
 }
 
-/// The data of an LEDATA, and its fixups in file order.
+/// The data of an LEDATA at an offset of a segment, and its fixups in file order.
 #[derive(Drop)]
 pub struct Data {
     pub segment: u16,
-    pub offset: u16,
+    pub offset: u32,
     pub bytes: Vec<u8>,
     pub fixups: Vec<Fixup>,
 }
@@ -54,7 +52,7 @@ pub struct Module {
 }
 
 /// Why a record is not taken: a fault of its own, or want of memory.
-#[derive(Clone, Copy, Drop)]
+#[derive(Drop)]
 enum Fault {
     Refused(LayoutFault),
     Memory,
@@ -78,6 +76,18 @@ impl From<LayoutFault> for Fault {
     }
 }
 
+/// The record is refused for this reason at this place.
+fn refused(reason: Reason, within: u32) -> Fault {
+    Fault::Refused(LayoutFault { reason, within })
+}
+
+/// What is not read so far is refused as an unsupported type.
+fn unread(within: u32) -> Result<(), Fault>
+    ensures { IsErr result }
+{
+    Err(refused(Reason::UnsupportedType, within))
+}
+
 /// A rule: where it does not hold, the record is refused for this reason at this place.
 fn demand(holds: bool, reason: Reason, within: u32) -> Result<(), Fault>
     ensures { OnOk result (IsTrue holds) }
@@ -85,7 +95,7 @@ fn demand(holds: bool, reason: Reason, within: u32) -> Result<(), Fault>
     if holds {
         Ok(())
     } else {
-        Err(Fault::Refused(LayoutFault { reason, within }))
+        Err(refused(reason, within))
     }
 }
 
@@ -110,7 +120,8 @@ impl Module {
 
     /// Judges a record after those before it, and keeps what it defines.
     pub fn take(&mut self, alloc: Global, raw: RawRecord<'_>) -> Result<(), RunFault>
-        requires { length raw.body.now ≤ 65534 }
+        requires taken { IsTrue (is_taken raw.kind) }
+        requires short { length raw.body.now ≤ 65534 }
         ensures own { IfErr result (λ e. is_of_device e ≡ false) }
         ensures items { OnOk result (self.old.items < self.new.items) }
     {
@@ -129,23 +140,32 @@ impl Module {
     }
 
     fn take_contents(&mut self, alloc: Global, raw: RawRecord<'_>) -> Result<(), Fault>
-        requires { length raw.body.now ≤ 65534 }
+        requires taken { IsTrue (is_taken raw.kind) }
+        requires short { length raw.body.now ≤ 65534 }
         ensures { OnOk result (self.old.items < self.new.items) }
     {
-        match raw.kind {
-            0x80 | 0x82 => {
-                read_header(raw.body)?;
-                self.count_item(0)
-            }
-            0x96 => self.take_names(raw.body),
-            0x98 => self.take_segment(read_segment(raw.body)?),
-            0xA0 => self.take_data(alloc, read_data(raw.body)?),
-            0x9C => self.take_fixups(alloc, raw),
-            0x8A => {
-                read_end(raw.body)?;
-                self.count_item(0)
-            }
-            _ => demand(false, Reason::UnsupportedType, 0),
+        match view(raw) {
+            Ok(record) => self.take_record(alloc, raw.number, &record),
+            Err(fault) => Err(Fault::Refused(fault)),
+        }
+    }
+
+    fn take_record(&mut self, alloc: Global, number: u32, record: &Rec<'_>) -> Result<(), Fault>
+        ensures { OnOk result (self.old.items < self.new.items) }
+    {
+        match record {
+            Rec::Header { .. } | Rec::ModEnd { start: None, .. } => self.count_item(0),
+            Rec::Names(names) => self.take_names(names.iter()),
+            Rec::Segment { wide, segment } => self.take_segment(*wide, segment),
+            Rec::Plain {
+                segment,
+                offset,
+                data,
+                ..
+            } => self.take_data(alloc, *segment, *offset, *data),
+            Rec::Fixups { subrecords, .. } => self.take_fixups(number, subrecords.iter()),
+            Rec::ModEnd { .. } => unread(3),
+            _ => unread(0),
         }
     }
 
@@ -158,76 +178,80 @@ impl Module {
         Ok(())
     }
 
-    fn take_names(&mut self, body: &[u8]) -> Result<(), Fault>
-        requires { length body.now ≤ 65534 }
+    fn take_names(&mut self, names: Items<Name<'_>>) -> Result<(), Fault>
         ensures { OnOk result (self.old.items < self.new.items) }
     {
-        let mut cursor = Cursor::new(body);
-        let mut names = self.names;
-        let mut beyond = None;
-        while !cursor.is_at_end() {
-            let within = read_name(&mut cursor)?;
-            if names < TABLE_LIMIT {
-                names += 1;
-            } else if beyond.is_none() {
-                beyond = Some(within);
-            }
-        }
         self.count_item(0)?;
-        if let Some(within) = beyond {
-            return demand(false, Reason::TooMany, within);
+        for name in names {
+            demand(self.names < TABLE_LIMIT, Reason::TooMany, name.within)?;
+            self.names += 1;
         }
-        self.names = names;
         Ok(())
     }
 
-    fn take_segment(&mut self, segment: SegmentRecord) -> Result<(), Fault>
+    fn take_segment(&mut self, wide: bool, segment: &Segment) -> Result<(), Fault>
         ensures { OnOk result (self.old.items < self.new.items) }
     {
         self.count_item(0)?;
+        if segment.attribute / 32 == 0 {
+            return unread(3);
+        }
         demand(self.segments.len() < TABLE_LIMIT, Reason::TooMany, 3)?;
         self.demand_name(segment.name)?;
         self.demand_name(segment.class)?;
-        self.segments.push(segment.length)?;
+        self.segments.push(length_of(wide, segment))?;
         Ok(())
     }
 
-    fn take_data(&mut self, alloc: Global, data: DataRecord<'_>) -> Result<(), Fault>
+    fn take_data(
+        &mut self,
+        alloc: Global,
+        segment: At<Index>,
+        offset: At<u32>,
+        bytes: &[u8],
+    ) -> Result<(), Fault>
         ensures { OnOk result (self.old.items < self.new.items) }
     {
         self.count_item(0)?;
-        let length = self.demand_segment(data.segment)?;
-        let end = u64::from(data.offset) + data.bytes.len() as u64;
-        demand(end <= length, Reason::OutsideSegment, data.offset_within)?;
+        let length = self.demand_segment(segment)?;
+        let is_inside = bytes.len() as u64 <= length.saturating_sub(u64::from(offset.item));
+        demand(
+            is_inside && u64::from(offset.item) <= length,
+            Reason::OutsideSegment,
+            offset.within,
+        )?;
         self.data.push(Data {
-            segment: data.segment.value,
-            offset: data.offset,
-            bytes: data.bytes.to_vec(alloc)?,
+            segment: segment.item.0,
+            offset: offset.item,
+            bytes: bytes.to_vec(alloc)?,
             fixups: Vec::new(alloc),
         })?;
         Ok(())
     }
 
-    fn take_fixups(&mut self, alloc: Global, raw: RawRecord<'_>) -> Result<(), Fault>
-        requires { length raw.body.now ≤ 65534 }
+    fn take_fixups(&mut self, number: u32, subrecords: Items<Subrecord<'_>>) -> Result<(), Fault>
         ensures { OnOk result (self.old.items < self.new.items) }
     {
-        let fixups = read_fixups(alloc, raw.body)?;
-        if fixups.is_empty() {
-            return self.count_item(0);
+        let mut is_empty = true;
+        for subrecord in subrecords {
+            self.take_fixup(number, subrecord)?;
+            is_empty = false;
         }
-        for fixup in &fixups {
-            self.take_fixup(raw.number, fixup)?;
+        if is_empty {
+            return self.count_item(0);
         }
         Ok(())
     }
 
-    fn take_fixup(&mut self, number: u32, fixup: &FixupRecord) -> Result<(), Fault>
+    fn take_fixup(&mut self, number: u32, subrecord: At<Subrecord<'_>>) -> Result<(), Fault>
         ensures { OnOk result (self.old.items < self.new.items) }
     {
-        let within = fixup.within;
+        let within = subrecord.within;
+        let Some(fixup) = fixup_of(number, subrecord) else {
+            return unread(within);
+        };
         let Some(data) = self.data.last() else {
-            return demand(false, Reason::NoDataRecord, within);
+            return Err(refused(Reason::NoDataRecord, within));
         };
         let is_inside = usize::from(fixup.offset) + 2 <= data.bytes.len();
         demand(is_inside, Reason::OutsideRecord, within)?;
@@ -235,44 +259,57 @@ impl Module {
         self.demand_segment(fixup.frame)?;
         self.demand_segment(fixup.target)?;
         if let Some(data) = self.data.last_mut() {
-            data.fixups.push(Fixup {
-                number,
-                within,
-                offset: fixup.offset,
-                frame: fixup.frame.value,
-                target: fixup.target.value,
-            })?;
+            data.fixups.push(fixup)?;
         }
         Ok(())
     }
 
     /// A name's index is defined, or 0 for none.
-    fn demand_name(&self, index: IndexAt) -> Result<(), Fault> {
-        let is_defined = usize::from(index.value) <= self.names;
+    fn demand_name(&self, index: At<Index>) -> Result<(), Fault> {
+        let is_defined = usize::from(index.item.0) <= self.names;
         demand(is_defined, Reason::UndefinedName, index.within)
     }
 
     /// The length of a segment, whose index must be defined.
-    fn demand_segment(&self, index: IndexAt) -> Result<u64, Fault> {
-        let place = usize::from(index.value).checked_sub(1);
+    fn demand_segment(&self, index: At<Index>) -> Result<u64, Fault> {
+        let place = usize::from(index.item.0).checked_sub(1);
         match place.and_then(|place| self.segments.get(place)) {
             Some(length) => Ok(*length),
-            None => Err(Fault::Refused(LayoutFault {
-                reason: Reason::UndefinedSegment,
-                within: index.within,
-            })),
+            None => Err(refused(Reason::UndefinedSegment, index.within)),
         }
     }
 }
 
-/// The subrecords of a FIXUPP.
-fn read_fixups(alloc: Global, body: &[u8]) -> Result<Vec<FixupRecord>, Fault>
-    requires { length body.now ≤ 65534 }
-{
-    let mut cursor = Cursor::new(body);
-    let mut fixups = Vec::new(alloc);
-    while !cursor.is_at_end() {
-        fixups.push(read_fixup(&mut cursor)?)?;
+/// How many bytes a segment has: 2^16 or 2^32 where it is big.
+fn length_of(wide: bool, segment: &Segment) -> u64 {
+    if segment.attribute / 2 % 2 == 0 {
+        u64::from(segment.size)
+    } else if wide {
+        0x1_0000_0000
+    } else {
+        0x1_0000
     }
-    Ok(fixups)
+}
+
+/// A segment-relative FIXUP of a 16-bit offset, with a segment's frame, a segment as its target and no displacement. No
+/// other subrecord is read so far.
+fn fixup_of(number: u32, subrecord: At<Subrecord<'_>>) -> Option<Fixup> {
+    let within = subrecord.within;
+    let Part::Fixup {
+        location,
+        reference,
+    } = subrecord.item.part
+    else {
+        return None;
+    };
+    if location / 1024 != 0b11_0001 || reference.fix.item != 0b0000_0100 {
+        return None;
+    }
+    Some(Fixup {
+        number,
+        within,
+        offset: location % 1024,
+        frame: reference.frame?,
+        target: reference.target?,
+    })
 }

@@ -8,7 +8,6 @@ mod listing;
 mod output;
 mod placement;
 mod printed;
-mod reading;
 mod relocating;
 pub mod rows;
 mod running;

@@ -19,8 +19,8 @@ pub type Image = BTreeMap<Location, u8>;
 
 /// What a fixup adds: the target's offset from the base of the frame. None where it has more than 16 bits, or is below 0.
 fn offset_of(placed: &[PlacedSegment], fixup: &Fixup) -> Option<u16> {
-    let target = placed.get(usize::from(fixup.target).checked_sub(1)?)?;
-    let frame = placed.get(usize::from(fixup.frame).checked_sub(1)?)?;
+    let target = placed.get(usize::from(fixup.target.item.0).checked_sub(1)?)?;
+    let frame = placed.get(usize::from(fixup.frame.item.0).checked_sub(1)?)?;
     u16::try_from(target.address.checked_sub(frame.frame.base)?).ok()
 }
 
@@ -83,7 +83,7 @@ pub fn relocate(
 /// Lays the bytes of a data record over the image.
 fn lay(image: &mut Image, data: &Data) -> Result<(), AllocError> {
     let segment = data.segment;
-    let offsets = u32::from(data.offset)..u32::MAX;
+    let offsets = data.offset..=u32::MAX;
     for (offset, byte) in offsets.zip(&data.bytes) {
         image.insert(Location { segment, offset }, *byte)?;
     }

@@ -1,6 +1,9 @@
-use Rattle.std.proofs.Common.{◌≤◌, ◌+◌}
+use Rattle.std.proofs.Common.{◌≡◌, ◌<◌, ◌≤◌, false}
 use Rattle.omf_cmd.proofs.checking.Module.take_fixups.Given as goal
 
--- each fixup counts
-abbrev pub invariant-loop-fixup : goal.invariant-loop-fixup
-invariant-loop-fixup l = l.initial.self.items + l.fixup-index ≤ l.self.items
+-- each subrecord counts
+abbrev pub invariant-loop-subrecord : goal.invariant-loop-subrecord
+invariant-loop-subrecord l = record {
+  grows : l.fn.self.items ≤ l.self.items;
+  counted : l.is_empty ≡ false → l.fn.self.items < l.self.items;
+}

@@ -1,8 +1,6 @@
-use Rattle.std.proofs.Common.{◌≤◌, ◌-◌, length}
+use Rattle.std.proofs.Common.{◌<◌}
 use Rattle.omf_cmd.proofs.checking.Module.take_names.Given as goal
 
-abbrev pub invariant-loop-cursor : goal.invariant-loop-cursor
-invariant-loop-cursor l = l.names ≤ 32767
-
-abbrev pub decreases-loop-cursor : goal.decreases-loop-cursor
-decreases-loop-cursor l = length l.cursor.body.now - l.cursor.position
+-- the record counts
+abbrev pub invariant-loop-name : goal.invariant-loop-name
+invariant-loop-name l = l.fn.self.items < l.self.items
