@@ -1,1 +1,3 @@
 pub mod FieldGives
+pub mod Publics
+pub mod AtStart

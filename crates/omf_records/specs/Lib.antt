@@ -17,6 +17,7 @@ pub mod Reading
 pub mod Gives
 pub mod Parts
 pub mod Seen
+pub mod Types
 pub mod Sizes
 pub mod Laws
 pub mod LawProofs

@@ -48,14 +48,14 @@ group_whole = index_at >=>| λ n. called_whole (many member) (λ ms. Group (reco
 abbrev pub externs_whole : Whole externs
 externs_whole = called_whole (many external) Externs (each_whole external external_reader external_shrinks)
 
-abbrev pub base_reader : (s : At ℕ) → Reader (when (s.item == 0) (le 2))
-base_reader s = when_reader (s.item == 0) (le 2) (le_reader 2)
+abbrev pub base_reader : (b : Bool) → Reader (when b (le 2))
+base_reader b = when_reader b (le 2) (le_reader 2)
 
 abbrev pub publics_whole : (wide : Bool) → Whole (publics wide)
 publics_whole wide =
     index_at >=>| λ g.
     index_at >=>| λ s.
-    base_reader s >=>| λ f.
+    base_reader (s.item == 0) >=>| λ f.
     called_whole (many (public_item wide)) (λ ps. Publics (record { group = g; segment = s; frame = f; items = ps })) (each_whole (public_item wide) (public_reader wide) (public_shrinks wide))
 
 abbrev pub communals_whole : Whole communals

@@ -2,6 +2,7 @@
 #![tactic(auto)]
 
 mod at;
+mod dispatch;
 mod entry;
 mod field;
 mod here;
@@ -10,8 +11,10 @@ pub mod laws;
 mod record;
 pub mod rows;
 mod subrecord;
+mod viewing;
 
 pub use at::{At, LayoutFault};
+pub use dispatch::view;
 pub use entry::{Communal, CommunalSize, Extern, Member, Public};
 pub use here::Here;
 pub use item::{Cursor, Item, Items};

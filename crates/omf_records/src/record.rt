@@ -41,7 +41,10 @@ pub struct Blocks<'a> {
 #[derive(Drop)]
 pub enum Rec<'a> {
     /// THEADR or LHEADR: `kind` is 80H or 82H.
-    Header { kind: u8, name: Name<'a> },
+    Header {
+        kind: u8,
+        name: Name<'a>,
+    },
     /// COMENT: its type byte, class byte and text.
     Comment {
         type_byte: u8,
@@ -51,7 +54,10 @@ pub enum Rec<'a> {
     /// LNAMES.
     Names(Items<Name<'a>>),
     /// SEGDEF.
-    Segment { wide: bool, segment: Segment },
+    Segment {
+        wide: bool,
+        segment: Segment,
+    },
     /// GRPDEF: the index of its name, and its members.
     Group {
         name: At<Index>,
@@ -94,7 +100,10 @@ pub enum Rec<'a> {
         start: Option<Reference>,
     },
     /// TYPDEF, LINNUM, LINSYM, ALIAS or VERNUM, carried unread.
-    Carried { kind: u8, contents: &'a [u8] },
+    Carried {
+        kind: u8,
+        contents: &'a [u8],
+    },
 }
 
 impl<'a> Rec<'a> {

@@ -1,0 +1,80 @@
+//! A record's contents, by the record's type.
+ghost use Rattle.std.specs.Prelude.{◌≡◌, ◌≤◌, length, IfOk, ◌⊎◌, IsTrue};
+ghost use Rattle.omf_frame.specs.Framing.{is_taken};
+ghost use Rattle.omf_records.specs.Seen.{contents_seen, kind_seen, map_ok};
+ghost use Rattle.omf_records.specs.Reading.{read_body};
+ghost use Rattle.omf_records.specs.Reads.{Meets};
+ghost use Rattle.omf_records.specs.Records.{contents};
+ghost use Rattle.omf_records.specs.Types.{IsOneOf, types};
+
+use crate::at::LayoutFault;
+use crate::here::Here;
+use crate::record::Rec;
+use crate::viewing::{
+    carried_at, comment_at, communals_at, externs_at, fixups_at, group_at, header_at, iterated_at,
+    mod_end_at, names_at, plain_at, publics_at, segment_at,
+};
+use omf_frame::RawRecord;
+
+fn contents_of<'a>(kind: u8, body: &'a [u8]) -> Result<Rec<'a>, LayoutFault>
+    requires taken { IsOneOf types kind }
+    requires short { length body.now ≤ 65534 }
+    ensures contents { map_ok contents_seen result ≡ read_body kind body.now }
+    ensures kind { IfOk result (λ r. kind_seen r ≡ kind) }
+{
+    let narrow = Here::start(false, body);
+    let wide = Here::start(true, body);
+    match kind {
+        0x80 => header_at(0x80, narrow),
+        0x82 => header_at(0x82, narrow),
+        0x88 => comment_at(narrow),
+        0x8A => mod_end_at(narrow),
+        0x8B => mod_end_at(wide),
+        0x8C => externs_at(narrow),
+        0x90 => publics_at(narrow),
+        0x91 => publics_at(wide),
+        0x96 => names_at(narrow),
+        0x98 => segment_at(narrow),
+        0x99 => segment_at(wide),
+        0x9A => group_at(narrow),
+        0x9C => fixups_at(narrow),
+        0x9D => fixups_at(wide),
+        0xA0 => plain_at(narrow),
+        0xA1 => plain_at(wide),
+        0xA2 => iterated_at(narrow),
+        0xA3 => iterated_at(wide),
+        0xB0 => communals_at(narrow),
+        0x8E => carried_at(0x8E, body),
+        0x94 => carried_at(0x94, body),
+        0x95 => carried_at(0x95, body),
+        0xC4 => carried_at(0xC4, body),
+        0xC5 => carried_at(0xC5, body),
+        0xC6 => carried_at(0xC6, body),
+        0xCC => carried_at(0xCC, body),
+        // No other type is asked for.
+        _ => carried_at(kind, body),
+    }
+}
+
+fn view_body<'a>(kind: u8, body: &'a [u8]) -> Result<Rec<'a>, LayoutFault>
+    requires taken { IsTrue (is_taken kind) }
+    requires short { length body.now ≤ 65534 }
+    ensures read { map_ok contents_seen result ≡ read_body kind body.now }
+    ensures kind { IfOk result (λ r. kind_seen r ≡ kind) }
+    ensures meets { Meets (contents kind) 3 body.now (map_ok contents_seen result) }
+{
+    contents_of(kind, body)
+}
+
+/// A record's contents: the one typed record that they spell, or the least fault of their layout, by place and
+/// then by number (reasons 8 to 18; TIS OMF 1.1, the page of each record). The record's type is one that is read
+/// or carried, and its body has at most 65,534 bytes, as in every record that a `Framer` shows.
+pub fn view<'a>(raw: RawRecord<'a>) -> Result<Rec<'a>, LayoutFault>
+    requires taken { IsTrue (is_taken raw.kind) }
+    requires short { length raw.body.now ≤ 65534 }
+    ensures read { map_ok contents_seen result ≡ read_body raw.entry.kind raw.entry.body.now }
+    ensures kind { IfOk result (λ r. kind_seen r ≡ raw.entry.kind) }
+    ensures meets { Meets (contents raw.entry.kind) 3 raw.entry.body.now (map_ok contents_seen result) }
+{
+    view_body(raw.kind, raw.body)
+}

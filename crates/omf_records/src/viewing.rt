@@ -1,0 +1,255 @@
+//! A record's contents as a typed record.
+ghost use Rattle.std.specs.Prelude.{◌≡◌, ◌==◌, ℕ, ◌≤◌, length, IfOk, Bool, cond};
+ghost use Rattle.omf_records.specs.Gives.{Gives};
+ghost use Rattle.omf_records.specs.Reads.{each};
+ghost use Rattle.omf_records.specs.EntryReaders.{public_reader};
+ghost use Rattle.omf_records.specs.Seen.{contents_seen, kind_seen, odd_if, map_ok};
+ghost use Rattle.omf_records.specs.Values.{alignment, has_start};
+ghost use Rattle.omf_records.specs.RecordReaders.{header_whole, comment_whole, names_whole, attribute_reader, absolute_reader, size_reader, segment_whole, group_whole, externs_whole, base_reader, publics_whole, communals_whole, plain_whole, iterated_whole, fixups_whole, start_reader, mod_end_whole, carried_whole};
+
+use crate::at::{At, LayoutFault};
+use crate::entry::Public;
+use crate::field::{byte, index, index_here, le16, name, number, number_here};
+use crate::here::Here;
+use crate::item::Items;
+use crate::record::{Blocks, Rec, Segment};
+use crate::subrecord::{Reference, read_reference};
+use omf_frame::{Index, Reason};
+
+/// THEADR, LHEADR.
+pub(crate) fn header_at<'a>(kind: u8, here: Here<'a>) -> Result<Rec<'a>, LayoutFault>
+    ensures contents { map_ok contents_seen result ≡ header_whole.read here.entry.within here.entry.bytes.now }
+    ensures kind { IfOk result (λ r. kind_seen r ≡ kind) }
+{
+    let (name, here) = name(here)?;
+    here.end()?;
+    Ok(Rec::Header { kind, name })
+}
+
+/// COMENT.
+pub(crate) fn comment_at<'a>(here: Here<'a>) -> Result<Rec<'a>, LayoutFault>
+    ensures contents { map_ok contents_seen result ≡ comment_whole.read here.entry.within here.entry.bytes.now }
+    ensures kind { IfOk result (λ r. kind_seen r ≡ 0x88) }
+{
+    let (type_byte, here) = byte(here)?;
+    let (class, here) = byte(here)?;
+    let text = here.bytes();
+    Ok(Rec::Comment {
+        type_byte,
+        class,
+        text,
+    })
+}
+
+/// LNAMES.
+pub(crate) fn names_at<'a>(here: Here<'a>) -> Result<Rec<'a>, LayoutFault>
+    ensures contents { map_ok contents_seen result ≡ names_whole.read here.entry.within here.entry.bytes.now }
+    ensures kind { IfOk result (λ r. kind_seen r ≡ 0x96) }
+{
+    Ok(Rec::Names(Items::new(here)?))
+}
+
+/// SEGDEF's attribute byte.
+fn attribute<'a>(here: Here<'a>) -> Result<(u8, Here<'a>), LayoutFault>
+    ensures { Gives here.entry.wide result (attribute_reader.read here.entry.within here.entry.bytes.now) }
+{
+    let (attribute, after) = byte(here)?;
+    if attribute / 32 > 5 {
+        return Err(here.fault(Reason::Alignment));
+    }
+    Ok((attribute, after))
+}
+
+/// The frame number and offset of an absolute segment.
+fn absolute<'a>(here: Here<'a>, attribute: u8) -> Result<(Option<(u16, u8)>, Here<'a>), LayoutFault>
+    ensures { Gives here.entry.wide result ((absolute_reader attribute).read here.entry.within here.entry.bytes.now) }
+{
+    if attribute / 32 != 0 {
+        return Ok((None, here));
+    }
+    let (number, here) = le16(here)?;
+    let (offset, here) = byte(here)?;
+    Ok((Some((number, offset)), here))
+}
+
+/// SEGDEF's length field.
+fn size<'a>(here: Here<'a>, attribute: u8) -> Result<(u32, Here<'a>), LayoutFault>
+    ensures { Gives here.entry.wide result ((size_reader here.entry.wide attribute).read here.entry.within here.entry.bytes.now) }
+{
+    let (size, after) = number(here)?;
+    if attribute / 2 % 2 == 1 && size != 0 {
+        return Err(here.fault(Reason::BigLength));
+    }
+    Ok((size, after))
+}
+
+/// SEGDEF.
+pub(crate) fn segment_at<'a>(here: Here<'a>) -> Result<Rec<'a>, LayoutFault>
+    ensures contents { map_ok contents_seen result ≡ (segment_whole here.entry.wide).read here.entry.within here.entry.bytes.now }
+    ensures kind { IfOk result (λ r. kind_seen r ≡ odd_if here.entry.wide 0x98) }
+{
+    let wide = here.is_wide();
+    let (attribute, here) = attribute(here)?;
+    let (absolute, here) = absolute(here, attribute)?;
+    let (size, here) = size(here, attribute)?;
+    let (name, here) = index_here(here)?;
+    let (class, here) = index_here(here)?;
+    let (overlay, here) = index(here)?;
+    here.end()?;
+    let segment = Segment {
+        attribute,
+        absolute,
+        size,
+        name,
+        class,
+        overlay,
+    };
+    Ok(Rec::Segment { wide, segment })
+}
+
+/// GRPDEF.
+pub(crate) fn group_at<'a>(here: Here<'a>) -> Result<Rec<'a>, LayoutFault>
+    ensures contents { map_ok contents_seen result ≡ group_whole.read here.entry.within here.entry.bytes.now }
+    ensures kind { IfOk result (λ r. kind_seen r ≡ 0x9A) }
+{
+    let (name, here) = index_here(here)?;
+    let members = Items::new(here)?;
+    Ok(Rec::Group { name, members })
+}
+
+/// EXTDEF.
+pub(crate) fn externs_at<'a>(here: Here<'a>) -> Result<Rec<'a>, LayoutFault>
+    ensures contents { map_ok contents_seen result ≡ externs_whole.read here.entry.within here.entry.bytes.now }
+    ensures kind { IfOk result (λ r. kind_seen r ≡ 0x8C) }
+{
+    Ok(Rec::Externs(Items::new(here)?))
+}
+
+/// The base frame's number in a PUBDEF, which stands there only if the segment index is 0.
+fn base_frame<'a>(
+    here: Here<'a>,
+    segment: &At<Index>,
+) -> Result<(Option<u16>, Here<'a>), LayoutFault>
+    ensures { Gives here.entry.wide result ((base_reader (segment.now.item == 0)).read here.entry.within here.entry.bytes.now) }
+{
+    if segment.item.0 != 0 {
+        return Ok((None, here));
+    }
+    let (number, here) = le16(here)?;
+    Ok((Some(number), here))
+}
+
+/// The public names of a PUBDEF.
+fn public_names<'a>(here: Here<'a>, wide: bool) -> Result<Items<Public<'a>>, LayoutFault>
+    requires { here.wide ≡ wide }
+    ensures { result ≡ each (public_reader wide).read here.entry.within here.entry.bytes.now }
+{
+    Items::new(here)
+}
+
+/// PUBDEF.
+pub(crate) fn publics_at<'a>(here: Here<'a>) -> Result<Rec<'a>, LayoutFault>
+    ensures contents { map_ok contents_seen result ≡ (publics_whole here.entry.wide).read here.entry.within here.entry.bytes.now }
+    ensures kind { IfOk result (λ r. kind_seen r ≡ odd_if here.entry.wide 0x90) }
+{
+    let wide = here.is_wide();
+    let (group, here) = index_here(here)?;
+    let (segment, here) = index_here(here)?;
+    let (frame, here) = base_frame(here, &segment)?;
+    match public_names(here, wide) {
+        Ok(publics) => Ok(Rec::Publics {
+            wide,
+            group,
+            segment,
+            frame,
+            publics,
+        }),
+        Err(fault) => Err(fault),
+    }
+}
+
+/// COMDEF.
+pub(crate) fn communals_at<'a>(here: Here<'a>) -> Result<Rec<'a>, LayoutFault>
+    ensures contents { map_ok contents_seen result ≡ communals_whole.read here.entry.within here.entry.bytes.now }
+    ensures kind { IfOk result (λ r. kind_seen r ≡ 0xB0) }
+{
+    Ok(Rec::Communals(Items::new(here)?))
+}
+
+/// LEDATA.
+pub(crate) fn plain_at<'a>(here: Here<'a>) -> Result<Rec<'a>, LayoutFault>
+    ensures contents { map_ok contents_seen result ≡ (plain_whole here.entry.wide).read here.entry.within here.entry.bytes.now }
+    ensures kind { IfOk result (λ r. kind_seen r ≡ odd_if here.entry.wide 0xA0) }
+{
+    let wide = here.is_wide();
+    let (segment, here) = index_here(here)?;
+    let (offset, here) = number_here(here)?;
+    let data = here.bytes();
+    Ok(Rec::Plain {
+        wide,
+        segment,
+        offset,
+        data,
+    })
+}
+
+/// LIDATA.
+pub(crate) fn iterated_at<'a>(here: Here<'a>) -> Result<Rec<'a>, LayoutFault>
+    ensures contents { map_ok contents_seen result ≡ (iterated_whole here.entry.wide).read here.entry.within here.entry.bytes.now }
+    ensures kind { IfOk result (λ r. kind_seen r ≡ odd_if here.entry.wide 0xA2) }
+{
+    let wide = here.is_wide();
+    let (segment, here) = index_here(here)?;
+    let (offset, here) = number_here(here)?;
+    let bytes = here.bytes();
+    Ok(Rec::Iterated {
+        segment,
+        offset,
+        blocks: Blocks { bytes, wide },
+    })
+}
+
+/// FIXUPP.
+pub(crate) fn fixups_at<'a>(here: Here<'a>) -> Result<Rec<'a>, LayoutFault>
+    ensures contents { map_ok contents_seen result ≡ (fixups_whole here.entry.wide).read here.entry.within here.entry.bytes.now }
+    ensures kind { IfOk result (λ r. kind_seen r ≡ odd_if here.entry.wide 0x9C) }
+{
+    let wide = here.is_wide();
+    let subrecords = Items::new(here)?;
+    Ok(Rec::Fixups { wide, subrecords })
+}
+
+/// MODEND's start, which stands there only if bit 6 of the type byte is set.
+fn start<'a>(here: Here<'a>, type_byte: u8) -> Result<(Option<Reference>, Here<'a>), LayoutFault>
+    ensures { Gives here.entry.wide result ((start_reader here.entry.wide type_byte).read here.entry.within here.entry.bytes.now) }
+{
+    if type_byte / 64 % 2 == 0 {
+        return Ok((None, here));
+    }
+    let (start, here) = read_reference(here)?;
+    Ok((Some(start), here))
+}
+
+/// MODEND.
+pub(crate) fn mod_end_at<'a>(here: Here<'a>) -> Result<Rec<'a>, LayoutFault>
+    ensures contents { map_ok contents_seen result ≡ (mod_end_whole here.entry.wide).read here.entry.within here.entry.bytes.now }
+    ensures kind { IfOk result (λ r. kind_seen r ≡ odd_if here.entry.wide 0x8A) }
+{
+    let wide = here.is_wide();
+    let (type_byte, here) = byte(here)?;
+    let (start, here) = start(here, type_byte)?;
+    here.end()?;
+    Ok(Rec::ModEnd {
+        wide,
+        type_byte,
+        start,
+    })
+}
+
+/// A record that is carried unread.
+pub(crate) fn carried_at<'a>(kind: u8, contents: &'a [u8]) -> Result<Rec<'a>, LayoutFault>
+    ensures contents { map_ok contents_seen result ≡ carried_whole.read 3 contents.now }
+    ensures kind { IfOk result (λ r. kind_seen r ≡ kind) }
+{
+    Ok(Rec::Carried { kind, contents })
+}
