@@ -8,3 +8,4 @@ pub mod Counting
 pub mod ReadingSteps
 pub mod Expansion
 pub mod CopySteps
+pub mod PieceLaws

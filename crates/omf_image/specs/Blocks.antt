@@ -50,7 +50,7 @@ repeated n (b ∷ bytes) = repeat n (b ∷ bytes)
 abbrev mutual
   pub block_bytes : Block → List ℕ
   block_bytes (Repeat count bytes) = repeated count bytes
-  block_bytes (Nest zero trees) = []
+  block_bytes (Nest zero _) = []
   block_bytes (Nest (suc n) trees) = repeated (suc n) (blocks_bytes trees)
 
   pub blocks_bytes : Blocks → List ℕ

@@ -25,7 +25,7 @@ expanded width limits bytes = blocks_bytes (blocks_of width limits bytes)
 
 -- The first Short or TooDeep, if there is one; and the fault that the blocks stand for too many bytes.
 abbrev pub faults_of : Result Blocks Fault → List Fault
-faults_of (Ok trees) = []
+faults_of (Ok _) = []
 faults_of (Err e) = e ∷ []
 
 abbrev pub block_faults : ℕ → Limits → List ℕ → List Fault

@@ -3,6 +3,7 @@
 #![tactic(auto)]
 
 mod expanding;
+mod image;
 pub mod laws;
 mod length;
 mod limits;
@@ -11,6 +12,7 @@ pub mod rows;
 mod run;
 
 pub use expanding::expand;
+pub use image::Image;
 pub use length::expanded_len;
 pub use limits::Limits;
 pub use part::{Part, add_part};

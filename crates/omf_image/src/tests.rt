@@ -1,8 +1,8 @@
-//! Blocks that nest, that stand for nothing, and that stand for too much; parts that are added.
+//! Blocks that nest, that stand for nothing, and that stand for too much; parts that are added; pieces that overlap.
 
 ghost use Rattle.std.specs.Prelude.{◌≤◌, length};
 
-use crate::{Limits, Part, add_part, expand, expanded_len};
+use crate::{Image, Limits, Part, add_part, expand, expanded_len};
 use omf_frame::Reason;
 use omf_records::{Blocks, LayoutFault};
 use std::alloc::Global;
@@ -126,5 +126,33 @@ fn adds_parts(rt: HostRuntime) -> Result<(), Fail> {
     assert_eq!(rt; bytes, [0x10, 0x00, 0x00, 0x01]);
     add_part(&mut bytes, 0, Part::Dword, 0xFFFF_FFFF);
     assert_eq!(rt; bytes, [0x0F, 0x00, 0x00, 0x01]);
+    Ok(())
+}
+
+#[test]
+fn lays_pieces(rt: HostRuntime) -> Result<(), Fail> {
+    let alloc = rt.alloc();
+    let mut image = Image::new(alloc);
+    assert_eq!(rt; image.get(1, 0), None);
+    image.lay(1, 0, Vec::from_slice(alloc, &[1, 2, 3, 4])?)?;
+    image.lay(1, 1, Vec::from_slice(alloc, &[0xAA])?)?;
+    image.lay(1, 6, Vec::from_slice(alloc, &[5])?)?;
+    image.lay(1, 4, Vec::from_slice(alloc, &[0xBB, 0xCC])?)?;
+    image.lay(1, 2, Vec::new(alloc))?;
+    for (offset, byte) in [
+        (0, 1),
+        (1, 0xAA),
+        (2, 3),
+        (3, 4),
+        (4, 0xBB),
+        (5, 0xCC),
+        (6, 5),
+    ] {
+        assert_eq!(rt; image.get(1, offset), Some(byte), "at {offset}");
+    }
+    assert_eq!(rt; image.get(1, 7), None);
+    assert_eq!(rt; image.get(2, 0), None);
+    image.lay(1, 0xFFFF_FFFF, Vec::from_slice(alloc, &[0xEE])?)?;
+    assert_eq!(rt; image.get(1, 0xFFFF_FFFF), Some(0xEE));
     Ok(())
 }
