@@ -12,6 +12,7 @@
 #![tactic(auto)]
 
 mod at;
+mod bits;
 mod dispatch;
 mod entry;
 mod field;
@@ -26,6 +27,10 @@ mod viewing;
 mod writing;
 
 pub use at::{At, LayoutFault};
+pub use bits::{
+    is_frame_thread, is_segment_relative, location_offset, location_size, location_type,
+    thread_method, thread_number,
+};
 pub use dispatch::view;
 pub use entry::{Communal, CommunalSize, Extern, Member, Public};
 pub use here::Here;
