@@ -1,7 +1,18 @@
 //! The contents of the records of an object module: each is one typed record, or has a first fault of layout.
+//!
+//! `view` reads a record's contents and borrows from them; `put_rec` writes them in shortest spellings. What
+//! repeats in a record is an iterator, `Items`, over items that tell their offset in the record. Match a `Rec` by
+//! reference, and go over `items.iter()`.
+//!
+//! `specs/Values` has the values, `specs/Records` and `specs/Entries` the layout of each record in the words of
+//! `specs/Layout`, and `specs/Shortest` the shortest contents. The readings of the same names (`RecordReaders`,
+//! `EntryReaders`, `FieldReaders`) compute what the layouts say, and `laws` has what is proved of both. A further
+//! record type needs a layout and its reading, a case of `Contents` and of `Rec`, a function in `viewing` with its
+//! arm in `dispatch`, and one in `writing`.
 #![tactic(auto)]
 
 mod at;
+mod bits;
 mod dispatch;
 mod entry;
 mod field;
@@ -16,6 +27,10 @@ mod viewing;
 mod writing;
 
 pub use at::{At, LayoutFault};
+pub use bits::{
+    is_frame_thread, is_segment_relative, location_offset, location_size, location_type,
+    thread_method, thread_number,
+};
 pub use dispatch::view;
 pub use entry::{Communal, CommunalSize, Extern, Member, Public};
 pub use here::Here;

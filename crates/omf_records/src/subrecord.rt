@@ -10,6 +10,7 @@ ghost use Rattle.omf_records.specs.Entries.{is_frame_method, wrong_methods, wron
 ghost use Rattle.omf_records.specs.EntryReaders.{subhead_reader, fix_reader, datum_reader, displacement_reader, reference_reader, thread_reader, fixup_reader};
 
 use crate::at::{At, LayoutFault};
+use crate::bits::{is_frame_thread, is_segment_relative, location_type, thread_method};
 use crate::field::{byte, head, index_here, number};
 use crate::here::Here;
 use crate::item::Item;
@@ -66,24 +67,12 @@ fn is_frame_method(method: u8) -> bool
     method < 3 || method == 4 || method == 5
 }
 
-fn thread_method(first: u16) -> u8
-    requires { first < 128 }
-    ensures { result ≡ thread_method first }
-{
-    if first / 64 % 2 == 1 {
-        (first / 4 % 8) as u8
-    } else {
-        (first / 4 % 4) as u8
-    }
-}
-
 /// What is wrong with the first byte of a THREAD.
-fn thread_fault(first: u16) -> Option<Reason>
-    requires { first < 128 }
+fn thread_fault(first: u8) -> Option<Reason>
     ensures { first_reason result ≡ wrong_thread first }
 {
     let method = thread_method(first);
-    if first / 64 % 2 == 1 {
+    if is_frame_thread(first) {
         return if is_frame_method(method) {
             None
         } else {
@@ -98,13 +87,13 @@ fn thread_fault(first: u16) -> Option<Reason>
 }
 
 /// One of the location types.
-fn is_location(kind: u16) -> bool
+fn is_location(kind: u8) -> bool
     ensures { result ≡ is_location kind }
 {
     kind < 6 || kind == 9 || kind == 11 || kind == 13
 }
 
-fn may_be_self_relative(kind: u16) -> bool
+fn may_be_self_relative(kind: u8) -> bool
     ensures { result ≡ may_be_self_relative kind }
 {
     kind < 2 || kind == 5 || kind == 9 || kind == 13
@@ -114,11 +103,11 @@ fn may_be_self_relative(kind: u16) -> bool
 fn location_fault(location: u16) -> Option<Reason>
     ensures { first_reason result ≡ wrong_location location }
 {
-    let kind = location / 1024 % 16;
+    let kind = location_type(location);
     if !is_location(kind) {
         return Some(Reason::LocationType);
     }
-    if location / 16384 % 2 == 1 || may_be_self_relative(kind) {
+    if is_segment_relative(location) || may_be_self_relative(kind) {
         return None;
     }
     Some(Reason::SelfRelative)
@@ -128,7 +117,7 @@ fn head_fault(head: u16) -> Option<Reason>
     ensures { first_reason result ≡ wrong_head head }
 {
     if head < 128 {
-        thread_fault(head)
+        thread_fault(head as u8)
     } else {
         location_fault(head)
     }
@@ -220,15 +209,11 @@ pub(crate) fn read_reference<'a>(here: Here<'a>) -> Result<(Reference, Here<'a>)
 }
 
 /// What comes after the first byte of a THREAD.
-fn thread<'a>(here: Here<'a>, first: u16) -> Result<(Subrecord<'a>, Here<'a>), LayoutFault>
-    requires { first < 128 }
+fn thread<'a>(here: Here<'a>, first: u8) -> Result<(Subrecord<'a>, Here<'a>), LayoutFault>
     ensures { Gives here.entry.wide result ((thread_reader first).read here.entry.within here.entry.bytes.now) }
 {
     let (index, here) = datum(here, thread_method(first) < 3)?;
-    let part = Part::Thread {
-        first: first as u8,
-        index,
-    };
+    let part = Part::Thread { first, index };
     let of = PhantomData;
     Ok((Subrecord { part, of }, here))
 }
@@ -262,7 +247,7 @@ impl<'a> Item for Subrecord<'a> {
     fn read(here: Here<'a>) -> Result<(Subrecord<'a>, Here<'a>), LayoutFault> {
         let (head, here) = subhead(here)?;
         if head < 128 {
-            thread(here, head)
+            thread(here, head as u8)
         } else {
             fixup(here, head)
         }

@@ -345,3 +345,39 @@ fn shows_communals(rt: HostRuntime) -> Result<(), Fail> {
     );
     Ok(())
 }
+
+#[test]
+fn reads_bits(rt: HostRuntime) -> Result<(), Fail> {
+    let rec = view(raw(0x8A, &[0xC1, 0xA0, 0x01, 0x02, 0x00]))?;
+    match &rec {
+        Rec::ModEnd {
+            start: Some(start),
+            ..
+        } => {
+            assert_eq!(rt; start.frame_thread(), Some(2));
+            assert_eq!(rt; start.target_thread(), None);
+            assert_eq!(rt; start.target_method(), 0);
+            assert_eq!(rt; start.displacement, Some(2));
+        }
+        _ => panic!(rt; "a MODEND with a start"),
+    }
+    assert_eq!(rt; (location_type(0xE406), location_offset(0xE406)), (9, 6));
+    assert_eq!(rt; (is_segment_relative(0xE406), location_size(9)), (true, 4));
+    assert_eq!(rt;
+        (
+            is_frame_thread(0x56),
+            thread_method(0x56),
+            thread_number(0x56)
+        ),
+        (true, 5, 2)
+    );
+    assert_eq!(rt;
+        (
+            is_frame_thread(0x18),
+            thread_method(0x18),
+            thread_number(0x18)
+        ),
+        (false, 2, 0)
+    );
+    Ok(())
+}

@@ -1,0 +1,127 @@
+//! What the bits of packed fields say (TIS OMF 1.1, "FIXUPP", "SEGDEF").
+ghost use Rattle.std.specs.Prelude.{◌≡◌};
+ghost use Rattle.omf_records.specs.Values.{thread_is_frame, thread_method, thread_number, is_segment_relative, location_type, location_offset};
+ghost use Rattle.omf_records.specs.Location.{location_size};
+
+use crate::record::Segment;
+use crate::subrecord::Reference;
+
+/// A THREAD's first byte sets a frame thread; else a target thread.
+pub fn is_frame_thread(first: u8) -> bool
+    ensures { result ≡ thread_is_frame first }
+{
+    first / 64 % 2 == 1
+}
+
+/// The method of a THREAD. A target thread uses the low two bits of it.
+pub fn thread_method(first: u8) -> u8
+    ensures { result ≡ thread_method first }
+{
+    if first / 64 % 2 == 1 {
+        first / 4 % 8
+    } else {
+        first / 4 % 4
+    }
+}
+
+/// The number of a THREAD, 0 to 3.
+pub fn thread_number(first: u8) -> u8
+    ensures { result ≡ thread_number first }
+{
+    first % 4
+}
+
+/// A FIXUP's first two bytes say that it is relative to its segment; else it is relative to itself.
+pub fn is_segment_relative(location: u16) -> bool
+    ensures { result ≡ is_segment_relative location }
+{
+    location / 16384 % 2 == 1
+}
+
+/// The location's type, 0 to 15.
+pub fn location_type(location: u16) -> u8
+    ensures { result ≡ location_type location }
+{
+    (location / 1024 % 16) as u8
+}
+
+/// The location's offset into the data, 0 to 1023.
+pub fn location_offset(location: u16) -> u16
+    ensures { result ≡ location_offset location }
+{
+    location % 1024
+}
+
+/// The bytes at a location of a type: 1, 2, 4 or 6.
+pub fn location_size(kind: u8) -> u8
+    ensures { result ≡ location_size kind }
+{
+    match kind {
+        0 | 4 => 1,
+        1 | 2 | 5 => 2,
+        3 | 9 | 13 => 4,
+        _ => 6,
+    }
+}
+
+impl Reference {
+    ghost use Rattle.std.specs.Prelude.{◌≡◌, Some, None, if◌then◌else◌};
+    ghost use Rattle.omf_records.specs.Values.{frame_by_thread, frame_bits, frame_thread, target_by_thread, target_bits};
+
+    /// The number of the thread that gives the frame, if one does.
+    pub fn frame_thread(&self) -> Option<u8>
+        ensures { result ≡ (if frame_by_thread self.now.fix.item then Some (frame_thread self.now.fix.item) else None) }
+    {
+        let fix = self.fix.item;
+        if fix / 128 % 2 == 1 {
+            Some(fix / 16 % 4)
+        } else {
+            None
+        }
+    }
+
+    /// The frame's method, where no thread gives it: 0, 1, 2, 4 or 5.
+    pub fn frame_method(&self) -> u8
+        ensures { result ≡ frame_bits self.now.fix.item }
+    {
+        self.fix.item / 16 % 8
+    }
+
+    /// The number of the thread that gives the target, if one does.
+    pub fn target_thread(&self) -> Option<u8>
+        ensures { result ≡ (if target_by_thread self.now.fix.item then Some (target_bits self.now.fix.item) else None) }
+    {
+        let fix = self.fix.item;
+        if fix / 8 % 2 == 1 {
+            Some(fix % 4)
+        } else {
+            None
+        }
+    }
+
+    /// The target's method, where no thread gives it: 0, 1 or 2.
+    pub fn target_method(&self) -> u8
+        ensures { result ≡ target_bits self.now.fix.item }
+    {
+        self.fix.item % 4
+    }
+}
+
+impl Segment {
+    ghost use Rattle.std.specs.Prelude.{◌≡◌};
+    ghost use Rattle.omf_records.specs.Values.{alignment, is_big};
+
+    /// Its alignment: 0 absolute, 1 byte, 2 word, 3 paragraph, 4 page, 5 dword.
+    pub fn alignment(&self) -> u8
+        ensures { result ≡ alignment self.now.attribute }
+    {
+        self.attribute / 32
+    }
+
+    /// It is as long as its record's width allows: 65,536 bytes, or 2^32 in a wide record.
+    pub fn is_big(&self) -> bool
+        ensures { result ≡ is_big self.now.attribute }
+    {
+        self.attribute / 2 % 2 == 1
+    }
+}
