@@ -3,6 +3,7 @@
 
 mod at;
 mod dispatch;
+pub mod edges;
 mod entry;
 mod field;
 mod here;
