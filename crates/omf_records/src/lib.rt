@@ -14,6 +14,7 @@
 mod at;
 mod bits;
 mod dispatch;
+pub mod edges;
 mod entry;
 mod field;
 mod here;
