@@ -8,6 +8,7 @@ mod listing;
 mod output;
 mod placement;
 mod printed;
+mod printing;
 mod relocating;
 pub mod rows;
 mod running;
