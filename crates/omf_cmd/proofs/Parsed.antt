@@ -1,31 +1,149 @@
 -- What clap answers on the words of the program.
-use Rattle.std.proofs.Common.{◌≡◌, ℕ, List, [], ◌∷◌, Option, Some, None, refl, codes, true, option_map}
-use Rattle.clap.specs.Words.{App, Row, Text, is_simple, new_app, subcommand_of, subcommand_rows_of, subcommand_name_of, takes, with_subcommand}
+use Rattle.std.proofs.Common.{◌≡◌, ℕ, List, [], ◌∷◌, Bool, Option, Some, None, refl, sym, ap, subst, ◌∙◌, codes, true, false, cond, option_map, ◌⊎◌, inl, inr}
+use Rattle.std.specs.Prelude.{option_and_then}
+use Rattle.std.specs.Str.{bytes_eq}
+use Rattle.std.proofs.lemmas.Slice.Eq.{bytes_eq-Decides}
+use Rattle.clap.specs.Words.{Text, Row, is_simple, one_of, subcommand_of, takes}
 use Rattle.clap.proofs.OnLiterals.{clap_on_literals}
+use Rattle.omf_cmd.specs.Parsed.{omf_app, flag_id, flag_text, IsParsed}
+use Rattle.omf_cmd.specs.Words.{asks, flag, job_named, profile_of}
+use Rattle.omf_cmd.specs.declared.words.Job.{Job}
+use Rattle.omf_cmd.specs.declared.words.Job.TheVariants as job
+use Rattle.omf_check.specs.declared.profile.Profile.{Profile}
 
--- the program's command, with its subcommand
-abbrev pub reloc_app : App
-reloc_app = new_app (codes "reloc")
+-- the name and the rows of one parse
+pub name_at : {A : Type 0} (name : A → Text) (rows : A → List Row) (o : Option A) → option_map name o ≡ option_map (λ (p : Text × List Row). p.0) (option_map (λ a. (name a, rows a)) o)
+name_at name rows None = refl
+name_at name rows (Some a) = refl
 
-abbrev pub omf_app : App
-omf_app = with_subcommand (new_app (codes "omf")) reloc_app.top
+pub flag_at : (o : Option (Text × List Row)) (rows : List Row) → Some rows ≡ option_map (λ p. p.1) o → option_and_then (λ p. one_of flag_id p.1) o ≡ one_of flag_id rows
+flag_at None rows e = absurd cc
+flag_at (Some p) rows e = let s : rows ≡ p.1 = cc in ap (one_of flag_id) (sym s)
 
-abbrev pub name_in : Option (Text × List Row) → Option Text
-name_in = option_map (λ p. p.0)
+-- what a flag is read as
+pub flag_value : (refuses set : Bool) (text : Option Text) → (text ≡ Some (codes "true") → set ≡ true) → (text ≡ Some (codes "false") → set ≡ false) → text ≡ Some (flag_text refuses) → set ≡ refuses
+flag_value true set text yes_is no_is e = yes_is e
+flag_value false set text yes_is no_is e = no_is e
 
-pub names_reloc : (program : Text) → name_in (subcommand_of omf_app (program ∷ codes "reloc" ∷ [])) ≡ Some (codes "reloc")
+-- the job of a parse
+abbrev pub asked_of : Job → Bool → Option (Job × Profile)
+asked_of j refuses = Some (j, profile_of refuses)
+
+pub same_job : (named other : Option Job) (j k : Job) (set refuses : Bool) → named ≡ Some j → named ≡ other → other ≡ Some k → set ≡ refuses → asked_of j set ≡ asked_of k refuses
+same_job named other j k set refuses a b c d = let e : j ≡ k = cc in rw (e, d) refl
+
+pub is_simple_omf : is_simple omf_app ≡ true
 unfolding clap_on_literals
-names_reloc program = refl
+is_simple_omf = refl
+
+pub list_alone : (program : Text) → IsParsed (subcommand_of omf_app (program ∷ codes "list" ∷ [])) (codes "list") false
+unfolding clap_on_literals
+list_alone program = record { named = refl; set = refl }
+
+pub list_flagged : (program : Text) → IsParsed (subcommand_of omf_app (program ∷ codes "list" ∷ flag ∷ [])) (codes "list") true
+unfolding clap_on_literals
+list_flagged program = record { named = refl; set = refl }
+
+pub takes_list : (program : Text) → takes omf_app (program ∷ codes "list" ∷ []) ≡ true
+unfolding clap_on_literals
+takes_list program = refl
+
+pub takes_list_flagged : (program : Text) → takes omf_app (program ∷ codes "list" ∷ flag ∷ []) ≡ true
+unfolding clap_on_literals
+takes_list_flagged program = refl
+
+pub check_alone : (program : Text) → IsParsed (subcommand_of omf_app (program ∷ codes "check" ∷ [])) (codes "check") false
+unfolding clap_on_literals
+check_alone program = record { named = refl; set = refl }
+
+pub check_flagged : (program : Text) → IsParsed (subcommand_of omf_app (program ∷ codes "check" ∷ flag ∷ [])) (codes "check") true
+unfolding clap_on_literals
+check_flagged program = record { named = refl; set = refl }
+
+pub takes_check : (program : Text) → takes omf_app (program ∷ codes "check" ∷ []) ≡ true
+unfolding clap_on_literals
+takes_check program = refl
+
+pub takes_check_flagged : (program : Text) → takes omf_app (program ∷ codes "check" ∷ flag ∷ []) ≡ true
+unfolding clap_on_literals
+takes_check_flagged program = refl
+
+pub reloc_alone : (program : Text) → IsParsed (subcommand_of omf_app (program ∷ codes "reloc" ∷ [])) (codes "reloc") false
+unfolding clap_on_literals
+reloc_alone program = record { named = refl; set = refl }
+
+pub reloc_flagged : (program : Text) → IsParsed (subcommand_of omf_app (program ∷ codes "reloc" ∷ flag ∷ [])) (codes "reloc") true
+unfolding clap_on_literals
+reloc_flagged program = record { named = refl; set = refl }
 
 pub takes_reloc : (program : Text) → takes omf_app (program ∷ codes "reloc" ∷ []) ≡ true
 unfolding clap_on_literals
 takes_reloc program = refl
 
--- the subcommand's name, from the rows that it has
-pub names_of_rows : {A : Type 0} (name : A → Text) (rows : A → List Row) (o : Option A) → option_map name o ≡ name_in (option_map (λ a. (name a, rows a)) o)
-names_of_rows name rows None = refl
-names_of_rows name rows (Some a) = refl
-
-pub is_simple_omf : is_simple omf_app ≡ true
+pub takes_reloc_flagged : (program : Text) → takes omf_app (program ∷ codes "reloc" ∷ flag ∷ []) ≡ true
 unfolding clap_on_literals
-is_simple_omf = refl
+takes_reloc_flagged program = refl
+
+-- ---- the words that are asked for
+
+-- one of the three names
+abbrev IsOneOf : Text → Type 0
+IsOneOf name = (name ≡ codes "list") ⊎ ((name ≡ codes "check") ⊎ (name ≡ codes "reloc"))
+
+which : (a b c : Bool) (name : Text) (j : Job) → (a ≡ true → name ≡ codes "list") → (b ≡ true → name ≡ codes "check") → (c ≡ true → name ≡ codes "reloc")
+    → option_map (λ (s : List ℕ × Job). s.1) (cond a (Some (codes "list", job.List)) (cond b (Some (codes "check", job.Check)) (cond c (Some (codes "reloc", job.Reloc)) None))) ≡ Some j → IsOneOf name
+which true b c name j l k r e = inl (l refl)
+which false true c name j l k r e = inr (inl (k refl))
+which false false true name j l k r e = inr (inr (r refl))
+which false false false name j l k r e = absurd cc
+
+one_of_three : (name : Text) (j : Job) → job_named name ≡ Some j → IsOneOf name
+one_of_three name j e = which (bytes_eq name (codes "list")) (bytes_eq name (codes "check")) (bytes_eq name (codes "reloc")) name j
+    (bytes_eq-Decides name (codes "list")).0 (bytes_eq-Decides name (codes "check")).0 (bytes_eq-Decides name (codes "reloc")).0 e
+
+map_some : (o : Option Job) (refuses : Bool) (asked : Job × Profile) → option_map (λ j. (j, profile_of refuses)) o ≡ Some asked → (j : Job) × (o ≡ Some j) × (asked_of j refuses ≡ Some asked)
+map_some None refuses asked e = absurd cc
+map_some (Some j) refuses asked e = (j, refl, e)
+
+-- what a parse of the words gives, where they ask for something
+pub record Answers (words : List Text) (asked : Job × Profile) : Type 0 where
+  pub name : Text
+  pub job : Job
+  pub refuses : Bool
+  pub parse : IsParsed (subcommand_of omf_app words) name refuses
+  pub named : job_named name ≡ Some job
+  pub is : asked_of job refuses ≡ Some asked
+  pub taken : takes omf_app words ≡ true
+
+parsed_alone : (program name : Text) → IsOneOf name → IsParsed (subcommand_of omf_app (program ∷ name ∷ [])) name false × (takes omf_app (program ∷ name ∷ []) ≡ true)
+parsed_alone program name (inl e) = subst (λ (n : Text). IsParsed (subcommand_of omf_app (program ∷ n ∷ [])) n false × (takes omf_app (program ∷ n ∷ []) ≡ true)) (sym e) (list_alone program, takes_list program)
+parsed_alone program name (inr (inl e)) = subst (λ (n : Text). IsParsed (subcommand_of omf_app (program ∷ n ∷ [])) n false × (takes omf_app (program ∷ n ∷ []) ≡ true)) (sym e) (check_alone program, takes_check program)
+parsed_alone program name (inr (inr e)) = subst (λ (n : Text). IsParsed (subcommand_of omf_app (program ∷ n ∷ [])) n false × (takes omf_app (program ∷ n ∷ []) ≡ true)) (sym e) (reloc_alone program, takes_reloc program)
+
+parsed_flagged : (program name : Text) → IsOneOf name → IsParsed (subcommand_of omf_app (program ∷ name ∷ flag ∷ [])) name true × (takes omf_app (program ∷ name ∷ flag ∷ []) ≡ true)
+parsed_flagged program name (inl e) = subst (λ (n : Text). IsParsed (subcommand_of omf_app (program ∷ n ∷ flag ∷ [])) n true × (takes omf_app (program ∷ n ∷ flag ∷ []) ≡ true)) (sym e) (list_flagged program, takes_list_flagged program)
+parsed_flagged program name (inr (inl e)) = subst (λ (n : Text). IsParsed (subcommand_of omf_app (program ∷ n ∷ flag ∷ [])) n true × (takes omf_app (program ∷ n ∷ flag ∷ []) ≡ true)) (sym e) (check_flagged program, takes_check_flagged program)
+parsed_flagged program name (inr (inr e)) = subst (λ (n : Text). IsParsed (subcommand_of omf_app (program ∷ n ∷ flag ∷ [])) n true × (takes omf_app (program ∷ n ∷ flag ∷ []) ≡ true)) (sym e) (reloc_flagged program, takes_reloc_flagged program)
+
+answers_alone : (program name : Text) (asked : Job × Profile) → option_map (λ j. (j, profile_of false)) (job_named name) ≡ Some asked → Answers (program ∷ name ∷ []) asked
+answers_alone program name asked e =
+    let m = map_some (job_named name) false asked e in
+    let p = parsed_alone program name (one_of_three name m.0 m.1) in
+    record { name = name; job = m.0; refuses = false; parse = p.0; named = m.1; is = m.2; taken = p.1 }
+
+answers_flagged : (program name : Text) (asked : Job × Profile) → option_map (λ j. (j, profile_of true)) (job_named name) ≡ Some asked → Answers (program ∷ name ∷ flag ∷ []) asked
+answers_flagged program name asked e =
+    let m = map_some (job_named name) true asked e in
+    let p = parsed_flagged program name (one_of_three name m.0 m.1) in
+    record { name = name; job = m.0; refuses = true; parse = p.0; named = m.1; is = m.2; taken = p.1 }
+
+answers_third : (program name f : Text) (asked : Job × Profile) (b : Bool) → (b ≡ true → f ≡ flag) → cond b (option_map (λ j. (j, profile_of true)) (job_named name)) None ≡ Some asked → Answers (program ∷ name ∷ f ∷ []) asked
+answers_third program name f asked true is e = subst (λ (w : Text). Answers (program ∷ name ∷ w ∷ []) asked) (sym (is refl)) (answers_flagged program name asked e)
+answers_third program name f asked false is e = absurd cc
+
+pub answers : (words : List Text) (asked : Job × Profile) → asks words ≡ Some asked → Answers words asked
+answers [] asked e = absurd cc
+answers (program ∷ []) asked e = absurd cc
+answers (program ∷ name ∷ []) asked e = answers_alone program name asked e
+answers (program ∷ name ∷ f ∷ []) asked e = answers_third program name f asked (bytes_eq f flag) (bytes_eq-Decides f flag).0 e
+answers (program ∷ name ∷ f ∷ g ∷ words) asked e = absurd cc

@@ -7,3 +7,4 @@ pub mod Runs
 pub mod Lines
 pub mod Words
 pub mod Outcome
+pub mod Parsed

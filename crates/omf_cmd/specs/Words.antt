@@ -1,9 +1,25 @@
 -- What the words that the program is called with ask for (this profile's rule).
-use Rattle.std.specs.Prelude.{false}
+use Rattle.std.specs.Prelude.{◌≡◌, ◌⊎◌, ℕ, List, [], ◌∷◌, Bool, true, false, Option, Some, None, find, option_map, codes, if◌then◌else◌}
+use Rattle.std.specs.Str.{bytes_eq}
 use Rattle.omf_check.specs.declared.profile.Profile.{Profile}
 use Rattle.omf_cmd.specs.declared.words.Job.{Job}
-use Rattle.omf_cmd.specs.declared.words.Job.TheVariants.{Reloc}
+use Rattle.omf_cmd.specs.declared.words.Job.TheVariants as job
 
--- to relocate, under a profile that refuses no vendor's comments
-abbrev pub reloc_by_default : Job × Profile
-reloc_by_default = (Reloc, record { refuse_vendor_comments = false })
+-- The subcommands, and the flag that may follow one.
+abbrev pub subcommands : List (List ℕ × Job)
+subcommands = (codes "list", job.List) ∷ (codes "check", job.Check) ∷ (codes "reloc", job.Reloc) ∷ []
+
+abbrev pub job_named : List ℕ → Option Job
+job_named name = option_map (λ s. s.1) (find (λ s. bytes_eq name s.0) subcommands)
+
+abbrev pub flag : List ℕ
+flag = codes "--refuse-vendor-comments"
+
+abbrev pub profile_of : Bool → Profile
+profile_of refuses = record { refuse_vendor_comments = refuses }
+
+-- Behind the program's own name, a subcommand alone, or followed by the flag.
+abbrev pub asks : List (List ℕ) → Option (Job × Profile)
+asks (program ∷ name ∷ []) = option_map (λ j. (j, profile_of false)) (job_named name)
+asks (program ∷ name ∷ f ∷ []) = if bytes_eq f flag then option_map (λ j. (j, profile_of true)) (job_named name) else None
+asks _ = None

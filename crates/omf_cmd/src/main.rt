@@ -59,7 +59,7 @@ fn main(rt: HostRuntime) -> ExitCode {
         return ExitCode::from(3);
     };
     let status = match command(rt.alloc(), &words) {
-        Ok(Some((Job::Reloc, profile))) => status_of(reloc(&rt, profile)),
+        Ok(Some((_, profile))) => status_of(reloc(&rt, profile)),
         Ok(None) => 2,
         Err(_) => 3,
     };

@@ -1,29 +1,36 @@
 //! The words that the program is called with.
 
-ghost use Rattle.std.specs.Prelude.{◌≡◌, ℕ, List, [], ◌∷◌, map, codes, string_bytes, IfOk, OnSome};
-ghost use Rattle.omf_cmd.specs.Words.{reloc_by_default};
-ghost use Rattle.clap.specs.Words.{subcommand_name_of};
+ghost use Rattle.std.specs.Prelude.{◌≡◌, ℕ, List, map, string_bytes, IfOk, Bool, false, Some};
+ghost use Rattle.omf_cmd.specs.Words.{asks, job_named, profile_of};
+ghost use Rattle.clap.specs.Words.{rule_of, subcommand_rows_of};
+ghost use Rattle.omf_cmd.specs.Parsed.{flag_rule, IsParsed};
 
 use clap::error::ErrorKind;
-use clap::{ArgMatches, Command};
+use clap::{Arg, ArgAction, ArgMatches, Command};
 use omf_check::Profile;
 use std::alloc::{AllocError, Global};
 
 /// What the program is asked to do.
 #[derive(Clone, Copy, Debug, PartialEq, Eq)]
 pub enum Job {
+    /// Print the records and tables of a module.
+    List,
+    /// Check a module.
+    Check,
+    /// Relocate a module.
     Reloc,
 }
 
 /// The job that the words name, and its profile. None where they name none, or are not understood.
 pub fn command(alloc: Global, words: &[String]) -> Result<Option<(Job, Profile)>, AllocError>
-    // Behind the program's own name a subcommand is taken.
-    ensures reloc { (program : List ℕ) → map string_bytes words.now ≡ program ∷ codes "reloc" ∷ [] → IfOk result (λ found. found ≡ Some (reloc_by_default)) }
-    // No other job is answered, and the profile is the default.
-    ensures only { IfOk result (λ found. OnSome found (found ≡ Some (reloc_by_default))) }
+    // Behind the program's own name a subcommand is understood, alone or followed by the flag.
+    ensures { (asked : Job × Profile) → asks (map string_bytes words.now) ≡ Some asked → IfOk result (λ found. found ≡ Some asked) }
 {
-    let reloc = Command::new(alloc, "reloc");
-    let omf = Command::new(alloc, "omf").subcommand(reloc)?;
+    let list = Command::new(alloc, "list").arg(flag(alloc))?;
+    let check = Command::new(alloc, "check").arg(flag(alloc))?;
+    let reloc = Command::new(alloc, "reloc").arg(flag(alloc))?;
+    let omf = Command::new(alloc, "omf").subcommand(list)?;
+    let omf = omf.subcommand(check)?.subcommand(reloc)?;
     match omf.try_get_matches_from(words) {
         Ok(matches) => Ok(named_by(&matches)),
         Err(error) if error.kind() == ErrorKind::OutOfMemory => Err(AllocError),
@@ -31,16 +38,37 @@ pub fn command(alloc: Global, words: &[String]) -> Result<Option<(Job, Profile)>
     }
 }
 
-/// The job of the subcommand that was parsed.
-fn named_by(matches: &ArgMatches<'_>) -> Option<(Job, Profile)>
-    ensures reloc { subcommand_name_of matches.now ≡ Some (codes "reloc") → result ≡ Some (reloc_by_default) }
-    ensures only { OnSome result (result ≡ Some (reloc_by_default)) }
+/// The flag that refuses comments of the classes left to vendors.
+fn flag<'a>(alloc: Global) -> Arg<'a>
+    ensures rule { rule_of result ≡ flag_rule }
+    ensures own { result.global ≡ false }
 {
-    let profile = Profile {
-        refuse_vendor_comments: false,
-    };
-    match matches.subcommand() {
-        Some(("reloc", _)) => Some((Job::Reloc, profile)),
+    Arg::new(alloc, "refuse-vendor-comments")
+        .long("refuse-vendor-comments")
+        .action(ArgAction::SetTrue)
+}
+
+/// The job of a subcommand.
+fn job_named(name: &str) -> Option<Job>
+    ensures { result ≡ job_named name.now }
+{
+    match name {
+        "list" => Some(Job::List),
+        "check" => Some(Job::Check),
+        "reloc" => Some(Job::Reloc),
         _ => None,
     }
+}
+
+/// The job of the subcommand that was parsed, and the profile of its flag.
+fn named_by(matches: &ArgMatches<'_>) -> Option<(Job, Profile)>
+    ensures { (name : List ℕ) (job : Job) (refuses : Bool) → IsParsed (subcommand_rows_of matches.now) name refuses → job_named name ≡ Some job → result ≡ Some (record { 0 = job; 1 = profile_of refuses }) }
+{
+    let (name, inner) = matches.subcommand()?;
+    let job = job_named(name)?;
+    let refuse_vendor_comments = inner.get_flag("refuse-vendor-comments");
+    let profile = Profile {
+        refuse_vendor_comments,
+    };
+    Some((job, profile))
 }

@@ -1,19 +1,35 @@
-use Rattle.std.proofs.Common.{◌≡◌, rules, ap, ap₂, sym, ◌∙◌, string_bytes, map, codes, List, ◌∷◌, []}
-use Rattle.std.proofs.lemmas.Result.{IfErr-weaker, IfOk-weaker}
-use Rattle.clap.specs.Words.{App, app_of, Text, kind_of, is_simple, subcommand_of, takes, with_subcommand}
-use Rattle.omf_cmd.proofs.Parsed.{reloc_app, omf_app, name_in, names_of_rows, names_reloc, takes_reloc, is_simple_omf}
+use Rattle.std.proofs.Common.{◌≡◌, List, rules, ap, ap₂, sym, subst, ◌∙◌, map, string_bytes, codes, Some}
+use Rattle.clap.specs.Words.{App, Text, app_of, kind_of, is_simple, new_app, subcommand_of, subcommand_rows_of, takes, with_rule, with_subcommand}
+use Rattle.omf_cmd.specs.Parsed.{IsParsed, flag_rule, with_flag, omf_app}
+use Rattle.omf_cmd.proofs.Parsed.{answers, is_simple_omf}
 use Rattle.omf_cmd.proofs.words.command.Goals as goal
 
-pub returns-in-Ok-clause-reloc : goal.returns-in-Ok-clause-reloc
-returns-in-Ok-clause-reloc c program words_are =
-    let omf_is : app_of c.in_ok-omf.omf ≡ omf_app = c.in_ok-omf.ensures.shape (search rules) ∙ ap₂ with_subcommand c.new.ensures.app (ap (λ (a : App). a.top) c.new-reloc.ensures.app) in
+pub returns-in-Ok : goal.returns-in-Ok
+returns-in-Ok c asked e =
+    let words = map string_bytes c.args.words.now in
+    let a = answers words asked e in
+    let list_is : app_of c.in_ok-list.list ≡ with_flag (codes "list") = c.in_ok-list.ensures.shape (search rules) ∙ ap₂ with_rule c.new.ensures.app c.flag.ensures.rule in
+    let check_is : app_of c.in_ok-check.check ≡ with_flag (codes "check") = c.in_ok-check.ensures.shape (search rules) ∙ ap₂ with_rule c.new-2.ensures.app c.flag-2.ensures.rule in
+    let reloc_is : app_of c.in_ok-reloc.reloc ≡ with_flag (codes "reloc") = c.in_ok-reloc.ensures.shape (search rules) ∙ ap₂ with_rule c.new-3.ensures.app c.flag-3.ensures.rule in
+    let first = c.in_ok-omf.ensures.shape (search rules) ∙ ap₂ with_subcommand c.new-4.ensures.app (ap (λ (a : App). a.top) list_is) in
+    let second = c.in_ok-subcommand.ensures.shape (search rules) ∙ ap₂ with_subcommand first (ap (λ (a : App). a.top) check_is) in
+    let omf_is : app_of c.in_ok-omf-2.omf ≡ omf_app = c.in_ok-omf-2.ensures.shape (search rules) ∙ ap₂ with_subcommand second (ap (λ (a : App). a.top) reloc_is) in
     let h = c.in-Ok.ensures.matches (ap is_simple omf_is ∙ is_simple_omf) in
-    c.named_by.ensures.reloc (names_of_rows _ _ _ ∙ ap name_in h.1 ∙ ap₂ (λ (a : App) (w : List Text). name_in (subcommand_of a w)) omf_is words_are ∙ names_reloc program)
+    let rows : subcommand_rows_of c.in-Ok.matches ≡ subcommand_of omf_app words = h.1 ∙ ap (λ (b : App). subcommand_of b words) omf_is in
+    let parse = rw (← rows) at a.parse in
+    c.named_by.ensures a.name a.job a.refuses parse a.named ∙ a.is
 
-pub returns-in-Err-2-clause-reloc : goal.returns-in-Err-2-clause-reloc
-returns-in-Err-2-clause-reloc c program words_are =
-    let omf_is : app_of c.in_ok-omf.omf ≡ omf_app = c.in_ok-omf.ensures.shape (search rules) ∙ ap₂ with_subcommand c.new.ensures.app (ap (λ (a : App). a.top) c.new-reloc.ensures.app) in
-    let out = c.in-Err-2.ensures.passes (ap₂ takes omf_is words_are ∙ takes_reloc program) in
+pub returns-in-Err-2 : goal.returns-in-Err-2
+returns-in-Err-2 c asked e =
+    let words = map string_bytes c.args.words.now in
+    let a = answers words asked e in
+    let list_is : app_of c.in_ok-list.list ≡ with_flag (codes "list") = c.in_ok-list.ensures.shape (search rules) ∙ ap₂ with_rule c.new.ensures.app c.flag.ensures.rule in
+    let check_is : app_of c.in_ok-check.check ≡ with_flag (codes "check") = c.in_ok-check.ensures.shape (search rules) ∙ ap₂ with_rule c.new-2.ensures.app c.flag-2.ensures.rule in
+    let reloc_is : app_of c.in_ok-reloc.reloc ≡ with_flag (codes "reloc") = c.in_ok-reloc.ensures.shape (search rules) ∙ ap₂ with_rule c.new-3.ensures.app c.flag-3.ensures.rule in
+    let first = c.in_ok-omf.ensures.shape (search rules) ∙ ap₂ with_subcommand c.new-4.ensures.app (ap (λ (a : App). a.top) list_is) in
+    let second = c.in_ok-subcommand.ensures.shape (search rules) ∙ ap₂ with_subcommand first (ap (λ (a : App). a.top) check_is) in
+    let omf_is : app_of c.in_ok-omf-2.omf ≡ omf_app = c.in_ok-omf-2.ensures.shape (search rules) ∙ ap₂ with_subcommand second (ap (λ (a : App). a.top) reloc_is) in
+    let out = c.in-Err-2.ensures.passes (ap (λ (b : App). takes b words) omf_is ∙ a.taken) in
     let is = c.in-Err.is in
     let is_too = c.in-Err-2.is in
     let same : c.in-Err.error ≡ c.in-Err-2.field-0 = cc in

@@ -1,0 +1,27 @@
+-- What clap makes of the words of the program, in clap's words.
+use Rattle.std.specs.Prelude.{◌≡◌, ℕ, List, [], ◌∷◌, Bool, true, false, Option, Some, None, option_map, option_and_then, codes}
+use Rattle.clap.specs.Words.{App, Row, Rule, Text, new_app, new_rule, one_of, with_rule, with_subcommand}
+use Rattle.clap.specs.declared.builder.ArgAction.TheVariants.{SetTrue}
+
+abbrev pub flag_id : Text
+flag_id = codes "refuse-vendor-comments"
+
+abbrev pub flag_rule : Rule
+flag_rule = record (new_rule flag_id) { long = Some flag_id; action = Some SetTrue }
+
+-- a subcommand with the flag, and the program's command
+abbrev pub with_flag : Text → App
+with_flag name = with_rule (new_app name) flag_rule
+
+abbrev pub omf_app : App
+omf_app = with_subcommand (with_subcommand (with_subcommand (new_app (codes "omf")) (with_flag (codes "list")).top) (with_flag (codes "check")).top) (with_flag (codes "reloc")).top
+
+-- the value of the flag, as text
+abbrev pub flag_text : Bool → Text
+flag_text true = codes "true"
+flag_text false = codes "false"
+
+-- a subcommand of this name was parsed, and whether its flag is set
+pub record IsParsed (parse : Option (Text × List Row)) (name : Text) (refuses : Bool) : Type 0 where
+  pub named : option_map (λ p. p.0) parse ≡ Some name
+  pub set : option_and_then (λ p. one_of flag_id p.1) parse ≡ Some (flag_text refuses)
