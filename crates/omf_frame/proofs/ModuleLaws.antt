@@ -1,5 +1,5 @@
 -- Runs over whole inputs, and modules.
-use Rattle.std.proofs.Common.{◌≡◌, ◌⊎◌, inl, inr, ℕ, zero, suc, ◌+◌, ◌*◌, ◌-◌, ◌/◌, ◌%◌, ◌<◌, ◌≤◌, Bool, true, false, cond, not, ◌&&◌, ◌||◌, is_none, is_some, get_or, Option, Some, None, List, [], ◌∷◌, ◌++◌, length, sum, refl, sym, ap, subst, ◌∙◌, append_assoc, arith}
+use Rattle.std.proofs.Common.{◌≡◌, ◌⊎◌, inl, inr, ℕ, zero, suc, ◌+◌, ◌*◌, ◌-◌, ◌/◌, ◌%◌, ◌<◌, ◌≤◌, Bool, true, false, cond, not, ◌||◌, is_some, get_or, Option, Some, None, List, [], ◌∷◌, ◌++◌, length, sum, refl, sym, ap, subst, ◌∙◌, append_assoc, arith}
 use Rattle.std.specs.Prelude.{◌==◌, nat_le, slice_index, All, IsTrue, flat_map}
 use Rattle.std.proofs.lemmas.List.{append-nil, length-append, get_or_append_left, get_or-append_right, append_cancel_left}
 use Rattle.std.proofs.lemmas.List.Elements.{All-append}
@@ -7,10 +7,10 @@ use Rattle.std.proofs.lemmas.Grind.{flat_map-append}
 use Rattle.std.proofs.lemmas.Bool.Decides.{leb_tells}
 use Rattle.omf_frame.specs.declared.fault.FrameFault.{FrameFault}
 use Rattle.omf_frame.specs.Bytes.{AreBytes}
-use Rattle.omf_frame.specs.Fault.{Fault, least, first_step}
+use Rattle.omf_frame.specs.Fault.{Fault}
 use Rattle.omf_frame.specs.Framing.{Raw, IsRecord, IsFramed, raw_bytes, present, is_whole, is_end, is_header, is_taken, is_unsupported, front_record, frame_fault, standing_fault}
 use Rattle.omf_frame.specs.Judging.{record_len}
-use Rattle.omf_frame.specs.Framer.{Held, open_at, refused, stands, passed}
+use Rattle.omf_frame.specs.Framer.{Held, open_at, refused, passed}
 use Rattle.omf_frame.specs.Runs.{Run, before_all, run_over, settled, judged, with_byte, AreSound, HasNoEnd, GoesOn, IsStopped, HasEnded, IsFramingOf}
 use Rattle.omf_frame.proofs.Growing.{is_short}
 use Rattle.omf_frame.proofs.FaultLaws.{all_cons, untrue}
@@ -18,7 +18,7 @@ use Rattle.omf_frame.proofs.FramingLaws.{present_raw, front_raw, present-append}
 use Rattle.omf_frame.proofs.Judged.{clean_tests}
 use Rattle.omf_frame.proofs.Records.{record_at}
 use Rattle.omf_frame.proofs.Standing.{present_one, standing_stays, present_twice}
-use Rattle.omf_frame.proofs.RunLaws.{going, stopped, one_more, not_settled, settled_part, kept_settled, kept_byte, held_is}
+use Rattle.omf_frame.proofs.RunLaws.{going, one_more, not_settled, settled_part, kept_settled, kept_byte, held_is}
 
 -- the first of a list, and the others
 pub all_first : {A : Type 0} (P : A → Type 0) (x : A) (xs : List A) → All P (x ∷ xs) → P x

@@ -1,14 +1,14 @@
 -- What a feed does to the state, and what its bytes do one after another, is the same.
-use Rattle.std.proofs.Common.{◌≡◌, ◌⊎◌, inl, inr, ℕ, ◌+◌, ◌≤◌, Bool, true, false, cond, ◌&&◌, ◌||◌, is_none, is_some, Option, Some, None, List, [], ◌∷◌, ◌++◌, length, take, refl, sym, ap, subst, ◌∙◌, append_assoc, arith}
+use Rattle.std.proofs.Common.{◌≡◌, ◌⊎◌, inl, inr, ℕ, Bool, true, false, cond, ◌&&◌, ◌||◌, is_none, is_some, Option, Some, None, List, [], ◌∷◌, ◌++◌, take, refl, sym, ap, subst, ◌∙◌, append_assoc}
 use Rattle.std.specs.Prelude.{◌==◌, option_map, flat_map}
-use Rattle.std.proofs.lemmas.List.{append-nil, length-append}
+use Rattle.std.proofs.lemmas.List.{append-nil}
 use Rattle.omf_frame.specs.declared.fault.Reason.{Reason}
 use Rattle.omf_frame.specs.declared.fault.Place.{Place}
 use Rattle.omf_frame.specs.declared.fault.FrameFault.{FrameFault}
 use Rattle.omf_frame.specs.declared.fault.FrameFault.TheVariants.{Refused}
 use Rattle.omf_frame.specs.Fault.{Fault}
 use Rattle.omf_frame.specs.Framing.{Raw, present, is_whole, front_record, standing_fault}
-use Rattle.omf_frame.specs.Framer.{Held, open_at, next_bytes, refused, stands, passed, Takes, FailsAs, IsCause}
+use Rattle.omf_frame.specs.Framer.{Held, open_at, next_bytes, refused, passed, Takes, FailsAs, IsCause}
 use Rattle.omf_frame.specs.Runs.{Run, run_over, settled, judged, with_byte, IsFed, IsOpen}
 use Rattle.omf_frame.proofs.Standing.{present_one, present_part, whole_nothing_more, whole_present, standing_stays, sound_front, present_twice}
 

@@ -1,14 +1,13 @@
 -- What more bytes do to the record at hand and to its fault.
-use Rattle.std.proofs.Common.{◌≡◌, ℕ, zero, suc, ◌+◌, ◌*◌, ◌-◌, ◌<◌, ◌≤◌, Bool, true, false, Option, Some, None, List, [], ◌∷◌, ◌++◌, length, take, refl, sym, ap, ◌∙◌, arith}
-use Rattle.std.specs.Prelude.{nat_le, option_map}
+use Rattle.std.proofs.Common.{◌≡◌, ℕ, zero, suc, ◌+◌, ◌*◌, ◌≤◌, Bool, true, false, Option, Some, None, List, [], ◌∷◌, ◌++◌, length, take, refl, sym, ap, ◌∙◌, arith}
+use Rattle.std.specs.Prelude.{option_map}
 use Rattle.std.specs.Option.{option_or}
 use borrow.Author.Tests.{leb-true, leb-false}
-use Rattle.std.proofs.lemmas.Bool.{le-leb}
 use Rattle.std.proofs.lemmas.List.{length-append, length-take, take_at, take_all, append-nil}
 use Rattle.omf_frame.specs.declared.fault.Reason.{Reason}
 use Rattle.omf_frame.specs.Fault.{Fault}
 use Rattle.omf_frame.specs.Framing.{present, is_whole, standing_fault}
-use Rattle.omf_frame.specs.Judging.{found, type_fault, whole_fault, fault_of}
+use Rattle.omf_frame.specs.Judging.{found, type_fault, whole_fault}
 use Rattle.omf_frame.proofs.Judged.{standing_is}
 use Rattle.omf_frame.proofs.Growing.{type_same}
 use Rattle.omf_frame.proofs.FramingLaws.{present-append}

@@ -1,5 +1,5 @@
 -- A record's bytes have no fault of framing exactly where they are a record of a known type, a header first.
-use Rattle.std.proofs.Common.{◌≡◌, ℕ, zero, suc, ◌+◌, ◌*◌, ◌-◌, ◌/◌, ◌%◌, ◌<◌, ◌≤◌, List, [], ◌∷◌, ◌++◌, refl, sym, ◌∙◌, ap, subst, length, arith, Bool, true, false, inl, inr, take, length-drop, Option, Some, None}
+use Rattle.std.proofs.Common.{◌≡◌, ℕ, zero, suc, ◌+◌, ◌*◌, ◌-◌, ◌/◌, ◌%◌, ◌<◌, ◌≤◌, List, [], ◌∷◌, ◌++◌, refl, sym, ◌∙◌, ap, subst, length, arith, Bool, true, false, inl, inr, take, length-drop, Some, None}
 use Rattle.std.specs.Prelude.{IsTrue, not, ◌||◌, ◌&&◌, ◌==◌, ◌⊎◌, slice_index, sum}
 use Rattle.std.proofs.lemmas.Bool.{leb-true, le-leb, eqb-true, eq-eqb}
 use Rattle.std.proofs.lemmas.List.{length-take, take-append-drop}
@@ -7,7 +7,7 @@ use Rattle.omf_frame.specs.declared.fault.Reason.{Reason}
 use Rattle.omf_frame.specs.declared.fault.Reason.TheVariants as reason
 use Rattle.omf_frame.specs.Bytes.{AreBytes, is_one_of}
 use Rattle.omf_frame.specs.Fault.{Fault, least, first_step, broken, rule}
-use Rattle.omf_frame.specs.Framing.{Raw, raw_bytes, IsRecord, is_read, is_carried, is_taken, is_unsupported, is_header, is_nonempty, is_whole, stated_length, front_record, frame_steps, frame_fault, present, after_front, HasFront}
+use Rattle.omf_frame.specs.Framing.{Raw, raw_bytes, IsRecord, is_read, is_carried, is_taken, is_unsupported, is_header, is_nonempty, is_whole, stated_length, front_record, frame_steps, frame_fault, present, HasFront}
 use Rattle.omf_frame.proofs.FaultLaws.{untrue}
 use Rattle.omf_frame.proofs.FramingLaws.{stated, size, checksum_raw, raw_front, body_length}
 

@@ -21,3 +21,6 @@ pub use laws::{
 };
 pub use sums::checksum;
 pub use write::write_record;
+
+#[cfg(test)]
+mod tests;

@@ -1,4 +1,4 @@
-use Rattle.std.proofs.Common.{◌≡◌, ◌∙◌, sym, ap}
+use Rattle.std.proofs.Common.{◌∙◌, sym, ap}
 use Rattle.omf_frame.specs.Framing.{present, standing_fault}
 use Rattle.omf_frame.proofs.FramingLaws.{present-append}
 use Rattle.omf_frame.proofs.Standing.{standing_stays, present_twice}

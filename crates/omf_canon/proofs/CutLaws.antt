@@ -1,0 +1,192 @@
+-- A cut is greedy, and there is one greedy cut.
+use Rattle.std.proofs.Common.{◌≡◌, ℕ, ◌+◌, ◌<◌, ◌≤◌, List, [], ◌∷◌, ◌++◌, refl, sym, ◌∙◌, ap, subst, Bool, true, false, cond, length, arith, length-append, append_assoc, append-nil, true≢false}
+use Rattle.std.specs.Prelude.{flat_map, All, nat_le, nat_lt, ◌==◌, ⊤}
+use Rattle.std.proofs.lemmas.Bool.{leb-true, leb-false, le-leb, lt-leb, false≢true}
+use Rattle.std.proofs.lemmas.List.Elements.{All-nil, All-cons, All-head, All-tail}
+use Rattle.std.proofs.lemmas.List.Sums.{sum_by-append}
+use Rattle.byteorder.specs.Numbers.{length-bytes_low_first}
+use Rattle.byteorder.specs.Endian.{little_bytes}
+use Rattle.omf_frame.specs.Fields.{index_bytes}
+use Rattle.omf_records.specs.Values.{is_wide, width}
+use Rattle.omf_check.specs.Threads.{FrameMethod, F0, F1, F2, F4, F5, TargetMethod, T0, T1, T2}
+use Rattle.omf_reloc.specs.Plain.{PlainFixup}
+use Rattle.omf_canon.specs.Cut.{IsGreedyCut, body_limit, fixups_size, cut, cut_from}
+use Rattle.omf_canon.specs.PlainBytes.{frame_datum, target_datum, fixup_bytes}
+
+-- A fixup has 11 bytes at most.
+cond-le : {A : Type 0} (n : ℕ) (b : Bool) (xs ys : List A) → length xs ≤ n → length ys ≤ n → length (cond b xs ys) ≤ n
+cond-le n true xs ys h k = h
+cond-le n false xs ys h k = k
+
+length-index_bytes : (i : ℕ) → length (index_bytes i) ≤ 2
+length-index_bytes i = cond-le 2 (nat_lt i 128) _ _ (omega arith) (omega arith)
+
+length-frame_datum : (m : FrameMethod) → length (frame_datum m) ≤ 2
+length-frame_datum (F0 i) = length-index_bytes i
+length-frame_datum (F1 i) = length-index_bytes i
+length-frame_datum (F2 i) = length-index_bytes i
+length-frame_datum F4 = omega arith
+length-frame_datum F5 = omega arith
+
+length-target_datum : (m : TargetMethod) → length (target_datum m) ≤ 2
+length-target_datum (T0 i) = length-index_bytes i
+length-target_datum (T1 i) = length-index_bytes i
+length-target_datum (T2 i) = length-index_bytes i
+
+width-cases : (b : Bool) → cond b 4 2 ≤ 4
+width-cases true = omega arith
+width-cases false = omega arith
+
+length-displacement : (short : Bool) (kind d : ℕ) → length (cond short [] (little_bytes (width kind) d)) ≤ 4
+length-displacement true kind d = omega arith
+length-displacement false kind d = omega (arith, length-bytes_low_first 0 (width kind) d, width-cases (is_wide kind))
+
+pub length-fixup_bytes : (kind : ℕ) (f : PlainFixup) → length (fixup_bytes kind f) ≤ 11
+length-fixup_bytes kind f =
+    let r = f.reference in
+    let short = r.displacement == 0 in
+    let tail = cond short [] (little_bytes (width kind) r.displacement) in
+    omega (
+      arith,
+      length-frame_datum r.frame,
+      length-target_datum r.target,
+      length-displacement short kind r.displacement,
+      length-append (frame_datum r.frame ++ target_datum r.target) tail,
+      length-append (frame_datum r.frame) (target_datum r.target),
+    )
+
+abbrev Groups : Type 0
+Groups = List (List PlainFixup)
+
+abbrev all_of : Groups → List PlainFixup
+all_of gs = flat_map (λ g. g) gs
+
+by_test : (P : Groups → Type 0) (b : Bool) (x y : Groups) → (b ≡ true → P x) → (b ≡ false → P y) → P (cond b x y)
+by_test P true x y taken other = taken refl
+by_test P false x y taken other = other refl
+
+module _ (kind : ℕ) where
+  abbrev size : List PlainFixup → ℕ
+  size fs = fixups_size kind fs
+
+  size-append : (fs gs : List PlainFixup) → size (fs ++ gs) ≡ size fs + size gs
+  size-append fs gs = sum_by-append (λ f. length (fixup_bytes kind f)) fs gs
+
+  size-one : (f : PlainFixup) → size (f ∷ []) ≤ body_limit
+  size-one f = omega (arith, length-fixup_bytes kind f)
+
+  -- The groups are the fixups in their order.
+  whole-cut_from : (g fs : List PlainFixup) → g ++ fs ≡ all_of (cut_from kind g fs)
+  whole-cut_from g [] = refl
+  whole-cut_from g (f ∷ fs) = by_test (λ gs. g ++ f ∷ fs ≡ all_of gs) (nat_le (size (g ++ f ∷ [])) body_limit) _ _
+      (λ e. sym (append_assoc g (f ∷ []) fs) ∙ whole-cut_from (g ++ f ∷ []) fs)
+      (λ e. ap (λ t. g ++ t) (whole-cut_from (f ∷ []) fs))
+
+  -- None is empty.
+  full-cut_from : (g fs : List PlainFixup) → 0 < length g → All (λ h. 0 < length h) (cut_from kind g fs)
+  full-cut_from g [] h = All-cons (λ k. 0 < length k) g [] h (All-nil (λ k. 0 < length k))
+  full-cut_from g (f ∷ fs) h = by_test (λ gs. All (λ k. 0 < length k) gs) (nat_le (size (g ++ f ∷ [])) body_limit) _ _
+      (λ e. full-cut_from (g ++ f ∷ []) fs (omega (arith, length-append g (f ∷ []))))
+      (λ e. All-cons (λ k. 0 < length k) g (cut_from kind (f ∷ []) fs) h (full-cut_from (f ∷ []) fs (omega arith)))
+
+  -- Each fits.
+  fits-cut_from : (g fs : List PlainFixup) → size g ≤ body_limit → All (λ h. size h ≤ body_limit) (cut_from kind g fs)
+  fits-cut_from g [] h = All-cons (λ k. size k ≤ body_limit) g [] h (All-nil (λ k. size k ≤ body_limit))
+  fits-cut_from g (f ∷ fs) h = by_test (λ gs. All (λ k. size k ≤ body_limit) gs) (nat_le (size (g ++ f ∷ [])) body_limit) _ _
+      (λ e. fits-cut_from (g ++ f ∷ []) fs (leb-true (size (g ++ f ∷ [])) body_limit e))
+      (λ e. All-cons (λ k. size k ≤ body_limit) g (cut_from kind (f ∷ []) fs) h (fits-cut_from (f ∷ []) fs (size-one f)))
+
+  -- Each would not with the first fixup of the next.
+  abbrev Next : List PlainFixup → Groups → Type 0
+  Next g [] = ⊤
+  Next g ([] ∷ gs) = ⊤
+  Next g ((f ∷ fs) ∷ gs) = body_limit < size (g ++ f ∷ [])
+
+  abbrev Greedy : Groups → Type 0
+  Greedy [] = ⊤
+  Greedy (g ∷ gs) = Next g gs × Greedy gs
+
+  next-cut_from : (g : List PlainFixup) (f : PlainFixup) (hs fs : List PlainFixup) → body_limit < size (g ++ f ∷ []) → Next g (cut_from kind (f ∷ hs) fs)
+  next-cut_from g f hs [] h = h
+  next-cut_from g f hs (k ∷ fs) h = by_test (λ gs. Next g gs) (nat_le (size (f ∷ hs ++ k ∷ [])) body_limit) _ _
+      (λ e. next-cut_from g f (hs ++ k ∷ []) fs h)
+      (λ e. h)
+
+  greedy-cut_from : (g fs : List PlainFixup) → Greedy (cut_from kind g fs)
+  greedy-cut_from g [] = (tt, tt)
+  greedy-cut_from g (f ∷ fs) = by_test Greedy (nat_le (size (g ++ f ∷ [])) body_limit) _ _
+      (λ e. greedy-cut_from (g ++ f ∷ []) fs)
+      (λ e. (next-cut_from g f [] fs (leb-false (size (g ++ f ∷ [])) body_limit e), greedy-cut_from (f ∷ []) fs))
+
+  -- the second in the words of the definition
+  tail-greedy : (front : Groups) (gs : Groups) → Greedy (front ++ gs) → Greedy gs
+  tail-greedy [] gs h = h
+  tail-greedy (k ∷ front) gs h = tail-greedy front gs h.1
+
+  is-greedy : (groups : Groups) → Greedy groups → (front back : Groups) (g fs : List PlainFixup) (f : PlainFixup)
+      → groups ≡ front ++ g ∷ (f ∷ fs) ∷ back → body_limit < size (g ++ f ∷ [])
+  is-greedy groups h front back g fs f e = (tail-greedy front (g ∷ (f ∷ fs) ∷ back) (subst Greedy e h)).0
+
+  pub cut-greedy : (fixups : List PlainFixup) → IsGreedyCut kind fixups (cut kind fixups)
+  cut-greedy [] = record { whole = refl; full = All-nil (λ k. 0 < length k); fits = All-nil (λ k. size k ≤ body_limit); greedy = is-greedy [] tt }
+  cut-greedy (f ∷ fs) = record {
+    whole = whole-cut_from (f ∷ []) fs;
+    full = full-cut_from (f ∷ []) fs (omega arith);
+    fits = fits-cut_from (f ∷ []) fs (size-one f);
+    greedy = is-greedy (cut_from kind (f ∷ []) fs) (greedy-cut_from (f ∷ []) fs);
+  }
+
+  -- A greedy cut has no choice.
+  abbrev Fits : Groups → Type 0
+  Fits gs = All (λ h. size h ≤ body_limit) gs
+
+  abbrev Full : Groups → Type 0
+  Full gs = All (λ h. 0 < length h) gs
+
+  if-true : {A : Type 0} (b : Bool) (x y : A) → b ≡ true → cond b x y ≡ x
+  if-true true x y e = refl
+  if-true false x y e = absurd (false≢true e)
+
+  if-false : {A : Type 0} (b : Bool) (x y : A) → b ≡ false → cond b x y ≡ y
+  if-false true x y e = absurd (true≢false e)
+  if-false false x y e = refl
+
+  close-group : (g : List PlainFixup) (gs : Groups) → gs ≡ cut kind (all_of gs) → Full gs → Next g gs → g ∷ gs ≡ cut_from kind g (all_of gs)
+  close-group g [] ih full next = refl
+  close-group g ([] ∷ gs) ih full next = absurd (omega (arith, All-head (λ h. 0 < length h) [] gs full))
+  close-group g ((f ∷ fs) ∷ gs) ih full next =
+      ap (λ t. g ∷ t) ih
+      ∙ sym (if-false (nat_le (size (g ++ f ∷ [])) body_limit) (cut_from kind (g ++ f ∷ []) (fs ++ all_of gs)) (g ∷ cut_from kind (f ∷ []) (fs ++ all_of gs)) (lt-leb (size (g ++ f ∷ [])) body_limit next))
+
+  grow-group : (g ks : List PlainFixup) (gs : Groups) → gs ≡ cut kind (all_of gs) → Full gs → size (g ++ ks) ≤ body_limit → Next (g ++ ks) gs
+      → (g ++ ks) ∷ gs ≡ cut_from kind g (ks ++ all_of gs)
+  grow-group g [] gs ih full fit next = ap (λ l. l ∷ gs) (append-nil g) ∙ close-group g gs ih full (subst (λ l. Next l gs) (append-nil g) next)
+  grow-group g (k ∷ ks) gs ih full fit next =
+      let e : g ++ k ∷ ks ≡ (g ++ k ∷ []) ++ ks = sym (append_assoc g (k ∷ []) ks) in
+      let t : nat_le (size (g ++ k ∷ [])) body_limit ≡ true = le-leb (size (g ++ k ∷ [])) body_limit
+      (omega (arith, fit, size-append g (k ∷ ks), size-append g (k ∷ []), size-append (k ∷ []) ks)) in
+      ap (λ l. l ∷ gs) e
+      ∙ grow-group (g ++ k ∷ []) ks gs ih full (subst (λ l. size l ≤ body_limit) e fit) (subst (λ l. Next l gs) e next)
+      ∙ sym (if-true (nat_le (size (g ++ k ∷ [])) body_limit) (cut_from kind (g ++ k ∷ []) (ks ++ all_of gs)) (g ∷ cut_from kind (k ∷ []) (ks ++ all_of gs)) t)
+
+  one-cut : (gs : Groups) → Full gs → Fits gs → Greedy gs → gs ≡ cut kind (all_of gs)
+  one-cut [] full fits greedy = refl
+  one-cut ([] ∷ gs) full fits greedy = absurd (omega (arith, All-head (λ h. 0 < length h) [] gs full))
+  one-cut ((f ∷ fs) ∷ gs) full fits greedy =
+      let ih = one-cut gs (All-tail (λ h. 0 < length h) (f ∷ fs) gs full) (All-tail (λ h. size h ≤ body_limit) (f ∷ fs) gs fits) greedy.1 in
+      grow-group (f ∷ []) fs gs ih (All-tail (λ h. 0 < length h) (f ∷ fs) gs full) (All-head (λ h. size h ≤ body_limit) (f ∷ fs) gs fits) greedy.0
+
+  abbrev AreGreedy : Groups → Type 0
+  AreGreedy groups = (front back : Groups) (g fs : List PlainFixup) (f : PlainFixup) → groups ≡ front ++ g ∷ (f ∷ fs) ∷ back → body_limit < size (g ++ f ∷ [])
+
+  next-from : (g : List PlainFixup) (gs : Groups) → AreGreedy (g ∷ gs) → Next g gs
+  next-from g [] h = tt
+  next-from g ([] ∷ gs) h = tt
+  next-from g ((f ∷ fs) ∷ gs) h = h [] gs g fs f refl
+
+  greedy-from : (gs : Groups) → AreGreedy gs → Greedy gs
+  greedy-from [] h = tt
+  greedy-from (g ∷ gs) h = (next-from g gs h, greedy-from gs (λ front back k fs f e. h (g ∷ front) back k fs f (ap (λ t. g ∷ t) e)))
+
+  pub greedy-cut : (fixups : List PlainFixup) (groups : Groups) → IsGreedyCut kind fixups groups → groups ≡ cut kind fixups
+  greedy-cut fixups groups c = one-cut groups c.full c.fits (greedy-from groups c.greedy) ∙ ap (cut kind) (sym c.whole)

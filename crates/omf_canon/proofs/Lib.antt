@@ -1,0 +1,3 @@
+pub mod SkeletonLaws
+pub mod CutLaws
+pub mod ReachLaws

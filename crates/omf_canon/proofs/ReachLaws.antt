@@ -1,0 +1,204 @@
+-- Modules of equal skeletons are answered alike by reach, but for where a reference stands that does not.
+use Rattle.std.proofs.Common.{◌≡◌, ℕ, ◌+◌, ◌≤◌, List, [], ◌∷◌, ◌++◌, refl, sym, ◌∙◌, ap, ap₂, Bool, true, false, cond, length, arith, length-append}
+use Rattle.std.specs.Prelude.{map, flat_map, filter_map, zip, slice_get, option_map, option_to_list, Option, Some, None, ◌==◌}
+use Rattle.std.specs.List.{enumerate_from, cons_option}
+use Rattle.std.proofs.lemmas.List.{length-map, map-append}
+use Rattle.std.proofs.lemmas.Option.{slice_get-map}
+use Rattle.omf_frame.specs.Bytes.{with_before, up_to}
+use Rattle.omf_records.specs.Values.{At, Rec, Contents, Segment, Group, Externs, Communals, Plain, Iterated, Fixups, ModEnd, Subrecord, Thread, Fixup}
+use Rattle.omf_check.specs.Tables.{segments, groups, externals, subrecords, defined_segments, defined_groups, defined_externals}
+use Rattle.omf_check.specs.declared.segment.SegInfo.{SegInfo}
+use Rattle.omf_reloc.specs.declared.fault.Cause.{Cause}
+use Rattle.omf_reloc.specs.declared.fault.ReachFault.{ReachFault}
+use Rattle.omf_reloc.specs.declared.fault.ReachFault.TheVariants as fault
+use Rattle.omf_reloc.specs.Plain.{Piece, Kept, Fixed, End, PlainFixup, piece_of, pieces, plain_fixup, plain_fixups, fixups_of_data, fixups_in, is_data, is_data_contents}
+use Rattle.omf_reloc.specs.Placement.{Places}
+use Rattle.omf_check.specs.Threads.{PlainReference}
+use Rattle.omf_reloc.specs.Offsets.{cause_of, outcome}
+use Rattle.omf_reloc.specs.Reach.{misfits_of, causes, causes_at, piece_causes, data_contents, fixup_place, reference_places, all_reference_places, far_fault, misfits, far_faults, reach_faults}
+use Rattle.omf_canon.specs.Laws.{placeless, reach_answer}
+use Rattle.omf_canon.specs.Skeleton.{skeleton, skeleton_of, join_front}
+use Rattle.omf_canon.proofs.SkeletonLaws.{cause-skeleton}
+
+-- Tables as they are seen in the pieces.
+abbrev piece_at : List Rec → Rec → List Piece
+piece_at before r = piece_of (subrecords before) r.kind r.contents ∷ []
+
+from-pieces : {A : Type 0} (f : Rec → List A) (g : Piece → List A) → ((earlier : List Subrecord) (r : Rec) → f r ≡ g (piece_of earlier r.kind r.contents))
+    → (before m : List Rec) → flat_map f m ≡ flat_map g (with_before piece_at before m)
+from-pieces f g same before [] = refl
+from-pieces f g same before (r ∷ m) = ap₂ (λ x y. x ++ y) (same (subrecords before) r) (from-pieces f g same (before ++ r ∷ []) m)
+
+-- A table that FIXUPPs have no part in is that of the skeleton.
+module _ {A : Type 0} (g : Piece → List A) (none : (kind : ℕ) (fs : List PlainFixup) → g (Fixed kind fs) ≡ []) where
+  drop-fixed : (kind : ℕ) (fs : List PlainFixup) (ps : List Piece) → flat_map g (Fixed kind fs ∷ ps) ≡ flat_map g ps
+  drop-fixed kind fs ps = ap (λ x. x ++ flat_map g ps) (none kind fs)
+
+  table_two : (b : Bool) (kind other : ℕ) (fs gs : List PlainFixup) (ps : List Piece)
+      → flat_map g (cond b (Fixed kind (fs ++ gs) ∷ ps) (Fixed kind fs ∷ Fixed other gs ∷ ps)) ≡ flat_map g ps
+  table_two true kind other fs gs ps = drop-fixed kind (fs ++ gs) ps
+  table_two false kind other fs gs ps = drop-fixed kind fs (Fixed other gs ∷ ps) ∙ drop-fixed other gs ps
+
+  table-join_front : (kind : ℕ) (fs : List PlainFixup) (ps : List Piece) → flat_map g (join_front (Fixed kind fs) ps) ≡ flat_map g ps
+  table-join_front kind fs [] = drop-fixed kind fs []
+  table-join_front kind fs (Kept r ∷ ps) = drop-fixed kind fs (Kept r ∷ ps)
+  table-join_front kind fs (End other byte s ∷ ps) = drop-fixed kind fs (End other byte s ∷ ps)
+  table-join_front kind fs (Fixed other gs ∷ ps) = table_two (kind == other) kind other fs gs ps ∙ sym (drop-fixed other gs ps)
+
+  table-skeleton : (ps : List Piece) → flat_map g (skeleton_of ps) ≡ flat_map g ps
+  table-skeleton [] = refl
+  table-skeleton (Kept r ∷ ps) = ap (λ t. g (Kept r) ++ t) (table-skeleton ps)
+  table-skeleton (Fixed kind [] ∷ ps) = table-skeleton ps ∙ sym (drop-fixed kind [] ps)
+  table-skeleton (Fixed kind (f ∷ fs) ∷ ps) = table-join_front kind (f ∷ fs) (skeleton_of ps) ∙ table-skeleton ps ∙ sym (drop-fixed kind (f ∷ fs) ps)
+  table-skeleton (End kind byte s ∷ ps) = ap (λ t. g (End kind byte s) ++ t) (table-skeleton ps)
+
+  -- So it is the same for modules of equal skeletons.
+  same-table : (f : Rec → List A) → ((earlier : List Subrecord) (r : Rec) → f r ≡ g (piece_of earlier r.kind r.contents)) → (m n : List Rec) → skeleton m ≡ skeleton n → flat_map f m ≡ flat_map f n
+  same-table f same m n h = from-pieces f g same [] m ∙ sym (table-skeleton (pieces m)) ∙ ap (flat_map g) h ∙ table-skeleton (pieces n) ∙ sym (from-pieces f g same [] n)
+
+abbrev piece_segments : Piece → List SegInfo
+piece_segments (Kept r) = defined_segments r.kind r.contents
+piece_segments _ = []
+
+segments-piece : (earlier : List Subrecord) (kind : ℕ) (c : Contents) → defined_segments kind c ≡ piece_segments (piece_of earlier kind c)
+segments-piece earlier kind (Segment s) = refl
+segments-piece earlier kind _ = refl
+
+same-segments : (m n : List Rec) → skeleton m ≡ skeleton n → segments m ≡ segments n
+same-segments m n h = same-table piece_segments (λ kind fs. refl) (λ r. defined_segments r.kind r.contents) (λ earlier r. segments-piece earlier r.kind r.contents) m n h
+
+-- Of the other tables the number of entries counts: a mark for each.
+abbrev marks : {A : Type 0} → List A → List ℕ
+marks xs = map (λ x. 0) xs
+
+length-marks : {A : Type 0} (f : Rec → List A) (m : List Rec) → length (flat_map f m) ≡ length (flat_map (λ r. marks (f r)) m)
+length-marks f [] = refl
+length-marks f (r ∷ m) = omega (arith, length-append (f r) (flat_map f m), length-append (marks (f r)) (flat_map (λ s. marks (f s)) m), length-map {B = ℕ} (f r) (λ x. 0), length-marks f m)
+
+map-map : {A B C : Type 0} (f : B → C) (g : A → B) (xs : List A) → map f (map g xs) ≡ map (λ x. f (g x)) xs
+map-map f g [] = refl
+map-map f g (x ∷ xs) = ap (λ t. f (g x) ∷ t) (map-map f g xs)
+
+abbrev piece_groups : Piece → List ℕ
+piece_groups (Kept r) = marks (defined_groups r.contents)
+piece_groups _ = []
+
+groups-piece : (earlier : List Subrecord) (kind : ℕ) (c : Contents) → marks (defined_groups c) ≡ piece_groups (piece_of earlier kind c)
+groups-piece earlier kind (Group g) = refl
+groups-piece earlier kind _ = refl
+
+abbrev piece_externals : Piece → List ℕ
+piece_externals (Kept r) = marks (defined_externals r.contents)
+piece_externals _ = []
+
+externals-piece : (earlier : List Subrecord) (kind : ℕ) (c : Contents) → marks (defined_externals c) ≡ piece_externals (piece_of earlier kind c)
+externals-piece earlier kind (Externs items) = map-map (λ x. 0) (λ e. e.item.name) items ∙ sym (ap (map (λ x. 0)) (map-map (λ e. e.item.name) _ items) ∙ map-map (λ x. 0) _ items)
+externals-piece earlier kind (Communals items) = map-map (λ x. 0) (λ e. e.item.name) items ∙ sym (ap (map (λ x. 0)) (map-map (λ e. e.item.name) _ items) ∙ map-map (λ x. 0) _ items)
+externals-piece earlier kind _ = refl
+
+same-groups : (m n : List Rec) → skeleton m ≡ skeleton n → length (groups m) ≡ length (groups n)
+same-groups m n h = length-marks (λ r. defined_groups r.contents) m
+    ∙ ap length (same-table piece_groups (λ kind fs. refl) (λ r. marks (defined_groups r.contents)) (λ earlier r. groups-piece earlier r.kind r.contents) m n h)
+    ∙ sym (length-marks (λ r. defined_groups r.contents) n)
+
+same-externals : (m n : List Rec) → skeleton m ≡ skeleton n → length (externals m) ≡ length (externals n)
+same-externals m n h = length-marks (λ r. defined_externals r.contents) m
+    ∙ ap length (same-table piece_externals (λ kind fs. refl) (λ r. marks (defined_externals r.contents)) (λ earlier r. externals-piece earlier r.kind r.contents) m n h)
+    ∙ sym (length-marks (λ r. defined_externals r.contents) n)
+
+-- References: a fixup each, and the start.
+abbrev refs : Piece → ℕ
+refs (Kept r) = 0
+refs (Fixed kind fs) = length fs
+refs (End kind byte None) = 0
+refs (End kind byte (Some r)) = 1
+
+abbrev total : List Piece → ℕ
+total [] = 0
+total (p ∷ ps) = refs p + total ps
+
+-- There is a cause, or none, for each fixup behind a data record and for the start.
+module _ (pl : Places) where
+  data-causes : (r : Rec) (c : Contents) (ps : List Piece)
+      → length (causes_at pl (data_contents c) ps) + length (flat_map fixups_in (cond (is_data_contents c) [] (Kept r ∷ up_to is_data ps))) ≤ length (fixups_of_data ps)
+  data-causes r (Plain d) ps = omega (arith, length-map (fixups_of_data ps) (λ f. cause_of (outcome pl d f)))
+  data-causes r (Iterated d) ps = omega (arith, length-map (fixups_of_data ps) (λ f. cause_of (outcome pl d f)))
+  data-causes r _ ps = omega arith
+
+  end-causes : (kind byte : ℕ) (s : Option PlainReference) (ps : List Piece) → length (piece_causes pl (End kind byte s) ps) ≡ refs (End kind byte s)
+  end-causes kind byte None ps = refl
+  end-causes kind byte (Some r) ps = refl
+
+  length-causes : (ps : List Piece) → length (causes pl ps) + length (fixups_of_data ps) ≤ total ps
+  length-causes [] = omega arith
+  length-causes (Kept r ∷ ps) = omega (arith, length-causes ps, data-causes r r.contents ps, length-append (causes_at pl (data_contents r.contents) ps) (causes pl ps))
+  length-causes (Fixed kind fs ∷ ps) = omega (arith, length-causes ps, length-append (map (λ f. (kind, f)) fs) (fixups_of_data ps), length-map {B = ℕ × PlainFixup} fs (λ f. (kind, f)))
+  length-causes (End kind byte s ∷ ps) = omega (arith, length-causes ps, length-append (piece_causes pl (End kind byte s) ps) (causes pl ps), end-causes kind byte s ps)
+
+-- And a place for each reference.
+fixup-places : (earlier : List Subrecord) (within : ℕ) (s : Subrecord) → length (option_to_list (fixup_place within s)) ≡ length (plain_fixup earlier s)
+fixup-places earlier within (Thread byte datum) = refl
+fixup-places earlier within (Fixup locat r) = refl
+
+length-cons_option : {A : Type 0} (o : Option A) (xs : List A) → length (cons_option o xs) ≡ length (option_to_list o) + length xs
+length-cons_option None xs = omega arith
+length-cons_option (Some x) xs = omega arith
+
+fixups-places : (earlier : List Subrecord) (subs : List (At Subrecord)) → length (filter_map (λ s. fixup_place s.within s.item) subs) ≡ length (plain_fixups earlier subs)
+fixups-places earlier [] = refl
+fixups-places earlier (s ∷ subs) = omega (
+  arith,
+  length-cons_option (fixup_place s.within s.item) (filter_map (λ t. fixup_place t.within t.item) subs),
+  fixup-places earlier s.within s.item,
+  fixups-places (earlier ++ s.item ∷ []) subs,
+  length-append (plain_fixup earlier s.item) (plain_fixups (earlier ++ s.item ∷ []) subs),
+)
+
+record-places : (earlier : List Subrecord) (kind : ℕ) (c : Contents) → length (reference_places c) ≡ refs (piece_of earlier kind c)
+record-places earlier kind (Fixups subs) = fixups-places earlier subs
+record-places earlier kind (ModEnd byte None) = refl
+record-places earlier kind (ModEnd byte (Some r)) = refl
+record-places earlier kind _ = refl
+
+abbrev numbered_places : ℕ × Rec → List (ℕ × ℕ)
+numbered_places p = map (λ within. (p.0, within)) (reference_places p.1.contents)
+
+length-places : (k : ℕ) (before m : List Rec) → length (flat_map numbered_places (enumerate_from k m)) ≡ total (with_before piece_at before m)
+length-places k before [] = refl
+length-places k before (r ∷ m) = omega (
+  arith,
+  length-append (numbered_places (k, r)) (flat_map numbered_places (enumerate_from (k + 1) m)),
+  length-map {B = ℕ × ℕ} (reference_places r.contents) (λ within. (k, within)),
+  record-places (subrecords before) r.kind r.contents,
+  length-places (k + 1) (before ++ r ∷ []) m,
+)
+
+-- So the references that do not reach are told by the causes, but for their places.
+abbrev far : Option Cause → Option ReachFault
+far c = option_map (λ x. fault.TooFar 0 0 x) c
+
+far-placeless : (ps : List (ℕ × ℕ)) (cs : List (Option Cause)) → length cs ≤ length ps → map placeless (filter_map far_fault (zip ps cs)) ≡ filter_map far cs
+far-placeless [] [] h = refl
+far-placeless [] (c ∷ cs) h = absurd (omega (arith, h))
+far-placeless (p ∷ ps) [] h = refl
+far-placeless (p ∷ ps) (None ∷ cs) h = far-placeless ps cs (omega (arith, h))
+far-placeless (p ∷ ps) (Some c ∷ cs) h = ap (λ t. fault.TooFar 0 0 c ∷ t) (far-placeless ps cs (omega (arith, h)))
+
+placeless-far : (pl : Places) (m : List Rec) → map placeless (far_faults pl m) ≡ filter_map far (causes pl (pieces m))
+placeless-far pl m = far-placeless (all_reference_places m) (causes pl (pieces m)) (omega (arith, length-causes pl (pieces m), length-places 0 [] m))
+
+same-far : (pl : Places) (m n : List Rec) → skeleton m ≡ skeleton n → map placeless (far_faults pl m) ≡ map placeless (far_faults pl n)
+same-far pl m n h = placeless-far pl m ∙ ap (filter_map far) (cause-skeleton pl m n h) ∙ sym (placeless-far pl n)
+
+same-misfits : (pl : Places) (m n : List Rec) → skeleton m ≡ skeleton n → misfits pl m ≡ misfits pl n
+same-misfits pl m n h =
+    ap (λ s. misfits_of pl s (length (groups m)) (length (externals m))) (same-segments m n h)
+    ∙ ap (λ g. misfits_of pl (segments n) g (length (externals m))) (same-groups m n h)
+    ∙ ap (λ e. misfits_of pl (segments n) (length (groups n)) e) (same-externals m n h)
+
+answer-list : (pl : Places) (m : List Rec) → reach_answer pl m ≡ slice_get (map placeless (misfits pl m) ++ map placeless (far_faults pl m)) 0
+answer-list pl m = sym (slice_get-map placeless (reach_faults pl m) 0) ∙ ap (λ l. slice_get l 0) (map-append placeless (misfits pl m) (far_faults pl m))
+
+-- Equal skeletons give equal answers of reach.
+pub reach-skeleton : (pl : Places) (m n : List Rec) → skeleton m ≡ skeleton n → reach_answer pl m ≡ reach_answer pl n
+reach-skeleton pl m n h = answer-list pl m ∙ ap₂ (λ x y. slice_get (map placeless x ++ y) 0) (same-misfits pl m n h) (same-far pl m n h) ∙ sym (answer-list pl n)

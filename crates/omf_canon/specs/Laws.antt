@@ -1,0 +1,35 @@
+-- Laws over the definitions, each the contract of a function of the same name.
+use Rattle.std.specs.Prelude.{◌≡◌, ◌↔◌, ℕ, List, Option, option_map}
+use Rattle.omf_image.specs.declared.limits.Limits.{Limits}
+use Rattle.omf_records.specs.Values.{Rec}
+use Rattle.omf_reloc.specs.declared.fault.ReachFault.{ReachFault}
+use Rattle.omf_reloc.specs.declared.fault.ReachFault.TheVariants as fault
+use Rattle.omf_reloc.specs.Plain.{PlainFixup, pieces}
+use Rattle.omf_reloc.specs.Placement.{Places}
+use Rattle.omf_reloc.specs.Reach.{causes, reach_fault}
+use Rattle.omf_reloc.specs.Image.{image, start}
+use Rattle.omf_canon.specs.Cut.{IsGreedyCut, cut}
+use Rattle.omf_canon.specs.Skeleton.{skeleton}
+
+-- What reach answers, but for where a reference stands that does not.
+abbrev pub placeless : ReachFault → ReachFault
+placeless (fault.TooFar number within c) = fault.TooFar 0 0 c
+placeless f = f
+
+abbrev pub reach_answer : Places → List Rec → Option ReachFault
+reach_answer pl m = option_map placeless (reach_fault pl m)
+
+-- Two modules mean the same at a placement: the same image, the same start, the same answer of reach, and each reference in turn reaches, or does not for the same cause.
+pub record MeanTheSame (limits : Limits) (pl : Places) (m n : List Rec) : Type 0 where
+  pub image : (segment x : ℕ) → image limits pl m segment x ≡ image limits pl n segment x
+  pub start : start pl m ≡ start pl n
+  pub reach : reach_answer pl m ≡ reach_answer pl n
+  pub causes : causes pl (pieces m) ≡ causes pl (pieces n)
+
+-- Modules of equal skeletons mean the same at every placement.
+abbrev pub EqualSkeletons : Type 0
+EqualSkeletons = (limits : Limits) (pl : Places) (m n : List Rec) → skeleton m ≡ skeleton n → MeanTheSame limits pl m n
+
+-- The greedy cut of fixups is the one that is computed.
+abbrev pub CutsAreGreedy : Type 0
+CutsAreGreedy = (kind : ℕ) (fixups : List PlainFixup) (groups : List (List PlainFixup)) → IsGreedyCut kind fixups groups ↔ (groups ≡ cut kind fixups)

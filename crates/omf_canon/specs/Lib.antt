@@ -1,0 +1,5 @@
+pub mod Skeleton
+pub mod PlainBytes
+pub mod Cut
+pub mod Canonical
+pub mod Laws

@@ -1,0 +1,13 @@
+//! Laws over the definitions, each the contract of a function that does nothing.
+
+ghost use Rattle.omf_canon.specs.Laws.{EqualSkeletons, CutsAreGreedy};
+
+/// Modules of equal skeletons have the same image and start at every placement, and their fixups reach or not for the same causes.
+pub fn equal_skeletons()
+    ensures { EqualSkeletons }
+{}
+
+/// There is one greedy cut of fixups, and it is the one that is computed.
+pub fn cuts_are_greedy()
+    ensures { CutsAreGreedy }
+{}

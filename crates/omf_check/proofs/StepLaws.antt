@@ -1,0 +1,275 @@
+-- A record has no fault of any step exactly where it is sound.
+use Rattle.std.proofs.Common.{◌≡◌, ℕ, zero, suc, ◌+◌, ◌*◌, ◌-◌, ◌/◌, ◌%◌, ◌<◌, ◌≤◌, List, [], ◌∷◌, ◌++◌, refl, sym, ◌∙◌, ap, subst, length, arith, Bool, true, false, inl, inr, take, length-drop}
+use Rattle.std.specs.Prelude.{IsTrue, not, ◌||◌, ◌&&◌, ◌==◌, ◌⊎◌, slice_index, sum}
+use Rattle.std.proofs.lemmas.Bool.{leb-true, le-leb, eqb-true, eq-eqb}
+use Rattle.std.proofs.lemmas.List.{length-take, take-append-drop}
+use Rattle.omf_check.specs.declared.profile.Profile.{Profile}
+use Rattle.omf_image.specs.declared.limits.Limits.{Limits}
+use Rattle.omf_frame.specs.declared.fault.Reason.{Reason}
+use Rattle.omf_frame.specs.declared.fault.Reason.TheVariants as reason
+use Rattle.omf_frame.specs.Bytes.{AreBytes, is_one_of}
+use Rattle.omf_frame.specs.Fault.{Fault, first_step, broken, rule, AreKept}
+use Rattle.omf_frame.specs.Framing.{Raw, raw_bytes, IsRecord, is_read, is_carried, is_taken, is_unsupported, is_header, is_nonempty, is_whole, stated_length, front_record, frame_steps, present, after_front}
+use Rattle.omf_records.specs.Reading.{typed, layout_faults}
+use Rattle.omf_check.specs.Rules.{rules}
+use Rattle.omf_check.specs.Refusal.{short_or_deep, too_long, record_steps, is_empty, steps}
+use Rattle.omf_check.specs.WellFormed.{recs}
+use Rattle.omf_frame.proofs.FaultLaws.{kept_none, none_kept, untrue}
+use Rattle.omf_frame.proofs.FramingLaws.{front_raw, stated, size, checksum_raw, raw_front, body_length}
+
+some_none : (f : Fault) (fs : List Fault) → f ∷ fs ≡ [] → ⊥
+some_none f fs e = cc
+
+-- no step has a fault
+first_one : (fs : List Fault) (xs : List (List Fault)) → first_step (fs ∷ xs) ≡ [] → (fs ≡ []) × (first_step xs ≡ [])
+first_one [] xs h = (refl, h)
+first_one (f ∷ fs) xs h = absurd (some_none f fs h)
+
+first_of_none : (fs : List Fault) (xs : List (List Fault)) → fs ≡ [] → first_step xs ≡ [] → first_step (fs ∷ xs) ≡ []
+first_of_none fs xs e h = subst (λ s. first_step (s ∷ xs) ≡ []) (sym e) h
+
+first_both : (xs ys : List (List Fault)) → first_step xs ≡ [] → first_step ys ≡ [] → first_step (xs ++ ys) ≡ []
+first_both [] ys hx hy = hy
+first_both ([] ∷ xs) ys hx hy = first_both xs ys hx hy
+first_both ((f ∷ fs) ∷ xs) ys hx hy = absurd (some_none f fs hx)
+
+pub first_parts : (xs ys : List (List Fault)) → first_step (xs ++ ys) ≡ [] → (first_step xs ≡ []) × (first_step ys ≡ [])
+first_parts [] ys h = (refl, h)
+first_parts ([] ∷ xs) ys h = first_parts xs ys h
+first_parts ((f ∷ fs) ∷ xs) ys h = absurd (some_none f fs h)
+
+append_none : (fs gs : List Fault) → fs ≡ [] → gs ≡ [] → fs ++ gs ≡ []
+append_none fs gs hf hg = ap (λ x. x ++ gs) hf ∙ hg
+
+none_append : (fs gs : List Fault) → fs ++ gs ≡ [] → (fs ≡ []) × (gs ≡ [])
+none_append [] gs h = (refl, h)
+none_append (f ∷ fs) gs h = absurd (some_none f (fs ++ gs) h)
+
+-- one rule
+one_kept : (b : Bool) (w : ℕ) (r : Reason) → broken (rule b w r ∷ []) ≡ [] → IsTrue b
+one_kept true w r h = refl
+one_kept false w r h = absurd (some_none _ _ h)
+
+one_none : (b : Bool) (w : ℕ) (r : Reason) → IsTrue b → broken (rule b w r ∷ []) ≡ []
+one_none true w r h = refl
+one_none false w r h = absurd (untrue h)
+
+-- what all of a list pass
+all_of : (ℕ → Bool) → List ℕ → Bool
+all_of test [] = true
+all_of test (n ∷ ns) = test n && all_of test ns
+
+and_parts : (x y : Bool) → IsTrue (x && y) → IsTrue x × IsTrue y
+and_parts true y h = (refl, h)
+and_parts false y h = absurd (untrue h)
+
+any_all : (test : ℕ → Bool) (ns : List ℕ) (k : ℕ) → IsTrue (is_one_of ns k) → IsTrue (all_of test ns) → IsTrue (test k)
+unfolding all_of
+any_all test [] k h a = absurd (untrue h)
+any_all test (n ∷ ns) k h a = by (n == k) refl h (λ t. any_all test ns k t (and_parts (test n) (all_of test ns) a).1)
+  where
+    by : (b : Bool) → n == k ≡ b → IsTrue (b || is_one_of ns k) → (IsTrue (is_one_of ns k) → IsTrue (test k)) → IsTrue (test k)
+    by true e t others = subst (λ j. IsTrue (test j)) (eqb-true n k e) (and_parts (test n) (all_of test ns) a).0
+    by false e t others = others t
+
+or_cases : (x y : Bool) → IsTrue (x || y) → IsTrue x ⊎ IsTrue y
+or_cases true y h = inl refl
+or_cases false y h = inr h
+
+or_left : (x y : Bool) → IsTrue x → IsTrue (x || y)
+or_left true y h = refl
+or_left false y h = absurd (untrue h)
+
+or_right : (x y : Bool) → IsTrue y → IsTrue (x || y)
+or_right true y h = refl
+or_right false y h = h
+
+-- no type is both known and unsupported
+known_supported : (kind : ℕ) → IsTrue (is_taken kind) → IsTrue (not (is_unsupported kind))
+unfolding all_of
+known_supported kind h = elim (or_cases (is_read kind) (is_carried kind) h) [
+  | inl t ↦ any_all (λ k. not (is_unsupported k)) (0x80 ∷ 0x82 ∷ 0x88 ∷ 0x8A ∷ 0x8B ∷ 0x8C ∷ 0x90 ∷ 0x91 ∷ 0x96 ∷ 0x98 ∷ 0x99 ∷ 0x9A ∷ 0x9C ∷ 0x9D ∷ 0xA0 ∷ 0xA1 ∷ 0xA2 ∷ 0xA3 ∷ 0xB0 ∷ []) kind t refl
+  | inr t ↦ any_all (λ k. not (is_unsupported k)) (0x8E ∷ 0x94 ∷ 0x95 ∷ 0xC4 ∷ 0xC5 ∷ 0xC6 ∷ 0xCC ∷ []) kind t refl
+]
+
+two_kept : (a b : Bool) (v w : ℕ) (r s : Reason) → broken (rule a v r ∷ rule b w s ∷ []) ≡ [] → IsTrue a × IsTrue b
+two_kept true b v w r s h = (refl, one_kept b w s h)
+two_kept false b v w r s h = absurd (some_none _ _ h)
+
+two_none : (a b : Bool) (v w : ℕ) (r s : Reason) → IsTrue a → IsTrue b → broken (rule a v r ∷ rule b w s ∷ []) ≡ []
+two_none true b v w r s ha hb = one_none b w s hb
+two_none false b v w r s ha hb = absurd (untrue ha)
+
+known_of : (x y : Bool) → IsTrue (x || y) → IsTrue (not y) → IsTrue x
+known_of true y h n = refl
+known_of false true h n = absurd (untrue n)
+known_of false false h n = absurd (untrue h)
+
+-- The bytes present of a record have no fault of framing.
+pub record AreFramed (is_first : Bool) (bytes : List ℕ) : Type 0 where
+  pub nonempty : IsTrue (is_nonempty bytes)
+  pub known : IsTrue (is_taken (slice_index bytes 0))
+  pub whole : IsTrue (is_whole bytes)
+  pub filled : IsTrue (not (stated_length bytes == 0))
+  pub summed : IsTrue ((slice_index bytes (2 + stated_length bytes) == 0) || (sum bytes % 256 == 0))
+  pub headed : IsTrue (not is_first || is_header (slice_index bytes 0))
+
+pub framed_of : (is_first : Bool) (bytes : List ℕ) → first_step (frame_steps is_first bytes) ≡ [] → AreFramed is_first bytes
+framed_of is_first bytes h =
+    let kind : ℕ = slice_index bytes 0 in
+    let h1 = first_one _ _ h in
+    let h2 = first_one _ _ h1.1 in
+    let h3 = first_one _ _ h2.1 in
+    let h4 = first_one _ _ h3.1 in
+    let h5 = first_one _ _ h4.1 in
+    let h6 = first_one _ _ h5.1 in
+    let t = two_kept (is_taken kind || is_unsupported kind) (not (is_unsupported kind)) 0 0 reason.UnknownType reason.UnsupportedType h2.0 in
+    record {
+      nonempty = one_kept (is_nonempty bytes) 0 reason.NoEnd h1.0;
+      known = known_of (is_taken kind) (is_unsupported kind) t.0 t.1;
+      whole = one_kept (is_whole bytes) (length bytes) reason.Cut h3.0;
+      filled = one_kept (not (stated_length bytes == 0)) 1 reason.EmptyRecord h4.0;
+      summed = one_kept ((slice_index bytes (2 + stated_length bytes) == 0) || (sum bytes % 256 == 0)) (2 + stated_length bytes) reason.Checksum h5.0;
+      headed = one_kept (not is_first || is_header kind) 0 reason.NoHeader h6.0;
+    }
+
+pub of_framed : (is_first : Bool) (bytes : List ℕ) → AreFramed is_first bytes → first_step (frame_steps is_first bytes) ≡ []
+of_framed is_first bytes f =
+    let kind : ℕ = slice_index bytes 0 in
+    let known : IsTrue (is_taken kind || is_unsupported kind) = or_left (is_taken kind) (is_unsupported kind) f.known in
+    first_of_none _ _ (one_none (is_nonempty bytes) 0 reason.NoEnd f.nonempty)
+    (first_of_none _ _ (two_none (is_taken kind || is_unsupported kind) (not (is_unsupported kind)) 0 0 reason.UnknownType reason.UnsupportedType known (known_supported kind f.known))
+    (first_of_none _ _ (one_none (is_whole bytes) (length bytes) reason.Cut f.whole)
+    (first_of_none _ _ (one_none (not (stated_length bytes == 0)) 1 reason.EmptyRecord f.filled)
+    (first_of_none _ _ (one_none ((slice_index bytes (2 + stated_length bytes) == 0) || (sum bytes % 256 == 0)) (2 + stated_length bytes) reason.Checksum f.summed)
+    (first_of_none _ _ (one_none (not is_first || is_header kind) 0 reason.NoHeader f.headed) refl)))))
+
+-- A record's bytes are framed.
+not_zero : (n : ℕ) → 0 < n → IsTrue (not (n == 0))
+not_zero n h = by (n == 0) refl
+  where
+    by : (b : Bool) → n == 0 ≡ b → IsTrue (not (n == 0))
+    by true e = let z : n ≡ 0 = eqb-true n 0 e in absurd (omega (arith, z, h))
+    by false e = ap not e
+
+zero_not : (n : ℕ) → IsTrue (not (n == 0)) → 0 < n
+zero_not zero h = absurd (untrue h)
+zero_not (suc n) h = omega arith
+
+get_3 : (x y z : ℕ) (xs : List ℕ) (n : ℕ) → slice_index (x ∷ y ∷ z ∷ xs) (2 + suc n) ≡ slice_index xs n
+get_3 x y z xs n = let e : 2 + suc n ≡ suc (suc (suc n)) = omega arith in ap (λ k. slice_index (x ∷ y ∷ z ∷ xs) k) e
+
+pub raw_framed : (is_first : Bool) (r : Raw) → IsRecord r → IsTrue (is_taken r.kind) → IsTrue (not is_first || is_header r.kind) → AreFramed is_first (raw_bytes r)
+raw_framed is_first r (small, sum) known headed =
+    let n : ℕ = length r.body + 1 in
+    let lo : ℕ = n % 256 in
+    let hi : ℕ = n / 256 in
+    let tail : List ℕ = r.body ++ r.checksum ∷ [] in
+    let says : lo + 256 * hi ≡ n = stated r small in
+    let le : lo + 256 * hi ≤ length tail = omega (arith, says, size r small) in
+    let some : 0 < lo + 256 * hi = omega (arith, says) in
+    let where_it_is : 2 + (lo + 256 * hi) ≡ 2 + suc (length r.body) = omega (arith, says) in
+    let check : slice_index (raw_bytes r) (2 + (lo + 256 * hi)) ≡ r.checksum
+    = ap (λ k. slice_index (raw_bytes r) k) where_it_is ∙ get_3 r.kind lo hi tail (length r.body) ∙ checksum_raw r small in
+    record {
+      nonempty = refl;
+      known = known;
+      whole = le-leb (lo + 256 * hi) (length tail) le;
+      filled = not_zero (lo + 256 * hi) some;
+      summed = elim sum [
+        | inl z ↦ or_left _ _ (eq-eqb _ 0 (check ∙ z))
+        | inr z ↦ or_right _ _ (eq-eqb _ 0 z)
+      ];
+      headed = headed;
+    }
+
+-- What a framed beginning is: a whole record, and the bytes after it.
+pub record HasFront (bytes : List ℕ) : Type 0 where
+  pub is_record : IsRecord (front_record (present bytes))
+  pub whole : raw_bytes (front_record (present bytes)) ≡ present bytes
+  pub parts : bytes ≡ present bytes ++ after_front bytes
+  pub shorter : length (after_front bytes) < length bytes
+
+module _ (t lo hi : ℕ) (bytes : List ℕ) (is_first : Bool) (low : lo < 256) (high : hi < 256)
+    (f : AreFramed is_first (t ∷ lo ∷ hi ∷ take (lo + 256 * hi) bytes)) where
+  abbrev there : List ℕ
+  there = take (lo + 256 * hi) bytes
+
+  some : 0 < lo + 256 * hi
+  some = zero_not (lo + 256 * hi) f.filled
+
+  exact : length there ≡ lo + 256 * hi
+  exact = let le : lo + 256 * hi ≤ length there = leb-true (lo + 256 * hi) (length there) f.whole in omega (arith, le, length-take (lo + 256 * hi) bytes)
+
+  enough : lo + 256 * hi ≤ length bytes
+  enough = omega (arith, exact, length-take (lo + 256 * hi) bytes)
+
+  back : raw_bytes (front_record (t ∷ lo ∷ hi ∷ there)) ≡ t ∷ lo ∷ hi ∷ there
+  back = raw_front t lo hi there low high some exact
+
+  summed : ((front_record (t ∷ lo ∷ hi ∷ there)).checksum ≡ 0) ⊎ (sum (raw_bytes (front_record (t ∷ lo ∷ hi ∷ there))) % 256 ≡ 0)
+  summed = elim (or_cases _ _ f.summed) [
+    | inl z ↦ inl (sym place ∙ eqb-true _ 0 z)
+    | inr z ↦ inr (ap (λ bs. sum bs % 256) back ∙ eqb-true _ 0 z)
+  ]
+    where
+      here : 2 + (lo + 256 * hi) ≡ 2 + suc (lo + 256 * hi - 1)
+      here = omega (arith, some)
+
+      place : slice_index (t ∷ lo ∷ hi ∷ there) (2 + (lo + 256 * hi)) ≡ slice_index there (lo + 256 * hi - 1)
+      place = ap (λ k. slice_index (t ∷ lo ∷ hi ∷ there) k) here ∙ get_3 t lo hi there (lo + 256 * hi - 1)
+
+  front_of : HasFront (t ∷ lo ∷ hi ∷ bytes)
+  front_of = record {
+    is_record = (let e = body_length t lo hi there low high some exact in omega (arith, e), summed);
+    whole = back;
+    parts = ap (λ bs. t ∷ lo ∷ hi ∷ bs) (sym (take-append-drop (lo + 256 * hi) bytes));
+    shorter = let e = length-drop (lo + 256 * hi) bytes in omega (arith, e);
+  }
+
+pub has_front : (is_first : Bool) (bytes : List ℕ) → AreBytes bytes → AreFramed is_first (present bytes) → HasFront bytes
+has_front is_first [] small f = absurd (untrue f.nonempty)
+has_front is_first (t ∷ []) small f = absurd (untrue f.whole)
+has_front is_first (t ∷ lo ∷ []) small f = absurd (untrue f.whole)
+has_front is_first (t ∷ lo ∷ hi ∷ bytes) small f =
+    let low : lo < 256 = small 1 in
+    let high : hi < 256 = small 2 in
+    front_of t lo hi bytes is_first low high f
+
+-- A record without fault after these records.
+pub record IsSound (profile : Profile) (limits : Limits) (before : List Raw) (r : Raw) : Type 0 where
+  pub known : IsTrue (is_taken r.kind)
+  pub headed : IsTrue (not (is_empty before) || is_header r.kind)
+  pub read : layout_faults r ≡ []
+  pub blocks : short_or_deep limits r.kind (typed r).contents ≡ []
+  pub long : too_long limits r.kind (typed r).contents ≡ []
+  pub kept : AreKept (rules profile limits (recs before) (typed r))
+
+module _ (profile : Profile) (limits : Limits) (before : List Raw) where
+  steps_of : (r : Raw) → length r.body + 1 < 65536 → first_step (steps profile limits before (raw_bytes r)) ≡ first_step (frame_steps (is_empty before) (raw_bytes r) ++ record_steps profile limits before r)
+  steps_of r small = ap (λ x. first_step (frame_steps (is_empty before) (raw_bytes r) ++ record_steps profile limits before x)) (front_raw r small)
+
+  pub no_step : (r : Raw) → IsRecord r → IsSound profile limits before r → first_step (steps profile limits before (raw_bytes r)) ≡ []
+  no_step r is s =
+      steps_of r is.0 ∙ first_both (frame_steps (is_empty before) (raw_bytes r)) (record_steps profile limits before r)
+      (of_framed (is_empty before) (raw_bytes r) (raw_framed (is_empty before) r is s.known s.headed))
+      (first_of_none _ _ (append_none (layout_faults r) (short_or_deep limits r.kind (typed r).contents) s.read s.blocks)
+      (first_of_none _ _ s.long
+      (first_of_none _ [] (kept_none (rules profile limits (recs before) (typed r)) s.kept) refl)))
+
+  pub sound_of : (r : Raw) → IsRecord r → first_step (steps profile limits before (raw_bytes r)) ≡ [] → IsSound profile limits before r
+  sound_of r is e =
+      let h = first_parts (frame_steps (is_empty before) (raw_bytes r)) (record_steps profile limits before r) (sym (steps_of r is.0) ∙ e) in
+      let f : AreFramed (is_empty before) (raw_bytes r) = framed_of (is_empty before) (raw_bytes r) h.0 in
+      let first = first_one _ _ h.1 in
+      let second = first_one _ _ first.1 in
+      let third = first_one _ _ second.1 in
+      let layout = none_append (layout_faults r) (short_or_deep limits r.kind (typed r).contents) first.0 in
+      record {
+        known = f.known;
+        headed = f.headed;
+        read = layout.0;
+        blocks = layout.1;
+        long = second.0;
+        kept = none_kept (rules profile limits (recs before) (typed r)) third.0;
+      }

@@ -1,0 +1,59 @@
+-- Laws over the definitions, each the contract of a function of the same name.
+use Rattle.std.specs.Prelude.{◌≡◌, ◌≢◌, ◌⊎◌, ◌↔◌, ◌<◌, ◌≤◌, ℕ, Bool, List, [], ◌∷◌, ◌++◌}
+use Rattle.std.specs.Option.{option_or}
+use Rattle.omf_frame.specs.Bytes.{AreBytes}
+use Rattle.omf_frame.specs.Framing.{Raw}
+use Rattle.omf_frame.specs.declared.fault.Place.{Place}
+use Rattle.omf_frame.specs.declared.fault.Reason.{Reason}
+use Rattle.omf_frame.specs.declared.fault.Reason.TheVariants as reason
+use Rattle.omf_image.specs.declared.limits.Limits.{Limits}
+use Rattle.omf_records.specs.Values.{Subrecord, thread_number}
+use Rattle.omf_check.specs.Cells.{cells_after}
+use Rattle.omf_check.specs.Refusal.{IsRefused}
+use Rattle.omf_check.specs.Threads.{setting_of, thread}
+use Rattle.omf_check.specs.Verdict.{Accepted, Refused, verdict}
+use Rattle.omf_check.specs.WellFormed.{IsAccepted, IsWellFormed}
+use Rattle.omf_check.specs.declared.profile.Profile.{Profile}
+
+-- A refusal that is neither NoEnd nor Cut stands, whatever follows the input.
+abbrev pub RefusalsStay : Type 0
+RefusalsStay = (profile : Profile) (limits : Limits) (input more : List ℕ) (why : Reason) (at : Place) → why ≢ reason.NoEnd → why ≢ reason.Cut
+    → IsRefused profile limits input why at → IsRefused profile limits (input ++ more) why at
+
+-- An input is refused for one reason at one place at most.
+abbrev pub RefusalsAreUnique : Type 0
+RefusalsAreUnique = (profile : Profile) (limits : Limits) (input : List ℕ) (why other : Reason) (at there : Place)
+    → IsRefused profile limits input why at → IsRefused profile limits input other there → (why ≡ other) × (at ≡ there)
+
+-- No input is both accepted and refused.
+abbrev pub NeverBoth : Type 0
+NeverBoth = (profile : Profile) (limits : Limits) (input : List ℕ) (records : List Raw) (why : Reason) (at : Place)
+    → IsAccepted profile limits input records → IsRefused profile limits input why at → ⊥
+
+-- One prefix of an input is accepted at most, and as one list of records.
+abbrev pub ModulesAreUnique : Type 0
+ModulesAreUnique = (profile : Profile) (limits : Limits) (input : List ℕ) (rs ss : List Raw) (a : IsAccepted profile limits input rs) (b : IsAccepted profile limits input ss)
+    → (rs ≡ ss) × (a.bytes ≡ b.bytes)
+
+-- Each list of bytes is accepted or refused.
+abbrev pub IsEither : Type 0
+IsEither = (profile : Profile) (limits : Limits) (input : List ℕ) → AreBytes input
+    → ((records : List Raw) × IsAccepted profile limits input records) ⊎ ((why : Reason) × (at : Place) × IsRefused profile limits input why at)
+
+-- The verdict says whether a list of bytes is accepted, with which records, or refused, why and where.
+abbrev pub VerdictsDecide : Type 0
+VerdictsDecide = (profile : Profile) (limits : Limits) (input : List ℕ) → AreBytes input
+    → ((records : List Raw) → (verdict profile limits input ≡ Accepted records) ↔ IsAccepted profile limits input records)
+    × ((why : Reason) (at : Place) → (verdict profile limits input ≡ Refused why at) ↔ IsRefused profile limits input why at)
+
+-- After any subrecords the cells are the threads, found by searching backwards; one more subrecord sets the cell of its kind and
+-- number; and no number is 4 or more, so there are eight cells.
+abbrev pub CellsAreThreads : Type 0
+CellsAreThreads = ((subs : List Subrecord) (is_frame : Bool) (k : ℕ) → cells_after subs is_frame k ≡ thread is_frame k subs)
+    × ((subs : List Subrecord) (s : Subrecord) (is_frame : Bool) (k : ℕ) → thread is_frame k (subs ++ s ∷ []) ≡ option_or (setting_of is_frame k s) (thread is_frame k subs))
+    × ((byte : ℕ) → thread_number byte < 4)
+
+-- A module that is well formed under some limits on blocks is so under any larger ones.
+abbrev pub LimitsMayGrow : Type 0
+LimitsMayGrow = (profile : Profile) (small large : Limits) (bytes : List ℕ) (records : List Raw) → small.nesting ≤ large.nesting → small.expanded ≤ large.expanded
+    → IsWellFormed profile small bytes records → IsWellFormed profile large bytes records

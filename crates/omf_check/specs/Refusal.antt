@@ -1,0 +1,67 @@
+-- The first refusal of an input that does not begin with a module.
+use Rattle.std.specs.Prelude.{◌≡◌, ℕ, ◌+◌, List, [], ◌∷◌, ◌++◌, length, map, flat_map, All, Bool, true, false, not, IsTrue}
+use Rattle.omf_frame.specs.Fault.{Fault, IsLeast, broken, first_step}
+use Rattle.omf_frame.specs.Framing.{Raw, raw_bytes, IsRecord, is_end, frame_steps, front_record, present}
+use Rattle.omf_frame.specs.declared.fault.Place.{Place}
+use Rattle.omf_frame.specs.declared.fault.Reason.{Reason}
+use Rattle.omf_records.specs.Reading.{typed, layout_faults}
+use Rattle.omf_records.specs.Values.{Contents, Iterated, width}
+use Rattle.omf_image.specs.Expanding.{block_faults, length_faults}
+use Rattle.omf_image.specs.declared.limits.Limits.{Limits}
+use Rattle.omf_check.specs.Rules.{rules}
+use Rattle.omf_check.specs.WellFormed.{recs}
+use Rattle.omf_check.specs.declared.profile.Profile.{Profile}
+
+-- Faults whose places count from a place in the record.
+abbrev pub fault_from : ℕ → Fault → Fault
+fault_from at f = record f { within = at + f.within }
+
+abbrev pub moved : ℕ → List Fault → List Fault
+moved at fs = map (fault_from at) fs
+
+-- The blocks of an LIDATA, after its offset: the first Short or TooDeep; and that they stand for too many bytes.
+abbrev pub short_or_deep : Limits → ℕ → Contents → List Fault
+short_or_deep limits kind (Iterated d) = moved (d.offset.within + width kind) (block_faults (width kind) limits d.bytes)
+short_or_deep limits kind _ = []
+
+abbrev pub too_long : Limits → ℕ → Contents → List Fault
+too_long limits kind (Iterated d) = moved (d.offset.within + width kind) (length_faults (width kind) limits d.bytes)
+too_long limits kind _ = []
+
+-- The faults of a whole record after these records, in the order in which they are judged: layout and blocks, too many bytes of
+-- blocks, meaning.
+abbrev pub record_steps : Profile → Limits → List Raw → Raw → List (List Fault)
+record_steps profile limits before r = (layout_faults r ++ short_or_deep limits r.kind (typed r).contents)
+    ∷ too_long limits r.kind (typed r).contents
+    ∷ broken (rules profile limits (recs before) (typed r))
+    ∷ []
+
+abbrev pub is_empty : List Raw → Bool
+is_empty [] = true
+is_empty (r ∷ rs) = false
+
+-- The faults of the bytes present of one record after these records: framing first.
+abbrev pub steps : Profile → Limits → List Raw → List ℕ → List (List Fault)
+steps profile limits before bytes = frame_steps (is_empty before) bytes ++ record_steps profile limits before (front_record bytes)
+
+-- The faults of the first step that has one.
+abbrev pub faults_after : Profile → Limits → List Raw → List ℕ → List Fault
+faults_after profile limits before bytes = first_step (steps profile limits before bytes)
+
+-- Where a fault stands in the stream.
+abbrev pub place_after : List Raw → Fault → Place
+place_after before f = record { number = length before; start = length (flat_map raw_bytes before); within = f.within }
+
+-- The input is refused so: it begins with records without fault, none of them a MODEND, and what follows them has its least
+-- fault, of the first step that has one, at this place.
+pub record IsRefused (profile : Profile) (limits : Limits) (input : List ℕ) (why : Reason) (at : Place) : Type 0 where
+  pub before : List Raw
+  pub rest : List ℕ
+  pub fault : Fault
+  pub spelled : input ≡ flat_map raw_bytes before ++ rest
+  pub records : All IsRecord before
+  pub running : All (λ r. IsTrue (not (is_end r.kind))) before
+  pub sound : (earlier later : List Raw) (r : Raw) → before ≡ earlier ++ r ∷ later → faults_after profile limits earlier (raw_bytes r) ≡ []
+  pub least : IsLeast (faults_after profile limits before (present rest)) fault
+  pub named : why ≡ fault.reason
+  pub there : at ≡ place_after before fault

@@ -1,0 +1,35 @@
+-- Well-formed modules, and the inputs that begin with one.
+use Rattle.std.specs.Prelude.{◌≡◌, ℕ, List, ◌∷◌, ◌++◌, map, All, ⊤}
+use Rattle.omf_frame.specs.Fault.{AreKept}
+use Rattle.omf_frame.specs.Framing.{Raw, IsFramed}
+use Rattle.omf_records.specs.Reading.{typed}
+use Rattle.omf_records.specs.Records.{IsTyped}
+use Rattle.omf_records.specs.Values.{Rec, Contents, Iterated, width}
+use Rattle.omf_image.specs.Blocks.{Blocks, AreBlocks}
+use Rattle.omf_image.specs.declared.limits.Limits.{Limits}
+use Rattle.omf_check.specs.Rules.{rules}
+use Rattle.omf_check.specs.declared.profile.Profile.{Profile}
+
+-- The typed records of records.
+abbrev pub recs : List Raw → List Rec
+recs records = map typed records
+
+-- The blocks of an LIDATA are trees within the limits.
+abbrev pub HasTrees : Limits → ℕ → Contents → Type 0
+HasTrees limits kind (Iterated d) = (trees : Blocks) × AreBlocks (width kind) limits d.bytes trees
+HasTrees limits kind _ = ⊤
+
+-- A module made of these records: it is framed, the contents of each record spell its typed record, blocks are within the limits,
+-- and each record keeps the rules after the records before it.
+pub record IsWellFormed (profile : Profile) (limits : Limits) (bytes : List ℕ) (records : List Raw) : Type 0 where
+  pub framed : IsFramed bytes records
+  pub spelled : All (λ r. IsTyped (typed r) r.body) records
+  pub blocks : All (λ r. HasTrees limits r.kind (typed r).contents) records
+  pub kept : (before after : List Raw) (r : Raw) → records ≡ before ++ r ∷ after → AreKept (rules profile limits (recs before) (typed r))
+
+-- The input begins with a module made of these records, and goes on as it may.
+pub record IsAccepted (profile : Profile) (limits : Limits) (input : List ℕ) (records : List Raw) : Type 0 where
+  pub bytes : List ℕ
+  pub rest : List ℕ
+  pub spelled : input ≡ bytes ++ rest
+  pub well_formed : IsWellFormed profile limits bytes records

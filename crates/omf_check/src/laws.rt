@@ -1,0 +1,43 @@
+//! Laws over the definitions, each the contract of a function that does nothing.
+
+ghost use Rattle.omf_check.specs.Laws.{RefusalsStay, RefusalsAreUnique, NeverBoth, ModulesAreUnique, IsEither, VerdictsDecide, CellsAreThreads, LimitsMayGrow};
+
+/// A refusal that is neither NoEnd nor Cut stands, whatever follows the input.
+pub fn refusals_stay()
+    ensures { RefusalsStay }
+{}
+
+/// An input is refused for one reason at one place at most.
+pub fn refusals_are_unique()
+    ensures { RefusalsAreUnique }
+{}
+
+/// No input is both accepted and refused.
+pub fn never_both()
+    ensures { NeverBoth }
+{}
+
+/// An input is accepted as one module at most.
+pub fn modules_are_unique()
+    ensures { ModulesAreUnique }
+{}
+
+/// Each list of bytes is accepted or refused.
+pub fn is_either()
+    ensures { IsEither }
+{}
+
+/// The verdict says which, and is right.
+pub fn verdicts_decide()
+    ensures { VerdictsDecide }
+{}
+
+/// Eight cells, of which each THREAD sets one, are the threads that a search backwards finds.
+pub fn cells_are_threads()
+    ensures { CellsAreThreads }
+{}
+
+/// A module that is well formed under some limits on blocks is so under any larger ones.
+pub fn limits_may_grow()
+    ensures { LimitsMayGrow }
+{}

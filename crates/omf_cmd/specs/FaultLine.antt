@@ -1,0 +1,80 @@
+-- The line that a fault is printed as (this profile's rule).
+use Rattle.std.specs.Prelude.{ℕ, List, [], ◌∷◌, codes, decimal}
+use Rattle.omf_frame.specs.Fault.{reason_number}
+use Rattle.omf_frame.specs.declared.fault.Reason.{Reason}
+use Rattle.omf_frame.specs.declared.fault.Reason.TheVariants as reason
+use Rattle.omf_reloc.specs.declared.fault.Kind.{Kind}
+use Rattle.omf_reloc.specs.declared.fault.Kind.TheVariants as kinds
+use Rattle.omf_reloc.specs.declared.fault.Cause.{Cause}
+use Rattle.omf_reloc.specs.declared.fault.Cause.TheVariants as cause
+use Rattle.omf_reloc.specs.declared.fault.ReachFault.{ReachFault}
+use Rattle.omf_reloc.specs.declared.fault.ReachFault.TheVariants as reach
+use Rattle.omf_cmd.specs.Printed.{in_words}
+use Rattle.omf_cmd.specs.declared.fault.RunFault.{RunFault}
+use Rattle.omf_cmd.specs.declared.fault.RunFault.TheVariants as fault
+
+-- The names of reasons, kinds and causes.
+abbrev pub reason_name : Reason → List ℕ
+reason_name reason.NoEnd = codes "NoEnd"
+reason_name reason.Cut = codes "Cut"
+reason_name reason.UnknownType = codes "UnknownType"
+reason_name reason.UnsupportedType = codes "UnsupportedType"
+reason_name reason.EmptyRecord = codes "EmptyRecord"
+reason_name reason.Checksum = codes "Checksum"
+reason_name reason.NoHeader = codes "NoHeader"
+reason_name reason.Short = codes "Short"
+reason_name reason.Long = codes "Long"
+reason_name reason.Alignment = codes "Alignment"
+reason_name reason.BigLength = codes "BigLength"
+reason_name reason.GroupComponent = codes "GroupComponent"
+reason_name reason.CommunalType = codes "CommunalType"
+reason_name reason.CommunalLength = codes "CommunalLength"
+reason_name reason.FrameMethod = codes "FrameMethod"
+reason_name reason.TargetMethod = codes "TargetMethod"
+reason_name reason.LocationType = codes "LocationType"
+reason_name reason.SelfRelative = codes "SelfRelative"
+reason_name reason.TooDeep = codes "TooDeep"
+reason_name reason.DataTooLong = codes "DataTooLong"
+reason_name reason.UndefinedName = codes "UndefinedName"
+reason_name reason.UndefinedSegment = codes "UndefinedSegment"
+reason_name reason.UndefinedGroup = codes "UndefinedGroup"
+reason_name reason.UndefinedExternal = codes "UndefinedExternal"
+reason_name reason.UndefinedThread = codes "UndefinedThread"
+reason_name reason.OutsideSegment = codes "OutsideSegment"
+reason_name reason.OutsideRecord = codes "OutsideRecord"
+reason_name reason.NoDataRecord = codes "NoDataRecord"
+reason_name reason.FixupOnIterated = codes "FixupOnIterated"
+reason_name reason.TooMany = codes "TooMany"
+reason_name reason.OtherDialect = codes "OtherDialect"
+reason_name reason.VendorComment = codes "VendorComment"
+reason_name reason.StartFrame = codes "StartFrame"
+
+abbrev pub kind_name : Kind → List ℕ
+kind_name kinds.Segment = codes "segment"
+kind_name kinds.Group = codes "group"
+kind_name kinds.External = codes "external"
+
+abbrev pub cause_name : Cause → List ℕ
+cause_name cause.Target = codes "Target"
+cause_name cause.Location = codes "Location"
+cause_name cause.Distance = codes "Distance"
+
+-- The number and the name of each reason, and what it tells.
+abbrev pub reach_words : ReachFault → List (List ℕ)
+reach_words (reach.Missing k i) = codes "1" ∷ codes "Missing" ∷ kind_name k ∷ decimal i ∷ []
+reach_words (reach.Extra k i) = codes "2" ∷ codes "Extra" ∷ kind_name k ∷ decimal i ∷ []
+reach_words (reach.Absolute i) = codes "3" ∷ codes "Absolute" ∷ decimal i ∷ []
+reach_words (reach.TooFar number within c) = codes "4" ∷ codes "TooFar" ∷ cause_name c ∷ codes "record" ∷ decimal number ∷ codes "within" ∷ decimal within ∷ []
+
+abbrev pub fault_words : RunFault → List (List ℕ)
+fault_words fault.Memory = codes "memory" ∷ []
+fault_words fault.Read = codes "read" ∷ []
+fault_words fault.Write = codes "write" ∷ []
+fault_words (fault.Refused r p) = codes "refused" ∷ decimal (reason_number r) ∷ reason_name r ∷ codes "record" ∷ decimal p.number ∷ codes "at" ∷ decimal p.start ∷ codes "within" ∷ decimal p.within ∷ []
+fault_words (fault.Line n) = codes "placement" ∷ codes "line" ∷ decimal n ∷ []
+fault_words fault.TooLong = codes "placement" ∷ codes "too" ∷ codes "long" ∷ []
+fault_words (fault.Reach f) = codes "reach" ∷ reach_words f
+
+-- The line, without its line feed.
+abbrev pub fault_line : RunFault → List ℕ
+fault_line f = in_words (fault_words f)

@@ -1,0 +1,54 @@
+-- What `list` and `check` print of a module (this profile's rule).
+use Rattle.std.specs.Prelude.{ℕ, List, [], ◌∷◌, ◌++◌, length, flat_map, find, unwrap_or, option_map, codes, decimal}
+use Rattle.std.specs.List.{enumerate_from}
+use Rattle.omf_frame.specs.Bytes.{with_before, is_one_of}
+use Rattle.omf_frame.specs.Framing.{Raw, raw_bytes}
+use Rattle.omf_records.specs.Values.{Rec, Contents, Publics, PublicItem, PublicItems}
+use Rattle.omf_check.specs.Tables.{names, segments, groups, externals}
+use Rattle.omf_check.specs.WellFormed.{recs}
+use Rattle.omf_cmd.specs.Printed.{hex, line, quoted, named, index_or_dash}
+
+-- The names of the record types that a module can have (TIS OMF 1.1, the page of each record).
+abbrev pub type_names : List (List ℕ × List ℕ)
+type_names = (0x80 ∷ [], codes "THEADR") ∷ (0x82 ∷ [], codes "LHEADR") ∷ (0x88 ∷ [], codes "COMENT") ∷ (0x8A ∷ 0x8B ∷ [], codes "MODEND")
+    ∷ (0x8C ∷ [], codes "EXTDEF") ∷ (0x8E ∷ [], codes "TYPDEF") ∷ (0x90 ∷ 0x91 ∷ [], codes "PUBDEF") ∷ (0x94 ∷ 0x95 ∷ [], codes "LINNUM")
+    ∷ (0x96 ∷ [], codes "LNAMES") ∷ (0x98 ∷ 0x99 ∷ [], codes "SEGDEF") ∷ (0x9A ∷ [], codes "GRPDEF") ∷ (0x9C ∷ 0x9D ∷ [], codes "FIXUPP")
+    ∷ (0xA0 ∷ 0xA1 ∷ [], codes "LEDATA") ∷ (0xA2 ∷ 0xA3 ∷ [], codes "LIDATA") ∷ (0xB0 ∷ [], codes "COMDEF") ∷ (0xC4 ∷ 0xC5 ∷ [], codes "LINSYM")
+    ∷ (0xC6 ∷ [], codes "ALIAS") ∷ (0xCC ∷ [], codes "VERNUM") ∷ []
+
+abbrev pub type_name : ℕ → List ℕ
+type_name kind = unwrap_or (option_map (λ p. p.1) (find (λ p. is_one_of p.0 kind) type_names)) []
+
+-- R: number, start, type, contents length (without the checksum byte), name. The start has at least eight hexadecimal digits, the type two.
+abbrev pub record_line : List Raw → Raw → List ℕ
+record_line before r = line (codes "R" ∷ decimal (length before) ∷ hex 8 (length (flat_map raw_bytes before)) ∷ hex 2 r.kind ∷ decimal (length r.body) ∷ type_name r.kind ∷ [])
+
+-- S: index, length, name. G: index, name. E: index, name.
+abbrev pub segment_lines : List Rec → List ℕ
+segment_lines m = flat_map (λ s. line (codes "S" ∷ decimal s.0 ∷ decimal s.1.length ∷ named (names m) s.1.name ∷ [])) (enumerate_from 1 (segments m))
+
+abbrev pub group_lines : List Rec → List ℕ
+group_lines m = flat_map (λ g. line (codes "G" ∷ decimal g.0 ∷ named (names m) g.1.name.item ∷ [])) (enumerate_from 1 (groups m))
+
+abbrev pub external_lines : List Rec → List ℕ
+external_lines m = flat_map (λ e. line (codes "E" ∷ decimal e.0 ∷ quoted e.1 ∷ [])) (enumerate_from 1 (externals m))
+
+-- P: group, segment, offset, name of each item of a PUBDEF, in file order. The offset has at least eight hexadecimal digits.
+abbrev pub public_line : PublicItems → PublicItem → List ℕ
+public_line p q = line (codes "P" ∷ index_or_dash p.group.item ∷ index_or_dash p.segment.item ∷ hex 8 q.offset ∷ quoted q.name ∷ [])
+
+abbrev pub public_lines : Contents → List ℕ
+public_lines (Publics p) = flat_map (λ q. public_line p q.item) p.items
+public_lines _ = []
+
+-- What `list` prints: the records, the segments, the groups, the externals, the publics.
+abbrev pub list_text : List Raw → List ℕ
+list_text rs = with_before record_line [] rs
+    ++ segment_lines (recs rs)
+    ++ group_lines (recs rs)
+    ++ external_lines (recs rs)
+    ++ flat_map (λ r. public_lines r.contents) (recs rs)
+
+-- What `check` prints: how many records and bytes the module has.
+abbrev pub check_text : List Raw → List ℕ
+check_text rs = line (codes "OK" ∷ decimal (length rs) ∷ codes "records," ∷ decimal (length (flat_map raw_bytes rs)) ∷ codes "bytes" ∷ [])

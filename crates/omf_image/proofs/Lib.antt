@@ -1,0 +1,5 @@
+pub mod BlocksLaws
+pub mod LengthLaws
+pub mod LimitLaws
+pub mod LastLaws
+pub mod RunLaws

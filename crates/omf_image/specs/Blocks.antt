@@ -1,0 +1,75 @@
+-- Repeated blocks of LIDATA (TIS OMF 1.1, "LIDATA", data blocks).
+use Rattle.std.specs.Prelude.{◌≡◌, ◌⊎◌, ◌<◌, ◌≤◌, IsTrue, ℕ, zero, suc, ◌+◌, ◌*◌, List, [], ◌∷◌, ◌++◌, length, map, ◌==◌}
+use Rattle.std.specs.List.{repeat}
+use Rattle.omf_frame.specs.Fault.{Fault, is_before}
+use Rattle.omf_frame.specs.declared.fault.Reason.{Reason}
+use Rattle.omf_frame.specs.declared.fault.Reason.TheVariants as reason
+use Rattle.omf_records.specs.Layout.{Layout, fault, ◌>>=◌, le, name, checked, choose, called, times, many}
+use Rattle.omf_image.specs.declared.limits.Limits.{Limits}
+
+-- A block is a repeat count with data, or with one or more blocks.
+mutual
+  pub data Block : Type 0 where
+    Repeat : ℕ → List ℕ → Block
+    Nest : ℕ → Blocks → Block
+
+  pub data Blocks : Type 0 where
+    NoBlocks : Blocks
+    First : Block → Blocks → Blocks
+
+abbrev pub gathered : List Block → Blocks
+gathered [] = NoBlocks
+gathered (b ∷ blocks) = First b (gathered blocks)
+
+-- A repeat count of `width` bytes, a block count of two, and then, where the block count is 0, a length byte and that many bytes,
+-- otherwise that many blocks. So many levels are still allowed; where none is left, the repeat count is refused.
+abbrev pub too_deep : ℕ → List Reason
+too_deep count = reason.TooDeep ∷ []
+
+abbrev pub block_contents : Layout Block → ℕ → ℕ → Layout Block
+block_contents inner count blocks = choose (blocks == 0) (called name (λ bytes. Repeat count bytes)) (called (times blocks inner) (λ bs. Nest count (gathered bs)))
+
+abbrev pub block : ℕ → ℕ → Layout Block
+block width zero = called (checked (le width) too_deep) (λ count. Repeat count [])
+block width (suc levels) = le width >>= λ count. le 2 >>= λ blocks. block_contents (block width levels) count blocks
+
+-- Blocks up to the end of the bytes; an outermost block is at the first level.
+abbrev pub blocks : ℕ → ℕ → Layout Blocks
+blocks width levels = called (many (block width levels)) (λ bs. gathered (map (λ b. b.item) bs))
+
+-- Bytes, so many times over; no bytes stay none.
+abbrev pub repeated : ℕ → List ℕ → List ℕ
+repeated n [] = []
+repeated n (b ∷ bytes) = repeat n (b ∷ bytes)
+
+-- The bytes of a block: those of its contents, concatenated, repeat count times.
+abbrev mutual
+  pub block_bytes : Block → List ℕ
+  block_bytes (Repeat count bytes) = repeated count bytes
+  block_bytes (Nest zero _) = []
+  block_bytes (Nest (suc n) blocks) = repeated (suc n) (blocks_bytes blocks)
+
+  pub blocks_bytes : Blocks → List ℕ
+  blocks_bytes NoBlocks = []
+  blocks_bytes (First b blocks) = block_bytes b ++ blocks_bytes blocks
+
+-- How many they are.
+abbrev mutual
+  pub block_size : Block → ℕ
+  block_size (Repeat count bytes) = count * length bytes
+  block_size (Nest count blocks) = count * blocks_size blocks
+
+  pub blocks_size : Blocks → ℕ
+  blocks_size NoBlocks = 0
+  blocks_size (First b blocks) = block_size b + blocks_size blocks
+
+-- The bytes spell these blocks within the limits. Places count from the first block's byte.
+abbrev pub AreBlocks : ℕ → Limits → List ℕ → Blocks → Type 0
+AreBlocks width limits bytes trees = (blocks width limits.nesting).Spells 0 bytes trees × (blocks_size trees ≤ limits.expanded)
+
+-- The first fault of bytes that spell none: the first Short or TooDeep from the left, Short at a tie; where there is neither, that
+-- the blocks stand for too many bytes.
+abbrev pub IsFirstFault : ℕ → Limits → List ℕ → Fault → Type 0
+IsFirstFault width limits bytes e =
+    ((blocks width limits.nesting).Faults 0 bytes e × ((f : Fault) → (blocks width limits.nesting).Faults 0 bytes f → IsTrue (is_before e f)))
+    ⊎ ((trees : Blocks) × (blocks width limits.nesting).Spells 0 bytes trees × (limits.expanded < blocks_size trees) × (e ≡ fault 0 reason.DataTooLong))

@@ -1,0 +1,40 @@
+-- Laws over the definitions, each the contract of a function of the same name.
+use Rattle.std.specs.Prelude.{◌≡◌, ◌↔◌, ◌≤◌, ℕ, List, [], ◌∷◌, ◌++◌, length, Option, Ok, Err}
+use Rattle.std.specs.Option.{option_or}
+use Rattle.omf_frame.specs.Bytes.{AreBytes}
+use Rattle.omf_frame.specs.Fault.{Fault}
+use Rattle.omf_records.specs.Reads.{Meets}
+use Rattle.omf_image.specs.Blocks.{Blocks, blocks, blocks_bytes, blocks_size, AreBlocks, IsFirstFault}
+use Rattle.omf_image.specs.Expanding.{read_blocks, expanded_length}
+use Rattle.omf_image.specs.Joined.{runs_of}
+use Rattle.omf_image.specs.Overlay.{Laid, byte_of, byte_at, AreRuns}
+use Rattle.omf_image.specs.declared.run.Run.{Run}
+use Rattle.omf_image.specs.declared.limits.Limits.{Limits}
+
+-- Blocks stand for as many bytes as their size says.
+abbrev pub SizesAreLengths : Type 0
+SizesAreLengths = (trees : Blocks) → length (blocks_bytes trees) ≡ blocks_size trees
+
+-- Reading blocks gives the one list of trees that the bytes spell, or their least fault.
+abbrev pub BlocksAreRead : Type 0
+BlocksAreRead = (width levels : ℕ) (bytes : List ℕ) → AreBytes bytes → Meets (blocks width levels) 0 bytes (read_blocks width levels bytes)
+
+-- The length is that of the blocks within the limits, or their first fault.
+abbrev pub LengthsAreDecided : Type 0
+LengthsAreDecided = (width : ℕ) (limits : Limits) (bytes : List ℕ) → AreBytes bytes
+    → ((n : ℕ) → (expanded_length width limits bytes ≡ Ok n) ↔ ((trees : Blocks) × AreBlocks width limits bytes trees × (blocks_size trees ≡ n)))
+    × ((e : Fault) → (expanded_length width limits bytes ≡ Err e) ↔ IsFirstFault width limits bytes e)
+
+-- Blocks within some limits are within any larger ones.
+abbrev pub LimitsMayGrow : Type 0
+LimitsMayGrow = (width : ℕ) (small large : Limits) (bytes : List ℕ) (trees : Blocks) → small.nesting ≤ large.nesting → small.expanded ≤ large.expanded
+    → AreBlocks width small bytes trees → AreBlocks width large bytes trees
+
+-- Joining each piece with the runs that it touches gives all the maximal covered intervals, and there is one list of them.
+abbrev pub RunsAreMaximal : Type 0
+RunsAreMaximal = ((laid : List Laid) (segment : ℕ) → AreRuns (byte_at laid segment) (runs_of laid segment))
+    × ((byte : ℕ → Option ℕ) (runs others : List Run) → AreRuns byte runs → AreRuns byte others → runs ≡ others)
+
+-- One more piece gives the bytes that it covers, and leaves all others as they were.
+abbrev pub LastPieceWins : Type 0
+LastPieceWins = (laid : List Laid) (l : Laid) (segment x : ℕ) → byte_at (laid ++ l ∷ []) segment x ≡ option_or (byte_of segment x l) (byte_at laid segment x)

@@ -1,0 +1,33 @@
+//! Laws over the definitions, each the contract of a function that does nothing.
+
+ghost use Rattle.omf_image.specs.Laws.{SizesAreLengths, BlocksAreRead, LengthsAreDecided, LimitsMayGrow, LastPieceWins, RunsAreMaximal};
+
+/// Blocks stand for as many bytes as their size says.
+pub fn sizes_are_lengths()
+    ensures { SizesAreLengths }
+{}
+
+/// Bytes spell one list of blocks, or have a least fault, and reading finds it.
+pub fn blocks_are_read()
+    ensures { BlocksAreRead }
+{}
+
+/// How many bytes blocks stand for within the limits, or their first fault.
+pub fn lengths_are_decided()
+    ensures { LengthsAreDecided }
+{}
+
+/// Blocks within some limits are within any larger ones.
+pub fn limits_may_grow()
+    ensures { LimitsMayGrow }
+{}
+
+/// One more piece gives the bytes that it covers, and leaves all others as they were.
+pub fn last_piece_wins()
+    ensures { LastPieceWins }
+{}
+
+/// The runs that are computed are all the maximal covered intervals, in rising order.
+pub fn runs_are_maximal()
+    ensures { RunsAreMaximal }
+{}

@@ -1,0 +1,13 @@
+//! What data records stand for: repeated blocks as bytes, the numbers that fixups add to them, and the image in which the
+//! last piece laid wins.
+#![tactic(auto)]
+
+pub mod laws;
+mod limits;
+mod part;
+pub mod rows;
+mod run;
+
+pub use limits::Limits;
+pub use part::{Part, add_part};
+pub use run::Run;

@@ -1,0 +1,95 @@
+//! Worked examples, each evaluated by the check.
+
+ghost use Rattle.std.specs.Prelude.{◌≡◌, ℕ, [], ◌∷◌, ◌++◌, Ok, Err, Some, None, map, slice_get};
+ghost use Rattle.std.specs.List.{repeat, range_with_len};
+ghost use Rattle.omf_frame.specs.declared.fault.Reason.TheVariants as reason;
+ghost use Rattle.omf_image.specs.Limits.{profile_limits};
+ghost use Rattle.omf_records.specs.Layout.{fault};
+ghost use Rattle.omf_image.specs.Expanding.{expanded_length, expanded};
+ghost use Rattle.omf_image.specs.Overlay.{byte_at};
+ghost use Rattle.omf_image.specs.Joined.{runs_of};
+ghost use Rattle.omf_image.specs.Rows.{innermost, lay, five, six, run};
+
+/// A block that is repeated 0 times stands for no bytes.
+pub fn repeated_no_times()
+    ensures { expanded_length 2 profile_limits (0 ∷ 0 ∷ 0 ∷ 0 ∷ 2 ∷ 0xAA ∷ 0xBB ∷ []) ≡ Ok 0 }
+{}
+
+/// Two bytes of data are stated, and one is there: the length byte and its data are one field.
+pub fn short_data()
+    ensures { expanded_length 2 profile_limits (1 ∷ 0 ∷ 0 ∷ 0 ∷ 2 ∷ 0xAA ∷ []) ≡ Err (fault 4 reason.Short) }
+{}
+
+/// 32 levels of blocks are allowed.
+pub fn deep_enough()
+    ensures { expanded_length 2 profile_limits (repeat 31 (1 ∷ 0 ∷ 1 ∷ 0 ∷ []) ++ innermost) ≡ Ok 1 }
+{}
+
+/// A 33rd level is refused at its first byte.
+pub fn too_deep()
+    ensures { expanded_length 2 profile_limits (repeat 32 (1 ∷ 0 ∷ 1 ∷ 0 ∷ []) ++ innermost) ≡ Err (fault 128 reason.TooDeep) }
+{}
+
+/// A block at the forbidden depth without a byte for its repeat count is short.
+pub fn short_and_too_deep()
+    ensures { expanded_length 2 profile_limits (repeat 32 (1 ∷ 0 ∷ 1 ∷ 0 ∷ []) ++ 1 ∷ []) ≡ Err (fault 128 reason.Short) }
+{}
+
+/// Just within the limit on bytes.
+pub fn long_enough()
+    ensures { expanded_length 2 profile_limits (0xFF ∷ 0xFF ∷ 1 ∷ 0 ∷ 0 ∷ 1 ∷ 0 ∷ 0 ∷ 1 ∷ 0xAA ∷ []) ≡ Ok 16776960 }
+{}
+
+/// Just past it.
+pub fn too_long()
+    ensures { expanded_length 2 profile_limits (0xFF ∷ 0xFF ∷ 1 ∷ 0 ∷ 1 ∷ 1 ∷ 0 ∷ 0 ∷ 1 ∷ 0xAA ∷ []) ≡ Err (fault 0 reason.DataTooLong) }
+{}
+
+/// A short block to the right is named before too many bytes.
+pub fn short_before_too_long()
+    ensures { expanded_length 2 profile_limits (0xFF ∷ 0xFF ∷ 1 ∷ 0 ∷ 1 ∷ 1 ∷ 0 ∷ 0 ∷ 1 ∷ 0xAA ∷ 1 ∷ []) ≡ Err (fault 10 reason.Short) }
+{}
+
+/// Huge repeat counts inside a block that is repeated 0 times.
+pub fn none_of_many()
+    ensures length { expanded_length 2 profile_limits (0 ∷ 0 ∷ 1 ∷ 0 ∷ 0xFF ∷ 0xFF ∷ 1 ∷ 0 ∷ 0xFF ∷ 0xFF ∷ 0 ∷ 0 ∷ 1 ∷ 0xAA ∷ []) ≡ Ok 0 }
+    ensures bytes { expanded 2 profile_limits (0 ∷ 0 ∷ 1 ∷ 0 ∷ 0xFF ∷ 0xFF ∷ 1 ∷ 0 ∷ 0xFF ∷ 0xFF ∷ 0 ∷ 0 ∷ 1 ∷ 0xAA ∷ []) ≡ [] }
+{}
+
+/// 32 huge repeat counts of no bytes.
+pub fn many_of_none()
+    ensures length { expanded_length 2 profile_limits (repeat 31 (0xFF ∷ 0xFF ∷ 1 ∷ 0 ∷ []) ++ 0xFF ∷ 0xFF ∷ 0 ∷ 0 ∷ 0 ∷ []) ≡ Ok 0 }
+    ensures bytes { expanded 2 profile_limits (repeat 31 (0xFF ∷ 0xFF ∷ 1 ∷ 0 ∷ []) ++ 0xFF ∷ 0xFF ∷ 0 ∷ 0 ∷ 0 ∷ []) ≡ [] }
+{}
+
+/// Three times two blocks: two of AA, and BB CC.
+pub fn nested_blocks()
+    ensures length { expanded_length 2 profile_limits (3 ∷ 0 ∷ 2 ∷ 0 ∷ 2 ∷ 0 ∷ 0 ∷ 0 ∷ 1 ∷ 0xAA ∷ 1 ∷ 0 ∷ 0 ∷ 0 ∷ 2 ∷ 0xBB ∷ 0xCC ∷ []) ≡ Ok 12 }
+    ensures bytes { expanded 2 profile_limits (3 ∷ 0 ∷ 2 ∷ 0 ∷ 2 ∷ 0 ∷ 0 ∷ 0 ∷ 1 ∷ 0xAA ∷ 1 ∷ 0 ∷ 0 ∷ 0 ∷ 2 ∷ 0xBB ∷ 0xCC ∷ []) ≡ repeat 3 (0xAA ∷ 0xAA ∷ 0xBB ∷ 0xCC ∷ []) }
+{}
+
+/// A 32-bit repeat count; the block count has 16 bits.
+pub fn wide_blocks()
+    ensures length { expanded_length 4 profile_limits (0xFF ∷ 0xFF ∷ 0xFF ∷ 0xFF ∷ 0 ∷ 0 ∷ 0 ∷ []) ≡ Ok 0 }
+    ensures bytes { expanded 4 profile_limits (0xFF ∷ 0xFF ∷ 0xFF ∷ 0xFF ∷ 0 ∷ 0 ∷ 0 ∷ []) ≡ [] }
+    ensures too_long { expanded_length 4 profile_limits (1 ∷ 0 ∷ 0 ∷ 1 ∷ 0 ∷ 0 ∷ 1 ∷ 0xAA ∷ []) ≡ Err (fault 0 reason.DataTooLong) }
+    ensures long { expanded_length 4 profile_limits (0 ∷ 0 ∷ 0 ∷ 1 ∷ 0 ∷ 0 ∷ 1 ∷ 0xAA ∷ []) ≡ Ok 16777216 }
+{}
+
+/// Pieces that touch are one run.
+pub fn two_pieces()
+    ensures { runs_of (lay 1 4 (0xAA ∷ []) ∷ lay 1 5 (0xBB ∷ []) ∷ []) 1 ≡ run 4 2 ∷ [] }
+{}
+
+/// The last piece that covers a place gives its byte; an empty piece covers nothing.
+pub fn last_piece_wins()
+    ensures runs { runs_of five 1 ≡ run 0 7 ∷ [] }
+    ensures bytes { map (byte_at five 1) (range_with_len 0 8) ≡ Some 1 ∷ Some 0xAA ∷ Some 3 ∷ Some 4 ∷ Some 0xBB ∷ Some 0xCC ∷ Some 5 ∷ None ∷ [] }
+{}
+
+/// The last offset of a segment of 2^32 bytes; and a segment that no piece lies in.
+pub fn last_offset()
+    ensures second { slice_get (runs_of six 1) 1 ≡ Some (run 0xFFFFFFFF 1) }
+    ensures others { slice_get (runs_of six 1) 2 ≡ None }
+    ensures elsewhere { runs_of six 2 ≡ [] }
+{}

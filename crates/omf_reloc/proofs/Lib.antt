@@ -1,0 +1,2 @@
+pub mod PatchLaws
+pub mod EntryLaws

@@ -1,0 +1,55 @@
+-- The image and the start address that a placement gives a module.
+use Rattle.std.specs.Prelude.{ℕ, List, [], ◌∷◌, fold, Option, Some, Result, Ok, Err}
+use Rattle.omf_image.specs.declared.limits.Limits.{Limits}
+use Rattle.omf_reloc.specs.declared.fault.Cause.{Cause}
+use Rattle.omf_frame.specs.Bytes.{with_after, last}
+use Rattle.omf_records.specs.Values.{Rec, Contents, Plain, Iterated, DataItem, width, location_offset}
+use Rattle.omf_image.specs.Expanding.{expanded}
+use Rattle.omf_image.specs.Parts.{Addition, add_parts}
+use Rattle.omf_image.specs.Overlay.{Laid, byte_at}
+use Rattle.omf_check.specs.Threads.{PlainReference}
+use Rattle.omf_reloc.specs.Plain.{Piece, Kept, Fixed, End, PlainFixup, pieces, fixups_of_data}
+use Rattle.omf_reloc.specs.Placement.{Places, frame_by}
+use Rattle.omf_reloc.specs.Offsets.{outcome, start_offset}
+
+-- Data with what one fixup adds at its location; a fixup that does not reach adds nothing, and a placement that reaches has none such.
+abbrev pub added : ℕ → Result (List Addition) Cause → List ℕ → List ℕ
+added pos (Ok parts) bytes = add_parts pos parts bytes
+added pos (Err c) bytes = bytes
+
+-- The data of an LEDATA with what its fixups add, one after another in file order: they may overlap, and each adds to what stands there.
+abbrev pub patched : Places → DataItem → List (ℕ × PlainFixup) → List ℕ
+patched pl d fixups = fold (λ bytes f. added (location_offset f.1.locat) (outcome pl d f) bytes) d.bytes fixups
+
+-- What each data record lays in its segment: the patched data of an LEDATA, the bytes of an LIDATA's blocks.
+abbrev pub laid_contents : Limits → Places → ℕ → Contents → List Piece → List Laid
+laid_contents limits pl kind (Plain d) after = record { segment = d.segment.item; offset = d.offset.item; bytes = patched pl d (fixups_of_data after) } ∷ []
+laid_contents limits pl kind (Iterated d) after = record { segment = d.segment.item; offset = d.offset.item; bytes = expanded (width kind) limits d.bytes } ∷ []
+laid_contents limits pl kind _ after = []
+
+abbrev pub laid_piece : Limits → Places → Piece → List Piece → List Laid
+laid_piece limits pl (Kept r) after = laid_contents limits pl r.kind r.contents after
+laid_piece limits pl (Fixed kind fixups) after = []
+laid_piece limits pl (End kind byte start) after = []
+
+abbrev pub laid : Limits → Places → List Piece → List Laid
+laid limits pl ps = with_after (laid_piece limits pl) ps
+
+-- The byte of the image at an offset of a segment: that of the last data record, in file order, that covers it.
+abbrev pub image : Limits → Places → List Rec → ℕ → ℕ → Option ℕ
+image limits pl m segment x = byte_at (laid limits pl (pieces m)) segment x
+
+-- The start (TIS OMF 1.1, "MODEND"): the selector of its frame, and its offset.
+abbrev pub start_at : Places → PlainReference → Result ℕ Cause → List (ℕ × ℕ)
+start_at pl r (Ok o) = ((frame_by pl 0 r.target r.frame).selector, o) ∷ []
+start_at pl r (Err c) = []
+
+abbrev pub piece_start : Places → Piece → List (ℕ × ℕ)
+piece_start pl (End kind byte (Some r)) = start_at pl r (start_offset pl kind r)
+piece_start pl _ = []
+
+abbrev pub starts : Places → List Piece → List (ℕ × ℕ)
+starts pl ps = with_after (λ p after. piece_start pl p) ps
+
+abbrev pub start : Places → List Rec → Option (ℕ × ℕ)
+start pl m = last (starts pl (pieces m))

@@ -1,0 +1,13 @@
+pub mod Plain
+pub mod Placement
+pub mod Additions
+pub mod Offsets
+pub mod Reach
+pub mod Image
+pub mod Entries
+pub mod EntryReading
+pub mod PlacementText
+pub mod Derive
+pub mod Modules
+pub mod Rows
+pub mod Laws

@@ -1,0 +1,79 @@
+-- Modules of the worked examples, besides those of the checker.
+use Rattle.std.specs.Prelude.{ℕ, List, [], ◌∷◌, ◌++◌}
+use Rattle.std.specs.List.{repeat}
+use Rattle.omf_frame.specs.Framing.{Raw}
+use Rattle.omf_records.specs.Values.{Rec}
+use Rattle.omf_check.specs.Verdict.{Verdict, Accepted, Refused, Unknown}
+use Rattle.omf_check.specs.WellFormed.{recs}
+use Rattle.omf_check.specs.Rows.{verdict_of, H, N, S, L, F, M, with_fixup, threads, defined_thread, repeated, nested_blocks, big, started, thread_ahead}
+
+-- The records of an input that is accepted; none of any other.
+abbrev pub accepted : Verdict → List Raw
+accepted (Accepted rs) = rs
+accepted (Refused r p) = []
+accepted Unknown = []
+
+abbrev pub raws_of : List ℕ → List Raw
+raws_of input = accepted (verdict_of input)
+
+abbrev pub module_of : List ℕ → List Rec
+module_of input = recs (raws_of input)
+
+-- Frame thread 0 is F4; target thread 0 names the first segment, and later the second.
+abbrev pub with_threads : List ℕ
+with_threads = threads defined_thread
+
+-- A second data record over part of the first, each with a fixup.
+abbrev pub overlaid : List ℕ
+overlaid = H ++ N ++ S ++ L ++ F ++ 0xA0 ∷ 0x06 ∷ 0x00 ∷ 0x01 ∷ 0x01 ∷ 0x00 ∷ 0x05 ∷ 0x00 ∷ 0x53 ∷ 0x9C ∷ 0x06 ∷ 0x00 ∷ 0xC4 ∷ 0x00 ∷ 0x04 ∷ 0x01 ∷ 0x01 ∷ 0x94 ∷ M
+
+-- Two fixups whose locations overlap.
+abbrev pub overlapping : List ℕ
+overlapping = H ++ N ++ S ++ 0xA0 ∷ 0x08 ∷ 0x00 ∷ 0x01 ∷ 0x00 ∷ 0x00 ∷ 0xF0 ∷ 0xFF ∷ 0x00 ∷ 0x00 ∷ 0x68
+    ∷ 0x9C ∷ 0x0B ∷ 0x00 ∷ 0xC4 ∷ 0x00 ∷ 0x04 ∷ 0x01 ∷ 0x01 ∷ 0xC4 ∷ 0x01 ∷ 0x04 ∷ 0x01 ∷ 0x01 ∷ 0xC4 ∷ M
+
+-- A displacement of FFFCH.
+abbrev pub displaced : List ℕ
+displaced = with_fixup (0x9C ∷ 0x08 ∷ 0x00 ∷ 0xC4 ∷ 0x01 ∷ 0x00 ∷ 0x01 ∷ 0x01 ∷ 0xFC ∷ 0xFF ∷ 0x9A ∷ [])
+
+-- A near call of the segment itself.
+abbrev pub call : List ℕ
+call = H ++ N ++ S ++ 0xA0 ∷ 0x08 ∷ 0x00 ∷ 0x01 ∷ 0x00 ∷ 0x00 ∷ 0xE8 ∷ 0x00 ∷ 0x00 ∷ 0x90 ∷ 0xDF ∷ 0x9C ∷ 0x06 ∷ 0x00 ∷ 0x84 ∷ 0x01 ∷ 0x04 ∷ 0x01 ∷ 0x01 ∷ 0xD3 ∷ M
+
+-- A short jump to an external.
+abbrev pub jump : List ℕ
+jump = H ++ N ++ S ++ 0x8C ∷ 0x04 ∷ 0x00 ∷ 0x01 ∷ 0x58 ∷ 0x00 ∷ 0x17 ∷ 0xA0 ∷ 0x08 ∷ 0x00 ∷ 0x01 ∷ 0x00 ∷ 0x00 ∷ 0xEB ∷ 0x00 ∷ 0x00 ∷ 0x90 ∷ 0xDC
+    ∷ 0x9C ∷ 0x06 ∷ 0x00 ∷ 0x80 ∷ 0x01 ∷ 0x06 ∷ 0x01 ∷ 0x01 ∷ 0xD5 ∷ M
+
+abbrev pub with_blocks : List ℕ
+with_blocks = repeated nested_blocks
+
+-- The last two bytes of a big segment.
+abbrev pub big_end : List ℕ
+big_end = big (0xA0 ∷ 0x06 ∷ 0x00 ∷ 0x01 ∷ 0xFE ∷ 0xFF ∷ 0xAB ∷ 0xCD ∷ 0xE4 ∷ [])
+
+-- A start in the segment, whose frame is that of a group, by a thread.
+abbrev pub with_start : List ℕ
+with_start = started (0x8A ∷ 0x06 ∷ 0x00 ∷ 0xC1 ∷ 0xA0 ∷ 0x01 ∷ 0x02 ∷ 0x00 ∷ 0x0C ∷ [])
+
+-- A thread that names the second segment before it is there.
+abbrev pub early_thread : List ℕ
+early_thread = thread_ahead S
+
+-- A group of the segment, and a base by the frame of its target, which is the group.
+abbrev pub group_base : List ℕ
+group_base = H ++ N ++ S ++ 0x9A ∷ 0x04 ∷ 0x00 ∷ 0x02 ∷ 0xFF ∷ 0x01 ∷ 0x60 ∷ L ++ 0x9C ∷ 0x05 ∷ 0x00 ∷ 0xC8 ∷ 0x01 ∷ 0x55 ∷ 0x01 ∷ 0x40 ∷ M
+
+-- 205 fixups of one location.
+abbrev pub many_fixups : List ℕ
+many_fixups = with_fixup (0x9C ∷ 0x02 ∷ 0x04 ∷ repeat 205 (0xC4 ∷ 0x01 ∷ 0x04 ∷ 0x01 ∷ 0x01 ∷ []) ++ 0xCF ∷ [])
+
+-- A module that uses the external X, and two that have a public of that name, by a group and without a segment.
+abbrev pub using : List ℕ
+using = H ++ N ++ S ++ 0x8C ∷ 0x04 ∷ 0x00 ∷ 0x01 ∷ 0x58 ∷ 0x00 ∷ 0x17 ∷ L ++ 0x9C ∷ 0x05 ∷ 0x00 ∷ 0xC4 ∷ 0x01 ∷ 0x56 ∷ 0x01 ∷ 0x43 ∷ M
+
+abbrev pub group_public : List ℕ
+group_public = H ++ N ++ S ++ 0x9A ∷ 0x04 ∷ 0x00 ∷ 0x02 ∷ 0xFF ∷ 0x01 ∷ 0x60 ∷ 0x90 ∷ 0x08 ∷ 0x00 ∷ 0x01 ∷ 0x01 ∷ 0x01 ∷ 0x58 ∷ 0x02 ∷ 0x00 ∷ 0x00 ∷ 0x0B ∷ M
+
+abbrev pub constant_public : List ℕ
+constant_public = H ++ N ++ S ++ 0x90 ∷ 0x0A ∷ 0x00 ∷ 0x00 ∷ 0x00 ∷ 0x00 ∷ 0xB8 ∷ 0x01 ∷ 0x58 ∷ 0x02 ∷ 0x00 ∷ 0x00 ∷ 0x53 ∷ M

@@ -1,0 +1,59 @@
+-- A module with plain references, record by record: what reach, the image, the start and the canonical bytes rest on.
+use Rattle.std.specs.Prelude.{ℕ, ◌+◌, ◌*◌, List, [], ◌∷◌, map, flat_map, Bool, true, false, Option, option_map}
+use Rattle.omf_frame.specs.Bytes.{bits, with_before, up_to}
+use Rattle.omf_records.specs.Values.{At, Rec, alone, Contents, Plain, Iterated, Fixups, ModEnd, Subrecord, Thread, Fixup}
+use Rattle.omf_check.specs.Tables.{subrecords}
+use Rattle.omf_check.specs.Threads.{PlainReference, plain}
+
+-- A fixup with a plain reference (no thread, and a displacement of 0 where none is given): its first two bytes, and the reference.
+pub record PlainFixup : Type 0 where
+  pub locat : ℕ
+  pub reference : PlainReference
+
+-- A FIXUPP keeps its type and its fixups; a MODEND its type, its type byte and its start; any other record is kept without its places.
+pub data Piece : Type 0 where
+  Kept : Rec → Piece
+  Fixed : ℕ → List PlainFixup → Piece
+  End : ℕ → ℕ → Option PlainReference → Piece
+
+-- The fixups of a FIXUPP, each after all the subrecords before it in the module (TIS OMF 1.1, "FIXUPP": a thread holds until it is set anew).
+abbrev pub plain_fixup : List Subrecord → Subrecord → List PlainFixup
+plain_fixup earlier (Thread byte datum) = []
+plain_fixup earlier (Fixup locat r) = record { locat = locat; reference = plain earlier r } ∷ []
+
+abbrev pub plain_fixups : List Subrecord → List (At Subrecord) → List PlainFixup
+plain_fixups earlier subs = with_before plain_fixup earlier (map (λ s. s.item) subs)
+
+-- MODEND's type byte (TIS OMF 1.1, "MODEND"): bits 7 and 6 as they stand, bit 0 as bit 6, the ignored ones 0 (this profile's rule).
+abbrev pub end_byte : ℕ → ℕ
+end_byte byte = 128 * bits byte 7 1 + 64 * bits byte 6 1 + bits byte 6 1
+
+abbrev pub piece_of : List Subrecord → ℕ → Contents → Piece
+piece_of earlier kind (Fixups subs) = Fixed kind (plain_fixups earlier subs)
+piece_of earlier kind (ModEnd byte start) = End kind (end_byte byte) (option_map (plain earlier) start)
+piece_of earlier kind c = Kept (alone (record { kind = kind; contents = c }))
+
+-- The pieces of a module, one for each record.
+abbrev pub pieces : List Rec → List Piece
+pieces m = with_before (λ before r. piece_of (subrecords before) r.kind r.contents ∷ []) [] m
+
+-- Whether a piece is a data record: an LEDATA or an LIDATA.
+abbrev pub is_data_contents : Contents → Bool
+is_data_contents (Plain d) = true
+is_data_contents (Iterated d) = true
+is_data_contents _ = false
+
+abbrev pub is_data : Piece → Bool
+is_data (Kept r) = is_data_contents r.contents
+is_data (Fixed kind fixups) = false
+is_data (End kind byte start) = false
+
+-- The fixups of a piece, each with the type of its FIXUPP.
+abbrev pub fixups_in : Piece → List (ℕ × PlainFixup)
+fixups_in (Kept r) = []
+fixups_in (Fixed kind fixups) = map (λ f. (kind, f)) fixups
+fixups_in (End kind byte start) = []
+
+-- The fixups of a data record, in file order: those of all FIXUPPs between it and the next data record.
+abbrev pub fixups_of_data : List Piece → List (ℕ × PlainFixup)
+fixups_of_data after = flat_map fixups_in (up_to is_data after)

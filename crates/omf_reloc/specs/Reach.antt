@@ -1,0 +1,95 @@
+-- Whether a placement reaches, and the first reason why it does not.
+use Rattle.std.specs.Prelude.{◌≡◌, ℕ, ◌+◌, List, [], ◌∷◌, ◌++◌, length, map, flat_map, filter_map, zip, Bool, ◌==◌, ◌&&◌, nat_lt, Option, Some, None, option_map, if◌then◌else◌, slice_get}
+use Rattle.std.specs.List.{enumerate_from}
+use Rattle.omf_reloc.specs.declared.fault.Cause.{Cause}
+use Rattle.omf_reloc.specs.declared.fault.Kind.{Kind}
+use Rattle.omf_reloc.specs.declared.fault.Kind.TheVariants as kinds
+use Rattle.omf_reloc.specs.declared.fault.ReachFault.{ReachFault}
+use Rattle.omf_reloc.specs.declared.fault.ReachFault.TheVariants as fault
+use Rattle.omf_frame.specs.Bytes.{with_after}
+use Rattle.omf_records.specs.Values.{Rec, Contents, Fixups, ModEnd, Plain, Iterated, DataItem, Subrecord, Thread, Fixup}
+use Rattle.omf_check.specs.Tables.{segments, groups, externals}
+use Rattle.omf_check.specs.declared.segment.SegInfo.{SegInfo}
+use Rattle.omf_reloc.specs.Plain.{Piece, Kept, Fixed, End, pieces, fixups_of_data}
+use Rattle.omf_reloc.specs.Placement.{Places, Placed, placed, absolute_place}
+use Rattle.omf_reloc.specs.Offsets.{outcome, start_offset, cause_of}
+
+-- Whether each fixup reaches, in file order, and last the start: none, or the cause.
+abbrev pub data_contents : Contents → Option DataItem
+data_contents (Plain d) = Some d
+data_contents (Iterated d) = Some d
+data_contents _ = None
+
+abbrev pub causes_at : Places → Option DataItem → List Piece → List (Option Cause)
+causes_at pl None after = []
+causes_at pl (Some d) after = map (λ f. cause_of (outcome pl d f)) (fixups_of_data after)
+
+abbrev pub piece_causes : Places → Piece → List Piece → List (Option Cause)
+piece_causes pl (Kept r) after = causes_at pl (data_contents r.contents) after
+piece_causes pl (Fixed kind fixups) after = []
+piece_causes pl (End kind byte None) after = []
+piece_causes pl (End kind byte (Some r)) after = cause_of (start_offset pl kind r) ∷ []
+
+abbrev pub causes : Places → List Piece → List (Option Cause)
+causes pl ps = with_after (piece_causes pl) ps
+
+-- Where each of them stands: its record's number, and the offset in the record of the fixup's first byte, or of the start's fix data byte.
+abbrev pub fixup_place : ℕ → Subrecord → Option ℕ
+fixup_place within (Thread byte datum) = None
+fixup_place within (Fixup locat r) = Some within
+
+abbrev pub reference_places : Contents → List ℕ
+reference_places (Fixups subs) = filter_map (λ s. fixup_place s.within s.item) subs
+reference_places (ModEnd byte (Some r)) = r.fix.within ∷ []
+reference_places _ = []
+
+abbrev pub all_reference_places : List Rec → List (ℕ × ℕ)
+all_reference_places m = flat_map (λ p. map (λ within. (p.0, within)) (reference_places p.1.contents)) (enumerate_from 0 m)
+
+abbrev pub far_fault : (ℕ × ℕ) × Option Cause → Option ReachFault
+far_fault p = option_map (λ c. fault.TooFar p.0.0 p.0.1 c) p.1
+
+-- A table of n entries against a list of the placement: the first index without an entry, the first entry without an index.
+abbrev pub missing : Kind → ℕ → ℕ → List ReachFault
+missing k n given = if nat_lt given n then fault.Missing k (given + 1) ∷ [] else []
+
+abbrev pub extra : Kind → ℕ → ℕ → List ReachFault
+extra k n given = if nat_lt n given then fault.Extra k (n + 1) ∷ [] else []
+
+-- An absolute segment that does not lie where it says: its address, its frame's base and its selector all count.
+abbrev pub lies_at : Placed → Placed → Bool
+lies_at p q = (p.address == q.address) && (p.frame.base == q.frame.base) && (p.frame.selector == q.frame.selector)
+
+abbrev pub misplaced : Places → ℕ → Option (ℕ × ℕ) → List ReachFault
+misplaced pl i None = []
+misplaced pl i (Some a) = if lies_at (placed pl.segments i) (absolute_place a.0 a.1) then [] else fault.Absolute i ∷ []
+
+-- Every reason why the placement does not fit a module with these segments and so many groups and externals: its lists are not as long as the tables,
+-- or an absolute segment is misplaced.
+abbrev pub misfits_of : Places → List SegInfo → ℕ → ℕ → List ReachFault
+misfits_of pl infos group_count external_count =
+    missing kinds.Segment (length infos) (length pl.segments)
+    ++ missing kinds.Group group_count (length pl.groups)
+    ++ missing kinds.External external_count (length pl.externals)
+    ++ extra kinds.Segment (length infos) (length pl.segments)
+    ++ extra kinds.Group group_count (length pl.groups)
+    ++ extra kinds.External external_count (length pl.externals)
+    ++ flat_map (λ s. misplaced pl s.0 s.1.absolute) (enumerate_from 1 infos)
+
+abbrev pub misfits : Places → List Rec → List ReachFault
+misfits pl m = misfits_of pl (segments m) (length (groups m)) (length (externals m))
+
+-- Every reference that does not reach.
+abbrev pub far_faults : Places → List Rec → List ReachFault
+far_faults pl m = filter_map far_fault (zip (all_reference_places m) (causes pl (pieces m)))
+
+-- Every reason why a placement does not reach, in the order in which they are named.
+abbrev pub reach_faults : Places → List Rec → List ReachFault
+reach_faults pl m = misfits pl m ++ far_faults pl m
+
+-- A placement reaches where there is none; else the first is named.
+abbrev pub Reaches : Places → List Rec → Type 0
+Reaches pl m = reach_faults pl m ≡ []
+
+abbrev pub reach_fault : Places → List Rec → Option ReachFault
+reach_fault pl m = slice_get (reach_faults pl m) 0

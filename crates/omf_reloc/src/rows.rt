@@ -1,0 +1,143 @@
+//! Worked examples, each evaluated by the check.
+
+ghost use Rattle.std.specs.Prelude.{◌≡◌, ℕ, [], ◌∷◌, ◌++◌, Ok, Err, Some, None, codes};
+ghost use Rattle.omf_reloc.specs.declared.fault.Cause.TheVariants as cause;
+ghost use Rattle.omf_reloc.specs.declared.fault.DeriveFault.TheVariants as derive;
+ghost use Rattle.omf_reloc.specs.declared.fault.Kind.TheVariants as kind;
+ghost use Rattle.omf_reloc.specs.declared.fault.ReachFault.TheVariants as fault;
+ghost use Rattle.omf_check.specs.Rows.{first_module, with_fixup, flat, absolute, public};
+ghost use Rattle.omf_reloc.specs.Modules.{with_threads, overlaid, overlapping, displaced, call, jump, with_blocks, big_end, with_start, early_thread, group_base, many_fixups, using, group_public, constant_public};
+ghost use Rattle.omf_reloc.specs.Rows.{frame, at, places, only, low, relocated, run_from_0, started, placed_by, derived_image, lies};
+
+/// A fixup adds the offset of its target, 20H; without an entry for the segment the placement does not reach.
+pub fn first_image()
+    ensures reaches { relocated first_module low 1 ≡ run_from_0 (0xB8 ∷ 0x20 ∷ 0 ∷ 0x90 ∷ []) }
+    ensures missing { relocated first_module (places [] [] []) 1 ≡ Err (fault.Missing kind.Segment 1) }
+{}
+
+/// Threads stay in force across FIXUPPs and data records until they are set anew.
+pub fn threads_hold()
+    ensures first { relocated with_threads (places (at 0x20 0x10 1 ∷ at 0x50 0x40 4 ∷ []) [] []) 1 ≡ run_from_0 (0x10 ∷ 0 ∷ 0x40 ∷ 0 ∷ []) }
+    ensures second { relocated with_threads (places (at 0x20 0x10 1 ∷ at 0x50 0x40 4 ∷ []) [] []) 2 ≡ run_from_0 (0x10 ∷ 0 ∷ []) }
+{}
+
+/// The later data record wins, with its own fixup on its own bytes.
+pub fn later_data_wins()
+    ensures { relocated overlaid low 1 ≡ run_from_0 (0xB8 ∷ 0x25 ∷ 0 ∷ 0x90 ∷ []) }
+{}
+
+/// Fixups that overlap add in file order.
+pub fn overlapping_fixups()
+    ensures { relocated overlapping low 1 ≡ run_from_0 (0x10 ∷ 0x20 ∷ 0 ∷ 0 ∷ []) }
+{}
+
+/// The last offset of 16 bits, and the first beyond.
+pub fn ends_of_reach()
+    ensures last { relocated first_module (only (at 0x1FFFF 0x10000 0x1000)) 1 ≡ run_from_0 (0xB8 ∷ 0xFF ∷ 0xFF ∷ 0x90 ∷ []) }
+    ensures beyond { relocated first_module (only (at 0x20000 0x10000 0x1000)) 1 ≡ Err (fault.TooFar 4 3 cause.Target) }
+{}
+
+/// A displacement is read without a sign first, and then with one.
+pub fn both_readings()
+    ensures signed { relocated displaced low 1 ≡ run_from_0 (0xB8 ∷ 0x1C ∷ 0 ∷ 0x90 ∷ []) }
+    ensures unsigned { relocated displaced (only (at 0x10002 0x10000 0x1000)) 1 ≡ run_from_0 (0xB8 ∷ 0xFE ∷ 0xFF ∷ 0x90 ∷ []) }
+    ensures last { relocated displaced (only (at 0x20003 0x10000 0x1000)) 1 ≡ run_from_0 (0xB8 ∷ 0xFF ∷ 0xFF ∷ 0x90 ∷ []) }
+    ensures beyond { relocated displaced (only (at 0x20004 0x10000 0x1000)) 1 ≡ Err (fault.TooFar 4 3 cause.Target) }
+{}
+
+/// A near call adds the distance from the byte after its location.
+pub fn near_call()
+    ensures reaches { relocated call low 1 ≡ run_from_0 (0xE8 ∷ 0xFD ∷ 0xFF ∷ 0x90 ∷ []) }
+    ensures beyond { relocated call (only (at 0x1FFFF 0x10000 0x1000)) 1 ≡ Err (fault.TooFar 4 3 cause.Location) }
+{}
+
+/// A short jump reaches 127 bytes ahead; an external needs an entry.
+pub fn short_jump()
+    ensures last { relocated jump (places (at 0x10020 0x10000 0x1000 ∷ []) [] (at 0x100A1 0x10000 0x1000 ∷ [])) 1 ≡ run_from_0 (0xEB ∷ 0x7F ∷ 0 ∷ 0x90 ∷ []) }
+    ensures beyond { relocated jump (places (at 0x10020 0x10000 0x1000 ∷ []) [] (at 0x100A2 0x10000 0x1000 ∷ [])) 1 ≡ Err (fault.TooFar 5 3 cause.Distance) }
+    ensures missing { relocated jump low 1 ≡ Err (fault.Missing kind.External 1) }
+{}
+
+/// A 32-bit offset in a flat group, and a pointer of 16:32.
+pub fn flat_group()
+    ensures { relocated flat (places (at 0x401000 0 0x1B ∷ []) (frame 0 0x23 ∷ []) []) 1 ≡ run_from_0 (0 ∷ 0x10 ∷ 0x40 ∷ 0 ∷ 0x23 ∷ 0 ∷ 4 ∷ 0x10 ∷ 0x40 ∷ 0 ∷ []) }
+{}
+
+/// Repeated blocks.
+pub fn repeats()
+    ensures { relocated with_blocks low 1 ≡ run_from_0 (0xAA ∷ 0xAA ∷ 0xBB ∷ 0xCC ∷ 0xAA ∷ 0xAA ∷ 0xBB ∷ 0xCC ∷ 0xAA ∷ 0xAA ∷ 0xBB ∷ 0xCC ∷ []) }
+{}
+
+/// A location that ends with the data, and data that end with the segment.
+pub fn last_bytes()
+    ensures fixup { relocated (with_fixup (0x9C ∷ 6 ∷ 0 ∷ 0xC4 ∷ 2 ∷ 4 ∷ 1 ∷ 1 ∷ 0x92 ∷ [])) low 1 ≡ run_from_0 (0xB8 ∷ 0 ∷ 0x20 ∷ 0x90 ∷ []) }
+    ensures data_end { relocated big_end low 1 ≡ Ok ((0xFFFE, 0xAB ∷ 0xCD ∷ []) ∷ []) }
+{}
+
+/// A start in the frame of a group, whose frame stands in the text, or is taken from its lowest member.
+pub fn start_address()
+    ensures text { placed_by with_start (codes "S 10020 10000 1000" ++ 10 ∷ codes "G 10010 1001") ≡ Ok (places (at 0x10020 0x10000 0x1000 ∷ []) (frame 0x10010 0x1001 ∷ []) []) }
+    ensures start { started with_start (places (at 0x10020 0x10000 0x1000 ∷ []) (frame 0x10010 0x1001 ∷ []) []) ≡ Ok (Some (0x1001, 0x12)) }
+    ensures real_text { placed_by with_start (codes "S 10020 real" ++ 10 ∷ codes "G real") ≡ Ok (places (at 0x10020 0x10020 0x1002 ∷ []) (frame 0x10020 0x1002 ∷ []) []) }
+    ensures real_start { started with_start (places (at 0x10020 0x10020 0x1002 ∷ []) (frame 0x10020 0x1002 ∷ []) []) ≡ Ok (Some (0x1002, 2)) }
+{}
+
+/// A text's lines: comments, one space between words, addresses of real segments below 2^20, groups that are there.
+pub fn placement_lines()
+    ensures comment { placed_by first_module (codes "S 10020 real ; x") ≡ Ok (only (at 0x10020 0x10020 0x1002)) }
+    ensures image { relocated first_module (only (at 0x10020 0x10020 0x1002)) 1 ≡ run_from_0 (0xB8 ∷ 0 ∷ 0 ∷ 0x90 ∷ []) }
+    ensures two_spaces { placed_by first_module (codes "S 10020  real") ≡ Err 1 }
+    ensures too_high { placed_by first_module (10 ∷ codes "S 100000 real") ≡ Err 2 }
+    ensures extra { placed_by first_module (codes "S 10020 10000 1000" ++ 10 ∷ codes "G 0 0") ≡ Ok (places (at 0x10020 0x10000 0x1000 ∷ []) (frame 0 0 ∷ []) []) }
+    ensures too_many { relocated first_module (places (at 0x10020 0x10000 0x1000 ∷ []) (frame 0 0 ∷ []) []) 1 ≡ Err (fault.Extra kind.Group 1) }
+    ensures no_group { placed_by first_module (codes "G real") ≡ Err 1 }
+    ensures line_end { placed_by first_module (codes "S 10020 10000 1000" ++ 13 ∷ 10 ∷ []) ≡ Ok low }
+    ensures lower_case { placed_by first_module (codes "s 10020 10000 1000") ≡ Err 1 }
+{}
+
+/// An absolute segment lies where it says, and nowhere else.
+pub fn absolute_segment()
+    ensures text { placed_by absolute (codes "S B8000 real") ≡ Ok (only (at 0xB8000 0xB8000 0xB800)) }
+    ensures there { relocated absolute (only (at 0xB8000 0xB8000 0xB800)) 1 ≡ run_from_0 (0xB8 ∷ 0 ∷ 0 ∷ 0x90 ∷ []) }
+    ensures elsewhere { relocated absolute (only (at 0xB8010 0xB8010 0xB801)) 1 ≡ Err (fault.Absolute 1) }
+{}
+
+/// A thread's index counts where a fixup uses it.
+pub fn index_at_its_use()
+    ensures { relocated early_thread (places (at 0x10020 0x10000 0x1000 ∷ at 0x10040 0x10000 0x1000 ∷ []) [] []) 1 ≡ run_from_0 (0xB8 ∷ 0x40 ∷ 0 ∷ 0x90 ∷ []) }
+{}
+
+/// A pointer of 16:16, a high byte, and the base of a target that is a group.
+pub fn other_locations()
+    ensures pointer { relocated (with_fixup (0x9C ∷ 6 ∷ 0 ∷ 0xCC ∷ 0 ∷ 4 ∷ 1 ∷ 1 ∷ 0x8C ∷ [])) low 1 ≡ run_from_0 (0xD8 ∷ 0 ∷ 0 ∷ 0xA0 ∷ []) }
+    ensures high_byte { relocated (with_fixup (0x9C ∷ 6 ∷ 0 ∷ 0xD0 ∷ 0 ∷ 4 ∷ 1 ∷ 1 ∷ 0x88 ∷ [])) (only (at 0x10420 0x10000 0x1000)) 1 ≡ run_from_0 (0xBC ∷ 0 ∷ 0 ∷ 0x90 ∷ []) }
+    ensures base { relocated group_base (places (at 0x10020 0x10000 0x1000 ∷ []) (frame 0x10010 0x1001 ∷ []) []) 1 ≡ run_from_0 (0xB8 ∷ 1 ∷ 0x10 ∷ 0x90 ∷ []) }
+{}
+
+/// 205 fixups of one location add up.
+pub fn many_additions()
+    ensures { relocated many_fixups low 1 ≡ run_from_0 (0xB8 ∷ 0xA0 ∷ 0x19 ∷ 0x90 ∷ []) }
+{}
+
+/// An external takes the place of the one public of its name.
+pub fn derived_place()
+    ensures { derived_image (lies using 0x10020 0x10000 0x1000 ∷ lies public 0x20040 0x20000 0x2000 ∷ []) [] ≡ Ok (at 0x20042 0x20000 0x2000 ∷ [], run_from_0 (0xB8 ∷ 0x42 ∷ 0 ∷ 0x90 ∷ [])) }
+{}
+
+/// None, two, or one that lies too high.
+pub fn not_derived()
+    ensures none { derived_image (lies using 0x10020 0x10000 0x1000 ∷ []) [] ≡ Err (derive.Undefined 0 1) }
+    ensures two { derived_image (lies using 0x10020 0x10000 0x1000 ∷ lies public 0x20040 0x20000 0x2000 ∷ lies public 0x20040 0x20000 0x2000 ∷ []) [] ≡ Err (derive.Twice 0 1) }
+    ensures high { derived_image (lies using 0x10020 0x10000 0x1000 ∷ lies public 0xFFFFFFFF 0xFFFF0000 1 ∷ []) [] ≡ Err (derive.TooHigh 0 1) }
+{}
+
+/// A given place counts before any public.
+pub fn given_place_counts()
+    ensures { derived_image (lies using 0x10020 0x10000 0x1000 ∷ lies public 0x20040 0x20000 0x2000 ∷ lies public 0x20040 0x20000 0x2000 ∷ []) (record { «module» = 0; external = 1; address = 0x30000; frame = frame 0x30000 0x3000 } ∷ []) ≡ Ok (at 0x30000 0x30000 0x3000 ∷ [], run_from_0 (0xB8 ∷ 0 ∷ 0 ∷ 0x90 ∷ [])) }
+{}
+
+/// A public in a group has the group's frame; one without a segment has its base frame.
+pub fn public_bases()
+    ensures group { derived_image (lies using 0x10020 0x10000 0x1000 ∷ (group_public, places (at 0x20040 0x20000 0x2000 ∷ []) (frame 0x20010 0x2001 ∷ []) []) ∷ []) [] ≡ Ok (at 0x20042 0x20010 0x2001 ∷ [], run_from_0 (0xB8 ∷ 0x32 ∷ 0 ∷ 0x90 ∷ [])) }
+    ensures constant { derived_image (lies using 0x10020 0x10000 0x1000 ∷ lies constant_public 0x20040 0x20000 0x2000 ∷ []) [] ≡ Ok (at 0xB8002 0xB8000 0xB800 ∷ [], run_from_0 (0xB8 ∷ 2 ∷ 0 ∷ 0x90 ∷ [])) }
+{}
