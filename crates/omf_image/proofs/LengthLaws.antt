@@ -20,10 +20,10 @@ pub blocks_read : (width levels : ℕ) (bytes : List ℕ) → AreBytes bytes →
 blocks_read width levels bytes h = whole_meets (blocks_whole width levels) 0 bytes h
 
 -- the length of blocks that were read, by the test whether they are within the limit
-abbrev judged : Bool → ℕ → Result ℕ Fault
+abbrev pub judged : Bool → ℕ → Result ℕ Fault
 judged b n = length_or n (least (first_step ([] ∷ broken (rule b 0 reason.DataTooLong ∷ []) ∷ [])))
 
-abbrev length_of : ℕ → Result Blocks Fault → Result ℕ Fault
+abbrev pub length_of : ℕ → Result Blocks Fault → Result ℕ Fault
 length_of limit r = length_or (blocks_size (blocks_or_none r)) (least (first_step (faults_of r ∷ broken (rule (nat_le (blocks_size (blocks_or_none r)) limit) 0 reason.DataTooLong ∷ []) ∷ [])))
 
 judged_ok : (b : Bool) (n m : ℕ) → judged b n ≡ Ok m → (b ≡ true) × (n ≡ m)
@@ -40,10 +40,10 @@ within n limit e = elim (leb_tells n limit) [ inl t ↦ t.1 | inr t ↦ absurd (
 beyond : (n limit : ℕ) → nat_le n limit ≡ false → limit < n
 beyond n limit e = elim (leb_tells n limit) [ inl t ↦ absurd (let same = t.0 in cc) | inr t ↦ omega (arith, t.1) ]
 
-is_within : (n limit : ℕ) → n ≤ limit → nat_le n limit ≡ true
+pub is_within : (n limit : ℕ) → n ≤ limit → nat_le n limit ≡ true
 is_within n limit h = le-leb n limit h
 
-is_beyond : (n limit : ℕ) → limit < n → nat_le n limit ≡ false
+pub is_beyond : (n limit : ℕ) → limit < n → nat_le n limit ≡ false
 is_beyond n limit h = elim (leb_tells n limit) [ inl t ↦ absurd (omega (arith, t.1, h)) | inr t ↦ t.0 ]
 
 module _ (width : ℕ) (limits : Limits) (bytes : List ℕ) where

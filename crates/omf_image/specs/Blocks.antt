@@ -1,5 +1,5 @@
 -- Repeated blocks of LIDATA (TIS OMF 1.1, "LIDATA", data blocks).
-use Rattle.std.specs.Prelude.{◌≡◌, ◌⊎◌, ◌<◌, ◌≤◌, IsTrue, ℕ, zero, suc, ◌+◌, ◌*◌, List, [], ◌∷◌, ◌++◌, length, map, ◌==◌}
+use Rattle.std.specs.Prelude.{◌≡◌, ◌⊎◌, ◌<◌, ◌≤◌, IsTrue, Bool, if◌then◌else◌, ℕ, zero, suc, ◌+◌, ◌*◌, List, [], ◌∷◌, ◌++◌, length, map, ◌==◌}
 use Rattle.std.specs.List.{repeat}
 use Rattle.omf_frame.specs.Fault.{Fault, is_before}
 use Rattle.omf_frame.specs.declared.fault.Reason.{Reason}
@@ -19,7 +19,11 @@ mutual
 
 abbrev pub gathered : List Block → Blocks
 gathered [] = NoBlocks
-gathered (b ∷ blocks) = First b (gathered blocks)
+gathered (b ∷ bs) = First b (gathered bs)
+
+-- A repeat count has four bytes in the odd record type, two in the even one.
+abbrev pub count_size : Bool → ℕ
+count_size wide = if wide then 4 else 2
 
 -- A repeat count of `width` bytes, a block count of two, and then, where the block count is 0, a length byte and that many bytes,
 -- otherwise that many blocks. So many levels are still allowed; where none is left, the repeat count is refused.
@@ -27,11 +31,11 @@ abbrev pub too_deep : ℕ → List Reason
 too_deep count = reason.TooDeep ∷ []
 
 abbrev pub block_contents : Layout Block → ℕ → ℕ → Layout Block
-block_contents inner count blocks = choose (blocks == 0) (called name (λ bytes. Repeat count bytes)) (called (times blocks inner) (λ bs. Nest count (gathered bs)))
+block_contents inner count n = choose (n == 0) (called name (λ bytes. Repeat count bytes)) (called (times n inner) (λ bs. Nest count (gathered bs)))
 
 abbrev pub block : ℕ → ℕ → Layout Block
 block width zero = called (checked (le width) too_deep) (λ count. Repeat count [])
-block width (suc levels) = le width >>= λ count. le 2 >>= λ blocks. block_contents (block width levels) count blocks
+block width (suc levels) = le width >>= λ count. le 2 >>= λ n. block_contents (block width levels) count n
 
 -- Blocks up to the end of the bytes; an outermost block is at the first level.
 abbrev pub blocks : ℕ → ℕ → Layout Blocks
@@ -47,21 +51,21 @@ abbrev mutual
   pub block_bytes : Block → List ℕ
   block_bytes (Repeat count bytes) = repeated count bytes
   block_bytes (Nest zero _) = []
-  block_bytes (Nest (suc n) blocks) = repeated (suc n) (blocks_bytes blocks)
+  block_bytes (Nest (suc n) trees) = repeated (suc n) (blocks_bytes trees)
 
   pub blocks_bytes : Blocks → List ℕ
   blocks_bytes NoBlocks = []
-  blocks_bytes (First b blocks) = block_bytes b ++ blocks_bytes blocks
+  blocks_bytes (First b trees) = block_bytes b ++ blocks_bytes trees
 
 -- How many they are.
 abbrev mutual
   pub block_size : Block → ℕ
   block_size (Repeat count bytes) = count * length bytes
-  block_size (Nest count blocks) = count * blocks_size blocks
+  block_size (Nest count trees) = count * blocks_size trees
 
   pub blocks_size : Blocks → ℕ
   blocks_size NoBlocks = 0
-  blocks_size (First b blocks) = block_size b + blocks_size blocks
+  blocks_size (First b trees) = block_size b + blocks_size trees
 
 -- The bytes spell these blocks within the limits. Places count from the first block's byte.
 abbrev pub AreBlocks : ℕ → Limits → List ℕ → Blocks → Type 0

@@ -13,7 +13,7 @@ read_blocks width levels bytes = (blocks_whole width levels).read 0 bytes
 
 -- The blocks; none where they have a fault.
 abbrev pub blocks_or_none : Result Blocks Fault → Blocks
-blocks_or_none (Ok blocks) = blocks
+blocks_or_none (Ok trees) = trees
 blocks_or_none (Err e) = NoBlocks
 
 abbrev pub blocks_of : ℕ → Limits → List ℕ → Blocks

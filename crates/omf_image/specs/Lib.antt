@@ -4,6 +4,7 @@ pub mod Overlay
 pub mod Joined
 pub mod Blocks
 pub mod BlockReaders
+pub mod Lengths
 pub mod Expanding
 pub mod Rows
 pub mod Laws

@@ -3,11 +3,13 @@
 #![tactic(auto)]
 
 pub mod laws;
+mod length;
 mod limits;
 mod part;
 pub mod rows;
 mod run;
 
+pub use length::expanded_len;
 pub use limits::Limits;
 pub use part::{Part, add_part};
 pub use run::Run;

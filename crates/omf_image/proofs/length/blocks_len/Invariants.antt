@@ -1,0 +1,15 @@
+use Rattle.std.proofs.Common.{◌≡◌, ◌≤◌, ◌-◌, length, drop}
+use Rattle.omf_image.specs.Blocks.{count_size}
+use Rattle.omf_image.specs.Lengths.{len_block, len_all}
+use Rattle.omf_image.proofs.length.blocks_len.Given as goal
+
+-- the blocks that are left, after those that were counted, are all the blocks
+abbrev pub invariant-loop-pos : goal.invariant-loop-pos
+invariant-loop-pos l = record {
+  inside : l.pos ≤ length l.bytes;
+  same : len_all (len_block (count_size l.wide) l.levels) (length l.bytes) l.total l.pos (drop l.pos l.bytes)
+      ≡ len_all (len_block (count_size l.wide) l.levels) (length l.bytes) 0 0 l.bytes;
+}
+
+abbrev pub decreases-loop-pos : goal.decreases-loop-pos
+decreases-loop-pos l = length l.bytes - l.pos

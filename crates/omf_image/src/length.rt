@@ -1,0 +1,131 @@
+//! How many bytes blocks stand for.
+
+ghost use Rattle.std.specs.Prelude.{◌≡◌, ◌+◌, ◌<◌, ◌≤◌, length, drop, IfOk};
+ghost use Rattle.omf_records.specs.FieldReaders.{le_read};
+ghost use Rattle.omf_image.specs.Blocks.{count_size};
+ghost use Rattle.omf_image.specs.Lengths.{read_to, len_data, len_block, len_all};
+ghost use Rattle.omf_image.specs.Expanding.{expanded_length};
+
+use crate::limits::Limits;
+use byteorder::{ByteOrder, LittleEndian};
+use omf_frame::Reason;
+use omf_records::{Blocks, LayoutFault};
+
+/// A fault at a position, counted from the first block's byte.
+fn fault_at(pos: usize, reason: Reason) -> LayoutFault
+    requires { pos < 65536 }
+    ensures { result ≡ record { within = pos; reason = reason } }
+{
+    LayoutFault {
+        reason,
+        within: pos as u32,
+    }
+}
+
+/// The number of two bytes at `pos`, and the position after it.
+pub fn word_at(bytes: &[u8], pos: usize) -> Result<(u32, usize), LayoutFault>
+    requires { (pos ≤ length bytes.now) × (length bytes.now ≤ 65534) }
+    ensures read { read_to bytes.now result ≡ le_read 2 pos (drop pos bytes.now) }
+    ensures bound { IfOk result (λ r. (r.1 ≡ pos + 2) × (r.1 ≤ length bytes.now)) }
+{
+    if bytes.len() - pos < 2 {
+        return Err(fault_at(pos, Reason::Short));
+    }
+    Ok((u32::from(LittleEndian::read_u16(&bytes[pos..])), pos + 2))
+}
+
+/// The number of four bytes at `pos`, and the position after it.
+fn dword_at(bytes: &[u8], pos: usize) -> Result<(u32, usize), LayoutFault>
+    requires { (pos ≤ length bytes.now) × (length bytes.now ≤ 65534) }
+    ensures read { read_to bytes.now result ≡ le_read 4 pos (drop pos bytes.now) }
+    ensures bound { IfOk result (λ r. (r.1 ≡ pos + 4) × (r.1 ≤ length bytes.now)) }
+{
+    if bytes.len() - pos < 4 {
+        return Err(fault_at(pos, Reason::Short));
+    }
+    Ok((LittleEndian::read_u32(&bytes[pos..]), pos + 4))
+}
+
+/// The repeat count at `pos`, of 32 bits or 16, and the position after it.
+pub fn count_at(bytes: &[u8], wide: bool, pos: usize) -> Result<(u32, usize), LayoutFault>
+    requires { (pos ≤ length bytes.now) × (length bytes.now ≤ 65534) }
+    ensures read { read_to bytes.now result ≡ le_read (count_size wide) pos (drop pos bytes.now) }
+    ensures bound { IfOk result (λ r. (pos < r.1) × (r.1 ≤ length bytes.now)) }
+{
+    if wide {
+        return dword_at(bytes, pos);
+    }
+    word_at(bytes, pos)
+}
+
+/// How many bytes of data stand at `pos` after their length byte, and the position after them.
+pub fn data_at(bytes: &[u8], pos: usize) -> Result<(u64, usize), LayoutFault>
+    requires { (pos ≤ length bytes.now) × (length bytes.now ≤ 65534) }
+    ensures read { read_to bytes.now result ≡ len_data pos (drop pos bytes.now) }
+    ensures bound { IfOk result (λ r. (pos < r.1) × (r.1 ≤ length bytes.now)) }
+{
+    match &bytes[pos..] {
+        [len, data @ ..] if usize::from(*len) <= data.len() => {
+            Ok((u64::from(*len), pos + 1 + usize::from(*len)))
+        }
+        _ => Err(fault_at(pos, Reason::Short)),
+    }
+}
+
+/// How many bytes the block at `pos` stands for, where `levels` more levels are allowed, and the position after it.
+fn block_len(bytes: &[u8], wide: bool, levels: u32, pos: usize) -> Result<(u64, usize), LayoutFault>
+    requires { (pos ≤ length bytes.now) × (length bytes.now ≤ 65534) }
+    ensures read { read_to bytes.now result ≡ len_block (count_size wide) levels pos (drop pos bytes.now) }
+    ensures bound { IfOk result (λ r. (pos < r.1) × (r.1 ≤ length bytes.now)) }
+{
+    let (count, after_count) = count_at(bytes, wide, pos)?;
+    if levels == 0 {
+        return Err(fault_at(pos, Reason::TooDeep));
+    }
+    let (blocks, start) = word_at(bytes, after_count)?;
+    if blocks == 0 {
+        let (data, end) = data_at(bytes, start)?;
+        return Ok((u64::from(count).saturating_mul(data), end));
+    }
+    let mut inner: u64 = 0;
+    let mut end = start;
+    for _ in 0..blocks {
+        let (len, next) = block_len(bytes, wide, levels - 1, end)?;
+        inner = inner.saturating_add(len);
+        end = next;
+    }
+    Ok((u64::from(count).saturating_mul(inner), end))
+}
+
+/// How many bytes blocks stand for, up to 2^64 - 1, where `levels` levels are allowed.
+fn blocks_len(bytes: &[u8], wide: bool, levels: u32) -> Result<u64, LayoutFault>
+    requires { length bytes.now ≤ 65534 }
+    ensures { result ≡ len_all (len_block (count_size wide) levels) (length bytes.now) 0 0 bytes.now }
+{
+    let mut total: u64 = 0;
+    let mut pos = 0;
+    while pos < bytes.len() {
+        let (len, next) = block_len(bytes, wide, levels, pos)?;
+        total = total.saturating_add(len);
+        pos = next;
+    }
+    Ok(total)
+}
+
+/// How many bytes the blocks of an LIDATA stand for (TIS OMF 1.1, "LIDATA"); or their first fault, whose `within` counts from the
+/// first block's byte.
+///
+/// # Errors
+///
+/// `Short` or `TooDeep` at the leftmost place that has one, `Short` at a tie; else, where the blocks stand for more bytes than
+/// the limit, `DataTooLong` at 0.
+pub fn expanded_len(blocks: Blocks<'_>, limits: Limits) -> Result<u32, LayoutFault>
+    requires { (limits.nesting ≤ 64) × (length blocks.bytes.now ≤ 65534) }
+    ensures { result ≡ expanded_length (count_size blocks.entry.wide) limits blocks.entry.bytes.now }
+{
+    let len = blocks_len(blocks.bytes, blocks.wide, limits.nesting)?;
+    if len > u64::from(limits.expanded) {
+        return Err(fault_at(0, Reason::DataTooLong));
+    }
+    Ok(len as u32)
+}
