@@ -5,4 +5,5 @@ pub mod TreeLaws
 pub mod AcceptLaws
 pub mod VerdictLaws
 pub mod CellLaws
+pub mod Lesser
 pub mod LimitLaws

@@ -2,10 +2,14 @@
 #![tactic(auto)]
 
 mod fault;
+mod last_data;
 pub mod laws;
 mod profile;
 pub mod rows;
+mod rule;
 mod segment;
+mod table;
+mod threads;
 
 pub use fault::CheckFault;
 pub use profile::Profile;
