@@ -6,4 +6,5 @@ pub mod AcceptLaws
 pub mod VerdictLaws
 pub mod CellLaws
 pub mod Lesser
+pub mod Found
 pub mod LimitLaws

@@ -1,10 +1,10 @@
 -- The least fault of a record, computed from what is kept of the records before it.
-use Rattle.std.specs.Prelude.{ℕ, ◌+◌, ◌-◌, List, [], ◌∷◌, length, Bool, true, false, not, ◌||◌, ◌==◌, nat_le, nat_lt, Option, Some, None, unwrap_or, option_map, Result, Ok, Err, if◌then◌else◌}
+use Rattle.std.specs.Prelude.{ℕ, ◌+◌, ◌-◌, List, [], ◌∷◌, length, Bool, true, false, not, ◌||◌, ◌==◌, nat_le, nat_lt, Option, Some, None, unwrap_or, option_map, Result, Ok, Err, if◌then◌else◌, ◌≤◌, ⊤}
 use Rattle.omf_frame.specs.Fault.{Fault, is_before}
 use Rattle.omf_frame.specs.declared.fault.Reason.{Reason}
 use Rattle.omf_frame.specs.declared.fault.Reason.TheVariants as reason
 use Rattle.omf_records.specs.Location.{location_size}
-use Rattle.omf_records.specs.Values.{At, Rec, Contents, Header, Comment, Names, Segment, Group, Externs, Publics, Communals, Plain, Iterated, Fixups, ModEnd, Carried, DataItem, GroupItem, Subrecord, Thread, Fixup, Reference, width, location_type, location_offset, frame_by_thread, frame_thread, frame_bits, target_by_thread, target_bits}
+use Rattle.omf_records.specs.Values.{At, Rec, Contents, Header, Comment, Names, Segment, Group, Externs, Publics, Communals, Plain, Iterated, Fixups, ModEnd, Carried, SegmentItem, GroupItem, Subrecord, Thread, Fixup, Reference, width, location_type, location_offset, frame_by_thread, frame_thread, frame_bits, target_by_thread, target_bits}
 use Rattle.omf_image.specs.Expanding.{expanded_length}
 use Rattle.omf_image.specs.declared.limits.Limits.{Limits}
 use Rattle.omf_check.specs.Tables.{is_defined, is_none_or_defined, entry}
@@ -100,17 +100,26 @@ abbrev pub members_fault : ℕ → List (At (At ℕ)) → Option Fault
 members_fault n [] = None
 members_fault n (m ∷ members) = lesser (entry_fault n reason.UndefinedSegment m.item) (members_fault n members)
 
+abbrev pub segment_fault : Kept → SegmentItem → Option Fault
+segment_fault kept s = lesser (fault_unless (nat_lt (length kept.segments) table_limit) 3 reason.TooMany)
+    (lesser (optional_fault (length kept.names) reason.UndefinedName s.name) (optional_fault (length kept.names) reason.UndefinedName s.class))
+
+abbrev pub group_fault : Kept → GroupItem → Option Fault
+group_fault kept g = lesser (fault_unless (nat_lt (length kept.groups) table_limit) 3 reason.TooMany)
+    (lesser (optional_fault (length kept.names) reason.UndefinedName g.name) (members_fault (length kept.segments) g.members))
+
+abbrev pub base_fault : Kept → At ℕ → At ℕ → Option Fault
+base_fault kept group segment = lesser (optional_fault (length kept.groups) reason.UndefinedGroup group)
+    (optional_fault (length kept.segments) reason.UndefinedSegment segment)
+
 -- by the record's contents; data records with so many bytes of data
 abbrev pub contents_fault : Profile → Kept → ℕ → Contents → Option Fault
 contents_fault profile kept size (Comment byte class text) = comment_fault profile class
 contents_fault profile kept size (Names items) = room_fault (table_limit - length kept.names) (places items)
-contents_fault profile kept size (Segment s) = lesser (fault_unless (nat_lt (length kept.segments) table_limit) 3 reason.TooMany)
-    (lesser (optional_fault (length kept.names) reason.UndefinedName s.name) (optional_fault (length kept.names) reason.UndefinedName s.class))
-contents_fault profile kept size (Group g) = lesser (fault_unless (nat_lt (length kept.groups) table_limit) 3 reason.TooMany)
-    (lesser (optional_fault (length kept.names) reason.UndefinedName g.name) (members_fault (length kept.segments) g.members))
+contents_fault profile kept size (Segment s) = segment_fault kept s
+contents_fault profile kept size (Group g) = group_fault kept g
 contents_fault profile kept size (Externs items) = room_fault (table_limit - length kept.externals) (places items)
-contents_fault profile kept size (Publics p) = lesser (optional_fault (length kept.groups) reason.UndefinedGroup p.group)
-    (optional_fault (length kept.segments) reason.UndefinedSegment p.segment)
+contents_fault profile kept size (Publics p) = base_fault kept p.group p.segment
 contents_fault profile kept size (Communals items) = room_fault (table_limit - length kept.externals) (places items)
 contents_fault profile kept size (Plain d) = data_fault kept d.segment d.offset size
 contents_fault profile kept size (Iterated d) = data_fault kept d.segment d.offset size
@@ -134,3 +143,8 @@ judged_by_size profile kept c (Ok size) = lesser (room_fault (item_limit - kept.
 
 abbrev pub record_fault : Profile → Limits → Kept → Rec → Option Fault
 record_fault profile limits kept r = judged_by_size profile kept r.contents (data_size limits r.kind r.contents)
+
+-- The blocks of an LIDATA lie in a record, which has at most 65,538 bytes.
+abbrev pub IsShort : Contents → Type 0
+IsShort (Iterated d) = (d.offset.within ≤ 65537) × (length d.bytes ≤ 65534)
+IsShort _ = ⊤

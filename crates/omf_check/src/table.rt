@@ -1,14 +1,15 @@
 //! What is kept of the records so far, and the rules that need it.
 
-ghost use Rattle.std.specs.Prelude.{◌≡◌, ◌≤◌, ◌<◌, ◌+◌, ◌^◌, ◌++◌, ℕ, length, OnOk, IfOk, List, unwrap_or};
-ghost use Rattle.omf_check.specs.Rules.{judged_at};
-ghost use Rattle.omf_check.specs.declared.profile.Profile.{Profile as AnyProfile};
-ghost use Rattle.omf_records.specs.Values.{Segment as OfSegment};
-ghost use Rattle.omf_check.specs.Kept.{Kept, nothing_kept, starts, with_record, set_threads};
-ghost use Rattle.omf_check.specs.Judging.{kept_length, data_fault, index_fault, frame_fault, target_fault, reference_fault, location_fault, subrecord_fault, subrecords_fault, start_fault, contents_fault};
-ghost use Rattle.omf_check.specs.Tables.{segment_length, segment_info, items_in};
+ghost use Rattle.std.specs.Prelude.{◌≡◌, ◌≤◌, ◌<◌, ◌+◌, ◌^◌, ◌++◌, ℕ, length, OnOk, IfOk, List, unwrap_or, nat_lt, ◌-◌};
+ghost use Rattle.omf_check.specs.Rules.{judged_at, item_limit, item_places};
+ghost use Rattle.omf_image.specs.Limits.{profile_limits};
+ghost use Rattle.omf_check.specs.Kept.{Kept, nothing_kept, starts, with_record, with_contents};
+ghost use Rattle.omf_check.specs.Judging.{kept_length, data_fault, index_fault, frame_fault, target_fault, reference_fault, location_fault, subrecord_fault, subrecords_fault, start_fault, contents_fault, segment_fault, group_fault, base_fault, room_fault, data_size, placed, record_fault, IsShort};
+ghost use Rattle.omf_image.specs.Blocks.{count_size};
+ghost use Rattle.omf_image.specs.Expanding.{expanded_length};
+ghost use Rattle.omf_check.specs.Tables.{segment_info, items_in};
 ghost use Rattle.omf_records.specs.Location.{location_size};
-ghost use Rattle.omf_records.specs.Seen.{contents_seen, rec_seen};
+ghost use Rattle.omf_records.specs.Seen.{contents_seen, kind_seen, odd_if, rec_seen};
 
 use crate::last_data::LastData;
 use crate::profile::Profile;
@@ -16,7 +17,8 @@ use crate::rule::{comment_fault, entry_fault, fault_unless, lesser, members_faul
 use crate::segment::SegInfo;
 use crate::threads::{Setting, Threads};
 use omf_frame::{Index, Reason};
-use omf_records::{At, Item, Items, LayoutFault, Part, Rec, Reference, Segment, Subrecord};
+use omf_image::{Limits, expanded_len};
+use omf_records::{At, Blocks, Item, Items, LayoutFault, Member, Part, Rec, Reference, Segment, Subrecord};
 use std::alloc::{AllocError, Global};
 use std::marker::Model;
 
@@ -92,6 +94,85 @@ fn judged_at(reference: &Reference, datum: &Option<At<Index>>) -> u32
     match datum {
         Some(index) => index.within,
         None => reference.fix.within,
+    }
+}
+
+/// What a SEGDEF says of its segment.
+fn segment_info(wide: bool, segment: &Segment) -> SegInfo
+    ensures { result ≡ segment_info (odd_if wide 0x98) segment.now }
+{
+    let is_big = segment.attribute / 2 % 2 == 1;
+    let length = match (is_big, wide) {
+        (true, false) => 65_536,
+        (true, true) => 4_294_967_296,
+        (false, _) => u64::from(segment.size),
+    };
+    SegInfo {
+        length,
+        absolute: segment.absolute,
+        name: segment.name.item.0,
+        class: segment.class.item.0,
+    }
+}
+
+/// Appends where each item stands in the module, in which their record begins at this offset.
+fn add_starts<T: Item>(
+    places: &mut Vec<u64>,
+    at: u64,
+    items: Items<T>,
+) -> Result<(), AllocError>
+    requires { at < 2 ^ 40 }
+    ensures { OnOk result (places.new.items ≡ places.old.items ++ starts at items) }
+{
+    for item in items {
+        places.push(at + u64::from(item.within))?;
+    }
+    Ok(())
+}
+
+/// Some subrecord is there.
+fn has_some(subrecords: &Items<Subrecord<'_>>) -> bool
+    ensures { result ≡ nat_lt 0 (length subrecords.now) }
+{
+    subrecords.iter().next().is_some()
+}
+
+/// How many items a record is.
+fn items_in(rec: &Rec<'_>) -> usize
+    requires { items_in (contents_seen rec.now) ≤ item_limit }
+    ensures { result ≡ items_in (contents_seen rec.now) }
+{
+    match rec {
+        Rec::Fixups { subrecords, .. } => subrecords.iter().count().max(1),
+        _ => 1,
+    }
+}
+
+/// How many bytes the blocks of an LIDATA stand for, whose offset stands at this place; or their first fault.
+fn blocks_size(at: u32, blocks: Blocks<'_>) -> Result<usize, LayoutFault>
+    requires place { at ≤ 65537 }
+    requires short { length blocks.bytes.now ≤ 65534 }
+    ensures { result ≡ placed (at + count_size blocks.entry.wide) (expanded_length (count_size blocks.entry.wide) profile_limits blocks.entry.bytes.now) }
+{
+    let first = if blocks.wide { at + 4 } else { at + 2 };
+    match expanded_len(blocks, Limits::profile()) {
+        Ok(size) => Ok(size as usize),
+        Err(fault) => Err(LayoutFault {
+            reason: fault.reason,
+            within: first + fault.within,
+        }),
+    }
+}
+
+/// How many bytes of data a data record has; or the first fault of its blocks.
+fn data_size(rec: &Rec<'_>) -> Result<usize, LayoutFault>
+    requires { IsShort (contents_seen rec.now) }
+    ensures { result ≡ data_size profile_limits (kind_seen rec.now) (contents_seen rec.now) }
+{
+    match rec {
+        Rec::Plain { data, .. } => Ok(data.len()),
+        Rec::Iterated { offset, blocks, .. } => blocks_size(offset.within, *blocks),
+        _ => Ok(0),
     }
 }
 
@@ -238,7 +319,7 @@ impl Tables {
     }
 
     fn segment_fault(&self, segment: &Segment) -> Option<LayoutFault>
-        ensures { (profile : AnyProfile) (size : ℕ) → result ≡ contents_fault profile self.now size (OfSegment segment.now) }
+        ensures { result ≡ segment_fault self.now segment.now }
     {
         let names = self.names.len();
         lesser(
@@ -248,5 +329,111 @@ impl Tables {
                 optional_fault(names, Reason::UndefinedName, &segment.class),
             ),
         )
+    }
+
+    fn group_fault(&self, name: &At<Index>, members: Items<Member<'_>>) -> Option<LayoutFault>
+        ensures { result ≡ group_fault self.now (record { name = name.now; members = members.entry }) }
+    {
+        lesser(
+            fault_unless(self.groups.len() < TABLE_LIMIT, 3, Reason::TooMany),
+            lesser(
+                optional_fault(self.names.len(), Reason::UndefinedName, name),
+                members_fault(self.segments.len(), members),
+            ),
+        )
+    }
+
+    /// The base of a PUBDEF.
+    fn base_fault(&self, group: &At<Index>, segment: &At<Index>) -> Option<LayoutFault>
+        ensures { result ≡ base_fault self.now group.now segment.now }
+    {
+        lesser(
+            optional_fault(self.groups.len(), Reason::UndefinedGroup, group),
+            optional_fault(self.segments.len(), Reason::UndefinedSegment, segment),
+        )
+    }
+
+    /// The rules of a record's contents. Data records have so many bytes of data.
+    fn contents_fault(&self, profile: Profile, size: usize, rec: &Rec<'_>) -> Option<LayoutFault>
+        ensures { result ≡ contents_fault profile self.now size (contents_seen rec.now) }
+    {
+        let name_room = TABLE_LIMIT.saturating_sub(self.names.len());
+        let external_room = TABLE_LIMIT.saturating_sub(self.externals.len());
+        match rec {
+            Rec::Comment { class, .. } => comment_fault(profile, *class),
+            Rec::Names(items) => room_fault(items.iter(), name_room),
+            Rec::Segment { segment, .. } => self.segment_fault(segment),
+            Rec::Group { name, members } => self.group_fault(name, members.iter()),
+            Rec::Externs(items) => room_fault(items.iter(), external_room),
+            Rec::Publics { group, segment, .. } => self.base_fault(group, segment),
+            Rec::Communals(items) => room_fault(items.iter(), external_room),
+            Rec::Plain { segment, offset, .. } => self.data_fault(segment, offset, size),
+            Rec::Iterated { segment, offset, .. } => self.data_fault(segment, offset, size),
+            Rec::Fixups { subrecords, .. } => self.subrecords_fault(subrecords.iter()),
+            Rec::ModEnd { start, .. } => self.start_fault(start),
+            Rec::Header { .. } | Rec::Carried { .. } => None,
+        }
+    }
+
+    /// Each item of a record has room.
+    fn items_fault(&self, rec: &Rec<'_>) -> Option<LayoutFault>
+        ensures { result ≡ room_fault (item_limit - self.now.items) (item_places (contents_seen rec.now)) }
+    {
+        let room = ITEM_LIMIT.saturating_sub(self.items);
+        match rec {
+            Rec::Fixups { subrecords, .. } if has_some(subrecords) => room_fault(subrecords.iter(), room),
+            _ => fault_unless(room > 0, 0, Reason::TooMany),
+        }
+    }
+
+    /// The least fault of a record after the records of these tables: that of its blocks, else that of its rules.
+    pub fn record_fault(&self, profile: Profile, rec: &Rec<'_>) -> Option<LayoutFault>
+        requires { IsShort (contents_seen rec.now) }
+        ensures { result ≡ record_fault profile profile_limits self.now (rec_seen rec.now) }
+    {
+        match data_size(rec) {
+            Ok(size) => lesser(
+                self.items_fault(rec),
+                self.contents_fault(profile, size, rec),
+            ),
+            Err(fault) => Some(fault),
+        }
+    }
+
+    /// Keeps what a record defines, which begins at this offset of the module.
+    fn add_contents(&mut self, at: u64, rec: &Rec<'_>) -> Result<(), AllocError>
+        requires { at < 2 ^ 40 }
+        ensures { OnOk result (self.new ≡ with_contents self.old at (kind_seen rec.now) (contents_seen rec.now)) }
+    {
+        match rec {
+            Rec::Names(items) => add_starts(&mut self.names, at, items.iter()),
+            Rec::Segment { wide, segment } => Ok(self.segments.push(segment_info(*wide, segment))?),
+            Rec::Group { .. } => Ok(self.groups.push(at)?),
+            Rec::Externs(items) => add_starts(&mut self.externals, at, items.iter()),
+            Rec::Communals(items) => add_starts(&mut self.externals, at, items.iter()),
+            Rec::Plain { data, .. } => {
+                self.last = Some(LastData::Plain(data.len()));
+                Ok(())
+            }
+            Rec::Iterated { .. } => {
+                self.last = Some(LastData::Iterated);
+                Ok(())
+            }
+            Rec::Fixups { subrecords, .. } => {
+                self.threads.set_all(subrecords.iter());
+                Ok(())
+            }
+            _ => Ok(()),
+        }
+    }
+
+    /// Keeps what a record tells later ones. It begins at this offset of the module.
+    pub fn add(&mut self, at: u64, rec: &Rec<'_>) -> Result<(), AllocError>
+        requires start { at < 2 ^ 40 }
+        requires items { self.old.items + items_in (contents_seen rec.now) ≤ item_limit }
+        ensures { OnOk result (self.new ≡ with_record self.old at (rec_seen rec.now)) }
+    {
+        self.items += items_in(rec);
+        self.add_contents(at, rec)
     }
 }

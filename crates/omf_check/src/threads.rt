@@ -1,13 +1,13 @@
 //! The threads in force (TIS OMF 1.1, "FIXUPP", THREAD).
 
 ghost use Rattle.std.specs.Prelude.{◌≡◌, ◌<◌, true, false};
-ghost use Rattle.omf_check.specs.Kept.{cell, set_thread, no_threads};
+ghost use Rattle.omf_check.specs.Kept.{cell, set_thread, set_threads, no_threads};
 ghost use Rattle.omf_check.specs.Judging.{frame_cell, target_cell};
 ghost use Rattle.omf_check.specs.Threads.{setting};
 ghost use Rattle.omf_records.specs.Values.{thread_method};
 
 use omf_frame::Index;
-use omf_records::{At, Part, Reference, Subrecord};
+use omf_records::{At, Items, Part, Reference, Subrecord};
 use std::marker::Model;
 
 /// What a thread keeps: a method, and its index if the method has one.
@@ -117,6 +117,15 @@ impl Threads {
             } else {
                 self.targets[number] = setting;
             }
+        }
+    }
+
+    /// Sets the threads of all these subrecords, in their order.
+    pub fn set_all(&mut self, subrecords: Items<Subrecord<'_>>)
+        ensures { self.new ≡ set_threads self.old subrecords.entry }
+    {
+        for subrecord in subrecords {
+            self.set(&subrecord.item);
         }
     }
 }
