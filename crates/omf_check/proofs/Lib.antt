@@ -7,4 +7,6 @@ pub mod VerdictLaws
 pub mod CellLaws
 pub mod Lesser
 pub mod Found
+pub mod KeptLaws
+pub mod JudgeLaws
 pub mod LimitLaws
