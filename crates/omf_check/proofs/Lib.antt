@@ -9,4 +9,6 @@ pub mod Lesser
 pub mod Found
 pub mod KeptLaws
 pub mod JudgeLaws
+pub mod ShortLaws
+pub mod RecordLaws
 pub mod LimitLaws

@@ -4,6 +4,7 @@ use Rattle.omf_frame.specs.Fault.{Fault, is_before}
 use Rattle.omf_frame.specs.declared.fault.Reason.{Reason}
 use Rattle.omf_frame.specs.declared.fault.Reason.TheVariants as reason
 use Rattle.omf_records.specs.Location.{location_size}
+use Rattle.omf_records.specs.Reading.{read_body}
 use Rattle.omf_records.specs.Values.{At, Rec, Contents, Header, Comment, Names, Segment, Group, Externs, Publics, Communals, Plain, Iterated, Fixups, ModEnd, Carried, SegmentItem, GroupItem, Subrecord, Thread, Fixup, Reference, width, location_type, location_offset, frame_by_thread, frame_thread, frame_bits, target_by_thread, target_bits}
 use Rattle.omf_image.specs.Expanding.{expanded_length}
 use Rattle.omf_image.specs.declared.limits.Limits.{Limits}
@@ -148,3 +149,11 @@ record_fault profile limits kept r = judged_by_size profile kept r.contents (dat
 abbrev pub IsShort : Contents → Type 0
 IsShort (Iterated d) = (d.offset.within ≤ 65537) × (length d.bytes ≤ 65534)
 IsShort _ = ⊤
+
+-- by what its contents spell
+abbrev pub read_fault : Profile → Limits → Kept → ℕ → Result Contents Fault → Option Fault
+read_fault profile limits kept kind (Ok c) = record_fault profile limits kept (record { kind = kind; contents = c })
+read_fault profile limits kept kind (Err f) = Some f
+
+abbrev pub raw_fault : Profile → Limits → Kept → ℕ → List ℕ → Option Fault
+raw_fault profile limits kept kind body = read_fault profile limits kept kind (read_body kind body)
