@@ -1,10 +1,12 @@
 -- The fault that is computed for a record is the least of the first of its steps that has one.
-use Rattle.std.proofs.Common.{◌≡◌, ℕ, zero, suc, ◌+◌, ◌-◌, ◌<◌, ◌≤◌, Bool, true, false, List, [], ◌∷◌, ◌++◌, Result, Ok, Err, refl, sym, ◌∙◌, ap, subst, arith, length, map}
-use Rattle.std.specs.Prelude.{Option, Some, None, option_map, cond, ◌==◌, nat_le, max}
+use Rattle.std.proofs.Common.{◌≡◌, ℕ, zero, suc, ◌+◌, ◌-◌, ◌<◌, ◌≤◌, Bool, true, false, List, [], ◌∷◌, ◌++◌, Result, Ok, Err, refl, sym, ◌∙◌, ap, subst, arith, length, map, length-append}
+use Rattle.std.proofs.lemmas.List.{length-map}
+use Rattle.std.proofs.lemmas.Bool.{leb-true}
+use Rattle.std.specs.Prelude.{Option, Some, None, option_map, cond, ◌==◌, nat_le, nat_lt, max}
 use Rattle.omf_frame.specs.Fault.{Fault, Rule, rule, broken, least, least_or, first_step}
 use Rattle.omf_frame.specs.Framing.{Raw}
 use Rattle.omf_frame.specs.declared.fault.Reason.TheVariants as reason
-use Rattle.omf_records.specs.Values.{At, Rec, Contents, Header, Names, Plain, Iterated, Fixups, DataItem, Subrecord, width}
+use Rattle.omf_records.specs.Values.{At, Rec, Contents, Header, Names, Segment, Group, Externs, Communals, Plain, Iterated, Fixups, DataItem, Subrecord, width}
 use Rattle.omf_records.specs.Reading.{read_body, typed, layout_faults, fault_list, contents_or}
 use Rattle.omf_image.specs.Blocks.{Blocks, blocks_size}
 use Rattle.omf_image.specs.Expanding.{read_blocks, blocks_or_none, blocks_of, faults_of, length_or, expanded_length}
@@ -77,3 +79,69 @@ none_both (Some f) (Some g) h = absurd (by _ h)
 unless_holds : (b : Bool) (f : Fault) → cond b None (Some f) ≡ None → b ≡ true
 unless_holds true f h = refl
 unless_holds false f h = absurd cc
+
+room_none : (left : ℕ) (ps : List ℕ) → room_fault left ps ≡ None → length ps ≤ left
+room_none left [] h = omega arith
+room_none left (p ∷ ps) h =
+    let both = none_both (fault_unless (nat_lt 0 left) p reason.TooMany) (room_fault (left - 1) ps) h in
+    let some : 1 ≤ left = leb-true 1 left (unless_holds (nat_lt 0 left) _ both.0) in
+    let rest : length ps ≤ left - 1 = room_none (left - 1) ps both.1 in
+    omega (arith, some, rest)
+
+item_lengths : (c : Contents) → length (item_places c) ≡ items_in c
+item_lengths (Fixups []) = refl
+item_lengths (Fixups (s ∷ subs)) = let e : length (places (s ∷ subs)) ≡ suc (length subs) = ap suc (length-map subs (λ a. a.within)) in omega (arith, e)
+item_lengths (Names items) = refl
+item_lengths _ = refl
+
+fits : (limit old n room : ℕ) → old ≤ limit → room ≡ limit - old → n ≤ room → old + n ≤ limit
+fits limit old n room le e h = omega (arith, le, e, h)
+
+-- what is kept of a record that no limit refuses
+module _ (profile : Profile) (limits : Limits) (kept : Kept) (bounded : IsBounded kept) where
+  items_fit : (c : Contents) → room_fault (item_limit - kept.items) (item_places c) ≡ None → kept.items + items_in c ≤ 1048576
+  items_fit c h = fits 1048576 kept.items (items_in c) (item_limit - kept.items) bounded.items refl
+      (let le = room_none (item_limit - kept.items) (item_places c) h in let e = item_lengths c in omega (arith, le, e))
+
+  starts_fit : {A : Type 0} (old : List ℕ) (at : ℕ) (items : List (At A)) → length old ≤ 32767 → room_fault (table_limit - length old) (places items) ≡ None → length (old ++ starts at items) ≤ 32767
+  starts_fit old at items le h =
+      let n = room_none (table_limit - length old) (places items) h in
+      let e : length (places items) ≡ length items = length-map items (λ a. a.within) in
+      let f : length (starts at items) ≡ length items = length-map items (λ a. at + a.within) in
+      omega (arith, le, n, e, f, length-append old (starts at items))
+
+  one_fits : {A : Type 0} (old : List A) (x : A) (o : Option Fault) → lesser (fault_unless (nat_lt (length old) table_limit) 3 reason.TooMany) o ≡ None → length (old ++ x ∷ []) ≤ 32767
+  one_fits old x o h =
+      let both = none_both (fault_unless (nat_lt (length old) table_limit) 3 reason.TooMany) o h in
+      let low : suc (length old) ≤ 32767 = leb-true (suc (length old)) 32767 (unless_holds (nat_lt (length old) table_limit) _ both.0) in
+      omega (arith, low, length-append old (x ∷ []))
+
+  more_bounded : (at kind size n : ℕ) (c : Contents) → n ≤ 1048576 → contents_fault profile kept size c ≡ None → IsBounded (with_contents (record kept { items = n }) at kind c)
+  more_bounded at kind size n (Names items) le h = record {
+    names = starts_fit kept.names at items bounded.names h; segments = bounded.segments; groups = bounded.groups; externals = bounded.externals; items = le;
+  }
+  more_bounded at kind size n (Segment s) le h = record {
+    names = bounded.names; segments = one_fits kept.segments _ _ h; groups = bounded.groups; externals = bounded.externals; items = le;
+  }
+  more_bounded at kind size n (Group g) le h = record {
+    names = bounded.names; segments = bounded.segments; groups = one_fits kept.groups at _ h; externals = bounded.externals; items = le;
+  }
+  more_bounded at kind size n (Externs items) le h = record {
+    names = bounded.names; segments = bounded.segments; groups = bounded.groups; externals = starts_fit kept.externals at items bounded.externals h; items = le;
+  }
+  more_bounded at kind size n (Communals items) le h = record {
+    names = bounded.names; segments = bounded.segments; groups = bounded.groups; externals = starts_fit kept.externals at items bounded.externals h; items = le;
+  }
+  more_bounded at kind size n _ le h = record {
+    names = bounded.names; segments = bounded.segments; groups = bounded.groups; externals = bounded.externals; items = le;
+  }
+
+  by_data : (at : ℕ) (r : Rec) (s : Result ℕ Fault) → judged_by_size profile kept r.contents s ≡ None → (kept.items + items_in r.contents ≤ 1048576) × IsBounded (with_record kept at r)
+  by_data at r (Ok size) h =
+      let both = none_both (room_fault (item_limit - kept.items) (item_places r.contents)) (contents_fault profile kept size r.contents) h in
+      let le = items_fit r.contents both.0 in
+      (le, more_bounded at r.kind size (kept.items + items_in r.contents) r.contents le both.1)
+  by_data at r (Err f) h = absurd cc
+
+  pub fits_on : (at : ℕ) (r : Rec) → record_fault profile limits kept r ≡ None → (kept.items + items_in r.contents ≤ 1048576) × IsBounded (with_record kept at r)
+  fits_on at r h = by_data at r (data_size limits r.kind r.contents) h

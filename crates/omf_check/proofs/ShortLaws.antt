@@ -89,5 +89,5 @@ is_short n (Iterated d) le h = (omega (arith, le, h.0), omega (arith, le, h.1))
 is_short n (Header name) le h = tt
 is_short n _ le h = tt
 
-pub read_short : (kind : ℕ) (body : List ℕ) (c : Contents) → AreBytes body → length body ≤ 65534 → read_body kind body ≡ Ok c → IsShort c
-read_short kind body c small le e = is_short (length body) c le (in_contents kind 3 body c ((contents_whole kind).ok 3 body c small e))
+pub spelled_short : (kind : ℕ) (body : List ℕ) (c : Contents) → length body ≤ 65534 → (contents kind).Spells 3 body c → IsShort c
+spelled_short kind body c le s = is_short (length body) c le (in_contents kind 3 body c s)

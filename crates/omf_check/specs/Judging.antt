@@ -4,7 +4,7 @@ use Rattle.omf_frame.specs.Fault.{Fault, is_before}
 use Rattle.omf_frame.specs.declared.fault.Reason.{Reason}
 use Rattle.omf_frame.specs.declared.fault.Reason.TheVariants as reason
 use Rattle.omf_records.specs.Location.{location_size}
-use Rattle.omf_records.specs.Reading.{read_body}
+use Rattle.omf_records.specs.Reading.{read_body, contents_or}
 use Rattle.omf_records.specs.Values.{At, Rec, Contents, Header, Comment, Names, Segment, Group, Externs, Publics, Communals, Plain, Iterated, Fixups, ModEnd, Carried, SegmentItem, GroupItem, Subrecord, Thread, Fixup, Reference, width, location_type, location_offset, frame_by_thread, frame_thread, frame_bits, target_by_thread, target_bits}
 use Rattle.omf_image.specs.Expanding.{expanded_length}
 use Rattle.omf_image.specs.declared.limits.Limits.{Limits}
@@ -157,3 +157,7 @@ read_fault profile limits kept kind (Err f) = Some f
 
 abbrev pub raw_fault : Profile → Limits → Kept → ℕ → List ℕ → Option Fault
 raw_fault profile limits kept kind body = read_fault profile limits kept kind (read_body kind body)
+
+-- the typed record of a type and contents
+abbrev pub rec_of : ℕ → List ℕ → Rec
+rec_of kind body = record { kind = kind; contents = contents_or body (read_body kind body) }

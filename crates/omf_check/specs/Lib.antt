@@ -7,5 +7,6 @@ pub mod WellFormed
 pub mod Refusal
 pub mod Judging
 pub mod Verdict
+pub mod Session
 pub mod Laws
 pub mod Rows

@@ -8,9 +8,11 @@ mod profile;
 pub mod rows;
 mod rule;
 mod segment;
+mod session;
 mod table;
 mod threads;
 
 pub use fault::CheckFault;
 pub use profile::Profile;
 pub use segment::SegInfo;
+pub use session::Session;

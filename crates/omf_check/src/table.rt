@@ -1,24 +1,28 @@
 //! What is kept of the records so far, and the rules that need it.
 
-ghost use Rattle.std.specs.Prelude.{◌≡◌, ◌≤◌, ◌<◌, ◌+◌, ◌^◌, ◌++◌, ℕ, length, OnOk, IfOk, List, unwrap_or, nat_lt, ◌-◌};
+ghost use Rattle.std.specs.Prelude.{◌≡◌, ◌≤◌, ◌<◌, ◌+◌, ◌^◌, ◌++◌, ℕ, length, OnOk, IfOk, List, unwrap_or, IsTrue, IfErr, None, nat_lt, ◌-◌};
 ghost use Rattle.omf_check.specs.Rules.{judged_at, item_limit, item_places};
 ghost use Rattle.omf_image.specs.Limits.{profile_limits};
 ghost use Rattle.omf_check.specs.Kept.{Kept, nothing_kept, starts, with_record, with_contents};
-ghost use Rattle.omf_check.specs.Judging.{kept_length, data_fault, index_fault, frame_fault, target_fault, reference_fault, location_fault, subrecord_fault, subrecords_fault, start_fault, contents_fault, segment_fault, group_fault, base_fault, room_fault, data_size, placed, record_fault, IsShort};
+ghost use Rattle.omf_check.specs.Judging.{kept_length, data_fault, index_fault, frame_fault, target_fault, reference_fault, location_fault, subrecord_fault, subrecords_fault, start_fault, contents_fault, segment_fault, group_fault, base_fault, room_fault, data_size, placed, record_fault, IsShort, raw_fault, rec_of};
+ghost use Rattle.omf_check.specs.Session.{refused_at, IsStopped};
+ghost use Rattle.omf_frame.specs.Framing.{is_taken};
+ghost use Rattle.omf_check.specs.Kept.{IsBounded};
 ghost use Rattle.omf_image.specs.Blocks.{count_size};
 ghost use Rattle.omf_image.specs.Expanding.{expanded_length};
 ghost use Rattle.omf_check.specs.Tables.{segment_info, items_in};
 ghost use Rattle.omf_records.specs.Location.{location_size};
 ghost use Rattle.omf_records.specs.Seen.{contents_seen, kind_seen, odd_if, rec_seen};
 
+use crate::fault::CheckFault;
 use crate::last_data::LastData;
 use crate::profile::Profile;
 use crate::rule::{comment_fault, entry_fault, fault_unless, lesser, members_fault, optional_fault, room_fault};
 use crate::segment::SegInfo;
 use crate::threads::{Setting, Threads};
-use omf_frame::{Index, Reason};
+use omf_frame::{Index, Place, RawRecord, Reason};
 use omf_image::{Limits, expanded_len};
-use omf_records::{At, Blocks, Item, Items, LayoutFault, Member, Part, Rec, Reference, Segment, Subrecord};
+use omf_records::{At, Blocks, Item, Items, LayoutFault, Member, Part, Rec, Reference, Segment, Subrecord, view};
 use std::alloc::{AllocError, Global};
 use std::marker::Model;
 
@@ -173,6 +177,20 @@ fn data_size(rec: &Rec<'_>) -> Result<usize, LayoutFault>
         Rec::Plain { data, .. } => Ok(data.len()),
         Rec::Iterated { offset, blocks, .. } => blocks_size(offset.within, *blocks),
         _ => Ok(0),
+    }
+}
+
+/// The refusal of a record of this number, which begins at this offset of the module.
+fn refused(number: u32, start: u64, fault: LayoutFault) -> CheckFault
+    ensures { result ≡ refused_at number start fault }
+{
+    CheckFault::Refused {
+        reason: fault.reason,
+        place: Place {
+            number,
+            start,
+            within: fault.within,
+        },
     }
 }
 
@@ -435,5 +453,27 @@ impl Tables {
     {
         self.items += items_in(rec);
         self.add_contents(at, rec)
+    }
+
+    /// Judges a record after those of these tables, and keeps what it defines.
+    pub fn take(&mut self, profile: Profile, raw: RawRecord<'_>) -> Result<(), CheckFault>
+        requires taken { IsTrue (is_taken raw.kind) }
+        requires short { length raw.body.now ≤ 65534 }
+        requires start { raw.start < 2 ^ 40 }
+        requires bounded { IsBounded self.old }
+        ensures sound { OnOk result (raw_fault profile profile_limits self.old raw.entry.kind raw.entry.body.now ≡ None) }
+        ensures kept { OnOk result (self.new ≡ with_record self.old raw.entry.start (rec_of raw.entry.kind raw.entry.body.now)) }
+        ensures bounded { OnOk result (IsBounded self.new) }
+        ensures cause { IfErr result (IsStopped (raw_fault profile profile_limits self.old raw.entry.kind raw.entry.body.now) raw.entry.number raw.entry.start) }
+    {
+        let rec = match view(raw) {
+            Ok(rec) => rec,
+            Err(fault) => return Err(refused(raw.number, raw.start, fault)),
+        };
+        if let Some(fault) = self.record_fault(profile, &rec) {
+            return Err(refused(raw.number, raw.start, fault));
+        }
+        self.add(raw.start, &rec)?;
+        Ok(())
     }
 }
