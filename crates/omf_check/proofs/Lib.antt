@@ -11,4 +11,6 @@ pub mod KeptLaws
 pub mod JudgeLaws
 pub mod ShortLaws
 pub mod RecordLaws
+pub mod Passing
+pub mod Moving
 pub mod LimitLaws

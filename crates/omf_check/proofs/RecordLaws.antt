@@ -67,7 +67,7 @@ module _ (profile : Profile) (limits : Limits) (kept : Kept) (before : List Raw)
   raw_law r = by_read r.kind r.body (read_body r.kind r.body)
 
 -- A record without fault passes no limit.
-none_both : (a b : Option Fault) → lesser a b ≡ None → (a ≡ None) × (b ≡ None)
+pub none_both : (a b : Option Fault) → lesser a b ≡ None → (a ≡ None) × (b ≡ None)
 none_both None b h = (refl, h)
 none_both (Some f) None h = absurd cc
 none_both (Some f) (Some g) h = absurd (by _ h)
