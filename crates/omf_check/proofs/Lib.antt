@@ -13,4 +13,5 @@ pub mod ShortLaws
 pub mod RecordLaws
 pub mod Passing
 pub mod Moving
+pub mod Advancing
 pub mod LimitLaws

@@ -3,6 +3,9 @@ use Rattle.std.specs.Prelude.{◌≡◌, ◌⊎◌, ◌≤◌, ◌<◌, ◌^◌,
 use Rattle.omf_frame.specs.Bytes.{AreBytes}
 use Rattle.omf_frame.specs.Fault.{Fault}
 use Rattle.omf_frame.specs.Framer.{Held}
+use Rattle.omf_frame.specs.Framer.{next_bytes as next_of, want_of as framer_want}
+use Rattle.omf_frame.specs.declared.fault.FrameFault.{FrameFault}
+use Rattle.omf_frame.specs.declared.fault.FrameFault.TheVariants as frame
 use Rattle.omf_frame.specs.Framing.{Raw, raw_bytes, IsRecord, is_end, is_end_of_input, is_whole, present, wanted, standing_fault}
 use Rattle.omf_frame.specs.declared.fault.Place.{Place}
 use Rattle.omf_frame.specs.declared.fault.Reason.{Reason}
@@ -68,7 +71,7 @@ pub record Takes (old : Seen) (piece : List ℕ) (count : ℕ) (whole : Bool) (n
 abbrev pub IsCause : Seen → List ℕ → CheckFault → Type 0
 IsCause old piece Memory = ⊤
 IsCause old piece Read = ⊥
-IsCause old piece (Refused why at) = IsRefused old.profile profile_limits (old.taken ++ piece) why at × IsTrue (not (may_go_on why))
+IsCause old piece (Refused why at) = (more : List ℕ) → IsRefused old.profile profile_limits (old.taken ++ piece ++ more) why at
 
 -- A feed that fails keeps its fault, which is the answer from then on.
 pub record FailsAs (old : Seen) (piece : List ℕ) (fault : CheckFault) (new : Seen) : Type 0 where
@@ -107,3 +110,24 @@ pub record IsPassing (profile : Profile) (held : Held) (taken : List ℕ) (kept 
 abbrev pub IsState : Profile → Held → List ℕ → Kept → Option CheckFault → Type 0
 IsState profile held taken kept None = IsPassing profile held taken kept
 IsState profile held taken kept (Some fault) = held.ended ≡ false
+
+-- A step of a session, by its framer and the bytes taken: it takes what the record at hand still lacks, or the whole piece, and
+-- passes a record that is whole then.
+pub record Moves (old : Held) (bytes piece : List ℕ) (count : ℕ) (whole : Bool) (new : Held) (now : List ℕ) : Type 0 where
+  pub bound : count ≤ length piece
+  pub all_wanted : min (framer_want old) (length piece) ≤ count
+  pub grown : next_of old piece ≡ old.bytes ++ take count piece
+  pub taken : now ≡ bytes ++ take count piece
+  pub at_hand : new.bytes ≡ (if whole then [] else next_of old piece)
+  pub whole_is : whole ≡ is_whole (next_of old piece)
+
+-- Why a step fails.
+abbrev pub Fails : Profile → List ℕ → List ℕ → CheckFault → Type 0
+Fails profile taken piece Memory = ⊤
+Fails profile taken piece Read = ⊥
+Fails profile taken piece (Refused why at) = (more : List ℕ) → IsRefused profile profile_limits (taken ++ piece ++ more) why at
+
+-- What a framer's fault is to a session.
+abbrev pub framing_fault : FrameFault → CheckFault
+framing_fault frame.Memory = Memory
+framing_fault (frame.Refused why at) = Refused why at

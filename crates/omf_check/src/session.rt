@@ -1,7 +1,7 @@
 //! The checker, fed in pieces.
 
-ghost use Rattle.std.specs.Prelude.{◌≡◌, IfOk, IfErr};
-ghost use Rattle.omf_check.specs.Session.{at_start, want_of, Takes, FailsAs};
+ghost use Rattle.std.specs.Prelude.{◌≡◌, IfOk, IfErr, OnOk, OnErr, false};
+ghost use Rattle.omf_check.specs.Session.{at_start, want_of, Takes, FailsAs, IsPassing, Moves, Fails, framing_fault};
 
 use crate::fault::CheckFault;
 use crate::profile::Profile;
@@ -30,6 +30,49 @@ impl Model for Session {
     ghost view = { λ s. record { profile = s.profile; taken = s.bytes.items; at_hand = (if is_some s.fault then [] else s.framer.bytes); ended = s.framer.ended; fault = s.fault } };
 
     ghost invariant = { λ s. IsState s.profile s.framer s.bytes.items s.tables s.fault };
+}
+
+/// What a framer's fault is to a session.
+fn framing_fault(fault: FrameFault) -> CheckFault
+    ensures { result ≡ framing_fault fault }
+{
+    match fault {
+        FrameFault::Memory => CheckFault::Memory,
+        FrameFault::Refused(reason, place) => CheckFault::Refused { reason, place },
+    }
+}
+
+/// Takes what the record at hand still lacks. Where the record is whole then, it is judged and passed. A fault takes no bytes.
+fn advance(
+    framer: &mut Framer,
+    bytes: &mut Vec<u8>,
+    tables: &mut Tables,
+    profile: Profile,
+    piece: &[u8],
+) -> Result<Fed, CheckFault>
+    requires { IsPassing profile framer.old bytes.old.items tables.old }
+    ensures ok { IfOk result (λ fed. Moves framer.old bytes.old.items piece.now fed.taken fed.whole framer.new bytes.new.items) }
+    ensures passing { OnOk result (IsPassing profile framer.new bytes.new.items tables.new) }
+    ensures cause { IfErr result (Fails profile bytes.old.items piece.now) }
+    ensures same { OnErr result (bytes.new.items ≡ bytes.old.items) }
+    ensures running { OnErr result ((framer.old.ended ≡ false) × (framer.new.ended ≡ false)) }
+{
+    let fed = match framer.feed(piece) {
+        Ok(fed) => fed,
+        Err(fault) => return Err(framing_fault(fault)),
+    };
+    match framer.raw() {
+        None => {
+            bytes.extend_from_slice(&piece[..fed.taken])?;
+            Ok(fed)
+        }
+        Some(raw) => {
+            tables.take(profile, raw)?;
+            bytes.extend_from_slice(&piece[..fed.taken])?;
+            framer.next();
+            Ok(fed)
+        }
+    }
 }
 
 impl Session {
