@@ -101,9 +101,9 @@ module _ (profile : Profile) (held : Held) (taken : List ℕ) (kept : Kept) (p :
         by_fault fault (whole_now s) (ap (λ x. frame_fault (x == 0) (next_of held piece)) (sym new_number) ∙ ap (frame_fault (new.number == 0)) (sym nb) ∙ f) h4
 
     -- what is true after the step
-    pub none_passed : (now : List ℕ) → now ≡ taken ++ take count piece → AreBytes piece → stands new ≡ false → IsPassing profile new now kept
-    none_passed now e small s =
-        subst (λ x. IsPassing profile new x kept) (sym e) (more_goes_on profile held taken kept p piece count whole new t (append_small taken (take count piece) p.small (AreBytes-take count piece small)) s)
+    pub none_passed : (now : List ℕ) → now ≡ taken ++ take count piece → AreBytes piece → length new.bytes ≤ 65538 → stands new ≡ false → IsPassing profile new now kept
+    none_passed now e small short s =
+        subst (λ x. IsPassing profile new x kept) (sym e) (more_goes_on profile held taken kept p piece count whole new t (append_small taken (take count piece) p.small (AreBytes-take count piece small)) short s)
 
     pub record_passed : (now : List ℕ) (after : Held) (tables : Kept) (kind start : ℕ) (body : List ℕ) → now ≡ taken ++ take count piece → AreBytes piece → stands new ≡ true
         → after ≡ passed new → frame_fault (new.number == 0) new.bytes ≡ None → IsRecord (front_record new.bytes) → raw_bytes (front_record new.bytes) ≡ new.bytes

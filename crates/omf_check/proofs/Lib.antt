@@ -14,4 +14,5 @@ pub mod RecordLaws
 pub mod Passing
 pub mod Moving
 pub mod Advancing
+pub mod SessionLaws
 pub mod LimitLaws

@@ -50,6 +50,7 @@ started profile = record {
   running = λ e. all_none (λ r. IsTrue (not (is_end r.kind)));
   at_end = λ e. absurd (clash (sym e));
   tells = nothing_tells;
+  short = omega arith;
   bounded = record { names = omega arith; segments = omega arith; groups = omega arith; externals = omega arith; items = omega arith };
 }
 
@@ -110,13 +111,14 @@ module _ (profile : Profile) (held : Held) (taken : List ℕ) (kept : Kept) (p :
       far : (start size n number : ℕ) → start ≡ size → size ≤ 65538 * n → number ≡ n → number ≤ 1048576 → start < 2 ^ 40
       far start size n number e s m b = omega (arith, e, s, m, b)
 
-  pub taken_bound : length held.bytes ≤ 65538 → length taken ≤ 68723747880
-  taken_bound small =
+  pub taken_bound : length taken < 2 ^ 37
+  taken_bound =
+      let small = p.short in
       let e : length taken ≡ length (flat_map raw_bytes p.before) + length held.bytes = ap length p.spelled ∙ length-append (flat_map raw_bytes p.before) held.bytes in
       let s = records_size p.before p.records in let n = p.number in let b = number_bound in
       far (length taken) (length (flat_map raw_bytes p.before)) (length p.before) held.number (length held.bytes) e s n b small
     where
-      far : (whole size n number rest : ℕ) → whole ≡ size + rest → size ≤ 65538 * n → number ≡ n → number ≤ 1048576 → rest ≤ 65538 → whole ≤ 68723747880
+      far : (whole size n number rest : ℕ) → whole ≡ size + rest → size ≤ 65538 * n → number ≡ n → number ≤ 1048576 → rest ≤ 65538 → whole < 2 ^ 37
       far whole size n number rest e s m b r = omega (arith, e, s, m, b, r)
 
   module _ (piece : List ℕ) (count : ℕ) (whole : Bool) (new : Held) (t : FramerTakes held piece count whole new) (small : AreBytes (taken ++ take count piece)) where
@@ -139,8 +141,8 @@ module _ (profile : Profile) (held : Held) (taken : List ℕ) (kept : Kept) (p :
     whole_new b = is_whole now ≡ b
 
     -- no record is whole yet
-    pub goes_on : stands (record held { bytes = now }) ≡ false → IsPassing profile (record held { bytes = now }) (taken ++ take count piece) kept
-    goes_on s = record {
+    pub goes_on : length now ≤ 65538 → stands (record held { bytes = now }) ≡ false → IsPassing profile (record held { bytes = now }) (taken ++ take count piece) kept
+    goes_on short s = record {
       before = p.before;
       spelled = now_spelled;
       records = p.records;
@@ -155,10 +157,11 @@ module _ (profile : Profile) (held : Held) (taken : List ℕ) (kept : Kept) (p :
       at_end = λ e. (ended_now e, subst (λ x. IsWellFormed profile profile_limits x p.before) (sym (ended_same e)) (p.at_end e).1);
       tells = p.tells;
       bounded = p.bounded;
+      short = short;
     }
 
-    pub more_goes_on : stands new ≡ false → IsPassing profile new (taken ++ take count piece) kept
-    more_goes_on s = subst (λ x. IsPassing profile x (taken ++ take count piece) kept) (sym t.new_is) (goes_on (ap stands (sym t.new_is) ∙ s))
+    pub more_goes_on : length new.bytes ≤ 65538 → stands new ≡ false → IsPassing profile new (taken ++ take count piece) kept
+    more_goes_on short s = subst (λ x. IsPassing profile x (taken ++ take count piece) kept) (sym t.new_is) (goes_on (subst (λ x. length x.bytes ≤ 65538) t.new_is short) (ap stands (sym t.new_is) ∙ s))
 
     -- a record is whole
     not_ended_by : (b : Bool) → held.ended ≡ b → is_whole now ≡ true → held.ended ≡ false
@@ -227,4 +230,5 @@ module _ (profile : Profile) (held : Held) (taken : List ℕ) (kept : Kept) (p :
         at_end = λ e. (refl, ends_here e);
         tells = subst (λ x. Tells (with_record kept held.start (rec_of r.kind r.body)) x) (sym recs_more) (tells_more kept (recs p.before) held.start (typed r) p.tells);
         bounded = bound;
+        short = omega arith;
       }

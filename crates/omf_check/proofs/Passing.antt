@@ -204,7 +204,7 @@ module _ (profile : Profile) (held : Held) (taken : List ℕ) (kept : Kept) (p :
   clash e = cc
 
   -- not at the end, the input ends too early
-  early : held.ended ≡ false → (o : Option Fault) → frame_fault (held.number == 0) held.bytes ≡ o
+  pub early : held.ended ≡ false → (o : Option Fault) → frame_fault (held.number == 0) held.bytes ≡ o
       → (f : Fault) × (frame_fault (held.number == 0) held.bytes ≡ Some f) × IsTrue (is_end_of_input f.reason)
   early e None h = absurd (clash (sym (framed_of (held.number == 0) held.bytes (clean_steps (held.number == 0) held.bytes h)).whole ∙ p.partial))
   early e (Some f) h = (f, h, lasting_none f (ap lasting (sym h) ∙ p.standing))
@@ -222,8 +222,9 @@ module _ (profile : Profile) (held : Held) (taken : List ℕ) (kept : Kept) (p :
       let same = refused_once profile profile_limits taken x.0.reason why _ at x.1 r in
       subst (λ y. IsTrue (is_end_of_input y)) same.0 x.2
 
-  pub open_here : (s : Seen) → s.profile ≡ profile → s.taken ≡ taken → s.ended ≡ held.ended → IsOpen s
-  open_here s pr ta en = record {
+  pub open_here : length taken < 2 ^ 37 → (s : Seen) → s.profile ≡ profile → s.taken ≡ taken → s.ended ≡ held.ended → IsOpen s
+  open_here low s pr ta en = record {
+    bounded = subst (λ x. length x < 2 ^ 37) (sym ta) low;
     no_refusal = λ why at r. by_ended held.ended refl why at (subst (λ x. IsRefused x profile_limits taken why at) pr (subst (λ x. IsRefused s.profile profile_limits x why at) ta r));
     ended = λ e. subst (λ x. IsModule x s.taken) (sym pr) (subst (λ x. IsModule profile x) (sym ta) (p.before, (p.at_end (sym en ∙ e)).1));
     running = λ e records a.

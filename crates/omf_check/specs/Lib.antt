@@ -7,6 +7,7 @@ pub mod WellFormed
 pub mod Refusal
 pub mod Judging
 pub mod Verdict
+pub mod Module
 pub mod Session
 pub mod Laws
 pub mod Rows

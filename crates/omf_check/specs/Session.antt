@@ -11,6 +11,7 @@ use Rattle.omf_frame.specs.declared.fault.Place.{Place}
 use Rattle.omf_frame.specs.declared.fault.Reason.{Reason}
 use Rattle.omf_image.specs.Limits.{profile_limits}
 use Rattle.omf_check.specs.Kept.{Kept, Tells, IsBounded}
+use Rattle.omf_check.specs.Module.{Module}
 use Rattle.omf_check.specs.Refusal.{IsRefused, faults_after}
 use Rattle.omf_check.specs.WellFormed.{IsWellFormed, IsAccepted, recs}
 use Rattle.omf_check.specs.declared.fault.CheckFault.{CheckFault}
@@ -52,6 +53,7 @@ pub record IsOpen (s : Seen) : Type 0 where
   pub no_refusal : (why : Reason) (at : Place) → IsRefused s.profile profile_limits s.taken why at → IsTrue (may_go_on why)
   pub ended : s.ended ≡ true → IsModule s.profile s.taken
   pub running : s.ended ≡ false → (records : List Raw) → IsAccepted s.profile profile_limits s.taken records → ⊥
+  pub bounded : length s.taken < 2 ^ 37
 
 -- A feed that succeeds takes what the record at hand still lacks, or the whole piece if that is less; a record that is whole then
 -- is passed.
@@ -105,6 +107,7 @@ pub record IsPassing (profile : Profile) (held : Held) (taken : List ℕ) (kept 
   pub at_end : held.ended ≡ true → (held.bytes ≡ []) × IsWellFormed profile profile_limits taken before
   pub tells : Tells kept (recs before)
   pub bounded : IsBounded kept
+  pub short : length held.bytes ≤ 65538
 
 -- What is true of every session, by its parts.
 abbrev pub IsState : Profile → Held → List ℕ → Kept → Option CheckFault → Type 0
@@ -131,3 +134,13 @@ Fails profile taken piece (Refused why at) = (more : List ℕ) → IsRefused pro
 abbrev pub framing_fault : FrameFault → CheckFault
 framing_fault frame.Memory = Memory
 framing_fault (frame.Refused why at) = Refused why at
+
+-- What the end of the input means: a kept fault; or after a MODEND the module that the bytes taken are; or their refusal.
+abbrev pub IsEndFault : Seen → CheckFault → Type 0
+IsEndFault s Memory = ⊥
+IsEndFault s Read = ⊥
+IsEndFault s (Refused why at) = IsRefused s.profile profile_limits s.taken why at
+
+abbrev pub Finishes : Seen → Result Module CheckFault → Type 0
+Finishes s (Ok m) = (s.fault ≡ None) × (s.ended ≡ true) × (m ≡ record { bytes = s.taken; profile = s.profile })
+Finishes s (Err fault) = (s.fault ≡ Some fault) ⊎ ((s.fault ≡ None) × (s.ended ≡ false) × IsEndFault s fault)

@@ -1,6 +1,7 @@
 //! The checker of object modules: which bytes begin with a well-formed module, and why and where all others are refused.
 #![tactic(auto)]
 
+mod checked;
 mod fault;
 mod last_data;
 pub mod laws;
@@ -12,6 +13,7 @@ mod session;
 mod table;
 mod threads;
 
+pub use checked::Checked;
 pub use fault::CheckFault;
 pub use profile::Profile;
 pub use segment::SegInfo;

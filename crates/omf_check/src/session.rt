@@ -1,8 +1,9 @@
 //! The checker, fed in pieces.
 
 ghost use Rattle.std.specs.Prelude.{◌≡◌, IfOk, IfErr, OnOk, OnErr, false};
-ghost use Rattle.omf_check.specs.Session.{at_start, want_of, Takes, FailsAs, IsPassing, Moves, Fails, framing_fault};
+ghost use Rattle.omf_check.specs.Session.{at_start, want_of, Takes, FailsAs, IsPassing, Moves, Fails, Finishes, framing_fault};
 
+use crate::checked::Checked;
 use crate::fault::CheckFault;
 use crate::profile::Profile;
 use crate::table::Tables;
@@ -105,5 +106,46 @@ impl Session {
         ensures { result ≡ self.now.ended }
     {
         self.framer.ended()
+    }
+
+    /// Takes bytes to the end of one record at most; none after the end. `whole` says that a record was ended and passed.
+    ///
+    /// A fault is kept, and is the answer from then on: the first refusal of the bytes taken and these, which stands whatever
+    /// follows, with its place; or `Memory` where a growth was refused. It takes no bytes.
+    pub fn feed(&mut self, piece: &[u8]) -> Result<Fed, CheckFault>
+        ensures ok { IfOk result (λ fed. Takes self.old piece.now fed.taken fed.whole self.new) }
+        ensures err { IfErr result (λ fault. FailsAs self.old piece.now fault self.new) }
+    {
+        if let Some(fault) = self.fault {
+            return Err(fault);
+        }
+        match advance(
+            &mut self.framer,
+            &mut self.bytes,
+            &mut self.tables,
+            self.profile,
+            piece,
+        ) {
+            Ok(fed) => Ok(fed),
+            Err(fault) => {
+                self.fault = Some(fault);
+                Err(fault)
+            }
+        }
+    }
+
+    /// The input has ended: the module that the bytes taken are, where a MODEND was passed.
+    ///
+    /// A kept fault is the answer; else, before a MODEND, the refusal of the bytes taken: Cut in a record, NoEnd between two.
+    pub fn finish(self) -> Result<Checked, CheckFault>
+        ensures { Finishes self result }
+    {
+        if let Some(fault) = self.fault {
+            return Err(fault);
+        }
+        if let Err(fault) = self.framer.stop() {
+            return Err(framing_fault(fault));
+        }
+        Ok(Checked::new(self.profile, self.bytes, self.tables))
     }
 }

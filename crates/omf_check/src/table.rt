@@ -10,7 +10,7 @@ ghost use Rattle.omf_frame.specs.Framing.{is_taken};
 ghost use Rattle.omf_check.specs.Kept.{IsBounded};
 ghost use Rattle.omf_image.specs.Blocks.{count_size};
 ghost use Rattle.omf_image.specs.Expanding.{expanded_length};
-ghost use Rattle.omf_check.specs.Tables.{segment_info, items_in};
+ghost use Rattle.omf_check.specs.Tables.{segment_info, items_in, entry};
 ghost use Rattle.omf_records.specs.Location.{location_size};
 ghost use Rattle.omf_records.specs.Seen.{contents_seen, kind_seen, odd_if, rec_seen};
 
@@ -475,5 +475,47 @@ impl Tables {
         }
         self.add(raw.start, &rec)?;
         Ok(())
+    }
+
+    /// How many names there are.
+    pub fn name_count(&self) -> u16
+        requires { length self.now.names ≤ 32767 }
+        ensures { result ≡ length self.now.names }
+    {
+        self.names.len() as u16
+    }
+
+    /// How many segments there are.
+    pub fn segment_count(&self) -> u16
+        requires { length self.now.segments ≤ 32767 }
+        ensures { result ≡ length self.now.segments }
+    {
+        self.segments.len() as u16
+    }
+
+    /// How many groups there are.
+    pub fn group_count(&self) -> u16
+        requires { length self.now.groups ≤ 32767 }
+        ensures { result ≡ length self.now.groups }
+    {
+        self.groups.len() as u16
+    }
+
+    /// How many external names there are.
+    pub fn external_count(&self) -> u16
+        requires { length self.now.externals ≤ 32767 }
+        ensures { result ≡ length self.now.externals }
+    {
+        self.externals.len() as u16
+    }
+
+    /// A segment, by its index from 1.
+    pub fn segment(&self, i: u16) -> Option<SegInfo>
+        ensures { result ≡ entry self.now.segments i }
+    {
+        if i == 0 {
+            return None;
+        }
+        self.segments.get(usize::from(i) - 1).copied()
     }
 }

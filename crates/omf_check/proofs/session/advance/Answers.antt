@@ -29,7 +29,7 @@ next-requires-clause-number c =
 pub returns-in_ok-extend_from_slice-in-None-clause-passing : goal.returns-in_ok-extend_from_slice-in-None-clause-passing
 returns-in_ok-extend_from_slice-in-None-clause-passing c =
     none_passed c.args.profile c.args.framer.now c.args.bytes.now.items c.args.tables.now c.requires c.args.piece.now c.in-Ok.fed.taken c.in-Ok.fed.whole c.feed.new.self c.in-Ok.ensures.ok
-    c.extend_from_slice.new.self.items c.in_ok-extend_from_slice-in-None.ensures.items (λ i. omega (arith, c.type_inv.piece i)) (sym c.in-None.ensures.stands)
+    c.extend_from_slice.new.self.items c.in_ok-extend_from_slice-in-None.ensures.items (λ i. omega (arith, c.type_inv.piece i)) c.in-Ok.ensures.small (sym c.in-None.ensures.stands)
 
 pub returns-in_ok-extend_from_slice-in-Some-clause-passing : goal.returns-in_ok-extend_from_slice-in-Some-clause-passing
 returns-in_ok-extend_from_slice-in-Some-clause-passing c =
