@@ -3,12 +3,13 @@ use Rattle.std.proofs.Common.{◌≡◌, ℕ, zero, suc, ◌+◌, ◌-◌, ◌*�
 use Rattle.std.specs.Prelude.{All, flat_map, IsTrue, not, ◌==◌, cond, Option, Some, None, option_map, slice_index, is_some, is_none, ◌&&◌, sum_by, max}
 use Rattle.std.proofs.lemmas.List.{append-nil, map-append}
 use Rattle.std.proofs.lemmas.Bool.{ne_eqb}
+use Rattle.std.proofs.lemmas.Bool.Decides.{leb_tells}
 use Rattle.std.proofs.lemmas.Grind.{flat_map-append}
 use Rattle.std.proofs.lemmas.List.Elements.{All-append}
 use Rattle.std.proofs.lemmas.List.Sums.{sum_by-append}
 use Rattle.omf_frame.specs.Bytes.{AreBytes}
 use Rattle.omf_frame.specs.Fault.{Fault, IsLeast, least, least_or, first_step}
-use Rattle.omf_frame.specs.Framing.{Raw, raw_bytes, IsRecord, is_end, is_end_of_input, is_whole, present, front_record, frame_steps, frame_fault, standing_fault, lasting}
+use Rattle.omf_frame.specs.Framing.{Raw, raw_bytes, IsRecord, is_end, is_end_of_input, is_whole, wanted, present, front_record, frame_steps, frame_fault, standing_fault, lasting}
 use Rattle.omf_frame.specs.Framer.{Held, passed, refused, stands} 
 use Rattle.omf_frame.specs.Framer.{next_bytes as next_of, Takes as FramerTakes, want_of as framer_want}
 use Rattle.omf_frame.specs.declared.fault.FrameFault.TheVariants as frame
@@ -78,6 +79,16 @@ first_number n (r ∷ rs) e = ne_eqb n 0 (λ z. some n (length rs) z e)
   where
     some : (n k : ℕ) → n ≡ 0 → n ≡ suc k → ⊥
     some n k z e = omega (arith, z, e)
+
+-- A part of a record wants more.
+some_wanted : (bytes : List ℕ) → is_whole bytes ≡ false → 0 < wanted bytes
+some_wanted [] h = omega arith
+some_wanted (t ∷ []) h = omega arith
+some_wanted (t ∷ lo ∷ []) h = omega arith
+some_wanted (t ∷ lo ∷ hi ∷ bytes) h = elim (leb_tells (lo + 256 * hi) (length bytes)) [ inl s ↦ absurd (both (sym s.0 ∙ h)) | inr s ↦ omega (arith, s.1) ]
+  where
+    both : true ≡ false → ⊥
+    both e = cc
 
 -- Bytes of records.
 pub bodies_of : (before : List Raw) (rest : List ℕ) → AreBytes (flat_map raw_bytes before ++ rest) → All (λ r. AreBytes r.body) before
@@ -222,8 +233,9 @@ module _ (profile : Profile) (held : Held) (taken : List ℕ) (kept : Kept) (p :
       let same = refused_once profile profile_limits taken x.0.reason why _ at x.1 r in
       subst (λ y. IsTrue (is_end_of_input y)) same.0 x.2
 
-  pub open_here : length taken < 2 ^ 37 → (s : Seen) → s.profile ≡ profile → s.taken ≡ taken → s.ended ≡ held.ended → IsOpen s
-  open_here low s pr ta en = record {
+  pub open_here : length taken < 2 ^ 37 → (s : Seen) → s.profile ≡ profile → s.taken ≡ taken → s.at_hand ≡ held.bytes → s.ended ≡ held.ended → IsOpen s
+  open_here low s pr ta ah en = record {
+    wants = λ e. subst (λ x. 0 < wanted x) (sym ah) (some_wanted held.bytes p.partial);
     bounded = subst (λ x. length x < 2 ^ 37) (sym ta) low;
     no_refusal = λ why at r. by_ended held.ended refl why at (subst (λ x. IsRefused x profile_limits taken why at) pr (subst (λ x. IsRefused s.profile profile_limits x why at) ta r));
     ended = λ e. subst (λ x. IsModule x s.taken) (sym pr) (subst (λ x. IsModule profile x) (sym ta) (p.before, (p.at_end (sym en ∙ e)).1));

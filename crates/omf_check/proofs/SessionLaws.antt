@@ -3,7 +3,7 @@ use Rattle.std.proofs.Common.{◌≡◌, ℕ, zero, suc, ◌+◌, ◌^◌, ◌<�
 use Rattle.std.specs.Prelude.{All, flat_map, IsTrue, ◌==◌, Option, Some, None, is_some, cond}
 use Rattle.omf_frame.specs.Fault.{Fault}
 use Rattle.omf_frame.specs.Framing.{Raw, raw_bytes, IsRecord, IsFramed, frame_fault, present, front_record, after_front}
-use Rattle.omf_frame.specs.Framer.{Held, stop_of, refused}
+use Rattle.omf_frame.specs.Framer.{Held, at_start, stop_of, refused}
 use Rattle.omf_frame.specs.Framer.{want_of as framer_want}
 use Rattle.omf_frame.specs.declared.fault.FrameFault.{FrameFault}
 use Rattle.omf_frame.specs.declared.fault.FrameFault.TheVariants as frame
@@ -14,12 +14,12 @@ use Rattle.omf_image.specs.Limits.{profile_limits}
 use Rattle.omf_check.specs.declared.fault.CheckFault.{CheckFault}
 use Rattle.omf_check.specs.declared.fault.CheckFault.TheVariants as check
 use Rattle.omf_check.specs.declared.profile.Profile.{Profile}
-use Rattle.omf_check.specs.Kept.{Kept, Tells}
+use Rattle.omf_check.specs.Kept.{Kept, Tells, nothing_kept}
 use Rattle.omf_check.specs.Module.{records_from, records_in, IsChecked}
 use Rattle.omf_check.specs.WellFormed.{IsWellFormed, recs}
 use Rattle.omf_check.specs.Refusal.{IsRefused}
-use Rattle.omf_check.specs.Session.{Seen, IsPassing, IsState, Moves, Takes, framing_fault, IsEndFault}
-use Rattle.omf_check.proofs.Moving.{taken_bound}
+use Rattle.omf_check.specs.Session.{Seen, IsOpen, IsPassing, IsState, Moves, Takes, framing_fault, IsEndFault}
+use Rattle.omf_check.proofs.Moving.{taken_bound, started}
 use Rattle.omf_check.proofs.Passing.{open_here, stopped, early}
 
 -- the view of a session
@@ -38,7 +38,7 @@ feeds_open profile held new taken now piece kept after count whole p m q = recor
   whole_is = m.whole_is;
   profile = refl;
   fault = refl;
-  is_open = open_here profile new now after q (taken_bound profile new now after q) (seen profile new now None) refl refl refl;
+  is_open = open_here profile new now after q (taken_bound profile new now after q) (seen profile new now None) refl refl refl refl;
 }
 
 pub feeds : (profile : Profile) (held new : Held) (taken now piece : List ℕ) (kept after : Kept) (count : ℕ) (whole : Bool) (fault : Option CheckFault) → fault ≡ None
@@ -131,3 +131,9 @@ state_of profile held taken kept fault e s = subst (IsState profile held taken k
 
 pub end_fault : (profile : Profile) (held : Held) (taken : List ℕ) (fault : Option CheckFault) (why : CheckFault) → fault ≡ None → IsEndFault (seen profile held taken None) why → IsEndFault (seen profile held taken fault) why
 end_fault profile held taken fault why e h = subst (λ f. IsEndFault (seen profile held taken f) why) (sym e) h
+
+-- A new session.
+pub open_start : (profile : Profile) → IsOpen (seen profile at_start [] None)
+open_start profile =
+    let p = started profile in
+    open_here profile at_start [] nothing_kept p (taken_bound profile at_start [] nothing_kept p) (seen profile at_start [] None) refl refl refl refl

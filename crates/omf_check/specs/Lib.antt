@@ -9,5 +9,6 @@ pub mod Judging
 pub mod Verdict
 pub mod Module
 pub mod Session
+pub mod Checking
 pub mod Laws
 pub mod Rows

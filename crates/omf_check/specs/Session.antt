@@ -54,6 +54,7 @@ pub record IsOpen (s : Seen) : Type 0 where
   pub ended : s.ended ≡ true → IsModule s.profile s.taken
   pub running : s.ended ≡ false → (records : List Raw) → IsAccepted s.profile profile_limits s.taken records → ⊥
   pub bounded : length s.taken < 2 ^ 37
+  pub wants : s.ended ≡ false → 0 < wanted s.at_hand
 
 -- A feed that succeeds takes what the record at hand still lacks, or the whole piece if that is less; a record that is whole then
 -- is passed.

@@ -2,6 +2,7 @@
 #![tactic(auto)]
 
 mod checked;
+mod checking;
 mod fault;
 mod last_data;
 pub mod laws;
@@ -14,6 +15,7 @@ mod table;
 mod threads;
 
 pub use checked::Checked;
+pub use checking::check;
 pub use fault::CheckFault;
 pub use profile::Profile;
 pub use segment::SegInfo;

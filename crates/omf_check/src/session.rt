@@ -1,7 +1,7 @@
 //! The checker, fed in pieces.
 
 ghost use Rattle.std.specs.Prelude.{◌≡◌, IfOk, IfErr, OnOk, OnErr, false};
-ghost use Rattle.omf_check.specs.Session.{at_start, want_of, Takes, FailsAs, IsPassing, Moves, Fails, Finishes, framing_fault};
+ghost use Rattle.omf_check.specs.Session.{at_start, want_of, IsOpen, Takes, FailsAs, IsPassing, Moves, Fails, Finishes, framing_fault};
 
 use crate::checked::Checked;
 use crate::fault::CheckFault;
@@ -79,7 +79,8 @@ fn advance(
 impl Session {
     /// A session that has taken nothing.
     pub fn new(alloc: Global, profile: Profile) -> Session
-        ensures { result ≡ at_start profile }
+        ensures start { result ≡ at_start profile }
+        ensures is_open { IsOpen result }
     {
         Session {
             profile,
