@@ -121,8 +121,8 @@ module _ (profile : Profile) (held : Held) (taken : List ℕ) (kept : Kept) (p :
         = ap (λ x. raw_fault profile profile_limits kept x r.body) (sym kind_is) ∙ ap (raw_fault profile profile_limits kept kind) (sym body_is) ∙ judged in
         let done : IsPassing profile (passed (record held { bytes = bytes })) (taken ++ take count piece) (with_record kept held.start (rec_of r.kind r.body))
         = passes profile held taken kept p piece count whole new t (append_small taken (take count piece) p.small (AreBytes-take count piece small)) (whole_now s)
-            (subst (λ x. IsRecord (front_record x)) nb is) (ap (λ x. raw_bytes (front_record x)) (sym nb) ∙ back ∙ nb)
-            (ap (λ x. frame_fault (x == 0) bytes) (sym new_number) ∙ ap (frame_fault (new.number == 0)) (sym nb) ∙ f) judged_here (subst IsBounded tables_are bound) in
+        (subst (λ x. IsRecord (front_record x)) nb is) (ap (λ x. raw_bytes (front_record x)) (sym nb) ∙ back ∙ nb)
+        (ap (λ x. frame_fault (x == 0) bytes) (sym new_number) ∙ ap (frame_fault (new.number == 0)) (sym nb) ∙ f) judged_here (subst IsBounded tables_are bound) in
         subst (λ x. IsPassing profile x now tables) (sym (a ∙ ap passed t.new_is))
         (subst (λ x. IsPassing profile (passed (record held { bytes = bytes })) x tables) (sym e)
         (subst (λ x. IsPassing profile (passed (record held { bytes = bytes })) (taken ++ take count piece) x) (sym tables_are) done))

@@ -89,7 +89,7 @@ module _ (kept : Kept) (before : List Rec) (tells : Tells kept before) where
 
   by_frame : (b0 b1 b2 b4 : Bool) (at i : ℕ) → fault_of (frame_rules before at (Some (cond b0 (F0 i) (cond b1 (F1 i) (cond b2 (F2 i) (cond b4 F4 F5))))))
       ≡ cond (b0 || (b1 || b2)) (cond b0 (fault_unless (is_defined (length kept.segments) i) at reason.UndefinedSegment)
-          (cond b1 (fault_unless (is_defined (length kept.groups) i) at reason.UndefinedGroup) (fault_unless (is_defined (length kept.externals) i) at reason.UndefinedExternal))) None
+      (cond b1 (fault_unless (is_defined (length kept.groups) i) at reason.UndefinedGroup) (fault_unless (is_defined (length kept.externals) i) at reason.UndefinedExternal))) None
   by_frame true b1 b2 b4 at i = segment_one at i
   by_frame false true b2 b4 at i = group_one at i
   by_frame false false true b4 at i = external_one at i
@@ -104,7 +104,7 @@ module _ (kept : Kept) (before : List Rec) (tells : Tells kept before) where
 
   by_target : (b0 b1 : Bool) (at i : ℕ) → fault_of (target_rules before at (Some (cond b0 (T0 i) (cond b1 (T1 i) (T2 i)))))
       ≡ cond b0 (fault_unless (is_defined (length kept.segments) i) at reason.UndefinedSegment)
-          (cond b1 (fault_unless (is_defined (length kept.groups) i) at reason.UndefinedGroup) (fault_unless (is_defined (length kept.externals) i) at reason.UndefinedExternal))
+      (cond b1 (fault_unless (is_defined (length kept.groups) i) at reason.UndefinedGroup) (fault_unless (is_defined (length kept.externals) i) at reason.UndefinedExternal))
   by_target true b1 at i = segment_one at i
   by_target false true at i = group_one at i
   by_target false false at i = external_one at i
@@ -127,9 +127,9 @@ module _ (kept : Kept) (before : List Rec) (tells : Tells kept before) where
   reference_law cells earlier r h =
       fault_append (frame_rules before (judged_at r r.frame) (frame_of earlier r)) (target_rules before (judged_at r r.target) (target_of earlier r))
       ∙ ap (λ o. lesser o (fault_of (target_rules before (judged_at r r.target) (target_of earlier r))))
-          (frame_law (judged_at r r.frame) (frame_setting earlier r) ∙ ap (frame_fault kept (judged_at r r.frame)) (frame_cells cells earlier r h))
+      (frame_law (judged_at r r.frame) (frame_setting earlier r) ∙ ap (frame_fault kept (judged_at r r.frame)) (frame_cells cells earlier r h))
       ∙ ap (λ o. lesser (frame_fault kept (judged_at r r.frame) (frame_cell cells r)) o)
-          (target_law (judged_at r r.target) (target_setting earlier r) ∙ ap (target_fault kept (judged_at r r.target)) (target_cells cells earlier r h))
+      (target_law (judged_at r r.target) (target_setting earlier r) ∙ ap (target_fault kept (judged_at r r.target)) (target_cells cells earlier r h))
 
   -- Locations and subrecords.
   by_last : (o : Option Contents) (within locat : ℕ) → fault_of (location_rule o within locat ∷ []) ≡ location_fault (option_map last_kept o) within locat
@@ -158,8 +158,8 @@ module _ (kept : Kept) (before : List Rec) (tells : Tells kept before) where
   subrecords_law cells done (s ∷ subs) h =
       let more : HasThreads (set_thread cells s.item) (subrecords before ++ map (λ e. e.item) (done ++ s ∷ []))
       = subst (λ x. HasThreads (set_thread cells s.item) x)
-          (append_assoc (subrecords before) (map (λ e. e.item) done) (s.item ∷ []) ∙ ap (λ x. subrecords before ++ x) (sym (map-append (λ e. e.item) done (s ∷ []))))
-          (threads_more cells (subrecords before ++ map (λ e. e.item) done) s.item h) in
+      (append_assoc (subrecords before) (map (λ e. e.item) done) (s.item ∷ []) ∙ ap (λ x. subrecords before ++ x) (sym (map-append (λ e. e.item) done (s ∷ []))))
+      (threads_more cells (subrecords before ++ map (λ e. e.item) done) s.item h) in
       fault_append (subrecord_rules before done s) (with_before (subrecord_rules before) (done ++ s ∷ []) subs)
       ∙ ap (λ o. lesser o (fault_of (with_before (subrecord_rules before) (done ++ s ∷ []) subs))) (subrecord_law cells (map (λ e. e.item) done) s.within s.item h)
       ∙ ap (lesser (subrecord_fault kept cells s.within s.item)) (subrecords_law (set_thread cells s.item) (done ++ s ∷ []) subs more)
@@ -188,7 +188,7 @@ module _ (kept : Kept) (before : List Rec) (tells : Tells kept before) where
       fault_append (reference_rules before (subrecords before) r) (last_rule ∷ [])
       ∙ ap (λ o. lesser o (fault_of (last_rule ∷ []))) (reference_law kept.threads (subrecords before) r tells.threads)
       ∙ ap (lesser (reference_fault kept kept.threads r)) (fault_one (not (is_location_frame (frame_of (subrecords before) r))) r.fix.within reason.StartFrame
-          ∙ ap (λ b. fault_unless (not b) r.fix.within reason.StartFrame) (location_frame (frame_setting (subrecords before) r) ∙ ap is_location_cell (frame_cells kept.threads (subrecords before) r tells.threads)))
+      ∙ ap (λ b. fault_unless (not b) r.fix.within reason.StartFrame) (location_frame (frame_setting (subrecords before) r) ∙ ap is_location_cell (frame_cells kept.threads (subrecords before) r tells.threads)))
 
   -- The other kinds.
   members_law : (members : List (At (At ℕ))) → fault_of (map (λ m. names_entry (length (segments before)) reason.UndefinedSegment m.item) members) ≡ members_fault (length kept.segments) members
@@ -205,7 +205,7 @@ module _ (kept : Kept) (before : List Rec) (tells : Tells kept before) where
   data_law d size =
       two_law _ _ d.segment.within d.offset.within reason.UndefinedSegment reason.OutsideSegment
       ∙ ap (λ (xs : List SegInfo). lesser (fault_unless (is_defined (length xs) d.segment.item) d.segment.within reason.UndefinedSegment)
-          (fault_unless (nat_le (d.offset.item + size) (kept_length xs d.segment.item)) d.offset.within reason.OutsideSegment)) (sym tells.segments)
+      (fault_unless (nat_le (d.offset.item + size) (kept_length xs d.segment.item)) d.offset.within reason.OutsideSegment)) (sym tells.segments)
 
   optional_two : (m n p q : ℕ) (r s : Reason) (x y : At ℕ) → m ≡ p → n ≡ q → fault_of (names_entry_or_none p r x ∷ names_entry_or_none q s y ∷ []) ≡ lesser (optional_fault m r x) (optional_fault n s y)
   optional_two m n p q r s x y e f =

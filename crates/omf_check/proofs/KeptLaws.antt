@@ -93,7 +93,12 @@ no_thread d k = refl
 
 pub nothing_tells : Tells nothing_kept []
 nothing_tells = record {
-  names = refl; segments = refl; groups = refl; externals = refl; items = refl; last = refl;
+  names = refl;
+  segments = refl;
+  groups = refl;
+  externals = refl;
+  items = refl;
+  last = refl;
   threads = record { frames = refl; targets = refl; same = λ d k low. nothing_at k d ∙ sym (no_thread d k) };
 }
 

@@ -15,4 +15,5 @@ pub mod Passing
 pub mod Moving
 pub mod Advancing
 pub mod SessionLaws
+pub mod CheckLaws
 pub mod LimitLaws

@@ -180,7 +180,7 @@ module _ (profile : Profile) (held : Held) (taken : List ℕ) (kept : Kept) (p :
       step_none =
           ap (λ x. first_step (steps profile profile_limits p.before x)) back
           ∙ first_none (frame_steps (is_empty p.before) now) (record_steps profile profile_limits p.before r)
-              (clean_steps (is_empty p.before) now (ap (λ b. frame_fault b now) (sym (first_number held.number p.before p.number)) ∙ framed))
+          (clean_steps (is_empty p.before) now (ap (λ b. frame_fault b now) (sym (first_number held.number p.before p.number)) ∙ framed))
           ∙ least_none (first_step (record_steps profile profile_limits p.before r)) (sym (raw_law profile profile_limits kept p.before p.tells r) ∙ judged)
 
       more_sound : AreSound profile profile_limits [] (p.before ++ r ∷ [])

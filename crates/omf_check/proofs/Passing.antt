@@ -10,7 +10,7 @@ use Rattle.std.proofs.lemmas.List.Sums.{sum_by-append}
 use Rattle.omf_frame.specs.Bytes.{AreBytes}
 use Rattle.omf_frame.specs.Fault.{Fault, IsLeast, least, least_or, first_step}
 use Rattle.omf_frame.specs.Framing.{Raw, raw_bytes, IsRecord, is_end, is_end_of_input, is_whole, wanted, present, front_record, frame_steps, frame_fault, standing_fault, lasting}
-use Rattle.omf_frame.specs.Framer.{Held, passed, refused, stands} 
+use Rattle.omf_frame.specs.Framer.{Held, passed, refused, stands}
 use Rattle.omf_frame.specs.Framer.{next_bytes as next_of, Takes as FramerTakes, want_of as framer_want}
 use Rattle.omf_frame.specs.declared.fault.FrameFault.TheVariants as frame
 use Rattle.omf_frame.specs.declared.fault.FrameFault.{FrameFault}

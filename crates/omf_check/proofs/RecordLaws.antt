@@ -59,7 +59,7 @@ module _ (profile : Profile) (limits : Limits) (kept : Kept) (before : List Raw)
   by_read : (kind : ℕ) (body : List ℕ) (res : Result Contents Fault)
       → read_fault profile limits kept kind res
       ≡ least (first_step ((fault_list res ++ short_or_deep limits kind (contents_or body res)) ∷ too_long limits kind (contents_or body res)
-          ∷ broken (rules profile limits (recs before) (record { kind = kind; contents = contents_or body res })) ∷ []))
+      ∷ broken (rules profile limits (recs before) (record { kind = kind; contents = contents_or body res })) ∷ []))
   by_read kind body (Ok c) = by_contents kind c
   by_read kind body (Err f) = refl
 
@@ -118,22 +118,46 @@ module _ (profile : Profile) (limits : Limits) (kept : Kept) (bounded : IsBounde
 
   more_bounded : (at kind size n : ℕ) (c : Contents) → n ≤ 1048576 → contents_fault profile kept size c ≡ None → IsBounded (with_contents (record kept { items = n }) at kind c)
   more_bounded at kind size n (Names items) le h = record {
-    names = starts_fit kept.names at items bounded.names h; segments = bounded.segments; groups = bounded.groups; externals = bounded.externals; items = le;
+    names = starts_fit kept.names at items bounded.names h;
+    segments = bounded.segments;
+    groups = bounded.groups;
+    externals = bounded.externals;
+    items = le;
   }
   more_bounded at kind size n (Segment s) le h = record {
-    names = bounded.names; segments = one_fits kept.segments _ _ h; groups = bounded.groups; externals = bounded.externals; items = le;
+    names = bounded.names;
+    segments = one_fits kept.segments _ _ h;
+    groups = bounded.groups;
+    externals = bounded.externals;
+    items = le;
   }
   more_bounded at kind size n (Group g) le h = record {
-    names = bounded.names; segments = bounded.segments; groups = one_fits kept.groups at _ h; externals = bounded.externals; items = le;
+    names = bounded.names;
+    segments = bounded.segments;
+    groups = one_fits kept.groups at _ h;
+    externals = bounded.externals;
+    items = le;
   }
   more_bounded at kind size n (Externs items) le h = record {
-    names = bounded.names; segments = bounded.segments; groups = bounded.groups; externals = starts_fit kept.externals at items bounded.externals h; items = le;
+    names = bounded.names;
+    segments = bounded.segments;
+    groups = bounded.groups;
+    externals = starts_fit kept.externals at items bounded.externals h;
+    items = le;
   }
   more_bounded at kind size n (Communals items) le h = record {
-    names = bounded.names; segments = bounded.segments; groups = bounded.groups; externals = starts_fit kept.externals at items bounded.externals h; items = le;
+    names = bounded.names;
+    segments = bounded.segments;
+    groups = bounded.groups;
+    externals = starts_fit kept.externals at items bounded.externals h;
+    items = le;
   }
   more_bounded at kind size n _ le h = record {
-    names = bounded.names; segments = bounded.segments; groups = bounded.groups; externals = bounded.externals; items = le;
+    names = bounded.names;
+    segments = bounded.segments;
+    groups = bounded.groups;
+    externals = bounded.externals;
+    items = le;
   }
 
   by_data : (at : ℕ) (r : Rec) (s : Result ℕ Fault) → judged_by_size profile kept r.contents s ≡ None → (kept.items + items_in r.contents ≤ 1048576) × IsBounded (with_record kept at r)

@@ -17,12 +17,16 @@ ghost use Rattle.omf_records.specs.Seen.{contents_seen, kind_seen, odd_if, rec_s
 use crate::fault::CheckFault;
 use crate::last_data::LastData;
 use crate::profile::Profile;
-use crate::rule::{comment_fault, entry_fault, fault_unless, lesser, members_fault, optional_fault, room_fault};
+use crate::rule::{
+    comment_fault, entry_fault, fault_unless, lesser, members_fault, optional_fault, room_fault,
+};
 use crate::segment::SegInfo;
 use crate::threads::{Setting, Threads};
 use omf_frame::{Index, Place, RawRecord, Reason};
 use omf_image::{Limits, expanded_len};
-use omf_records::{At, Blocks, Item, Items, LayoutFault, Member, Part, Rec, Reference, Segment, Subrecord, view};
+use omf_records::{
+    At, Blocks, Item, Items, LayoutFault, Member, Part, Rec, Reference, Segment, Subrecord, view,
+};
 use std::alloc::{AllocError, Global};
 use std::marker::Model;
 
@@ -120,11 +124,7 @@ fn segment_info(wide: bool, segment: &Segment) -> SegInfo
 }
 
 /// Appends where each item stands in the module, in which their record begins at this offset.
-fn add_starts<T: Item>(
-    places: &mut Vec<u64>,
-    at: u64,
-    items: Items<T>,
-) -> Result<(), AllocError>
+fn add_starts<T: Item>(places: &mut Vec<u64>, at: u64, items: Items<T>) -> Result<(), AllocError>
     requires { at < 2 ^ 40 }
     ensures { OnOk result (places.new.items ≡ places.old.items ++ starts at items) }
 {
@@ -385,8 +385,16 @@ impl Tables {
             Rec::Externs(items) => room_fault(items.iter(), external_room),
             Rec::Publics { group, segment, .. } => self.base_fault(group, segment),
             Rec::Communals(items) => room_fault(items.iter(), external_room),
-            Rec::Plain { segment, offset, .. } => self.data_fault(segment, offset, size),
-            Rec::Iterated { segment, offset, .. } => self.data_fault(segment, offset, size),
+            Rec::Plain {
+                segment,
+                offset,
+                ..
+            } => self.data_fault(segment, offset, size),
+            Rec::Iterated {
+                segment,
+                offset,
+                ..
+            } => self.data_fault(segment, offset, size),
             Rec::Fixups { subrecords, .. } => self.subrecords_fault(subrecords.iter()),
             Rec::ModEnd { start, .. } => self.start_fault(start),
             Rec::Header { .. } | Rec::Carried { .. } => None,
@@ -399,7 +407,10 @@ impl Tables {
     {
         let room = ITEM_LIMIT.saturating_sub(self.items);
         match rec {
-            Rec::Fixups { subrecords, .. } if has_some(subrecords) => room_fault(subrecords.iter(), room),
+            Rec::Fixups { subrecords, .. } if has_some(subrecords) => room_fault(
+                subrecords.iter(),
+                room,
+            ),
             _ => fault_unless(room > 0, 0, Reason::TooMany),
         }
     }

@@ -8,8 +8,11 @@ returns-in-Err c =
     let s = c.self.inside in
     let p = state_of s.profile s.framer s.bytes.items s.tables s.fault c.in_default.is c.self.invariant in
     let h = stop_fault s.profile s.framer s.bytes.items s.tables p c.in-Err.fault (sym c.in-Err.ensures) in
-    rw (← c.self.view_is) (inr (c.in_default.is, h.0,
-    subst (λ f. IsEndFault (seen s.profile s.framer s.bytes.items s.fault) f) (sym c.framing_fault.ensures) (end_fault s.profile s.framer s.bytes.items s.fault _ c.in_default.is h.1)))
+    rw (← c.self.view_is) (inr (
+      c.in_default.is,
+      h.0,
+      subst (λ f. IsEndFault (seen s.profile s.framer s.bytes.items s.fault) f) (sym c.framing_fault.ensures) (end_fault s.profile s.framer s.bytes.items s.fault _ c.in_default.is h.1),
+    ))
 
 pub new-requires : goal.new-requires
 new-requires c =
