@@ -5,4 +5,15 @@ pub mod TreeLaws
 pub mod AcceptLaws
 pub mod VerdictLaws
 pub mod CellLaws
+pub mod Lesser
+pub mod Found
+pub mod KeptLaws
+pub mod JudgeLaws
+pub mod ShortLaws
+pub mod RecordLaws
+pub mod Passing
+pub mod Moving
+pub mod Advancing
+pub mod SessionLaws
+pub mod CheckLaws
 pub mod LimitLaws

@@ -24,7 +24,7 @@ use Rattle.omf_check.proofs.UniqueLaws.{AreSound, sound_first, sound_rest, refus
 use Rattle.omf_check.proofs.StepLaws.{IsSound, HasFront, has_front, sound_of, framed_of, first_parts}
 use Rattle.omf_check.proofs.AcceptLaws.{all_middle, accepted_once, never_both}
 
-all_none : {A : Type 0} (P : A → Type 0) → All P []
+pub all_none : {A : Type 0} (P : A → Type 0) → All P []
 all_none P k d low = absurd (omega (arith, low))
 
 -- what holds wherever a list is split holds of all
@@ -37,7 +37,7 @@ nothing_split [] later r e = cc
 nothing_split (x ∷ earlier) later r e = cc
 
 module _ (profile : Profile) (limits : Limits) where
-  sound_none : (done : List Raw) → AreSound profile limits done []
+  pub sound_none : (done : List Raw) → AreSound profile limits done []
   unfolding AreSound
   sound_none done earlier later r e = absurd (nothing_split earlier later r e)
 
@@ -52,7 +52,7 @@ module _ (profile : Profile) (limits : Limits) where
       ap (λ d. first_step (steps profile limits d (raw_bytes y))) (ap (λ t. done ++ t ∷ earlier) (sym same) ∙ sym (append_assoc done (x ∷ []) earlier)) ∙ h earlier later y others
 
   -- one more record without fault
-  sound_more : (done xs : List Raw) (x : Raw) → AreSound profile limits done xs → first_step (steps profile limits (done ++ xs) (raw_bytes x)) ≡ [] → AreSound profile limits done (xs ++ x ∷ [])
+  pub sound_more : (done xs : List Raw) (x : Raw) → AreSound profile limits done xs → first_step (steps profile limits (done ++ xs) (raw_bytes x)) ≡ [] → AreSound profile limits done (xs ++ x ∷ [])
   sound_more done [] x s h = sound_cons done [] x (ap (λ d. first_step (steps profile limits d (raw_bytes x))) (sym (append-nil done)) ∙ h) (sound_none (done ++ x ∷ []))
   sound_more done (y ∷ xs) x s h =
       sound_cons done (xs ++ x ∷ []) y (sound_first profile limits done xs y s)
@@ -68,7 +68,7 @@ module _ (profile : Profile) (limits : Limits) where
   header_first (x ∷ xs) front end e records sound = (sound_at (x ∷ xs) records sound [] xs x refl).headed
 
   -- Records without fault up to the first MODEND are a module.
-  sound_module : (front : List Raw) (end : Raw) → All IsRecord (front ++ end ∷ []) → All (λ r. AreBytes r.body) (front ++ end ∷ [])
+  pub sound_module : (front : List Raw) (end : Raw) → All IsRecord (front ++ end ∷ []) → All (λ r. AreBytes r.body) (front ++ end ∷ [])
       → IsTrue (is_end end.kind) → All (λ r. IsTrue (not (is_end r.kind))) front → AreSound profile limits [] (front ++ end ∷ [])
       → IsWellFormed profile limits (flat_map raw_bytes (front ++ end ∷ [])) (front ++ end ∷ [])
   sound_module front end records bodies is_last running sound =

@@ -2,8 +2,13 @@ pub mod Tables
 pub mod Threads
 pub mod Cells
 pub mod Rules
+pub mod Kept
 pub mod WellFormed
 pub mod Refusal
+pub mod Judging
 pub mod Verdict
+pub mod Module
+pub mod Session
+pub mod Checking
 pub mod Laws
 pub mod Rows

@@ -1,6 +1,6 @@
 //! How many bytes blocks stand for.
 
-ghost use Rattle.std.specs.Prelude.{◌≡◌, ◌+◌, ◌<◌, ◌≤◌, length, drop, IfOk};
+ghost use Rattle.std.specs.Prelude.{◌≡◌, ◌+◌, ◌<◌, ◌≤◌, length, drop, IfOk, IfErr};
 ghost use Rattle.omf_records.specs.FieldReaders.{le_read};
 ghost use Rattle.omf_image.specs.Blocks.{count_size};
 ghost use Rattle.omf_image.specs.Lengths.{read_to, len_data, len_contents, len_block, len_all};
@@ -27,6 +27,7 @@ pub fn word_at(bytes: &[u8], pos: usize) -> Result<(u32, usize), LayoutFault>
     requires { (pos ≤ length bytes.now) × (length bytes.now ≤ 65534) }
     ensures read { read_to bytes.now result ≡ le_read 2 pos (drop pos bytes.now) }
     ensures bound { IfOk result (λ r. (r.1 ≡ pos + 2) × (r.1 ≤ length bytes.now)) }
+    ensures near { IfErr result (λ f. f.within < 65536) }
 {
     if bytes.len() - pos < 2 {
         return Err(fault_at(pos, Reason::Short));
@@ -39,6 +40,7 @@ fn dword_at(bytes: &[u8], pos: usize) -> Result<(u32, usize), LayoutFault>
     requires { (pos ≤ length bytes.now) × (length bytes.now ≤ 65534) }
     ensures read { read_to bytes.now result ≡ le_read 4 pos (drop pos bytes.now) }
     ensures bound { IfOk result (λ r. (r.1 ≡ pos + 4) × (r.1 ≤ length bytes.now)) }
+    ensures near { IfErr result (λ f. f.within < 65536) }
 {
     if bytes.len() - pos < 4 {
         return Err(fault_at(pos, Reason::Short));
@@ -51,6 +53,7 @@ pub fn count_at(bytes: &[u8], wide: bool, pos: usize) -> Result<(u32, usize), La
     requires { (pos ≤ length bytes.now) × (length bytes.now ≤ 65534) }
     ensures read { read_to bytes.now result ≡ le_read (count_size wide) pos (drop pos bytes.now) }
     ensures bound { IfOk result (λ r. (pos < r.1) × (r.1 ≤ length bytes.now)) }
+    ensures near { IfErr result (λ f. f.within < 65536) }
 {
     if wide {
         return dword_at(bytes, pos);
@@ -63,6 +66,7 @@ pub fn data_at(bytes: &[u8], pos: usize) -> Result<(u64, usize), LayoutFault>
     requires { (pos ≤ length bytes.now) × (length bytes.now ≤ 65534) }
     ensures read { read_to bytes.now result ≡ len_data pos (drop pos bytes.now) }
     ensures bound { IfOk result (λ r. (pos < r.1) × (r.1 ≤ length bytes.now)) }
+    ensures near { IfErr result (λ f. f.within < 65536) }
 {
     match &bytes[pos..] {
         [len, data @ ..] if usize::from(*len) <= data.len() => {
@@ -105,6 +109,7 @@ fn block_len(bytes: &[u8], wide: bool, levels: u32, pos: usize) -> Result<(u64, 
     requires { (pos ≤ length bytes.now) × (length bytes.now ≤ 65534) }
     ensures read { read_to bytes.now result ≡ len_block (count_size wide) levels pos (drop pos bytes.now) }
     ensures bound { IfOk result (λ r. (pos < r.1) × (r.1 ≤ length bytes.now)) }
+    ensures near { IfErr result (λ f. f.within < 65536) }
 {
     let (count, after_count) = count_at(bytes, wide, pos)?;
     if levels == 0 {
@@ -118,7 +123,8 @@ fn block_len(bytes: &[u8], wide: bool, levels: u32, pos: usize) -> Result<(u64, 
 /// How many bytes blocks stand for, up to 2^64 - 1, where `levels` levels are allowed.
 fn blocks_len(bytes: &[u8], wide: bool, levels: u32) -> Result<u64, LayoutFault>
     requires { length bytes.now ≤ 65534 }
-    ensures { result ≡ len_all (len_block (count_size wide) levels) (length bytes.now) 0 0 bytes.now }
+    ensures read { result ≡ len_all (len_block (count_size wide) levels) (length bytes.now) 0 0 bytes.now }
+    ensures near { IfErr result (λ f. f.within < 65536) }
 {
     let mut total: u64 = 0;
     let mut pos = 0;
@@ -139,7 +145,8 @@ fn blocks_len(bytes: &[u8], wide: bool, levels: u32) -> Result<u64, LayoutFault>
 /// the limit, `DataTooLong` at 0.
 pub fn expanded_len(blocks: Blocks<'_>, limits: Limits) -> Result<u32, LayoutFault>
     requires { (limits.nesting ≤ 64) × (length blocks.bytes.now ≤ 65534) }
-    ensures { result ≡ expanded_length (count_size blocks.entry.wide) limits blocks.entry.bytes.now }
+    ensures length { result ≡ expanded_length (count_size blocks.entry.wide) limits blocks.entry.bytes.now }
+    ensures near { IfErr result (λ f. f.within < 65536) }
 {
     let len = blocks_len(blocks.bytes, blocks.wide, limits.nesting)?;
     if len > u64::from(limits.expanded) {

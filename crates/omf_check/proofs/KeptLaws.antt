@@ -1,0 +1,173 @@
+-- What is kept goes on telling the records before, one record after another.
+use Rattle.std.proofs.Common.{◌≡◌, ℕ, zero, suc, ◌+◌, ◌-◌, ◌<◌, ◌≤◌, ◌≢◌, Bool, true, false, List, [], ◌∷◌, ◌++◌, refl, sym, ◌∙◌, ap, subst, arith, append_assoc, length, map, get_or, set, inl, inr, take, length-append}
+use Rattle.std.specs.Prelude.{Option, Some, None, option_map, flat_map, sum_by, cond, ◌&&◌, ◌==◌, max}
+use Rattle.std.specs.Option.{option_or}
+use Rattle.std.proofs.lemmas.Bool.Decides.{eqb_tells}
+use Rattle.std.proofs.lemmas.List.{append-nil, get_or-set_same, get_or-set_other, length-map}
+use Rattle.std.proofs.lemmas.List.Sums.{sum_by-append}
+use Rattle.std.proofs.Math.ListN.{length-set}
+use Rattle.std.proofs.lemmas.Grind.{flat_map-append}
+use Rattle.std.specs.List.{last_or}
+use Rattle.omf_frame.specs.Bytes.{last}
+use Rattle.omf_records.specs.Values.{At, Rec, Contents, Names, Segment, Group, Externs, Communals, Plain, Iterated, Fixups, Subrecord, Thread, Fixup, thread_is_frame, thread_method, thread_number}
+use Rattle.omf_check.specs.Tables.{names, segments, groups, externals, item_count, items_in, subrecords, subrecords_in, last_data, data_in, defined_names, defined_segments, defined_groups, defined_externals, segment_info}
+use Rattle.omf_check.specs.Threads.{Setting, setting, setting_of, same, thread}
+use Rattle.omf_check.specs.Kept.{Kept, Tells, HasThreads, cell, set_thread, set_threads, no_threads, nothing_kept, with_contents, with_record, starts, last_kept}
+use Rattle.omf_check.specs.declared.threads.Threads.{Threads}
+use Rattle.omf_check.specs.declared.last_data.LastData.{LastData}
+use Rattle.omf_check.proofs.CellLaws.{thread-append, few_numbers}
+
+-- Cells: one more subrecord.
+cell_set : (xs : List (Option Setting)) (number k : ℕ) (s : Setting) → number < length xs
+    → get_or (set xs number (Some s)) k None ≡ option_or (cond (number == k) (Some s) None) (get_or xs k None)
+cell_set xs number k s low = elim (eqb_tells number k) [
+  | inl t ↦ ap (λ j. get_or (set xs number (Some s)) j None) (sym t.1) ∙ get_or-set_same xs number (Some s) None low ∙ ap (λ b. option_or (cond b (Some s) None) (get_or xs k None)) (sym t.0)
+  | inr t ↦ let ne : k ≢ number = λ e. t.1 (sym e) in get_or-set_other xs number k (Some s) None ne ∙ ap (λ b. option_or (cond b (Some s) None) (get_or xs k None)) (sym t.0)
+]
+
+thread_set : (threads : Threads) (byte : ℕ) (datum : Option (At ℕ)) (b d : Bool) (k : ℕ) → length threads.frames ≡ 4 → length threads.targets ≡ 4 → thread_is_frame byte ≡ b
+    → cell (set_thread threads (Thread byte datum)) d k ≡ option_or (cond (same d b && (thread_number byte == k)) (Some (setting (thread_method byte) datum)) None) (cell threads d k)
+thread_set threads byte datum true true k lf lt e =
+    let n : thread_number byte < 4 = few_numbers byte in
+    let low : thread_number byte < length threads.frames = omega (arith, n, lf) in
+    ap (λ b. cell (cond b (record threads { frames = set threads.frames (thread_number byte) (Some (setting (thread_method byte) datum)) }) (record threads { targets = set threads.targets (thread_number byte) (Some (setting (thread_method byte) datum)) })) true k) e
+    ∙ cell_set threads.frames (thread_number byte) k (setting (thread_method byte) datum) low
+thread_set threads byte datum true false k lf lt e =
+    ap (λ b. cell (cond b (record threads { frames = set threads.frames (thread_number byte) (Some (setting (thread_method byte) datum)) }) (record threads { targets = set threads.targets (thread_number byte) (Some (setting (thread_method byte) datum)) })) false k) e
+thread_set threads byte datum false true k lf lt e =
+    ap (λ b. cell (cond b (record threads { frames = set threads.frames (thread_number byte) (Some (setting (thread_method byte) datum)) }) (record threads { targets = set threads.targets (thread_number byte) (Some (setting (thread_method byte) datum)) })) true k) e
+thread_set threads byte datum false false k lf lt e =
+    let n : thread_number byte < 4 = few_numbers byte in
+    let low : thread_number byte < length threads.targets = omega (arith, n, lt) in
+    ap (λ b. cell (cond b (record threads { frames = set threads.frames (thread_number byte) (Some (setting (thread_method byte) datum)) }) (record threads { targets = set threads.targets (thread_number byte) (Some (setting (thread_method byte) datum)) })) false k) e
+    ∙ cell_set threads.targets (thread_number byte) k (setting (thread_method byte) datum) low
+
+length_frames : (threads : Threads) (s : Subrecord) → length (set_thread threads s).frames ≡ length threads.frames
+length_frames threads (Fixup locat r) = refl
+length_frames threads (Thread byte datum) = by (thread_is_frame byte)
+  where
+    by : (b : Bool) → length (cond b (record threads { frames = set threads.frames (thread_number byte) (Some (setting (thread_method byte) datum)) }) (record threads { targets = set threads.targets (thread_number byte) (Some (setting (thread_method byte) datum)) })).frames ≡ length threads.frames
+    by true = simp length-set
+    by false = refl
+
+length_targets : (threads : Threads) (s : Subrecord) → length (set_thread threads s).targets ≡ length threads.targets
+length_targets threads (Fixup locat r) = refl
+length_targets threads (Thread byte datum) = by (thread_is_frame byte)
+  where
+    by : (b : Bool) → length (cond b (record threads { frames = set threads.frames (thread_number byte) (Some (setting (thread_method byte) datum)) }) (record threads { targets = set threads.targets (thread_number byte) (Some (setting (thread_method byte) datum)) })).targets ≡ length threads.targets
+    by true = refl
+    by false = simp length-set
+
+cell_more : (threads : Threads) (s : Subrecord) (d : Bool) (k : ℕ) → length threads.frames ≡ 4 → length threads.targets ≡ 4
+    → cell (set_thread threads s) d k ≡ option_or (setting_of d k s) (cell threads d k)
+cell_more threads (Thread byte datum) d k lf lt = thread_set threads byte datum (thread_is_frame byte) d k lf lt refl
+cell_more threads (Fixup locat r) d k lf lt = refl
+
+pub threads_more : (threads : Threads) (subs : List Subrecord) (s : Subrecord) → HasThreads threads subs → HasThreads (set_thread threads s) (subs ++ s ∷ [])
+threads_more threads subs s h = record {
+  frames = length_frames threads s ∙ h.frames;
+  targets = length_targets threads s ∙ h.targets;
+  same = λ d k low. cell_more threads s d k h.frames h.targets ∙ ap (option_or (setting_of d k s)) (h.same d k low) ∙ sym (thread-append d k subs s);
+}
+
+threads_all : (threads : Threads) (done : List Subrecord) (subs : List (At Subrecord)) → HasThreads threads done → HasThreads (set_threads threads subs) (done ++ map (λ s. s.item) subs)
+threads_all threads done [] h = subst (λ x. HasThreads threads x) (sym (append-nil done)) h
+threads_all threads done (s ∷ subs) h =
+    subst (λ x. HasThreads (set_threads (set_thread threads s.item) subs) x) (append_assoc done (s.item ∷ []) (map (λ t. t.item) subs))
+    (threads_all (set_thread threads s.item) (done ++ s.item ∷ []) subs (threads_more threads done s.item h))
+
+nothing_at : (k : ℕ) (d : Bool) → cell no_threads d k ≡ None
+nothing_at zero true = refl
+nothing_at (suc zero) true = refl
+nothing_at (suc (suc zero)) true = refl
+nothing_at (suc (suc (suc zero))) true = refl
+nothing_at (suc (suc (suc (suc k)))) true = refl
+nothing_at zero false = refl
+nothing_at (suc zero) false = refl
+nothing_at (suc (suc zero)) false = refl
+nothing_at (suc (suc (suc zero))) false = refl
+nothing_at (suc (suc (suc (suc k)))) false = refl
+
+no_thread : (d : Bool) (k : ℕ) → thread d k [] ≡ None
+no_thread d k = refl
+
+pub nothing_tells : Tells nothing_kept []
+nothing_tells = record {
+  names = refl;
+  segments = refl;
+  groups = refl;
+  externals = refl;
+  items = refl;
+  last = refl;
+  threads = record { frames = refl; targets = refl; same = λ d k low. nothing_at k d ∙ sym (no_thread d k) };
+}
+
+-- Tables: one more record.
+flat_more : {A B : Type 0} (f : A → List B) (xs : List A) (x : A) → flat_map f (xs ++ x ∷ []) ≡ flat_map f xs ++ f x
+flat_more f xs x = flat_map-append f xs (x ∷ []) ∙ ap (λ t. flat_map f xs ++ t) (append-nil (f x))
+
+length_more : {A B : Type 0} (kept : List A) (old new : List B) (n : ℕ) (all : List B) → length kept ≡ n + length new → n ≡ length old → all ≡ old ++ new → length kept ≡ length all
+length_more kept old new n all k e a = omega (arith, k, e, ap length a, length-append old new)
+
+kept_names : (kept : Kept) (at kind : ℕ) (c : Contents) → length (with_contents kept at kind c).names ≡ length kept.names + length (defined_names c)
+kept_names kept at kind (Names items) =
+    length-append kept.names (starts at items) ∙ ap (λ n. length kept.names + n) (length-map items (λ a. at + a.within) ∙ sym (length-map items (λ n. n.item)))
+kept_names kept at kind _ = omega arith
+
+kept_groups : (kept : Kept) (at kind : ℕ) (c : Contents) → length (with_contents kept at kind c).groups ≡ length kept.groups + length (defined_groups c)
+kept_groups kept at kind (Group g) = length-append kept.groups (at ∷ [])
+kept_groups kept at kind _ = omega arith
+
+kept_externals : (kept : Kept) (at kind : ℕ) (c : Contents) → length (with_contents kept at kind c).externals ≡ length kept.externals + length (defined_externals c)
+kept_externals kept at kind (Externs items) =
+    length-append kept.externals (starts at items) ∙ ap (λ n. length kept.externals + n) (length-map items (λ a. at + a.within) ∙ sym (length-map items (λ e. e.item.name)))
+kept_externals kept at kind (Communals items) =
+    length-append kept.externals (starts at items) ∙ ap (λ n. length kept.externals + n) (length-map items (λ a. at + a.within) ∙ sym (length-map items (λ e. e.item.name)))
+kept_externals kept at kind _ = omega arith
+
+kept_segments : (kept : Kept) (at kind : ℕ) (c : Contents) → (with_contents kept at kind c).segments ≡ kept.segments ++ defined_segments kind c
+kept_segments kept at kind (Segment s) = refl
+kept_segments kept at kind _ = sym (append-nil kept.segments)
+
+kept_items : (kept : Kept) (at kind : ℕ) (c : Contents) → (with_contents kept at kind c).items ≡ kept.items
+kept_items kept at kind (Names items) = refl
+kept_items kept at kind _ = refl
+
+last_end : {A : Type 0} (o : Option A) (xs : List A) (x : A) → last_or o (xs ++ x ∷ []) ≡ Some x
+last_end o [] x = refl
+last_end o (y ∷ xs) x = last_end (Some y) xs x
+
+last_none : {A : Type 0} (xs : List A) → last (xs ++ []) ≡ last xs
+last_none xs = ap last (append-nil xs)
+
+kept_last : (kept : Kept) (at kind : ℕ) (c : Contents) (old : List Contents) → kept.last ≡ option_map last_kept (last old)
+    → (with_contents kept at kind c).last ≡ option_map last_kept (last (old ++ data_in c))
+kept_last kept at kind (Plain d) old h = ap (option_map last_kept) (sym (last_end None old (Plain d)))
+kept_last kept at kind (Iterated d) old h = ap (option_map last_kept) (sym (last_end None old (Iterated d)))
+kept_last kept at kind (Names items) old h = h ∙ ap (option_map last_kept) (sym (last_none old))
+kept_last kept at kind _ old h = h ∙ ap (option_map last_kept) (sym (last_none old))
+
+kept_threads : (kept : Kept) (at kind : ℕ) (c : Contents) (old : List Subrecord) → HasThreads kept.threads old → HasThreads (with_contents kept at kind c).threads (old ++ subrecords_in c)
+kept_threads kept at kind (Fixups subs) old h = threads_all kept.threads old subs h
+kept_threads kept at kind (Names items) old h = subst (λ x. HasThreads kept.threads x) (sym (append-nil old)) h
+kept_threads kept at kind _ old h = subst (λ x. HasThreads kept.threads x) (sym (append-nil old)) h
+
+pub tells_more : (kept : Kept) (before : List Rec) (at : ℕ) (r : Rec) → Tells kept before → Tells (with_record kept at r) (before ++ r ∷ [])
+tells_more kept before at r h =
+    let now : Kept = record kept { items = kept.items + items_in r.contents } in
+    record {
+      names = length_more (with_record kept at r).names (names before) (defined_names r.contents) (length kept.names) (names (before ++ r ∷ []))
+          (kept_names now at r.kind r.contents) h.names (flat_more (λ x. defined_names x.contents) before r);
+      segments = kept_segments now at r.kind r.contents ∙ ap (λ t. t ++ defined_segments r.kind r.contents) h.segments ∙ sym (flat_more (λ x. defined_segments x.kind x.contents) before r);
+      groups = length_more (with_record kept at r).groups (groups before) (defined_groups r.contents) (length kept.groups) (groups (before ++ r ∷ []))
+          (kept_groups now at r.kind r.contents) h.groups (flat_more (λ x. defined_groups x.contents) before r);
+      externals = length_more (with_record kept at r).externals (externals before) (defined_externals r.contents) (length kept.externals) (externals (before ++ r ∷ []))
+          (kept_externals now at r.kind r.contents) h.externals (flat_more (λ x. defined_externals x.contents) before r);
+      items = let e = sum_by-append (λ x. items_in x.contents) before (r ∷ []) in
+          kept_items now at r.kind r.contents ∙ ap (λ n. n + items_in r.contents) h.items ∙ item_one before r ∙ sym e;
+      last = kept_last now at r.kind r.contents (flat_map (λ x. data_in x.contents) before) h.last ∙ ap (λ t. option_map last_kept (last t)) (sym (flat_more (λ x. data_in x.contents) before r));
+      threads = subst (λ t. HasThreads (with_record kept at r).threads t) (sym (flat_more (λ x. subrecords_in x.contents) before r)) (kept_threads now at r.kind r.contents (subrecords before) h.threads);
+    }
+  where
+    item_one : (before : List Rec) (r : Rec) → item_count before + items_in r.contents ≡ sum_by (λ x. items_in x.contents) before + sum_by (λ x. items_in x.contents) (r ∷ [])
+    item_one before r = omega arith

@@ -1,0 +1,149 @@
+-- The lesser of faults: the least of several, however they are grouped.
+use Rattle.std.proofs.Common.{◌≡◌, ℕ, zero, suc, ◌+◌, ◌*◌, ◌-◌, ◌<◌, ◌≤◌, List, [], ◌∷◌, ◌++◌, refl, sym, ◌∙◌, ap, arith, Bool, true, false, inl, inr, lit<}
+use Rattle.std.specs.Prelude.{cond, IsTrue, ◌||◌, ◌&&◌, nat_lt, nat_le, ◌==◌, Option, Some, None, ◌⊎◌}
+use Rattle.std.proofs.lemmas.Bool.{leb-true, le-leb, eqb-true, eq-eqb}
+use Rattle.std.proofs.lemmas.Bool.Decides.{leb_tells}
+use Rattle.omf_frame.specs.declared.fault.Reason.{Reason}
+use Rattle.omf_frame.specs.declared.fault.Reason.TheVariants as reason
+use Rattle.omf_frame.specs.Fault.{Fault, is_before, least, least_or, broken, Rule, rule, reason_number}
+use Rattle.omf_check.specs.Judging.{lesser, fault_unless, room_fault}
+
+untrue : true ≡ false → ⊥
+untrue e = cc
+
+test : ℕ → ℕ → ℕ → ℕ → Bool
+test a b m n = nat_lt a b || (a == b) && nat_le m n
+
+test_from : (a b m n : ℕ) → m < 64 → n < 64 → 64 * a + m ≤ 64 * b + n → test a b m n ≡ true
+unfolding test
+test_from a b m n hm hn h = elim (leb_tells (suc a) b) [
+  | inl t ↦ ap (λ x. x || ((a == b) && nat_le m n)) t.0
+  | inr t ↦ let same : a ≡ b = omega arith in let le : m ≤ n = omega arith in
+      ap (λ x. x || ((a == b) && nat_le m n)) t.0 ∙ ap (λ x. x && nat_le m n) (eq-eqb a b same) ∙ le-leb m n le
+]
+
+and_true : (x y : Bool) → x && y ≡ true → (x ≡ true) × (y ≡ true)
+and_true true y h = (refl, h)
+and_true false y h = absurd (untrue (sym h))
+
+test_gives : (a b m n : ℕ) → m < 64 → test a b m n ≡ true → 64 * a + m ≤ 64 * b + n
+unfolding test
+test_gives a b m n hm h = elim (leb_tells (suc a) b) [
+  | inl t ↦ omega (arith, t.1)
+  | inr t ↦ let p = and_true (a == b) (nat_le m n) (ap (λ x. x || ((a == b) && nat_le m n)) (sym t.0) ∙ h) in
+      let same : a ≡ b = eqb-true a b p.0 in let le : m ≤ n = leb-true m n p.1 in omega arith
+]
+
+reason_small : (r : Reason) → reason_number r < 64
+reason_small reason.NoEnd = lit< tt
+reason_small _ = lit< tt
+
+key : Fault → ℕ
+key f = 64 * f.within + reason_number f.reason
+
+bool_cases : (b : Bool) → (b ≡ true) ⊎ (b ≡ false)
+bool_cases true = inl refl
+bool_cases false = inr refl
+
+before : (f g : Fault) → ((is_before f g ≡ true) × (key f ≤ key g)) ⊎ ((is_before f g ≡ false) × (key g < key f))
+unfolding key test
+before f g = elim (leb_tells (64 * f.within + reason_number f.reason) (64 * g.within + reason_number g.reason)) [
+  | inl t ↦ inl (test_from f.within g.within (reason_number f.reason) (reason_number g.reason) (reason_small f.reason) (reason_small g.reason) t.1, t.1)
+  | inr t ↦ elim (bool_cases (is_before f g)) [
+    | inl h ↦ let k = test_gives f.within g.within (reason_number f.reason) (reason_number g.reason) (reason_small f.reason) h in absurd (omega (arith, t.1))
+    | inr h ↦ inr (h, t.1)
+  ]
+]
+
+take_first : (f g : Fault) → is_before f g ≡ true → lesser (Some f) (Some g) ≡ Some f
+take_first f g h = ap (λ b. cond b (Some f) (Some g)) h
+
+take_second : (f g : Fault) → is_before f g ≡ false → lesser (Some f) (Some g) ≡ Some g
+take_second f g h = ap (λ b. cond b (Some f) (Some g)) h
+
+three : (f g h : Fault) → lesser (lesser (Some f) (Some g)) (Some h) ≡ lesser (Some f) (lesser (Some g) (Some h))
+three f g h = elim (before f g) [
+  | inl a ↦ elim (before g h) [
+    | inl b ↦
+        let k : is_before f h ≡ true = below f h (omega (arith, a.1, b.1)) in
+        ap (λ o. lesser o (Some h)) (take_first f g a.0) ∙ take_first f h k ∙ sym (take_first f g a.0) ∙ ap (λ o. lesser (Some f) o) (sym (take_first g h b.0))
+    | inr b ↦ ap (λ o. lesser o (Some h)) (take_first f g a.0) ∙ ap (λ o. lesser (Some f) o) (sym (take_second g h b.0))
+  ]
+  | inr a ↦ elim (before g h) [
+    | inl b ↦ ap (λ o. lesser o (Some h)) (take_second f g a.0) ∙ take_first g h b.0 ∙ sym (take_second f g a.0) ∙ ap (λ o. lesser (Some f) o) (sym (take_first g h b.0))
+    | inr b ↦
+        let k : is_before f h ≡ false = above f h (omega (arith, a.1, b.1)) in
+        ap (λ o. lesser o (Some h)) (take_second f g a.0) ∙ take_second g h b.0 ∙ sym (take_second f h k) ∙ ap (λ o. lesser (Some f) o) (sym (take_second g h b.0))
+  ]
+]
+  where
+    below : (f h : Fault) → key f ≤ key h → is_before f h ≡ true
+    below f h e = elim (before f h) [ inl t ↦ t.0 | inr t ↦ absurd (omega (arith, t.1)) ]
+
+    above : (f h : Fault) → key h < key f → is_before f h ≡ false
+    above f h e = elim (before f h) [ inl t ↦ absurd (omega (arith, t.1)) | inr t ↦ t.0 ]
+
+pub lesser_assoc : (a b c : Option Fault) → lesser (lesser a b) c ≡ lesser a (lesser b c)
+lesser_assoc None b c = refl
+lesser_assoc (Some f) None c = refl
+lesser_assoc (Some f) (Some g) None = only (is_before f g) f g
+  where
+    only : (b : Bool) (f g : Fault) → lesser (cond b (Some f) (Some g)) None ≡ cond b (Some f) (Some g)
+    only true f g = refl
+    only false f g = refl
+lesser_assoc (Some f) (Some g) (Some h) = three f g h
+
+-- one more
+pub lesser_more : (found one old rest all : Option Fault) → old ≡ lesser one rest → lesser found old ≡ all → lesser (lesser found one) rest ≡ all
+lesser_more found one old rest all e h = lesser_assoc found one rest ∙ ap (lesser found) (sym e) ∙ h
+
+-- The least of the faults of rules is the lesser of the parts' least.
+least_cons : (f : Fault) (fs : List Fault) → least (f ∷ fs) ≡ lesser (Some f) (least fs)
+least_cons f [] = refl
+least_cons f (g ∷ gs) = only (is_before f (least_or g gs)) f (least_or g gs)
+  where
+    only : (b : Bool) (f g : Fault) → Some (cond b f g) ≡ cond b (Some f) (Some g)
+    only true f g = refl
+    only false f g = refl
+
+pub least_append : (fs gs : List Fault) → least (fs ++ gs) ≡ lesser (least fs) (least gs)
+least_append [] gs = refl
+least_append (f ∷ fs) gs =
+    least_cons f (fs ++ gs) ∙ ap (lesser (Some f)) (least_append fs gs) ∙ sym (lesser_assoc (Some f) (least fs) (least gs))
+    ∙ ap (λ o. lesser o (least gs)) (sym (least_cons f fs))
+
+pub broken_append : (rs ss : List Rule) → broken (rs ++ ss) ≡ broken rs ++ broken ss
+broken_append [] ss = refl
+broken_append (r ∷ rs) ss =
+    ap (λ t. cond r.holds t (record { within = r.within; reason = r.reason } ∷ t)) (broken_append rs ss)
+    ∙ by r.holds (record { within = r.within; reason = r.reason }) (broken rs) (broken ss)
+  where
+    by : (b : Bool) (f : Fault) (fs gs : List Fault) → cond b (fs ++ gs) (f ∷ fs ++ gs) ≡ cond b fs (f ∷ fs) ++ gs
+    by true f fs gs = refl
+    by false f fs gs = refl
+
+-- the least fault of rules
+abbrev pub fault_of : List Rule → Option Fault
+fault_of rules = least (broken rules)
+
+pub fault_append : (rs ss : List Rule) → fault_of (rs ++ ss) ≡ lesser (fault_of rs) (fault_of ss)
+fault_append rs ss = ap least (broken_append rs ss) ∙ least_append (broken rs) (broken ss)
+
+pub fault_one : (b : Bool) (within : ℕ) (r : Reason) → fault_of (rule b within r ∷ []) ≡ fault_unless b within r
+fault_one true within r = refl
+fault_one false within r = refl
+
+pub fault_cons : (b : Bool) (within : ℕ) (r : Reason) (rs : List Rule) → fault_of (rule b within r ∷ rs) ≡ lesser (fault_unless b within r) (fault_of rs)
+fault_cons true within r rs = refl
+fault_cons false within r rs = least_cons (record { within = within; reason = r }) (broken rs)
+
+pub lesser_none : (o : Option Fault) → lesser o None ≡ o
+lesser_none None = refl
+lesser_none (Some f) = refl
+
+-- one item more that needs room
+pub room_more : (found one now all : Option Fault) (left fewer within : ℕ) (old rest : List ℕ) → now ≡ lesser found one → one ≡ fault_unless (nat_lt 0 left) within reason.TooMany
+    → fewer ≡ left - 1 → old ≡ within ∷ rest → lesser found (room_fault left old) ≡ all → lesser now (room_fault fewer rest) ≡ all
+room_more found one now all left fewer within old rest n o f s h =
+    ap (λ x. lesser x (room_fault fewer rest)) (n ∙ ap (lesser found) o) ∙ ap (λ k. lesser (lesser found (fault_unless (nat_lt 0 left) within reason.TooMany)) (room_fault k rest)) f
+    ∙ lesser_more found _ _ (room_fault (left - 1) rest) all (ap (room_fault left) s) h

@@ -1,0 +1,139 @@
+-- What a session's calls answer.
+use Rattle.std.proofs.Common.{◌≡◌, ℕ, zero, suc, ◌+◌, ◌^◌, ◌<◌, ◌≤◌, ◌⊎◌, Bool, true, false, List, [], ◌∷◌, ◌++◌, Result, Ok, Err, refl, sym, ◌∙◌, ap, subst, arith, append_assoc, length, take, min, inl, inr, length-append}
+use Rattle.std.specs.Prelude.{All, flat_map, IsTrue, ◌==◌, Option, Some, None, is_some, cond}
+use Rattle.omf_frame.specs.Fault.{Fault}
+use Rattle.omf_frame.specs.Framing.{Raw, raw_bytes, IsRecord, IsFramed, frame_fault, present, front_record, after_front}
+use Rattle.omf_frame.specs.Framer.{Held, at_start, stop_of, refused}
+use Rattle.omf_frame.specs.Framer.{want_of as framer_want}
+use Rattle.omf_frame.specs.declared.fault.FrameFault.{FrameFault}
+use Rattle.omf_frame.specs.declared.fault.FrameFault.TheVariants as frame
+use Rattle.omf_frame.specs.declared.fault.Place.{Place}
+use Rattle.omf_frame.specs.declared.fault.Reason.{Reason}
+use Rattle.omf_frame.proofs.FramingLaws.{present_raw, front_raw, after_raw}
+use Rattle.omf_image.specs.Limits.{profile_limits}
+use Rattle.omf_check.specs.declared.fault.CheckFault.{CheckFault}
+use Rattle.omf_check.specs.declared.fault.CheckFault.TheVariants as check
+use Rattle.omf_check.specs.declared.profile.Profile.{Profile}
+use Rattle.omf_check.specs.Kept.{Kept, Tells, nothing_kept}
+use Rattle.omf_check.specs.Module.{records_from, records_in, IsChecked}
+use Rattle.omf_check.specs.WellFormed.{IsWellFormed, recs}
+use Rattle.omf_check.specs.Refusal.{IsRefused}
+use Rattle.omf_check.specs.Session.{Seen, IsOpen, IsPassing, IsState, Moves, Takes, framing_fault, IsEndFault}
+use Rattle.omf_check.proofs.Moving.{taken_bound, started}
+use Rattle.omf_check.proofs.Passing.{open_here, stopped, early}
+
+-- the view of a session
+abbrev pub seen : Profile → Held → List ℕ → Option CheckFault → Seen
+seen profile held taken fault = record { profile = profile; taken = taken; at_hand = cond (is_some fault) [] held.bytes; ended = held.ended; fault = fault }
+
+feeds_open : (profile : Profile) (held new : Held) (taken now piece : List ℕ) (kept after : Kept) (count : ℕ) (whole : Bool) → IsPassing profile held taken kept
+    → Moves held taken piece count whole new now → IsPassing profile new now after → Takes (seen profile held taken None) piece count whole (seen profile new now None)
+feeds_open profile held new taken now piece kept after count whole p m q = record {
+  no_fault = refl;
+  bound = m.bound;
+  all_wanted = subst (λ f. min (framer_want (record held { fault = f })) (length piece) ≤ count) p.no_fault m.all_wanted;
+  grown = m.grown;
+  taken = m.taken;
+  at_hand = m.at_hand;
+  whole_is = m.whole_is;
+  profile = refl;
+  fault = refl;
+  is_open = open_here profile new now after q (taken_bound profile new now after q) (seen profile new now None) refl refl refl refl;
+}
+
+pub feeds : (profile : Profile) (held new : Held) (taken now piece : List ℕ) (kept after : Kept) (count : ℕ) (whole : Bool) (fault : Option CheckFault) → fault ≡ None
+    → IsState profile held taken kept fault → Moves held taken piece count whole new now → IsPassing profile new now after
+    → Takes (seen profile held taken fault) piece count whole (seen profile new now fault)
+feeds profile held new taken now piece kept after count whole fault e s m q =
+    subst (λ f. Takes (seen profile held taken f) piece count whole (seen profile new now f)) (sym e)
+    (feeds_open profile held new taken now piece kept after count whole (subst (IsState profile held taken kept) e s) m q)
+
+-- The end of the input.
+stop_ended : (held : Held) → held.fault ≡ None → held.ended ≡ true → stop_of held ≡ Ok tt
+stop_ended held n e = ap (λ o. stop_of (record held { fault = o })) n ∙ ap (λ b. stop_of (record held { fault = None; ended = b })) e
+
+module _ (profile : Profile) (held : Held) (taken : List ℕ) (kept : Kept) (p : IsPassing profile held taken kept) where
+  stop_early : (f : Fault) → frame_fault (held.number == 0) held.bytes ≡ Some f → held.ended ≡ false → stop_of held ≡ Err (refused held f)
+  stop_early f h e =
+      ap (λ o. stop_of (record held { fault = o })) p.no_fault ∙ ap (λ b. stop_of (record held { fault = None; ended = b })) e ∙ rw h refl
+
+  ok_err : (f : FrameFault) → ◌≡◌ {A = Result (Unit {0}) FrameFault} (Ok tt) (Err f) → ⊥
+  ok_err f e = cc
+
+  err_same : (f g : FrameFault) → ◌≡◌ {A = Result (Unit {0}) FrameFault} (Err f) (Err g) → f ≡ g
+  err_same f g e = cc
+
+  by_end : (b : Bool) → held.ended ≡ b → (fault : FrameFault) → stop_of held ≡ Err fault
+      → (held.ended ≡ false) × IsEndFault (seen profile held taken None) (framing_fault fault)
+  by_end true e fault s = absurd (ok_err fault (sym (stop_ended held p.no_fault e) ∙ s))
+  by_end false e fault s =
+      let x = early profile held taken kept p e (frame_fault (held.number == 0) held.bytes) refl in
+      let same : refused held x.0 ≡ fault = err_same (refused held x.0) fault (sym (stop_early x.0 x.1 e) ∙ s) in
+      (e, subst (λ g. IsEndFault (seen profile held taken None) (framing_fault g)) same (stopped profile held taken kept p e x.0 x.1))
+
+  pub stop_fault : (fault : FrameFault) → stop_of held ≡ Err fault → (held.ended ≡ false) × IsEndFault (seen profile held taken None) (framing_fault fault)
+  stop_fault fault s = by_end held.ended refl fault s
+
+  by_ok : (b : Bool) → held.ended ≡ b → stop_of held ≡ Ok tt → held.ended ≡ true
+  by_ok true e s = e
+  by_ok false e s =
+      let x = early profile held taken kept p e (frame_fault (held.number == 0) held.bytes) refl in
+      absurd (ok_err (refused held x.0) (sym s ∙ stop_early x.0 x.1 e))
+
+  pub stop_ok : stop_of held ≡ Ok tt → held.ended ≡ true
+  stop_ok s = by_ok held.ended refl s
+
+-- Records are read back from their bytes.
+first_of : (P : Raw → Type 0) (r : Raw) (rs : List Raw) → All P (r ∷ rs) → P r
+first_of P r rs h = h 0 r (omega arith)
+
+rest_of : (P : Raw → Type 0) (r : Raw) (rs : List Raw) → All P (r ∷ rs) → All P rs
+rest_of P r rs h k d low = let more : suc k < length (r ∷ rs) = omega arith in h (suc k) d more
+
+split_all : (n : ℕ) (rs : List Raw) → All IsRecord rs → length (flat_map raw_bytes rs) ≤ n → records_from n (flat_map raw_bytes rs) ≡ rs
+split_all zero [] h low = refl
+split_all (suc n) [] h low = refl
+split_all zero (r ∷ rs) h low =
+    let e : length (raw_bytes r ++ flat_map raw_bytes rs) ≡ length (raw_bytes r) + length (flat_map raw_bytes rs) = length-append (raw_bytes r) (flat_map raw_bytes rs) in
+    absurd (none (length (raw_bytes r ++ flat_map raw_bytes rs)) (length (r.body ++ r.checksum ∷ [])) (length (flat_map raw_bytes rs)) e low)
+  where
+    none : (whole a b : ℕ) → whole ≡ suc (suc (suc a)) + b → whole ≤ 0 → ⊥
+    none whole a b e h = omega (arith, e, h)
+split_all (suc n) (r ∷ rs) h low =
+    let small = (first_of IsRecord r rs h).0 in
+    let rest : List ℕ = flat_map raw_bytes rs in
+    let e : length (raw_bytes r ++ rest) ≡ length (raw_bytes r) + length rest = length-append (raw_bytes r) rest in
+    let fewer : length rest ≤ n = less (length (raw_bytes r ++ rest)) (length (r.body ++ r.checksum ∷ [])) (length rest) n e low in
+    ap (λ x. front_record x ∷ records_from n (after_front (raw_bytes r ++ rest))) (present_raw r small rest)
+    ∙ ap (λ x. x ∷ records_from n (after_front (raw_bytes r ++ rest))) (front_raw r small)
+    ∙ ap (λ x. r ∷ records_from n x) (after_raw r small rest) ∙ ap (λ x. r ∷ x) (split_all n rs (rest_of IsRecord r rs h) fewer)
+  where
+    less : (whole a b n : ℕ) → whole ≡ suc (suc (suc a)) + b → whole ≤ suc n → b ≤ n
+    less whole a b n e h = omega (arith, e, h)
+
+pub records_of : (bytes : List ℕ) (rs : List Raw) → IsFramed bytes rs → records_in bytes ≡ rs
+records_of bytes rs f =
+    ap records_in f.spelled ∙ split_all (length (flat_map raw_bytes rs)) rs f.each (omega arith)
+
+pub checked_of : (profile : Profile) (held : Held) (taken : List ℕ) (kept : Kept) → IsPassing profile held taken kept → held.ended ≡ true → IsChecked profile taken kept
+checked_of profile held taken kept p e =
+    let w : IsWellFormed profile profile_limits taken p.before = (p.at_end e).1 in
+    let same : records_in taken ≡ p.before = records_of taken p.before w.framed in
+    record {
+      well_formed = subst (λ x. IsWellFormed profile profile_limits taken x) (sym same) w;
+      tells = subst (λ x. Tells kept (recs x)) (sym same) p.tells;
+      bounded = p.bounded;
+    }
+
+-- by the state
+pub state_of : (profile : Profile) (held : Held) (taken : List ℕ) (kept : Kept) (fault : Option CheckFault) → fault ≡ None → IsState profile held taken kept fault → IsPassing profile held taken kept
+state_of profile held taken kept fault e s = subst (IsState profile held taken kept) e s
+
+pub end_fault : (profile : Profile) (held : Held) (taken : List ℕ) (fault : Option CheckFault) (why : CheckFault) → fault ≡ None → IsEndFault (seen profile held taken None) why → IsEndFault (seen profile held taken fault) why
+end_fault profile held taken fault why e h = subst (λ f. IsEndFault (seen profile held taken f) why) (sym e) h
+
+-- A new session.
+pub open_start : (profile : Profile) → IsOpen (seen profile at_start [] None)
+open_start profile =
+    let p = started profile in
+    open_here profile at_start [] nothing_kept p (taken_bound profile at_start [] nothing_kept p) (seen profile at_start [] None) refl refl refl refl

@@ -1,0 +1,93 @@
+-- The blocks of an LIDATA lie in its record.
+use Rattle.std.proofs.Common.{◌≡◌, ℕ, ◌+◌, ◌≤◌, Bool, true, false, List, [], ◌∷◌, ◌++◌, Result, Ok, Err, refl, sym, ◌∙◌, ap, subst, arith, length, length-append}
+use Rattle.std.specs.Prelude.{◌==◌, ⊤}
+use Rattle.omf_frame.specs.Bytes.{AreBytes, is_one_of}
+use Rattle.omf_frame.specs.Framing.{is_header, is_end}
+use Rattle.omf_records.specs.Values.{Contents, Header, Plain, Iterated, is_wide}
+use Rattle.omf_records.specs.Layout.{Layout, called, either}
+use Rattle.omf_records.specs.Records.{contents, header, comment, names, segment, group, externs, publics, communals, data_item, fixups, mod_end, carried}
+use Rattle.omf_records.specs.Reading.{read_body}
+use Rattle.omf_records.specs.RecordReaders.{contents_whole}
+use Rattle.omf_check.specs.Judging.{IsShort}
+
+abbrev IsIn : ℕ → ℕ → Contents → Type 0
+IsIn at n (Iterated d) = (d.offset.within ≤ at + n) × (length d.bytes ≤ n)
+IsIn at n _ = ⊤
+
+abbrev AreIn : Layout Contents → Type 0
+AreIn p = (at : ℕ) (bytes : List ℕ) (c : Contents) → p.Spells at bytes c → IsIn at (length bytes) c
+
+in_as : (at n : ℕ) (c d : Contents) → c ≡ d → IsIn at n d → IsIn at n c
+in_as at n c d e h = subst (IsIn at n) (sym e) h
+
+in_either : (b : Bool) (p q : Layout Contents) → AreIn p → AreIn q → AreIn (either b p q)
+in_either true p q h k = h
+in_either false p q h k = k
+
+in_header : AreIn header
+in_header at bytes c (f, b, x, p, s, (none, e)) = in_as at _ c _ e tt
+
+in_comment : AreIn comment
+in_comment at bytes c (f, b, x, p, s, (g, d, y, q, t, (z, u, e))) = in_as at _ c _ e tt
+
+in_names : AreIn names
+in_names at bytes c (x, s, e) = in_as at _ c _ e tt
+
+in_segment : (wide : Bool) → AreIn (segment wide)
+in_segment wide at bytes c (f1, b1, x1, p1, s1, (f2, b2, x2, p2, s2, (f3, b3, x3, p3, s3, (f4, b4, x4, p4, s4, (f5, b5, x5, p5, s5, (f6, b6, x6, p6, s6, (none, e))))))) = in_as at _ c _ e tt
+
+in_group : AreIn group
+in_group at bytes c (f, b, x, p, s, (y, t, e)) = in_as at _ c _ e tt
+
+in_externs : AreIn externs
+in_externs at bytes c (x, s, e) = in_as at _ c _ e tt
+
+in_publics : (wide : Bool) → AreIn (publics wide)
+in_publics wide at bytes c (f1, b1, x1, p1, s1, (f2, b2, x2, p2, s2, (f3, b3, x3, p3, s3, (y, t, e)))) = in_as at _ c _ e tt
+
+in_communals : AreIn communals
+in_communals at bytes c (x, s, e) = in_as at _ c _ e tt
+
+in_plain : (wide : Bool) → AreIn (called (data_item wide) Plain)
+in_plain wide at bytes c (d, s, e) = in_as at _ c _ e tt
+
+in_iterated : (wide : Bool) → AreIn (called (data_item wide) Iterated)
+in_iterated wide at bytes c (d, (f1, b1, x1, p1, s1, (f2, b2, x2, p2, s2, (x, same, is))), e) =
+    let first : length bytes ≡ length f1 + length b1 = ap length p1 ∙ length-append f1 b1 in
+    let second : length b1 ≡ length f2 + length b2 = ap length p2 ∙ length-append f2 b2 in
+    let place : d.offset.within ≡ at + length f1 = ap (λ z. z.offset.within) is ∙ s2.0 in
+    let rest : length d.bytes ≡ length b2 = ap (λ z. length z.bytes) is ∙ ap length same in
+    in_as at (length bytes) c (Iterated d) e (omega (arith, place, first), omega (arith, rest, second, first))
+
+in_fixups : (wide : Bool) → AreIn (fixups wide)
+in_fixups wide at bytes c (x, s, e) = in_as at _ c _ e tt
+
+in_end : (wide : Bool) → AreIn (mod_end wide)
+in_end wide at bytes c (f1, b1, x1, p1, s1, (f2, b2, x2, p2, s2, (none, e))) = in_as at _ c _ e tt
+
+in_carried : AreIn carried
+in_carried at bytes c (x, s, e) = in_as at _ c _ e tt
+
+in_contents : (kind : ℕ) → AreIn (contents kind)
+in_contents kind =
+    let wide = is_wide kind in
+    in_either (is_header kind) header _ in_header (
+    in_either (kind == 0x88) comment _ in_comment (
+    in_either (kind == 0x96) names _ in_names (
+    in_either (is_one_of (0x98 ∷ 0x99 ∷ []) kind) (segment wide) _ (in_segment wide) (
+    in_either (kind == 0x9A) group _ in_group (
+    in_either (kind == 0x8C) externs _ in_externs (
+    in_either (is_one_of (0x90 ∷ 0x91 ∷ []) kind) (publics wide) _ (in_publics wide) (
+    in_either (kind == 0xB0) communals _ in_communals (
+    in_either (is_one_of (0xA0 ∷ 0xA1 ∷ []) kind) (called (data_item wide) Plain) _ (in_plain wide) (
+    in_either (is_one_of (0xA2 ∷ 0xA3 ∷ []) kind) (called (data_item wide) Iterated) _ (in_iterated wide) (
+    in_either (is_one_of (0x9C ∷ 0x9D ∷ []) kind) (fixups wide) _ (in_fixups wide) (
+    in_either (is_end kind) (mod_end wide) carried (in_end wide) in_carried)))))))))))
+
+is_short : (n : ℕ) (c : Contents) → n ≤ 65534 → IsIn 3 n c → IsShort c
+is_short n (Iterated d) le h = (omega (arith, le, h.0), omega (arith, le, h.1))
+is_short n (Header name) le h = tt
+is_short n _ le h = tt
+
+pub spelled_short : (kind : ℕ) (body : List ℕ) (c : Contents) → length body ≤ 65534 → (contents kind).Spells 3 body c → IsShort c
+spelled_short kind body c le s = is_short (length body) c le (in_contents kind 3 body c s)

@@ -1,0 +1,17 @@
+use Rattle.std.proofs.Common.{◌≡◌, ◌≤◌, ◌-◌, ◌^◌, length, None}
+use Rattle.std.specs.Io.KnownBytes.{Consumes}
+use Rattle.omf_check.specs.Session.{IsOpen}
+use Rattle.omf_check.proofs.checking.check.Given as goal
+
+-- the session has all that was read
+abbrev pub invariant-loop-buffer : goal.invariant-loop-buffer
+invariant-loop-buffer g l = record {
+  is_open : IsOpen l.session;
+  no_fault : l.session.fault ≡ None;
+  profile : l.session.profile ≡ l.fn.profile;
+  consumed : Consumes (g.S.Source.left l.initial.reader) (g.S.Source.left l.reader) l.session.taken;
+  grows : g.S.Source.failures l.initial.reader ≤ g.S.Source.failures l.reader;
+}
+
+abbrev pub decreases-loop-buffer : goal.decreases-loop-buffer
+decreases-loop-buffer g l = 2 ^ 37 - length l.session.taken

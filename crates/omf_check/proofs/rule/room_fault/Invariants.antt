@@ -1,0 +1,8 @@
+use Rattle.std.proofs.Common.{◌≡◌}
+use Rattle.omf_check.specs.Judging.{lesser, room_fault}
+use Rattle.omf_check.specs.Rules.{places}
+use Rattle.omf_check.proofs.rule.room_fault.Given as goal
+
+-- what is found, and the fault of those to come
+abbrev pub invariant-loop-item : goal.invariant-loop-item
+invariant-loop-item g l = lesser l.found (room_fault l.left (places l.item-iterator)) ≡ room_fault l.room (places l.fn.items)

@@ -1,0 +1,36 @@
+-- What a check answers, and how far it reads.
+use Rattle.std.specs.Prelude.{◌≡◌, ◌⊎◌, ◌<◌, ◌≤◌, ◌^◌, ◌-◌, IsTrue, ⊤, ℕ, List, ◌++◌, Option, Result, Ok, Err}
+use Rattle.std.specs.Io.KnownBytes.{Consumes, IsAtEnd}
+use Rattle.omf_frame.specs.declared.fault.Place.{Place}
+use Rattle.omf_frame.specs.declared.fault.Reason.{Reason}
+use Rattle.omf_image.specs.Limits.{profile_limits}
+use Rattle.omf_check.specs.Module.{Module, records_in}
+use Rattle.omf_check.specs.Refusal.{IsRefused}
+use Rattle.omf_check.specs.Session.{may_go_on}
+use Rattle.omf_check.specs.WellFormed.{IsAccepted}
+use Rattle.omf_check.specs.declared.fault.CheckFault.{CheckFault}
+use Rattle.omf_check.specs.declared.fault.CheckFault.TheVariants.{Memory, Read, Refused}
+use Rattle.omf_check.specs.declared.profile.Profile.{Profile}
+
+-- A failure was counted, or the count stands at its last value.
+abbrev pub HasFailed : ℕ → ℕ → Type 0
+HasFailed old new = (old < new) ⊎ (2 ^ 64 - 1 ≤ new)
+
+-- The bytes that were read are refused so: to the end of the input, for what may go on; or whatever follows.
+abbrev pub IsReadTo : Profile → List ℕ → Option (List ℕ) → Reason → Place → Type 0
+IsReadTo profile read left why at =
+    (IsTrue (may_go_on why) × IsRefused profile profile_limits read why at × IsAtEnd left)
+    ⊎ ((more : List ℕ) → IsRefused profile profile_limits (read ++ more) why at)
+
+-- Why a check gives no module, and what it read of a reader that tells its bytes.
+abbrev pub IsCheckFault : Profile → Option (List ℕ) → Option (List ℕ) → ℕ → ℕ → CheckFault → Type 0
+IsCheckFault profile old new failed fails Memory = ⊤
+IsCheckFault profile old new failed fails Read = HasFailed failed fails
+IsCheckFault profile old new failed fails (Refused why at) = (read : List ℕ) × Consumes old new read × IsReadTo profile read new why at
+
+-- What a check says of an input: the module that it begins with, or its refusal; nothing where memory or the reader failed.
+abbrev pub Decides : Profile → List ℕ → Result Module CheckFault → Type 0
+Decides profile input (Ok m) = (m.profile ≡ profile) × ((a : IsAccepted profile profile_limits input (records_in m.bytes)) × (a.bytes ≡ m.bytes))
+Decides profile input (Err Memory) = ⊤
+Decides profile input (Err Read) = ⊤
+Decides profile input (Err (Refused why at)) = IsRefused profile profile_limits input why at

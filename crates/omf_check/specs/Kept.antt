@@ -1,0 +1,89 @@
+-- What a checker keeps of the records so far, in place of the records themselves.
+use Rattle.std.specs.Prelude.{◌≡◌, ◌<◌, ◌≤◌, ℕ, ◌+◌, List, [], ◌∷◌, ◌++◌, length, map, get_or, set, Bool, Option, Some, None, option_map, if◌then◌else◌}
+use Rattle.omf_records.specs.Values.{At, Rec, Contents, Names, Segment, Group, Externs, Communals, Plain, Iterated, Fixups, Subrecord, Thread, Fixup, thread_is_frame, thread_method, thread_number}
+use Rattle.omf_check.specs.Tables.{names, segments, groups, externals, item_count, items_in, subrecords, last_data, segment_info}
+use Rattle.omf_check.specs.Threads.{Setting, setting, thread}
+use Rattle.omf_check.specs.declared.segment.SegInfo.{SegInfo}
+use Rattle.omf_check.specs.declared.last_data.LastData.{LastData}
+use Rattle.omf_check.specs.declared.last_data.LastData.TheVariants as last
+use Rattle.omf_check.specs.declared.threads.Threads.{Threads}
+
+-- the thread of a kind and number
+abbrev pub cell : Threads → Bool → ℕ → Option Setting
+cell threads is_frame k = get_or (if is_frame then threads.frames else threads.targets) k None
+
+-- no thread was set
+abbrev pub no_threads : Threads
+no_threads = record { frames = None ∷ None ∷ None ∷ None ∷ []; targets = None ∷ None ∷ None ∷ None ∷ [] }
+
+-- after one more subrecord
+abbrev pub set_thread : Threads → Subrecord → Threads
+set_thread threads (Thread byte datum) =
+    if thread_is_frame byte then record threads { frames = set threads.frames (thread_number byte) (Some (setting (thread_method byte) datum)) }
+    else record threads { targets = set threads.targets (thread_number byte) (Some (setting (thread_method byte) datum)) }
+set_thread threads (Fixup locat r) = threads
+
+abbrev pub set_threads : Threads → List (At Subrecord) → Threads
+set_threads threads [] = threads
+set_threads threads (s ∷ subs) = set_threads (set_thread threads s.item) subs
+
+-- where each name, GRPDEF record and external name stands in the module; the segments; how many items there were; the last data
+-- record; the threads
+pub record Kept : Type 0 where
+  pub names : List ℕ
+  pub segments : List SegInfo
+  pub groups : List ℕ
+  pub externals : List ℕ
+  pub items : ℕ
+  pub last : Option LastData
+  pub threads : Threads
+
+abbrev pub nothing_kept : Kept
+nothing_kept = record { names = []; segments = []; groups = []; externals = []; items = 0; last = None; threads = no_threads }
+
+-- after one more record, which begins at some offset in the module
+abbrev pub starts : {A : Type 0} → ℕ → List (At A) → List ℕ
+starts at items = map (λ a. at + a.within) items
+
+abbrev pub with_contents : Kept → ℕ → ℕ → Contents → Kept
+with_contents kept at kind (Names items) = record kept { names = kept.names ++ starts at items }
+with_contents kept at kind (Segment s) = record kept { segments = kept.segments ++ segment_info kind s ∷ [] }
+with_contents kept at kind (Group g) = record kept { groups = kept.groups ++ at ∷ [] }
+with_contents kept at kind (Externs items) = record kept { externals = kept.externals ++ starts at items }
+with_contents kept at kind (Communals items) = record kept { externals = kept.externals ++ starts at items }
+with_contents kept at kind (Plain d) = record kept { last = Some (last.Plain (length d.bytes)) }
+with_contents kept at kind (Iterated d) = record kept { last = Some last.Iterated }
+with_contents kept at kind (Fixups subs) = record kept { threads = set_threads kept.threads subs }
+with_contents kept at kind _ = kept
+
+abbrev pub with_record : Kept → ℕ → Rec → Kept
+with_record kept at r = with_contents (record kept { items = kept.items + items_in r.contents }) at r.kind r.contents
+
+-- what is kept of the last data record
+abbrev pub last_kept : Contents → LastData
+last_kept (Plain d) = last.Plain (length d.bytes)
+last_kept _ = last.Iterated
+
+-- The cells are the threads in force after these subrecords.
+pub record HasThreads (threads : Threads) (subs : List Subrecord) : Type 0 where
+  pub frames : length threads.frames ≡ 4
+  pub targets : length threads.targets ≡ 4
+  pub same : (is_frame : Bool) (k : ℕ) → k < 4 → cell threads is_frame k ≡ thread is_frame k subs
+
+-- What is kept tells all that the rules ask of the records before.
+pub record Tells (kept : Kept) (before : List Rec) : Type 0 where
+  pub names : length kept.names ≡ length (names before)
+  pub segments : kept.segments ≡ segments before
+  pub groups : length kept.groups ≡ length (groups before)
+  pub externals : length kept.externals ≡ length (externals before)
+  pub items : kept.items ≡ item_count before
+  pub last : kept.last ≡ option_map last_kept (last_data before)
+  pub threads : HasThreads kept.threads (subrecords before)
+
+-- No table is passed its limit.
+pub record IsBounded (kept : Kept) : Type 0 where
+  pub names : length kept.names ≤ 32767
+  pub segments : length kept.segments ≤ 32767
+  pub groups : length kept.groups ≤ 32767
+  pub externals : length kept.externals ≤ 32767
+  pub items : kept.items ≤ 1048576

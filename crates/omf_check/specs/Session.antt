@@ -1,0 +1,147 @@
+-- What is seen of a session, and what its calls do.
+use Rattle.std.specs.Prelude.{◌≡◌, ◌⊎◌, ◌≤◌, ◌<◌, ◌^◌, ◌*◌, IsTrue, ⊤, ℕ, ◌+◌, Bool, true, false, not, ◌||◌, ◌==◌, is_some, min, if◌then◌else◌, List, [], ◌∷◌, ◌++◌, length, take, flat_map, All, Option, Some, None, option_map, Result, Ok, Err}
+use Rattle.omf_frame.specs.Bytes.{AreBytes}
+use Rattle.omf_frame.specs.Fault.{Fault}
+use Rattle.omf_frame.specs.Framer.{Held}
+use Rattle.omf_frame.specs.Framer.{next_bytes as next_of, want_of as framer_want}
+use Rattle.omf_frame.specs.declared.fault.FrameFault.{FrameFault}
+use Rattle.omf_frame.specs.declared.fault.FrameFault.TheVariants as frame
+use Rattle.omf_frame.specs.Framing.{Raw, raw_bytes, IsRecord, is_end, is_end_of_input, is_whole, present, wanted, standing_fault}
+use Rattle.omf_frame.specs.declared.fault.Place.{Place}
+use Rattle.omf_frame.specs.declared.fault.Reason.{Reason}
+use Rattle.omf_image.specs.Limits.{profile_limits}
+use Rattle.omf_check.specs.Kept.{Kept, Tells, IsBounded}
+use Rattle.omf_check.specs.Module.{Module}
+use Rattle.omf_check.specs.Refusal.{IsRefused, faults_after}
+use Rattle.omf_check.specs.WellFormed.{IsWellFormed, IsAccepted, recs}
+use Rattle.omf_check.specs.declared.fault.CheckFault.{CheckFault}
+use Rattle.omf_check.specs.declared.fault.CheckFault.TheVariants.{Memory, Read, Refused}
+use Rattle.omf_check.specs.declared.profile.Profile.{Profile}
+
+-- The profile, all bytes taken before a fault, those of them that are of the record at hand, whether a MODEND was passed, and a
+-- kept fault.
+pub record Seen : Type 0 where
+  pub profile : Profile
+  pub taken : List ℕ
+  pub at_hand : List ℕ
+  pub ended : Bool
+  pub fault : Option CheckFault
+
+-- Nothing was taken.
+abbrev pub at_start : Profile → Seen
+at_start profile = record { profile = profile; taken = []; at_hand = []; ended = false; fault = None }
+
+-- How many bytes it can take before it next judges; none after the end or after a fault.
+abbrev pub want_of : Seen → ℕ
+want_of s = if s.ended || is_some s.fault then 0 else wanted s.at_hand
+
+-- The bytes of the record at hand once a piece has come, up to its end.
+abbrev pub next_bytes : Seen → List ℕ → List ℕ
+next_bytes s piece = if s.ended then [] else present (s.at_hand ++ piece)
+
+-- The bytes taken are a module and nothing else.
+abbrev pub IsModule : Profile → List ℕ → Type 0
+IsModule profile bytes = (records : List Raw) × IsWellFormed profile profile_limits bytes records
+
+-- Whether a reason says that the input ended too early: bytes to come can take it away.
+abbrev pub may_go_on : Reason → Bool
+may_go_on why = is_end_of_input why
+
+-- What is true of a session without a fault: the bytes taken have no refusal that stands whatever follows; and they are a module
+-- exactly where a MODEND was passed.
+pub record IsOpen (s : Seen) : Type 0 where
+  pub no_refusal : (why : Reason) (at : Place) → IsRefused s.profile profile_limits s.taken why at → IsTrue (may_go_on why)
+  pub ended : s.ended ≡ true → IsModule s.profile s.taken
+  pub running : s.ended ≡ false → (records : List Raw) → IsAccepted s.profile profile_limits s.taken records → ⊥
+  pub bounded : length s.taken < 2 ^ 37
+  pub wants : s.ended ≡ false → 0 < wanted s.at_hand
+
+-- A feed that succeeds takes what the record at hand still lacks, or the whole piece if that is less; a record that is whole then
+-- is passed.
+pub record Takes (old : Seen) (piece : List ℕ) (count : ℕ) (whole : Bool) (new : Seen) : Type 0 where
+  pub no_fault : old.fault ≡ None
+  pub bound : count ≤ length piece
+  pub all_wanted : min (want_of old) (length piece) ≤ count
+  pub grown : next_bytes old piece ≡ old.at_hand ++ take count piece
+  pub taken : new.taken ≡ old.taken ++ take count piece
+  pub at_hand : new.at_hand ≡ (if whole then [] else next_bytes old piece)
+  pub whole_is : whole ≡ is_whole (next_bytes old piece)
+  pub profile : new.profile ≡ old.profile
+  pub fault : new.fault ≡ None
+  pub is_open : IsOpen new
+
+-- Why a feed fails: a growth was refused; or the bytes taken with this piece have a refusal that stands whatever follows.
+abbrev pub IsCause : Seen → List ℕ → CheckFault → Type 0
+IsCause old piece Memory = ⊤
+IsCause old piece Read = ⊥
+IsCause old piece (Refused why at) = (more : List ℕ) → IsRefused old.profile profile_limits (old.taken ++ piece ++ more) why at
+
+-- A feed that fails keeps its fault, which is the answer from then on.
+pub record FailsAs (old : Seen) (piece : List ℕ) (fault : CheckFault) (new : Seen) : Type 0 where
+  pub not_ended : old.ended ≡ false
+  pub new_is : new ≡ record old { at_hand = []; fault = Some fault }
+  pub cause : (old.fault ≡ Some fault) ⊎ ((old.fault ≡ None) × IsCause old piece fault)
+
+-- What a record of a number and a start is refused for.
+abbrev pub refused_at : ℕ → ℕ → Fault → CheckFault
+refused_at number start f = Refused f.reason (record { number = number; start = start; within = f.within })
+
+-- Why a record, whose least fault this is, is not passed.
+abbrev pub IsStopped : Option Fault → ℕ → ℕ → CheckFault → Type 0
+IsStopped found number start Memory = found ≡ None
+IsStopped found number start Read = ⊥
+IsStopped found number start (Refused why at) = option_map (refused_at number start) found ≡ Some (Refused why at)
+
+-- The records passed so far, and the bytes at hand.
+pub record IsPassing (profile : Profile) (held : Held) (taken : List ℕ) (kept : Kept) : Type 0 where
+  pub before : List Raw
+  pub spelled : taken ≡ flat_map raw_bytes before ++ held.bytes
+  pub records : All IsRecord before
+  pub small : AreBytes taken
+  pub sound : (earlier later : List Raw) (r : Raw) → before ≡ earlier ++ r ∷ later → faults_after profile profile_limits earlier (raw_bytes r) ≡ []
+  pub number : held.number ≡ length before
+  pub start : held.start ≡ length (flat_map raw_bytes before)
+  pub no_fault : held.fault ≡ None
+  pub partial : is_whole held.bytes ≡ false
+  pub standing : standing_fault (held.number == 0) held.bytes ≡ None
+  pub running : held.ended ≡ false → All (λ r. IsTrue (not (is_end r.kind))) before
+  pub at_end : held.ended ≡ true → (held.bytes ≡ []) × IsWellFormed profile profile_limits taken before
+  pub tells : Tells kept (recs before)
+  pub bounded : IsBounded kept
+  pub short : length held.bytes ≤ 65538
+
+-- What is true of every session, by its parts.
+abbrev pub IsState : Profile → Held → List ℕ → Kept → Option CheckFault → Type 0
+IsState profile held taken kept None = IsPassing profile held taken kept
+IsState profile held taken kept (Some fault) = held.ended ≡ false
+
+-- A step of a session, by its framer and the bytes taken: it takes what the record at hand still lacks, or the whole piece, and
+-- passes a record that is whole then.
+pub record Moves (old : Held) (bytes piece : List ℕ) (count : ℕ) (whole : Bool) (new : Held) (now : List ℕ) : Type 0 where
+  pub bound : count ≤ length piece
+  pub all_wanted : min (framer_want old) (length piece) ≤ count
+  pub grown : next_of old piece ≡ old.bytes ++ take count piece
+  pub taken : now ≡ bytes ++ take count piece
+  pub at_hand : new.bytes ≡ (if whole then [] else next_of old piece)
+  pub whole_is : whole ≡ is_whole (next_of old piece)
+
+-- Why a step fails.
+abbrev pub Fails : Profile → List ℕ → List ℕ → CheckFault → Type 0
+Fails profile taken piece Memory = ⊤
+Fails profile taken piece Read = ⊥
+Fails profile taken piece (Refused why at) = (more : List ℕ) → IsRefused profile profile_limits (taken ++ piece ++ more) why at
+
+-- What a framer's fault is to a session.
+abbrev pub framing_fault : FrameFault → CheckFault
+framing_fault frame.Memory = Memory
+framing_fault (frame.Refused why at) = Refused why at
+
+-- What the end of the input means: a kept fault; or after a MODEND the module that the bytes taken are; or their refusal.
+abbrev pub IsEndFault : Seen → CheckFault → Type 0
+IsEndFault s Memory = ⊥
+IsEndFault s Read = ⊥
+IsEndFault s (Refused why at) = IsRefused s.profile profile_limits s.taken why at
+
+abbrev pub Finishes : Seen → Result Module CheckFault → Type 0
+Finishes s (Ok m) = (s.fault ≡ None) × (s.ended ≡ true) × (m ≡ record { bytes = s.taken; profile = s.profile })
+Finishes s (Err fault) = (s.fault ≡ Some fault) ⊎ ((s.fault ≡ None) × (s.ended ≡ false) × IsEndFault s fault)

@@ -1,0 +1,93 @@
+//! A module that was checked.
+
+ghost use Rattle.std.specs.Prelude.{◌≡◌, length};
+ghost use Rattle.omf_image.specs.Limits.{profile_limits};
+ghost use Rattle.omf_check.specs.Module.{records_in, IsChecked};
+ghost use Rattle.omf_check.specs.Tables.{names, segments, groups, externals, entry};
+ghost use Rattle.omf_check.specs.WellFormed.{recs, IsWellFormed};
+
+use crate::profile::Profile;
+use crate::segment::SegInfo;
+use crate::table::Tables;
+use std::marker::Model;
+
+/// A well-formed module: its bytes, and the profile under which it is one. Only a check makes it.
+#[derive(Drop)]
+pub struct Checked {
+    profile: Profile,
+    bytes: Vec<u8>,
+    tables: Tables,
+}
+
+impl Model for Checked {
+    ghost use Rattle.omf_check.specs.Module.{Module, IsChecked};
+
+    ghost Value = { Module };
+
+    ghost view = { λ c. record { bytes = c.bytes.items; profile = c.profile } };
+
+    ghost invariant = { λ c. IsChecked c.profile c.bytes.items c.tables };
+}
+
+impl Checked {
+    pub(crate) fn new(profile: Profile, bytes: Vec<u8>, tables: Tables) -> Checked
+        requires { IsChecked profile bytes.items tables }
+        ensures { result ≡ record { bytes = bytes.items; profile = profile } }
+    {
+        Checked {
+            profile,
+            bytes,
+            tables,
+        }
+    }
+
+    /// The module's bytes: a well-formed module.
+    pub fn bytes(&self) -> &[u8]
+        ensures bytes { result.now ≡ self.now.bytes }
+        ensures well_formed { IsWellFormed self.now.profile profile_limits self.now.bytes (records_in self.now.bytes) }
+    {
+        &self.bytes
+    }
+
+    /// The profile under which it is well formed.
+    pub fn profile(&self) -> Profile
+        ensures { result ≡ self.now.profile }
+    {
+        self.profile
+    }
+
+    /// How many names its LNAMES define.
+    pub fn names(&self) -> u16
+        ensures { result ≡ length (names (recs (records_in self.now.bytes))) }
+    {
+        self.tables.name_count()
+    }
+
+    /// How many segments it has.
+    pub fn segments(&self) -> u16
+        ensures { result ≡ length (segments (recs (records_in self.now.bytes))) }
+    {
+        self.tables.segment_count()
+    }
+
+    /// How many groups it has.
+    pub fn groups(&self) -> u16
+        ensures { result ≡ length (groups (recs (records_in self.now.bytes))) }
+    {
+        self.tables.group_count()
+    }
+
+    /// How many external names it has; those of EXTDEFs and COMDEFs share one table.
+    pub fn externals(&self) -> u16
+        ensures { result ≡ length (externals (recs (records_in self.now.bytes))) }
+    {
+        self.tables.external_count()
+    }
+
+    /// What a segment's SEGDEF says of it, by its index from 1; `None` outside the table.
+    pub fn segment(&self, i: u16) -> Option<SegInfo>
+        ensures { result ≡ entry (segments (recs (records_in self.now.bytes))) i }
+    {
+        self.tables.segment(i)
+    }
+}

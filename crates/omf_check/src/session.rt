@@ -1,0 +1,152 @@
+//! The checker, fed in pieces.
+
+ghost use Rattle.std.specs.Prelude.{◌≡◌, IfOk, IfErr, OnOk, OnErr, false};
+ghost use Rattle.omf_check.specs.Session.{at_start, want_of, IsOpen, Takes, FailsAs, IsPassing, Moves, Fails, Finishes, framing_fault};
+
+use crate::checked::Checked;
+use crate::fault::CheckFault;
+use crate::profile::Profile;
+use crate::table::Tables;
+use omf_frame::{Fed, FrameFault, Framer};
+use std::alloc::Global;
+use std::marker::Model;
+
+/// Judges a module that comes in any pieces, record by record, and keeps its bytes.
+#[derive(Drop)]
+pub struct Session {
+    profile: Profile,
+    framer: Framer,
+    /// All bytes taken.
+    bytes: Vec<u8>,
+    tables: Tables,
+    fault: Option<CheckFault>,
+}
+
+impl Model for Session {
+    ghost use Rattle.std.specs.Prelude.{is_some, [], false, ◌&&◌, not, if◌then◌else◌};
+    ghost use Rattle.omf_check.specs.Session.{Seen, IsState};
+
+    ghost Value = { Seen };
+
+    ghost view = { λ s. record { profile = s.profile; taken = s.bytes.items; at_hand = (if is_some s.fault then [] else s.framer.bytes); ended = s.framer.ended; fault = s.fault } };
+
+    ghost invariant = { λ s. IsState s.profile s.framer s.bytes.items s.tables s.fault };
+}
+
+/// What a framer's fault is to a session.
+fn framing_fault(fault: FrameFault) -> CheckFault
+    ensures { result ≡ framing_fault fault }
+{
+    match fault {
+        FrameFault::Memory => CheckFault::Memory,
+        FrameFault::Refused(reason, place) => CheckFault::Refused { reason, place },
+    }
+}
+
+/// Takes what the record at hand still lacks. Where the record is whole then, it is judged and passed. A fault takes no bytes.
+fn advance(
+    framer: &mut Framer,
+    bytes: &mut Vec<u8>,
+    tables: &mut Tables,
+    profile: Profile,
+    piece: &[u8],
+) -> Result<Fed, CheckFault>
+    requires { IsPassing profile framer.old bytes.old.items tables.old }
+    ensures ok { IfOk result (λ fed. Moves framer.old bytes.old.items piece.now fed.taken fed.whole framer.new bytes.new.items) }
+    ensures passing { OnOk result (IsPassing profile framer.new bytes.new.items tables.new) }
+    ensures cause { IfErr result (Fails profile bytes.old.items piece.now) }
+    ensures same { OnErr result (bytes.new.items ≡ bytes.old.items) }
+    ensures running { OnErr result ((framer.old.ended ≡ false) × (framer.new.ended ≡ false)) }
+{
+    let fed = match framer.feed(piece) {
+        Ok(fed) => fed,
+        Err(fault) => return Err(framing_fault(fault)),
+    };
+    match framer.raw() {
+        None => {
+            bytes.extend_from_slice(&piece[..fed.taken])?;
+            Ok(fed)
+        }
+        Some(raw) => {
+            tables.take(profile, raw)?;
+            bytes.extend_from_slice(&piece[..fed.taken])?;
+            framer.next();
+            Ok(fed)
+        }
+    }
+}
+
+impl Session {
+    /// A session that has taken nothing.
+    pub fn new(alloc: Global, profile: Profile) -> Session
+        ensures start { result ≡ at_start profile }
+        ensures is_open { IsOpen result }
+    {
+        Session {
+            profile,
+            framer: Framer::new(alloc),
+            bytes: Vec::new(alloc),
+            tables: Tables::new(alloc),
+            fault: None,
+        }
+    }
+
+    /// How many bytes it can take before it next judges: one before a type byte, then the length bytes that are missing,
+    /// then the rest of the record. None after the end, or after a fault.
+    pub fn want(&self) -> usize
+        ensures { result ≡ want_of self.now }
+    {
+        if self.fault.is_some() {
+            return 0;
+        }
+        self.framer.want()
+    }
+
+    /// Whether a MODEND was passed.
+    pub fn ended(&self) -> bool
+        ensures { result ≡ self.now.ended }
+    {
+        self.framer.ended()
+    }
+
+    /// Takes bytes to the end of one record at most; none after the end. `whole` says that a record was ended and passed.
+    ///
+    /// A fault is kept, and is the answer from then on: the first refusal of the bytes taken and these, which stands whatever
+    /// follows, with its place; or `Memory` where a growth was refused. It takes no bytes.
+    pub fn feed(&mut self, piece: &[u8]) -> Result<Fed, CheckFault>
+        ensures ok { IfOk result (λ fed. Takes self.old piece.now fed.taken fed.whole self.new) }
+        ensures err { IfErr result (λ fault. FailsAs self.old piece.now fault self.new) }
+    {
+        if let Some(fault) = self.fault {
+            return Err(fault);
+        }
+        match advance(
+            &mut self.framer,
+            &mut self.bytes,
+            &mut self.tables,
+            self.profile,
+            piece,
+        ) {
+            Ok(fed) => Ok(fed),
+            Err(fault) => {
+                self.fault = Some(fault);
+                Err(fault)
+            }
+        }
+    }
+
+    /// The input has ended: the module that the bytes taken are, where a MODEND was passed.
+    ///
+    /// A kept fault is the answer; else, before a MODEND, the refusal of the bytes taken: Cut in a record, NoEnd between two.
+    pub fn finish(self) -> Result<Checked, CheckFault>
+        ensures { Finishes self result }
+    {
+        if let Some(fault) = self.fault {
+            return Err(fault);
+        }
+        if let Err(fault) = self.framer.stop() {
+            return Err(framing_fault(fault));
+        }
+        Ok(Checked::new(self.profile, self.bytes, self.tables))
+    }
+}

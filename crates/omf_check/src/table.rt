@@ -1,0 +1,532 @@
+//! What is kept of the records so far, and the rules that need it.
+
+ghost use Rattle.std.specs.Prelude.{◌≡◌, ◌≤◌, ◌<◌, ◌+◌, ◌^◌, ◌++◌, ℕ, length, OnOk, IfOk, List, unwrap_or, IsTrue, IfErr, None, nat_lt, ◌-◌};
+ghost use Rattle.omf_check.specs.Rules.{judged_at, item_limit, item_places};
+ghost use Rattle.omf_image.specs.Limits.{profile_limits};
+ghost use Rattle.omf_check.specs.Kept.{Kept, nothing_kept, starts, with_record, with_contents};
+ghost use Rattle.omf_check.specs.Judging.{kept_length, data_fault, index_fault, frame_fault, target_fault, reference_fault, location_fault, subrecord_fault, subrecords_fault, start_fault, contents_fault, segment_fault, group_fault, base_fault, room_fault, data_size, placed, record_fault, IsShort, raw_fault, rec_of};
+ghost use Rattle.omf_check.specs.Session.{refused_at, IsStopped};
+ghost use Rattle.omf_frame.specs.Framing.{is_taken};
+ghost use Rattle.omf_check.specs.Kept.{IsBounded};
+ghost use Rattle.omf_image.specs.Blocks.{count_size};
+ghost use Rattle.omf_image.specs.Expanding.{expanded_length};
+ghost use Rattle.omf_check.specs.Tables.{segment_info, items_in, entry};
+ghost use Rattle.omf_records.specs.Location.{location_size};
+ghost use Rattle.omf_records.specs.Seen.{contents_seen, kind_seen, odd_if, rec_seen};
+
+use crate::fault::CheckFault;
+use crate::last_data::LastData;
+use crate::profile::Profile;
+use crate::rule::{
+    comment_fault, entry_fault, fault_unless, lesser, members_fault, optional_fault, room_fault,
+};
+use crate::segment::SegInfo;
+use crate::threads::{Setting, Threads};
+use omf_frame::{Index, Place, RawRecord, Reason};
+use omf_image::{Limits, expanded_len};
+use omf_records::{
+    At, Blocks, Item, Items, LayoutFault, Member, Part, Rec, Reference, Segment, Subrecord, view,
+};
+use std::alloc::{AllocError, Global};
+use std::marker::Model;
+
+/// The most entries of a table of names, segments, groups or externals.
+const TABLE_LIMIT: usize = 32_767;
+
+/// The most items of a module: one per subrecord of a FIXUPP, one per empty FIXUPP, one per other record.
+const ITEM_LIMIT: usize = 1_048_576;
+
+/// What is kept of the records so far.
+#[derive(Drop)]
+pub struct Tables {
+    /// Where each name stands in the module.
+    names: Vec<u64>,
+    segments: Vec<SegInfo>,
+    /// Where each GRPDEF stands in the module.
+    groups: Vec<u64>,
+    /// Where each external name stands in the module.
+    externals: Vec<u64>,
+    items: usize,
+    last: Option<LastData>,
+    threads: Threads,
+}
+
+impl Model for Tables {
+    ghost use Rattle.omf_check.specs.Kept.{Kept};
+
+    ghost Value = { Kept };
+
+    ghost view = { λ t. record { names = t.names.items; segments = t.segments.items; groups = t.groups.items; externals = t.externals.items; items = t.items; last = t.last; threads = t.threads } };
+}
+
+/// How many bytes a location has.
+fn location_size(kind: u16) -> u16
+    ensures { result ≡ location_size kind }
+{
+    match kind {
+        0 | 4 => 1,
+        1 | 2 | 5 => 2,
+        3 | 9 | 13 => 4,
+        _ => 6,
+    }
+}
+
+/// A fixup of this location lies in the data of the last data record, which is an LEDATA.
+fn location_fault(last: Option<LastData>, within: u32, location: u16) -> Option<LayoutFault>
+    ensures { result ≡ location_fault last within location }
+{
+    match last {
+        Some(LastData::Plain(len)) => {
+            let end = location % 1024 + location_size(location / 1024 % 16);
+            fault_unless(usize::from(end) <= len, within, Reason::OutsideRecord)
+        }
+        Some(LastData::Iterated) => fault_unless(false, within, Reason::FixupOnIterated),
+        None => fault_unless(false, within, Reason::NoDataRecord),
+    }
+}
+
+/// The index of a thread's or a reference's method, or 0.
+fn index_of(datum: Option<Index>) -> u16
+    ensures { result ≡ unwrap_or datum 0 }
+{
+    match datum {
+        Some(index) => index.0,
+        None => 0,
+    }
+}
+
+/// Where a frame or a target is judged: at its own datum, or at the fix data byte.
+fn judged_at(reference: &Reference, datum: &Option<At<Index>>) -> u32
+    ensures { result ≡ judged_at reference.now datum.now }
+{
+    match datum {
+        Some(index) => index.within,
+        None => reference.fix.within,
+    }
+}
+
+/// What a SEGDEF says of its segment.
+fn segment_info(wide: bool, segment: &Segment) -> SegInfo
+    ensures { result ≡ segment_info (odd_if wide 0x98) segment.now }
+{
+    let is_big = segment.attribute / 2 % 2 == 1;
+    let length = match (is_big, wide) {
+        (true, false) => 65_536,
+        (true, true) => 4_294_967_296,
+        (false, _) => u64::from(segment.size),
+    };
+    SegInfo {
+        length,
+        absolute: segment.absolute,
+        name: segment.name.item.0,
+        class: segment.class.item.0,
+    }
+}
+
+/// Appends where each item stands in the module, in which their record begins at this offset.
+fn add_starts<T: Item>(places: &mut Vec<u64>, at: u64, items: Items<T>) -> Result<(), AllocError>
+    requires { at < 2 ^ 40 }
+    ensures { OnOk result (places.new.items ≡ places.old.items ++ starts at items) }
+{
+    for item in items {
+        places.push(at + u64::from(item.within))?;
+    }
+    Ok(())
+}
+
+/// Some subrecord is there.
+fn has_some(subrecords: &Items<Subrecord<'_>>) -> bool
+    ensures { result ≡ nat_lt 0 (length subrecords.now) }
+{
+    subrecords.iter().next().is_some()
+}
+
+/// How many items a record is.
+fn items_in(rec: &Rec<'_>) -> usize
+    requires { items_in (contents_seen rec.now) ≤ item_limit }
+    ensures { result ≡ items_in (contents_seen rec.now) }
+{
+    match rec {
+        Rec::Fixups { subrecords, .. } => subrecords.iter().count().max(1),
+        _ => 1,
+    }
+}
+
+/// How many bytes the blocks of an LIDATA stand for, whose offset stands at this place; or their first fault.
+fn blocks_size(at: u32, blocks: Blocks<'_>) -> Result<usize, LayoutFault>
+    requires place { at ≤ 65537 }
+    requires short { length blocks.bytes.now ≤ 65534 }
+    ensures { result ≡ placed (at + count_size blocks.entry.wide) (expanded_length (count_size blocks.entry.wide) profile_limits blocks.entry.bytes.now) }
+{
+    let first = if blocks.wide { at + 4 } else { at + 2 };
+    match expanded_len(blocks, Limits::profile()) {
+        Ok(size) => Ok(size as usize),
+        Err(fault) => Err(LayoutFault {
+            reason: fault.reason,
+            within: first + fault.within,
+        }),
+    }
+}
+
+/// How many bytes of data a data record has; or the first fault of its blocks.
+fn data_size(rec: &Rec<'_>) -> Result<usize, LayoutFault>
+    requires { IsShort (contents_seen rec.now) }
+    ensures { result ≡ data_size profile_limits (kind_seen rec.now) (contents_seen rec.now) }
+{
+    match rec {
+        Rec::Plain { data, .. } => Ok(data.len()),
+        Rec::Iterated { offset, blocks, .. } => blocks_size(offset.within, *blocks),
+        _ => Ok(0),
+    }
+}
+
+/// The refusal of a record of this number, which begins at this offset of the module.
+fn refused(number: u32, start: u64, fault: LayoutFault) -> CheckFault
+    ensures { result ≡ refused_at number start fault }
+{
+    CheckFault::Refused {
+        reason: fault.reason,
+        place: Place {
+            number,
+            start,
+            within: fault.within,
+        },
+    }
+}
+
+impl Tables {
+    /// Nothing is kept.
+    pub fn new(alloc: Global) -> Tables
+        ensures { result ≡ nothing_kept }
+    {
+        Tables {
+            names: Vec::new(alloc),
+            segments: Vec::new(alloc),
+            groups: Vec::new(alloc),
+            externals: Vec::new(alloc),
+            items: 0,
+            last: None,
+            threads: Threads::new(),
+        }
+    }
+
+    /// How many bytes a segment has; 0 where there is none.
+    fn segment_length(&self, index: u16) -> u64
+        ensures { result ≡ kept_length self.now.segments index }
+    {
+        if index == 0 {
+            return 0;
+        }
+        match self.segments.get(usize::from(index) - 1) {
+            Some(segment) => segment.length,
+            None => 0,
+        }
+    }
+
+    /// So many bytes of data lie in their segment.
+    fn data_fault(&self, segment: &At<Index>, offset: &At<u32>, size: usize) -> Option<LayoutFault>
+        ensures { result ≡ data_fault self.now segment.now offset.now size }
+    {
+        let length = self.segment_length(segment.item.0);
+        let start = u64::from(offset.item);
+        let fits = start <= length && size as u64 <= length - start;
+        lesser(
+            entry_fault(self.segments.len(), Reason::UndefinedSegment, segment),
+            fault_unless(fits, offset.within, Reason::OutsideSegment),
+        )
+    }
+
+    /// The index of a frame or a target, by its method.
+    fn index_fault(&self, at: u32, method: u8, index: u16) -> Option<LayoutFault>
+        ensures { result ≡ index_fault self.now at method index }
+    {
+        let (count, reason) = match method {
+            0 => (self.segments.len(), Reason::UndefinedSegment),
+            1 => (self.groups.len(), Reason::UndefinedGroup),
+            _ => (self.externals.len(), Reason::UndefinedExternal),
+        };
+        let number = usize::from(index);
+        fault_unless(1 <= number && number <= count, at, reason)
+    }
+
+    fn frame_fault(&self, at: u32, frame: Option<Setting>) -> Option<LayoutFault>
+        ensures { result ≡ frame_fault self.now at frame }
+    {
+        match frame {
+            None => fault_unless(false, at, Reason::UndefinedThread),
+            Some(setting) if setting.method < 3 => {
+                self.index_fault(at, setting.method, index_of(setting.datum))
+            }
+            Some(_) => None,
+        }
+    }
+
+    fn target_fault(&self, at: u32, target: Option<Setting>) -> Option<LayoutFault>
+        ensures { result ≡ target_fault self.now at target }
+    {
+        match target {
+            None => fault_unless(false, at, Reason::UndefinedThread),
+            Some(setting) => self.index_fault(at, setting.method, index_of(setting.datum)),
+        }
+    }
+
+    /// The frame and the target of a reference, with these threads in force.
+    fn reference_fault(&self, threads: &Threads, reference: &Reference) -> Option<LayoutFault>
+        ensures { result ≡ reference_fault self.now threads.now reference.now }
+    {
+        let frame_at = judged_at(reference, &reference.frame);
+        let target_at = judged_at(reference, &reference.target);
+        lesser(
+            self.frame_fault(frame_at, threads.frame(reference)),
+            self.target_fault(target_at, threads.target(reference)),
+        )
+    }
+
+    /// A subrecord, with these threads in force. A THREAD's index is judged where it is used.
+    fn subrecord_fault(
+        &self,
+        threads: &Threads,
+        within: u32,
+        subrecord: &Subrecord<'_>,
+    ) -> Option<LayoutFault>
+        ensures { result ≡ subrecord_fault self.now threads.now within subrecord.now }
+    {
+        match &subrecord.part {
+            Part::Thread { .. } => None,
+            Part::Fixup {
+                location,
+                reference,
+            } => lesser(
+                location_fault(self.last, within, *location),
+                self.reference_fault(threads, reference),
+            ),
+        }
+    }
+
+    /// The subrecords of a FIXUPP.
+    fn subrecords_fault(&self, subrecords: Items<Subrecord<'_>>) -> Option<LayoutFault>
+        ensures { result ≡ subrecords_fault self.now self.now.threads subrecords.entry }
+    {
+        let mut threads = self.threads;
+        let mut found = None;
+        for subrecord in subrecords {
+            found = lesser(
+                found,
+                self.subrecord_fault(&threads, subrecord.within, &subrecord.item),
+            );
+            threads.set(&subrecord.item);
+        }
+        found
+    }
+
+    /// The start of a MODEND: its frame is not that of a location.
+    fn start_fault(&self, start: &Option<Reference>) -> Option<LayoutFault>
+        ensures { result ≡ start_fault self.now start.now }
+    {
+        let Some(reference) = start else {
+            return None;
+        };
+        let is_location = match self.threads.frame(reference) {
+            Some(setting) => setting.method == 4,
+            None => false,
+        };
+        lesser(
+            self.reference_fault(&self.threads, reference),
+            fault_unless(!is_location, reference.fix.within, Reason::StartFrame),
+        )
+    }
+
+    fn segment_fault(&self, segment: &Segment) -> Option<LayoutFault>
+        ensures { result ≡ segment_fault self.now segment.now }
+    {
+        let names = self.names.len();
+        lesser(
+            fault_unless(self.segments.len() < TABLE_LIMIT, 3, Reason::TooMany),
+            lesser(
+                optional_fault(names, Reason::UndefinedName, &segment.name),
+                optional_fault(names, Reason::UndefinedName, &segment.class),
+            ),
+        )
+    }
+
+    fn group_fault(&self, name: &At<Index>, members: Items<Member<'_>>) -> Option<LayoutFault>
+        ensures { result ≡ group_fault self.now (record { name = name.now; members = members.entry }) }
+    {
+        lesser(
+            fault_unless(self.groups.len() < TABLE_LIMIT, 3, Reason::TooMany),
+            lesser(
+                optional_fault(self.names.len(), Reason::UndefinedName, name),
+                members_fault(self.segments.len(), members),
+            ),
+        )
+    }
+
+    /// The base of a PUBDEF.
+    fn base_fault(&self, group: &At<Index>, segment: &At<Index>) -> Option<LayoutFault>
+        ensures { result ≡ base_fault self.now group.now segment.now }
+    {
+        lesser(
+            optional_fault(self.groups.len(), Reason::UndefinedGroup, group),
+            optional_fault(self.segments.len(), Reason::UndefinedSegment, segment),
+        )
+    }
+
+    /// The rules of a record's contents. Data records have so many bytes of data.
+    fn contents_fault(&self, profile: Profile, size: usize, rec: &Rec<'_>) -> Option<LayoutFault>
+        ensures { result ≡ contents_fault profile self.now size (contents_seen rec.now) }
+    {
+        let name_room = TABLE_LIMIT.saturating_sub(self.names.len());
+        let external_room = TABLE_LIMIT.saturating_sub(self.externals.len());
+        match rec {
+            Rec::Comment { class, .. } => comment_fault(profile, *class),
+            Rec::Names(items) => room_fault(items.iter(), name_room),
+            Rec::Segment { segment, .. } => self.segment_fault(segment),
+            Rec::Group { name, members } => self.group_fault(name, members.iter()),
+            Rec::Externs(items) => room_fault(items.iter(), external_room),
+            Rec::Publics { group, segment, .. } => self.base_fault(group, segment),
+            Rec::Communals(items) => room_fault(items.iter(), external_room),
+            Rec::Plain {
+                segment,
+                offset,
+                ..
+            } => self.data_fault(segment, offset, size),
+            Rec::Iterated {
+                segment,
+                offset,
+                ..
+            } => self.data_fault(segment, offset, size),
+            Rec::Fixups { subrecords, .. } => self.subrecords_fault(subrecords.iter()),
+            Rec::ModEnd { start, .. } => self.start_fault(start),
+            Rec::Header { .. } | Rec::Carried { .. } => None,
+        }
+    }
+
+    /// Each item of a record has room.
+    fn items_fault(&self, rec: &Rec<'_>) -> Option<LayoutFault>
+        ensures { result ≡ room_fault (item_limit - self.now.items) (item_places (contents_seen rec.now)) }
+    {
+        let room = ITEM_LIMIT.saturating_sub(self.items);
+        match rec {
+            Rec::Fixups { subrecords, .. } if has_some(subrecords) => room_fault(
+                subrecords.iter(),
+                room,
+            ),
+            _ => fault_unless(room > 0, 0, Reason::TooMany),
+        }
+    }
+
+    /// The least fault of a record after the records of these tables: that of its blocks, else that of its rules.
+    pub fn record_fault(&self, profile: Profile, rec: &Rec<'_>) -> Option<LayoutFault>
+        requires { IsShort (contents_seen rec.now) }
+        ensures { result ≡ record_fault profile profile_limits self.now (rec_seen rec.now) }
+    {
+        match data_size(rec) {
+            Ok(size) => lesser(
+                self.items_fault(rec),
+                self.contents_fault(profile, size, rec),
+            ),
+            Err(fault) => Some(fault),
+        }
+    }
+
+    /// Keeps what a record defines, which begins at this offset of the module.
+    fn add_contents(&mut self, at: u64, rec: &Rec<'_>) -> Result<(), AllocError>
+        requires { at < 2 ^ 40 }
+        ensures { OnOk result (self.new ≡ with_contents self.old at (kind_seen rec.now) (contents_seen rec.now)) }
+    {
+        match rec {
+            Rec::Names(items) => add_starts(&mut self.names, at, items.iter()),
+            Rec::Segment { wide, segment } => Ok(self.segments.push(segment_info(*wide, segment))?),
+            Rec::Group { .. } => Ok(self.groups.push(at)?),
+            Rec::Externs(items) => add_starts(&mut self.externals, at, items.iter()),
+            Rec::Communals(items) => add_starts(&mut self.externals, at, items.iter()),
+            Rec::Plain { data, .. } => {
+                self.last = Some(LastData::Plain(data.len()));
+                Ok(())
+            }
+            Rec::Iterated { .. } => {
+                self.last = Some(LastData::Iterated);
+                Ok(())
+            }
+            Rec::Fixups { subrecords, .. } => {
+                self.threads.set_all(subrecords.iter());
+                Ok(())
+            }
+            _ => Ok(()),
+        }
+    }
+
+    /// Keeps what a record tells later ones. It begins at this offset of the module.
+    pub fn add(&mut self, at: u64, rec: &Rec<'_>) -> Result<(), AllocError>
+        requires start { at < 2 ^ 40 }
+        requires items { self.old.items + items_in (contents_seen rec.now) ≤ item_limit }
+        ensures { OnOk result (self.new ≡ with_record self.old at (rec_seen rec.now)) }
+    {
+        self.items += items_in(rec);
+        self.add_contents(at, rec)
+    }
+
+    /// Judges a record after those of these tables, and keeps what it defines.
+    pub fn take(&mut self, profile: Profile, raw: RawRecord<'_>) -> Result<(), CheckFault>
+        requires taken { IsTrue (is_taken raw.kind) }
+        requires short { length raw.body.now ≤ 65534 }
+        requires start { raw.start < 2 ^ 40 }
+        requires bounded { IsBounded self.old }
+        ensures sound { OnOk result (raw_fault profile profile_limits self.old raw.entry.kind raw.entry.body.now ≡ None) }
+        ensures kept { OnOk result (self.new ≡ with_record self.old raw.entry.start (rec_of raw.entry.kind raw.entry.body.now)) }
+        ensures bounded { OnOk result (IsBounded self.new) }
+        ensures cause { IfErr result (IsStopped (raw_fault profile profile_limits self.old raw.entry.kind raw.entry.body.now) raw.entry.number raw.entry.start) }
+    {
+        let rec = match view(raw) {
+            Ok(rec) => rec,
+            Err(fault) => return Err(refused(raw.number, raw.start, fault)),
+        };
+        if let Some(fault) = self.record_fault(profile, &rec) {
+            return Err(refused(raw.number, raw.start, fault));
+        }
+        self.add(raw.start, &rec)?;
+        Ok(())
+    }
+
+    /// How many names there are.
+    pub fn name_count(&self) -> u16
+        requires { length self.now.names ≤ 32767 }
+        ensures { result ≡ length self.now.names }
+    {
+        self.names.len() as u16
+    }
+
+    /// How many segments there are.
+    pub fn segment_count(&self) -> u16
+        requires { length self.now.segments ≤ 32767 }
+        ensures { result ≡ length self.now.segments }
+    {
+        self.segments.len() as u16
+    }
+
+    /// How many groups there are.
+    pub fn group_count(&self) -> u16
+        requires { length self.now.groups ≤ 32767 }
+        ensures { result ≡ length self.now.groups }
+    {
+        self.groups.len() as u16
+    }
+
+    /// How many external names there are.
+    pub fn external_count(&self) -> u16
+        requires { length self.now.externals ≤ 32767 }
+        ensures { result ≡ length self.now.externals }
+    {
+        self.externals.len() as u16
+    }
+
+    /// A segment, by its index from 1.
+    pub fn segment(&self, i: u16) -> Option<SegInfo>
+        ensures { result ≡ entry self.now.segments i }
+    {
+        if i == 0 {
+            return None;
+        }
+        self.segments.get(usize::from(i) - 1).copied()
+    }
+}

@@ -1,0 +1,131 @@
+//! The threads in force (TIS OMF 1.1, "FIXUPP", THREAD).
+
+ghost use Rattle.std.specs.Prelude.{◌≡◌, ◌<◌, true, false};
+ghost use Rattle.omf_check.specs.Kept.{cell, set_thread, set_threads, no_threads};
+ghost use Rattle.omf_check.specs.Judging.{frame_cell, target_cell};
+ghost use Rattle.omf_check.specs.Threads.{setting};
+ghost use Rattle.omf_records.specs.Values.{thread_method};
+
+use omf_frame::Index;
+use omf_records::{At, Items, Part, Reference, Subrecord};
+use std::marker::Model;
+
+/// What a thread keeps: a method, and its index if the method has one.
+#[derive(Clone, Copy, Debug, Drop)]
+pub struct Setting {
+    pub method: u8,
+    pub datum: Option<Index>,
+}
+
+impl Model for Setting {
+    ghost use Rattle.omf_check.specs.Threads.{Setting as Said};
+
+    ghost Value = { Said };
+
+    ghost view = { λ s. record { method = s.method; datum = s.datum } };
+
+    ghost inverse = { λ s. record { method = s.method; datum = s.datum } };
+}
+
+/// Frame threads 0 to 3, and target threads 0 to 3.
+#[derive(Clone, Copy, Debug, Drop)]
+pub struct Threads {
+    pub frames: [Option<Setting>; 4],
+    pub targets: [Option<Setting>; 4],
+}
+
+/// What a THREAD of this method and index sets.
+fn made_setting(method: u8, datum: &Option<At<Index>>) -> Setting
+    ensures { result ≡ setting method datum.now }
+{
+    let datum = match datum {
+        Some(index) => Some(index.item),
+        None => None,
+    };
+    Setting { method, datum }
+}
+
+/// The method that the first byte of a THREAD names. A target thread uses the low two bits of it.
+fn thread_method(first: u8) -> u8
+    ensures { result ≡ thread_method first }
+{
+    if first / 64 % 2 == 1 {
+        first / 4 % 8
+    } else {
+        first / 4 % 4
+    }
+}
+
+impl Threads {
+    /// None is set.
+    pub fn new() -> Threads
+        ensures { result ≡ no_threads }
+    {
+        Threads {
+            frames: [None; 4],
+            targets: [None; 4],
+        }
+    }
+
+    /// A frame thread.
+    fn frame_thread(&self, number: u8) -> Option<Setting>
+        requires { number < 4 }
+        ensures { result ≡ cell self.now true number }
+    {
+        self.frames[usize::from(number)]
+    }
+
+    /// A target thread.
+    fn target_thread(&self, number: u8) -> Option<Setting>
+        requires { number < 4 }
+        ensures { result ≡ cell self.now false number }
+    {
+        self.targets[usize::from(number)]
+    }
+
+    /// The frame of a reference: its own, or its thread's.
+    pub fn frame(&self, reference: &Reference) -> Option<Setting>
+        ensures { result ≡ frame_cell self.now reference.now }
+    {
+        let fix = reference.fix.item;
+        if fix / 128 % 2 == 1 {
+            return self.frame_thread(fix / 16 % 4);
+        }
+        Some(made_setting(fix / 16 % 8, &reference.frame))
+    }
+
+    /// The target of a reference: its own, or its thread's.
+    pub fn target(&self, reference: &Reference) -> Option<Setting>
+        ensures { result ≡ target_cell self.now reference.now }
+    {
+        let fix = reference.fix.item;
+        if fix / 8 % 2 == 1 {
+            return self.target_thread(fix % 4);
+        }
+        Some(made_setting(fix % 4, &reference.target))
+    }
+
+    /// Sets the thread of a THREAD; a FIXUP sets none.
+    pub fn set(&mut self, subrecord: &Subrecord<'_>)
+        ensures { self.new ≡ set_thread self.old subrecord.now }
+    {
+        if let Part::Thread { first, index } = &subrecord.part {
+            let number = usize::from(*first % 4);
+            let setting = Some(made_setting(thread_method(*first), index));
+            if *first / 64 % 2 == 1 {
+                self.frames[number] = setting;
+            } else {
+                self.targets[number] = setting;
+            }
+        }
+    }
+
+    /// Sets the threads of all these subrecords, in their order.
+    pub fn set_all(&mut self, subrecords: Items<Subrecord<'_>>)
+        ensures { self.new ≡ set_threads self.old subrecords.entry }
+    {
+        for subrecord in subrecords {
+            self.set(&subrecord.item);
+        }
+    }
+}
