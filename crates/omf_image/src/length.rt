@@ -89,6 +89,7 @@ pub fn contents_len(
     requires { (start ≤ length bytes.now) × (length bytes.now ≤ 65534) }
     ensures read { read_to bytes.now result ≡ len_contents (len_block (count_size wide) levels) blocks start (drop start bytes.now) }
     ensures bound { IfOk result (λ r. (start ≤ r.1) × (r.1 ≤ length bytes.now)) }
+    ensures near { IfErr result (λ f. f.within < 65536) }
 {
     if blocks == 0 {
         return data_at(bytes, start);
