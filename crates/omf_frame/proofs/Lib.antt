@@ -10,3 +10,4 @@ pub mod Standing
 pub mod RunLaws
 pub mod ModuleLaws
 pub mod StepLaws
+pub mod FaultyLaws

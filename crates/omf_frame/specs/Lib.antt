@@ -4,6 +4,7 @@ pub mod Framing
 pub mod Fields
 pub mod FieldLaws
 pub mod Device
+pub mod Faulty
 pub mod Judging
 pub mod Framer
 pub mod Runs

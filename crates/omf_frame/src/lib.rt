@@ -3,6 +3,7 @@
 
 mod device;
 mod fault;
+pub mod faulty;
 mod field;
 mod framer;
 mod framing;

@@ -3,3 +3,7 @@ pub mod EntryLaws
 pub mod ReachLaws
 pub mod DeriveLaws
 pub mod AddedLaws
+pub mod CutLaws
+pub mod LineLaws
+pub mod DigitLaws
+pub mod ParsingLaws

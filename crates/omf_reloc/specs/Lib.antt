@@ -7,6 +7,7 @@ pub mod Image
 pub mod Entries
 pub mod EntryReading
 pub mod PlacementText
+pub mod Parsing
 pub mod Derive
 pub mod Modules
 pub mod Rows

@@ -1,15 +1,12 @@
 -- Placements: the addresses and frames that a module's segments, groups and externals are given (TIS OMF 1.1, "FIXUPP", frames and targets).
 use Rattle.std.specs.Prelude.{ℕ, ◌+◌, ◌*◌, List, [], ◌∷◌, Option, Some, None, unwrap_or, option_map, option_and_then, if◌then◌else◌, nat_le, nat_lt, ◌/◌, ◌^◌}
 use Rattle.omf_reloc.specs.declared.frame.Frame.{Frame}
+pub use Rattle.omf_reloc.specs.declared.frame.Placed.{Placed}
 use Rattle.omf_records.specs.Values.{At, Rec}
 use Rattle.omf_check.specs.Tables.{groups, entry}
 use Rattle.omf_check.specs.Threads.{FrameMethod, F0, F1, F2, F4, F5, TargetMethod, T0, T1, T2}
 
--- a segment or an external: where it lies, and the frame that it is reached by
-pub record Placed : Type 0 where
-  pub address : ℕ
-  pub frame : Frame
-
+-- The addresses and frames of the segments, the frames of the groups, the addresses and frames of the externals, in index order.
 pub record Places : Type 0 where
   pub segments : List Placed
   pub groups : List Frame

@@ -1,6 +1,8 @@
 -- Placement texts, and the placements that they give a module (this profile's rule).
-use Rattle.std.specs.Prelude.{ℕ, List, [], ◌∷◌, map, filter_map, Option, Some, None, Result, Ok, Err, ◌==◌}
+use Rattle.std.specs.Prelude.{◌≡◌, ℕ, List, [], ◌∷◌, map, filter_map, Option, Some, None, Result, Ok, Err, ◌==◌, ⊤}
 use Rattle.std.specs.List.{enumerate_from, slice_split}
+use Rattle.omf_reloc.specs.declared.fault.TextFault.{TextFault}
+use Rattle.omf_reloc.specs.declared.fault.TextFault.TheVariants.{Memory, Line}
 use Rattle.omf_reloc.specs.declared.frame.Frame.{Frame}
 use Rattle.omf_records.specs.Values.{Rec}
 use Rattle.omf_reloc.specs.Placement.{Places, Placed, real_group}
@@ -51,6 +53,12 @@ ok_or_first a (n ∷ ns) = Err n
 -- that is not found.
 abbrev pub parsed : List ℕ → Result Draft ℕ
 parsed text = ok_or_first (draft_of text) (bad_lines text)
+
+-- An answer for a text: its draft, or the number of its first line at fault. Of want of memory nothing is said.
+abbrev pub IsParsed : Result Draft ℕ → Result Draft TextFault → Type 0
+IsParsed r (Ok d) = r ≡ Ok d
+IsParsed r (Err (Line n)) = r ≡ Err n
+IsParsed r (Err Memory) = ⊤
 
 -- The frame of the k-th group entry, k counted from 1 over all of them without bound: its own, or that of the lowest member of the k-th group.
 abbrev pub resolved_group : List Rec → List Placed → ℕ × (ℕ × Option Frame) → Option Frame

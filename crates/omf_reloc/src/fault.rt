@@ -1,5 +1,6 @@
 //! Why a placement does not reach, is not read, or is not derived.
 
+use std::alloc::AllocError;
 use thiserror::Error;
 
 /// What a placement has entries for.
@@ -61,6 +62,17 @@ pub enum TextFault {
     /// to be found and cannot be.
     #[error("a line of the placement is not understood")]
     Line(u64),
+}
+
+impl From<AllocError> for TextFault {
+    ghost use Rattle.std.specs.Prelude.{◌≡◌};
+    ghost use Rattle.omf_reloc.specs.declared.fault.TextFault.TheVariants.{Memory};
+
+    ghost from_gives = { λ _ e. e ≡ Memory };
+
+    fn from(_error: AllocError) -> Self {
+        TextFault::Memory
+    }
 }
 
 /// Why no placements are derived. The numbers of the reasons are 1 to 4.

@@ -1,13 +1,19 @@
 //! What a placement makes of a module: whether every fixup reaches, the image and the start; and how placements are written.
 #![tactic(auto)]
 
+mod cut;
 pub mod edges;
+mod entry;
 mod fault;
 mod frame;
 mod given;
 pub mod laws;
+mod placement;
 pub mod rows;
+mod text;
 
 pub use fault::{Cause, DeriveFault, Kind, ReachFault, TextFault};
 pub use frame::Frame;
 pub use given::Given;
+pub use placement::Placement;
+pub use text::{Draft, parse_placement};

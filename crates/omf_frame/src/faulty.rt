@@ -1,0 +1,266 @@
+//! A source and a sink that behave as a test asks: in pieces, with interruptions, with a failure at a chosen place.
+
+ghost use Rattle.std.specs.Prelude.{◌≡◌, ◌<◌, ◌≤◌, ◌-◌, ◌^◌, [], length, take, min, replicate, Some, IfOk};
+ghost use Rattle.omf_frame.specs.Device.{Pulls, Pushes, pull_fails, push_fails, counted};
+
+use crate::device::{Sink, Source};
+use std::alloc::{AllocError, Global};
+use std::io;
+use std::io::{Error, ErrorKind};
+use std::marker::Model;
+
+/// What a script does once its bytes are given.
+#[derive(Clone, Copy, Debug, PartialEq, Eq)]
+pub enum Then {
+    /// The input ends.
+    Ends,
+    /// Each further pull fails, with `Other`.
+    Fails,
+    /// This byte comes again and again, without end.
+    Repeats(u8),
+}
+
+/// What a taker does with bytes once its room is used up.
+#[derive(Clone, Copy, Debug, PartialEq, Eq)]
+pub enum Full {
+    /// Each further push fails, with `Other`.
+    Fails,
+    /// Each further push takes none.
+    TakesNone,
+}
+
+/// A source of chosen bytes.
+#[derive(Drop)]
+pub struct Script<'a> {
+    bytes: &'a [u8],
+    then: Then,
+    piece: usize,
+    interruptions: u64,
+    due: u64,
+    failures: u64,
+}
+
+impl<'a> Model for Script<'a> {
+    ghost use Rattle.std.specs.Prelude.{◌<◌};
+    ghost use Rattle.omf_frame.specs.Faulty.{Scripted};
+
+    ghost Value = { Scripted };
+
+    ghost view = { λ s. record { bytes = s.bytes.now; after = s.then; piece = s.piece; interruptions = s.interruptions; due = s.due; failures = s.failures } };
+
+    ghost invariant = { λ s. 0 < s.piece };
+}
+
+impl<'a> Script<'a> {
+    ghost use Rattle.omf_frame.specs.Faulty.{Scripted, told};
+
+    /// Gives the bytes, as many at a time as are wanted, and then does what `then` says. No call is interrupted.
+    pub fn new(bytes: &'a [u8], then: Then) -> Self
+        ensures script { result ≡ record { bytes = bytes.now; after = then; piece = 2 ^ 64 - 1; interruptions = 0; due = 0; failures = 0 } }
+        ensures left { ⟦<Script<'a> as Source>⟧.left result ≡ told then bytes.now }
+        ensures failures { ⟦<Script<'a> as Source>⟧.failures result ≡ 0 }
+    {
+        Script {
+            bytes,
+            then,
+            piece: usize::MAX,
+            interruptions: 0,
+            due: 0,
+            failures: 0,
+        }
+    }
+
+    /// The same, but at most so many bytes at a time.
+    pub fn in_pieces(self, piece: usize) -> Self
+        requires { 0 < piece }
+        ensures { result ≡ record self.entry { piece = piece } }
+    {
+        Script { piece, ..self }
+    }
+
+    /// The same, but each pull is answered only after this many that are interrupted.
+    pub fn interrupted(self, times: u64) -> Self
+        ensures { result ≡ record self.entry { interruptions = times; due = times } }
+    {
+        Script {
+            interruptions: times,
+            due: times,
+            ..self
+        }
+    }
+}
+
+/// Copies at most `most` of the bytes to the front of a buffer, and says how many.
+fn copy_front(bytes: &[u8], buf: &mut [u8], most: usize) -> usize
+    requires { most ≤ length buf.old }
+    ensures count { result ≡ min most (length bytes.now) }
+    ensures copied { take result buf.new ≡ take most bytes.now }
+    ensures len { length buf.new ≡ length buf.old }
+{
+    let count = most.min(bytes.len());
+    buf.split_at_mut(count)
+        .0
+        .copy_from_slice(bytes.split_at(count).0);
+    count
+}
+
+/// Fills the front of a buffer with a byte.
+fn fill_front(byte: u8, buf: &mut [u8], most: usize)
+    requires { most ≤ length buf.old }
+    ensures filled { take most buf.new ≡ replicate most byte }
+    ensures len { length buf.new ≡ length buf.old }
+{
+    buf.split_at_mut(most).0.fill(byte);
+}
+
+impl<'a> Source for Script<'a> {
+    ghost use Rattle.omf_frame.specs.Faulty.{told, pulled, after_pull, IsPulled};
+
+    ghost left = { λ s. told s.after s.bytes };
+
+    ghost failures = { λ s. s.failures };
+
+    fn pull(&mut self, buf: &mut [u8]) -> io::Result<usize>
+        requires { 0 < length buf.old }
+        ensures bound { IfOk result (λ n. n ≤ length buf.new) }
+        ensures bytes { Pulls (told self.old.after self.old.bytes) (told self.new.after self.new.bytes) result buf.new }
+        ensures count { self.new.failures ≡ counted (pull_fails result) self.old.failures }
+        ensures answer { IsPulled (pulled self.old (length buf.old)) result buf.new }
+        ensures after { self.new ≡ after_pull self.old (length buf.old) }
+    {
+        if self.due > 0 {
+            self.due -= 1;
+            self.failures = self.failures.saturating_add(1);
+            return Err(Error::from(ErrorKind::Interrupted));
+        }
+        self.due = self.interruptions;
+        let most = self.piece.min(buf.len());
+        if !self.bytes.is_empty() {
+            let count = copy_front(self.bytes, buf, most);
+            self.bytes = self.bytes.split_at(count).1;
+            return Ok(count);
+        }
+        match self.then {
+            Then::Ends => Ok(0),
+            Then::Fails => {
+                self.failures = self.failures.saturating_add(1);
+                Err(Error::from(ErrorKind::Other))
+            }
+            Then::Repeats(byte) => {
+                fill_front(byte, buf, most);
+                Ok(most)
+            }
+        }
+    }
+}
+
+/// A sink with room for a chosen number of bytes, which it keeps.
+#[derive(Drop)]
+pub struct Taker {
+    held: Vec<u8>,
+    room: usize,
+    full: Full,
+    piece: usize,
+    interruptions: u64,
+    due: u64,
+    failures: u64,
+}
+
+impl Model for Taker {
+    ghost use Rattle.std.specs.Prelude.{◌<◌, ◌≤◌, ◌+◌, vec_len, vec_capacity};
+    ghost use Rattle.omf_frame.specs.Faulty.{Taking};
+
+    ghost Value = { Taking };
+
+    ghost view = { λ t. record { held = t.held.items; room = t.room; full = t.full; piece = t.piece; interruptions = t.interruptions; due = t.due; failures = t.failures } };
+
+    ghost invariant = { λ t. (0 < t.piece) × (vec_len t.held + t.room ≤ vec_capacity t.held) };
+}
+
+impl Taker {
+    ghost use Rattle.omf_frame.specs.Faulty.{Taking};
+
+    /// Takes `room` bytes, as many at a time as come, and then does what `full` says. No call is interrupted. The room is set aside
+    /// here, so that no push is refused for want of memory.
+    pub fn new(alloc: Global, room: usize, full: Full) -> Result<Self, AllocError>
+        ensures taker { IfOk result (λ t. t ≡ record { held = []; room = room; full = full; piece = 2 ^ 64 - 1; interruptions = 0; due = 0; failures = 0 }) }
+        ensures held { IfOk result (λ t. ⟦<Taker as Sink>⟧.held t ≡ Some []) }
+        ensures failures { IfOk result (λ t. ⟦<Taker as Sink>⟧.failures t ≡ 0) }
+    {
+        Ok(Taker {
+            held: Vec::with_capacity(alloc, room)?,
+            room,
+            full,
+            piece: usize::MAX,
+            interruptions: 0,
+            due: 0,
+            failures: 0,
+        })
+    }
+
+    /// The same, but at most so many bytes at a time.
+    pub fn in_pieces(self, piece: usize) -> Self
+        requires { 0 < piece }
+        ensures { result ≡ record self { piece = piece } }
+    {
+        Taker { piece, ..self }
+    }
+
+    /// The same, but each push is answered only after this many that are interrupted.
+    pub fn interrupted(self, times: u64) -> Self
+        ensures { result ≡ record self { interruptions = times; due = times } }
+    {
+        Taker {
+            interruptions: times,
+            due: times,
+            ..self
+        }
+    }
+
+    /// The bytes that it took.
+    pub fn bytes(&self) -> &[u8]
+        ensures { result.now ≡ self.now.held }
+    {
+        &self.held
+    }
+}
+
+impl Sink for Taker {
+    ghost use Rattle.omf_frame.specs.Faulty.{pushed, after_push, IsPushed};
+
+    ghost held = { λ t. Some t.held };
+
+    ghost failures = { λ t. t.failures };
+
+    fn push(&mut self, bytes: &[u8]) -> io::Result<usize>
+        ensures bound { IfOk result (λ n. n ≤ length bytes.now) }
+        ensures bytes { Pushes (Some self.old.held) (Some self.new.held) result bytes.now }
+        ensures count { self.new.failures ≡ counted (push_fails result bytes.now) self.old.failures }
+        ensures answer { IsPushed (pushed self.old bytes.now) result }
+        ensures after { self.new ≡ after_push self.old bytes.now }
+    {
+        if self.due > 0 {
+            self.due -= 1;
+            self.failures = self.failures.saturating_add(1);
+            return Err(Error::from(ErrorKind::Interrupted));
+        }
+        self.due = self.interruptions;
+        if bytes.is_empty() {
+            return Ok(0);
+        }
+        if self.room == 0 {
+            self.failures = self.failures.saturating_add(1);
+            return match self.full {
+                Full::Fails => Err(Error::from(ErrorKind::Other)),
+                Full::TakesNone => Ok(0),
+            };
+        }
+        let count = self.piece.min(self.room).min(bytes.len());
+        self.room -= count;
+        self.held.extend_from_slice(bytes.split_at(count).0)?;
+        Ok(count)
+    }
+}
+
+#[cfg(test)]
+mod tests;

@@ -1,0 +1,26 @@
+-- What the steps of parsing a placement text do.
+use Rattle.std.specs.Prelude.{ℕ, List, [], ◌∷◌, ◌++◌, Option, Some, None, ◌==◌}
+use Rattle.std.specs.List.{slice_split}
+use Rattle.omf_reloc.specs.declared.entry.Entry.TheVariants as code
+use Rattle.omf_reloc.specs.declared.entry.Entry as written
+use Rattle.omf_reloc.specs.Entries.{Entry, Blank, SegmentEntry, GroupEntry, ExternalEntry}
+use Rattle.omf_reloc.specs.PlacementText.{Draft}
+
+-- an entry of the code
+abbrev pub seen : written.Entry → Entry
+seen code.Blank = Blank
+seen (code.Segment p) = SegmentEntry p
+seen (code.Group f) = GroupEntry f
+seen (code.External p) = ExternalEntry p
+
+-- the parts of what is left of a text that is cut at a byte
+abbrev pub parts_after : ℕ → Option (List ℕ) → List (List ℕ)
+parts_after byte None = []
+parts_after byte (Some text) = slice_split (λ c. c == byte) text
+
+-- a draft with the entry of one more line
+abbrev pub with_entry : Draft → ℕ → Entry → Draft
+with_entry d n Blank = d
+with_entry d n (SegmentEntry p) = record { segments = d.segments ++ p ∷ []; groups = d.groups; externals = d.externals }
+with_entry d n (GroupEntry f) = record { segments = d.segments; groups = d.groups ++ (n, f) ∷ []; externals = d.externals }
+with_entry d n (ExternalEntry p) = record { segments = d.segments; groups = d.groups; externals = d.externals ++ p ∷ [] }

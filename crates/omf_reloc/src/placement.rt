@@ -1,0 +1,98 @@
+//! Placements.
+
+ghost use Rattle.std.specs.Prelude.{◌≡◌, ◌++◌, [], ◌∷◌, OnOk, OnErr, option_map};
+ghost use Rattle.omf_check.specs.Tables.{entry as entry_of};
+
+use crate::frame::{Frame, Placed};
+use std::alloc::{AllocError, Global};
+use std::marker::Model;
+
+/// The addresses and frames that the segments and externals of a module are given, and the frames of its groups, each in the order of
+/// their indices.
+#[derive(Drop)]
+pub struct Placement {
+    segments: Vec<Placed>,
+    groups: Vec<Frame>,
+    externals: Vec<Placed>,
+}
+
+impl Model for Placement {
+    ghost use Rattle.omf_reloc.specs.Placement.{Places};
+
+    ghost Value = { Places };
+
+    ghost view = { λ p. record { segments = p.segments.items; groups = p.groups.items; externals = p.externals.items } };
+}
+
+/// The entry of an index, counted from 1.
+fn entry<T: Copy>(entries: &[T], i: usize) -> Option<T>
+    ensures { result ≡ entry_of entries.now i }
+{
+    entries.get(i.checked_sub(1)?).copied()
+}
+
+impl Placement {
+    ghost use Rattle.omf_reloc.specs.Placement.{Places};
+
+    /// A placement without entries.
+    pub fn new(alloc: Global) -> Self
+        ensures { result ≡ record { segments = []; groups = []; externals = [] } }
+    {
+        Placement {
+            segments: Vec::new(alloc),
+            groups: Vec::new(alloc),
+            externals: Vec::new(alloc),
+        }
+    }
+
+    /// Places the next segment at an address, in a frame. At an `Err` the placement is unchanged.
+    pub fn push_segment(&mut self, address: u32, frame: Frame) -> Result<(), AllocError>
+        ensures ok { OnOk result (self.new ≡ record self.old { segments = self.old.segments ++ record { address = address; frame = frame } ∷ [] }) }
+        ensures err { OnErr result (self.new ≡ self.old) }
+    {
+        self.segments.push(Placed { address, frame })?;
+        Ok(())
+    }
+
+    /// Gives the next group its frame. At an `Err` the placement is unchanged.
+    pub fn push_group(&mut self, frame: Frame) -> Result<(), AllocError>
+        ensures ok { OnOk result (self.new ≡ record self.old { groups = self.old.groups ++ frame ∷ [] }) }
+        ensures err { OnErr result (self.new ≡ self.old) }
+    {
+        self.groups.push(frame)?;
+        Ok(())
+    }
+
+    /// Places the next external at an address, in a frame. At an `Err` the placement is unchanged.
+    pub fn push_external(&mut self, address: u32, frame: Frame) -> Result<(), AllocError>
+        ensures ok { OnOk result (self.new ≡ record self.old { externals = self.old.externals ++ record { address = address; frame = frame } ∷ [] }) }
+        ensures err { OnErr result (self.new ≡ self.old) }
+    {
+        self.externals.push(Placed { address, frame })?;
+        Ok(())
+    }
+
+    /// The address and frame of a segment, by its index from 1; none where it has no entry.
+    pub fn segment(&self, i: usize) -> Option<(u32, Frame)>
+        ensures { result ≡ option_map (λ p. (p.address, p.frame)) (entry_of self.now.segments i) }
+    {
+        entry(&self.segments, i).map(|placed| (placed.address, placed.frame))
+    }
+
+    /// The frame of a group, by its index from 1; none where it has no entry.
+    pub fn group(&self, i: usize) -> Option<Frame>
+        ensures { result ≡ entry_of self.now.groups i }
+    {
+        entry(&self.groups, i)
+    }
+
+    /// The address and frame of an external, by its index from 1; none where it has no entry.
+    pub fn external(&self, i: usize) -> Option<(u32, Frame)>
+        ensures { result ≡ option_map (λ p. (p.address, p.frame)) (entry_of self.now.externals i) }
+    {
+        entry(&self.externals, i).map(|placed| (placed.address, placed.frame))
+    }
+}
+
+#[cfg(test)]
+mod tests;
