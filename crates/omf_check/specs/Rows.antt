@@ -1,8 +1,12 @@
 -- Words and modules of the worked examples.
-use Rattle.std.specs.Prelude.{ℕ, List, [], ◌∷◌, ◌++◌, false, true, flat_map, Option, Some, None}
+use Rattle.std.specs.Prelude.{ℕ, List, [], ◌∷◌, ◌++◌, false, true, flat_map, replicate, Option, Some, None}
+use Rattle.omf_frame.specs.Fault.{Fault, broken, least}
 use Rattle.omf_frame.specs.Framing.{raw_bytes}
 use Rattle.omf_frame.specs.declared.fault.Place.{Place}
+use Rattle.omf_records.specs.Rows.{put_at}
+use Rattle.omf_records.specs.Values.{Rec, Segment, Group, Externs}
 use Rattle.omf_image.specs.Limits.{profile_limits}
+use Rattle.omf_check.specs.Rules.{rules}
 use Rattle.omf_check.specs.Verdict.{Verdict, Accepted, Refused, Unknown, verdict}
 use Rattle.omf_check.specs.declared.profile.Profile.{Profile}
 
@@ -130,3 +134,17 @@ public = H ++ N ++ S ++ 0x90 ∷ 0x08 ∷ 0x00 ∷ 0x00 ∷ 0x01 ∷ 0x01 ∷ 0x
 abbrev pub nameless : List ℕ
 nameless = H ++ 0x98 ∷ 0x07 ∷ 0x00 ∷ 0x28 ∷ 0x04 ∷ 0x00 ∷ 0x00 ∷ 0x00 ∷ 0x01 ∷ 0x00 ∷ 0x9A ∷ 0x04 ∷ 0x00 ∷ 0x00 ∷ 0xFF ∷ 0x01 ∷ 0x00
     ∷ 0x90 ∷ 0x0A ∷ 0x00 ∷ 0x00 ∷ 0x00 ∷ 0x00 ∷ 0xB8 ∷ 0x01 ∷ 0x58 ∷ 0x02 ∷ 0x00 ∷ 0x00 ∷ 0x53 ∷ M
+
+-- records of one segment, one group, two externals; of this name index
+abbrev pub segment_named : ℕ → Rec
+segment_named i = record { kind = 0x98; contents = Segment (record { attribute = 0x28; absolute = None; size = 4; name = put_at 6 i; class = put_at 7 0; overlay = 0 }) }
+
+abbrev pub group_named : ℕ → Rec
+group_named i = record { kind = 0x9A; contents = Group (record { name = put_at 3 i; members = [] }) }
+
+abbrev pub two_externals : Rec
+two_externals = record { kind = 0x8C; contents = Externs (put_at 3 (record { name = 0x58 ∷ []; type_index = 0 }) ∷ put_at 6 (record { name = 0x58 ∷ []; type_index = 0 }) ∷ []) }
+
+-- the fault of meaning of a record behind so many of one kind
+abbrev pub meaning_after : ℕ → Rec → Rec → Option Fault
+meaning_after n before r = least (broken (rules any profile_limits (replicate n before) r))

@@ -3,6 +3,7 @@
 
 mod checked;
 mod checking;
+pub mod edges;
 mod fault;
 mod last_data;
 pub mod laws;

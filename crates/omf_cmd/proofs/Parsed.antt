@@ -1,5 +1,5 @@
 -- What clap answers on the words of the program.
-use Rattle.std.proofs.Common.{◌≡◌, ℕ, List, [], ◌∷◌, Bool, Option, Some, None, refl, sym, ap, subst, ◌∙◌, codes, true, false, cond, option_map, ◌⊎◌, inl, inr}
+use Rattle.std.proofs.Common.{◌≡◌, ℕ, List, [], ◌∷◌, Bool, Option, Some, None, refl, sym, ap, subst, ◌∙◌, codes, true, false, cond, option_map}
 use Rattle.std.specs.Prelude.{option_and_then}
 use Rattle.std.specs.Str.{bytes_eq}
 use Rattle.std.proofs.lemmas.Slice.Eq.{bytes_eq-Decides}
@@ -36,38 +36,6 @@ pub is_simple_omf : is_simple omf_app ≡ true
 unfolding clap_on_literals
 is_simple_omf = refl
 
-pub list_alone : (program : Text) → IsParsed (subcommand_of omf_app (program ∷ codes "list" ∷ [])) (codes "list") false
-unfolding clap_on_literals
-list_alone program = record { named = refl; set = refl }
-
-pub list_flagged : (program : Text) → IsParsed (subcommand_of omf_app (program ∷ codes "list" ∷ flag ∷ [])) (codes "list") true
-unfolding clap_on_literals
-list_flagged program = record { named = refl; set = refl }
-
-pub takes_list : (program : Text) → takes omf_app (program ∷ codes "list" ∷ []) ≡ true
-unfolding clap_on_literals
-takes_list program = refl
-
-pub takes_list_flagged : (program : Text) → takes omf_app (program ∷ codes "list" ∷ flag ∷ []) ≡ true
-unfolding clap_on_literals
-takes_list_flagged program = refl
-
-pub check_alone : (program : Text) → IsParsed (subcommand_of omf_app (program ∷ codes "check" ∷ [])) (codes "check") false
-unfolding clap_on_literals
-check_alone program = record { named = refl; set = refl }
-
-pub check_flagged : (program : Text) → IsParsed (subcommand_of omf_app (program ∷ codes "check" ∷ flag ∷ [])) (codes "check") true
-unfolding clap_on_literals
-check_flagged program = record { named = refl; set = refl }
-
-pub takes_check : (program : Text) → takes omf_app (program ∷ codes "check" ∷ []) ≡ true
-unfolding clap_on_literals
-takes_check program = refl
-
-pub takes_check_flagged : (program : Text) → takes omf_app (program ∷ codes "check" ∷ flag ∷ []) ≡ true
-unfolding clap_on_literals
-takes_check_flagged program = refl
-
 pub reloc_alone : (program : Text) → IsParsed (subcommand_of omf_app (program ∷ codes "reloc" ∷ [])) (codes "reloc") false
 unfolding clap_on_literals
 reloc_alone program = record { named = refl; set = refl }
@@ -86,20 +54,12 @@ takes_reloc_flagged program = refl
 
 -- ---- the words that are asked for
 
--- one of the three names
-abbrev IsOneOf : Text → Type 0
-IsOneOf name = (name ≡ codes "list") ⊎ ((name ≡ codes "check") ⊎ (name ≡ codes "reloc"))
+one_name : (b : Bool) (name : Text) (j : Job) → (b ≡ true → name ≡ codes "reloc") → option_map (λ (s : List ℕ × Job). s.1) (cond b (Some (codes "reloc", job.Reloc)) None) ≡ Some j → name ≡ codes "reloc"
+one_name true name j is e = is refl
+one_name false name j is e = absurd cc
 
-which : (a b c : Bool) (name : Text) (j : Job) → (a ≡ true → name ≡ codes "list") → (b ≡ true → name ≡ codes "check") → (c ≡ true → name ≡ codes "reloc")
-    → option_map (λ (s : List ℕ × Job). s.1) (cond a (Some (codes "list", job.List)) (cond b (Some (codes "check", job.Check)) (cond c (Some (codes "reloc", job.Reloc)) None))) ≡ Some j → IsOneOf name
-which true b c name j l k r e = inl (l refl)
-which false true c name j l k r e = inr (inl (k refl))
-which false false true name j l k r e = inr (inr (r refl))
-which false false false name j l k r e = absurd cc
-
-one_of_three : (name : Text) (j : Job) → job_named name ≡ Some j → IsOneOf name
-one_of_three name j e = which (bytes_eq name (codes "list")) (bytes_eq name (codes "check")) (bytes_eq name (codes "reloc")) name j
-    (bytes_eq-Decides name (codes "list")).0 (bytes_eq-Decides name (codes "check")).0 (bytes_eq-Decides name (codes "reloc")).0 e
+the_name : (name : Text) (j : Job) → job_named name ≡ Some j → name ≡ codes "reloc"
+the_name name j e = one_name (bytes_eq name (codes "reloc")) name j (bytes_eq-Decides name (codes "reloc")).0 e
 
 map_some : (o : Option Job) (refuses : Bool) (asked : Job × Profile) → option_map (λ j. (j, profile_of refuses)) o ≡ Some asked → (j : Job) × (o ≡ Some j) × (asked_of j refuses ≡ Some asked)
 map_some None refuses asked e = absurd cc
@@ -115,26 +75,22 @@ pub record Answers (words : List Text) (asked : Job × Profile) : Type 0 where
   pub is : asked_of job refuses ≡ Some asked
   pub taken : takes omf_app words ≡ true
 
-parsed_alone : (program name : Text) → IsOneOf name → IsParsed (subcommand_of omf_app (program ∷ name ∷ [])) name false × (takes omf_app (program ∷ name ∷ []) ≡ true)
-parsed_alone program name (inl e) = subst (λ (n : Text). IsParsed (subcommand_of omf_app (program ∷ n ∷ [])) n false × (takes omf_app (program ∷ n ∷ []) ≡ true)) (sym e) (list_alone program, takes_list program)
-parsed_alone program name (inr (inl e)) = subst (λ (n : Text). IsParsed (subcommand_of omf_app (program ∷ n ∷ [])) n false × (takes omf_app (program ∷ n ∷ []) ≡ true)) (sym e) (check_alone program, takes_check program)
-parsed_alone program name (inr (inr e)) = subst (λ (n : Text). IsParsed (subcommand_of omf_app (program ∷ n ∷ [])) n false × (takes omf_app (program ∷ n ∷ []) ≡ true)) (sym e) (reloc_alone program, takes_reloc program)
+parsed_alone : (program name : Text) → name ≡ codes "reloc" → IsParsed (subcommand_of omf_app (program ∷ name ∷ [])) name false × (takes omf_app (program ∷ name ∷ []) ≡ true)
+parsed_alone program name e = subst (λ (n : Text). IsParsed (subcommand_of omf_app (program ∷ n ∷ [])) n false × (takes omf_app (program ∷ n ∷ []) ≡ true)) (sym e) (reloc_alone program, takes_reloc program)
 
-parsed_flagged : (program name : Text) → IsOneOf name → IsParsed (subcommand_of omf_app (program ∷ name ∷ flag ∷ [])) name true × (takes omf_app (program ∷ name ∷ flag ∷ []) ≡ true)
-parsed_flagged program name (inl e) = subst (λ (n : Text). IsParsed (subcommand_of omf_app (program ∷ n ∷ flag ∷ [])) n true × (takes omf_app (program ∷ n ∷ flag ∷ []) ≡ true)) (sym e) (list_flagged program, takes_list_flagged program)
-parsed_flagged program name (inr (inl e)) = subst (λ (n : Text). IsParsed (subcommand_of omf_app (program ∷ n ∷ flag ∷ [])) n true × (takes omf_app (program ∷ n ∷ flag ∷ []) ≡ true)) (sym e) (check_flagged program, takes_check_flagged program)
-parsed_flagged program name (inr (inr e)) = subst (λ (n : Text). IsParsed (subcommand_of omf_app (program ∷ n ∷ flag ∷ [])) n true × (takes omf_app (program ∷ n ∷ flag ∷ []) ≡ true)) (sym e) (reloc_flagged program, takes_reloc_flagged program)
+parsed_flagged : (program name : Text) → name ≡ codes "reloc" → IsParsed (subcommand_of omf_app (program ∷ name ∷ flag ∷ [])) name true × (takes omf_app (program ∷ name ∷ flag ∷ []) ≡ true)
+parsed_flagged program name e = subst (λ (n : Text). IsParsed (subcommand_of omf_app (program ∷ n ∷ flag ∷ [])) n true × (takes omf_app (program ∷ n ∷ flag ∷ []) ≡ true)) (sym e) (reloc_flagged program, takes_reloc_flagged program)
 
 answers_alone : (program name : Text) (asked : Job × Profile) → option_map (λ j. (j, profile_of false)) (job_named name) ≡ Some asked → Answers (program ∷ name ∷ []) asked
 answers_alone program name asked e =
     let m = map_some (job_named name) false asked e in
-    let p = parsed_alone program name (one_of_three name m.0 m.1) in
+    let p = parsed_alone program name (the_name name m.0 m.1) in
     record { name = name; job = m.0; refuses = false; parse = p.0; named = m.1; is = m.2; taken = p.1 }
 
 answers_flagged : (program name : Text) (asked : Job × Profile) → option_map (λ j. (j, profile_of true)) (job_named name) ≡ Some asked → Answers (program ∷ name ∷ flag ∷ []) asked
 answers_flagged program name asked e =
     let m = map_some (job_named name) true asked e in
-    let p = parsed_flagged program name (one_of_three name m.0 m.1) in
+    let p = parsed_flagged program name (the_name name m.0 m.1) in
     record { name = name; job = m.0; refuses = true; parse = p.0; named = m.1; is = m.2; taken = p.1 }
 
 answers_third : (program name f : Text) (asked : Job × Profile) (b : Bool) → (b ≡ true → f ≡ flag) → cond b (option_map (λ j. (j, profile_of true)) (job_named name)) None ≡ Some asked → Answers (program ∷ name ∷ f ∷ []) asked

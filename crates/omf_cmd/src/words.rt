@@ -13,10 +13,6 @@ use std::alloc::{AllocError, Global};
 /// What the program is asked to do.
 #[derive(Clone, Copy, Debug, PartialEq, Eq)]
 pub enum Job {
-    /// Print the records and tables of a module.
-    List,
-    /// Check a module.
-    Check,
     /// Relocate a module.
     Reloc,
 }
@@ -26,11 +22,8 @@ pub fn command(alloc: Global, words: &[String]) -> Result<Option<(Job, Profile)>
     // Behind the program's own name a subcommand is understood, alone or followed by the flag.
     ensures { (asked : Job × Profile) → asks (map string_bytes words.now) ≡ Some asked → IfOk result (λ found. found ≡ Some asked) }
 {
-    let list = Command::new(alloc, "list").arg(flag(alloc))?;
-    let check = Command::new(alloc, "check").arg(flag(alloc))?;
     let reloc = Command::new(alloc, "reloc").arg(flag(alloc))?;
-    let omf = Command::new(alloc, "omf").subcommand(list)?;
-    let omf = omf.subcommand(check)?.subcommand(reloc)?;
+    let omf = Command::new(alloc, "omf").subcommand(reloc)?;
     match omf.try_get_matches_from(words) {
         Ok(matches) => Ok(named_by(&matches)),
         Err(error) if error.kind() == ErrorKind::OutOfMemory => Err(AllocError),
@@ -53,8 +46,6 @@ fn job_named(name: &str) -> Option<Job>
     ensures { result ≡ job_named name.now }
 {
     match name {
-        "list" => Some(Job::List),
-        "check" => Some(Job::Check),
         "reloc" => Some(Job::Reloc),
         _ => None,
     }

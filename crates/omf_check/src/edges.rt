@@ -1,0 +1,124 @@
+//! Worked examples at the edges of the rules, worked out by hand and evaluated by the check. Their checksum bytes are 00, which is
+//! always taken. The first records stand at 0, 6 and 13, and what follows them at 23.
+
+ghost use Rattle.std.specs.Prelude.{◌≡◌, ℕ, [], ◌∷◌, ◌++◌, Some, None};
+ghost use Rattle.std.specs.List.{repeat};
+ghost use Rattle.omf_frame.specs.Fault.{broken};
+ghost use Rattle.omf_frame.specs.declared.fault.Reason.TheVariants as reason;
+ghost use Rattle.omf_records.specs.Layout.{fault};
+ghost use Rattle.omf_records.specs.Rows.{put_at};
+ghost use Rattle.omf_records.specs.Values.{Comment, Fixups, Thread, ModEnd};
+ghost use Rattle.omf_image.specs.Limits.{profile_limits};
+ghost use Rattle.omf_check.specs.Rows.{any, no_vendors, verdict_of, module_in, place, H, N, S, L, M, with_fixup, repeated, comment, segment_named, group_named, two_externals, meaning_after};
+ghost use Rattle.omf_check.specs.Rules.{room, item_limit, item_places};
+ghost use Rattle.omf_check.specs.Tables.{items_in};
+ghost use Rattle.omf_check.specs.Verdict.{Refused, verdict};
+
+/// The steps of framing: the type before the end of the input, that before the checksum, and that before the header.
+pub fn framing_steps()
+    ensures unknown { verdict_of (H ++ 0xFF ∷ []) ≡ Refused reason.UnknownType (place 1 6 0) }
+    ensures local { verdict_of (0xB4 ∷ []) ≡ Refused reason.UnsupportedType (place 0 0 0) }
+    ensures no_length { verdict_of (H ++ 0x96 ∷ 0x04 ∷ []) ≡ Refused reason.Cut (place 1 6 2) }
+    ensures cut { verdict_of (0x8A ∷ 0x02 ∷ 0x00 ∷ 0x00 ∷ []) ≡ Refused reason.Cut (place 0 0 4) }
+    ensures checksum { verdict_of (0x8A ∷ 0x02 ∷ 0x00 ∷ 0x00 ∷ 0x75 ∷ []) ≡ Refused reason.Checksum (place 0 0 4) }
+    ensures header_again { module_in (verdict_of (H ++ 0x82 ∷ 0x02 ∷ 0x00 ∷ 0x00 ∷ 0x00 ∷ M)) ≡ Some (H ++ 0x82 ∷ 0x02 ∷ 0x00 ∷ 0x00 ∷ 0x00 ∷ M) }
+{}
+
+/// A wrong THREAD to the right of a FIXUP that has no data record: all layout comes first.
+pub fn layout_before_meaning()
+    ensures { verdict_of (H ++ N ++ S ++ 0x9C ∷ 0x06 ∷ 0x00 ∷ 0xC4 ∷ 0x01 ∷ 0x54 ∷ 0x01 ∷ 0x4C ∷ 0x00 ∷ []) ≡ Refused reason.FrameMethod (place 3 23 7) }
+{}
+
+/// A FIXUP's first byte stands left of its datum, whose index is undefined.
+pub fn data_before_datum()
+    ensures none { verdict_of (H ++ N ++ S ++ 0x9C ∷ 0x06 ∷ 0x00 ∷ 0xC4 ∷ 0x01 ∷ 0x04 ∷ 0x09 ∷ 0x09 ∷ 0x00 ∷ []) ≡ Refused reason.NoDataRecord (place 3 23 3) }
+    ensures outside { verdict_of (with_fixup (0x9C ∷ 0x06 ∷ 0x00 ∷ 0xC4 ∷ 0x03 ∷ 0x04 ∷ 0x09 ∷ 0x09 ∷ 0x00 ∷ [])) ≡ Refused reason.OutsideRecord (place 4 34 3) }
+    ensures iterated { verdict_of (H ++ N ++ S ++ 0xA2 ∷ 0x04 ∷ 0x00 ∷ 0x01 ∷ 0x00 ∷ 0x00 ∷ 0x00 ∷ 0x9C ∷ 0x07 ∷ 0x00 ∷ 0x54 ∷ 0xC4 ∷ 0x01 ∷ 0x04 ∷ 0x09 ∷ 0x09 ∷ 0x00 ∷ []) ≡ Refused reason.FixupOnIterated (place 4 30 4) }
+    ensures threads { module_in (verdict_of (H ++ N ++ S ++ 0x9C ∷ 0x03 ∷ 0x00 ∷ 0x01 ∷ 0x09 ∷ 0x00 ∷ M)) ≡ Some (H ++ N ++ S ++ 0x9C ∷ 0x03 ∷ 0x00 ∷ 0x01 ∷ 0x09 ∷ 0x00 ∷ M) }
+{}
+
+/// Frame and target each at their own datum; 0 is undefined in both.
+pub fn data_of_references()
+    ensures both { verdict_of (with_fixup (0x9C ∷ 0x06 ∷ 0x00 ∷ 0xC4 ∷ 0x01 ∷ 0x04 ∷ 0x09 ∷ 0x09 ∷ 0x00 ∷ [])) ≡ Refused reason.UndefinedSegment (place 4 34 6) }
+    ensures long_frame { verdict_of (with_fixup (0x9C ∷ 0x07 ∷ 0x00 ∷ 0xC4 ∷ 0x01 ∷ 0x04 ∷ 0x80 ∷ 0x01 ∷ 0x02 ∷ 0x00 ∷ [])) ≡ Refused reason.UndefinedSegment (place 4 34 8) }
+    ensures frame_group { verdict_of (with_fixup (0x9C ∷ 0x06 ∷ 0x00 ∷ 0xC4 ∷ 0x01 ∷ 0x14 ∷ 0x00 ∷ 0x01 ∷ 0x00 ∷ [])) ≡ Refused reason.UndefinedGroup (place 4 34 6) }
+    ensures frame_external { verdict_of (with_fixup (0x9C ∷ 0x06 ∷ 0x00 ∷ 0xC4 ∷ 0x01 ∷ 0x24 ∷ 0x00 ∷ 0x01 ∷ 0x00 ∷ [])) ≡ Refused reason.UndefinedExternal (place 4 34 6) }
+    ensures target_group { verdict_of (with_fixup (0x9C ∷ 0x05 ∷ 0x00 ∷ 0xC4 ∷ 0x01 ∷ 0x45 ∷ 0x01 ∷ 0x00 ∷ [])) ≡ Refused reason.UndefinedGroup (place 4 34 6) }
+    ensures target_external { verdict_of (with_fixup (0x9C ∷ 0x05 ∷ 0x00 ∷ 0xC4 ∷ 0x01 ∷ 0x46 ∷ 0x01 ∷ 0x00 ∷ [])) ≡ Refused reason.UndefinedExternal (place 4 34 6) }
+{}
+
+/// Two threads at one fix data byte: a frame thread that was never set, or is that of a location, and a target thread of an undefined segment.
+pub fn smaller_number()
+    ensures fixup { verdict_of (with_fixup (0x9C ∷ 0x06 ∷ 0x00 ∷ 0x01 ∷ 0x02 ∷ 0xC4 ∷ 0x01 ∷ 0x8D ∷ 0x00 ∷ [])) ≡ Refused reason.UndefinedSegment (place 4 34 7) }
+    ensures start { verdict_of (H ++ N ++ S ++ 0x9C ∷ 0x04 ∷ 0x00 ∷ 0x50 ∷ 0x00 ∷ 0x05 ∷ 0x00 ∷ 0x8A ∷ 0x03 ∷ 0x00 ∷ 0x40 ∷ 0x8C ∷ 0x00 ∷ []) ≡ Refused reason.UndefinedSegment (place 4 30 4) }
+    ensures start_datum { verdict_of (H ++ N ++ S ++ 0x8A ∷ 0x04 ∷ 0x00 ∷ 0x40 ∷ 0x44 ∷ 0x09 ∷ 0x00 ∷ []) ≡ Refused reason.StartFrame (place 3 23 4) }
+    ensures start_target { verdict_of (H ++ N ++ S ++ 0x8A ∷ 0x04 ∷ 0x00 ∷ 0x40 ∷ 0x54 ∷ 0x00 ∷ 0x00 ∷ []) ≡ Refused reason.UndefinedSegment (place 3 23 5) }
+{}
+
+/// A thread of the other kind, or one that is set behind the fixup, is not the one that is used.
+pub fn other_threads()
+    ensures kind { verdict_of (with_fixup (0x9C ∷ 0x05 ∷ 0x00 ∷ 0x51 ∷ 0xC4 ∷ 0x01 ∷ 0x5D ∷ 0x00 ∷ [])) ≡ Refused reason.UndefinedThread (place 4 34 6) }
+    ensures behind { verdict_of (with_fixup (0x9C ∷ 0x06 ∷ 0x00 ∷ 0xC4 ∷ 0x01 ∷ 0x5D ∷ 0x01 ∷ 0x01 ∷ 0x00 ∷ [])) ≡ Refused reason.UndefinedThread (place 4 34 5) }
+    ensures last { verdict_of (with_fixup (0x9C ∷ 0x08 ∷ 0x00 ∷ 0x01 ∷ 0x01 ∷ 0x01 ∷ 0x02 ∷ 0xC4 ∷ 0x01 ∷ 0x5D ∷ 0x00 ∷ [])) ≡ Refused reason.UndefinedSegment (place 4 34 9) }
+{}
+
+/// Data of no bytes may lie at the segment's end, and not past it; the offset stands behind its segment's index.
+pub fn no_data_bytes()
+    ensures end { module_in (verdict_of (H ++ N ++ S ++ 0xA0 ∷ 0x04 ∷ 0x00 ∷ 0x01 ∷ 0x04 ∷ 0x00 ∷ 0x00 ∷ M)) ≡ Some (H ++ N ++ S ++ 0xA0 ∷ 0x04 ∷ 0x00 ∷ 0x01 ∷ 0x04 ∷ 0x00 ∷ 0x00 ∷ M) }
+    ensures past { verdict_of (H ++ N ++ S ++ 0xA0 ∷ 0x04 ∷ 0x00 ∷ 0x01 ∷ 0x05 ∷ 0x00 ∷ 0x00 ∷ M) ≡ Refused reason.OutsideSegment (place 3 23 4) }
+    ensures no_blocks { verdict_of (H ++ N ++ S ++ 0xA2 ∷ 0x04 ∷ 0x00 ∷ 0x01 ∷ 0x05 ∷ 0x00 ∷ 0x00 ∷ M) ≡ Refused reason.OutsideSegment (place 3 23 4) }
+    ensures long_index { verdict_of (H ++ N ++ S ++ 0xA0 ∷ 0x05 ∷ 0x00 ∷ 0x80 ∷ 0x01 ∷ 0x05 ∷ 0x00 ∷ 0x00 ∷ M) ≡ Refused reason.OutsideSegment (place 3 23 5) }
+    ensures no_segment { verdict_of (H ++ N ++ S ++ 0xA1 ∷ 0x06 ∷ 0x00 ∷ 0x09 ∷ 0xFF ∷ 0xFF ∷ 0xFF ∷ 0xFF ∷ 0x00 ∷ M) ≡ Refused reason.UndefinedSegment (place 3 23 3) }
+{}
+
+/// Names and bases that are not there, each at its index.
+pub fn undefined_indices()
+    ensures name { verdict_of (H ++ N ++ 0x98 ∷ 0x07 ∷ 0x00 ∷ 0x28 ∷ 0x04 ∷ 0x00 ∷ 0x03 ∷ 0x01 ∷ 0x01 ∷ 0x00 ∷ []) ≡ Refused reason.UndefinedName (place 2 13 6) }
+    ensures class { verdict_of (H ++ N ++ 0x99 ∷ 0x09 ∷ 0x00 ∷ 0x28 ∷ 0x04 ∷ 0x00 ∷ 0x00 ∷ 0x00 ∷ 0x02 ∷ 0x03 ∷ 0x01 ∷ 0x00 ∷ []) ≡ Refused reason.UndefinedName (place 2 13 9) }
+    ensures group { verdict_of (H ++ N ++ S ++ 0x9A ∷ 0x02 ∷ 0x00 ∷ 0x03 ∷ 0x00 ∷ []) ≡ Refused reason.UndefinedName (place 3 23 3) }
+    ensures member { verdict_of (H ++ N ++ S ++ 0x9A ∷ 0x06 ∷ 0x00 ∷ 0x02 ∷ 0xFF ∷ 0x01 ∷ 0xFF ∷ 0x02 ∷ 0x00 ∷ []) ≡ Refused reason.UndefinedSegment (place 3 23 7) }
+    ensures public_group { verdict_of (H ++ N ++ S ++ 0x90 ∷ 0x03 ∷ 0x00 ∷ 0x01 ∷ 0x02 ∷ 0x00 ∷ []) ≡ Refused reason.UndefinedGroup (place 3 23 3) }
+    ensures public_segment { verdict_of (H ++ N ++ S ++ 0x91 ∷ 0x03 ∷ 0x00 ∷ 0x00 ∷ 0x02 ∷ 0x00 ∷ []) ≡ Refused reason.UndefinedSegment (place 3 23 4) }
+{}
+
+/// Externals of an EXTDEF and of a COMDEF have one count.
+pub fn one_external_table()
+    ensures { verdict_of (H ++ N ++ S ++ 0x8C ∷ 0x04 ∷ 0x00 ∷ 0x01 ∷ 0x58 ∷ 0x00 ∷ 0x00 ∷ 0xB0 ∷ 0x06 ∷ 0x00 ∷ 0x01 ∷ 0x59 ∷ 0x00 ∷ 0x62 ∷ 0x01 ∷ 0x00 ∷ L ++ 0x9C ∷ 0x09 ∷ 0x00 ∷ 0xC4 ∷ 0x01 ∷ 0x46 ∷ 0x02 ∷ 0xC4 ∷ 0x01 ∷ 0x46 ∷ 0x03 ∷ 0x00 ∷ M) ≡ Refused reason.UndefinedExternal (place 6 50 10) }
+{}
+
+/// Blocks: too deep even where they are taken 0 times, too many bytes without wrap, Short to the right of them, and all of it before meaning.
+pub fn block_steps()
+    ensures deep { verdict_of (repeated (0xA2 ∷ 0x8A ∷ 0x00 ∷ 0x01 ∷ 0x00 ∷ 0x00 ∷ repeat 32 (0x00 ∷ 0x00 ∷ 0x01 ∷ 0x00 ∷ []) ++ 0x01 ∷ 0x00 ∷ 0x00 ∷ 0x00 ∷ 0x01 ∷ 0xAA ∷ 0x00 ∷ [])) ≡ Refused reason.TooDeep (place 3 23 134) }
+    ensures no_wrap { verdict_of (repeated (0xA2 ∷ 0x1E ∷ 0x00 ∷ 0x01 ∷ 0x00 ∷ 0x00 ∷ repeat 5 (0xFF ∷ 0xFF ∷ 0x01 ∷ 0x00 ∷ []) ++ 0x01 ∷ 0x00 ∷ 0x00 ∷ 0x00 ∷ 0x01 ∷ 0xAA ∷ 0x00 ∷ [])) ≡ Refused reason.DataTooLong (place 3 23 6) }
+    ensures short { verdict_of (repeated (0xA2 ∷ 0x0F ∷ 0x00 ∷ 0x01 ∷ 0x00 ∷ 0x00 ∷ 0xFF ∷ 0xFF ∷ 0x01 ∷ 0x00 ∷ 0xFF ∷ 0xFF ∷ 0x00 ∷ 0x00 ∷ 0x01 ∷ 0xAA ∷ 0x01 ∷ 0x00 ∷ [])) ≡ Refused reason.Short (place 3 23 16) }
+    ensures before_segment { verdict_of (repeated (0xA2 ∷ 0x0E ∷ 0x00 ∷ 0x09 ∷ 0x00 ∷ 0x00 ∷ 0xFF ∷ 0xFF ∷ 0x01 ∷ 0x00 ∷ 0xFF ∷ 0xFF ∷ 0x00 ∷ 0x00 ∷ 0x01 ∷ 0xAA ∷ 0x00 ∷ [])) ≡ Refused reason.DataTooLong (place 3 23 6) }
+    ensures missing_block { verdict_of (repeated (0xA3 ∷ 0x0C ∷ 0x00 ∷ 0x01 ∷ 0x00 ∷ 0x00 ∷ 0x00 ∷ 0x00 ∷ 0x00 ∷ 0x00 ∷ 0x00 ∷ 0x00 ∷ 0x01 ∷ 0x00 ∷ 0x00 ∷ [])) ≡ Refused reason.Short (place 3 23 14) }
+{}
+
+/// Vendors' classes begin at C0H; AAH is another dialect under either profile.
+pub fn comment_classes()
+    ensures last { module_in (verdict no_vendors profile_limits (comment 0xBF 0x00)) ≡ Some (comment 0xBF 0x00) }
+    ensures first { verdict no_vendors profile_limits (comment 0xC0 0x00) ≡ Refused reason.VendorComment (place 1 6 4) }
+    ensures dialect { verdict no_vendors profile_limits (comment 0xAA 0x00) ≡ Refused reason.OtherDialect (place 1 6 4) }
+{}
+
+/// Items: one for each subrecord, and one for a FIXUPP without any. The first beyond the limit is named at its place, or at 0.
+pub fn items()
+    ensures none { items_in (Fixups []) ≡ 1 }
+    ensures two { items_in (Fixups (put_at 3 (Thread 0x50 None) ∷ put_at 4 (Thread 0x50 None) ∷ [])) ≡ 2 }
+    ensures other { items_in (ModEnd 0 None) ≡ 1 }
+    ensures beyond { broken (room item_limit 1048575 (item_places (Fixups (put_at 3 (Thread 0x50 None) ∷ put_at 4 (Thread 0x50 None) ∷ [])))) ≡ fault 4 reason.TooMany ∷ [] }
+    ensures empty { broken (room item_limit 1048576 (item_places (Fixups []))) ≡ fault 0 reason.TooMany ∷ [] }
+    ensures comment { broken (room item_limit 1048576 (item_places (Comment 0 0xAA []))) ≡ fault 0 reason.TooMany ∷ [] }
+{}
+
+/// The entry beyond a table's limit: a segment is named at 3, left of its name; a group at 3 too, where the smaller number is that of an
+/// undefined name; an external at its name.
+pub fn full_tables()
+    ensures last_segment { meaning_after 32766 (segment_named 0) (segment_named 0) ≡ None }
+    ensures segment { meaning_after 32767 (segment_named 0) (segment_named 9) ≡ Some (fault 3 reason.TooMany) }
+    ensures last_group { meaning_after 32766 (group_named 0) (group_named 0) ≡ None }
+    ensures group { meaning_after 32767 (group_named 0) (group_named 0) ≡ Some (fault 3 reason.TooMany) }
+    ensures unnamed_group { meaning_after 32767 (group_named 0) (group_named 9) ≡ Some (fault 3 reason.UndefinedName) }
+    ensures external { meaning_after 16383 two_externals two_externals ≡ Some (fault 6 reason.TooMany) }
+{}
