@@ -95,3 +95,23 @@ pub fn lowest_member()
     ensures lower { placed_by two_segments (codes "S 1001F 10000 1000" ++ 10 ∷ codes "S 10020 10010 1001" ++ 10 ∷ codes "G real") ≡ Ok (places (at 0x1001F 0x10000 0x1000 ∷ at 0x10020 0x10010 0x1001 ∷ []) (frame 0x10000 0x1000 ∷ []) []) }
     ensures unplaced { placed_by two_segments (codes "S 1 0 0" ++ 10 ∷ codes "G real") ≡ Err 2 }
 {}
+
+/// A displacement of 32 bits at a location of 16, low bytes, type 5, and a self-relative location of 32 bits.
+pub fn more_locations()
+    ensures wide_displacement { relocated (with_fixup (0x9D ∷ 0x0A ∷ 0 ∷ 0xC4 ∷ 1 ∷ 0 ∷ 1 ∷ 1 ∷ 0xFC ∷ 0xFF ∷ 0xFF ∷ 0xFF ∷ 0 ∷ [])) low 1 ≡ run_from_0 (0xB8 ∷ 0x1C ∷ 0 ∷ 0x90 ∷ []) }
+    ensures five { relocated (with_fixup (0x9C ∷ 6 ∷ 0 ∷ 0xD4 ∷ 1 ∷ 4 ∷ 1 ∷ 1 ∷ 0 ∷ [])) low 1 ≡ run_from_0 (0xB8 ∷ 0x20 ∷ 0 ∷ 0x90 ∷ []) }
+    ensures low_byte { relocated (with_fixup (0x9C ∷ 6 ∷ 0 ∷ 0xC0 ∷ 1 ∷ 4 ∷ 1 ∷ 1 ∷ 0 ∷ [])) (only (at 0x10120 0x10000 0x1000)) 1 ≡ run_from_0 (0xB8 ∷ 0x20 ∷ 0 ∷ 0x90 ∷ []) }
+    ensures low_byte_beyond { relocated (with_fixup (0x9C ∷ 6 ∷ 0 ∷ 0xC0 ∷ 1 ∷ 4 ∷ 1 ∷ 1 ∷ 0 ∷ [])) (only (at 0x20000 0x10000 0x1000)) 1 ≡ Err (fault.TooFar 4 3 cause.Target) }
+    ensures self_relative { relocated (with_fixup (0x9C ∷ 6 ∷ 0 ∷ 0xA4 ∷ 0 ∷ 4 ∷ 1 ∷ 1 ∷ 0 ∷ [])) low 1 ≡ run_from_0 (0xB4 ∷ 0 ∷ 0 ∷ 0x90 ∷ []) }
+{}
+
+/// A short jump may lie beyond 16 bits of offset. Its location is judged before its distance.
+pub fn far_jumps()
+    ensures beyond_16_bits { relocated (with_fixup (0x9C ∷ 6 ∷ 0 ∷ 0x80 ∷ 1 ∷ 4 ∷ 1 ∷ 1 ∷ 0 ∷ [])) (only (at 0x20000 0x10000 0x1000)) 1 ≡ run_from_0 (0xB8 ∷ 0xFE ∷ 0 ∷ 0x90 ∷ []) }
+    ensures location { relocated (jump_by 0 0) (places (at 0x10020 0x20000 0x2000 ∷ []) [] (at 0x30000 0x20000 0x2000 ∷ [])) 1 ≡ Err (fault.TooFar 5 3 cause.Location) }
+{}
+
+/// An offset that overflows its word carries nothing into the selector's.
+pub fn no_carry()
+    ensures { relocated (with_fixup (0x9C ∷ 6 ∷ 0 ∷ 0xCC ∷ 0 ∷ 4 ∷ 1 ∷ 1 ∷ 0 ∷ [])) (only (at 0x1FFFF 0x10000 0x1000)) 1 ≡ run_from_0 (0xB7 ∷ 0 ∷ 0 ∷ 0xA0 ∷ []) }
+{}
