@@ -34,6 +34,7 @@ abbrev pub target_from : Setting → TargetMethod
 target_from s = let i = unwrap_or s.datum 0 in
     if s.method == 0 then T0 i else (if s.method == 1 then T1 i else T2 i)
 
+-- the same truth value
 abbrev pub same : Bool → Bool → Bool
 same true b = b
 same false true = false

@@ -14,12 +14,13 @@ use Rattle.omf_reloc.specs.Plain.{Piece, Kept, Fixed, End, pieces, fixups_of_dat
 use Rattle.omf_reloc.specs.Placement.{Places, Placed, placed, absolute_place}
 use Rattle.omf_reloc.specs.Offsets.{outcome, start_offset, cause_of}
 
--- Whether each fixup reaches, in file order, and last the start: none, or the cause.
+-- What a data record says.
 abbrev pub data_contents : Contents → Option DataItem
 data_contents (Plain d) = Some d
 data_contents (Iterated d) = Some d
 data_contents _ = None
 
+-- Whether each fixup of a data record reaches, in file order: none, or the cause.
 abbrev pub causes_at : Places → Option DataItem → List Piece → List (Option Cause)
 causes_at pl None after = []
 causes_at pl (Some d) after = map (λ f. cause_of (outcome pl d f)) (fixups_of_data after)
@@ -30,6 +31,7 @@ piece_causes pl (Fixed kind fixups) after = []
 piece_causes pl (End kind byte None) after = []
 piece_causes pl (End kind byte (Some r)) after = cause_of (start_offset pl kind r) ∷ []
 
+-- Whether each fixup reaches, in file order, and last the start.
 abbrev pub causes : Places → List Piece → List (Option Cause)
 causes pl ps = with_after (piece_causes pl) ps
 
@@ -46,6 +48,7 @@ reference_places _ = []
 abbrev pub all_reference_places : List Rec → List (ℕ × ℕ)
 all_reference_places m = flat_map (λ p. map (λ within. (p.0, within)) (reference_places p.1.contents)) (enumerate_from 0 m)
 
+-- a reference at its place, where it does not reach
 abbrev pub far_fault : (ℕ × ℕ) × Option Cause → Option ReachFault
 far_fault p = option_map (λ c. fault.TooFar p.0.0 p.0.1 c) p.1
 
