@@ -8,4 +8,6 @@ pub mod Counting
 pub mod ReadingSteps
 pub mod Expansion
 pub mod CopySteps
-pub mod PieceLaws
+pub mod SortedLaws
+pub mod OverLaws
+pub mod TurnLaws

@@ -9,18 +9,15 @@ use Rattle.std.proofs.lemmas.List.{append-nil}
 use Rattle.omf_image.specs.declared.run.Run.{Run}
 use Rattle.omf_image.specs.Overlay.{Laid, byte_of, byte_at, IsRun, AreRising, AreRuns}
 use Rattle.omf_image.specs.Joined.{run_end, hull, join_run, join_laid, runs_of}
+use Rattle.omf_image.specs.Sorted.{span}
 use Rattle.omf_image.proofs.LastLaws.{last_filter_map}
 
--- the interval of a piece
-abbrev pub span : Laid → Run
-span l = record { first = l.offset; len = length l.bytes }
-
-some_within : {A : Type 0} (xs : List A) (i : ℕ) → IsSome (slice_get xs i) → i < length xs
+pub some_within : {A : Type 0} (xs : List A) (i : ℕ) → IsSome (slice_get xs i) → i < length xs
 some_within [] i h = absurd cc
 some_within (x ∷ xs) zero h = omega arith
 some_within (x ∷ xs) (suc i) h = let low = some_within xs i h in omega arith
 
-within_some : {A : Type 0} (xs : List A) (i : ℕ) → i < length xs → IsSome (slice_get xs i)
+pub within_some : {A : Type 0} (xs : List A) (i : ℕ) → i < length xs → IsSome (slice_get xs i)
 within_some [] i h = absurd (omega arith)
 within_some (x ∷ xs) zero h = refl
 within_some (x ∷ xs) (suc i) h = let low : i < length xs = omega arith in within_some xs i low
@@ -208,7 +205,7 @@ rising_of low [] h = tt
 rising_of low (r ∷ []) h = tt
 rising_of low (r ∷ s ∷ runs) (from, some, (gap, some_s, others)) = (omega (arith, gap), rising_of (suc (run_end r)) (s ∷ runs) (gap, some_s, others))
 
-some_or_none : {A : Type 0} (o : Option A) → (IsSome o → ⊥) → IsNone o
+pub some_or_none : {A : Type 0} (o : Option A) → (IsSome o → ⊥) → IsNone o
 some_or_none None h = refl
 some_or_none (Some x) h = absurd (h refl)
 
@@ -216,7 +213,7 @@ never_both : {A : Type 0} (o : Option A) → IsSome o → IsNone o → ⊥
 never_both None s n = cc
 never_both (Some x) s n = cc
 
-same_run : (r s : Run) → r.first ≡ s.first → r.len ≡ s.len → r ≡ s
+pub same_run : (r s : Run) → r.first ≡ s.first → r.len ≡ s.len → r ≡ s
 same_run r s e f = ap (λ n. record { first = n; len = r.len }) e ∙ ap (λ n. record { first = s.first; len = n }) f
 
 -- Two maximal covered intervals with a place in common are one.
@@ -263,7 +260,7 @@ runs_of_apart byte runs apart covered covers =
 
 -- ---- the runs of pieces
 
-byte_some : (segment x : ℕ) (l : Laid) → IsSome (byte_of segment x l) → (l.segment ≡ segment) × IsIn x (span l)
+pub byte_some : (segment x : ℕ) (l : Laid) → IsSome (byte_of segment x l) → (l.segment ≡ segment) × IsIn x (span l)
 byte_some segment x l = by (l.segment == segment) refl (nat_le l.offset x) refl
   where
     by : (b : Bool) → l.segment == segment ≡ b → (c : Bool) → nat_le l.offset x ≡ c → IsSome (if b && c then slice_get l.bytes (x - l.offset) else None) → (l.segment ≡ segment) × IsIn x (span l)
@@ -274,7 +271,7 @@ byte_some segment x l = by (l.segment == segment) refl (nat_le l.offset x) refl
     by true e false f h = absurd cc
     by false e c f h = absurd cc
 
-some_byte : (segment x : ℕ) (l : Laid) → l.segment ≡ segment → IsIn x (span l) → IsSome (byte_of segment x l)
+pub some_byte : (segment x : ℕ) (l : Laid) → l.segment ≡ segment → IsIn x (span l) → IsSome (byte_of segment x l)
 some_byte segment x l e (from, to) =
     let inside : IsSome (slice_get l.bytes (x - l.offset)) = within_some l.bytes (x - l.offset) (omega (arith, from, to)) in
     subst (λ b. IsSome (if b && nat_le l.offset x then slice_get l.bytes (x - l.offset) else None)) (sym (eq-eqb l.segment segment e))

@@ -1,5 +1,5 @@
 -- Laws over the definitions, each the contract of a function of the same name.
-use Rattle.std.specs.Prelude.{◌≡◌, ◌↔◌, ◌≤◌, ℕ, List, [], ◌∷◌, ◌++◌, length, Option, Ok, Err}
+use Rattle.std.specs.Prelude.{◌≡◌, ◌↔◌, ◌≤◌, ℕ, List, [], ◌∷◌, ◌++◌, length, slice_get, Option, None, Ok, Err}
 use Rattle.std.specs.Option.{option_or}
 use Rattle.omf_frame.specs.Bytes.{AreBytes}
 use Rattle.omf_frame.specs.Fault.{Fault}
@@ -7,7 +7,7 @@ use Rattle.omf_records.specs.Reads.{Meets}
 use Rattle.omf_image.specs.Blocks.{Blocks, blocks, blocks_bytes, blocks_size, AreBlocks, IsFirstFault}
 use Rattle.omf_image.specs.Expanding.{read_blocks, expanded_length}
 use Rattle.omf_image.specs.Joined.{runs_of}
-use Rattle.omf_image.specs.Overlay.{Laid, byte_of, byte_at, AreRuns}
+use Rattle.omf_image.specs.Overlay.{Laid, byte_of, byte_at, AreRuns, IsRunAt, AreLaidOver}
 use Rattle.omf_image.specs.declared.run.Run.{Run}
 use Rattle.omf_image.specs.declared.limits.Limits.{Limits}
 
@@ -38,3 +38,13 @@ RunsAreMaximal = ((laid : List Laid) (segment : ℕ) → AreRuns (byte_at laid s
 -- One more piece gives the bytes that it covers, and leaves all others as they were.
 abbrev pub LastPieceWins : Type 0
 LastPieceWins = (laid : List Laid) (l : Laid) (segment x : ℕ) → byte_at (laid ++ l ∷ []) segment x ≡ option_or (byte_of segment x l) (byte_at laid segment x)
+
+-- After any pieces that were laid in turn, from no bytes on, the byte at a place is that of the last piece that covers it, and the k-th maximal covered interval is the k-th of theirs.
+abbrev pub ImagesAreOverlays : Type 0
+ImagesAreOverlays = (pieces image : List Laid) → AreLaidOver [] pieces image
+    → ((segment x : ℕ) → byte_at image segment x ≡ byte_at pieces segment x)
+    × ((segment k : ℕ) (run : Option Run) → IsRunAt (byte_at image segment) k run ↔ (run ≡ slice_get (runs_of pieces segment) k))
+
+-- A piece without bytes covers nothing.
+abbrev pub NoBytesCoverNothing : Type 0
+NoBytesCoverNothing = (l : Laid) (segment x : ℕ) → l.bytes ≡ [] → byte_of segment x l ≡ None

@@ -2,7 +2,7 @@ pub mod Limits
 pub mod Parts
 pub mod Overlay
 pub mod Joined
-pub mod Pieces
+pub mod Sorted
 pub mod Blocks
 pub mod BlockReaders
 pub mod Lengths

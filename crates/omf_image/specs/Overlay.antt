@@ -1,5 +1,6 @@
 -- An image in which the last piece laid wins, and its covered intervals (this profile's rule where data records overlap).
-use Rattle.std.specs.Prelude.{◌≡◌, ℕ, ◌+◌, ◌-◌, ◌<◌, ◌≤◌, List, [], ◌∷◌, filter_map, ◌&&◌, ◌==◌, nat_le, Option, None, IsSome, IsNone, slice_get, Contains, if◌then◌else◌}
+use Rattle.std.specs.Prelude.{◌≡◌, ℕ, ◌+◌, ◌-◌, ◌<◌, ◌≤◌, List, [], ◌∷◌, length, filter_map, ◌&&◌, ◌==◌, nat_le, Option, None, Some, IsSome, IsNone, slice_get, Contains, if◌then◌else◌}
+use Rattle.std.specs.Option.{option_or}
 use Rattle.omf_frame.specs.Bytes.{last}
 use Rattle.omf_image.specs.declared.run.Run.{Run}
 
@@ -35,3 +36,30 @@ pub record AreRuns (byte : ℕ → Option ℕ) (runs : List Run) : Type 0 where
   pub each : (run : Run) → Contains runs run → IsRun byte run
   pub all : (run : Run) → IsRun byte run → Contains runs run
   pub rising : AreRising runs
+
+-- The k-th of the maximal covered intervals, from 0, or none beyond the last.
+abbrev pub IsRunAt : (ℕ → Option ℕ) → ℕ → Option Run → Type 0
+IsRunAt byte k run = (runs : List Run) × AreRuns byte runs × (run ≡ slice_get runs k)
+
+-- The bytes over an interval: as many as it has places, each of them the byte at its place.
+pub record AreBytesOver (byte : ℕ → Option ℕ) (run : Run) (bytes : List ℕ) : Type 0 where
+  pub long : length bytes ≡ run.len
+  pub each : (i : ℕ) → i < run.len → byte (run.first + i) ≡ slice_get bytes i
+
+-- The bytes over an interval where there is one, and none where there is none.
+abbrev pub AreBytesOf : (ℕ → Option ℕ) → Option Run → Option (List ℕ) → Type 0
+AreBytesOf byte None result = result ≡ None
+AreBytesOf byte (Some run) result = (bytes : List ℕ) × (result ≡ Some bytes) × AreBytesOver byte run bytes
+
+-- The bytes over the k-th of the maximal covered intervals, or none beyond the last.
+abbrev pub AreBytesAt : (ℕ → Option ℕ) → ℕ → Option (List ℕ) → Type 0
+AreBytesAt byte k result = (run : Option Run) × IsRunAt byte k run × AreBytesOf byte run result
+
+-- A piece was laid over what was there: it gives the bytes that it covers, and all others stay.
+abbrev pub IsLaidOver : List Laid → Laid → List Laid → Type 0
+IsLaidOver old l new = (segment x : ℕ) → byte_at new segment x ≡ option_or (byte_of segment x l) (byte_at old segment x)
+
+-- Pieces were laid in turn over what was there.
+abbrev pub AreLaidOver : List Laid → List Laid → List Laid → Type 0
+AreLaidOver old [] new = old ≡ new
+AreLaidOver old (l ∷ laid) new = (next : List Laid) × IsLaidOver old l next × AreLaidOver next laid new

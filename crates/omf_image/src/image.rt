@@ -1,47 +1,206 @@
 //! An image in which the last piece laid wins.
 
-ghost use Rattle.std.specs.Prelude.{◌≡◌, ℕ, ◌+◌, ◌^◌, ◌≤◌, [], vec_len, OnOk, OnErr};
-ghost use Rattle.omf_image.specs.Overlay.{byte_of, byte_at};
-ghost use Rattle.omf_image.specs.Pieces.{IsLaidOver, laid_piece};
+ghost use Rattle.std.specs.Prelude.{◌≡◌, ℕ, ◌+◌, ◌-◌, ◌^◌, ◌<◌, ◌≤◌, List, [], ◌∷◌, ◌++◌, length, take, drop, vec_len, slice_get, OnOk, OnErr};
+ghost use Rattle.std.specs.Option.{option_copied, option_map};
+ghost use Rattle.omf_image.specs.Overlay.{byte_of, byte_at, IsRunAt, AreBytesAt, IsLaidOver};
+ghost use Rattle.omf_image.specs.Sorted.{laid_run, laid_runs, span, in_segment, line_place, low, high, AreSorted, EndBefore, EndFrom, BeginBy, BeginAfter, Touches, extended, over, over_all};
 
+use crate::Run;
 use std::alloc::{AllocError, Global};
 use std::marker::Model;
 
-/// Bytes at an offset of a segment.
+/// How far one segment stands behind another in the line of all places. A segment has half as many places, so that bytes of
+/// different segments never touch.
+const SEGMENT_STEP: u64 = 8_589_934_592;
+
+/// A place in the line of all places.
+fn place_of(segment: u16, offset: u32) -> u64
+    ensures { result ≡ line_place segment offset }
+{
+    u64::from(segment) * SEGMENT_STEP + u64::from(offset)
+}
+
+/// A covered interval with its bytes.
 #[derive(Drop)]
-struct Piece {
+struct Covered {
     segment: u16,
-    offset: u32,
+    first: u32,
     bytes: Vec<u8>,
 }
 
-impl Piece {
+impl Covered {
+    /// Where it begins in the line of all places.
+    fn low(&self) -> u64
+        ensures { result ≡ low (laid_run self.now) }
+    {
+        place_of(self.segment, self.first)
+    }
+
+    /// Where it ends in the line of all places.
+    fn high(&self) -> u64
+        ensures { result ≡ high (laid_run self.now) }
+    {
+        self.low() + self.bytes.len() as u64
+    }
+
+    /// The interval.
+    fn run(&self) -> Run
+        ensures { result ≡ span (laid_run self.now) }
+    {
+        Run {
+            first: self.first,
+            len: self.bytes.len() as u64,
+        }
+    }
+
+    /// Takes the bytes of a run that stand behind it.
+    fn extend_over(&mut self, run: &Covered) -> Result<(), AllocError>
+        requires { self.old.first + vec_len self.old.bytes ≤ 2 ^ 32 }
+        ensures { OnOk result (laid_run self.new ≡ extended (laid_run self.old) (laid_run run.now)) }
+    {
+        let end = u64::from(self.first) + self.bytes.len() as u64;
+        self.bytes.extend_from_slice(run.bytes_from(end))?;
+        Ok(())
+    }
+
+    /// Takes the bytes that stand behind it of the last of some runs that it touches. The others of them it covers.
+    fn extend_to(&mut self, runs: &[Covered]) -> Result<(), AllocError>
+        requires sorted { AreSorted (low (laid_run self.old)) (laid_runs runs.now) }
+        requires touching { Touches (laid_run self.old) (laid_runs runs.now) }
+        requires fits { self.old.first + vec_len self.old.bytes ≤ 2 ^ 32 }
+        ensures { OnOk result (laid_run self.new ≡ over_all (laid_run self.old) (laid_runs runs.now)) }
+    {
+        match runs.last() {
+            Some(run) => self.extend_over(run),
+            None => Ok(()),
+        }
+    }
+
+    /// Lays a piece over it that touches it.
+    fn overlay(&mut self, mut piece: Covered) -> Result<(), AllocError>
+        requires segment { self.old.segment ≡ piece.segment }
+        requires from { piece.first ≤ self.old.first + vec_len self.old.bytes }
+        requires fits { piece.first + vec_len piece.bytes ≤ 2 ^ 32 }
+        ensures laid { OnOk result (laid_run self.new ≡ over (laid_run piece) (laid_run self.old)) }
+        ensures unchanged { OnErr result (laid_run self.new ≡ laid_run self.old) }
+    {
+        if piece.first < self.first {
+            piece.extend_over(self)?;
+            *self = piece;
+            return Ok(());
+        }
+        overwrite(
+            &mut self.bytes,
+            (piece.first - self.first) as usize,
+            &piece.bytes,
+        )
+    }
+
     /// Its byte at a place, if it covers the place.
     fn byte(&self, segment: u16, offset: u32) -> Option<u8>
-        ensures { result ≡ byte_of segment offset (laid_piece self.now) }
+        ensures { result ≡ byte_of segment offset (laid_run self.now) }
     {
-        if self.segment != segment || offset < self.offset {
+        if self.segment != segment || offset < self.first {
             return None;
         }
-        self.bytes.get((offset - self.offset) as usize).copied()
+        self.bytes.get((offset - self.first) as usize).copied()
+    }
+
+    /// Its bytes from an offset of its segment on.
+    fn bytes_from(&self, offset: u64) -> &[u8]
+        ensures { result.now ≡ drop (offset - self.now.first) self.now.bytes.items }
+    {
+        let skipped = offset.saturating_sub(u64::from(self.first)) as usize;
+        self.bytes.split_at(skipped.min(self.bytes.len())).1
     }
 }
 
-/// An image: bytes at offsets of segments, of which the last ones laid stand. It keeps the pieces in the order in which they were
-/// laid, so that a look-up costs as much as there are pieces.
+/// Writes bytes over others from one of them on, and further where there are more.
+fn overwrite(bytes: &mut Vec<u8>, at: usize, new: &[u8]) -> Result<(), AllocError>
+    requires { at ≤ vec_len bytes.old }
+    ensures written { OnOk result (bytes.new.items ≡ take at bytes.old.items ++ (new.now ++ drop (at + length new.now) bytes.old.items)) }
+    ensures unchanged { OnErr result (bytes.new.items ≡ bytes.old.items) }
+{
+    let inside = new.len().min(bytes.len() - at);
+    let (front, back) = new.split_at(inside);
+    bytes.extend_from_slice(back)?;
+    bytes[at..at + inside].copy_from_slice(front);
+    Ok(())
+}
+
+/// How many runs end before a place of the line.
+fn ending_before(runs: &[Covered], at: u64) -> usize
+    requires { AreSorted 0 (laid_runs runs.now) }
+    ensures within { result ≤ length runs.now }
+    ensures before { EndBefore at (take result (laid_runs runs.now)) }
+    ensures others { EndFrom at (drop result (laid_runs runs.now)) }
+{
+    runs.partition_point(|run| run.high() < at)
+}
+
+/// How many runs begin up to a place of the line.
+fn beginning_by(runs: &[Covered], at: u64) -> usize
+    requires { AreSorted 0 (laid_runs runs.now) }
+    ensures within { result ≤ length runs.now }
+    ensures before { BeginBy at (take result (laid_runs runs.now)) }
+    ensures others { BeginAfter at (drop result (laid_runs runs.now)) }
+{
+    runs.partition_point(|run| run.low() <= at)
+}
+
+/// The run of a segment with a number, from 0.
+fn find_run(runs: &[Covered], segment: u16, k: usize) -> Option<&Covered>
+    requires { AreSorted 0 (laid_runs runs.now) }
+    ensures { option_map laid_run (option_copied result) ≡ slice_get (in_segment segment (laid_runs runs.now)) k }
+{
+    let start = ending_before(runs, place_of(segment, 0));
+    let run = runs.split_at(start).1.get(k)?;
+    if run.segment == segment {
+        Some(run)
+    } else {
+        None
+    }
+}
+
+/// Lays a piece over the runs that it touches, and makes them one run.
+fn join_runs(
+    runs: &mut Vec<Covered>,
+    start: usize,
+    count: usize,
+    mut piece: Covered,
+) -> Result<(), AllocError>
+    requires some { 0 < count }
+    requires within { start + count ≤ vec_len runs.old }
+    requires sorted { AreSorted 0 (laid_runs runs.old.items) }
+    requires touching { Touches (laid_run piece) (take count (drop start (laid_runs runs.old.items))) }
+    requires fits { piece.first + vec_len piece.bytes ≤ 2 ^ 32 }
+    ensures joined { OnOk result (laid_runs runs.new.items ≡ take start (laid_runs runs.old.items) ++ over_all (laid_run piece) (take count (drop start (laid_runs runs.old.items))) ∷ drop count (drop start (laid_runs runs.old.items))) }
+    ensures unchanged { OnErr result (laid_runs runs.new.items ≡ laid_runs runs.old.items) }
+{
+    piece.extend_to(&runs[start + 1..start + count])?;
+    let first = &mut runs[start];
+    first.overlay(piece)?;
+    runs.drain(start + 1..start + count);
+    Ok(())
+}
+
+/// An image: bytes at offsets of segments, of which the last ones laid stand. It keeps the maximal covered intervals in rising
+/// order, each with its bytes.
 #[derive(Drop)]
 pub struct Image {
-    pieces: Vec<Piece>,
+    runs: Vec<Covered>,
 }
 
 impl Model for Image {
     ghost use Rattle.omf_image.specs.Overlay.{Laid};
-    ghost use Rattle.omf_image.specs.Pieces.{laid_pieces};
+    ghost use Rattle.omf_image.specs.Sorted.{laid_runs, AreSorted};
     ghost use Rattle.std.specs.Prelude.{List};
 
     ghost Value = { List Laid };
 
-    ghost view = { λ i. laid_pieces i.pieces.items };
+    ghost view = { λ i. laid_runs i.runs.items };
+
+    ghost invariant = { λ i. AreSorted 0 (laid_runs i.runs.items) };
 }
 
 impl Image {
@@ -50,7 +209,7 @@ impl Image {
         ensures { result ≡ [] }
     {
         Image {
-            pieces: Vec::new(alloc),
+            runs: Vec::new(alloc),
         }
     }
 
@@ -58,11 +217,22 @@ impl Image {
     pub fn get(&self, segment: u16, offset: u32) -> Option<u8>
         ensures { result ≡ byte_at self.now segment offset }
     {
-        let mut found = None;
-        for piece in &self.pieces {
-            found = piece.byte(segment, offset).or(found);
-        }
-        found
+        let at = ending_before(&self.runs, place_of(segment, offset) + 1);
+        self.runs.get(at)?.byte(segment, offset)
+    }
+
+    /// The maximal covered interval of a segment with a number, from 0 in rising order; None beyond the last.
+    pub fn run_at(&self, segment: u16, k: usize) -> Option<Run>
+        ensures { IsRunAt (byte_at self.now segment) k result }
+    {
+        Some(find_run(&self.runs, segment, k)?.run())
+    }
+
+    /// The bytes of the maximal covered interval of a segment with a number, from 0 in rising order; None beyond the last.
+    pub fn run_bytes(&self, segment: u16, k: usize) -> Option<&[u8]>
+        ensures { AreBytesAt (byte_at self.now segment) k (option_copied result) }
+    {
+        Some(find_run(&self.runs, segment, k)?.bytes.as_slice())
     }
 
     /// Lays bytes at an offset of a segment, over what was there.
@@ -75,11 +245,20 @@ impl Image {
         ensures laid { OnOk result (IsLaidOver self.old (record { segment = segment; offset = offset; bytes = bytes.items }) self.new) }
         ensures unchanged { OnErr result (self.new ≡ self.old) }
     {
-        self.pieces.push(Piece {
+        if bytes.is_empty() {
+            return Ok(());
+        }
+        let piece = Covered {
             segment,
-            offset,
+            first: offset,
             bytes,
-        })?;
+        };
+        let start = ending_before(&self.runs, piece.low());
+        let count = beginning_by(self.runs.split_at(start).1, piece.high());
+        if count > 0 {
+            return join_runs(&mut self.runs, start, count, piece);
+        }
+        self.runs.insert(start, piece)?;
         Ok(())
     }
 }

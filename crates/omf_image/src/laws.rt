@@ -1,6 +1,6 @@
 //! Laws over the definitions, each the contract of a function that does nothing.
 
-ghost use Rattle.omf_image.specs.Laws.{SizesAreLengths, BlocksAreRead, LengthsAreDecided, LimitsMayGrow, LastPieceWins, RunsAreMaximal};
+ghost use Rattle.omf_image.specs.Laws.{SizesAreLengths, BlocksAreRead, LengthsAreDecided, LimitsMayGrow, LastPieceWins, RunsAreMaximal, ImagesAreOverlays, NoBytesCoverNothing};
 
 /// Blocks stand for as many bytes as their size says.
 pub fn sizes_are_lengths()
@@ -30,4 +30,15 @@ pub fn last_piece_wins()
 /// The runs that are computed are all the maximal covered intervals, in rising order.
 pub fn runs_are_maximal()
     ensures { RunsAreMaximal }
+{}
+
+/// After any pieces that were laid in turn, the byte at a place is that of the last piece that covers it, and the maximal covered
+/// intervals are those of all the pieces.
+pub fn images_are_overlays()
+    ensures { ImagesAreOverlays }
+{}
+
+/// A piece without bytes covers nothing.
+pub fn no_bytes_cover_nothing()
+    ensures { NoBytesCoverNothing }
 {}

@@ -1,20 +1,31 @@
-use Rattle.std.proofs.Common.{sym, ap, ◌∙◌, ◌<◌, ◌++◌, [], ◌∷◌, length, take, rules}
-use Rattle.std.specs.Option.{option_or}
-use Rattle.std.proofs.lemmas.List.{take_more}
-use Rattle.omf_image.specs.Overlay.{byte_at, byte_of}
-use Rattle.omf_image.specs.Pieces.{laid_pieces, laid_piece}
-use Rattle.omf_image.proofs.PieceLaws.{piece_more}
+use Rattle.std.proofs.Common.{◌≡◌, ◌≤◌, ◌<◌, ◌+◌, subst, sym, ap, ◌∙◌, length, take, drop, rules}
+use Rattle.omf_image.specs.Overlay.{byte_at}
+use Rattle.omf_image.specs.Sorted.{laid_runs, AreSorted, EndBefore, EndFrom, line_place}
+use Rattle.omf_image.proofs.SortedLaws.{byte_found, byte_missed}
 use Rattle.omf_image.proofs.image.Image.get.Goals as goal
 
-pub loop-piece-preserved : goal.loop-piece-preserved
-loop-piece-preserved c =
-    let items = c.deref-piece-items.result.now in
-    let i = c.loop-piece.piece-index in
-    let low : i < length items = search rules in
-    let more = take_more items i c.piece-item.result low in
-    c.or-found.ensures
-    ∙ ap (λ o. option_or o c.loop-piece.found) c.byte.ensures
-    ∙ ap (λ o. option_or (byte_of c.args.segment c.args.offset (laid_piece c.piece-item.result)) o) c.loop-piece.invariant
-    ∙ sym (piece_more (take i items) c.piece-item.result c.args.segment c.args.offset)
-    ∙ ap (λ x. byte_at (laid_pieces (take i items ++ x ∷ [])) c.args.segment c.args.offset) c.piece-item.is
-    ∙ ap (λ ps. byte_at (laid_pieces ps) c.args.segment c.args.offset) (sym more)
+pub returns-in_err-get : goal.returns-in_err-get
+returns-in_err-get c =
+    let none : length c.deref-2.result.now ≤ c.ending_before-at.result = search rules in
+    let same : c.deref.result.now ≡ c.deref-2.result.now = c.deref.ensures.value ∙ sym c.deref-2.ensures.value in
+    let sorted : AreSorted 0 (laid_runs c.deref-2.result.now) = subst (λ xs. AreSorted 0 (laid_runs xs)) (sym c.deref-2.ensures.value) c.self.invariant in
+    let before : EndBefore (line_place c.args.segment c.args.offset + 1) (take c.ending_before-at.result (laid_runs c.deref-2.result.now)) =
+    subst (λ xs. EndBefore (line_place c.args.segment c.args.offset + 1) (take c.ending_before-at.result (laid_runs xs))) same (subst (λ p. EndBefore (p + 1) (take c.ending_before-at.result (laid_runs c.deref.result.now))) c.place_of.ensures c.ending_before-at.ensures.before) in
+    let others : EndFrom (line_place c.args.segment c.args.offset + 1) (drop c.ending_before-at.result (laid_runs c.deref-2.result.now)) =
+    subst (λ xs. EndFrom (line_place c.args.segment c.args.offset + 1) (drop c.ending_before-at.result (laid_runs xs))) same (subst (λ p. EndFrom (p + 1) (drop c.ending_before-at.result (laid_runs c.deref.result.now))) c.place_of.ensures c.ending_before-at.ensures.others) in
+    c.from_residual.ensures
+    ∙ byte_missed c.args.segment c.args.offset c.ending_before-at.result c.deref-2.result.now sorted before others none
+    ∙ ap (λ ls. byte_at ls c.args.segment c.args.offset) (ap laid_runs c.deref-2.ensures.value ∙ c.self.view_is)
+
+pub returns : goal.returns
+returns c =
+    let some : c.ending_before-at.result < length c.deref-2.result.now = search rules in
+    let same : c.deref.result.now ≡ c.deref-2.result.now = c.deref.ensures.value ∙ sym c.deref-2.ensures.value in
+    let sorted : AreSorted 0 (laid_runs c.deref-2.result.now) = subst (λ xs. AreSorted 0 (laid_runs xs)) (sym c.deref-2.ensures.value) c.self.invariant in
+    let before : EndBefore (line_place c.args.segment c.args.offset + 1) (take c.ending_before-at.result (laid_runs c.deref-2.result.now)) =
+    subst (λ xs. EndBefore (line_place c.args.segment c.args.offset + 1) (take c.ending_before-at.result (laid_runs xs))) same (subst (λ p. EndBefore (p + 1) (take c.ending_before-at.result (laid_runs c.deref.result.now))) c.place_of.ensures c.ending_before-at.ensures.before) in
+    let others : EndFrom (line_place c.args.segment c.args.offset + 1) (drop c.ending_before-at.result (laid_runs c.deref-2.result.now)) =
+    subst (λ xs. EndFrom (line_place c.args.segment c.args.offset + 1) (drop c.ending_before-at.result (laid_runs xs))) same (subst (λ p. EndFrom (p + 1) (drop c.ending_before-at.result (laid_runs c.deref.result.now))) c.place_of.ensures c.ending_before-at.ensures.others) in
+    c.byte.ensures
+    ∙ byte_found c.args.segment c.args.offset c.ending_before-at.result c.deref-2.result.now sorted before others c.in_ok-get.field-0.now some (search rules)
+    ∙ ap (λ ls. byte_at ls c.args.segment c.args.offset) (ap laid_runs c.deref-2.ensures.value ∙ c.self.view_is)
