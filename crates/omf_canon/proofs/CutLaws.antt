@@ -1,12 +1,13 @@
 -- A cut is greedy, and there is one greedy cut.
 use Rattle.std.proofs.Common.{◌≡◌, ℕ, ◌+◌, ◌<◌, ◌≤◌, List, [], ◌∷◌, ◌++◌, refl, sym, ◌∙◌, ap, subst, Bool, true, false, cond, length, arith, length-append, append_assoc, append-nil, true≢false}
-use Rattle.std.specs.Prelude.{flat_map, All, nat_le, nat_lt, ◌==◌, ⊤}
+use Rattle.std.specs.Prelude.{map, flat_map, All, nat_le, nat_lt, ◌==◌, ⊤}
 use Rattle.std.proofs.lemmas.Bool.{leb-true, leb-false, le-leb, lt-leb, false≢true}
-use Rattle.std.proofs.lemmas.List.Elements.{All-nil, All-cons, All-head, All-tail}
+use Rattle.std.proofs.lemmas.List.Elements.{All-nil, All-cons, All-head, All-tail, All-map, All-weaker}
 use Rattle.std.proofs.lemmas.List.Sums.{sum_by-append}
 use Rattle.byteorder.specs.Numbers.{length-bytes_low_first}
 use Rattle.byteorder.specs.Endian.{little_bytes}
 use Rattle.omf_frame.specs.Fields.{index_bytes}
+use Rattle.omf_frame.specs.Framing.{raw_bytes, raw_of}
 use Rattle.omf_records.specs.Values.{is_wide, width}
 use Rattle.omf_check.specs.Threads.{FrameMethod, F0, F1, F2, F4, F5, TargetMethod, T0, T1, T2}
 use Rattle.omf_reloc.specs.Plain.{PlainFixup}
@@ -190,3 +191,15 @@ module _ (kind : ℕ) where
 
   pub greedy-cut : (fixups : List PlainFixup) (groups : Groups) → IsGreedyCut kind fixups groups → groups ≡ cut kind fixups
   greedy-cut fixups groups c = one-cut groups c.full c.fits (greedy-from groups c.greedy) ∙ ap (cut kind) (sym c.whole)
+
+  -- A group's bytes are its size, and type, length and checksum take four more.
+  length-group : (g : List PlainFixup) → length (flat_map (fixup_bytes kind) g) ≡ size g
+  length-group [] = refl
+  length-group (f ∷ fs) = omega (arith, length-append (fixup_bytes kind f) (flat_map (fixup_bytes kind) fs), length-group fs, size-append (f ∷ []) fs)
+
+  length-raw : (g : List PlainFixup) → size g ≤ body_limit → length (raw_bytes (raw_of kind (flat_map (fixup_bytes kind) g))) ≤ 1024
+  length-raw g h = omega (arith, h, length-group g, length-append (flat_map (fixup_bytes kind) g) ((raw_of kind (flat_map (fixup_bytes kind) g)).checksum ∷ []))
+
+  pub raws-fit : (fixups : List PlainFixup) → All (λ r. length (raw_bytes r) ≤ 1024) (map (λ g. raw_of kind (flat_map (fixup_bytes kind) g)) (cut kind fixups))
+  raws-fit fixups = All-map (λ r. length (raw_bytes r) ≤ 1024) (λ g. raw_of kind (flat_map (fixup_bytes kind) g)) (cut kind fixups)
+      (All-weaker (λ g. size g ≤ body_limit) (λ g. length (raw_bytes (raw_of kind (flat_map (fixup_bytes kind) g))) ≤ 1024) length-raw (cut kind fixups) (cut-greedy fixups).fits)

@@ -1,13 +1,15 @@
 -- Laws over the definitions, each the contract of a function of the same name.
-use Rattle.std.specs.Prelude.{◌≡◌, ◌↔◌, ℕ, List, Option, option_map}
+use Rattle.std.specs.Prelude.{◌≡◌, ◌↔◌, ℕ, ◌≤◌, List, Option, option_map, length, All}
+use Rattle.omf_frame.specs.Framing.{raw_bytes}
 use Rattle.omf_image.specs.declared.limits.Limits.{Limits}
 use Rattle.omf_records.specs.Values.{Rec}
 use Rattle.omf_reloc.specs.declared.fault.ReachFault.{ReachFault}
 use Rattle.omf_reloc.specs.declared.fault.ReachFault.TheVariants as fault
-use Rattle.omf_reloc.specs.Plain.{PlainFixup, pieces}
+use Rattle.omf_reloc.specs.Plain.{Fixed, PlainFixup, pieces}
 use Rattle.omf_reloc.specs.Placement.{Places}
 use Rattle.omf_reloc.specs.Reach.{causes, reach_fault}
 use Rattle.omf_reloc.specs.Image.{image, start}
+use Rattle.omf_canon.specs.Canonical.{piece_raws}
 use Rattle.omf_canon.specs.Cut.{IsGreedyCut, cut}
 use Rattle.omf_canon.specs.Skeleton.{skeleton}
 
@@ -33,3 +35,7 @@ EqualSkeletons = (limits : Limits) (pl : Places) (m n : List Rec) → skeleton m
 -- The greedy cut of fixups is the one that is computed.
 abbrev pub CutsAreGreedy : Type 0
 CutsAreGreedy = (kind : ℕ) (fixups : List PlainFixup) (groups : List (List PlainFixup)) → IsGreedyCut kind fixups groups ↔ (groups ≡ cut kind fixups)
+
+-- Each canonical FIXUPP has at most 1,024 bytes in all.
+abbrev pub FixuppsFit : Type 0
+FixuppsFit = (kind : ℕ) (fixups : List PlainFixup) → All (λ r. length (raw_bytes r) ≤ 1024) (piece_raws (Fixed kind fixups))

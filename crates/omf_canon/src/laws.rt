@@ -1,6 +1,6 @@
 //! Laws over the definitions, each the contract of a function that does nothing.
 
-ghost use Rattle.omf_canon.specs.Laws.{EqualSkeletons, CutsAreGreedy};
+ghost use Rattle.omf_canon.specs.Laws.{EqualSkeletons, CutsAreGreedy, FixuppsFit};
 
 use omf_reloc::laws::reach_is_decided;
 
@@ -14,4 +14,9 @@ pub fn equal_skeletons()
 /// There is one greedy cut of fixups, and it is the one that is computed.
 pub fn cuts_are_greedy()
     ensures { CutsAreGreedy }
+{}
+
+/// Each canonical FIXUPP has at most 1,024 bytes.
+pub fn fixupps_fit()
+    ensures { FixuppsFit }
 {}

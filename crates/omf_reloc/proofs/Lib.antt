@@ -6,3 +6,4 @@ pub mod CutLaws
 pub mod LineLaws
 pub mod DigitLaws
 pub mod ParsingLaws
+pub mod AddedLaws

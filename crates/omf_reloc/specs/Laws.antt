@@ -1,16 +1,18 @@
 -- Laws over the definitions, each the contract of a function of the same name.
-use Rattle.std.specs.Prelude.{◌≡◌, ◌⊎◌, ◌↔◌, ℕ, ◌+◌, ◌<◌, ◌≤◌, List, Some, None, Ok, length, slice_index, All}
+use Rattle.std.specs.Prelude.{◌≡◌, ◌⊎◌, ◌↔◌, ℕ, ◌+◌, ◌<◌, ◌≤◌, List, Some, None, Ok, IsOk, ◌∷◌, ◌++◌, length, slice_index, All}
 use Rattle.std.specs.List.{AllZip}
 use Rattle.omf_records.specs.Location.{location_size}
 use Rattle.omf_records.specs.Values.{DataItem, Rec, location_type, location_offset}
 use Rattle.omf_check.specs.Tables.{externals}
+use Rattle.omf_check.specs.Threads.{PlainReference}
 use Rattle.omf_reloc.specs.declared.given.Given.{Given}
 use Rattle.omf_reloc.specs.Derive.{PlacedModule, derived}
 use Rattle.omf_reloc.specs.Entries.{Entry, Spells}
 use Rattle.omf_reloc.specs.EntryReading.{entry_said}
-use Rattle.omf_reloc.specs.Plain.{PlainFixup, pieces}
+use Rattle.omf_reloc.specs.Plain.{Piece, Kept, End, PlainFixup, pieces, fixups_of_data}
 use Rattle.omf_reloc.specs.Placement.{Places}
-use Rattle.omf_reloc.specs.Reach.{causes, all_reference_places, reach_fault, Reaches}
+use Rattle.omf_reloc.specs.Reach.{causes, data_contents, all_reference_places, reach_fault, Reaches}
+use Rattle.omf_reloc.specs.Offsets.{outcome, start_offset}
 use Rattle.omf_reloc.specs.Image.{patched}
 
 -- The location of a fixup begins and ends so in the data; it lies inside so many bytes; it is elsewhere than a byte.
@@ -51,3 +53,9 @@ pub record KeepsPlace (m : PlacedModule) (pl : Places) : Type 0 where
 
 abbrev pub DerivedFit : Type 0
 DerivedFit = (ms : List PlacedModule) (given : List Given) (pls : List Places) → derived ms given ≡ Ok pls → AllZip KeepsPlace ms pls
+
+-- Where a placement reaches, every fixup of each data record has something to add, and a start has its offset: no default is ever taken.
+pub record AllAreAdded (pl : Places) (m : List Rec) : Type 0 where
+  pub fixups : (before after : List Piece) (r : Rec) (d : DataItem) → pieces m ≡ before ++ Kept r ∷ after → data_contents r.contents ≡ Some d
+      → All (λ f. IsOk (outcome pl d f)) (fixups_of_data after)
+  pub start : (before after : List Piece) (kind byte : ℕ) (r : PlainReference) → pieces m ≡ before ++ End kind byte (Some r) ∷ after → IsOk (start_offset pl kind r)

@@ -85,11 +85,26 @@ pub enum DeriveFault {
     Memory,
     /// 2: no public has the external's name.
     #[error("an external has no public")]
-    Undefined { module: u32, external: u16 },
+    Undefined {
+        /// The module, from 0.
+        module: u32,
+        /// The index of the external in it, from 1.
+        external: u16,
+    },
     /// 3: two or more publics have the external's name.
     #[error("an external has two publics")]
-    Twice { module: u32, external: u16 },
+    Twice {
+        /// The module, from 0.
+        module: u32,
+        /// The index of the external in it, from 1.
+        external: u16,
+    },
     /// 4: the public's address is 2^32 or more.
     #[error("a public's address is too high")]
-    TooHigh { module: u32, external: u16 },
+    TooHigh {
+        /// The module, from 0.
+        module: u32,
+        /// The index of the external in it, from 1.
+        external: u16,
+    },
 }

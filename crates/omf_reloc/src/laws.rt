@@ -3,7 +3,8 @@
 ghost use Rattle.std.specs.Prelude.{List};
 ghost use Rattle.omf_records.specs.Values.{Rec};
 ghost use Rattle.omf_reloc.specs.Placement.{Places};
-ghost use Rattle.omf_reloc.specs.Laws.{PatchesStayInside, EntriesAreRead, ReachIsDecided, DerivedFit};
+ghost use Rattle.omf_reloc.specs.Reach.{Reaches};
+ghost use Rattle.omf_reloc.specs.Laws.{PatchesStayInside, EntriesAreRead, ReachIsDecided, DerivedFit, AllAreAdded};
 
 /// Fixups whose locations lie inside their data change no byte elsewhere, and keep the data's length.
 pub fn patches_stay_inside()
@@ -23,4 +24,9 @@ pub fn reach_is_decided()
 /// A derived placement has its module's segments and groups where they were placed, and an entry for each external.
 pub fn derived_fit()
     ensures { DerivedFit }
+{}
+
+/// Where a placement reaches, no fixup of a data record is left out, and a start has its offset.
+pub fn all_are_added()
+    ensures { (pl : Places) (m : List Rec) → Reaches pl m → AllAreAdded pl m }
 {}

@@ -1,0 +1,49 @@
+-- Where a placement reaches, every fixup has something to add.
+use Rattle.std.proofs.Common.{◌≡◌, ℕ, List, [], ◌∷◌, ◌++◌, refl, sym, subst}
+use Rattle.std.specs.Prelude.{All, map, Option, Some, None, Result, Ok, Err, IsOk}
+use Rattle.std.proofs.lemmas.List.Elements.{All-nil, All-cons, All-head, All-tail}
+use Rattle.std.proofs.lemmas.Option.{none-some}
+use Rattle.omf_records.specs.Values.{Rec, DataItem}
+use Rattle.omf_reloc.specs.declared.fault.Cause.{Cause}
+use Rattle.omf_reloc.specs.Laws.{AllAreAdded}
+use Rattle.omf_reloc.specs.Offsets.{outcome, start_offset, cause_of}
+use Rattle.omf_reloc.specs.Placement.{Places}
+use Rattle.omf_reloc.specs.Plain.{Piece, Kept, End, PlainFixup, fixups_of_data}
+use Rattle.omf_reloc.specs.Reach.{causes, causes_at, piece_causes, data_contents, Reaches}
+
+abbrev IsFine : Option Cause → Type 0
+IsFine c = c ≡ None
+
+left : (xs ys : List (Option Cause)) → All IsFine (xs ++ ys) → All IsFine xs
+left [] ys h = All-nil IsFine
+left (x ∷ xs) ys h = All-cons IsFine x xs (All-head IsFine x (xs ++ ys) h) (left xs ys (All-tail IsFine x (xs ++ ys) h))
+
+right : (xs ys : List (Option Cause)) → All IsFine (xs ++ ys) → All IsFine ys
+right [] ys h = h
+right (x ∷ xs) ys h = right xs ys (All-tail IsFine x (xs ++ ys) h)
+
+fine-ok : {A : Type 0} (r : Result A Cause) → cause_of r ≡ None → IsOk r
+fine-ok (Ok a) h = refl
+fine-ok (Err c) h = absurd (none-some c (sym h))
+
+fine-all : (pl : Places) (d : DataItem) (fs : List (ℕ × PlainFixup)) → All IsFine (map (λ f. cause_of (outcome pl d f)) fs) → All (λ f. IsOk (outcome pl d f)) fs
+fine-all pl d [] h = All-nil (λ f. IsOk (outcome pl d f))
+fine-all pl d (f ∷ fs) h =
+    let rest = map (λ g. cause_of (outcome pl d g)) fs in
+    All-cons (λ g. IsOk (outcome pl d g)) f fs (fine-ok (outcome pl d f) (All-head IsFine (cause_of (outcome pl d f)) rest h)) (fine-all pl d fs (All-tail IsFine (cause_of (outcome pl d f)) rest h))
+
+module _ (pl : Places) where
+  -- What holds of all causes holds of those of one piece.
+  of-piece : (before after : List Piece) (p : Piece) → All IsFine (causes pl (before ++ p ∷ after)) → All IsFine (piece_causes pl p after)
+  of-piece [] after p h = left (piece_causes pl p after) (causes pl after) h
+  of-piece (q ∷ before) after p h = of-piece before after p (right (piece_causes pl q (before ++ p ∷ after)) (causes pl (before ++ p ∷ after)) h)
+
+  of-data : (o : Option DataItem) (d : DataItem) (after : List Piece) → o ≡ Some d → All IsFine (causes_at pl o after) → All (λ f. IsOk (outcome pl d f)) (fixups_of_data after)
+  of-data o d after e h = fine-all pl d (fixups_of_data after) (subst (λ x. All IsFine (causes_at pl x after)) e h)
+
+  pub all-added : (m : List Rec) → Reaches pl m → AllAreAdded pl m
+  all-added m r = record {
+    fixups = λ before after q d e g. of-data (data_contents q.contents) d after g (of-piece before after (Kept q) (subst (λ ps. All IsFine (causes pl ps)) e r.each));
+    start = λ before after kind byte q e. fine-ok (start_offset pl kind q)
+        (All-head IsFine (cause_of (start_offset pl kind q)) [] (of-piece before after (End kind byte (Some q)) (subst (λ ps. All IsFine (causes pl ps)) e r.each)));
+  }
