@@ -12,6 +12,8 @@ mod rule;
 mod segment;
 mod session;
 mod table;
+#[cfg(test)]
+mod tests;
 mod threads;
 
 pub use checked::Checked;
