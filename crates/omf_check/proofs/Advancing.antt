@@ -1,6 +1,6 @@
 -- One step of a session: what its framer took, and what is true then.
-use Rattle.std.proofs.Common.{◌≡◌, ℕ, zero, suc, ◌+◌, ◌-◌, ◌^◌, ◌<◌, ◌≤◌, ◌⊎◌, Bool, true, false, List, [], ◌∷◌, ◌++◌, refl, sym, ◌∙◌, ap, subst, arith, length, take, inl, inr}
-use Rattle.std.specs.Prelude.{IsTrue, ◌==◌, Option, Some, None, option_map, is_none, ◌&&◌, is_some}
+use Rattle.std.proofs.Common.{◌≡◌, ℕ, zero, suc, ◌-◌, ◌^◌, ◌<◌, ◌≤◌, ◌⊎◌, Bool, true, false, List, [], ◌∷◌, ◌++◌, refl, sym, ◌∙◌, ap, subst, arith, length, take, inl, inr}
+use Rattle.std.specs.Prelude.{◌==◌, Option, Some, None, is_none, ◌&&◌}
 use Rattle.omf_frame.specs.Bytes.{AreBytes}
 use Rattle.omf_frame.specs.Framing.{Raw, raw_bytes, IsRecord, is_whole, front_record, frame_fault}
 use Rattle.omf_frame.specs.Framer.{Held, passed, stands, FailsAs, IsCause}
@@ -17,8 +17,8 @@ use Rattle.omf_check.specs.declared.profile.Profile.{Profile}
 use Rattle.omf_check.specs.Judging.{raw_fault, rec_of}
 use Rattle.omf_check.specs.Kept.{Kept, IsBounded, with_record}
 use Rattle.omf_check.specs.Refusal.{IsRefused}
-use Rattle.omf_check.specs.Session.{IsPassing, Fails, framing_fault, IsStopped, refused_at}
-use Rattle.omf_check.proofs.Moving.{more_goes_on, not_ended, passes, start_bound, number_bound}
+use Rattle.omf_check.specs.Session.{IsPassing, Fails, framing_fault, IsStopped}
+use Rattle.omf_check.proofs.Moving.{more_goes_on, passes, start_bound, number_bound}
 use Rattle.omf_check.proofs.Passing.{framer_refuses, record_refuses}
 
 append_small : (xs ys : List ℕ) → AreBytes xs → AreBytes ys → AreBytes (xs ++ ys)

@@ -1,20 +1,18 @@
 -- What a check answers, from what its session answers.
-use Rattle.std.proofs.Common.{◌≡◌, ℕ, zero, suc, ◌+◌, ◌-◌, ◌^◌, ◌<◌, ◌≤◌, ◌⊎◌, Bool, true, false, List, [], ◌∷◌, ◌++◌, Result, Ok, Err, refl, sym, ◌∙◌, ap, subst, arith, append_assoc, length, take, min, inl, inr}
-use Rattle.std.specs.Prelude.{IsTrue, Option, Some, None, is_some, ◌||◌, cond, IfErr}
+use Rattle.std.proofs.Common.{◌≡◌, ℕ, ◌<◌, ◌≤◌, ◌⊎◌, Bool, true, false, List, [], ◌++◌, Result, Ok, Err, refl, sym, ◌∙◌, ap, subst, arith, append_assoc, length, take, min, inl, inr}
+use Rattle.std.specs.Prelude.{Option, Some, None, is_some, ◌||◌, cond, IfErr}
 use Rattle.std.specs.Io.KnownBytes.{Consumes, IsAtEnd}
 use Rattle.std.proofs.lemmas.List.{append-nil, length-take}
 use Rattle.std.proofs.Math.Seq.{take-length}
 use Rattle.omf_frame.specs.Framing.{wanted}
-use Rattle.omf_frame.specs.declared.fault.Place.{Place}
-use Rattle.omf_frame.specs.declared.fault.Reason.{Reason}
 use Rattle.omf_image.specs.Limits.{profile_limits}
 use Rattle.omf_check.specs.declared.fault.CheckFault.{CheckFault}
 use Rattle.omf_check.specs.declared.fault.CheckFault.TheVariants as check
 use Rattle.omf_check.specs.declared.profile.Profile.{Profile}
-use Rattle.omf_check.specs.Checking.{Decides, IsCheckFault, IsReadTo}
+use Rattle.omf_check.specs.Checking.{Decides, IsCheckFault}
 use Rattle.omf_check.specs.Module.{Module, records_in}
 use Rattle.omf_check.specs.Refusal.{IsRefused}
-use Rattle.omf_check.specs.Session.{Seen, IsOpen, IsModule, Takes, FailsAs, IsCause, Finishes, IsEndFault, want_of, may_go_on}
+use Rattle.omf_check.specs.Session.{Seen, IsOpen, Takes, FailsAs, IsCause, Finishes, IsEndFault, want_of}
 use Rattle.omf_check.specs.WellFormed.{IsAccepted, IsWellFormed}
 use Rattle.omf_check.proofs.SessionLaws.{records_of}
 

@@ -1,9 +1,9 @@
 -- The fault computed from what is kept is the least fault of the rules.
-use Rattle.std.proofs.Common.{◌≡◌, ℕ, zero, suc, ◌+◌, ◌-◌, ◌<◌, ◌≤◌, Bool, true, false, List, [], ◌∷◌, ◌++◌, Result, Ok, Err, refl, sym, ◌∙◌, ap, subst, arith, length, map, append_assoc, inl, inr}
+use Rattle.std.proofs.Common.{◌≡◌, ℕ, zero, suc, ◌+◌, ◌-◌, ◌<◌, ◌≤◌, Bool, true, false, List, [], ◌∷◌, ◌++◌, refl, sym, ◌∙◌, ap, subst, arith, length, map, append_assoc, inl, inr}
 use Rattle.std.specs.Prelude.{Option, Some, None, option_map, unwrap_or, cond, ◌||◌, ◌==◌, not, nat_lt, nat_le}
 use Rattle.std.specs.List.{enumerate_from}
 use Rattle.std.proofs.lemmas.Bool.Decides.{leb_tells, eqb_tells}
-use Rattle.std.proofs.lemmas.Bool.{le-leb, eqb-true}
+use Rattle.std.proofs.lemmas.Bool.{le-leb}
 use Rattle.std.proofs.lemmas.List.{append-nil, map-append}
 use Rattle.omf_frame.specs.Bytes.{with_before}
 use Rattle.omf_frame.specs.Fault.{Fault, Rule, rule}
@@ -16,12 +16,12 @@ use Rattle.omf_image.specs.declared.limits.Limits.{Limits}
 use Rattle.omf_check.specs.declared.profile.Profile.{Profile}
 use Rattle.omf_check.specs.declared.threads.Threads.{Threads}
 use Rattle.omf_check.specs.declared.segment.SegInfo.{SegInfo}
-use Rattle.omf_check.specs.Tables.{names, segments, groups, externals, item_count, subrecords, last_data, entry, is_defined, is_none_or_defined}
-use Rattle.omf_check.specs.Threads.{Setting, setting, thread, FrameMethod, F0, F1, F2, F4, F5, TargetMethod, T0, T1, T2, frame_from, target_from, frame_setting, target_setting, frame_of, target_of}
-use Rattle.omf_check.specs.Rules.{table_limit, item_limit, room, places, item_places, names_entry, names_entry_or_none, comment_rules, data_rules, frame_rules, target_rules, judged_at, reference_rules, location_rule, subrecord_rules, subrecord_rules_at, is_location_frame, start_rules, contents_rules, rules}
-use Rattle.omf_check.specs.Kept.{Kept, Tells, HasThreads, cell, set_thread, last_kept}
-use Rattle.omf_check.specs.Judging.{fault_unless, lesser, room_fault, entry_fault, optional_fault, comment_fault, kept_length, data_fault, index_fault, frame_fault, target_fault, frame_cell, target_cell, reference_fault, location_fault, subrecord_fault, subrecords_fault, is_location_cell, start_fault, members_fault, segment_fault, group_fault, base_fault, contents_fault}
-use Rattle.omf_check.proofs.Lesser.{fault_of, fault_append, fault_one, fault_cons, lesser_none, lesser_assoc}
+use Rattle.omf_check.specs.Tables.{names, segments, groups, externals, item_count, subrecords, last_data, is_defined, is_none_or_defined}
+use Rattle.omf_check.specs.Threads.{Setting, setting, F0, F1, F2, F4, F5, T0, T1, T2, frame_from, target_from, frame_setting, target_setting, frame_of, target_of}
+use Rattle.omf_check.specs.Rules.{table_limit, item_limit, room, places, item_places, names_entry, names_entry_or_none, data_rules, frame_rules, target_rules, judged_at, reference_rules, location_rule, subrecord_rules, subrecord_rules_at, is_location_frame, start_rules, contents_rules, rules}
+use Rattle.omf_check.specs.Kept.{Kept, Tells, HasThreads, set_thread, last_kept}
+use Rattle.omf_check.specs.Judging.{fault_unless, lesser, room_fault, optional_fault, kept_length, data_fault, index_fault, frame_fault, target_fault, frame_cell, target_cell, reference_fault, location_fault, subrecord_fault, subrecords_fault, is_location_cell, start_fault, members_fault, contents_fault}
+use Rattle.omf_check.proofs.Lesser.{fault_of, fault_append, fault_one, fault_cons}
 use Rattle.omf_check.proofs.KeptLaws.{threads_more}
 
 -- Room.

@@ -1,6 +1,6 @@
 -- What is kept goes on telling the records before, one record after another.
-use Rattle.std.proofs.Common.{◌≡◌, ℕ, zero, suc, ◌+◌, ◌-◌, ◌<◌, ◌≤◌, ◌≢◌, Bool, true, false, List, [], ◌∷◌, ◌++◌, refl, sym, ◌∙◌, ap, subst, arith, append_assoc, length, map, get_or, set, inl, inr, take, length-append}
-use Rattle.std.specs.Prelude.{Option, Some, None, option_map, flat_map, sum_by, cond, ◌&&◌, ◌==◌, max}
+use Rattle.std.proofs.Common.{◌≡◌, ℕ, zero, suc, ◌+◌, ◌<◌, ◌≢◌, Bool, true, false, List, [], ◌∷◌, ◌++◌, refl, sym, ◌∙◌, ap, subst, arith, append_assoc, length, map, get_or, set, inl, inr, length-append}
+use Rattle.std.specs.Prelude.{Option, Some, None, option_map, flat_map, sum_by, cond, ◌&&◌, ◌==◌}
 use Rattle.std.specs.Option.{option_or}
 use Rattle.std.proofs.lemmas.Bool.Decides.{eqb_tells}
 use Rattle.std.proofs.lemmas.List.{append-nil, get_or-set_same, get_or-set_other, length-map}
@@ -10,11 +10,10 @@ use Rattle.std.proofs.lemmas.Grind.{flat_map-append}
 use Rattle.std.specs.List.{last_or}
 use Rattle.omf_frame.specs.Bytes.{last}
 use Rattle.omf_records.specs.Values.{At, Rec, Contents, Names, Segment, Group, Externs, Communals, Plain, Iterated, Fixups, Subrecord, Thread, Fixup, thread_is_frame, thread_method, thread_number}
-use Rattle.omf_check.specs.Tables.{names, segments, groups, externals, item_count, items_in, subrecords, subrecords_in, last_data, data_in, defined_names, defined_segments, defined_groups, defined_externals, segment_info}
+use Rattle.omf_check.specs.Tables.{names, groups, externals, item_count, items_in, subrecords, subrecords_in, data_in, defined_names, defined_segments, defined_groups, defined_externals}
 use Rattle.omf_check.specs.Threads.{Setting, setting, setting_of, same, thread}
 use Rattle.omf_check.specs.Kept.{Kept, Tells, HasThreads, cell, set_thread, set_threads, no_threads, nothing_kept, with_contents, with_record, starts, last_kept}
 use Rattle.omf_check.specs.declared.threads.Threads.{Threads}
-use Rattle.omf_check.specs.declared.last_data.LastData.{LastData}
 use Rattle.omf_check.proofs.CellLaws.{thread-append, few_numbers}
 
 -- Cells: one more subrecord.

@@ -1,6 +1,6 @@
 -- The lesser of faults: the least of several, however they are grouped.
-use Rattle.std.proofs.Common.{◌≡◌, ℕ, zero, suc, ◌+◌, ◌*◌, ◌-◌, ◌<◌, ◌≤◌, List, [], ◌∷◌, ◌++◌, refl, sym, ◌∙◌, ap, arith, Bool, true, false, inl, inr, lit<}
-use Rattle.std.specs.Prelude.{cond, IsTrue, ◌||◌, ◌&&◌, nat_lt, nat_le, ◌==◌, Option, Some, None, ◌⊎◌}
+use Rattle.std.proofs.Common.{◌≡◌, ℕ, suc, ◌+◌, ◌*◌, ◌-◌, ◌<◌, ◌≤◌, List, [], ◌∷◌, ◌++◌, refl, sym, ◌∙◌, ap, arith, Bool, true, false, inl, inr, lit<}
+use Rattle.std.specs.Prelude.{cond, ◌||◌, ◌&&◌, nat_lt, nat_le, ◌==◌, Option, Some, None, ◌⊎◌}
 use Rattle.std.proofs.lemmas.Bool.{leb-true, le-leb, eqb-true, eq-eqb}
 use Rattle.std.proofs.lemmas.Bool.Decides.{leb_tells}
 use Rattle.omf_frame.specs.declared.fault.Reason.{Reason}

@@ -16,4 +16,5 @@ pub mod Moving
 pub mod Advancing
 pub mod SessionLaws
 pub mod CheckLaws
+pub mod ListedLaws
 pub mod LimitLaws

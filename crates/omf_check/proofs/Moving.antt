@@ -1,21 +1,21 @@
 -- A session at its start, with more bytes of a record, and with a record passed.
-use Rattle.std.proofs.Common.{◌≡◌, ℕ, zero, suc, ◌+◌, ◌-◌, ◌*◌, ◌^◌, ◌<◌, ◌≤◌, ◌⊎◌, Bool, true, false, List, [], ◌∷◌, ◌++◌, refl, sym, ◌∙◌, ap, subst, arith, append_assoc, length, map, take, inl, inr, length-append}
-use Rattle.std.specs.Prelude.{All, flat_map, IsTrue, not, ◌==◌, cond, Option, Some, None, option_map, slice_index, is_some, is_none, ◌&&◌, sum_by, max}
+use Rattle.std.proofs.Common.{◌≡◌, ℕ, suc, ◌+◌, ◌*◌, ◌^◌, ◌<◌, ◌≤◌, Bool, true, false, List, [], ◌∷◌, ◌++◌, refl, sym, ◌∙◌, ap, subst, arith, append_assoc, length, take, length-append}
+use Rattle.std.specs.Prelude.{All, flat_map, IsTrue, not, ◌==◌, cond, None, slice_index, is_none, ◌&&◌, sum_by, max}
 use Rattle.std.proofs.lemmas.List.{append-nil, map-append}
 use Rattle.std.proofs.lemmas.List.Sums.{sum_by-append}
 use Rattle.omf_frame.specs.Bytes.{AreBytes}
-use Rattle.omf_frame.specs.Fault.{least, first_step}
-use Rattle.omf_frame.specs.Framing.{Raw, raw_bytes, IsRecord, is_end, is_whole, present, front_record, frame_steps, frame_fault, standing_fault}
+use Rattle.omf_frame.specs.Fault.{first_step}
+use Rattle.omf_frame.specs.Framing.{Raw, raw_bytes, IsRecord, is_end, is_whole, present, front_record, frame_steps, frame_fault}
 use Rattle.omf_frame.specs.Framer.{Held, at_start, passed, stands}
 use Rattle.omf_frame.specs.Framer.{next_bytes as next_of, Takes as FramerTakes}
 use Rattle.omf_frame.proofs.StepLaws.{least_none, clean_steps}
 use Rattle.omf_records.specs.Reading.{typed}
-use Rattle.omf_records.specs.Values.{Contents, Fixups, Names, At, Subrecord}
+use Rattle.omf_records.specs.Values.{Contents, Fixups, Names}
 use Rattle.omf_image.specs.Limits.{profile_limits}
 use Rattle.omf_check.specs.declared.profile.Profile.{Profile}
 use Rattle.omf_check.specs.Judging.{raw_fault, rec_of}
 use Rattle.omf_check.specs.Kept.{Kept, Tells, IsBounded, nothing_kept, with_record}
-use Rattle.omf_check.specs.Refusal.{faults_after, steps, record_steps, is_empty}
+use Rattle.omf_check.specs.Refusal.{steps, record_steps, is_empty}
 use Rattle.omf_check.specs.Tables.{item_count, items_in}
 use Rattle.omf_check.specs.WellFormed.{recs, IsWellFormed}
 use Rattle.omf_check.specs.Session.{IsPassing}
@@ -23,7 +23,7 @@ use Rattle.omf_check.proofs.KeptLaws.{tells_more, nothing_tells}
 use Rattle.omf_check.proofs.Passing.{first_none, first_number, bodies_of, flat_more, all_more}
 use Rattle.omf_check.proofs.RecordLaws.{raw_law}
 use Rattle.omf_check.proofs.UniqueLaws.{AreSound}
-use Rattle.omf_check.proofs.VerdictLaws.{all_none, sound_none, sound_more, sound_module}
+use Rattle.omf_check.proofs.VerdictLaws.{all_none, sound_more, sound_module}
 
 clash : true ≡ false → ⊥
 clash e = cc
@@ -68,7 +68,7 @@ all_head P r rs h = h 0 r (omega arith)
 all_tail : (P : Raw → Type 0) (r : Raw) (rs : List Raw) → All P (r ∷ rs) → All P rs
 all_tail P r rs h k d low = let more : suc k < length (r ∷ rs) = omega arith in h (suc k) d more
 
-records_size : (rs : List Raw) → All IsRecord rs → length (flat_map raw_bytes rs) ≤ 65538 * length rs
+pub records_size : (rs : List Raw) → All IsRecord rs → length (flat_map raw_bytes rs) ≤ 65538 * length rs
 records_size [] h = omega arith
 records_size (r ∷ rs) h =
     let one = record_size r (all_head IsRecord r rs h) in
@@ -87,7 +87,7 @@ one_item (Fixups subs) = by (length subs)
 one_item (Names items) = omega arith
 one_item _ = omega arith
 
-item_more : (rs : List Raw) → length rs ≤ item_count (recs rs)
+pub item_more : (rs : List Raw) → length rs ≤ item_count (recs rs)
 item_more [] = omega arith
 item_more (r ∷ rs) =
     let e : item_count (recs (r ∷ rs)) ≡ sum_by (λ x. items_in x.contents) (typed r ∷ []) + sum_by (λ x. items_in x.contents) (recs rs) = sum_by-append (λ x. items_in x.contents) (typed r ∷ []) (recs rs) in

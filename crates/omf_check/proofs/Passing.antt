@@ -1,44 +1,36 @@
 -- A session passes records: what is true of it stays true, and what it refuses is refused.
-use Rattle.std.proofs.Common.{◌≡◌, ℕ, zero, suc, ◌+◌, ◌-◌, ◌*◌, ◌^◌, ◌<◌, ◌≤◌, ◌⊎◌, Bool, true, false, List, [], ◌∷◌, ◌++◌, refl, sym, ◌∙◌, ap, subst, arith, append_assoc, length, map, take, inl, inr, length-append}
-use Rattle.std.specs.Prelude.{All, flat_map, IsTrue, not, ◌==◌, cond, Option, Some, None, option_map, slice_index, is_some, is_none, ◌&&◌, sum_by, max}
-use Rattle.std.proofs.lemmas.List.{append-nil, map-append}
+use Rattle.std.proofs.Common.{◌≡◌, ℕ, suc, ◌+◌, ◌*◌, ◌^◌, ◌<◌, Bool, true, false, List, [], ◌∷◌, ◌++◌, refl, sym, ◌∙◌, ap, subst, arith, append_assoc, length, inl, inr}
+use Rattle.std.specs.Prelude.{All, flat_map, IsTrue, ◌==◌, cond, Option, Some, None, option_map}
+use Rattle.std.proofs.lemmas.List.{append-nil}
 use Rattle.std.proofs.lemmas.Bool.{ne_eqb}
 use Rattle.std.proofs.lemmas.Bool.Decides.{leb_tells}
 use Rattle.std.proofs.lemmas.Grind.{flat_map-append}
 use Rattle.std.proofs.lemmas.List.Elements.{All-append}
-use Rattle.std.proofs.lemmas.List.Sums.{sum_by-append}
 use Rattle.omf_frame.specs.Bytes.{AreBytes}
 use Rattle.omf_frame.specs.Fault.{Fault, IsLeast, least, least_or, first_step}
-use Rattle.omf_frame.specs.Framing.{Raw, raw_bytes, IsRecord, is_end, is_end_of_input, is_whole, wanted, present, front_record, frame_steps, frame_fault, standing_fault, lasting}
-use Rattle.omf_frame.specs.Framer.{Held, passed, refused, stands}
-use Rattle.omf_frame.specs.Framer.{next_bytes as next_of, Takes as FramerTakes, want_of as framer_want}
+use Rattle.omf_frame.specs.Framing.{Raw, raw_bytes, is_end_of_input, is_whole, wanted, present, front_record, frame_steps, frame_fault, standing_fault, lasting}
+use Rattle.omf_frame.specs.Framer.{Held, refused}
+use Rattle.omf_frame.specs.Framer.{next_bytes as next_of}
 use Rattle.omf_frame.specs.declared.fault.FrameFault.TheVariants as frame
-use Rattle.omf_frame.specs.declared.fault.FrameFault.{FrameFault}
 use Rattle.omf_frame.specs.declared.fault.Place.{Place}
 use Rattle.omf_frame.specs.declared.fault.Reason.{Reason}
-use Rattle.omf_frame.specs.declared.fault.Reason.TheVariants as reason
 use Rattle.omf_frame.proofs.FaultLaws.{least_is_least, all_cons}
 use Rattle.omf_frame.proofs.FramingLaws.{present-append}
 use Rattle.omf_frame.proofs.Standing.{present_twice, present_part, whole_present, standing_stays}
-use Rattle.omf_frame.proofs.StepLaws.{least_none, clean_steps, framed_of}
-use Rattle.omf_records.specs.Reading.{typed}
+use Rattle.omf_frame.proofs.StepLaws.{clean_steps, framed_of}
 use Rattle.omf_records.specs.Steps.{AreBytes-front, AreBytes-back}
-use Rattle.omf_records.specs.Values.{Rec}
 use Rattle.omf_image.specs.Limits.{profile_limits}
-use Rattle.omf_check.specs.declared.fault.CheckFault.{CheckFault}
 use Rattle.omf_check.specs.declared.fault.CheckFault.TheVariants as check
 use Rattle.omf_check.specs.declared.profile.Profile.{Profile}
-use Rattle.omf_check.specs.Judging.{raw_fault, rec_of}
-use Rattle.omf_check.specs.Kept.{Kept, Tells, IsBounded, with_record}
-use Rattle.omf_check.specs.Refusal.{IsRefused, faults_after, steps, record_steps, is_empty, place_after}
-use Rattle.omf_check.specs.Tables.{item_count, items_in}
-use Rattle.omf_check.specs.WellFormed.{recs, IsWellFormed, IsAccepted}
+use Rattle.omf_check.specs.Judging.{raw_fault}
+use Rattle.omf_check.specs.Kept.{Kept}
+use Rattle.omf_check.specs.Refusal.{IsRefused, faults_after, record_steps, is_empty}
+use Rattle.omf_check.specs.WellFormed.{IsAccepted}
 use Rattle.omf_check.specs.Session.{IsPassing, Seen, IsOpen, IsModule, may_go_on, refused_at}
 use Rattle.omf_check.proofs.AcceptLaws.{never_both}
-use Rattle.omf_check.proofs.KeptLaws.{tells_more, nothing_tells}
 use Rattle.omf_check.proofs.RecordLaws.{raw_law}
-use Rattle.omf_check.proofs.UniqueLaws.{AreSound, refused_once}
-use Rattle.omf_check.proofs.VerdictLaws.{all_none, sound_none, sound_more, sound_module}
+use Rattle.omf_check.proofs.UniqueLaws.{refused_once}
+use Rattle.omf_check.proofs.VerdictLaws.{all_none}
 
 -- Least faults.
 some_same : {A : Type 0} (x y : A) → ◌≡◌ {A = Option A} (Some x) (Some y) → x ≡ y

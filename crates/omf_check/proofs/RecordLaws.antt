@@ -1,23 +1,23 @@
 -- The fault that is computed for a record is the least of the first of its steps that has one.
-use Rattle.std.proofs.Common.{◌≡◌, ℕ, zero, suc, ◌+◌, ◌-◌, ◌<◌, ◌≤◌, Bool, true, false, List, [], ◌∷◌, ◌++◌, Result, Ok, Err, refl, sym, ◌∙◌, ap, subst, arith, length, map, length-append}
+use Rattle.std.proofs.Common.{◌≡◌, ℕ, suc, ◌+◌, ◌-◌, ◌≤◌, Bool, true, false, List, [], ◌∷◌, ◌++◌, Result, Ok, Err, refl, sym, ◌∙◌, ap, arith, length, length-append}
 use Rattle.std.proofs.lemmas.List.{length-map}
 use Rattle.std.proofs.lemmas.Bool.{leb-true}
-use Rattle.std.specs.Prelude.{Option, Some, None, option_map, cond, ◌==◌, nat_le, nat_lt, max}
-use Rattle.omf_frame.specs.Fault.{Fault, Rule, rule, broken, least, least_or, first_step}
+use Rattle.std.specs.Prelude.{Option, Some, None, cond, nat_le, nat_lt}
+use Rattle.omf_frame.specs.Fault.{Fault, Rule, rule, broken, least, first_step}
 use Rattle.omf_frame.specs.Framing.{Raw}
 use Rattle.omf_frame.specs.declared.fault.Reason.TheVariants as reason
-use Rattle.omf_records.specs.Values.{At, Rec, Contents, Header, Names, Segment, Group, Externs, Communals, Plain, Iterated, Fixups, DataItem, Subrecord, width}
-use Rattle.omf_records.specs.Reading.{read_body, typed, layout_faults, fault_list, contents_or}
+use Rattle.omf_records.specs.Values.{At, Rec, Contents, Names, Segment, Group, Externs, Communals, Plain, Iterated, Fixups, width}
+use Rattle.omf_records.specs.Reading.{read_body, fault_list, contents_or}
 use Rattle.omf_image.specs.Blocks.{Blocks, blocks_size}
-use Rattle.omf_image.specs.Expanding.{read_blocks, blocks_or_none, blocks_of, faults_of, length_or, expanded_length}
+use Rattle.omf_image.specs.Expanding.{read_blocks, blocks_of, faults_of, length_or}
 use Rattle.omf_image.specs.declared.limits.Limits.{Limits}
 use Rattle.omf_check.specs.declared.profile.Profile.{Profile}
-use Rattle.omf_check.specs.Tables.{items_in, defined_names}
+use Rattle.omf_check.specs.Tables.{items_in}
 use Rattle.omf_check.specs.Rules.{rules, item_limit, table_limit, item_places, places}
 use Rattle.omf_check.specs.WellFormed.{recs}
-use Rattle.omf_check.specs.Refusal.{moved, fault_from, short_or_deep, too_long, record_steps}
+use Rattle.omf_check.specs.Refusal.{moved, short_or_deep, too_long, record_steps}
 use Rattle.omf_check.specs.Kept.{Kept, Tells, IsBounded, with_record, with_contents, starts}
-use Rattle.omf_check.specs.Judging.{fault_unless, lesser, room_fault, contents_fault, placed, data_size, judged_by_size, record_fault, raw_fault, read_fault, segment_fault, group_fault}
+use Rattle.omf_check.specs.Judging.{fault_unless, lesser, room_fault, contents_fault, placed, data_size, judged_by_size, record_fault, raw_fault, read_fault}
 use Rattle.omf_check.proofs.Lesser.{fault_of}
 use Rattle.omf_check.proofs.JudgeLaws.{rules_law}
 

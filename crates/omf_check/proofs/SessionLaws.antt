@@ -1,23 +1,18 @@
 -- What a session's calls answer.
-use Rattle.std.proofs.Common.{◌≡◌, ℕ, zero, suc, ◌+◌, ◌^◌, ◌<◌, ◌≤◌, ◌⊎◌, Bool, true, false, List, [], ◌∷◌, ◌++◌, Result, Ok, Err, refl, sym, ◌∙◌, ap, subst, arith, append_assoc, length, take, min, inl, inr, length-append}
-use Rattle.std.specs.Prelude.{All, flat_map, IsTrue, ◌==◌, Option, Some, None, is_some, cond}
+use Rattle.std.proofs.Common.{◌≡◌, ℕ, zero, suc, ◌+◌, ◌<◌, ◌≤◌, Bool, true, false, List, [], ◌∷◌, ◌++◌, Result, Ok, Err, refl, sym, ◌∙◌, ap, subst, arith, length, min, length-append}
+use Rattle.std.specs.Prelude.{All, flat_map, ◌==◌, Option, Some, None, is_some, cond}
 use Rattle.omf_frame.specs.Fault.{Fault}
-use Rattle.omf_frame.specs.Framing.{Raw, raw_bytes, IsRecord, IsFramed, frame_fault, present, front_record, after_front}
+use Rattle.omf_frame.specs.Framing.{Raw, raw_bytes, IsRecord, IsFramed, frame_fault, front_record, after_front}
 use Rattle.omf_frame.specs.Framer.{Held, at_start, stop_of, refused}
 use Rattle.omf_frame.specs.Framer.{want_of as framer_want}
 use Rattle.omf_frame.specs.declared.fault.FrameFault.{FrameFault}
-use Rattle.omf_frame.specs.declared.fault.FrameFault.TheVariants as frame
-use Rattle.omf_frame.specs.declared.fault.Place.{Place}
-use Rattle.omf_frame.specs.declared.fault.Reason.{Reason}
 use Rattle.omf_frame.proofs.FramingLaws.{present_raw, front_raw, after_raw}
 use Rattle.omf_image.specs.Limits.{profile_limits}
 use Rattle.omf_check.specs.declared.fault.CheckFault.{CheckFault}
-use Rattle.omf_check.specs.declared.fault.CheckFault.TheVariants as check
 use Rattle.omf_check.specs.declared.profile.Profile.{Profile}
 use Rattle.omf_check.specs.Kept.{Kept, Tells, nothing_kept}
 use Rattle.omf_check.specs.Module.{records_from, records_in, IsChecked}
 use Rattle.omf_check.specs.WellFormed.{IsWellFormed, recs}
-use Rattle.omf_check.specs.Refusal.{IsRefused}
 use Rattle.omf_check.specs.Session.{Seen, IsOpen, IsPassing, IsState, Moves, Takes, framing_fault, IsEndFault}
 use Rattle.omf_check.proofs.Moving.{taken_bound, started}
 use Rattle.omf_check.proofs.Passing.{open_here, stopped, early}
@@ -90,7 +85,7 @@ first_of P r rs h = h 0 r (omega arith)
 rest_of : (P : Raw → Type 0) (r : Raw) (rs : List Raw) → All P (r ∷ rs) → All P rs
 rest_of P r rs h k d low = let more : suc k < length (r ∷ rs) = omega arith in h (suc k) d more
 
-split_all : (n : ℕ) (rs : List Raw) → All IsRecord rs → length (flat_map raw_bytes rs) ≤ n → records_from n (flat_map raw_bytes rs) ≡ rs
+pub split_all : (n : ℕ) (rs : List Raw) → All IsRecord rs → length (flat_map raw_bytes rs) ≤ n → records_from n (flat_map raw_bytes rs) ≡ rs
 split_all zero [] h low = refl
 split_all (suc n) [] h low = refl
 split_all zero (r ∷ rs) h low =

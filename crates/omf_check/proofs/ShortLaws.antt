@@ -1,13 +1,11 @@
 -- The blocks of an LIDATA lie in its record.
-use Rattle.std.proofs.Common.{◌≡◌, ℕ, ◌+◌, ◌≤◌, Bool, true, false, List, [], ◌∷◌, ◌++◌, Result, Ok, Err, refl, sym, ◌∙◌, ap, subst, arith, length, length-append}
+use Rattle.std.proofs.Common.{◌≡◌, ℕ, ◌+◌, ◌≤◌, Bool, true, false, List, [], ◌∷◌, sym, ◌∙◌, ap, subst, arith, length, length-append}
 use Rattle.std.specs.Prelude.{◌==◌, ⊤}
-use Rattle.omf_frame.specs.Bytes.{AreBytes, is_one_of}
+use Rattle.omf_frame.specs.Bytes.{is_one_of}
 use Rattle.omf_frame.specs.Framing.{is_header, is_end}
 use Rattle.omf_records.specs.Values.{Contents, Header, Plain, Iterated, is_wide}
 use Rattle.omf_records.specs.Layout.{Layout, called, either}
 use Rattle.omf_records.specs.Records.{contents, header, comment, names, segment, group, externs, publics, communals, data_item, fixups, mod_end, carried}
-use Rattle.omf_records.specs.Reading.{read_body}
-use Rattle.omf_records.specs.RecordReaders.{contents_whole}
 use Rattle.omf_check.specs.Judging.{IsShort}
 
 abbrev IsIn : ℕ → ℕ → Contents → Type 0

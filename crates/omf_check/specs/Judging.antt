@@ -5,7 +5,7 @@ use Rattle.omf_frame.specs.declared.fault.Reason.{Reason}
 use Rattle.omf_frame.specs.declared.fault.Reason.TheVariants as reason
 use Rattle.omf_records.specs.Location.{location_size}
 use Rattle.omf_records.specs.Reading.{read_body, contents_or}
-use Rattle.omf_records.specs.Values.{At, Rec, Contents, Header, Comment, Names, Segment, Group, Externs, Publics, Communals, Plain, Iterated, Fixups, ModEnd, Carried, SegmentItem, GroupItem, Subrecord, Thread, Fixup, Reference, width, location_type, location_offset, frame_by_thread, frame_thread, frame_bits, target_by_thread, target_bits}
+use Rattle.omf_records.specs.Values.{At, Rec, Contents, Comment, Names, Segment, Group, Externs, Publics, Communals, Plain, Iterated, Fixups, ModEnd, SegmentItem, GroupItem, Subrecord, Thread, Fixup, Reference, width, location_type, location_offset, frame_by_thread, frame_thread, frame_bits, target_by_thread, target_bits}
 use Rattle.omf_image.specs.Expanding.{expanded_length}
 use Rattle.omf_image.specs.declared.limits.Limits.{Limits}
 use Rattle.omf_check.specs.Tables.{is_defined, is_none_or_defined, entry}

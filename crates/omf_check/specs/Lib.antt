@@ -8,6 +8,7 @@ pub mod Refusal
 pub mod Judging
 pub mod Verdict
 pub mod Module
+pub mod Listed
 pub mod Session
 pub mod Checking
 pub mod Laws

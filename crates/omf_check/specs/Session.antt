@@ -1,5 +1,5 @@
 -- What is seen of a session, and what its calls do.
-use Rattle.std.specs.Prelude.{◌≡◌, ◌⊎◌, ◌≤◌, ◌<◌, ◌^◌, ◌*◌, IsTrue, ⊤, ℕ, ◌+◌, Bool, true, false, not, ◌||◌, ◌==◌, is_some, min, if◌then◌else◌, List, [], ◌∷◌, ◌++◌, length, take, flat_map, All, Option, Some, None, option_map, Result, Ok, Err}
+use Rattle.std.specs.Prelude.{◌≡◌, ◌⊎◌, ◌≤◌, ◌<◌, ◌^◌, IsTrue, ⊤, ℕ, Bool, true, false, not, ◌||◌, ◌==◌, is_some, min, if◌then◌else◌, List, [], ◌∷◌, ◌++◌, length, take, flat_map, All, Option, Some, None, option_map, Result, Ok, Err}
 use Rattle.omf_frame.specs.Bytes.{AreBytes}
 use Rattle.omf_frame.specs.Fault.{Fault}
 use Rattle.omf_frame.specs.Framer.{Held}

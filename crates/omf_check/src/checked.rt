@@ -3,10 +3,12 @@
 ghost use Rattle.std.specs.Prelude.{◌≡◌, length};
 ghost use Rattle.omf_image.specs.Limits.{profile_limits};
 ghost use Rattle.omf_check.specs.Module.{records_in, IsChecked};
+ghost use Rattle.omf_check.specs.Listed.{placed_from};
 ghost use Rattle.omf_check.specs.Tables.{names, segments, groups, externals, entry};
 ghost use Rattle.omf_check.specs.WellFormed.{recs, IsWellFormed};
 
 use crate::profile::Profile;
+use crate::records::Records;
 use crate::segment::SegInfo;
 use crate::table::Tables;
 use std::marker::Model;
@@ -89,5 +91,12 @@ impl Checked {
         ensures { result ≡ entry (segments (recs (records_in self.now.bytes))) i }
     {
         self.tables.segment(i)
+    }
+
+    /// The records, one after another, each with its place (in which `within` is 0).
+    pub fn records(&self) -> Records<'_>
+        ensures { result ≡ placed_from 0 0 (records_in self.now.bytes) }
+    {
+        Records::new(&self.bytes)
     }
 }

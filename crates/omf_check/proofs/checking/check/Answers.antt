@@ -1,4 +1,4 @@
-use Rattle.std.proofs.Common.{◌≡◌, ◌∙◌, ◌≤◌, ◌<◌, sym, ap, subst, length, take, arith}
+use Rattle.std.proofs.Common.{◌∙◌, take, arith}
 use Rattle.std.proofs.lemmas.Result.{err_from_is_err_and}
 use Rattle.omf_check.specs.Session.{want_of}
 use Rattle.omf_check.proofs.CheckLaws.{none_wanted, piece_low, consumes_none, finish_ended, finish_decides, finish_err, feed_decides, feed_cause, feed_consumes}

@@ -1,4 +1,4 @@
-use Rattle.std.proofs.Common.{◌≡◌, ◌∙◌, sym, ap}
+use Rattle.std.proofs.Common.{◌∙◌, ap}
 use Rattle.omf_frame.specs.declared.fault.Reason.TheVariants.{UndefinedSegment}
 use Rattle.omf_check.specs.Judging.{lesser, entry_fault, members_fault}
 use Rattle.omf_check.proofs.Lesser.{lesser_more}

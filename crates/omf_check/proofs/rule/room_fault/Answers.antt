@@ -1,4 +1,4 @@
-use Rattle.std.proofs.Common.{◌≡◌, ◌∙◌, ap}
+use Rattle.std.proofs.Common.{◌∙◌, ap}
 use Rattle.std.specs.Prelude.{nat_lt}
 use Rattle.omf_frame.specs.declared.fault.Reason.TheVariants.{TooMany}
 use Rattle.omf_check.specs.Judging.{fault_unless}

@@ -1,4 +1,4 @@
-use Rattle.std.proofs.Common.{◌≡◌, ◌∙◌, sym, ap, subst, arith}
+use Rattle.std.proofs.Common.{sym, subst, arith}
 use Rattle.std.proofs.lemmas.Result.{err_from_is_err_and}
 use Rattle.omf_check.specs.Session.{Fails}
 use Rattle.omf_check.proofs.Advancing.{framer_fails, take_fails, start_low, number_low, none_passed, record_passed}

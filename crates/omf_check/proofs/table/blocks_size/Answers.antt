@@ -1,4 +1,4 @@
-use Rattle.std.proofs.Common.{◌≡◌, ◌∙◌, ◌+◌, ℕ, sym, ap, Ok, Err, Result}
+use Rattle.std.proofs.Common.{◌≡◌, ◌∙◌, ◌+◌, ℕ, sym, ap, Err, Result}
 use Rattle.omf_frame.specs.Fault.{Fault}
 use Rattle.omf_image.specs.Blocks.{count_size}
 use Rattle.omf_image.specs.Expanding.{expanded_length}

@@ -1,4 +1,4 @@
-use Rattle.std.proofs.Common.{◌≡◌, ◌∙◌, ◌+◌, ℕ, Bool, true, false, refl, sym, ap}
+use Rattle.std.proofs.Common.{◌≡◌, ◌∙◌, ◌+◌, Bool, true, false, refl, sym, ap}
 use Rattle.omf_records.specs.Seen.{contents_seen, kind_seen, odd_if}
 use Rattle.omf_records.specs.Values.{DataItem, Iterated}
 use Rattle.omf_image.specs.Blocks.{count_size}

@@ -1,4 +1,4 @@
-use Rattle.std.proofs.Common.{◌≡◌, ◌∙◌, sym, ap, subst, inr}
+use Rattle.std.proofs.Common.{sym, subst, inr}
 use Rattle.omf_check.specs.Session.{IsEndFault}
 use Rattle.omf_check.proofs.SessionLaws.{seen, state_of, stop_fault, stop_ok, checked_of, end_fault}
 use Rattle.omf_check.proofs.session.Session.finish.Goals as goal

@@ -1,4 +1,4 @@
-use Rattle.std.proofs.Common.{◌≡◌, None, sym, subst}
+use Rattle.std.proofs.Common.{None, sym, subst}
 use Rattle.omf_frame.specs.Framer.{at_start}
 use Rattle.omf_check.specs.Session.{IsOpen}
 use Rattle.omf_check.proofs.Moving.{starting}

@@ -1,4 +1,4 @@
-use Rattle.std.proofs.Common.{◌≡◌, ◌∙◌, ap}
+use Rattle.std.proofs.Common.{◌∙◌, ap}
 use Rattle.omf_check.specs.Kept.{set_thread}
 use Rattle.omf_check.specs.Judging.{subrecord_fault}
 use Rattle.omf_check.proofs.Found.{subrecords_more}

@@ -1,0 +1,111 @@
+//! The records of a checked module, one after another.
+
+ghost use Rattle.std.specs.Prelude.{◌≡◌};
+ghost use Rattle.omf_frame.specs.Framing.{front_record, present, after_front};
+ghost use Rattle.omf_records.specs.Reading.{typed};
+ghost use Rattle.omf_records.specs.Seen.{rec_seen};
+ghost use Rattle.omf_check.specs.Listed.{StartsWithRecord, AreListed, placed_from};
+ghost use Rattle.omf_check.specs.Module.{records_in};
+
+use omf_frame::{Place, RawRecord};
+use omf_records::{Rec, view};
+use std::marker::Model;
+
+/// The record that the bytes begin with, and the bytes after it.
+fn split_record<'a>(bytes: &'a [u8]) -> (RawRecord<'a>, &'a [u8])
+    requires { StartsWithRecord bytes.now }
+    ensures kind { result.0.kind ≡ (front_record (present bytes.entry.now)).kind }
+    ensures body { result.0.body.now ≡ (front_record (present bytes.entry.now)).body }
+    ensures rest { result.1.now ≡ after_front bytes.entry.now }
+{
+    match bytes {
+        [kind, low, high, rest @ ..] => {
+            let size = usize::from(*low) + 256 * usize::from(*high);
+            let (contents, after) = rest.split_at(size);
+            let raw = RawRecord {
+                kind: *kind,
+                body: &contents[..size - 1],
+                number: 0,
+                start: 0,
+            };
+            (raw, after)
+        }
+        _ => unreachable!(),
+    }
+}
+
+/// The typed record that the bytes begin with, and the bytes after it.
+fn first_record<'a>(bytes: &'a [u8]) -> (Rec<'a>, &'a [u8])
+    requires { StartsWithRecord bytes.now }
+    ensures rec { rec_seen result.0 ≡ typed (front_record (present bytes.entry.now)) }
+    ensures rest { result.1.now ≡ after_front bytes.entry.now }
+{
+    let (raw, rest) = split_record(bytes);
+    match view(raw) {
+        Ok(rec) => (rec, rest),
+        Err(_) => unreachable!(),
+    }
+}
+
+/// The records that are still to come, each with its place, in which `within` is 0.
+#[derive(Drop)]
+pub struct Records<'a> {
+    bytes: &'a [u8],
+    number: u32,
+    start: u64,
+}
+
+impl<'a> Model for Records<'a> {
+    ghost use Rattle.std.specs.Prelude.{List};
+    ghost use Rattle.omf_frame.specs.declared.fault.Place.{Place as Placed};
+    ghost use Rattle.omf_records.specs.Values.{Rec as Typed};
+    ghost use Rattle.omf_check.specs.Listed.{AreListed, placed_from};
+    ghost use Rattle.omf_check.specs.Module.{records_in};
+
+    ghost Value = { List (Placed × Typed) };
+
+    ghost view = { λ r. placed_from r.number r.start (records_in r.bytes.now) };
+
+    ghost invariant = { λ r. AreListed r.bytes.now r.number r.start };
+}
+
+impl<'a> Records<'a> {
+    /// The records that bytes are.
+    pub(crate) fn new(bytes: &'a [u8]) -> Records<'a>
+        requires { AreListed bytes.now 0 0 }
+        ensures { result ≡ placed_from 0 0 (records_in bytes.entry.now) }
+    {
+        Records {
+            bytes,
+            number: 0,
+            start: 0,
+        }
+    }
+}
+
+impl<'a> Iterator for Records<'a> {
+    ghost use Rattle.std.specs.Iterator.{YieldsFirstBy, item_count};
+    ghost use Rattle.omf_records.specs.Seen.{rec_seen as seen};
+
+    type Item = (Place, Rec<'a>);
+
+    ghost next_gives = { YieldsFirstBy (λ x. (x.0, seen x.1)) (λ s. s) };
+
+    ghost remaining = { item_count (λ s. s) };
+
+    fn next(&mut self) -> Option<(Place, Rec<'a>)> {
+        if self.bytes.is_empty() {
+            return None;
+        }
+        let (rec, rest) = first_record(self.bytes);
+        let place = Place {
+            number: self.number,
+            start: self.start,
+            within: 0,
+        };
+        self.number += 1;
+        self.start += (self.bytes.len() - rest.len()) as u64;
+        self.bytes = rest;
+        Some((place, rec))
+    }
+}

@@ -1,0 +1,452 @@
+//! Verdicts on whole modules, by a reader and in pieces.
+
+ghost use Rattle.std.specs.Prelude.{◌<◌};
+
+use crate::{CheckFault, Profile, Session, check};
+use omf_frame::{Place, Reading, Reason, Source};
+use std::alloc::{AllocError, Global};
+use std::test::Fail;
+
+const ANY: Profile = Profile {
+    refuse_vendor_comments: false,
+};
+
+const NO_VENDORS: Profile = Profile {
+    refuse_vendor_comments: true,
+};
+
+// A header, a name T, a segment T of 4 bytes, its data, a fixup of its bytes 1 and 2, and the end.
+const H: [u8; 6] = [0x80, 0x03, 0x00, 0x01, 0x41, 0x3B];
+
+const N: [u8; 7] = [0x96, 0x04, 0x00, 0x00, 0x01, 0x54, 0x11];
+
+const S: [u8; 10] = [0x98, 0x07, 0x00, 0x28, 0x04, 0x00, 0x02, 0x01, 0x01, 0x31];
+
+const L: [u8; 11] = [
+    0xA0, 0x08, 0x00, 0x01, 0x00, 0x00, 0xB8, 0x00, 0x00, 0x90, 0x0F,
+];
+
+const F: [u8; 9] = [0x9C, 0x06, 0x00, 0xC4, 0x01, 0x04, 0x01, 0x01, 0x93];
+
+const M: [u8; 5] = [0x8A, 0x02, 0x00, 0x00, 0x74];
+
+// A segment of 12 bytes.
+const S12: [u8; 10] = [0x98, 0x07, 0x00, 0x28, 0x0C, 0x00, 0x02, 0x01, 0x01, 0x29];
+
+/// The length of the module that is accepted, or the fault.
+type Answer = Result<usize, CheckFault>;
+
+fn refused(reason: Reason, number: u32, start: u64, within: u32) -> Answer {
+    let place = Place {
+        number,
+        start,
+        within,
+    };
+    Err(CheckFault::Refused { reason, place })
+}
+
+fn module(alloc: Global, records: &[&[u8]]) -> Result<Vec<u8>, AllocError> {
+    let mut bytes = Vec::new(alloc);
+    for record in records {
+        bytes.extend_from_slice(record)?;
+    }
+    Ok(bytes)
+}
+
+/// By a reader.
+fn by_check(alloc: Global, bytes: &[u8], profile: Profile) -> Answer {
+    let mut reader = Reading::new(bytes);
+    let checked = check(alloc, &mut reader, profile)?;
+    Ok(checked.bytes().len())
+}
+
+/// By a session that is fed pieces of one size.
+fn in_pieces(alloc: Global, bytes: &[u8], size: usize, profile: Profile) -> Answer
+    requires { 0 < size }
+{
+    let mut session = Session::new(alloc, profile);
+    for piece in bytes.chunks(size) {
+        let mut rest = piece;
+        for _ in 0..4 {
+            if rest.is_empty() {
+                break;
+            }
+            let fed = session.feed(rest)?;
+            rest = rest.split_at(fed.taken).1;
+        }
+    }
+    Ok(session.finish()?.bytes().len())
+}
+
+/// The one answer of a reader and of pieces of 1, 2 and 7 bytes; `None` where they differ.
+fn answer(alloc: Global, records: &[&[u8]]) -> Result<Option<Answer>, AllocError> {
+    let bytes = module(alloc, records)?;
+    let whole = by_check(alloc, &bytes, ANY);
+    for size in [1, 2, 7] {
+        if in_pieces(alloc, &bytes, size, ANY) != whole {
+            return Ok(None);
+        }
+    }
+    Ok(Some(whole))
+}
+
+fn accepted(len: usize) -> Option<Answer> {
+    Some(Ok(len))
+}
+
+fn fault(reason: Reason, number: u32, start: u64, within: u32) -> Option<Answer> {
+    Some(refused(reason, number, start, within))
+}
+
+#[test]
+fn takes_a_module(rt: HostRuntime) -> Result<(), Fail> {
+    let a = rt.alloc();
+    assert_eq!(rt; answer(a, &[&H, &N, &S, &L, &F, &M])?, accepted(48));
+    assert_eq!(rt;
+        answer(a, &[&H, &N, &S, &L, &F, &M, &[0xDE, 0xAD]])?,
+        accepted(48)
+    );
+    Ok(())
+}
+
+#[test]
+fn leaves_what_follows_unread(rt: HostRuntime) -> Result<(), Fail> {
+    let bytes = module(rt.alloc(), &[&H, &N, &S, &L, &F, &M, &[0xDE, 0xAD]])?;
+    let mut reader = Reading::new(bytes.as_slice());
+    let checked = check(rt.alloc(), &mut reader, ANY)?;
+    let expected = module(rt.alloc(), &[&H, &N, &S, &L, &F, &M])?;
+    assert_eq!(rt; checked.bytes(), expected.as_slice());
+    let mut rest = [0; 4];
+    assert_eq!(rt; reader.pull(&mut rest)?, 2);
+    assert_eq!(rt; &rest[..2], [0xDE, 0xAD].as_slice());
+    Ok(())
+}
+
+#[test]
+fn names_an_early_end(rt: HostRuntime) -> Result<(), Fail> {
+    let a = rt.alloc();
+    assert_eq!(rt; answer(a, &[])?, fault(Reason::NoEnd, 0, 0, 0));
+    assert_eq!(rt;
+        answer(a, &[&H, &N, &S, &L, &[0x9C, 0x06]])?,
+        fault(Reason::Cut, 4, 34, 2)
+    );
+    assert_eq!(rt;
+        answer(a, &[&H, &N, &S, &L, &F])?,
+        fault(Reason::NoEnd, 5, 43, 0)
+    );
+    Ok(())
+}
+
+#[test]
+fn judges_checksums(rt: HostRuntime) -> Result<(), Fail> {
+    let a = rt.alloc();
+    let wrong = [
+        0xA0, 0x08, 0x00, 0x01, 0x00, 0x00, 0xB8, 0x00, 0x00, 0x90, 0x10,
+    ];
+    assert_eq!(rt;
+        answer(a, &[&H, &N, &S, &wrong, &F, &M])?,
+        fault(Reason::Checksum, 3, 23, 10)
+    );
+    let zero = [
+        0xA0, 0x08, 0x00, 0x01, 0x00, 0x00, 0xB8, 0x00, 0x00, 0x90, 0x00,
+    ];
+    assert_eq!(rt;
+        answer(a, &[&H, &N, &S, &zero, &F, &[0x8A, 0x02, 0x00, 0x00, 0x00]])?,
+        accepted(48)
+    );
+    Ok(())
+}
+
+#[test]
+fn judges_types(rt: HostRuntime) -> Result<(), Fail> {
+    let a = rt.alloc();
+    assert_eq!(rt;
+        answer(a, &[&H, &[0xC2]])?,
+        fault(Reason::UnsupportedType, 1, 6, 0)
+    );
+    assert_eq!(rt;
+        answer(a, &[&[0xF0]])?,
+        fault(Reason::UnsupportedType, 0, 0, 0)
+    );
+    assert_eq!(rt; answer(a, &[&[0x00]])?, fault(Reason::UnknownType, 0, 0, 0));
+    assert_eq!(rt; answer(a, &[&M])?, fault(Reason::NoHeader, 0, 0, 0));
+    Ok(())
+}
+
+#[test]
+fn takes_a_two_byte_index(rt: HostRuntime) -> Result<(), Fail> {
+    let long = [
+        0xA0, 0x09, 0x00, 0x80, 0x01, 0x00, 0x00, 0xB8, 0x00, 0x00, 0x90, 0x8E,
+    ];
+    assert_eq!(rt;
+        answer(rt.alloc(), &[&H, &N, &S, &long, &F, &M])?,
+        accepted(49)
+    );
+    Ok(())
+}
+
+// A second segment, data in it, threads and their use across records.
+const S2: [u8; 10] = [0x98, 0x07, 0x00, 0x28, 0x02, 0x00, 0x02, 0x01, 0x01, 0x33];
+
+const L4: [u8; 11] = [
+    0xA0, 0x08, 0x00, 0x01, 0x00, 0x00, 0x00, 0x00, 0x00, 0x00, 0x57,
+];
+
+const T1: [u8; 12] = [
+    0x9C, 0x09, 0x00, 0x50, 0x00, 0x01, 0xC4, 0x00, 0x8C, 0x00, 0x02, 0xB8,
+];
+
+const T2: [u8; 7] = [0x9C, 0x04, 0x00, 0xC4, 0x02, 0x8C, 0x0E];
+
+const L2: [u8; 9] = [0xA0, 0x06, 0x00, 0x02, 0x00, 0x00, 0x00, 0x00, 0x58];
+
+const T3: [u8; 7] = [0x9C, 0x04, 0x00, 0xC4, 0x00, 0x8C, 0x10];
+
+#[test]
+fn keeps_threads(rt: HostRuntime) -> Result<(), Fail> {
+    let a = rt.alloc();
+    assert_eq!(rt;
+        answer(a, &[&H, &N, &S, &S2, &L4, &T1, &T2, &L2, &T3, &M])?,
+        accepted(84)
+    );
+    let unset = [0x9C, 0x04, 0x00, 0xC4, 0x02, 0x8D, 0x0D];
+    assert_eq!(rt;
+        answer(a, &[&H, &N, &S, &S2, &L4, &T1, &unset, &L2, &T3, &M])?,
+        fault(Reason::UndefinedThread, 6, 56, 5)
+    );
+    Ok(())
+}
+
+#[test]
+fn judges_blocks(rt: HostRuntime) -> Result<(), Fail> {
+    let a = rt.alloc();
+    let nested = [
+        0xA2, 0x15, 0x00, 0x01, 0x00, 0x00, 0x03, 0x00, 0x02, 0x00, 0x02, 0x00, 0x00, 0x00, 0x01,
+        0xAA, 0x01, 0x00, 0x00, 0x00, 0x02, 0xBB, 0xCC, 0x0C,
+    ];
+    assert_eq!(rt; answer(a, &[&H, &N, &S12, &nested, &M])?, accepted(52));
+    assert_eq!(rt;
+        answer(a, &[&H, &N, &S12, &nested, &F, &M])?,
+        fault(Reason::FixupOnIterated, 4, 47, 3)
+    );
+    let none = [
+        0xA3, 0x0D, 0x00, 0x01, 0x00, 0x00, 0x00, 0x00, 0xFF, 0xFF, 0xFF, 0xFF, 0x00, 0x00, 0x00,
+        0x53,
+    ];
+    assert_eq!(rt; answer(a, &[&H, &N, &S12, &none, &M])?, accepted(44));
+    let long = [
+        0xA3, 0x0E, 0x00, 0x01, 0x00, 0x00, 0x00, 0x00, 0x01, 0x00, 0x00, 0x01, 0x00, 0x00, 0x01,
+        0xAA, 0xA1,
+    ];
+    assert_eq!(rt;
+        answer(a, &[&H, &N, &S12, &long, &M])?,
+        fault(Reason::DataTooLong, 3, 23, 8)
+    );
+    let most = [
+        0xA3, 0x0E, 0x00, 0x01, 0x00, 0x00, 0x00, 0x00, 0x00, 0x00, 0x00, 0x01, 0x00, 0x00, 0x01,
+        0xAA, 0xA2,
+    ];
+    assert_eq!(rt;
+        answer(a, &[&H, &N, &S12, &most, &M])?,
+        fault(Reason::OutsideSegment, 3, 23, 4)
+    );
+    Ok(())
+}
+
+#[test]
+fn judges_last_bytes(rt: HostRuntime) -> Result<(), Fail> {
+    let a = rt.alloc();
+    let last = [0x9C, 0x06, 0x00, 0xC4, 0x02, 0x04, 0x01, 0x01, 0x92];
+    assert_eq!(rt; answer(a, &[&H, &N, &S, &L, &last, &M])?, accepted(48));
+    let past = [0x9C, 0x06, 0x00, 0xC4, 0x03, 0x04, 0x01, 0x01, 0x91];
+    assert_eq!(rt;
+        answer(a, &[&H, &N, &S, &L, &past, &M])?,
+        fault(Reason::OutsideRecord, 4, 34, 3)
+    );
+    let big = [0x98, 0x07, 0x00, 0x2A, 0x00, 0x00, 0x02, 0x01, 0x01, 0x33];
+    let fits = [0xA0, 0x06, 0x00, 0x01, 0xFE, 0xFF, 0xAB, 0xCD, 0xE4];
+    assert_eq!(rt; answer(a, &[&H, &N, &big, &fits, &M])?, accepted(37));
+    let over = [0xA0, 0x07, 0x00, 0x01, 0xFE, 0xFF, 0xAB, 0xCD, 0xEF, 0xF4];
+    assert_eq!(rt;
+        answer(a, &[&H, &N, &big, &over, &M])?,
+        fault(Reason::OutsideSegment, 3, 23, 4)
+    );
+    Ok(())
+}
+
+#[test]
+fn judges_starts(rt: HostRuntime) -> Result<(), Fail> {
+    let a = rt.alloc();
+    let group = [0x9A, 0x04, 0x00, 0x02, 0xFF, 0x01, 0x60];
+    let thread = [0x9C, 0x03, 0x00, 0x46, 0x01, 0x1A];
+    let start = [0x8A, 0x06, 0x00, 0xC1, 0xA0, 0x01, 0x02, 0x00, 0x0C];
+    assert_eq!(rt;
+        answer(a, &[&H, &N, &S, &group, &thread, &start])?,
+        accepted(45)
+    );
+    let location = [0x8A, 0x06, 0x00, 0xC1, 0x40, 0x01, 0x02, 0x00, 0x6C];
+    assert_eq!(rt;
+        answer(a, &[&H, &N, &S, &group, &thread, &location])?,
+        fault(Reason::StartFrame, 5, 36, 4)
+    );
+    Ok(())
+}
+
+#[test]
+fn judges_an_index_at_its_use(rt: HostRuntime) -> Result<(), Fail> {
+    let a = rt.alloc();
+    let thread = [0x9C, 0x03, 0x00, 0x01, 0x02, 0x5E];
+    let fixup = [0x9C, 0x05, 0x00, 0xC4, 0x01, 0x0D, 0x01, 0x8C];
+    assert_eq!(rt;
+        answer(a, &[&H, &N, &S, &thread, &S, &L, &fixup, &M])?,
+        accepted(63)
+    );
+    assert_eq!(rt;
+        answer(a, &[&H, &N, &S, &thread, &L, &fixup, &M])?,
+        fault(Reason::UndefinedSegment, 5, 40, 5)
+    );
+    assert_eq!(rt;
+        answer(a, &[&H, &N, &L, &S, &M])?,
+        fault(Reason::UndefinedSegment, 2, 13, 3)
+    );
+    Ok(())
+}
+
+#[test]
+fn judges_comments(rt: HostRuntime) -> Result<(), Fail> {
+    let a = rt.alloc();
+    let dialect = [0x88, 0x03, 0x00, 0x00, 0xAA, 0xCB];
+    assert_eq!(rt;
+        answer(a, &[&H, &dialect, &M])?,
+        fault(Reason::OtherDialect, 1, 6, 4)
+    );
+    let vendor = [0x88, 0x03, 0x00, 0x00, 0xE9, 0x8C];
+    assert_eq!(rt; answer(a, &[&H, &vendor, &M])?, accepted(17));
+    let bytes = module(a, &[&H, &vendor, &M])?;
+    assert_eq!(rt;
+        by_check(a, &bytes, NO_VENDORS),
+        refused(Reason::VendorComment, 1, 6, 4)
+    );
+    assert_eq!(rt;
+        in_pieces(a, &bytes, 1, NO_VENDORS),
+        refused(Reason::VendorComment, 1, 6, 4)
+    );
+    let communal = [
+        0xB0, 0x08, 0x00, 0x01, 0x58, 0x00, 0x62, 0x81, 0x80, 0x00, 0x8C,
+    ];
+    assert_eq!(rt; answer(a, &[&H, &communal, &M])?, accepted(22));
+    let public = [
+        0x90, 0x08, 0x00, 0x00, 0x01, 0x01, 0x58, 0x02, 0x00, 0x00, 0x0C,
+    ];
+    assert_eq!(rt; answer(a, &[&H, &N, &S, &public, &M])?, accepted(39));
+    Ok(())
+}
+
+/// One record of names without bytes, so many of them.
+fn many_names(alloc: Global, count: u16) -> Result<Vec<u8>, AllocError>
+    requires { count < 65535 }
+{
+    let mut bytes = module(alloc, &[&H])?;
+    let size = count + 1;
+    bytes.extend_from_slice(&[0x96, (size % 256) as u8, (size / 256) as u8])?;
+    for _ in 0..size {
+        bytes.push(0)?;
+    }
+    bytes.extend_from_slice(&M)?;
+    Ok(bytes)
+}
+
+#[test]
+fn limits_names(rt: HostRuntime) -> Result<(), Fail> {
+    let a = rt.alloc();
+    let most = many_names(a, 32767)?;
+    assert_eq!(rt; by_check(a, &most, ANY), Ok(most.len()));
+    let over = many_names(a, 32768)?;
+    assert_eq!(rt;
+        by_check(a, &over, ANY),
+        refused(Reason::TooMany, 1, 6, 32770)
+    );
+    Ok(())
+}
+
+/// A header, so many empty FIXUPPs and the end, to a session in pieces of one size.
+fn empty_fixups(alloc: Global, count: u32, size: usize) -> Result<Answer, AllocError>
+    requires { 0 < size }
+{
+    let mut bytes = module(alloc, &[&H])?;
+    for _ in 0..count {
+        bytes.extend_from_slice(&[0x9C, 0x01, 0x00, 0x63])?;
+    }
+    bytes.extend_from_slice(&M)?;
+    Ok(in_pieces(alloc, &bytes, size, ANY))
+}
+
+#[test]
+fn limits_items_in_bytes(rt: HostRuntime) -> Result<(), Fail> {
+    let whole = empty_fixups(rt.alloc(), 1_048_574, 1)?;
+    assert_eq!(rt; whole, Ok(4_194_307));
+    Ok(())
+}
+
+#[test]
+fn limits_items_in_pieces(rt: HostRuntime) -> Result<(), Fail> {
+    let whole = empty_fixups(rt.alloc(), 1_048_574, 7)?;
+    assert_eq!(rt; whole, Ok(4_194_307));
+    Ok(())
+}
+
+#[test]
+fn refuses_an_item_too_many(rt: HostRuntime) -> Result<(), Fail> {
+    let over = empty_fixups(rt.alloc(), 1_048_575, 2)?;
+    assert_eq!(rt; over, refused(Reason::TooMany, 1_048_576, 4_194_306, 0));
+    Ok(())
+}
+
+#[test]
+fn a_fault_is_kept(rt: HostRuntime) -> Result<(), Fail> {
+    let unsupported = refused(Reason::UnsupportedType, 1, 6, 0);
+    let mut session = Session::new(rt.alloc(), ANY);
+    let _ = session.feed(&H)?;
+    for piece in [[0xC2].as_slice(), M.as_slice(), &[]] {
+        let answer = session.feed(piece);
+        assert_eq!(rt; answer.map(|fed| fed.taken), unsupported);
+        assert_eq!(rt; session.want(), 0);
+        assert_eq!(rt; session.ended(), false);
+    }
+    assert_eq!(rt;
+        session.finish().map(|checked| checked.bytes().len()),
+        unsupported
+    );
+    Ok(())
+}
+
+#[test]
+fn takes_one_record_at_most(rt: HostRuntime) -> Result<(), Fail> {
+    let bytes = module(rt.alloc(), &[&H, &N, &S, &L, &F, &M, &[0xDE, 0xAD]])?;
+    let mut session = Session::new(rt.alloc(), ANY);
+    let mut rest = bytes.as_slice();
+    for taken in [6, 7, 10, 11, 9, 5] {
+        let fed = session.feed(rest)?;
+        assert_eq!(rt; fed.taken, taken);
+        assert_eq!(rt; fed.whole, true);
+        rest = rest.split_at(fed.taken).1;
+    }
+    assert_eq!(rt; session.ended(), true);
+    assert_eq!(rt; session.want(), 0);
+    let fed = session.feed(rest)?;
+    assert_eq!(rt; fed.taken, 0);
+    assert_eq!(rt; fed.whole, false);
+    let checked = session.finish()?;
+    let expected = module(rt.alloc(), &[&H, &N, &S, &L, &F, &M])?;
+    assert_eq!(rt; checked.bytes(), expected.as_slice());
+    assert_eq!(rt;
+        (
+            checked.names(),
+            checked.segments(),
+            checked.groups(),
+            checked.externals()
+        ),
+        (2, 1, 0, 0)
+    );
+    Ok(())
+}
