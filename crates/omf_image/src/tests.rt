@@ -2,7 +2,7 @@
 
 ghost use Rattle.std.specs.Prelude.{◌≤◌, length};
 
-use crate::{Image, Limits, Part, add_part, expand, expanded_len};
+use crate::{Image, Limits, Part, Run, add_part, expand, expanded_len};
 use omf_frame::Reason;
 use omf_records::{Blocks, LayoutFault};
 use std::alloc::Global;
@@ -152,7 +152,138 @@ fn lays_pieces(rt: HostRuntime) -> Result<(), Fail> {
     }
     assert_eq!(rt; image.get(1, 7), None);
     assert_eq!(rt; image.get(2, 0), None);
+    assert_eq!(rt; image.run_at(1, 0), Some(Run { first: 0, len: 7 }));
+    assert_eq!(rt;
+        image.run_bytes(1, 0),
+        Some([1, 0xAA, 3, 4, 0xBB, 0xCC, 5].as_slice())
+    );
+    assert_eq!(rt; image.run_at(1, 1), None);
     image.lay(1, 0xFFFF_FFFF, Vec::from_slice(alloc, &[0xEE])?)?;
     assert_eq!(rt; image.get(1, 0xFFFF_FFFF), Some(0xEE));
+    assert_eq!(rt;
+        image.run_at(1, 1),
+        Some(Run {
+            first: 0xFFFF_FFFF,
+            len: 1
+        })
+    );
+    assert_eq!(rt; image.run_bytes(1, 1), Some([0xEE].as_slice()));
+    assert_eq!(rt; image.run_at(1, 2), None);
+    assert_eq!(rt; image.run_bytes(1, 2), None);
+    assert_eq!(rt; image.run_at(2, 0), None);
+    assert_eq!(rt; image.run_bytes(2, 0), None);
+    Ok(())
+}
+
+#[test]
+fn joins_pieces_that_touch(rt: HostRuntime) -> Result<(), Fail> {
+    let alloc = rt.alloc();
+    let mut image = Image::new(alloc);
+    image.lay(1, 4, Vec::from_slice(alloc, &[0xAA])?)?;
+    image.lay(1, 5, Vec::from_slice(alloc, &[0xBB])?)?;
+    assert_eq!(rt; image.run_at(1, 0), Some(Run { first: 4, len: 2 }));
+    assert_eq!(rt; image.run_at(1, 1), None);
+    Ok(())
+}
+
+/// A piece that was laid.
+#[derive(Drop)]
+struct Piece {
+    segment: u16,
+    offset: u32,
+    bytes: Vec<u8>,
+}
+
+/// The byte of the last piece that covers a place.
+fn last_byte(pieces: &[Piece], segment: u16, offset: u32) -> Option<u8> {
+    let mut found = None;
+    for piece in pieces {
+        if piece.segment != segment || offset < piece.offset {
+            continue;
+        }
+        if let Some(byte) = piece.bytes.get((offset - piece.offset) as usize) {
+            found = Some(*byte);
+        }
+    }
+    found
+}
+
+/// Whether the image has a run with its bytes.
+fn has_run(image: &Image, pieces: &[Piece], segment: u16, k: usize, first: u32, end: u32) -> bool {
+    let len = end.saturating_sub(first);
+    let Some(bytes) = image.run_bytes(segment, k) else {
+        return false;
+    };
+    if bytes.len() != len as usize {
+        return false;
+    }
+    for (offset, byte) in (first..end).zip(bytes) {
+        if last_byte(pieces, segment, offset) != Some(*byte) {
+            return false;
+        }
+    }
+    let run = Run {
+        first,
+        len: u64::from(len),
+    };
+    image.run_at(segment, k) == Some(run)
+}
+
+/// Whether the image has the bytes and the runs of the pieces, up to an offset.
+fn agrees(image: &Image, pieces: &[Piece], segment: u16, end: u32) -> bool {
+    let mut k = 0usize;
+    let mut first = None;
+    for offset in 0..end {
+        let byte = last_byte(pieces, segment, offset);
+        if image.get(segment, offset) != byte {
+            return false;
+        }
+        match first {
+            None => {
+                if byte.is_some() {
+                    first = Some(offset);
+                }
+            }
+            Some(from) => {
+                if byte.is_none() {
+                    if !has_run(image, pieces, segment, k, from, offset) {
+                        return false;
+                    }
+                    k = k.saturating_add(1);
+                    first = None;
+                }
+            }
+        }
+    }
+    first.is_none() && image.run_at(segment, k).is_none() && image.run_bytes(segment, k).is_none()
+}
+
+#[test]
+fn lays_what_a_list_of_pieces_says(rt: HostRuntime) -> Result<(), Fail> {
+    let alloc = rt.alloc();
+    let text = b"A quick brown fox jumps over it.";
+    let mut image = Image::new(alloc);
+    let mut pieces = Vec::new(alloc);
+    let mut seed = 1u32;
+    for turn in 0..160u32 {
+        seed = seed.wrapping_mul(1_664_525).wrapping_add(1_013_904_223);
+        let segment = if seed / 0x8000_0000 == 0 { 1 } else { 7 };
+        let offset = seed / 256 % 90;
+        let from = (seed / 65_536 % 24) as usize;
+        let len = (seed / 4_194_304 % 8) as usize;
+        let bytes = &text[from..from + len];
+        image.lay(segment, offset, Vec::from_slice(alloc, bytes)?)?;
+        pieces.push(Piece {
+            segment,
+            offset,
+            bytes: Vec::from_slice(alloc, bytes)?,
+        })?;
+        for segment in [0, 1, 7, 8] {
+            assert!(rt;
+                agrees(&image, &pieces, segment, 100),
+                "turn {turn}, segment {segment}"
+            );
+        }
+    }
     Ok(())
 }
