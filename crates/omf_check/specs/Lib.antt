@@ -3,6 +3,7 @@ pub mod Threads
 pub mod Cells
 pub mod Rules
 pub mod Kept
+pub mod Points
 pub mod WellFormed
 pub mod Refusal
 pub mod Judging

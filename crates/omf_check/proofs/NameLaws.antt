@@ -1,0 +1,49 @@
+-- A name is read where it stands.
+use Rattle.std.proofs.Common.{◌≡◌, ℕ, zero, suc, ◌+◌, ◌-◌, ◌<◌, ◌≤◌, Bool, true, false, List, [], ◌∷◌, ◌++◌, refl, sym, ◌∙◌, ap, subst, arith, length, take, drop}
+use Rattle.std.specs.Prelude.{Option, Some, None, slice_get, slice_range, cond, nat_le}
+use Rattle.std.proofs.lemmas.List.{length-take, take-append-drop}
+use Rattle.std.proofs.Math.Seq.{drop-append_seam}
+use Rattle.omf_frame.specs.Fields.{IsName, IsSpelledAt}
+use Rattle.omf_frame.specs.FieldLaws.{name_free}
+use Rattle.omf_check.specs.Points.{NameAt, NamesAt, HasName}
+use Rattle.omf_check.specs.Tables.{entry}
+use Rattle.omf_check.proofs.PointLaws.{name_of}
+
+behind : (bytes : List ℕ) (p : ℕ) (n : List ℕ) (h : NameAt bytes p n) → drop p bytes ≡ (length n ∷ n) ++ h.rest
+behind bytes p n h = ap (λ k. drop k bytes) h.place ∙ ap (drop (length h.front)) h.spelled ∙ drop-append_seam h.front ((length n ∷ n) ++ h.rest)
+
+pub never_none : (bytes : List ℕ) (p : ℕ) → HasName bytes p → ((value : List ℕ) (front back : List ℕ) → IsName value front → drop p bytes ≡ front ++ back → ⊥) → ⊥
+never_none bytes p (n, h) none = none n (length n ∷ n) h.rest (h.short, refl) (behind bytes p n h)
+
+pub spelled_name : (bytes : List ℕ) (p to : ℕ) (n : List ℕ) → IsSpelledAt IsName bytes p n to → NameAt bytes p n
+spelled_name bytes p to n (le, low, (short, e)) = record {
+  front = take p bytes;
+  rest = drop (to - p) (drop p bytes);
+  spelled = sym (take-append-drop p bytes) ∙ ap (λ x. take p bytes ++ x) (sym (take-append-drop (to - p) (drop p bytes)) ∙ ap (λ x. x ++ drop (to - p) (drop p bytes)) e);
+  place = let l = length-take p bytes in omega (arith, l, le, low);
+  short = short;
+}
+
+pub one_name : (bytes : List ℕ) (p : ℕ) (n m : List ℕ) → NameAt bytes p n → NameAt bytes p m → n ≡ m
+one_name bytes p n m h k = (name_free n m (length n ∷ n) (length m ∷ m) h.rest k.rest (h.short, refl) (k.short, refl) (sym (behind bytes p n h) ∙ behind bytes p m k)).1
+
+by_index : (b : Bool) (bytes ps : List ℕ) (ns : List (List ℕ)) (i p : ℕ) → NamesAt bytes ps ns → cond b (slice_get ps i) None ≡ Some p → (n : List ℕ) × (cond b (slice_get ns i) None ≡ Some n) × NameAt bytes p n
+by_index true bytes ps ns i p h e = name_of bytes ps ns i p h e
+by_index false bytes ps ns i p h e = absurd cc
+
+pub entry_name : (bytes ps : List ℕ) (ns : List (List ℕ)) (i p : ℕ) → NamesAt bytes ps ns → entry ps i ≡ Some p → (n : List ℕ) × (entry ns i ≡ Some n) × NameAt bytes p n
+entry_name bytes ps ns i p h e = by_index (nat_le 1 i) bytes ps ns (i - 1) p h e
+
+none_of : (bytes ps : List ℕ) (ns : List (List ℕ)) (i : ℕ) → NamesAt bytes ps ns → slice_get ps i ≡ None → slice_get ns i ≡ None
+none_of bytes [] [] i h e = refl
+none_of bytes [] (n ∷ ns) i h e = absurd h
+none_of bytes (p ∷ ps) [] i h e = absurd h
+none_of bytes (p ∷ ps) (n ∷ ns) zero h e = absurd cc
+none_of bytes (p ∷ ps) (n ∷ ns) (suc i) h e = none_of bytes ps ns i h.1 e
+
+none_by : (b : Bool) (bytes ps : List ℕ) (ns : List (List ℕ)) (i : ℕ) → NamesAt bytes ps ns → cond b (slice_get ps i) None ≡ None → cond b (slice_get ns i) None ≡ None
+none_by true bytes ps ns i h e = none_of bytes ps ns i h e
+none_by false bytes ps ns i h e = refl
+
+pub entry_none : (bytes ps : List ℕ) (ns : List (List ℕ)) (i : ℕ) → NamesAt bytes ps ns → entry ps i ≡ None → entry ns i ≡ None
+entry_none bytes ps ns i h e = none_by (nat_le 1 i) bytes ps ns (i - 1) h e
