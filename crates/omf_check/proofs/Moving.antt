@@ -19,7 +19,7 @@ use Rattle.omf_check.specs.Refusal.{steps, record_steps, is_empty}
 use Rattle.omf_check.specs.Tables.{item_count, items_in}
 use Rattle.omf_check.specs.WellFormed.{recs, IsWellFormed}
 use Rattle.omf_check.specs.Session.{IsPassing}
-use Rattle.omf_records.specs.Records.{IsTyped}
+use Rattle.omf_check.specs.Listed.{IsReadable}
 use Rattle.omf_records.specs.LawProofs.{decided}
 use Rattle.omf_check.specs.Points.{PointsTo}
 use Rattle.omf_check.proofs.AcceptLaws.{all_middle}
@@ -56,7 +56,7 @@ started profile = record {
   running = λ e. all_none (λ r. IsTrue (not (is_end r.kind)));
   at_end = λ e. absurd (clash (sym e));
   tells = nothing_tells;
-  points = record { names = tt; externals = tt };
+  points = record { names = tt; groups = tt; externals = tt };
   short = omega arith;
   bounded = record { names = omega arith; segments = omega arith; groups = omega arith; externals = omega arith; items = omega arith };
 }
@@ -217,11 +217,12 @@ module _ (profile : Profile) (held : Held) (taken : List ℕ) (kept : Kept) (p :
           = sound_module profile profile_limits p.before r more_records (bodies_of (p.before ++ r ∷ []) [] all_small) (ap is_end (kind_front now) ∙ e) (p.running (not_ended w)) more_sound in
           subst (λ x. IsWellFormed profile profile_limits x (p.before ++ r ∷ [])) (sym more_spelled) whole_module
 
-      is_typed : IsTyped (typed r) r.body
+      is_typed : IsReadable r
       is_typed =
           let all_small : AreBytes (flat_map raw_bytes (p.before ++ r ∷ []) ++ []) = subst AreBytes (more_spelled ∙ sym (append-nil (flat_map raw_bytes (p.before ++ r ∷ [])))) small in
           let body_small : AreBytes r.body = all_middle (λ x. AreBytes x.body) (p.before ++ r ∷ []) p.before [] r refl (bodies_of (p.before ++ r ∷ []) [] all_small) in
-          (decided r body_small).1 (sound_of profile profile_limits p.before r is_record step_none).read
+          let sound = sound_of profile profile_limits p.before r is_record step_none in
+          record { is_record = is_record; taken = sound.known; typed = (decided r body_small).1 sound.read }
 
       recs_more : recs (p.before ++ r ∷ []) ≡ recs p.before ++ typed r ∷ []
       recs_more = map-append typed p.before (r ∷ [])

@@ -1,13 +1,18 @@
 -- A name is read where it stands.
-use Rattle.std.proofs.Common.{◌≡◌, ℕ, zero, suc, ◌+◌, ◌-◌, ◌<◌, ◌≤◌, Bool, true, false, List, [], ◌∷◌, ◌++◌, refl, sym, ◌∙◌, ap, subst, arith, length, take, drop}
+use Rattle.std.proofs.Common.{◌≡◌, ℕ, zero, suc, ◌+◌, ◌-◌, ◌<◌, ◌≤◌, Bool, true, false, List, [], ◌∷◌, ◌++◌, refl, sym, ◌∙◌, ap, subst, arith, length, take, drop, length-append}
 use Rattle.std.specs.Prelude.{Option, Some, None, slice_get, slice_range, cond, nat_le}
 use Rattle.std.proofs.lemmas.List.{length-take, take-append-drop}
 use Rattle.std.proofs.Math.Seq.{drop-append_seam}
+use Rattle.omf_frame.proofs.FramingLaws.{present_raw, front_raw}
+use Rattle.omf_frame.specs.Framing.{raw_bytes, front_record, present}
+use Rattle.omf_records.specs.Reading.{typed}
+use Rattle.omf_records.specs.Values.{Group, GroupItem}
 use Rattle.omf_frame.specs.Fields.{IsName, IsSpelledAt}
 use Rattle.omf_frame.specs.FieldLaws.{name_free}
-use Rattle.omf_check.specs.Points.{NameAt, NamesAt, HasName}
+use Rattle.omf_check.specs.Points.{NameAt, NamesAt, HasName, GroupAt, GroupsAt}
+use Rattle.omf_check.specs.Listed.{StartsWithRecord}
 use Rattle.omf_check.specs.Tables.{entry}
-use Rattle.omf_check.proofs.PointLaws.{name_of}
+use Rattle.omf_check.proofs.PointLaws.{name_of, group_of, no_group}
 
 behind : (bytes : List ℕ) (p : ℕ) (n : List ℕ) (h : NameAt bytes p n) → drop p bytes ≡ (length n ∷ n) ++ h.rest
 behind bytes p n h = ap (λ k. drop k bytes) h.place ∙ ap (drop (length h.front)) h.spelled ∙ drop-append_seam h.front ((length n ∷ n) ++ h.rest)
@@ -47,3 +52,32 @@ none_by false bytes ps ns i h e = refl
 
 pub entry_none : (bytes ps : List ℕ) (ns : List (List ℕ)) (i : ℕ) → NamesAt bytes ps ns → entry ps i ≡ None → entry ns i ≡ None
 entry_none bytes ps ns i h e = none_by (nat_le 1 i) bytes ps ns (i - 1) h e
+
+group_index : (b : Bool) (bytes ps : List ℕ) (gs : List GroupItem) (i p : ℕ) → GroupsAt bytes ps gs → cond b (slice_get ps i) None ≡ Some p → (g : GroupItem) × (cond b (slice_get gs i) None ≡ Some g) × GroupAt bytes p g
+group_index true bytes ps gs i p h e = group_of bytes ps gs i p h e
+group_index false bytes ps gs i p h e = absurd cc
+
+pub entry_group : (bytes ps : List ℕ) (gs : List GroupItem) (i p : ℕ) → GroupsAt bytes ps gs → entry ps i ≡ Some p → (g : GroupItem) × (entry gs i ≡ Some g) × GroupAt bytes p g
+entry_group bytes ps gs i p h e = group_index (nat_le 1 i) bytes ps gs (i - 1) p h e
+
+group_none : (b : Bool) (bytes ps : List ℕ) (gs : List GroupItem) (i : ℕ) → GroupsAt bytes ps gs → cond b (slice_get ps i) None ≡ None → cond b (slice_get gs i) None ≡ None
+group_none true bytes ps gs i h e = no_group bytes ps gs i h e
+group_none false bytes ps gs i h e = refl
+
+pub entry_no_group : (bytes ps : List ℕ) (gs : List GroupItem) (i : ℕ) → GroupsAt bytes ps gs → entry ps i ≡ None → entry gs i ≡ None
+entry_no_group bytes ps gs i h e = group_none (nat_le 1 i) bytes ps gs (i - 1) h e
+
+group_behind : (bytes : List ℕ) (p : ℕ) (g : GroupItem) (h : GroupAt bytes p g) → drop p bytes ≡ raw_bytes h.one ++ h.rest
+group_behind bytes p g h = ap (λ k. drop k bytes) h.place ∙ ap (drop (length h.front)) h.spelled ∙ drop-append_seam h.front (raw_bytes h.one ++ h.rest)
+
+pub group_starts : (bytes : List ℕ) (p : ℕ) (g : GroupItem) → GroupAt bytes p g → StartsWithRecord (drop p bytes)
+group_starts bytes p g h = record { first = h.one; rest = h.rest; spelled = group_behind bytes p g h; readable = h.readable }
+
+pub group_low : (bytes : List ℕ) (p : ℕ) (g : GroupItem) → GroupAt bytes p g → p ≤ length bytes
+group_low bytes p g h = let e = h.place in let l = ap length h.spelled ∙ length-append h.front (raw_bytes h.one ++ h.rest) in omega (arith, e, l)
+
+pub group_is : (bytes : List ℕ) (p : ℕ) (g : GroupItem) → GroupAt bytes p g → (typed (front_record (present (drop p bytes)))).contents ≡ Group g
+group_is bytes p g h =
+    let small = h.readable.is_record.0 in
+    ap (λ x. (typed (front_record (present x))).contents) (group_behind bytes p g h) ∙ ap (λ x. (typed (front_record x)).contents) (present_raw h.one small h.rest)
+    ∙ ap (λ x. (typed x).contents) (front_raw h.one small) ∙ h.is

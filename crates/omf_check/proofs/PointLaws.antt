@@ -8,11 +8,12 @@ use Rattle.omf_records.specs.Entries.{external, communal}
 use Rattle.omf_records.specs.Layout.{Layout, SpellsEach, called, either, name}
 use Rattle.omf_records.specs.Reading.{typed}
 use Rattle.omf_records.specs.Records.{contents, header, comment, names, segment, group, externs, publics, communals, data_item, fixups, mod_end, carried, IsTyped}
-use Rattle.omf_records.specs.Values.{At, Rec, Contents, Header, Names, Externs, Communals, Plain, Iterated, ExternalItem, CommunalItem, is_wide}
+use Rattle.omf_records.specs.Values.{At, Rec, Contents, Header, Names, Group, GroupItem, Externs, Communals, Plain, Iterated, ExternalItem, CommunalItem, is_wide}
 use Rattle.omf_check.specs.Kept.{Kept, with_record, with_contents, starts}
-use Rattle.omf_check.specs.Points.{NameAt, NamesAt, PointsTo}
-use Rattle.omf_check.specs.Tables.{defined_names, defined_externals, items_in}
-use Rattle.omf_check.specs.Tables.{names as all_names, externals as all_externals}
+use Rattle.omf_check.specs.Points.{NameAt, NamesAt, GroupAt, GroupsAt, PointsTo}
+use Rattle.omf_check.specs.Listed.{IsReadable}
+use Rattle.omf_check.specs.Tables.{defined_names, defined_groups, defined_externals, items_in}
+use Rattle.omf_check.specs.Tables.{names as all_names, groups as all_groups, externals as all_externals}
 use Rattle.omf_check.proofs.KeptLaws.{flat_more}
 
 -- More bytes behind, and more names.
@@ -37,9 +38,33 @@ names_join bytes (p ∷ ps) qs (n ∷ ns) ms h k = (h.0, names_join bytes ps qs 
 names_join bytes [] qs (n ∷ ns) ms h k = absurd h
 names_join bytes (p ∷ ps) qs [] ms h k = absurd h
 
+group_more : (bytes more : List ℕ) (p : ℕ) (g : GroupItem) → GroupAt bytes p g → GroupAt (bytes ++ more) p g
+group_more bytes more p g h = record {
+  front = h.front;
+  rest = h.rest ++ more;
+  one = h.one;
+  spelled = ap (λ x. x ++ more) h.spelled ∙ append_assoc h.front (raw_bytes h.one ++ h.rest) more ∙ ap (λ x. h.front ++ x) (append_assoc (raw_bytes h.one) h.rest more);
+  place = h.place;
+  readable = h.readable;
+  is = h.is;
+}
+
+groups_more : (bytes more ps : List ℕ) (gs : List GroupItem) → GroupsAt bytes ps gs → GroupsAt (bytes ++ more) ps gs
+groups_more bytes more [] [] h = tt
+groups_more bytes more (p ∷ ps) (g ∷ gs) h = (group_more bytes more p g h.0, groups_more bytes more ps gs h.1)
+groups_more bytes more [] (g ∷ gs) h = h
+groups_more bytes more (p ∷ ps) [] h = h
+
+groups_join : (bytes ps qs : List ℕ) (gs hs : List GroupItem) → GroupsAt bytes ps gs → GroupsAt bytes qs hs → GroupsAt bytes (ps ++ qs) (gs ++ hs)
+groups_join bytes [] qs [] hs h k = k
+groups_join bytes (p ∷ ps) qs (g ∷ gs) hs h k = (h.0, groups_join bytes ps qs gs hs h.1 k)
+groups_join bytes [] qs (g ∷ gs) hs h k = absurd h
+groups_join bytes (p ∷ ps) qs [] hs h k = absurd h
+
 pub points_more : (bytes more : List ℕ) (kept : Kept) (before : List Rec) → PointsTo bytes kept before → PointsTo (bytes ++ more) kept before
 points_more bytes more kept before h = record {
   names = names_more bytes more kept.names (all_names before) h.names;
+  groups = groups_more bytes more kept.groups (all_groups before) h.groups;
   externals = names_more bytes more kept.externals (all_externals before) h.externals;
 }
 
@@ -211,14 +236,23 @@ module _ (before : List ℕ) (r : Raw) (start : ℕ) (e : start ≡ length befor
   by_externals kept kind (Header n) old h k = subst (λ x. NamesAt whole kept.externals x) (sym (append-nil old)) k
   by_externals kept kind _ old h k = subst (λ x. NamesAt whole kept.externals x) (sym (append-nil old)) k
 
-  pub points_on : (kept : Kept) (recs : List Rec) → IsTyped (typed r) r.body → PointsTo before kept recs → PointsTo (before ++ raw_bytes r) (with_record kept start (typed r)) (recs ++ typed r ∷ [])
+  by_groups : (kept : Kept) (kind : ℕ) (c : Contents) (old : List GroupItem) → IsReadable r → (typed r).contents ≡ c → GroupsAt whole kept.groups old → GroupsAt whole (with_contents kept start kind c).groups (old ++ defined_groups c)
+  by_groups kept kind (Group g) old h s k =
+      groups_join whole kept.groups (start ∷ []) old (g ∷ []) k
+      (record { front = before; rest = []; one = r; spelled = ap (λ x. before ++ x) (sym (append-nil (raw_bytes r))); place = e; readable = h; is = s }, tt)
+  by_groups kept kind (Header n) old h s k = subst (λ x. GroupsAt whole kept.groups x) (sym (append-nil old)) k
+  by_groups kept kind _ old h s k = subst (λ x. GroupsAt whole kept.groups x) (sym (append-nil old)) k
+
+  pub points_on : (kept : Kept) (recs : List Rec) → IsReadable r → PointsTo before kept recs → PointsTo (before ++ raw_bytes r) (with_record kept start (typed r)) (recs ++ typed r ∷ [])
   points_on kept recs is h =
       let c : Contents = (typed r).contents in
-      let named : AreNamed 3 r.body c = named_contents r.kind 3 r.body c is in
+      let named : AreNamed 3 r.body c = named_contents r.kind 3 r.body c is.typed in
       let more : PointsTo whole kept recs = points_more before (raw_bytes r) kept recs h in
       record {
         names = subst (λ x. NamesAt whole (with_record kept start (typed r)).names x) (sym (flat_more (λ x. defined_names x.contents) recs (typed r)))
             (by_names (record kept { items = kept.items + items_in c }) r.kind c (all_names recs) named more.names);
+        groups = subst (λ x. GroupsAt whole (with_record kept start (typed r)).groups x) (sym (flat_more (λ x. defined_groups x.contents) recs (typed r)))
+            (by_groups (record kept { items = kept.items + items_in c }) r.kind c (all_groups recs) is refl more.groups);
         externals = subst (λ x. NamesAt whole (with_record kept start (typed r)).externals x) (sym (flat_more (λ x. defined_externals x.contents) recs (typed r)))
             (by_externals (record kept { items = kept.items + items_in c }) r.kind c (all_externals recs) named more.externals);
       }
@@ -232,3 +266,19 @@ name_of bytes (q ∷ ps) (n ∷ ns) zero p h e = (n, refl, subst (λ x. NameAt b
     some_same : (a b : ℕ) → ◌≡◌ {A = Option ℕ} (Some a) (Some b) → a ≡ b
     some_same a b e = cc
 name_of bytes (q ∷ ps) (n ∷ ns) (suc i) p h e = name_of bytes ps ns i p h.1 e
+
+pub group_of : (bytes ps : List ℕ) (gs : List GroupItem) (i p : ℕ) → GroupsAt bytes ps gs → slice_get ps i ≡ Some p → (g : GroupItem) × (slice_get gs i ≡ Some g) × GroupAt bytes p g
+group_of bytes [] gs i p h e = absurd cc
+group_of bytes (q ∷ ps) [] i p h e = absurd h
+group_of bytes (q ∷ ps) (g ∷ gs) zero p h e = (g, refl, subst (λ x. GroupAt bytes x g) (some_same q p e) h.0)
+  where
+    some_same : (a b : ℕ) → ◌≡◌ {A = Option ℕ} (Some a) (Some b) → a ≡ b
+    some_same a b e = cc
+group_of bytes (q ∷ ps) (g ∷ gs) (suc i) p h e = group_of bytes ps gs i p h.1 e
+
+pub no_group : (bytes ps : List ℕ) (gs : List GroupItem) (i : ℕ) → GroupsAt bytes ps gs → slice_get ps i ≡ None → slice_get gs i ≡ None
+no_group bytes [] [] i h e = refl
+no_group bytes [] (g ∷ gs) i h e = absurd h
+no_group bytes (p ∷ ps) [] i h e = absurd h
+no_group bytes (p ∷ ps) (g ∷ gs) zero h e = absurd cc
+no_group bytes (p ∷ ps) (g ∷ gs) (suc i) h e = no_group bytes ps gs i h.1 e
