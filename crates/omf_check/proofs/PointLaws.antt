@@ -1,14 +1,14 @@
 -- Names stand where what is kept says.
-use Rattle.std.proofs.Common.{◌≡◌, ℕ, zero, suc, ◌+◌, ◌-◌, ◌/◌, ◌%◌, ◌<◌, ◌≤◌, Bool, true, false, List, [], ◌∷◌, ◌++◌, refl, sym, ◌∙◌, ap, subst, arith, append_assoc, length, map, length-append}
-use Rattle.std.specs.Prelude.{◌==◌, ⊤, flat_map, Option, Some, None, slice_get}
+use Rattle.std.proofs.Common.{◌≡◌, ℕ, zero, suc, ◌+◌, ◌/◌, ◌%◌, ◌<◌, Bool, true, false, List, [], ◌∷◌, ◌++◌, refl, sym, ◌∙◌, ap, subst, arith, append_assoc, length, map, length-append}
+use Rattle.std.specs.Prelude.{◌==◌, ⊤, Option, Some, None, slice_get}
 use Rattle.std.proofs.lemmas.List.{append-nil}
 use Rattle.omf_frame.specs.Bytes.{is_one_of}
 use Rattle.omf_frame.specs.Framing.{Raw, raw_bytes, is_header, is_end}
 use Rattle.omf_records.specs.Entries.{external, communal}
 use Rattle.omf_records.specs.Layout.{Layout, SpellsEach, called, either, name}
 use Rattle.omf_records.specs.Reading.{typed}
-use Rattle.omf_records.specs.Records.{contents, header, comment, names, segment, group, externs, publics, communals, data_item, fixups, mod_end, carried, IsTyped}
-use Rattle.omf_records.specs.Values.{At, Rec, Contents, Header, Names, Group, GroupItem, Externs, Communals, Plain, Iterated, ExternalItem, CommunalItem, is_wide}
+use Rattle.omf_records.specs.Records.{contents, header, comment, names, segment, group, externs, publics, communals, data_item, fixups, mod_end, carried}
+use Rattle.omf_records.specs.Values.{At, Rec, Contents, Header, Names, Group, GroupItem, Externs, Communals, Plain, Iterated, is_wide}
 use Rattle.omf_check.specs.Kept.{Kept, with_record, with_contents, starts}
 use Rattle.omf_check.specs.Points.{NameAt, NamesAt, GroupAt, GroupsAt, PointsTo}
 use Rattle.omf_check.specs.Listed.{IsReadable}

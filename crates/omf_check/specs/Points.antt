@@ -35,6 +35,10 @@ pub record GroupAt (bytes : List ℕ) (at : ℕ) (g : GroupItem) : Type 0 where
   pub readable : IsReadable one
   pub is : (typed one).contents ≡ Group g
 
+-- Some group's record stands there.
+abbrev pub HasGroup : List ℕ → ℕ → Type 0
+HasGroup bytes at = (g : GroupItem) × GroupAt bytes at g
+
 abbrev pub GroupsAt : List ℕ → List ℕ → List GroupItem → Type 0
 GroupsAt bytes [] [] = ⊤
 GroupsAt bytes (p ∷ ps) (g ∷ gs) = GroupAt bytes p g × GroupsAt bytes ps gs

@@ -549,4 +549,14 @@ impl Tables {
         }
         self.externals.get(usize::from(i) - 1).copied()
     }
+
+    /// Where the GRPDEF of an index from 1 stands in the module.
+    pub fn group_place(&self, i: u16) -> Option<u64>
+        ensures { result ≡ entry self.now.groups i }
+    {
+        if i == 0 {
+            return None;
+        }
+        self.groups.get(usize::from(i) - 1).copied()
+    }
 }

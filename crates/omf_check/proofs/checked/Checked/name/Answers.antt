@@ -1,4 +1,4 @@
-use Rattle.std.proofs.Common.{◌≡◌, ◌∙◌, List, ℕ, Some, ap, subst, sym}
+use Rattle.std.proofs.Common.{◌∙◌, List, ℕ, Some, ap, subst, sym}
 use Rattle.omf_check.specs.Module.{records_in}
 use Rattle.omf_check.specs.Points.{NameAt, HasName}
 use Rattle.omf_check.specs.Tables.{names}
