@@ -102,7 +102,7 @@ nothing_tells = record {
 }
 
 -- Tables: one more record.
-flat_more : {A B : Type 0} (f : A → List B) (xs : List A) (x : A) → flat_map f (xs ++ x ∷ []) ≡ flat_map f xs ++ f x
+pub flat_more : {A B : Type 0} (f : A → List B) (xs : List A) (x : A) → flat_map f (xs ++ x ∷ []) ≡ flat_map f xs ++ f x
 flat_more f xs x = flat_map-append f xs (x ∷ []) ∙ ap (λ t. flat_map f xs ++ t) (append-nil (f x))
 
 length_more : {A B : Type 0} (kept : List A) (old new : List B) (n : ℕ) (all : List B) → length kept ≡ n + length new → n ≡ length old → all ≡ old ++ new → length kept ≡ length all

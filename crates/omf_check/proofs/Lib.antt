@@ -8,6 +8,7 @@ pub mod CellLaws
 pub mod Lesser
 pub mod Found
 pub mod KeptLaws
+pub mod PointLaws
 pub mod JudgeLaws
 pub mod ShortLaws
 pub mod RecordLaws
@@ -16,5 +17,6 @@ pub mod Moving
 pub mod Advancing
 pub mod SessionLaws
 pub mod CheckLaws
+pub mod NameLaws
 pub mod ListedLaws
 pub mod LimitLaws

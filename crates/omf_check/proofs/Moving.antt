@@ -19,6 +19,12 @@ use Rattle.omf_check.specs.Refusal.{steps, record_steps, is_empty}
 use Rattle.omf_check.specs.Tables.{item_count, items_in}
 use Rattle.omf_check.specs.WellFormed.{recs, IsWellFormed}
 use Rattle.omf_check.specs.Session.{IsPassing}
+use Rattle.omf_check.specs.Listed.{IsReadable}
+use Rattle.omf_records.specs.LawProofs.{decided}
+use Rattle.omf_check.specs.Points.{PointsTo}
+use Rattle.omf_check.proofs.AcceptLaws.{all_middle}
+use Rattle.omf_check.proofs.PointLaws.{points_on}
+use Rattle.omf_check.proofs.StepLaws.{sound_of}
 use Rattle.omf_check.proofs.KeptLaws.{tells_more, nothing_tells}
 use Rattle.omf_check.proofs.Passing.{first_none, first_number, bodies_of, flat_more, all_more}
 use Rattle.omf_check.proofs.RecordLaws.{raw_law}
@@ -50,6 +56,7 @@ started profile = record {
   running = λ e. all_none (λ r. IsTrue (not (is_end r.kind)));
   at_end = λ e. absurd (clash (sym e));
   tells = nothing_tells;
+  points = record { names = tt; groups = tt; externals = tt };
   short = omega arith;
   bounded = record { names = omega arith; segments = omega arith; groups = omega arith; externals = omega arith; items = omega arith };
 }
@@ -156,6 +163,7 @@ module _ (profile : Profile) (held : Held) (taken : List ℕ) (kept : Kept) (p :
       running = p.running;
       at_end = λ e. (ended_now e, subst (λ x. IsWellFormed profile profile_limits x p.before) (sym (ended_same e)) (p.at_end e).1);
       tells = p.tells;
+      points = p.points;
       bounded = p.bounded;
       short = short;
     }
@@ -209,6 +217,13 @@ module _ (profile : Profile) (held : Held) (taken : List ℕ) (kept : Kept) (p :
           = sound_module profile profile_limits p.before r more_records (bodies_of (p.before ++ r ∷ []) [] all_small) (ap is_end (kind_front now) ∙ e) (p.running (not_ended w)) more_sound in
           subst (λ x. IsWellFormed profile profile_limits x (p.before ++ r ∷ [])) (sym more_spelled) whole_module
 
+      is_typed : IsReadable r
+      is_typed =
+          let all_small : AreBytes (flat_map raw_bytes (p.before ++ r ∷ []) ++ []) = subst AreBytes (more_spelled ∙ sym (append-nil (flat_map raw_bytes (p.before ++ r ∷ [])))) small in
+          let body_small : AreBytes r.body = all_middle (λ x. AreBytes x.body) (p.before ++ r ∷ []) p.before [] r refl (bodies_of (p.before ++ r ∷ []) [] all_small) in
+          let sound = sound_of profile profile_limits p.before r is_record step_none in
+          record { is_record = is_record; taken = sound.known; typed = (decided r body_small).1 sound.read }
+
       recs_more : recs (p.before ++ r ∷ []) ≡ recs p.before ++ typed r ∷ []
       recs_more = map-append typed p.before (r ∷ [])
 
@@ -229,6 +244,9 @@ module _ (profile : Profile) (held : Held) (taken : List ℕ) (kept : Kept) (p :
         running = more_running;
         at_end = λ e. (refl, ends_here e);
         tells = subst (λ x. Tells (with_record kept held.start (rec_of r.kind r.body)) x) (sym recs_more) (tells_more kept (recs p.before) held.start (typed r) p.tells);
+        points = subst (λ x. PointsTo x (with_record kept held.start (rec_of r.kind r.body)) (recs (p.before ++ r ∷ []))) (sym (flat_more p.before r))
+            (subst (λ x. PointsTo (flat_map raw_bytes p.before ++ raw_bytes r) (with_record kept held.start (rec_of r.kind r.body)) x) (sym recs_more)
+            (points_on (flat_map raw_bytes p.before) r held.start p.start kept (recs p.before) is_typed p.points));
         bounded = bound;
         short = omega arith;
       }

@@ -12,6 +12,7 @@ use Rattle.omf_check.specs.declared.fault.CheckFault.{CheckFault}
 use Rattle.omf_check.specs.declared.profile.Profile.{Profile}
 use Rattle.omf_check.specs.Kept.{Kept, Tells, nothing_kept}
 use Rattle.omf_check.specs.Module.{records_from, records_in, IsChecked}
+use Rattle.omf_check.specs.Points.{PointsTo}
 use Rattle.omf_check.specs.WellFormed.{IsWellFormed, recs}
 use Rattle.omf_check.specs.Session.{Seen, IsOpen, IsPassing, IsState, Moves, Takes, framing_fault, IsEndFault}
 use Rattle.omf_check.proofs.Moving.{taken_bound, started}
@@ -117,6 +118,7 @@ checked_of profile held taken kept p e =
     record {
       well_formed = subst (λ x. IsWellFormed profile profile_limits taken x) (sym same) w;
       tells = subst (λ x. Tells kept (recs x)) (sym same) p.tells;
+      points = subst (λ x. PointsTo taken kept (recs x)) (sym same) (subst (λ x. PointsTo x kept (recs p.before)) (sym w.framed.spelled) p.points);
       bounded = p.bounded;
     }
 

@@ -3,12 +3,13 @@ pub mod Threads
 pub mod Cells
 pub mod Rules
 pub mod Kept
+pub mod Listed
+pub mod Points
 pub mod WellFormed
 pub mod Refusal
 pub mod Judging
 pub mod Verdict
 pub mod Module
-pub mod Listed
 pub mod Session
 pub mod Checking
 pub mod Laws

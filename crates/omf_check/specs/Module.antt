@@ -3,6 +3,7 @@ use Rattle.std.specs.Prelude.{ℕ, zero, suc, List, [], ◌∷◌, length}
 use Rattle.omf_frame.specs.Framing.{Raw, present, front_record, after_front}
 use Rattle.omf_image.specs.Limits.{profile_limits}
 use Rattle.omf_check.specs.Kept.{Kept, Tells, IsBounded}
+use Rattle.omf_check.specs.Points.{PointsTo}
 use Rattle.omf_check.specs.WellFormed.{IsWellFormed, recs}
 use Rattle.omf_check.specs.declared.profile.Profile.{Profile}
 
@@ -24,4 +25,5 @@ records_in bytes = records_from (length bytes) bytes
 pub record IsChecked (profile : Profile) (bytes : List ℕ) (kept : Kept) : Type 0 where
   pub well_formed : IsWellFormed profile profile_limits bytes (records_in bytes)
   pub tells : Tells kept (recs (records_in bytes))
+  pub points : PointsTo bytes kept (recs (records_in bytes))
   pub bounded : IsBounded kept

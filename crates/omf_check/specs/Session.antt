@@ -12,6 +12,7 @@ use Rattle.omf_frame.specs.declared.fault.Reason.{Reason}
 use Rattle.omf_image.specs.Limits.{profile_limits}
 use Rattle.omf_check.specs.Kept.{Kept, Tells, IsBounded}
 use Rattle.omf_check.specs.Module.{Module}
+use Rattle.omf_check.specs.Points.{PointsTo}
 use Rattle.omf_check.specs.Refusal.{IsRefused, faults_after}
 use Rattle.omf_check.specs.WellFormed.{IsWellFormed, IsAccepted, recs}
 use Rattle.omf_check.specs.declared.fault.CheckFault.{CheckFault}
@@ -107,6 +108,7 @@ pub record IsPassing (profile : Profile) (held : Held) (taken : List ℕ) (kept 
   pub running : held.ended ≡ false → All (λ r. IsTrue (not (is_end r.kind))) before
   pub at_end : held.ended ≡ true → (held.bytes ≡ []) × IsWellFormed profile profile_limits taken before
   pub tells : Tells kept (recs before)
+  pub points : PointsTo (flat_map raw_bytes before) kept (recs before)
   pub bounded : IsBounded kept
   pub short : length held.bytes ≤ 65538
 

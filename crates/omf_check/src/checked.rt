@@ -1,16 +1,23 @@
 //! A module that was checked.
 
-ghost use Rattle.std.specs.Prelude.{◌≡◌, length};
+ghost use Rattle.std.specs.Prelude.{◌≡◌, length, drop, option_map};
 ghost use Rattle.omf_image.specs.Limits.{profile_limits};
 ghost use Rattle.omf_check.specs.Module.{records_in, IsChecked};
 ghost use Rattle.omf_check.specs.Listed.{placed_from};
+ghost use Rattle.omf_check.specs.Points.{NameAt, HasName, HasGroup};
+ghost use Rattle.omf_frame.specs.Framing.{front_record, present};
+ghost use Rattle.omf_records.specs.Reading.{typed};
+ghost use Rattle.omf_records.specs.Seen.{contents_seen, rec_seen};
+ghost use Rattle.omf_records.specs.Values.{Group};
 ghost use Rattle.omf_check.specs.Tables.{names, segments, groups, externals, entry};
 ghost use Rattle.omf_check.specs.WellFormed.{recs, IsWellFormed};
 
 use crate::profile::Profile;
-use crate::records::Records;
+use crate::records::{Records, first_record};
 use crate::segment::SegInfo;
 use crate::table::Tables;
+use omf_frame::{Field, Name};
+use omf_records::Rec;
 use std::marker::Model;
 
 /// A well-formed module: its bytes, and the profile under which it is one. Only a check makes it.
@@ -29,6 +36,27 @@ impl Model for Checked {
     ghost view = { λ c. record { bytes = c.bytes.items; profile = c.profile } };
 
     ghost invariant = { λ c. IsChecked c.profile c.bytes.items c.tables };
+}
+
+/// The name that stands at an offset of the module.
+fn name_at(bytes: &[u8], place: u64) -> Name<'_>
+    requires { HasName bytes.now place }
+    ensures { NameAt bytes.now place result }
+{
+    match Name::read_at(bytes, place as usize) {
+        Some((name, _)) => name,
+        None => unreachable!(),
+    }
+}
+
+/// The typed record of the GRPDEF that stands at an offset of the module.
+fn group_at(bytes: &[u8], place: u64) -> Rec<'_>
+    requires { HasGroup bytes.now place }
+    ensures { rec_seen result ≡ typed (front_record (present (drop place bytes.now))) }
+{
+    let (_front, behind) = bytes.split_at(place as usize);
+    let (rec, _rest) = first_record(behind);
+    rec
 }
 
 impl Checked {
@@ -98,5 +126,35 @@ impl Checked {
         ensures { result ≡ placed_from 0 0 (records_in self.now.bytes) }
     {
         Records::new(&self.bytes)
+    }
+
+    /// A name, by its index from 1; `None` outside the table.
+    pub fn name(&self, i: u16) -> Option<Name<'_>>
+        ensures { result ≡ entry (names (recs (records_in self.now.bytes))) i }
+    {
+        match self.tables.name_place(i) {
+            Some(place) => Some(name_at(&self.bytes, place)),
+            None => None,
+        }
+    }
+
+    /// An external name, by its index from 1; `None` outside the table.
+    pub fn external(&self, i: u16) -> Option<Name<'_>>
+        ensures { result ≡ entry (externals (recs (records_in self.now.bytes))) i }
+    {
+        match self.tables.external_place(i) {
+            Some(place) => Some(name_at(&self.bytes, place)),
+            None => None,
+        }
+    }
+
+    /// The typed record of a group's GRPDEF, by the group's index from 1; `None` outside the table.
+    pub fn group(&self, i: u16) -> Option<Rec<'_>>
+        ensures { option_map contents_seen result ≡ option_map Group (entry (groups (recs (records_in self.now.bytes))) i) }
+    {
+        match self.tables.group_place(i) {
+            Some(place) => Some(group_at(&self.bytes, place)),
+            None => None,
+        }
     }
 }

@@ -35,7 +35,7 @@ fn split_record<'a>(bytes: &'a [u8]) -> (RawRecord<'a>, &'a [u8])
 }
 
 /// The typed record that the bytes begin with, and the bytes after it.
-fn first_record<'a>(bytes: &'a [u8]) -> (Rec<'a>, &'a [u8])
+pub(crate) fn first_record<'a>(bytes: &'a [u8]) -> (Rec<'a>, &'a [u8])
     requires { StartsWithRecord bytes.now }
     ensures rec { rec_seen result.0 ≡ typed (front_record (present bytes.entry.now)) }
     ensures rest { result.1.now ≡ after_front bytes.entry.now }

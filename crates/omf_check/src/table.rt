@@ -529,4 +529,34 @@ impl Tables {
         }
         self.segments.get(usize::from(i) - 1).copied()
     }
+
+    /// Where the name of an index from 1 stands in the module.
+    pub fn name_place(&self, i: u16) -> Option<u64>
+        ensures { result ≡ entry self.now.names i }
+    {
+        if i == 0 {
+            return None;
+        }
+        self.names.get(usize::from(i) - 1).copied()
+    }
+
+    /// Where the external name of an index from 1 stands in the module.
+    pub fn external_place(&self, i: u16) -> Option<u64>
+        ensures { result ≡ entry self.now.externals i }
+    {
+        if i == 0 {
+            return None;
+        }
+        self.externals.get(usize::from(i) - 1).copied()
+    }
+
+    /// Where the GRPDEF of an index from 1 stands in the module.
+    pub fn group_place(&self, i: u16) -> Option<u64>
+        ensures { result ≡ entry self.now.groups i }
+    {
+        if i == 0 {
+            return None;
+        }
+        self.groups.get(usize::from(i) - 1).copied()
+    }
 }

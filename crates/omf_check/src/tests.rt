@@ -2,7 +2,7 @@
 
 ghost use Rattle.std.specs.Prelude.{◌<◌};
 
-use crate::{CheckFault, Profile, Session, check};
+use crate::{CheckFault, Profile, SegInfo, Session, check};
 use omf_frame::{Place, Reading, Reason, Source};
 use std::alloc::{AllocError, Global};
 use std::test::Fail;
@@ -448,5 +448,39 @@ fn takes_one_record_at_most(rt: HostRuntime) -> Result<(), Fail> {
         ),
         (2, 1, 0, 0)
     );
+    Ok(())
+}
+
+#[test]
+fn shows_tables(rt: HostRuntime) -> Result<(), Fail> {
+    let bytes = module(rt.alloc(), &[&H, &N, &S, &L, &F, &M])?;
+    let mut reader = Reading::new(bytes.as_slice());
+    let checked = check(rt.alloc(), &mut reader, ANY)?;
+    let segment = SegInfo {
+        length: 4,
+        absolute: None,
+        name: 2,
+        class: 1,
+    };
+    assert_eq!(rt; checked.segment(1), Some(segment));
+    assert_eq!(rt; checked.segment(2), None);
+    assert_eq!(rt; checked.name(2).map(|name| name.0.len()), Some(1));
+    assert_eq!(rt; checked.name(3).is_none(), true);
+    assert_eq!(rt; checked.group(1).is_none(), true);
+    assert_eq!(rt; checked.external(1).is_none(), true);
+    let mut records = checked.records();
+    for (number, start) in [(0, 0), (1, 6), (2, 13), (3, 23), (4, 34), (5, 43)] {
+        let place = Place {
+            number,
+            start,
+            within: 0,
+        };
+        let found = match records.next() {
+            Some((found, _rec)) => Some(found),
+            None => None,
+        };
+        assert_eq!(rt; found, Some(place));
+    }
+    assert_eq!(rt; records.next().is_none(), true);
     Ok(())
 }
