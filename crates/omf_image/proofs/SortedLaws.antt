@@ -347,3 +347,13 @@ pub bytes_at_is : (segment k : ℕ) (ls : List Laid) (found : Option Laid) → A
     → AreBytesAt (byte_at ls segment) k (option_map (λ l. l.bytes) found)
 bytes_at_is segment k ls None h e = (None, run_at_is segment k ls None h e, refl)
 bytes_at_is segment k ls (Some l) h e = (Some (span l), run_at_is segment k ls (Some l) h e, (l.bytes, refl, run_bytes_over segment k ls l h (sym e)))
+
+pub run_fits : (from segment k : ℕ) (ls : List Laid) (l : Laid) → AreSorted from ls → slice_get (in_segment segment ls) k ≡ Some l → l.offset + length l.bytes ≤ 4294967296
+run_fits from segment k [] l h e = absurd cc
+run_fits from segment k (m ∷ ls) l (at, some, fits, others) e = by (λ n f. run_fits (high m + 1) segment n ls l others f) (m.segment == segment) k e
+  where
+    by : ((n : ℕ) → slice_get (in_segment segment ls) n ≡ Some l → l.offset + length l.bytes ≤ 4294967296)
+        → (b : Bool) → (k : ℕ) → slice_get (if b then m ∷ in_segment segment ls else in_segment segment ls) k ≡ Some l → l.offset + length l.bytes ≤ 4294967296
+    by again true zero f = subst (λ t. t.offset + length t.bytes ≤ 4294967296) (some_is m l f) fits
+    by again true (suc k) f = again k f
+    by again false k f = again k f

@@ -4,7 +4,7 @@ use Rattle.std.specs.Prelude.{IsSome, IsNone, slice_get}
 use Rattle.std.specs.Option.{option_or}
 use Rattle.std.proofs.lemmas.List.{append-nil}
 use Rattle.omf_image.specs.declared.run.Run.{Run}
-use Rattle.omf_image.specs.Overlay.{Laid, byte_of, byte_at, IsRun, AreRuns, AreLaidOver}
+use Rattle.omf_image.specs.Overlay.{Laid, byte_of, byte_at, IsRun, AreRuns, IsRunAt, AreLaidOver}
 use Rattle.omf_image.specs.Joined.{runs_of}
 use Rattle.omf_image.specs.Laws.{ImagesAreOverlays, NoBytesCoverNothing}
 use Rattle.omf_image.proofs.RunLaws.{byte_at-append, byte_some, joined_are_runs, runs_unique}
@@ -33,6 +33,10 @@ are_runs_as f g e runs h = record {
   all = λ r i. h.all r (is_run_as g f (λ x. sym (e x)) r i);
   rising = h.rising;
 }
+
+-- There is one k-th interval.
+pub run_at_unique : (byte : ℕ → Option ℕ) (k : ℕ) (r s : Option Run) → IsRunAt byte k r → IsRunAt byte k s → r ≡ s
+run_at_unique byte k r s h i = h.2 ∙ ap (λ z. slice_get z k) (runs_unique byte h.0 i.0 h.1 i.1) ∙ sym i.2
 
 pub images_are : ImagesAreOverlays
 images_are pieces image h =

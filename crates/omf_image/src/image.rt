@@ -1,6 +1,6 @@
 //! An image in which the last piece laid wins.
 
-ghost use Rattle.std.specs.Prelude.{◌≡◌, ℕ, ◌+◌, ◌-◌, ◌^◌, ◌<◌, ◌≤◌, List, [], ◌∷◌, ◌++◌, length, take, drop, vec_len, slice_get, OnOk, OnErr};
+ghost use Rattle.std.specs.Prelude.{◌≡◌, ℕ, ◌+◌, ◌-◌, ◌^◌, ◌<◌, ◌≤◌, List, [], ◌∷◌, ◌++◌, length, take, drop, vec_len, slice_get, IfSome, OnOk, OnErr};
 ghost use Rattle.std.specs.Option.{option_copied, option_map};
 ghost use Rattle.omf_image.specs.Overlay.{byte_of, byte_at, IsRunAt, AreBytesAt, IsLaidOver};
 ghost use Rattle.omf_image.specs.Sorted.{laid_run, laid_runs, span, in_segment, line_place, low, high, AreSorted, EndBefore, EndFrom, BeginBy, BeginAfter, Touches, extended, over, over_all};
@@ -180,6 +180,9 @@ fn join_runs(
     piece.extend_to(&runs[start + 1..start + count])?;
     let first = &mut runs[start];
     first.overlay(piece)?;
+    if count == 1 {
+        return Ok(());
+    }
     runs.drain(start + 1..start + count);
     Ok(())
 }
@@ -223,7 +226,8 @@ impl Image {
 
     /// The maximal covered interval of a segment with a number, from 0 in rising order; None beyond the last.
     pub fn run_at(&self, segment: u16, k: usize) -> Option<Run>
-        ensures { IsRunAt (byte_at self.now segment) k result }
+        ensures maximal { IsRunAt (byte_at self.now segment) k result }
+        ensures within { IfSome result (λ run. run.first + run.len ≤ 2 ^ 32) }
     {
         Some(find_run(&self.runs, segment, k)?.run())
     }

@@ -1,6 +1,7 @@
-use Rattle.std.proofs.Common.{◌<◌, ◌≤◌, ◌+◌, ◌∙◌, List, sym, ap, subst, length, get_or, arith, rules}
+use Rattle.std.proofs.Common.{◌≡◌, ◌<◌, ◌≤◌, ◌+◌, ◌++◌, ◌∙◌, List, sym, ap, subst, length, take, drop, get_or, arith, rules}
+use Rattle.std.proofs.Math.ListN.{set}
 use Rattle.std.specs.Prelude.{slice_range}
-use Rattle.std.proofs.lemmas.List.{get_or_default}
+use Rattle.std.proofs.lemmas.List.{get_or_default, take-append-drop}
 use Rattle.omf_image.specs.declared.image.Covered.{Covered}
 use Rattle.omf_image.specs.Overlay.{Laid}
 use Rattle.omf_image.specs.Sorted.{laid_run, laid_runs, low, AreSorted, Touches, over_all}
@@ -56,6 +57,16 @@ returns-in_err-overlay-clause-unchanged c =
     let within : c.args.start + c.args.count ≤ length cs = search rules in
     let inside : c.args.start < length cs = omega (arith, within, c.requires.some) in
     on_err _ (same_runs cs c.args.start c.index_mut-first.result.now c.overlay.new.self inside (search rules) c.in_err-overlay.ensures.unchanged)
+
+pub returns-then-count-eq1-clause-joined : goal.returns-then-count-eq1-clause-joined
+returns-then-count-eq1-clause-joined c =
+    let cs : List Covered = c.args.runs.now.items in
+    let within : c.args.start + c.args.count ≤ length cs = search rules in
+    let is = c.in_ok-extend_to.ensures ∙ ap (λ xs. over_all (laid_run c.args.piece) (laid_runs (slice_range xs (c.args.start + 1) (c.args.start + c.args.count)))) c.deref.ensures.value in
+    let one : c.args.start + c.args.count ≡ c.args.start + 1 = omega (arith, c.if-count-eq1.true) in
+    let kept : List Covered = set cs c.args.start c.overlay.new.self in
+    joined_are cs kept c.args.start c.args.count c.index_mut-first.result.now c.overlay.new.self (laid_run c.args.piece) (laid_run c.extend_to.new.self) within c.requires.some (search rules)
+    (sym (ap (λ n. take (c.args.start + 1) kept ++ drop n kept) one ∙ take-append-drop (c.args.start + 1) kept)) c.in_ok-overlay.ensures.laid is
 
 pub returns-clause-joined : goal.returns-clause-joined
 returns-clause-joined c =
