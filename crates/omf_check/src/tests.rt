@@ -3,6 +3,7 @@
 ghost use Rattle.std.specs.Prelude.{◌<◌};
 
 use crate::{CheckFault, Profile, SegInfo, Session, check};
+use omf_frame::faulty::{Script, Then};
 use omf_frame::{Place, Reading, Reason, Source};
 use std::alloc::{AllocError, Global};
 use std::test::Fail;
@@ -78,11 +79,11 @@ fn in_pieces(alloc: Global, bytes: &[u8], size: usize, profile: Profile) -> Answ
     Ok(session.finish()?.bytes().len())
 }
 
-/// The one answer of a reader and of pieces of 1, 2 and 7 bytes; `None` where they differ.
+/// The one answer of a reader and of pieces of 1, 2, 5 and 7 bytes; `None` where they differ.
 fn answer(alloc: Global, records: &[&[u8]]) -> Result<Option<Answer>, AllocError> {
     let bytes = module(alloc, records)?;
     let whole = by_check(alloc, &bytes, ANY);
-    for size in [1, 2, 7] {
+    for size in [1, 2, 5, 7] {
         if in_pieces(alloc, &bytes, size, ANY) != whole {
             return Ok(None);
         }
@@ -342,6 +343,106 @@ fn judges_comments(rt: HostRuntime) -> Result<(), Fail> {
     Ok(())
 }
 
+#[test]
+fn takes_self_relative_fixups(rt: HostRuntime) -> Result<(), Fail> {
+    let a = rt.alloc();
+    let near = [
+        0xA0, 0x08, 0x00, 0x01, 0x00, 0x00, 0xE8, 0x00, 0x00, 0x90, 0xDF,
+    ];
+    let call = [0x9C, 0x06, 0x00, 0x84, 0x01, 0x04, 0x01, 0x01, 0xD3];
+    assert_eq!(rt; answer(a, &[&H, &N, &S, &near, &call, &M])?, accepted(48));
+    let external = [0x8C, 0x04, 0x00, 0x01, 0x58, 0x00, 0x17];
+    let short = [
+        0xA0, 0x08, 0x00, 0x01, 0x00, 0x00, 0xEB, 0x00, 0x00, 0x90, 0xDC,
+    ];
+    let jump = [0x9C, 0x06, 0x00, 0x80, 0x01, 0x06, 0x01, 0x01, 0xD5];
+    assert_eq!(rt;
+        answer(a, &[&H, &N, &S, &external, &short, &jump, &M])?,
+        accepted(55)
+    );
+    Ok(())
+}
+
+#[test]
+fn takes_wide_records_in_a_flat_group(rt: HostRuntime) -> Result<(), Fail> {
+    let names = [
+        0x96, 0x09, 0x00, 0x00, 0x01, 0x54, 0x04, 0x46, 0x4C, 0x41, 0x54, 0xE1,
+    ];
+    let segment = [
+        0x99, 0x09, 0x00, 0xA9, 0x0A, 0x00, 0x00, 0x00, 0x02, 0x01, 0x01, 0xA7,
+    ];
+    let flat = [0x9A, 0x02, 0x00, 0x03, 0x61];
+    let data = [
+        0xA1, 0x10, 0x00, 0x01, 0x00, 0x00, 0x00, 0x00, 0x00, 0x00, 0x00, 0x00, 0x00, 0x00, 0x00,
+        0x00, 0x00, 0x00, 0x4E,
+    ];
+    let fixups = [
+        0x9D, 0x0F, 0x00, 0xEC, 0x00, 0x14, 0x01, 0x01, 0xE4, 0x06, 0x10, 0x01, 0x01, 0x04, 0x00,
+        0x00, 0x00, 0x52,
+    ];
+    assert_eq!(rt;
+        answer(
+            rt.alloc(),
+            &[&H, &names, &segment, &flat, &data, &fixups, &M]
+        )?,
+        accepted(77)
+    );
+    Ok(())
+}
+
+#[test]
+fn takes_an_absolute_segment(rt: HostRuntime) -> Result<(), Fail> {
+    let absolute = [
+        0x98, 0x0A, 0x00, 0x08, 0x00, 0xB8, 0x00, 0x04, 0x00, 0x02, 0x01, 0x01, 0x96,
+    ];
+    assert_eq!(rt;
+        answer(rt.alloc(), &[&H, &N, &absolute, &L, &F, &M])?,
+        accepted(51)
+    );
+    Ok(())
+}
+
+/// The first module by a reader that behaves as the script says.
+fn by_script(alloc: Global, script: Script<'_>) -> Answer {
+    let mut reader = script;
+    let checked = check(alloc, &mut reader, ANY)?;
+    Ok(checked.bytes().len())
+}
+
+#[test]
+fn names_a_failing_reader(rt: HostRuntime) -> Result<(), Fail> {
+    let a = rt.alloc();
+    let bytes = module(a, &[&H, &N, &S, &L, &F, &M])?;
+    for count in 0..bytes.len() {
+        let front = bytes.as_slice().split_at(count).0;
+        assert_eq!(rt;
+            by_script(a, Script::new(front, Then::Fails)),
+            Err(CheckFault::Read)
+        );
+    }
+    assert_eq!(rt; by_script(a, Script::new(&bytes, Then::Fails)), Ok(48));
+    assert_eq!(rt;
+        by_script(a, Script::new(&bytes, Then::Repeats(0x20))),
+        Ok(48)
+    );
+    Ok(())
+}
+
+#[test]
+fn goes_on_after_interruptions(rt: HostRuntime) -> Result<(), Fail> {
+    let a = rt.alloc();
+    let bytes = module(a, &[&H, &N, &S, &L, &F, &M])?;
+    assert_eq!(rt;
+        by_script(a, Script::new(&bytes, Then::Ends).interrupted(999)),
+        Ok(48)
+    );
+    assert_eq!(rt;
+        by_script(a, Script::new(&bytes, Then::Ends).interrupted(1000)),
+        Err(CheckFault::Read)
+    );
+    Ok(())
+}
+
 /// One record of names without bytes, so many of them.
 fn many_names(alloc: Global, count: u16) -> Result<Vec<u8>, AllocError>
     requires { count < 65535 }
@@ -369,36 +470,37 @@ fn limits_names(rt: HostRuntime) -> Result<(), Fail> {
     Ok(())
 }
 
-/// A header, so many empty FIXUPPs and the end, to a session in pieces of one size.
-fn empty_fixups(alloc: Global, count: u32, size: usize) -> Result<Answer, AllocError>
-    requires { 0 < size }
-{
+/// A header, so many empty FIXUPPs and the end.
+fn empty_fixups(alloc: Global, count: u32) -> Result<Vec<u8>, AllocError> {
     let mut bytes = module(alloc, &[&H])?;
     for _ in 0..count {
         bytes.extend_from_slice(&[0x9C, 0x01, 0x00, 0x63])?;
     }
     bytes.extend_from_slice(&M)?;
-    Ok(in_pieces(alloc, &bytes, size, ANY))
+    Ok(bytes)
 }
 
 #[test]
 fn limits_items_in_bytes(rt: HostRuntime) -> Result<(), Fail> {
-    let whole = empty_fixups(rt.alloc(), 1_048_574, 1)?;
-    assert_eq!(rt; whole, Ok(4_194_307));
+    let most = empty_fixups(rt.alloc(), 1_048_574)?;
+    assert_eq!(rt; in_pieces(rt.alloc(), &most, 1, ANY), Ok(4_194_307));
+    assert_eq!(rt; by_check(rt.alloc(), &most, ANY), Ok(4_194_307));
     Ok(())
 }
 
 #[test]
 fn limits_items_in_pieces(rt: HostRuntime) -> Result<(), Fail> {
-    let whole = empty_fixups(rt.alloc(), 1_048_574, 7)?;
-    assert_eq!(rt; whole, Ok(4_194_307));
+    let most = empty_fixups(rt.alloc(), 1_048_574)?;
+    assert_eq!(rt; in_pieces(rt.alloc(), &most, 7, ANY), Ok(4_194_307));
     Ok(())
 }
 
 #[test]
 fn refuses_an_item_too_many(rt: HostRuntime) -> Result<(), Fail> {
-    let over = empty_fixups(rt.alloc(), 1_048_575, 2)?;
-    assert_eq!(rt; over, refused(Reason::TooMany, 1_048_576, 4_194_306, 0));
+    let over = empty_fixups(rt.alloc(), 1_048_575)?;
+    let expected = refused(Reason::TooMany, 1_048_576, 4_194_306, 0);
+    assert_eq!(rt; in_pieces(rt.alloc(), &over, 2, ANY), expected);
+    assert_eq!(rt; by_check(rt.alloc(), &over, ANY), expected);
     Ok(())
 }
 
