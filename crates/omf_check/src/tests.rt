@@ -17,22 +17,22 @@ const NO_VENDORS: Profile = Profile {
 };
 
 // A header, a name T, a segment T of 4 bytes, its data, a fixup of its bytes 1 and 2, and the end.
-const H: [u8; 6] = [0x80, 0x03, 0x00, 0x01, 0x41, 0x3B];
+const HEADER: [u8; 6] = [0x80, 0x03, 0x00, 0x01, 0x41, 0x3B];
 
-const N: [u8; 7] = [0x96, 0x04, 0x00, 0x00, 0x01, 0x54, 0x11];
+const NAMES: [u8; 7] = [0x96, 0x04, 0x00, 0x00, 0x01, 0x54, 0x11];
 
-const S: [u8; 10] = [0x98, 0x07, 0x00, 0x28, 0x04, 0x00, 0x02, 0x01, 0x01, 0x31];
+const SEGMENT: [u8; 10] = [0x98, 0x07, 0x00, 0x28, 0x04, 0x00, 0x02, 0x01, 0x01, 0x31];
 
-const L: [u8; 11] = [
+const DATA: [u8; 11] = [
     0xA0, 0x08, 0x00, 0x01, 0x00, 0x00, 0xB8, 0x00, 0x00, 0x90, 0x0F,
 ];
 
-const F: [u8; 9] = [0x9C, 0x06, 0x00, 0xC4, 0x01, 0x04, 0x01, 0x01, 0x93];
+const FIXUP: [u8; 9] = [0x9C, 0x06, 0x00, 0xC4, 0x01, 0x04, 0x01, 0x01, 0x93];
 
-const M: [u8; 5] = [0x8A, 0x02, 0x00, 0x00, 0x74];
+const END: [u8; 5] = [0x8A, 0x02, 0x00, 0x00, 0x74];
 
 // A segment of 12 bytes.
-const S12: [u8; 10] = [0x98, 0x07, 0x00, 0x28, 0x0C, 0x00, 0x02, 0x01, 0x01, 0x29];
+const SEGMENT_OF_12: [u8; 10] = [0x98, 0x07, 0x00, 0x28, 0x0C, 0x00, 0x02, 0x01, 0x01, 0x29];
 
 /// The length of the module that is accepted, or the fault.
 type Answer = Result<usize, CheckFault>;
@@ -102,9 +102,23 @@ fn fault(reason: Reason, number: u32, start: u64, within: u32) -> Option<Answer>
 #[test]
 fn takes_a_module(rt: HostRuntime) -> Result<(), Fail> {
     let a = rt.alloc();
-    assert_eq!(rt; answer(a, &[&H, &N, &S, &L, &F, &M])?, accepted(48));
     assert_eq!(rt;
-        answer(a, &[&H, &N, &S, &L, &F, &M, &[0xDE, 0xAD]])?,
+        answer(a, &[&HEADER, &NAMES, &SEGMENT, &DATA, &FIXUP, &END])?,
+        accepted(48)
+    );
+    assert_eq!(rt;
+        answer(
+            a,
+            &[
+                &HEADER,
+                &NAMES,
+                &SEGMENT,
+                &DATA,
+                &FIXUP,
+                &END,
+                &[0xDE, 0xAD]
+            ]
+        )?,
         accepted(48)
     );
     Ok(())
@@ -112,10 +126,24 @@ fn takes_a_module(rt: HostRuntime) -> Result<(), Fail> {
 
 #[test]
 fn leaves_what_follows_unread(rt: HostRuntime) -> Result<(), Fail> {
-    let bytes = module(rt.alloc(), &[&H, &N, &S, &L, &F, &M, &[0xDE, 0xAD]])?;
+    let bytes = module(
+        rt.alloc(),
+        &[
+            &HEADER,
+            &NAMES,
+            &SEGMENT,
+            &DATA,
+            &FIXUP,
+            &END,
+            &[0xDE, 0xAD],
+        ],
+    )?;
     let mut reader = Reading::new(bytes.as_slice());
     let checked = check(rt.alloc(), &mut reader, ANY)?;
-    let expected = module(rt.alloc(), &[&H, &N, &S, &L, &F, &M])?;
+    let expected = module(
+        rt.alloc(),
+        &[&HEADER, &NAMES, &SEGMENT, &DATA, &FIXUP, &END],
+    )?;
     assert_eq!(rt; checked.bytes(), expected.as_slice());
     let mut rest = [0; 4];
     assert_eq!(rt; reader.pull(&mut rest)?, 2);
@@ -128,11 +156,11 @@ fn names_an_early_end(rt: HostRuntime) -> Result<(), Fail> {
     let a = rt.alloc();
     assert_eq!(rt; answer(a, &[])?, fault(Reason::NoEnd, 0, 0, 0));
     assert_eq!(rt;
-        answer(a, &[&H, &N, &S, &L, &[0x9C, 0x06]])?,
+        answer(a, &[&HEADER, &NAMES, &SEGMENT, &DATA, &[0x9C, 0x06]])?,
         fault(Reason::Cut, 4, 34, 2)
     );
     assert_eq!(rt;
-        answer(a, &[&H, &N, &S, &L, &F])?,
+        answer(a, &[&HEADER, &NAMES, &SEGMENT, &DATA, &FIXUP])?,
         fault(Reason::NoEnd, 5, 43, 0)
     );
     Ok(())
@@ -145,14 +173,24 @@ fn judges_checksums(rt: HostRuntime) -> Result<(), Fail> {
         0xA0, 0x08, 0x00, 0x01, 0x00, 0x00, 0xB8, 0x00, 0x00, 0x90, 0x10,
     ];
     assert_eq!(rt;
-        answer(a, &[&H, &N, &S, &wrong, &F, &M])?,
+        answer(a, &[&HEADER, &NAMES, &SEGMENT, &wrong, &FIXUP, &END])?,
         fault(Reason::Checksum, 3, 23, 10)
     );
     let zero = [
         0xA0, 0x08, 0x00, 0x01, 0x00, 0x00, 0xB8, 0x00, 0x00, 0x90, 0x00,
     ];
     assert_eq!(rt;
-        answer(a, &[&H, &N, &S, &zero, &F, &[0x8A, 0x02, 0x00, 0x00, 0x00]])?,
+        answer(
+            a,
+            &[
+                &HEADER,
+                &NAMES,
+                &SEGMENT,
+                &zero,
+                &FIXUP,
+                &[0x8A, 0x02, 0x00, 0x00, 0x00]
+            ]
+        )?,
         accepted(48)
     );
     Ok(())
@@ -162,7 +200,7 @@ fn judges_checksums(rt: HostRuntime) -> Result<(), Fail> {
 fn judges_types(rt: HostRuntime) -> Result<(), Fail> {
     let a = rt.alloc();
     assert_eq!(rt;
-        answer(a, &[&H, &[0xC2]])?,
+        answer(a, &[&HEADER, &[0xC2]])?,
         fault(Reason::UnsupportedType, 1, 6, 0)
     );
     assert_eq!(rt;
@@ -170,7 +208,7 @@ fn judges_types(rt: HostRuntime) -> Result<(), Fail> {
         fault(Reason::UnsupportedType, 0, 0, 0)
     );
     assert_eq!(rt; answer(a, &[&[0x00]])?, fault(Reason::UnknownType, 0, 0, 0));
-    assert_eq!(rt; answer(a, &[&M])?, fault(Reason::NoHeader, 0, 0, 0));
+    assert_eq!(rt; answer(a, &[&END])?, fault(Reason::NoHeader, 0, 0, 0));
     Ok(())
 }
 
@@ -180,39 +218,70 @@ fn takes_a_two_byte_index(rt: HostRuntime) -> Result<(), Fail> {
         0xA0, 0x09, 0x00, 0x80, 0x01, 0x00, 0x00, 0xB8, 0x00, 0x00, 0x90, 0x8E,
     ];
     assert_eq!(rt;
-        answer(rt.alloc(), &[&H, &N, &S, &long, &F, &M])?,
+        answer(
+            rt.alloc(),
+            &[&HEADER, &NAMES, &SEGMENT, &long, &FIXUP, &END]
+        )?,
         accepted(49)
     );
     Ok(())
 }
 
 // A second segment, data in it, threads and their use across records.
-const S2: [u8; 10] = [0x98, 0x07, 0x00, 0x28, 0x02, 0x00, 0x02, 0x01, 0x01, 0x33];
+const SECOND_SEGMENT: [u8; 10] = [0x98, 0x07, 0x00, 0x28, 0x02, 0x00, 0x02, 0x01, 0x01, 0x33];
 
-const L4: [u8; 11] = [
+const DATA_OF_4: [u8; 11] = [
     0xA0, 0x08, 0x00, 0x01, 0x00, 0x00, 0x00, 0x00, 0x00, 0x00, 0x57,
 ];
 
-const T1: [u8; 12] = [
+const THREADS: [u8; 12] = [
     0x9C, 0x09, 0x00, 0x50, 0x00, 0x01, 0xC4, 0x00, 0x8C, 0x00, 0x02, 0xB8,
 ];
 
-const T2: [u8; 7] = [0x9C, 0x04, 0x00, 0xC4, 0x02, 0x8C, 0x0E];
+const USES: [u8; 7] = [0x9C, 0x04, 0x00, 0xC4, 0x02, 0x8C, 0x0E];
 
-const L2: [u8; 9] = [0xA0, 0x06, 0x00, 0x02, 0x00, 0x00, 0x00, 0x00, 0x58];
+const SECOND_DATA: [u8; 9] = [0xA0, 0x06, 0x00, 0x02, 0x00, 0x00, 0x00, 0x00, 0x58];
 
-const T3: [u8; 7] = [0x9C, 0x04, 0x00, 0xC4, 0x00, 0x8C, 0x10];
+const SECOND_USE: [u8; 7] = [0x9C, 0x04, 0x00, 0xC4, 0x00, 0x8C, 0x10];
 
 #[test]
 fn keeps_threads(rt: HostRuntime) -> Result<(), Fail> {
     let a = rt.alloc();
     assert_eq!(rt;
-        answer(a, &[&H, &N, &S, &S2, &L4, &T1, &T2, &L2, &T3, &M])?,
+        answer(
+            a,
+            &[
+                &HEADER,
+                &NAMES,
+                &SEGMENT,
+                &SECOND_SEGMENT,
+                &DATA_OF_4,
+                &THREADS,
+                &USES,
+                &SECOND_DATA,
+                &SECOND_USE,
+                &END
+            ]
+        )?,
         accepted(84)
     );
     let unset = [0x9C, 0x04, 0x00, 0xC4, 0x02, 0x8D, 0x0D];
     assert_eq!(rt;
-        answer(a, &[&H, &N, &S, &S2, &L4, &T1, &unset, &L2, &T3, &M])?,
+        answer(
+            a,
+            &[
+                &HEADER,
+                &NAMES,
+                &SEGMENT,
+                &SECOND_SEGMENT,
+                &DATA_OF_4,
+                &THREADS,
+                &unset,
+                &SECOND_DATA,
+                &SECOND_USE,
+                &END
+            ]
+        )?,
         fault(Reason::UndefinedThread, 6, 56, 5)
     );
     Ok(())
@@ -225,22 +294,28 @@ fn judges_blocks(rt: HostRuntime) -> Result<(), Fail> {
         0xA2, 0x15, 0x00, 0x01, 0x00, 0x00, 0x03, 0x00, 0x02, 0x00, 0x02, 0x00, 0x00, 0x00, 0x01,
         0xAA, 0x01, 0x00, 0x00, 0x00, 0x02, 0xBB, 0xCC, 0x0C,
     ];
-    assert_eq!(rt; answer(a, &[&H, &N, &S12, &nested, &M])?, accepted(52));
     assert_eq!(rt;
-        answer(a, &[&H, &N, &S12, &nested, &F, &M])?,
+        answer(a, &[&HEADER, &NAMES, &SEGMENT_OF_12, &nested, &END])?,
+        accepted(52)
+    );
+    assert_eq!(rt;
+        answer(a, &[&HEADER, &NAMES, &SEGMENT_OF_12, &nested, &FIXUP, &END])?,
         fault(Reason::FixupOnIterated, 4, 47, 3)
     );
     let none = [
         0xA3, 0x0D, 0x00, 0x01, 0x00, 0x00, 0x00, 0x00, 0xFF, 0xFF, 0xFF, 0xFF, 0x00, 0x00, 0x00,
         0x53,
     ];
-    assert_eq!(rt; answer(a, &[&H, &N, &S12, &none, &M])?, accepted(44));
+    assert_eq!(rt;
+        answer(a, &[&HEADER, &NAMES, &SEGMENT_OF_12, &none, &END])?,
+        accepted(44)
+    );
     let long = [
         0xA3, 0x0E, 0x00, 0x01, 0x00, 0x00, 0x00, 0x00, 0x01, 0x00, 0x00, 0x01, 0x00, 0x00, 0x01,
         0xAA, 0xA1,
     ];
     assert_eq!(rt;
-        answer(a, &[&H, &N, &S12, &long, &M])?,
+        answer(a, &[&HEADER, &NAMES, &SEGMENT_OF_12, &long, &END])?,
         fault(Reason::DataTooLong, 3, 23, 8)
     );
     let most = [
@@ -248,7 +323,7 @@ fn judges_blocks(rt: HostRuntime) -> Result<(), Fail> {
         0xAA, 0xA2,
     ];
     assert_eq!(rt;
-        answer(a, &[&H, &N, &S12, &most, &M])?,
+        answer(a, &[&HEADER, &NAMES, &SEGMENT_OF_12, &most, &END])?,
         fault(Reason::OutsideSegment, 3, 23, 4)
     );
     Ok(())
@@ -258,18 +333,24 @@ fn judges_blocks(rt: HostRuntime) -> Result<(), Fail> {
 fn judges_last_bytes(rt: HostRuntime) -> Result<(), Fail> {
     let a = rt.alloc();
     let last = [0x9C, 0x06, 0x00, 0xC4, 0x02, 0x04, 0x01, 0x01, 0x92];
-    assert_eq!(rt; answer(a, &[&H, &N, &S, &L, &last, &M])?, accepted(48));
+    assert_eq!(rt;
+        answer(a, &[&HEADER, &NAMES, &SEGMENT, &DATA, &last, &END])?,
+        accepted(48)
+    );
     let past = [0x9C, 0x06, 0x00, 0xC4, 0x03, 0x04, 0x01, 0x01, 0x91];
     assert_eq!(rt;
-        answer(a, &[&H, &N, &S, &L, &past, &M])?,
+        answer(a, &[&HEADER, &NAMES, &SEGMENT, &DATA, &past, &END])?,
         fault(Reason::OutsideRecord, 4, 34, 3)
     );
     let big = [0x98, 0x07, 0x00, 0x2A, 0x00, 0x00, 0x02, 0x01, 0x01, 0x33];
     let fits = [0xA0, 0x06, 0x00, 0x01, 0xFE, 0xFF, 0xAB, 0xCD, 0xE4];
-    assert_eq!(rt; answer(a, &[&H, &N, &big, &fits, &M])?, accepted(37));
+    assert_eq!(rt;
+        answer(a, &[&HEADER, &NAMES, &big, &fits, &END])?,
+        accepted(37)
+    );
     let over = [0xA0, 0x07, 0x00, 0x01, 0xFE, 0xFF, 0xAB, 0xCD, 0xEF, 0xF4];
     assert_eq!(rt;
-        answer(a, &[&H, &N, &big, &over, &M])?,
+        answer(a, &[&HEADER, &NAMES, &big, &over, &END])?,
         fault(Reason::OutsideSegment, 3, 23, 4)
     );
     Ok(())
@@ -282,12 +363,12 @@ fn judges_starts(rt: HostRuntime) -> Result<(), Fail> {
     let thread = [0x9C, 0x03, 0x00, 0x46, 0x01, 0x1A];
     let start = [0x8A, 0x06, 0x00, 0xC1, 0xA0, 0x01, 0x02, 0x00, 0x0C];
     assert_eq!(rt;
-        answer(a, &[&H, &N, &S, &group, &thread, &start])?,
+        answer(a, &[&HEADER, &NAMES, &SEGMENT, &group, &thread, &start])?,
         accepted(45)
     );
     let location = [0x8A, 0x06, 0x00, 0xC1, 0x40, 0x01, 0x02, 0x00, 0x6C];
     assert_eq!(rt;
-        answer(a, &[&H, &N, &S, &group, &thread, &location])?,
+        answer(a, &[&HEADER, &NAMES, &SEGMENT, &group, &thread, &location])?,
         fault(Reason::StartFrame, 5, 36, 4)
     );
     Ok(())
@@ -299,15 +380,23 @@ fn judges_an_index_at_its_use(rt: HostRuntime) -> Result<(), Fail> {
     let thread = [0x9C, 0x03, 0x00, 0x01, 0x02, 0x5E];
     let fixup = [0x9C, 0x05, 0x00, 0xC4, 0x01, 0x0D, 0x01, 0x8C];
     assert_eq!(rt;
-        answer(a, &[&H, &N, &S, &thread, &S, &L, &fixup, &M])?,
+        answer(
+            a,
+            &[
+                &HEADER, &NAMES, &SEGMENT, &thread, &SEGMENT, &DATA, &fixup, &END
+            ]
+        )?,
         accepted(63)
     );
     assert_eq!(rt;
-        answer(a, &[&H, &N, &S, &thread, &L, &fixup, &M])?,
+        answer(
+            a,
+            &[&HEADER, &NAMES, &SEGMENT, &thread, &DATA, &fixup, &END]
+        )?,
         fault(Reason::UndefinedSegment, 5, 40, 5)
     );
     assert_eq!(rt;
-        answer(a, &[&H, &N, &L, &S, &M])?,
+        answer(a, &[&HEADER, &NAMES, &DATA, &SEGMENT, &END])?,
         fault(Reason::UndefinedSegment, 2, 13, 3)
     );
     Ok(())
@@ -318,12 +407,12 @@ fn judges_comments(rt: HostRuntime) -> Result<(), Fail> {
     let a = rt.alloc();
     let dialect = [0x88, 0x03, 0x00, 0x00, 0xAA, 0xCB];
     assert_eq!(rt;
-        answer(a, &[&H, &dialect, &M])?,
+        answer(a, &[&HEADER, &dialect, &END])?,
         fault(Reason::OtherDialect, 1, 6, 4)
     );
     let vendor = [0x88, 0x03, 0x00, 0x00, 0xE9, 0x8C];
-    assert_eq!(rt; answer(a, &[&H, &vendor, &M])?, accepted(17));
-    let bytes = module(a, &[&H, &vendor, &M])?;
+    assert_eq!(rt; answer(a, &[&HEADER, &vendor, &END])?, accepted(17));
+    let bytes = module(a, &[&HEADER, &vendor, &END])?;
     assert_eq!(rt;
         by_check(a, &bytes, NO_VENDORS),
         refused(Reason::VendorComment, 1, 6, 4)
@@ -335,11 +424,14 @@ fn judges_comments(rt: HostRuntime) -> Result<(), Fail> {
     let communal = [
         0xB0, 0x08, 0x00, 0x01, 0x58, 0x00, 0x62, 0x81, 0x80, 0x00, 0x8C,
     ];
-    assert_eq!(rt; answer(a, &[&H, &communal, &M])?, accepted(22));
+    assert_eq!(rt; answer(a, &[&HEADER, &communal, &END])?, accepted(22));
     let public = [
         0x90, 0x08, 0x00, 0x00, 0x01, 0x01, 0x58, 0x02, 0x00, 0x00, 0x0C,
     ];
-    assert_eq!(rt; answer(a, &[&H, &N, &S, &public, &M])?, accepted(39));
+    assert_eq!(rt;
+        answer(a, &[&HEADER, &NAMES, &SEGMENT, &public, &END])?,
+        accepted(39)
+    );
     Ok(())
 }
 
@@ -350,14 +442,20 @@ fn takes_self_relative_fixups(rt: HostRuntime) -> Result<(), Fail> {
         0xA0, 0x08, 0x00, 0x01, 0x00, 0x00, 0xE8, 0x00, 0x00, 0x90, 0xDF,
     ];
     let call = [0x9C, 0x06, 0x00, 0x84, 0x01, 0x04, 0x01, 0x01, 0xD3];
-    assert_eq!(rt; answer(a, &[&H, &N, &S, &near, &call, &M])?, accepted(48));
+    assert_eq!(rt;
+        answer(a, &[&HEADER, &NAMES, &SEGMENT, &near, &call, &END])?,
+        accepted(48)
+    );
     let external = [0x8C, 0x04, 0x00, 0x01, 0x58, 0x00, 0x17];
     let short = [
         0xA0, 0x08, 0x00, 0x01, 0x00, 0x00, 0xEB, 0x00, 0x00, 0x90, 0xDC,
     ];
     let jump = [0x9C, 0x06, 0x00, 0x80, 0x01, 0x06, 0x01, 0x01, 0xD5];
     assert_eq!(rt;
-        answer(a, &[&H, &N, &S, &external, &short, &jump, &M])?,
+        answer(
+            a,
+            &[&HEADER, &NAMES, &SEGMENT, &external, &short, &jump, &END]
+        )?,
         accepted(55)
     );
     Ok(())
@@ -383,7 +481,7 @@ fn takes_wide_records_in_a_flat_group(rt: HostRuntime) -> Result<(), Fail> {
     assert_eq!(rt;
         answer(
             rt.alloc(),
-            &[&H, &names, &segment, &flat, &data, &fixups, &M]
+            &[&HEADER, &names, &segment, &flat, &data, &fixups, &END]
         )?,
         accepted(77)
     );
@@ -396,7 +494,10 @@ fn takes_an_absolute_segment(rt: HostRuntime) -> Result<(), Fail> {
         0x98, 0x0A, 0x00, 0x08, 0x00, 0xB8, 0x00, 0x04, 0x00, 0x02, 0x01, 0x01, 0x96,
     ];
     assert_eq!(rt;
-        answer(rt.alloc(), &[&H, &N, &absolute, &L, &F, &M])?,
+        answer(
+            rt.alloc(),
+            &[&HEADER, &NAMES, &absolute, &DATA, &FIXUP, &END]
+        )?,
         accepted(51)
     );
     Ok(())
@@ -412,7 +513,7 @@ fn by_script(alloc: Global, script: Script<'_>) -> Answer {
 #[test]
 fn names_a_failing_reader(rt: HostRuntime) -> Result<(), Fail> {
     let a = rt.alloc();
-    let bytes = module(a, &[&H, &N, &S, &L, &F, &M])?;
+    let bytes = module(a, &[&HEADER, &NAMES, &SEGMENT, &DATA, &FIXUP, &END])?;
     for count in 0..bytes.len() {
         let front = bytes.as_slice().split_at(count).0;
         assert_eq!(rt;
@@ -431,7 +532,7 @@ fn names_a_failing_reader(rt: HostRuntime) -> Result<(), Fail> {
 #[test]
 fn goes_on_after_interruptions(rt: HostRuntime) -> Result<(), Fail> {
     let a = rt.alloc();
-    let bytes = module(a, &[&H, &N, &S, &L, &F, &M])?;
+    let bytes = module(a, &[&HEADER, &NAMES, &SEGMENT, &DATA, &FIXUP, &END])?;
     assert_eq!(rt;
         by_script(a, Script::new(&bytes, Then::Ends).interrupted(999)),
         Ok(48)
@@ -447,13 +548,13 @@ fn goes_on_after_interruptions(rt: HostRuntime) -> Result<(), Fail> {
 fn many_names(alloc: Global, count: u16) -> Result<Vec<u8>, AllocError>
     requires { count < 65535 }
 {
-    let mut bytes = module(alloc, &[&H])?;
+    let mut bytes = module(alloc, &[&HEADER])?;
     let size = count + 1;
     bytes.extend_from_slice(&[0x96, (size % 256) as u8, (size / 256) as u8])?;
     for _ in 0..size {
         bytes.push(0)?;
     }
-    bytes.extend_from_slice(&M)?;
+    bytes.extend_from_slice(&END)?;
     Ok(bytes)
 }
 
@@ -472,11 +573,11 @@ fn limits_names(rt: HostRuntime) -> Result<(), Fail> {
 
 /// A header, so many empty FIXUPPs and the end.
 fn empty_fixups(alloc: Global, count: u32) -> Result<Vec<u8>, AllocError> {
-    let mut bytes = module(alloc, &[&H])?;
+    let mut bytes = module(alloc, &[&HEADER])?;
     for _ in 0..count {
         bytes.extend_from_slice(&[0x9C, 0x01, 0x00, 0x63])?;
     }
-    bytes.extend_from_slice(&M)?;
+    bytes.extend_from_slice(&END)?;
     Ok(bytes)
 }
 
@@ -508,8 +609,8 @@ fn refuses_an_item_too_many(rt: HostRuntime) -> Result<(), Fail> {
 fn a_fault_is_kept(rt: HostRuntime) -> Result<(), Fail> {
     let unsupported = refused(Reason::UnsupportedType, 1, 6, 0);
     let mut session = Session::new(rt.alloc(), ANY);
-    let _ = session.feed(&H)?;
-    for piece in [[0xC2].as_slice(), M.as_slice(), &[]] {
+    let _ = session.feed(&HEADER)?;
+    for piece in [[0xC2].as_slice(), END.as_slice(), &[]] {
         let answer = session.feed(piece);
         assert_eq!(rt; answer.map(|fed| fed.taken), unsupported);
         assert_eq!(rt; session.want(), 0);
@@ -524,7 +625,18 @@ fn a_fault_is_kept(rt: HostRuntime) -> Result<(), Fail> {
 
 #[test]
 fn takes_one_record_at_most(rt: HostRuntime) -> Result<(), Fail> {
-    let bytes = module(rt.alloc(), &[&H, &N, &S, &L, &F, &M, &[0xDE, 0xAD]])?;
+    let bytes = module(
+        rt.alloc(),
+        &[
+            &HEADER,
+            &NAMES,
+            &SEGMENT,
+            &DATA,
+            &FIXUP,
+            &END,
+            &[0xDE, 0xAD],
+        ],
+    )?;
     let mut session = Session::new(rt.alloc(), ANY);
     let mut rest = bytes.as_slice();
     for taken in [6, 7, 10, 11, 9, 5] {
@@ -539,7 +651,10 @@ fn takes_one_record_at_most(rt: HostRuntime) -> Result<(), Fail> {
     assert_eq!(rt; fed.taken, 0);
     assert_eq!(rt; fed.whole, false);
     let checked = session.finish()?;
-    let expected = module(rt.alloc(), &[&H, &N, &S, &L, &F, &M])?;
+    let expected = module(
+        rt.alloc(),
+        &[&HEADER, &NAMES, &SEGMENT, &DATA, &FIXUP, &END],
+    )?;
     assert_eq!(rt; checked.bytes(), expected.as_slice());
     assert_eq!(rt;
         (
@@ -555,7 +670,10 @@ fn takes_one_record_at_most(rt: HostRuntime) -> Result<(), Fail> {
 
 #[test]
 fn shows_tables(rt: HostRuntime) -> Result<(), Fail> {
-    let bytes = module(rt.alloc(), &[&H, &N, &S, &L, &F, &M])?;
+    let bytes = module(
+        rt.alloc(),
+        &[&HEADER, &NAMES, &SEGMENT, &DATA, &FIXUP, &END],
+    )?;
     let mut reader = Reading::new(bytes.as_slice());
     let checked = check(rt.alloc(), &mut reader, ANY)?;
     let segment = SegInfo {
