@@ -25,3 +25,4 @@ pub use profile::Profile;
 pub use records::Records;
 pub use segment::SegInfo;
 pub use session::Session;
+pub use threads::{Setting, Threads};

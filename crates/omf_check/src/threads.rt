@@ -13,7 +13,9 @@ use std::marker::Model;
 /// What a thread keeps: a method, and its index if the method has one.
 #[derive(Clone, Copy, Debug, Drop)]
 pub struct Setting {
+    /// The method, without the bits that its kind ignores.
     pub method: u8,
+    /// The index that the method takes, if it takes one.
     pub datum: Option<Index>,
 }
 
@@ -27,10 +29,12 @@ impl Model for Setting {
     ghost inverse = { λ s. record { method = s.method; datum = s.datum } };
 }
 
-/// Frame threads 0 to 3, and target threads 0 to 3.
+/// Frame threads 0 to 3, and target threads 0 to 3: the threads in force at a place of a module, for whoever walks over its records.
 #[derive(Clone, Copy, Debug, Drop)]
 pub struct Threads {
+    /// What each frame thread keeps, if it was set.
     pub frames: [Option<Setting>; 4],
+    /// What each target thread keeps, if it was set.
     pub targets: [Option<Setting>; 4],
 }
 
