@@ -8,3 +8,4 @@ pub mod Lines
 pub mod Words
 pub mod Outcome
 pub mod Parsed
+pub mod RunLines

@@ -3,6 +3,7 @@
 
 mod checking;
 mod fault;
+mod image_text;
 mod input;
 mod listing;
 mod output;

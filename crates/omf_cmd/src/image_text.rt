@@ -1,0 +1,110 @@
+//! The text of an image and a start: lines of up to 16 bytes for each run of covered bytes.
+
+ghost use Rattle.std.specs.Prelude.{◌≡◌, ◌+◌, ◌^◌, ◌≤◌, ◌++◌, flat_map, length, option_map, OnOk, string_bytes};
+ghost use Rattle.omf_image.specs.Joined.{runs_of};
+ghost use Rattle.omf_image.specs.Overlay.{byte_at};
+ghost use Rattle.omf_cmd.specs.Relocated.{run_lines, start_line, image_text};
+ghost use Rattle.omf_cmd.specs.RunLines.{place_text, byte_text, line_text, lines_of, IsRunShown};
+
+use omf_image::Image;
+use std::alloc::AllocError;
+use std::fmt::Write;
+
+/// How many bytes a line has at most.
+const LINE_BYTES: usize = 16;
+
+/// A segment and an offset in it.
+fn print_place(text: &mut String, segment: u16, offset: u32) -> Result<(), AllocError>
+    ensures { OnOk result (string_bytes text.new ≡ string_bytes text.old ++ place_text segment offset) }
+{
+    write!(text, "{segment:04X}:{offset:08X}")
+}
+
+/// A byte behind a space.
+fn print_byte(text: &mut String, byte: u8) -> Result<(), AllocError>
+    ensures { OnOk result (string_bytes text.new ≡ string_bytes text.old ++ byte_text byte) }
+{
+    write!(text, " {byte:02X}")
+}
+
+/// A line: the place of its first byte, and its bytes.
+fn print_line(text: &mut String, segment: u16, offset: u32, bytes: &[u8]) -> Result<(), AllocError>
+    ensures { OnOk result (string_bytes text.new ≡ string_bytes text.old ++ line_text segment offset bytes.now) }
+{
+    print_place(text, segment, offset)?;
+    for byte in bytes {
+        print_byte(text, *byte)?;
+    }
+    text.push_str("\n")
+}
+
+/// A run of covered bytes: lines of 16 bytes from its first byte on, and what is left.
+fn print_run(text: &mut String, segment: u16, first: u32, bytes: &[u8]) -> Result<(), AllocError>
+    requires { first + length bytes.now ≤ 2 ^ 32 }
+    ensures { OnOk result (string_bytes text.new ≡ string_bytes text.old ++ lines_of segment first bytes.now) }
+{
+    let mut offset = u64::from(first);
+    let mut rest = bytes;
+    while !rest.is_empty() {
+        let (line, others) = rest.split_at(rest.len().min(LINE_BYTES));
+        print_line(text, segment, offset as u32, line)?;
+        offset += line.len() as u64;
+        rest = others;
+    }
+    Ok(())
+}
+
+/// The first offset and the bytes of the run of a segment with a number, from 0; None beyond the last.
+fn numbered_run(image: &Image, segment: u16, k: usize) -> Option<(u32, &[u8])>
+    ensures { IsRunShown (byte_at image.now segment) (runs_of image.now segment) k (option_map (λ run. (run.0, run.1.now)) result) }
+{
+    let run = image.run_at(segment, k)?;
+    let bytes = image.run_bytes(segment, k)?;
+    Some((run.first, bytes))
+}
+
+/// The runs of a segment, in rising order.
+fn print_runs(text: &mut String, image: &Image, segment: u16) -> Result<(), AllocError>
+    ensures { OnOk result (string_bytes text.new ≡ string_bytes text.old ++ flat_map (run_lines segment (byte_at image.now segment)) (runs_of image.now segment)) }
+{
+    let mut k = 0;
+    while let Some((first, bytes)) = numbered_run(image, segment, k) {
+        print_run(text, segment, first, bytes)?;
+        k += 1;
+    }
+    Ok(())
+}
+
+/// The start: its selector and its offset. Nothing where there is none.
+fn print_start(text: &mut String, start: Option<(u16, u32)>) -> Result<(), AllocError>
+    ensures { OnOk result (string_bytes text.new ≡ string_bytes text.old ++ start_line start) }
+{
+    let Some((selector, offset)) = start else {
+        return Ok(());
+    };
+    text.push_str("START ")?;
+    print_place(text, selector, offset)?;
+    text.push_str("\n")
+}
+
+/// The runs of the segments 1 to `segments` of an image, and last the start, if there is one.
+///
+/// # Errors
+///
+/// `AllocError` where the text does not grow: a part of it may have been appended.
+pub fn print_image(
+    text: &mut String,
+    image: &Image,
+    segments: u16,
+    start: Option<(u16, u32)>,
+) -> Result<(), AllocError>
+    ensures { OnOk result (string_bytes text.new ≡ string_bytes text.old ++ image_text segments (byte_at image.now) (runs_of image.now) start) }
+{
+    for segment in 1..=segments {
+        print_runs(text, image, segment)?;
+    }
+    print_start(text, start)
+}
+
+#[cfg(test)]
+mod tests;
