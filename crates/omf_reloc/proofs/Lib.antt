@@ -1,5 +1,7 @@
 pub mod PatchLaws
 pub mod EntryLaws
+pub mod GroupLaws
+pub mod ResolvingLaws
 pub mod ReachLaws
 pub mod DeriveLaws
 pub mod AddedLaws
