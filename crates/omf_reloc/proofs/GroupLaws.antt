@@ -6,13 +6,23 @@ use Rattle.std.proofs.lemmas.Bool.Decides.{leb_tells}
 use Rattle.omf_records.specs.Values.{At}
 use Rattle.omf_check.specs.Tables.{entry}
 use Rattle.omf_reloc.specs.Placement.{Placed, lower, lowest, members_placed}
-use Rattle.omf_reloc.specs.Lowest.{lower_than, lowest_after}
+use Rattle.omf_reloc.specs.Lowest.{lower_than}
+
+-- the place found so far, or the lowest of those to come, if there is any
+abbrev lower_of : Option Placed → Option Placed → Option Placed
+lower_of None o = o
+lower_of (Some p) o = Some (lower p o)
+
+-- the lowest of the place found so far and those to come; none where one of these has no place
+abbrev pub lowest_after : Option Placed → Option (List Placed) → Option Placed
+lowest_after found None = None
+lowest_after found (Some ps) = lower_of found (lowest ps)
 
 -- which of two is the lower
-if_low : (p q : Placed) → nat_le p.address q.address ≡ true → lower p (Some q) ≡ p
+pub if_low : (p q : Placed) → nat_le p.address q.address ≡ true → lower p (Some q) ≡ p
 if_low p q e = ap (λ b. cond b p q) e
 
-if_high : (p q : Placed) → nat_le p.address q.address ≡ false → lower p (Some q) ≡ q
+pub if_high : (p q : Placed) → nat_le p.address q.address ≡ false → lower p (Some q) ≡ q
 if_high p q e = ap (λ b. cond b p q) e
 
 -- however the places are grouped

@@ -1,6 +1,7 @@
 pub mod PatchLaws
 pub mod EntryLaws
 pub mod GroupLaws
+pub mod LowestLaws
 pub mod ResolvingLaws
 pub mod ReachLaws
 pub mod DeriveLaws

@@ -1,22 +1,12 @@
 -- What the steps of finding a group's lowest member do.
 use Rattle.std.specs.Prelude.{List, Option, Some, None, option_and_then, nat_le, if◌then◌else◌}
 use Rattle.omf_records.specs.Values.{Contents, Group}
-use Rattle.omf_reloc.specs.Placement.{Placed, lower, lowest, members_placed}
+use Rattle.omf_reloc.specs.Placement.{Placed, lowest, members_placed}
 
 -- the lower of the place found so far and the next
 abbrev pub lower_than : Option Placed → Placed → Placed
 lower_than None q = q
 lower_than (Some p) q = if nat_le p.address q.address then p else q
-
--- the place found so far, or the lowest of those to come, if there is any
-abbrev pub lower_of : Option Placed → Option Placed → Option Placed
-lower_of None o = o
-lower_of (Some p) o = Some (lower p o)
-
--- the lowest of the place found so far and those to come; none where one of these has no place
-abbrev pub lowest_after : Option Placed → Option (List Placed) → Option Placed
-lowest_after found None = None
-lowest_after found (Some ps) = lower_of found (lowest ps)
 
 -- the place of the lowest member of a GRPDEF's contents
 abbrev pub lowest_in : List Placed → Contents → Option Placed

@@ -1,8 +1,7 @@
 use Rattle.std.proofs.Common.{◌∙◌, ap, sym}
 use Rattle.omf_check.specs.Tables.{entry}
 use Rattle.omf_reloc.specs.Placement.{members_placed}
-use Rattle.omf_reloc.specs.Lowest.{lowest_after}
-use Rattle.omf_reloc.proofs.GroupLaws.{member_more, member_missing, at_first, at_last}
+use Rattle.omf_reloc.proofs.GroupLaws.{lowest_after, member_more, member_missing, at_first, at_last}
 use Rattle.omf_reloc.proofs.group.lowest_of.Goals as goal
 
 pub loop-member-init : goal.loop-member-init

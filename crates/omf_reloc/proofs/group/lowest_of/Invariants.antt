@@ -1,7 +1,7 @@
 use Rattle.std.proofs.Common.{◌≡◌}
 use Rattle.std.specs.Prelude.{option_and_then}
 use Rattle.omf_reloc.specs.Placement.{lowest, members_placed}
-use Rattle.omf_reloc.specs.Lowest.{lowest_after}
+use Rattle.omf_reloc.proofs.GroupLaws.{lowest_after}
 use Rattle.omf_reloc.proofs.group.lowest_of.Given as goal
 
 -- the lowest so far, and those to come
