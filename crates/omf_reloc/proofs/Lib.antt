@@ -1,5 +1,8 @@
 pub mod PatchLaws
 pub mod EntryLaws
+pub mod GroupLaws
+pub mod LowestLaws
+pub mod ResolvingLaws
 pub mod ReachLaws
 pub mod DeriveLaws
 pub mod AddedLaws

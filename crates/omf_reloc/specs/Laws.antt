@@ -1,16 +1,17 @@
 -- Laws over the definitions, each the contract of a function of the same name.
-use Rattle.std.specs.Prelude.{◌≡◌, ◌⊎◌, ◌↔◌, ℕ, ◌+◌, ◌<◌, ◌≤◌, List, Some, None, Ok, IsOk, ◌∷◌, ◌++◌, length, slice_index, All}
+use Rattle.std.specs.Prelude.{◌≡◌, ◌⊎◌, ◌↔◌, ℕ, ◌+◌, ◌<◌, ◌≤◌, List, Some, None, Ok, IsOk, ◌∷◌, ◌++◌, map, length, slice_index, All}
 use Rattle.std.specs.List.{AllZip}
 use Rattle.omf_records.specs.Location.{location_size}
-use Rattle.omf_records.specs.Values.{DataItem, Rec, location_type, location_offset}
-use Rattle.omf_check.specs.Tables.{externals}
+use Rattle.omf_records.specs.Values.{DataItem, GroupItem, Rec, location_type, location_offset}
+use Rattle.omf_check.specs.Tables.{groups, externals, entry}
 use Rattle.omf_check.specs.Threads.{PlainReference}
+use Rattle.omf_reloc.specs.declared.frame.Frame.{Frame}
 use Rattle.omf_reloc.specs.declared.given.Given.{Given}
 use Rattle.omf_reloc.specs.Derive.{PlacedModule, derived}
 use Rattle.omf_reloc.specs.Entries.{Entry, Spells}
 use Rattle.omf_reloc.specs.EntryReading.{entry_said}
 use Rattle.omf_reloc.specs.Plain.{Piece, Kept, End, PlainFixup, pieces, fixups_of_data}
-use Rattle.omf_reloc.specs.Placement.{Places}
+use Rattle.omf_reloc.specs.Placement.{Places, Placed, real_group}
 use Rattle.omf_reloc.specs.Reach.{causes, data_contents, all_reference_places, reach_fault, Reaches}
 use Rattle.omf_reloc.specs.Offsets.{outcome, start_offset}
 use Rattle.omf_reloc.specs.Image.{patched}
@@ -53,6 +54,27 @@ pub record KeepsPlace (m : PlacedModule) (pl : Places) : Type 0 where
 
 abbrev pub DerivedFit : Type 0
 DerivedFit = (ms : List PlacedModule) (given : List Given) (pls : List Places) → derived ms given ≡ Ok pls → AllZip KeepsPlace ms pls
+
+-- A place is the lowest of a list, and the first of those that lie lowest.
+pub record IsLowest (ps : List Placed) (p : Placed) : Type 0 where
+  pub before : List Placed
+  pub after : List Placed
+  pub all : ps ≡ before ++ p ∷ after
+  pub higher : All (λ q. p.address < q.address) before
+  pub not_lower : All (λ q. p.address ≤ q.address) after
+
+-- A group takes the frame of its lowest member: it is there, each of its members has a place, and this is the lowest place's frame.
+pub record TakesFrame (m : List Rec) (xs : List Placed) (i : ℕ) (f : Frame) : Type 0 where
+  pub group : GroupItem
+  pub defined : entry (groups m) i ≡ Some group
+  pub members : List Placed
+  pub each_placed : map (λ x. entry xs x.item.item) group.members ≡ map Some members
+  pub member : Placed
+  pub is_lowest : IsLowest members member
+  pub frame : member.frame ≡ f
+
+abbrev pub GroupsTakeTheLowest : Type 0
+GroupsTakeTheLowest = (m : List Rec) (xs : List Placed) (i : ℕ) (f : Frame) → (real_group m xs i ≡ Some f) ↔ TakesFrame m xs i f
 
 -- Where a placement reaches, every fixup of each data record has something to add, and a start has its offset: no default is ever taken.
 pub record AllAreAdded (pl : Places) (m : List Rec) : Type 0 where

@@ -1,5 +1,6 @@
 pub mod Plain
 pub mod Placement
+pub mod Lowest
 pub mod Additions
 pub mod Offsets
 pub mod Reach

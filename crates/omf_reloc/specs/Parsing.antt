@@ -1,10 +1,13 @@
--- What the steps of parsing a placement text do.
-use Rattle.std.specs.Prelude.{ℕ, List, [], ◌∷◌, ◌++◌, Option, Some, None, ◌==◌}
-use Rattle.std.specs.List.{slice_split}
+-- What the steps of parsing a placement text, and of resolving its draft, do.
+use Rattle.std.specs.Prelude.{ℕ, List, [], ◌∷◌, ◌++◌, filter_map, Option, Some, None, Result, ◌==◌}
+use Rattle.std.specs.List.{enumerate_from, slice_split}
 use Rattle.omf_reloc.specs.declared.entry.Entry.TheVariants as code
 use Rattle.omf_reloc.specs.declared.entry.Entry as written
 use Rattle.omf_reloc.specs.Entries.{Entry, Blank, SegmentEntry, GroupEntry, ExternalEntry}
-use Rattle.omf_reloc.specs.PlacementText.{Draft}
+use Rattle.omf_reloc.specs.declared.frame.Frame.{Frame}
+use Rattle.omf_records.specs.Values.{Rec}
+use Rattle.omf_reloc.specs.Placement.{Placed}
+use Rattle.omf_reloc.specs.PlacementText.{Draft, ok_or_first, resolved_group, unresolved_group}
 
 -- an entry of the code
 abbrev pub seen : written.Entry → Entry
@@ -24,3 +27,8 @@ with_entry d n Blank = d
 with_entry d n (SegmentEntry p) = record { segments = d.segments ++ p ∷ []; groups = d.groups; externals = d.externals }
 with_entry d n (GroupEntry f) = record { segments = d.segments; groups = d.groups ++ (n, f) ∷ []; externals = d.externals }
 with_entry d n (ExternalEntry p) = record { segments = d.segments; groups = d.groups; externals = d.externals ++ p ∷ [] }
+
+-- the frames of group entries, of which the first is the k-th; or the line of the first whose frame is not found
+abbrev pub frames_from : List Rec → List Placed → ℕ → List (ℕ × Option Frame) → Result (List Frame) ℕ
+frames_from m segments k groups = let numbered = enumerate_from k groups in
+    ok_or_first (filter_map (resolved_group m segments) numbered) (filter_map (unresolved_group m segments) numbered)

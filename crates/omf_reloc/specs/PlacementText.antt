@@ -54,11 +54,11 @@ ok_or_first a (n ∷ ns) = Err n
 abbrev pub parsed : List ℕ → Result Draft ℕ
 parsed text = ok_or_first (draft_of text) (bad_lines text)
 
--- An answer for a text: its draft, or the number of its first line at fault. Of want of memory nothing is said.
-abbrev pub IsParsed : Result Draft ℕ → Result Draft TextFault → Type 0
-IsParsed r (Ok d) = r ≡ Ok d
-IsParsed r (Err (Line n)) = r ≡ Err n
-IsParsed r (Err Memory) = ⊤
+-- An answer is what is defined: exactly this value, or exactly this line at fault. Of want of memory nothing is said.
+abbrev pub IsAnswer : {A : Type 0} → Result A ℕ → Result A TextFault → Type 0
+IsAnswer r (Ok a) = r ≡ Ok a
+IsAnswer r (Err (Line n)) = r ≡ Err n
+IsAnswer r (Err Memory) = ⊤
 
 -- The frame of the k-th group entry, k counted from 1 over all of them without bound: its own, or that of the lowest member of the k-th group.
 abbrev pub resolved_group : List Rec → List Placed → ℕ × (ℕ × Option Frame) → Option Frame

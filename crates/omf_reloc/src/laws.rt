@@ -4,7 +4,7 @@ ghost use Rattle.std.specs.Prelude.{List};
 ghost use Rattle.omf_records.specs.Values.{Rec};
 ghost use Rattle.omf_reloc.specs.Placement.{Places};
 ghost use Rattle.omf_reloc.specs.Reach.{Reaches};
-ghost use Rattle.omf_reloc.specs.Laws.{PatchesStayInside, EntriesAreRead, ReachIsDecided, DerivedFit, AllAreAdded};
+ghost use Rattle.omf_reloc.specs.Laws.{PatchesStayInside, EntriesAreRead, ReachIsDecided, DerivedFit, AllAreAdded, GroupsTakeTheLowest};
 
 /// Fixups whose locations lie inside their data change no byte elsewhere, and keep the data's length.
 pub fn patches_stay_inside()
@@ -14,6 +14,12 @@ pub fn patches_stay_inside()
 /// What a line of a placement text says is read as the entry that it spells, and as none where it spells none.
 pub fn entries_are_read()
     ensures { EntriesAreRead }
+{}
+
+/// The frame that a group takes from its members is that of the one that lies lowest, and of several that lie lowest of the first;
+/// there is none exactly where the group is not there, has no member, or has a member without a place.
+pub fn groups_take_the_lowest()
+    ensures { GroupsTakeTheLowest }
 {}
 
 /// A placement reaches exactly where there is no reason to name why it does not.

@@ -25,7 +25,7 @@ impl Model for Placement {
 }
 
 /// The entry of an index, counted from 1.
-fn entry<T: Copy>(entries: &[T], i: usize) -> Option<T>
+pub(crate) fn entry<T: Copy>(entries: &[T], i: usize) -> Option<T>
     ensures { result ≡ entry_of entries.now i }
 {
     entries.get(i.checked_sub(1)?).copied()
@@ -43,6 +43,24 @@ impl Placement {
             groups: Vec::new(alloc),
             externals: Vec::new(alloc),
         }
+    }
+
+    /// A placement of these entries.
+    pub(crate) fn of(segments: Vec<Placed>, groups: Vec<Frame>, externals: Vec<Placed>) -> Self
+        ensures { result ≡ record { segments = segments.items; groups = groups.items; externals = externals.items } }
+    {
+        Placement {
+            segments,
+            groups,
+            externals,
+        }
+    }
+
+    /// The entries of the segments.
+    pub(crate) fn segments(&self) -> &[Placed]
+        ensures { result.now ≡ self.now.segments }
+    {
+        &self.segments
     }
 
     /// Places the next segment at an address, in a frame. At an `Err` the placement is unchanged.

@@ -1,12 +1,19 @@
 //! Placement texts (this profile's rule).
 
-ghost use Rattle.std.specs.Prelude.{◌≡◌, [], OnOk};
-ghost use Rattle.omf_reloc.specs.PlacementText.{IsParsed, parsed};
+ghost use Rattle.std.specs.Prelude.{◌≡◌, ℕ, [], OnOk};
+ghost use Rattle.omf_records.specs.Seen.{map_ok};
+ghost use Rattle.omf_check.specs.Module.{records_in};
+ghost use Rattle.omf_check.specs.WellFormed.{recs};
+ghost use Rattle.omf_reloc.specs.Parsing.{frames_from};
+ghost use Rattle.omf_reloc.specs.PlacementText.{IsAnswer, parsed, resolved, resolved_group};
 
 use crate::cut::cut;
 use crate::entry::{Entry, entry_of, said_by};
 use crate::fault::TextFault;
 use crate::frame::{Frame, Placed};
+use crate::group::member_frame;
+use crate::placement::Placement;
+use omf_check::Checked;
 use std::alloc::{AllocError, Global};
 use std::marker::Model;
 
@@ -52,6 +59,58 @@ impl Draft {
         }
         Ok(())
     }
+
+    /// The placement of a module that the entries give: segments and externals lie where the text says, and a group has the frame that the
+    /// text gives it, or, at `G real`, the frame of the member that lies lowest. The k-th of all `G` lines speaks of the k-th group; all
+    /// `S` lines count, also later ones.
+    ///
+    /// `Line` names the line of the first `G real` whose frame is not found: where there is no such group, where it has no member, or
+    /// where a member has no `S` line. A growth that is refused is `Memory`. At an `Err` the draft is dropped.
+    pub fn resolve(self, alloc: Global, module: &Checked) -> Result<Placement, TextFault>
+        ensures { IsAnswer (resolved (recs (records_in «module».now.bytes)) self) result }
+    {
+        let Draft {
+            segments,
+            groups,
+            externals,
+        } = self;
+        let frames = group_frames(alloc, module, &segments, &groups)?;
+        Ok(Placement::of(segments, frames, externals))
+    }
+}
+
+/// The frame of the `k`-th group: the one that is given, or else that of its lowest member.
+fn group_frame(
+    module: &Checked,
+    segments: &[Placed],
+    k: usize,
+    given: Option<Frame>,
+) -> Option<Frame>
+    ensures { (line : ℕ) → result ≡ resolved_group (recs (records_in «module».now.bytes)) segments.now (k, (line, given)) }
+{
+    match given {
+        Some(frame) => Some(frame),
+        None => member_frame(module, segments, k),
+    }
+}
+
+/// The frames of all groups, or the line of the first whose frame is not found.
+fn group_frames(
+    alloc: Global,
+    module: &Checked,
+    segments: &[Placed],
+    groups: &[(u64, Option<Frame>)],
+) -> Result<Vec<Frame>, TextFault>
+    ensures { IsAnswer (frames_from (recs (records_in «module».now.bytes)) segments.now 1 groups.now) (map_ok (λ v. v.items) result) }
+{
+    let mut frames = Vec::new(alloc);
+    for (i, (line, given)) in groups.iter().enumerate() {
+        let Some(frame) = group_frame(module, segments, i + 1, *given) else {
+            return Err(TextFault::Line(*line));
+        };
+        frames.push(frame)?;
+    }
+    Ok(frames)
 }
 
 /// Reads a placement text, of lines that end at a line feed or at the end of the text. A line says what is left without a carriage
@@ -62,7 +121,7 @@ impl Draft {
 ///
 /// `Line` names the first line, from 1, that says anything else. A growth that is refused is `Memory`.
 pub fn parse_placement(alloc: Global, text: &[u8]) -> Result<Draft, TextFault>
-    ensures { IsParsed (parsed text.now) result }
+    ensures { IsAnswer (parsed text.now) result }
 {
     let mut draft = Draft::new(alloc);
     let mut rest = Some(text);
