@@ -1,5 +1,5 @@
 -- One step of a session: what its framer took, and what is true then.
-use Rattle.std.proofs.Common.{◌≡◌, ℕ, zero, suc, ◌-◌, ◌^◌, ◌<◌, ◌≤◌, ◌⊎◌, Bool, true, false, List, [], ◌∷◌, ◌++◌, refl, sym, ◌∙◌, ap, subst, arith, length, take, inl, inr}
+use Rattle.std.proofs.Common.{◌≡◌, ℕ, zero, suc, ◌+◌, ◌-◌, ◌^◌, ◌<◌, ◌≤◌, ◌⊎◌, Bool, true, false, List, [], ◌∷◌, ◌++◌, refl, sym, ◌∙◌, ap, subst, arith, length, length-append, take, inl, inr}
 use Rattle.std.specs.Prelude.{◌==◌, Option, Some, None, is_none, ◌&&◌}
 use Rattle.omf_frame.specs.Bytes.{AreBytes}
 use Rattle.omf_frame.specs.Framing.{Raw, raw_bytes, IsRecord, is_whole, front_record, frame_fault}
@@ -7,8 +7,6 @@ use Rattle.omf_frame.specs.Framer.{Held, passed, stands, FailsAs, IsCause}
 use Rattle.omf_frame.specs.Framer.{next_bytes as next_of, Takes as FramerTakes}
 use Rattle.omf_frame.specs.declared.fault.FrameFault.{FrameFault}
 use Rattle.omf_frame.specs.declared.fault.FrameFault.TheVariants as frame
-use Rattle.omf_frame.specs.declared.fault.Place.{Place}
-use Rattle.omf_frame.specs.declared.fault.Reason.{Reason}
 use Rattle.omf_records.specs.Steps.{AreBytes-take}
 use Rattle.omf_image.specs.Limits.{profile_limits}
 use Rattle.omf_check.specs.declared.fault.CheckFault.{CheckFault}
@@ -16,10 +14,9 @@ use Rattle.omf_check.specs.declared.fault.CheckFault.TheVariants as check
 use Rattle.omf_check.specs.declared.profile.Profile.{Profile}
 use Rattle.omf_check.specs.Judging.{raw_fault, rec_of}
 use Rattle.omf_check.specs.Kept.{Kept, IsBounded, with_record}
-use Rattle.omf_check.specs.Refusal.{IsRefused}
 use Rattle.omf_check.specs.Session.{IsPassing, Fails, framing_fault, IsStopped}
 use Rattle.omf_check.proofs.Moving.{more_goes_on, passes, start_bound, number_bound}
-use Rattle.omf_check.proofs.Passing.{framer_refuses, record_refuses}
+use Rattle.omf_check.proofs.Refusing.{framer_here, record_here, lacks_framing, lacks_sound, whole_longer}
 
 append_small : (xs ys : List ℕ) → AreBytes xs → AreBytes ys → AreBytes (xs ++ ys)
 append_small [] ys h k i = k i
@@ -34,14 +31,14 @@ no_fault_kept : (o : Option FrameFault) (f : FrameFault) → o ≡ None → o �
 no_fault_kept o f e h = cc
 
 module _ (profile : Profile) (held : Held) (taken : List ℕ) (kept : Kept) (p : IsPassing profile held taken kept) where
-  by_cause : (piece : List ℕ) (why : Reason) (at : Place) (new : Held) → FailsAs held piece (frame.Refused why at) new
-      → ((held.fault ≡ Some (frame.Refused why at)) × (new ≡ held)) ⊎ ((held.fault ≡ None) × IsCause held piece (frame.Refused why at)) → (more : List ℕ) → IsRefused profile profile_limits ((taken ++ piece) ++ more) why at
-  by_cause piece why at new f (inl h) more = absurd (no_fault_kept held.fault (frame.Refused why at) p.no_fault h.0)
-  by_cause piece why at new f (inr h) more = framer_refuses profile held taken kept p f.not_ended piece more why at h.1
+  by_cause : (piece : List ℕ) (fault : FrameFault) (new : Held) → FailsAs held piece fault new
+      → ((held.fault ≡ Some fault) × (new ≡ held)) ⊎ ((held.fault ≡ None) × IsCause held piece fault) → Fails profile held taken piece (framing_fault fault)
+  by_cause piece fault new f (inl h) = absurd (no_fault_kept held.fault fault p.no_fault h.0)
+  by_cause piece frame.Memory new f (inr h) = lacks_framing profile held taken kept p f.not_ended piece h.1.0 h.1.1
+  by_cause piece (frame.Refused why at) new f (inr h) = framer_here profile held taken kept p f.not_ended piece why at h.1
 
-  pub framer_fails : (piece : List ℕ) (fault : FrameFault) (new : Held) → FailsAs held piece fault new → Fails profile taken piece (framing_fault fault)
-  framer_fails piece frame.Memory new f = tt
-  framer_fails piece (frame.Refused why at) new f = by_cause piece why at new f f.cause
+  pub framer_fails : (piece : List ℕ) (fault : FrameFault) (new : Held) → FailsAs held piece fault new → Fails profile held taken piece (framing_fault fault)
+  framer_fails piece fault new f = by_cause piece fault new f f.cause
 
   module _ (piece : List ℕ) (count : ℕ) (whole : Bool) (new : Held) (t : FramerTakes held piece count whole new) where
     new_bytes : new.bytes ≡ next_of held piece
@@ -79,26 +76,31 @@ module _ (profile : Profile) (held : Held) (taken : List ℕ) (kept : Kept) (p :
     next_is : held.ended ≡ false → next_of held piece ≡ next_of (record held { ended = false }) piece
     next_is e = ap (λ b. next_of (record held { ended = b }) piece) e
 
-    by_fault : (fault : CheckFault) → is_whole (next_of held piece) ≡ true → frame_fault (held.number == 0) (next_of held piece) ≡ None
-        → IsStopped (raw_fault profile profile_limits kept (front_record (next_of held piece)).kind (front_record (next_of held piece)).body) held.number held.start fault → Fails profile taken piece fault
-    by_fault check.Memory w f h = tt
-    by_fault check.Read w f h = h
-    by_fault (check.Refused why at) w f h = λ more.
-        let e : held.ended ≡ false = running_by held.ended refl w in
-        record_refuses profile held taken kept p e piece more (next_of held piece) why at (next_is e) w f h
+    by_fault : (fault : CheckFault) → AreBytes (take count piece) → is_whole (next_of held piece) ≡ true → frame_fault (held.number == 0) (next_of held piece) ≡ None
+        → IsStopped (raw_fault profile profile_limits kept (front_record (next_of held piece)).kind (front_record (next_of held piece)).body) held.number held.start fault → Fails profile held taken piece fault
+    by_fault check.Memory small w f h = lacks_sound profile held taken kept p piece count t.grown (whole_longer held.bytes (take count piece) (next_of held piece) t.grown p.partial w) t.sound
+    by_fault check.Read small w f h = h
+    by_fault (check.Refused why at) small w f h =
+        record_here profile held taken kept p (running_by held.ended refl w) piece count t.grown small why at w f h
+
+    -- a growth of the bytes taken
+    pub bytes_lack : 0 < length (take count piece) → Fails profile held taken piece check.Memory
+    bytes_lack some =
+        let e : length (next_of held piece) ≡ length held.bytes + length (take count piece) = ap length t.grown ∙ length-append held.bytes (take count piece) in
+        lacks_sound profile held taken kept p piece count t.grown (omega (arith, e, some)) t.sound
 
     -- the record that stands, as it is shown
     pub take_fails : (fault : CheckFault) (kind number start : ℕ) (body : List ℕ) → stands new ≡ true → frame_fault (new.number == 0) new.bytes ≡ None
         → kind ≡ (front_record new.bytes).kind → body ≡ (front_record new.bytes).body → number ≡ new.number → start ≡ new.start
-        → IsStopped (raw_fault profile profile_limits kept kind body) number start fault → Fails profile taken piece fault
-    take_fails fault kind number start body s f k b n st h =
+        → AreBytes piece → IsStopped (raw_fault profile profile_limits kept kind body) number start fault → Fails profile held taken piece fault
+    take_fails fault kind number start body s f k b n st small h =
         let nb = new_bytes in
         let P : ℕ → List ℕ → ℕ → ℕ → Type 0 = λ kd bd nm sr. IsStopped (raw_fault profile profile_limits kept kd bd) nm sr fault in
         let h1 = subst (λ x. P x body number start) (k ∙ ap (λ x. (front_record x).kind) nb) h in
         let h2 = subst (λ x. P (front_record (next_of held piece)).kind x number start) (b ∙ ap (λ x. (front_record x).body) nb) h1 in
         let h3 = subst (λ x. P (front_record (next_of held piece)).kind (front_record (next_of held piece)).body x start) (n ∙ new_number) h2 in
         let h4 = subst (λ x. P (front_record (next_of held piece)).kind (front_record (next_of held piece)).body held.number x) (st ∙ new_start) h3 in
-        by_fault fault (whole_now s) (ap (λ x. frame_fault (x == 0) (next_of held piece)) (sym new_number) ∙ ap (frame_fault (new.number == 0)) (sym nb) ∙ f) h4
+        by_fault fault (AreBytes-take count piece small) (whole_now s) (ap (λ x. frame_fault (x == 0) (next_of held piece)) (sym new_number) ∙ ap (frame_fault (new.number == 0)) (sym nb) ∙ f) h4
 
     -- what is true after the step
     pub none_passed : (now : List ℕ) → now ≡ taken ++ take count piece → AreBytes piece → length new.bytes ≤ 65538 → stands new ≡ false → IsPassing profile new now kept

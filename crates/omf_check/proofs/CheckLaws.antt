@@ -1,18 +1,22 @@
 -- What a check answers, from what its session answers.
-use Rattle.std.proofs.Common.{◌≡◌, ℕ, ◌<◌, ◌≤◌, ◌⊎◌, Bool, true, false, List, [], ◌++◌, Result, Ok, Err, refl, sym, ◌∙◌, ap, subst, arith, append_assoc, length, take, min, inl, inr}
-use Rattle.std.specs.Prelude.{Option, Some, None, is_some, ◌||◌, cond, IfErr}
+use Rattle.std.proofs.Common.{◌≡◌, ℕ, ◌+◌, ◌*◌, ◌<◌, ◌≤◌, ◌⊎◌, Bool, true, false, List, [], ◌∷◌, ◌++◌, Result, Ok, Err, refl, sym, ◌∙◌, ap, subst, arith, append_assoc, length, take, drop, min, inl, inr}
+use Rattle.std.specs.Prelude.{Option, Some, None, is_some, ◌||◌, cond, IfErr, IsTrue}
 use Rattle.std.specs.Io.KnownBytes.{Consumes, IsAtEnd}
-use Rattle.std.proofs.lemmas.List.{append-nil, length-take}
+use Rattle.std.proofs.lemmas.List.{append-nil, length-append, length-take, take_all, take-append-drop}
 use Rattle.std.proofs.Math.Seq.{take-length}
-use Rattle.omf_frame.specs.Framing.{wanted}
+use Rattle.omf_frame.specs.Framing.{present, wanted, stated_length}
+use Rattle.omf_frame.specs.declared.fault.Place.{Place}
+use Rattle.omf_frame.specs.declared.fault.Reason.{Reason}
+use Rattle.omf_frame.specs.declared.fault.Reason.TheVariants as reason
+use Rattle.omf_frame.proofs.FaultLaws.{untrue}
 use Rattle.omf_image.specs.Limits.{profile_limits}
 use Rattle.omf_check.specs.declared.fault.CheckFault.{CheckFault}
 use Rattle.omf_check.specs.declared.fault.CheckFault.TheVariants as check
 use Rattle.omf_check.specs.declared.profile.Profile.{Profile}
 use Rattle.omf_check.specs.Checking.{Decides, IsCheckFault}
 use Rattle.omf_check.specs.Module.{Module, records_in}
-use Rattle.omf_check.specs.Refusal.{IsRefused}
-use Rattle.omf_check.specs.Session.{Seen, IsOpen, Takes, FailsAs, IsCause, Finishes, IsEndFault, want_of}
+use Rattle.omf_check.specs.Refusal.{IsRefused, EndsWhereJudged, AreSoundSoFar}
+use Rattle.omf_check.specs.Session.{Seen, IsOpen, Takes, FailsAs, IsCause, Finishes, IsEndFault, RefusesHere, LacksMemory, may_go_on, want_of}
 use Rattle.omf_check.specs.WellFormed.{IsAccepted, IsWellFormed}
 use Rattle.omf_check.proofs.SessionLaws.{records_of}
 
@@ -52,6 +56,55 @@ none_some o f e h = cc
 
 clash : (b : Bool) → b ≡ true → b ≡ false → ⊥
 clash b e h = cc
+
+-- A refusal that stands is not that the input ends too early.
+not_early : (why : Reason) (part : List ℕ) → EndsWhereJudged why part → IsTrue (may_go_on why) → ⊥
+not_early reason.NoEnd part h t = h
+not_early reason.Cut part h t = h
+not_early _ part h t = absurd (untrue t)
+
+-- No more than the wanted bytes are of the record at hand.
+present_wanted : (hand piece : List ℕ) → 0 < wanted hand → length piece ≤ wanted hand → present (hand ++ piece) ≡ hand ++ piece
+present_wanted [] [] some few = refl
+present_wanted [] (t ∷ []) some few = refl
+present_wanted [] (t ∷ lo ∷ piece) some few = absurd (omega (arith, few))
+present_wanted (t ∷ []) [] some few = refl
+present_wanted (t ∷ []) (lo ∷ []) some few = refl
+present_wanted (t ∷ []) (lo ∷ hi ∷ []) some few = ap (λ (r : List ℕ). t ∷ lo ∷ hi ∷ r) (take_all (lo + 256 * hi) [] (omega arith))
+present_wanted (t ∷ []) (lo ∷ hi ∷ b ∷ piece) some few = absurd (omega (arith, few))
+present_wanted (t ∷ lo ∷ []) [] some few = refl
+present_wanted (t ∷ lo ∷ []) (hi ∷ []) some few = ap (λ (r : List ℕ). t ∷ lo ∷ hi ∷ r) (take_all (lo + 256 * hi) [] (omega arith))
+present_wanted (t ∷ lo ∷ []) (hi ∷ b ∷ piece) some few = absurd (omega (arith, few))
+present_wanted (t ∷ lo ∷ hi ∷ hand) piece some few =
+    ap (λ (r : List ℕ). t ∷ lo ∷ hi ∷ r) (take_all (lo + 256 * hi) (hand ++ piece) (let e = length-append hand piece in omega (arith, e, some, few)))
+
+one_wanted : (hand front : List ℕ) (n : ℕ) → 0 < length front → n ≤ wanted hand → length (hand ++ front) ≡ 1 → n ≤ length front
+one_wanted [] front n some few h = omega (arith, some, few)
+one_wanted (t ∷ hand) front n some few h = let e = length-append hand front in absurd (omega (arith, some, h, e))
+
+three_wanted : (hand front : List ℕ) (n : ℕ) → 0 < length front → length front ≤ n → n ≤ wanted hand → length (hand ++ front) ≡ 3 → n ≤ length front
+three_wanted [] front n some most few h = absurd (omega (arith, most, few, h))
+three_wanted (t ∷ []) front n some most few h = omega (arith, few, h)
+three_wanted (t ∷ lo ∷ []) front n some most few h = omega (arith, few, h)
+three_wanted (t ∷ lo ∷ hi ∷ hand) front n some most few h = let e = length-append hand front in absurd (omega (arith, some, h, e))
+
+all_wanted : (hand front : List ℕ) (n : ℕ) → 0 < length front → length front ≤ n → n ≤ wanted hand → length (hand ++ front) ≡ 3 + stated_length (hand ++ front) → n ≤ length front
+all_wanted [] front n some most few h = absurd (omega (arith, most, few, h))
+all_wanted (t ∷ []) front n some most few h = omega (arith, few, h)
+all_wanted (t ∷ lo ∷ []) front n some most few h = omega (arith, few, some)
+all_wanted (t ∷ lo ∷ hi ∷ hand) front n some most few h = let e = length-append hand front in omega (arith, some, few, h, e)
+
+-- What is judged ends with the last of the wanted bytes.
+judged_at_wanted : (why : Reason) (hand front : List ℕ) (n : ℕ) → 0 < length front → length front ≤ n → n ≤ wanted hand → EndsWhereJudged why (hand ++ front) → n ≤ length front
+judged_at_wanted reason.NoEnd hand front n some most few h = absurd h
+judged_at_wanted reason.Cut hand front n some most few h = absurd h
+judged_at_wanted reason.UnknownType hand front n some most few h = one_wanted hand front n some few h
+judged_at_wanted reason.UnsupportedType hand front n some most few h = one_wanted hand front n some few h
+judged_at_wanted reason.EmptyRecord hand front n some most few h = three_wanted hand front n some most few h
+judged_at_wanted _ hand front n some most few h = all_wanted hand front n some most few h
+
+whole_take : (n : ℕ) (xs : List ℕ) → length xs ≤ length (take n xs) → take n xs ≡ xs
+whole_take n xs h = let e = length-take n xs in take_all n xs (omega (arith, e, h))
 
 module _ (profile : Profile) (s : Seen) (open_s : IsOpen s) (fault : s.fault ≡ None) (same : s.profile ≡ profile) where
   -- the module that the bytes taken are
@@ -103,9 +156,9 @@ module _ (profile : Profile) (s : Seen) (open_s : IsOpen s) (fault : s.fault ≡
       by why (inr h) = refused_at_end why old left h.2 c k input e
 
   fault_at_end : (why : CheckFault) (old left : Option (List ℕ)) (n k : ℕ) → IsEndFault s why → Consumes old left s.taken → IsAtEnd left → IsCheckFault profile old left n k why
-  fault_at_end check.Memory old left n k f c z = tt
+  fault_at_end check.Memory old left n k f c z = absurd f
   fault_at_end check.Read old left n k f c z = absurd f
-  fault_at_end (check.Refused why at) old left n k f c z = (s.taken, c, inl (open_s.no_refusal why at f, subst (λ p. IsRefused p profile_limits s.taken why at) same f, z))
+  fault_at_end (check.Refused why at) old left n k f c z = (s.taken, c, (subst (λ p. IsRefused p profile_limits s.taken why at) same f, inl (open_s.no_refusal why at f, z)))
 
   pub finish_cause : (why : CheckFault) (old left : Option (List ℕ)) (n k : ℕ) → Finishes s (Err why) → Consumes old left s.taken → IsAtEnd left → IsCheckFault profile old left n k why
   finish_cause why old left n k (inl h) c z = absurd (none_some s.fault why fault h)
@@ -121,25 +174,71 @@ module _ (profile : Profile) (s : Seen) (open_s : IsOpen s) (fault : s.fault ≡
     cause_of (inl h) = absurd (none_some s.fault why fault h)
     cause_of (inr h) = h.1
 
+  regroup : (piece rest : List ℕ) (count : ℕ) → (s.taken ++ take count piece) ++ (drop count piece ++ rest) ≡ (s.taken ++ piece) ++ rest
+  regroup piece rest count =
+      append_assoc s.taken (take count piece) (drop count piece ++ rest) ∙ ap (λ x. s.taken ++ x) (sym (append_assoc (take count piece) (drop count piece) rest) ∙ ap (λ x. x ++ rest) (take-append-drop count piece))
+      ∙ sym (append_assoc s.taken piece rest)
+
   feed_by : (why : CheckFault) (piece : List ℕ) (old left : Option (List ℕ)) → IsCause s piece why → Consumes old left (s.taken ++ piece) → (input : List ℕ) → old ≡ Some input → Decides profile input (Err why)
   feed_by check.Memory piece old left f c input e = tt
   feed_by check.Read piece old left f c input e = tt
   feed_by (check.Refused why at) piece old left f c input e =
       let sp = spelled_of old left input (s.taken ++ piece) e c in
-      subst (λ x. IsRefused profile profile_limits x why at) (sym sp.1) (subst (λ p. IsRefused p profile_limits ((s.taken ++ piece) ++ sp.0) why at) same (f sp.0))
+      subst (λ x. IsRefused profile profile_limits x why at) (regroup piece sp.0 f.count ∙ sym sp.1)
+      (subst (λ p. IsRefused p profile_limits ((s.taken ++ take f.count piece) ++ (drop f.count piece ++ sp.0)) why at) same (f.refused (drop f.count piece ++ sp.0)))
 
-  cause_by : (why : CheckFault) (piece : List ℕ) (old left : Option (List ℕ)) (n k : ℕ) → IsCause s piece why → Consumes old left (s.taken ++ piece) → IsCheckFault profile old left n k why
-  cause_by check.Memory piece old left n k f c = tt
-  cause_by check.Read piece old left n k f c = absurd f
-  cause_by (check.Refused why at) piece old left n k f c = (s.taken ++ piece, c, inr (λ more. subst (λ p. IsRefused p profile_limits ((s.taken ++ piece) ++ more) why at) same (f more)))
+  module _ (not_ended : s.ended ≡ false) (piece : List ℕ) (low : length piece ≤ want_of s) where
+    few : length piece ≤ wanted s.at_hand
+    few = subst (λ n. length piece ≤ n) (ap (λ (f : Option CheckFault). cond (s.ended || is_some f) 0 (wanted s.at_hand)) fault ∙ ap (λ b. cond (b || false) 0 (wanted s.at_hand)) not_ended) low
+
+    -- what is refused needs all of the piece
+    refused_here : (why : Reason) (at : Place) (f : RefusesHere s piece why at) → IsRefused profile profile_limits (s.taken ++ take f.count piece) why at
+    refused_here why at f = subst (λ p. IsRefused p profile_limits (s.taken ++ take f.count piece) why at) same (subst (λ x. IsRefused s.profile profile_limits x why at) (append-nil (s.taken ++ take f.count piece)) (f.refused []))
+
+    needs_some : (why : Reason) (at : Place) (f : RefusesHere s piece why at) → 0 < length (take f.count piece)
+    needs_some why at f = by (take f.count piece) refl
+      where
+        by : (front : List ℕ) → take f.count piece ≡ front → 0 < length front
+        by [] e =
+            let before : IsRefused s.profile profile_limits s.taken why at
+            = subst (λ x. IsRefused s.profile profile_limits x why at) (append-nil (s.taken ++ take f.count piece) ∙ ap (λ x. s.taken ++ x) e ∙ append-nil s.taken) (f.refused []) in
+            absurd (not_early why (s.at_hand ++ take f.count piece) f.judged (open_s.no_refusal why at before))
+        by (x ∷ front) e = omega arith
+
+    all_needed : (why : Reason) (at : Place) (f : RefusesHere s piece why at) → take f.count piece ≡ piece
+    all_needed why at f =
+        let e = length-take f.count piece in
+        let most : length (take f.count piece) ≤ length piece = omega (arith, e) in
+        let least = judged_at_wanted why s.at_hand (take f.count piece) (length piece) (needs_some why at f) most few f.judged in
+        whole_take f.count piece least
+
+    all_grown : (f : LacksMemory s piece) → take f.count piece ≡ piece
+    all_grown f =
+        let here : present (s.at_hand ++ piece) ≡ s.at_hand ++ take f.count piece = ap (λ b. cond b [] (present (s.at_hand ++ piece))) (sym not_ended) ∙ f.grown in
+        let same_parts : s.at_hand ++ piece ≡ s.at_hand ++ take f.count piece = sym (present_wanted s.at_hand piece (open_s.wants not_ended) few) ∙ here in
+        let a = length-append s.at_hand piece in
+        let b = length-append s.at_hand (take f.count piece) in
+        let d = ap length same_parts in
+        whole_take f.count piece (omega (arith, a, b, d))
+
+    cause_by : (why : CheckFault) (old left : Option (List ℕ)) (n k : ℕ) → IsCause s piece why → Consumes old left (s.taken ++ piece) → IsCheckFault profile old left n k why
+    cause_by check.Memory old left n k f c =
+        (s.taken ++ piece, c, subst (λ p. AreSoundSoFar p profile_limits (s.taken ++ piece)) same (subst (λ x. AreSoundSoFar s.profile profile_limits (s.taken ++ x)) (all_grown f) f.sound))
+    cause_by check.Read old left n k f c = absurd f
+    cause_by (check.Refused why at) old left n k f c =
+        let e = all_needed why at f in (
+          s.taken ++ piece,
+          c,
+          (subst (λ x. IsRefused profile profile_limits (s.taken ++ x) why at) e (refused_here why at f), inr (subst (EndsWhereJudged why) (sym f.of_it ∙ ap (λ x. drop at.start (s.taken ++ x)) e) f.judged)),
+        )
 
   pub feed_decides : (why : CheckFault) (piece : List ℕ) (new : Seen) (old between left : Option (List ℕ)) → FailsAs s piece why new → Consumes old between s.taken → Consumes between left piece
       → (input : List ℕ) → old ≡ Some input → Decides profile input (Err why)
   feed_decides why piece new old between left f c k input e = feed_by why piece old left (cause_of piece why new f f.cause) (consumes_more old between left s.taken piece c k) input e
 
-  pub feed_cause : (why : CheckFault) (piece : List ℕ) (new : Seen) (old between left : Option (List ℕ)) (n m : ℕ) → FailsAs s piece why new → Consumes old between s.taken → Consumes between left piece
+  pub feed_cause : (why : CheckFault) (piece : List ℕ) (new : Seen) (old between left : Option (List ℕ)) (n m : ℕ) → length piece ≤ want_of s → FailsAs s piece why new → Consumes old between s.taken → Consumes between left piece
       → IsCheckFault profile old left n m why
-  feed_cause why piece new old between left n m f c k = cause_by why piece old left n m (cause_of piece why new f f.cause) (consumes_more old between left s.taken piece c k)
+  feed_cause why piece new old between left n m low f c k = cause_by f.not_ended piece low why old left n m (cause_of piece why new f f.cause) (consumes_more old between left s.taken piece c k)
 
   -- all of a piece that is not more than wanted is taken
   pub feed_consumes : (piece : List ℕ) (count : ℕ) (whole : Bool) (new : Seen) (old between left : Option (List ℕ)) → length piece ≤ want_of s → Takes s piece count whole new

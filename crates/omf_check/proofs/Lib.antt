@@ -11,6 +11,8 @@ pub mod KeptLaws
 pub mod PointLaws
 pub mod JudgeLaws
 pub mod ShortLaws
+pub mod ReasonLaws
+pub mod Refusing
 pub mod RecordLaws
 pub mod Passing
 pub mod Moving

@@ -156,6 +156,10 @@ module _ (profile : Profile) (held : Held) (taken : List ℕ) (kept : Kept) (p :
       subst (λ x. IsRefused profile profile_limits ((taken ++ piece) ++ more) why x) there
       (subst (λ x. IsRefused profile profile_limits ((taken ++ piece) ++ more) x here) named (framing_refused e piece more f s))
 
+  pub framing_refuses : held.ended ≡ false → (piece more : List ℕ) (f : Fault) (why : Reason) (at : Place) → standing_fault (held.number == 0) (present (held.bytes ++ piece)) ≡ Some f
+      → option_map (refused held) (Some f) ≡ Some (frame.Refused why at) → IsRefused profile profile_limits ((taken ++ piece) ++ more) why at
+  framing_refuses e piece more f why at s h = by_frame e piece more (Some f) why at s h
+
   -- A refusal of the framer stands, whatever follows.
   pub framer_refuses : held.ended ≡ false → (piece more : List ℕ) (why : Reason) (at : Place) → option_map (refused held) (standing_fault (held.number == 0) (next_of held piece)) ≡ Some (frame.Refused why at)
       → IsRefused profile profile_limits ((taken ++ piece) ++ more) why at

@@ -1,22 +1,23 @@
--- The blocks of an LIDATA lie in its record.
-use Rattle.std.proofs.Common.{◌≡◌, ℕ, ◌+◌, ◌≤◌, Bool, true, false, List, [], ◌∷◌, sym, ◌∙◌, ap, subst, arith, length, length-append}
+-- The blocks of an LIDATA lie in its record, at the end of its contents.
+use Rattle.std.proofs.Common.{◌≡◌, ℕ, ◌+◌, ◌≤◌, Bool, true, false, List, [], ◌∷◌, ◌++◌, sym, ◌∙◌, ap, subst, arith, length, length-append, append_assoc}
 use Rattle.std.specs.Prelude.{◌==◌, ⊤}
-use Rattle.omf_frame.specs.Bytes.{is_one_of}
+use Rattle.omf_frame.specs.Bytes.{AreBytes, is_one_of}
 use Rattle.omf_frame.specs.Framing.{is_header, is_end}
 use Rattle.omf_records.specs.Values.{Contents, Header, Plain, Iterated, is_wide}
 use Rattle.omf_records.specs.Layout.{Layout, called, either}
 use Rattle.omf_records.specs.Records.{contents, header, comment, names, segment, group, externs, publics, communals, data_item, fixups, mod_end, carried}
+use Rattle.omf_records.specs.Steps.{AreBytes-back}
 use Rattle.omf_check.specs.Judging.{IsShort}
 
-abbrev IsIn : ℕ → ℕ → Contents → Type 0
-IsIn at n (Iterated d) = (d.offset.within ≤ at + n) × (length d.bytes ≤ n)
-IsIn at n _ = ⊤
+abbrev IsIn : ℕ → List ℕ → Contents → Type 0
+IsIn at bytes (Iterated d) = (front : List ℕ) × (bytes ≡ front ++ d.bytes) × (d.offset.within ≤ at + length bytes)
+IsIn at bytes _ = ⊤
 
 abbrev AreIn : Layout Contents → Type 0
-AreIn p = (at : ℕ) (bytes : List ℕ) (c : Contents) → p.Spells at bytes c → IsIn at (length bytes) c
+AreIn p = (at : ℕ) (bytes : List ℕ) (c : Contents) → p.Spells at bytes c → IsIn at bytes c
 
-in_as : (at n : ℕ) (c d : Contents) → c ≡ d → IsIn at n d → IsIn at n c
-in_as at n c d e h = subst (IsIn at n) (sym e) h
+in_as : (at : ℕ) (bytes : List ℕ) (c d : Contents) → c ≡ d → IsIn at bytes d → IsIn at bytes c
+in_as at bytes c d e h = subst (IsIn at bytes) (sym e) h
 
 in_either : (b : Bool) (p q : Layout Contents) → AreIn p → AreIn q → AreIn (either b p q)
 in_either true p q h k = h
@@ -52,10 +53,10 @@ in_plain wide at bytes c (d, s, e) = in_as at _ c _ e tt
 in_iterated : (wide : Bool) → AreIn (called (data_item wide) Iterated)
 in_iterated wide at bytes c (d, (f1, b1, x1, p1, s1, (f2, b2, x2, p2, s2, (x, same, is))), e) =
     let first : length bytes ≡ length f1 + length b1 = ap length p1 ∙ length-append f1 b1 in
-    let second : length b1 ≡ length f2 + length b2 = ap length p2 ∙ length-append f2 b2 in
     let place : d.offset.within ≡ at + length f1 = ap (λ z. z.offset.within) is ∙ s2.0 in
-    let rest : length d.bytes ≡ length b2 = ap (λ z. length z.bytes) is ∙ ap length same in
-    in_as at (length bytes) c (Iterated d) e (omega (arith, place, first), omega (arith, rest, second, first))
+    let rest : bytes ≡ (f1 ++ f2) ++ d.bytes
+    = p1 ∙ ap (λ z. f1 ++ z) p2 ∙ sym (append_assoc f1 f2 b2) ∙ ap (λ z. (f1 ++ f2) ++ z) (sym (ap (λ z. z.bytes) is ∙ same)) in
+    in_as at bytes c (Iterated d) e (f1 ++ f2, rest, omega (arith, place, first))
 
 in_fixups : (wide : Bool) → AreIn (fixups wide)
 in_fixups wide at bytes c (x, s, e) = in_as at _ c _ e tt
@@ -82,10 +83,24 @@ in_contents kind =
     in_either (is_one_of (0x9C ∷ 0x9D ∷ []) kind) (fixups wide) _ (in_fixups wide) (
     in_either (is_end kind) (mod_end wide) carried (in_end wide) in_carried)))))))))))
 
-is_short : (n : ℕ) (c : Contents) → n ≤ 65534 → IsIn 3 n c → IsShort c
-is_short n (Iterated d) le h = (omega (arith, le, h.0), omega (arith, le, h.1))
-is_short n (Header name) le h = tt
-is_short n _ le h = tt
+is_short : (body : List ℕ) (c : Contents) → length body ≤ 65534 → IsIn 3 body c → IsShort c
+is_short body (Iterated d) le (front, parts, place) =
+    let e : length body ≡ length front + length d.bytes = ap length parts ∙ length-append front d.bytes in (omega (arith, le, place), omega (arith, le, e))
+is_short body (Header name) le h = tt
+is_short body _ le h = tt
 
 pub spelled_short : (kind : ℕ) (body : List ℕ) (c : Contents) → length body ≤ 65534 → (contents kind).Spells 3 body c → IsShort c
-spelled_short kind body c le s = is_short (length body) c le (in_contents kind 3 body c s)
+spelled_short kind body c le s = is_short body c le (in_contents kind 3 body c s)
+
+-- the blocks are bytes
+abbrev pub HasBytes : Contents → Type 0
+HasBytes (Iterated d) = AreBytes d.bytes
+HasBytes _ = ⊤
+
+bytes_in : (body : List ℕ) (c : Contents) → AreBytes body → IsIn 3 body c → HasBytes c
+bytes_in body (Iterated d) small (front, parts, place) = AreBytes-back front d.bytes (subst AreBytes parts small)
+bytes_in body (Header name) small h = tt
+bytes_in body _ small h = tt
+
+pub spelled_bytes : (kind : ℕ) (body : List ℕ) (c : Contents) → AreBytes body → (contents kind).Spells 3 body c → HasBytes c
+spelled_bytes kind body c small s = bytes_in body c small (in_contents kind 3 body c s)

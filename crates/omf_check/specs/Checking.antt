@@ -1,11 +1,11 @@
 -- What a check answers, and how far it reads.
-use Rattle.std.specs.Prelude.{◌≡◌, ◌⊎◌, ◌<◌, ◌≤◌, ◌^◌, ◌-◌, IsTrue, ⊤, ℕ, List, ◌++◌, Option, Result, Ok, Err}
+use Rattle.std.specs.Prelude.{◌≡◌, ◌⊎◌, ◌<◌, ◌≤◌, ◌^◌, ◌-◌, IsTrue, ⊤, ℕ, List, drop, Option, Result, Ok, Err}
 use Rattle.std.specs.Io.KnownBytes.{Consumes, IsAtEnd}
 use Rattle.omf_frame.specs.declared.fault.Place.{Place}
 use Rattle.omf_frame.specs.declared.fault.Reason.{Reason}
 use Rattle.omf_image.specs.Limits.{profile_limits}
 use Rattle.omf_check.specs.Module.{Module, records_in}
-use Rattle.omf_check.specs.Refusal.{IsRefused}
+use Rattle.omf_check.specs.Refusal.{IsRefused, EndsWhereJudged, AreSoundSoFar}
 use Rattle.omf_check.specs.Session.{may_go_on}
 use Rattle.omf_check.specs.WellFormed.{IsAccepted}
 use Rattle.omf_check.specs.declared.fault.CheckFault.{CheckFault}
@@ -16,15 +16,15 @@ use Rattle.omf_check.specs.declared.profile.Profile.{Profile}
 abbrev pub HasFailed : ℕ → ℕ → Type 0
 HasFailed old new = (old < new) ⊎ (2 ^ 64 - 1 ≤ new)
 
--- The bytes that were read are refused so: to the end of the input, for what may go on; or whatever follows.
+-- The bytes that were read are refused so, and no more was read than that needs: all of the input, where it ends too early; else
+-- they end where the record at fault is judged.
 abbrev pub IsReadTo : Profile → List ℕ → Option (List ℕ) → Reason → Place → Type 0
 IsReadTo profile read left why at =
-    (IsTrue (may_go_on why) × IsRefused profile profile_limits read why at × IsAtEnd left)
-    ⊎ ((more : List ℕ) → IsRefused profile profile_limits (read ++ more) why at)
+    IsRefused profile profile_limits read why at × ((IsTrue (may_go_on why) × IsAtEnd left) ⊎ EndsWhereJudged why (drop at.start read))
 
--- Why a check gives no module, and what it read of a reader that tells its bytes.
+-- Why a check gives no module, and what it read of a reader that tells its bytes. A refusal that was found before a growth wins.
 abbrev pub IsCheckFault : Profile → Option (List ℕ) → Option (List ℕ) → ℕ → ℕ → CheckFault → Type 0
-IsCheckFault profile old new failed fails Memory = ⊤
+IsCheckFault profile old new failed fails Memory = (read : List ℕ) × Consumes old new read × AreSoundSoFar profile profile_limits read
 IsCheckFault profile old new failed fails Read = HasFailed failed fails
 IsCheckFault profile old new failed fails (Refused why at) = (read : List ℕ) × Consumes old new read × IsReadTo profile read new why at
 

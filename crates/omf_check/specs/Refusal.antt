@@ -1,9 +1,10 @@
 -- The first refusal of an input that does not begin with a module.
-use Rattle.std.specs.Prelude.{◌≡◌, ℕ, ◌+◌, List, [], ◌∷◌, ◌++◌, length, map, flat_map, All, Bool, true, false, not, IsTrue}
+use Rattle.std.specs.Prelude.{◌≡◌, ℕ, ◌+◌, List, [], ◌∷◌, ◌++◌, length, map, flat_map, All, Bool, true, false, not, IsTrue, slice_index}
 use Rattle.omf_frame.specs.Fault.{Fault, IsLeast, broken, first_step}
-use Rattle.omf_frame.specs.Framing.{Raw, raw_bytes, IsRecord, is_end, frame_steps, front_record, present}
+use Rattle.omf_frame.specs.Framing.{Raw, raw_bytes, IsRecord, is_end, frame_steps, front_record, present, stated_length, type_faults}
 use Rattle.omf_frame.specs.declared.fault.Place.{Place}
 use Rattle.omf_frame.specs.declared.fault.Reason.{Reason}
+use Rattle.omf_frame.specs.declared.fault.Reason.TheVariants as reason
 use Rattle.omf_records.specs.Reading.{typed, layout_faults}
 use Rattle.omf_records.specs.Values.{Contents, Iterated, width}
 use Rattle.omf_image.specs.Expanding.{block_faults, length_faults}
@@ -65,3 +66,25 @@ pub record IsRefused (profile : Profile) (limits : Limits) (input : List ℕ) (w
   pub least : IsLeast (faults_after profile limits before (present rest)) fault
   pub named : why ≡ fault.reason
   pub there : at ≡ place_after before fault
+
+-- The bytes of a record at fault end where it is refused for the reason: its type byte alone; its type byte and its length, which
+-- is 0; all of it. NoEnd and Cut are told by the end of the input alone.
+abbrev pub EndsWhereJudged : Reason → List ℕ → Type 0
+EndsWhereJudged reason.NoEnd part = ⊥
+EndsWhereJudged reason.Cut part = ⊥
+EndsWhereJudged reason.UnknownType part = length part ≡ 1
+EndsWhereJudged reason.UnsupportedType part = length part ≡ 1
+EndsWhereJudged reason.EmptyRecord part = length part ≡ 3
+EndsWhereJudged _ part = length part ≡ 3 + stated_length part
+
+-- No refusal of these bytes is found before the last of them is there: they are records without fault, none of them a MODEND, and
+-- then bytes of one record, whose type byte has no fault.
+pub record AreSoundSoFar (profile : Profile) (limits : Limits) (bytes : List ℕ) : Type 0 where
+  pub before : List Raw
+  pub part : List ℕ
+  pub spelled : bytes ≡ flat_map raw_bytes before ++ part
+  pub records : All IsRecord before
+  pub running : All (λ r. IsTrue (not (is_end r.kind))) before
+  pub sound : (earlier later : List Raw) (r : Raw) → before ≡ earlier ++ r ∷ later → faults_after profile limits earlier (raw_bytes r) ≡ []
+  pub of_one : present part ≡ part
+  pub typed : type_faults (slice_index part 0) ≡ []

@@ -1,5 +1,5 @@
 -- What is seen of a session, and what its calls do.
-use Rattle.std.specs.Prelude.{◌≡◌, ◌⊎◌, ◌≤◌, ◌<◌, ◌^◌, IsTrue, ⊤, ℕ, Bool, true, false, not, ◌||◌, ◌==◌, is_some, min, if◌then◌else◌, List, [], ◌∷◌, ◌++◌, length, take, flat_map, All, Option, Some, None, option_map, Result, Ok, Err}
+use Rattle.std.specs.Prelude.{◌≡◌, ◌⊎◌, ◌≤◌, ◌<◌, ◌^◌, IsTrue, ℕ, Bool, true, false, not, ◌||◌, ◌==◌, is_some, min, if◌then◌else◌, List, [], ◌∷◌, ◌++◌, length, take, drop, flat_map, All, Option, Some, None, option_map, Result, Ok, Err}
 use Rattle.omf_frame.specs.Bytes.{AreBytes}
 use Rattle.omf_frame.specs.Fault.{Fault}
 use Rattle.omf_frame.specs.Framer.{Held}
@@ -13,7 +13,7 @@ use Rattle.omf_image.specs.Limits.{profile_limits}
 use Rattle.omf_check.specs.Kept.{Kept, Tells, IsBounded}
 use Rattle.omf_check.specs.Module.{Module}
 use Rattle.omf_check.specs.Points.{PointsTo}
-use Rattle.omf_check.specs.Refusal.{IsRefused, faults_after}
+use Rattle.omf_check.specs.Refusal.{IsRefused, faults_after, EndsWhereJudged, AreSoundSoFar}
 use Rattle.omf_check.specs.WellFormed.{IsWellFormed, IsAccepted, recs}
 use Rattle.omf_check.specs.declared.fault.CheckFault.{CheckFault}
 use Rattle.omf_check.specs.declared.fault.CheckFault.TheVariants.{Memory, Read, Refused}
@@ -71,11 +71,26 @@ pub record Takes (old : Seen) (piece : List ℕ) (count : ℕ) (whole : Bool) (n
   pub fault : new.fault ≡ None
   pub is_open : IsOpen new
 
--- Why a feed fails: a growth was refused; or the bytes taken with this piece have a refusal that stands whatever follows.
+-- The record at hand is refused: the bytes taken and so many of the piece, which are all of it that is needed to judge it and no
+-- more, are refused so whatever follows them.
+pub record RefusesHere (old : Seen) (piece : List ℕ) (why : Reason) (at : Place) : Type 0 where
+  pub count : ℕ
+  pub of_it : drop at.start (old.taken ++ take count piece) ≡ old.at_hand ++ take count piece
+  pub judged : EndsWhereJudged why (old.at_hand ++ take count piece)
+  pub refused : (more : List ℕ) → IsRefused old.profile profile_limits ((old.taken ++ take count piece) ++ more) why at
+
+-- A growth was refused that the record at hand needs, and no refusal was found before.
+pub record LacksMemory (old : Seen) (piece : List ℕ) : Type 0 where
+  pub count : ℕ
+  pub grown : next_bytes old piece ≡ old.at_hand ++ take count piece
+  pub needed : length old.at_hand < length (next_bytes old piece)
+  pub sound : AreSoundSoFar old.profile profile_limits (old.taken ++ take count piece)
+
+-- Why a feed fails.
 abbrev pub IsCause : Seen → List ℕ → CheckFault → Type 0
-IsCause old piece Memory = ⊤
+IsCause old piece Memory = LacksMemory old piece
 IsCause old piece Read = ⊥
-IsCause old piece (Refused why at) = (more : List ℕ) → IsRefused old.profile profile_limits (old.taken ++ piece ++ more) why at
+IsCause old piece (Refused why at) = RefusesHere old piece why at
 
 -- A feed that fails keeps its fault, which is the answer from then on.
 pub record FailsAs (old : Seen) (piece : List ℕ) (fault : CheckFault) (new : Seen) : Type 0 where
@@ -127,11 +142,12 @@ pub record Moves (old : Held) (bytes piece : List ℕ) (count : ℕ) (whole : Bo
   pub at_hand : new.bytes ≡ (if whole then [] else next_of old piece)
   pub whole_is : whole ≡ is_whole (next_of old piece)
 
--- Why a step fails.
-abbrev pub Fails : Profile → List ℕ → List ℕ → CheckFault → Type 0
-Fails profile taken piece Memory = ⊤
-Fails profile taken piece Read = ⊥
-Fails profile taken piece (Refused why at) = (more : List ℕ) → IsRefused profile profile_limits (taken ++ piece ++ more) why at
+-- Why a step fails, as a feed does.
+abbrev pub here : Profile → Held → List ℕ → Seen
+here profile held taken = record { profile = profile; taken = taken; at_hand = held.bytes; ended = held.ended; fault = None }
+
+abbrev pub Fails : Profile → Held → List ℕ → List ℕ → CheckFault → Type 0
+Fails profile held taken piece fault = IsCause (here profile held taken) piece fault
 
 -- What a framer's fault is to a session.
 abbrev pub framing_fault : FrameFault → CheckFault

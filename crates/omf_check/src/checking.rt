@@ -40,12 +40,13 @@ fn pull<S: Source>(source: &mut S, buffer: &mut [u8]) -> Result<usize, CheckFaul
 /// Reads a module, and no further than its end: the module that the input begins with; or else its first refusal, by record,
 /// step, place and number.
 ///
-/// Of an input that is refused it reads what decides that: all of it where it ends too early.
+/// Of an input that is refused it reads what decides that, and no further: all of it where it ends too early; else to the end of
+/// the record at fault, or through its type byte or its length where these decide.
 ///
 /// # Errors
 ///
 /// `Refused` where the input does not begin with a well-formed module. `Read` where the reader failed, or was interrupted 1,000
-/// times running. `Memory` where a growth was refused.
+/// times running. `Memory` where a growth was refused; a refusal that was found before it wins.
 pub fn check<S: Source>(
     alloc: Global,
     reader: &mut S,

@@ -54,7 +54,7 @@ fn advance(
     requires { IsPassing profile framer.old bytes.old.items tables.old }
     ensures ok { IfOk result (λ fed. Moves framer.old bytes.old.items piece.now fed.taken fed.whole framer.new bytes.new.items) }
     ensures passing { OnOk result (IsPassing profile framer.new bytes.new.items tables.new) }
-    ensures cause { IfErr result (Fails profile bytes.old.items piece.now) }
+    ensures cause { IfErr result (Fails profile framer.old bytes.old.items piece.now) }
     ensures same { OnErr result (bytes.new.items ≡ bytes.old.items) }
     ensures running { OnErr result ((framer.old.ended ≡ false) × (framer.new.ended ≡ false)) }
 {
@@ -111,8 +111,9 @@ impl Session {
 
     /// Takes bytes to the end of one record at most; none after the end. `whole` says that a record was ended and passed.
     ///
-    /// A fault is kept, and is the answer from then on: the first refusal of the bytes taken and these, which stands whatever
-    /// follows, with its place; or `Memory` where a growth was refused. It takes no bytes.
+    /// A fault is kept, and is the answer from then on: the refusal of the record at hand, which stands whatever follows, with
+    /// its place; or `Memory` where a growth that this record needs was refused and no refusal was found before. It takes no
+    /// bytes. No later record of the piece is judged.
     pub fn feed(&mut self, piece: &[u8]) -> Result<Fed, CheckFault>
         ensures ok { IfOk result (λ fed. Takes self.old piece.now fed.taken fed.whole self.new) }
         ensures err { IfErr result (λ fault. FailsAs self.old piece.now fault self.new) }

@@ -11,7 +11,6 @@ ghost use Rattle.omf_check.specs.Kept.{IsBounded};
 ghost use Rattle.omf_image.specs.Blocks.{count_size};
 ghost use Rattle.omf_image.specs.Expanding.{expanded_length};
 ghost use Rattle.omf_check.specs.Tables.{segment_info, items_in, entry};
-ghost use Rattle.omf_records.specs.Location.{location_size};
 ghost use Rattle.omf_records.specs.Seen.{contents_seen, kind_seen, odd_if, rec_seen};
 
 use crate::fault::CheckFault;
@@ -25,7 +24,8 @@ use crate::threads::{Setting, Threads};
 use omf_frame::{Index, Place, RawRecord, Reason};
 use omf_image::{Limits, expanded_len};
 use omf_records::{
-    At, Blocks, Item, Items, LayoutFault, Member, Part, Rec, Reference, Segment, Subrecord, view,
+    At, Blocks, Item, Items, LayoutFault, Member, Part, Rec, Reference, Segment, Subrecord,
+    location_offset, location_size, location_type, view,
 };
 use std::alloc::{AllocError, Global};
 use std::marker::Model;
@@ -59,25 +59,14 @@ impl Model for Tables {
     ghost view = { λ t. record { names = t.names.items; segments = t.segments.items; groups = t.groups.items; externals = t.externals.items; items = t.items; last = t.last; threads = t.threads } };
 }
 
-/// How many bytes a location has.
-fn location_size(kind: u16) -> u16
-    ensures { result ≡ location_size kind }
-{
-    match kind {
-        0 | 4 => 1,
-        1 | 2 | 5 => 2,
-        3 | 9 | 13 => 4,
-        _ => 6,
-    }
-}
-
 /// A fixup of this location lies in the data of the last data record, which is an LEDATA.
 fn location_fault(last: Option<LastData>, within: u32, location: u16) -> Option<LayoutFault>
     ensures { result ≡ location_fault last within location }
 {
     match last {
         Some(LastData::Plain(len)) => {
-            let end = location % 1024 + location_size(location / 1024 % 16);
+            let size = location_size(location_type(location));
+            let end = location_offset(location) + u16::from(size);
             fault_unless(usize::from(end) <= len, within, Reason::OutsideRecord)
         }
         Some(LastData::Iterated) => fault_unless(false, within, Reason::FixupOnIterated),
@@ -109,8 +98,7 @@ fn judged_at(reference: &Reference, datum: &Option<At<Index>>) -> u32
 fn segment_info(wide: bool, segment: &Segment) -> SegInfo
     ensures { result ≡ segment_info (odd_if wide 0x98) segment.now }
 {
-    let is_big = segment.attribute / 2 % 2 == 1;
-    let length = match (is_big, wide) {
+    let length = match (segment.is_big(), wide) {
         (true, false) => 65_536,
         (true, true) => 4_294_967_296,
         (false, _) => u64::from(segment.size),

@@ -4,10 +4,11 @@ ghost use Rattle.std.specs.Prelude.{◌≡◌, ◌<◌, true, false};
 ghost use Rattle.omf_check.specs.Kept.{cell, set_thread, set_threads, no_threads};
 ghost use Rattle.omf_check.specs.Judging.{frame_cell, target_cell};
 ghost use Rattle.omf_check.specs.Threads.{setting};
-ghost use Rattle.omf_records.specs.Values.{thread_method};
 
 use omf_frame::Index;
-use omf_records::{At, Items, Part, Reference, Subrecord};
+use omf_records::{
+    At, Items, Part, Reference, Subrecord, is_frame_thread, thread_method, thread_number,
+};
 use std::marker::Model;
 
 /// What a thread keeps: a method, and its index if the method has one.
@@ -49,17 +50,6 @@ fn made_setting(method: u8, datum: &Option<At<Index>>) -> Setting
     Setting { method, datum }
 }
 
-/// The method that the first byte of a THREAD names. A target thread uses the low two bits of it.
-fn thread_method(first: u8) -> u8
-    ensures { result ≡ thread_method first }
-{
-    if first / 64 % 2 == 1 {
-        first / 4 % 8
-    } else {
-        first / 4 % 4
-    }
-}
-
 impl Threads {
     /// None is set.
     pub fn new() -> Threads
@@ -91,22 +81,20 @@ impl Threads {
     pub fn frame(&self, reference: &Reference) -> Option<Setting>
         ensures { result ≡ frame_cell self.now reference.now }
     {
-        let fix = reference.fix.item;
-        if fix / 128 % 2 == 1 {
-            return self.frame_thread(fix / 16 % 4);
+        match reference.frame_thread() {
+            Some(number) => self.frame_thread(number),
+            None => Some(made_setting(reference.frame_method(), &reference.frame)),
         }
-        Some(made_setting(fix / 16 % 8, &reference.frame))
     }
 
     /// The target of a reference: its own, or its thread's.
     pub fn target(&self, reference: &Reference) -> Option<Setting>
         ensures { result ≡ target_cell self.now reference.now }
     {
-        let fix = reference.fix.item;
-        if fix / 8 % 2 == 1 {
-            return self.target_thread(fix % 4);
+        match reference.target_thread() {
+            Some(number) => self.target_thread(number),
+            None => Some(made_setting(reference.target_method(), &reference.target)),
         }
-        Some(made_setting(fix % 4, &reference.target))
     }
 
     /// Sets the thread of a THREAD; a FIXUP sets none.
@@ -114,9 +102,9 @@ impl Threads {
         ensures { self.new ≡ set_thread self.old subrecord.now }
     {
         if let Part::Thread { first, index } = &subrecord.part {
-            let number = usize::from(*first % 4);
+            let number = usize::from(thread_number(*first));
             let setting = Some(made_setting(thread_method(*first), index));
-            if *first / 64 % 2 == 1 {
+            if is_frame_thread(*first) {
                 self.frames[number] = setting;
             } else {
                 self.targets[number] = setting;

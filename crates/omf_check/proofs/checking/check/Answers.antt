@@ -59,7 +59,8 @@ pub returns-in_err-feed-clause-cause : goal.returns-in_err-feed-clause-cause
 returns-in_err-feed-clause-cause g c =
     let i = c.loop-buffer.invariant in
     let s = c.loop-buffer.session in
+    let low = piece_low c.pull.new.buffer c.loop-buffer.buffer c.in_ok-count.count c.min-want.result c.want.result (want_of s) c.pull.auto.buffer c.min-want.ensures c.want.ensures in
     let e = err_from_is_err_and c.from_residual-in_err-feed.result c.from_residual-in_err-feed.ensures.1 in
     rw (e.1, e.2) (
     feed_cause c.args.profile s i.is_open i.no_fault i.profile c.in_err-feed.field-0.0 (take c.in_ok-count.count c.pull.new.buffer) c.feed.new.self
-    (g.S.Source.left c.args.reader.now) (g.S.Source.left c.loop-buffer.reader) (g.S.Source.left c.pull.new.source) (g.S.Source.failures c.args.reader.now) (g.S.Source.failures c.pull.new.source) c.in_err-feed.ensures.err i.consumed c.in_ok-count.ensures.bytes)
+    (g.S.Source.left c.args.reader.now) (g.S.Source.left c.loop-buffer.reader) (g.S.Source.left c.pull.new.source) (g.S.Source.failures c.args.reader.now) (g.S.Source.failures c.pull.new.source) low c.in_err-feed.ensures.err i.consumed c.in_ok-count.ensures.bytes)

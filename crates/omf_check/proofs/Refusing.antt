@@ -1,0 +1,296 @@
+-- Where the record at hand is refused, and what is found before a growth.
+use Rattle.std.proofs.Common.{◌≡◌, ℕ, zero, suc, ◌+◌, ◌-◌, ◌*◌, ◌<◌, ◌≤◌, Bool, true, false, cond, List, [], ◌∷◌, ◌++◌, refl, sym, ◌∙◌, ap, subst, arith, append_assoc, length, take, drop, min}
+use Rattle.std.specs.Prelude.{flat_map, ◌==◌, ◌||◌, nat_le, not, sum, ◌%◌, slice_index, Option, Some, None, option_map}
+use Rattle.std.specs.Option.{option_or}
+use Rattle.std.proofs.lemmas.Bool.{leb-true, leb-false, eqb-true}
+use Rattle.std.proofs.lemmas.List.{length-append, length-take, drop_at}
+use Rattle.omf_frame.specs.Bytes.{AreBytes}
+use Rattle.omf_frame.specs.Fault.{Fault}
+use Rattle.omf_frame.specs.Framing.{raw_bytes, is_taken, is_unsupported, is_header, is_whole, present, front_record, stated_length, type_faults, frame_fault, standing_fault}
+use Rattle.omf_frame.specs.Framer.{Held, refused}
+use Rattle.omf_frame.specs.Framer.{next_bytes as next_of}
+use Rattle.omf_frame.specs.Judging.{record_len, found, type_fault, whole_fault}
+use Rattle.omf_frame.specs.declared.fault.FrameFault.TheVariants as frame
+use Rattle.omf_frame.specs.declared.fault.Place.{Place}
+use Rattle.omf_frame.specs.declared.fault.Reason.{Reason}
+use Rattle.omf_frame.specs.declared.fault.Reason.TheVariants as reason
+use Rattle.omf_frame.proofs.Growing.{grown, type_same, type_later}
+use Rattle.omf_frame.proofs.Judged.{standing_is, sound_type, type_none}
+use Rattle.omf_frame.proofs.Standing.{present_twice}
+use Rattle.omf_records.specs.Steps.{AreBytes-back, AreBytes-take}
+use Rattle.omf_image.specs.Limits.{profile_limits}
+use Rattle.omf_check.specs.declared.fault.CheckFault.TheVariants as check
+use Rattle.omf_check.specs.declared.profile.Profile.{Profile}
+use Rattle.omf_check.specs.Judging.{raw_fault}
+use Rattle.omf_check.specs.Kept.{Kept}
+use Rattle.omf_check.specs.Refusal.{EndsWhereJudged}
+use Rattle.omf_check.specs.Session.{IsPassing, RefusesHere, LacksMemory, here, refused_at}
+use Rattle.omf_check.proofs.Passing.{framing_refuses, record_refuses}
+use Rattle.omf_check.proofs.ReasonLaws.{IsInner, FaultInner, inner_of, raw_inner}
+
+some_same : {A : Type 0} (x y : A) → ◌≡◌ {A = Option A} (Some x) (Some y) → x ≡ y
+some_same x y e = cc
+
+none_some : {A : Type 0} (x : A) → ◌≡◌ {A = Option A} None (Some x) → ⊥
+none_some x e = cc
+
+-- Where the faults of framing are judged.
+type_ends : (t : ℕ) (q : Reason × ℕ) → type_fault (t ∷ []) ≡ Some q → EndsWhereJudged q.0 (t ∷ [])
+unfolding type_fault
+type_ends t q e = by (is_unsupported t) (is_taken t) e
+  where
+    by : (u k : Bool) → cond u (Some (reason.UnsupportedType, 0)) (cond k None (Some (reason.UnknownType, 0))) ≡ Some q → EndsWhereJudged q.0 (t ∷ [])
+    by true k h = subst (λ (x : Reason × ℕ). EndsWhereJudged x.0 (t ∷ [])) (some_same (reason.UnsupportedType, 0) q h) refl
+    by false true h = absurd (none_some q h)
+    by false false h = subst (λ (x : Reason × ℕ). EndsWhereJudged x.0 (t ∷ [])) (some_same (reason.UnknownType, 0) q h) refl
+
+-- a whole record and nothing more is as long as it says
+whole_length : (bytes : List ℕ) → is_whole bytes ≡ true → present bytes ≡ bytes → length bytes ≡ 3 + stated_length bytes
+whole_length [] w e = absurd cc
+whole_length (t ∷ []) w e = absurd cc
+whole_length (t ∷ lo ∷ []) w e = absurd cc
+whole_length (t ∷ lo ∷ hi ∷ bytes) w e =
+    let enough : lo + 256 * hi ≤ length bytes = leb-true (lo + 256 * hi) (length bytes) w in
+    omega (arith, enough, ap length e, length-take (lo + 256 * hi) bytes)
+
+whole_ends : (f : Bool) (bytes : List ℕ) (q : Reason × ℕ) → present bytes ≡ bytes → whole_fault f bytes ≡ Some q → EndsWhereJudged q.0 bytes
+unfolding whole_fault
+whole_ends f [] q same e = absurd (none_some q e)
+whole_ends f (t ∷ []) q same e = absurd (none_some q e)
+whole_ends f (t ∷ lo ∷ []) q same e = absurd (none_some q e)
+whole_ends f (t ∷ lo ∷ hi ∷ rest) q same e =
+    by (nat_le (lo + 256 * hi) (length rest)) refl (lo + 256 * hi == 0) refl
+    ((slice_index (t ∷ lo ∷ hi ∷ rest) (2 + (lo + 256 * hi)) == 0) || (sum (t ∷ lo ∷ hi ∷ rest) % 256 == 0)) (not f || is_header t) e
+  where
+    bytes : List ℕ
+    bytes = t ∷ lo ∷ hi ∷ rest
+
+    at : ℕ
+    at = 2 + (lo + 256 * hi)
+
+    named : (r : Reason) (w : ℕ) → ◌≡◌ {A = Option (Reason × ℕ)} (Some (r, w)) (Some q) → EndsWhereJudged r bytes → EndsWhereJudged q.0 bytes
+    named r w h x = subst (λ (y : Reason × ℕ). EndsWhereJudged y.0 bytes) (some_same (r, w) q h) x
+
+    by : (w : Bool) → nat_le (lo + 256 * hi) (length rest) ≡ w → (z : Bool) → (lo + 256 * hi == 0) ≡ z → (c h : Bool)
+        → cond (not w) None (cond z (Some (reason.EmptyRecord, 1)) (cond (not c) (Some (reason.Checksum, at)) (cond (not h) (Some (reason.NoHeader, 0)) None))) ≡ Some q → EndsWhereJudged q.0 bytes
+    by false w z y c h k = absurd (none_some q k)
+    by true w true y c h k =
+        let none : lo + 256 * hi ≡ 0 = eqb-true (lo + 256 * hi) 0 y in
+        named reason.EmptyRecord 1 k (omega (arith, none, whole_length bytes w same))
+    by true w false y false h k = named reason.Checksum at k (whole_length bytes w same)
+    by true w false y true false k = named reason.NoHeader 0 k (whole_length bytes w same)
+    by true w false y true true k = absurd (none_some q k)
+
+-- where the others are
+inner_ends : (why : Reason) (part : List ℕ) → IsInner why → length part ≡ 3 + stated_length part → EndsWhereJudged why part
+inner_ends reason.NoEnd part h e = absurd (omega (arith, h))
+inner_ends reason.Cut part h e = absurd (omega (arith, h))
+inner_ends reason.UnknownType part h e = absurd (omega (arith, h))
+inner_ends reason.UnsupportedType part h e = absurd (omega (arith, h))
+inner_ends reason.EmptyRecord part h e = absurd (omega (arith, h))
+inner_ends _ part h e = e
+
+-- a part of a record is not longer than the record
+part_short : (a : List ℕ) → is_whole a ≡ false → length a ≤ record_len a
+part_short [] h = omega arith
+part_short (t ∷ []) h = omega arith
+part_short (t ∷ lo ∷ []) h = omega arith
+part_short (t ∷ lo ∷ hi ∷ a) h = let less = leb-false (lo + 256 * hi) (length a) h in omega (arith, less)
+
+body_small : (bytes : List ℕ) → AreBytes bytes → AreBytes (front_record bytes).body
+body_small [] h = λ i. omega arith
+body_small (t ∷ []) h = λ i. omega arith
+body_small (t ∷ lo ∷ []) h = λ i. omega arith
+body_small (t ∷ lo ∷ hi ∷ bytes) h = AreBytes-take (lo + 256 * hi - 1) bytes (λ i. h (suc (suc (suc i))))
+
+-- the type byte that is refused is the first of the piece
+first_byte : (hand piece : List ℕ) (q : Reason × ℕ) → type_fault hand ≡ None → type_fault (present (hand ++ piece)) ≡ Some q
+    → (t : ℕ) × (hand ++ take 1 piece ≡ t ∷ []) × (type_fault (t ∷ []) ≡ Some q)
+unfolding type_fault
+first_byte [] [] q n e = absurd (none_some q e)
+first_byte [] (t ∷ piece) q n e = (t, refl, type_same (t ∷ piece) ∙ e)
+first_byte (k ∷ hand) piece q n e = let some : 0 < length (k ∷ hand) = omega arith in absurd (none_some q (type_later (k ∷ hand) piece some n ∙ e))
+
+append_small : (xs ys : List ℕ) → AreBytes xs → AreBytes ys → AreBytes (xs ++ ys)
+append_small [] ys h k i = k i
+append_small (x ∷ xs) ys h k zero = h 0
+append_small (x ∷ xs) ys h k (suc i) = append_small xs ys (λ j. h (suc j)) k i
+
+-- a list that grew into a whole record became longer
+pub whole_longer : (a b now : List ℕ) → now ≡ a ++ b → is_whole a ≡ false → is_whole now ≡ true → length a < length now
+whole_longer a [] now e h w = absurd (clash (sym w ∙ ap is_whole (e ∙ nothing a) ∙ h))
+  where
+    clash : true ≡ false → ⊥
+    clash e = cc
+
+    nothing : (a : List ℕ) → a ++ [] ≡ a
+    nothing [] = refl
+    nothing (x ∷ a) = ap (λ t. x ∷ t) (nothing a)
+whole_longer a (x ∷ b) now e h w = omega (arith, ap length e, length-append a (x ∷ b))
+
+module _ (profile : Profile) (held : Held) (taken : List ℕ) (kept : Kept) (p : IsPassing profile held taken kept) where
+  abbrev first : Bool
+  first = held.number == 0
+
+  -- from the record's start on
+  from_start : (at : Place) → held.start ≡ at.start → (front : List ℕ) → drop at.start (taken ++ front) ≡ held.bytes ++ front
+  from_start at e front =
+      let flat : List ℕ = flat_map raw_bytes p.before in
+      ap (λ n. drop n (taken ++ front)) (sym e ∙ p.start) ∙ ap (λ x. drop (length flat) (x ++ front)) p.spelled
+      ∙ ap (drop (length flat)) (append_assoc flat held.bytes front) ∙ drop_at flat (held.bytes ++ front) (length flat) refl
+
+  reason_of : (f : Fault) (why : Reason) (at : Place) → option_map (refused held) (Some f) ≡ Some (frame.Refused why at) → f.reason ≡ why
+  reason_of f why at h = cc
+
+  start_of : (f : Fault) (why : Reason) (at : Place) → option_map (refused held) (Some f) ≡ Some (frame.Refused why at) → held.start ≡ at.start
+  start_of f why at h = cc
+
+  -- A refusal by the framer: of the type byte, or of a whole record.
+  by_type_byte : held.ended ≡ false → (piece : List ℕ) (f : Fault) (why : Reason) (at : Place) → option_map (refused held) (Some f) ≡ Some (frame.Refused why at) → (q : Reason × ℕ)
+      → type_fault (present (held.bytes ++ piece)) ≡ Some q → found q ≡ f → RefusesHere (here profile held taken) piece why at
+  by_type_byte e piece f why at named q h is =
+      let b = first_byte held.bytes piece q (sound_type first held.bytes p.standing) h in
+      let reason_is : q.0 ≡ why = ap (λ (x : Fault). x.reason) is ∙ reason_of f why at named in
+      let alone : present (held.bytes ++ take 1 piece) ≡ b.0 ∷ [] = ap present b.1 in
+      let stands : standing_fault first (present (held.bytes ++ take 1 piece)) ≡ Some f
+      = ap (standing_fault first) alone ∙ standing_is first (b.0 ∷ []) ∙ ap (λ o. option_map found (option_or o (whole_fault first (b.0 ∷ [])))) b.2 ∙ ap (λ x. Some x) is in
+      record {
+        count = 1;
+        of_it = from_start at (start_of f why at named) (take 1 piece);
+        judged = subst (λ x. EndsWhereJudged why x) (sym b.1) (subst (λ r. EndsWhereJudged r (b.0 ∷ [])) reason_is (type_ends b.0 q b.2));
+        refused = λ more. framing_refuses profile held taken kept p e (take 1 piece) more f why at stands named;
+      }
+
+  count_of : List ℕ → ℕ
+  count_of piece = min (record_len (held.bytes ++ piece) - length held.bytes) (length piece)
+
+  grows : (piece : List ℕ) → held.bytes ++ take (count_of piece) piece ≡ present (held.bytes ++ piece)
+  unfolding count_of
+  grows piece = grown held.bytes piece (part_short held.bytes p.partial)
+
+  -- a part that is what is there of the record
+  present_of : (piece front : List ℕ) → held.bytes ++ front ≡ present (held.bytes ++ piece) → present (held.bytes ++ front) ≡ present (held.bytes ++ piece)
+  present_of piece front e = ap present e ∙ present_twice (held.bytes ++ piece)
+
+  by_whole : held.ended ≡ false → (piece : List ℕ) (f : Fault) (why : Reason) (at : Place) → option_map (refused held) (Some f) ≡ Some (frame.Refused why at)
+      → standing_fault first (present (held.bytes ++ piece)) ≡ Some f → (q : Reason × ℕ) → whole_fault first (present (held.bytes ++ piece)) ≡ Some q → found q ≡ f
+      → RefusesHere (here profile held taken) piece why at
+  by_whole e piece f why at named s q h is =
+      let reason_is : q.0 ≡ why = ap (λ (x : Fault). x.reason) is ∙ reason_of f why at named in
+      let g = grows piece in
+      record {
+        count = count_of piece;
+        of_it = from_start at (start_of f why at named) (take (count_of piece) piece);
+        judged = subst (λ x. EndsWhereJudged why x) (sym g) (subst (λ r. EndsWhereJudged r (present (held.bytes ++ piece))) reason_is
+            (whole_ends first (present (held.bytes ++ piece)) q (present_twice (held.bytes ++ piece)) h));
+        refused = λ more. framing_refuses profile held taken kept p e (take (count_of piece) piece) more f why at (ap (standing_fault first) (present_of piece (take (count_of piece) piece) g) ∙ s) named;
+      }
+
+  found_some : (o : Option (Reason × ℕ)) (f : Fault) → option_map found o ≡ Some f → (q : Reason × ℕ) × (o ≡ Some q) × (found q ≡ f)
+  found_some None f e = absurd (none_some f e)
+  found_some (Some q) f e = (q, refl, some_same (found q) f e)
+
+  by_fault : held.ended ≡ false → (piece : List ℕ) (f : Fault) (why : Reason) (at : Place) → option_map (refused held) (Some f) ≡ Some (frame.Refused why at)
+      → standing_fault first (present (held.bytes ++ piece)) ≡ Some f → (o : Option (Reason × ℕ)) → type_fault (present (held.bytes ++ piece)) ≡ o → RefusesHere (here profile held taken) piece why at
+  by_fault e piece f why at named s (Some q) h =
+      let now : List ℕ = present (held.bytes ++ piece) in
+      let is : found q ≡ f = some_same (found q) f (ap (λ o. option_map found (option_or o (whole_fault first now))) (sym h) ∙ sym (standing_is first now) ∙ s) in
+      by_type_byte e piece f why at named q h is
+  by_fault e piece f why at named s None h =
+      let now : List ℕ = present (held.bytes ++ piece) in
+      let x = found_some (whole_fault first now) f (ap (λ o. option_map found (option_or o (whole_fault first now))) (sym h) ∙ sym (standing_is first now) ∙ s) in
+      by_whole e piece f why at named s x.0 x.1 x.2
+
+  by_option : held.ended ≡ false → (piece : List ℕ) (o : Option Fault) (why : Reason) (at : Place) → standing_fault first (present (held.bytes ++ piece)) ≡ o
+      → option_map (refused held) o ≡ Some (frame.Refused why at) → RefusesHere (here profile held taken) piece why at
+  by_option e piece None why at s h = absurd (none_some (frame.Refused why at) h)
+  by_option e piece (Some f) why at s h = by_fault e piece f why at h s (type_fault (present (held.bytes ++ piece))) refl
+
+  pub framer_here : held.ended ≡ false → (piece : List ℕ) (why : Reason) (at : Place) → option_map (refused held) (standing_fault first (next_of held piece)) ≡ Some (frame.Refused why at)
+      → RefusesHere (here profile held taken) piece why at
+  framer_here e piece why at h =
+      by_option e piece (standing_fault first (present (held.bytes ++ piece))) why at refl
+      (ap (λ b. option_map (refused held) (standing_fault first (cond b [] (present (held.bytes ++ piece))))) (sym e) ∙ h)
+
+  -- A refusal of a record that is framed.
+  judged_reason : (f : Fault) (why : Reason) (at : Place) → option_map (refused_at held.number held.start) (Some f) ≡ Some (check.Refused why at) → f.reason ≡ why
+  judged_reason f why at h = cc
+
+  judged_start : (f : Fault) (why : Reason) (at : Place) → option_map (refused_at held.number held.start) (Some f) ≡ Some (check.Refused why at) → held.start ≡ at.start
+  judged_start f why at h = cc
+
+  module _ (e : held.ended ≡ false) (piece : List ℕ) (count : ℕ) (g : next_of held piece ≡ held.bytes ++ take count piece) where
+    next_is : present (held.bytes ++ piece) ≡ next_of held piece
+    next_is = ap (λ b. cond b [] (present (held.bytes ++ piece))) (sym e)
+
+    part_is : held.bytes ++ take count piece ≡ present (held.bytes ++ piece)
+    part_is = sym g ∙ sym next_is
+
+    part_small : AreBytes (take count piece) → AreBytes (next_of held piece)
+    part_small small = subst AreBytes (sym g) (append_small held.bytes (take count piece) (AreBytes-back (flat_map raw_bytes p.before) held.bytes (subst AreBytes p.spelled p.small)) small)
+
+    record_by : AreBytes (take count piece) → (o : Option Fault) (why : Reason) (at : Place) → is_whole (next_of held piece) ≡ true → frame_fault first (next_of held piece) ≡ None
+        → raw_fault profile profile_limits kept (front_record (next_of held piece)).kind (front_record (next_of held piece)).body ≡ o → FaultInner o
+        → option_map (refused_at held.number held.start) o ≡ Some (check.Refused why at) → RefusesHere (here profile held taken) piece why at
+    record_by small None why at w s r inner h = absurd (none_some (check.Refused why at) h)
+    record_by small (Some f) why at w s r inner h =
+        let now : List ℕ = next_of held piece in
+        let reason_is : f.reason ≡ why = judged_reason f why at h in
+        let start_is : held.start ≡ at.start = judged_start f why at h in
+        let same : present (held.bytes ++ take count piece) ≡ now = present_of piece (take count piece) part_is ∙ next_is in
+        let long : length now ≡ 3 + stated_length now = whole_length now w (ap present (sym next_is) ∙ present_twice (held.bytes ++ piece) ∙ next_is) in
+        record {
+          count = count;
+          of_it = from_start at start_is (take count piece);
+          judged = subst (λ x. EndsWhereJudged why x) g (inner_ends why now (subst IsInner reason_is (inner_of f inner)) long);
+          refused = λ more. record_refuses profile held taken kept p e (take count piece) more now why at (sym same) w s (ap (option_map (refused_at held.number held.start)) r ∙ h);
+        }
+
+    pub record_here : AreBytes (take count piece) → (why : Reason) (at : Place) → is_whole (next_of held piece) ≡ true → frame_fault first (next_of held piece) ≡ None
+        → option_map (refused_at held.number held.start) (raw_fault profile profile_limits kept (front_record (next_of held piece)).kind (front_record (next_of held piece)).body) ≡ Some (check.Refused why at)
+        → RefusesHere (here profile held taken) piece why at
+    record_here small why at w s h =
+        let now : List ℕ = next_of held piece in
+        record_by small (raw_fault profile profile_limits kept (front_record now).kind (front_record now).body) why at w s refl
+        (raw_inner kept profile profile_limits (front_record now).kind (front_record now).body (body_small now (part_small small))) h
+
+  -- What was found before a growth.
+  pub lacks : (piece : List ℕ) (count : ℕ) → next_of held piece ≡ held.bytes ++ take count piece → length held.bytes < length (next_of held piece)
+      → type_faults (slice_index (next_of held piece) 0) ≡ [] → LacksMemory (here profile held taken) piece
+  lacks piece count g more typed =
+      let e : held.ended ≡ false = running_by held.ended refl in
+      record {
+        count = count;
+        grown = g;
+        needed = more;
+        sound = record {
+          before = p.before;
+          part = next_of held piece;
+          spelled = ap (λ x. x ++ take count piece) p.spelled ∙ append_assoc (flat_map raw_bytes p.before) held.bytes (take count piece) ∙ ap (λ x. flat_map raw_bytes p.before ++ x) (sym g);
+          records = p.records;
+          running = p.running e;
+          sound = p.sound;
+          of_one = ap present (sym (next_is e piece count g)) ∙ present_twice (held.bytes ++ piece) ∙ next_is e piece count g;
+          typed = typed;
+        };
+      }
+    where
+      nowhere : (n : ℕ) → n < 0 → ⊥
+      nowhere n h = omega (arith, h)
+
+      running_by : (b : Bool) → held.ended ≡ b → held.ended ≡ false
+      running_by false e = e
+      running_by true e =
+          let none : next_of held piece ≡ [] = ap (λ b. cond b [] (present (held.bytes ++ piece))) e in
+          absurd (nowhere (length held.bytes) (subst (λ x. length held.bytes < length x) none more))
+
+  pub lacks_framing : held.ended ≡ false → (piece : List ℕ) → length held.bytes < length (next_of held piece) → type_faults (slice_index (next_of held piece) 0) ≡ [] → LacksMemory (here profile held taken) piece
+  lacks_framing e piece more typed =
+      let g = grows piece in
+      lacks piece (count_of piece) (ap (λ b. cond b [] (present (held.bytes ++ piece))) e ∙ sym g) more typed
+
+  pub lacks_sound : (piece : List ℕ) (count : ℕ) → next_of held piece ≡ held.bytes ++ take count piece → length held.bytes < length (next_of held piece)
+      → standing_fault first (next_of held piece) ≡ None → LacksMemory (here profile held taken) piece
+  lacks_sound piece count g more s =
+      let some : 0 < length (next_of held piece) = omega (arith, more) in
+      lacks piece count g more (type_none (next_of held piece) some (sound_type first (next_of held piece) s))
