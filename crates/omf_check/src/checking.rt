@@ -55,6 +55,7 @@ pub fn check<S: Source>(
     ensures verdict { (input : List ℕ) → S.left reader.old ≡ Some input → Decides profile input result }
     ensures read { IfOk result (λ m. Consumes (S.left reader.old) (S.left reader.new) m.bytes) }
     ensures cause { IfErr result (IsCheckFault profile (S.left reader.old) (S.left reader.new) (S.failures reader.old) (S.failures reader.new)) }
+    ensures grows { S.failures reader.old ≤ S.failures reader.new }
 {
     let mut session = Session::new(alloc, profile);
     let mut buffer = [0; 4096];
