@@ -1,5 +1,5 @@
 -- What the records of a well-formed module may rely on follows from the rules that they keep.
-use Rattle.std.proofs.Common.{◌≡◌, ◌≢◌, ℕ, ◌+◌, ◌<◌, ◌≤◌, Bool, true, false, List, [], ◌∷◌, ◌++◌, refl, sym, ◌∙◌, ap, subst, arith, append_assoc, length, length-append, map}
+use Rattle.std.proofs.Common.{◌≡◌, ◌≢◌, ℕ, ◌+◌, ◌*◌, ◌^◌, ◌<◌, ◌≤◌, Bool, true, false, List, [], ◌∷◌, ◌++◌, refl, sym, ◌∙◌, ap, subst, arith, append_assoc, length, length-append, map, cond}
 use Rattle.std.specs.Prelude.{Option, Some, None, option_map, unwrap_or, All, IsTrue, IsSome, IsOk, ⊤, not, ◌==◌, ◌||◌, nat_le, Result}
 use Rattle.std.proofs.lemmas.Bool.{leb-true, le-leb, eqb-true, true≢false}
 use Rattle.std.proofs.lemmas.List.{append-nil, map-append}
@@ -7,6 +7,8 @@ use Rattle.omf_frame.proofs.FaultLaws.{untrue, all_cons}
 use Rattle.omf_frame.specs.Bytes.{with_before, is_one_of}
 use Rattle.omf_frame.specs.Fault.{Fault, Rule, rule, broken, AreKept, least, first_step}
 use Rattle.omf_frame.specs.declared.fault.Reason.TheVariants as reason
+use Rattle.omf_frame.specs.Fields.{IsLittle}
+use Rattle.omf_frame.specs.FieldLaws.{little_fits}
 use Rattle.omf_frame.specs.Framing.{Raw, IsRecord, is_header, is_end}
 use Rattle.omf_image.proofs.BlocksLaws.{length-blocks_bytes}
 use Rattle.omf_image.specs.Blocks.{Blocks, blocks_size, AreBlocks}
@@ -17,10 +19,10 @@ use Rattle.omf_records.specs.Layout.{Layout, called, either}
 use Rattle.omf_records.specs.Location.{location_size}
 use Rattle.omf_records.specs.Reading.{typed}
 use Rattle.omf_records.specs.Records.{contents, header, comment, names, segment, group, externs, publics, communals, data_item, fixups, mod_end, carried, IsTyped}
-use Rattle.omf_records.specs.Values.{At, Rec, Contents, Names, Plain, Iterated, Fixups, ModEnd, DataItem, Subrecord, Thread, Fixup, Reference, width, is_wide, location_type, location_offset}
+use Rattle.omf_records.specs.Values.{At, Rec, Contents, Names, Plain, Iterated, Fixups, ModEnd, DataItem, Subrecord, Thread, Fixup, Reference, width, is_wide, location_type, location_offset, Segment, SegmentItem, is_big}
 use Rattle.omf_check.specs.Rules.{contents_rules, room, item_limit, item_places, data_rules, names_entry, frame_rules, target_rules, reference_rules, judged_at, location_rule, subrecord_rules, start_rules, is_location_frame, length_of_segment}
 use Rattle.omf_check.specs.Sound.{FrameIsDefined, TargetIsDefined, ReferenceHolds, FixupHolds, SubrecordHolds, SubrecordsHold, StartHolds, DataHolds, BlocksHold, ContentsHold, is_module_end, ModuleHolds}
-use Rattle.omf_check.specs.Tables.{segments, item_count, subrecords, last_data}
+use Rattle.omf_check.specs.Tables.{segments, item_count, subrecords, last_data, segment_length}
 use Rattle.omf_check.specs.Threads.{FrameMethod, F0, F1, F2, F4, F5, TargetMethod, T0, T1, T2, frame_from, target_from, frame_setting, target_setting, frame_of, target_of}
 use Rattle.omf_check.specs.WellFormed.{IsWellFormed, HasTrees, recs}
 use Rattle.omf_check.specs.declared.profile.Profile.{Profile}
@@ -146,8 +148,9 @@ blocks_hold limits before kind d short (trees, t) h = record {
   lies = subst (DataHolds before d) (sym (length-blocks_bytes (blocks_of (width kind) limits d.bytes))) (data_holds before d (blocks_size (blocks_of (width kind) limits d.bytes)) short h);
 }
 
--- What contents say of their record: they are data of no more bytes than it has, and a MODEND exactly by its type.
+-- What contents say of their record: data have no more bytes than it has, a segment's length has 32 bits at most, and a MODEND is one exactly by its type.
 abbrev IsBrief : ℕ → Contents → Type 0
+IsBrief n (Segment s) = s.size < 2 ^ 32
 IsBrief n (Plain d) = length d.bytes ≤ n
 IsBrief n (Iterated d) = length d.bytes ≤ n
 IsBrief n _ = ⊤
@@ -178,8 +181,13 @@ said_comment at bytes c (f, b, x, p, s, (g, d, y, q, t, (z, u, e))) = other _ c 
 said_names : AreSaid false names
 said_names at bytes c (x, s, e) = other _ c _ e tt refl
 
+size_fits : (wide : Bool) (n : ℕ) (bytes : List ℕ) → IsLittle (cond wide 4 2) n bytes → n < 2 ^ 32
+size_fits true n bytes h = little_fits 4 n bytes h
+size_fits false n bytes h = let low : n < 256 ^ 2 = little_fits 2 n bytes h in omega (arith, low)
+
 said_segment : (wide : Bool) → AreSaid false (segment wide)
-said_segment wide at bytes c (f1, b1, x1, p1, s1, (f2, b2, x2, p2, s2, (f3, b3, x3, p3, s3, (f4, b4, x4, p4, s4, (f5, b5, x5, p5, s5, (f6, b6, x6, p6, s6, (none, e))))))) = other _ c _ e tt refl
+said_segment wide at bytes c (f1, b1, x1, p1, s1, (f2, b2, x2, p2, s2, (f3, b3, x3, p3, s3, (f4, b4, x4, p4, s4, (f5, b5, x5, p5, s5, (f6, b6, x6, p6, s6, (none, e))))))) =
+    other (length bytes) c _ e (size_fits wide x3 f3 s3.0) refl
 
 said_group : AreSaid false group
 said_group at bytes c (f, b, x, p, s, (y, t, e)) = other _ c _ e tt refl
@@ -248,11 +256,21 @@ said_contents : (kind : ℕ) (end : Bool) → is_end kind ≡ end → AreSaid en
 said_contents kind true e = said_by_end kind e
 said_contents kind false e = said_no_end kind e
 
+-- A segment has 2^32 bytes at most.
+segment_fits : (kind : ℕ) (s : SegmentItem) → s.size < 2 ^ 32 → segment_length kind s ≤ 2 ^ 32
+segment_fits kind s low = by (is_big s.attribute) (is_wide kind)
+  where
+    by : (big wide : Bool) → cond big (2 ^ (8 * cond wide 4 2)) s.size ≤ 2 ^ 32
+    by true true = omega arith
+    by true false = omega arith
+    by false wide = omega (arith, low)
+
 -- What the records of a module hold.
 by_contents : (profile : Profile) (limits : Limits) (before : List Rec) (kind n : ℕ) (end : Bool) (c : Contents) → n ≤ 65534 → Says n end c → HasTrees limits kind c
     → AreKept (contents_rules profile limits before kind c) → ContentsHold limits before kind c
 by_contents profile limits before kind n end (Plain d) short says trees h = data_holds before d (length d.bytes) (let b : length d.bytes ≤ n = says.brief in omega (arith, b, short)) h
 by_contents profile limits before kind n end (Iterated d) short says trees h = blocks_hold limits before kind d (let b : length d.bytes ≤ n = says.brief in omega (arith, b, short)) trees h
+by_contents profile limits before kind n end (Segment s) short says trees h = segment_fits kind s says.brief
 by_contents profile limits before kind n end (Fixups subs) short says trees h = subrecords_hold before subs h
 by_contents profile limits before kind n end (ModEnd byte None) short says trees h = tt
 by_contents profile limits before kind n end (ModEnd byte (Some r)) short says trees h = start_holds before r h

@@ -1,11 +1,11 @@
 -- What the records of a well-formed module may rely on: no thread, entry, datum or byte that one of them names is missing.
-use Rattle.std.specs.Prelude.{◌≡◌, ◌≢◌, ◌≤◌, ℕ, ◌+◌, List, [], ◌∷◌, ◌++◌, length, map, All, Bool, true, false, Some, None, IsSome, IsOk, ⊤}
+use Rattle.std.specs.Prelude.{◌≡◌, ◌≢◌, ◌≤◌, ℕ, ◌+◌, ◌^◌, List, [], ◌∷◌, ◌++◌, length, map, All, Bool, true, false, Some, None, IsSome, IsOk, ⊤}
 use Rattle.omf_records.specs.Location.{location_size}
-use Rattle.omf_records.specs.Values.{At, Rec, Contents, Plain, Iterated, Fixups, ModEnd, DataItem, Subrecord, Thread, Fixup, Reference, width, location_type, location_offset}
+use Rattle.omf_records.specs.Values.{At, Rec, Contents, Segment, Plain, Iterated, Fixups, ModEnd, DataItem, Subrecord, Thread, Fixup, Reference, width, location_type, location_offset}
 use Rattle.omf_image.specs.Expanding.{expanded, expanded_length}
 use Rattle.omf_image.specs.declared.limits.Limits.{Limits}
 use Rattle.omf_check.specs.Rules.{length_of_segment}
-use Rattle.omf_check.specs.Tables.{segments, groups, externals, is_defined, subrecords, last_data}
+use Rattle.omf_check.specs.Tables.{segments, groups, externals, is_defined, subrecords, last_data, segment_length}
 use Rattle.omf_check.specs.Threads.{FrameMethod, F0, F1, F2, F4, F5, TargetMethod, T0, T1, T2, frame_setting, target_setting, plain}
 
 -- The entry that a frame takes is in its table after these records; F4 and F5 take none.
@@ -65,6 +65,7 @@ SubrecordsHold before subs = (done rest : List (At Subrecord)) (s : At Subrecord
 abbrev pub ContentsHold : Limits → List Rec → ℕ → Contents → Type 0
 ContentsHold limits before kind (Plain d) = DataHolds before d (length d.bytes)
 ContentsHold limits before kind (Iterated d) = BlocksHold limits before kind d
+ContentsHold limits before kind (Segment s) = segment_length kind s ≤ 2 ^ 32
 ContentsHold limits before kind (Fixups subs) = SubrecordsHold before subs
 ContentsHold limits before kind (ModEnd byte None) = ⊤
 ContentsHold limits before kind (ModEnd byte (Some r)) = StartHolds before r
