@@ -1,6 +1,8 @@
 pub mod PatchLaws
 pub mod EntryLaws
 pub mod ReachLaws
+pub mod WalkLaws
+pub mod JudgeLaws
 pub mod DeriveLaws
 pub mod AddedLaws
 pub mod CutLaws

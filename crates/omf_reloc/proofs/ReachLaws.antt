@@ -63,7 +63,7 @@ length-cons_option : {A : Type 0} (o : Option A) (xs : List A) → length (cons_
 length-cons_option None xs = omega arith
 length-cons_option (Some x) xs = omega arith
 
-fixups-places : (earlier : List Subrecord) (subs : List (At Subrecord)) → length (filter_map (λ s. fixup_place s.within s.item) subs) ≡ length (plain_fixups earlier subs)
+pub fixups-places : (earlier : List Subrecord) (subs : List (At Subrecord)) → length (filter_map (λ s. fixup_place s.within s.item) subs) ≡ length (plain_fixups earlier subs)
 fixups-places earlier [] = refl
 fixups-places earlier (s ∷ subs) = omega (
   arith,
