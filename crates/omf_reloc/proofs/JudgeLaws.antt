@@ -14,7 +14,7 @@ use Rattle.omf_check.proofs.ThreadLaws.{threads_kept}
 use Rattle.omf_reloc.specs.Placed.{HasPlaces, HasFrame, HasTarget}
 use Rattle.omf_reloc.specs.Placement.{Places}
 use Rattle.omf_reloc.specs.ReachSteps.{data_place, threads_after, CanJudge, CanJudgeOne, CanJudgeAll, CanJudgeRecord, CanJudgeRecords}
-use Rattle.omf_reloc.proofs.WalkLaws.{plain-by, place_in, place-more, threads-more, no-data, HoldFrom, hold-first, hold-rest}
+use Rattle.omf_reloc.proofs.FarLaws.{plain-by, place_in, place-more, threads-more, no-data, HoldFrom, hold-first, hold-rest}
 
 -- The placement has an entry for each of the tables after these records.
 record Covers (pl : Places) (before : List Rec) : Type 0 where

@@ -1,7 +1,7 @@
 pub mod PatchLaws
 pub mod EntryLaws
 pub mod ReachLaws
-pub mod WalkLaws
+pub mod FarLaws
 pub mod JudgeLaws
 pub mod DeriveLaws
 pub mod AddedLaws

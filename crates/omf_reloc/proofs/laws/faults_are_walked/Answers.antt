@@ -1,4 +1,4 @@
-use Rattle.omf_reloc.proofs.WalkLaws.{far-walked, all-placed}
+use Rattle.omf_reloc.proofs.FarLaws.{far-walked, all-placed}
 use Rattle.omf_reloc.proofs.laws.faults_are_walked.Goals as goal
 
 pub returns : goal.returns
