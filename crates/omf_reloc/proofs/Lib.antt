@@ -7,3 +7,4 @@ pub mod CutLaws
 pub mod LineLaws
 pub mod DigitLaws
 pub mod ParsingLaws
+pub mod GatherLaws
