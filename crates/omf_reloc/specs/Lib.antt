@@ -2,6 +2,8 @@ pub mod Plain
 pub mod Placement
 pub mod Additions
 pub mod Offsets
+pub mod Placed
+pub mod Seen
 pub mod Reach
 pub mod Image
 pub mod Entries

@@ -1,6 +1,7 @@
 //! What a placement makes of a module: whether every fixup reaches, the image and the start; and how placements are written.
 #![tactic(auto)]
 
+mod addition;
 mod cut;
 pub mod edges;
 mod entry;
@@ -8,7 +9,9 @@ mod fault;
 mod frame;
 mod given;
 pub mod laws;
+mod offset;
 mod placement;
+mod plain;
 pub mod rows;
 mod text;
 
