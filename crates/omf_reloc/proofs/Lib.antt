@@ -8,3 +8,4 @@ pub mod LineLaws
 pub mod DigitLaws
 pub mod ParsingLaws
 pub mod GatherLaws
+pub mod OffsetLaws

@@ -1,16 +1,15 @@
 //! The offset of a reference in its frame, and whether it reaches (TIS OMF 1.1, "FIXUPP"; readings, ranges and causes are this
 //! profile's rule).
 
-ghost use Rattle.std.specs.Prelude.{◌≡◌, ◌+◌, ◌==◌, ◌∷◌, [], true, filter, length, unwrap_or, slice_get, if◌then◌else◌};
+ghost use Rattle.std.specs.Prelude.{◌≡◌, ◌+◌, true, filter, length, unwrap_or, slice_get};
 ghost use Rattle.omf_frame.specs.Bytes.{difference};
 ghost use Rattle.omf_records.specs.Location.{offset_bits, self_relative_bits};
+ghost use Rattle.omf_records.specs.Values.{location_offset};
 ghost use Rattle.omf_check.specs.Tables.{is_defined};
 ghost use Rattle.omf_check.specs.Threads.{target_from};
-ghost use Rattle.omf_reloc.specs.declared.fault.Cause.TheVariants.{Target as target_cause};
-ghost use Rattle.omf_reloc.specs.Additions.{additions};
-ghost use Rattle.omf_reloc.specs.Offsets.{offsets, first_or, map_ok, in_bits, is_near, from_location, outcome_at, start_offset};
+ghost use Rattle.omf_reloc.specs.Offsets.{offsets, in_bits, is_near, in_frame, from_location, outcome_at, start_offset};
 ghost use Rattle.omf_reloc.specs.Placed.{HasTarget, HasPlaces, fixupp_type, modend_type, number_bits};
-ghost use Rattle.omf_reloc.specs.Placement.{frame_by, target_frame, target_address};
+ghost use Rattle.omf_reloc.specs.Placement.{placed, frame_by, target_frame, target_address};
 
 use crate::addition::Additions;
 use crate::fault::Cause;
@@ -177,7 +176,7 @@ impl Offsets {
 
     /// What a segment-relative fixup adds. A base reaches whatever the offset.
     fn in_frame(&self, kind: u8, selector: u16) -> Result<Additions, Cause>
-        ensures { result ≡ (if kind == 2 then Ok (additions kind 0 selector) else map_ok (λ o. additions kind o selector) (first_or target_cause self.now)) }
+        ensures { result ≡ in_frame kind selector self.now }
     {
         if kind == 2 {
             return Ok(Additions::in_frame(kind, 0, selector));
@@ -197,6 +196,15 @@ impl Offsets {
         let offset = self.first_near(kind, location).ok_or(Cause::Distance)?;
         Ok(Additions::from_location(kind, offset, location))
     }
+}
+
+/// The address of a fixup's location, in a data record at an offset of this segment.
+fn location_address(placement: &Placement, segment: u16, offset: u32, location: u16) -> u64
+    requires { is_defined (length placement.now.segments) segment ≡ true }
+    ensures { result ≡ (placed placement.now.segments segment).address + offset + location_offset location }
+{
+    let segment = placement.segment_at(usize::from(segment));
+    u64::from(segment.address) + u64::from(offset) + u64::from(location_offset(location))
 }
 
 /// What a fixup of a FIXUPP, wide or not, adds to a data record that lies at an offset of this segment, or why it does not reach.
@@ -225,10 +233,8 @@ pub(crate) fn outcome(
         .in_frame(kind, frame.selector);
     }
     let reach = has_wide_reach(kind);
-    let location = u64::from(placement.segment_at(usize::from(segment)).address)
-        + u64::from(offset)
-        + u64::from(location_offset(fixup.location));
-    let location = offset_between(u64::from(frame.base), location, reach);
+    let address = location_address(placement, segment, offset, fixup.location);
+    let location = offset_between(u64::from(frame.base), address, reach);
     offsets_of(placement, reference, frame.base, is_wide, reach).from_location(kind, location)
 }
 
