@@ -24,7 +24,8 @@ use Rattle.omf_reloc.specs.Placement.{Places}
 use Rattle.omf_reloc.specs.Plain.{Piece, Fixed, End, PlainFixup, piece_of, pieces, end_byte, plain_fixups, fixups_of_data}
 use Rattle.omf_reloc.specs.Reach.{causes, fixup_place, reference_places, all_reference_places, far_fault, far_faults}
 use Rattle.omf_reloc.proofs.ReachLaws.{fixups-places}
-use Rattle.omf_reloc.specs.ReachSteps.{plain_by, far_at, data_place, threads_after, subrecord_far, subrecords_far, record_far, records_far}
+use Rattle.omf_reloc.specs.ReachSteps.{far_at, data_place, subrecord_far, subrecords_far, record_far, records_far}
+use Rattle.omf_reloc.specs.Walking.{plain_by, threads_after}
 
 abbrev piece_at : List Rec → Rec → List Piece
 piece_at before r = piece_of (subrecords before) r.kind r.contents ∷ []

@@ -13,7 +13,8 @@ use Rattle.omf_check.specs.declared.threads.Threads.{Threads}
 use Rattle.omf_check.proofs.ThreadLaws.{threads_kept}
 use Rattle.omf_reloc.specs.Placed.{HasPlaces, HasFrame, HasTarget}
 use Rattle.omf_reloc.specs.Placement.{Places}
-use Rattle.omf_reloc.specs.ReachSteps.{data_place, threads_after, CanJudge, CanJudgeOne, CanJudgeAll, CanJudgeRecord, CanJudgeRecords}
+use Rattle.omf_reloc.specs.ReachSteps.{data_place, CanJudge, CanJudgeOne, CanJudgeAll, CanJudgeRecord, CanJudgeRecords}
+use Rattle.omf_reloc.specs.Walking.{threads_after}
 use Rattle.omf_reloc.proofs.FarLaws.{plain-by, place_in, place-more, threads-more, no-data, HoldFrom, hold-first, hold-rest}
 
 -- The placement has an entry for each of the tables after these records.

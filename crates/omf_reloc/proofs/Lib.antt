@@ -9,4 +9,5 @@ pub mod CutLaws
 pub mod LineLaws
 pub mod DigitLaws
 pub mod ParsingLaws
+pub mod GatherLaws
 pub mod OffsetLaws

@@ -6,6 +6,7 @@ pub mod Placed
 pub mod Seen
 pub mod Reach
 pub mod Image
+pub mod Walking
 pub mod ReachSteps
 pub mod Entries
 pub mod EntryReading

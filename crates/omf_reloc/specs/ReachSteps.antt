@@ -13,32 +13,17 @@ use Rattle.omf_reloc.specs.declared.fault.ReachFault.TheVariants as fault
 use Rattle.omf_reloc.specs.Offsets.{outcome_at, start_offset, cause_of}
 use Rattle.omf_reloc.specs.Placed.{HasPlaces}
 use Rattle.omf_reloc.specs.Placement.{Places}
-use Rattle.omf_reloc.specs.Plain.{PlainFixup}
-
--- A reference without threads, by the threads in force.
-abbrev pub plain_by : Threads → Reference → PlainReference
-plain_by threads r = record {
-  frame = unwrap_or (option_map frame_from (frame_cell threads r)) F5;
-  target = unwrap_or (option_map target_from (target_cell threads r)) (T0 0);
-  displacement = unwrap_or r.displacement 0;
-}
-
-abbrev pub plain_fixup_by : Threads → ℕ → Reference → PlainFixup
-plain_fixup_by threads locat r = record { locat = locat; reference = plain_by threads r }
+use Rattle.omf_reloc.specs.Walking.{plain_by, plain_fixup_by, threads_after}
 
 -- A reference that stands there in the record of this number, where it does not reach.
 abbrev pub far_at : ℕ → ℕ → Option Cause → List ReachFault
 far_at number within c = option_to_list (option_map (λ x. fault.TooFar number within x) c)
 
--- The segment and the offset of the last data record, if there is one: after one more record; and the threads after one more record.
+-- The segment and the offset of the last data record, if there is one, after one more record.
 abbrev pub data_place : Contents → Option (ℕ × ℕ) → Option (ℕ × ℕ)
 data_place (Plain d) old = Some (d.segment.item, d.offset.item)
 data_place (Iterated d) old = Some (d.segment.item, d.offset.item)
 data_place _ old = old
-
-abbrev pub threads_after : Threads → Contents → Threads
-threads_after threads (Fixups subs) = set_threads threads subs
-threads_after threads _ = threads
 
 -- The faults of a subrecord at its place, in a FIXUPP of this type and number; and of all subrecords of a FIXUPP, each by the threads in force at it.
 abbrev pub subrecord_far : Places → ℕ → ℕ → Option (ℕ × ℕ) → Threads → ℕ → Subrecord → List ReachFault

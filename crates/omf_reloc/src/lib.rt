@@ -12,6 +12,7 @@ pub mod laws;
 mod offset;
 mod placement;
 mod plain;
+mod relocate;
 pub mod rows;
 mod text;
 

@@ -5,6 +5,7 @@ ghost use Rattle.omf_records.specs.Values.{Subrecord};
 ghost use Rattle.omf_check.specs.Judging.{frame_cell, target_cell};
 ghost use Rattle.omf_check.specs.Kept.{HasThreads};
 ghost use Rattle.omf_check.specs.Threads.{plain};
+ghost use Rattle.omf_reloc.specs.Walking.{plain_by};
 
 use omf_check::{Setting, Threads};
 use omf_records::Reference;
@@ -45,7 +46,8 @@ impl Model for PlainFixup {
 pub(crate) fn plain_reference(threads: &Threads, reference: &Reference) -> PlainReference
     requires frame { IsSome (frame_cell threads.now reference.now) }
     requires target { IsSome (target_cell threads.now reference.now) }
-    ensures { (subs : List Subrecord) → HasThreads threads.now subs → result ≡ plain subs reference.now }
+    ensures cells { result ≡ plain_by threads.now reference.now }
+    ensures earlier { (subs : List Subrecord) → HasThreads threads.now subs → result ≡ plain subs reference.now }
 {
     PlainReference {
         frame: threads.frame(reference).unwrap(),

@@ -4,8 +4,8 @@ use Rattle.omf_records.specs.Values.{Reference}
 use Rattle.omf_reloc.proofs.OffsetLaws.{plain_made}
 use Rattle.omf_reloc.proofs.plain.plain_reference.Goals as goal
 
-pub returns : goal.returns
-returns c = λ subs h.
+pub returns-clause-earlier : goal.returns-clause-earlier
+returns-clause-earlier c = λ subs h.
     plain_made c.args.threads.now subs c.args.reference.now c.unwrap.result c.unwrap-2.result c.unwrap_or.result h
     (sym c.frame.ensures ∙ c.unwrap.ensures) (sym c.target.ensures ∙ c.unwrap-2.ensures)
     (c.unwrap_or.ensures ∙ ap (λ (r : Reference). unwrap_or r.displacement 0) c.reference.view_is)
