@@ -13,7 +13,7 @@ use Rattle.omf_check.specs.declared.threads.Threads.{Threads}
 use Rattle.omf_check.proofs.ThreadLaws.{threads_kept}
 use Rattle.omf_reloc.specs.Placed.{HasPlaces, HasFrame, HasTarget}
 use Rattle.omf_reloc.specs.Placement.{Places}
-use Rattle.omf_reloc.specs.ReachSteps.{data_place, CanJudge, CanJudgeOne, CanJudgeAll, CanJudgeRecord, CanJudgeRecords}
+use Rattle.omf_reloc.specs.ReachSteps.{HasEntries, data_place, CanJudge, CanJudgeOne, CanJudgeAll, CanJudgeRecord, CanJudgeRecords}
 use Rattle.omf_reloc.specs.Walking.{threads_after}
 use Rattle.omf_reloc.proofs.FarLaws.{plain-by, place_in, place-more, threads-more, no-data, HoldFrom, hold-first, hold-rest}
 
@@ -22,12 +22,6 @@ record Covers (pl : Places) (before : List Rec) : Type 0 where
   segments : length (segments before) ≤ length pl.segments
   groups : length (groups before) ≤ length pl.groups
   externals : length (externals before) ≤ length pl.externals
-
--- Its lists are as long as the module's tables.
-pub record HasEntries (pl : Places) (m : List Rec) : Type 0 where
-  pub segments : length pl.segments ≡ length (segments m)
-  pub groups : length pl.groups ≡ length (groups m)
-  pub externals : length pl.externals ≡ length (externals m)
 
 longer : {A : Type 0} (f : Rec → List A) (before rs : List Rec) → length (flat_map f before) ≤ length (flat_map f (before ++ rs))
 longer f before rs = omega (arith, ap length (flat_map-append f before rs), length-append (flat_map f before) (flat_map f rs))

@@ -3,6 +3,7 @@ pub mod EntryLaws
 pub mod ReachLaws
 pub mod FarLaws
 pub mod JudgeLaws
+pub mod ReachedLaws
 pub mod DeriveLaws
 pub mod AddedLaws
 pub mod CutLaws

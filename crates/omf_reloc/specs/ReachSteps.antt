@@ -1,19 +1,42 @@
 -- What each step of a walk over a module's records judges of a placement, and what it may rely on. Private functions speak in these words; the public one
 -- says what is judged by its definition (Reach), and a law says that the faults of the steps, one after another, are those (FaultsAreWalked).
-use Rattle.std.specs.Prelude.{◌≡◌, ⊤, ℕ, ◌+◌, List, [], ◌∷◌, ◌++◌, length, true, Option, Some, None, option_map, option_to_list, unwrap_or, IsSome}
+use Rattle.std.specs.Prelude.{◌≡◌, ⊤, ℕ, ◌+◌, List, [], ◌∷◌, ◌++◌, length, true, Option, Some, None, option_map, option_to_list, flat_map, IsSome}
+use Rattle.std.specs.List.{enumerate_from}
+use Rattle.omf_frame.specs.declared.fault.Place.{Place}
 use Rattle.omf_records.specs.Values.{At, Rec, Contents, Plain, Iterated, Fixups, ModEnd, Subrecord, Thread, Fixup, Reference}
 use Rattle.omf_check.specs.Judging.{frame_cell, target_cell}
-use Rattle.omf_check.specs.Kept.{set_thread, set_threads}
-use Rattle.omf_check.specs.Tables.{is_defined}
-use Rattle.omf_check.specs.Threads.{F5, T0, frame_from, target_from, PlainReference}
+use Rattle.omf_check.specs.Kept.{set_thread}
+use Rattle.omf_check.specs.Tables.{segments, groups, externals, is_defined}
+use Rattle.omf_check.specs.declared.segment.SegInfo.{SegInfo}
 use Rattle.omf_check.specs.declared.threads.Threads.{Threads}
 use Rattle.omf_reloc.specs.declared.fault.Cause.{Cause}
 use Rattle.omf_reloc.specs.declared.fault.ReachFault.{ReachFault}
 use Rattle.omf_reloc.specs.declared.fault.ReachFault.TheVariants as fault
+use Rattle.omf_reloc.specs.declared.fault.Kind.TheVariants as kinds
+use Rattle.omf_reloc.specs.Reach.{missing, extra, misplaced}
 use Rattle.omf_reloc.specs.Offsets.{outcome_at, start_offset, cause_of}
 use Rattle.omf_reloc.specs.Placed.{HasPlaces}
 use Rattle.omf_reloc.specs.Placement.{Places}
 use Rattle.omf_reloc.specs.Walking.{plain_by, plain_fixup_by, threads_after}
+
+-- The placement's lists are as long as the module's tables.
+pub record HasEntries (pl : Places) (m : List Rec) : Type 0 where
+  pub segments : length pl.segments ≡ length (segments m)
+  pub groups : length pl.groups ≡ length (groups m)
+  pub externals : length pl.externals ≡ length (externals m)
+
+-- The faults of the counts, for a module with so many segments, groups and externals; and those of absolute segments, of which the first has this index.
+abbrev pub miscounts : Places → ℕ → ℕ → ℕ → List ReachFault
+miscounts pl segment_count group_count external_count =
+    missing kinds.Segment segment_count (length pl.segments)
+    ++ missing kinds.Group group_count (length pl.groups)
+    ++ missing kinds.External external_count (length pl.externals)
+    ++ extra kinds.Segment segment_count (length pl.segments)
+    ++ extra kinds.Group group_count (length pl.groups)
+    ++ extra kinds.External external_count (length pl.externals)
+
+abbrev pub misplaced_from : Places → ℕ → List SegInfo → List ReachFault
+misplaced_from pl k infos = flat_map (λ s. misplaced pl s.0 s.1.absolute) (enumerate_from k infos)
 
 -- A reference that stands there in the record of this number, where it does not reach.
 abbrev pub far_at : ℕ → ℕ → Option Cause → List ReachFault
@@ -46,6 +69,11 @@ records_far pl number place threads [] = []
 records_far pl number place threads (r ∷ rs) = record_far pl number r.kind place threads r.contents
     ++ records_far pl (number + 1) (data_place r.contents place) (threads_after threads r.contents) rs
 
+-- Those of records with their places.
+abbrev pub placed_far : Places → Option (ℕ × ℕ) → Threads → List (Place × Rec) → List ReachFault
+placed_far pl place threads [] = []
+placed_far pl place threads (x ∷ xs) = record_far pl x.0.number x.1.kind place threads x.1.contents ++ placed_far pl (data_place x.1.contents place) (threads_after threads x.1.contents) xs
+
 -- A reference can be judged: its threads are set, and the placement has the places that it names; F4 asks it of this segment.
 pub record CanJudge (pl : Places) (segment : ℕ) (threads : Threads) (r : Reference) : Type 0 where
   pub frame : IsSome (frame_cell threads r)
@@ -71,3 +99,7 @@ CanJudgeRecord pl place threads _ = ⊤
 abbrev pub CanJudgeRecords : Places → Option (ℕ × ℕ) → Threads → List Rec → Type 0
 CanJudgeRecords pl place threads [] = ⊤
 CanJudgeRecords pl place threads (r ∷ rs) = CanJudgeRecord pl place threads r.contents × CanJudgeRecords pl (data_place r.contents place) (threads_after threads r.contents) rs
+
+abbrev pub CanJudgePlaced : Places → Option (ℕ × ℕ) → Threads → List (Place × Rec) → Type 0
+CanJudgePlaced pl place threads [] = ⊤
+CanJudgePlaced pl place threads (x ∷ xs) = CanJudgeRecord pl place threads x.1.contents × CanJudgePlaced pl (data_place x.1.contents place) (threads_after threads x.1.contents) xs
