@@ -69,7 +69,7 @@ threads_more threads subs s h = record {
   same = λ d k low. cell_more threads s d k h.frames h.targets ∙ ap (option_or (setting_of d k s)) (h.same d k low) ∙ sym (thread-append d k subs s);
 }
 
-threads_all : (threads : Threads) (done : List Subrecord) (subs : List (At Subrecord)) → HasThreads threads done → HasThreads (set_threads threads subs) (done ++ map (λ s. s.item) subs)
+pub threads_all : (threads : Threads) (done : List Subrecord) (subs : List (At Subrecord)) → HasThreads threads done → HasThreads (set_threads threads subs) (done ++ map (λ s. s.item) subs)
 threads_all threads done [] h = subst (λ x. HasThreads threads x) (sym (append-nil done)) h
 threads_all threads done (s ∷ subs) h =
     subst (λ x. HasThreads (set_threads (set_thread threads s.item) subs) x) (append_assoc done (s.item ∷ []) (map (λ t. t.item) subs))

@@ -22,3 +22,5 @@ pub mod CheckLaws
 pub mod NameLaws
 pub mod ListedLaws
 pub mod LimitLaws
+pub mod SoundLaws
+pub mod ThreadLaws

@@ -1,5 +1,5 @@
 -- Laws over the definitions, each the contract of a function of the same name.
-use Rattle.std.specs.Prelude.{◌≡◌, ◌≢◌, ◌⊎◌, ◌↔◌, ◌<◌, ◌≤◌, ℕ, Bool, List, [], ◌∷◌, ◌++◌}
+use Rattle.std.specs.Prelude.{◌≡◌, ◌≢◌, ◌⊎◌, ◌↔◌, ◌<◌, ◌≤◌, ℕ, Bool, List, [], ◌∷◌, ◌++◌, map}
 use Rattle.std.specs.Option.{option_or}
 use Rattle.omf_frame.specs.Bytes.{AreBytes}
 use Rattle.omf_frame.specs.Framing.{Raw}
@@ -7,13 +7,17 @@ use Rattle.omf_frame.specs.declared.fault.Place.{Place}
 use Rattle.omf_frame.specs.declared.fault.Reason.{Reason}
 use Rattle.omf_frame.specs.declared.fault.Reason.TheVariants as reason
 use Rattle.omf_image.specs.declared.limits.Limits.{Limits}
-use Rattle.omf_records.specs.Values.{Subrecord, thread_number}
+use Rattle.omf_records.specs.Values.{At, Subrecord, Reference, thread_number}
 use Rattle.omf_check.specs.Cells.{cells_after}
+use Rattle.omf_check.specs.Judging.{frame_cell, target_cell}
+use Rattle.omf_check.specs.Kept.{HasThreads, no_threads, set_thread, set_threads}
 use Rattle.omf_check.specs.Refusal.{IsRefused}
-use Rattle.omf_check.specs.Threads.{setting_of, thread}
+use Rattle.omf_check.specs.Sound.{ModuleHolds}
+use Rattle.omf_check.specs.Threads.{setting_of, thread, frame_setting, target_setting}
 use Rattle.omf_check.specs.Verdict.{Accepted, Refused, verdict}
-use Rattle.omf_check.specs.WellFormed.{IsAccepted, IsWellFormed}
+use Rattle.omf_check.specs.WellFormed.{IsAccepted, IsWellFormed, recs}
 use Rattle.omf_check.specs.declared.profile.Profile.{Profile}
+use Rattle.omf_check.specs.declared.threads.Threads.{Threads}
 
 -- A refusal that is neither NoEnd nor Cut stands, whatever follows the input.
 abbrev pub RefusalsStay : Type 0
@@ -57,3 +61,15 @@ CellsAreThreads = ((subs : List Subrecord) (is_frame : Bool) (k : ℕ) → cells
 abbrev pub LimitsMayGrow : Type 0
 LimitsMayGrow = (profile : Profile) (small large : Limits) (bytes : List ℕ) (records : List Raw) → small.nesting ≤ large.nesting → small.expanded ≤ large.expanded
     → IsWellFormed profile small bytes records → IsWellFormed profile large bytes records
+
+-- No record of a well-formed module names a thread, an entry, a datum or a byte that is missing, and a MODEND is its last record and no other.
+abbrev pub ModulesHold : Type 0
+ModulesHold = (profile : Profile) (limits : Limits) (bytes : List ℕ) (records : List Raw) → IsWellFormed profile limits bytes records → ModuleHolds limits (recs records)
+
+-- Threads kept in cells go on being those in force: from none, after one more subrecord, after those of a FIXUPP; and they give a reference its frame and its target.
+pub record ThreadsAreKept : Type 0 where
+  pub none : HasThreads no_threads []
+  pub one : (threads : Threads) (subs : List Subrecord) (s : Subrecord) → HasThreads threads subs → HasThreads (set_thread threads s) (subs ++ s ∷ [])
+  pub all : (threads : Threads) (done : List Subrecord) (subs : List (At Subrecord)) → HasThreads threads done → HasThreads (set_threads threads subs) (done ++ map (λ s. s.item) subs)
+  pub frame : (threads : Threads) (subs : List Subrecord) (r : Reference) → HasThreads threads subs → frame_cell threads r ≡ frame_setting subs r
+  pub target : (threads : Threads) (subs : List Subrecord) (r : Reference) → HasThreads threads subs → target_cell threads r ≡ target_setting subs r

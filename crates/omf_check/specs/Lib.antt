@@ -6,6 +6,7 @@ pub mod Kept
 pub mod Listed
 pub mod Points
 pub mod WellFormed
+pub mod Sound
 pub mod Refusal
 pub mod Judging
 pub mod Verdict

@@ -1,9 +1,10 @@
 //! A module that was checked.
 
-ghost use Rattle.std.specs.Prelude.{◌≡◌, length, drop, option_map};
+ghost use Rattle.std.specs.Prelude.{◌≡◌, ◌≤◌, length, drop, option_map};
 ghost use Rattle.omf_image.specs.Limits.{profile_limits};
 ghost use Rattle.omf_check.specs.Module.{records_in, IsChecked};
 ghost use Rattle.omf_check.specs.Listed.{placed_from};
+ghost use Rattle.omf_check.specs.Sound.{ModuleHolds};
 ghost use Rattle.omf_check.specs.Points.{NameAt, HasName, HasGroup};
 ghost use Rattle.omf_frame.specs.Framing.{front_record, present};
 ghost use Rattle.omf_records.specs.Reading.{typed};
@@ -88,28 +89,32 @@ impl Checked {
 
     /// How many names its LNAMES define.
     pub fn names(&self) -> u16
-        ensures { result ≡ length (names (recs (records_in self.now.bytes))) }
+        ensures count { result ≡ length (names (recs (records_in self.now.bytes))) }
+        ensures bounded { result ≤ 32767 }
     {
         self.tables.name_count()
     }
 
     /// How many segments it has.
     pub fn segments(&self) -> u16
-        ensures { result ≡ length (segments (recs (records_in self.now.bytes))) }
+        ensures count { result ≡ length (segments (recs (records_in self.now.bytes))) }
+        ensures bounded { result ≤ 32767 }
     {
         self.tables.segment_count()
     }
 
     /// How many groups it has.
     pub fn groups(&self) -> u16
-        ensures { result ≡ length (groups (recs (records_in self.now.bytes))) }
+        ensures count { result ≡ length (groups (recs (records_in self.now.bytes))) }
+        ensures bounded { result ≤ 32767 }
     {
         self.tables.group_count()
     }
 
     /// How many external names it has; those of EXTDEFs and COMDEFs share one table.
     pub fn externals(&self) -> u16
-        ensures { result ≡ length (externals (recs (records_in self.now.bytes))) }
+        ensures count { result ≡ length (externals (recs (records_in self.now.bytes))) }
+        ensures bounded { result ≤ 32767 }
     {
         self.tables.external_count()
     }
@@ -121,9 +126,11 @@ impl Checked {
         self.tables.segment(i)
     }
 
-    /// The records, one after another, each with its place (in which `within` is 0).
+    /// The records, one after another, each with its place (in which `within` is 0). None names a thread, an entry, a datum or a byte
+    /// that is missing, and a MODEND is the last of them alone.
     pub fn records(&self) -> Records<'_>
-        ensures { result ≡ placed_from 0 0 (records_in self.now.bytes) }
+        ensures listed { result ≡ placed_from 0 0 (records_in self.now.bytes) }
+        ensures holds { ModuleHolds profile_limits (recs (records_in self.now.bytes)) }
     {
         Records::new(&self.bytes)
     }

@@ -1,6 +1,6 @@
 //! Laws over the definitions, each the contract of a function that does nothing.
 
-ghost use Rattle.omf_check.specs.Laws.{RefusalsStay, RefusalsAreUnique, NeverBoth, ModulesAreUnique, IsEither, VerdictsDecide, CellsAreThreads, LimitsMayGrow};
+ghost use Rattle.omf_check.specs.Laws.{RefusalsStay, RefusalsAreUnique, NeverBoth, ModulesAreUnique, IsEither, VerdictsDecide, CellsAreThreads, LimitsMayGrow, ModulesHold, ThreadsAreKept};
 
 /// A refusal that is neither NoEnd nor Cut stands, whatever follows the input.
 pub fn refusals_stay()
@@ -40,4 +40,14 @@ pub fn cells_are_threads()
 /// A module that is well formed under some limits on blocks is so under any larger ones.
 pub fn limits_may_grow()
     ensures { LimitsMayGrow }
+{}
+
+/// No record of a well-formed module names a thread, an entry, a datum or a byte that is missing; a MODEND is the last record alone.
+pub fn modules_hold()
+    ensures { ModulesHold }
+{}
+
+/// The threads that are kept, one for each kind and number, go on being those in force, and give each reference its frame and target.
+pub fn threads_are_kept()
+    ensures { ThreadsAreKept }
 {}

@@ -11,22 +11,22 @@ use Rattle.omf_reloc.specs.Placement.{Places}
 use Rattle.omf_reloc.specs.Plain.{Piece, Kept, End, PlainFixup, fixups_of_data}
 use Rattle.omf_reloc.specs.Reach.{causes, causes_at, piece_causes, data_contents, Reaches}
 
-abbrev IsFine : Option Cause → Type 0
+abbrev pub IsFine : Option Cause → Type 0
 IsFine c = c ≡ None
 
-left : (xs ys : List (Option Cause)) → All IsFine (xs ++ ys) → All IsFine xs
+pub left : (xs ys : List (Option Cause)) → All IsFine (xs ++ ys) → All IsFine xs
 left [] ys h = All-nil IsFine
 left (x ∷ xs) ys h = All-cons IsFine x xs (All-head IsFine x (xs ++ ys) h) (left xs ys (All-tail IsFine x (xs ++ ys) h))
 
-right : (xs ys : List (Option Cause)) → All IsFine (xs ++ ys) → All IsFine ys
+pub right : (xs ys : List (Option Cause)) → All IsFine (xs ++ ys) → All IsFine ys
 right [] ys h = h
 right (x ∷ xs) ys h = right xs ys (All-tail IsFine x (xs ++ ys) h)
 
-fine-ok : {A : Type 0} (r : Result A Cause) → cause_of r ≡ None → IsOk r
+pub fine-ok : {A : Type 0} (r : Result A Cause) → cause_of r ≡ None → IsOk r
 fine-ok (Ok a) h = refl
 fine-ok (Err c) h = absurd (none-some c (sym h))
 
-fine-all : (pl : Places) (d : DataItem) (fs : List (ℕ × PlainFixup)) → All IsFine (map (λ f. cause_of (outcome pl d f)) fs) → All (λ f. IsOk (outcome pl d f)) fs
+pub fine-all : (pl : Places) (d : DataItem) (fs : List (ℕ × PlainFixup)) → All IsFine (map (λ f. cause_of (outcome pl d f)) fs) → All (λ f. IsOk (outcome pl d f)) fs
 fine-all pl d [] h = All-nil (λ f. IsOk (outcome pl d f))
 fine-all pl d (f ∷ fs) h =
     let rest = map (λ g. cause_of (outcome pl d g)) fs in

@@ -4,9 +4,14 @@ pub mod GroupLaws
 pub mod LowestLaws
 pub mod ResolvingLaws
 pub mod ReachLaws
+pub mod FarLaws
+pub mod JudgeLaws
+pub mod ReachedLaws
 pub mod DeriveLaws
 pub mod AddedLaws
 pub mod CutLaws
 pub mod LineLaws
 pub mod DigitLaws
 pub mod ParsingLaws
+pub mod GatherLaws
+pub mod OffsetLaws

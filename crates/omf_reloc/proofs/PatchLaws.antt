@@ -1,10 +1,10 @@
 -- What fixups add stays inside their locations.
-use Rattle.std.proofs.Common.{◌≡◌, ◌⊎◌, ℕ, zero, suc, ◌+◌, ◌-◌, ◌<◌, ◌≤◌, List, [], ◌∷◌, ◌++◌, refl, ◌∙◌, ap, inl, inr, ⊎_elim, Bool, true, false, cond, length, take, drop, arith, length-append, length-take, length-drop, get_or-take, get_or-drop, mod-lt}
-use Rattle.std.specs.Prelude.{slice_index, Result, Ok, Err, Option, Some, None, ◌==◌, ◌/◌, nat_le, filter, fold}
+use Rattle.std.proofs.Common.{◌≡◌, ◌⊎◌, ℕ, zero, suc, ◌+◌, ◌-◌, ◌<◌, ◌≤◌, List, [], ◌∷◌, ◌++◌, refl, sym, subst, ◌∙◌, ap, inl, inr, ⊎_elim, Bool, true, false, cond, length, take, drop, arith, length-append, length-take, length-drop, get_or-take, get_or-drop, mod-lt}
+use Rattle.std.specs.Prelude.{slice_index, Result, Ok, Err, All, Option, Some, None, ◌==◌, ◌/◌, nat_le, filter, fold}
 use Rattle.std.specs.List.{list_all}
 use Rattle.std.proofs.lemmas.Bool.{leb-true, and_parts}
 use Rattle.std.proofs.lemmas.List.{get_or-append_right}
-use Rattle.std.proofs.lemmas.List.Elements.{All-head, All-tail}
+use Rattle.std.proofs.lemmas.List.Elements.{All-nil, All-cons, All-head, All-tail}
 use Rattle.std.proofs.Math.ListN.{get_or-append}
 use Rattle.byteorder.specs.Numbers.{length-bytes_low_first}
 use Rattle.omf_image.specs.declared.part.Part.{Part}
@@ -16,7 +16,7 @@ use Rattle.omf_reloc.specs.declared.fault.Cause.TheVariants as cause
 use Rattle.omf_reloc.specs.Additions.{additions, self_relative_additions}
 use Rattle.omf_reloc.specs.Image.{added}
 use Rattle.omf_reloc.specs.Laws.{location_start, location_end, AreInside, AreElsewhere, StaysInside}
-use Rattle.omf_reloc.specs.Offsets.{outcome, map_ok, from_location, first_or, is_near}
+use Rattle.omf_reloc.specs.Offsets.{outcome, outcome_at, map_ok, from_location, first_or, is_near}
 use Rattle.omf_reloc.specs.Placement.{Places}
 use Rattle.omf_reloc.specs.Plain.{PlainFixup}
 
@@ -189,3 +189,28 @@ stays_inside pl d fixups inside = record {
   size = length-patched pl d fixups d.bytes (length d.bytes) refl inside;
   elsewhere = λ x away. index-patched pl d fixups d.bytes (length d.bytes) x refl inside away;
 }
+
+-- Each part that a fixup adds lies inside the data where its location does.
+abbrev pub IsInside : ℕ → ℕ → Addition → Type 0
+IsInside start size p = start + p.offset + part_size p.part ≤ size
+
+parts-fit : (n start size : ℕ) (parts : List Addition) → fits n parts ≡ true → start + n ≤ size → All (IsInside start size) parts
+parts-fit n start size [] f h = All-nil (IsInside start size)
+parts-fit n start size (p ∷ ps) f h =
+    let both = and_parts (nat_le (p.offset + part_size p.part) n) (fits n ps) f in
+    let here = leb-true (p.offset + part_size p.part) n both.0 in
+    All-cons (IsInside start size) p ps (omega (arith, here, h)) (parts-fit n start size ps both.1 h)
+
+abbrev pub item_at : ℕ → ℕ → DataItem
+item_at segment offset = record { segment = record { within = 0; item = segment }; offset = record { within = 0; item = offset }; bytes = [] }
+
+pub parts-inside : (pl : Places) (segment offset size : ℕ) (f : ℕ × PlainFixup) (parts : List Addition) → Ok parts ≡ outcome_at pl segment offset f → location_end f ≤ size
+    → All (IsInside (location_start f) size) parts
+parts-inside pl segment offset size f parts e h =
+    let fit : Fit (location_type f.1.locat) (outcome_at pl segment offset f) = fit-outcome pl (item_at segment offset) f in
+    parts-fit (location_size (location_type f.1.locat)) (location_start f) size parts (subst (Fit (location_type f.1.locat)) (sym e) fit) h
+
+pub room-for : (pl : Places) (segment offset size : ℕ) (f : ℕ × PlainFixup) (parts : List Addition) (start n : ℕ) → Ok parts ≡ outcome_at pl segment offset f → location_end f ≤ size
+    → start ≡ location_start f → n ≡ size → All (λ a. start + a.offset + part_size a.part ≤ n) parts
+room-for pl segment offset size f parts start n e h s t =
+    subst (λ k. All (IsInside start k) parts) (sym t) (subst (λ k. All (IsInside k size) parts) (sym s) (parts-inside pl segment offset size f parts e h))

@@ -3,8 +3,12 @@ pub mod Placement
 pub mod Lowest
 pub mod Additions
 pub mod Offsets
+pub mod Placed
+pub mod Seen
 pub mod Reach
 pub mod Image
+pub mod Walking
+pub mod ReachSteps
 pub mod Entries
 pub mod EntryReading
 pub mod PlacementText

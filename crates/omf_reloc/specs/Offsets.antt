@@ -37,6 +37,10 @@ abbrev pub in_bits : ℕ → Option ℕ → Option ℕ
 in_bits w None = None
 in_bits w (Some l) = if nat_lt l (2 ^ w) then Some l else None
 
+-- What a segment-relative fixup adds: a base (type 2) whatever the offset, and any other by the first offset in range, else the cause is Target.
+abbrev pub in_frame : ℕ → ℕ → List ℕ → Result (List Addition) Cause
+in_frame t selector os = if t == 2 then Ok (additions t 0 selector) else map_ok (λ o. additions t o selector) (first_or cause.Target os)
+
 -- What a self-relative fixup adds: some reading has its offset in range, else the cause is Target; the location's offset is in range, else
 -- Location; and the first of those offsets that is near enough is taken, else Distance.
 abbrev pub from_location : ℕ → List ℕ → Option ℕ → Result (List Addition) Cause
@@ -44,20 +48,22 @@ from_location t [] l = Err cause.Target
 from_location t (o ∷ os) None = Err cause.Location
 from_location t (o ∷ os) (Some l) = map_ok (λ near. self_relative_additions t near l) (first_or cause.Distance (filter (is_near t l) (o ∷ os)))
 
--- What a fixup of a FIXUPP of type f.0 adds to the data record d, or the cause why it does not reach. The displacement's width is the FIXUPP's, the
--- offset's the location's. A base (type 2) always reaches; any other segment-relative fixup reaches by its offset alone.
-abbrev pub outcome : Places → DataItem → ℕ × PlainFixup → Result (List Addition) Cause
-outcome pl d f =
+-- What a fixup of a FIXUPP of type f.0 adds to a data record that lies at an offset of a segment, or the cause why it does not reach. The displacement's
+-- width is the FIXUPP's, the offset's the location's.
+abbrev pub outcome_at : Places → ℕ → ℕ → ℕ × PlainFixup → Result (List Addition) Cause
+outcome_at pl segment offset f =
     let t = location_type f.1.locat in
     let r = f.1.reference in
-    let frame = frame_by pl d.segment.item r.target r.frame in
+    let frame = frame_by pl segment r.target r.frame in
     let address = target_address pl r.target in
     let n = width_bits f.0 in
-    let location = (placed pl.segments d.segment.item).address + d.offset.item + location_offset f.1.locat in
+    let location = (placed pl.segments segment).address + offset + location_offset f.1.locat in
     if is_segment_relative f.1.locat
-    then (if t == 2 then Ok (additions t 0 frame.selector)
-    else map_ok (λ o. additions t o frame.selector) (first_or cause.Target (offsets (offset_bits t) n address r.displacement frame.base)))
+    then in_frame t frame.selector (offsets (offset_bits t) n address r.displacement frame.base)
     else from_location t (offsets (self_relative_bits t) n address r.displacement frame.base) (in_bits (self_relative_bits t) (difference location frame.base))
+
+abbrev pub outcome : Places → DataItem → ℕ × PlainFixup → Result (List Addition) Cause
+outcome pl d f = outcome_at pl d.segment.item d.offset.item f
 
 -- The start's offset: 16 bits in 8AH, 32 bits in 8BH, and so its displacement. Its frame is not F4, so that no data record counts.
 abbrev pub start_offset : Places → ℕ → PlainReference → Result ℕ Cause

@@ -1,6 +1,7 @@
 //! What a placement makes of a module: whether every fixup reaches, the image and the start; and how placements are written.
 #![tactic(auto)]
 
+mod addition;
 mod cut;
 pub mod edges;
 mod entry;
@@ -9,7 +10,11 @@ mod frame;
 mod given;
 mod group;
 pub mod laws;
+mod offset;
 mod placement;
+mod plain;
+mod reaching;
+mod relocate;
 pub mod rows;
 mod text;
 
@@ -18,4 +23,5 @@ pub use frame::Frame;
 pub use given::Given;
 pub use group::real_group;
 pub use placement::Placement;
+pub use reaching::reach;
 pub use text::{Draft, parse_placement};

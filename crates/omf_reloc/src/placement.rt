@@ -1,7 +1,7 @@
 //! Placements.
 
-ghost use Rattle.std.specs.Prelude.{◌≡◌, ◌++◌, [], ◌∷◌, OnOk, OnErr, option_map};
-ghost use Rattle.omf_check.specs.Tables.{entry as entry_of};
+ghost use Rattle.std.specs.Prelude.{◌≡◌, ◌++◌, [], ◌∷◌, true, length, OnOk, OnErr, option_map};
+ghost use Rattle.omf_check.specs.Tables.{entry as entry_of, is_defined};
 
 use crate::frame::{Frame, Placed};
 use std::alloc::{AllocError, Global};
@@ -32,7 +32,7 @@ pub(crate) fn entry<T: Copy>(entries: &[T], i: usize) -> Option<T>
 }
 
 impl Placement {
-    ghost use Rattle.omf_reloc.specs.Placement.{Places};
+    ghost use Rattle.omf_reloc.specs.Placement.{Places, placed, group_frame};
 
     /// A placement without entries.
     pub fn new(alloc: Global) -> Self
@@ -109,6 +109,51 @@ impl Placement {
         ensures { result ≡ option_map (λ p. (p.address, p.frame)) (entry_of self.now.externals i) }
     {
         entry(&self.externals, i).map(|placed| (placed.address, placed.frame))
+    }
+
+    /// How many segments have an entry.
+    pub(crate) fn segment_count(&self) -> usize
+        ensures { result ≡ length self.now.segments }
+    {
+        self.segments.len()
+    }
+
+    /// How many groups have an entry.
+    pub(crate) fn group_count(&self) -> usize
+        ensures { result ≡ length self.now.groups }
+    {
+        self.groups.len()
+    }
+
+    /// How many externals have an entry.
+    pub(crate) fn external_count(&self) -> usize
+        ensures { result ≡ length self.now.externals }
+    {
+        self.externals.len()
+    }
+
+    /// The place of a segment that has an entry, by its index from 1.
+    pub(crate) fn segment_at(&self, i: usize) -> Placed
+        requires { is_defined (length self.now.segments) i ≡ true }
+        ensures { result ≡ placed self.now.segments i }
+    {
+        self.segments[i - 1]
+    }
+
+    /// The frame of a group that has an entry, by its index from 1.
+    pub(crate) fn group_at(&self, i: usize) -> Frame
+        requires { is_defined (length self.now.groups) i ≡ true }
+        ensures { result ≡ group_frame self.now i }
+    {
+        self.groups[i - 1]
+    }
+
+    /// The place of an external that has an entry, by its index from 1.
+    pub(crate) fn external_at(&self, i: usize) -> Placed
+        requires { is_defined (length self.now.externals) i ≡ true }
+        ensures { result ≡ placed self.now.externals i }
+    {
+        self.externals[i - 1]
     }
 }
 

@@ -1,0 +1,35 @@
+-- Whether a placement has the places that a reference names, and the types of the records that references stand in.
+use Rattle.std.specs.Prelude.{◌≡◌, ℕ, length, Bool, true, if◌then◌else◌}
+use Rattle.omf_check.specs.Tables.{is_defined}
+use Rattle.omf_check.specs.Threads.{FrameMethod, F0, F1, F2, F4, F5, TargetMethod, T0, T1, T2, PlainReference}
+use Rattle.omf_reloc.specs.Placement.{Places}
+
+-- The target's entry is there.
+abbrev pub HasTarget : Places → TargetMethod → Type 0
+HasTarget pl (T0 i) = is_defined (length pl.segments) i ≡ true
+HasTarget pl (T1 i) = is_defined (length pl.groups) i ≡ true
+HasTarget pl (T2 i) = is_defined (length pl.externals) i ≡ true
+
+-- The frame's entry is there: F4 asks it of the segment of the last data record, here `location`; F5 asks nothing beyond what the target does.
+abbrev pub HasFrame : Places → ℕ → FrameMethod → Type 0
+HasFrame pl location (F0 i) = is_defined (length pl.segments) i ≡ true
+HasFrame pl location (F1 i) = is_defined (length pl.groups) i ≡ true
+HasFrame pl location (F2 i) = is_defined (length pl.externals) i ≡ true
+HasFrame pl location F4 = is_defined (length pl.segments) location ≡ true
+HasFrame pl location F5 = Unit
+
+-- The entries of a reference's frame and target are there. Segment 0, which no data record has, rules out F4.
+pub record HasPlaces (pl : Places) (location : ℕ) (r : PlainReference) : Type 0 where
+  pub frame : HasFrame pl location r.frame
+  pub target : HasTarget pl r.target
+
+-- The type of a FIXUPP, and of a MODEND, by whether it is the wide one.
+abbrev pub fixupp_type : Bool → ℕ
+fixupp_type is_wide = if is_wide then 0x9D else 0x9C
+
+abbrev pub modend_type : Bool → ℕ
+modend_type is_wide = if is_wide then 0x8B else 0x8A
+
+-- The bits of an offset or a displacement, by whether it is a wide one.
+abbrev pub number_bits : Bool → ℕ
+number_bits is_wide = if is_wide then 32 else 16

@@ -1,0 +1,140 @@
+//! What a fixup adds at its location.
+
+ghost use Rattle.std.specs.Prelude.{◌≡◌, ◌+◌, ◌≤◌, ◌<◌, ◌^◌, ◌∷◌, [], All, length};
+ghost use Rattle.omf_image.specs.Parts.{part_size, add_part, add_parts};
+ghost use Rattle.omf_reloc.specs.Additions.{addition, additions, part_of_size, self_relative_value, self_relative_additions};
+
+use omf_image::{Part, add_part};
+use omf_records::location_size;
+use std::marker::Model;
+
+/// A number that is added at an offset of a location, modulo the size of its part.
+#[derive(Clone, Copy, Debug)]
+struct Addition {
+    offset: usize,
+    part: Part,
+    value: u64,
+}
+
+impl Addition {
+    /// Adds to the bytes at a location.
+    fn add_to(self, bytes: &mut [u8], position: usize)
+        requires { position + self.offset + part_size self.part ≤ length bytes.old }
+        ensures { bytes.new ≡ add_part bytes.old (position + self.offset) self.part self.value }
+    {
+        let value = self.value % (1 << 32);
+        add_part(bytes, position + self.offset, self.part, value as u32);
+    }
+}
+
+/// The one or two numbers that a fixup adds at its location.
+#[derive(Drop)]
+pub(crate) struct Additions {
+    first: Addition,
+    second: Option<Addition>,
+}
+
+impl Model for Additions {
+    ghost use Rattle.std.specs.Prelude.{List};
+    ghost use Rattle.omf_image.specs.Parts.{Addition as Said};
+
+    ghost Value = { List Said };
+
+    ghost use Rattle.omf_reloc.specs.Seen.{all_added};
+
+    ghost view = { λ a. all_added a.first a.second };
+}
+
+/// The part of so many bytes; the largest where there is none.
+fn part_of_size(size: u8) -> Part
+    ensures { result ≡ part_of_size size }
+{
+    match size {
+        1 => Part::Byte,
+        2 => Part::Word,
+        _ => Part::Dword,
+    }
+}
+
+/// The distance from the byte behind a location to an offset, both in one frame, modulo the location's size.
+fn self_relative_value(size: u8, offset: u32, location: u32) -> u64
+    requires { size ≤ 6 }
+    ensures { result ≡ self_relative_value size offset location }
+{
+    let modulus = 1u64 << (8 * u32::from(size));
+    let behind = u64::from(location) + u64::from(size);
+    (u64::from(offset) + modulus - behind % modulus) % modulus
+}
+
+impl Additions {
+    /// One number, at the front of the location.
+    fn one(part: Part, value: u64) -> Additions
+        ensures { result ≡ addition 0 part value ∷ [] }
+    {
+        let offset = 0;
+        Additions {
+            first: Addition {
+                offset,
+                part,
+                value,
+            },
+            second: None,
+        }
+    }
+
+    /// An offset at the front of the location, and a selector behind it.
+    fn pointer(part: Part, value: u64, offset: usize, selector: u16) -> Additions
+        ensures { result ≡ addition 0 part value ∷ addition offset Part.Word selector ∷ [] }
+    {
+        Additions {
+            first: Addition {
+                offset: 0,
+                part,
+                value,
+            },
+            second: Some(Addition {
+                offset,
+                part: Part::Word,
+                value: u64::from(selector),
+            }),
+        }
+    }
+
+    /// What a segment-relative fixup adds at a location of this type.
+    pub(crate) fn in_frame(kind: u8, offset: u32, selector: u16) -> Additions
+        ensures { result ≡ additions kind offset selector }
+    {
+        let value = u64::from(offset);
+        match kind {
+            0 => Additions::one(Part::Byte, value % 256),
+            1 | 5 => Additions::one(Part::Word, value),
+            2 => Additions::one(Part::Word, u64::from(selector)),
+            3 => Additions::pointer(Part::Word, value, 2, selector),
+            4 => Additions::one(Part::Byte, value / 256),
+            9 | 13 => Additions::one(Part::Dword, value),
+            _ => Additions::pointer(Part::Dword, value, 4, selector),
+        }
+    }
+
+    /// What a self-relative fixup adds at a location of this type, for its target's offset and its own.
+    pub(crate) fn from_location(kind: u8, offset: u32, location: u32) -> Additions
+        ensures { result ≡ self_relative_additions kind offset location }
+    {
+        let size = location_size(kind);
+        Additions::one(
+            part_of_size(size),
+            self_relative_value(size, offset, location),
+        )
+    }
+
+    /// Adds them at a position, one after another, each modulo its size and without a carry into the next.
+    pub(crate) fn add_to(&self, bytes: &mut [u8], position: usize)
+        requires { All (λ a. position + a.offset + part_size a.part ≤ length bytes.old) self.now }
+        ensures { bytes.new ≡ add_parts position self.now bytes.old }
+    {
+        self.first.add_to(bytes, position);
+        if let Some(second) = self.second {
+            second.add_to(bytes, position);
+        }
+    }
+}
