@@ -9,3 +9,5 @@ pub mod DigitLaws
 pub mod ParsingLaws
 pub mod GatherLaws
 pub mod OffsetLaws
+pub mod WalkLaws
+pub mod WalkedLaws

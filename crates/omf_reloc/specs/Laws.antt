@@ -1,9 +1,10 @@
 -- Laws over the definitions, each the contract of a function of the same name.
-use Rattle.std.specs.Prelude.{◌≡◌, ◌⊎◌, ◌↔◌, ℕ, ◌+◌, ◌<◌, ◌≤◌, List, Some, None, Ok, IsOk, ◌∷◌, ◌++◌, length, slice_index, All}
+use Rattle.std.specs.Prelude.{◌≡◌, ◌⊎◌, ◌↔◌, ℕ, ◌+◌, ◌<◌, ◌≤◌, List, Some, None, true, Ok, IsOk, ◌∷◌, ◌++◌, length, slice_index, All}
 use Rattle.std.specs.List.{AllZip}
 use Rattle.omf_records.specs.Location.{location_size}
 use Rattle.omf_records.specs.Values.{DataItem, Rec, location_type, location_offset}
-use Rattle.omf_check.specs.Tables.{externals}
+use Rattle.omf_check.specs.Rules.{length_of_segment}
+use Rattle.omf_check.specs.Tables.{segments, externals, is_defined}
 use Rattle.omf_check.specs.Threads.{PlainReference}
 use Rattle.omf_reloc.specs.declared.given.Given.{Given}
 use Rattle.omf_reloc.specs.Derive.{PlacedModule, derived}
@@ -59,3 +60,8 @@ pub record AllAreAdded (pl : Places) (m : List Rec) : Type 0 where
   pub fixups : (before after : List Piece) (r : Rec) (d : DataItem) → pieces m ≡ before ++ Kept r ∷ after → data_contents r.contents ≡ Some d
       → All (λ f. IsOk (outcome pl d f)) (fixups_of_data after)
   pub start : (before after : List Piece) (kind byte : ℕ) (r : PlainReference) → pieces m ≡ before ++ End kind byte (Some r) ∷ after → IsOk (start_offset pl kind r)
+
+-- So many bytes at an offset lie in a segment, which is defined.
+pub record LiesInSegment (m : List Rec) (segment offset size : ℕ) : Type 0 where
+  pub segment_defined : is_defined (length (segments m)) segment ≡ true
+  pub inside : offset + size ≤ length_of_segment m segment
