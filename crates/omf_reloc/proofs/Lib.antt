@@ -11,3 +11,5 @@ pub mod GatherLaws
 pub mod OffsetLaws
 pub mod WalkLaws
 pub mod WalkedLaws
+pub mod InsideLaws
+pub mod StartLaws

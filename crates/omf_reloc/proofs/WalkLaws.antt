@@ -1,35 +1,33 @@
 -- A walk over the records of a module that holds, by a placement that reaches, can take every record, and its image is that of the module.
-use Rattle.std.proofs.Common.{◌≡◌, ◌≢◌, ℕ, zero, suc, ◌+◌, ◌-◌, ◌^◌, ◌<◌, ◌≤◌, Bool, true, false, cond, List, [], ◌∷◌, ◌++◌, append_assoc, length, length-append, refl, sym, ap, ap₂, subst, ◌∙◌, arith}
-use Rattle.std.specs.Prelude.{All, map, flat_map, fold, Option, Some, None, option_map, option_to_list, unwrap_or, IfSome, IsSome, IsOk, ⊤, slice_get, nat_le, ◌&&◌}
+use Rattle.std.proofs.Common.{◌≡◌, ℕ, zero, suc, ◌+◌, ◌-◌, ◌^◌, ◌<◌, ◌≤◌, Bool, true, false, cond, List, [], ◌∷◌, ◌++◌, append_assoc, length, length-append, refl, sym, ap, ap₂, subst, ◌∙◌, arith}
+use Rattle.std.specs.Prelude.{All, map, flat_map, Option, Some, None, option_map, option_to_list, unwrap_or, IfSome, IsSome, IsOk, slice_get, nat_le}
 use Rattle.std.specs.List.{last_or}
 use Rattle.std.proofs.lemmas.Bool.{leb-true, le-leb, and_parts, and_from}
 use Rattle.std.proofs.lemmas.List.{append-nil, map-append}
 use Rattle.std.proofs.lemmas.List.Elements.{All-nil, All-cons, All-head, All-tail, All-append}
 use Rattle.std.proofs.lemmas.Grind.{flat_map-append, fold-append}
-use Rattle.omf_frame.specs.Bytes.{with_before, last}
-use Rattle.omf_records.specs.Location.{location_size}
-use Rattle.omf_records.specs.Values.{At, Rec, Contents, Segment, Group, Names, Externs, Communals, Plain, Iterated, Fixups, ModEnd, DataItem, Subrecord, Thread, Fixup, Reference, width, location_type, location_offset}
+use Rattle.omf_frame.specs.Bytes.{last}
+use Rattle.omf_records.specs.Values.{At, Rec, Contents, Segment, Names, Plain, Iterated, Fixups, DataItem, Subrecord, Thread, Fixup, Reference, width, location_offset}
 use Rattle.omf_image.specs.Expanding.{expanded}
 use Rattle.omf_image.specs.Limits.{profile_limits}
-use Rattle.omf_image.specs.Overlay.{Laid, AreLaidOver}
-use Rattle.omf_check.specs.Judging.{frame_cell, target_cell}
-use Rattle.omf_check.specs.Kept.{HasThreads, no_threads, set_thread}
+use Rattle.omf_image.specs.Overlay.{Laid}
+use Rattle.omf_check.specs.Kept.{HasThreads, set_thread}
 use Rattle.omf_check.specs.Laws.{ThreadsAreKept}
 use Rattle.omf_check.specs.Rules.{length_of_segment}
-use Rattle.omf_check.specs.Sound.{FrameIsDefined, TargetIsDefined, ReferenceHolds, FixupHolds, SubrecordHolds, SubrecordsHold, DataHolds, BlocksHold, ContentsHold, ModuleHolds}
-use Rattle.omf_check.specs.Tables.{segments, groups, externals, entry, is_defined, subrecords, subrecords_in, last_data, data_in, defined_segments, defined_groups, defined_externals, segment_length}
+use Rattle.omf_check.specs.Sound.{FrameIsDefined, TargetIsDefined, ReferenceHolds, FixupHolds, SubrecordHolds, SubrecordsHold, DataHolds, ContentsHold, ModuleHolds}
+use Rattle.omf_check.specs.Tables.{segments, groups, externals, entry, is_defined, subrecords, subrecords_in, last_data, data_in, defined_segments, defined_groups, defined_externals}
 use Rattle.omf_check.specs.Threads.{FrameMethod, F0, F1, F2, F4, F5, TargetMethod, T0, T1, T2, Setting, frame_from, target_from, PlainReference, plain}
 use Rattle.omf_check.specs.declared.segment.SegInfo.{SegInfo}
 use Rattle.omf_check.specs.declared.threads.Threads.{Threads}
-use Rattle.omf_reloc.specs.Image.{laid, patched, added}
+use Rattle.omf_reloc.specs.Image.{added}
 use Rattle.omf_reloc.specs.Laws.{location_end, AreInside, LiesInSegment}
-use Rattle.omf_reloc.specs.Offsets.{outcome, outcome_at}
+use Rattle.omf_reloc.specs.Offsets.{outcome}
 use Rattle.omf_reloc.specs.Placed.{HasFrame, HasTarget, HasPlaces}
 use Rattle.omf_reloc.specs.Placement.{Places}
-use Rattle.omf_reloc.specs.Plain.{Piece, PlainFixup, pieces, plain_fixup, plain_fixups}
-use Rattle.omf_reloc.specs.Reach.{Fits, Reaches}
-use Rattle.omf_reloc.specs.Walking.{plain_by, plain_fixup_by, with_fixup, with_subrecord, with_subrecords, CanAdd, CanAddBy, CanTake, CanTakeAll, Walk, closed, opened, threads_after, IsNext, HasOffsets, Expands, CanRead, CanWalk}
-use Rattle.omf_reloc.proofs.GatherLaws.{Gathered, Once, Repeated, item_of, fixups_of, more, more-none, more-more, bare, tagged, gathered, closed_by, opened_by, gathered_from, gathered-all, subrecords-more, laid_of, laid-gathered, Reach, reach-gathered}
+use Rattle.omf_reloc.specs.Plain.{PlainFixup, pieces, plain_fixup, plain_fixups}
+use Rattle.omf_reloc.specs.Reach.{Fits}
+use Rattle.omf_reloc.specs.Walking.{plain_by, with_fixup, with_subrecord, with_subrecords, CanAdd, CanTake, CanTakeAll}
+use Rattle.omf_reloc.proofs.GatherLaws.{Gathered, Once, Repeated, more, more-none, more-more, bare, tagged, gathered, closed_by, opened_by, gathered_from, gathered-all, subrecords-more, laid_of, Reach}
 use Rattle.omf_reloc.proofs.PatchLaws.{stays_inside}
 
 -- What holds of all holds of a part of them.
@@ -222,9 +220,11 @@ module _ (m : List Rec) (holds : ModuleHolds profile_limits m) where
       → IfSome (option_map (more (tagged kind (plain_fixups (subrecords before) subs))) o) (Lies m)
   lies-more before kind subs None is h = tt
   lies-more before kind subs (Some (Once d fs)) is h =
-      let new = tagged kind (plain_fixups (subrecords before) subs) in
-      (is.lies.0, All-append (λ f. location_end f ≤ length d.bytes) fs new is.lies.1
-      (inside-all before kind (length d.bytes) (sized-by d fs (last_data before) is.tells) (subrecords before) subs h))
+      let new = tagged kind (plain_fixups (subrecords before) subs) in (
+        is.lies.0,
+        All-append (λ f. location_end f ≤ length d.bytes) fs new is.lies.1
+            (inside-all before kind (length d.bytes) (sized-by d fs (last_data before) is.tells) (subrecords before) subs h),
+      )
   lies-more before kind subs (Some (Repeated other d fs)) is h = is.lies
 
   open-by : (before rest : List Rec) (kind : ℕ) (c : Contents) (o : Option Gathered) → m ≡ before ++ rest → ContentsHold profile_limits before kind c → IsOpen m o (last_data before)
@@ -275,19 +275,19 @@ module _ (m : List Rec) (holds : ModuleHolds profile_limits m) where
 
 -- A fixup can be added where its record holds and the placement reaches.
 module _ (kept : ThreadsAreKept) (pl : Places) where
-  plain-same : (threads : Threads) (earlier : List Subrecord) (r : Reference) → HasThreads threads earlier → plain_by threads r ≡ plain earlier r
+  pub plain-same : (threads : Threads) (earlier : List Subrecord) (r : Reference) → HasThreads threads earlier → plain_by threads r ≡ plain earlier r
   plain-same threads earlier r h =
       ap₂ (λ (f t : Option Setting). let p : PlainReference = record { frame = unwrap_or (option_map frame_from f) F5; target = unwrap_or (option_map target_from t) (T0 0); displacement = unwrap_or r.displacement 0 } in p)
       (kept.frame threads earlier r h) (kept.target threads earlier r h)
 
   module _ (m : List Rec) (fits : Fits pl m) (before rest : List Rec) (e : m ≡ before ++ rest) where
-    has-segment : (i : ℕ) → is_defined (length (segments before)) i ≡ true → is_defined (length pl.segments) i ≡ true
+    pub has-segment : (i : ℕ) → is_defined (length (segments before)) i ≡ true → is_defined (length pl.segments) i ≡ true
     has-segment i h = subst (λ n. is_defined n i ≡ true) (sym fits.segment_count) (defined-more i (segments before) (segments rest) (segments m) (longer (λ r. defined_segments r.kind r.contents) m before rest e) h)
 
-    has-group : (i : ℕ) → is_defined (length (groups before)) i ≡ true → is_defined (length pl.groups) i ≡ true
+    pub has-group : (i : ℕ) → is_defined (length (groups before)) i ≡ true → is_defined (length pl.groups) i ≡ true
     has-group i h = subst (λ n. is_defined n i ≡ true) (sym fits.group_count) (defined-more i (groups before) (groups rest) (groups m) (longer (λ r. defined_groups r.contents) m before rest e) h)
 
-    has-external : (i : ℕ) → is_defined (length (externals before)) i ≡ true → is_defined (length pl.externals) i ≡ true
+    pub has-external : (i : ℕ) → is_defined (length (externals before)) i ≡ true → is_defined (length pl.externals) i ≡ true
     has-external i h = subst (λ n. is_defined n i ≡ true) (sym fits.external_count) (defined-more i (externals before) (externals rest) (externals m) (longer (λ r. defined_externals r.contents) m before rest e) h)
 
     has-frame : (segment : ℕ) → is_defined (length pl.segments) segment ≡ true → (f : FrameMethod) → FrameIsDefined before f → HasFrame pl segment f
@@ -297,7 +297,7 @@ module _ (kept : ThreadsAreKept) (pl : Places) where
     has-frame segment s F4 h = s
     has-frame segment s F5 h = tt
 
-    has-target : (t : TargetMethod) → TargetIsDefined before t → HasTarget pl t
+    pub has-target : (t : TargetMethod) → TargetIsDefined before t → HasTarget pl t
     has-target (T0 i) h = has-segment i h
     has-target (T1 i) h = has-group i h
     has-target (T2 i) h = has-external i h
@@ -362,12 +362,11 @@ module _ (kept : ThreadsAreKept) (pl : Places) where
           let one = tagged kind (plain_fixup earlier s.item) in
           let others = tagged kind (plain_fixups (earlier ++ s.item ∷ []) subs) in
           let both : All Adds (one ++ others) = subst (All Adds) (tagged-more kind earlier s subs) adds in
-          let here = hold-head before earlier s subs h in
-          (
+          let here = hold-head before earlier s subs h in (
             take-one threads earlier fs s.item t here inside (all-left Adds one others both),
             subst (CanTakeAll pl kind (set_thread threads s.item) subs) (sym (with-one threads earlier fs s.item t))
-            (take-all subs (set_thread threads s.item) (earlier ++ s.item ∷ []) (fs ++ one) (kept.one threads earlier s.item t) (hold-tail before earlier s subs h)
-            (All-append (λ f. location_end f ≤ length d.bytes) fs one inside (inside-one before kind (length d.bytes) sized earlier s.item here)) (all-right Adds one others both)),
+                (take-all subs (set_thread threads s.item) (earlier ++ s.item ∷ []) (fs ++ one) (kept.one threads earlier s.item t) (hold-tail before earlier s subs h)
+                (All-append (λ f. location_end f ≤ length d.bytes) fs one inside (inside-one before kind (length d.bytes) sized earlier s.item here)) (all-right Adds one others both)),
           )
 
   -- Where the last data record is no LEDATA there are no fixups.

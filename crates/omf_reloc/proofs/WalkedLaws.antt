@@ -1,6 +1,6 @@
 -- What is known while a module's records are walked over: the image holds what the data records that are closed lay, and the others are still to be laid.
-use Rattle.std.proofs.Common.{◌≡◌, ℕ, ◌+◌, ◌^◌, ◌≤◌, true, List, [], ◌∷◌, ◌++◌, append_assoc, length, refl, sym, ap, subst, ◌∙◌, arith}
-use Rattle.std.specs.Prelude.{All, map, flat_map, Option, Some, None, option_map, option_to_list, IfSome, IsOk}
+use Rattle.std.proofs.Common.{◌≡◌, ℕ, ◌+◌, true, List, [], ◌∷◌, ◌++◌, append_assoc, length, refl, sym, ap, subst, ◌∙◌, arith}
+use Rattle.std.specs.Prelude.{All, map, Option, Some, None, option_map, option_to_list, IfSome, IsOk}
 use Rattle.std.proofs.lemmas.List.{append-nil, map-append}
 use Rattle.omf_records.specs.Values.{At, Rec, Contents, Names, Plain, Iterated, Fixups, DataItem, Subrecord}
 use Rattle.omf_image.specs.Limits.{profile_limits}
@@ -8,17 +8,21 @@ use Rattle.omf_image.specs.Overlay.{Laid, AreLaidOver}
 use Rattle.omf_check.specs.Kept.{HasThreads, no_threads}
 use Rattle.omf_check.specs.Laws.{ThreadsAreKept}
 use Rattle.omf_check.specs.Sound.{SubrecordsHold, ContentsHold, ModuleHolds}
-use Rattle.omf_check.specs.Tables.{is_defined, segments, subrecords, subrecords_in, last_data}
+use Rattle.omf_check.specs.Tables.{is_defined, subrecords, subrecords_in, last_data}
+use Rattle.omf_check.specs.WellFormed.{recs}
 use Rattle.omf_check.specs.declared.threads.Threads.{Threads}
+use Rattle.omf_check.specs.Listed.{placed_from}
+use Rattle.omf_frame.specs.Framing.{Raw, raw_bytes}
+use Rattle.omf_records.specs.Reading.{typed}
 use Rattle.omf_reloc.specs.Image.{laid}
 use Rattle.omf_reloc.specs.Offsets.{outcome}
 use Rattle.omf_reloc.specs.Placement.{Places}
 use Rattle.omf_reloc.specs.Plain.{PlainFixup, pieces, plain_fixups}
 use Rattle.omf_reloc.specs.Reach.{Reaches}
-use Rattle.omf_reloc.specs.Walking.{with_subrecords, CanTakeAll, Walk, closed, opened, threads_after, IsNext, HasOffsets, Expands, CanRead, CanWalk}
-use Rattle.omf_reloc.proofs.GatherLaws.{Gathered, Once, Repeated, fixups_of, more, bare, tagged, gathered, closed_by, opened_by, gathered_from, gathered-all, subrecords-more, laid_of, laid-gathered, Reach, reach-gathered}
+use Rattle.omf_reloc.specs.Walking.{with_subrecords, CanTakeAll, Walk, closed, opened, threads_after, IsNext, HasOffsets, CanRead, CanWalk}
+use Rattle.omf_reloc.proofs.GatherLaws.{Gathered, Once, Repeated, more, bare, tagged, gathered, closed_by, opened_by, gathered_from, gathered-all, subrecords-more, laid_of, laid-gathered, Reach, reach-gathered}
 use Rattle.omf_reloc.proofs.PatchLaws.{stays_inside}
-use Rattle.omf_reloc.proofs.WalkLaws.{all-right, next-split, Lies, Tells, IsOpen, sized-by, reach-open, length-short, open-next, open-first, take-all, with-all, none-all}
+use Rattle.omf_reloc.proofs.WalkLaws.{all-right, next-split, Lies, IsOpen, sized-by, reach-open, length-short, open-next, open-first, take-all, with-all, none-all}
 
 -- What is laid in two turns is laid in one.
 laid-on : (old next new : List Laid) (ls ms : List Laid) → AreLaidOver old ls next → AreLaidOver next ms new → AreLaidOver old (ls ++ ms) new
@@ -181,3 +185,8 @@ module _ (kept : ThreadsAreKept) (pl : Places) (m : List Rec) (holds : ModuleHol
       list-one : (o : Option Gathered) → option_to_list (option_map (laid_now pl) o) ≡ map (laid_now pl) (option_to_list o)
       list-one None = refl
       list-one (Some g) = refl
+
+-- The records of a checked module, without their places.
+pub records-listed : (number start : ℕ) (rs : List Raw) → map (λ x. x.1) (placed_from number start rs) ≡ recs rs
+records-listed number start [] = refl
+records-listed number start (r ∷ rs) = ap (λ t. typed r ∷ t) (records-listed (number + 1) (start + length (raw_bytes r)) rs)

@@ -12,12 +12,15 @@ pub mod laws;
 mod offset;
 mod placement;
 mod plain;
-mod relocate;
+mod relocating;
 pub mod rows;
+mod starting;
 mod text;
 
 pub use fault::{Cause, DeriveFault, Kind, ReachFault, TextFault};
 pub use frame::Frame;
 pub use given::Given;
 pub use placement::Placement;
+pub use relocating::relocate;
+pub use starting::start;
 pub use text::{Draft, parse_placement};
