@@ -236,20 +236,16 @@ impl Walk {
 /// # Errors
 ///
 /// `AllocError` where a growth is refused.
-pub fn relocate(
-    alloc: Global,
-    checked: &Checked,
-    placement: &Placement,
-) -> Result<Image, AllocError>
-    requires { Reaches placement.now (recs (records_in checked.now.bytes)) }
-    ensures laid { IfOk result (λ i. AreLaidOver [] (laid profile_limits placement.now (pieces (recs (records_in checked.now.bytes)))) i) }
-    ensures bytes { IfOk result (λ i. (segment x : ℕ) → byte_at i segment x ≡ image profile_limits placement.now (recs (records_in checked.now.bytes)) segment x) }
+pub fn relocate(alloc: Global, module: &Checked, placement: &Placement) -> Result<Image, AllocError>
+    requires { Reaches placement.now (recs (records_in «module».now.bytes)) }
+    ensures laid { IfOk result (λ i. AreLaidOver [] (laid profile_limits placement.now (pieces (recs (records_in «module».now.bytes)))) i) }
+    ensures bytes { IfOk result (λ i. (segment x : ℕ) → byte_at i segment x ≡ image profile_limits placement.now (recs (records_in «module».now.bytes)) segment x) }
     ensures runs { IfOk result (λ i. (segment k : ℕ) (run : Option Run) → IsRunAt (byte_at i segment) k run
-        ↔ (run ≡ slice_get (runs_of (laid profile_limits placement.now (pieces (recs (records_in checked.now.bytes)))) segment) k)) }
-    ensures inside { AllLieInside placement.now (recs (records_in checked.now.bytes)) }
+        ↔ (run ≡ slice_get (runs_of (laid profile_limits placement.now (pieces (recs (records_in «module».now.bytes)))) segment) k)) }
+    ensures inside { AllLieInside placement.now (recs (records_in «module».now.bytes)) }
 {
     let mut walk = Walk::new(alloc);
-    for (_place, rec) in checked.records() {
+    for (_place, rec) in module.records() {
         walk.take(alloc, placement, &rec)?;
     }
     walk.finish()

@@ -64,13 +64,13 @@ fn set_threads(threads: &mut Threads, rec: &Rec<'_>)
 
 /// The start address that a placement gives a module: the selector of the frame that its MODEND names, and the offset in that frame.
 /// None where the MODEND names no start.
-pub fn start(checked: &Checked, placement: &Placement) -> Option<(u16, u32)>
-    requires { Reaches placement.now (recs (records_in checked.now.bytes)) }
-    ensures { result ≡ start placement.now (recs (records_in checked.now.bytes)) }
+pub fn start(module: &Checked, placement: &Placement) -> Option<(u16, u32)>
+    requires { Reaches placement.now (recs (records_in «module».now.bytes)) }
+    ensures { result ≡ start placement.now (recs (records_in «module».now.bytes)) }
 {
     let mut threads = Threads::new();
     let mut found = None;
-    for (_place, rec) in checked.records() {
+    for (_place, rec) in module.records() {
         found = start_after(placement, &threads, &rec, found);
         set_threads(&mut threads, &rec);
     }

@@ -24,13 +24,13 @@ if-ok (Err e) f h = tt
 pub loop-place-init : goal.loop-place-init
 loop-place-init c =
     let r = c.records-place-items in
-    walk-first threads_kept c.args.placement.now (recs (records_in c.args.checked.now.bytes)) r.ensures.holds c.requires c.new-walk.result (without_places c.into_iter-place-iterator.result)
-    c.new-walk.ensures (ap without_places (c.into_iter-place-iterator.ensures.into_iter_gives ∙ r.ensures.listed) ∙ records-listed 0 0 (records_in c.args.checked.now.bytes))
+    walk-first threads_kept c.args.placement.now (recs (records_in c.args.module.now.bytes)) r.ensures.holds c.requires c.new-walk.result (without_places c.into_iter-place-iterator.result)
+    c.new-walk.ensures (ap without_places (c.into_iter-place-iterator.ensures.into_iter_gives ∙ r.ensures.listed) ∙ records-listed 0 0 (records_in c.args.module.now.bytes))
 
 pub take-requires : goal.take-requires
 take-requires c =
     let pl = c.args.placement.now in
-    let m = recs (records_in c.args.checked.now.bytes) in
+    let m = recs (records_in c.args.module.now.bytes) in
     let w = c.loop-place.walk in
     can-walk threads_kept pl m c.records-place-items.ensures.holds c.requires w (rec_seen c.in-Some.rec) (without_places c.next.new.self)
     (subst (λ xs. IsWalked pl m w (without_places xs)) c.in-Some.ensures.steps c.loop-place.invariant)
@@ -38,20 +38,20 @@ take-requires c =
 pub loop-place-preserved : goal.loop-place-preserved
 loop-place-preserved c =
     let pl = c.args.placement.now in
-    let m = recs (records_in c.args.checked.now.bytes) in
+    let m = recs (records_in c.args.module.now.bytes) in
     let w = c.loop-place.walk in
     walk-next threads_kept pl m c.records-place-items.ensures.holds c.requires w (rec_seen c.in-Some.rec) (without_places c.next.new.self)
     (subst (λ xs. IsWalked pl m w (without_places xs)) c.in-Some.ensures.steps c.loop-place.invariant) c.take.new.self c.in_ok-take.ensures
 
 pub finish-requires : goal.finish-requires
 finish-requires c =
-    has-offsets threads_kept c.args.placement.now (recs (records_in c.args.checked.now.bytes)) c.records-place-items.ensures.holds c.requires c.loop-place.walk
+    has-offsets threads_kept c.args.placement.now (recs (records_in c.args.module.now.bytes)) c.records-place-items.ensures.holds c.requires c.loop-place.walk
     (without_places c.loop-place._place-iterator) c.loop-place.invariant
 
 pub returns-clause-laid : goal.returns-clause-laid
 returns-clause-laid c =
     let pl = c.args.placement.now in
-    let m = recs (records_in c.args.checked.now.bytes) in
+    let m = recs (records_in c.args.module.now.bytes) in
     let w = c.loop-place.walk in
     let ended = subst (λ xs. IsWalked pl m w (without_places xs)) c.in-None.ensures.steps.0 c.loop-place.invariant in
     if-ok c.finish.result (λ i h. walk-last threads_kept pl m c.records-place-items.ensures.holds c.requires w i ended h) c.finish.ensures
@@ -59,7 +59,7 @@ returns-clause-laid c =
 pub returns-clause-bytes : goal.returns-clause-bytes
 returns-clause-bytes c =
     let pl = c.args.placement.now in
-    let m = recs (records_in c.args.checked.now.bytes) in
+    let m = recs (records_in c.args.module.now.bytes) in
     let w = c.loop-place.walk in
     let ended = subst (λ xs. IsWalked pl m w (without_places xs)) c.in-None.ensures.steps.0 c.loop-place.invariant in
     if-ok c.finish.result
@@ -68,14 +68,14 @@ returns-clause-bytes c =
 pub returns-clause-runs : goal.returns-clause-runs
 returns-clause-runs c =
     let pl = c.args.placement.now in
-    let m = recs (records_in c.args.checked.now.bytes) in
+    let m = recs (records_in c.args.module.now.bytes) in
     let w = c.loop-place.walk in
     let ended = subst (λ xs. IsWalked pl m w (without_places xs)) c.in-None.ensures.steps.0 c.loop-place.invariant in
     if-ok c.finish.result
     (λ i h. (images_are (laid profile_limits pl (pieces m)) i (walk-last threads_kept pl m c.records-place-items.ensures.holds c.requires w i ended h)).1) c.finish.ensures
 
 pub returns-clause-inside : goal.returns-clause-inside
-returns-clause-inside c = all-inside c.args.placement.now (recs (records_in c.args.checked.now.bytes)) c.records-place-items.ensures.holds
+returns-clause-inside c = all-inside c.args.placement.now (recs (records_in c.args.module.now.bytes)) c.records-place-items.ensures.holds
 
 pub returns-in_err-take-clause-inside : goal.returns-in_err-take-clause-inside
-returns-in_err-take-clause-inside c = all-inside c.args.placement.now (recs (records_in c.args.checked.now.bytes)) c.records-place-items.ensures.holds
+returns-in_err-take-clause-inside c = all-inside c.args.placement.now (recs (records_in c.args.module.now.bytes)) c.records-place-items.ensures.holds
