@@ -1,10 +1,10 @@
 -- What fixups add stays inside their locations.
-use Rattle.std.proofs.Common.{◌≡◌, ◌⊎◌, ℕ, zero, suc, ◌+◌, ◌-◌, ◌<◌, ◌≤◌, List, [], ◌∷◌, ◌++◌, refl, ◌∙◌, ap, inl, inr, ⊎_elim, Bool, true, false, cond, length, take, drop, arith, length-append, length-take, length-drop, get_or-take, get_or-drop, mod-lt}
-use Rattle.std.specs.Prelude.{slice_index, Result, Ok, Err, Option, Some, None, ◌==◌, ◌/◌, nat_le, filter, fold}
+use Rattle.std.proofs.Common.{◌≡◌, ◌⊎◌, ℕ, zero, suc, ◌+◌, ◌-◌, ◌<◌, ◌≤◌, List, [], ◌∷◌, ◌++◌, refl, ◌∙◌, ap, subst, inl, inr, ⊎_elim, Bool, true, false, cond, length, take, drop, arith, length-append, length-take, length-drop, get_or-take, get_or-drop, mod-lt}
+use Rattle.std.specs.Prelude.{slice_index, All, Result, Ok, Err, Option, Some, None, ◌==◌, ◌/◌, nat_le, filter, fold}
 use Rattle.std.specs.List.{list_all}
 use Rattle.std.proofs.lemmas.Bool.{leb-true, and_parts}
 use Rattle.std.proofs.lemmas.List.{get_or-append_right}
-use Rattle.std.proofs.lemmas.List.Elements.{All-head, All-tail}
+use Rattle.std.proofs.lemmas.List.Elements.{All-nil, All-cons, All-head, All-tail}
 use Rattle.std.proofs.Math.ListN.{get_or-append}
 use Rattle.byteorder.specs.Numbers.{length-bytes_low_first}
 use Rattle.omf_image.specs.declared.part.Part.{Part}
@@ -16,7 +16,7 @@ use Rattle.omf_reloc.specs.declared.fault.Cause.TheVariants as cause
 use Rattle.omf_reloc.specs.Additions.{additions, self_relative_additions}
 use Rattle.omf_reloc.specs.Image.{added}
 use Rattle.omf_reloc.specs.Laws.{location_start, location_end, AreInside, AreElsewhere, StaysInside}
-use Rattle.omf_reloc.specs.Offsets.{outcome, map_ok, from_location, first_or, is_near}
+use Rattle.omf_reloc.specs.Offsets.{outcome, outcome_at, map_ok, from_location, first_or, is_near}
 use Rattle.omf_reloc.specs.Placement.{Places}
 use Rattle.omf_reloc.specs.Plain.{PlainFixup}
 
@@ -146,11 +146,31 @@ fit-from_location t [] l h = tt
 fit-from_location t (o ∷ os) None h = tt
 fit-from_location t (o ∷ os) (Some l) h = fit-near t l (first_or cause.Distance (filter (is_near t l) (o ∷ os))) h
 
-fit-outcome : (pl : Places) (d : DataItem) (f : ℕ × PlainFixup) → Fit (location_type f.1.locat) (outcome pl d f)
-fit-outcome pl d f =
+fit-outcome_at : (pl : Places) (segment offset : ℕ) (f : ℕ × PlainFixup) → Fit (location_type f.1.locat) (outcome_at pl segment offset f)
+fit-outcome_at pl segment offset f =
     let t = location_type f.1.locat in
     let h : t < 16 = mod-lt (f.1.locat / 1024) (omega arith) in
     fit-cond t (is_segment_relative f.1.locat) _ _ (fit-cond t (t == 2) _ _ (fits-additions t 0 _ h) (fit-map_ok t _ _ h)) (fit-from_location t _ _ h)
+
+fit-outcome : (pl : Places) (d : DataItem) (f : ℕ × PlainFixup) → Fit (location_type f.1.locat) (outcome pl d f)
+fit-outcome pl d f = fit-outcome_at pl d.segment.item d.offset.item f
+
+-- Each part of what a fixup adds stands inside data that its location stands inside.
+abbrev Inside : ℕ → ℕ → Addition → Type 0
+Inside pos size a = pos + a.offset + part_size a.part ≤ size
+
+all-inside : (t pos size : ℕ) (parts : List Addition) → fits t parts ≡ true → pos + t ≤ size → All (Inside pos size) parts
+all-inside t pos size [] f h = All-nil (Inside pos size)
+all-inside t pos size (p ∷ ps) f h =
+    let inside = leb-true (p.offset + part_size p.part) t (and_parts (nat_le (p.offset + part_size p.part) t) (fits t ps) f).0 in
+    let rest = (and_parts (nat_le (p.offset + part_size p.part) t) (fits t ps) f).1 in
+    All-cons (Inside pos size) p ps (omega (arith, inside, h)) (all-inside t pos size ps rest h)
+
+pub parts_inside : (pl : Places) (segment offset : ℕ) (f : ℕ × PlainFixup) (parts : List Addition) (size : ℕ) → outcome_at pl segment offset f ≡ Ok parts
+    → location_end f ≤ size → All (λ a. location_start f + a.offset + part_size a.part ≤ size) parts
+parts_inside pl segment offset f parts size e h =
+    let t = location_type f.1.locat in
+    all-inside (location_size t) (location_start f) size parts (subst (Fit t) e (fit-outcome_at pl segment offset f)) h
 
 length-added : (t pos : ℕ) (r : Result (List Addition) Cause) (bytes : List ℕ) → Fit t r → pos + location_size t ≤ length bytes → length (added pos r bytes) ≡ length bytes
 length-added t pos (Ok parts) bytes f h = length-add_parts (location_size t) pos parts bytes f h

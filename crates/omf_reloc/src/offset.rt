@@ -252,3 +252,6 @@ pub(crate) fn start_offset(
         .first()
         .ok_or(Cause::Target)
 }
+
+#[cfg(test)]
+mod tests;
