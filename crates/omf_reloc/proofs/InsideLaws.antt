@@ -12,7 +12,7 @@ use Rattle.omf_reloc.specs.Offsets.{outcome}
 use Rattle.omf_reloc.specs.Placement.{Places}
 use Rattle.omf_reloc.specs.Plain.{Piece, Kept, PlainFixup, pieces, fixups_of_data}
 use Rattle.omf_reloc.proofs.GatherLaws.{Gathered, Once, Repeated, gathered, gathered_piece, gathered_contents, laid_of, laid-gathered}
-use Rattle.omf_reloc.proofs.PatchLaws.{stays_inside, parts-inside}
+use Rattle.omf_reloc.proofs.PatchLaws.{stays_inside, parts_inside}
 use Rattle.omf_reloc.proofs.WalkLaws.{all-left, all-right, Lies, all-lie}
 
 of-piece : (P : Gathered → Type 0) (before after : List Piece) (p : Piece) → All P (gathered (before ++ p ∷ after)) → All P (gathered_piece p after)
@@ -39,7 +39,7 @@ module _ (pl : Places) (m : List Rec) where
   parts-lie d [] h = All-nil (LieIn d)
   parts-lie d (f ∷ fs) h =
       All-cons (LieIn d) f fs
-      (λ parts e. parts-inside pl d.segment.item d.offset.item (length d.bytes) f parts (sym e) (All-head (λ g. location_end g ≤ length d.bytes) f fs h))
+      (λ parts e. parts_inside pl d.segment.item d.offset.item f parts (length d.bytes) e (All-head (λ g. location_end g ≤ length d.bytes) f fs h))
       (parts-lie d fs (All-tail (λ g. location_end g ≤ length d.bytes) f fs h))
 
   patch-lies : (d : DataItem) (fs : List (ℕ × PlainFixup)) → Lies m (Once d fs) → PatchesLieIn pl m d fs
