@@ -35,11 +35,11 @@ abbrev pub more : List (ℕ × PlainFixup) → Gathered → Gathered
 more fs (Once d gs) = Once d (gs ++ fs)
 more fs (Repeated kind d gs) = Repeated kind d (gs ++ fs)
 
-more-none : (g : Gathered) → more [] g ≡ g
+pub more-none : (g : Gathered) → more [] g ≡ g
 more-none (Once d gs) = ap (Once d) (append-nil gs)
 more-none (Repeated kind d gs) = ap (Repeated kind d) (append-nil gs)
 
-more-more : (fs gs : List (ℕ × PlainFixup)) (g : Gathered) → more gs (more fs g) ≡ more (fs ++ gs) g
+pub more-more : (fs gs : List (ℕ × PlainFixup)) (g : Gathered) → more gs (more fs g) ≡ more (fs ++ gs) g
 more-more fs gs (Once d hs) = ap (Once d) (append_assoc hs fs gs)
 more-more fs gs (Repeated kind d hs) = ap (Repeated kind d) (append_assoc hs fs gs)
 

@@ -1,6 +1,6 @@
 -- What fixups add stays inside their locations.
-use Rattle.std.proofs.Common.{◌≡◌, ◌⊎◌, ℕ, zero, suc, ◌+◌, ◌-◌, ◌<◌, ◌≤◌, List, [], ◌∷◌, ◌++◌, refl, sym, subst, ◌∙◌, ap, inl, inr, ⊎_elim, Bool, true, false, cond, length, take, drop, arith, length-append, length-take, length-drop, get_or-take, get_or-drop, mod-lt}
-use Rattle.std.specs.Prelude.{slice_index, Result, Ok, Err, All, Option, Some, None, ◌==◌, ◌/◌, nat_le, filter, fold}
+use Rattle.std.proofs.Common.{◌≡◌, ◌⊎◌, ℕ, zero, suc, ◌+◌, ◌-◌, ◌<◌, ◌≤◌, List, [], ◌∷◌, ◌++◌, refl, sym, ◌∙◌, ap, subst, inl, inr, ⊎_elim, Bool, true, false, cond, length, take, drop, arith, length-append, length-take, length-drop, get_or-take, get_or-drop, mod-lt}
+use Rattle.std.specs.Prelude.{slice_index, All, Result, Ok, Err, Option, Some, None, ◌==◌, ◌/◌, nat_le, filter, fold}
 use Rattle.std.specs.List.{list_all}
 use Rattle.std.proofs.lemmas.Bool.{leb-true, and_parts}
 use Rattle.std.proofs.lemmas.List.{get_or-append_right}
@@ -146,11 +146,31 @@ fit-from_location t [] l h = tt
 fit-from_location t (o ∷ os) None h = tt
 fit-from_location t (o ∷ os) (Some l) h = fit-near t l (first_or cause.Distance (filter (is_near t l) (o ∷ os))) h
 
-fit-outcome : (pl : Places) (d : DataItem) (f : ℕ × PlainFixup) → Fit (location_type f.1.locat) (outcome pl d f)
-fit-outcome pl d f =
+fit-outcome_at : (pl : Places) (segment offset : ℕ) (f : ℕ × PlainFixup) → Fit (location_type f.1.locat) (outcome_at pl segment offset f)
+fit-outcome_at pl segment offset f =
     let t = location_type f.1.locat in
     let h : t < 16 = mod-lt (f.1.locat / 1024) (omega arith) in
     fit-cond t (is_segment_relative f.1.locat) _ _ (fit-cond t (t == 2) _ _ (fits-additions t 0 _ h) (fit-map_ok t _ _ h)) (fit-from_location t _ _ h)
+
+fit-outcome : (pl : Places) (d : DataItem) (f : ℕ × PlainFixup) → Fit (location_type f.1.locat) (outcome pl d f)
+fit-outcome pl d f = fit-outcome_at pl d.segment.item d.offset.item f
+
+-- Each part of what a fixup adds stands inside data that its location stands inside.
+abbrev Inside : ℕ → ℕ → Addition → Type 0
+Inside pos size a = pos + a.offset + part_size a.part ≤ size
+
+all-inside : (t pos size : ℕ) (parts : List Addition) → fits t parts ≡ true → pos + t ≤ size → All (Inside pos size) parts
+all-inside t pos size [] f h = All-nil (Inside pos size)
+all-inside t pos size (p ∷ ps) f h =
+    let inside = leb-true (p.offset + part_size p.part) t (and_parts (nat_le (p.offset + part_size p.part) t) (fits t ps) f).0 in
+    let rest = (and_parts (nat_le (p.offset + part_size p.part) t) (fits t ps) f).1 in
+    All-cons (Inside pos size) p ps (omega (arith, inside, h)) (all-inside t pos size ps rest h)
+
+pub parts_inside : (pl : Places) (segment offset : ℕ) (f : ℕ × PlainFixup) (parts : List Addition) (size : ℕ) → outcome_at pl segment offset f ≡ Ok parts
+    → location_end f ≤ size → All (λ a. location_start f + a.offset + part_size a.part ≤ size) parts
+parts_inside pl segment offset f parts size e h =
+    let t = location_type f.1.locat in
+    all-inside (location_size t) (location_start f) size parts (subst (Fit t) e (fit-outcome_at pl segment offset f)) h
 
 length-added : (t pos : ℕ) (r : Result (List Addition) Cause) (bytes : List ℕ) → Fit t r → pos + location_size t ≤ length bytes → length (added pos r bytes) ≡ length bytes
 length-added t pos (Ok parts) bytes f h = length-add_parts (location_size t) pos parts bytes f h
@@ -190,27 +210,8 @@ stays_inside pl d fixups inside = record {
   elsewhere = λ x away. index-patched pl d fixups d.bytes (length d.bytes) x refl inside away;
 }
 
--- Each part that a fixup adds lies inside the data where its location does.
-abbrev pub IsInside : ℕ → ℕ → Addition → Type 0
-IsInside start size p = start + p.offset + part_size p.part ≤ size
-
-parts-fit : (n start size : ℕ) (parts : List Addition) → fits n parts ≡ true → start + n ≤ size → All (IsInside start size) parts
-parts-fit n start size [] f h = All-nil (IsInside start size)
-parts-fit n start size (p ∷ ps) f h =
-    let both = and_parts (nat_le (p.offset + part_size p.part) n) (fits n ps) f in
-    let here = leb-true (p.offset + part_size p.part) n both.0 in
-    All-cons (IsInside start size) p ps (omega (arith, here, h)) (parts-fit n start size ps both.1 h)
-
-abbrev pub item_at : ℕ → ℕ → DataItem
-item_at segment offset = record { segment = record { within = 0; item = segment }; offset = record { within = 0; item = offset }; bytes = [] }
-
-pub parts-inside : (pl : Places) (segment offset size : ℕ) (f : ℕ × PlainFixup) (parts : List Addition) → Ok parts ≡ outcome_at pl segment offset f → location_end f ≤ size
-    → All (IsInside (location_start f) size) parts
-parts-inside pl segment offset size f parts e h =
-    let fit : Fit (location_type f.1.locat) (outcome_at pl segment offset f) = fit-outcome pl (item_at segment offset) f in
-    parts-fit (location_size (location_type f.1.locat)) (location_start f) size parts (subst (Fit (location_type f.1.locat)) (sym e) fit) h
-
+-- So there is room for each part, at a location's place in the data.
 pub room-for : (pl : Places) (segment offset size : ℕ) (f : ℕ × PlainFixup) (parts : List Addition) (start n : ℕ) → Ok parts ≡ outcome_at pl segment offset f → location_end f ≤ size
     → start ≡ location_start f → n ≡ size → All (λ a. start + a.offset + part_size a.part ≤ n) parts
 room-for pl segment offset size f parts start n e h s t =
-    subst (λ k. All (IsInside start k) parts) (sym t) (subst (λ k. All (IsInside k size) parts) (sym s) (parts-inside pl segment offset size f parts e h))
+    subst (λ k. All (Inside start k) parts) (sym t) (subst (λ k. All (Inside k size) parts) (sym s) (parts_inside pl segment offset f parts size (sym e) h))

@@ -48,8 +48,8 @@ from_location t [] l = Err cause.Target
 from_location t (o ∷ os) None = Err cause.Location
 from_location t (o ∷ os) (Some l) = map_ok (λ near. self_relative_additions t near l) (first_or cause.Distance (filter (is_near t l) (o ∷ os)))
 
--- What a fixup of a FIXUPP of type f.0 adds to a data record that lies at an offset of a segment, or the cause why it does not reach. The displacement's
--- width is the FIXUPP's, the offset's the location's.
+-- What a fixup of a FIXUPP of type f.0 adds to a data record that lies at an offset of a segment, or the cause why it does not reach.
+-- The displacement's width is the FIXUPP's, the offset's the location's.
 abbrev pub outcome_at : Places → ℕ → ℕ → ℕ × PlainFixup → Result (List Addition) Cause
 outcome_at pl segment offset f =
     let t = location_type f.1.locat in

@@ -14,8 +14,9 @@ mod offset;
 mod placement;
 mod plain;
 mod reaching;
-mod relocate;
+mod relocating;
 pub mod rows;
+mod starting;
 mod text;
 
 pub use fault::{Cause, DeriveFault, Kind, ReachFault, TextFault};
@@ -24,4 +25,6 @@ pub use given::Given;
 pub use group::real_group;
 pub use placement::Placement;
 pub use reaching::reach;
+pub use relocating::relocate;
+pub use starting::start;
 pub use text::{Draft, parse_placement};

@@ -238,7 +238,7 @@ pub(crate) fn outcome(
     offsets_of(placement, reference, frame.base, is_wide, reach).from_location(kind, location)
 }
 
-/// The offset of the start that a MODEND, wide or not, names, or that it does not reach. Its frame is that of no data record.
+/// The offset of the start of a MODEND, wide or not, in its frame, or that it does not reach. The frame is not that of a data record.
 pub(crate) fn start_offset(
     placement: &Placement,
     is_wide: bool,
@@ -252,3 +252,6 @@ pub(crate) fn start_offset(
         .first()
         .ok_or(Cause::Target)
 }
+
+#[cfg(test)]
+mod tests;

@@ -5,7 +5,7 @@ use Rattle.omf_records.specs.Values.{width}
 use Rattle.omf_image.specs.Blocks.{count_size}
 use Rattle.omf_image.specs.Expanding.{expanded, expanded_length}
 use Rattle.omf_image.specs.Limits.{profile_limits}
-use Rattle.omf_reloc.proofs.relocate.expanded.Goals as goal
+use Rattle.omf_reloc.proofs.relocating.expanded.Goals as goal
 
 by_width : (wide : Bool) → width (odd_if wide 0xA2) ≡ count_size wide
 by_width true = refl
