@@ -4,8 +4,9 @@ pub mod Relocated
 pub mod FaultLine
 pub mod Rows
 pub mod Runs
-pub mod Lines
 pub mod Words
 pub mod Outcome
 pub mod Parsed
 pub mod RunLines
+pub mod Relocating
+pub mod Reports

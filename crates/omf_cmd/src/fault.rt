@@ -1,10 +1,13 @@
 //! Why a run stops.
 
 ghost use Rattle.std.specs.Prelude.{◌≡◌};
-ghost use Rattle.omf_cmd.specs.declared.fault.RunFault.TheVariants.{Memory};
+ghost use Rattle.omf_cmd.specs.declared.fault.RunFault.TheVariants.{Memory, Reach};
+ghost use Rattle.omf_cmd.specs.Relocating.{of_text};
+ghost use Rattle.omf_cmd.specs.Reports.{of_check};
 
+use omf_check::CheckFault;
 use omf_frame::{Place, Reason};
-use omf_reloc::ReachFault;
+use omf_reloc::{ReachFault, TextFault};
 use std::alloc::{AllocError, AllocFailed};
 use thiserror::Error;
 
@@ -47,5 +50,36 @@ impl<T: Drop> From<AllocFailed<T>> for RunFault {
 
     fn from(_error: AllocFailed<T>) -> RunFault {
         RunFault::Memory
+    }
+}
+
+impl From<TextFault> for RunFault {
+    ghost from_gives = { λ fault e. e ≡ of_text fault };
+
+    fn from(fault: TextFault) -> RunFault {
+        match fault {
+            TextFault::Memory => RunFault::Memory,
+            TextFault::Line(number) => RunFault::Line(number),
+        }
+    }
+}
+
+impl From<ReachFault> for RunFault {
+    ghost from_gives = { λ fault e. e ≡ Reach fault };
+
+    fn from(fault: ReachFault) -> RunFault {
+        RunFault::Reach(fault)
+    }
+}
+
+impl From<CheckFault> for RunFault {
+    ghost from_gives = { λ fault e. e ≡ of_check fault };
+
+    fn from(fault: CheckFault) -> RunFault {
+        match fault {
+            CheckFault::Memory => RunFault::Memory,
+            CheckFault::Read => RunFault::Read,
+            CheckFault::Refused { reason, place } => RunFault::Refused { reason, place },
+        }
     }
 }

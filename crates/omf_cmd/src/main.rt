@@ -1,18 +1,14 @@
 //! `omf`: checks, relocates and rewrites object modules.
 #![tactic(auto)]
 
-mod checking;
 mod fault;
 mod image_text;
 mod input;
-mod listing;
 mod output;
-mod placement;
 mod printed;
 mod printing;
-mod relocating;
+mod relocation;
 pub mod rows;
-mod running;
 #[cfg(test)]
 mod tests;
 mod words;
@@ -21,7 +17,7 @@ pub use fault::RunFault;
 use omf_check::Profile;
 use omf_frame::{Reading, Writing};
 pub use printed::fault_line;
-pub use running::run_reloc;
+pub use relocation::run_reloc;
 use std::env;
 use std::io::{BufReader, Write};
 use std::process::ExitCode;

@@ -1,4 +1,7 @@
 //! Runs of the program on whole modules. Numbers in modules and placements are hexadecimal.
+
+mod relocation;
+
 use crate::{Job, RunFault, command, fault_line, run_reloc};
 use omf_check::Profile;
 use omf_frame::{Place, Reading, Reason, Writing};
@@ -273,37 +276,6 @@ fn keeps_data_in_their_segment(rt: HostRuntime) -> Result<(), Fail> {
         &rt,
         &[HEADER, NAMES, BIG_SEGMENT, past, END, PLACED],
         refused(Reason::OutsideSegment, 3, 23, 4),
-    )?;
-    Ok(())
-}
-
-#[test]
-fn refuses_what_is_not_read_yet(rt: HostRuntime) -> Result<(), Fail> {
-    let absolute: &[u8] = &[
-        0x98, 0x0A, 0x00, 0x08, 0x00, 0xB8, 0x00, 0x04, 0x00, 0x02, 0x01, 0x01, 0x96,
-    ];
-    fails(
-        &rt,
-        &[HEADER, NAMES, absolute, DATA, FIXUP, END, PLACED],
-        refused(Reason::UnsupportedType, 2, 13, 3),
-    )?;
-    let thread: &[u8] = &[0x9C, 0x03, 0x00, 0x01, 0x02, 0x5E];
-    fails(
-        &rt,
-        &[HEADER, NAMES, SEGMENT, DATA, thread, END, PLACED],
-        refused(Reason::UnsupportedType, 4, 34, 3),
-    )?;
-    let comment: &[u8] = &[0x88, 0x03, 0x00, 0x00, 0xE9, 0x8C];
-    fails(
-        &rt,
-        &[HEADER, comment, END],
-        refused(Reason::UnsupportedType, 1, 6, 0),
-    )?;
-    let start: &[u8] = &[0x8A, 0x06, 0x00, 0xC1, 0x40, 0x01, 0x02, 0x00, 0x6C];
-    fails(
-        &rt,
-        &[HEADER, NAMES, SEGMENT, start],
-        refused(Reason::UnsupportedType, 3, 23, 3),
     )?;
     Ok(())
 }

@@ -1,10 +1,12 @@
 use Rattle.std.proofs.Common.{◌≤◌, ◌<◌}
+use Rattle.std.specs.Io.KnownBytes.{Keeps}
 use Rattle.omf_cmd.specs.Runs.{HasFailed}
 use Rattle.omf_cmd.proofs.input.pull.Given as goal
 
--- each attempt so far has failed
+-- each attempt so far has failed, and took nothing
 abbrev pub invariant-loop-attempt : goal.invariant-loop-attempt
 invariant-loop-attempt g l = record {
   failed : 0 < l.attempt → HasFailed (g.S.Source.failures l.initial.source) (g.S.Source.failures l.source);
   grows : g.S.Source.failures l.initial.source ≤ g.S.Source.failures l.source;
+  kept : Keeps (g.S.Source.left l.initial.source) (g.S.Source.left l.source);
 }
