@@ -10,3 +10,4 @@ pub mod Parsed
 pub mod RunLines
 pub mod Relocating
 pub mod Reports
+pub mod Laws

@@ -4,6 +4,7 @@
 mod fault;
 mod image_text;
 mod input;
+pub mod laws;
 mod output;
 mod printed;
 mod printing;

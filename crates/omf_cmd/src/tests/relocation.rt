@@ -348,6 +348,13 @@ fn reads_the_text_by_lines(rt: HostRuntime) -> Result<(), Fail> {
         RunFault::Line(1),
     )?;
     stops(&rt, &records, b"\n\n\xFF", RunFault::Line(3))?;
+    stops(&rt, &records, b"\xDE\xAD", RunFault::Line(1))?;
+    writes(
+        &rt,
+        &records,
+        b"; \xDE\xAD\r\n  S 10020 10000 1000;x",
+        FIRST_LINE,
+    )?;
     stops(
         &rt,
         &records,
@@ -577,6 +584,28 @@ fn names_a_failing_reader(rt: HostRuntime) -> Result<(), Fail> {
     let mut reader = Script::new(&input, Then::Ends).interrupted(1000);
     let run = run_by(rt.alloc(), ANY, &mut reader)?;
     assert_eq!(rt; run.answer, Err(RunFault::Read));
+    Ok(())
+}
+
+#[test]
+fn needs_no_more_than_decides(rt: HostRuntime) -> Result<(), Fail> {
+    let other = input_of(rt.alloc(), &[HEADER, "C2"], b"")?;
+    let mut reader = Script::new(&other, Then::Fails);
+    let run = run_by(rt.alloc(), ANY, &mut reader)?;
+    assert_eq!(rt; run.answer, Err(refused(Reason::UnsupportedType, 1, 6, 0)));
+    let bad = input_of(rt.alloc(), &fixed_by(FIXUP), b"X\n")?;
+    let mut reader = Script::new(&bad, Then::Fails);
+    let run = run_by(rt.alloc(), ANY, &mut reader)?;
+    assert_eq!(rt; run.answer, Err(RunFault::Read));
+    let mut long = input_of(rt.alloc(), &fixed_by(FIXUP), b"")?;
+    long.resize(long.len() + 4_194_304, b' ')?;
+    let mut reader = Script::new(&long, Then::Fails);
+    let run = run_by(rt.alloc(), ANY, &mut reader)?;
+    assert_eq!(rt; run.answer, Err(RunFault::Read));
+    long.push(b' ')?;
+    let mut reader = Script::new(&long, Then::Fails);
+    let run = run_by(rt.alloc(), ANY, &mut reader)?;
+    assert_eq!(rt; run.answer, Err(RunFault::TooLong));
     Ok(())
 }
 
