@@ -5,9 +5,9 @@ use Rattle.omf_check.specs.declared.profile.Profile.{Profile}
 use Rattle.omf_cmd.specs.declared.words.Job.{Job}
 use Rattle.omf_cmd.specs.declared.words.Job.TheVariants as job
 
--- The subcommands (`reloc` is the only one so far), and the flag that may follow one.
+-- The subcommands, and the flag that may follow one.
 abbrev pub subcommands : List (List ℕ × Job)
-subcommands = (codes "reloc", job.Reloc) ∷ []
+subcommands = (codes "list", job.List) ∷ (codes "check", job.Check) ∷ (codes "reloc", job.Reloc) ∷ []
 
 abbrev pub job_named : List ℕ → Option Job
 job_named name = option_map (λ s. s.1) (find (λ s. bytes_eq name s.0) subcommands)
