@@ -8,3 +8,5 @@ pub mod Lines
 pub mod Words
 pub mod Outcome
 pub mod Parsed
+pub mod Reports
+pub mod Standing

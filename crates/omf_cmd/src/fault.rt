@@ -2,7 +2,9 @@
 
 ghost use Rattle.std.specs.Prelude.{◌≡◌};
 ghost use Rattle.omf_cmd.specs.declared.fault.RunFault.TheVariants.{Memory};
+ghost use Rattle.omf_cmd.specs.Reports.{of_check};
 
+use omf_check::CheckFault;
 use omf_frame::{Place, Reason};
 use omf_reloc::ReachFault;
 use std::alloc::{AllocError, AllocFailed};
@@ -47,5 +49,17 @@ impl<T: Drop> From<AllocFailed<T>> for RunFault {
 
     fn from(_error: AllocFailed<T>) -> RunFault {
         RunFault::Memory
+    }
+}
+
+impl From<CheckFault> for RunFault {
+    ghost from_gives = { λ fault e. e ≡ of_check fault };
+
+    fn from(fault: CheckFault) -> RunFault {
+        match fault {
+            CheckFault::Memory => RunFault::Memory,
+            CheckFault::Read => RunFault::Read,
+            CheckFault::Refused { reason, place } => RunFault::Refused { reason, place },
+        }
     }
 }

@@ -10,6 +10,7 @@ mod placement;
 mod printed;
 mod printing;
 mod relocating;
+mod report;
 pub mod rows;
 mod running;
 #[cfg(test)]
@@ -20,7 +21,7 @@ pub use fault::RunFault;
 use omf_check::Profile;
 use omf_frame::{Reading, Writing};
 pub use printed::fault_line;
-pub use running::run_reloc;
+pub use running::{run_check, run_list, run_reloc};
 use std::env;
 use std::io::{BufReader, Write};
 use std::process::ExitCode;
