@@ -1,5 +1,6 @@
 -- What a run over a module answers and writes, from what its parts answer.
-use Rattle.std.proofs.Common.{◌≡◌, ℕ, List, Result, Ok, Err, refl, sym, subst}
+use Rattle.std.proofs.Common.{◌≡◌, ℕ, List, [], Result, Ok, Err, refl, sym, subst, ◌∙◌}
+use Rattle.std.proofs.lemmas.List.{append-nil}
 use Rattle.std.specs.Io.KnownBytes.{Consumes, Keeps}
 use Rattle.std.specs.Prelude.{Option, Some, None, IfErr}
 use Rattle.omf_frame.specs.Framing.{Raw}
@@ -9,7 +10,7 @@ use Rattle.omf_check.specs.declared.fault.CheckFault.{CheckFault}
 use Rattle.omf_check.specs.declared.fault.CheckFault.TheVariants as check
 use Rattle.omf_check.specs.declared.profile.Profile.{Profile}
 use Rattle.omf_cmd.specs.Reports.{of_check, Judges, IsReadFrom}
-use Rattle.omf_cmd.specs.Runs.{Prints}
+use Rattle.omf_cmd.specs.Runs.{IsPart, Prints}
 use Rattle.omf_cmd.specs.declared.fault.RunFault.{RunFault}
 use Rattle.omf_cmd.specs.declared.fault.RunFault.TheVariants as fault
 
@@ -39,3 +40,10 @@ module _ (profile : Profile) (input : List ℕ) (m : Module) (old new : Option (
 
 pub same_text : (held now : Option (List ℕ)) (r : Result (Unit {0}) RunFault) (shown text : List ℕ) → shown ≡ text → Prints held now r shown → Prints held now r text
 same_text held now r shown text e p = subst (Prints held now r) e p
+
+-- a text that may not be written whole
+pub part_written : (old new : Option (List ℕ)) (r : Result (Unit {0}) RunFault) (shown text : List ℕ) → shown ≡ text → IfErr r (λ e. e ≡ fault.Write) → Prints old new r shown → IsPart old new text
+part_written old new (Ok done) shown text e w p = (shown, [], sym e ∙ sym (append-nil shown), p)
+part_written old new (Err x) shown text e w p =
+    let q = subst (λ (y : RunFault). Prints old new (Err y) shown) w p in
+    (q.0, q.1, sym e ∙ q.2, q.3)
