@@ -3,6 +3,7 @@
 ghost use Rattle.std.specs.Prelude.{◌≡◌, ◌≤◌, ◌++◌, ◌∷◌, [], ℕ, List, map, string_bytes, IfOk, OnOk, Some};
 ghost use Rattle.omf_check.specs.declared.profile.Profile.{Profile};
 ghost use Rattle.omf_cmd.specs.FaultLine.{fault_line};
+ghost use Rattle.omf_cmd.specs.Reports.{IsRun, IsAnswer};
 ghost use Rattle.omf_cmd.specs.Runs.{IsPart};
 ghost use Rattle.omf_cmd.specs.Words.{asks, status_of};
 ghost use Rattle.omf_cmd.specs.declared.words.Job.{Job};
@@ -36,7 +37,9 @@ fn run<S: Source, K: Sink>(
     profile: Profile,
     reader: &mut S,
     writer: &mut K,
-) -> Result<(), RunFault> {
+) -> Result<(), RunFault>
+    ensures { IsRun job profile (S.left reader.old) (S.left reader.new) (K.held writer.old) (K.held writer.new) result }
+{
     match job {
         Job::List => run_list(alloc, profile, reader, writer),
         Job::Check => run_check(alloc, profile, reader, writer),
@@ -83,8 +86,8 @@ pub fn main_with<S: Source, K: Sink>(
     writer: &mut K,
 ) -> u8
     ensures known { result ≤ 3 }
-    // Words that ask for a job are never answered with status 2.
-    ensures understood { (asked : Job × Profile) → asks (map string_bytes words.now) ≡ Some asked → result ≡ 2 → ⊥ }
+    // Where the words ask for a job, it was run, and the status and what was written tell its answer.
+    ensures answer { (asked : Job × Profile) → asks (map string_bytes words.now) ≡ Some asked → IsAnswer asked (S.left reader.old) (S.left reader.new) (K.held writer.old) (K.held writer.new) result }
 {
     let ran = match command(alloc, words) {
         Ok(Some((job, profile))) => run(alloc, job, profile, reader, writer),
