@@ -3,7 +3,7 @@ use Rattle.std.proofs.Common.{◌≡◌, ℕ, List, [], ◌∷◌, Bool, Option,
 use Rattle.std.specs.Prelude.{option_and_then, Result, Ok, Err, IfOk}
 use Rattle.std.specs.Str.{bytes_eq}
 use Rattle.std.proofs.lemmas.Slice.Eq.{bytes_eq-Decides}
-use Rattle.clap.specs.Words.{Text, Row, is_simple, one_of, subcommand_of, takes}
+use Rattle.clap.specs.Words.{Text, Row, is_simple, is_simple_and_free, one_of, subcommand_of, takes}
 use Rattle.clap.proofs.OnLiterals.{clap_on_literals}
 use Rattle.omf_cmd.specs.Parsed.{omf_app, flag_id, flag_text, IsParsed}
 use Rattle.omf_cmd.specs.Words.{asks, flag, job_named, profile_of}
@@ -35,6 +35,10 @@ same_job named other j k set refuses a b c d = let e : j ≡ k = cc in rw (e, d)
 pub is_simple_omf : is_simple omf_app ≡ true
 unfolding clap_on_literals
 is_simple_omf = refl
+
+pub is_free_omf : is_simple_and_free omf_app ≡ true
+unfolding clap_on_literals
+is_free_omf = refl
 
 -- a subcommand alone, and with the flag, as clap answers it
 pub record IsUnderstood (name : Text) : Type 0 where

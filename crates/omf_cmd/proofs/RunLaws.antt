@@ -1,5 +1,5 @@
 -- What a run over a module answers and writes, from what its parts answer.
-use Rattle.std.proofs.Common.{◌≡◌, ℕ, List, [], Result, Ok, Err, refl, sym, subst, ◌∙◌}
+use Rattle.std.proofs.Common.{◌≡◌, ℕ, List, [], ◌∷◌, ◌++◌, Result, Ok, Err, refl, sym, subst, ◌∙◌}
 use Rattle.std.proofs.lemmas.List.{append-nil}
 use Rattle.std.specs.Io.KnownBytes.{Consumes, Keeps}
 use Rattle.std.specs.Prelude.{Option, Some, None, IfErr}
@@ -9,6 +9,7 @@ use Rattle.omf_check.specs.Module.{Module, records_in}
 use Rattle.omf_check.specs.declared.fault.CheckFault.{CheckFault}
 use Rattle.omf_check.specs.declared.fault.CheckFault.TheVariants as check
 use Rattle.omf_check.specs.declared.profile.Profile.{Profile}
+use Rattle.omf_cmd.specs.FaultLine.{fault_line, fault_text}
 use Rattle.omf_cmd.specs.Reports.{of_check, Judges, IsReadFrom}
 use Rattle.omf_cmd.specs.Runs.{IsPart, Prints}
 use Rattle.omf_cmd.specs.declared.fault.RunFault.{RunFault}
@@ -47,3 +48,13 @@ part_written old new (Ok done) shown text e w p = (shown, [], sym e ∙ sym (app
 part_written old new (Err x) shown text e w p =
     let q = subst (λ (y : RunFault). Prints old new (Err y) shown) w p in
     (q.0, q.1, sym e ∙ q.2, q.3)
+
+-- of a fault but Write a line is printed
+pub shown : (f : RunFault) → (f ≡ fault.Write → ⊥) → fault_line f ++ 10 ∷ [] ≡ fault_text f
+shown fault.Write h = absurd (h refl)
+shown fault.Memory h = refl
+shown fault.Read h = refl
+shown (fault.Refused why at) h = refl
+shown (fault.Line n) h = refl
+shown fault.TooLong h = refl
+shown (fault.Reach f) h = refl

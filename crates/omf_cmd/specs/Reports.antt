@@ -1,6 +1,6 @@
 -- What `check` and `list` answer for an input: both print a text of the records of the module that it begins with. How the program
 -- ends.
-use Rattle.std.specs.Prelude.{◌≡◌, ⊤, ℕ, List, [], ◌∷◌, ◌++◌, Option, Some, Result, Ok, Err}
+use Rattle.std.specs.Prelude.{◌≡◌, ⊤, ℕ, List, Option, Some, Result, Ok, Err}
 use Rattle.std.specs.Io.KnownBytes.{Consumes}
 use Rattle.omf_frame.specs.Framing.{Raw}
 use Rattle.omf_image.specs.Limits.{profile_limits}
@@ -9,7 +9,7 @@ use Rattle.omf_check.specs.WellFormed.{IsAccepted}
 use Rattle.omf_check.specs.declared.fault.CheckFault.{CheckFault}
 use Rattle.omf_check.specs.declared.fault.CheckFault.TheVariants as check
 use Rattle.omf_check.specs.declared.profile.Profile.{Profile}
-use Rattle.omf_cmd.specs.FaultLine.{fault_line}
+use Rattle.omf_cmd.specs.FaultLine.{fault_text}
 use Rattle.omf_cmd.specs.Listing.{check_text, list_text}
 use Rattle.omf_cmd.specs.Runs.{IsPart, Prints, Row, rows_text}
 use Rattle.omf_cmd.specs.Words.{status_of}
@@ -47,10 +47,10 @@ IsRun job.List profile left left' held held' ran = (records : List Raw) × Print
 IsRun job.Check profile left left' held held' ran = (records : List Raw) × Prints held held' ran (check_text records) × ((input : List ℕ) → left ≡ Some input → Judges profile input records left left' ran)
 IsRun job.Reloc profile left left' held held' ran = (rows : List Row) × Prints held held' ran (rows_text rows)
 
--- How the program ends after a run: the status is that of the answer, and of a fault a part of its line is written.
+-- How the program ends after a run: the status is that of the answer, and of a fault its text is written, or a part of it from the front.
 abbrev pub IsEnded : Option (List ℕ) → Option (List ℕ) → Result (Unit {0}) RunFault → ℕ → Type 0
 IsEnded held held' (Ok done) status = (status ≡ 0) × (held' ≡ held)
-IsEnded held held' (Err f) status = (status ≡ status_of f) × IsPart held held' (fault_line f ++ 10 ∷ [])
+IsEnded held held' (Err f) status = (status ≡ status_of f) × IsPart held held' (fault_text f)
 
 -- The program's answer to words that ask for a job: it ran, and the program ended.
 pub record IsAnswer (asked : Job × Profile) (left left' held held' : Option (List ℕ)) (status : ℕ) : Type 0 where

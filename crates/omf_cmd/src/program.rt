@@ -2,7 +2,7 @@
 
 ghost use Rattle.std.specs.Prelude.{◌≡◌, ◌≤◌, ◌++◌, ◌∷◌, [], ℕ, List, map, string_bytes, IfOk, OnOk, Some};
 ghost use Rattle.omf_check.specs.declared.profile.Profile.{Profile};
-ghost use Rattle.omf_cmd.specs.FaultLine.{fault_line};
+ghost use Rattle.omf_cmd.specs.FaultLine.{fault_line, fault_text};
 ghost use Rattle.omf_cmd.specs.Reports.{IsRun, IsAnswer};
 ghost use Rattle.omf_cmd.specs.Runs.{IsPart};
 ghost use Rattle.omf_cmd.specs.Words.{asks, status_of};
@@ -58,20 +58,22 @@ fn fault_text(alloc: Global, fault: &RunFault) -> Result<String, AllocError>
 
 /// Prints a fault's line, where its text finds memory; nothing where the writer has failed already. A failure to print is passed over.
 fn print_fault<K: Sink>(alloc: Global, fault: &RunFault, writer: &mut K)
-    ensures { IsPart (K.held writer.old) (K.held writer.new) (fault_line fault.now ++ 10 ∷ []) }
+    ensures { IsPart (K.held writer.old) (K.held writer.new) (fault_text fault.now) }
 {
-    if matches!(fault, RunFault::Write) {
-        return;
-    }
-    if let Ok(text) = fault_text(alloc, fault) {
-        let _ = write_all(writer, text.as_bytes());
+    match fault {
+        RunFault::Write => {}
+        _ => {
+            if let Ok(text) = fault_text(alloc, fault) {
+                let _ = write_all(writer, text.as_bytes());
+            }
+        }
     }
 }
 
 /// Prints a fault's line, and answers its exit status.
 pub fn fail<K: Sink>(alloc: Global, fault: &RunFault, writer: &mut K) -> u8
     ensures status { result ≡ status_of fault.now }
-    ensures prints { IsPart (K.held writer.old) (K.held writer.new) (fault_line fault.now ++ 10 ∷ []) }
+    ensures prints { IsPart (K.held writer.old) (K.held writer.new) (fault_text fault.now) }
 {
     print_fault(alloc, fault, writer);
     status_of(fault)

@@ -1,8 +1,8 @@
 //! The words that the program is called with.
 
-ghost use Rattle.std.specs.Prelude.{◌≡◌, ℕ, List, map, string_bytes, IfOk, Bool, false, Some};
+ghost use Rattle.std.specs.Prelude.{◌≡◌, ◌⊎◌, ℕ, List, [], map, string_bytes, IfOk, Bool, false, Some, None};
 ghost use Rattle.omf_cmd.specs.Words.{asks, job_named, profile_of};
-ghost use Rattle.clap.specs.Words.{app_of, rule_of, subcommand_rows_of};
+ghost use Rattle.clap.specs.Words.{app_of, fault_of, rule_of, subcommand_rows_of};
 ghost use Rattle.omf_cmd.specs.Parsed.{flag_rule, omf_app, IsParsed};
 
 use clap::error::ErrorKind;
@@ -24,7 +24,9 @@ pub enum Job {
 /// The job that the words name, and its profile. None where they name none, or are not understood.
 pub fn command(alloc: Global, words: &[String]) -> Result<Option<(Job, Profile)>, AllocError>
     // Behind the program's own name a subcommand is understood, alone or followed by the flag.
-    ensures { (asked : Job × Profile) → asks (map string_bytes words.now) ≡ Some asked → IfOk result (λ found. found ≡ Some asked) }
+    ensures asks { (asked : Job × Profile) → asks (map string_bytes words.now) ≡ Some asked → IfOk result (λ found. found ≡ Some asked) }
+    // A job is answered only where clap's definition has no fault of these words.
+    ensures refused { IfOk result (λ found. (found ≡ None) ⊎ (fault_of omf_app (map string_bytes words.now) ≡ [])) }
 {
     let omf = program(alloc)?;
     match omf.try_get_matches_from(words) {

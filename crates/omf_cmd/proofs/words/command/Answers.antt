@@ -1,11 +1,11 @@
-use Rattle.std.proofs.Common.{◌≡◌, List, rules, ap, ap₂, sym, subst, ◌∙◌, map, string_bytes, codes, Some}
-use Rattle.clap.specs.Words.{App, Text, app_of, kind_of, is_simple, new_app, subcommand_of, subcommand_rows_of, takes, with_rule, with_subcommand}
+use Rattle.std.proofs.Common.{◌≡◌, List, rules, ap, ap₂, sym, subst, ◌∙◌, map, string_bytes, codes, Some, inr}
+use Rattle.clap.specs.Words.{App, Text, app_of, fault_of, is_simple_and_free, kind_of, is_simple, new_app, subcommand_of, subcommand_rows_of, takes, with_rule, with_subcommand}
 use Rattle.omf_cmd.specs.Parsed.{IsParsed, flag_rule, with_flag, omf_app}
-use Rattle.omf_cmd.proofs.Parsed.{answers, is_simple_omf}
+use Rattle.omf_cmd.proofs.Parsed.{answers, is_free_omf, is_simple_omf}
 use Rattle.omf_cmd.proofs.words.command.Goals as goal
 
-pub returns-in-Ok : goal.returns-in-Ok
-returns-in-Ok c asked e =
+pub returns-in-Ok-clause-asks : goal.returns-in-Ok-clause-asks
+returns-in-Ok-clause-asks c asked e =
     let words = map string_bytes c.args.words.now in
     let a = answers words asked e in
     let h = c.in-Ok.ensures.matches (ap is_simple c.in_ok-omf.ensures ∙ is_simple_omf) in
@@ -13,8 +13,8 @@ returns-in-Ok c asked e =
     let parse = rw (← rows) at a.parse in
     c.named_by.ensures a.name a.job a.refuses parse a.named ∙ a.is
 
-pub returns-in-Err-2 : goal.returns-in-Err-2
-returns-in-Err-2 c asked e =
+pub returns-in-Err-2-clause-asks : goal.returns-in-Err-2-clause-asks
+returns-in-Err-2-clause-asks c asked e =
     let words = map string_bytes c.args.words.now in
     let a = answers words asked e in
     let out = c.in-Err-2.ensures.passes (ap (λ (b : App). takes b words) c.in_ok-omf.ensures ∙ a.taken) in
@@ -24,3 +24,9 @@ returns-in-Err-2 c asked e =
     let test = rw (c.kind.ensures ∙ ap kind_of same ∙ out) at c.eq.ensures in
     let not = c.if-eq.false in
     absurd cc
+
+pub returns-in-Ok-clause-refused : goal.returns-in-Ok-clause-refused
+returns-in-Ok-clause-refused c =
+    let words = map string_bytes c.args.words.now in
+    let free = ap is_simple_and_free c.in_ok-omf.ensures ∙ is_free_omf in
+    inr (sym (ap (λ (a : App). fault_of a words) c.in_ok-omf.ensures) ∙ c.in-Ok.ensures.kinds free)
