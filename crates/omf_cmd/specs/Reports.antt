@@ -1,6 +1,6 @@
 -- What `check` and `list` answer for an input: both print a text of the records of the module that it begins with. How the program
 -- ends.
-use Rattle.std.specs.Prelude.{◌≡◌, ⊤, ℕ, List, Option, Some, Result, Ok, Err}
+use Rattle.std.specs.Prelude.{◌≡◌, ◌⊎◌, ⊤, ℕ, List, Option, Some, Result, Ok, Err}
 use Rattle.std.specs.Io.KnownBytes.{Consumes}
 use Rattle.omf_frame.specs.Framing.{Raw}
 use Rattle.omf_image.specs.Limits.{profile_limits}
@@ -12,7 +12,7 @@ use Rattle.omf_check.specs.declared.profile.Profile.{Profile}
 use Rattle.omf_cmd.specs.FaultLine.{fault_text}
 use Rattle.omf_cmd.specs.Listing.{check_text, list_text}
 use Rattle.omf_cmd.specs.Runs.{IsPart, Prints, Row, rows_text}
-use Rattle.omf_cmd.specs.Words.{status_of}
+use Rattle.omf_cmd.specs.Words.{status_of, usage}
 use Rattle.omf_cmd.specs.declared.fault.RunFault.{RunFault}
 use Rattle.omf_cmd.specs.declared.fault.RunFault.TheVariants as fault
 use Rattle.omf_cmd.specs.declared.words.Job.{Job}
@@ -58,3 +58,7 @@ pub record IsAnswer (asked : Job × Profile) (left left' held held' : Option (Li
   pub between : Option (List ℕ)
   pub run : IsRun asked.0 asked.1 left left' held between ran
   pub ended : IsEnded between held' ran status
+
+-- The program's answer to words that are not understood: how it is called, or a part of that from the front; or memory ran out.
+abbrev pub IsMisuse : Option (List ℕ) → Option (List ℕ) → ℕ → Type 0
+IsMisuse held held' status = ((status ≡ 2) × IsPart held held' usage) ⊎ ((status ≡ 3) × IsPart held held' (fault_text fault.Memory))

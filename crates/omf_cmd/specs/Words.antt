@@ -1,5 +1,5 @@
 -- What the words that the program is called with ask for, and the status that it ends with (this profile's rule).
-use Rattle.std.specs.Prelude.{◌≡◌, ◌⊎◌, ℕ, List, [], ◌∷◌, Bool, true, false, Option, Some, None, find, option_map, codes, if◌then◌else◌}
+use Rattle.std.specs.Prelude.{◌≡◌, ◌⊎◌, ℕ, List, [], ◌∷◌, ◌++◌, Bool, true, false, Option, Some, None, find, option_map, codes, if◌then◌else◌}
 use Rattle.std.specs.Str.{bytes_eq}
 use Rattle.omf_check.specs.declared.profile.Profile.{Profile}
 use Rattle.omf_cmd.specs.declared.fault.RunFault.{RunFault}
@@ -32,3 +32,7 @@ status_of fault.Memory = 3
 status_of fault.Read = 3
 status_of fault.Write = 3
 status_of _ = 1
+
+-- What is printed where the words are not understood.
+abbrev pub usage : List ℕ
+usage = codes "usage: omf list|check|reloc|canon [--refuse-vendor-comments]" ++ 10 ∷ []

@@ -1,11 +1,13 @@
 //! The program over its words, a reader and a writer: what it prints and which status it ends with.
 
 ghost use Rattle.std.specs.Prelude.{◌≡◌, ◌≤◌, ◌++◌, ◌∷◌, [], ℕ, List, map, string_bytes, IfOk, OnOk, Some};
+ghost use Rattle.clap.specs.Words.{fault_of};
+ghost use Rattle.omf_cmd.specs.Parsed.{omf_app};
 ghost use Rattle.omf_check.specs.declared.profile.Profile.{Profile};
 ghost use Rattle.omf_cmd.specs.FaultLine.{fault_line, fault_text};
-ghost use Rattle.omf_cmd.specs.Reports.{IsRun, IsAnswer};
+ghost use Rattle.omf_cmd.specs.Reports.{IsRun, IsAnswer, IsMisuse};
 ghost use Rattle.omf_cmd.specs.Runs.{IsPart};
-ghost use Rattle.omf_cmd.specs.Words.{asks, status_of};
+ghost use Rattle.omf_cmd.specs.Words.{asks, status_of, usage};
 ghost use Rattle.omf_cmd.specs.declared.words.Job.{Job};
 
 use crate::fault::RunFault;
@@ -79,6 +81,13 @@ pub fn fail<K: Sink>(alloc: Global, fault: &RunFault, writer: &mut K) -> u8
     status_of(fault)
 }
 
+/// Prints how the program is called. A failure to print is passed over.
+fn print_usage<K: Sink>(writer: &mut K)
+    ensures { IsPart (K.held writer.old) (K.held writer.new) usage }
+{
+    let _ = write_all(writer, USAGE);
+}
+
 /// Runs the job that the words name; prints its text, or its fault's line, or how the program is called. It answers the exit status:
 /// 0 done, 1 the input is refused, 2 the words are not understood, 3 no memory, or the reader or the writer failed. It does not flush.
 pub fn main_with<S: Source, K: Sink>(
@@ -90,11 +99,13 @@ pub fn main_with<S: Source, K: Sink>(
     ensures known { result ≤ 3 }
     // Where the words ask for a job, it was run, and the status and what was written tell its answer.
     ensures answer { (asked : Job × Profile) → asks (map string_bytes words.now) ≡ Some asked → IsAnswer asked (S.left reader.old) (S.left reader.new) (K.held writer.old) (K.held writer.new) result }
+    // Where clap refuses the words, the program says how it is called.
+    ensures misuse { (fault_of omf_app (map string_bytes words.now) ≡ [] → ⊥) → IsMisuse (K.held writer.old) (K.held writer.new) result }
 {
     let ran = match command(alloc, words) {
         Ok(Some((job, profile))) => run(alloc, job, profile, reader, writer),
         Ok(None) => {
-            let _ = write_all(writer, USAGE);
+            print_usage(writer);
             return 2;
         }
         Err(AllocError) => Err(RunFault::Memory),
