@@ -1,9 +1,9 @@
 -- What clap answers on the words of the program.
 use Rattle.std.proofs.Common.{◌≡◌, ℕ, List, [], ◌∷◌, Bool, Option, Some, None, refl, sym, ap, subst, ◌∙◌, codes, true, false, cond, option_map}
-use Rattle.std.specs.Prelude.{option_and_then}
+use Rattle.std.specs.Prelude.{option_and_then, Result, Ok, Err, IfOk}
 use Rattle.std.specs.Str.{bytes_eq}
 use Rattle.std.proofs.lemmas.Slice.Eq.{bytes_eq-Decides}
-use Rattle.clap.specs.Words.{Text, Row, is_simple, one_of, subcommand_of, takes}
+use Rattle.clap.specs.Words.{Text, Row, is_simple, is_simple_and_free, one_of, subcommand_of, takes}
 use Rattle.clap.proofs.OnLiterals.{clap_on_literals}
 use Rattle.omf_cmd.specs.Parsed.{omf_app, flag_id, flag_text, IsParsed}
 use Rattle.omf_cmd.specs.Words.{asks, flag, job_named, profile_of}
@@ -36,30 +36,40 @@ pub is_simple_omf : is_simple omf_app ≡ true
 unfolding clap_on_literals
 is_simple_omf = refl
 
-pub reloc_alone : (program : Text) → IsParsed (subcommand_of omf_app (program ∷ codes "reloc" ∷ [])) (codes "reloc") false
+pub is_free_omf : is_simple_and_free omf_app ≡ true
 unfolding clap_on_literals
-reloc_alone program = record { named = refl; set = refl }
+is_free_omf = refl
 
-pub reloc_flagged : (program : Text) → IsParsed (subcommand_of omf_app (program ∷ codes "reloc" ∷ flag ∷ [])) (codes "reloc") true
-unfolding clap_on_literals
-reloc_flagged program = record { named = refl; set = refl }
+-- a subcommand alone, and with the flag, as clap answers it
+pub record IsUnderstood (name : Text) : Type 0 where
+  pub alone : (program : Text) → IsParsed (subcommand_of omf_app (program ∷ name ∷ [])) name false × (takes omf_app (program ∷ name ∷ []) ≡ true)
+  pub flagged : (program : Text) → IsParsed (subcommand_of omf_app (program ∷ name ∷ flag ∷ [])) name true × (takes omf_app (program ∷ name ∷ flag ∷ []) ≡ true)
 
-pub takes_reloc : (program : Text) → takes omf_app (program ∷ codes "reloc" ∷ []) ≡ true
+list_is : IsUnderstood (codes "list")
 unfolding clap_on_literals
-takes_reloc program = refl
+list_is = record { alone = λ p. (record { named = refl; set = refl }, refl); flagged = λ p. (record { named = refl; set = refl }, refl) }
 
-pub takes_reloc_flagged : (program : Text) → takes omf_app (program ∷ codes "reloc" ∷ flag ∷ []) ≡ true
+check_is : IsUnderstood (codes "check")
 unfolding clap_on_literals
-takes_reloc_flagged program = refl
+check_is = record { alone = λ p. (record { named = refl; set = refl }, refl); flagged = λ p. (record { named = refl; set = refl }, refl) }
+
+reloc_is : IsUnderstood (codes "reloc")
+unfolding clap_on_literals
+reloc_is = record { alone = λ p. (record { named = refl; set = refl }, refl); flagged = λ p. (record { named = refl; set = refl }, refl) }
 
 -- ---- the words that are asked for
 
-one_name : (b : Bool) (name : Text) (j : Job) → (b ≡ true → name ≡ codes "reloc") → option_map (λ (s : List ℕ × Job). s.1) (cond b (Some (codes "reloc", job.Reloc)) None) ≡ Some j → name ≡ codes "reloc"
-one_name true name j is e = is refl
-one_name false name j is e = absurd cc
+-- a name that stands for a job is understood
+first_name : (b : Bool) (name own : Text) (j k : Job) (others : Option (List ℕ × Job)) → (b ≡ true → name ≡ own) → IsUnderstood own → (option_map (λ (s : List ℕ × Job). s.1) others ≡ Some j → IsUnderstood name) → option_map (λ (s : List ℕ × Job). s.1) (cond b (Some (own, k)) others) ≡ Some j → IsUnderstood name
+first_name true name own j k others is understood later e = subst IsUnderstood (sym (is refl)) understood
+first_name false name own j k others is understood later e = later e
 
-the_name : (name : Text) (j : Job) → job_named name ≡ Some j → name ≡ codes "reloc"
-the_name name j e = one_name (bytes_eq name (codes "reloc")) name j (bytes_eq-Decides name (codes "reloc")).0 e
+pub understood : (name : Text) (j : Job) → job_named name ≡ Some j → IsUnderstood name
+understood name j e =
+    first_name (bytes_eq name (codes "list")) name (codes "list") j job.List _ (bytes_eq-Decides name (codes "list")).0 list_is
+    (first_name (bytes_eq name (codes "check")) name (codes "check") j job.Check _ (bytes_eq-Decides name (codes "check")).0 check_is
+    (first_name (bytes_eq name (codes "reloc")) name (codes "reloc") j job.Reloc None (bytes_eq-Decides name (codes "reloc")).0 reloc_is (λ none. absurd cc)))
+    e
 
 map_some : (o : Option Job) (refuses : Bool) (asked : Job × Profile) → option_map (λ j. (j, profile_of refuses)) o ≡ Some asked → (j : Job) × (o ≡ Some j) × (asked_of j refuses ≡ Some asked)
 map_some None refuses asked e = absurd cc
@@ -75,22 +85,16 @@ pub record Answers (words : List Text) (asked : Job × Profile) : Type 0 where
   pub is : asked_of job refuses ≡ Some asked
   pub taken : takes omf_app words ≡ true
 
-parsed_alone : (program name : Text) → name ≡ codes "reloc" → IsParsed (subcommand_of omf_app (program ∷ name ∷ [])) name false × (takes omf_app (program ∷ name ∷ []) ≡ true)
-parsed_alone program name e = subst (λ (n : Text). IsParsed (subcommand_of omf_app (program ∷ n ∷ [])) n false × (takes omf_app (program ∷ n ∷ []) ≡ true)) (sym e) (reloc_alone program, takes_reloc program)
-
-parsed_flagged : (program name : Text) → name ≡ codes "reloc" → IsParsed (subcommand_of omf_app (program ∷ name ∷ flag ∷ [])) name true × (takes omf_app (program ∷ name ∷ flag ∷ []) ≡ true)
-parsed_flagged program name e = subst (λ (n : Text). IsParsed (subcommand_of omf_app (program ∷ n ∷ flag ∷ [])) n true × (takes omf_app (program ∷ n ∷ flag ∷ []) ≡ true)) (sym e) (reloc_flagged program, takes_reloc_flagged program)
-
 answers_alone : (program name : Text) (asked : Job × Profile) → option_map (λ j. (j, profile_of false)) (job_named name) ≡ Some asked → Answers (program ∷ name ∷ []) asked
 answers_alone program name asked e =
     let m = map_some (job_named name) false asked e in
-    let p = parsed_alone program name (the_name name m.0 m.1) in
+    let p = (understood name m.0 m.1).alone program in
     record { name = name; job = m.0; refuses = false; parse = p.0; named = m.1; is = m.2; taken = p.1 }
 
 answers_flagged : (program name : Text) (asked : Job × Profile) → option_map (λ j. (j, profile_of true)) (job_named name) ≡ Some asked → Answers (program ∷ name ∷ flag ∷ []) asked
 answers_flagged program name asked e =
     let m = map_some (job_named name) true asked e in
-    let p = parsed_flagged program name (the_name name m.0 m.1) in
+    let p = (understood name m.0 m.1).flagged program in
     record { name = name; job = m.0; refuses = true; parse = p.0; named = m.1; is = m.2; taken = p.1 }
 
 answers_third : (program name f : Text) (asked : Job × Profile) (b : Bool) → (b ≡ true → f ≡ flag) → cond b (option_map (λ j. (j, profile_of true)) (job_named name)) None ≡ Some asked → Answers (program ∷ name ∷ f ∷ []) asked
@@ -103,3 +107,10 @@ answers (program ∷ []) asked e = absurd cc
 answers (program ∷ name ∷ []) asked e = answers_alone program name asked e
 answers (program ∷ name ∷ f ∷ []) asked e = answers_third program name f asked (bytes_eq f flag) (bytes_eq-Decides f flag).0 e
 answers (program ∷ name ∷ f ∷ g ∷ words) asked e = absurd cc
+
+-- ---- the program's command
+
+-- of an answer that is there, more is known
+pub ok_also : {X E : Type 0} (r : Result X E) {P Q : X → Type 0} → ((x : X) → P x → Q x) → IfOk r P → IfOk r Q
+ok_also (Ok x) f h = f x h
+ok_also (Err e) f h = h

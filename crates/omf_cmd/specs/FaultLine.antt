@@ -1,5 +1,5 @@
 -- The line that a fault is printed as (this profile's rule).
-use Rattle.std.specs.Prelude.{ℕ, List, [], ◌∷◌, codes, decimal}
+use Rattle.std.specs.Prelude.{ℕ, List, [], ◌∷◌, ◌++◌, codes, decimal}
 use Rattle.omf_frame.specs.Fault.{reason_number}
 use Rattle.omf_frame.specs.declared.fault.Reason.{Reason}
 use Rattle.omf_frame.specs.declared.fault.Reason.TheVariants as reason
@@ -78,3 +78,8 @@ fault_words (fault.Reach f) = codes "reach" ∷ reach_words f
 -- The line, without its line feed.
 abbrev pub fault_line : RunFault → List ℕ
 fault_line f = in_words (fault_words f)
+
+-- What is printed of a fault: its line; nothing where the writer has failed.
+abbrev pub fault_text : RunFault → List ℕ
+fault_text fault.Write = []
+fault_text f = fault_line f ++ 10 ∷ []

@@ -9,5 +9,6 @@ pub mod Outcome
 pub mod Parsed
 pub mod RunLines
 pub mod Relocating
-pub mod Reports
 pub mod Laws
+pub mod Reports
+pub mod Standing

@@ -3,8 +3,9 @@ use Rattle.std.specs.Prelude.{ℕ, List, [], ◌∷◌, ◌++◌, length, flat_m
 use Rattle.std.specs.List.{enumerate_from}
 use Rattle.omf_frame.specs.Bytes.{with_before, is_one_of}
 use Rattle.omf_frame.specs.Framing.{Raw, raw_bytes}
-use Rattle.omf_records.specs.Values.{Rec, Contents, Publics, PublicItem, PublicItems}
+use Rattle.omf_records.specs.Values.{Rec, Contents, GroupItem, Publics, PublicItem, PublicItems}
 use Rattle.omf_check.specs.Tables.{names, segments, groups, externals}
+use Rattle.omf_check.specs.declared.segment.SegInfo.{SegInfo}
 use Rattle.omf_check.specs.WellFormed.{recs}
 use Rattle.omf_cmd.specs.Printed.{hex, line, quoted, named, index_or_dash}
 
@@ -24,14 +25,23 @@ abbrev pub record_line : List Raw → Raw → List ℕ
 record_line before r = line (codes "R" ∷ decimal (length before) ∷ hex 8 (length (flat_map raw_bytes before)) ∷ hex 2 r.kind ∷ decimal (length r.body) ∷ type_name r.kind ∷ [])
 
 -- S: index, length, name. G: index, name. E: index, name.
+abbrev pub segment_line : List Rec → ℕ × SegInfo → List ℕ
+segment_line m s = line (codes "S" ∷ decimal s.0 ∷ decimal s.1.length ∷ named (names m) s.1.name ∷ [])
+
 abbrev pub segment_lines : List Rec → List ℕ
-segment_lines m = flat_map (λ s. line (codes "S" ∷ decimal s.0 ∷ decimal s.1.length ∷ named (names m) s.1.name ∷ [])) (enumerate_from 1 (segments m))
+segment_lines m = flat_map (segment_line m) (enumerate_from 1 (segments m))
+
+abbrev pub group_line : List Rec → ℕ × GroupItem → List ℕ
+group_line m g = line (codes "G" ∷ decimal g.0 ∷ named (names m) g.1.name.item ∷ [])
 
 abbrev pub group_lines : List Rec → List ℕ
-group_lines m = flat_map (λ g. line (codes "G" ∷ decimal g.0 ∷ named (names m) g.1.name.item ∷ [])) (enumerate_from 1 (groups m))
+group_lines m = flat_map (group_line m) (enumerate_from 1 (groups m))
+
+abbrev pub external_line : ℕ × List ℕ → List ℕ
+external_line e = line (codes "E" ∷ decimal e.0 ∷ quoted e.1 ∷ [])
 
 abbrev pub external_lines : List Rec → List ℕ
-external_lines m = flat_map (λ e. line (codes "E" ∷ decimal e.0 ∷ quoted e.1 ∷ [])) (enumerate_from 1 (externals m))
+external_lines m = flat_map external_line (enumerate_from 1 (externals m))
 
 -- P: group, segment, offset, name of each item of a PUBDEF, in file order. The offset has at least eight hexadecimal digits.
 abbrev pub public_line : PublicItems → PublicItem → List ℕ

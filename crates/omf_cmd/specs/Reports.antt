@@ -1,10 +1,65 @@
--- What a fault of the check is to a run.
+-- What `check` and `list` answer for an input: both print a text of the records of the module that it begins with. How the program
+-- ends.
+use Rattle.std.specs.Prelude.{◌≡◌, ◌⊎◌, ⊤, ℕ, List, Option, Some, Result, Ok, Err}
+use Rattle.std.specs.Io.KnownBytes.{Consumes}
+use Rattle.omf_frame.specs.Framing.{Raw}
+use Rattle.omf_image.specs.Limits.{profile_limits}
+use Rattle.omf_check.specs.Refusal.{IsRefused}
+use Rattle.omf_check.specs.WellFormed.{IsAccepted}
 use Rattle.omf_check.specs.declared.fault.CheckFault.{CheckFault}
 use Rattle.omf_check.specs.declared.fault.CheckFault.TheVariants as check
+use Rattle.omf_check.specs.declared.profile.Profile.{Profile}
+use Rattle.omf_cmd.specs.FaultLine.{fault_text}
+use Rattle.omf_cmd.specs.Listing.{check_text, list_text}
+use Rattle.omf_cmd.specs.Relocating.{Relocates}
+use Rattle.omf_cmd.specs.Runs.{IsPart, Prints}
+use Rattle.omf_cmd.specs.Words.{status_of, usage}
 use Rattle.omf_cmd.specs.declared.fault.RunFault.{RunFault}
 use Rattle.omf_cmd.specs.declared.fault.RunFault.TheVariants as fault
+use Rattle.omf_cmd.specs.declared.words.Job.{Job}
+use Rattle.omf_cmd.specs.declared.words.Job.TheVariants as job
 
+-- What a fault of the check is to a run.
 abbrev pub of_check : CheckFault → RunFault
 of_check check.Memory = fault.Memory
 of_check check.Read = fault.Read
 of_check (check.Refused why at) = fault.Refused why at
+
+-- The input begins with a module of these records, and exactly its bytes were read.
+pub record IsReadFrom (profile : Profile) (input : List ℕ) (records : List Raw) (old new : Option (List ℕ)) : Type 0 where
+  pub accepted : IsAccepted profile profile_limits input records
+  pub read : Consumes old new accepted.bytes
+
+-- What the answer says of an input: done, or failed to write, only for a module of these records; refused as the input is; and no
+-- fault of a placement.
+abbrev pub Judges : Profile → List ℕ → List Raw → Option (List ℕ) → Option (List ℕ) → Result (Unit {0}) RunFault → Type 0
+Judges profile input records old new (Ok done) = IsReadFrom profile input records old new
+Judges profile input records old new (Err fault.Write) = IsReadFrom profile input records old new
+Judges profile input records old new (Err (fault.Refused why at)) = IsRefused profile profile_limits input why at
+Judges profile input records old new (Err fault.Memory) = ⊤
+Judges profile input records old new (Err fault.Read) = ⊤
+Judges profile input records old new (Err (fault.Line n)) = ⊥
+Judges profile input records old new (Err fault.TooLong) = ⊥
+Judges profile input records old new (Err (fault.Reach f)) = ⊥
+
+-- What a job answers, and what it reads and writes: a text of the module's records, or the outcome for the module and the text behind it.
+abbrev pub IsRun : Job → Profile → Option (List ℕ) → Option (List ℕ) → Option (List ℕ) → Option (List ℕ) → Result (Unit {0}) RunFault → Type 0
+IsRun job.List profile left left' held held' ran = (records : List Raw) × Prints held held' ran (list_text records) × ((input : List ℕ) → left ≡ Some input → Judges profile input records left left' ran)
+IsRun job.Check profile left left' held held' ran = (records : List Raw) × Prints held held' ran (check_text records) × ((input : List ℕ) → left ≡ Some input → Judges profile input records left left' ran)
+IsRun job.Reloc profile left left' held held' ran = (text : List ℕ) × Prints held held' ran text × ((input : List ℕ) → left ≡ Some input → Relocates profile input text ran)
+
+-- How the program ends after a run: the status is that of the answer, and of a fault its text is written, or a part of it from the front.
+abbrev pub IsEnded : Option (List ℕ) → Option (List ℕ) → Result (Unit {0}) RunFault → ℕ → Type 0
+IsEnded held held' (Ok done) status = (status ≡ 0) × (held' ≡ held)
+IsEnded held held' (Err f) status = (status ≡ status_of f) × IsPart held held' (fault_text f)
+
+-- The program's answer to words that ask for a job: it ran, and the program ended.
+pub record IsAnswer (asked : Job × Profile) (left left' held held' : Option (List ℕ)) (status : ℕ) : Type 0 where
+  pub ran : Result (Unit {0}) RunFault
+  pub between : Option (List ℕ)
+  pub run : IsRun asked.0 asked.1 left left' held between ran
+  pub ended : IsEnded between held' ran status
+
+-- The program's answer to words that are not understood: how it is called, or a part of that from the front; or memory ran out.
+abbrev pub IsMisuse : Option (List ℕ) → Option (List ℕ) → ℕ → Type 0
+IsMisuse held held' status = ((status ≡ 2) × IsPart held held' usage) ⊎ ((status ≡ 3) × IsPart held held' (fault_text fault.Memory))

@@ -25,3 +25,7 @@ abbrev pub Prints : Option (List ℕ) → Option (List ℕ) → Result (Unit {0}
 Prints old new (Ok done) text = Appends old new text
 Prints old new (Err fault.Write) text = (front : List ℕ) × (back : List ℕ) × (text ≡ front ++ back) × Appends old new front
 Prints old new (Err e) text = Keeps old new
+
+-- a part of the text from the front was written, which may be all of it or nothing
+abbrev pub IsPart : Option (List ℕ) → Option (List ℕ) → List ℕ → Type 0
+IsPart old new text = (front : List ℕ) × (back : List ℕ) × (text ≡ front ++ back) × Appends old new front

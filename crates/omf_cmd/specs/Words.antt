@@ -1,13 +1,15 @@
--- What the words that the program is called with ask for (this profile's rule).
-use Rattle.std.specs.Prelude.{◌≡◌, ◌⊎◌, ℕ, List, [], ◌∷◌, Bool, true, false, Option, Some, None, find, option_map, codes, if◌then◌else◌}
+-- What the words that the program is called with ask for, and the status that it ends with (this profile's rule).
+use Rattle.std.specs.Prelude.{◌≡◌, ◌⊎◌, ℕ, List, [], ◌∷◌, ◌++◌, Bool, true, false, Option, Some, None, find, option_map, codes, if◌then◌else◌}
 use Rattle.std.specs.Str.{bytes_eq}
 use Rattle.omf_check.specs.declared.profile.Profile.{Profile}
+use Rattle.omf_cmd.specs.declared.fault.RunFault.{RunFault}
+use Rattle.omf_cmd.specs.declared.fault.RunFault.TheVariants as fault
 use Rattle.omf_cmd.specs.declared.words.Job.{Job}
 use Rattle.omf_cmd.specs.declared.words.Job.TheVariants as job
 
--- The subcommands (`reloc` is the only one so far), and the flag that may follow one.
+-- The subcommands, and the flag that may follow one.
 abbrev pub subcommands : List (List ℕ × Job)
-subcommands = (codes "reloc", job.Reloc) ∷ []
+subcommands = (codes "list", job.List) ∷ (codes "check", job.Check) ∷ (codes "reloc", job.Reloc) ∷ []
 
 abbrev pub job_named : List ℕ → Option Job
 job_named name = option_map (λ s. s.1) (find (λ s. bytes_eq name s.0) subcommands)
@@ -23,3 +25,14 @@ abbrev pub asks : List (List ℕ) → Option (Job × Profile)
 asks (program ∷ name ∷ []) = option_map (λ j. (j, profile_of false)) (job_named name)
 asks (program ∷ name ∷ f ∷ []) = if bytes_eq f flag then option_map (λ j. (j, profile_of true)) (job_named name) else None
 asks _ = None
+
+-- The exit status of a fault: 3 for memory and devices, 1 for what the input is refused for.
+abbrev pub status_of : RunFault → ℕ
+status_of fault.Memory = 3
+status_of fault.Read = 3
+status_of fault.Write = 3
+status_of _ = 1
+
+-- What is printed where the words are not understood.
+abbrev pub usage : List ℕ
+usage = codes "usage: omf list|check|reloc|canon [--refuse-vendor-comments]" ++ 10 ∷ []

@@ -8,58 +8,57 @@ pub mod laws;
 mod output;
 mod printed;
 mod printing;
+mod program;
 mod relocation;
+mod report;
 pub mod rows;
+mod running;
 #[cfg(test)]
 mod tests;
 mod words;
 
 pub use fault::RunFault;
-use omf_check::Profile;
-use omf_frame::{Reading, Writing};
+use omf_frame::{Reading, Sink, Writing};
 pub use printed::fault_line;
+use program::fail;
+pub use program::main_with;
 pub use relocation::run_reloc;
+pub use running::{run_check, run_list};
+use std::alloc::AllocError;
 use std::env;
-use std::io::{BufReader, Write};
+use std::io::{BufReader, ErrorKind, Write};
 use std::process::ExitCode;
 pub use words::{Job, command};
 
 /// How many bytes of the standard input are read at once.
 const PIECE: usize = 65_536;
 
-/// The status of a run: 0 done, 1 refused, 3 no memory, or the reader or the writer failed.
-fn status_of(ran: Result<(), RunFault>) -> u8 {
-    match ran {
-        Ok(()) => 0,
-        Err(RunFault::Memory | RunFault::Read | RunFault::Write) => 3,
-        Err(_) => 1,
+/// The program's words; none where one of them is not text.
+fn words_of(rt: &HostRuntime) -> Result<Vec<String>, AllocError> {
+    match env::args(rt) {
+        Ok(words) => words.collect(rt.alloc()),
+        Err(error) if error.kind() == ErrorKind::OutOfMemory => Err(AllocError),
+        Err(_) => Ok(Vec::new(rt.alloc())),
     }
 }
 
-/// Relocates the module on the standard input by the placement text after it.
-fn reloc(rt: &HostRuntime, profile: Profile) -> Result<(), RunFault> {
-    let input = BufReader::with_capacity(rt.alloc(), PIECE, rt.reader());
-    let Ok(input) = input else {
-        return Err(RunFault::Memory);
+/// The status of the program's run on the standard input.
+fn run_input<K: Sink>(rt: &HostRuntime, writer: &mut K) -> u8 {
+    let Ok(words) = words_of(rt) else {
+        return fail(rt.alloc(), &RunFault::Memory, writer);
     };
-    let mut reader = Reading::new(input);
-    let mut output = rt.stdout();
-    let mut writer = Writing::new(&mut output);
-    run_reloc(rt.alloc(), profile, &mut reader, &mut writer)?;
-    output.flush().map_err(|_| RunFault::Write)
+    let Ok(input) = BufReader::with_capacity(rt.alloc(), PIECE, rt.reader()) else {
+        return fail(rt.alloc(), &RunFault::Memory, writer);
+    };
+    main_with(rt.alloc(), &words, &mut Reading::new(input), writer)
 }
 
 fn main(rt: HostRuntime) -> ExitCode {
-    let Ok(words) = env::args(&rt) else {
-        return ExitCode::from(2);
-    };
-    let Ok(words) = words.collect::<Vec<String>>(rt.alloc()) else {
-        return ExitCode::from(3);
-    };
-    let status = match command(rt.alloc(), &words) {
-        Ok(Some((_, profile))) => status_of(reloc(&rt, profile)),
-        Ok(None) => 2,
-        Err(_) => 3,
-    };
-    ExitCode::from(status)
+    let mut output = rt.stdout();
+    let status = run_input(&rt, &mut Writing::new(&mut output));
+    let flushed = output.flush();
+    match status {
+        0 if flushed.is_err() => ExitCode::from(3),
+        _ => ExitCode::from(status),
+    }
 }

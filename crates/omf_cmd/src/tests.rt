@@ -1,8 +1,11 @@
 //! Runs of the program on whole modules. Numbers in modules and placements are hexadecimal.
 
+mod program;
 mod relocation;
+mod reports;
+mod words;
 
-use crate::{Job, RunFault, command, fault_line, run_reloc};
+use crate::{RunFault, fault_line, run_reloc};
 use omf_check::Profile;
 use omf_frame::{Place, Reading, Reason, Writing};
 use omf_reloc::{Cause, Kind, ReachFault};
@@ -312,25 +315,6 @@ fn reads_placements_by_lines(rt: HostRuntime) -> Result<(), Fail> {
         &[h, n, s, d, f, e, b"S 000010020 10000 1000"],
         RunFault::Line(1),
     )?;
-    Ok(())
-}
-
-/// What the program is asked to do by these words.
-fn job_of(alloc: Global, words: &[&str]) -> Result<Option<Job>, AllocError> {
-    let mut texts = Vec::new(alloc);
-    for word in words {
-        texts.push(String::from_str(alloc, *word)?)?;
-    }
-    Ok(command(alloc, &texts)?.map(|(job, _)| job))
-}
-
-#[test]
-fn reads_its_words(rt: HostRuntime) -> Result<(), Fail> {
-    assert_eq!(rt; job_of(rt.alloc(), &["omf", "reloc"])?, Some(Job::Reloc));
-    assert_eq!(rt; job_of(rt.alloc(), &["omf"])?, None);
-    assert_eq!(rt; job_of(rt.alloc(), &["omf", "--help"])?, None);
-    assert_eq!(rt; job_of(rt.alloc(), &["omf", "canon"])?, None);
-    assert_eq!(rt; job_of(rt.alloc(), &["omf", "reloc", "reloc"])?, None);
     Ok(())
 }
 

@@ -1,9 +1,9 @@
 //! The words that the program is called with.
 
-ghost use Rattle.std.specs.Prelude.{◌≡◌, ℕ, List, map, string_bytes, IfOk, Bool, false, Some};
+ghost use Rattle.std.specs.Prelude.{◌≡◌, ◌⊎◌, ℕ, List, [], map, string_bytes, IfOk, Bool, false, Some, None};
 ghost use Rattle.omf_cmd.specs.Words.{asks, job_named, profile_of};
-ghost use Rattle.clap.specs.Words.{rule_of, subcommand_rows_of};
-ghost use Rattle.omf_cmd.specs.Parsed.{flag_rule, IsParsed};
+ghost use Rattle.clap.specs.Words.{app_of, fault_of, rule_of, subcommand_rows_of};
+ghost use Rattle.omf_cmd.specs.Parsed.{flag_rule, omf_app, IsParsed};
 
 use clap::error::ErrorKind;
 use clap::{Arg, ArgAction, ArgMatches, Command};
@@ -13,6 +13,10 @@ use std::alloc::{AllocError, Global};
 /// What the program is asked to do.
 #[derive(Clone, Copy, Debug, PartialEq, Eq)]
 pub enum Job {
+    /// Print a module's records and tables.
+    List,
+    /// Say whether the input begins with a well-formed module.
+    Check,
     /// Relocate a module.
     Reloc,
 }
@@ -20,15 +24,29 @@ pub enum Job {
 /// The job that the words name, and its profile. None where they name none, or are not understood.
 pub fn command(alloc: Global, words: &[String]) -> Result<Option<(Job, Profile)>, AllocError>
     // Behind the program's own name a subcommand is understood, alone or followed by the flag.
-    ensures { (asked : Job × Profile) → asks (map string_bytes words.now) ≡ Some asked → IfOk result (λ found. found ≡ Some asked) }
+    ensures asks { (asked : Job × Profile) → asks (map string_bytes words.now) ≡ Some asked → IfOk result (λ found. found ≡ Some asked) }
+    // A job is answered only where clap's definition has no fault of these words.
+    ensures refused { IfOk result (λ found. (found ≡ None) ⊎ (fault_of omf_app (map string_bytes words.now) ≡ [])) }
 {
-    let reloc = Command::new(alloc, "reloc").arg(flag(alloc))?;
-    let omf = Command::new(alloc, "omf").subcommand(reloc)?;
+    let omf = program(alloc)?;
     match omf.try_get_matches_from(words) {
         Ok(matches) => Ok(named_by(&matches)),
         Err(error) if error.kind() == ErrorKind::OutOfMemory => Err(AllocError),
         Err(_) => Ok(None),
     }
+}
+
+/// The program's words: its subcommands, each with the flag and nothing else.
+fn program<'a>(alloc: Global) -> Result<Command<'a>, AllocError>
+    ensures { IfOk result (λ c. app_of c ≡ omf_app) }
+{
+    let list = Command::new(alloc, "list").arg(flag(alloc))?;
+    let check = Command::new(alloc, "check").arg(flag(alloc))?;
+    let reloc = Command::new(alloc, "reloc").arg(flag(alloc))?;
+    Command::new(alloc, "omf")
+        .subcommand(list)?
+        .subcommand(check)?
+        .subcommand(reloc)
 }
 
 /// The flag that refuses comments of the classes left to vendors.
@@ -46,6 +64,8 @@ fn job_named(name: &str) -> Option<Job>
     ensures { result ≡ job_named name.now }
 {
     match name {
+        "list" => Some(Job::List),
+        "check" => Some(Job::Check),
         "reloc" => Some(Job::Reloc),
         _ => None,
     }

@@ -1,30 +1,32 @@
-use Rattle.std.proofs.Common.{◌≡◌, List, rules, ap, ap₂, sym, subst, ◌∙◌, map, string_bytes, codes, Some}
-use Rattle.clap.specs.Words.{App, Text, app_of, kind_of, is_simple, new_app, subcommand_of, subcommand_rows_of, takes, with_rule, with_subcommand}
+use Rattle.std.proofs.Common.{◌≡◌, List, rules, ap, ap₂, sym, subst, ◌∙◌, map, string_bytes, codes, Some, inr}
+use Rattle.clap.specs.Words.{App, Text, app_of, fault_of, is_simple_and_free, kind_of, is_simple, new_app, subcommand_of, subcommand_rows_of, takes, with_rule, with_subcommand}
 use Rattle.omf_cmd.specs.Parsed.{IsParsed, flag_rule, with_flag, omf_app}
-use Rattle.omf_cmd.proofs.Parsed.{answers, is_simple_omf}
+use Rattle.omf_cmd.proofs.Parsed.{answers, is_free_omf, is_simple_omf}
 use Rattle.omf_cmd.proofs.words.command.Goals as goal
 
-pub returns-in-Ok : goal.returns-in-Ok
-returns-in-Ok c asked e =
+pub returns-in-Ok-clause-asks : goal.returns-in-Ok-clause-asks
+returns-in-Ok-clause-asks c asked e =
     let words = map string_bytes c.args.words.now in
     let a = answers words asked e in
-    let reloc_is : app_of c.in_ok-reloc.reloc ≡ with_flag (codes "reloc") = c.in_ok-reloc.ensures.shape (search rules) ∙ ap₂ with_rule c.new.ensures.app c.flag.ensures.rule in
-    let omf_is : app_of c.in_ok-omf.omf ≡ omf_app = c.in_ok-omf.ensures.shape (search rules) ∙ ap₂ with_subcommand c.new-2.ensures.app (ap (λ (a : App). a.top) reloc_is) in
-    let h = c.in-Ok.ensures.matches (ap is_simple omf_is ∙ is_simple_omf) in
-    let rows : subcommand_rows_of c.in-Ok.matches ≡ subcommand_of omf_app words = h.1 ∙ ap (λ (b : App). subcommand_of b words) omf_is in
+    let h = c.in-Ok.ensures.matches (ap is_simple c.in_ok-omf.ensures ∙ is_simple_omf) in
+    let rows : subcommand_rows_of c.in-Ok.matches ≡ subcommand_of omf_app words = h.1 ∙ ap (λ (b : App). subcommand_of b words) c.in_ok-omf.ensures in
     let parse = rw (← rows) at a.parse in
     c.named_by.ensures a.name a.job a.refuses parse a.named ∙ a.is
 
-pub returns-in-Err-2 : goal.returns-in-Err-2
-returns-in-Err-2 c asked e =
+pub returns-in-Err-2-clause-asks : goal.returns-in-Err-2-clause-asks
+returns-in-Err-2-clause-asks c asked e =
     let words = map string_bytes c.args.words.now in
     let a = answers words asked e in
-    let reloc_is : app_of c.in_ok-reloc.reloc ≡ with_flag (codes "reloc") = c.in_ok-reloc.ensures.shape (search rules) ∙ ap₂ with_rule c.new.ensures.app c.flag.ensures.rule in
-    let omf_is : app_of c.in_ok-omf.omf ≡ omf_app = c.in_ok-omf.ensures.shape (search rules) ∙ ap₂ with_subcommand c.new-2.ensures.app (ap (λ (a : App). a.top) reloc_is) in
-    let out = c.in-Err-2.ensures.passes (ap (λ (b : App). takes b words) omf_is ∙ a.taken) in
+    let out = c.in-Err-2.ensures.passes (ap (λ (b : App). takes b words) c.in_ok-omf.ensures ∙ a.taken) in
     let is = c.in-Err.is in
     let is_too = c.in-Err-2.is in
     let same : c.in-Err.error ≡ c.in-Err-2.field-0 = cc in
     let test = rw (c.kind.ensures ∙ ap kind_of same ∙ out) at c.eq.ensures in
     let not = c.if-eq.false in
     absurd cc
+
+pub returns-in-Ok-clause-refused : goal.returns-in-Ok-clause-refused
+returns-in-Ok-clause-refused c =
+    let words = map string_bytes c.args.words.now in
+    let free = ap is_simple_and_free c.in_ok-omf.ensures ∙ is_free_omf in
+    inr (sym (ap (λ (a : App). fault_of a words) c.in_ok-omf.ensures) ∙ c.in-Ok.ensures.kinds free)

@@ -1,0 +1,213 @@
+-- The texts of a module, line by line: what is written, and the lines of what is left, are the whole text.
+use Rattle.std.proofs.Common.{◌≡◌, ℕ, suc, ◌+◌, ◌-◌, ◌<◌, ◌≤◌, List, [], ◌∷◌, ◌++◌, Bool, true, false, refl, sym, ap, subst, ◌∙◌, arith, length, length-append, append_assoc, drop}
+use Rattle.std.proofs.lemmas.Grind.{flat_map-append}
+use Rattle.std.proofs.lemmas.List.{append-nil, drop_all}
+use Rattle.std.proofs.lemmas.Bool.{le-leb}
+use Rattle.std.proofs.lemmas.Option.{slice_get_within, get_or_from_slice_get, slice_get-get_or}
+use Rattle.std.proofs.Math.Seq.{drop-cons, get_or-append_seam}
+use Rattle.std.specs.List.{enumerate_from}
+use Rattle.std.specs.Prelude.{flat_map, map, All, Option, Some, None, option_map, slice_get, get_or, nat_le, cond, codes, decimal}
+use Rattle.omf_frame.specs.Bytes.{with_before}
+use Rattle.omf_frame.specs.Framing.{Raw, raw_bytes, IsRecord, IsFramed}
+use Rattle.omf_frame.specs.declared.fault.Place.{Place}
+use Rattle.omf_records.specs.Reading.{typed}
+use Rattle.omf_records.specs.Values.{Rec, Contents, Group, GroupItem}
+use Rattle.omf_check.specs.Listed.{placed_from}
+use Rattle.omf_check.specs.Tables.{entry}
+use Rattle.omf_check.specs.WellFormed.{recs}
+use Rattle.omf_cmd.specs.Listing.{record_line, type_name}
+use Rattle.omf_cmd.specs.Printed.{hex, line}
+use Rattle.omf_cmd.specs.Standing.{StandsAt}
+
+-- ---- a list of any items
+
+-- one more item
+pub one_more : {A : Type 0} (f : A → List ℕ) (x : A) (left : List A) (now new whole : List ℕ) → now ++ flat_map f (x ∷ left) ≡ whole → new ≡ now ++ f x → new ++ flat_map f left ≡ whole
+one_more f x left now new whole before e = ap (λ t. t ++ flat_map f left) e ∙ append_assoc now (f x) (flat_map f left) ∙ before
+
+-- ---- the entries of a table, from 1 on
+
+pub record ArePrinted {A : Type 0} (f : ℕ × A → List ℕ) (xs : List A) (i : ℕ) (old now : List ℕ) : Type 0 where
+  pub whole : now ++ flat_map f (enumerate_from (i + 1) (drop i xs)) ≡ old ++ flat_map f (enumerate_from 1 xs)
+
+by_test : {A : Type 0} (b : Bool) (o : Option A) → b ≡ true → cond b o None ≡ o
+by_test true o e = refl
+by_test false o e = absurd cc
+
+entry_is : {A : Type 0} (xs : List A) (i : ℕ) → entry xs (i + 1) ≡ slice_get xs i
+entry_is xs i =
+    let low : 1 ≤ i + 1 = omega arith in
+    let back : i + 1 - 1 ≡ i = omega arith in
+    by_test (nat_le 1 (i + 1)) (slice_get xs (i + 1 - 1)) (le-leb 1 (i + 1) low) ∙ ap (slice_get xs) back
+
+left_from : {A : Type 0} (xs : List A) (i : ℕ) (x : A) → slice_get xs i ≡ Some x → drop i xs ≡ x ∷ drop (i + 1) xs
+left_from xs i x e =
+    let low = slice_get_within xs i x e in
+    let a : suc i ≡ i + 1 = omega arith in
+    drop-cons xs i x low ∙ ap (λ y. y ∷ drop (suc i) xs) (get_or_from_slice_get xs i x x e) ∙ ap (λ k. x ∷ drop k xs) a
+
+pub more_printed : {A : Type 0} (f : ℕ × A → List ℕ) (xs : List A) (i : ℕ) (x : A) (old now new : List ℕ) → ArePrinted f xs i old now → entry xs (i + 1) ≡ Some x → new ≡ now ++ f (i + 1, x) → ArePrinted f xs (i + 1) old new
+more_printed f xs i x old now new before here e = record {
+  whole = one_more f (i + 1, x) (enumerate_from (i + 1 + 1) (drop (i + 1) xs)) now new _ (ap (λ l. now ++ flat_map f (enumerate_from (i + 1) l)) (sym (left_from xs i x (sym (entry_is xs i) ∙ here))) ∙ before.whole) e;
+}
+
+pub all_printed : {A : Type 0} (f : ℕ × A → List ℕ) (xs : List A) (i : ℕ) (old now : List ℕ) → length xs ≤ i → ArePrinted f xs i old now → now ≡ old ++ flat_map f (enumerate_from 1 xs)
+all_printed f xs i old now le h =
+    let none : drop i xs ≡ [] = drop_all i xs le in
+    sym (append-nil now) ∙ ap (λ l. now ++ flat_map f (enumerate_from (i + 1) l)) (sym none) ∙ h.whole
+
+-- a table has its entries
+pub has_entry : {A : Type 0} (xs : List A) (i n : ℕ) → n ≡ length xs → i < n → entry xs (i + 1) ≡ None → ⊥
+has_entry [] i n e low none = absurd (omega (arith, e, low))
+has_entry (x ∷ xs) i n e low none =
+    let le : i < length (x ∷ xs) = omega (arith, e, low) in
+    absurd (clash _ (sym (slice_get-get_or (x ∷ xs) i x le) ∙ sym (entry_is (x ∷ xs) i) ∙ none))
+  where
+    clash : {A : Type 0} (y : A) → Some y ≡ None → ⊥
+    clash y e = cc
+
+-- a typed record of a group that is there
+pub group_here : (c : Contents) (o : Option GroupItem) → Some c ≡ option_map Group o → (g : GroupItem) × (o ≡ Some g) × (c ≡ Group g)
+group_here c None e = absurd cc
+group_here c (Some g) e = (g, refl, of_some e)
+  where
+    of_some : {A : Type 0} {x y : A} → Some x ≡ Some y → x ≡ y
+    of_some e = cc
+
+-- ---- records with their places
+
+-- where a walk over the records of a module stands
+pub record AreWritten (records : List Raw) (left : List (Place × Rec)) (old now : List ℕ) : Type 0 where
+  pub before : List Raw
+  pub after : List Raw
+  pub all : records ≡ before ++ after
+  pub placed : left ≡ placed_from (length before) (length (flat_map raw_bytes before)) after
+  pub text : now ++ with_before record_line before after ≡ old ++ with_before record_line [] records
+
+-- the record that comes next
+pub record IsNext (records : List Raw) (x : Place × Rec) (left : List (Place × Rec)) (old now : List ℕ) : Type 0 where
+  pub before : List Raw
+  pub one : Raw
+  pub after : List Raw
+  pub all : records ≡ before ++ one ∷ after
+  pub number : x.0.number ≡ length before
+  pub start : x.0.start ≡ length (flat_map raw_bytes before)
+  pub rec : x.1 ≡ typed one
+  pub placed : left ≡ placed_from (length before + 1) (length (flat_map raw_bytes before) + length (raw_bytes one)) after
+  pub text : now ++ (record_line before one ++ with_before record_line (before ++ one ∷ []) after) ≡ old ++ with_before record_line [] records
+
+next_by : (records before after : List Raw) (x : Place × Rec) (left : List (Place × Rec)) (old now : List ℕ) → records ≡ before ++ after
+    → x ∷ left ≡ placed_from (length before) (length (flat_map raw_bytes before)) after
+    → now ++ with_before record_line before after ≡ old ++ with_before record_line [] records
+    → IsNext records x left old now
+next_by records before [] x left old now all placed text = absurd (clash placed)
+  where
+    clash : x ∷ left ≡ [] → ⊥
+    clash e = cc
+next_by records before (r ∷ after) x left old now all placed text = record {
+  before = before;
+  one = r;
+  after = after;
+  all = all;
+  number = ap (λ (p : Place × Rec). p.0.number) (head_is placed);
+  start = ap (λ (p : Place × Rec). p.0.start) (head_is placed);
+  rec = ap (λ (p : Place × Rec). p.1) (head_is placed);
+  placed = tail_is placed;
+  text = text;
+}
+  where
+    head_is : {A : Type 0} {a b : A} {xs ys : List A} → a ∷ xs ≡ b ∷ ys → a ≡ b
+    head_is e = cc
+
+    tail_is : {A : Type 0} {a b : A} {xs ys : List A} → a ∷ xs ≡ b ∷ ys → xs ≡ ys
+    tail_is e = cc
+
+pub next_of : (records : List Raw) (all left : List (Place × Rec)) (x : Place × Rec) (old now : List ℕ) → AreWritten records all old now → all ≡ x ∷ left → IsNext records x left old now
+next_of records all left x old now h e = next_by records h.before h.after x left old now h.all (sym e ∙ h.placed) h.text
+
+-- it stands where its place says
+pub stands : (records : List Raw) (bytes : List ℕ) (x : Place × Rec) (left : List (Place × Rec)) (old now : List ℕ) → IsFramed bytes records → (n : IsNext records x left old now) → StandsAt bytes x.0.start n.one
+stands records bytes x left old now f n = record {
+  front = flat_map raw_bytes n.before;
+  rest = flat_map raw_bytes n.after;
+  spelled = f.spelled ∙ ap (flat_map raw_bytes) n.all ∙ flat_map-append raw_bytes n.before (n.one ∷ n.after);
+  place = n.start;
+  short =
+      let each : All IsRecord (n.before ++ n.one ∷ n.after) = subst (All IsRecord) n.all f.each in
+      let size : length (n.before ++ n.one ∷ n.after) ≡ length n.before + suc (length n.after) = length-append n.before (n.one ∷ n.after) in
+      let low : length n.before < length (n.before ++ n.one ∷ n.after) = omega (arith, size) in
+      (subst IsRecord (get_or-append_seam n.before n.one n.after n.one) (each (length n.before) n.one low)).0;
+}
+
+-- and its line is written
+pub more_written : (records : List Raw) (x : Place × Rec) (left : List (Place × Rec)) (old now new : List ℕ) (n : IsNext records x left old now) → new ≡ now ++ record_line n.before n.one → AreWritten records left old new
+more_written records x left old now new n e =
+    let before = n.before ++ n.one ∷ [] in
+    let count : length before ≡ length n.before + 1 = length-append n.before (n.one ∷ []) in
+    let sizes : length (flat_map raw_bytes before) ≡ length (flat_map raw_bytes n.before) + length (raw_bytes n.one) =
+    ap length (flat_map-append raw_bytes n.before (n.one ∷ []) ∙ ap (λ t. flat_map raw_bytes n.before ++ t) (append-nil (raw_bytes n.one))) ∙ length-append (flat_map raw_bytes n.before) (raw_bytes n.one) in
+    record {
+      before = before;
+      after = n.after;
+      all = n.all ∙ sym (append_assoc n.before (n.one ∷ []) n.after);
+      placed = n.placed ∙ ap (λ k. placed_from k (length (flat_map raw_bytes n.before) + length (raw_bytes n.one)) n.after) (sym count) ∙ ap (λ k. placed_from (length before) k n.after) (sym sizes);
+      text = ap (λ t. t ++ with_before record_line before n.after) e ∙ append_assoc now (record_line n.before n.one) (with_before record_line before n.after) ∙ n.text;
+    }
+
+pub all_written : (records : List Raw) (left : List (Place × Rec)) (old now : List ℕ) → AreWritten records left old now → left ≡ [] → now ≡ old ++ with_before record_line [] records
+all_written records left old now h e =
+    let none : h.after ≡ [] = none_left h.after _ _ (sym h.placed ∙ e) in
+    sym (append-nil now) ∙ ap (λ l. now ++ with_before record_line h.before l) (sym none) ∙ h.text
+  where
+    none_left : (rs : List Raw) (n s : ℕ) → placed_from n s rs ≡ [] → rs ≡ []
+    none_left [] n s e = refl
+    none_left (r ∷ rs) n s e = absurd (clash e)
+      where
+        clash : {A : Type 0} {a : A} {rest : List A} → a ∷ rest ≡ [] → ⊥
+        clash e = cc
+
+-- the line of a record, by what is printed
+pub line_of : (before : List Raw) (one : Raw) (number start kind size : ℕ) → number ≡ length before → start ≡ length (flat_map raw_bytes before) → kind ≡ one.kind → size ≡ length one.body
+    → line (codes "R" ∷ decimal number ∷ hex 8 start ∷ hex 2 kind ∷ decimal size ∷ type_name kind ∷ []) ≡ record_line before one
+line_of before one number start kind size a b c d = rw (a, b, c, d) refl
+
+-- ---- the count of records
+
+pub record AreCounted (records : List Raw) (left : List (Place × Rec)) (count : ℕ) : Type 0 where
+  pub start : ℕ
+  pub after : List Raw
+  pub placed : left ≡ placed_from count start after
+  pub all : count + length after ≡ length records
+
+counted_by : (records after : List Raw) (count start : ℕ) (x : Place × Rec) (left : List (Place × Rec)) → x ∷ left ≡ placed_from count start after → count + length after ≡ length records
+    → (x.0.number ≡ count) × AreCounted records left (count + 1)
+counted_by records [] count start x left placed all = absurd (clash placed)
+  where
+    clash : x ∷ left ≡ [] → ⊥
+    clash e = cc
+counted_by records (r ∷ after) count start x left placed all =
+    (ap (λ (p : Place × Rec). p.0.number) (head_is placed), record { start = start + length (raw_bytes r); after = after; placed = tail_is placed; all = omega (arith, all) })
+  where
+    head_is : {A : Type 0} {a b : A} {xs ys : List A} → a ∷ xs ≡ b ∷ ys → a ≡ b
+    head_is e = cc
+
+    tail_is : {A : Type 0} {a b : A} {xs ys : List A} → a ∷ xs ≡ b ∷ ys → xs ≡ ys
+    tail_is e = cc
+
+pub next_counted : (records : List Raw) (all left : List (Place × Rec)) (x : Place × Rec) (count : ℕ) → AreCounted records all count → all ≡ x ∷ left → (x.0.number ≡ count) × AreCounted records left (count + 1)
+next_counted records all left x count h e = counted_by records h.after count h.start x left (sym e ∙ h.placed) h.all
+
+pub all_counted : (records : List Raw) (left : List (Place × Rec)) (count : ℕ) → AreCounted records left count → left ≡ [] → count ≡ length records
+all_counted records left count h e = none_after h.after h.start (sym h.placed ∙ e) h.all
+  where
+    none_after : (after : List Raw) (start : ℕ) → placed_from count start after ≡ [] → count + length after ≡ length records → count ≡ length records
+    none_after [] start e all = omega (arith, all)
+    none_after (r ∷ after) start e all = absurd (clash e)
+      where
+        clash : {A : Type 0} {a : A} {rest : List A} → a ∷ rest ≡ [] → ⊥
+        clash e = cc
+
+-- what the records of a walk print
+pub placed_lines : (f : Contents → List ℕ) (rs : List Raw) (number start : ℕ) → flat_map (λ (p : Place × Rec). f p.1.contents) (placed_from number start rs) ≡ flat_map (λ (r : Rec). f r.contents) (recs rs)
+placed_lines f [] number start = refl
+placed_lines f (r ∷ rs) number start = ap (λ t. f (typed r).contents ++ t) (placed_lines f rs (number + 1) (start + length (raw_bytes r)))

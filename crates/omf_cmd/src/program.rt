@@ -1,0 +1,118 @@
+//! The program over its words, a reader and a writer: what it prints and which status it ends with.
+
+ghost use Rattle.std.specs.Prelude.{◌≡◌, ◌≤◌, ◌++◌, ◌∷◌, [], ℕ, List, map, string_bytes, IfOk, OnOk, Some};
+ghost use Rattle.clap.specs.Words.{fault_of};
+ghost use Rattle.omf_cmd.specs.Parsed.{omf_app};
+ghost use Rattle.omf_check.specs.declared.profile.Profile.{Profile};
+ghost use Rattle.omf_cmd.specs.FaultLine.{fault_line, fault_text};
+ghost use Rattle.omf_cmd.specs.Reports.{IsRun, IsAnswer, IsMisuse};
+ghost use Rattle.omf_cmd.specs.Runs.{IsPart};
+ghost use Rattle.omf_cmd.specs.Words.{asks, status_of, usage};
+ghost use Rattle.omf_cmd.specs.declared.words.Job.{Job};
+
+use crate::fault::RunFault;
+use crate::output::write_all;
+use crate::printed::fault_line;
+use crate::relocation::run_reloc;
+use crate::running::{run_check, run_list};
+use crate::words::{Job, command};
+use omf_check::Profile;
+use omf_frame::{Sink, Source};
+use std::alloc::{AllocError, Global};
+
+/// What is printed where the words are not understood.
+const USAGE: &[u8] = b"usage: omf list|check|reloc|canon [--refuse-vendor-comments]\n";
+
+/// The exit status of a fault: 1 where the input is refused, 3 for want of memory and failing devices.
+fn status_of(fault: &RunFault) -> u8
+    ensures { result ≡ status_of fault.now }
+{
+    match fault {
+        RunFault::Memory | RunFault::Read | RunFault::Write => 3,
+        RunFault::Refused { .. } | RunFault::Line(_) | RunFault::TooLong | RunFault::Reach(_) => 1,
+    }
+}
+
+/// Runs a job.
+fn run<S: Source, K: Sink>(
+    alloc: Global,
+    job: Job,
+    profile: Profile,
+    reader: &mut S,
+    writer: &mut K,
+) -> Result<(), RunFault>
+    ensures { IsRun job profile (S.left reader.old) (S.left reader.new) (K.held writer.old) (K.held writer.new) result }
+{
+    match job {
+        Job::List => run_list(alloc, profile, reader, writer),
+        Job::Check => run_check(alloc, profile, reader, writer),
+        Job::Reloc => run_reloc(alloc, profile, reader, writer),
+    }
+}
+
+/// A fault's line and a line feed.
+fn fault_text(alloc: Global, fault: &RunFault) -> Result<String, AllocError>
+    ensures { IfOk result (λ text. string_bytes text ≡ fault_line fault.now ++ 10 ∷ []) }
+{
+    let mut text = fault_line(alloc, fault)?;
+    text.push_str("\n")?;
+    Ok(text)
+}
+
+/// Prints a fault's line, where its text finds memory; nothing where the writer has failed already. A failure to print is passed over.
+fn print_fault<K: Sink>(alloc: Global, fault: &RunFault, writer: &mut K)
+    ensures { IsPart (K.held writer.old) (K.held writer.new) (fault_text fault.now) }
+{
+    match fault {
+        RunFault::Write => {}
+        _ => {
+            if let Ok(text) = fault_text(alloc, fault) {
+                let _ = write_all(writer, text.as_bytes());
+            }
+        }
+    }
+}
+
+/// Prints a fault's line, and answers its exit status.
+pub fn fail<K: Sink>(alloc: Global, fault: &RunFault, writer: &mut K) -> u8
+    ensures status { result ≡ status_of fault.now }
+    ensures prints { IsPart (K.held writer.old) (K.held writer.new) (fault_text fault.now) }
+{
+    print_fault(alloc, fault, writer);
+    status_of(fault)
+}
+
+/// Prints how the program is called. A failure to print is passed over.
+fn print_usage<K: Sink>(writer: &mut K)
+    ensures { IsPart (K.held writer.old) (K.held writer.new) usage }
+{
+    let _ = write_all(writer, USAGE);
+}
+
+/// Runs the job that the words name; prints its text, or its fault's line, or how the program is called. It answers the exit status:
+/// 0 done, 1 the input is refused, 2 the words are not understood, 3 no memory, or the reader or the writer failed. It does not flush.
+pub fn main_with<S: Source, K: Sink>(
+    alloc: Global,
+    words: &[String],
+    reader: &mut S,
+    writer: &mut K,
+) -> u8
+    ensures known { result ≤ 3 }
+    // Where the words ask for a job, it was run, and the status and what was written tell its answer.
+    ensures answer { (asked : Job × Profile) → asks (map string_bytes words.now) ≡ Some asked → IsAnswer asked (S.left reader.old) (S.left reader.new) (K.held writer.old) (K.held writer.new) result }
+    // Where clap refuses the words, the program says how it is called.
+    ensures misuse { (fault_of omf_app (map string_bytes words.now) ≡ [] → ⊥) → IsMisuse (K.held writer.old) (K.held writer.new) result }
+{
+    let ran = match command(alloc, words) {
+        Ok(Some((job, profile))) => run(alloc, job, profile, reader, writer),
+        Ok(None) => {
+            print_usage(writer);
+            return 2;
+        }
+        Err(AllocError) => Err(RunFault::Memory),
+    };
+    match ran {
+        Ok(()) => 0,
+        Err(fault) => fail(alloc, &fault, writer),
+    }
+}

@@ -1,0 +1,176 @@
+//! The texts of `check` and `list`.
+
+ghost use Rattle.std.specs.Prelude.{◌≡◌, ◌++◌, ◌∷◌, [], OnOk, IfOk, string_bytes, codes, decimal, flat_map, length};
+ghost use Rattle.omf_frame.specs.Bytes.{with_before};
+ghost use Rattle.omf_frame.specs.Framing.{Raw};
+ghost use Rattle.omf_records.specs.Seen.{contents_seen};
+ghost use Rattle.omf_records.specs.Values.{Group, GroupItem};
+ghost use Rattle.omf_check.specs.Module.{records_in};
+ghost use Rattle.omf_check.specs.Tables.{names};
+ghost use Rattle.omf_check.specs.WellFormed.{recs};
+ghost use Rattle.omf_cmd.specs.Listing.{record_line, segment_lines, group_lines, external_lines, public_lines, list_text, check_text};
+ghost use Rattle.omf_cmd.specs.Printed.{hex, line, quoted, named, index_or_dash};
+ghost use Rattle.omf_cmd.specs.Standing.{StandsAt, HasRecord};
+
+use crate::printing::{
+    print_external, print_group, print_public, print_record, print_segment, print_totals,
+};
+use omf_check::Checked;
+use omf_records::{Items, Public, Rec};
+use std::alloc::{AllocError, Global};
+
+/// How many bytes the contents of the record at an offset have, without the checksum byte.
+fn contents_length(bytes: &[u8], start: u64) -> usize
+    requires { HasRecord bytes.now start }
+    ensures { (r : Raw) → StandsAt bytes.now start r → result ≡ length r.body }
+{
+    let (_front, record) = bytes.split_at(start as usize);
+    match record {
+        [_kind, low, high, ..] => usize::from(*low) + 256 * usize::from(*high) - 1,
+        _ => unreachable!(),
+    }
+}
+
+/// A line for each record.
+fn print_records(text: &mut String, checked: &Checked) -> Result<(), AllocError>
+    ensures { OnOk result (string_bytes text.new ≡ string_bytes text.old ++ with_before record_line [] (records_in checked.now.bytes)) }
+{
+    let bytes = checked.bytes();
+    for (place, rec) in checked.records() {
+        let length = contents_length(bytes, place.start);
+        print_record(text, place.number, place.start, rec.kind(), length)?;
+    }
+    Ok(())
+}
+
+/// A line for each segment.
+fn print_segments(text: &mut String, checked: &Checked) -> Result<(), AllocError>
+    ensures { OnOk result (string_bytes text.new ≡ string_bytes text.old ++ segment_lines (recs (records_in checked.now.bytes))) }
+{
+    for before in 0..checked.segments() {
+        let index = before + 1;
+        let Some(segment) = checked.segment(index) else {
+            unreachable!()
+        };
+        print_segment(text, index, segment.length, checked.name(segment.name))?;
+    }
+    Ok(())
+}
+
+/// A group's line.
+fn print_group_of(
+    text: &mut String,
+    checked: &Checked,
+    index: u16,
+    group: &Rec<'_>,
+) -> Result<(), AllocError>
+    requires { (g : GroupItem) × (contents_seen group.now ≡ Group g) }
+    ensures { (g : GroupItem) → contents_seen group.now ≡ Group g → OnOk result (string_bytes text.new ≡ string_bytes text.old ++ line (codes "G" ∷ decimal index ∷ named (names (recs (records_in checked.now.bytes))) g.name.item ∷ [])) }
+{
+    match group {
+        Rec::Group { name, .. } => print_group(text, index, checked.name(name.item.0)),
+        _ => unreachable!(),
+    }
+}
+
+/// A line for each group.
+fn print_groups(text: &mut String, checked: &Checked) -> Result<(), AllocError>
+    ensures { OnOk result (string_bytes text.new ≡ string_bytes text.old ++ group_lines (recs (records_in checked.now.bytes))) }
+{
+    for before in 0..checked.groups() {
+        let index = before + 1;
+        let Some(group) = checked.group(index) else {
+            unreachable!()
+        };
+        print_group_of(text, checked, index, &group)?;
+    }
+    Ok(())
+}
+
+/// A line for each external name.
+fn print_externals(text: &mut String, checked: &Checked) -> Result<(), AllocError>
+    ensures { OnOk result (string_bytes text.new ≡ string_bytes text.old ++ external_lines (recs (records_in checked.now.bytes))) }
+{
+    for before in 0..checked.externals() {
+        let index = before + 1;
+        let Some(name) = checked.external(index) else {
+            unreachable!()
+        };
+        print_external(text, index, name.0)?;
+    }
+    Ok(())
+}
+
+/// A line for each public name of a PUBDEF.
+fn print_items(
+    text: &mut String,
+    group: u16,
+    segment: u16,
+    publics: &Items<Public<'_>>,
+) -> Result<(), AllocError>
+    ensures { OnOk result (string_bytes text.new ≡ string_bytes text.old ++ flat_map (λ q. line (codes "P" ∷ index_or_dash group ∷ index_or_dash segment ∷ hex 8 q.item.offset ∷ quoted q.item.name ∷ [])) publics.now) }
+{
+    for public in publics.iter() {
+        let item = public.item;
+        print_public(text, group, segment, item.offset, item.name.0)?;
+    }
+    Ok(())
+}
+
+/// The public names of a record.
+fn print_publics_of(text: &mut String, rec: &Rec<'_>) -> Result<(), AllocError>
+    ensures { OnOk result (string_bytes text.new ≡ string_bytes text.old ++ public_lines (contents_seen rec.now)) }
+{
+    match rec {
+        Rec::Publics {
+            group,
+            segment,
+            publics,
+            ..
+        } => print_items(text, group.item.0, segment.item.0, publics),
+        _ => Ok(()),
+    }
+}
+
+/// A line for each public name, in file order.
+fn print_publics(text: &mut String, checked: &Checked) -> Result<(), AllocError>
+    ensures { OnOk result (string_bytes text.new ≡ string_bytes text.old ++ flat_map (λ r. public_lines r.contents) (recs (records_in checked.now.bytes))) }
+{
+    for (_place, rec) in checked.records() {
+        print_publics_of(text, &rec)?;
+    }
+    Ok(())
+}
+
+/// What `list` prints of a module: its records, its segments, its groups, its externals, its publics.
+pub fn list_text(alloc: Global, checked: &Checked) -> Result<String, AllocError>
+    ensures { IfOk result (λ text. string_bytes text ≡ list_text (records_in checked.now.bytes)) }
+{
+    let mut text = String::new(alloc);
+    print_records(&mut text, checked)?;
+    print_segments(&mut text, checked)?;
+    print_groups(&mut text, checked)?;
+    print_externals(&mut text, checked)?;
+    print_publics(&mut text, checked)?;
+    Ok(text)
+}
+
+/// How many records a module has: one more than the number of its last.
+fn record_count(checked: &Checked) -> usize
+    ensures { result ≡ length (records_in checked.now.bytes) }
+{
+    let mut count = 0;
+    for (place, _rec) in checked.records() {
+        count = place.number as usize + 1;
+    }
+    count
+}
+
+/// What `check` prints of a module: how many records and bytes it has.
+pub fn check_text(alloc: Global, checked: &Checked) -> Result<String, AllocError>
+    ensures { IfOk result (λ text. string_bytes text ≡ check_text (records_in checked.now.bytes)) }
+{
+    let mut text = String::new(alloc);
+    print_totals(&mut text, record_count(checked), checked.bytes().len())?;
+    Ok(text)
+}

@@ -1,0 +1,58 @@
+//! The program's runs, from a reader to a writer.
+
+ghost use Rattle.std.specs.Prelude.{◌≡◌, ℕ, List, IfErr, Some};
+ghost use Rattle.omf_frame.specs.Framing.{Raw};
+ghost use Rattle.omf_cmd.specs.Listing.{check_text, list_text};
+ghost use Rattle.omf_cmd.specs.Reports.{Judges};
+ghost use Rattle.omf_cmd.specs.Runs.{IsCausedBy, Prints};
+
+use crate::fault::RunFault;
+use crate::output::write_all;
+use crate::report::{check_text, list_text};
+use omf_check::{Profile, check};
+use omf_frame::{Sink, Source};
+use std::alloc::Global;
+
+/// Checks the module at the front of the input, and writes how many records and bytes it has. Nothing behind the module is read, and
+/// nothing is written before all faults but Write and Memory are excluded.
+///
+/// # Errors
+///
+/// `Refused` where the input does not begin with a well-formed module; `Read`, `Write` where that device failed; `Memory`.
+pub fn run_check<S: Source, K: Sink>(
+    alloc: Global,
+    profile: Profile,
+    reader: &mut S,
+    writer: &mut K,
+) -> Result<(), RunFault>
+    // A failing reader or writer is named only where its count of failures rose, or stands at its last value.
+    ensures cause { IfErr result (IsCausedBy (S.failures reader.old) (S.failures reader.new) (K.failures writer.old) (K.failures writer.new)) }
+    // The answer is that of the definition, and the whole text is written, or where the writer failed a part of it from the front.
+    ensures prints { (records : List Raw) × Prints (K.held writer.old) (K.held writer.new) result (check_text records) × ((input : List ℕ) → S.left reader.old ≡ Some input → Judges profile input records (S.left reader.old) (S.left reader.new) result) }
+{
+    let checked = check(alloc, reader, profile)?;
+    let text = check_text(alloc, &checked)?;
+    write_all(writer, text.as_bytes())
+}
+
+/// Lists the module at the front of the input: its records, its tables, its public names. Nothing behind the module is read, and
+/// nothing is written before all faults but Write and Memory are excluded.
+///
+/// # Errors
+///
+/// `Refused` where the input does not begin with a well-formed module; `Read`, `Write` where that device failed; `Memory`.
+pub fn run_list<S: Source, K: Sink>(
+    alloc: Global,
+    profile: Profile,
+    reader: &mut S,
+    writer: &mut K,
+) -> Result<(), RunFault>
+    // A failing reader or writer is named only where its count of failures rose, or stands at its last value.
+    ensures cause { IfErr result (IsCausedBy (S.failures reader.old) (S.failures reader.new) (K.failures writer.old) (K.failures writer.new)) }
+    // The answer is that of the definition, and the whole text is written, or where the writer failed a part of it from the front.
+    ensures prints { (records : List Raw) × Prints (K.held writer.old) (K.held writer.new) result (list_text records) × ((input : List ℕ) → S.left reader.old ≡ Some input → Judges profile input records (S.left reader.old) (S.left reader.new) result) }
+{
+    let checked = check(alloc, reader, profile)?;
+    let text = list_text(alloc, &checked)?;
+    write_all(writer, text.as_bytes())
+}
