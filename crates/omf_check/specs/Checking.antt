@@ -22,7 +22,8 @@ abbrev pub IsReadTo : Profile → List ℕ → Option (List ℕ) → Reason → 
 IsReadTo profile read left why at =
     IsRefused profile profile_limits read why at × ((IsTrue (may_go_on why) × IsAtEnd left) ⊎ EndsWhereJudged why (drop at.start read))
 
--- Why a check gives no module, and what it read of a reader that tells its bytes. A refusal that was found before a growth wins.
+-- Why a check gives no module, and what it read of a reader that tells its bytes. Where a growth was refused, no refusal is found
+-- before the last byte that was read.
 abbrev pub IsCheckFault : Profile → Option (List ℕ) → Option (List ℕ) → ℕ → ℕ → CheckFault → Type 0
 IsCheckFault profile old new failed fails Memory = (read : List ℕ) × Consumes old new read × AreSoundSoFar profile profile_limits read
 IsCheckFault profile old new failed fails Read = HasFailed failed fails

@@ -79,7 +79,7 @@ pub record RefusesHere (old : Seen) (piece : List ℕ) (why : Reason) (at : Plac
   pub judged : EndsWhereJudged why (old.at_hand ++ take count piece)
   pub refused : (more : List ℕ) → IsRefused old.profile profile_limits ((old.taken ++ take count piece) ++ more) why at
 
--- A growth was refused that the record at hand needs, and no refusal was found before.
+-- A growth was refused that the record at hand needs; the records before it have no fault, nor has its type byte.
 pub record LacksMemory (old : Seen) (piece : List ℕ) : Type 0 where
   pub count : ℕ
   pub grown : next_bytes old piece ≡ old.at_hand ++ take count piece

@@ -46,7 +46,7 @@ fn pull<S: Source>(source: &mut S, buffer: &mut [u8]) -> Result<usize, CheckFaul
 /// # Errors
 ///
 /// `Refused` where the input does not begin with a well-formed module. `Read` where the reader failed, or was interrupted 1,000
-/// times running. `Memory` where a growth was refused; a refusal that was found before it wins.
+/// times running. `Memory` where a growth was refused, and no refusal is found before the last byte that was read.
 pub fn check<S: Source>(
     alloc: Global,
     reader: &mut S,

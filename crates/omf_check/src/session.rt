@@ -112,8 +112,8 @@ impl Session {
     /// Takes bytes to the end of one record at most; none after the end. `whole` says that a record was ended and passed.
     ///
     /// A fault is kept, and is the answer from then on: the refusal of the record at hand, which stands whatever follows, with
-    /// its place; or `Memory` where a growth that this record needs was refused and no refusal was found before. It takes no
-    /// bytes. No later record of the piece is judged.
+    /// its place; or `Memory` where a growth that this record needs was refused, and the records before it and its type byte have
+    /// no fault. It takes no bytes. No later record of the piece is judged.
     pub fn feed(&mut self, piece: &[u8]) -> Result<Fed, CheckFault>
         ensures ok { IfOk result (λ fed. Takes self.old piece.now fed.taken fed.whole self.new) }
         ensures err { IfErr result (λ fault. FailsAs self.old piece.now fault self.new) }

@@ -1,12 +1,15 @@
-//! Verdicts on whole modules, by a reader and in pieces.
+//! Verdicts on whole modules, by a reader and in pieces; `readers` has tests of how far is read, `pieces` of what a session does
+//! on the way.
 
 ghost use Rattle.std.specs.Prelude.{◌<◌};
 
 use crate::{CheckFault, Profile, SegInfo, Session, check};
-use omf_frame::faulty::{Script, Then};
-use omf_frame::{Place, Reading, Reason, Source};
+use omf_frame::{Place, Reading, Reason};
 use std::alloc::{AllocError, Global};
 use std::test::Fail;
+
+mod pieces;
+mod readers;
 
 const ANY: Profile = Profile {
     refuse_vendor_comments: false,
@@ -80,15 +83,24 @@ fn in_pieces(alloc: Global, bytes: &[u8], size: usize, profile: Profile) -> Answ
 }
 
 /// The one answer of a reader and of pieces of 1, 2, 5 and 7 bytes; `None` where they differ.
-fn answer(alloc: Global, records: &[&[u8]]) -> Result<Option<Answer>, AllocError> {
+fn answer_under(
+    alloc: Global,
+    profile: Profile,
+    records: &[&[u8]],
+) -> Result<Option<Answer>, AllocError> {
     let bytes = module(alloc, records)?;
-    let whole = by_check(alloc, &bytes, ANY);
+    let whole = by_check(alloc, &bytes, profile);
     for size in [1, 2, 5, 7] {
-        if in_pieces(alloc, &bytes, size, ANY) != whole {
+        if in_pieces(alloc, &bytes, size, profile) != whole {
             return Ok(None);
         }
     }
     Ok(Some(whole))
+}
+
+/// The same under a profile that refuses nothing of vendors.
+fn answer(alloc: Global, records: &[&[u8]]) -> Result<Option<Answer>, AllocError> {
+    answer_under(alloc, ANY, records)
 }
 
 fn accepted(len: usize) -> Option<Answer> {
@@ -121,33 +133,6 @@ fn takes_a_module(rt: HostRuntime) -> Result<(), Fail> {
         )?,
         accepted(48)
     );
-    Ok(())
-}
-
-#[test]
-fn leaves_what_follows_unread(rt: HostRuntime) -> Result<(), Fail> {
-    let bytes = module(
-        rt.alloc(),
-        &[
-            &HEADER,
-            &NAMES,
-            &SEGMENT,
-            &DATA,
-            &FIXUP,
-            &END,
-            &[0xDE, 0xAD],
-        ],
-    )?;
-    let mut reader = Reading::new(bytes.as_slice());
-    let checked = check(rt.alloc(), &mut reader, ANY)?;
-    let expected = module(
-        rt.alloc(),
-        &[&HEADER, &NAMES, &SEGMENT, &DATA, &FIXUP, &END],
-    )?;
-    assert_eq!(rt; checked.bytes(), expected.as_slice());
-    let mut rest = [0; 4];
-    assert_eq!(rt; reader.pull(&mut rest)?, 2);
-    assert_eq!(rt; &rest[..2], [0xDE, 0xAD].as_slice());
     Ok(())
 }
 
@@ -412,14 +397,13 @@ fn judges_comments(rt: HostRuntime) -> Result<(), Fail> {
     );
     let vendor = [0x88, 0x03, 0x00, 0x00, 0xE9, 0x8C];
     assert_eq!(rt; answer(a, &[&HEADER, &vendor, &END])?, accepted(17));
-    let bytes = module(a, &[&HEADER, &vendor, &END])?;
     assert_eq!(rt;
-        by_check(a, &bytes, NO_VENDORS),
-        refused(Reason::VendorComment, 1, 6, 4)
+        answer_under(a, NO_VENDORS, &[&HEADER, &vendor, &END])?,
+        fault(Reason::VendorComment, 1, 6, 4)
     );
     assert_eq!(rt;
-        in_pieces(a, &bytes, 1, NO_VENDORS),
-        refused(Reason::VendorComment, 1, 6, 4)
+        answer_under(a, NO_VENDORS, &[&HEADER, &dialect, &END])?,
+        fault(Reason::OtherDialect, 1, 6, 4)
     );
     let communal = [
         0xB0, 0x08, 0x00, 0x01, 0x58, 0x00, 0x62, 0x81, 0x80, 0x00, 0x8C,
@@ -503,47 +487,6 @@ fn takes_an_absolute_segment(rt: HostRuntime) -> Result<(), Fail> {
     Ok(())
 }
 
-/// The first module by a reader that behaves as the script says.
-fn by_script(alloc: Global, script: Script<'_>) -> Answer {
-    let mut reader = script;
-    let checked = check(alloc, &mut reader, ANY)?;
-    Ok(checked.bytes().len())
-}
-
-#[test]
-fn names_a_failing_reader(rt: HostRuntime) -> Result<(), Fail> {
-    let a = rt.alloc();
-    let bytes = module(a, &[&HEADER, &NAMES, &SEGMENT, &DATA, &FIXUP, &END])?;
-    for count in 0..bytes.len() {
-        let front = bytes.as_slice().split_at(count).0;
-        assert_eq!(rt;
-            by_script(a, Script::new(front, Then::Fails)),
-            Err(CheckFault::Read)
-        );
-    }
-    assert_eq!(rt; by_script(a, Script::new(&bytes, Then::Fails)), Ok(48));
-    assert_eq!(rt;
-        by_script(a, Script::new(&bytes, Then::Repeats(0x20))),
-        Ok(48)
-    );
-    Ok(())
-}
-
-#[test]
-fn goes_on_after_interruptions(rt: HostRuntime) -> Result<(), Fail> {
-    let a = rt.alloc();
-    let bytes = module(a, &[&HEADER, &NAMES, &SEGMENT, &DATA, &FIXUP, &END])?;
-    assert_eq!(rt;
-        by_script(a, Script::new(&bytes, Then::Ends).interrupted(999)),
-        Ok(48)
-    );
-    assert_eq!(rt;
-        by_script(a, Script::new(&bytes, Then::Ends).interrupted(1000)),
-        Err(CheckFault::Read)
-    );
-    Ok(())
-}
-
 /// One record of names without bytes, so many of them.
 fn many_names(alloc: Global, count: u16) -> Result<Vec<u8>, AllocError>
     requires { count < 65535 }
@@ -567,103 +510,6 @@ fn limits_names(rt: HostRuntime) -> Result<(), Fail> {
     assert_eq!(rt;
         by_check(a, &over, ANY),
         refused(Reason::TooMany, 1, 6, 32770)
-    );
-    Ok(())
-}
-
-/// A header, so many empty FIXUPPs and the end.
-fn empty_fixups(alloc: Global, count: u32) -> Result<Vec<u8>, AllocError> {
-    let mut bytes = module(alloc, &[&HEADER])?;
-    for _ in 0..count {
-        bytes.extend_from_slice(&[0x9C, 0x01, 0x00, 0x63])?;
-    }
-    bytes.extend_from_slice(&END)?;
-    Ok(bytes)
-}
-
-#[test]
-fn limits_items_in_bytes(rt: HostRuntime) -> Result<(), Fail> {
-    let most = empty_fixups(rt.alloc(), 1_048_574)?;
-    assert_eq!(rt; in_pieces(rt.alloc(), &most, 1, ANY), Ok(4_194_307));
-    assert_eq!(rt; by_check(rt.alloc(), &most, ANY), Ok(4_194_307));
-    Ok(())
-}
-
-#[test]
-fn limits_items_in_pieces(rt: HostRuntime) -> Result<(), Fail> {
-    let most = empty_fixups(rt.alloc(), 1_048_574)?;
-    assert_eq!(rt; in_pieces(rt.alloc(), &most, 7, ANY), Ok(4_194_307));
-    Ok(())
-}
-
-#[test]
-fn refuses_an_item_too_many(rt: HostRuntime) -> Result<(), Fail> {
-    let over = empty_fixups(rt.alloc(), 1_048_575)?;
-    let expected = refused(Reason::TooMany, 1_048_576, 4_194_306, 0);
-    assert_eq!(rt; in_pieces(rt.alloc(), &over, 2, ANY), expected);
-    assert_eq!(rt; by_check(rt.alloc(), &over, ANY), expected);
-    Ok(())
-}
-
-#[test]
-fn a_fault_is_kept(rt: HostRuntime) -> Result<(), Fail> {
-    let unsupported = refused(Reason::UnsupportedType, 1, 6, 0);
-    let mut session = Session::new(rt.alloc(), ANY);
-    let _ = session.feed(&HEADER)?;
-    for piece in [[0xC2].as_slice(), END.as_slice(), &[]] {
-        let answer = session.feed(piece);
-        assert_eq!(rt; answer.map(|fed| fed.taken), unsupported);
-        assert_eq!(rt; session.want(), 0);
-        assert_eq!(rt; session.ended(), false);
-    }
-    assert_eq!(rt;
-        session.finish().map(|checked| checked.bytes().len()),
-        unsupported
-    );
-    Ok(())
-}
-
-#[test]
-fn takes_one_record_at_most(rt: HostRuntime) -> Result<(), Fail> {
-    let bytes = module(
-        rt.alloc(),
-        &[
-            &HEADER,
-            &NAMES,
-            &SEGMENT,
-            &DATA,
-            &FIXUP,
-            &END,
-            &[0xDE, 0xAD],
-        ],
-    )?;
-    let mut session = Session::new(rt.alloc(), ANY);
-    let mut rest = bytes.as_slice();
-    for taken in [6, 7, 10, 11, 9, 5] {
-        let fed = session.feed(rest)?;
-        assert_eq!(rt; fed.taken, taken);
-        assert_eq!(rt; fed.whole, true);
-        rest = rest.split_at(fed.taken).1;
-    }
-    assert_eq!(rt; session.ended(), true);
-    assert_eq!(rt; session.want(), 0);
-    let fed = session.feed(rest)?;
-    assert_eq!(rt; fed.taken, 0);
-    assert_eq!(rt; fed.whole, false);
-    let checked = session.finish()?;
-    let expected = module(
-        rt.alloc(),
-        &[&HEADER, &NAMES, &SEGMENT, &DATA, &FIXUP, &END],
-    )?;
-    assert_eq!(rt; checked.bytes(), expected.as_slice());
-    assert_eq!(rt;
-        (
-            checked.names(),
-            checked.segments(),
-            checked.groups(),
-            checked.externals()
-        ),
-        (2, 1, 0, 0)
     );
     Ok(())
 }

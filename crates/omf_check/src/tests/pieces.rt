@@ -1,0 +1,158 @@
+//! What a session does on the way.
+
+ghost use Rattle.std.specs.Prelude.{◌<◌};
+
+use super::{
+    ANY, Answer, DATA, END, FIXUP, HEADER, NAMES, SEGMENT, by_check, in_pieces, module, refused,
+};
+use crate::Session;
+use omf_frame::Reason;
+use std::alloc::{AllocError, Global};
+use std::test::Fail;
+
+#[test]
+fn a_fault_is_kept(rt: HostRuntime) -> Result<(), Fail> {
+    let unsupported = refused(Reason::UnsupportedType, 1, 6, 0);
+    let mut session = Session::new(rt.alloc(), ANY);
+    let _ = session.feed(&HEADER)?;
+    for piece in [[0xC2].as_slice(), END.as_slice(), &[]] {
+        let answer = session.feed(piece);
+        assert_eq!(rt; answer.map(|fed| fed.taken), unsupported);
+        assert_eq!(rt; session.want(), 0);
+        assert_eq!(rt; session.ended(), false);
+    }
+    assert_eq!(rt;
+        session.finish().map(|checked| checked.bytes().len()),
+        unsupported
+    );
+    Ok(())
+}
+
+#[test]
+fn takes_one_record_at_most(rt: HostRuntime) -> Result<(), Fail> {
+    let bytes = module(
+        rt.alloc(),
+        &[
+            &HEADER,
+            &NAMES,
+            &SEGMENT,
+            &DATA,
+            &FIXUP,
+            &END,
+            &[0xDE, 0xAD],
+        ],
+    )?;
+    let mut session = Session::new(rt.alloc(), ANY);
+    let mut rest = bytes.as_slice();
+    for taken in [6, 7, 10, 11, 9, 5] {
+        let fed = session.feed(rest)?;
+        assert_eq!(rt; fed.taken, taken);
+        assert_eq!(rt; fed.whole, true);
+        rest = rest.split_at(fed.taken).1;
+    }
+    assert_eq!(rt; session.ended(), true);
+    assert_eq!(rt; session.want(), 0);
+    let fed = session.feed(rest)?;
+    assert_eq!(rt; fed.taken, 0);
+    assert_eq!(rt; fed.whole, false);
+    let checked = session.finish()?;
+    let expected = module(
+        rt.alloc(),
+        &[&HEADER, &NAMES, &SEGMENT, &DATA, &FIXUP, &END],
+    )?;
+    assert_eq!(rt; checked.bytes(), expected.as_slice());
+    assert_eq!(rt;
+        (
+            checked.names(),
+            checked.segments(),
+            checked.groups(),
+            checked.externals()
+        ),
+        (2, 1, 0, 0)
+    );
+    Ok(())
+}
+
+#[test]
+fn judges_the_record_at_hand_alone(rt: HostRuntime) -> Result<(), Fail> {
+    let rest = [0x00, 0x01, 0x54, 0x11, 0xC2, 0x8A, 0x02, 0x00, 0x00, 0x74];
+    let mut session = Session::new(rt.alloc(), ANY);
+    let _ = session.feed(&HEADER)?;
+    let _ = session.feed(&NAMES[..3])?;
+    assert_eq!(rt; session.want(), 4);
+    let fed = session.feed(&rest)?;
+    assert_eq!(rt; (fed.taken, fed.whole), (4, true));
+    assert_eq!(rt; session.want(), 1);
+    let answer = session.feed(&rest[4..]);
+    assert_eq!(rt;
+        answer.map(|fed| fed.taken),
+        refused(Reason::UnsupportedType, 2, 13, 0)
+    );
+    Ok(())
+}
+
+/// A header, so many empty FIXUPPs and the end.
+fn empty_fixups(alloc: Global, count: u32) -> Result<Vec<u8>, AllocError> {
+    let mut bytes = module(alloc, &[&HEADER])?;
+    for _ in 0..count {
+        bytes.extend_from_slice(&[0x9C, 0x01, 0x00, 0x63])?;
+    }
+    bytes.extend_from_slice(&END)?;
+    Ok(bytes)
+}
+
+/// The answers in pieces of one size: to as many items as there may be, and to one more.
+fn at_the_limit(alloc: Global, size: usize) -> Result<(Answer, Answer), AllocError>
+    requires { 0 < size }
+{
+    let most = empty_fixups(alloc, 1_048_574)?;
+    let over = empty_fixups(alloc, 1_048_575)?;
+    Ok((
+        in_pieces(alloc, &most, size, ANY),
+        in_pieces(alloc, &over, size, ANY),
+    ))
+}
+
+/// What they are.
+fn taken_and_refused() -> (Answer, Answer) {
+    (
+        Ok(4_194_307),
+        refused(Reason::TooMany, 1_048_576, 4_194_306, 0),
+    )
+}
+
+#[test]
+fn limits_items_by_1(rt: HostRuntime) -> Result<(), Fail> {
+    assert_eq!(rt; at_the_limit(rt.alloc(), 1)?, taken_and_refused());
+    Ok(())
+}
+
+#[test]
+fn limits_items_by_2(rt: HostRuntime) -> Result<(), Fail> {
+    assert_eq!(rt; at_the_limit(rt.alloc(), 2)?, taken_and_refused());
+    Ok(())
+}
+
+#[test]
+fn limits_items_by_5(rt: HostRuntime) -> Result<(), Fail> {
+    assert_eq!(rt; at_the_limit(rt.alloc(), 5)?, taken_and_refused());
+    Ok(())
+}
+
+#[test]
+fn limits_items_by_7(rt: HostRuntime) -> Result<(), Fail> {
+    assert_eq!(rt; at_the_limit(rt.alloc(), 7)?, taken_and_refused());
+    Ok(())
+}
+
+#[test]
+fn limits_items_of_a_reader(rt: HostRuntime) -> Result<(), Fail> {
+    let most = empty_fixups(rt.alloc(), 1_048_574)?;
+    let over = empty_fixups(rt.alloc(), 1_048_575)?;
+    let answers = (
+        by_check(rt.alloc(), &most, ANY),
+        by_check(rt.alloc(), &over, ANY),
+    );
+    assert_eq!(rt; answers, taken_and_refused());
+    Ok(())
+}
