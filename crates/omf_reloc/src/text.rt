@@ -60,9 +60,9 @@ impl Draft {
         Ok(())
     }
 
-    /// The placement of a module that the entries give: segments and externals lie where the text says, and a group has the frame that the
-    /// text gives it, or, at `G real`, the frame of the member that lies lowest. The k-th of all `G` lines speaks of the k-th group; all
-    /// `S` lines count, also later ones.
+    /// The placement of a module that the entries give. Segments and externals lie where the text says. A group has the frame that the
+    /// text gives it, or, at `G real`, the frame of its member that lies lowest, as `real_group` has it. The k-th of all `G` lines
+    /// speaks of the k-th group, and all `S` lines count, also later ones.
     ///
     /// `Line` names the line of the first `G real` whose frame is not found: where there is no such group, where it has no member, or
     /// where a member has no `S` line. A growth that is refused is `Memory`. At an `Err` the draft is dropped.

@@ -90,28 +90,46 @@ fn resolved(alloc: Global, module: &Checked, text: &[u8]) -> Result<Placement, T
     parse_placement(alloc, text)?.resolve(alloc, module)
 }
 
-/// Whether a placement has these entries and no other.
-fn has(placement: &Placement, segments: &[Placed], groups: &[Frame], externals: &[Placed]) -> bool {
+/// An address and a frame, as a placement shows them.
+fn shown(placed: Option<&Placed>) -> Option<(u32, Frame)> {
+    placed.map(|placed| (placed.address, placed.frame))
+}
+
+/// Whether a placement has these segments and no other.
+fn has_segments(placement: &Placement, segments: &[Placed]) -> bool {
     for i in 0..=segments.len() {
-        let placed = segments.get(i).map(|placed| (placed.address, placed.frame));
-        if placement.segment(i + 1) != placed {
+        if placement.segment(i + 1) != shown(segments.get(i)) {
             return false;
         }
     }
+    true
+}
+
+/// Whether a placement has these groups and no other.
+fn has_groups(placement: &Placement, groups: &[Frame]) -> bool {
     for i in 0..=groups.len() {
         if placement.group(i + 1) != groups.get(i).copied() {
             return false;
         }
     }
+    true
+}
+
+/// Whether a placement has these externals and no other.
+fn has_externals(placement: &Placement, externals: &[Placed]) -> bool {
     for i in 0..=externals.len() {
-        let placed = externals
-            .get(i)
-            .map(|placed| (placed.address, placed.frame));
-        if placement.external(i + 1) != placed {
+        if placement.external(i + 1) != shown(externals.get(i)) {
             return false;
         }
     }
     true
+}
+
+/// Whether a placement has these entries and no other.
+fn has(placement: &Placement, segments: &[Placed], groups: &[Frame], externals: &[Placed]) -> bool {
+    has_segments(placement, segments)
+        && has_groups(placement, groups)
+        && has_externals(placement, externals)
 }
 
 #[test]
