@@ -1,8 +1,8 @@
 -- What each step of a walk over a module's records makes of the image, of the data record that is open and of the threads. Private functions speak in these
 -- words; public ones say what the image is by its definition.
-use Rattle.std.specs.Prelude.{◌≡◌, ◌≤◌, ◌+◌, ◌^◌, ⊤, ℕ, List, [], ◌∷◌, length, true, Option, Some, option_map, option_to_list, unwrap_or, IsSome, IfSome, IsOk}
+use Rattle.std.specs.Prelude.{◌≡◌, ◌≤◌, ◌+◌, ◌^◌, ⊤, ℕ, List, [], ◌∷◌, length, Bool, true, Option, Some, None, option_map, option_to_list, unwrap_or, IsSome, IfSome, IsOk}
 use Rattle.omf_records.specs.Location.{location_size}
-use Rattle.omf_records.specs.Values.{At, Rec, Contents, Plain, Iterated, Fixups, Subrecord, Thread, Fixup, Reference, width, location_type, location_offset}
+use Rattle.omf_records.specs.Values.{At, Rec, Contents, Plain, Iterated, Fixups, DataItem, Subrecord, Thread, Fixup, Reference, width, location_type, location_offset}
 use Rattle.omf_image.specs.Expanding.{expanded, expanded_length}
 use Rattle.omf_image.specs.Limits.{profile_limits}
 use Rattle.omf_image.specs.Overlay.{Laid, AreLaidOver}

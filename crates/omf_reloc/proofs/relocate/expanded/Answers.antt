@@ -1,4 +1,4 @@
-use Rattle.std.proofs.Common.{◌≡◌, ◌∙◌, Bool, true, false, refl, sym, ap, subst}
+use Rattle.std.proofs.Common.{◌≡◌, ◌∙◌, Bool, true, false, refl, sym, ap, subst, List, ℕ}
 use Rattle.std.specs.Prelude.{IsOk}
 use Rattle.omf_records.specs.Seen.{odd_if}
 use Rattle.omf_records.specs.Values.{width}

@@ -1,4 +1,4 @@
-use Rattle.std.proofs.Common.{◌∙◌, ap, sym, subst, Result, Ok, Err, Some, List, ℕ}
+use Rattle.std.proofs.Common.{◌≡◌, ◌∙◌, ap, sym, subst, Result, Ok, Err, Some, List, ℕ}
 use Rattle.std.specs.Prelude.{OnOk}
 use Rattle.omf_records.specs.Seen.{kind_seen, contents_seen, rec_seen}
 use Rattle.omf_image.specs.Overlay.{Laid}
