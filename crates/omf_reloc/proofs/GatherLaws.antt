@@ -1,6 +1,6 @@
 -- The data records of a module with their fixups, gathered from left to right: what a walk over the records has in hand, and what it has laid.
-use Rattle.std.proofs.Common.{◌≡◌, ℕ, List, [], ◌∷◌, ◌++◌, append_assoc, refl, sym, ap, ap₂, subst, ◌∙◌}
-use Rattle.std.specs.Prelude.{All, map, flat_map, Option, Some, None, option_map, option_to_list, Result, IsOk}
+use Rattle.std.proofs.Common.{◌≡◌, ℕ, List, [], ◌∷◌, ◌++◌, append_assoc, refl, sym, ap, ap₂, ◌∙◌}
+use Rattle.std.specs.Prelude.{All, map, Option, Some, None, option_map, option_to_list, IsOk}
 use Rattle.std.proofs.lemmas.List.{append-nil, map-append}
 use Rattle.std.proofs.lemmas.List.Elements.{All-nil, All-cons, All-append}
 use Rattle.std.proofs.lemmas.Grind.{flat_map-append}
@@ -8,13 +8,12 @@ use Rattle.omf_frame.specs.Bytes.{with_before, with_after}
 use Rattle.omf_image.specs.Expanding.{expanded}
 use Rattle.omf_image.specs.Overlay.{Laid}
 use Rattle.omf_image.specs.declared.limits.Limits.{Limits}
-use Rattle.omf_records.specs.Values.{At, Rec, Contents, Plain, Iterated, Fixups, ModEnd, DataItem, Subrecord, Reference, contents_alone, unplaced, width}
+use Rattle.omf_records.specs.Values.{Rec, Contents, Plain, Iterated, Fixups, ModEnd, DataItem, Subrecord, unplaced, width}
 use Rattle.omf_check.specs.Tables.{subrecords, subrecords_in}
-use Rattle.omf_reloc.specs.declared.fault.Cause.{Cause}
-use Rattle.omf_reloc.specs.Image.{laid, laid_piece, laid_contents, patched}
+use Rattle.omf_reloc.specs.Image.{laid, laid_contents, patched}
 use Rattle.omf_reloc.specs.Offsets.{outcome}
 use Rattle.omf_reloc.specs.Placement.{Places}
-use Rattle.omf_reloc.specs.Plain.{Piece, Kept, Fixed, End, PlainFixup, piece_of, pieces, plain_fixups, is_data, is_data_contents, fixups_of_data}
+use Rattle.omf_reloc.specs.Plain.{Piece, Kept, Fixed, End, PlainFixup, piece_of, pieces, plain_fixups, fixups_of_data}
 use Rattle.omf_reloc.specs.Reach.{causes, piece_causes}
 use Rattle.omf_reloc.proofs.AddedLaws.{IsFine, left, right, fine-all}
 
@@ -36,11 +35,11 @@ abbrev pub more : List (ℕ × PlainFixup) → Gathered → Gathered
 more fs (Once d gs) = Once d (gs ++ fs)
 more fs (Repeated kind d gs) = Repeated kind d (gs ++ fs)
 
-more-none : (g : Gathered) → more [] g ≡ g
+pub more-none : (g : Gathered) → more [] g ≡ g
 more-none (Once d gs) = ap (Once d) (append-nil gs)
 more-none (Repeated kind d gs) = ap (Repeated kind d) (append-nil gs)
 
-more-more : (fs gs : List (ℕ × PlainFixup)) (g : Gathered) → more gs (more fs g) ≡ more (fs ++ gs) g
+pub more-more : (fs gs : List (ℕ × PlainFixup)) (g : Gathered) → more gs (more fs g) ≡ more (fs ++ gs) g
 more-more fs gs (Once d hs) = ap (Once d) (append_assoc hs fs gs)
 more-more fs gs (Repeated kind d hs) = ap (Repeated kind d) (append_assoc hs fs gs)
 

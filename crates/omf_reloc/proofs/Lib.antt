@@ -12,3 +12,7 @@ pub mod DigitLaws
 pub mod ParsingLaws
 pub mod GatherLaws
 pub mod OffsetLaws
+pub mod WalkLaws
+pub mod WalkedLaws
+pub mod InsideLaws
+pub mod StartLaws

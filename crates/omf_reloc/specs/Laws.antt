@@ -1,10 +1,13 @@
 -- Laws over the definitions, each the contract of a function of the same name.
-use Rattle.std.specs.Prelude.{◌≡◌, ◌⊎◌, ◌↔◌, ℕ, ◌+◌, ◌<◌, ◌≤◌, List, Some, None, Ok, IsOk, ◌∷◌, ◌++◌, length, slice_index, All}
+use Rattle.std.specs.Prelude.{◌≡◌, ◌⊎◌, ◌↔◌, ℕ, ◌+◌, ◌<◌, ◌≤◌, List, Some, None, true, Ok, IsOk, ◌∷◌, ◌++◌, length, slice_index, All}
 use Rattle.std.specs.List.{AllZip}
 use Rattle.omf_records.specs.Location.{location_size}
-use Rattle.omf_records.specs.Values.{DataItem, Rec, location_type, location_offset}
+use Rattle.omf_records.specs.Values.{DataItem, Rec, Plain, location_type, location_offset}
+use Rattle.omf_image.specs.Limits.{profile_limits}
+use Rattle.omf_image.specs.Parts.{Addition, part_size}
 use Rattle.omf_check.specs.Kept.{no_threads}
-use Rattle.omf_check.specs.Tables.{externals}
+use Rattle.omf_check.specs.Rules.{length_of_segment}
+use Rattle.omf_check.specs.Tables.{segments, externals, is_defined}
 use Rattle.omf_check.specs.Threads.{PlainReference}
 use Rattle.omf_reloc.specs.declared.given.Given.{Given}
 use Rattle.omf_reloc.specs.Derive.{PlacedModule, derived}
@@ -15,7 +18,7 @@ use Rattle.omf_reloc.specs.Placement.{Places}
 use Rattle.omf_reloc.specs.Reach.{causes, data_contents, all_reference_places, far_faults, reach_fault, Reaches}
 use Rattle.omf_reloc.specs.ReachSteps.{records_far}
 use Rattle.omf_reloc.specs.Offsets.{outcome, start_offset}
-use Rattle.omf_reloc.specs.Image.{patched}
+use Rattle.omf_reloc.specs.Image.{laid, patched}
 
 -- The location of a fixup begins and ends so in the data; it lies inside so many bytes; it is elsewhere than a byte.
 abbrev pub location_start : ℕ × PlainFixup → ℕ
@@ -67,3 +70,24 @@ pub record AllAreAdded (pl : Places) (m : List Rec) : Type 0 where
   pub fixups : (before after : List Piece) (r : Rec) (d : DataItem) → pieces m ≡ before ++ Kept r ∷ after → data_contents r.contents ≡ Some d
       → All (λ f. IsOk (outcome pl d f)) (fixups_of_data after)
   pub start : (before after : List Piece) (kind byte : ℕ) (r : PlainReference) → pieces m ≡ before ++ End kind byte (Some r) ∷ after → IsOk (start_offset pl kind r)
+
+-- So many bytes at an offset lie in a segment, which is defined.
+pub record LiesInSegment (m : List Rec) (segment offset size : ℕ) : Type 0 where
+  pub segment_defined : is_defined (length (segments m)) segment ≡ true
+  pub inside : offset + size ≤ length_of_segment m segment
+
+-- Each part that a fixup adds lies in the data: none begins before them or ends behind them.
+abbrev pub PartsLieIn : ℕ → ℕ → List Addition → Type 0
+PartsLieIn size start parts = All (λ a. start + a.offset + part_size a.part ≤ size) parts
+
+-- An LEDATA with its fixups: its data lie in their segment, each location and each part that a fixup adds in the data; no byte elsewhere changes.
+pub record PatchesLieIn (pl : Places) (m : List Rec) (d : DataItem) (fixups : List (ℕ × PlainFixup)) : Type 0 where
+  pub data_inside : LiesInSegment m d.segment.item d.offset.item (length d.bytes)
+  pub locations : AreInside (length d.bytes) fixups
+  pub parts : All (λ f. (parts : List Addition) → outcome pl d f ≡ Ok parts → PartsLieIn (length d.bytes) (location_start f) parts) fixups
+  pub stays : StaysInside pl d fixups
+
+-- Every byte that is laid lies in its segment, and every byte that a fixup changes in the data of its LEDATA.
+pub record AllLieInside (pl : Places) (m : List Rec) : Type 0 where
+  pub each_piece : All (λ l. LiesInSegment m l.segment l.offset (length l.bytes)) (laid profile_limits pl (pieces m))
+  pub each_patch : (before after : List Piece) (r : Rec) (d : DataItem) → pieces m ≡ before ++ Kept r ∷ after → r.contents ≡ Plain d → PatchesLieIn pl m d (fixups_of_data after)

@@ -13,8 +13,9 @@ mod offset;
 mod placement;
 mod plain;
 mod reaching;
-mod relocate;
+mod relocating;
 pub mod rows;
+mod starting;
 mod text;
 
 pub use fault::{Cause, DeriveFault, Kind, ReachFault, TextFault};
@@ -22,4 +23,6 @@ pub use frame::Frame;
 pub use given::Given;
 pub use placement::Placement;
 pub use reaching::reach;
+pub use relocating::relocate;
+pub use starting::start;
 pub use text::{Draft, parse_placement};

@@ -1,7 +1,7 @@
 use Rattle.std.proofs.Common.{◌≡◌}
 use Rattle.omf_reloc.specs.Placed.{fixupp_type}
 use Rattle.omf_reloc.specs.Walking.{with_subrecords, CanTakeAll}
-use Rattle.omf_reloc.proofs.relocate.Open.take_all.Given as goal
+use Rattle.omf_reloc.proofs.relocating.Open.take_all.Given as goal
 
 -- what those to come add to what is there is what all of them add
 abbrev pub invariant-loop-subrecord : goal.invariant-loop-subrecord

@@ -1,9 +1,9 @@
-use Rattle.std.proofs.Common.{◌≡◌, ◌∙◌, ap, sym, subst, Result, Ok, Err, Some, List, ℕ}
+use Rattle.std.proofs.Common.{◌∙◌, ap, sym, subst, Result, Ok, Err, Some, List, ℕ}
 use Rattle.std.specs.Prelude.{OnOk}
 use Rattle.omf_records.specs.Seen.{kind_seen, contents_seen, rec_seen}
 use Rattle.omf_image.specs.Overlay.{Laid}
 use Rattle.omf_reloc.specs.Walking.{CanRead, Walk, IsNext}
-use Rattle.omf_reloc.proofs.relocate.Walk.take.Goals as goal
+use Rattle.omf_reloc.proofs.relocating.Walk.take.Goals as goal
 
 on-all : {A E P Q R S : Type 0} (r : Result A E) → (P → Q → R → S) → OnOk r P → OnOk r Q → OnOk r R → OnOk r S
 on-all (Ok a) f p q r = f p q r

@@ -1,11 +1,11 @@
-use Rattle.std.proofs.Common.{◌≡◌, ◌∙◌, Bool, true, false, refl, sym, ap, subst, List, ℕ}
+use Rattle.std.proofs.Common.{◌≡◌, ◌∙◌, Bool, true, false, refl, sym, ap, subst}
 use Rattle.std.specs.Prelude.{IsOk}
 use Rattle.omf_records.specs.Seen.{odd_if}
 use Rattle.omf_records.specs.Values.{width}
 use Rattle.omf_image.specs.Blocks.{count_size}
 use Rattle.omf_image.specs.Expanding.{expanded, expanded_length}
 use Rattle.omf_image.specs.Limits.{profile_limits}
-use Rattle.omf_reloc.proofs.relocate.expanded.Goals as goal
+use Rattle.omf_reloc.proofs.relocating.expanded.Goals as goal
 
 by_width : (wide : Bool) → width (odd_if wide 0xA2) ≡ count_size wide
 by_width true = refl

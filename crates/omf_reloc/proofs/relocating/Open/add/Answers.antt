@@ -5,7 +5,7 @@ use Rattle.omf_reloc.specs.Offsets.{outcome_at}
 use Rattle.omf_reloc.specs.Placed.{fixupp_type}
 use Rattle.omf_reloc.specs.Plain.{PlainFixup}
 use Rattle.omf_reloc.proofs.PatchLaws.{room-for}
-use Rattle.omf_reloc.proofs.relocate.Open.add.Goals as goal
+use Rattle.omf_reloc.proofs.relocating.Open.add.Goals as goal
 
 pub add_to-requires : goal.add_to-requires
 add_to-requires c =

@@ -1,19 +1,27 @@
 //! The image that a placement gives a module.
 
-ghost use Rattle.std.specs.Prelude.{◌≡◌, ◌≤◌, ◌+◌, ◌^◌, [], IfSome, OnOk, IfOk, None, Some, length, map, option_map, option_to_list};
+ghost use Rattle.std.specs.Prelude.{◌≡◌, ◌↔◌, ℕ, [], IfSome, OnOk, IfOk, None, Some, Option, slice_get, option_map, option_to_list};
 ghost use Rattle.omf_records.specs.Seen.{odd_if, rec_seen};
 ghost use Rattle.omf_records.specs.Values.{width};
 ghost use Rattle.omf_image.specs.Expanding.{expanded};
 ghost use Rattle.omf_image.specs.Limits.{profile_limits};
 ghost use Rattle.omf_check.specs.Kept.{set_thread, set_threads, no_threads};
-ghost use Rattle.omf_image.specs.Overlay.{AreLaidOver, IsLaidOver};
+ghost use Rattle.omf_image.specs.Joined.{runs_of};
+ghost use Rattle.omf_image.specs.Overlay.{AreLaidOver, IsRunAt, byte_at};
+ghost use Rattle.omf_image.specs.declared.run.Run.{Run};
+ghost use Rattle.omf_check.specs.Module.{records_in};
+ghost use Rattle.omf_check.specs.WellFormed.{recs};
+ghost use Rattle.omf_reloc.specs.Image.{laid, image};
+ghost use Rattle.omf_reloc.specs.Laws.{AllLieInside};
 ghost use Rattle.omf_reloc.specs.Placed.{fixupp_type};
+ghost use Rattle.omf_reloc.specs.Plain.{pieces};
+ghost use Rattle.omf_reloc.specs.Reach.{Reaches};
 ghost use Rattle.omf_reloc.specs.Walking.{with_fixup, with_subrecord, with_subrecords, CanAdd, CanTake, CanTakeAll, Expands, HasOffsets, IsNext, CanWalk};
 
 use crate::offset::outcome;
 use crate::placement::Placement;
 use crate::plain::{PlainFixup, plain_reference};
-use omf_check::Threads;
+use omf_check::{Checked, Threads};
 use omf_frame::Index;
 use omf_image::{Image, Limits, expand};
 use omf_records::{At, Blocks, Items, Part, Rec, Subrecord, location_offset};
@@ -219,4 +227,26 @@ impl Walk {
         lay(&mut image, self.open_data)?;
         Ok(image)
     }
+}
+
+/// The image that a placement gives a module: what each LEDATA gives, with what its fixups add, and what the blocks of each LIDATA
+/// stand for. Where data records overlap the last one stands. Every byte lies in its segment, and every byte that a fixup changes in the
+/// data of its LEDATA.
+///
+/// # Errors
+///
+/// `AllocError` where a growth is refused.
+pub fn relocate(alloc: Global, module: &Checked, placement: &Placement) -> Result<Image, AllocError>
+    requires { Reaches placement.now (recs (records_in «module».now.bytes)) }
+    ensures laid { IfOk result (λ i. AreLaidOver [] (laid profile_limits placement.now (pieces (recs (records_in «module».now.bytes)))) i) }
+    ensures bytes { IfOk result (λ i. (segment x : ℕ) → byte_at i segment x ≡ image profile_limits placement.now (recs (records_in «module».now.bytes)) segment x) }
+    ensures runs { IfOk result (λ i. (segment k : ℕ) (run : Option Run) → IsRunAt (byte_at i segment) k run
+        ↔ (run ≡ slice_get (runs_of (laid profile_limits placement.now (pieces (recs (records_in «module».now.bytes)))) segment) k)) }
+    ensures inside { AllLieInside placement.now (recs (records_in «module».now.bytes)) }
+{
+    let mut walk = Walk::new(alloc);
+    for (_place, rec) in module.records() {
+        walk.take(alloc, placement, &rec)?;
+    }
+    walk.finish()
 }

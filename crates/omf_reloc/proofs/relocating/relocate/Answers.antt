@@ -1,0 +1,81 @@
+use Rattle.std.proofs.Common.{◌∙◌, ap, subst, List, Result, Ok, Err}
+use Rattle.std.specs.Prelude.{map, IfOk}
+use Rattle.omf_frame.specs.declared.fault.Place.{Place}
+use Rattle.omf_image.proofs.TurnLaws.{images_are}
+use Rattle.omf_image.specs.Limits.{profile_limits}
+use Rattle.omf_records.specs.Seen.{rec_seen}
+use Rattle.omf_records.specs.Values.{Rec}
+use Rattle.omf_check.specs.Module.{records_in}
+use Rattle.omf_check.specs.WellFormed.{recs}
+use Rattle.omf_check.proofs.ThreadLaws.{threads_kept}
+use Rattle.omf_reloc.specs.Image.{laid}
+use Rattle.omf_reloc.specs.Plain.{pieces}
+use Rattle.omf_reloc.proofs.InsideLaws.{all-inside}
+use Rattle.omf_reloc.proofs.WalkedLaws.{IsWalked, walk-first, can-walk, walk-next, walk-last, has-offsets, records-listed}
+use Rattle.omf_reloc.proofs.relocating.relocate.Goals as goal
+
+abbrev without_places : List (Place × Rec) → List Rec
+without_places xs = map (λ x. x.1) xs
+
+if-ok : {A E : Type 0} {P Q : A → Type 0} (r : Result A E) → ((a : A) → P a → Q a) → IfOk r P → IfOk r Q
+if-ok (Ok a) f h = f a h
+if-ok (Err e) f h = tt
+
+pub loop-place-init : goal.loop-place-init
+loop-place-init c =
+    let r = c.records-place-items in
+    walk-first threads_kept c.args.placement.now (recs (records_in c.args.module.now.bytes)) r.ensures.holds c.requires c.new-walk.result (without_places c.into_iter-place-iterator.result)
+    c.new-walk.ensures (ap without_places (c.into_iter-place-iterator.ensures.into_iter_gives ∙ r.ensures.listed) ∙ records-listed 0 0 (records_in c.args.module.now.bytes))
+
+pub take-requires : goal.take-requires
+take-requires c =
+    let pl = c.args.placement.now in
+    let m = recs (records_in c.args.module.now.bytes) in
+    let w = c.loop-place.walk in
+    can-walk threads_kept pl m c.records-place-items.ensures.holds c.requires w (rec_seen c.in-Some.rec) (without_places c.next.new.self)
+    (subst (λ xs. IsWalked pl m w (without_places xs)) c.in-Some.ensures.steps c.loop-place.invariant)
+
+pub loop-place-preserved : goal.loop-place-preserved
+loop-place-preserved c =
+    let pl = c.args.placement.now in
+    let m = recs (records_in c.args.module.now.bytes) in
+    let w = c.loop-place.walk in
+    walk-next threads_kept pl m c.records-place-items.ensures.holds c.requires w (rec_seen c.in-Some.rec) (without_places c.next.new.self)
+    (subst (λ xs. IsWalked pl m w (without_places xs)) c.in-Some.ensures.steps c.loop-place.invariant) c.take.new.self c.in_ok-take.ensures
+
+pub finish-requires : goal.finish-requires
+finish-requires c =
+    has-offsets threads_kept c.args.placement.now (recs (records_in c.args.module.now.bytes)) c.records-place-items.ensures.holds c.requires c.loop-place.walk
+    (without_places c.loop-place._place-iterator) c.loop-place.invariant
+
+pub returns-clause-laid : goal.returns-clause-laid
+returns-clause-laid c =
+    let pl = c.args.placement.now in
+    let m = recs (records_in c.args.module.now.bytes) in
+    let w = c.loop-place.walk in
+    let ended = subst (λ xs. IsWalked pl m w (without_places xs)) c.in-None.ensures.steps.0 c.loop-place.invariant in
+    if-ok c.finish.result (λ i h. walk-last threads_kept pl m c.records-place-items.ensures.holds c.requires w i ended h) c.finish.ensures
+
+pub returns-clause-bytes : goal.returns-clause-bytes
+returns-clause-bytes c =
+    let pl = c.args.placement.now in
+    let m = recs (records_in c.args.module.now.bytes) in
+    let w = c.loop-place.walk in
+    let ended = subst (λ xs. IsWalked pl m w (without_places xs)) c.in-None.ensures.steps.0 c.loop-place.invariant in
+    if-ok c.finish.result
+    (λ i h. (images_are (laid profile_limits pl (pieces m)) i (walk-last threads_kept pl m c.records-place-items.ensures.holds c.requires w i ended h)).0) c.finish.ensures
+
+pub returns-clause-runs : goal.returns-clause-runs
+returns-clause-runs c =
+    let pl = c.args.placement.now in
+    let m = recs (records_in c.args.module.now.bytes) in
+    let w = c.loop-place.walk in
+    let ended = subst (λ xs. IsWalked pl m w (without_places xs)) c.in-None.ensures.steps.0 c.loop-place.invariant in
+    if-ok c.finish.result
+    (λ i h. (images_are (laid profile_limits pl (pieces m)) i (walk-last threads_kept pl m c.records-place-items.ensures.holds c.requires w i ended h)).1) c.finish.ensures
+
+pub returns-clause-inside : goal.returns-clause-inside
+returns-clause-inside c = all-inside c.args.placement.now (recs (records_in c.args.module.now.bytes)) c.records-place-items.ensures.holds
+
+pub returns-in_err-take-clause-inside : goal.returns-in_err-take-clause-inside
+returns-in_err-take-clause-inside c = all-inside c.args.placement.now (recs (records_in c.args.module.now.bytes)) c.records-place-items.ensures.holds
