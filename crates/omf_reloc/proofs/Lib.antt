@@ -1,6 +1,9 @@
 pub mod PatchLaws
 pub mod EntryLaws
 pub mod ReachLaws
+pub mod FarLaws
+pub mod JudgeLaws
+pub mod ReachedLaws
 pub mod DeriveLaws
 pub mod AddedLaws
 pub mod CutLaws

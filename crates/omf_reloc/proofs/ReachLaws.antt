@@ -63,7 +63,7 @@ length-cons_option : {A : Type 0} (o : Option A) (xs : List A) → length (cons_
 length-cons_option None xs = omega arith
 length-cons_option (Some x) xs = omega arith
 
-fixups-places : (earlier : List Subrecord) (subs : List (At Subrecord)) → length (filter_map (λ s. fixup_place s.within s.item) subs) ≡ length (plain_fixups earlier subs)
+pub fixups-places : (earlier : List Subrecord) (subs : List (At Subrecord)) → length (filter_map (λ s. fixup_place s.within s.item) subs) ≡ length (plain_fixups earlier subs)
 fixups-places earlier [] = refl
 fixups-places earlier (s ∷ subs) = omega (
   arith,
@@ -96,15 +96,15 @@ causes-places : (pl : Places) (m : List Rec) → length (causes pl (pieces m)) �
 causes-places pl m = omega (arith, length-causes pl (pieces m), length-places 0 [] m)
 
 -- Lists that are empty together.
-nil-left : {A : Type 0} (xs ys : List A) → xs ++ ys ≡ [] → xs ≡ []
+pub nil-left : {A : Type 0} (xs ys : List A) → xs ++ ys ≡ [] → xs ≡ []
 nil-left [] ys h = refl
 nil-left (x ∷ xs) ys h = absurd (omega (arith, ap length h))
 
-nil-right : {A : Type 0} (xs ys : List A) → xs ++ ys ≡ [] → ys ≡ []
+pub nil-right : {A : Type 0} (xs ys : List A) → xs ++ ys ≡ [] → ys ≡ []
 nil-right [] ys h = h
 nil-right (x ∷ xs) ys h = absurd (omega (arith, ap length h))
 
-nil-both : {A : Type 0} (xs ys : List A) → xs ≡ [] → ys ≡ [] → xs ++ ys ≡ []
+pub nil-both : {A : Type 0} (xs ys : List A) → xs ≡ [] → ys ≡ [] → xs ++ ys ≡ []
 nil-both xs ys h k = ap₂ (λ x y. x ++ y) h k
 
 not-one : {A : Type 0} (b : Bool) (x : A) → cond b (x ∷ []) [] ≡ [] → b ≡ false
@@ -115,7 +115,7 @@ none-one : {A : Type 0} (b : Bool) (x : A) → b ≡ false → cond b (x ∷ [])
 none-one true x e = absurd (true≢false e)
 none-one false x e = refl
 
-first-none : {A : Type 0} (xs : List A) → slice_get xs 0 ≡ None → xs ≡ []
+pub first-none : {A : Type 0} (xs : List A) → slice_get xs 0 ≡ None → xs ≡ []
 first-none [] h = refl
 first-none (x ∷ xs) h = absurd (none-some x (sym h))
 
@@ -124,7 +124,7 @@ taken true x y e = refl
 taken false x y e = absurd (false≢true e)
 
 -- The lengths.
-same-count : (k j : Kind) (n given : ℕ) → missing k n given ≡ [] → extra j n given ≡ [] → given ≡ n
+pub same-count : (k j : Kind) (n given : ℕ) → missing k n given ≡ [] → extra j n given ≡ [] → given ≡ n
 same-count k j n given h g = omega (arith, ltb-false given n (not-one (nat_lt given n) (fault.Missing k (given + 1)) h), ltb-false n given (not-one (nat_lt n given) (fault.Extra j (n + 1)) g))
 
 no-missing : (k : Kind) (n given : ℕ) → given ≡ n → missing k n given ≡ []
@@ -183,7 +183,7 @@ all-to pl k (s ∷ infos) h = nil-both (misplaced pl k s.absolute) (misplaced_al
     (all-to pl (k + 1) infos (λ j number offset info e g. ap (placed pl.segments) (omega arith) ∙ h (suc j) number offset info e g))
 
 -- An entry of an index, from 1.
-entry-suc : {A : Type 0} (xs : List A) (j : ℕ) → entry xs (suc j) ≡ slice_get xs j
+pub entry-suc : {A : Type 0} (xs : List A) (j : ℕ) → entry xs (suc j) ≡ slice_get xs j
 entry-suc xs j = taken (nat_le 1 (suc j)) (slice_get xs (suc j - 1)) None (le-leb 1 (suc j) (omega arith)) ∙ ap (slice_get xs) (omega arith)
 
 entry-placed : (ps : List Placed) (j : ℕ) → j < length ps → entry ps (suc j) ≡ Some (placed ps (suc j))

@@ -5,6 +5,7 @@ use Rattle.omf_records.specs.Location.{location_size}
 use Rattle.omf_records.specs.Values.{DataItem, Rec, Plain, location_type, location_offset}
 use Rattle.omf_image.specs.Limits.{profile_limits}
 use Rattle.omf_image.specs.Parts.{Addition, part_size}
+use Rattle.omf_check.specs.Kept.{no_threads}
 use Rattle.omf_check.specs.Rules.{length_of_segment}
 use Rattle.omf_check.specs.Tables.{segments, externals, is_defined}
 use Rattle.omf_check.specs.Threads.{PlainReference}
@@ -14,7 +15,8 @@ use Rattle.omf_reloc.specs.Entries.{Entry, Spells}
 use Rattle.omf_reloc.specs.EntryReading.{entry_said}
 use Rattle.omf_reloc.specs.Plain.{Piece, Kept, End, PlainFixup, pieces, fixups_of_data}
 use Rattle.omf_reloc.specs.Placement.{Places}
-use Rattle.omf_reloc.specs.Reach.{causes, data_contents, all_reference_places, reach_fault, Reaches}
+use Rattle.omf_reloc.specs.Reach.{causes, data_contents, all_reference_places, far_faults, reach_fault, Reaches}
+use Rattle.omf_reloc.specs.ReachSteps.{records_far}
 use Rattle.omf_reloc.specs.Offsets.{outcome, start_offset}
 use Rattle.omf_reloc.specs.Image.{laid, patched}
 
@@ -47,6 +49,12 @@ EntriesAreRead = (text : List ℕ) (e : Entry) → (entry_said text ≡ Some e) 
 pub record ReachIsDecided (pl : Places) (m : List Rec) : Type 0 where
   pub decided : (reach_fault pl m ≡ None) ↔ Reaches pl m
   pub places : length (causes pl (pieces m)) ≤ length (all_reference_places m)
+
+-- In a well-formed module each reference that is judged has a place of its own, and the references that do not reach are those that a walk over its records
+-- comes upon, in that order.
+pub record FaultsAreWalked (pl : Places) (m : List Rec) : Type 0 where
+  pub places : length (causes pl (pieces m)) ≡ length (all_reference_places m)
+  pub faults : far_faults pl m ≡ records_far pl 0 None no_threads m
 
 -- A derived placement keeps the segments and groups of its module's place, and has an entry for each external.
 pub record KeepsPlace (m : PlacedModule) (pl : Places) : Type 0 where

@@ -7,6 +7,7 @@ pub mod Seen
 pub mod Reach
 pub mod Image
 pub mod Walking
+pub mod ReachSteps
 pub mod Entries
 pub mod EntryReading
 pub mod PlacementText

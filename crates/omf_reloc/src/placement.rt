@@ -93,6 +93,27 @@ impl Placement {
         entry(&self.externals, i).map(|placed| (placed.address, placed.frame))
     }
 
+    /// How many segments have an entry.
+    pub(crate) fn segment_count(&self) -> usize
+        ensures { result ≡ length self.now.segments }
+    {
+        self.segments.len()
+    }
+
+    /// How many groups have an entry.
+    pub(crate) fn group_count(&self) -> usize
+        ensures { result ≡ length self.now.groups }
+    {
+        self.groups.len()
+    }
+
+    /// How many externals have an entry.
+    pub(crate) fn external_count(&self) -> usize
+        ensures { result ≡ length self.now.externals }
+    {
+        self.externals.len()
+    }
+
     /// The place of a segment that has an entry, by its index from 1.
     pub(crate) fn segment_at(&self, i: usize) -> Placed
         requires { is_defined (length self.now.segments) i ≡ true }

@@ -1,0 +1,158 @@
+-- The first fault of a list in parts, and the parts that reach judges one after another.
+use Rattle.std.proofs.Common.{◌≡◌, ℕ, zero, suc, ◌+◌, ◌-◌, ◌≤◌, List, [], ◌∷◌, ◌++◌, refl, sym, ◌∙◌, ap, ap₂, subst, arith, length, drop, true, false}
+use Rattle.std.specs.Prelude.{Option, Some, None, slice_get, is_some, ◌↔◌}
+use Rattle.std.proofs.lemmas.Bool.{true≢false, false≢true}
+use Rattle.std.proofs.lemmas.Option.{none-some, same_Some}
+use Rattle.omf_frame.specs.Framing.{Raw, raw_bytes}
+use Rattle.omf_records.specs.Reading.{typed}
+use Rattle.omf_frame.specs.declared.fault.Place.{Place}
+use Rattle.omf_image.specs.declared.limits.Limits.{Limits}
+use Rattle.omf_records.specs.Values.{Rec}
+use Rattle.omf_check.specs.Kept.{no_threads}
+use Rattle.omf_check.specs.Listed.{placed_from}
+use Rattle.omf_check.specs.Sound.{ModuleHolds}
+use Rattle.omf_check.specs.Tables.{segments, groups, externals, entry}
+use Rattle.omf_check.specs.WellFormed.{recs}
+use Rattle.omf_check.specs.declared.segment.SegInfo.{SegInfo}
+use Rattle.omf_check.specs.declared.threads.Threads.{Threads}
+use Rattle.omf_reloc.specs.declared.fault.ReachFault.{ReachFault}
+use Rattle.omf_reloc.specs.Placement.{Places}
+use Rattle.omf_reloc.specs.declared.fault.Kind.TheVariants as kinds
+use Rattle.omf_reloc.specs.Reach.{missing, extra, misplaced, far_faults, reach_fault, Reaches}
+use Rattle.omf_reloc.specs.ReachSteps.{HasEntries, miscounts, misplaced_from, data_place, record_far, records_far, placed_far, CanJudgeRecord, CanJudgeRecords, CanJudgePlaced}
+use Rattle.omf_reloc.specs.Walking.{threads_after}
+use Rattle.omf_reloc.proofs.ReachLaws.{entry-suc, same-count, nil-left, nil-right, first-none, reach-decided}
+use Rattle.omf_reloc.proofs.FarLaws.{far-walked}
+use Rattle.omf_reloc.proofs.JudgeLaws.{judged-all}
+
+-- The first of two lists' elements: that of the first list, if it has one, or else that of the second.
+pub first-stop : {A : Type 0} (r all : Option A) (xs ys : List A) → r ≡ slice_get xs 0 → is_some r ≡ true → slice_get (xs ++ ys) 0 ≡ all → r ≡ all
+first-stop r all [] ys e b h = absurd (false≢true (sym (ap is_some e) ∙ b))
+first-stop r all (x ∷ xs) ys e b h = e ∙ h
+
+pub first-go : {A : Type 0} (r all : Option A) (xs ys : List A) → r ≡ slice_get xs 0 → is_some r ≡ false → slice_get (xs ++ ys) 0 ≡ all → slice_get ys 0 ≡ all
+first-go r all [] ys e b h = h
+first-go r all (x ∷ xs) ys e b h = absurd (true≢false (sym (ap is_some e) ∙ b))
+
+-- One absolute segment more.
+drop-entry : (infos : List SegInfo) (i : ℕ) (info : SegInfo) → slice_get infos i ≡ Some info → drop i infos ≡ info ∷ drop (i + 1) infos
+drop-entry [] i info h = absurd (none-some info h)
+drop-entry (x ∷ infos) zero info h = ap (λ y. y ∷ infos) (same_Some x info h)
+drop-entry (x ∷ infos) (suc i) info h =
+    let e : suc (i + 1) ≡ suc i + 1 = omega arith in drop-entry infos i info h ∙ ap (λ n. info ∷ drop n (x ∷ infos)) e
+
+module _ (pl : Places) (infos : List SegInfo) (i : ℕ) (info : SegInfo) (low : 1 ≤ i) (e : entry infos i ≡ Some info) where
+  segments-step : misplaced_from pl i (drop (i - 1) infos) ≡ misplaced pl i info.absolute ++ misplaced_from pl (i + 1) (drop (i + 1 - 1) infos)
+  segments-step =
+      let back : suc (i - 1) ≡ i = omega (arith, low) in
+      let next : i - 1 + 1 ≡ i + 1 - 1 = omega (arith, low) in
+      ap (misplaced_from pl i) (drop-entry infos (i - 1) info (sym (entry-suc infos (i - 1)) ∙ ap (entry infos) back ∙ e) ∙ ap (λ n. info ∷ drop n infos) next)
+
+  module _ (r all : Option ReachFault) (found : r ≡ slice_get (misplaced pl i info.absolute) 0) (h : slice_get (misplaced_from pl i (drop (i - 1) infos)) 0 ≡ all) where
+    pub segments-stop : is_some r ≡ true → r ≡ all
+    segments-stop b = first-stop r all (misplaced pl i info.absolute) (misplaced_from pl (i + 1) (drop (i + 1 - 1) infos)) found b (sym (ap (λ xs. slice_get xs 0) segments-step) ∙ h)
+
+    pub segments-go : is_some r ≡ false → slice_get (misplaced_from pl (i + 1) (drop (i + 1 - 1) infos)) 0 ≡ all
+    segments-go b = first-go r all (misplaced pl i info.absolute) (misplaced_from pl (i + 1) (drop (i + 1 - 1) infos)) found b (sym (ap (λ xs. slice_get xs 0) segments-step) ∙ h)
+
+-- Records with their places.
+pub placed-same : (pl : Places) (number start : ℕ) (place : Option (ℕ × ℕ)) (threads : Threads) (rs : List Raw)
+    → placed_far pl place threads (placed_from number start rs) ≡ records_far pl number place threads (recs rs)
+placed-same pl number start place threads [] = refl
+placed-same pl number start place threads (r ∷ rs) =
+    let x = typed r in
+    ap (λ fs. record_far pl number x.kind place threads x.contents ++ fs) (placed-same pl (number + 1) (start + length (raw_bytes r)) (data_place x.contents place) (threads_after threads x.contents) rs)
+
+pub placed-can : (pl : Places) (number start : ℕ) (place : Option (ℕ × ℕ)) (threads : Threads) (rs : List Raw)
+    → CanJudgeRecords pl place threads (recs rs) → CanJudgePlaced pl place threads (placed_from number start rs)
+placed-can pl number start place threads [] h = tt
+placed-can pl number start place threads (r ∷ rs) h =
+    let x = typed r in
+    (h.0, placed-can pl (number + 1) (start + length (raw_bytes r)) (data_place x.contents place) (threads_after threads x.contents) rs h.1)
+
+-- One record more.
+module _ (pl : Places) (place : Option (ℕ × ℕ)) (threads : Threads) (xs ys : List (Place × Rec)) (x : Place × Rec) (e : xs ≡ x ∷ ys) where
+  pub can-here : CanJudgePlaced pl place threads xs → CanJudgeRecord pl place threads x.1.contents
+  can-here h = (subst (CanJudgePlaced pl place threads) e h).0
+
+  pub can-rest : (next : Option (ℕ × ℕ)) (after : Threads) → next ≡ data_place x.1.contents place → after ≡ threads_after threads x.1.contents → CanJudgePlaced pl place threads xs
+      → CanJudgePlaced pl next after ys
+  can-rest next after n t h =
+      subst (λ p. CanJudgePlaced pl p after ys) (sym n) (subst (λ c. CanJudgePlaced pl (data_place x.1.contents place) c ys) (sym t) (subst (CanJudgePlaced pl place threads) e h).1)
+
+  module _ (r all : Option ReachFault) (found : r ≡ slice_get (record_far pl x.0.number x.1.kind place threads x.1.contents) 0) (h : slice_get (placed_far pl place threads xs) 0 ≡ all) where
+    abbrev rest : List ReachFault
+    rest = placed_far pl (data_place x.1.contents place) (threads_after threads x.1.contents) ys
+
+    same : slice_get (record_far pl x.0.number x.1.kind place threads x.1.contents ++ rest) 0 ≡ all
+    same = sym (ap (λ zs. slice_get (placed_far pl place threads zs) 0) e) ∙ h
+
+    pub records-stop : is_some r ≡ true → r ≡ all
+    records-stop b = first-stop r all (record_far pl x.0.number x.1.kind place threads x.1.contents) rest found b same
+
+    pub records-go : is_some r ≡ false → (next : Option (ℕ × ℕ)) (after : Threads) → next ≡ data_place x.1.contents place → after ≡ threads_after threads x.1.contents
+        → slice_get (placed_far pl next after ys) 0 ≡ all
+    records-go b next after n t =
+        ap₂ (λ p c. slice_get (placed_far pl p c ys) 0) n t ∙ first-go r all (record_far pl x.0.number x.1.kind place threads x.1.contents) rest found b same
+
+module _ (pl : Places) (limits : Limits) (raws : List Raw) (holds : ModuleHolds limits (recs raws)) where
+  pub far-placed : far_faults pl (recs raws) ≡ placed_far pl None no_threads (placed_from 0 0 raws)
+  far-placed = far-walked pl limits (recs raws) holds ∙ sym (placed-same pl 0 0 None no_threads raws)
+
+  pub can-placed : HasEntries pl (recs raws) → CanJudgePlaced pl None no_threads (placed_from 0 0 raws)
+  can-placed entries = placed-can pl 0 0 None no_threads raws (judged-all pl limits (recs raws) holds entries)
+
+-- The parts of the list of all faults.
+pub first-later : {A : Type 0} (xs ys : List A) (o : Option A) → None ≡ slice_get xs 0 → o ≡ slice_get ys 0 → o ≡ slice_get (xs ++ ys) 0
+first-later [] ys o h k = k
+first-later (x ∷ xs) ys o h k = absurd (none-some x h)
+
+pub first-front : {A : Type 0} (xs ys : List A) (x : A) → Some x ≡ slice_get xs 0 → Some x ≡ slice_get (xs ++ ys) 0
+first-front [] ys x h = absurd (none-some x (sym h))
+first-front (y ∷ xs) ys x h = h
+
+module _ (pl : Places) (m : List Rec) where
+  abbrev counts : List ReachFault
+  counts = miscounts pl (length (segments m)) (length (groups m)) (length (externals m))
+
+  abbrev moved : List ReachFault
+  moved = misplaced_from pl 1 (segments m)
+
+  pub entries-there : None ≡ slice_get counts 0 → HasEntries pl m
+  entries-there h =
+      let ns = length (segments m) in let ng = length (groups m) in let ne = length (externals m) in
+      let gs = length pl.segments in let gg = length pl.groups in let ge = length pl.externals in
+      let a = missing kinds.Segment ns gs in let b = missing kinds.Group ng gg in let c = missing kinds.External ne ge in
+      let d = extra kinds.Segment ns gs in let e = extra kinds.Group ng gg in let f = extra kinds.External ne ge in
+      let h6 = first-none counts (sym h) in
+      let h5 = nil-left (a ++ b ++ c ++ d ++ e) f h6 in
+      let h4 = nil-left (a ++ b ++ c ++ d) e h5 in
+      let h3 = nil-left (a ++ b ++ c) d h4 in
+      let h2 = nil-left (a ++ b) c h3 in
+      record {
+        segments = same-count kinds.Segment kinds.Segment ns gs (nil-left a b h2) (nil-right (a ++ b ++ c) d h4);
+        groups = same-count kinds.Group kinds.Group ng gg (nil-right a b h2) (nil-right (a ++ b ++ c ++ d) e h5);
+        externals = same-count kinds.External kinds.External ne ge (nil-right (a ++ b) c h3) (nil-right (a ++ b ++ c ++ d ++ e) f h6);
+      }
+
+  pub count-first : (x : ReachFault) → Some x ≡ slice_get counts 0 → reach_fault pl m ≡ Some x
+  count-first x c = sym (first-front (counts ++ moved) (far_faults pl m) x (first-front counts moved x c))
+
+  pub absolute-first : (x : ReachFault) → None ≡ slice_get counts 0 → Some x ≡ slice_get moved 0 → reach_fault pl m ≡ Some x
+  absolute-first x c a = sym (first-front (counts ++ moved) (far_faults pl m) x (first-later counts moved (Some x) c a))
+
+  pub far-first : (o : Option ReachFault) → None ≡ slice_get counts 0 → None ≡ slice_get moved 0 → o ≡ slice_get (far_faults pl m) 0 → reach_fault pl m ≡ o
+  far-first o c a f = sym (first-later (counts ++ moved) (far_faults pl m) o (first-later counts moved None c a) f)
+
+  -- An answer of Ok or Err is right.
+  pub refused : (x : ReachFault) → reach_fault pl m ≡ Some x → (false ≡ true) ↔ Reaches pl m
+  refused x h = (λ e. absurd (false≢true e), λ r. absurd (none-some x (sym ((reach-decided pl m).decided.1 r) ∙ h)))
+
+  pub refused-none : (x : ReachFault) → reach_fault pl m ≡ Some x → (false ≡ true) ↔ (reach_fault pl m ≡ None)
+  refused-none x h = (λ e. absurd (false≢true e), λ e. absurd (none-some x (sym e ∙ h)))
+
+  pub reached : reach_fault pl m ≡ None → (true ≡ true) ↔ Reaches pl m
+  reached h = (λ e. (reach-decided pl m).decided.0 h, λ r. refl)
+
+  pub reached-none : reach_fault pl m ≡ None → (true ≡ true) ↔ (reach_fault pl m ≡ None)
+  reached-none h = (λ e. h, λ e. refl)
