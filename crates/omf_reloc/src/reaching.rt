@@ -259,3 +259,6 @@ pub fn reach(module: &Checked, placement: &Placement) -> Result<(), ReachFault>
         None => Ok(()),
     }
 }
+
+#[cfg(test)]
+mod tests;

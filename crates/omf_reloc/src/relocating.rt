@@ -250,3 +250,6 @@ pub fn relocate(alloc: Global, module: &Checked, placement: &Placement) -> Resul
     }
     walk.finish()
 }
+
+#[cfg(test)]
+mod tests;
