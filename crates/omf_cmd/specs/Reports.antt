@@ -41,10 +41,15 @@ Judges profile input records old new (Err (fault.Line n)) = ⊥
 Judges profile input records old new (Err fault.TooLong) = ⊥
 Judges profile input records old new (Err (fault.Reach f)) = ⊥
 
--- What a job answers, and what it reads and writes: a text of the module's records, or the lines of its image.
+-- What a run that prints a text of the module's records answers, and what it reads and writes.
+abbrev pub Reports : (List Raw → List ℕ) → Profile → Option (List ℕ) → Option (List ℕ) → Option (List ℕ) → Option (List ℕ) → Result (Unit {0}) RunFault → Type 0
+Reports text profile left left' held held' ran =
+    (records : List Raw) × Prints held held' ran (text records) × ((input : List ℕ) → left ≡ Some input → Judges profile input records left left' ran)
+
+-- What a job answers, and what it reads and writes.
 abbrev pub IsRun : Job → Profile → Option (List ℕ) → Option (List ℕ) → Option (List ℕ) → Option (List ℕ) → Result (Unit {0}) RunFault → Type 0
-IsRun job.List profile left left' held held' ran = (records : List Raw) × Prints held held' ran (list_text records) × ((input : List ℕ) → left ≡ Some input → Judges profile input records left left' ran)
-IsRun job.Check profile left left' held held' ran = (records : List Raw) × Prints held held' ran (check_text records) × ((input : List ℕ) → left ≡ Some input → Judges profile input records left left' ran)
+IsRun job.List profile left left' held held' ran = Reports list_text profile left left' held held' ran
+IsRun job.Check profile left left' held held' ran = Reports check_text profile left left' held held' ran
 IsRun job.Reloc profile left left' held held' ran = (rows : List Row) × Prints held held' ran (rows_text rows)
 
 -- How the program ends after a run: the status is that of the answer, and of a fault its text is written, or a part of it from the front.
