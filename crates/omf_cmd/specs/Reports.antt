@@ -11,7 +11,7 @@ use Rattle.omf_check.specs.declared.fault.CheckFault.TheVariants as check
 use Rattle.omf_check.specs.declared.profile.Profile.{Profile}
 use Rattle.omf_cmd.specs.FaultLine.{fault_text}
 use Rattle.omf_cmd.specs.Listing.{check_text, list_text}
-use Rattle.omf_cmd.specs.Runs.{IsPart, Prints, Row, rows_text}
+use Rattle.omf_cmd.specs.Runs.{IsPart, IsWritten, Prints, Row, rows_text}
 use Rattle.omf_cmd.specs.Words.{status_of, usage}
 use Rattle.omf_cmd.specs.declared.fault.RunFault.{RunFault}
 use Rattle.omf_cmd.specs.declared.fault.RunFault.TheVariants as fault
@@ -64,6 +64,6 @@ pub record IsAnswer (asked : Job × Profile) (left left' held held' : Option (Li
   pub run : IsRun asked.0 asked.1 left left' held between ran
   pub ended : IsEnded between held' ran status
 
--- The program's answer to words that are not understood: how it is called, or a part of that from the front; or memory ran out.
-abbrev pub IsMisuse : Option (List ℕ) → Option (List ℕ) → ℕ → Type 0
-IsMisuse held held' status = ((status ≡ 2) × IsPart held held' usage) ⊎ ((status ≡ 3) × IsPart held held' (fault_text fault.Memory))
+-- The program's answer to words that are not understood: how it is called, unless the writer failed; or memory ran out.
+abbrev pub IsMisuse : Option (List ℕ) → Option (List ℕ) → ℕ → ℕ → ℕ → Type 0
+IsMisuse held held' failed fails status = ((status ≡ 2) × IsWritten held held' failed fails usage) ⊎ ((status ≡ 3) × IsPart held held' (fault_text fault.Memory))
