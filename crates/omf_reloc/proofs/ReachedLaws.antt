@@ -113,7 +113,7 @@ first-front (y ∷ xs) ys x h = h
 
 module _ (pl : Places) (m : List Rec) where
   abbrev counts : List ReachFault
-  counts = miscounts pl (length (segments m)) (length (groups m)) (length (externals m))
+  counts = miscounts pl m
 
   abbrev moved : List ReachFault
   moved = misplaced_from pl 1 (segments m)

@@ -25,15 +25,15 @@ pub record HasEntries (pl : Places) (m : List Rec) : Type 0 where
   pub groups : length pl.groups ≡ length (groups m)
   pub externals : length pl.externals ≡ length (externals m)
 
--- The faults of the counts, for a module with so many segments, groups and externals; and those of absolute segments, of which the first has this index.
-abbrev pub miscounts : Places → ℕ → ℕ → ℕ → List ReachFault
-miscounts pl segment_count group_count external_count =
-    missing kinds.Segment segment_count (length pl.segments)
-    ++ missing kinds.Group group_count (length pl.groups)
-    ++ missing kinds.External external_count (length pl.externals)
-    ++ extra kinds.Segment segment_count (length pl.segments)
-    ++ extra kinds.Group group_count (length pl.groups)
-    ++ extra kinds.External external_count (length pl.externals)
+-- The faults of the counts; and those of absolute segments, of which the first has this index.
+abbrev pub miscounts : Places → List Rec → List ReachFault
+miscounts pl m =
+    missing kinds.Segment (length (segments m)) (length pl.segments)
+    ++ missing kinds.Group (length (groups m)) (length pl.groups)
+    ++ missing kinds.External (length (externals m)) (length pl.externals)
+    ++ extra kinds.Segment (length (segments m)) (length pl.segments)
+    ++ extra kinds.Group (length (groups m)) (length pl.groups)
+    ++ extra kinds.External (length (externals m)) (length pl.externals)
 
 abbrev pub misplaced_from : Places → ℕ → List SegInfo → List ReachFault
 misplaced_from pl k infos = flat_map (λ s. misplaced pl s.0 s.1.absolute) (enumerate_from k infos)

@@ -44,7 +44,7 @@ fn extra(kind: Kind, entries: u16, given: usize) -> Option<ReachFault>
 
 /// The first entry that is missing, or else the first one too many: segments first, then groups, then externals.
 fn count_fault(module: &Checked, placement: &Placement) -> Option<ReachFault>
-    ensures { result ≡ slice_get (miscounts placement.now (length (segments (recs (records_in «module».now.bytes)))) (length (groups (recs (records_in «module».now.bytes)))) (length (externals (recs (records_in «module».now.bytes))))) 0 }
+    ensures { result ≡ slice_get (miscounts placement.now (recs (records_in «module».now.bytes))) 0 }
 {
     let segments = placement.segment_count();
     let groups = placement.group_count();
