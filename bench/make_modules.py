@@ -48,13 +48,13 @@ def data(out):
 
 
 def mixed(out):
-    """320 segments of 16 bits, each with 16 LEDATAs of 1,024 bytes that have 200 fixups of 16-bit offsets each."""
+    """320 segments of 16 bits, each with 16 LEDATAs of 1,160 bytes that have 200 fixups of 16-bit offsets each."""
     out.write(HEADER + NAMES + SEGMENT * 320)
     for s in range(1, 321):
         index = bytes([s]) if s < 128 else bytes([128 + s // 256, s % 256])
         one = b"".join(struct.pack(">H", 0xC400 | 5 * k) + b"\x54\x01" for k in range(200))
         for k in range(16):
-            out.write(record(0xA0, index + struct.pack("<H", 1024 * k) + bytes(range(256)) * 4))
+            out.write(record(0xA0, index + struct.pack("<H", 1160 * k) + bytes(range(256)) * 4 + bytes(136)))
             out.write(record(0x9C, one))
     out.write(END)
 
