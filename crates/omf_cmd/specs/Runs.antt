@@ -29,3 +29,7 @@ Prints old new (Err e) text = Keeps old new
 -- a part of the text from the front was written, which may be all of it or nothing
 abbrev pub IsPart : Option (List ℕ) → Option (List ℕ) → List ℕ → Type 0
 IsPart old new text = (front : List ℕ) × (back : List ℕ) × (text ≡ front ++ back) × Appends old new front
+
+-- the whole text was written; or the writer failed, and a part of it was
+abbrev pub IsWritten : Option (List ℕ) → Option (List ℕ) → ℕ → ℕ → List ℕ → Type 0
+IsWritten old new failed fails text = Appends old new text ⊎ (HasFailed failed fails × IsPart old new text)
