@@ -11,7 +11,7 @@ use Rattle.omf_check.specs.declared.fault.CheckFault.TheVariants as check
 use Rattle.omf_check.specs.declared.profile.Profile.{Profile}
 use Rattle.omf_cmd.specs.FaultLine.{fault_text}
 use Rattle.omf_cmd.specs.Listing.{check_text, list_text}
-use Rattle.omf_cmd.specs.Relocating.{Relocates}
+use Rattle.omf_cmd.specs.Relocating.{IsRelocation}
 use Rattle.omf_cmd.specs.Runs.{IsPart, IsWritten, Prints}
 use Rattle.omf_cmd.specs.Words.{status_of, usage}
 use Rattle.omf_cmd.specs.declared.fault.RunFault.{RunFault}
@@ -47,11 +47,11 @@ abbrev pub Reports : (List Raw → List ℕ) → Profile → Option (List ℕ) �
 Reports text profile left left' held held' ran =
     (records : List Raw) × Prints held held' ran (text records) × ((input : List ℕ) → left ≡ Some input → Judges profile input records left left' ran)
 
--- What a job answers, and what it reads and writes: a text of the module's records, or the outcome for the module and the text behind it.
+-- What a job answers, and what it reads and writes.
 abbrev pub IsRun : Job → Profile → Option (List ℕ) → Option (List ℕ) → Option (List ℕ) → Option (List ℕ) → Result (Unit {0}) RunFault → Type 0
 IsRun job.List profile left left' held held' ran = Reports list_text profile left left' held held' ran
 IsRun job.Check profile left left' held held' ran = Reports check_text profile left left' held held' ran
-IsRun job.Reloc profile left left' held held' ran = (text : List ℕ) × Prints held held' ran text × ((input : List ℕ) → left ≡ Some input → Relocates profile input text ran)
+IsRun job.Reloc profile left left' held held' ran = IsRelocation profile left held held' ran
 
 -- How the program ends after a run: the status is that of the answer, and of a fault its text is written, or a part of it from the front.
 abbrev pub IsEnded : Option (List ℕ) → Option (List ℕ) → Result (Unit {0}) RunFault → ℕ → Type 0

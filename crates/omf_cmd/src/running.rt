@@ -1,6 +1,6 @@
 //! The program's runs, from a reader to a writer.
 
-ghost use Rattle.std.specs.Prelude.{◌≡◌, IfErr};
+ghost use Rattle.std.specs.Prelude.{IfErr};
 ghost use Rattle.omf_cmd.specs.Listing.{check_text, list_text};
 ghost use Rattle.omf_cmd.specs.Reports.{Reports};
 ghost use Rattle.omf_cmd.specs.Runs.{IsCausedBy};
