@@ -1,9 +1,9 @@
 -- How a line of the listing is printed.
-use Rattle.std.proofs.Common.{◌≡◌, ℕ, ◌-◌, ◌+◌, ◌^◌, List, [], ◌∷◌, ◌++◌, length, false, true, refl, sym, ap, ◌∙◌, arith, append_assoc}
+use Rattle.std.proofs.Common.{◌≡◌, ℕ, ◌-◌, ◌^◌, List, [], ◌++◌, length, false, refl, sym, ap, ◌∙◌, arith}
 use Rattle.std.proofs.lemmas.List.{append-nil}
 use Rattle.std.proofs.lemmas.Grind.{flat_map-append}
-use Rattle.std.specs.Prelude.{replicate, flat_map, Option, Some, None}
-use Rattle.std.specs.Fmt.{digits, padded_integral, char_count, format_spec}
+use Rattle.std.specs.Prelude.{replicate}
+use Rattle.std.specs.Fmt.{padded_integral, char_count, format_spec}
 use Rattle.omf_cmd.specs.Runs.{Row, row_text, rows_text}
 
 -- a number with leading zeros up to a width

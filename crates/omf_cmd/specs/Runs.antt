@@ -1,5 +1,5 @@
 -- What a run of the program answers and writes.
-use Rattle.std.specs.Prelude.{◌≡◌, ◌⊎◌, ◌<◌, ◌≤◌, ℕ, ◌+◌, ◌-◌, ◌^◌, ◌++◌, List, [], ◌∷◌, length, flat_map, Bool, true, false, Option, Result, Ok, Err}
+use Rattle.std.specs.Prelude.{◌≡◌, ◌⊎◌, ◌<◌, ◌≤◌, ℕ, ◌-◌, ◌^◌, ◌++◌, List, [], ◌∷◌, flat_map, Bool, true, false, Option, Result, Ok, Err}
 use Rattle.omf_cmd.specs.Printed.{hex}
 use Rattle.std.specs.Io.KnownBytes.{Appends, Keeps}
 use Rattle.omf_cmd.specs.declared.fault.RunFault.{RunFault}

@@ -1,4 +1,3 @@
-use Rattle.std.proofs.Common.{◌≡◌}
 use Rattle.std.specs.Prelude.{string_bytes}
 use Rattle.omf_cmd.specs.Lines.{rows_in}
 use Rattle.omf_cmd.proofs.Lines.{more_lines}
