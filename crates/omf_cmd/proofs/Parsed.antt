@@ -1,5 +1,5 @@
 -- What clap answers on the words of the program.
-use Rattle.std.proofs.Common.{◌≡◌, ℕ, List, [], ◌∷◌, Bool, Option, Some, None, refl, sym, ap, subst, ◌∙◌, codes, true, false, cond, option_map, inl, inr}
+use Rattle.std.proofs.Common.{◌≡◌, ℕ, List, [], ◌∷◌, Bool, Option, Some, None, refl, sym, ap, subst, codes, true, false, cond, option_map, inl, inr}
 use Rattle.std.specs.Prelude.{option_and_then, Result, Ok, Err, IfOk}
 use Rattle.std.specs.Str.{bytes_eq}
 use Rattle.std.proofs.lemmas.Slice.Eq.{bytes_eq-Decides}

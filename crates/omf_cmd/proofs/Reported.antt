@@ -6,7 +6,7 @@ use Rattle.std.proofs.lemmas.Bool.{le-leb}
 use Rattle.std.proofs.lemmas.Option.{slice_get_within, get_or_from_slice_get, slice_get-get_or}
 use Rattle.std.proofs.Math.Seq.{drop-cons, get_or-append_seam}
 use Rattle.std.specs.List.{enumerate_from}
-use Rattle.std.specs.Prelude.{flat_map, map, All, Option, Some, None, option_map, slice_get, get_or, nat_le, cond, codes, decimal}
+use Rattle.std.specs.Prelude.{flat_map, All, Option, Some, None, option_map, slice_get, nat_le, cond, codes, decimal}
 use Rattle.omf_frame.specs.Bytes.{with_before}
 use Rattle.omf_frame.specs.Framing.{Raw, raw_bytes, IsRecord, IsFramed}
 use Rattle.omf_frame.specs.declared.fault.Place.{Place}

@@ -1,5 +1,4 @@
-use Rattle.std.proofs.Common.{◌+◌, ◌-◌, ◌*◌, ◌≤◌, ◌<◌, length}
-use Rattle.omf_cmd.specs.Runs.{HasFailed}
+use Rattle.std.proofs.Common.{◌+◌, ◌-◌, ◌*◌, ◌≤◌, length}
 use Rattle.omf_frame.proofs.Pushed.{IsPartly}
 use Rattle.omf_cmd.proofs.output.write_all.Given as goal
 

@@ -1,6 +1,6 @@
-use Rattle.std.proofs.Common.{◌≡◌, List, rules, ap, ap₂, sym, subst, ◌∙◌, map, string_bytes, codes, Some, inr}
-use Rattle.clap.specs.Words.{App, Text, app_of, fault_of, is_simple_and_free, kind_of, is_simple, new_app, subcommand_of, subcommand_rows_of, takes, with_rule, with_subcommand}
-use Rattle.omf_cmd.specs.Parsed.{IsParsed, flag_rule, with_flag, omf_app}
+use Rattle.std.proofs.Common.{◌≡◌, ap, sym, ◌∙◌, map, string_bytes, inr}
+use Rattle.clap.specs.Words.{App, fault_of, is_simple_and_free, kind_of, is_simple, subcommand_of, subcommand_rows_of, takes}
+use Rattle.omf_cmd.specs.Parsed.{omf_app}
 use Rattle.omf_cmd.proofs.Parsed.{answers, is_free_omf, is_simple_omf, only_memory}
 use Rattle.omf_cmd.proofs.words.command.Goals as goal
 
