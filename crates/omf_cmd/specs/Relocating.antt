@@ -1,5 +1,5 @@
 -- What `reloc` answers for an input: a module, and the placement text that is all that is left.
-use Rattle.std.specs.Prelude.{◌≡◌, ◌<◌, ◌≤◌, ⊤, ℕ, List, length, Option, Result, Ok, Err}
+use Rattle.std.specs.Prelude.{◌≡◌, ◌⊎◌, ◌<◌, ◌≤◌, ⊤, ℕ, List, [], length, Option, Result, Ok, Err}
 use Rattle.std.specs.Io.KnownBytes.{Consumes, IsAtEnd}
 use Rattle.omf_frame.specs.Framing.{Raw}
 use Rattle.omf_image.specs.Limits.{profile_limits}
@@ -44,10 +44,12 @@ Answers profile input (Err (fault.Line n)) = HasOutcome profile input (Err (faul
 Answers profile input (Err fault.TooLong) = HasOutcome profile input (Err fault.TooLong)
 Answers profile input (Err (fault.Reach f)) = HasOutcome profile input (Err (fault.Reach f))
 
--- What a run answers for an input, and the text that is its to print: all of it on Ok, and where the writer failed a part of it.
+-- What a run answers for an input, and the text that is its to print: all of it on Ok, and where the writer failed a part of it. Where
+-- memory ran out it is the same text, or there is none, so that nothing was printed.
 abbrev pub Relocates : Profile → List ℕ → List ℕ → Result (Unit {0}) RunFault → Type 0
 Relocates profile input text (Ok done) = Answers profile input (Ok text)
 Relocates profile input text (Err fault.Write) = Answers profile input (Ok text)
+Relocates profile input text (Err fault.Memory) = Answers profile input (Ok text) ⊎ (text ≡ [])
 Relocates profile input text (Err e) = Answers profile input (Err e)
 
 -- What the faults of a placement text are to a run.

@@ -12,7 +12,7 @@ use Rattle.omf_check.specs.declared.profile.Profile.{Profile}
 use Rattle.omf_cmd.specs.FaultLine.{fault_text}
 use Rattle.omf_cmd.specs.Listing.{check_text, list_text}
 use Rattle.omf_cmd.specs.Relocating.{Relocates}
-use Rattle.omf_cmd.specs.Runs.{IsPart, Prints}
+use Rattle.omf_cmd.specs.Runs.{IsPart, Prints, PrintsInPieces}
 use Rattle.omf_cmd.specs.Words.{status_of, usage}
 use Rattle.omf_cmd.specs.declared.fault.RunFault.{RunFault}
 use Rattle.omf_cmd.specs.declared.fault.RunFault.TheVariants as fault
@@ -46,7 +46,7 @@ Judges profile input records old new (Err (fault.Reach f)) = ⊥
 abbrev pub IsRun : Job → Profile → Option (List ℕ) → Option (List ℕ) → Option (List ℕ) → Option (List ℕ) → Result (Unit {0}) RunFault → Type 0
 IsRun job.List profile left left' held held' ran = (records : List Raw) × Prints held held' ran (list_text records) × ((input : List ℕ) → left ≡ Some input → Judges profile input records left left' ran)
 IsRun job.Check profile left left' held held' ran = (records : List Raw) × Prints held held' ran (check_text records) × ((input : List ℕ) → left ≡ Some input → Judges profile input records left left' ran)
-IsRun job.Reloc profile left left' held held' ran = (text : List ℕ) × Prints held held' ran text × ((input : List ℕ) → left ≡ Some input → Relocates profile input text ran)
+IsRun job.Reloc profile left left' held held' ran = (text : List ℕ) × PrintsInPieces held held' ran text × ((input : List ℕ) → left ≡ Some input → Relocates profile input text ran)
 
 -- How the program ends after a run: the status is that of the answer, and of a fault its text is written, or a part of it from the front.
 abbrev pub IsEnded : Option (List ℕ) → Option (List ℕ) → Result (Unit {0}) RunFault → ℕ → Type 0
