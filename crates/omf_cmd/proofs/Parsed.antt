@@ -1,9 +1,12 @@
 -- What clap answers on the words of the program.
-use Rattle.std.proofs.Common.{◌≡◌, ℕ, List, [], ◌∷◌, Bool, Option, Some, None, refl, sym, ap, subst, ◌∙◌, codes, true, false, cond, option_map}
+use Rattle.std.proofs.Common.{◌≡◌, ℕ, List, [], ◌∷◌, Bool, Option, Some, None, refl, sym, ap, subst, ◌∙◌, codes, true, false, cond, option_map, inl, inr}
 use Rattle.std.specs.Prelude.{option_and_then, Result, Ok, Err, IfOk}
 use Rattle.std.specs.Str.{bytes_eq}
 use Rattle.std.proofs.lemmas.Slice.Eq.{bytes_eq-Decides}
 use Rattle.clap.specs.Words.{Text, Row, is_simple, is_simple_and_free, one_of, subcommand_of, takes}
+use Rattle.clap.specs.Words.{HasKind, Kinds, kind_of}
+use Rattle.clap.specs.declared.error.Error.{Error}
+use Rattle.clap.specs.declared.error.kind.ErrorKind.TheVariants as kind
 use Rattle.clap.proofs.OnLiterals.{clap_on_literals}
 use Rattle.omf_cmd.specs.Parsed.{omf_app, flag_id, flag_text, IsParsed}
 use Rattle.omf_cmd.specs.Words.{asks, flag, job_named, profile_of}
@@ -109,6 +112,12 @@ answers (program ∷ name ∷ f ∷ []) asked e = answers_third program name f a
 answers (program ∷ name ∷ f ∷ g ∷ words) asked e = absurd cc
 
 -- ---- the program's command
+
+-- where there is no fault of the words, only memory fails
+pub only_memory : (kinds : Kinds) (e : Error) → kinds ≡ [] → HasKind kinds e → kind_of e ≡ kind.OutOfMemory
+only_memory [] e none (inl h) = h
+only_memory [] e none (inr h) = absurd h
+only_memory (k ∷ ks) e none h = absurd cc
 
 -- of an answer that is there, more is known
 pub ok_also : {X E : Type 0} (r : Result X E) {P Q : X → Type 0} → ((x : X) → P x → Q x) → IfOk r P → IfOk r Q

@@ -1,8 +1,8 @@
 -- What a run over a module answers and writes, from what its parts answer.
-use Rattle.std.proofs.Common.{◌≡◌, ℕ, List, [], ◌∷◌, ◌++◌, Result, Ok, Err, refl, sym, subst, ◌∙◌}
+use Rattle.std.proofs.Common.{◌≡◌, ℕ, List, [], ◌∷◌, ◌++◌, Result, Ok, Err, refl, sym, subst, ◌∙◌, inl, inr}
 use Rattle.std.proofs.lemmas.List.{append-nil}
 use Rattle.std.specs.Io.KnownBytes.{Consumes, Keeps}
-use Rattle.std.specs.Prelude.{Option, Some, None, IfErr}
+use Rattle.std.specs.Prelude.{Option, Some, None, IfErr, OnErr}
 use Rattle.omf_frame.specs.Framing.{Raw}
 use Rattle.omf_check.specs.Checking.{Decides}
 use Rattle.omf_check.specs.Module.{Module, records_in}
@@ -11,7 +11,7 @@ use Rattle.omf_check.specs.declared.fault.CheckFault.TheVariants as check
 use Rattle.omf_check.specs.declared.profile.Profile.{Profile}
 use Rattle.omf_cmd.specs.FaultLine.{fault_line, fault_text}
 use Rattle.omf_cmd.specs.Reports.{of_check, Judges, IsReadFrom}
-use Rattle.omf_cmd.specs.Runs.{IsPart, Prints}
+use Rattle.omf_cmd.specs.Runs.{HasFailed, IsPart, IsWritten, Prints}
 use Rattle.omf_cmd.specs.declared.fault.RunFault.{RunFault}
 use Rattle.omf_cmd.specs.declared.fault.RunFault.TheVariants as fault
 
@@ -48,6 +48,10 @@ part_written old new (Ok done) shown text e w p = (shown, [], sym e ∙ sym (app
 part_written old new (Err x) shown text e w p =
     let q = subst (λ (y : RunFault). Prints old new (Err y) shown) w p in
     (q.0, q.1, sym e ∙ q.2, q.3)
+
+pub written_or_failed : (old new : Option (List ℕ)) (failed fails : ℕ) (r : Result (Unit {0}) RunFault) (text : List ℕ) → IfErr r (λ e. e ≡ fault.Write) → OnErr r (HasFailed failed fails) → Prints old new r text → IsWritten old new failed fails text
+written_or_failed old new failed fails (Ok done) text w h p = inl p
+written_or_failed old new failed fails (Err x) text w h p = inr (h, part_written old new (Err x) text text refl w p)
 
 -- of a fault but Write a line is printed
 pub shown : (f : RunFault) → (f ≡ fault.Write → ⊥) → fault_line f ++ 10 ∷ [] ≡ fault_text f

@@ -11,8 +11,8 @@ use Rattle.omf_check.specs.declared.fault.CheckFault.TheVariants as check
 use Rattle.omf_check.specs.declared.profile.Profile.{Profile}
 use Rattle.omf_cmd.specs.FaultLine.{fault_text}
 use Rattle.omf_cmd.specs.Listing.{check_text, list_text}
-use Rattle.omf_cmd.specs.Relocating.{Relocates}
-use Rattle.omf_cmd.specs.Runs.{IsPart, Prints, PrintsInPieces}
+use Rattle.omf_cmd.specs.Relocating.{IsRelocation}
+use Rattle.omf_cmd.specs.Runs.{IsPart, IsWritten, Prints}
 use Rattle.omf_cmd.specs.Words.{status_of, usage}
 use Rattle.omf_cmd.specs.declared.fault.RunFault.{RunFault}
 use Rattle.omf_cmd.specs.declared.fault.RunFault.TheVariants as fault
@@ -42,11 +42,16 @@ Judges profile input records old new (Err (fault.Line n)) = ⊥
 Judges profile input records old new (Err fault.TooLong) = ⊥
 Judges profile input records old new (Err (fault.Reach f)) = ⊥
 
--- What a job answers, and what it reads and writes: a text of the module's records, or the outcome for the module and the text behind it.
+-- What a run that prints a text of the module's records answers, and what it reads and writes.
+abbrev pub Reports : (List Raw → List ℕ) → Profile → Option (List ℕ) → Option (List ℕ) → Option (List ℕ) → Option (List ℕ) → Result (Unit {0}) RunFault → Type 0
+Reports text profile left left' held held' ran =
+    (records : List Raw) × Prints held held' ran (text records) × ((input : List ℕ) → left ≡ Some input → Judges profile input records left left' ran)
+
+-- What a job answers, and what it reads and writes.
 abbrev pub IsRun : Job → Profile → Option (List ℕ) → Option (List ℕ) → Option (List ℕ) → Option (List ℕ) → Result (Unit {0}) RunFault → Type 0
-IsRun job.List profile left left' held held' ran = (records : List Raw) × Prints held held' ran (list_text records) × ((input : List ℕ) → left ≡ Some input → Judges profile input records left left' ran)
-IsRun job.Check profile left left' held held' ran = (records : List Raw) × Prints held held' ran (check_text records) × ((input : List ℕ) → left ≡ Some input → Judges profile input records left left' ran)
-IsRun job.Reloc profile left left' held held' ran = (text : List ℕ) × PrintsInPieces held held' ran text × ((input : List ℕ) → left ≡ Some input → Relocates profile input text ran)
+IsRun job.List profile left left' held held' ran = Reports list_text profile left left' held held' ran
+IsRun job.Check profile left left' held held' ran = Reports check_text profile left left' held held' ran
+IsRun job.Reloc profile left left' held held' ran = IsRelocation profile left held held' ran
 
 -- How the program ends after a run: the status is that of the answer, and of a fault its text is written, or a part of it from the front.
 abbrev pub IsEnded : Option (List ℕ) → Option (List ℕ) → Result (Unit {0}) RunFault → ℕ → Type 0
@@ -60,6 +65,6 @@ pub record IsAnswer (asked : Job × Profile) (left left' held held' : Option (Li
   pub run : IsRun asked.0 asked.1 left left' held between ran
   pub ended : IsEnded between held' ran status
 
--- The program's answer to words that are not understood: how it is called, or a part of that from the front; or memory ran out.
-abbrev pub IsMisuse : Option (List ℕ) → Option (List ℕ) → ℕ → Type 0
-IsMisuse held held' status = ((status ≡ 2) × IsPart held held' usage) ⊎ ((status ≡ 3) × IsPart held held' (fault_text fault.Memory))
+-- The program's answer to words that are not understood: how it is called, unless the writer failed; or memory ran out.
+abbrev pub IsMisuse : Option (List ℕ) → Option (List ℕ) → ℕ → ℕ → ℕ → Type 0
+IsMisuse held held' failed fails status = ((status ≡ 2) × IsWritten held held' failed fails usage) ⊎ ((status ≡ 3) × IsPart held held' (fault_text fault.Memory))

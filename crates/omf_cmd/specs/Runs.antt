@@ -30,6 +30,10 @@ Prints old new (Err e) text = Keeps old new
 abbrev pub IsPart : Option (List ℕ) → Option (List ℕ) → List ℕ → Type 0
 IsPart old new text = (front : List ℕ) × (back : List ℕ) × (text ≡ front ++ back) × Appends old new front
 
+-- the whole text was written; or the writer failed, and a part of it was
+abbrev pub IsWritten : Option (List ℕ) → Option (List ℕ) → ℕ → ℕ → List ℕ → Type 0
+IsWritten old new failed fails text = Appends old new text ⊎ (HasFailed failed fails × IsPart old new text)
+
 -- a front of the text was written, and the rest of it is left
 pub record IsWrittenUpTo (old new : Option (List ℕ)) (text left : List ℕ) : Type 0 where
   pub front : List ℕ

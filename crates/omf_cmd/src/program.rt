@@ -6,7 +6,7 @@ ghost use Rattle.omf_cmd.specs.Parsed.{omf_app};
 ghost use Rattle.omf_check.specs.declared.profile.Profile.{Profile};
 ghost use Rattle.omf_cmd.specs.FaultLine.{fault_line, fault_text};
 ghost use Rattle.omf_cmd.specs.Reports.{IsRun, IsAnswer, IsMisuse};
-ghost use Rattle.omf_cmd.specs.Runs.{IsPart};
+ghost use Rattle.omf_cmd.specs.Runs.{IsPart, IsWritten};
 ghost use Rattle.omf_cmd.specs.Words.{asks, status_of, usage};
 ghost use Rattle.omf_cmd.specs.declared.words.Job.{Job};
 
@@ -84,7 +84,7 @@ pub fn fail<K: Sink>(alloc: Global, fault: &RunFault, writer: &mut K) -> u8
 
 /// Prints how the program is called. A failure to print is passed over.
 fn print_usage<K: Sink>(writer: &mut K)
-    ensures { IsPart (K.held writer.old) (K.held writer.new) usage }
+    ensures { IsWritten (K.held writer.old) (K.held writer.new) (K.failures writer.old) (K.failures writer.new) usage }
 {
     let _ = write_all(writer, USAGE);
 }
@@ -101,7 +101,7 @@ pub fn main_with<S: Source, K: Sink>(
     // Where the words ask for a job, it was run, and the status and what was written tell its answer.
     ensures answer { (asked : Job × Profile) → asks (map string_bytes words.now) ≡ Some asked → IsAnswer asked (S.left reader.old) (S.left reader.new) (K.held writer.old) (K.held writer.new) result }
     // Where clap refuses the words, the program says how it is called.
-    ensures misuse { (fault_of omf_app (map string_bytes words.now) ≡ [] → ⊥) → IsMisuse (K.held writer.old) (K.held writer.new) result }
+    ensures misuse { (fault_of omf_app (map string_bytes words.now) ≡ [] → ⊥) → IsMisuse (K.held writer.old) (K.held writer.new) (K.failures writer.old) (K.failures writer.new) result }
 {
     let ran = match command(alloc, words) {
         Ok(Some((job, profile))) => run(alloc, job, profile, reader, writer),

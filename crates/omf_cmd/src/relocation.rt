@@ -5,8 +5,8 @@ ghost use Rattle.omf_image.specs.Limits.{profile_limits};
 ghost use Rattle.omf_check.specs.Module.{records_in};
 ghost use Rattle.omf_check.specs.WellFormed.{recs};
 ghost use Rattle.omf_cmd.specs.Outcome.{reloc_outcome, text_limit};
-ghost use Rattle.omf_cmd.specs.Relocating.{Answers, IsOutcome, Relocates};
-ghost use Rattle.omf_cmd.specs.Runs.{IsCausedBy, IsReadFault, PrintsInPieces};
+ghost use Rattle.omf_cmd.specs.Relocating.{Answers, IsOutcome, IsRelocation};
+ghost use Rattle.omf_cmd.specs.Runs.{IsCausedBy, IsReadFault};
 
 use crate::fault::RunFault;
 use crate::image_text::print_image;
@@ -55,7 +55,7 @@ pub fn run_reloc<S: Source, K: Sink>(
     ensures cause { IfErr result (IsCausedBy (S.failures reader.old) (S.failures reader.new) (K.failures writer.old) (K.failures writer.new)) }
     // The answer is that of the definition, and the whole text is written, or where the writer failed or memory ran out a part of it
     // from the front.
-    ensures prints { (text : List ℕ) × PrintsInPieces (K.held writer.old) (K.held writer.new) result text × ((input : List ℕ) → S.left reader.old ≡ Some input → Relocates profile input text result) }
+    ensures prints { IsRelocation profile (S.left reader.old) (K.held writer.old) (K.held writer.new) result }
 {
     let listing = listed(alloc, profile, reader)?;
     print_image(

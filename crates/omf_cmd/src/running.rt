@@ -1,10 +1,9 @@
 //! The program's runs, from a reader to a writer.
 
-ghost use Rattle.std.specs.Prelude.{◌≡◌, ℕ, List, IfErr, Some};
-ghost use Rattle.omf_frame.specs.Framing.{Raw};
+ghost use Rattle.std.specs.Prelude.{IfErr};
 ghost use Rattle.omf_cmd.specs.Listing.{check_text, list_text};
-ghost use Rattle.omf_cmd.specs.Reports.{Judges};
-ghost use Rattle.omf_cmd.specs.Runs.{IsCausedBy, Prints};
+ghost use Rattle.omf_cmd.specs.Reports.{Reports};
+ghost use Rattle.omf_cmd.specs.Runs.{IsCausedBy};
 
 use crate::fault::RunFault;
 use crate::output::write_all;
@@ -28,7 +27,7 @@ pub fn run_check<S: Source, K: Sink>(
     // A failing reader or writer is named only where its count of failures rose, or stands at its last value.
     ensures cause { IfErr result (IsCausedBy (S.failures reader.old) (S.failures reader.new) (K.failures writer.old) (K.failures writer.new)) }
     // The answer is that of the definition, and the whole text is written, or where the writer failed a part of it from the front.
-    ensures prints { (records : List Raw) × Prints (K.held writer.old) (K.held writer.new) result (check_text records) × ((input : List ℕ) → S.left reader.old ≡ Some input → Judges profile input records (S.left reader.old) (S.left reader.new) result) }
+    ensures prints { Reports check_text profile (S.left reader.old) (S.left reader.new) (K.held writer.old) (K.held writer.new) result }
 {
     let checked = check(alloc, reader, profile)?;
     let text = check_text(alloc, &checked)?;
@@ -50,7 +49,7 @@ pub fn run_list<S: Source, K: Sink>(
     // A failing reader or writer is named only where its count of failures rose, or stands at its last value.
     ensures cause { IfErr result (IsCausedBy (S.failures reader.old) (S.failures reader.new) (K.failures writer.old) (K.failures writer.new)) }
     // The answer is that of the definition, and the whole text is written, or where the writer failed a part of it from the front.
-    ensures prints { (records : List Raw) × Prints (K.held writer.old) (K.held writer.new) result (list_text records) × ((input : List ℕ) → S.left reader.old ≡ Some input → Judges profile input records (S.left reader.old) (S.left reader.new) result) }
+    ensures prints { Reports list_text profile (S.left reader.old) (S.left reader.new) (K.held writer.old) (K.held writer.new) result }
 {
     let checked = check(alloc, reader, profile)?;
     let text = list_text(alloc, &checked)?;

@@ -2,7 +2,7 @@
 
 ghost use Rattle.std.specs.Prelude.{◌≡◌, ◌⊎◌, ℕ, List, [], map, string_bytes, IfOk, Bool, false, Some, None};
 ghost use Rattle.omf_cmd.specs.Words.{asks, job_named, profile_of};
-ghost use Rattle.clap.specs.Words.{app_of, fault_of, rule_of, subcommand_rows_of};
+ghost use Rattle.clap.specs.Words.{app_of, fault_of, rule_of, subcommand_of, subcommand_rows_of};
 ghost use Rattle.omf_cmd.specs.Parsed.{flag_rule, omf_app, IsParsed};
 
 use clap::error::ErrorKind;
@@ -25,6 +25,8 @@ pub enum Job {
 pub fn command(alloc: Global, words: &[String]) -> Result<Option<(Job, Profile)>, AllocError>
     // Behind the program's own name a subcommand is understood, alone or followed by the flag.
     ensures asks { (asked : Job × Profile) → asks (map string_bytes words.now) ≡ Some asked → IfOk result (λ found. found ≡ Some asked) }
+    // So is each subcommand that clap's definition has of words without a fault.
+    ensures parsed { (name : List ℕ) (job : Job) (refuses : Bool) → fault_of omf_app (map string_bytes words.now) ≡ [] → IsParsed (subcommand_of omf_app (map string_bytes words.now)) name refuses → job_named name ≡ Some job → IfOk result (λ found. found ≡ Some (record { 0 = job; 1 = profile_of refuses })) }
     // A job is answered only where clap's definition has no fault of these words.
     ensures refused { IfOk result (λ found. (found ≡ None) ⊎ (fault_of omf_app (map string_bytes words.now) ≡ [])) }
 {

@@ -1,7 +1,7 @@
 use Rattle.std.proofs.Common.{◌≡◌, List, rules, ap, ap₂, sym, subst, ◌∙◌, map, string_bytes, codes, Some, inr}
 use Rattle.clap.specs.Words.{App, Text, app_of, fault_of, is_simple_and_free, kind_of, is_simple, new_app, subcommand_of, subcommand_rows_of, takes, with_rule, with_subcommand}
 use Rattle.omf_cmd.specs.Parsed.{IsParsed, flag_rule, with_flag, omf_app}
-use Rattle.omf_cmd.proofs.Parsed.{answers, is_free_omf, is_simple_omf}
+use Rattle.omf_cmd.proofs.Parsed.{answers, is_free_omf, is_simple_omf, only_memory}
 use Rattle.omf_cmd.proofs.words.command.Goals as goal
 
 pub returns-in-Ok-clause-asks : goal.returns-in-Ok-clause-asks
@@ -30,3 +30,23 @@ returns-in-Ok-clause-refused c =
     let words = map string_bytes c.args.words.now in
     let free = ap is_simple_and_free c.in_ok-omf.ensures ∙ is_free_omf in
     inr (sym (ap (λ (a : App). fault_of a words) c.in_ok-omf.ensures) ∙ c.in-Ok.ensures.kinds free)
+
+pub returns-in-Ok-clause-parsed : goal.returns-in-Ok-clause-parsed
+returns-in-Ok-clause-parsed c name job refuses none parse named =
+    let words = map string_bytes c.args.words.now in
+    let h = c.in-Ok.ensures.matches (ap is_simple c.in_ok-omf.ensures ∙ is_simple_omf) in
+    let rows : subcommand_rows_of c.in-Ok.matches ≡ subcommand_of omf_app words = h.1 ∙ ap (λ (b : App). subcommand_of b words) c.in_ok-omf.ensures in
+    let here = rw (← rows) at parse in
+    c.named_by.ensures name job refuses here named
+
+pub returns-in-Err-2-clause-parsed : goal.returns-in-Err-2-clause-parsed
+returns-in-Err-2-clause-parsed c name job refuses none parse named =
+    let words = map string_bytes c.args.words.now in
+    let free = ap is_simple_and_free c.in_ok-omf.ensures ∙ is_free_omf in
+    let out = only_memory _ c.in-Err-2.field-0 (ap (λ (a : App). fault_of a words) c.in_ok-omf.ensures ∙ none) (c.in-Err-2.ensures.kinds free) in
+    let is = c.in-Err.is in
+    let is_too = c.in-Err-2.is in
+    let same : c.in-Err.error ≡ c.in-Err-2.field-0 = cc in
+    let test = rw (c.kind.ensures ∙ ap kind_of same ∙ out) at c.eq.ensures in
+    let not = c.if-eq.false in
+    absurd cc
