@@ -44,7 +44,7 @@ impl Model for Listing {
 ///
 /// The first of: `Refused` where the input does not begin with a well-formed module; `TooLong` and then `Line` by the text; `Line`
 /// for a group whose frame is not found; `Reach` where the placement does not reach. `Read` and `Write` where that device failed,
-/// `Memory` where a growth was refused.
+/// `Memory` where a growth was refused. At `Write` and at `Memory` a part of the listing may have been written.
 pub fn run_reloc<S: Source, K: Sink>(
     alloc: Global,
     profile: Profile,
