@@ -1,11 +1,11 @@
 -- How the lines of a run are cut, and where runs stand.
 use Rattle.std.proofs.Common.{◌≡◌, ℕ, ◌+◌, ◌-◌, ◌*◌, ◌/◌, ◌^◌, ◌<◌, ◌≤◌, List, [], ◌∷◌, ◌++◌, length, take, drop, min, zero, suc, ◌⊎◌, inl, inr, refl, sym, ap, ap₂, subst, ◌∙◌, arith, append_assoc, zero-add, add-zero, Some, None}
-use Rattle.std.specs.Prelude.{flat_map, OnOk, Option, Result, Ok, Err, slice_get}
+use Rattle.std.specs.Prelude.{flat_map, Option, slice_get}
 use Rattle.std.specs.Option.{option_to_list}
 use Rattle.std.specs.List.{range_with_len}
 use Rattle.std.proofs.Math.Seq.{drop-nil}
 use Rattle.std.proofs.Math.Nat.{eq-or-lt_of_le}
-use Rattle.std.proofs.lemmas.List.{append-nil, drop_min, flat_map_more, length-take, length-drop, take_all, take_min, take_more}
+use Rattle.std.proofs.lemmas.List.{append-nil, drop_all, drop_min, drop_more, length-take, length-drop, take_min}
 use Rattle.std.proofs.lemmas.Option.{slice_get_within, get_or_from_slice_get}
 use Rattle.omf_image.specs.Joined.{runs_of}
 use Rattle.omf_image.specs.Overlay.{Laid, byte_at, IsRunAt, AreBytesAt, AreBytesOf, AreBytesOver, AreLaidOver, AreRising, AreRuns}
@@ -18,13 +18,6 @@ use Rattle.omf_cmd.specs.Relocated.{bytes_line, run_lines, image_text}
 use Rattle.omf_cmd.specs.RunLines.{place_text, byte_text, line_text, lines_of, IsRunOf}
 
 -- ---- ranges
-
--- one more number at the end
-pub range_more : (a n : ℕ) → range_with_len a (suc n) ≡ range_with_len a n ++ (a + n) ∷ []
-range_more a zero = ap (λ (x : ℕ). x ∷ []) (sym (add-zero a))
-range_more a (suc n) =
-    let e : a + 1 + n ≡ a + suc n = omega arith in
-    ap (λ (xs : List ℕ). a ∷ xs) (range_more (a + 1) n ∙ ap (λ (x : ℕ). range_with_len (a + 1) n ++ x ∷ []) e)
 
 -- every number one higher
 pub range_shifted : (f : ℕ → List ℕ) (a n : ℕ) → flat_map f (range_with_len (a + 1) n) ≡ flat_map (λ k. f (k + 1)) (range_with_len a n)
@@ -186,18 +179,18 @@ past [] k none = omega arith
 past (r ∷ runs) zero none = absurd cc
 past (r ∷ runs) (suc k) none = let next = past runs k none in omega (arith, next)
 
--- one more run was printed
-pub run_printed : (laid : List Laid) (segment k first : ℕ) (bytes old mid new : List ℕ) → IsRunOf (byte_at laid segment) (slice_get (runs_of laid segment) k) first bytes
-    → mid ≡ old ++ flat_map (run_lines segment (byte_at laid segment)) (take k (runs_of laid segment)) → new ≡ mid ++ lines_of segment first bytes
-    → new ≡ old ++ flat_map (run_lines segment (byte_at laid segment)) (take (k + 1) (runs_of laid segment))
-run_printed laid segment k first bytes old mid new run before after =
+-- a run, and those after it
+pub run_and_others : (laid : List Laid) (segment k first : ℕ) (bytes old : List ℕ) → IsRunOf (byte_at laid segment) (slice_get (runs_of laid segment) k) first bytes
+    → (old ++ lines_of segment first bytes) ++ flat_map (run_lines segment (byte_at laid segment)) (drop (k + 1) (runs_of laid segment)) ≡ old ++ flat_map (run_lines segment (byte_at laid segment)) (drop k (runs_of laid segment))
+run_and_others laid segment k first bytes old run =
     let runs : List Run = runs_of laid segment in
     let shown : Run → List ℕ = run_lines segment (byte_at laid segment) in
     let r : Run = record { first = first; len = length bytes } in
     let within : k < length runs = slice_get_within runs k r run.is in
-    let more : take (k + 1) runs ≡ take k runs ++ r ∷ [] = take_more runs k r within ∙ ap (λ (t : Run). take k runs ++ t ∷ []) (get_or_from_slice_get runs k r r run.is) in
-    after ∙ ap₂ (λ (s t : List ℕ). s ++ t) before (sym (run_lines_are segment (byte_at laid segment) first bytes run.bytes_over))
-    ∙ flat_map_more shown old (take k runs) r ∙ ap (λ (t : List Run). old ++ flat_map shown t) (sym more)
+    let others : List ℕ = flat_map shown (drop (k + 1) runs) in
+    let left : drop k runs ≡ r ∷ drop (k + 1) runs = drop_more runs k r within ∙ ap (λ (t : Run). t ∷ drop (k + 1) runs) (get_or_from_slice_get runs k r r run.is) in
+    append_assoc old (lines_of segment first bytes) others ∙ ap (λ (t : List ℕ). old ++ (t ++ others)) (sym (run_lines_are segment (byte_at laid segment) first bytes run.bytes_over))
+    ∙ ap (λ (t : List Run). old ++ flat_map shown t) (sym left)
 
 -- a run's number is below the number of runs, and no larger than a segment has places
 pub number_bounds : (laid : List Laid) (segment k first : ℕ) (bytes : List ℕ) → IsRunOf (byte_at laid segment) (slice_get (runs_of laid segment) k) first bytes → (k < length (runs_of laid segment)) × (k ≤ 2 ^ 32)
@@ -207,25 +200,17 @@ number_bounds laid segment k first bytes run =
     let within : first + length bytes ≤ 2 ^ 32 = run.within in
     (slice_get_within (runs_of laid segment) k r run.is, omega arith)
 
--- without a run of that number all runs were printed
-pub all_runs : (laid : List Laid) (segment k : ℕ) → slice_get (runs_of laid segment) k ≡ None → take k (runs_of laid segment) ≡ runs_of laid segment
-all_runs laid segment k none = take_all k (runs_of laid segment) (past (runs_of laid segment) k none)
+-- without a run of that number none is left
+pub no_others : (laid : List Laid) (segment k : ℕ) → slice_get (runs_of laid segment) k ≡ None → drop k (runs_of laid segment) ≡ []
+no_others laid segment k none = drop_all k (runs_of laid segment) (past (runs_of laid segment) k none)
 
--- one more segment was printed
-pub segment_printed : (shown : ℕ → List ℕ) (segment : ℕ) (old mid new : List ℕ) → 1 ≤ segment → mid ≡ old ++ flat_map shown (range_with_len 1 (segment - 1)) → new ≡ mid ++ shown segment
-    → new ≡ old ++ flat_map shown (range_with_len 1 segment)
-segment_printed shown segment old mid new from before after =
-    let last : suc (segment - 1) ≡ segment = omega arith in
-    let is : 1 + (segment - 1) ≡ segment = omega arith in
-    let more : range_with_len 1 segment ≡ range_with_len 1 (segment - 1) ++ segment ∷ [] = ap (range_with_len 1) (sym last) ∙ range_more 1 (segment - 1) ∙ ap (λ (x : ℕ). range_with_len 1 (segment - 1) ++ x ∷ []) is in
-    after ∙ ap (λ (t : List ℕ). t ++ shown segment) before ∙ flat_map_more shown old (range_with_len 1 (segment - 1)) segment ∙ ap (λ (t : List ℕ). old ++ flat_map shown t) (sym more)
-
--- all segments were printed, and then the start
-pub image_printed : {E : Type 0} (r : Result (Unit {0}) E) (shown : ℕ → List ℕ) (segment segments : ℕ) (last old mid new : List ℕ) → OnOk r (new ≡ mid ++ last) → mid ≡ old ++ flat_map shown (range_with_len 1 segment) → segment ≡ segments
-    → OnOk r (new ≡ old ++ (flat_map shown (range_with_len 1 segments) ++ last))
-image_printed (Ok done) shown segment segments last old mid new after before all =
-    after ∙ ap (λ (t : List ℕ). t ++ last) (before ∙ ap (λ (n : ℕ). old ++ flat_map shown (range_with_len 1 n)) all) ∙ append_assoc old (flat_map shown (range_with_len 1 segments)) last
-image_printed (Err e) shown segment segments last old mid new after before all = tt
+-- a segment, and those after it
+pub segment_and_others : (shown : ℕ → List ℕ) (before segments : ℕ) (old : List ℕ) → before < segments
+    → (old ++ shown (before + 1)) ++ flat_map shown (range_with_len (before + 1 + 1) (segments - (before + 1))) ≡ old ++ flat_map shown (range_with_len (before + 1) (segments - before))
+segment_and_others shown before segments old within =
+    let left : segments - before ≡ suc (segments - (before + 1)) = omega arith in
+    append_assoc old (shown (before + 1)) (flat_map shown (range_with_len (before + 1 + 1) (segments - (before + 1))))
+    ∙ ap (λ (n : ℕ). old ++ flat_map shown (range_with_len (before + 1) n)) (sym left)
 
 -- The text of pieces laid in turn is that of the image that they make.
 pub overlay_text : (pieces laid : List Laid) (segments : ℕ) (start : Option (ℕ × ℕ)) → AreLaidOver [] pieces laid

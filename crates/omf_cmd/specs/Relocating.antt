@@ -1,5 +1,5 @@
 -- What `reloc` answers for an input: a module, and the placement text that is all that is left.
-use Rattle.std.specs.Prelude.{◌≡◌, ◌<◌, ◌≤◌, ⊤, ℕ, List, length, Option, Some, Result, Ok, Err}
+use Rattle.std.specs.Prelude.{◌≡◌, ◌⊎◌, ◌<◌, ◌≤◌, ⊤, ℕ, List, [], length, Option, Some, Result, Ok, Err}
 use Rattle.std.specs.Io.KnownBytes.{Consumes, IsAtEnd}
 use Rattle.omf_frame.specs.Framing.{Raw}
 use Rattle.omf_image.specs.Limits.{profile_limits}
@@ -9,7 +9,7 @@ use Rattle.omf_check.specs.declared.profile.Profile.{Profile}
 use Rattle.omf_reloc.specs.declared.fault.TextFault.{TextFault}
 use Rattle.omf_reloc.specs.declared.fault.TextFault.TheVariants as text
 use Rattle.omf_cmd.specs.Outcome.{reloc_outcome, text_limit}
-use Rattle.omf_cmd.specs.Runs.{HasFailed, Prints}
+use Rattle.omf_cmd.specs.Runs.{HasFailed, PrintsInPieces}
 use Rattle.omf_cmd.specs.declared.fault.RunFault.{RunFault}
 use Rattle.omf_cmd.specs.declared.fault.RunFault.TheVariants as fault
 
@@ -44,15 +44,17 @@ Answers profile input (Err (fault.Line n)) = HasOutcome profile input (Err (faul
 Answers profile input (Err fault.TooLong) = HasOutcome profile input (Err fault.TooLong)
 Answers profile input (Err (fault.Reach f)) = HasOutcome profile input (Err (fault.Reach f))
 
--- What a run answers for an input, and the text that is its to print: all of it on Ok, and where the writer failed a part of it.
+-- What a run answers for an input, and the text that is its to print: all of it on Ok, and where the writer failed a part of it. Where
+-- memory ran out it is the same text, or there is none, so that nothing was printed.
 abbrev pub Relocates : Profile → List ℕ → List ℕ → Result (Unit {0}) RunFault → Type 0
 Relocates profile input text (Ok done) = Answers profile input (Ok text)
 Relocates profile input text (Err fault.Write) = Answers profile input (Ok text)
+Relocates profile input text (Err fault.Memory) = Answers profile input (Ok text) ⊎ (text ≡ [])
 Relocates profile input text (Err e) = Answers profile input (Err e)
 
 -- What a run answers, and what it reads and writes.
 abbrev pub IsRelocation : Profile → Option (List ℕ) → Option (List ℕ) → Option (List ℕ) → Result (Unit {0}) RunFault → Type 0
-IsRelocation profile left held held' ran = (text : List ℕ) × Prints held held' ran text × ((input : List ℕ) → left ≡ Some input → Relocates profile input text ran)
+IsRelocation profile left held held' ran = (text : List ℕ) × PrintsInPieces held held' ran text × ((input : List ℕ) → left ≡ Some input → Relocates profile input text ran)
 
 -- What the faults of a placement text are to a run.
 abbrev pub of_text : TextFault → RunFault

@@ -4,6 +4,7 @@ use Rattle.std.specs.List.{range_with_len}
 use Rattle.omf_image.specs.Overlay.{AreBytesOver}
 use Rattle.omf_image.specs.declared.run.Run.{Run}
 use Rattle.omf_cmd.specs.Printed.{hex}
+use Rattle.omf_cmd.specs.Relocated.{run_lines}
 
 -- four digits of segment, a colon, eight of offset
 abbrev pub place_text : ℕ → ℕ → List ℕ
@@ -20,6 +21,10 @@ line_text segment offset bytes = place_text segment offset ++ flat_map byte_text
 -- lines of 16 bytes from the first on; the last line has what is left
 abbrev pub lines_of : ℕ → ℕ → List ℕ → List ℕ
 lines_of segment first bytes = flat_map (λ k. line_text segment (first + 16 * k) (take 16 (drop (16 * k) bytes))) (range_with_len 0 ((length bytes + 15) / 16))
+
+-- so many segments in the order of their indices, each with its runs
+abbrev pub segments_text : ℕ → (ℕ → ℕ → Option ℕ) → (ℕ → List Run) → List ℕ
+segments_text count byte runs = flat_map (λ segment. flat_map (run_lines segment (byte segment)) (runs segment)) (range_with_len 1 count)
 
 -- the run of a number, which ends inside its segment, by its first offset and its bytes; none where there is no such run
 pub record IsRunOf (byte : ℕ → Option ℕ) (run : Option Run) (first : ℕ) (bytes : List ℕ) : Type 0 where

@@ -33,3 +33,28 @@ IsPart old new text = (front : List ℕ) × (back : List ℕ) × (text ≡ front
 -- the whole text was written; or the writer failed, and a part of it was
 abbrev pub IsWritten : Option (List ℕ) → Option (List ℕ) → ℕ → ℕ → List ℕ → Type 0
 IsWritten old new failed fails text = Appends old new text ⊎ (HasFailed failed fails × IsPart old new text)
+
+-- a front of the text was written, and the rest of it is left
+pub record IsWrittenUpTo (old new : Option (List ℕ)) (text left : List ℕ) : Type 0 where
+  pub front : List ℕ
+  pub whole : text ≡ front ++ left
+  pub written : Appends old new front
+
+-- what the writer got of a text that is printed in pieces: all but what is still kept of it, or at a fault a part of it from the front
+abbrev pub Passes : Option (List ℕ) → Option (List ℕ) → Result (Unit {0}) RunFault → List ℕ → List ℕ → Type 0
+Passes old new (Ok done) text kept = IsWrittenUpTo old new text kept
+Passes old new (Err e) text kept = IsPart old new text
+
+-- what the writer got of a text that was printed in pieces: the whole text, a part of it from the front where the writer failed or memory
+-- ran out, and nothing at any other fault
+abbrev pub PrintsInPieces : Option (List ℕ) → Option (List ℕ) → Result (Unit {0}) RunFault → List ℕ → Type 0
+PrintsInPieces old new (Ok done) text = Appends old new text
+PrintsInPieces old new (Err fault.Write) text = IsPart old new text
+PrintsInPieces old new (Err fault.Memory) text = IsPart old new text
+PrintsInPieces old new (Err e) text = Keeps old new
+
+-- a fault of printing: memory ran out, or the writer failed, with a failure that is counted
+abbrev pub IsPrintFault : ℕ → ℕ → RunFault → Type 0
+IsPrintFault old new fault.Memory = Unit {0}
+IsPrintFault old new fault.Write = HasFailed old new
+IsPrintFault old new _ = ⊥

@@ -1,13 +1,17 @@
 //! The text of an image and a start: lines of up to 16 bytes for each run of covered bytes.
 
-ghost use Rattle.std.specs.Prelude.{◌≡◌, ◌+◌, ◌^◌, ◌≤◌, ◌++◌, flat_map, length, option_map, OnOk, string_bytes};
+ghost use Rattle.std.specs.Prelude.{◌≡◌, ◌+◌, ◌^◌, ◌≤◌, ◌++◌, flat_map, length, option_map, IfErr, OnOk, string_bytes};
 ghost use Rattle.omf_image.specs.Joined.{runs_of};
 ghost use Rattle.omf_image.specs.Overlay.{byte_at};
 ghost use Rattle.omf_cmd.specs.Relocated.{run_lines, start_line, image_text};
-ghost use Rattle.omf_cmd.specs.RunLines.{place_text, byte_text, line_text, lines_of, IsRunShown};
+ghost use Rattle.omf_cmd.specs.RunLines.{place_text, byte_text, line_text, lines_of, segments_text, IsRunShown};
+ghost use Rattle.omf_cmd.specs.Runs.{Passes, PrintsInPieces, IsPrintFault};
 
+use crate::fault::RunFault;
+use crate::output::{write_all, write_piece};
+use omf_frame::Sink;
 use omf_image::Image;
-use std::alloc::AllocError;
+use std::alloc::{AllocError, Global};
 use std::fmt::Write;
 
 /// How many bytes a line has at most.
@@ -39,15 +43,24 @@ fn print_line(text: &mut String, segment: u16, offset: u32, bytes: &[u8]) -> Res
 }
 
 /// A run of covered bytes: lines of 16 bytes from its first byte on, and what is left.
-fn print_run(text: &mut String, segment: u16, first: u32, bytes: &[u8]) -> Result<(), AllocError>
+fn print_run<K: Sink>(
+    writer: &mut K,
+    text: &mut String,
+    segment: u16,
+    first: u32,
+    bytes: &[u8],
+) -> Result<(), RunFault>
     requires { first + length bytes.now ≤ 2 ^ 32 }
-    ensures { OnOk result (string_bytes text.new ≡ string_bytes text.old ++ lines_of segment first bytes.now) }
+    ensures passes { Passes (K.held writer.old) (K.held writer.new) result (string_bytes text.old ++ lines_of segment first bytes.now) (string_bytes text.new) }
+    ensures fault { IfErr result (IsPrintFault (K.failures writer.old) (K.failures writer.new)) }
+    ensures grows { K.failures writer.old ≤ K.failures writer.new }
 {
     let mut offset = u64::from(first);
     let mut rest = bytes;
     while !rest.is_empty() {
         let (line, others) = rest.split_at(rest.len().min(LINE_BYTES));
         print_line(text, segment, offset as u32, line)?;
+        write_piece(writer, text)?;
         offset += line.len() as u64;
         rest = others;
     }
@@ -64,12 +77,19 @@ fn numbered_run(image: &Image, segment: u16, k: usize) -> Option<(u32, &[u8])>
 }
 
 /// The runs of a segment, in rising order.
-fn print_runs(text: &mut String, image: &Image, segment: u16) -> Result<(), AllocError>
-    ensures { OnOk result (string_bytes text.new ≡ string_bytes text.old ++ flat_map (run_lines segment (byte_at image.now segment)) (runs_of image.now segment)) }
+fn print_runs<K: Sink>(
+    writer: &mut K,
+    text: &mut String,
+    image: &Image,
+    segment: u16,
+) -> Result<(), RunFault>
+    ensures passes { Passes (K.held writer.old) (K.held writer.new) result (string_bytes text.old ++ flat_map (run_lines segment (byte_at image.now segment)) (runs_of image.now segment)) (string_bytes text.new) }
+    ensures fault { IfErr result (IsPrintFault (K.failures writer.old) (K.failures writer.new)) }
+    ensures grows { K.failures writer.old ≤ K.failures writer.new }
 {
     let mut k = 0;
     while let Some((first, bytes)) = numbered_run(image, segment, k) {
-        print_run(text, segment, first, bytes)?;
+        print_run(writer, text, segment, first, bytes)?;
         k += 1;
     }
     Ok(())
@@ -87,23 +107,43 @@ fn print_start(text: &mut String, start: Option<(u16, u32)>) -> Result<(), Alloc
     text.push_str("\n")
 }
 
-/// The runs of the segments 1 to `segments` of an image, and last the start, if there is one.
-///
-/// # Errors
-///
-/// `AllocError` where the text does not grow: a part of it may have been appended.
-pub fn print_image(
+/// The runs of the segments 1 to `segments` of an image.
+fn print_segments<K: Sink>(
+    writer: &mut K,
     text: &mut String,
     image: &Image,
     segments: u16,
-    start: Option<(u16, u32)>,
-) -> Result<(), AllocError>
-    ensures { OnOk result (string_bytes text.new ≡ string_bytes text.old ++ image_text segments (byte_at image.now) (runs_of image.now) start) }
+) -> Result<(), RunFault>
+    ensures passes { Passes (K.held writer.old) (K.held writer.new) result (string_bytes text.old ++ segments_text segments (byte_at image.now) (runs_of image.now)) (string_bytes text.new) }
+    ensures fault { IfErr result (IsPrintFault (K.failures writer.old) (K.failures writer.new)) }
+    ensures grows { K.failures writer.old ≤ K.failures writer.new }
 {
-    for segment in 1..=segments {
-        print_runs(text, image, segment)?;
+    for before in 0..segments {
+        print_runs(writer, text, image, before + 1)?;
     }
-    print_start(text, start)
+    Ok(())
+}
+
+/// Prints the runs of the segments 1 to `segments` of an image, and last the start, if there is one. The text is written in
+/// pieces of 64 KB or a line more, so no more than that of it is kept.
+///
+/// # Errors
+///
+/// `Write` where the writer failed, `Memory` where the text that is kept does not grow: a part of the text may have been written.
+pub fn print_image<K: Sink>(
+    alloc: Global,
+    writer: &mut K,
+    image: &Image,
+    segments: u16,
+    start: Option<(u16, u32)>,
+) -> Result<(), RunFault>
+    ensures prints { PrintsInPieces (K.held writer.old) (K.held writer.new) result (image_text segments (byte_at image.now) (runs_of image.now) start) }
+    ensures fault { IfErr result (IsPrintFault (K.failures writer.old) (K.failures writer.new)) }
+{
+    let mut text = String::new(alloc);
+    print_segments(writer, &mut text, image, segments)?;
+    print_start(&mut text, start)?;
+    write_all(writer, text.as_bytes())
 }
 
 #[cfg(test)]

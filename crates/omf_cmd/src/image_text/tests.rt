@@ -1,16 +1,22 @@
 //! The text of images that are laid by hand.
 
 use super::print_image;
+use omf_frame::Writing;
 use omf_image::Image;
-use std::alloc::{AllocError, Global};
+use std::alloc::AllocError;
 use std::process::Abort;
 use std::test::Fail;
 
-/// An image of these pieces, each with its segment and its offset, laid in turn.
-fn image_of(alloc: Global, pieces: &[(u16, u32, &[u8])]) -> Result<Image, AllocError> {
-    let mut image = Image::new(alloc);
+/// An image of these pieces, each with its segment and its offset, laid in turn. Each ends within its segment.
+fn image_of(
+    rt: &(impl Abort + AllocGlobal),
+    pieces: &[(u16, u32, &[u8])],
+) -> Result<Image, AllocError> {
+    let mut image = Image::new(rt.alloc());
     for (segment, offset, bytes) in pieces {
-        image.lay(*segment, *offset, bytes.to_vec(alloc)?)?;
+        let end = u64::from(*offset) + bytes.len() as u64;
+        assert!(rt; end <= 0x1_0000_0000);
+        image.lay(*segment, *offset, bytes.to_vec(rt.alloc())?)?;
     }
     Ok(image)
 }
@@ -23,11 +29,12 @@ fn prints(
     start: Option<(u16, u32)>,
     expected: &str,
 ) -> Result<(), AllocError> {
-    let image = image_of(rt.alloc(), pieces)?;
-    let mut text = String::new(rt.alloc());
-    text.push_str("> ")?;
-    print_image(&mut text, &image, segments, start)?;
-    assert_eq!(rt; text.as_str(), expected);
+    let image = image_of(rt, pieces)?;
+    let mut text = b"> ".to_vec(rt.alloc())?;
+    let mut writer = Writing::new(&mut text);
+    let printed = print_image(rt.alloc(), &mut writer, &image, segments, start);
+    assert_eq!(rt; printed, Ok(()));
+    assert_eq!(rt; text.as_slice(), expected.as_bytes());
     Ok(())
 }
 

@@ -1,28 +1,32 @@
-use Rattle.std.proofs.Common.{◌≡◌, ◌+◌, ◌-◌, ◌++◌, ℕ, List, ap, arith, ◌∙◌}
-use Rattle.std.specs.Prelude.{flat_map, string_bytes}
-use Rattle.std.specs.List.{range_with_len}
+use Rattle.std.proofs.Common.{◌∙◌}
+use Rattle.std.proofs.lemmas.Result.{err_from_is_err_and}
+use Rattle.std.specs.Prelude.{string_bytes}
 use Rattle.omf_image.specs.Joined.{runs_of}
 use Rattle.omf_image.specs.Overlay.{byte_at}
-use Rattle.omf_cmd.specs.Relocated.{run_lines}
-use Rattle.omf_cmd.proofs.RunLines.{segment_printed, image_printed}
-use Rattle.omf_cmd.proofs.image_text.print_image.Goals.{else-loop-segment-test, then-loop-segment-test+in_ok-print_runs+else-segment-segments}
+use Rattle.omf_cmd.specs.Relocated.{start_line}
+use Rattle.omf_cmd.specs.RunLines.{segments_text}
+use Rattle.omf_cmd.proofs.Pieces.{begun_empty, kept_back, part_printed, passed_on, rest_printed, stopped}
 use Rattle.omf_cmd.proofs.image_text.print_image.Goals as goal
 
-pub loop-segment-preserved : goal.loop-segment-preserved
-loop-segment-preserved c =
-    let shown : ℕ → List ℕ = λ s. flat_map (run_lines s (byte_at c.args.image.now s)) (runs_of c.args.image.now s) in
-    let last : c.loop-segment.segment ≡ c.loop-segment.segment + 1 - 1 = omega arith in
-    record {
-      within = omega arith;
-      printed = segment_printed shown c.loop-segment.segment _ _ _ (omega arith) c.loop-segment.invariant.printed c.in_ok-print_runs.ensures
-          ∙ ap (λ (n : ℕ). string_bytes c.args.text.now ++ flat_map shown (range_with_len 1 n)) last;
-    }
+pub returns-in_err-print_segments-clause-prints : goal.returns-in_err-print_segments-clause-prints
+returns-in_err-print_segments-clause-prints g c =
+    let e = err_from_is_err_and c.from_residual.result c.from_residual.ensures.1 in
+    let held = g.K.Sink.held c.args.writer.now in
+    let shown = segments_text c.args.segments (byte_at c.args.image.now) (runs_of c.args.image.now) in
+    let begun = begun_empty held shown (start_line c.args.start) (string_bytes c.new-text.result) c.new-text.ensures.bytes in
+    rw (e.1, e.2) (part_printed _ _ _ _ _ _ c.in_err-print_segments.ensures.fault (stopped _ _ _ _ _ _ begun c.in_err-print_segments.ensures.passes))
 
-pub returns : goal.returns
-returns c =
-    let shown : ℕ → List ℕ = λ s. flat_map (run_lines s (byte_at c.args.image.now s)) (runs_of c.args.image.now s) in
-    elim c.loop-segment-test.branch [
-      | else-loop-segment-test w ↦ image_printed _ shown (c.loop-segment.segment - 1) c.args.segments _ _ _ _ c.print_start.ensures (ap string_bytes w.text-is ∙ c.loop-segment.invariant.printed) (omega arith)
-      | then-loop-segment-test+in_ok-print_runs+else-segment-segments w ↦ image_printed _ shown c.loop-segment.segment c.args.segments _ _ _ _ c.print_start.ensures
-          (ap string_bytes w.text-is ∙ segment_printed shown c.loop-segment.segment _ _ _ (omega arith) c.loop-segment.invariant.printed w.in_ok-print_runs.ensures) (omega arith)
-    ]
+pub returns-in_err-print_start-clause-prints : goal.returns-in_err-print_start-clause-prints
+returns-in_err-print_start-clause-prints g c =
+    let e = err_from_is_err_and c.from_residual-in_err-print_start.result c.from_residual-in_err-print_start.ensures.1 in
+    let held = g.K.Sink.held c.args.writer.now in
+    let shown = segments_text c.args.segments (byte_at c.args.image.now) (runs_of c.args.image.now) in
+    let begun = begun_empty held shown (start_line c.args.start) (string_bytes c.new-text.result) c.new-text.ensures.bytes in
+    rw (e.1, e.2) (kept_back _ _ _ _ (passed_on _ _ _ _ _ _ _ begun c.in_ok-print_segments.ensures.passes))
+
+pub returns-clause-prints : goal.returns-clause-prints
+returns-clause-prints g c =
+    let held = g.K.Sink.held c.args.writer.now in
+    let shown = segments_text c.args.segments (byte_at c.args.image.now) (runs_of c.args.image.now) in
+    let begun = begun_empty held shown (start_line c.args.start) (string_bytes c.new-text.result) c.new-text.ensures.bytes in
+    rest_printed _ _ _ _ _ _ c.write_all.result (passed_on _ _ _ _ _ _ _ begun c.in_ok-print_segments.ensures.passes) (c.as_bytes.ensures.value ∙ c.in_ok-print_start.ensures) c.write_all.ensures.fault c.write_all.ensures.prints

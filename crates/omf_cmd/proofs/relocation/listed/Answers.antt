@@ -1,6 +1,4 @@
 use Rattle.std.proofs.lemmas.Result.{err_from_is_err_and}
-use Rattle.std.specs.Prelude.{string_bytes}
-use Rattle.omf_records.specs.Seen.{map_ok}
 use Rattle.omf_cmd.proofs.OutcomeLaws.{text_answered, text_refused}
 use Rattle.omf_cmd.proofs.relocation.listed.Goals as goal
 
@@ -14,4 +12,4 @@ returns-in_err-text-clause-answer g c input told =
 pub returns-clause-answer : goal.returns-clause-answer
 returns-clause-answer g c input told =
     text_answered c.args.profile input c.in_ok-checked.checked (c.in_ok-checked.ensures.verdict input told) (g.S.Source.left c.args.reader.now) (g.S.Source.left c.check.new.reader) (g.S.Source.left c.read_text.new.source)
-    c.in_ok-text.text.items c.deref.result.now (map_ok string_bytes c.relocated.result) told c.in_ok-checked.ensures.read c.in_ok-text.ensures.text c.deref.ensures.value c.relocated.ensures
+    c.in_ok-text.text.items c.deref.result.now c.relocated.result told c.in_ok-checked.ensures.read c.in_ok-text.ensures.text c.deref.ensures.value c.relocated.ensures
