@@ -6,12 +6,12 @@ use Rattle.std.proofs.lemmas.List.{map-append}
 use Rattle.omf_image.specs.declared.limits.Limits.{Limits}
 use Rattle.omf_frame.specs.Bytes.{up_to}
 use Rattle.omf_records.specs.Values.{Rec, Contents, Plain, DataItem}
-use Rattle.omf_reloc.specs.Plain.{Piece, Kept, Fixed, End, PlainFixup, pieces, fixups_of_data, fixups_in, is_data, is_data_contents}
+use Rattle.omf_reloc.specs.Plain.{Piece, Kept, Fixed, End, PlainFixup, pieces, fixups_of_data, fixups_in, is_data, data_contents, is_data_contents}
 use Rattle.omf_reloc.specs.Placement.{Places}
 use Rattle.omf_image.specs.Overlay.{byte_at}
 use Rattle.omf_reloc.specs.Image.{laid, laid_contents, image, patched, start, starts, piece_start}
 use Rattle.omf_frame.specs.Bytes.{last}
-use Rattle.omf_reloc.specs.Reach.{causes, causes_at, piece_causes, data_contents}
+use Rattle.omf_reloc.specs.Reach.{causes, causes_at, piece_causes}
 use Rattle.omf_reloc.specs.Offsets.{cause_of, outcome}
 use Rattle.omf_check.specs.Threads.{PlainReference}
 use Rattle.omf_canon.specs.Skeleton.{skeleton, skeleton_of, join_front}

@@ -1,56 +1,22 @@
 -- The lesser of faults: the least of several, however they are grouped.
-use Rattle.std.proofs.Common.{◌≡◌, ℕ, suc, ◌+◌, ◌*◌, ◌-◌, ◌<◌, ◌≤◌, List, [], ◌∷◌, ◌++◌, refl, sym, ◌∙◌, ap, arith, Bool, true, false, inl, inr, lit<}
-use Rattle.std.specs.Prelude.{cond, ◌||◌, ◌&&◌, nat_lt, nat_le, ◌==◌, Option, Some, None, ◌⊎◌}
-use Rattle.std.proofs.lemmas.Bool.{leb-true, le-leb, eqb-true, eq-eqb}
+use Rattle.std.proofs.Common.{◌≡◌, ℕ, ◌-◌, ◌<◌, ◌≤◌, List, [], ◌∷◌, ◌++◌, refl, sym, ◌∙◌, ap, arith, Bool, true, false, inl, inr}
+use Rattle.std.specs.Prelude.{cond, nat_lt, Option, Some, None, ◌⊎◌}
 use Rattle.std.proofs.lemmas.Bool.Decides.{leb_tells}
 use Rattle.omf_frame.specs.declared.fault.Reason.{Reason}
 use Rattle.omf_frame.specs.declared.fault.Reason.TheVariants as reason
-use Rattle.omf_frame.specs.Fault.{Fault, is_before, least, least_or, broken, Rule, rule, reason_number}
+use Rattle.omf_frame.specs.Fault.{Fault, is_before, least, least_or, broken, Rule, rule}
+use Rattle.omf_frame.proofs.FaultLaws.{key, key_before, before_key}
 use Rattle.omf_check.specs.Judging.{lesser, fault_unless, room_fault}
-
-untrue : true ≡ false → ⊥
-untrue e = cc
-
-test : ℕ → ℕ → ℕ → ℕ → Bool
-test a b m n = nat_lt a b || (a == b) && nat_le m n
-
-test_from : (a b m n : ℕ) → m < 64 → n < 64 → 64 * a + m ≤ 64 * b + n → test a b m n ≡ true
-unfolding test
-test_from a b m n hm hn h = elim (leb_tells (suc a) b) [
-  | inl t ↦ ap (λ x. x || ((a == b) && nat_le m n)) t.0
-  | inr t ↦ let same : a ≡ b = omega arith in let le : m ≤ n = omega arith in
-      ap (λ x. x || ((a == b) && nat_le m n)) t.0 ∙ ap (λ x. x && nat_le m n) (eq-eqb a b same) ∙ le-leb m n le
-]
-
-and_true : (x y : Bool) → x && y ≡ true → (x ≡ true) × (y ≡ true)
-and_true true y h = (refl, h)
-and_true false y h = absurd (untrue (sym h))
-
-test_gives : (a b m n : ℕ) → m < 64 → test a b m n ≡ true → 64 * a + m ≤ 64 * b + n
-unfolding test
-test_gives a b m n hm h = elim (leb_tells (suc a) b) [
-  | inl t ↦ omega (arith, t.1)
-  | inr t ↦ let p = and_true (a == b) (nat_le m n) (ap (λ x. x || ((a == b) && nat_le m n)) (sym t.0) ∙ h) in
-      let same : a ≡ b = eqb-true a b p.0 in let le : m ≤ n = leb-true m n p.1 in omega arith
-]
-
-reason_small : (r : Reason) → reason_number r < 64
-reason_small reason.NoEnd = lit< tt
-reason_small _ = lit< tt
-
-key : Fault → ℕ
-key f = 64 * f.within + reason_number f.reason
 
 bool_cases : (b : Bool) → (b ≡ true) ⊎ (b ≡ false)
 bool_cases true = inl refl
 bool_cases false = inr refl
 
 before : (f g : Fault) → ((is_before f g ≡ true) × (key f ≤ key g)) ⊎ ((is_before f g ≡ false) × (key g < key f))
-unfolding key test
-before f g = elim (leb_tells (64 * f.within + reason_number f.reason) (64 * g.within + reason_number g.reason)) [
-  | inl t ↦ inl (test_from f.within g.within (reason_number f.reason) (reason_number g.reason) (reason_small f.reason) (reason_small g.reason) t.1, t.1)
+before f g = elim (leb_tells (key f) (key g)) [
+  | inl t ↦ inl (key_before f g t.1, t.1)
   | inr t ↦ elim (bool_cases (is_before f g)) [
-    | inl h ↦ let k = test_gives f.within g.within (reason_number f.reason) (reason_number g.reason) (reason_small f.reason) h in absurd (omega (arith, t.1))
+    | inl h ↦ let k = before_key f g h in absurd (omega (arith, k, t.1))
     | inr h ↦ inr (h, t.1)
   ]
 ]

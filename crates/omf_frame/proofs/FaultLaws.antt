@@ -74,14 +74,15 @@ reason_small : (r : Reason) → reason_number r < 64
 reason_small reason.NoEnd = lit< tt
 reason_small _ = lit< tt
 
-key : Fault → ℕ
+-- A fault's rank: by place, and at one place by the reason's number.
+pub key : Fault → ℕ
 key f = 64 * f.within + reason_number f.reason
 
-key_before : (f g : Fault) → key f ≤ key g → IsTrue (is_before f g)
+pub key_before : (f g : Fault) → key f ≤ key g → IsTrue (is_before f g)
 unfolding key test
 key_before f g h = test_from f.within g.within (reason_number f.reason) (reason_number g.reason) (reason_small f.reason) (reason_small g.reason) h
 
-before_key : (f g : Fault) → IsTrue (is_before f g) → key f ≤ key g
+pub before_key : (f g : Fault) → IsTrue (is_before f g) → key f ≤ key g
 unfolding key test
 before_key f g h = test_gives f.within g.within (reason_number f.reason) (reason_number g.reason) (reason_small f.reason) h
 

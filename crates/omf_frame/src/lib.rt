@@ -9,6 +9,7 @@ mod framer;
 mod framing;
 mod kinds;
 mod laws;
+mod pull;
 mod sums;
 mod write;
 
@@ -20,6 +21,7 @@ pub use laws::{
     faults_are_least, modules_are_read, modules_are_unique, pieces_do_not_matter, records_delimit,
     runs_are_framings, standing_faults_stay,
 };
+pub use pull::pull_piece;
 pub use sums::checksum;
 pub use write::write_record;
 

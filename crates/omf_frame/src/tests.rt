@@ -1,8 +1,9 @@
 //! Records of whole modules, in pieces; faults; spellings; a record written.
 
+use crate::faulty::{Script, Then};
 use crate::{
     CommunalLength, Field, FrameFault, Framer, Index, Le16, Le32, Name, Place, Reading, Reason,
-    Source, Writing, checksum, write_record,
+    Source, Writing, checksum, pull_piece, write_record,
 };
 use std::alloc::{AllocError, Global};
 use std::io;
@@ -343,5 +344,20 @@ fn pulls_what_a_reader_gives(rt: HostRuntime) -> Result<(), Fail> {
     assert_eq!(rt; buf.as_slice(), &HEADER[..4]);
     assert_eq!(rt; source.pull(&mut buf)?, 2);
     assert_eq!(rt; source.pull(&mut buf)?, 0);
+    Ok(())
+}
+
+#[test]
+fn pulls_a_piece_past_interruptions(rt: HostRuntime) -> Result<(), Fail> {
+    let mut buf = [0; 4];
+    let mut source = Script::new(HEADER.as_slice(), Then::Ends).interrupted(999);
+    assert_eq!(rt; pull_piece(&mut source, &mut buf)?, 4);
+    assert_eq!(rt; buf.as_slice(), &HEADER[..4]);
+    let mut source = Script::new(HEADER.as_slice(), Then::Ends).interrupted(1000);
+    let answer = pull_piece(&mut source, &mut buf);
+    assert_eq!(rt;
+        answer.err().map(|error| error.kind()),
+        Some(ErrorKind::Interrupted)
+    );
     Ok(())
 }

@@ -158,6 +158,14 @@ fn lays_pieces(rt: HostRuntime) -> Result<(), Fail> {
         Some([1, 0xAA, 3, 4, 0xBB, 0xCC, 5].as_slice())
     );
     assert_eq!(rt; image.run_at(1, 1), None);
+    Ok(())
+}
+
+#[test]
+fn lays_a_piece_at_the_last_offset(rt: HostRuntime) -> Result<(), Fail> {
+    let alloc = rt.alloc();
+    let mut image = Image::new(alloc);
+    image.lay(1, 0, Vec::from_slice(alloc, &[1, 2])?)?;
     image.lay(1, 0xFFFF_FFFF, Vec::from_slice(alloc, &[0xEE])?)?;
     assert_eq!(rt; image.get(1, 0xFFFF_FFFF), Some(0xEE));
     assert_eq!(rt;

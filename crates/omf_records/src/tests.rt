@@ -85,7 +85,7 @@ fn names_the_first_fault(rt: HostRuntime) -> Result<(), Fail> {
 }
 
 #[test]
-fn keeps_what_is_shortest(rt: HostRuntime) -> Result<(), Fail> {
+fn keeps_shortest_headers_comments_and_names(rt: HostRuntime) -> Result<(), Fail> {
     assert!(rt; keeps(rt.alloc(), 0x80, &[0x01, 0x41])?);
     assert!(rt; keeps(rt.alloc(), 0x82, &[0x00])?);
     assert!(rt; keeps(rt.alloc(), 0x88, &[0x80, 0xE9, 0x41, 0x42])?);
@@ -96,6 +96,11 @@ fn keeps_what_is_shortest(rt: HostRuntime) -> Result<(), Fail> {
             &[0x01, 0x54, 0x04, 0x46, 0x4C, 0x41, 0x54]
         )?
     );
+    Ok(())
+}
+
+#[test]
+fn keeps_shortest_segments_and_groups(rt: HostRuntime) -> Result<(), Fail> {
     assert!(rt;
         keeps(
             rt.alloc(),
@@ -111,6 +116,11 @@ fn keeps_what_is_shortest(rt: HostRuntime) -> Result<(), Fail> {
         )?
     );
     assert!(rt; keeps(rt.alloc(), 0x9A, &[0x02, 0xFF, 0x01, 0xFF, 0x81, 0x2C])?);
+    Ok(())
+}
+
+#[test]
+fn keeps_shortest_externals_publics_and_communals(rt: HostRuntime) -> Result<(), Fail> {
     assert!(rt; keeps(rt.alloc(), 0x8C, &[0x01, 0x58, 0x00, 0x00, 0x05])?);
     assert!(rt;
         keeps(
@@ -135,6 +145,11 @@ fn keeps_what_is_shortest(rt: HostRuntime) -> Result<(), Fail> {
             ]
         )?
     );
+    Ok(())
+}
+
+#[test]
+fn keeps_shortest_data(rt: HostRuntime) -> Result<(), Fail> {
     assert!(rt;
         keeps(
             rt.alloc(),
@@ -159,6 +174,11 @@ fn keeps_what_is_shortest(rt: HostRuntime) -> Result<(), Fail> {
             ]
         )?
     );
+    Ok(())
+}
+
+#[test]
+fn keeps_shortest_fixups_and_ends(rt: HostRuntime) -> Result<(), Fail> {
     assert!(rt;
         keeps(
             rt.alloc(),
@@ -181,6 +201,11 @@ fn keeps_what_is_shortest(rt: HostRuntime) -> Result<(), Fail> {
             &[0xC1, 0x50, 0x01, 0x02, 0x00, 0x00, 0x01]
         )?
     );
+    Ok(())
+}
+
+#[test]
+fn keeps_other_contents(rt: HostRuntime) -> Result<(), Fail> {
     assert!(rt; keeps(rt.alloc(), 0x8E, &[0x01, 0x02])?);
     Ok(())
 }

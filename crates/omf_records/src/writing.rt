@@ -119,18 +119,20 @@ fn put_comment(out: &mut Vec<u8>, type_byte: u8, class: u8, text: &[u8]) -> Resu
     put_bytes(out, text)
 }
 
-/// The segment index of a PUBDEF's base, its frame, and the public names.
+/// The group and segment indices of a PUBDEF's base, its frame, and the public names.
 #[tactic(auto, using(crate::specs::Begins::begins_then))]
 fn put_publics<'a>(
     out: &mut Vec<u8>,
     kind: u8,
+    group: &At<Index>,
     segment: &At<Index>,
     frame: Option<u16>,
     publics: Items<Public<'a>>,
 ) -> Result<(), AllocError>
-    ensures put { OnOk result (out.new.items ≡ out.old.items ++ (datum_bytes segment.now ++ (option_bytes (little_bytes 2) frame ++ flat_map (λ x. public_bytes kind x.item) publics.entry))) }
+    ensures put { OnOk result (out.new.items ≡ out.old.items ++ (datum_bytes group.now ++ (datum_bytes segment.now ++ (option_bytes (little_bytes 2) frame ++ flat_map (λ x. public_bytes kind x.item) publics.entry)))) }
     ensures grows { Begins out.old.items out.new.items }
 {
+    put_datum(out, group)?;
     put_datum(out, segment)?;
     put_frame(out, frame)?;
     put_items(out, kind, publics)
@@ -174,10 +176,7 @@ fn put_contents(out: &mut Vec<u8>, rec: &Rec<'_>) -> Result<(), AllocError>
             frame,
             publics,
             ..
-        } => {
-            put_datum(out, group)?;
-            put_publics(out, kind, segment, *frame, publics.iter())
-        }
+        } => put_publics(out, kind, group, segment, *frame, publics.iter()),
         Rec::Communals(communals) => put_items(out, kind, communals.iter()),
         Rec::Plain {
             segment,

@@ -18,9 +18,9 @@ use Rattle.omf_reloc.specs.declared.fault.ReachFault.{ReachFault}
 use Rattle.omf_reloc.specs.declared.fault.ReachFault.TheVariants as fault
 use Rattle.omf_reloc.specs.Laws.{ReachIsDecided}
 use Rattle.omf_reloc.specs.Offsets.{cause_of, outcome}
-use Rattle.omf_reloc.specs.Placement.{Places, Placed, nowhere, placed, absolute_place}
-use Rattle.omf_reloc.specs.Plain.{Piece, Kept, Fixed, End, PlainFixup, piece_of, pieces, plain_fixup, plain_fixups, fixups_of_data, fixups_in, is_data, is_data_contents}
-use Rattle.omf_reloc.specs.Reach.{causes, causes_at, piece_causes, data_contents, fixup_place, reference_places, all_reference_places, far_fault, missing, extra, lies_at, misplaced, misfits, far_faults, reach_faults, reach_fault, Fits, Reaches}
+use Rattle.omf_reloc.specs.Placement.{Places, Placed, no_place, placed, absolute_place}
+use Rattle.omf_reloc.specs.Plain.{Piece, Kept, Fixed, End, PlainFixup, piece_of, pieces, plain_fixup, plain_fixups, fixups_of_data, fixups_in, is_data, data_contents, is_data_contents}
+use Rattle.omf_reloc.specs.Reach.{causes, causes_at, piece_causes, fixup_place, reference_places, all_reference_places, far_fault, missing, extra, lies_at, misplaced, misfits, far_faults, reach_faults, reach_fault, Fits, Reaches}
 
 abbrev piece_at : List Rec → Rec → List Piece
 piece_at before r = piece_of (subrecords before) r.kind r.contents ∷ []
@@ -188,8 +188,8 @@ entry-suc xs j = taken (nat_le 1 (suc j)) (slice_get xs (suc j - 1)) None (le-le
 
 entry-placed : (ps : List Placed) (j : ℕ) → j < length ps → entry ps (suc j) ≡ Some (placed ps (suc j))
 entry-placed ps j h =
-    let e = slice_get-get_or ps j nowhere h in
-    entry-suc ps j ∙ e ∙ ap Some (sym (ap (λ o. unwrap_or o nowhere) (entry-suc ps j ∙ e)))
+    let e = slice_get-get_or ps j no_place h in
+    entry-suc ps j ∙ e ∙ ap Some (sym (ap (λ o. unwrap_or o no_place) (entry-suc ps j ∙ e)))
 
 absolute-from : (pl : Places) (m : List Rec) → length pl.segments ≡ length (segments m) → misplaced_all pl 1 (segments m) ≡ []
     → (i number offset : ℕ) (info : SegInfo) → entry (segments m) i ≡ Some info → info.absolute ≡ Some (number, offset) → entry pl.segments i ≡ Some (absolute_place number offset)
@@ -235,7 +235,7 @@ fits-to pl m fit =
     (no-extra kinds.Group ng gg fit.group_count))
     (no-extra kinds.External ne ge fit.external_count))
     (all-to pl 1 (segments m) (λ j number offset info e2 g. ap (placed pl.segments) (omega arith)
-    ∙ ap (λ o. unwrap_or o nowhere) (fit.absolute (suc j) number offset info (entry-suc (segments m) j ∙ e2) g)))
+    ∙ ap (λ o. unwrap_or o no_place) (fit.absolute (suc j) number offset info (entry-suc (segments m) j ∙ e2) g)))
 
 -- The references.
 abbrev IsFine : Option Cause → Type 0

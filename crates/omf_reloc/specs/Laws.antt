@@ -14,9 +14,9 @@ use Rattle.omf_reloc.specs.declared.given.Given.{Given}
 use Rattle.omf_reloc.specs.Derive.{PlacedModule, derived}
 use Rattle.omf_reloc.specs.Entries.{Entry, Spells}
 use Rattle.omf_reloc.specs.EntryReading.{entry_said}
-use Rattle.omf_reloc.specs.Plain.{Piece, Kept, End, PlainFixup, pieces, fixups_of_data}
+use Rattle.omf_reloc.specs.Plain.{Piece, Kept, End, PlainFixup, pieces, data_contents, fixups_of_data}
 use Rattle.omf_reloc.specs.Placement.{Places, Placed, real_group}
-use Rattle.omf_reloc.specs.Reach.{causes, data_contents, all_reference_places, far_faults, reach_fault, Reaches}
+use Rattle.omf_reloc.specs.Reach.{causes, all_reference_places, far_faults, reach_fault, Reaches}
 use Rattle.omf_reloc.specs.ReachSteps.{records_far}
 use Rattle.omf_reloc.specs.Offsets.{outcome, start_offset}
 use Rattle.omf_reloc.specs.Image.{laid, patched}

@@ -15,12 +15,13 @@ pub record Places : Type 0 where
 abbrev pub no_frame : Frame
 no_frame = record { base = 0; selector = 0 }
 
-abbrev pub nowhere : Placed
-nowhere = record { address = 0; frame = no_frame }
+-- What stands for a place that is not listed.
+abbrev pub no_place : Placed
+no_place = record { address = 0; frame = no_frame }
 
--- The entry of an index, from 1; nowhere outside the list, which a placement that fits has no use for.
+-- The entry of an index, from 1; no place outside the list, which a placement that fits has no use for.
 abbrev pub placed : List Placed → ℕ → Placed
-placed xs i = unwrap_or (entry xs i) nowhere
+placed xs i = unwrap_or (entry xs i) no_place
 
 abbrev pub group_frame : Places → ℕ → Frame
 group_frame pl i = unwrap_or (entry pl.groups i) no_frame

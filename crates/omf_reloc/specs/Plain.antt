@@ -1,7 +1,7 @@
 -- A module with plain references, record by record: what reach, the image, the start and the canonical bytes rest on.
-use Rattle.std.specs.Prelude.{ℕ, ◌+◌, ◌*◌, List, [], ◌∷◌, map, flat_map, Bool, true, false, Option, option_map}
+use Rattle.std.specs.Prelude.{ℕ, ◌+◌, ◌*◌, List, [], ◌∷◌, map, flat_map, Bool, false, Option, Some, None, is_some, option_map}
 use Rattle.omf_frame.specs.Bytes.{bits, with_before, up_to}
-use Rattle.omf_records.specs.Values.{At, Rec, alone, Contents, Plain, Iterated, Fixups, ModEnd, Subrecord, Thread, Fixup}
+use Rattle.omf_records.specs.Values.{At, Rec, alone, Contents, Plain, Iterated, DataItem, Fixups, ModEnd, Subrecord, Thread, Fixup}
 use Rattle.omf_check.specs.Tables.{subrecords}
 use Rattle.omf_check.specs.Threads.{PlainReference, plain}
 
@@ -37,12 +37,16 @@ piece_of earlier kind c = Kept (alone (record { kind = kind; contents = c }))
 abbrev pub pieces : List Rec → List Piece
 pieces m = with_before (λ before r. piece_of (subrecords before) r.kind r.contents ∷ []) [] m
 
--- Whether a piece is a data record: an LEDATA or an LIDATA.
-abbrev pub is_data_contents : Contents → Bool
-is_data_contents (Plain d) = true
-is_data_contents (Iterated d) = true
-is_data_contents _ = false
+-- What a data record says: an LEDATA or an LIDATA.
+abbrev pub data_contents : Contents → Option DataItem
+data_contents (Plain d) = Some d
+data_contents (Iterated d) = Some d
+data_contents _ = None
 
+abbrev pub is_data_contents : Contents → Bool
+is_data_contents c = is_some (data_contents c)
+
+-- Whether a piece is a data record.
 abbrev pub is_data : Piece → Bool
 is_data (Kept r) = is_data_contents r.contents
 is_data (Fixed kind fixups) = false

@@ -7,18 +7,12 @@ use Rattle.omf_reloc.specs.declared.fault.Kind.TheVariants as kinds
 use Rattle.omf_reloc.specs.declared.fault.ReachFault.{ReachFault}
 use Rattle.omf_reloc.specs.declared.fault.ReachFault.TheVariants as fault
 use Rattle.omf_frame.specs.Bytes.{with_after}
-use Rattle.omf_records.specs.Values.{Rec, Contents, Fixups, ModEnd, Plain, Iterated, DataItem, Subrecord, Thread, Fixup}
+use Rattle.omf_records.specs.Values.{Rec, Contents, Fixups, ModEnd, DataItem, Subrecord, Thread, Fixup}
 use Rattle.omf_check.specs.Tables.{segments, groups, externals, entry}
 use Rattle.omf_check.specs.declared.segment.SegInfo.{SegInfo}
-use Rattle.omf_reloc.specs.Plain.{Piece, Kept, Fixed, End, pieces, fixups_of_data}
+use Rattle.omf_reloc.specs.Plain.{Piece, Kept, Fixed, End, pieces, data_contents, fixups_of_data}
 use Rattle.omf_reloc.specs.Placement.{Places, Placed, placed, absolute_place}
 use Rattle.omf_reloc.specs.Offsets.{outcome, start_offset, cause_of}
-
--- What a data record says.
-abbrev pub data_contents : Contents → Option DataItem
-data_contents (Plain d) = Some d
-data_contents (Iterated d) = Some d
-data_contents _ = None
 
 -- Whether each fixup of a data record reaches, in file order: none, or the cause.
 abbrev pub causes_at : Places → Option DataItem → List Piece → List (Option Cause)

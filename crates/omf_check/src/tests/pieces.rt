@@ -30,19 +30,10 @@ fn a_fault_is_kept(rt: HostRuntime) -> Result<(), Fail> {
 
 #[test]
 fn takes_one_record_at_most(rt: HostRuntime) -> Result<(), Fail> {
-    let bytes = module(
-        rt.alloc(),
-        &[
-            &HEADER,
-            &NAMES,
-            &SEGMENT,
-            &DATA,
-            &FIXUP,
-            &END,
-            &[0xDE, 0xAD],
-        ],
-    )?;
-    let mut session = Session::new(rt.alloc(), ANY);
+    let alloc = rt.alloc();
+    let whole = module(alloc, &[&HEADER, &NAMES, &SEGMENT, &DATA, &FIXUP, &END])?;
+    let bytes = module(alloc, &[whole.as_slice(), &[0xDE, 0xAD]])?;
+    let mut session = Session::new(alloc, ANY);
     let mut rest = bytes.as_slice();
     for taken in [6, 7, 10, 11, 9, 5] {
         let fed = session.feed(rest)?;
@@ -56,11 +47,7 @@ fn takes_one_record_at_most(rt: HostRuntime) -> Result<(), Fail> {
     assert_eq!(rt; fed.taken, 0);
     assert_eq!(rt; fed.whole, false);
     let checked = session.finish()?;
-    let expected = module(
-        rt.alloc(),
-        &[&HEADER, &NAMES, &SEGMENT, &DATA, &FIXUP, &END],
-    )?;
-    assert_eq!(rt; checked.bytes(), expected.as_slice());
+    assert_eq!(rt; checked.bytes(), whole.as_slice());
     assert_eq!(rt;
         (
             checked.names(),

@@ -20,6 +20,11 @@ const DATA: [u8; 11] = [
 
 const FIXUP: [u8; 9] = [0x9C, 0x06, 0x00, 0xC4, 0x01, 0x04, 0x01, 0x01, 0x93];
 
+// The fixup of FIXUP with a displacement of -4.
+const FIXUP_BACK: [u8; 11] = [
+    0x9C, 0x08, 0x00, 0xC4, 0x01, 0x00, 0x01, 0x01, 0xFC, 0xFF, 0x9A,
+];
+
 const END: [u8; 5] = [0x8A, 0x02, 0x00, 0x00, 0x74];
 
 /// The module that these records are.
@@ -209,100 +214,42 @@ fn adds_in_the_order_of_the_file(rt: HostRuntime) -> Result<(), Fail> {
 }
 
 #[test]
-fn reads_both_displacements(rt: HostRuntime) -> Result<(), Fail> {
+fn adds_no_displacement(rt: HostRuntime) -> Result<(), Fail> {
     let a = rt.alloc();
+    let records: [&[u8]; 6] = [&HEADER, &NAMES, &SEGMENT, &DATA, &FIXUP, &END];
     assert!(rt;
         is_image(
-            image(
-                a,
-                &[&HEADER, &NAMES, &SEGMENT, &DATA, &FIXUP, &END],
-                &at(a, 0x1FFFF)?
-            )?,
+            image(a, &records, &at(a, 0x1FFFF)?)?,
             &[0xB8, 0xFF, 0xFF, 0x90]
         )
     );
+    assert!(rt; image(a, &records, &at(a, 0x20000)?)?.is_none());
+    Ok(())
+}
+
+#[test]
+fn adds_displacements_below_zero(rt: HostRuntime) -> Result<(), Fail> {
+    let a = rt.alloc();
+    let records: [&[u8]; 6] = [&HEADER, &NAMES, &SEGMENT, &DATA, &FIXUP_BACK, &END];
     assert!(rt;
         is_image(
-            image(
-                a,
-                &[
-                    &HEADER,
-                    &NAMES,
-                    &SEGMENT,
-                    &DATA,
-                    &[
-                        0x9C, 0x08, 0x00, 0xC4, 0x01, 0x00, 0x01, 0x01, 0xFC, 0xFF, 0x9A
-                    ],
-                    &END
-                ],
-                &at(a, 0x10020)?
-            )?,
+            image(a, &records, &at(a, 0x10020)?)?,
             &[0xB8, 0x1C, 0x00, 0x90]
         )
     );
     assert!(rt;
         is_image(
-            image(
-                a,
-                &[
-                    &HEADER,
-                    &NAMES,
-                    &SEGMENT,
-                    &DATA,
-                    &[
-                        0x9C, 0x08, 0x00, 0xC4, 0x01, 0x00, 0x01, 0x01, 0xFC, 0xFF, 0x9A
-                    ],
-                    &END
-                ],
-                &at(a, 0x10002)?
-            )?,
+            image(a, &records, &at(a, 0x10002)?)?,
             &[0xB8, 0xFE, 0xFF, 0x90]
         )
     );
     assert!(rt;
         is_image(
-            image(
-                a,
-                &[
-                    &HEADER,
-                    &NAMES,
-                    &SEGMENT,
-                    &DATA,
-                    &[
-                        0x9C, 0x08, 0x00, 0xC4, 0x01, 0x00, 0x01, 0x01, 0xFC, 0xFF, 0x9A
-                    ],
-                    &END
-                ],
-                &at(a, 0x20003)?
-            )?,
+            image(a, &records, &at(a, 0x20003)?)?,
             &[0xB8, 0xFF, 0xFF, 0x90]
         )
     );
-    assert!(rt;
-        image(
-            a,
-            &[&HEADER, &NAMES, &SEGMENT, &DATA, &FIXUP, &END],
-            &at(a, 0x20000)?
-        )?
-        .is_none()
-    );
-    assert!(rt;
-        image(
-            a,
-            &[
-                &HEADER,
-                &NAMES,
-                &SEGMENT,
-                &DATA,
-                &[
-                    0x9C, 0x08, 0x00, 0xC4, 0x01, 0x00, 0x01, 0x01, 0xFC, 0xFF, 0x9A
-                ],
-                &END
-            ],
-            &at(a, 0x20004)?
-        )?
-        .is_none()
-    );
+    assert!(rt; image(a, &records, &at(a, 0x20004)?)?.is_none());
     Ok(())
 }
 
@@ -328,6 +275,12 @@ fn adds_distances(rt: HostRuntime) -> Result<(), Fail> {
             &[0xE8, 0xFD, 0xFF, 0x90]
         )
     );
+    Ok(())
+}
+
+#[test]
+fn adds_short_distances(rt: HostRuntime) -> Result<(), Fail> {
+    let a = rt.alloc();
     let mut placement = at(a, 0x10020)?;
     let frame = Frame {
         base: 0x10000,
@@ -420,6 +373,12 @@ fn lays_repeated_blocks(rt: HostRuntime) -> Result<(), Fail> {
             ]
         )
     );
+    Ok(())
+}
+
+#[test]
+fn lays_no_bytes_of_a_count_of_zero(rt: HostRuntime) -> Result<(), Fail> {
+    let a = rt.alloc();
     assert!(rt;
         is_image(
             image(
@@ -485,63 +444,30 @@ fn lays_the_last_bytes(rt: HostRuntime) -> Result<(), Fail> {
 #[test]
 fn gives_the_start(rt: HostRuntime) -> Result<(), Fail> {
     let a = rt.alloc();
+    let records: [&[u8]; 6] = [
+        &HEADER,
+        &NAMES,
+        &SEGMENT,
+        &[0x9A, 0x04, 0x00, 0x02, 0xFF, 0x01, 0x60],
+        &[0x9C, 0x03, 0x00, 0x46, 0x01, 0x1A],
+        &[0x8A, 0x06, 0x00, 0xC1, 0xA0, 0x01, 0x02, 0x00, 0x0C],
+    ];
     let mut placement = at(a, 0x10020)?;
     placement.push_group(Frame {
         base: 0x10010,
         selector: 0x1001,
     })?;
     assert_eq!(rt;
-        start_of(
-            a,
-            &[
-                &HEADER,
-                &NAMES,
-                &SEGMENT,
-                &[0x9A, 0x04, 0x00, 0x02, 0xFF, 0x01, 0x60],
-                &[0x9C, 0x03, 0x00, 0x46, 0x01, 0x1A],
-                &[0x8A, 0x06, 0x00, 0xC1, 0xA0, 0x01, 0x02, 0x00, 0x0C]
-            ],
-            &placement
-        )?,
+        start_of(a, &records, &placement)?,
         Some(Some((0x1001, 0x12)))
     );
-    assert!(rt;
-        is_image(
-            image(
-                a,
-                &[
-                    &HEADER,
-                    &NAMES,
-                    &SEGMENT,
-                    &[0x9A, 0x04, 0x00, 0x02, 0xFF, 0x01, 0x60],
-                    &[0x9C, 0x03, 0x00, 0x46, 0x01, 0x1A],
-                    &[0x8A, 0x06, 0x00, 0xC1, 0xA0, 0x01, 0x02, 0x00, 0x0C]
-                ],
-                &placement
-            )?,
-            &[]
-        )
-    );
+    assert!(rt; is_image(image(a, &records, &placement)?, &[]));
     let mut placement = segments(a, &[(0x10020, 0x10020, 0x1002)])?;
     placement.push_group(Frame {
         base: 0x10020,
         selector: 0x1002,
     })?;
-    assert_eq!(rt;
-        start_of(
-            a,
-            &[
-                &HEADER,
-                &NAMES,
-                &SEGMENT,
-                &[0x9A, 0x04, 0x00, 0x02, 0xFF, 0x01, 0x60],
-                &[0x9C, 0x03, 0x00, 0x46, 0x01, 0x1A],
-                &[0x8A, 0x06, 0x00, 0xC1, 0xA0, 0x01, 0x02, 0x00, 0x0C]
-            ],
-            &placement
-        )?,
-        Some(Some((0x1002, 2)))
-    );
+    assert_eq!(rt; start_of(a, &records, &placement)?, Some(Some((0x1002, 2))));
     Ok(())
 }
 
@@ -597,7 +523,7 @@ fn judges_an_index_at_its_use(rt: HostRuntime) -> Result<(), Fail> {
 }
 
 #[test]
-fn adds_other_parts(rt: HostRuntime) -> Result<(), Fail> {
+fn adds_to_other_parts(rt: HostRuntime) -> Result<(), Fail> {
     let a = rt.alloc();
     assert!(rt;
         is_image(
@@ -633,6 +559,12 @@ fn adds_other_parts(rt: HostRuntime) -> Result<(), Fail> {
             &[0xBC, 0x00, 0x00, 0x90]
         )
     );
+    Ok(())
+}
+
+#[test]
+fn adds_a_groups_selector(rt: HostRuntime) -> Result<(), Fail> {
+    let a = rt.alloc();
     let mut placement = at(a, 0x10020)?;
     placement.push_group(Frame {
         base: 0x10010,

@@ -15,34 +15,34 @@ pub returns-then-count-eq0-clause-verdict : goal.returns-then-count-eq0-clause-v
 returns-then-count-eq0-clause-verdict g c =
     let i = c.loop-buffer.invariant in
     let s = c.loop-buffer.session in
-    finish_decides c.args.profile s i.is_open i.no_fault i.profile c.finish-then-count-eq0.result (g.S.Source.left c.args.reader.now) (g.S.Source.left c.pull.new.source) c.finish-then-count-eq0.ensures
-    (consumes_none _ (g.S.Source.left c.loop-buffer.reader) _ s.taken c.pull.new.buffer c.in_ok-count.count c.if-count-eq0.true i.consumed c.in_ok-count.ensures.bytes)
-    (c.in_ok-count.ensures.end c.if-count-eq0.true)
+    finish_decides c.args.profile s i.is_open i.no_fault i.profile c.finish-then-count-eq0.result (g.S.Source.left c.args.reader.now) (g.S.Source.left c.pull_piece.new.source) c.finish-then-count-eq0.ensures
+    (consumes_none _ (g.S.Source.left c.loop-buffer.reader) _ s.taken c.pull_piece.new.buffer c.in-Ok.count c.if-count-eq0.true i.consumed c.in-Ok.ensures.bytes)
+    (c.in-Ok.ensures.end c.if-count-eq0.true)
 
 pub returns-then-count-eq0-clause-cause : goal.returns-then-count-eq0-clause-cause
 returns-then-count-eq0-clause-cause g c =
     let i = c.loop-buffer.invariant in
     let s = c.loop-buffer.session in
-    finish_err c.args.profile s i.is_open i.no_fault i.profile c.finish-then-count-eq0.result (g.S.Source.left c.args.reader.now) (g.S.Source.left c.pull.new.source)
-    (g.S.Source.failures c.args.reader.now) (g.S.Source.failures c.pull.new.source) c.finish-then-count-eq0.ensures
-    (consumes_none _ (g.S.Source.left c.loop-buffer.reader) _ s.taken c.pull.new.buffer c.in_ok-count.count c.if-count-eq0.true i.consumed c.in_ok-count.ensures.bytes)
-    (c.in_ok-count.ensures.end c.if-count-eq0.true)
+    finish_err c.args.profile s i.is_open i.no_fault i.profile c.finish-then-count-eq0.result (g.S.Source.left c.args.reader.now) (g.S.Source.left c.pull_piece.new.source)
+    (g.S.Source.failures c.args.reader.now) (g.S.Source.failures c.pull_piece.new.source) c.finish-then-count-eq0.ensures
+    (consumes_none _ (g.S.Source.left c.loop-buffer.reader) _ s.taken c.pull_piece.new.buffer c.in-Ok.count c.if-count-eq0.true i.consumed c.in-Ok.ensures.bytes)
+    (c.in-Ok.ensures.end c.if-count-eq0.true)
 
 pub loop-buffer-preserved : goal.loop-buffer-preserved
 loop-buffer-preserved g c =
     let i = c.loop-buffer.invariant in
     let s = c.loop-buffer.session in
     let t = c.in_ok-feed.ensures.ok in
-    let piece = take c.in_ok-count.count c.pull.new.buffer in
-    let low = piece_low c.pull.new.buffer c.loop-buffer.buffer c.in_ok-count.count c.min-want.result c.want.result (want_of s) c.pull.auto.buffer c.min-want.ensures c.want.ensures in
+    let piece = take c.in-Ok.count c.pull_piece.new.buffer in
+    let low = piece_low c.pull_piece.new.buffer c.loop-buffer.buffer c.in-Ok.count c.min-want.result c.want.result (want_of s) c.pull_piece.auto.buffer c.min-want.ensures c.want.ensures in
     let first = c.loop-buffer.invariant.grows in
-    let second = c.in_ok-count.ensures.grows in
+    let second = c.in-Ok.ensures.grows in
     record {
       is_open = t.is_open;
       no_fault = t.fault;
       profile = t.profile ∙ i.profile;
       consumed = feed_consumes c.args.profile s i.is_open i.no_fault i.profile piece c.in_ok-feed.field-0.taken c.in_ok-feed.field-0.whole c.feed.new.self
-          (g.S.Source.left c.args.reader.now) (g.S.Source.left c.loop-buffer.reader) (g.S.Source.left c.pull.new.source) low t i.consumed c.in_ok-count.ensures.bytes;
+          (g.S.Source.left c.args.reader.now) (g.S.Source.left c.loop-buffer.reader) (g.S.Source.left c.pull_piece.new.source) low t i.consumed c.in-Ok.ensures.bytes;
       grows = omega (arith, first, second);
     }
 
@@ -50,17 +50,17 @@ pub returns-in_err-feed-clause-verdict : goal.returns-in_err-feed-clause-verdict
 returns-in_err-feed-clause-verdict g c =
     let i = c.loop-buffer.invariant in
     let s = c.loop-buffer.session in
-    let e = err_from_is_err_and c.from_residual-in_err-feed.result c.from_residual-in_err-feed.ensures.1 in
+    let e = err_from_is_err_and c.from_residual.result c.from_residual.ensures.1 in
     rw (e.1, e.2) (
-    feed_decides c.args.profile s i.is_open i.no_fault i.profile c.in_err-feed.field-0.0 (take c.in_ok-count.count c.pull.new.buffer) c.feed.new.self
-    (g.S.Source.left c.args.reader.now) (g.S.Source.left c.loop-buffer.reader) (g.S.Source.left c.pull.new.source) c.in_err-feed.ensures.err i.consumed c.in_ok-count.ensures.bytes)
+    feed_decides c.args.profile s i.is_open i.no_fault i.profile c.in_err-feed.field-0.0 (take c.in-Ok.count c.pull_piece.new.buffer) c.feed.new.self
+    (g.S.Source.left c.args.reader.now) (g.S.Source.left c.loop-buffer.reader) (g.S.Source.left c.pull_piece.new.source) c.in_err-feed.ensures.err i.consumed c.in-Ok.ensures.bytes)
 
 pub returns-in_err-feed-clause-cause : goal.returns-in_err-feed-clause-cause
 returns-in_err-feed-clause-cause g c =
     let i = c.loop-buffer.invariant in
     let s = c.loop-buffer.session in
-    let low = piece_low c.pull.new.buffer c.loop-buffer.buffer c.in_ok-count.count c.min-want.result c.want.result (want_of s) c.pull.auto.buffer c.min-want.ensures c.want.ensures in
-    let e = err_from_is_err_and c.from_residual-in_err-feed.result c.from_residual-in_err-feed.ensures.1 in
+    let low = piece_low c.pull_piece.new.buffer c.loop-buffer.buffer c.in-Ok.count c.min-want.result c.want.result (want_of s) c.pull_piece.auto.buffer c.min-want.ensures c.want.ensures in
+    let e = err_from_is_err_and c.from_residual.result c.from_residual.ensures.1 in
     rw (e.1, e.2) (
-    feed_cause c.args.profile s i.is_open i.no_fault i.profile c.in_err-feed.field-0.0 (take c.in_ok-count.count c.pull.new.buffer) c.feed.new.self
-    (g.S.Source.left c.args.reader.now) (g.S.Source.left c.loop-buffer.reader) (g.S.Source.left c.pull.new.source) (g.S.Source.failures c.args.reader.now) (g.S.Source.failures c.pull.new.source) low c.in_err-feed.ensures.err i.consumed c.in_ok-count.ensures.bytes)
+    feed_cause c.args.profile s i.is_open i.no_fault i.profile c.in_err-feed.field-0.0 (take c.in-Ok.count c.pull_piece.new.buffer) c.feed.new.self
+    (g.S.Source.left c.args.reader.now) (g.S.Source.left c.loop-buffer.reader) (g.S.Source.left c.pull_piece.new.source) (g.S.Source.failures c.args.reader.now) (g.S.Source.failures c.pull_piece.new.source) low c.in_err-feed.ensures.err i.consumed c.in-Ok.ensures.bytes)

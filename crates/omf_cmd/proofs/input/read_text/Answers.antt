@@ -5,9 +5,9 @@ use Rattle.omf_cmd.proofs.input.read_text.Goals as goal
 
 pub returns-then-count-len-clause-fault : goal.returns-then-count-len-clause-fault
 returns-then-count-len-clause-fault g c =
-    let piece : List ℕ = take c.in_ok-count.count c.pull.new.buffer in
-    let more = length-take c.in_ok-count.count c.pull.new.buffer in
-    let both = length-append c.loop-text.text.items piece in
-    let bound = c.in_ok-count.ensures.bound in
-    let long : 4194304 < length (c.loop-text.text.items ++ piece) = omega (arith, more, both, bound) in
-    (c.loop-text.text.items ++ piece, Consumes-trans _ _ _ _ _ c.loop-text.invariant.consumed c.in_ok-count.ensures.bytes, long)
+    let piece : List ℕ = take c.in-Ok.count c.pull_piece.new.buffer in
+    let more = length-take c.in-Ok.count c.pull_piece.new.buffer in
+    let both = length-append c.loop-count.text.items piece in
+    let bound = c.in-Ok.ensures.bound in
+    let long : 4194304 < length (c.loop-count.text.items ++ piece) = omega (arith, more, both, bound) in
+    (c.loop-count.text.items ++ piece, Consumes-trans _ _ _ _ _ c.loop-count.invariant.consumed c.in-Ok.ensures.bytes, long)
