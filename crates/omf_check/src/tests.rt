@@ -3,8 +3,9 @@
 
 ghost use Rattle.std.specs.Prelude.{◌<◌};
 
-use crate::{CheckFault, Profile, SegInfo, Session, check};
+use crate::{CheckFault, Checked, Profile, SegInfo, Session, check};
 use omf_frame::{Place, Reading, Reason};
+use omf_records::Rec;
 use std::alloc::{AllocError, Global};
 use std::test::Fail;
 
@@ -173,6 +174,28 @@ fn judges_checksums(rt: HostRuntime) -> Result<(), Fail> {
                 &SEGMENT,
                 &zero,
                 &FIXUP,
+                &[0x8A, 0x02, 0x00, 0x00, 0x00]
+            ]
+        )?,
+        accepted(48)
+    );
+    Ok(())
+}
+
+#[test]
+fn takes_zero_for_each_checksum(rt: HostRuntime) -> Result<(), Fail> {
+    let a = rt.alloc();
+    assert_eq!(rt;
+        answer(
+            a,
+            &[
+                &[0x80, 0x03, 0x00, 0x01, 0x41, 0x00],
+                &[0x96, 0x04, 0x00, 0x00, 0x01, 0x54, 0x00],
+                &[0x98, 0x07, 0x00, 0x28, 0x04, 0x00, 0x02, 0x01, 0x01, 0x00],
+                &[
+                    0xA0, 0x08, 0x00, 0x01, 0x00, 0x00, 0xB8, 0x00, 0x00, 0x90, 0x00
+                ],
+                &[0x9C, 0x06, 0x00, 0xC4, 0x01, 0x04, 0x01, 0x01, 0x00],
                 &[0x8A, 0x02, 0x00, 0x00, 0x00]
             ]
         )?,
@@ -548,5 +571,77 @@ fn shows_tables(rt: HostRuntime) -> Result<(), Fail> {
         assert_eq!(rt; found, Some(place));
     }
     assert_eq!(rt; records.next().is_none(), true);
+    Ok(())
+}
+
+/// The module that a session takes byte by byte.
+fn by_bytes(alloc: Global, bytes: &[u8]) -> Result<Checked, CheckFault> {
+    let mut session = Session::new(alloc, ANY);
+    for byte in bytes.chunks(1) {
+        session.feed(byte)?;
+    }
+    session.finish()
+}
+
+#[test]
+fn shows_the_same_of_bytes(rt: HostRuntime) -> Result<(), Fail> {
+    let bytes = module(
+        rt.alloc(),
+        &[&HEADER, &NAMES, &SEGMENT, &DATA, &FIXUP, &END],
+    )?;
+    let checked = by_bytes(rt.alloc(), &bytes)?;
+    let segment = SegInfo {
+        length: 4,
+        absolute: None,
+        name: 2,
+        class: 1,
+    };
+    assert_eq!(rt; checked.bytes(), bytes.as_slice());
+    assert_eq!(rt; checked.profile(), ANY);
+    assert_eq!(rt; checked.names(), 2);
+    assert_eq!(rt; checked.segments(), 1);
+    assert_eq!(rt; checked.groups(), 0);
+    assert_eq!(rt; checked.externals(), 0);
+    assert_eq!(rt; checked.segment(1), Some(segment));
+    match checked.name(2) {
+        Some(name) => assert_eq!(rt; name.0, b"T".as_slice()),
+        None => assert!(rt; false),
+    }
+    Ok(())
+}
+
+#[test]
+fn shows_a_group_and_an_external(rt: HostRuntime) -> Result<(), Fail> {
+    let absolute = [
+        0x98, 0x0A, 0x00, 0x08, 0x00, 0xB8, 0x00, 0x04, 0x00, 0x02, 0x01, 0x01, 0x96,
+    ];
+    let group = [0x9A, 0x04, 0x00, 0x02, 0xFF, 0x01, 0x60];
+    let external = [0x8C, 0x04, 0x00, 0x01, 0x58, 0x00, 0x17];
+    let bytes = module(
+        rt.alloc(),
+        &[&HEADER, &NAMES, &absolute, &group, &external, &END],
+    )?;
+    let mut reader = Reading::new(bytes.as_slice());
+    let checked = check(rt.alloc(), &mut reader, ANY)?;
+    let segment = SegInfo {
+        length: 4,
+        absolute: Some((0xB800, 0)),
+        name: 2,
+        class: 1,
+    };
+    assert_eq!(rt; checked.segment(1), Some(segment));
+    match checked.external(1) {
+        Some(name) => assert_eq!(rt; name.0, b"X".as_slice()),
+        None => assert!(rt; false),
+    }
+    match &checked.group(1) {
+        Some(Rec::Group { name, members }) => {
+            assert_eq!(rt; name.item.0, 2);
+            assert_eq!(rt; members.iter().count(), 1);
+        }
+        _ => assert!(rt; false),
+    }
+    assert_eq!(rt; checked.group(2).is_none(), true);
+    assert_eq!(rt; checked.external(2).is_none(), true);
     Ok(())
 }

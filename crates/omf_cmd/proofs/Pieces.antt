@@ -7,12 +7,9 @@ use Rattle.std.specs.Prelude.{Option, IfErr}
 use Rattle.std.specs.Result.{IsErr}
 use Rattle.omf_check.specs.declared.profile.Profile.{Profile}
 use Rattle.omf_cmd.specs.Relocating.{Answers, Relocates}
-use Rattle.omf_cmd.specs.Reports.{IsRun}
 use Rattle.omf_cmd.specs.Runs.{HasFailed, IsPart, IsPrintFault, IsWrittenUpTo, Passes, Prints, PrintsInPieces}
 use Rattle.omf_cmd.specs.declared.fault.RunFault.{RunFault}
 use Rattle.omf_cmd.specs.declared.fault.RunFault.TheVariants as fault
-use Rattle.omf_cmd.specs.declared.words.Job.{Job}
-use Rattle.omf_cmd.specs.declared.words.Job.TheVariants as job
 
 -- nothing of it is written yet
 pub none_written : (old : Option (List ℕ)) (text : List ℕ) → IsWrittenUpTo old old text text
@@ -120,9 +117,3 @@ relocates profile input text failed fails (Err (fault.Reach x)) f a = absurd f
 -- with nothing kept yet, the whole text is to be written
 pub begun_empty : (held : Option (List ℕ)) (front back kept : List ℕ) → kept ≡ [] → IsWrittenUpTo held held (front ++ back) ((kept ++ front) ++ back)
 begun_empty held front back kept e = subst (λ (t : List ℕ). IsWrittenUpTo held held (front ++ back) ((t ++ front) ++ back)) (sym e) (none_written held (front ++ back))
-
--- a job for which memory ran out before anything was read or written
-pub out_of_memory : (what : Job) (profile : Profile) (left held : Option (List ℕ)) → IsRun what profile left left held held (Err fault.Memory)
-out_of_memory job.List profile left held = ([], Keeps-refl held, λ input told. tt)
-out_of_memory job.Check profile left held = ([], Keeps-refl held, λ input told. tt)
-out_of_memory job.Reloc profile left held = ([], none_of held, λ input told. inr refl)

@@ -4,7 +4,7 @@ use Rattle.std.proofs.lemmas.List.{append-nil}
 use Rattle.std.specs.Io.KnownBytes.{Consumes, Keeps}
 use Rattle.std.specs.Prelude.{Option, Some, None, IfErr, OnErr}
 use Rattle.omf_frame.specs.Framing.{Raw}
-use Rattle.omf_check.specs.Checking.{Decides}
+use Rattle.omf_check.specs.Checking.{Decides, IsCheckFault}
 use Rattle.omf_check.specs.Module.{Module, records_in}
 use Rattle.omf_check.specs.declared.fault.CheckFault.{CheckFault}
 use Rattle.omf_check.specs.declared.fault.CheckFault.TheVariants as check
@@ -25,15 +25,18 @@ none_printed held check.Memory text = kept held
 none_printed held check.Read text = kept held
 none_printed held (check.Refused why at) text = kept held
 
-pub none_judged : (profile : Profile) (input : List ℕ) (records : List Raw) (old new : Option (List ℕ)) (e : CheckFault) → Decides profile input (Err e) → Judges profile input records old new (Err (of_check e))
-none_judged profile input records old new check.Memory d = tt
-none_judged profile input records old new check.Read d = tt
-none_judged profile input records old new (check.Refused why at) d = d
+pub none_judged : (profile : Profile) (input : List ℕ) (records : List Raw) (old new : Option (List ℕ)) (failed fails : ℕ) (e : CheckFault) → Decides profile input (Err e) → IsCheckFault profile old new failed fails e → Judges profile input records old new (Err (of_check e))
+none_judged profile input records old new failed fails check.Memory d c = inl c
+none_judged profile input records old new failed fails check.Read d c = tt
+none_judged profile input records old new failed fails (check.Refused why at) d c = d
 
 -- the module's text is written, or the writer failed
 module _ (profile : Profile) (input : List ℕ) (m : Module) (old new : Option (List ℕ)) (d : Decides profile input (Ok m)) (read : Consumes old new m.bytes) where
   read_from : IsReadFrom profile input (records_in m.bytes) old new
   read_from = record { accepted = d.1.0; read = subst (Consumes old new) (sym d.1.1) read }
+
+  pub text_judged : Judges profile input (records_in m.bytes) old new (Err fault.Memory)
+  text_judged = inr read_from
 
   pub one_judged : (r : Result (Unit {0}) RunFault) → IfErr r (λ e. e ≡ fault.Write) → Judges profile input (records_in m.bytes) old new r
   one_judged (Ok done) w = read_from

@@ -1,10 +1,10 @@
 -- What `check` and `list` answer for an input: both print a text of the records of the module that it begins with. How the program
 -- ends.
-use Rattle.std.specs.Prelude.{◌≡◌, ◌⊎◌, ⊤, ℕ, List, Option, Some, Result, Ok, Err}
-use Rattle.std.specs.Io.KnownBytes.{Consumes}
+use Rattle.std.specs.Prelude.{◌≡◌, ◌⊎◌, ⊤, ℕ, List, Option, Some, Result, Ok, Err, IfErr}
+use Rattle.std.specs.Io.KnownBytes.{Consumes, Keeps}
 use Rattle.omf_frame.specs.Framing.{Raw}
 use Rattle.omf_image.specs.Limits.{profile_limits}
-use Rattle.omf_check.specs.Refusal.{IsRefused}
+use Rattle.omf_check.specs.Refusal.{IsRefused, AreSoundSoFar}
 use Rattle.omf_check.specs.WellFormed.{IsAccepted}
 use Rattle.omf_check.specs.declared.fault.CheckFault.{CheckFault}
 use Rattle.omf_check.specs.declared.fault.CheckFault.TheVariants as check
@@ -12,7 +12,7 @@ use Rattle.omf_check.specs.declared.profile.Profile.{Profile}
 use Rattle.omf_cmd.specs.FaultLine.{fault_text}
 use Rattle.omf_cmd.specs.Listing.{check_text, list_text}
 use Rattle.omf_cmd.specs.Relocating.{IsRelocation}
-use Rattle.omf_cmd.specs.Runs.{IsPart, IsWritten, Prints}
+use Rattle.omf_cmd.specs.Runs.{IsCausedBy, IsWritten, Prints}
 use Rattle.omf_cmd.specs.Words.{status_of, usage}
 use Rattle.omf_cmd.specs.declared.fault.RunFault.{RunFault}
 use Rattle.omf_cmd.specs.declared.fault.RunFault.TheVariants as fault
@@ -30,13 +30,17 @@ pub record IsReadFrom (profile : Profile) (input : List ℕ) (records : List Raw
   pub accepted : IsAccepted profile profile_limits input records
   pub read : Consumes old new accepted.bytes
 
+-- No refusal is found before the last byte that was read.
+abbrev pub IsUnrefused : Profile → Option (List ℕ) → Option (List ℕ) → Type 0
+IsUnrefused profile old new = (read : List ℕ) × Consumes old new read × AreSoundSoFar profile profile_limits read
+
 -- What the answer says of an input: done, or failed to write, only for a module of these records; refused as the input is; and no
 -- fault of a placement.
 abbrev pub Judges : Profile → List ℕ → List Raw → Option (List ℕ) → Option (List ℕ) → Result (Unit {0}) RunFault → Type 0
 Judges profile input records old new (Ok done) = IsReadFrom profile input records old new
 Judges profile input records old new (Err fault.Write) = IsReadFrom profile input records old new
 Judges profile input records old new (Err (fault.Refused why at)) = IsRefused profile profile_limits input why at
-Judges profile input records old new (Err fault.Memory) = ⊤
+Judges profile input records old new (Err fault.Memory) = IsUnrefused profile old new ⊎ IsReadFrom profile input records old new
 Judges profile input records old new (Err fault.Read) = ⊤
 Judges profile input records old new (Err (fault.Line n)) = ⊥
 Judges profile input records old new (Err fault.TooLong) = ⊥
@@ -53,18 +57,24 @@ IsRun job.List profile left left' held held' ran = Reports list_text profile lef
 IsRun job.Check profile left left' held held' ran = Reports check_text profile left left' held held' ran
 IsRun job.Reloc profile left left' held held' ran = IsRelocation profile left held held' ran
 
--- How the program ends after a run: the status is that of the answer, and of a fault its text is written, or a part of it from the front.
-abbrev pub IsEnded : Option (List ℕ) → Option (List ℕ) → Result (Unit {0}) RunFault → ℕ → Type 0
-IsEnded held held' (Ok done) status = (status ≡ 0) × (held' ≡ held)
-IsEnded held held' (Err f) status = (status ≡ status_of f) × IsPart held held' (fault_text f)
+-- What is written of a fault: its whole text, or a part of it where the writer failed; or nothing, where the line found no memory.
+abbrev pub Tells : Option (List ℕ) → Option (List ℕ) → ℕ → ℕ → List ℕ → Type 0
+Tells held held' failed fails text = Keeps held held' ⊎ IsWritten held held' failed fails text
 
--- The program's answer to words that ask for a job: it ran, and the program ended.
-pub record IsAnswer (asked : Job × Profile) (left left' held held' : Option (List ℕ)) (status : ℕ) : Type 0 where
+-- How the program ends after a run: the status is that of the answer, and a fault's text is written.
+abbrev pub IsEnded : Option (List ℕ) → Option (List ℕ) → ℕ → ℕ → Result (Unit {0}) RunFault → ℕ → Type 0
+IsEnded held held' failed fails (Ok done) status = (status ≡ 0) × (held' ≡ held)
+IsEnded held held' failed fails (Err f) status = (status ≡ status_of f) × Tells held held' failed fails (fault_text f)
+
+-- The program's answer to words that ask for a job: it ran, and the program ended. A device that is named has failed in the run.
+pub record IsAnswer (asked : Job × Profile) (left left' held held' : Option (List ℕ)) (reads reads' writes writes' : ℕ) (status : ℕ) : Type 0 where
   pub ran : Result (Unit {0}) RunFault
   pub between : Option (List ℕ)
+  pub writes_between : ℕ
   pub run : IsRun asked.0 asked.1 left left' held between ran
-  pub ended : IsEnded between held' ran status
+  pub cause : IfErr ran (IsCausedBy reads reads' writes writes_between)
+  pub ended : IsEnded between held' writes_between writes' ran status
 
 -- The program's answer to words that are not understood: how it is called, unless the writer failed; or memory ran out.
 abbrev pub IsMisuse : Option (List ℕ) → Option (List ℕ) → ℕ → ℕ → ℕ → Type 0
-IsMisuse held held' failed fails status = ((status ≡ 2) × IsWritten held held' failed fails usage) ⊎ ((status ≡ 3) × IsPart held held' (fault_text fault.Memory))
+IsMisuse held held' failed fails status = ((status ≡ 2) × IsWritten held held' failed fails usage) ⊎ ((status ≡ 3) × Tells held held' failed fails (fault_text fault.Memory))

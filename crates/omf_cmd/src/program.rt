@@ -1,12 +1,13 @@
 //! The program over its words, a reader and a writer: what it prints and which status it ends with.
 
-ghost use Rattle.std.specs.Prelude.{◌≡◌, ◌≤◌, ◌++◌, ◌∷◌, [], ℕ, List, map, string_bytes, IfOk, OnOk, Some};
-ghost use Rattle.clap.specs.Words.{fault_of};
+ghost use Rattle.omf_cmd.specs.declared.fault.RunFault.TheVariants.{Memory};
+ghost use Rattle.std.specs.Prelude.{◌≡◌, ◌⊎◌, ◌≤◌, ◌++◌, ◌∷◌, [], ℕ, List, map, string_bytes, IfErr, IfOk, OnOk, Some, None};
+ghost use Rattle.clap.specs.Words.{fault_of, subcommand_of};
 ghost use Rattle.omf_cmd.specs.Parsed.{omf_app};
 ghost use Rattle.omf_check.specs.declared.profile.Profile.{Profile};
 ghost use Rattle.omf_cmd.specs.FaultLine.{fault_line, fault_text};
-ghost use Rattle.omf_cmd.specs.Reports.{IsRun, IsAnswer, IsMisuse};
-ghost use Rattle.omf_cmd.specs.Runs.{IsPart, IsWritten};
+ghost use Rattle.omf_cmd.specs.Reports.{IsRun, IsAnswer, IsMisuse, Tells};
+ghost use Rattle.omf_cmd.specs.Runs.{IsCausedBy, IsWritten};
 ghost use Rattle.omf_cmd.specs.Words.{asks, status_of, usage};
 ghost use Rattle.omf_cmd.specs.declared.words.Job.{Job};
 
@@ -41,7 +42,8 @@ fn run<S: Source, K: Sink>(
     reader: &mut S,
     writer: &mut K,
 ) -> Result<(), RunFault>
-    ensures { IsRun job profile (S.left reader.old) (S.left reader.new) (K.held writer.old) (K.held writer.new) result }
+    ensures cause { IfErr result (IsCausedBy (S.failures reader.old) (S.failures reader.new) (K.failures writer.old) (K.failures writer.new)) }
+    ensures runs { IsRun job profile (S.left reader.old) (S.left reader.new) (K.held writer.old) (K.held writer.new) result }
 {
     match job {
         Job::List => run_list(alloc, profile, reader, writer),
@@ -61,7 +63,7 @@ fn fault_text(alloc: Global, fault: &RunFault) -> Result<String, AllocError>
 
 /// Prints a fault's line, where its text finds memory; nothing where the writer has failed already. A failure to print is passed over.
 fn print_fault<K: Sink>(alloc: Global, fault: &RunFault, writer: &mut K)
-    ensures { IsPart (K.held writer.old) (K.held writer.new) (fault_text fault.now) }
+    ensures { Tells (K.held writer.old) (K.held writer.new) (K.failures writer.old) (K.failures writer.new) (fault_text fault.now) }
 {
     match fault {
         RunFault::Write => {}
@@ -76,7 +78,7 @@ fn print_fault<K: Sink>(alloc: Global, fault: &RunFault, writer: &mut K)
 /// Prints a fault's line, and answers its exit status.
 pub fn fail<K: Sink>(alloc: Global, fault: &RunFault, writer: &mut K) -> u8
     ensures status { result ≡ status_of fault.now }
-    ensures prints { IsPart (K.held writer.old) (K.held writer.new) (fault_text fault.now) }
+    ensures prints { Tells (K.held writer.old) (K.held writer.new) (K.failures writer.old) (K.failures writer.new) (fault_text fault.now) }
 {
     print_fault(alloc, fault, writer);
     status_of(fault)
@@ -99,7 +101,9 @@ pub fn main_with<S: Source, K: Sink>(
 ) -> u8
     ensures known { result ≤ 3 }
     // Where the words ask for a job, it was run, and the status and what was written tell its answer.
-    ensures answer { (asked : Job × Profile) → asks (map string_bytes words.now) ≡ Some asked → IsAnswer asked (S.left reader.old) (S.left reader.new) (K.held writer.old) (K.held writer.new) result }
+    ensures answer { (asked : Job × Profile) → asks (map string_bytes words.now) ≡ Some asked → IsAnswer asked (S.left reader.old) (S.left reader.new) (K.held writer.old) (K.held writer.new) (S.failures reader.old) (S.failures reader.new) (K.failures writer.old) (K.failures writer.new) result ⊎ ((result ≡ 3) × Tells (K.held writer.old) (K.held writer.new) (K.failures writer.old) (K.failures writer.new) (fault_text Memory)) }
+    // Where the words name no subcommand, the program says how it is called.
+    ensures nothing { subcommand_of omf_app (map string_bytes words.now) ≡ None → IsMisuse (K.held writer.old) (K.held writer.new) (K.failures writer.old) (K.failures writer.new) result }
     // Where clap refuses the words, the program says how it is called.
     ensures misuse { (fault_of omf_app (map string_bytes words.now) ≡ [] → ⊥) → IsMisuse (K.held writer.old) (K.held writer.new) (K.failures writer.old) (K.failures writer.new) result }
 {

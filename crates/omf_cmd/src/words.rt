@@ -27,6 +27,8 @@ pub fn command(alloc: Global, words: &[String]) -> Result<Option<(Job, Profile)>
     ensures asks { (asked : Job × Profile) → asks (map string_bytes words.now) ≡ Some asked → IfOk result (λ found. found ≡ Some asked) }
     // So is each subcommand that clap's definition has of words without a fault.
     ensures parsed { (name : List ℕ) (job : Job) (refuses : Bool) → fault_of omf_app (map string_bytes words.now) ≡ [] → IsParsed (subcommand_of omf_app (map string_bytes words.now)) name refuses → job_named name ≡ Some job → IfOk result (λ found. found ≡ Some (record { 0 = job; 1 = profile_of refuses })) }
+    // Where the words name no subcommand, none is answered.
+    ensures none { subcommand_of omf_app (map string_bytes words.now) ≡ None → IfOk result (λ found. found ≡ None) }
     // A job is answered only where clap's definition has no fault of these words.
     ensures refused { IfOk result (λ found. (found ≡ None) ⊎ (fault_of omf_app (map string_bytes words.now) ≡ [])) }
 {
@@ -75,7 +77,8 @@ fn job_named(name: &str) -> Option<Job>
 
 /// The job of the subcommand that was parsed, and the profile of its flag.
 fn named_by(matches: &ArgMatches<'_>) -> Option<(Job, Profile)>
-    ensures { (name : List ℕ) (job : Job) (refuses : Bool) → IsParsed (subcommand_rows_of matches.now) name refuses → job_named name ≡ Some job → result ≡ Some (record { 0 = job; 1 = profile_of refuses }) }
+    ensures none { subcommand_rows_of matches.now ≡ None → result ≡ None }
+    ensures some { (name : List ℕ) (job : Job) (refuses : Bool) → IsParsed (subcommand_rows_of matches.now) name refuses → job_named name ≡ Some job → result ≡ Some (record { 0 = job; 1 = profile_of refuses }) }
 {
     let (name, inner) = matches.subcommand()?;
     let job = job_named(name)?;

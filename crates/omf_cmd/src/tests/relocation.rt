@@ -554,6 +554,8 @@ fn limits_the_text(rt: HostRuntime) -> Result<(), Fail> {
     let mut text = vec![in rt.alloc(); b' '; 4_194_304]?;
     let missing = RunFault::Reach(ReachFault::Missing(Kind::Segment, 1));
     stops(&rt, &records, &text, missing)?;
+    let longer = vec![in rt.alloc(); b' '; 4_194_305]?;
+    stops(&rt, &records, &longer, RunFault::TooLong)?;
     text[0] = b'X';
     stops(&rt, &records, &text, RunFault::Line(1))?;
     text.push(b' ')?;

@@ -314,3 +314,30 @@ fn leaves_the_front_where_the_writer_fails(rt: HostRuntime) -> Result<(), Fail> 
     }
     Ok(())
 }
+
+#[test]
+fn lists_records_of_other_types(rt: HostRuntime) -> Result<(), Fail> {
+    let records: [&[u8]; 15] = [
+        &[0x82, 0x03, 0x00, 0x01, 0x41, 0x00],
+        NAMES,
+        SEGMENT,
+        &[0x9A, 0x04, 0x00, 0x00, 0xFF, 0x01, 0x00],
+        &[0x8C, 0x03, 0x00, 0x00, 0x00, 0x00],
+        &[
+            0x91, 0x0A, 0x00, 0x01, 0x01, 0x01, 0x58, 0x78, 0x56, 0x34, 0x12, 0x00, 0x00,
+        ],
+        &[0x8E, 0x01, 0x00, 0x00],
+        &[0x94, 0x01, 0x00, 0x00],
+        &[0x95, 0x01, 0x00, 0x00],
+        &[0xC4, 0x01, 0x00, 0x00],
+        &[0xC5, 0x01, 0x00, 0x00],
+        &[0xC6, 0x01, 0x00, 0x00],
+        &[0xCC, 0x01, 0x00, 0x00],
+        &[0xA2, 0x04, 0x00, 0x01, 0x00, 0x00, 0x00],
+        END,
+    ];
+    let text =
+        b"R 0 00000000 82 2 LHEADR\nR 1 00000006 96 3 LNAMES\nR 2 0000000D 98 6 SEGDEF\nR 3 00000017 9A 3 GRPDEF\nR 4 0000001E 8C 2 EXTDEF\nR 5 00000024 91 9 PUBDEF\nR 6 00000031 8E 0 TYPDEF\nR 7 00000035 94 0 LINNUM\nR 8 00000039 95 0 LINNUM\nR 9 0000003D C4 0 LINSYM\nR 10 00000041 C5 0 LINSYM\nR 11 00000045 C6 0 ALIAS\nR 12 00000049 CC 0 VERNUM\nR 13 0000004D A2 3 LIDATA\nR 14 00000054 8A 1 MODEND\nS 1 4 \"T\"\nG 1 -\nE 1 \"\"\nP 1 1 12345678 \"X\"\n";
+    prints(&rt, Job::List, &records, text)?;
+    Ok(())
+}

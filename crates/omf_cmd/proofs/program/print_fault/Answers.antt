@@ -1,7 +1,9 @@
-use Rattle.std.proofs.Common.{◌∙◌}
-use Rattle.omf_cmd.proofs.RunLaws.{part_written, shown}
+use Rattle.std.proofs.Common.{◌∙◌, subst, inr}
+use Rattle.omf_cmd.specs.Runs.{IsWritten}
+use Rattle.omf_cmd.proofs.RunLaws.{written_or_failed, shown}
 use Rattle.omf_cmd.proofs.program.print_fault.Goals as goal
 
 pub returns-in-Ok : goal.returns-in-Ok
 returns-in-Ok g c =
-    part_written _ _ c.write_all.result _ _ (c.as_bytes.ensures.value ∙ c.in-Ok.ensures ∙ shown c.args.fault.now c.in_default.not-Write) c.write_all.ensures.fault c.write_all.ensures.prints
+    let same = c.as_bytes.ensures.value ∙ c.in-Ok.ensures ∙ shown c.args.fault.now c.in_default.not-Write in
+    inr (subst (IsWritten _ _ _ _) same (written_or_failed _ _ _ _ c.write_all.result _ c.write_all.ensures.fault c.write_all.ensures.cause c.write_all.ensures.prints))

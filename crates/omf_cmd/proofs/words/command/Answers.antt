@@ -11,7 +11,7 @@ returns-in-Ok-clause-asks c asked e =
     let h = c.in-Ok.ensures.matches (ap is_simple c.in_ok-omf.ensures ∙ is_simple_omf) in
     let rows : subcommand_rows_of c.in-Ok.matches ≡ subcommand_of omf_app words = h.1 ∙ ap (λ (b : App). subcommand_of b words) c.in_ok-omf.ensures in
     let parse = rw (← rows) at a.parse in
-    c.named_by.ensures a.name a.job a.refuses parse a.named ∙ a.is
+    c.named_by.ensures.some a.name a.job a.refuses parse a.named ∙ a.is
 
 pub returns-in-Err-2-clause-asks : goal.returns-in-Err-2-clause-asks
 returns-in-Err-2-clause-asks c asked e =
@@ -37,7 +37,7 @@ returns-in-Ok-clause-parsed c name job refuses none parse named =
     let h = c.in-Ok.ensures.matches (ap is_simple c.in_ok-omf.ensures ∙ is_simple_omf) in
     let rows : subcommand_rows_of c.in-Ok.matches ≡ subcommand_of omf_app words = h.1 ∙ ap (λ (b : App). subcommand_of b words) c.in_ok-omf.ensures in
     let here = rw (← rows) at parse in
-    c.named_by.ensures name job refuses here named
+    c.named_by.ensures.some name job refuses here named
 
 pub returns-in-Err-2-clause-parsed : goal.returns-in-Err-2-clause-parsed
 returns-in-Err-2-clause-parsed c name job refuses none parse named =
@@ -50,3 +50,10 @@ returns-in-Err-2-clause-parsed c name job refuses none parse named =
     let test = rw (c.kind.ensures ∙ ap kind_of same ∙ out) at c.eq.ensures in
     let not = c.if-eq.false in
     absurd cc
+
+pub returns-in-Ok-clause-none : goal.returns-in-Ok-clause-none
+returns-in-Ok-clause-none c e =
+    let words = map string_bytes c.args.words.now in
+    let h = c.in-Ok.ensures.matches (ap is_simple c.in_ok-omf.ensures ∙ is_simple_omf) in
+    let rows : subcommand_rows_of c.in-Ok.matches ≡ subcommand_of omf_app words = h.1 ∙ ap (λ (b : App). subcommand_of b words) c.in_ok-omf.ensures in
+    c.named_by.ensures.none (rows ∙ e)

@@ -6,8 +6,8 @@ use Rattle.omf_cmd.specs.Words.{job_named}
 use Rattle.omf_cmd.proofs.Parsed.{name_at, flag_at, flag_value, same_job}
 use Rattle.omf_cmd.proofs.words.named_by.Goals as goal
 
-pub returns : goal.returns
-returns c name job refuses parse is_job =
+pub returns-clause-some : goal.returns-clause-some
+returns-clause-some c name job refuses parse is_job =
     let names = c.in_ok-name.ensures.name ∙ name_at _ _ _ ∙ parse.named in
     let flag = one_text-rows (found_of c.in_ok-name.inner.now) flag_id ∙ sym (flag_at (subcommand_rows_of c.args.matches.now) (rows_of (found_of c.in_ok-name.inner.now)) c.in_ok-name.ensures.rows) ∙ parse.set in
     let set = flag_value refuses _ _ c.get_flag-refuse_vendor_comments.ensures.value c.get_flag-refuse_vendor_comments.ensures.other flag in
