@@ -554,8 +554,6 @@ fn limits_the_text(rt: HostRuntime) -> Result<(), Fail> {
     let mut text = vec![in rt.alloc(); b' '; 4_194_304]?;
     let missing = RunFault::Reach(ReachFault::Missing(Kind::Segment, 1));
     stops(&rt, &records, &text, missing)?;
-    let longer = vec![in rt.alloc(); b' '; 4_194_305]?;
-    stops(&rt, &records, &longer, RunFault::TooLong)?;
     text[0] = b'X';
     stops(&rt, &records, &text, RunFault::Line(1))?;
     text.push(b' ')?;
@@ -654,5 +652,13 @@ fn leaves_the_front_where_the_writer_fails(rt: HostRuntime) -> Result<(), Fail> 
         writes_front(&rt, room, Full::Fails)?;
         writes_front(&rt, room, Full::TakesNone)?;
     }
+    Ok(())
+}
+
+#[test]
+fn limits_a_text_of_spaces(rt: HostRuntime) -> Result<(), Fail> {
+    let records = fixed_by(FIXUP);
+    let text = vec![in rt.alloc(); b' '; 4_194_305]?;
+    stops(&rt, &records, &text, RunFault::TooLong)?;
     Ok(())
 }
