@@ -80,7 +80,7 @@ unless_holds : (b : Bool) (f : Fault) → cond b None (Some f) ≡ None → b �
 unless_holds true f h = refl
 unless_holds false f h = absurd cc
 
-room_none : (left : ℕ) (ps : List ℕ) → room_fault left ps ≡ None → length ps ≤ left
+pub room_none : (left : ℕ) (ps : List ℕ) → room_fault left ps ≡ None → length ps ≤ left
 room_none left [] h = omega arith
 room_none left (p ∷ ps) h =
     let both = none_both (fault_unless (nat_lt 0 left) p reason.TooMany) (room_fault (left - 1) ps) h in
