@@ -139,8 +139,8 @@ pub front_short : (bytes body : List ℕ) → StartsWithRecord bytes → body �
 front_short bytes body s e = let h = (front_of bytes s).is_record.0 in let f = ap length e in omega (arith, h, f)
 
 -- A checked module's records are listed from its start.
-pub checked_list : (profile : Profile) (bytes : List ℕ) (kept : Kept) → IsChecked profile bytes kept → AreListed bytes 0 0
-checked_list profile bytes kept c =
+pub checked_list : (profile : Profile) (bytes : List ℕ) (kept : Kept) (count : ℕ) → IsChecked profile bytes kept count → AreListed bytes 0 0
+checked_list profile bytes kept count c =
     let w : IsWellFormed profile profile_limits bytes (records_in bytes) = c.well_formed in
     let rs : List Raw = records_in bytes in
     let s : length bytes ≡ length (flat_map raw_bytes rs) = ap length w.framed.spelled in

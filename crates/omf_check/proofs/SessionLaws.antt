@@ -111,7 +111,7 @@ pub records_of : (bytes : List ℕ) (rs : List Raw) → IsFramed bytes rs → re
 records_of bytes rs f =
     ap records_in f.spelled ∙ split_all (length (flat_map raw_bytes rs)) rs f.each (omega arith)
 
-pub checked_of : (profile : Profile) (held : Held) (taken : List ℕ) (kept : Kept) → IsPassing profile held taken kept → held.ended ≡ true → IsChecked profile taken kept
+pub checked_of : (profile : Profile) (held : Held) (taken : List ℕ) (kept : Kept) → IsPassing profile held taken kept → held.ended ≡ true → IsChecked profile taken kept held.number
 checked_of profile held taken kept p e =
     let w : IsWellFormed profile profile_limits taken p.before = (p.at_end e).1 in
     let same : records_in taken ≡ p.before = records_of taken p.before w.framed in
@@ -120,6 +120,7 @@ checked_of profile held taken kept p e =
       tells = subst (λ x. Tells kept (recs x)) (sym same) p.tells;
       points = subst (λ x. PointsTo taken kept (recs x)) (sym same) (subst (λ x. PointsTo x kept (recs p.before)) (sym w.framed.spelled) p.points);
       bounded = p.bounded;
+      counted = p.number ∙ ap length (sym same);
     }
 
 -- by the state

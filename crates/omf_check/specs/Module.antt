@@ -1,5 +1,5 @@
 -- What is seen of a checked module.
-use Rattle.std.specs.Prelude.{ℕ, zero, suc, List, [], ◌∷◌, length}
+use Rattle.std.specs.Prelude.{◌≡◌, ℕ, zero, suc, List, [], ◌∷◌, length}
 use Rattle.omf_frame.specs.Framing.{Raw, present, front_record, after_front}
 use Rattle.omf_image.specs.Limits.{profile_limits}
 use Rattle.omf_check.specs.Kept.{Kept, Tells, IsBounded}
@@ -22,8 +22,9 @@ abbrev pub records_in : List ℕ → List Raw
 records_in bytes = records_from (length bytes) bytes
 
 -- What is true of every checked module, by its parts.
-pub record IsChecked (profile : Profile) (bytes : List ℕ) (kept : Kept) : Type 0 where
+pub record IsChecked (profile : Profile) (bytes : List ℕ) (kept : Kept) (count : ℕ) : Type 0 where
   pub well_formed : IsWellFormed profile profile_limits bytes (records_in bytes)
   pub tells : Tells kept (recs (records_in bytes))
   pub points : PointsTo bytes kept (recs (records_in bytes))
   pub bounded : IsBounded kept
+  pub counted : count ≡ length (records_in bytes)

@@ -27,6 +27,8 @@ pub struct Checked {
     profile: Profile,
     bytes: Vec<u8>,
     tables: Tables,
+    /// How many records it has.
+    count: u32,
 }
 
 impl Model for Checked {
@@ -36,7 +38,7 @@ impl Model for Checked {
 
     ghost view = { λ c. record { bytes = c.bytes.items; profile = c.profile } };
 
-    ghost invariant = { λ c. IsChecked c.profile c.bytes.items c.tables };
+    ghost invariant = { λ c. IsChecked c.profile c.bytes.items c.tables c.count };
 }
 
 /// The name that stands at an offset of the module.
@@ -61,14 +63,20 @@ fn group_at(bytes: &[u8], place: u64) -> Rec<'_>
 }
 
 impl Checked {
-    pub(crate) fn new(profile: Profile, bytes: Vec<u8>, tables: Tables) -> Checked
-        requires { IsChecked profile bytes.items tables }
+    pub(crate) fn new(
+        profile: Profile,
+        bytes: Vec<u8>,
+        tables: Tables,
+        count: u32,
+    ) -> Checked
+        requires { IsChecked profile bytes.items tables count }
         ensures { result ≡ record { bytes = bytes.items; profile = profile } }
     {
         Checked {
             profile,
             bytes,
             tables,
+            count,
         }
     }
 
@@ -124,6 +132,13 @@ impl Checked {
         ensures { result ≡ entry (segments (recs (records_in self.now.bytes))) i }
     {
         self.tables.segment(i)
+    }
+
+    /// How many records it has.
+    pub fn record_count(&self) -> u32
+        ensures { result ≡ length (records_in self.now.bytes) }
+    {
+        self.count
     }
 
     /// The records, one after another, each with its place (in which `within` is 0). None names a thread, an entry, a datum or a byte

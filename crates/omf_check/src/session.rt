@@ -148,6 +148,7 @@ impl Session {
         if let Err(fault) = self.framer.stop() {
             return Err(framing_fault(fault));
         }
-        Ok(Checked::new(self.profile, self.bytes, self.tables))
+        let count = self.framer.number();
+        Ok(Checked::new(self.profile, self.bytes, self.tables, count))
     }
 }

@@ -155,22 +155,11 @@ pub fn list_text(alloc: Global, checked: &Checked) -> Result<String, AllocError>
     Ok(text)
 }
 
-/// How many records a module has: one more than the number of its last.
-fn record_count(checked: &Checked) -> usize
-    ensures { result ≡ length (records_in checked.now.bytes) }
-{
-    let mut count = 0;
-    for (place, _rec) in checked.records() {
-        count = place.number as usize + 1;
-    }
-    count
-}
-
 /// What `check` prints of a module: how many records and bytes it has.
 pub fn check_text(alloc: Global, checked: &Checked) -> Result<String, AllocError>
     ensures { IfOk result (λ text. string_bytes text ≡ check_text (records_in checked.now.bytes)) }
 {
     let mut text = String::new(alloc);
-    print_totals(&mut text, record_count(checked), checked.bytes().len())?;
+    print_totals(&mut text, checked.record_count() as usize, checked.bytes().len())?;
     Ok(text)
 }

@@ -224,6 +224,13 @@ impl Framer {
         self.ended
     }
 
+    /// The number of the record at hand, or of the next: how many were passed.
+    pub fn number(&self) -> u32
+        ensures { result ≡ self.now.number }
+    {
+        self.number
+    }
+
     /// Passes the whole record that stands. Its number is below 2^32 - 1.
     pub fn next(&mut self)
         requires whole { IsTrue (stands self.old) }

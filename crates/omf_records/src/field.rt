@@ -11,6 +11,7 @@ use crate::here::Here;
 use omf_frame::{CommunalLength, Field, Index, Le16, Le32, Name, Reason};
 
 /// A field, and what comes after it.
+#[inline(always)]
 fn field<'a, F: Field<'a>>(here: Here<'a>) -> Result<(F, Here<'a>), LayoutFault>
     ensures { GivesField F.spells here.entry.wide here.entry.within here.entry.bytes.now result }
 {
@@ -26,6 +27,7 @@ pub(crate) fn name<'a>(here: Here<'a>) -> Result<(Name<'a>, Here<'a>), LayoutFau
     field::<Name<'a>>(here)
 }
 
+#[inline(always)]
 pub(crate) fn index<'a>(here: Here<'a>) -> Result<(Index, Here<'a>), LayoutFault>
     ensures { Gives here.entry.wide result (index_read here.entry.within here.entry.bytes.now) }
 {
@@ -33,6 +35,7 @@ pub(crate) fn index<'a>(here: Here<'a>) -> Result<(Index, Here<'a>), LayoutFault
 }
 
 /// A number of two bytes.
+#[inline(always)]
 pub(crate) fn le16<'a>(here: Here<'a>) -> Result<(u16, Here<'a>), LayoutFault>
     ensures { Gives here.entry.wide result (le_read 2 here.entry.within here.entry.bytes.now) }
 {
@@ -43,6 +46,7 @@ pub(crate) fn le16<'a>(here: Here<'a>) -> Result<(u16, Here<'a>), LayoutFault>
 }
 
 /// A number of four bytes.
+#[inline(always)]
 fn le32<'a>(here: Here<'a>) -> Result<(u32, Here<'a>), LayoutFault>
     ensures { Gives here.entry.wide result (le_read 4 here.entry.within here.entry.bytes.now) }
 {
@@ -53,6 +57,7 @@ fn le32<'a>(here: Here<'a>) -> Result<(u32, Here<'a>), LayoutFault>
 }
 
 /// A number of the record's width: 32 bits, or 16.
+#[inline(always)]
 pub(crate) fn number<'a>(here: Here<'a>) -> Result<(u32, Here<'a>), LayoutFault>
     ensures { Gives here.entry.wide result ((number_reader here.entry.wide).read here.entry.within here.entry.bytes.now) }
 {
@@ -83,6 +88,7 @@ pub(crate) fn communal_length<'a>(here: Here<'a>) -> Result<(u32, Here<'a>), Lay
 }
 
 /// An index, with its place.
+#[inline(always)]
 pub(crate) fn index_here<'a>(here: Here<'a>) -> Result<(At<Index>, Here<'a>), LayoutFault>
     ensures { Gives here.entry.wide result (index_at.read here.entry.within here.entry.bytes.now) }
 {
@@ -101,6 +107,7 @@ pub(crate) fn number_here<'a>(here: Here<'a>) -> Result<(At<u32>, Here<'a>), Lay
 }
 
 /// One byte.
+#[inline(always)]
 pub(crate) fn byte<'a>(here: Here<'a>) -> Result<(u8, Here<'a>), LayoutFault>
     ensures { Gives here.entry.wide result (byte_read here.entry.within here.entry.bytes.now) }
 {
@@ -111,6 +118,7 @@ pub(crate) fn byte<'a>(here: Here<'a>) -> Result<(u8, Here<'a>), LayoutFault>
 }
 
 /// One byte below 128, or two bytes, the high one first, of which that has bit 7 set.
+#[inline(always)]
 pub(crate) fn head<'a>(here: Here<'a>) -> Result<(u16, Here<'a>), LayoutFault>
     ensures { Gives here.entry.wide result (head_read here.entry.within here.entry.bytes.now) }
 {

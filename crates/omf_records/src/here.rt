@@ -56,6 +56,7 @@ impl<'a> Here<'a> {
     }
 
     /// The field here is at fault.
+    #[inline(always)]
     pub(crate) fn fault(self, reason: Reason) -> LayoutFault
         ensures { result ≡ fault self.entry.within reason }
     {
@@ -76,6 +77,7 @@ impl<'a> Here<'a> {
     }
 
     /// The first `n` bytes are passed.
+    #[inline(always)]
     pub(crate) fn pass(self, n: usize) -> Here<'a>
         requires { n ≤ length self.bytes.now }
         ensures width { result.wide ≡ self.entry.wide }

@@ -124,6 +124,7 @@ fn head_fault(head: u16) -> Option<Reason>
 }
 
 /// The first byte of a THREAD, or the first two bytes of a FIXUP.
+#[inline(always)]
 fn subhead<'a>(here: Here<'a>) -> Result<(u16, Here<'a>), LayoutFault>
     ensures { Gives here.entry.wide result (subhead_reader.read here.entry.within here.entry.bytes.now) }
 {
@@ -135,6 +136,7 @@ fn subhead<'a>(here: Here<'a>) -> Result<(u16, Here<'a>), LayoutFault>
 }
 
 /// The fix data byte.
+#[inline(always)]
 fn fix<'a>(here: Here<'a>) -> Result<(At<u8>, Here<'a>), LayoutFault>
     ensures { Gives here.entry.wide result (fix_reader.read here.entry.within here.entry.bytes.now) }
 {
@@ -170,6 +172,7 @@ fn has_displacement(fix: u8) -> bool
 }
 
 /// An index that stands there only if `is_there`.
+#[inline(always)]
 fn datum<'a>(here: Here<'a>, is_there: bool) -> Result<(Option<At<Index>>, Here<'a>), LayoutFault>
     ensures { Gives here.entry.wide result ((datum_reader is_there).read here.entry.within here.entry.bytes.now) }
 {
@@ -180,6 +183,7 @@ fn datum<'a>(here: Here<'a>, is_there: bool) -> Result<(Option<At<Index>>, Here<
     Ok((Some(index), after))
 }
 
+#[inline(always)]
 fn displacement<'a>(here: Here<'a>, is_there: bool) -> Result<(Option<u32>, Here<'a>), LayoutFault>
     ensures { Gives here.entry.wide result ((displacement_reader here.entry.wide is_there).read here.entry.within here.entry.bytes.now) }
 {
@@ -190,6 +194,7 @@ fn displacement<'a>(here: Here<'a>, is_there: bool) -> Result<(Option<u32>, Here
     Ok((Some(value), after))
 }
 
+#[inline(always)]
 pub(crate) fn read_reference<'a>(here: Here<'a>) -> Result<(Reference, Here<'a>), LayoutFault>
     ensures { Gives here.entry.wide result ((reference_reader here.entry.wide).read here.entry.within here.entry.bytes.now) }
 {
@@ -209,6 +214,7 @@ pub(crate) fn read_reference<'a>(here: Here<'a>) -> Result<(Reference, Here<'a>)
 }
 
 /// What comes after the first byte of a THREAD.
+#[inline(always)]
 fn thread<'a>(here: Here<'a>, first: u8) -> Result<(Subrecord<'a>, Here<'a>), LayoutFault>
     ensures { Gives here.entry.wide result ((thread_reader first).read here.entry.within here.entry.bytes.now) }
 {
@@ -219,6 +225,7 @@ fn thread<'a>(here: Here<'a>, first: u8) -> Result<(Subrecord<'a>, Here<'a>), La
 }
 
 /// What comes after the first two bytes of a FIXUP.
+#[inline(always)]
 fn fixup<'a>(here: Here<'a>, location: u16) -> Result<(Subrecord<'a>, Here<'a>), LayoutFault>
     ensures { Gives here.entry.wide result ((fixup_reader here.entry.wide location).read here.entry.within here.entry.bytes.now) }
 {
@@ -244,6 +251,7 @@ impl<'a> Item for Subrecord<'a> {
 
     ghost shrinks = { subrecord_shrinks };
 
+    #[inline(always)]
     fn read(here: Here<'a>) -> Result<(Subrecord<'a>, Here<'a>), LayoutFault> {
         let (head, here) = subhead(here)?;
         if head < 128 {

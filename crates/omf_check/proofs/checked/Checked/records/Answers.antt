@@ -10,7 +10,7 @@ use Rattle.omf_check.proofs.checked.Checked.records.Goals as goal
 
 pub new-requires : goal.new-requires
 new-requires c =
-    subst (λ x. AreListed x 0 0) (sym c.deref.ensures.value) (checked_list c.self.inside.profile c.self.inside.bytes.items c.self.inside.tables c.self.invariant)
+    subst (λ x. AreListed x 0 0) (sym c.deref.ensures.value) (checked_list c.self.inside.profile c.self.inside.bytes.items c.self.inside.tables c.self.inside.count c.self.invariant)
 
 pub returns-clause-holds : goal.returns-clause-holds
 returns-clause-holds c =

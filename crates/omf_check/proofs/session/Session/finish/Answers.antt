@@ -1,4 +1,5 @@
 use Rattle.std.proofs.Common.{sym, subst, inr}
+use Rattle.omf_check.specs.Module.{IsChecked}
 use Rattle.omf_check.specs.Session.{IsEndFault}
 use Rattle.omf_check.proofs.SessionLaws.{seen, state_of, stop_fault, stop_ok, checked_of, end_fault}
 use Rattle.omf_check.proofs.session.Session.finish.Goals as goal
@@ -18,7 +19,7 @@ pub new-requires : goal.new-requires
 new-requires c =
     let s = c.self.inside in
     let p = state_of s.profile s.framer s.bytes.items s.tables s.fault c.in_default.is c.self.invariant in
-    checked_of s.profile s.framer s.bytes.items s.tables p (stop_ok s.profile s.framer s.bytes.items s.tables p (sym c.in_default-stop.ensures))
+    subst (λ n. IsChecked s.profile s.bytes.items s.tables n) (sym c.number-count.ensures) (checked_of s.profile s.framer s.bytes.items s.tables p (stop_ok s.profile s.framer s.bytes.items s.tables p (sym c.in_default-stop.ensures)))
 
 pub returns : goal.returns
 returns c =
