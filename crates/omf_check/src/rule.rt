@@ -11,6 +11,7 @@ use omf_frame::{Index, Reason};
 use omf_records::{At, Item, Items, LayoutFault, Member};
 
 /// The fault of a rule that does not hold.
+#[inline(always)]
 pub fn fault_unless(holds: bool, within: u32, reason: Reason) -> Option<LayoutFault>
     ensures { result ≡ fault_unless holds within reason }
 {
@@ -22,6 +23,7 @@ pub fn fault_unless(holds: bool, within: u32, reason: Reason) -> Option<LayoutFa
 }
 
 /// Whether a fault stands further left than another, or at the same place with a number that is not larger.
+#[inline(always)]
 fn is_before(one: &LayoutFault, other: &LayoutFault) -> bool
     ensures { result ≡ is_before one.now other.now }
 {
@@ -30,6 +32,7 @@ fn is_before(one: &LayoutFault, other: &LayoutFault) -> bool
 }
 
 /// The lesser of two faults, where there are any.
+#[inline(always)]
 pub fn lesser(one: Option<LayoutFault>, other: Option<LayoutFault>) -> Option<LayoutFault>
     ensures { result ≡ lesser one other }
 {

@@ -61,6 +61,7 @@ impl Model for Tables {
 }
 
 /// A fixup of this location lies in the data of the last data record, which is an LEDATA.
+#[inline(always)]
 fn location_fault(last: Option<LastData>, within: u32, location: u16) -> Option<LayoutFault>
     ensures { result ≡ location_fault last within location }
 {
@@ -76,6 +77,7 @@ fn location_fault(last: Option<LastData>, within: u32, location: u16) -> Option<
 }
 
 /// The index of a thread's or a reference's method, or 0.
+#[inline(always)]
 fn index_of(datum: Option<Index>) -> u16
     ensures { result ≡ unwrap_or datum 0 }
 {
@@ -86,6 +88,7 @@ fn index_of(datum: Option<Index>) -> u16
 }
 
 /// Where a frame or a target is judged: at its own datum, or at the fix data byte.
+#[inline(always)]
 fn judged_at(reference: &Reference, datum: &Option<At<Index>>) -> u32
     ensures { result ≡ judged_at reference.now datum.now }
 {
@@ -226,6 +229,7 @@ impl Tables {
     }
 
     /// The index of a frame or a target, by its method.
+    #[inline(always)]
     fn index_fault(&self, at: u32, method: u8, index: u16) -> Option<LayoutFault>
         ensures { result ≡ index_fault self.now at method index }
     {
@@ -238,6 +242,7 @@ impl Tables {
         fault_unless(1 <= number && number <= count, at, reason)
     }
 
+    #[inline(always)]
     fn frame_fault(&self, at: u32, frame: Option<Setting>) -> Option<LayoutFault>
         ensures { result ≡ frame_fault self.now at frame }
     {
@@ -250,6 +255,7 @@ impl Tables {
         }
     }
 
+    #[inline(always)]
     fn target_fault(&self, at: u32, target: Option<Setting>) -> Option<LayoutFault>
         ensures { result ≡ target_fault self.now at target }
     {
@@ -260,6 +266,7 @@ impl Tables {
     }
 
     /// The frame and the target of a reference, with these threads in force.
+    #[inline(always)]
     fn reference_fault(&self, threads: &Threads, reference: &Reference) -> Option<LayoutFault>
         ensures { result ≡ reference_fault self.now threads.now reference.now }
     {
@@ -272,6 +279,7 @@ impl Tables {
     }
 
     /// A subrecord, with these threads in force. A THREAD's index is judged where it is used.
+    #[inline(always)]
     fn subrecord_fault(
         &self,
         threads: &Threads,

@@ -40,6 +40,7 @@ pub struct Threads {
 }
 
 /// What a THREAD of this method and index sets.
+#[inline(always)]
 fn made_setting(method: u8, datum: &Option<At<Index>>) -> Setting
     ensures { result ≡ setting method datum.now }
 {
@@ -62,6 +63,7 @@ impl Threads {
     }
 
     /// A frame thread.
+    #[inline(always)]
     fn frame_thread(&self, number: u8) -> Option<Setting>
         requires { number < 4 }
         ensures { result ≡ cell self.now true number }
@@ -70,6 +72,7 @@ impl Threads {
     }
 
     /// A target thread.
+    #[inline(always)]
     fn target_thread(&self, number: u8) -> Option<Setting>
         requires { number < 4 }
         ensures { result ≡ cell self.now false number }
@@ -78,6 +81,7 @@ impl Threads {
     }
 
     /// The frame of a reference: its own, or its thread's.
+    #[inline(always)]
     pub fn frame(&self, reference: &Reference) -> Option<Setting>
         ensures { result ≡ frame_cell self.now reference.now }
     {
@@ -88,6 +92,7 @@ impl Threads {
     }
 
     /// The target of a reference: its own, or its thread's.
+    #[inline(always)]
     pub fn target(&self, reference: &Reference) -> Option<Setting>
         ensures { result ≡ target_cell self.now reference.now }
     {
@@ -98,6 +103,7 @@ impl Threads {
     }
 
     /// Sets the thread of a THREAD; a FIXUP sets none.
+    #[inline(always)]
     pub fn set(&mut self, subrecord: &Subrecord<'_>)
         ensures { self.new ≡ set_thread self.old subrecord.now }
     {

@@ -7,6 +7,7 @@ use crate::record::Segment;
 use crate::subrecord::Reference;
 
 /// A THREAD's first byte sets a frame thread; else a target thread.
+#[inline(always)]
 pub fn is_frame_thread(first: u8) -> bool
     ensures { result ≡ thread_is_frame first }
 {
@@ -14,6 +15,7 @@ pub fn is_frame_thread(first: u8) -> bool
 }
 
 /// The method of a THREAD. A target thread uses the low two bits of it.
+#[inline(always)]
 pub fn thread_method(first: u8) -> u8
     ensures { result ≡ thread_method first }
 {
@@ -25,6 +27,7 @@ pub fn thread_method(first: u8) -> u8
 }
 
 /// The number of a THREAD, 0 to 3.
+#[inline(always)]
 pub fn thread_number(first: u8) -> u8
     ensures { result ≡ thread_number first }
 {
@@ -32,6 +35,7 @@ pub fn thread_number(first: u8) -> u8
 }
 
 /// A FIXUP's first two bytes say that it is relative to its segment; else it is relative to itself.
+#[inline(always)]
 pub fn is_segment_relative(location: u16) -> bool
     ensures { result ≡ is_segment_relative location }
 {
@@ -39,6 +43,7 @@ pub fn is_segment_relative(location: u16) -> bool
 }
 
 /// The location's type, 0 to 15.
+#[inline(always)]
 pub fn location_type(location: u16) -> u8
     ensures { result ≡ location_type location }
 {
@@ -46,6 +51,7 @@ pub fn location_type(location: u16) -> u8
 }
 
 /// The location's offset into the data, 0 to 1023.
+#[inline(always)]
 pub fn location_offset(location: u16) -> u16
     ensures { result ≡ location_offset location }
 {
@@ -53,6 +59,7 @@ pub fn location_offset(location: u16) -> u16
 }
 
 /// The bytes at a location of a type: 1, 2, 4 or 6.
+#[inline(always)]
 pub fn location_size(kind: u8) -> u8
     ensures { result ≡ location_size kind }
 {
@@ -69,6 +76,7 @@ impl Reference {
     ghost use Rattle.omf_records.specs.Values.{frame_by_thread, frame_bits, frame_thread, target_by_thread, target_bits};
 
     /// The number of the thread that gives the frame, if one does.
+    #[inline(always)]
     pub fn frame_thread(&self) -> Option<u8>
         ensures { result ≡ (if frame_by_thread self.now.fix.item then Some (frame_thread self.now.fix.item) else None) }
     {
@@ -81,6 +89,7 @@ impl Reference {
     }
 
     /// The frame's method, where no thread gives it: 0, 1, 2, 4 or 5.
+    #[inline(always)]
     pub fn frame_method(&self) -> u8
         ensures { result ≡ frame_bits self.now.fix.item }
     {
@@ -88,6 +97,7 @@ impl Reference {
     }
 
     /// The number of the thread that gives the target, if one does.
+    #[inline(always)]
     pub fn target_thread(&self) -> Option<u8>
         ensures { result ≡ (if target_by_thread self.now.fix.item then Some (target_bits self.now.fix.item) else None) }
     {
@@ -100,6 +110,7 @@ impl Reference {
     }
 
     /// The target's method, where no thread gives it: 0, 1 or 2.
+    #[inline(always)]
     pub fn target_method(&self) -> u8
         ensures { result ≡ target_bits self.now.fix.item }
     {
@@ -112,6 +123,7 @@ impl Segment {
     ghost use Rattle.omf_records.specs.Values.{alignment, is_big};
 
     /// Its alignment: 0 absolute, 1 byte, 2 word, 3 paragraph, 4 page, 5 dword.
+    #[inline(always)]
     pub fn alignment(&self) -> u8
         ensures { result ≡ alignment self.now.attribute }
     {
@@ -119,6 +131,7 @@ impl Segment {
     }
 
     /// It is as long as its record's width allows: 65,536 bytes, or 2^32 in a wide record.
+    #[inline(always)]
     pub fn is_big(&self) -> bool
         ensures { result ≡ is_big self.now.attribute }
     {

@@ -119,6 +119,7 @@ impl<T: Item> Iterator for Items<T> {
 
     ghost remaining = { item_count (λ s. s) };
 
+    #[inline(always)]
     fn next(&mut self) -> Option<At<T>> {
         let from = self.from;
         if from.is_end() {
