@@ -11,7 +11,7 @@ ghost use Rattle.omf_records.specs.EntryReaders.{subhead_reader, fix_reader, dat
 
 use crate::at::{At, LayoutFault};
 use crate::bits::{is_frame_thread, is_segment_relative, location_type, thread_method};
-use crate::field::{byte, head, index_here, number};
+use crate::field::{byte, head, index, number};
 use crate::here::Here;
 use crate::item::Item;
 use crate::put::{put_byte, put_bytes, put_datum_if, put_number};
@@ -179,8 +179,9 @@ fn datum<'a>(here: Here<'a>, is_there: bool) -> Result<(Option<At<Index>>, Here<
     if !is_there {
         return Ok((None, here));
     }
-    let (index, after) = index_here(here)?;
-    Ok((Some(index), after))
+    let (item, after) = index(here)?;
+    let within = here.within();
+    Ok((Some(At { within, item }), after))
 }
 
 #[inline(always)]
