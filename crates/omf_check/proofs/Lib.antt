@@ -24,3 +24,4 @@ pub mod ListedLaws
 pub mod LimitLaws
 pub mod SoundLaws
 pub mod ThreadLaws
+pub mod Walked

@@ -15,3 +15,4 @@ pub mod Session
 pub mod Checking
 pub mod Laws
 pub mod Rows
+pub mod Walking

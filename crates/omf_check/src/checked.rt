@@ -63,12 +63,7 @@ fn group_at(bytes: &[u8], place: u64) -> Rec<'_>
 }
 
 impl Checked {
-    pub(crate) fn new(
-        profile: Profile,
-        bytes: Vec<u8>,
-        tables: Tables,
-        count: u32,
-    ) -> Checked
+    pub(crate) fn new(profile: Profile, bytes: Vec<u8>, tables: Tables, count: u32) -> Checked
         requires { IsChecked profile bytes.items tables count }
         ensures { result ≡ record { bytes = bytes.items; profile = profile } }
     {

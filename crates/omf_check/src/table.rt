@@ -1,10 +1,10 @@
 //! What is kept of the records so far, and the rules that need it.
 
-ghost use Rattle.std.specs.Prelude.{◌≡◌, ◌≤◌, ◌<◌, ◌+◌, ◌^◌, ◌++◌, ℕ, length, OnOk, IfOk, List, unwrap_or, IsTrue, IfErr, OnErr, None, nat_lt, ◌-◌};
-ghost use Rattle.omf_check.specs.Rules.{judged_at, item_limit, item_places, places};
+ghost use Rattle.std.specs.Prelude.{◌≡◌, ◌≤◌, ◌<◌, ◌+◌, ◌^◌, ◌++◌, ℕ, length, OnOk, IfOk, List, unwrap_or, IsTrue, IfErr, None, Ok, nat_lt, ◌-◌};
+ghost use Rattle.omf_check.specs.Rules.{judged_at, item_limit, item_places};
 ghost use Rattle.omf_image.specs.Limits.{profile_limits};
 ghost use Rattle.omf_check.specs.Kept.{Kept, nothing_kept, starts, with_record, with_contents, set_threads};
-ghost use Rattle.omf_check.specs.Judging.{lesser, kept_length, data_fault, index_fault, frame_fault, target_fault, reference_fault, location_fault, subrecord_fault, subrecords_fault, start_fault, contents_fault, segment_fault, group_fault, base_fault, room_fault, data_size, placed, record_fault, IsShort, raw_fault, rec_of};
+ghost use Rattle.omf_check.specs.Judging.{kept_length, data_fault, index_fault, frame_fault, target_fault, reference_fault, location_fault, subrecord_fault, subrecords_fault, start_fault, contents_fault, segment_fault, group_fault, base_fault, room_fault, data_size, placed, record_fault, IsShort, raw_fault, rec_of};
 ghost use Rattle.omf_check.specs.Session.{refused_at, IsStopped};
 ghost use Rattle.omf_frame.specs.Framing.{is_taken};
 ghost use Rattle.omf_check.specs.Kept.{IsBounded};
@@ -13,6 +13,7 @@ ghost use Rattle.omf_image.specs.Expanding.{expanded_length};
 ghost use Rattle.omf_check.specs.Tables.{segment_info, items_in, entry};
 ghost use Rattle.omf_records.specs.Seen.{contents_seen, kind_seen, odd_if, rec_seen};
 ghost use Rattle.omf_records.specs.Values.{Fixups};
+ghost use Rattle.omf_check.specs.Walking.{walk_fault, fixups_fault};
 
 use crate::fault::CheckFault;
 use crate::last_data::LastData;
@@ -25,8 +26,8 @@ use crate::threads::{Setting, Threads};
 use omf_frame::{Index, Place, RawRecord, Reason};
 use omf_image::{Limits, expanded_len};
 use omf_records::{
-    At, Blocks, Item, Items, LayoutFault, Member, Part, Rec, Reference, Segment, Subrecord,
-    location_offset, location_size, location_type, view,
+    At, Blocks, Item, Items, LayoutFault, Member, Part, Rec, Reference, Segment, Subrecord, Unread,
+    location_offset, location_size, location_type, unread_fixups, view,
 };
 use std::alloc::{AllocError, Global};
 use std::marker::Model;
@@ -463,17 +464,24 @@ impl Tables {
         self.add_contents(at, rec)
     }
 
-    /// Judges the subrecords of a FIXUPP and keeps what they set, in one walk. Where none has a fault, as many items more are counted.
-    fn take_subrecords(&mut self, subrecords: Items<Subrecord<'_>>) -> Option<LayoutFault>
+    /// Reads the subrecords of a FIXUPP, judges them and keeps what they set, in one walk. A fault of their layout comes first. Where
+    /// none has a fault, as many items more are counted.
+    fn take_subrecords(&mut self, subrecords: Unread<Subrecord<'_>>) -> Option<LayoutFault>
         requires { self.old.items ≤ item_limit }
-        ensures found { result ≡ lesser (room_fault (item_limit - self.old.items) (places subrecords.entry)) (subrecords_fault self.old self.old.threads subrecords.entry) }
-        ensures kept { self.new ≡ record self.old { items = item_limit - (item_limit - self.old.items - length subrecords.entry); threads = set_threads self.old.threads subrecords.entry } }
+        ensures found { result ≡ walk_fault self.old subrecords.entry.items }
+        ensures kept { (subs : _) → subrecords.entry.items ≡ Ok subs → self.new ≡ record self.old { items = item_limit - (item_limit - self.old.items - length subs); threads = set_threads self.old.threads subs } }
     {
+        let mut subrecords = subrecords;
         let mut left = ITEM_LIMIT - self.items;
         let mut threads = self.threads;
         let mut beyond = None;
         let mut found = None;
-        for subrecord in subrecords {
+        'walk: loop {
+            let subrecord = match subrecords.read_next() {
+                Ok(Some(subrecord)) => subrecord,
+                Ok(None) => break,
+                Err(fault) => return Some(fault),
+            };
             beyond = lesser(
                 beyond,
                 fault_unless(left > 0, subrecord.within, Reason::TooMany),
@@ -491,43 +499,19 @@ impl Tables {
     }
 
     /// Judges a FIXUPP of these subrecords, and keeps what it tells later records where it has no fault.
-    fn take_fixups(&mut self, subrecords: &Items<Subrecord<'_>>) -> Option<LayoutFault>
+    fn take_fixups(&mut self, subrecords: Unread<Subrecord<'_>>) -> Option<LayoutFault>
         requires { self.old.items ≤ item_limit }
-        ensures found { result ≡ lesser (room_fault (item_limit - self.old.items) (item_places (Fixups subrecords.now))) (subrecords_fault self.old self.old.threads subrecords.now) }
-        ensures kept { result ≡ None → self.new ≡ record self.old { items = self.old.items + items_in (Fixups subrecords.now); threads = set_threads self.old.threads subrecords.now } }
+        ensures found { result ≡ fixups_fault self.old subrecords.entry.items }
+        ensures kept { (subs : _) → subrecords.entry.items ≡ Ok subs → result ≡ None → self.new ≡ record self.old { items = self.old.items + items_in (Fixups subs); threads = set_threads self.old.threads subs } }
     {
-        if has_some(subrecords) {
-            return self.take_subrecords(subrecords.iter());
+        if !subrecords.is_end() {
+            return self.take_subrecords(subrecords);
         }
         if self.items == ITEM_LIMIT {
             return fault_unless(false, 0, Reason::TooMany);
         }
         self.items += 1;
         None
-    }
-
-    /// Judges a record after those of these tables, and keeps what it defines where it has no fault.
-    fn take_rec(
-        &mut self,
-        profile: Profile,
-        at: u64,
-        rec: &Rec<'_>,
-    ) -> Result<Option<LayoutFault>, AllocError>
-        requires short { IsShort (contents_seen rec.now) }
-        requires start { at < 2 ^ 40 }
-        requires bounded { IsBounded self.old }
-        ensures found { IfOk result (λ found. found ≡ record_fault profile profile_limits self.old (rec_seen rec.now)) }
-        ensures kept { IfOk result (λ found. found ≡ None → self.new ≡ with_record self.old at (rec_seen rec.now)) }
-        ensures memory { OnErr result (record_fault profile profile_limits self.old (rec_seen rec.now) ≡ None) }
-    {
-        if let Rec::Fixups { subrecords, .. } = rec {
-            return Ok(self.take_fixups(subrecords));
-        }
-        if let Some(fault) = self.record_fault(profile, rec) {
-            return Ok(Some(fault));
-        }
-        self.add(at, rec)?;
-        Ok(None)
     }
 
     /// Judges a record after those of these tables, and keeps what it defines.
@@ -541,14 +525,21 @@ impl Tables {
         ensures bounded { OnOk result (IsBounded self.new) }
         ensures cause { IfErr result (IsStopped (raw_fault profile profile_limits self.old raw.entry.kind raw.entry.body.now) raw.entry.number raw.entry.start) }
     {
+        if let Some(subrecords) = unread_fixups(&raw) {
+            return match self.take_fixups(subrecords) {
+                Some(fault) => Err(refused(raw.number, raw.start, fault)),
+                None => Ok(()),
+            };
+        }
         let rec = match view(raw) {
             Ok(rec) => rec,
             Err(fault) => return Err(refused(raw.number, raw.start, fault)),
         };
-        match self.take_rec(profile, raw.start, &rec)? {
-            Some(fault) => Err(refused(raw.number, raw.start, fault)),
-            None => Ok(()),
+        if let Some(fault) = self.record_fault(profile, &rec) {
+            return Err(refused(raw.number, raw.start, fault));
         }
+        self.add(raw.start, &rec)?;
+        Ok(())
     }
 
     /// How many names there are.

@@ -160,6 +160,10 @@ pub fn check_text(alloc: Global, checked: &Checked) -> Result<String, AllocError
     ensures { IfOk result (λ text. string_bytes text ≡ check_text (records_in checked.now.bytes)) }
 {
     let mut text = String::new(alloc);
-    print_totals(&mut text, checked.record_count() as usize, checked.bytes().len())?;
+    print_totals(
+        &mut text,
+        checked.record_count() as usize,
+        checked.bytes().len(),
+    )?;
     Ok(text)
 }

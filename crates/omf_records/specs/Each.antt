@@ -5,6 +5,7 @@ use Rattle.std.specs.Iterator.{MakesProgress, item_count}
 use Rattle.std.specs.Result.{result_err}
 use Rattle.omf_frame.specs.Fault.{Fault}
 use Rattle.omf_records.specs.Values.{At}
+use Rattle.omf_records.specs.Steps.{and_then_ok}
 use Rattle.omf_records.specs.Reads.{After, Reading, Shrinks, and_then, each_read, each, or_none}
 
 and_then_same : {A B : Type 0} (r : Result A Fault) (f g : A → Result B Fault) → ((a : A) → r ≡ Ok a → f a ≡ g a) → and_then r f ≡ and_then r g
@@ -34,6 +35,16 @@ module _ {A : Type 0} (read : Reading A) (shrinks : Shrinks read) where
   pub each_refused : (at : ℕ) (bytes : List ℕ) (f : Fault) → bytes ≢ [] → read at bytes ≡ Err f → each read at bytes ≡ Err f
   each_refused at [] f h e = absurd (h refl)
   each_refused at (b ∷ bytes) f h e = rw e refl
+
+-- where bytes are left, an item is
+pub each_some : {A : Type 0} (read : Reading A) (at : ℕ) (bytes : List ℕ) (xs : List (At A)) → bytes ≢ [] → each read at bytes ≡ Ok xs → 1 ≤ length xs
+each_some read at [] xs h e = absurd (h refl)
+each_some read at (b ∷ bytes) xs h e =
+    let q = and_then_ok (read at (b ∷ bytes)) _ xs e in
+    let p = and_then_ok (each_read read (length bytes) q.0.within q.0.rest) _ xs q.2 in
+    let d = p.2 in
+    let l : xs ≡ item_at at q.0 ∷ p.0 = cc in
+    rw l (omega arith)
 
 pub each_none : {A : Type 0} (read : Reading A) (at : ℕ) (bytes : List ℕ) → bytes ≡ [] → each read at bytes ≡ Ok []
 each_none read at [] h = refl

@@ -23,3 +23,4 @@ pub mod Sizes
 pub mod Laws
 pub mod LawProofs
 pub mod Rows
+pub mod Unread

@@ -1,15 +1,18 @@
 //! A record's contents, by the record's type.
-ghost use Rattle.std.specs.Prelude.{◌≡◌, ◌≤◌, length, IfOk, ◌⊎◌, IsTrue};
+ghost use Rattle.std.specs.Prelude.{◌≡◌, ◌≤◌, length, IfOk, IfSome, ◌⊎◌, IsTrue};
 ghost use Rattle.omf_frame.specs.Framing.{is_taken};
 ghost use Rattle.omf_records.specs.Seen.{contents_seen, kind_seen, map_ok};
 ghost use Rattle.omf_records.specs.Reading.{read_body};
 ghost use Rattle.omf_records.specs.Reads.{Meets};
 ghost use Rattle.omf_records.specs.Records.{contents};
+ghost use Rattle.omf_records.specs.Unread.{fixups_read};
 ghost use Rattle.omf_records.specs.Types.{IsOneOf, types};
 
 use crate::at::LayoutFault;
 use crate::here::Here;
 use crate::record::Rec;
+use crate::subrecord::Subrecord;
+use crate::unread::Unread;
 use crate::viewing::{
     carried_at, comment_at, communals_at, externs_at, fixups_at, group_at, header_at, iterated_at,
     mod_end_at, names_at, plain_at, publics_at, segment_at,
@@ -77,4 +80,16 @@ pub fn view<'a>(raw: RawRecord<'a>) -> Result<Rec<'a>, LayoutFault>
     ensures meets { Meets (contents raw.entry.kind) 3 raw.entry.body.now (map_ok contents_seen result) }
 {
     view_body(raw.kind, raw.body)
+}
+
+/// The subrecords of a FIXUPP, unread: `view` would give them, or their first fault. `None` of another record.
+pub fn unread_fixups<'a>(raw: &RawRecord<'a>) -> Option<Unread<Subrecord<'a>>>
+    requires { length raw.now.body.now ≤ 65534 }
+    ensures { IfSome result (λ u. read_body raw.now.kind raw.now.body.now ≡ fixups_read u.items) }
+{
+    match raw.kind {
+        0x9C => Some(Unread::new(Here::start(false, raw.body))),
+        0x9D => Some(Unread::new(Here::start(true, raw.body))),
+        _ => None,
+    }
 }

@@ -24,6 +24,7 @@ mod put;
 mod record;
 pub mod rows;
 mod subrecord;
+mod unread;
 mod viewing;
 mod writing;
 
@@ -32,12 +33,13 @@ pub use bits::{
     is_frame_thread, is_segment_relative, location_offset, location_size, location_type,
     thread_method, thread_number,
 };
-pub use dispatch::view;
+pub use dispatch::{unread_fixups, view};
 pub use entry::{Communal, CommunalSize, Extern, Member, Public};
 pub use here::Here;
 pub use item::{Cursor, Item, Items};
 pub use record::{Blocks, Rec, Segment};
 pub use subrecord::{Part, Reference, Subrecord};
+pub use unread::Unread;
 pub use writing::put_rec;
 
 #[cfg(test)]

@@ -1,35 +1,39 @@
-use Rattle.std.proofs.Common.{◌≡◌, ◌≤◌, ◌-◌, ℕ, suc, List, ◌∷◌, length, arith, ap, ◌∙◌}
+use Rattle.std.proofs.Common.{◌≡◌, ℕ, ◌-◌, [], length, arith, ap, subst, ◌∙◌, Ok}
 use Rattle.std.specs.Prelude.{nat_lt}
 use Rattle.omf_frame.specs.declared.fault.Reason.TheVariants.{TooMany}
-use Rattle.omf_check.specs.Kept.{set_thread}
+use Rattle.omf_records.specs.Unread.{NextGives}
+use Rattle.omf_check.specs.declared.threads.Threads.{Threads}
+use Rattle.omf_check.specs.Kept.{Kept, set_thread, set_threads}
+use Rattle.omf_check.specs.Rules.{item_limit}
 use Rattle.omf_check.specs.Judging.{fault_unless, subrecord_fault}
-use Rattle.omf_check.specs.Rules.{places}
-use Rattle.omf_check.proofs.Lesser.{room_more}
-use Rattle.omf_check.proofs.Found.{subrecords_more, threads_more}
+use Rattle.omf_check.proofs.Walked.{walks_more, walks_whole}
 use Rattle.omf_check.proofs.table.Tables.take_subrecords.Goals as goal
 
-one_fewer : {A : Type 0} (fewer left all : ℕ) (s : A) (old rest : List A) → fewer ≡ left - 1 → old ≡ s ∷ rest → left - length old ≡ all → fewer - length rest ≡ all
-one_fewer fewer left all s old rest f e h = let n : length old ≡ suc (length rest) = ap length e in omega (arith, f, n, h)
+left_so : (limit left room n : ℕ) → left - 0 ≡ room - n → limit - left ≡ limit - (room - n)
+left_so limit left room n h = omega (arith, h)
 
-not_more : (fewer left limit : ℕ) → fewer ≡ left - 1 → left ≤ limit → fewer ≤ limit
-not_more fewer left limit f h = omega (arith, f, h)
-
-pub loop-subrecord-preserved : goal.loop-subrecord-preserved
-loop-subrecord-preserved c =
+pub walk-preserved : goal.walk-preserved
+walk-preserved c =
     let kept = c.args.self.now in
-    let cells = c.loop-subrecord.threads in
-    let l = c.loop-subrecord in
-    let i = l.invariant in
-    let set = c.set.ensures ∙ ap (λ s. set_thread cells s.item) c.subrecord.view_is in
-    (
-      room_more l.beyond c.fault_unless.result c.lesser-beyond.result _ l.left c.saturating_sub-left.result c.in-Some.subrecord.within
-      (places l.subrecord-iterator) (places c.next.new.self) c.lesser-beyond.ensures
-      (c.fault_unless.ensures ∙ ap (λ w. fault_unless (nat_lt 0 l.left) w TooMany) (ap (λ a. a.within) c.subrecord.view_is))
-      c.saturating_sub-left.ensures (ap places c.in-Some.ensures.steps) i.0,
-      subrecords_more kept l.found c.subrecord_fault.result c.lesser-found.result _ cells c.set.new.self c.in-Some.subrecord l.subrecord-iterator c.next.new.self
-      c.lesser-found.ensures (c.subrecord_fault.ensures ∙ ap (λ s. subrecord_fault kept cells s.within s.item) c.subrecord.view_is)
-      set c.in-Some.ensures.steps i.1,
-      threads_more cells c.set.new.self _ c.in-Some.subrecord l.subrecord-iterator c.next.new.self set c.in-Some.ensures.steps i.2,
-      one_fewer c.saturating_sub-left.result l.left _ c.in-Some.subrecord l.subrecord-iterator c.next.new.self c.saturating_sub-left.ensures c.in-Some.ensures.steps i.3,
-      not_more c.saturating_sub-left.result l.left _ c.saturating_sub-left.ensures i.4
-    )
+    let l = c.walk in
+    let cells = l.threads in
+    walks_more kept l.left c.saturating_sub-left.result cells c.set.new.self l.beyond c.lesser-beyond.result c.fault_unless.result l.found c.lesser-found.result c.subrecord_fault.result
+    c.in-Ok-Some.subrecord l.subrecords.items c.read_next.new.self.items c.args.subrecords.items
+    c.lesser-beyond.ensures
+    (c.fault_unless.ensures ∙ ap (λ w. fault_unless (nat_lt 0 l.left) w TooMany) (ap (λ a. a.within) c.subrecord.view_is))
+    c.saturating_sub-left.ensures c.lesser-found.ensures
+    (c.subrecord_fault.ensures ∙ ap (λ s. subrecord_fault kept cells s.within s.item) c.subrecord.view_is)
+    (c.set.ensures ∙ ap (λ s. set_thread cells s.item) c.subrecord.view_is)
+    (subst (λ o. NextGives l.subrecords (Ok o) c.read_next.new.self) c.in-Ok-Some.field-0-is c.in-Ok-Some.ensures).0 l.invariant
+
+pub returns-clause-found : goal.returns-clause-found
+returns-clause-found c = c.lesser.ensures ∙ walks_whole c.args.self.now c.walk.left c.walk.threads c.walk.beyond c.walk.found c.walk.subrecords.items c.args.subrecords.items (subst (λ o. NextGives c.walk.subrecords (Ok o) c.read_next.new.self) c.in-Ok-None.field-0-is c.in-Ok-None.ensures) c.walk.invariant
+
+pub returns-clause-kept : goal.returns-clause-kept
+returns-clause-kept c subs q =
+    let kept = c.args.self.now in
+    let w = c.walk.invariant.walked [] subs (subst (λ o. NextGives c.walk.subrecords (Ok o) c.read_next.new.self) c.in-Ok-None.field-0-is c.in-Ok-None.ensures) q in
+    let n : item_limit - c.walk.left ≡ item_limit - (item_limit - kept.items - length subs) = left_so item_limit c.walk.left (item_limit - kept.items) (length subs) w.counted in
+    ap (λ (k : Kept). record k { items = item_limit - c.walk.left; threads = c.walk.threads }) c.self.view_is
+    ∙ ap (λ (k : ℕ). record kept { items = k; threads = c.walk.threads }) n
+    ∙ ap (λ (t : Threads). record kept { items = item_limit - (item_limit - kept.items - length subs); threads = t }) w.set_all

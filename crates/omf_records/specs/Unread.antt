@@ -1,0 +1,21 @@
+-- Items whose spelling is judged as they are read.
+use Rattle.std.specs.Prelude.{◌≡◌, ◌<◌, ℕ, List, [], Option, Some, None, Result, Ok, Err}
+use Rattle.omf_frame.specs.Fault.{Fault}
+use Rattle.omf_records.specs.Values.{At, Subrecord, Contents, Fixups}
+use Rattle.omf_records.specs.Reads.{and_then}
+use Rattle.omf_records.specs.Each.{with_first}
+
+-- the items that are still to come or the first fault among them, and how many bytes they have
+pub record Pending (A : Type 0) : Type 0 where
+  pub items : Result (List (At A)) Fault
+  pub size : ℕ
+
+-- what is read next: the first item, in front of the others; or their end, or the fault
+abbrev pub NextGives : {A : Type 0} → Pending A → Result (Option (At A)) Fault → Pending A → Type 0
+NextGives old (Ok None) new = old.items ≡ Ok []
+NextGives old (Ok (Some x)) new = (old.items ≡ with_first x new.items) × (new.size < old.size)
+NextGives old (Err f) new = old.items ≡ Err f
+
+-- the contents that subrecords are
+abbrev pub fixups_read : Result (List (At Subrecord)) Fault → Result Contents Fault
+fixups_read r = and_then r (λ subs. Ok (Fixups subs))
