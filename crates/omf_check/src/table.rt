@@ -473,7 +473,7 @@ impl Tables {
     {
         let mut subrecords = subrecords;
         let mut left = ITEM_LIMIT - self.items;
-        let mut threads = self.threads;
+        let mut in_force = self.threads;
         let mut beyond = None;
         let mut found = None;
         'walk: loop {
@@ -489,12 +489,12 @@ impl Tables {
             left = left.saturating_sub(1);
             found = lesser(
                 found,
-                self.subrecord_fault(&threads, subrecord.within, &subrecord.item),
+                self.subrecord_fault(&in_force, subrecord.within, &subrecord.item),
             );
-            threads.set(&subrecord.item);
+            in_force.set(&subrecord.item);
         }
         self.items = ITEM_LIMIT - left;
-        self.threads = threads;
+        self.threads = in_force;
         lesser(beyond, found)
     }
 

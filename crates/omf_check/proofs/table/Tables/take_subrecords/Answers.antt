@@ -16,7 +16,7 @@ pub walk-preserved : goal.walk-preserved
 walk-preserved c =
     let kept = c.args.self.now in
     let l = c.walk in
-    let cells = l.threads in
+    let cells = l.in_force in
     walks_more kept l.left c.saturating_sub-left.result cells c.set.new.self l.beyond c.lesser-beyond.result c.fault_unless.result l.found c.lesser-found.result c.subrecord_fault.result
     c.in-Ok-Some.subrecord l.subrecords.items c.read_next.new.self.items c.args.subrecords.items
     c.lesser-beyond.ensures
@@ -27,13 +27,13 @@ walk-preserved c =
     (subst (λ o. NextGives l.subrecords (Ok o) c.read_next.new.self) c.in-Ok-Some.field-0-is c.in-Ok-Some.ensures).0 l.invariant
 
 pub returns-clause-found : goal.returns-clause-found
-returns-clause-found c = c.lesser.ensures ∙ walks_whole c.args.self.now c.walk.left c.walk.threads c.walk.beyond c.walk.found c.walk.subrecords.items c.args.subrecords.items (subst (λ o. NextGives c.walk.subrecords (Ok o) c.read_next.new.self) c.in-Ok-None.field-0-is c.in-Ok-None.ensures) c.walk.invariant
+returns-clause-found c = c.lesser.ensures ∙ walks_whole c.args.self.now c.walk.left c.walk.in_force c.walk.beyond c.walk.found c.walk.subrecords.items c.args.subrecords.items (subst (λ o. NextGives c.walk.subrecords (Ok o) c.read_next.new.self) c.in-Ok-None.field-0-is c.in-Ok-None.ensures) c.walk.invariant
 
 pub returns-clause-kept : goal.returns-clause-kept
 returns-clause-kept c subs q =
     let kept = c.args.self.now in
     let w = c.walk.invariant.walked [] subs (subst (λ o. NextGives c.walk.subrecords (Ok o) c.read_next.new.self) c.in-Ok-None.field-0-is c.in-Ok-None.ensures) q in
     let n : item_limit - c.walk.left ≡ item_limit - (item_limit - kept.items - length subs) = left_so item_limit c.walk.left (item_limit - kept.items) (length subs) w.counted in
-    ap (λ (k : Kept). record k { items = item_limit - c.walk.left; threads = c.walk.threads }) c.self.view_is
-    ∙ ap (λ (k : ℕ). record kept { items = k; threads = c.walk.threads }) n
+    ap (λ (k : Kept). record k { items = item_limit - c.walk.left; threads = c.walk.in_force }) c.self.view_is
+    ∙ ap (λ (k : ℕ). record kept { items = k; threads = c.walk.in_force }) n
     ∙ ap (λ (t : Threads). record kept { items = item_limit - (item_limit - kept.items - length subs); threads = t }) w.set_all
