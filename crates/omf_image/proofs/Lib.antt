@@ -11,3 +11,4 @@ pub mod CopySteps
 pub mod SortedLaws
 pub mod OverLaws
 pub mod TurnLaws
+pub mod PaintLaws

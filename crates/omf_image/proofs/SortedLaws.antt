@@ -238,15 +238,15 @@ runs_apart from at segment (l ∷ ls) (begin, some, fits, others) le =
         (le l.offset (omega (arith, same, begin)), some, again (suc (run_end (span l))) (λ x h. omega (arith, same, h)))
     by again false e = again at (λ x h. le x (omega (arith, h, begin)))
 
-or_left : {A : Type 0} (o p : Option A) → IsSome o → IsSome (option_or o p)
+pub or_left : {A : Type 0} (o p : Option A) → IsSome o → IsSome (option_or o p)
 or_left None p h = absurd cc
 or_left (Some x) p h = refl
 
-or_right : {A : Type 0} (o p : Option A) → IsSome p → IsSome (option_or o p)
+pub or_right : {A : Type 0} (o p : Option A) → IsSome p → IsSome (option_or o p)
 or_right None p h = h
 or_right (Some x) p h = refl
 
-or_either : {A : Type 0} (o p : Option A) → IsSome (option_or o p) → IsSome o ⊎ IsSome p
+pub or_either : {A : Type 0} (o p : Option A) → IsSome (option_or o p) → IsSome o ⊎ IsSome p
 or_either None p h = inr h
 or_either (Some x) p h = inl refl
 

@@ -27,7 +27,7 @@ is_run_as f g e r h = record {
   before = λ x at. subst IsNone (e x) (h.before x at);
 }
 
-are_runs_as : (f g : ℕ → Option ℕ) → ((x : ℕ) → f x ≡ g x) → (runs : List Run) → AreRuns f runs → AreRuns g runs
+pub are_runs_as : (f g : ℕ → Option ℕ) → ((x : ℕ) → f x ≡ g x) → (runs : List Run) → AreRuns f runs → AreRuns g runs
 are_runs_as f g e runs h = record {
   each = λ r c. is_run_as f g e r (h.each r c);
   all = λ r i. h.all r (is_run_as g f (λ x. sym (e x)) r i);

@@ -1,5 +1,5 @@
 -- Laws over the definitions, each the contract of a function of the same name.
-use Rattle.std.specs.Prelude.{◌≡◌, ◌↔◌, ◌≤◌, ℕ, List, [], ◌∷◌, ◌++◌, length, slice_get, Option, None, Ok, Err}
+use Rattle.std.specs.Prelude.{◌≡◌, ◌↔◌, ◌≤◌, ℕ, List, [], ◌∷◌, ◌++◌, length, map, slice_get, Option, None, IsSome, Ok, Err}
 use Rattle.std.specs.Option.{option_or}
 use Rattle.omf_frame.specs.Bytes.{AreBytes}
 use Rattle.omf_frame.specs.Fault.{Fault}
@@ -8,6 +8,7 @@ use Rattle.omf_image.specs.Blocks.{Blocks, blocks, blocks_bytes, blocks_size, Ar
 use Rattle.omf_image.specs.Expanding.{read_blocks, expanded_length}
 use Rattle.omf_image.specs.Joined.{runs_of}
 use Rattle.omf_image.specs.Overlay.{Laid, byte_of, byte_at, AreRuns, IsRunAt, AreLaidOver}
+use Rattle.omf_image.specs.Painting.{extent}
 use Rattle.omf_image.specs.declared.run.Run.{Run}
 use Rattle.omf_image.specs.declared.limits.Limits.{Limits}
 
@@ -48,3 +49,13 @@ ImagesAreOverlays = (pieces image : List Laid) → AreLaidOver [] pieces image
 -- A piece without bytes covers nothing.
 abbrev pub NoBytesCoverNothing : Type 0
 NoBytesCoverNothing = (l : Laid) (segment x : ℕ) → l.bytes ≡ [] → byte_of segment x l ≡ None
+
+-- Pieces that are laid ahead of others change nothing, where those cover all their places.
+abbrev pub CoveredPiecesAreLost : Type 0
+CoveredPiecesAreLost = (ahead laid : List Laid) → ((segment x : ℕ) → IsSome (byte_at ahead segment x) → IsSome (byte_at laid segment x))
+    → ((segment x : ℕ) → byte_at (ahead ++ laid) segment x ≡ byte_at laid segment x)
+    × ((segment : ℕ) → runs_of (ahead ++ laid) segment ≡ runs_of laid segment)
+
+-- So it is where they lie over the same intervals: the image is one over which the others alone were laid.
+abbrev pub SamePlacesAreLost : Type 0
+SamePlacesAreLost = (ahead laid image : List Laid) → map extent ahead ≡ map extent laid → AreLaidOver [] (ahead ++ laid) image → AreLaidOver [] laid image

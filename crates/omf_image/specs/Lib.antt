@@ -8,5 +8,6 @@ pub mod BlockReaders
 pub mod Lengths
 pub mod Copying
 pub mod Expanding
+pub mod Painting
 pub mod Rows
 pub mod Laws

@@ -1,6 +1,6 @@
 //! Laws over the definitions, each the contract of a function that does nothing.
 
-ghost use Rattle.omf_image.specs.Laws.{SizesAreLengths, BlocksAreRead, LengthsAreDecided, LimitsMayGrow, LastPieceWins, RunsAreMaximal, ImagesAreOverlays, NoBytesCoverNothing};
+ghost use Rattle.omf_image.specs.Laws.{SizesAreLengths, BlocksAreRead, LengthsAreDecided, LimitsMayGrow, LastPieceWins, RunsAreMaximal, ImagesAreOverlays, NoBytesCoverNothing, CoveredPiecesAreLost, SamePlacesAreLost};
 
 /// Blocks stand for as many bytes as their size says.
 pub fn sizes_are_lengths()
@@ -41,4 +41,14 @@ pub fn images_are_overlays()
 /// A piece without bytes covers nothing.
 pub fn no_bytes_cover_nothing()
     ensures { NoBytesCoverNothing }
+{}
+
+/// Pieces that are laid ahead of others change nothing, neither bytes nor runs, where the others cover all their places.
+pub fn covered_pieces_are_lost()
+    ensures { CoveredPiecesAreLost }
+{}
+
+/// Where pieces are laid ahead of others over the same intervals, the image is one over which the others alone were laid.
+pub fn same_places_are_lost()
+    ensures { SamePlacesAreLost }
 {}

@@ -7,6 +7,7 @@ mod image;
 pub mod laws;
 mod length;
 mod limits;
+mod painting;
 mod part;
 pub mod rows;
 mod run;
@@ -15,6 +16,7 @@ pub use expanding::expand;
 pub use image::Image;
 pub use length::expanded_len;
 pub use limits::Limits;
+pub use painting::{Extent, painted};
 pub use part::{Part, add_part};
 pub use run::Run;
 

@@ -1,0 +1,20 @@
+-- Zeros that are laid ahead of data.
+use Rattle.std.specs.Prelude.{ℕ, ◌+◌, ◌≤◌, ◌^◌, List, map, length}
+use Rattle.std.specs.Prelude.{replicate}
+use Rattle.omf_image.specs.Overlay.{Laid}
+use Rattle.omf_image.specs.declared.painting.Extent.{Extent}
+
+-- The interval of a piece.
+abbrev pub extent : Laid → Extent
+extent l = record { segment = l.segment; first = l.offset; len = length l.bytes }
+
+-- A zero at each place of an interval, and of each of some intervals.
+abbrev pub zeros : Extent → Laid
+zeros e = record { segment = e.segment; offset = e.first; bytes = replicate e.len 0 }
+
+abbrev pub all_zeros : List Extent → List Laid
+all_zeros es = map zeros es
+
+-- Its places have offsets of 32 bits.
+abbrev pub Fits : Extent → Type 0
+Fits e = e.first + e.len ≤ 2 ^ 32
