@@ -138,17 +138,17 @@ covers_join r (s ∷ runs) x some h = left_covers r s runs x some (λ t more k. 
 
 -- ---- runs that are apart are maximal
 
-contains_first : {A : Type 0} (x y : A) (xs : List A) → Contains (y ∷ xs) x → (x ≡ y) ⊎ Contains xs x
+pub contains_first : {A : Type 0} (x y : A) (xs : List A) → Contains (y ∷ xs) x → (x ≡ y) ⊎ Contains xs x
 contains_first x y xs (zero, low, e) = inl (sym e)
 contains_first x y xs (suc k, low, e) = let less : k < length xs = omega arith in inr (k, less, e)
 
-contains_more : {A : Type 0} (x y : A) (xs : List A) → Contains xs x → Contains (y ∷ xs) x
+pub contains_more : {A : Type 0} (x y : A) (xs : List A) → Contains xs x → Contains (y ∷ xs) x
 contains_more x y xs (k, low, e) = let more : suc k < length (y ∷ xs) = omega arith in (suc k, more, e)
 
-contains_here : {A : Type 0} (x : A) (xs : List A) → Contains (x ∷ xs) x
+pub contains_here : {A : Type 0} (x : A) (xs : List A) → Contains (x ∷ xs) x
 contains_here x xs = let some : 0 < length (x ∷ xs) = omega arith in (0, some, refl)
 
-contains_none : {A : Type 0} (x : A) → Contains [] x → ⊥
+pub contains_none : {A : Type 0} (x : A) → Contains [] x → ⊥
 contains_none x (k, low, e) = omega (arith, low)
 
 -- nothing is covered in front of the runs

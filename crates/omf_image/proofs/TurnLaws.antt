@@ -10,7 +10,7 @@ use Rattle.omf_image.specs.Laws.{ImagesAreOverlays, NoBytesCoverNothing}
 use Rattle.omf_image.proofs.RunLaws.{byte_at-append, byte_some, joined_are_runs, runs_unique}
 use Rattle.omf_image.proofs.SortedLaws.{no_byte}
 
-bytes_in_turn : (done old pieces image : List Laid) → ((segment x : ℕ) → byte_at old segment x ≡ byte_at done segment x) → AreLaidOver old pieces image
+pub bytes_in_turn : (done old pieces image : List Laid) → ((segment x : ℕ) → byte_at old segment x ≡ byte_at done segment x) → AreLaidOver old pieces image
     → (segment x : ℕ) → byte_at image segment x ≡ byte_at (done ++ pieces) segment x
 bytes_in_turn done old [] image same h segment x =
     ap (λ ls. byte_at ls segment x) (sym h) ∙ same segment x ∙ ap (λ ls. byte_at ls segment x) (sym (append-nil done))
