@@ -19,3 +19,4 @@ pub mod WalkLaws
 pub mod WalkedLaws
 pub mod InsideLaws
 pub mod StartLaws
+pub mod MeasureLaws

@@ -25,7 +25,7 @@ use Rattle.omf_reloc.proofs.PatchLaws.{stays_inside}
 use Rattle.omf_reloc.proofs.WalkLaws.{all-right, next-split, Lies, IsOpen, sized-by, reach-open, length-short, open-next, open-first, take-all, with-all, none-all}
 
 -- What is laid in two turns is laid in one.
-laid-on : (old next new : List Laid) (ls ms : List Laid) → AreLaidOver old ls next → AreLaidOver next ms new → AreLaidOver old (ls ++ ms) new
+pub laid-on : (old next new : List Laid) (ls ms : List Laid) → AreLaidOver old ls next → AreLaidOver next ms new → AreLaidOver old (ls ++ ms) new
 laid-on old next new [] ms h k = subst (λ x. AreLaidOver x ms new) (sym h) k
 laid-on old next new (l ∷ ls) ms (first, one, h) k = (first, one, laid-on first next new ls ms h k)
 

@@ -8,6 +8,7 @@ pub mod Seen
 pub mod Reach
 pub mod Image
 pub mod Walking
+pub mod Measuring
 pub mod ReachSteps
 pub mod Entries
 pub mod EntryReading

@@ -10,6 +10,7 @@ mod frame;
 mod given;
 mod group;
 pub mod laws;
+mod measuring;
 mod offset;
 mod placement;
 mod plain;

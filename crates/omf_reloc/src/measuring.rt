@@ -1,0 +1,85 @@
+//! Where the data records of a module lie.
+
+ghost use Rattle.std.specs.Prelude.{◌≡◌, ◌++◌, length, flat_map, IfOk, OnOk, option_to_list};
+ghost use Rattle.omf_records.specs.Seen.{odd_if, rec_seen};
+ghost use Rattle.omf_records.specs.Values.{width};
+ghost use Rattle.omf_image.specs.Expanding.{expanded};
+ghost use Rattle.omf_image.specs.Limits.{profile_limits};
+ghost use Rattle.omf_check.specs.Module.{records_in};
+ghost use Rattle.omf_check.specs.WellFormed.{recs};
+ghost use Rattle.omf_reloc.specs.Measuring.{measured, CanMeasure};
+ghost use Rattle.omf_reloc.specs.Walking.{Expands};
+
+use omf_check::Checked;
+use omf_frame::Index;
+use omf_image::{Extent, Limits, expanded_len};
+use omf_records::{At, Blocks, Rec};
+use std::alloc::{AllocError, Global};
+
+/// How many bytes the blocks of an LIDATA stand for.
+fn blocks_len(blocks: Blocks<'_>) -> u64
+    requires { Expands (odd_if blocks.wide 0xA2) blocks.bytes.now }
+    ensures { result ≡ length (expanded (width (odd_if blocks.entry.wide 0xA2)) profile_limits blocks.entry.bytes.now) }
+{
+    match expanded_len(blocks, Limits::profile()) {
+        Ok(len) => u64::from(len),
+        Err(_) => unreachable!(),
+    }
+}
+
+/// So many places from an offset of a segment on.
+fn extent_from(segment: &At<Index>, offset: &At<u32>, len: u64) -> Extent
+    ensures { result ≡ record { segment = segment.now.item; first = offset.now.item; len = len } }
+{
+    Extent {
+        segment: segment.item.0,
+        first: offset.item,
+        len,
+    }
+}
+
+/// Where a data record lies; None of any other record.
+fn measure(rec: &Rec<'_>) -> Option<Extent>
+    requires { CanMeasure (rec_seen rec.now) }
+    ensures { option_to_list result ≡ measured (rec_seen rec.now) }
+{
+    match rec {
+        Rec::Plain {
+            segment,
+            offset,
+            data,
+            ..
+        } => Some(extent_from(segment, offset, data.len() as u64)),
+        Rec::Iterated {
+            segment,
+            offset,
+            blocks,
+        } => Some(extent_from(segment, offset, blocks_len(*blocks))),
+        _ => None,
+    }
+}
+
+/// Where one record more lies, behind those before it.
+fn push_measured(extents: &mut Vec<Extent>, rec: &Rec<'_>) -> Result<(), AllocError>
+    requires { CanMeasure (rec_seen rec.now) }
+    ensures { OnOk result (extents.new.items ≡ extents.old.items ++ measured (rec_seen rec.now)) }
+{
+    match measure(rec) {
+        Some(extent) => {
+            extents.push(extent)?;
+            Ok(())
+        }
+        None => Ok(()),
+    }
+}
+
+/// Where the data records of a module lie, in file order.
+pub(crate) fn extents(alloc: Global, module: &Checked) -> Result<Vec<Extent>, AllocError>
+    ensures { IfOk result (λ v. v.items ≡ flat_map measured (recs (records_in «module».now.bytes))) }
+{
+    let mut extents = Vec::new(alloc);
+    for (_place, rec) in module.records() {
+        push_measured(&mut extents, &rec)?;
+    }
+    Ok(extents)
+}
