@@ -24,6 +24,10 @@ use Rattle.omf_reloc.proofs.GatherLaws.{Gathered, Once, Repeated, more, bare, ta
 use Rattle.omf_reloc.proofs.PatchLaws.{stays_inside}
 use Rattle.omf_reloc.proofs.WalkLaws.{all-right, next-split, Lies, IsOpen, sized-by, reach-open, length-short, open-next, open-first, take-all, with-all, none-all}
 
+-- A walk begins with its own image.
+pub first-walk : (image : List Laid) (w : Walk) → w ≡ record { image = image; open_data = None; threads = no_threads } → w ≡ record { image = w.image; open_data = None; threads = no_threads }
+first-walk image w e = e ∙ ap (λ (i : List Laid). let v : Walk = record { image = i; open_data = None; threads = no_threads } in v) (sym (ap (λ (v : Walk). v.image) e))
+
 -- What is laid in two turns is laid in one.
 pub laid-on : (old next new : List Laid) (ls ms : List Laid) → AreLaidOver old ls next → AreLaidOver next ms new → AreLaidOver old (ls ++ ms) new
 laid-on old next new [] ms h k = subst (λ x. AreLaidOver x ms new) (sym h) k
@@ -32,21 +36,21 @@ laid-on old next new (l ∷ ls) ms (first, one, h) k = (first, one, laid-on firs
 abbrev laid_now : Places → Gathered → Laid
 laid_now pl g = laid_of profile_limits pl g
 
-pub record IsWalked (pl : Places) (m : List Rec) (w : Walk) (rest : List Rec) : Type 0 where
+pub record IsWalked (start : List Laid) (pl : Places) (m : List Rec) (w : Walk) (rest : List Rec) : Type 0 where
   pub before : List Rec
   pub done : List Gathered
   pub last_one : Option Gathered
   pub split : m ≡ before ++ rest
   pub threads : HasThreads w.threads (subrecords before)
   pub all : gathered (pieces m) ≡ done ++ gathered_from (subrecords before) last_one rest
-  pub image : AreLaidOver [] (map (laid_now pl) done) w.image
+  pub image : AreLaidOver start (map (laid_now pl) done) w.image
   pub open_data : w.open_data ≡ option_map (laid_now pl) last_one
   pub is_open : IsOpen m last_one (last_data before)
 
-module _ (kept : ThreadsAreKept) (pl : Places) (m : List Rec) (holds : ModuleHolds profile_limits m) (reaches : Reaches pl m) where
-  pub walk-first : (w : Walk) (rest : List Rec) → w ≡ record { image = []; open_data = None; threads = no_threads } → rest ≡ m → IsWalked pl m w rest
+module _ (start : List Laid) (kept : ThreadsAreKept) (pl : Places) (m : List Rec) (holds : ModuleHolds profile_limits m) (reaches : Reaches pl m) where
+  pub walk-first : (w : Walk) (rest : List Rec) → w ≡ record { image = start; open_data = None; threads = no_threads } → rest ≡ m → IsWalked start pl m w rest
   walk-first w rest e f =
-      subst (IsWalked pl m w) (sym f) (subst (λ v. IsWalked pl m v m) (sym e) (record {
+      subst (IsWalked start pl m w) (sym f) (subst (λ v. IsWalked start pl m v m) (sym e) (record {
         before = [];
         done = [];
         last_one = None;
@@ -71,7 +75,7 @@ module _ (kept : ThreadsAreKept) (pl : Places) (m : List Rec) (holds : ModuleHol
       let short = length-short m holds d.segment.item in
       omega (arith, low, short)
 
-  pub has-offsets : (w : Walk) (rest : List Rec) → IsWalked pl m w rest → IfSome w.open_data HasOffsets
+  pub has-offsets : (w : Walk) (rest : List Rec) → IsWalked start pl m w rest → IfSome w.open_data HasOffsets
   has-offsets w rest h = subst (λ o. IfSome o HasOffsets) (sym h.open_data) (offsets-of h.last_one h.is_open.lies)
 
   -- A FIXUPP can be walked over, and what is open has the fixups of the definition then.
@@ -101,7 +105,7 @@ module _ (kept : ThreadsAreKept) (pl : Places) (m : List Rec) (holds : ModuleHol
       differ : (x : DataItem) (gs : List (ℕ × PlainFixup)) → Some (Repeated other d fs) ≡ Some (Once (bare x) gs) → ⊥
       differ x gs q = cc
 
-  module _ (w : Walk) (r : Rec) (rest : List Rec) (h : IsWalked pl m w (r ∷ rest)) where
+  module _ (w : Walk) (r : Rec) (rest : List Rec) (h : IsWalked start pl m w (r ∷ rest)) where
     abbrev next_one : Option Gathered
     next_one = opened_by (subrecords h.before) r.kind r.contents h.last_one
 
@@ -160,7 +164,7 @@ module _ (kept : ThreadsAreKept) (pl : Places) (m : List Rec) (holds : ModuleHol
     opened-same _ e = h.open_data
 
     -- And so it goes on.
-    pub walk-next : (new : Walk) → IsNext pl r w new → IsWalked pl m new rest
+    pub walk-next : (new : Walk) → IsNext pl r w new → IsWalked start pl m new rest
     walk-next new n = record {
       before = h.before ++ r ∷ [];
       done = h.done ++ closed_by r.contents h.last_one;
@@ -168,19 +172,19 @@ module _ (kept : ThreadsAreKept) (pl : Places) (m : List Rec) (holds : ModuleHol
       split = next-split m h.before rest r h.split;
       threads = subst (λ t. HasThreads t (subrecords (h.before ++ r ∷ []))) (sym n.threads) (subst (HasThreads (threads_after w.threads r.contents)) (sym (subrecords-more h.before r)) (threads-next r.contents));
       all = all-next;
-      image = subst (λ ls. AreLaidOver [] ls new.image) (sym (map-append (laid_now pl) h.done (closed_by r.contents h.last_one)))
-          (laid-on [] w.image new.image (map (laid_now pl) h.done) (map (laid_now pl) (closed_by r.contents h.last_one)) h.image (subst (λ ls. AreLaidOver w.image ls new.image) (closed-same r.contents) n.image));
+      image = subst (λ ls. AreLaidOver start ls new.image) (sym (map-append (laid_now pl) h.done (closed_by r.contents h.last_one)))
+          (laid-on start w.image new.image (map (laid_now pl) h.done) (map (laid_now pl) (closed_by r.contents h.last_one)) h.image (subst (λ ls. AreLaidOver w.image ls new.image) (closed-same r.contents) n.image));
       open_data = n.open_data ∙ opened-same r.contents refl;
       is_open = open-next m holds h.before rest r h.last_one h.split h.is_open;
     }
 
   -- At the end the image is that of the module.
-  pub walk-last : (w : Walk) (image : List Laid) → IsWalked pl m w [] → AreLaidOver w.image (option_to_list w.open_data) image → AreLaidOver [] (laid profile_limits pl (pieces m)) image
+  pub walk-last : (w : Walk) (image : List Laid) → IsWalked start pl m w [] → AreLaidOver w.image (option_to_list w.open_data) image → AreLaidOver start (laid profile_limits pl (pieces m)) image
   walk-last w image h last =
       let closing : option_to_list w.open_data ≡ map (laid_now pl) (option_to_list h.last_one) = ap option_to_list h.open_data ∙ list-one h.last_one in
-      subst (λ ls. AreLaidOver [] ls image)
+      subst (λ ls. AreLaidOver start ls image)
       (sym (map-append (laid_now pl) h.done (option_to_list h.last_one)) ∙ ap (map (laid_now pl)) (sym h.all) ∙ sym (laid-gathered profile_limits pl (pieces m)))
-      (laid-on [] w.image image (map (laid_now pl) h.done) (map (laid_now pl) (option_to_list h.last_one)) h.image (subst (λ ls. AreLaidOver w.image ls image) closing last))
+      (laid-on start w.image image (map (laid_now pl) h.done) (map (laid_now pl) (option_to_list h.last_one)) h.image (subst (λ ls. AreLaidOver w.image ls image) closing last))
     where
       list-one : (o : Option Gathered) → option_to_list (option_map (laid_now pl) o) ≡ map (laid_now pl) (option_to_list o)
       list-one None = refl

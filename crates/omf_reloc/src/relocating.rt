@@ -18,12 +18,13 @@ ghost use Rattle.omf_reloc.specs.Plain.{pieces};
 ghost use Rattle.omf_reloc.specs.Reach.{Reaches};
 ghost use Rattle.omf_reloc.specs.Walking.{with_fixup, with_subrecord, with_subrecords, CanAdd, CanTake, CanTakeAll, Expands, HasOffsets, IsNext, CanWalk};
 
+use crate::measuring::extents;
 use crate::offset::outcome;
 use crate::placement::Placement;
 use crate::plain::{PlainFixup, plain_reference};
 use omf_check::{Checked, Threads};
 use omf_frame::Index;
-use omf_image::{Image, Limits, expand};
+use omf_image::{Image, Limits, expand, painted};
 use omf_records::{At, Blocks, Items, Part, Rec, Subrecord, location_offset};
 use std::alloc::{AllocError, Global};
 use std::marker::Model;
@@ -154,11 +155,11 @@ fn lay(image: &mut Image, last: Option<Open>) -> Result<(), AllocError>
 
 impl Walk {
     /// No record is walked over.
-    fn new(alloc: Global) -> Walk
-        ensures { result ≡ record { image = []; open_data = None; threads = no_threads } }
+    fn new(image: Image) -> Walk
+        ensures { result ≡ record { image = image; open_data = None; threads = no_threads } }
     {
         Walk {
-            image: Image::new(alloc),
+            image,
             open_data: None,
             threads: Threads::new(),
         }
@@ -231,7 +232,7 @@ impl Walk {
 
 /// The image that a placement gives a module: what each LEDATA gives, with what its fixups add, and what the blocks of each LIDATA
 /// stand for. Where data records overlap the last one stands. Every byte lies in its segment, and every byte that a fixup changes in the
-/// data of its LEDATA.
+/// data of its LEDATA. The places of all data records are covered first, so that no run grows or moves while they are laid.
 ///
 /// # Errors
 ///
@@ -244,7 +245,8 @@ pub fn relocate(alloc: Global, module: &Checked, placement: &Placement) -> Resul
         ↔ (run ≡ slice_get (runs_of (laid profile_limits placement.now (pieces (recs (records_in «module».now.bytes)))) segment) k)) }
     ensures inside { AllLieInside placement.now (recs (records_in «module».now.bytes)) }
 {
-    let mut walk = Walk::new(alloc);
+    let zeros = painted(alloc, extents(alloc, module)?)?;
+    let mut walk = Walk::new(zeros);
     for (_place, rec) in module.records() {
         walk.take(alloc, placement, &rec)?;
     }

@@ -1,8 +1,10 @@
-use Rattle.std.proofs.Common.{◌∙◌, ap, subst, List, Result, Ok, Err}
-use Rattle.std.specs.Prelude.{map, IfOk}
+use Rattle.std.proofs.Common.{◌∙◌, ap, sym, subst, [], List, Result, Ok, Err}
+use Rattle.std.specs.Prelude.{All, map, IfOk}
 use Rattle.omf_frame.specs.declared.fault.Place.{Place}
 use Rattle.omf_image.proofs.TurnLaws.{images_are}
 use Rattle.omf_image.specs.Limits.{profile_limits}
+use Rattle.omf_image.specs.Overlay.{AreLaidOver}
+use Rattle.omf_image.specs.Painting.{all_zeros, Fits}
 use Rattle.omf_records.specs.Seen.{rec_seen}
 use Rattle.omf_records.specs.Values.{Rec}
 use Rattle.omf_check.specs.Module.{records_in}
@@ -10,8 +12,10 @@ use Rattle.omf_check.specs.WellFormed.{recs}
 use Rattle.omf_check.proofs.ThreadLaws.{threads_kept}
 use Rattle.omf_reloc.specs.Image.{laid}
 use Rattle.omf_reloc.specs.Plain.{pieces}
+use Rattle.omf_reloc.specs.Walking.{Walk}
 use Rattle.omf_reloc.proofs.InsideLaws.{all-inside}
-use Rattle.omf_reloc.proofs.WalkedLaws.{IsWalked, walk-first, can-walk, walk-next, walk-last, has-offsets, records-listed}
+use Rattle.omf_reloc.proofs.MeasureLaws.{all-fit, zeros-lost}
+use Rattle.omf_reloc.proofs.WalkedLaws.{IsWalked, first-walk, walk-first, can-walk, walk-next, walk-last, has-offsets, records-listed}
 use Rattle.omf_reloc.proofs.relocating.relocate.Goals as goal
 
 abbrev without_places : List (Place × Rec) → List Rec
@@ -24,58 +28,75 @@ if-ok (Err e) f h = tt
 pub loop-place-init : goal.loop-place-init
 loop-place-init c =
     let r = c.records-place-items in
-    walk-first threads_kept c.args.placement.now (recs (records_in c.args.module.now.bytes)) r.ensures.holds c.requires c.new-walk.result (without_places c.into_iter-place-iterator.result)
-    c.new-walk.ensures (ap without_places (c.into_iter-place-iterator.ensures.into_iter_gives ∙ r.ensures.listed) ∙ records-listed 0 0 (records_in c.args.module.now.bytes))
+    walk-first c.new-walk.result.image threads_kept c.args.placement.now (recs (records_in c.args.module.now.bytes)) r.ensures.holds c.requires c.new-walk.result (without_places c.into_iter-place-iterator.result)
+    (first-walk _ c.new-walk.result c.new-walk.ensures) (ap without_places (c.into_iter-place-iterator.ensures.into_iter_gives ∙ r.ensures.listed) ∙ records-listed 0 0 (records_in c.args.module.now.bytes))
 
 pub take-requires : goal.take-requires
 take-requires c =
     let pl = c.args.placement.now in
     let m = recs (records_in c.args.module.now.bytes) in
     let w = c.loop-place.walk in
-    can-walk threads_kept pl m c.records-place-items.ensures.holds c.requires w (rec_seen c.in-Some.rec) (without_places c.next.new.self)
-    (subst (λ xs. IsWalked pl m w (without_places xs)) c.in-Some.ensures.steps c.loop-place.invariant)
+    can-walk c.new-walk.result.image threads_kept pl m c.records-place-items.ensures.holds c.requires w (rec_seen c.in-Some.rec) (without_places c.next.new.self)
+    (subst (λ xs. IsWalked c.new-walk.result.image pl m w (without_places xs)) c.in-Some.ensures.steps c.loop-place.invariant)
 
 pub loop-place-preserved : goal.loop-place-preserved
 loop-place-preserved c =
     let pl = c.args.placement.now in
     let m = recs (records_in c.args.module.now.bytes) in
     let w = c.loop-place.walk in
-    walk-next threads_kept pl m c.records-place-items.ensures.holds c.requires w (rec_seen c.in-Some.rec) (without_places c.next.new.self)
-    (subst (λ xs. IsWalked pl m w (without_places xs)) c.in-Some.ensures.steps c.loop-place.invariant) c.take.new.self c.in_ok-take.ensures
+    walk-next c.new-walk.result.image threads_kept pl m c.records-place-items.ensures.holds c.requires w (rec_seen c.in-Some.rec) (without_places c.next.new.self)
+    (subst (λ xs. IsWalked c.new-walk.result.image pl m w (without_places xs)) c.in-Some.ensures.steps c.loop-place.invariant) c.take.new.self c.in_ok-take.ensures
 
 pub finish-requires : goal.finish-requires
 finish-requires c =
-    has-offsets threads_kept c.args.placement.now (recs (records_in c.args.module.now.bytes)) c.records-place-items.ensures.holds c.requires c.loop-place.walk
+    has-offsets c.new-walk.result.image threads_kept c.args.placement.now (recs (records_in c.args.module.now.bytes)) c.records-place-items.ensures.holds c.requires c.loop-place.walk
     (without_places c.loop-place._place-iterator) c.loop-place.invariant
+
+pub painted-requires : goal.painted-requires
+painted-requires c =
+    subst (All Fits) (sym c.in_ok-extents.ensures.listed) (all-fit c.args.placement.now (recs (records_in c.args.module.now.bytes)) c.extents.ensures.holds)
 
 pub returns-clause-laid : goal.returns-clause-laid
 returns-clause-laid c =
     let pl = c.args.placement.now in
     let m = recs (records_in c.args.module.now.bytes) in
     let w = c.loop-place.walk in
-    let ended = subst (λ xs. IsWalked pl m w (without_places xs)) c.in-None.ensures.steps.0 c.loop-place.invariant in
-    if-ok c.finish.result (λ i h. walk-last threads_kept pl m c.records-place-items.ensures.holds c.requires w i ended h) c.finish.ensures
+    let start = c.new-walk.result.image in
+    let ended = subst (λ xs. IsWalked start pl m w (without_places xs)) c.in-None.ensures.steps.0 c.loop-place.invariant in
+    let zeros = subst (AreLaidOver [] (all_zeros c.in_ok-extents.field-0.items)) (sym (ap (λ (v : Walk). v.image) c.new-walk.ensures)) c.in_ok-zeros.ensures in
+    if-ok c.finish.result (λ i h. zeros-lost pl m c.extents.ensures.holds c.in_ok-extents.field-0.items start i c.in_ok-extents.ensures.listed zeros
+    (walk-last start threads_kept pl m c.records-place-items.ensures.holds c.requires w i ended h)) c.finish.ensures
 
 pub returns-clause-bytes : goal.returns-clause-bytes
 returns-clause-bytes c =
     let pl = c.args.placement.now in
     let m = recs (records_in c.args.module.now.bytes) in
     let w = c.loop-place.walk in
-    let ended = subst (λ xs. IsWalked pl m w (without_places xs)) c.in-None.ensures.steps.0 c.loop-place.invariant in
-    if-ok c.finish.result
-    (λ i h. (images_are (laid profile_limits pl (pieces m)) i (walk-last threads_kept pl m c.records-place-items.ensures.holds c.requires w i ended h)).0) c.finish.ensures
+    let start = c.new-walk.result.image in
+    let ended = subst (λ xs. IsWalked start pl m w (without_places xs)) c.in-None.ensures.steps.0 c.loop-place.invariant in
+    let zeros = subst (AreLaidOver [] (all_zeros c.in_ok-extents.field-0.items)) (sym (ap (λ (v : Walk). v.image) c.new-walk.ensures)) c.in_ok-zeros.ensures in
+    if-ok c.finish.result (λ i h. (images_are (laid profile_limits pl (pieces m)) i (zeros-lost pl m c.extents.ensures.holds c.in_ok-extents.field-0.items start i c.in_ok-extents.ensures.listed zeros
+    (walk-last start threads_kept pl m c.records-place-items.ensures.holds c.requires w i ended h))).0) c.finish.ensures
 
 pub returns-clause-runs : goal.returns-clause-runs
 returns-clause-runs c =
     let pl = c.args.placement.now in
     let m = recs (records_in c.args.module.now.bytes) in
     let w = c.loop-place.walk in
-    let ended = subst (λ xs. IsWalked pl m w (without_places xs)) c.in-None.ensures.steps.0 c.loop-place.invariant in
-    if-ok c.finish.result
-    (λ i h. (images_are (laid profile_limits pl (pieces m)) i (walk-last threads_kept pl m c.records-place-items.ensures.holds c.requires w i ended h)).1) c.finish.ensures
+    let start = c.new-walk.result.image in
+    let ended = subst (λ xs. IsWalked start pl m w (without_places xs)) c.in-None.ensures.steps.0 c.loop-place.invariant in
+    let zeros = subst (AreLaidOver [] (all_zeros c.in_ok-extents.field-0.items)) (sym (ap (λ (v : Walk). v.image) c.new-walk.ensures)) c.in_ok-zeros.ensures in
+    if-ok c.finish.result (λ i h. (images_are (laid profile_limits pl (pieces m)) i (zeros-lost pl m c.extents.ensures.holds c.in_ok-extents.field-0.items start i c.in_ok-extents.ensures.listed zeros
+    (walk-last start threads_kept pl m c.records-place-items.ensures.holds c.requires w i ended h))).1) c.finish.ensures
 
 pub returns-clause-inside : goal.returns-clause-inside
-returns-clause-inside c = all-inside c.args.placement.now (recs (records_in c.args.module.now.bytes)) c.records-place-items.ensures.holds
+returns-clause-inside c = all-inside c.args.placement.now (recs (records_in c.args.module.now.bytes)) c.extents.ensures.holds
+
+pub returns-in_err-extents-clause-inside : goal.returns-in_err-extents-clause-inside
+returns-in_err-extents-clause-inside c = all-inside c.args.placement.now (recs (records_in c.args.module.now.bytes)) c.extents.ensures.holds
+
+pub returns-in_err-zeros-clause-inside : goal.returns-in_err-zeros-clause-inside
+returns-in_err-zeros-clause-inside c = all-inside c.args.placement.now (recs (records_in c.args.module.now.bytes)) c.extents.ensures.holds
 
 pub returns-in_err-take-clause-inside : goal.returns-in_err-take-clause-inside
-returns-in_err-take-clause-inside c = all-inside c.args.placement.now (recs (records_in c.args.module.now.bytes)) c.records-place-items.ensures.holds
+returns-in_err-take-clause-inside c = all-inside c.args.placement.now (recs (records_in c.args.module.now.bytes)) c.extents.ensures.holds
