@@ -1,9 +1,10 @@
 -- Steps of the functions that write the bytes of blocks.
-use Rattle.std.proofs.Common.{◌≡◌, ℕ, zero, suc, ◌+◌, ◌-◌, ◌<◌, ◌≤◌, Bool, true, false, List, [], ◌∷◌, ◌++◌, append_assoc, length, length-append, length-drop, take, drop, Result, Ok, Err, refl, sym, ◌∙◌, ap, subst, arith}
+use Rattle.std.proofs.Common.{◌≡◌, ℕ, zero, suc, ◌+◌, ◌-◌, ◌*◌, ◌<◌, ◌≤◌, Bool, true, false, List, [], ◌∷◌, ◌++◌, append_assoc, length, length-append, length-drop, take, drop, Result, Ok, Err, refl, sym, ◌∙◌, ap, subst, arith}
 use Rattle.std.specs.Prelude.{IsOk, slice_range, nat_lt, if◌then◌else◌}
 use Rattle.std.specs.List.{repeat}
 use Rattle.std.proofs.lemmas.List.{append-nil, take_at, drop_at, drop-append-le}
 use Rattle.std.proofs.lemmas.Bool.{ltb-false}
+use Rattle.std.proofs.Math.Nat.{mul-le-mul_right}
 use Rattle.byteorder.specs.Endian.{little_number}
 use Rattle.omf_frame.specs.Fault.{Fault}
 use Rattle.omf_frame.specs.declared.fault.Reason.TheVariants as reason
@@ -13,6 +14,7 @@ use Rattle.omf_records.specs.Reads.{After, after, Reading, and_then}
 use Rattle.omf_image.specs.Blocks.{repeated}
 use Rattle.omf_image.specs.Copying.{bytes_times, bytes_contents, bytes_block, IsMoved}
 use Rattle.omf_image.specs.Lengths.{len_times, len_data, len_contents, len_block}
+use Rattle.omf_image.proofs.BlocksLaws.{length-repeated}
 
 -- ---- both computations end at one place
 
@@ -156,6 +158,16 @@ pub repeated_more : (n : ℕ) (xs : List ℕ) → repeated n xs ++ xs ≡ repeat
 repeated_more n [] = refl
 repeated_more n (x ∷ xs) = repeat_more n (x ∷ xs)
 
+repeat_add : (m k : ℕ) (xs : List ℕ) → repeat m xs ++ repeat k xs ≡ repeat (m + k) xs
+repeat_add zero k xs = let e : k ≡ 0 + k = omega arith in ap (λ n. repeat n xs) e
+repeat_add (suc m) k xs =
+    let e : suc (m + k) ≡ suc m + k = omega arith in
+    append_assoc xs (repeat m xs) (repeat k xs) ∙ ap (λ ys. xs ++ ys) (repeat_add m k xs) ∙ ap (λ n. repeat n xs) e
+
+pub repeated_add : (m k : ℕ) (xs : List ℕ) → repeated m xs ++ repeated k xs ≡ repeated (m + k) xs
+repeated_add m k [] = refl
+repeated_add m k (x ∷ xs) = repeat_add m k (x ∷ xs)
+
 pub first_repeated : (n : ℕ) (xs : List ℕ) → xs ++ repeated n xs ≡ repeated (suc n) xs
 first_repeated n [] = refl
 first_repeated n (x ∷ xs) = refl
@@ -225,3 +237,34 @@ written_never n x e = ap (λ k. repeated k x) e ∙ repeated_none x
 -- the last of what stands there
 pub back_part : (a b x : List ℕ) (from : ℕ) → b ≡ a ++ x → from ≡ length a → drop from b ≡ x
 back_part a b x from e f = ap (λ k. drop k b) f ∙ ap (λ z. drop (length a) z) e ∙ drop_at a x (length a) refl
+
+-- ---- what stands there once and again, in part
+
+module _ (old : List ℕ) (from done more len : ℕ) (inside : from ≤ length old) (size : len ≡ length old - from) (some : 1 ≤ done) (within : more ≤ done) where
+  abbrev part : List ℕ
+  part = drop from old
+
+  part_long : length part ≡ len
+  part_long = length-drop from old ∙ sym size
+
+  pub copy_end : from + more * len ≤ length (old ++ repeated (done - 1) part)
+  copy_end =
+      let long : length (repeated (done - 1) part) ≡ (done - 1) * length part = length-repeated (done - 1) part in
+      let all : length (old ++ repeated (done - 1) part) ≡ length old + (done - 1) * len =
+      length-append old (repeated (done - 1) part) ∙ ap (λ n. length old + n) (long ∙ ap (λ n. (done - 1) * n) part_long) in
+      let same : done * len ≡ (done - 1) * len + len = ap (λ n. n * len) (let e : done ≡ suc (done - 1) = omega arith in e) ∙ omega arith in
+      omega (arith, all, same, mul-le-mul_right len within, inside, size)
+
+  pub copy_part : slice_range (old ++ repeated (done - 1) part) from (from + more * len) ≡ repeated more part
+  copy_part =
+      let all : done ≡ suc (done - 1) = omega arith in
+      let cut : from + more * len - from ≡ more * len = omega arith in
+      let long : length (repeated more part) ≡ more * len = length-repeated more part ∙ ap (λ n. more * n) part_long in
+      let two : more + (done - more) ≡ done = omega arith in
+      ap (λ zs. take (from + more * len - from) zs) (drop-append-le from old (repeated (done - 1) part) inside ∙ first_repeated (done - 1) part ∙ ap (λ n. repeated n part) (sym all))
+      ∙ ap (λ n. take n (repeated done part)) cut
+      ∙ ap (λ zs. take (more * len) zs) (sym (repeated_add more (done - more) part ∙ ap (λ n. repeated n part) two))
+      ∙ take_at (repeated more part) (repeated (done - more) part) (more * len) long
+
+  pub copies_more : repeated (done - 1) part ++ repeated more part ≡ repeated (done + more - 1) part
+  copies_more = let e : done - 1 + more ≡ done + more - 1 = omega arith in repeated_add (done - 1) more part ∙ ap (λ n. repeated n part) e

@@ -94,17 +94,23 @@ impl Copier {
         Ok(end)
     }
 
-    /// Repeats what was written from a position on, so that it stands there `count` times.
+    /// Repeats what was written from a position on, so that it stands there `count` times. Each copy is of all that stands there
+    /// already, or of what is still to come.
     fn repeat(&mut self, from: usize, count: u32) -> Result<(), AllocError>
         requires { (from ≤ vec_len self.old.out) × (1 ≤ count) }
         ensures { OnOk result (IsMoved self.old.out.items self.old.moved self.new.out.items self.new.moved 0 (repeated (count - 1) (drop from self.old.out.items))) }
     {
-        let to = self.out.len();
-        if from == to {
+        let len = self.out.len() - from;
+        if len == 0 {
             return Ok(());
         }
-        for _ in 1..count {
-            self.copy(from, to)?;
+        let count = count as usize;
+        self.out.reserve(len.saturating_mul(count - 1))?;
+        let mut done: usize = 1;
+        while done < count {
+            let more = done.min(count - done);
+            self.copy(from, from + more * len)?;
+            done += more;
         }
         Ok(())
     }

@@ -1,19 +1,35 @@
-use Rattle.std.proofs.Common.{◌≡◌, ◌∙◌, ◌≤◌, ◌+◌, ◌-◌, ◌++◌, List, ℕ, suc, ap, length, drop, arith, rules}
+use Rattle.std.proofs.Common.{◌≡◌, ◌∙◌, ◌≤◌, ◌<◌, ◌+◌, ◌-◌, ◌*◌, ◌++◌, List, ℕ, ap, sym, subst, length, drop, arith, rules}
 use Rattle.std.specs.Prelude.{slice_range}
 use Rattle.omf_image.specs.Blocks.{repeated}
-use Rattle.omf_image.proofs.CopySteps.{moves_then, moves_as, repeated_more, slice_front}
+use Rattle.omf_image.proofs.CopySteps.{moves_then, moves_as, copy_end, copy_part, copies_more}
 use Rattle.omf_image.proofs.expanding.Copier.repeat.Goals as goal
 
-pub loop-preserved : goal.loop-preserved
-loop-preserved c =
+pub copy-requires : goal.copy-requires
+copy-requires c =
     let old : List ℕ = c.args.self.now.out.items in
-    let x : List ℕ = drop c.args.from old in
-    let y : List ℕ = repeated (c.loop.counter - 1) x in
+    let i = c.loop-done.invariant in
     let inside : c.args.from ≤ length old = search rules in
-    let to : c.len-to.result ≡ length old = c.loop.invariant.to in
-    let turn : suc (c.loop.counter - 1) ≡ c.loop.counter + 1 - 1 = search rules in
-    let part = ap (λ z. slice_range z c.args.from c.len-to.result) c.loop.invariant.moves.appended ∙ ap (λ k. slice_range (old ++ y) c.args.from k) to ∙ slice_front old y c.args.from inside in
+    let size : c.len.result - c.args.from ≡ length old - c.args.from = search rules in
+    let within : c.min-more.result ≤ c.loop-done.done = search rules in
+    let end = copy_end old c.args.from c.loop-done.done c.min-more.result (c.len.result - c.args.from) inside size i.some within in
+    (omega arith, omega (arith, end, ap (λ (z : List ℕ). length z) i.moves.appended, c.loop-done.self.out.ok))
+
+pub loop-done-preserved : goal.loop-done-preserved
+loop-done-preserved c =
+    let old : List ℕ = c.args.self.now.out.items in
+    let i = c.loop-done.invariant in
+    let done = c.loop-done.done in
+    let more = c.min-more.result in
+    let len = c.len.result - c.args.from in
+    let inside : c.args.from ≤ length old = search rules in
+    let size : len ≡ length old - c.args.from = search rules in
+    let within : more ≤ done = search rules in
+    let left : more ≤ c.args.count - done = search rules in
+    let low : done < c.args.count = search rules in
+    let part = ap (λ z. slice_range z c.args.from (c.args.from + more * len)) i.moves.appended ∙ copy_part old c.args.from done more len inside size i.some within in
     record {
-      to = c.loop.invariant.to;
-      moves = moves_as (moves_then c.loop.invariant.moves c.in_ok-copy.ensures) (omega arith) (ap (λ z. y ++ z) part ∙ repeated_more (c.loop.counter - 1) x ∙ ap (λ k. repeated k x) turn);
+      some = omega (arith, i.some);
+      within = omega (arith, left, low);
+      moves = moves_as (moves_then i.moves c.in_ok-copy.ensures) (omega arith)
+          (ap (λ z. repeated (done - 1) (drop c.args.from old) ++ z) part ∙ copies_more old c.args.from done more len inside size i.some within);
     }
