@@ -1,5 +1,5 @@
 -- Pieces that are laid ahead of others, which cover all their places; and images of zeros.
-use Rattle.std.proofs.Common.{◌≡◌, ◌⊎◌, inl, inr, ℕ, zero, suc, ◌+◌, ◌-◌, ◌<◌, ◌≤◌, Bool, true, false, List, [], ◌∷◌, ◌++◌, length, map, Option, Some, None, refl, sym, ◌∙◌, ap, subst, arith, append_assoc}
+use Rattle.std.proofs.Common.{◌≡◌, inl, inr, ℕ, zero, suc, ◌-◌, Bool, true, false, List, [], ◌∷◌, ◌++◌, length, map, Option, Some, None, refl, sym, ◌∙◌, ap, subst, arith, append_assoc}
 use Rattle.std.specs.Prelude.{IsSome, Contains, slice_get, replicate, option_to_list, nat_le, ◌==◌, ◌&&◌, if◌then◌else◌}
 use Rattle.std.specs.List.Sorted.{IsPermutation}
 use Rattle.std.proofs.lemmas.List.{map-append}
@@ -8,7 +8,6 @@ use Rattle.std.specs.Option.{option_or}
 use Rattle.omf_image.specs.declared.painting.Extent.{Extent}
 use Rattle.omf_image.specs.Overlay.{Laid, byte_of, byte_at, IsLaidOver, AreLaidOver}
 use Rattle.omf_image.specs.Joined.{runs_of}
-use Rattle.omf_image.specs.Sorted.{span}
 use Rattle.omf_image.specs.Painting.{extent, zeros, all_zeros}
 use Rattle.omf_image.specs.Laws.{CoveredPiecesAreLost, SamePlacesAreLost}
 use Rattle.omf_image.proofs.RunLaws.{contains_first, contains_more, contains_here, contains_none, byte_some, some_byte, byte_at-append, joined_are_runs, runs_unique}
@@ -26,11 +25,12 @@ lost_bytes : (ahead laid : List Laid) → ((segment x : ℕ) → IsSome (byte_at
 lost_bytes ahead laid h segment x = byte_append ahead laid segment x ∙ or_lost (byte_at laid segment x) (byte_at ahead segment x) (h segment x)
 
 pub covered_are_lost : CoveredPiecesAreLost
-covered_are_lost ahead laid h =
-    (lost_bytes ahead laid h,
-    λ segment. runs_unique (byte_at laid segment) (runs_of (ahead ++ laid) segment) (runs_of laid segment)
-    (are_runs_as (byte_at (ahead ++ laid) segment) (byte_at laid segment) (lost_bytes ahead laid h segment) (runs_of (ahead ++ laid) segment) (joined_are_runs (ahead ++ laid) segment))
-    (joined_are_runs laid segment))
+covered_are_lost ahead laid h = (
+  lost_bytes ahead laid h,
+  λ segment. runs_unique (byte_at laid segment) (runs_of (ahead ++ laid) segment) (runs_of laid segment)
+      (are_runs_as (byte_at (ahead ++ laid) segment) (byte_at laid segment) (lost_bytes ahead laid h segment) (runs_of (ahead ++ laid) segment) (joined_are_runs (ahead ++ laid) segment))
+      (joined_are_runs laid segment),
+)
 
 -- ---- pieces over the same intervals
 
@@ -61,9 +61,11 @@ laid_after : (done old ls image : List Laid) → ((segment x : ℕ) → byte_at 
 laid_after done old [] image same all none = none refl
 laid_after done old (l ∷ []) image same all none =
     (image, λ s x. all s x ∙ byte_at-append done l s x ∙ ap (λ o. option_or (byte_of s x l) o) (sym (same s x)), refl)
-laid_after done old (l ∷ m ∷ ls) image same all none =
-    (done ++ l ∷ [], λ s x. byte_at-append done l s x ∙ ap (λ o. option_or (byte_of s x l) o) (sym (same s x)),
-    laid_after (done ++ l ∷ []) (done ++ l ∷ []) (m ∷ ls) image (λ s x. refl) (λ s x. all s x ∙ ap (λ z. byte_at z s x) (sym (append_assoc done (l ∷ []) (m ∷ ls)))) (λ e. absurd cc))
+laid_after done old (l ∷ m ∷ ls) image same all none = (
+  done ++ l ∷ [],
+  λ s x. byte_at-append done l s x ∙ ap (λ o. option_or (byte_of s x l) o) (sym (same s x)),
+  laid_after (done ++ l ∷ []) (done ++ l ∷ []) (m ∷ ls) image (λ s x. refl) (λ s x. all s x ∙ ap (λ z. byte_at z s x) (sym (append_assoc done (l ∷ []) (m ∷ ls)))) (λ e. absurd cc),
+)
 
 pub laid_by_bytes : (ls image : List Laid) → ((segment x : ℕ) → byte_at image segment x ≡ byte_at ls segment x) → (ls ≡ [] → image ≡ []) → AreLaidOver [] ls image
 laid_by_bytes ls image all none = laid_after [] [] ls image (λ s x. refl) all (λ e. sym (none e))

@@ -1,5 +1,5 @@
 -- Zeros that are laid ahead of data.
-use Rattle.std.specs.Prelude.{ℕ, ◌+◌, ◌≤◌, ◌^◌, List, map, length}
+use Rattle.std.specs.Prelude.{◌+◌, ◌≤◌, ◌^◌, List, map, length}
 use Rattle.std.specs.Prelude.{replicate}
 use Rattle.omf_image.specs.Overlay.{Laid}
 use Rattle.omf_image.specs.declared.painting.Extent.{Extent}

@@ -1,8 +1,8 @@
 //! Blocks that nest, that stand for nothing, and that stand for too much; parts that are added; pieces that overlap.
 
-ghost use Rattle.std.specs.Prelude.{◌≤◌, length};
+ghost use Rattle.std.specs.Prelude.{◌≡◌, ◌≤◌, length};
 
-use crate::{Image, Limits, Part, Run, add_part, expand, expanded_len};
+use crate::{Extent, Image, Limits, Part, Run, add_part, expand, expanded_len, painted};
 use omf_frame::Reason;
 use omf_records::{Blocks, LayoutFault};
 use std::alloc::Global;
@@ -180,6 +180,29 @@ fn lays_a_piece_at_the_last_offset(rt: HostRuntime) -> Result<(), Fail> {
     assert_eq!(rt; image.run_bytes(1, 2), None);
     assert_eq!(rt; image.run_at(2, 0), None);
     assert_eq!(rt; image.run_bytes(2, 0), None);
+    Ok(())
+}
+
+/// An interval of the first segment.
+fn extent(first: u32, len: u64) -> Extent
+    ensures { result ≡ record { segment = 1; first = first; len = len } }
+{
+    Extent {
+        segment: 1,
+        first,
+        len,
+    }
+}
+
+#[test]
+fn paints_intervals_that_touch_in_one_run(rt: HostRuntime) -> Result<(), Fail> {
+    let extents = vec![in rt.alloc(); extent(9, 2), extent(4, 3), extent(0, 4), extent(5, 1)]?;
+    let image = painted(rt.alloc(), extents)?;
+    assert_eq!(rt; image.run_at(1, 0), Some(Run { first: 0, len: 7 }));
+    assert_eq!(rt; image.run_at(1, 1), Some(Run { first: 9, len: 2 }));
+    assert_eq!(rt; image.run_at(1, 2), None);
+    assert_eq!(rt; image.get(1, 10), Some(0));
+    assert_eq!(rt; image.get(1, 8), None);
     Ok(())
 }
 

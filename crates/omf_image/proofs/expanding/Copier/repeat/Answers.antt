@@ -1,4 +1,4 @@
-use Rattle.std.proofs.Common.{◌≡◌, ◌∙◌, ◌≤◌, ◌<◌, ◌+◌, ◌-◌, ◌*◌, ◌++◌, List, ℕ, ap, sym, subst, length, drop, arith, rules}
+use Rattle.std.proofs.Common.{◌≡◌, ◌∙◌, ◌≤◌, ◌<◌, ◌+◌, ◌-◌, ◌*◌, ◌++◌, List, ℕ, ap, length, drop, arith, rules}
 use Rattle.std.specs.Prelude.{slice_range}
 use Rattle.omf_image.specs.Blocks.{repeated}
 use Rattle.omf_image.proofs.CopySteps.{moves_then, moves_as, copy_end, copy_part, copies_more}

@@ -1,4 +1,4 @@
-use Rattle.std.proofs.Common.{◌≡◌, ◌≤◌, ◌-◌, length, drop}
+use Rattle.std.proofs.Common.{◌≤◌, ◌-◌, drop}
 use Rattle.omf_image.specs.Blocks.{repeated}
 use Rattle.omf_image.specs.Copying.{IsMoved}
 use Rattle.omf_image.proofs.expanding.Copier.repeat.Given as goal
