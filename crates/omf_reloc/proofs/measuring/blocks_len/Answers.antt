@@ -8,7 +8,6 @@ use Rattle.omf_image.specs.Limits.{profile_limits}
 use Rattle.omf_reloc.proofs.MeasureLaws.{by-width, never-err, length-is}
 use Rattle.omf_reloc.proofs.measuring.blocks_len.Goals as goal
 
-
 pub unreachable-requires : goal.unreachable-requires
 unreachable-requires c =
     let b = c.args.blocks in
