@@ -8,6 +8,8 @@ pub mod FarLaws
 pub mod JudgeLaws
 pub mod ReachedLaws
 pub mod DeriveLaws
+pub mod TakenLaws
+pub mod DerivedLaws
 pub mod AddedLaws
 pub mod CutLaws
 pub mod LineLaws

@@ -14,6 +14,7 @@ pub mod EntryReading
 pub mod PlacementText
 pub mod Parsing
 pub mod Derive
+pub mod Derivation
 pub mod Modules
 pub mod Rows
 pub mod Laws
