@@ -10,6 +10,7 @@ pub mod ReachedLaws
 pub mod DeriveLaws
 pub mod TakenLaws
 pub mod DerivedLaws
+pub mod TableLaws
 pub mod AddedLaws
 pub mod CutLaws
 pub mod LineLaws

@@ -15,6 +15,7 @@ pub mod PlacementText
 pub mod Parsing
 pub mod Derive
 pub mod Derivation
+pub mod PublicTable
 pub mod Modules
 pub mod Rows
 pub mod Laws

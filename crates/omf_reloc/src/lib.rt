@@ -13,6 +13,7 @@ pub mod laws;
 mod offset;
 mod placement;
 mod plain;
+mod publics;
 mod reaching;
 mod relocating;
 pub mod rows;
