@@ -11,6 +11,7 @@ pub mod DeriveLaws
 pub mod TakenLaws
 pub mod DerivedLaws
 pub mod TableLaws
+pub mod LinkageLaws
 pub mod AddedLaws
 pub mod CutLaws
 pub mod LineLaws

@@ -117,14 +117,17 @@ module _ (name : List ℕ) where
 
   cases-other : (p : PlacedPublic) (among : List PlacedPublic) → p.name ≢ name → Cases among → Cases (p ∷ among)
   cases-other p among e (inl n) = inl (All-cons (λ q. q.name ≢ name) p among e n)
-  cases-other p among e (inr (inl (q, h))) = inr (inl (q, record {
-    before = p ∷ h.before;
-    after = h.after;
-    all = ap (λ xs. p ∷ xs) h.all;
-    named = h.named;
-    none_before = All-cons (λ x. x.name ≢ name) p h.before e h.none_before;
-    none_after = h.none_after;
-  }))
+  cases-other p among e (inr (inl (q, h))) = inr (inl (
+    q,
+    record {
+      before = p ∷ h.before;
+      after = h.after;
+      all = ap (λ xs. p ∷ xs) h.all;
+      named = h.named;
+      none_before = All-cons (λ x. x.name ≢ name) p h.before e h.none_before;
+      none_after = h.none_after;
+    },
+  ))
   cases-other p among e (inr (inr h)) = inr (inr (record {
     before = p ∷ h.before;
     first = h.first;

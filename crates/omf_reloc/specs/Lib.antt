@@ -16,6 +16,7 @@ pub mod Parsing
 pub mod Derive
 pub mod Derivation
 pub mod PublicTable
+pub mod Deriving
 pub mod Modules
 pub mod Rows
 pub mod Laws
