@@ -10,6 +10,7 @@ pub mod ReachedLaws
 pub mod DeriveLaws
 pub mod TakenLaws
 pub mod DerivedLaws
+pub mod CompleteLaws
 pub mod TableLaws
 pub mod LinkageLaws
 pub mod AddedLaws

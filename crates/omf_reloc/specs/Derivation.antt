@@ -1,12 +1,15 @@
 -- Which place each external takes, and which external is the first at fault, in words. A law ties this to what is computed (Derive).
-use Rattle.std.specs.Prelude.{◌≡◌, ◌≢◌, ◌⊎◌, ◌↔◌, ℕ, ◌<◌, ◌≤◌, ◌^◌, All, List, ◌∷◌, ◌++◌, Ok, Err}
+use Rattle.std.specs.Prelude.{◌≡◌, ◌≢◌, ◌⊎◌, ◌↔◌, ℕ, ◌<◌, ◌≤◌, ◌^◌, All, List, ◌∷◌, ◌++◌, length, Some, Ok, Err}
 use Rattle.std.specs.List.{AllZip, enumerate_from}
-use Rattle.omf_check.specs.Tables.{externals}
+use Rattle.omf_check.specs.Tables.{segments, groups, externals}
 use Rattle.omf_reloc.specs.declared.fault.DeriveFault.{DeriveFault}
 use Rattle.omf_reloc.specs.declared.fault.DeriveFault.TheVariants as fault
+use Rattle.omf_reloc.specs.declared.fault.Kind.{Kind}
+use Rattle.omf_reloc.specs.declared.fault.ReachFault.TheVariants as reach
 use Rattle.omf_reloc.specs.declared.given.Given.{Given}
 use Rattle.omf_reloc.specs.Derive.{PlacedModule, PlacedPublic, all_publics, derived}
 use Rattle.omf_reloc.specs.Placement.{Places, Placed}
+use Rattle.omf_reloc.specs.Reach.{reach_fault}
 
 -- An entry is for external i of module j; none is; this one is the first that is.
 abbrev pub IsFor : ℕ → ℕ → Given → Type 0
@@ -119,3 +122,16 @@ IsFirstFault ms given f = IsFirstAmong (all_publics ms) given (enumerate_from 0 
 pub record DerivedIsTaken (ms : List PlacedModule) (given : List Given) : Type 0 where
   pub placements : (pls : List Places) → (derived ms given ≡ Ok pls) ↔ AreDerived ms given pls
   pub fault : (f : DeriveFault) → (derived ms given ≡ Err f) ↔ IsFirstFault ms given f
+
+-- The place of a module has an entry for each of its segments and groups, and no other.
+pub record IsPlaceOf (m : PlacedModule) : Type 0 where
+  pub segments : length m.1.segments ≡ length (segments m.0)
+  pub groups : length m.1.groups ≡ length (groups m.0)
+
+-- A placement is never refused because an entry is missing, or is one too many.
+pub record IsComplete (m : PlacedModule) (pl : Places) : Type 0 where
+  pub never_missing : (k : Kind) (i : ℕ) → reach_fault pl m.0 ≢ Some (reach.Missing k i)
+  pub never_extra : (k : Kind) (i : ℕ) → reach_fault pl m.0 ≢ Some (reach.Extra k i)
+
+abbrev pub DerivedAreComplete : Type 0
+DerivedAreComplete = (ms : List PlacedModule) (given : List Given) (pls : List Places) → All IsPlaceOf ms → derived ms given ≡ Ok pls → AllZip IsComplete ms pls

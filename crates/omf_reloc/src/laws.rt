@@ -5,7 +5,7 @@ ghost use Rattle.omf_image.specs.declared.limits.Limits.{Limits};
 ghost use Rattle.omf_records.specs.Values.{Rec};
 ghost use Rattle.omf_check.specs.Sound.{ModuleHolds};
 ghost use Rattle.omf_reloc.specs.declared.given.Given.{Given};
-ghost use Rattle.omf_reloc.specs.Derivation.{DerivedIsTaken};
+ghost use Rattle.omf_reloc.specs.Derivation.{DerivedIsTaken, DerivedAreComplete};
 ghost use Rattle.omf_reloc.specs.Derive.{PlacedModule};
 ghost use Rattle.omf_reloc.specs.Placement.{Places};
 ghost use Rattle.omf_reloc.specs.Reach.{Reaches};
@@ -48,6 +48,12 @@ pub fn derived_fit()
 /// has one.
 pub fn derived_is_taken()
     ensures { (ms : List PlacedModule) (given : List Given) → DerivedIsTaken ms given }
+{}
+
+/// Where each place has an entry for each segment and group of its module, and no other, no placement that is derived misses an entry
+/// or has one too many: whether it reaches is decided by its absolute segments and its references alone.
+pub fn derived_are_complete()
+    ensures { DerivedAreComplete }
 {}
 
 /// Where a placement reaches, no fixup of a data record is left out, and a start has its offset.
