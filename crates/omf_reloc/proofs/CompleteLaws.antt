@@ -71,9 +71,9 @@ module _ (m : PlacedModule) (pl : Places) (own : IsPlaceOf m) (kept : KeepsPlace
       let places = flat_map (λ s. misplaced pl s.0 s.1.absolute) (enumerate_from 1 (segments m.0)) in
       All-same IsOther (reach_faults pl m.0) (places ++ far_faults pl m.0)
       (dropped (missing kinds.Segment (length (segments m.0)) (length pl.segments)) (missing kinds.Group (length (groups m.0)) (length pl.groups)) (missing kinds.External (length (externals m.0)) (length pl.externals))
-        (extra kinds.Segment (length (segments m.0)) (length pl.segments)) (extra kinds.Group (length (groups m.0)) (length pl.groups)) (extra kinds.External (length (externals m.0)) (length pl.externals)) places (far_faults pl m.0)
-        (none-missing kinds.Segment _ _ segments-same) (none-missing kinds.Group _ _ groups-same) (none-missing kinds.External _ _ kept.external_count)
-        (none-extra kinds.Segment _ _ segments-same) (none-extra kinds.Group _ _ groups-same) (none-extra kinds.External _ _ kept.external_count))
+      (extra kinds.Segment (length (segments m.0)) (length pl.segments)) (extra kinds.Group (length (groups m.0)) (length pl.groups)) (extra kinds.External (length (externals m.0)) (length pl.externals)) places (far_faults pl m.0)
+      (none-missing kinds.Segment _ _ segments-same) (none-missing kinds.Group _ _ groups-same) (none-missing kinds.External _ _ kept.external_count)
+      (none-extra kinds.Segment _ _ segments-same) (none-extra kinds.Group _ _ groups-same) (none-extra kinds.External _ _ kept.external_count))
       (All-append IsOther places (far_faults pl m.0) (all-misplaced pl (enumerate_from 1 (segments m.0))) (all-far (zip (all_reference_places m.0) (causes pl (pieces m.0)))))
 
   complete : IsComplete m pl

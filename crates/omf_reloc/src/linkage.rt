@@ -91,3 +91,6 @@ pub fn derive(
     }
     Ok(placements)
 }
+
+#[cfg(test)]
+mod tests;
