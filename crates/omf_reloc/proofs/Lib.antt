@@ -12,6 +12,7 @@ pub mod TakenLaws
 pub mod DerivedLaws
 pub mod CompleteLaws
 pub mod TableLaws
+pub mod GivenLaws
 pub mod LinkageLaws
 pub mod AddedLaws
 pub mod CutLaws

@@ -1,7 +1,7 @@
 -- Externals of a module and modules, one after another, until one has no place.
-use Rattle.std.proofs.Common.{◌≡◌, ℕ, zero, suc, ◌+◌, ◌-◌, ◌≤◌, ◌<◌, List, [], ◌∷◌, ◌++◌, length, drop, refl, sym, ap, ap₂, ◌∙◌, subst, inl, inr, append-nil, append_assoc, arith}
-use Rattle.std.specs.Prelude.{◌⊎◌, map, flat_map, filter_map, slice_get, Option, Some, None, Result, Ok, Err}
-use Rattle.std.specs.List.{cons_option, enumerate_from}
+use Rattle.std.proofs.Common.{◌≡◌, ℕ, zero, suc, ◌+◌, ◌-◌, ◌≤◌, List, [], ◌∷◌, ◌++◌, length, drop, refl, sym, ap, ap₂, ◌∙◌, subst, inl, inr, append-nil, append_assoc, arith}
+use Rattle.std.specs.Prelude.{◌⊎◌, map, flat_map, filter_map, slice_get, Some, Result, Ok, Err}
+use Rattle.std.specs.List.{enumerate_from}
 use Rattle.std.proofs.Math.Seq.{drop-nil}
 use Rattle.std.proofs.lemmas.Option.{none-some, same_Some}
 use Rattle.omf_check.specs.Tables.{externals, entry}
@@ -9,7 +9,7 @@ use Rattle.omf_records.specs.Values.{Rec}
 use Rattle.omf_reloc.specs.declared.fault.DeriveFault.{DeriveFault}
 use Rattle.omf_reloc.specs.declared.fault.DeriveFault.TheVariants as fault
 use Rattle.omf_reloc.specs.declared.given.Given.{Given}
-use Rattle.omf_reloc.specs.Derive.{PlacedModule, PlacedPublic, all_publics, external_place, external_places, ok_of, err_of, derive_faults, with_externals, unless_fault, derived}
+use Rattle.omf_reloc.specs.Derive.{PlacedModule, PlacedPublic, external_place, external_places, ok_of, err_of, with_externals, unless_fault, derived}
 use Rattle.omf_reloc.specs.Deriving.{places_among, IsDerived, IsFound, IsFirstErr}
 use Rattle.omf_reloc.specs.Placement.{Places, Placed}
 use Rattle.omf_reloc.proofs.ReachLaws.{entry-suc}

@@ -1,12 +1,12 @@
 -- A table of publics grows public by public.
-use Rattle.std.proofs.Common.{◌≡◌, ℕ, zero, suc, ◌+◌, ◌*◌, ◌^◌, ◌<◌, ◌≤◌, true, false, Bool, List, [], ◌∷◌, ◌++◌, length, drop, get_or, refl, sym, ap, ap₂, ◌∙◌, subst, inl, inr, append-nil, append_assoc, arith, Bor, nat_cmp}
-use Rattle.std.specs.Prelude.{◌≢◌, ◌==◌, map, flat_map, filter_map, Option, Some, None, Ok, Err, unwrap_or, bytes_eq, cond, if◌then◌else◌}
+use Rattle.std.proofs.Common.{◌≡◌, ℕ, zero, suc, ◌+◌, ◌<◌, ◌≤◌, List, [], ◌∷◌, ◌++◌, length, drop, get_or, refl, sym, ap, ap₂, ◌∙◌, subst, inl, inr, append-nil, append_assoc, arith, Bor, nat_cmp}
+use Rattle.std.specs.Prelude.{◌≢◌, ◌==◌, flat_map, filter_map, Option, Some, None, bytes_eq, cond}
 use Rattle.std.proofs.Math.Seq.{drop-nil}
 use Rattle.std.specs.BTreeMap.{BTreeMap, get_by, is_at, UpdatesBy}
 use Rattle.std.specs.Cmp.Lexicographic.{slice_cmp}
 use Rattle.std.specs.List.{cons_option}
 use Rattle.std.specs.Map.{lookup}
-use Rattle.std.proofs.lemmas.Bool.{cond-true, cond-false, cases_Bool, false_from_ne_true, lt-ltb, le-ltb}
+use Rattle.std.proofs.lemmas.Bool.{cond-true, cond-false, cases_Bool, false_from_ne_true}
 use Rattle.std.proofs.lemmas.Bool.Decides.{not_from_Decides}
 use Rattle.std.proofs.lemmas.List.Elements.{filter_map-append}
 use Rattle.std.proofs.lemmas.Map.Text.{btree_map_updates_str}
@@ -18,13 +18,12 @@ use Rattle.omf_records.specs.Values.{Rec, Publics, PublicItems}
 use Rattle.omf_check.specs.Listed.{placed_from}
 use Rattle.omf_check.specs.Module.{Module, records_in}
 use Rattle.omf_check.specs.WellFormed.{recs}
-use Rattle.omf_reloc.specs.declared.fault.DeriveFault.TheVariants as fault
 use Rattle.omf_reloc.specs.declared.frame.Frame.{Frame}
 use Rattle.omf_reloc.specs.declared.publics.Found.{Found}
 use Rattle.omf_reloc.specs.declared.publics.Found.TheVariants.{One, Several}
-use Rattle.omf_reloc.specs.Derive.{PlacedPublic, base_address, base_frame, placed_publics, publics, of_name, one_public}
-use Rattle.omf_reloc.specs.Placement.{Places, Placed, placed, group_frame}
-use Rattle.omf_reloc.specs.PublicTable.{summed, IsTable, HasMore, public_at, publics_at, placed_modules, paragraph, base_of}
+use Rattle.omf_reloc.specs.Derive.{PlacedPublic, base_address, base_frame, placed_publics, publics, of_name}
+use Rattle.omf_reloc.specs.Placement.{Places, Placed}
+use Rattle.omf_reloc.specs.PublicTable.{summed, IsTable, HasMore, public_at, publics_at, placed_modules, base_of}
 
 -- What is found of a name after one more public of that name.
 abbrev pub found_after : Placed → Option Found → Found

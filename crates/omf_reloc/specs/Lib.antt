@@ -17,6 +17,7 @@ pub mod Derive
 pub mod Derivation
 pub mod PublicTable
 pub mod Deriving
+pub mod GivenTable
 pub mod Modules
 pub mod Rows
 pub mod Laws

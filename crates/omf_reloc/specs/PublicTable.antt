@@ -4,7 +4,7 @@ use Rattle.std.specs.Ordering.{nat_cmp}
 use Rattle.std.specs.BTreeMap.{BTreeMap, get_by}
 use Rattle.std.specs.Cmp.Lexicographic.{slice_cmp}
 use denote.Ref.{Bor}
-use Rattle.omf_records.specs.Values.{At, PublicItem, Rec}
+use Rattle.omf_records.specs.Values.{At, PublicItem}
 use Rattle.omf_check.specs.Module.{Module, records_in}
 use Rattle.omf_check.specs.WellFormed.{recs}
 use Rattle.omf_reloc.specs.declared.frame.Frame.{Frame}

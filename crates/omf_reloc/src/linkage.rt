@@ -4,40 +4,31 @@ ghost use Rattle.std.specs.Prelude.{◌≡◌, ◌<◌, ◌^◌, length, List};
 ghost use Rattle.omf_records.specs.Seen.{map_ok};
 ghost use Rattle.omf_check.specs.Module.{records_in};
 ghost use Rattle.omf_check.specs.WellFormed.{recs};
-ghost use Rattle.omf_reloc.specs.Derive.{PlacedPublic, given_place, external_place, derived};
+ghost use Rattle.omf_reloc.specs.declared.given.Given.{Given as Entry};
+ghost use Rattle.omf_reloc.specs.Derive.{PlacedPublic, external_place, derived};
+ghost use Rattle.omf_reloc.specs.GivenTable.{IsGivenTable};
 ghost use Rattle.omf_reloc.specs.Deriving.{IsDerived, IsFound, places_among};
 ghost use Rattle.omf_reloc.specs.PublicTable.{IsTable, placed_modules};
 
 use crate::fault::DeriveFault;
 use crate::frame::Placed;
-use crate::given::Given;
+use crate::given::{Given, GivenTable};
 use crate::placement::Placement;
 use crate::publics::PublicTable;
 use omf_check::Checked;
 use std::alloc::Global;
 
-/// The place that an external is first given.
-fn given_place(given: &[Given], module: u32, external: u16) -> Option<Placed>
-    ensures { result ≡ given_place given.now «module» external }
-{
-    let entry = given.iter().find(|entry| entry.module == module && entry.external == external)?;
-    Some(Placed {
-        address: entry.address,
-        frame: entry.frame,
-    })
-}
-
 /// The place of an external of this name: that which it is given, or else that of the one public of its name.
 fn external_place<'a>(
     table: &PublicTable<'a>,
-    given: &[Given],
+    given: &GivenTable,
     name: &'a [u8],
     module: u32,
     external: u16,
 ) -> Result<Placed, DeriveFault>
-    ensures { (among : List PlacedPublic) → IsTable table.now.by_name among → result ≡ external_place among given.now «module» external name.now }
+    ensures { (among : List PlacedPublic) (entries : List Entry) → IsTable table.now.by_name among → IsGivenTable given.now.by_external entries → result ≡ external_place among entries «module» external name.now }
 {
-    match given_place(given, module, external) {
+    match given.place_of(module, external) {
         Some(place) => Ok(place),
         None => table.place_of(name, module, external),
     }
@@ -47,11 +38,11 @@ fn external_place<'a>(
 fn external_places<'a>(
     alloc: Global,
     table: &PublicTable<'a>,
-    given: &[Given],
+    given: &GivenTable,
     module: &'a Checked,
     number: u32,
 ) -> Result<Vec<Placed>, DeriveFault>
-    ensures { (among : List PlacedPublic) → IsTable table.now.by_name among → IsFound (places_among among given.now number (recs (records_in «module».entry.now.bytes))) (map_ok (λ v. v.items) result) }
+    ensures { (among : List PlacedPublic) (entries : List Entry) → IsTable table.now.by_name among → IsGivenTable given.now.by_external entries → IsFound (places_among among entries number (recs (records_in «module».entry.now.bytes))) (map_ok (λ v. v.items) result) }
 {
     let mut places = Vec::new(alloc);
     for i in 1..module.externals() + 1 {
@@ -82,10 +73,11 @@ pub fn derive(
     ensures { IsDerived (derived (placed_modules modules.now places.now) given.now) (map_ok (λ v. v.items) result) }
 {
     let table = PublicTable::of(alloc, modules, places)?;
+    let first_given = GivenTable::of(alloc, given)?;
     let mut placements = Vec::new(alloc);
     for (j, module) in modules.iter().enumerate() {
         let place = &places[j];
-        let externals = external_places(alloc, &table, given, module, j as u32)?;
+        let externals = external_places(alloc, &table, &first_given, module, j as u32)?;
         let placement = place.with_externals(externals)?;
         placements.push(placement)?;
     }

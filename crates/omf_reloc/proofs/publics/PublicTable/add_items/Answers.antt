@@ -1,5 +1,4 @@
-use Rattle.std.proofs.Common.{◌≡◌, ◌∙◌, ◌+◌, ◌∷◌, [], ap, sym}
-use Rattle.omf_reloc.specs.Derive.{PlacedPublic}
+use Rattle.std.proofs.Common.{◌+◌, ◌∷◌, [], ap}
 use Rattle.omf_reloc.specs.PublicTable.{public_at, publics_at}
 use Rattle.omf_reloc.proofs.TableLaws.{fill-start, same-public, fill-more, fill-end}
 use Rattle.omf_reloc.proofs.publics.PublicTable.add_items.Goals as goal

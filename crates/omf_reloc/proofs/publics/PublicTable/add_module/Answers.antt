@@ -1,4 +1,4 @@
-use Rattle.std.proofs.Common.{◌≡◌, ◌∙◌, ap, sym}
+use Rattle.std.proofs.Common.{◌∙◌, ap}
 use Rattle.omf_check.specs.Module.{records_in}
 use Rattle.omf_records.specs.Seen.{contents_seen}
 use Rattle.omf_reloc.specs.Derive.{placed_publics}

@@ -1,7 +1,7 @@
 use Rattle.std.proofs.Common.{◌≡◌, ◌∙◌, ap, rules, sym, subst}
 use Rattle.std.specs.Prelude.{OnOk}
 use Rattle.omf_records.specs.Seen.{contents_seen}
-use Rattle.omf_records.specs.Values.{PublicItems, Publics}
+use Rattle.omf_records.specs.Values.{PublicItems}
 use Rattle.omf_reloc.specs.Derive.{placed_publics}
 use Rattle.omf_reloc.specs.PublicTable.{HasMore, publics_at, base_of}
 use Rattle.omf_reloc.proofs.TableLaws.{publics-placed}
