@@ -1,25 +1,23 @@
 -- No entry of a derived placement is missing or one too many.
-use Rattle.std.proofs.Common.{◌≡◌, ℕ, ◌+◌, true, false, List, [], ◌∷◌, ◌++◌, length, refl, sym, ap, ◌∙◌, subst, inl, inr, arith}
-use Rattle.std.specs.Prelude.{◌≢◌, All, flat_map, filter_map, zip, slice_get, nat_lt, cond, Bool, Option, Some, None, Ok, ⊤}
+use Rattle.std.proofs.Common.{◌≡◌, ℕ, ◌+◌, true, false, List, [], ◌∷◌, ◌++◌, length, refl, ap, ◌∙◌, subst, arith}
+use Rattle.std.specs.Prelude.{All, flat_map, filter_map, zip, slice_get, cond, Bool, Option, Some, None, ⊤}
 use Rattle.std.specs.List.{AllZip, enumerate_from}
 use Rattle.std.proofs.lemmas.Bool.{le-ltb}
 use Rattle.std.proofs.lemmas.List.Elements.{All-nil, All-cons, All-head, All-tail, All-append, All-same}
 use Rattle.std.proofs.lemmas.Option.{none-some, same_Some}
 use Rattle.omf_check.specs.Tables.{segments, groups, externals}
 use Rattle.omf_check.specs.declared.segment.SegInfo.{SegInfo}
-use Rattle.omf_records.specs.Values.{Rec}
 use Rattle.omf_reloc.specs.declared.fault.Cause.{Cause}
 use Rattle.omf_reloc.specs.declared.fault.Kind.{Kind}
 use Rattle.omf_reloc.specs.declared.fault.Kind.TheVariants as kinds
 use Rattle.omf_reloc.specs.declared.fault.ReachFault.{ReachFault}
 use Rattle.omf_reloc.specs.declared.fault.ReachFault.TheVariants as fault
-use Rattle.omf_reloc.specs.declared.given.Given.{Given}
 use Rattle.omf_reloc.specs.Derivation.{IsPlaceOf, IsComplete, DerivedAreComplete}
-use Rattle.omf_reloc.specs.Derive.{PlacedModule, derived}
+use Rattle.omf_reloc.specs.Derive.{PlacedModule}
 use Rattle.omf_reloc.specs.Laws.{KeepsPlace}
 use Rattle.omf_reloc.specs.Placement.{Places, placed, absolute_place}
 use Rattle.omf_reloc.specs.Plain.{pieces}
-use Rattle.omf_reloc.specs.Reach.{missing, extra, misplaced, lies_at, causes, all_reference_places, far_fault, far_faults, reach_faults, reach_fault}
+use Rattle.omf_reloc.specs.Reach.{missing, extra, misplaced, lies_at, causes, all_reference_places, far_fault, far_faults, reach_faults}
 use Rattle.omf_reloc.proofs.DeriveLaws.{derived-fit}
 
 -- Faults that speak of no entry's lack.
