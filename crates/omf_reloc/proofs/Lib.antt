@@ -8,6 +8,12 @@ pub mod FarLaws
 pub mod JudgeLaws
 pub mod ReachedLaws
 pub mod DeriveLaws
+pub mod TakenLaws
+pub mod DerivedLaws
+pub mod CompleteLaws
+pub mod TableLaws
+pub mod GivenLaws
+pub mod LinkageLaws
 pub mod AddedLaws
 pub mod CutLaws
 pub mod LineLaws

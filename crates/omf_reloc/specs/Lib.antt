@@ -15,6 +15,10 @@ pub mod EntryReading
 pub mod PlacementText
 pub mod Parsing
 pub mod Derive
+pub mod Derivation
+pub mod PublicTable
+pub mod Deriving
+pub mod GivenTable
 pub mod Modules
 pub mod Rows
 pub mod Laws

@@ -119,3 +119,25 @@ pub enum DeriveFault {
         external: u16,
     },
 }
+
+impl From<AllocError> for DeriveFault {
+    ghost use Rattle.std.specs.Prelude.{◌≡◌};
+    ghost use Rattle.omf_reloc.specs.declared.fault.DeriveFault.TheVariants.{Memory};
+
+    ghost from_gives = { λ _ e. e ≡ Memory };
+
+    fn from(_error: AllocError) -> Self {
+        DeriveFault::Memory
+    }
+}
+
+impl<T: Drop> From<AllocFailed<T>> for DeriveFault {
+    ghost use Rattle.std.specs.Prelude.{◌≡◌};
+    ghost use Rattle.omf_reloc.specs.declared.fault.DeriveFault.TheVariants.{Memory};
+
+    ghost from_gives = { λ _ e. e ≡ Memory };
+
+    fn from(_error: AllocFailed<T>) -> Self {
+        DeriveFault::Memory
+    }
+}

@@ -4,6 +4,9 @@ ghost use Rattle.std.specs.Prelude.{List};
 ghost use Rattle.omf_image.specs.declared.limits.Limits.{Limits};
 ghost use Rattle.omf_records.specs.Values.{Rec};
 ghost use Rattle.omf_check.specs.Sound.{ModuleHolds};
+ghost use Rattle.omf_reloc.specs.declared.given.Given.{Given};
+ghost use Rattle.omf_reloc.specs.Derivation.{DerivedIsTaken, DerivedAreComplete};
+ghost use Rattle.omf_reloc.specs.Derive.{PlacedModule};
 ghost use Rattle.omf_reloc.specs.Placement.{Places};
 ghost use Rattle.omf_reloc.specs.Reach.{Reaches};
 ghost use Rattle.omf_reloc.specs.Laws.{PatchesStayInside, EntriesAreRead, ReachIsDecided, FaultsAreWalked, DerivedFit, AllAreAdded, GroupsTakeTheLowest};
@@ -38,6 +41,19 @@ pub fn faults_are_walked()
 /// A derived placement has its module's segments and groups where they were placed, and an entry for each external.
 pub fn derived_fit()
     ensures { DerivedFit }
+{}
+
+/// The placements that are derived of modules are those in which each external takes the place that is first given it, or else that of
+/// the one public of its name; and where an external takes none, its fault is named, of the first such external of the first module that
+/// has one.
+pub fn derived_is_taken()
+    ensures { (ms : List PlacedModule) (given : List Given) → DerivedIsTaken ms given }
+{}
+
+/// Where each place has an entry for each segment and group of its module, and no other, no placement that is derived misses an entry
+/// or has one too many: whether it reaches is decided by its absolute segments and its references alone.
+pub fn derived_are_complete()
+    ensures { DerivedAreComplete }
 {}
 
 /// Where a placement reaches, no fixup of a data record is left out, and a start has its offset.

@@ -1,6 +1,6 @@
 //! Placements.
 
-ghost use Rattle.std.specs.Prelude.{◌≡◌, ◌++◌, [], ◌∷◌, true, length, OnOk, OnErr, option_map};
+ghost use Rattle.std.specs.Prelude.{◌≡◌, ◌++◌, [], ◌∷◌, true, length, OnOk, OnErr, IfOk, option_map};
 ghost use Rattle.omf_check.specs.Tables.{entry as entry_of, is_defined};
 
 use crate::frame::{Frame, Placed};
@@ -54,6 +54,17 @@ impl Placement {
             groups,
             externals,
         }
+    }
+
+    /// This placement with other externals.
+    pub(crate) fn with_externals(&self, externals: Vec<Placed>) -> Result<Self, AllocError>
+        ensures { IfOk result (λ p. p ≡ record self.now { externals = externals.items }) }
+    {
+        Ok(Placement {
+            segments: self.segments.clone()?,
+            groups: self.groups.clone()?,
+            externals,
+        })
     }
 
     /// The entries of the segments.
