@@ -1,3 +1,4 @@
 pub mod SkeletonLaws
 pub mod CutLaws
 pub mod ReachLaws
+pub mod JoinLaws

@@ -5,13 +5,14 @@ use Rattle.omf_image.specs.declared.limits.Limits.{Limits}
 use Rattle.omf_records.specs.Values.{Rec}
 use Rattle.omf_reloc.specs.declared.fault.ReachFault.{ReachFault}
 use Rattle.omf_reloc.specs.declared.fault.ReachFault.TheVariants as fault
-use Rattle.omf_reloc.specs.Plain.{Fixed, PlainFixup, pieces}
+use Rattle.omf_reloc.specs.Plain.{Piece, Fixed, PlainFixup, pieces}
 use Rattle.omf_reloc.specs.Placement.{Places}
 use Rattle.omf_reloc.specs.Reach.{causes, reach_fault}
 use Rattle.omf_reloc.specs.Image.{image, start}
 use Rattle.omf_canon.specs.Canonical.{piece_raws}
 use Rattle.omf_canon.specs.Cut.{IsGreedyCut, cut}
-use Rattle.omf_canon.specs.Skeleton.{skeleton}
+use Rattle.omf_canon.specs.Joined.{IsJoined, cut_pieces}
+use Rattle.omf_canon.specs.Skeleton.{skeleton_of, skeleton}
 
 -- What reach answers, but for where a reference stands that does not.
 abbrev pub placeless : ReachFault → ReachFault
@@ -39,3 +40,11 @@ CutsAreGreedy = (kind : ℕ) (fixups : List PlainFixup) (groups : List (List Pla
 -- Each canonical FIXUPP has at most 1,024 bytes in all.
 abbrev pub FixuppsFit : Type 0
 FixuppsFit = (kind : ℕ) (fixups : List PlainFixup) → All (λ r. length (raw_bytes r) ≤ 1024) (piece_raws (Fixed kind fixups))
+
+-- The FIXUPPs of a skeleton are joined.
+abbrev pub SkeletonsAreJoined : Type 0
+SkeletonsAreJoined = (ps : List Piece) → IsJoined (skeleton_of ps)
+
+-- Pieces that are joined are the skeleton of what they are cut into.
+abbrev pub CutsAreJoined : Type 0
+CutsAreJoined = (ps : List Piece) → IsJoined ps → skeleton_of (cut_pieces ps) ≡ ps

@@ -2,4 +2,5 @@ pub mod Skeleton
 pub mod PlainBytes
 pub mod Cut
 pub mod Canonical
+pub mod Joined
 pub mod Laws

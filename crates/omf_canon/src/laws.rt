@@ -1,6 +1,6 @@
 //! Laws over the definitions, each the contract of a function that does nothing.
 
-ghost use Rattle.omf_canon.specs.Laws.{EqualSkeletons, CutsAreGreedy, FixuppsFit};
+ghost use Rattle.omf_canon.specs.Laws.{EqualSkeletons, CutsAreGreedy, FixuppsFit, SkeletonsAreJoined, CutsAreJoined};
 
 use omf_reloc::laws::reach_is_decided;
 
@@ -19,4 +19,14 @@ pub fn cuts_are_greedy()
 /// Each canonical FIXUPP has at most 1,024 bytes.
 pub fn fixupps_fit()
     ensures { FixuppsFit }
+{}
+
+/// In a skeleton each FIXUPP has a fixup, and two that are adjacent differ in type.
+pub fn skeletons_are_joined()
+    ensures { SkeletonsAreJoined }
+{}
+
+/// Joined pieces are the skeleton of what they are cut into.
+pub fn cuts_are_joined()
+    ensures { CutsAreJoined }
 {}
