@@ -1,8 +1,9 @@
 -- Laws over the definitions, each the contract of a function of the same name.
-use Rattle.std.specs.Prelude.{◌≡◌, ◌↔◌, ℕ, ◌≤◌, List, Option, option_map, length, All}
+use Rattle.std.specs.Prelude.{◌≡◌, ◌↔◌, ℕ, ◌≤◌, List, Option, option_map, length, sum_by, All}
 use Rattle.omf_frame.specs.Framing.{raw_bytes}
 use Rattle.omf_image.specs.declared.limits.Limits.{Limits}
 use Rattle.omf_records.specs.Values.{Rec}
+use Rattle.omf_check.specs.Tables.{item_count}
 use Rattle.omf_reloc.specs.declared.fault.ReachFault.{ReachFault}
 use Rattle.omf_reloc.specs.declared.fault.ReachFault.TheVariants as fault
 use Rattle.omf_reloc.specs.Plain.{Piece, Fixed, PlainFixup, pieces}
@@ -11,7 +12,7 @@ use Rattle.omf_reloc.specs.Reach.{causes, reach_fault}
 use Rattle.omf_reloc.specs.Image.{image, start}
 use Rattle.omf_canon.specs.Canonical.{piece_raws}
 use Rattle.omf_canon.specs.Cut.{IsGreedyCut, cut}
-use Rattle.omf_canon.specs.Joined.{IsJoined, cut_pieces}
+use Rattle.omf_canon.specs.Joined.{IsJoined, cut_pieces, piece_items}
 use Rattle.omf_canon.specs.Skeleton.{skeleton_of, skeleton}
 
 -- What reach answers, but for where a reference stands that does not.
@@ -48,3 +49,7 @@ SkeletonsAreJoined = (ps : List Piece) → IsJoined (skeleton_of ps)
 -- Pieces that are joined are the skeleton of what they are cut into.
 abbrev pub CutsAreJoined : Type 0
 CutsAreJoined = (ps : List Piece) → IsJoined ps → skeleton_of (cut_pieces ps) ≡ ps
+
+-- What the skeleton of a module is cut into has no more items than the module.
+abbrev pub CutsAreNotMore : Type 0
+CutsAreNotMore = (m : List Rec) → sum_by piece_items (cut_pieces (skeleton m)) ≤ item_count m

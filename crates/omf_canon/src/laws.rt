@@ -1,6 +1,6 @@
 //! Laws over the definitions, each the contract of a function that does nothing.
 
-ghost use Rattle.omf_canon.specs.Laws.{EqualSkeletons, CutsAreGreedy, FixuppsFit, SkeletonsAreJoined, CutsAreJoined};
+ghost use Rattle.omf_canon.specs.Laws.{EqualSkeletons, CutsAreGreedy, FixuppsFit, SkeletonsAreJoined, CutsAreJoined, CutsAreNotMore};
 
 use omf_reloc::laws::reach_is_decided;
 
@@ -29,4 +29,9 @@ pub fn skeletons_are_joined()
 /// Joined pieces are the skeleton of what they are cut into.
 pub fn cuts_are_joined()
     ensures { CutsAreJoined }
+{}
+
+/// The cut of a module's skeleton has no more items than the module.
+pub fn cuts_are_not_more()
+    ensures { CutsAreNotMore }
 {}
