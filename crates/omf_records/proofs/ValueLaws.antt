@@ -1,6 +1,6 @@
 -- References from their values: what can be written is read again, and what is read can be written.
-use Rattle.std.proofs.Common.{◌≡◌, ℕ, zero, suc, ◌+◌, ◌-◌, ◌*◌, ◌/◌, ◌%◌, ◌^◌, ◌<◌, ◌≤◌, ◌⊎◌, inl, inr, Bool, true, false, cond, List, [], ◌∷◌, ◌++◌, length, map, flat_map, Option, Some, None, refl, sym, ap, subst, ◌∙◌, arith}
-use Rattle.std.specs.Prelude.{option_map, ◌==◌, not, nat_lt, All, ⊤}
+use Rattle.std.proofs.Common.{◌≡◌, ℕ, ◌+◌, ◌*◌, ◌/◌, ◌%◌, ◌^◌, ◌<◌, ◌≤◌, ◌⊎◌, inl, inr, Bool, true, false, cond, List, [], ◌∷◌, ◌++◌, length, map, flat_map, Option, Some, None, refl, sym, ap, subst, ◌∙◌, arith}
+use Rattle.std.specs.Prelude.{option_map, ◌==◌, not, nat_lt, All}
 use Rattle.std.proofs.lemmas.Bool.{eqb-true, lt-ltb, le-ltb, or_cases}
 use Rattle.std.proofs.lemmas.List.{append-nil}
 use Rattle.std.proofs.lemmas.List.Elements.{All-nil, All-cons, All-head, All-tail}
@@ -9,14 +9,14 @@ use Rattle.omf_frame.specs.Bytes.{AreBytes, is_one_of}
 use Rattle.omf_frame.specs.Framing.{is_header, is_end}
 use Rattle.omf_frame.specs.Fields.{IsIndex, index_bytes}
 use Rattle.omf_frame.specs.FieldLaws.{little_spelled, little_fits, index_spelled, are_bytes_cons}
-use Rattle.omf_records.specs.Values.{At, nowhere, unplaced, Rec, Contents, Header, Comment, Names, Segment, Group, Externs, Publics, Communals, Plain, Iterated, Fixups, ModEnd, Carried, Reference, Subrecord, Thread, Fixup, is_wide, width, alignment, thread_method, has_frame_datum, has_target_datum, has_no_displacement, has_start, reference_alone, subrecord_alone, contents_alone, alone}
+use Rattle.omf_records.specs.Values.{At, nowhere, unplaced, Rec, Contents, Header, Comment, Names, Segment, Group, Externs, Publics, Communals, Plain, Iterated, Fixups, ModEnd, Carried, Reference, Subrecord, Thread, Fixup, is_wide, width, thread_method, has_frame_datum, has_target_datum, has_no_displacement, has_start, reference_alone, subrecord_alone, alone}
 use Rattle.omf_records.specs.Shortest.{option_bytes, datum_bytes, reference_bytes, subrecord_bytes, contents_bytes}
-use Rattle.omf_records.specs.Layout.{Layout, ◌>>=◌, ends, many, index, name, byte, le, number_of, checked, placed, called, choose, when, either, rest}
-use Rattle.omf_records.specs.Entries.{wrong_methods, wrong_head, member, external, public_item, communal, reference, thread, fixup, subrecord}
-use Rattle.omf_records.specs.Records.{header, comment, names, absolute, wrong_alignment, wrong_size, segment, group, externs, publics, communals, data_item, fixups, mod_end, carried, contents, IsTyped}
+use Rattle.omf_records.specs.Layout.{Layout, many, index, number_of, placed, called, when, either}
+use Rattle.omf_records.specs.Entries.{reference, thread, fixup, subrecord}
+use Rattle.omf_records.specs.Records.{header, comment, names, segment, group, externs, publics, communals, data_item, fixups, mod_end, carried, contents, IsTyped}
 use Rattle.omf_records.specs.Steps.{AreBytes-none}
 use Rattle.omf_records.specs.Laws.{ValuesAreTyped, TypedHaveValues}
-use Rattle.omf_records.specs.Valued.{IsThere, IsIndexValue, IsReferenceValue, IsThreadValue, IsFixupValue, IsSubrecordValue, is_fixupp, AreFixupValues, IsEndValue, AreReferenceValues, HaveReferenceValues}
+use Rattle.omf_records.specs.Valued.{IsThere, IsIndexValue, IsReferenceValue, IsSubrecordValue, is_fixupp, AreReferenceValues, HaveReferenceValues}
 use Rattle.omf_records.proofs.Shorter.{are_bytes_append, index_fits}
 use Rattle.omf_records.proofs.Recast.{alone_same}
 
