@@ -3,3 +3,7 @@ pub mod CutLaws
 pub mod ReachLaws
 pub mod JoinLaws
 pub mod CountLaws
+pub mod UnthreadedLaws
+pub mod AloneLaws
+pub mod PlainValueLaws
+pub mod SpelledLaws

@@ -1,16 +1,20 @@
 -- Laws over the definitions, each the contract of a function of the same name.
 use Rattle.std.specs.Prelude.{◌≡◌, ◌↔◌, ℕ, ◌≤◌, List, Option, option_map, length, sum_by, All}
-use Rattle.omf_frame.specs.Framing.{raw_bytes}
+use Rattle.omf_frame.specs.Framing.{Raw, raw_bytes}
 use Rattle.omf_image.specs.declared.limits.Limits.{Limits}
 use Rattle.omf_records.specs.Values.{Rec}
+use Rattle.omf_records.specs.Reading.{typed}
+use Rattle.omf_records.specs.Records.{IsTyped}
 use Rattle.omf_check.specs.Tables.{item_count}
+use Rattle.omf_check.specs.WellFormed.{IsWellFormed, recs}
+use Rattle.omf_check.specs.declared.profile.Profile.{Profile}
 use Rattle.omf_reloc.specs.declared.fault.ReachFault.{ReachFault}
 use Rattle.omf_reloc.specs.declared.fault.ReachFault.TheVariants as fault
 use Rattle.omf_reloc.specs.Plain.{Piece, Fixed, PlainFixup, pieces}
 use Rattle.omf_reloc.specs.Placement.{Places}
 use Rattle.omf_reloc.specs.Reach.{causes, reach_fault}
 use Rattle.omf_reloc.specs.Image.{image, start}
-use Rattle.omf_canon.specs.Canonical.{piece_raws}
+use Rattle.omf_canon.specs.Canonical.{piece_raws, canonical_raws}
 use Rattle.omf_canon.specs.Cut.{IsGreedyCut, cut}
 use Rattle.omf_canon.specs.Joined.{IsJoined, cut_pieces, piece_items}
 use Rattle.omf_canon.specs.Skeleton.{skeleton_of, skeleton}
@@ -53,3 +57,12 @@ CutsAreJoined = (ps : List Piece) → IsJoined ps → skeleton_of (cut_pieces ps
 -- What the skeleton of a module is cut into has no more items than the module.
 abbrev pub CutsAreNotMore : Type 0
 CutsAreNotMore = (m : List Rec) → sum_by piece_items (cut_pieces (skeleton m)) ≤ item_count m
+
+-- The canonical records of a well-formed module spell the pieces that its skeleton is cut into, and so they have its skeleton.
+pub record CanonicalHolds (records : List Raw) : Type 0 where
+  pub typed : All (λ r. IsTyped (typed r) r.body) (canonical_raws (skeleton (recs records)))
+  pub pieces : pieces (recs (canonical_raws (skeleton (recs records)))) ≡ cut_pieces (skeleton (recs records))
+  pub skeleton : skeleton (recs (canonical_raws (skeleton (recs records)))) ≡ skeleton (recs records)
+
+abbrev pub CanonicalsHold : Type 0
+CanonicalsHold = (profile : Profile) (limits : Limits) (bytes : List ℕ) (records : List Raw) → IsWellFormed profile limits bytes records → CanonicalHolds records

@@ -2,5 +2,6 @@ pub mod Skeleton
 pub mod PlainBytes
 pub mod Cut
 pub mod Canonical
+pub mod Unthreaded
 pub mod Joined
 pub mod Laws

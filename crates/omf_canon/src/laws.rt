@@ -1,7 +1,8 @@
 //! Laws over the definitions, each the contract of a function that does nothing.
 
-ghost use Rattle.omf_canon.specs.Laws.{EqualSkeletons, CutsAreGreedy, FixuppsFit, SkeletonsAreJoined, CutsAreJoined, CutsAreNotMore};
+ghost use Rattle.omf_canon.specs.Laws.{EqualSkeletons, CutsAreGreedy, FixuppsFit, SkeletonsAreJoined, CutsAreJoined, CutsAreNotMore, CanonicalsHold};
 
+use omf_records::laws::{contents_are_typed_once, places_do_not_count, shortest_contents_are_typed, typed_have_values, values_are_typed};
 use omf_reloc::laws::reach_is_decided;
 
 /// Modules of equal skeletons have the same image and start at every placement, and their fixups reach or not for the same causes.
@@ -35,3 +36,14 @@ pub fn cuts_are_joined()
 pub fn cuts_are_not_more()
     ensures { CutsAreNotMore }
 {}
+
+/// Canonical records spell the cut of the skeleton that they are made of, and have that skeleton.
+pub fn canonicals_hold()
+    ensures { CanonicalsHold }
+{
+    contents_are_typed_once();
+    shortest_contents_are_typed();
+    values_are_typed();
+    typed_have_values();
+    places_do_not_count();
+}
