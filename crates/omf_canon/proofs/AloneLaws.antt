@@ -1,6 +1,6 @@
 -- The piece of a record does not depend on places.
 use Rattle.std.proofs.Common.{◌≡◌, ℕ, List, [], ◌∷◌, ◌++◌, refl, sym, ◌∙◌, ap, ap₂, Bool, true, false, cond, Option, Some, None}
-use Rattle.std.specs.Prelude.{map, filter_map, option_map, unwrap_or, ◌==◌, ◌&&◌}
+use Rattle.std.specs.Prelude.{map, filter_map, option_map, unwrap_or, ◌==◌, ◌&&◌, ⊤}
 use Rattle.std.specs.List.{cons_option}
 use Rattle.std.proofs.lemmas.List.Elements.{filter_map-append}
 use Rattle.omf_frame.specs.Bytes.{with_before, last}
@@ -84,3 +84,57 @@ same-piece earlier r s e =
     piece-alone earlier r.kind r.contents
     ∙ ap (λ (x : Rec). piece_of earlier x.kind x.contents) e
     ∙ sym (piece-alone earlier s.kind s.contents)
+
+-- Places that are gone are gone.
+twice-option : (o : Option (At ℕ)) → option_map unplaced o ≡ option_map unplaced (option_map unplaced o)
+twice-option None = refl
+twice-option (Some a) = refl
+
+twice-reference : (r : Reference) → reference_alone r ≡ reference_alone (reference_alone r)
+twice-reference r = ap₂ (λ (x y : Option (At ℕ)). record { fix = unplaced r.fix; frame = x; target = y; displacement = r.displacement }) (twice-option r.frame) (twice-option r.target)
+
+twice-subrecord : (s : Subrecord) → subrecord_alone s ≡ subrecord_alone (subrecord_alone s)
+twice-subrecord (Thread byte datum) = ap (λ x. Thread byte x) (twice-option datum)
+twice-subrecord (Fixup locat r) = ap (λ x. Fixup locat x) (twice-reference r)
+
+twice-subrecords : (xs : List (At Subrecord)) → map (λ s. nowhere (subrecord_alone s.item)) xs ≡ map (λ s. nowhere (subrecord_alone s.item)) (map (λ s. nowhere (subrecord_alone s.item)) xs)
+twice-subrecords [] = refl
+twice-subrecords (x ∷ xs) = ap₂ (λ y t. nowhere y ∷ t) (twice-subrecord x.item) (twice-subrecords xs)
+
+twice-start : (o : Option Reference) → option_map reference_alone o ≡ option_map reference_alone (option_map reference_alone o)
+twice-start None = refl
+twice-start (Some r) = ap (λ x. Some x) (twice-reference r)
+
+pub twice-contents : (c : Contents) → contents_alone c ≡ contents_alone (contents_alone c)
+twice-contents (Fixups subs) = ap (λ x. Fixups x) (twice-subrecords subs)
+twice-contents (ModEnd byte start) = ap (λ x. ModEnd byte x) (twice-start start)
+twice-contents (Header x) = refl
+twice-contents (Comment x y z) = refl
+twice-contents (Names xs) = ap (λ t. Names t) (twice xs)
+twice-contents (Segment s) = refl
+twice-contents (Group g) = ap (λ (t : List (At (At ℕ))). Group (record { name = unplaced g.name; members = t })) (twice-members g.members)
+twice-contents (Externs xs) = ap (λ t. Externs t) (twice xs)
+twice-contents (Publics p) = ap (λ t. Publics (record { group = unplaced p.group; segment = unplaced p.segment; frame = p.frame; items = t })) (twice p.items)
+twice-contents (Communals xs) = ap (λ t. Communals t) (twice xs)
+twice-contents (Plain d) = refl
+twice-contents (Iterated d) = refl
+twice-contents (Carried x) = refl
+
+pub twice-alone : (r : Rec) → alone r ≡ alone (alone r)
+twice-alone r = ap (λ (x : Contents). record { kind = r.kind; contents = x }) (twice-contents r.contents)
+
+-- Contents that are no references.
+abbrev pub IsOther : Contents → Type 0
+IsOther (Fixups subs) = ⊥
+IsOther (ModEnd byte start) = ⊥
+IsOther _ = ⊤
+
+pub other-alone : (c : Contents) → IsOther c → IsOther (contents_alone c)
+other-alone (Fixups subs) h = h
+other-alone (ModEnd byte start) h = h
+other-alone _ h = tt
+
+pub alone-other : (c : Contents) → IsOther (contents_alone c) → IsOther c
+alone-other (Fixups subs) h = h
+alone-other (ModEnd byte start) h = h
+alone-other _ h = tt

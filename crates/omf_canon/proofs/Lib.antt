@@ -7,3 +7,4 @@ pub mod UnthreadedLaws
 pub mod AloneLaws
 pub mod PlainValueLaws
 pub mod SpelledLaws
+pub mod RulesLaws

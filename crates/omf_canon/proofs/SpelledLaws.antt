@@ -26,7 +26,7 @@ use Rattle.byteorder.specs.Endian.{little_bytes}
 use Rattle.omf_canon.specs.PlainBytes.{frame_datum, target_datum, fixup_bytes, plain_reference_bytes, start_bytes}
 use Rattle.omf_canon.specs.Skeleton.{join_front, skeleton_of, skeleton}
 use Rattle.omf_canon.specs.Unthreaded.{unthreaded, unthreaded_fixup}
-use Rattle.omf_canon.proofs.AloneLaws.{same-piece}
+use Rattle.omf_canon.proofs.AloneLaws.{same-piece, twice-alone, IsOther}
 use Rattle.omf_canon.proofs.CutLaws.{cut-greedy, length-group, length-frame_datum, length-target_datum, length-displacement}
 use Rattle.omf_canon.proofs.JoinLaws.{skeleton-joined, cut-joined}
 use Rattle.omf_canon.proofs.PlainValueLaws.{Each, each-append, each-front, each-back, AreSmall, small-all, plain-value, fixups-value}
@@ -39,6 +39,7 @@ pub record IsKeptFrom (r : Rec) : Type 0 where
   pub is_typed : IsTyped source body
   pub short : length body + 1 < 65536
   pub same : alone source ≡ r
+  pub other : IsOther source.contents
   pub kept : (earlier : List Subrecord) → piece_of earlier source.kind source.contents ≡ Kept r
 
 abbrev pub IsStart : ℕ → ℕ → Option PlainReference → Type 0
@@ -56,11 +57,18 @@ piece_kind (Kept r) = r.kind
 piece_kind (Fixed kind fs) = kind
 piece_kind (End kind byte start) = kind
 
+-- A typed record of a piece.
+abbrev pub rec_of : Piece → Rec
+rec_of (Kept r) = r
+rec_of (Fixed kind fs) = record { kind = kind; contents = Fixups (map (λ f. nowhere (unthreaded_fixup f)) fs) }
+rec_of (End kind byte start) = record { kind = kind; contents = ModEnd byte (option_map (unthreaded false) start) }
+
 -- A record that spells a piece.
 pub record Spells (p : Piece) (raw : Raw) : Type 0 where
   pub is_typed : IsTyped (typed raw) raw.body
   pub piece : (earlier : List Subrecord) → piece_of earlier raw.kind (typed raw).contents ≡ p
   pub kind : raw.kind ≡ piece_kind p
+  pub same : alone (typed raw) ≡ alone (rec_of p)
   pub short : length raw.body + 1 < 65536
   pub summed : raw ≡ raw_of raw.kind raw.body
 
@@ -124,13 +132,14 @@ each-groups P (g ∷ gs) h = (each-front P g (flat_map (λ k. k) gs) h, each-gro
 
 module _ (once : AreTyped) (shortest : ShortestAreTyped) (values : ValuesAreTyped) (have : TypedHaveValues) (placeless : PlacesDoNotCount) where
   spells-of : (p : Piece) (s : Rec) (kind : ℕ) (body : List ℕ) → s.kind ≡ kind → IsTyped s body → ((earlier : List Subrecord) → piece_of earlier s.kind s.contents ≡ p)
-      → kind ≡ piece_kind p → length body + 1 < 65536 → Spells p (raw_of kind body)
-  spells-of p s kind body k t h same short =
+      → kind ≡ piece_kind p → alone s ≡ alone (rec_of p) → length body + 1 < 65536 → Spells p (raw_of kind body)
+  spells-of p s kind body k t h same_kind same short =
       let e : s ≡ typed (raw_of kind body) = (once (raw_of kind body) s k t).0 in
       record {
         is_typed = subst (λ (x : Rec). IsTyped x body) e t;
         piece = λ earlier. subst (λ (x : Rec). piece_of earlier x.kind x.contents ≡ p) e (h earlier);
-        kind = same;
+        kind = same_kind;
+        same = subst (λ (x : Rec). alone x ≡ alone (rec_of p)) e same;
         short = short;
         summed = refl;
       }
@@ -146,7 +155,7 @@ module _ (once : AreTyped) (shortest : ShortestAreTyped) (values : ValuesAreType
       let P : Rec → Type 0 = λ x. Spells (Kept x) (raw_of x.kind (contents_bytes x.kind x.contents)) in
       let kept : (earlier : List Subrecord) → piece_of earlier s.kind s.contents ≡ Kept (alone source) = λ earlier. same-piece earlier s source q.0.3 ∙ h.kept earlier ∙ ap (λ x. Kept x) (sym h.same) in
       let B : List ℕ → Type 0 = λ body. Spells (Kept (alone source)) (raw_of source.kind body) in
-      let there : B (contents_bytes source.kind source.contents) = spells-of (Kept (alone source)) s source.kind (contents_bytes source.kind source.contents) q.0.1 q.0.2 kept refl (shorter _ (length h.body) q.1 h.short) in
+      let there : B (contents_bytes source.kind source.contents) = spells-of (Kept (alone source)) s source.kind (contents_bytes source.kind source.contents) q.0.1 q.0.2 kept refl (q.0.3 ∙ twice-alone source) (shorter _ (length h.body) q.1 h.short) in
       subst P h.same (subst B (sym (placeless source.kind source.contents)) there)
 
   group-bytes : (kind : ℕ) (g : List PlainFixup) → flat_map (fixup_bytes kind) g ≡ contents_bytes kind (Fixups (map (λ f. nowhere (unthreaded_fixup f)) g))
@@ -173,7 +182,7 @@ module _ (once : AreTyped) (shortest : ShortestAreTyped) (values : ValuesAreType
       let q = values r (record { taken = taken; each = group-values kind g h }) in
       let s = q.0.0 in
       let piece : (earlier : List Subrecord) → piece_of earlier s.kind s.contents ≡ Fixed kind g = λ earlier. same-piece earlier s r q.0.3 ∙ ap (λ x. Fixed kind x) (group-again earlier g) in
-      spells-of (Fixed kind g) s kind (flat_map (fixup_bytes kind) g) q.0.1 (subst (IsTyped s) (sym (group-bytes kind g)) q.0.2) piece refl
+      spells-of (Fixed kind g) s kind (flat_map (fixup_bytes kind) g) q.0.1 (subst (IsTyped s) (sym (group-bytes kind g)) q.0.2) piece refl q.0.3
       (fits (length (flat_map (fixup_bytes kind) g)) (subst (λ n. n ≤ body_limit) (sym (length-group kind g)) small))
 
   write-groups : (kind : ℕ) (gs : List (List PlainFixup)) → is_fixupp kind ≡ true → Each (Each (IsPlainFixupValue kind)) gs → All (λ g. fixups_size kind g ≤ body_limit) gs
@@ -202,7 +211,7 @@ module _ (once : AreTyped) (shortest : ShortestAreTyped) (values : ValuesAreType
       let r : Rec = record { kind = kind; contents = ModEnd byte None } in
       let q = values r (record { taken = h.0; fits = h.1; reference = subst (λ b. IsThere (IsReferenceValue kind) b None) (sym h.3) tt }) in
       let s = q.0.0 in
-      spells-of (End kind byte None) s kind (byte ∷ []) q.0.1 q.0.2 (λ earlier. same-piece earlier s r q.0.3 ∙ ap (λ x. End kind x None) h.2) refl (omega arith)
+      spells-of (End kind byte None) s kind (byte ∷ []) q.0.1 q.0.2 (λ earlier. same-piece earlier s r q.0.3 ∙ ap (λ x. End kind x None) h.2) refl q.0.3 (omega arith)
   write-end kind byte (Some p) h =
       let r : Rec = record { kind = kind; contents = ModEnd byte (Some (unthreaded false p)) } in
       let q = values r (record { taken = h.0; fits = h.1; reference = subst (λ b. IsThere (IsReferenceValue kind) b (Some (unthreaded false p))) (sym h.3.0) (value-again kind false p h.3.1) }) in
@@ -211,6 +220,7 @@ module _ (once : AreTyped) (shortest : ShortestAreTyped) (values : ValuesAreType
       spells-of (End kind byte (Some p)) s kind (byte ∷ plain_reference_bytes false kind p) q.0.1 (subst bytes (sym (bytes-again false kind p)) q.0.2)
       (λ earlier. same-piece earlier s r q.0.3 ∙ ap₂ (λ x y. End kind x (Some y)) h.2 (plain-again earlier false p (λ e. absurd cc)))
       refl
+      q.0.3
       (few (length (plain_reference_bytes false kind p)) (reference-short kind p))
 
   write-piece : (p : Piece) → IsWritable p → SpellAll (cut_piece p) (piece_raws p)
@@ -250,17 +260,17 @@ module _ (once : AreTyped) (shortest : ShortestAreTyped) (values : ValuesAreType
   writable-contents earlier kind (ModEnd byte start) body e t short h =
       let b = end-byte byte in
       (h.taken, b.0, b.1, start-value kind (end_byte byte) earlier (has_start byte) start e (ap (λ n. n == 1) b.2) h.reference)
-  writable-contents earlier kind (Header x) body e t short h = record { source = _; body = body; is_typed = t; short = short; same = refl; kept = λ later. refl }
-  writable-contents earlier kind (Comment x y z) body e t short h = record { source = _; body = body; is_typed = t; short = short; same = refl; kept = λ later. refl }
-  writable-contents earlier kind (Names x) body e t short h = record { source = _; body = body; is_typed = t; short = short; same = refl; kept = λ later. refl }
-  writable-contents earlier kind (Segment x) body e t short h = record { source = _; body = body; is_typed = t; short = short; same = refl; kept = λ later. refl }
-  writable-contents earlier kind (Group x) body e t short h = record { source = _; body = body; is_typed = t; short = short; same = refl; kept = λ later. refl }
-  writable-contents earlier kind (Externs x) body e t short h = record { source = _; body = body; is_typed = t; short = short; same = refl; kept = λ later. refl }
-  writable-contents earlier kind (Publics x) body e t short h = record { source = _; body = body; is_typed = t; short = short; same = refl; kept = λ later. refl }
-  writable-contents earlier kind (Communals x) body e t short h = record { source = _; body = body; is_typed = t; short = short; same = refl; kept = λ later. refl }
-  writable-contents earlier kind (Plain x) body e t short h = record { source = _; body = body; is_typed = t; short = short; same = refl; kept = λ later. refl }
-  writable-contents earlier kind (Iterated x) body e t short h = record { source = _; body = body; is_typed = t; short = short; same = refl; kept = λ later. refl }
-  writable-contents earlier kind (Carried x) body e t short h = record { source = _; body = body; is_typed = t; short = short; same = refl; kept = λ later. refl }
+  writable-contents earlier kind (Header x) body e t short h = record { source = _; body = body; is_typed = t; short = short; same = refl; other = tt; kept = λ later. refl }
+  writable-contents earlier kind (Comment x y z) body e t short h = record { source = _; body = body; is_typed = t; short = short; same = refl; other = tt; kept = λ later. refl }
+  writable-contents earlier kind (Names x) body e t short h = record { source = _; body = body; is_typed = t; short = short; same = refl; other = tt; kept = λ later. refl }
+  writable-contents earlier kind (Segment x) body e t short h = record { source = _; body = body; is_typed = t; short = short; same = refl; other = tt; kept = λ later. refl }
+  writable-contents earlier kind (Group x) body e t short h = record { source = _; body = body; is_typed = t; short = short; same = refl; other = tt; kept = λ later. refl }
+  writable-contents earlier kind (Externs x) body e t short h = record { source = _; body = body; is_typed = t; short = short; same = refl; other = tt; kept = λ later. refl }
+  writable-contents earlier kind (Publics x) body e t short h = record { source = _; body = body; is_typed = t; short = short; same = refl; other = tt; kept = λ later. refl }
+  writable-contents earlier kind (Communals x) body e t short h = record { source = _; body = body; is_typed = t; short = short; same = refl; other = tt; kept = λ later. refl }
+  writable-contents earlier kind (Plain x) body e t short h = record { source = _; body = body; is_typed = t; short = short; same = refl; other = tt; kept = λ later. refl }
+  writable-contents earlier kind (Iterated x) body e t short h = record { source = _; body = body; is_typed = t; short = short; same = refl; other = tt; kept = λ later. refl }
+  writable-contents earlier kind (Carried x) body e t short h = record { source = _; body = body; is_typed = t; short = short; same = refl; other = tt; kept = λ later. refl }
 
   small-contents : (E : List Subrecord) (kind : ℕ) (c : Contents) → AreSmall E → HaveReferenceValues kind c → AreSmall (E ++ subrecords_in c)
   small-contents E kind (Fixups subs) e h = small-all kind E subs e h.each
