@@ -8,3 +8,4 @@ pub mod AloneLaws
 pub mod PlainValueLaws
 pub mod SpelledLaws
 pub mod RulesLaws
+pub mod PiecesKeptLaws
