@@ -28,10 +28,10 @@ same-push E F s h b k =
     ∙ sym (filter_map-append (setting_of b k) F (subrecord_alone s ∷ []))
 
 module _ (E F : List Subrecord) (h : SetTheSame E F) where
-  same-frame : (r : Reference) → frame_setting E r ≡ frame_setting F (reference_alone r)
+  pub same-frame : (r : Reference) → frame_setting E r ≡ frame_setting F (reference_alone r)
   same-frame r = ap₂ (λ x y. cond (frame_by_thread r.fix.item) x y) (ap last (h true (frame_thread r.fix.item))) (ap (λ s. Some s) (setting-datum (frame_bits r.fix.item) r.frame))
 
-  same-target : (r : Reference) → target_setting E r ≡ target_setting F (reference_alone r)
+  pub same-target : (r : Reference) → target_setting E r ≡ target_setting F (reference_alone r)
   same-target r = ap₂ (λ x y. cond (target_by_thread r.fix.item) x y) (ap last (h false (target_bits r.fix.item))) (ap (λ s. Some s) (setting-datum (target_bits r.fix.item) r.target))
 
   pub plain-alone : (r : Reference) → plain E r ≡ plain F (reference_alone r)

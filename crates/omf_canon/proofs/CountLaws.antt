@@ -14,11 +14,11 @@ use Rattle.omf_canon.specs.Skeleton.{join_front, skeleton_of, skeleton}
 use Rattle.omf_canon.proofs.CutLaws.{cut-greedy}
 
 -- by recursion
-abbrev items : List Piece → ℕ
+abbrev pub items : List Piece → ℕ
 items [] = 0
 items (p ∷ ps) = piece_items p + items ps
 
-items-sum : (ps : List Piece) → sum_by piece_items ps ≡ items ps
+pub items-sum : (ps : List Piece) → sum_by piece_items ps ≡ items ps
 items-sum [] = refl
 items-sum (p ∷ ps) = sum_by-cons piece_items p ps ∙ ap (λ n. piece_items p + n) (items-sum ps)
 

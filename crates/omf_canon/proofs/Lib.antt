@@ -9,3 +9,5 @@ pub mod PlainValueLaws
 pub mod SpelledLaws
 pub mod RulesLaws
 pub mod PiecesKeptLaws
+pub mod ResultLaws
+pub mod WellFormedLaws

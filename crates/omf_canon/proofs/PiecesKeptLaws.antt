@@ -208,7 +208,7 @@ fixup-kept L b t earlier (Fixup locat r) h = (
   tt,
 )
 
-fixups-kept : (L b : List Rec) → SameTables L b → (E : List Subrecord) (done subs : List (At Subrecord))
+pub fixups-kept : (L b : List Rec) → SameTables L b → (E : List Subrecord) (done subs : List (At Subrecord))
     → ((front rest : List (At Subrecord)) (s : At Subrecord) → subs ≡ front ++ s ∷ rest → SubrecordHolds L (E ++ map (λ e. e.item) (done ++ front)) s.item)
     → Each (FixupIsKept b) (with_before plain_fixup (E ++ map (λ e. e.item) done) (map (λ s. s.item) subs))
 fixups-kept L b t E done [] h = tt
@@ -221,7 +221,7 @@ fixups-kept L b t E done (s ∷ subs) h =
     each-append (FixupIsKept b) (plain_fixup (E ++ items done) s.item) _ (fixup-kept L b t (E ++ items done) s.item here)
     (subst (λ x. Each (FixupIsKept b) (with_before plain_fixup x (items subs))) grown later)
 
-start-kept : (L b : List Rec) → SameTables L b → (byte : ℕ) (limits : Limits) (kind : ℕ) (start : Option Reference) → ContentsHold limits L kind (ModEnd byte start) → StartIsKept b (option_map (plain (subrecords L)) start)
+pub start-kept : (L b : List Rec) → SameTables L b → (byte : ℕ) (limits : Limits) (kind : ℕ) (start : Option Reference) → ContentsHold limits L kind (ModEnd byte start) → StartIsKept b (option_map (plain (subrecords L)) start)
 start-kept L b t byte limits kind None h = tt
 start-kept L b t byte limits kind (Some r) h = (
   frame-tables L b t (plain (subrecords L) r).frame h.reference.frame,
