@@ -11,3 +11,4 @@ pub mod RulesLaws
 pub mod PiecesKeptLaws
 pub mod ResultLaws
 pub mod WellFormedLaws
+pub mod FramedLaws

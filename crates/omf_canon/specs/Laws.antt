@@ -14,7 +14,7 @@ use Rattle.omf_reloc.specs.Plain.{Piece, Fixed, PlainFixup, pieces}
 use Rattle.omf_reloc.specs.Placement.{Places}
 use Rattle.omf_reloc.specs.Reach.{causes, reach_fault}
 use Rattle.omf_reloc.specs.Image.{image, start}
-use Rattle.omf_canon.specs.Canonical.{piece_raws, canonical_raws}
+use Rattle.omf_canon.specs.Canonical.{piece_raws, canonical_raws, canonical}
 use Rattle.omf_canon.specs.Cut.{IsGreedyCut, cut}
 use Rattle.omf_canon.specs.Joined.{IsJoined, cut_pieces, piece_items}
 use Rattle.omf_canon.specs.Skeleton.{skeleton_of, skeleton}
@@ -66,3 +66,9 @@ pub record CanonicalHolds (records : List Raw) : Type 0 where
 
 abbrev pub CanonicalsHold : Type 0
 CanonicalsHold = (profile : Profile) (limits : Limits) (bytes : List ℕ) (records : List Raw) → IsWellFormed profile limits bytes records → CanonicalHolds records
+
+-- The canonical bytes of a well-formed module are well formed under the same profile, as its canonical records, and have no more items.
+abbrev pub CanonicalsAreWellFormed : Type 0
+CanonicalsAreWellFormed = (profile : Profile) (limits : Limits) (bytes : List ℕ) (records : List Raw) → IsWellFormed profile limits bytes records
+    → IsWellFormed profile limits (canonical (recs records)) (canonical_raws (skeleton (recs records)))
+    × (item_count (recs (canonical_raws (skeleton (recs records)))) ≤ item_count (recs records))

@@ -1,7 +1,8 @@
 //! Laws over the definitions, each the contract of a function that does nothing.
 
-ghost use Rattle.omf_canon.specs.Laws.{EqualSkeletons, CutsAreGreedy, FixuppsFit, SkeletonsAreJoined, CutsAreJoined, CutsAreNotMore, CanonicalsHold};
+ghost use Rattle.omf_canon.specs.Laws.{EqualSkeletons, CutsAreGreedy, FixuppsFit, SkeletonsAreJoined, CutsAreJoined, CutsAreNotMore, CanonicalsHold, CanonicalsAreWellFormed};
 
+use omf_check::laws::modules_hold;
 use omf_records::laws::{contents_are_typed_once, places_do_not_count, shortest_contents_are_typed, typed_have_values, values_are_typed};
 use omf_reloc::laws::reach_is_decided;
 
@@ -46,4 +47,16 @@ pub fn canonicals_hold()
     values_are_typed();
     typed_have_values();
     places_do_not_count();
+}
+
+/// Canonical bytes are well formed under the profile of their module, and have no more items.
+pub fn canonicals_are_well_formed()
+    ensures { CanonicalsAreWellFormed }
+{
+    contents_are_typed_once();
+    shortest_contents_are_typed();
+    values_are_typed();
+    typed_have_values();
+    places_do_not_count();
+    modules_hold();
 }

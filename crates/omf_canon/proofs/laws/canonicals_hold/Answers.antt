@@ -1,5 +1,3 @@
-use Rattle.omf_canon.proofs.RulesLaws.{same-rules}
-use Rattle.omf_canon.proofs.WellFormedLaws.{result-kept}
 use Rattle.omf_canon.proofs.SpelledLaws.{canonical-holds}
 use Rattle.omf_canon.proofs.laws.canonicals_hold.Goals as goal
 
