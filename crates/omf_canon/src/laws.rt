@@ -1,6 +1,6 @@
 //! Laws over the definitions, each the contract of a function that does nothing.
 
-ghost use Rattle.omf_canon.specs.Laws.{EqualSkeletons, CutsAreGreedy, FixuppsFit, SkeletonsAreJoined, CutsAreJoined, CutsAreNotMore, CanonicalsHold, CanonicalsAreWellFormed};
+ghost use Rattle.omf_canon.specs.Laws.{EqualSkeletons, CutsAreGreedy, FixuppsFit, SkeletonsAreJoined, CutsAreJoined, CutsAreNotMore, CanonicalsHold, CanonicalsAreWellFormed, CanonicalsAreFixed, CanonicalsDecide, UnthreadedArePlain, CanonicalsMeanTheSame, CanonicalsAreRead};
 
 use omf_check::laws::modules_hold;
 use omf_records::laws::{contents_are_typed_once, places_do_not_count, shortest_contents_are_typed, typed_have_values, values_are_typed};
@@ -59,4 +59,39 @@ pub fn canonicals_are_well_formed()
     typed_have_values();
     places_do_not_count();
     modules_hold();
+}
+
+/// Canonical bytes are their own canonical bytes.
+pub fn canonicals_are_fixed()
+    ensures { CanonicalsAreFixed }
+{
+    canonicals_hold();
+}
+
+/// Canonical bytes are equal exactly where skeletons are.
+pub fn canonicals_decide()
+    ensures { CanonicalsDecide }
+{
+    canonicals_hold();
+    canonicals_are_well_formed();
+}
+
+/// A plain reference can be written as one that names no thread.
+pub fn unthreaded_are_plain()
+    ensures { UnthreadedArePlain }
+{}
+
+/// At every placement canonical bytes mean what their module means.
+pub fn canonicals_mean_the_same()
+    ensures { CanonicalsMeanTheSame }
+{
+    canonicals_hold();
+    equal_skeletons();
+}
+
+/// The records of canonical bytes are the canonical records.
+pub fn canonicals_are_read()
+    ensures { CanonicalsAreRead }
+{
+    canonicals_are_well_formed();
 }
