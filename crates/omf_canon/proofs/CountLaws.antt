@@ -1,13 +1,13 @@
 -- What a module's skeleton is cut into has no more items than the module.
-use Rattle.std.proofs.Common.{◌≡◌, ℕ, ◌+◌, ◌<◌, ◌≤◌, List, [], ◌∷◌, ◌++◌, refl, sym, ◌∙◌, ap, Bool, true, false, cond, length, arith, length-append}
+use Rattle.std.proofs.Common.{◌≡◌, ℕ, ◌+◌, ◌<◌, ◌≤◌, List, [], ◌∷◌, ◌++◌, refl, ◌∙◌, ap, Bool, true, false, cond, length, arith, length-append}
 use Rattle.std.specs.Prelude.{map, flat_map, All, ◌==◌, max, sum_by}
 use Rattle.std.proofs.lemmas.List.{length-map}
 use Rattle.std.proofs.lemmas.List.Elements.{All-head, All-tail}
 use Rattle.std.proofs.lemmas.List.Sums.{sum_by-cons}
 use Rattle.omf_frame.specs.Bytes.{with_before}
-use Rattle.omf_records.specs.Values.{At, Rec, Contents, Fixups, ModEnd, Subrecord, Thread, Fixup}
+use Rattle.omf_records.specs.Values.{Rec, Contents, Fixups, Subrecord, Thread, Fixup}
 use Rattle.omf_check.specs.Tables.{items_in, item_count, subrecords}
-use Rattle.omf_reloc.specs.Plain.{Piece, Kept, Fixed, End, PlainFixup, plain_fixup, plain_fixups, piece_of, pieces}
+use Rattle.omf_reloc.specs.Plain.{Piece, Kept, Fixed, End, PlainFixup, plain_fixup, piece_of, pieces}
 use Rattle.omf_canon.specs.Cut.{cut}
 use Rattle.omf_canon.specs.Joined.{cut_piece, cut_pieces, piece_items}
 use Rattle.omf_canon.specs.Skeleton.{join_front, skeleton_of, skeleton}

@@ -1,25 +1,23 @@
 -- Canonical records are a module's frame: a header first, a MODEND last, known types and right checksums.
-use Rattle.std.proofs.Common.{◌≡◌, ℕ, ◌+◌, ◌*◌, ◌-◌, ◌%◌, ◌/◌, ◌<◌, ◌≤◌, ◌⊎◌, inl, inr, List, [], ◌∷◌, ◌++◌, length, refl, sym, ◌∙◌, ap, subst, Bool, true, false, cond, Option, Some, None, arith, true≢false}
-use Rattle.std.specs.Prelude.{map, flat_map, All, not, sum, slice_index, IsTrue, ◌==◌, ⊤}
+use Rattle.std.proofs.Common.{◌≡◌, ℕ, ◌+◌, ◌-◌, ◌%◌, ◌/◌, ◌<◌, ◌≤◌, ◌⊎◌, inl, inr, List, [], ◌∷◌, ◌++◌, length, refl, sym, ◌∙◌, ap, subst, Bool, true, false, cond, arith, true≢false}
+use Rattle.std.specs.Prelude.{map, All, not, sum, slice_index, IsTrue, ◌==◌}
 use Rattle.std.proofs.lemmas.Bool.{eqb-true, or_cases, false≢true}
 use Rattle.std.proofs.lemmas.List.Sums.{sum_by_push}
 use Rattle.std.proofs.lemmas.List.Elements.{All-nil, All-cons, All-head, All-tail}
 use Rattle.omf_frame.specs.Bytes.{with_before, is_one_of}
 use Rattle.omf_frame.specs.Framing.{Raw, raw_bytes, raw_of, checksum_of, IsRecord, IsFramed, is_taken, is_header, is_end}
-use Rattle.omf_image.specs.declared.limits.Limits.{Limits}
-use Rattle.omf_records.specs.Values.{Rec, Contents, Header, Comment, Names, Segment, Group, Externs, Publics, Communals, Plain, Iterated, Fixups, ModEnd, Carried, Subrecord}
+use Rattle.omf_records.specs.Values.{Rec, Contents, Fixups, ModEnd, Subrecord}
 use Rattle.omf_records.specs.Laws.{AreTyped, ShortestAreTyped, ValuesAreTyped, TypedHaveValues, PlacesDoNotCount}
 use Rattle.omf_records.specs.Reading.{typed}
 use Rattle.omf_records.specs.Valued.{is_fixupp, HaveReferenceValues}
 use Rattle.omf_check.specs.Laws.{ModulesHold}
 use Rattle.omf_check.specs.Rules.{item_limit}
 use Rattle.omf_check.specs.Tables.{subrecords, item_count}
-use Rattle.omf_check.specs.WellFormed.{IsWellFormed, recs}
-use Rattle.omf_check.specs.declared.profile.Profile.{Profile}
+use Rattle.omf_check.specs.WellFormed.{recs}
 use Rattle.omf_reloc.specs.Plain.{Piece, Kept, Fixed, End, PlainFixup, piece_of, pieces}
-use Rattle.omf_canon.specs.Canonical.{canonical_raws, canonical_bytes, canonical}
+use Rattle.omf_canon.specs.Canonical.{canonical_raws, canonical_bytes}
 use Rattle.omf_canon.specs.Cut.{cut}
-use Rattle.omf_canon.specs.Joined.{cut_piece, cut_pieces}
+use Rattle.omf_canon.specs.Joined.{cut_pieces}
 use Rattle.omf_canon.specs.Laws.{CanonicalsAreWellFormed}
 use Rattle.omf_canon.specs.Skeleton.{join_front, skeleton_of, skeleton}
 use Rattle.omf_canon.proofs.CountLaws.{items, items-sum, canonical-items}
@@ -248,8 +246,7 @@ canonical-well-formed once shortest values have placeless holds profile limits b
     let kept : PiecesAreKept profile limits [] ps = kept-cut profile limits [] S (kept-skeleton profile limits [] (pieces m) (kept-module profile limits bytes records w module_holds)) in
     let limited = items-limited profile limits bytes records w module_holds in
     let few : item_count [] + items ps ≤ item_limit = little _ (items ps) (item_count m) item_limit (items-sum ps) (canonical-items m) limited in
-    let closed : Closed (pieces m) = subst (λ x. Closed (pieces (recs x))) (sym w.framed.last.2) (closed-pieces [] w.framed.last.0 w.framed.last.1 w.framed.last.3 w.framed.last.4) in
-    (
+    let closed : Closed (pieces m) = subst (λ x. Closed (pieces (recs x))) (sym w.framed.last.2) (closed-pieces [] w.framed.last.0 w.framed.last.1 w.framed.last.3 w.framed.last.4) in (
       record {
         framed = record {
           spelled = refl;

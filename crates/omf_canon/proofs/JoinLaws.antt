@@ -1,12 +1,12 @@
 -- Skeletons are joined, and joined pieces are the skeleton of their cut.
 use Rattle.std.proofs.Common.{◌≡◌, ◌≢◌, ℕ, ◌<◌, List, [], ◌∷◌, ◌++◌, refl, sym, ◌∙◌, ap, subst, Bool, true, false, cond, length, arith, append-nil, true≢false}
-use Rattle.std.specs.Prelude.{map, flat_map, filter, All, ◌==◌, ⊤}
+use Rattle.std.specs.Prelude.{map, flat_map, All, ◌==◌, ⊤}
 use Rattle.std.proofs.lemmas.Bool.{eqb-true, eq-eqb, false≢true}
 use Rattle.std.proofs.lemmas.List.Elements.{All-nil, All-cons, All-head, All-tail}
 use Rattle.omf_reloc.specs.Plain.{Piece, Kept, Fixed, End, PlainFixup}
 use Rattle.omf_canon.specs.Cut.{cut}
-use Rattle.omf_canon.specs.Joined.{IsJoined, cut_piece, cut_pieces}
-use Rattle.omf_canon.specs.Skeleton.{is_kept, join_front, joined, skeleton_of}
+use Rattle.omf_canon.specs.Joined.{IsJoined, cut_pieces}
+use Rattle.omf_canon.specs.Skeleton.{is_kept, join_front, skeleton_of}
 use Rattle.omf_canon.proofs.CutLaws.{cut-greedy}
 
 -- The same by recursion: what stands in front of the next piece.

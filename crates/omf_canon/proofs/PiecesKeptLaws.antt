@@ -1,31 +1,27 @@
 -- The pieces of a well-formed module keep the rules, one after another; so do those of its skeleton, and those that it is cut into.
-use Rattle.std.proofs.Common.{◌≡◌, ◌≢◌, ℕ, suc, ◌+◌, ◌<◌, ◌≤◌, List, [], ◌∷◌, ◌++◌, length, refl, sym, ◌∙◌, ap, ap₂, subst, Bool, true, false, cond, Option, Some, None, arith, length-append, append_assoc, append-nil}
-use Rattle.std.specs.Prelude.{map, flat_map, option_map, All, ◌==◌, ⊤}
+use Rattle.std.proofs.Common.{◌≡◌, ◌≢◌, ℕ, suc, ◌+◌, ◌≤◌, List, [], ◌∷◌, ◌++◌, length, refl, sym, ◌∙◌, ap, ap₂, subst, Bool, true, false, cond, Option, Some, None, length-append, append_assoc, append-nil}
+use Rattle.std.specs.Prelude.{map, flat_map, option_map, ◌==◌, ⊤}
 use Rattle.std.specs.List.{last_or}
-use Rattle.std.proofs.lemmas.Bool.{eqb-true}
 use Rattle.std.proofs.lemmas.List.{map-append}
 use Rattle.std.proofs.lemmas.List.Concat.{flat_map-append}
-use Rattle.omf_frame.specs.Bytes.{with_before, last}
-use Rattle.omf_frame.specs.Fault.{AreKept}
-use Rattle.omf_frame.specs.Framing.{Raw}
+use Rattle.omf_frame.specs.Bytes.{with_before}
 use Rattle.omf_image.specs.declared.limits.Limits.{Limits}
 use Rattle.omf_records.specs.Location.{location_size}
 use Rattle.omf_records.specs.Values.{At, unplaced, Rec, Contents, Header, Comment, Names, Segment, Group, Externs, Publics, Communals, Plain, Iterated, Fixups, ModEnd, Carried, DataItem, Reference, Subrecord, Thread, Fixup, location_type, location_offset, contents_alone, alone}
-use Rattle.omf_records.specs.Reading.{typed}
-use Rattle.omf_check.specs.Rules.{item_limit, room, item_places, contents_rules, rules}
-use Rattle.omf_check.specs.Sound.{FrameIsDefined, TargetIsDefined, ReferenceHolds, FixupHolds, SubrecordHolds, StartHolds, ContentsHold, ModuleHolds}
-use Rattle.omf_check.specs.Tables.{is_defined, names, segments, groups, externals, last_data, data_in, defined_names, defined_segments, defined_groups, defined_externals, subrecords, item_count}
+use Rattle.omf_check.specs.Rules.{contents_rules}
+use Rattle.omf_check.specs.Sound.{FrameIsDefined, TargetIsDefined, SubrecordHolds, ContentsHold}
+use Rattle.omf_check.specs.Tables.{is_defined, last_data, data_in, defined_names, defined_segments, defined_groups, defined_externals, subrecords}
 use Rattle.omf_check.specs.Threads.{FrameMethod, F0, F1, F2, F4, F5, TargetMethod, T0, T1, T2, PlainReference, plain}
-use Rattle.omf_check.specs.WellFormed.{IsWellFormed, HasTrees, recs}
+use Rattle.omf_check.specs.WellFormed.{HasTrees}
 use Rattle.omf_check.specs.declared.profile.Profile.{Profile}
-use Rattle.omf_reloc.specs.Plain.{Piece, Kept, Fixed, End, PlainFixup, plain_fixup, end_byte, piece_of, pieces}
+use Rattle.omf_reloc.specs.Plain.{Piece, Kept, Fixed, End, PlainFixup, plain_fixup}
 use Rattle.omf_canon.specs.Cut.{cut}
-use Rattle.omf_canon.specs.Joined.{cut_piece, cut_pieces}
-use Rattle.omf_canon.specs.Skeleton.{join_front, skeleton_of, skeleton}
-use Rattle.omf_canon.proofs.AloneLaws.{IsOther, twice-contents}
+use Rattle.omf_canon.specs.Joined.{cut_pieces}
+use Rattle.omf_canon.specs.Skeleton.{join_front, skeleton_of}
+use Rattle.omf_canon.proofs.AloneLaws.{IsOther}
 use Rattle.omf_canon.proofs.CutLaws.{cut-greedy}
 use Rattle.omf_canon.proofs.PlainValueLaws.{Each, each-append, each-front, each-back}
-use Rattle.omf_canon.proofs.RulesLaws.{holds, AreTrue, kept-true, kept-back, SameTables, same-rules}
+use Rattle.omf_canon.proofs.RulesLaws.{holds, AreTrue, SameTables}
 
 -- A fixup lies in the last data record, and its frame and its target are defined.
 pub record FixupIsKept (b : List Rec) (f : PlainFixup) : Type 0 where
@@ -217,7 +213,7 @@ fixups-kept L b t E done (s ∷ subs) h =
     let here : SubrecordHolds L (E ++ items done) s.item = subst (λ xs. SubrecordHolds L (E ++ items xs) s.item) (append-nil done) (h [] subs s refl) in
     let grown : E ++ items (done ++ s ∷ []) ≡ (E ++ items done) ++ s.item ∷ [] = ap (λ x. E ++ x) (map-append (λ (e : At Subrecord). e.item) done (s ∷ [])) ∙ sym (append_assoc E (items done) (s.item ∷ [])) in
     let later : Each (FixupIsKept b) (with_before plain_fixup (E ++ items (done ++ s ∷ [])) (items subs)) = fixups-kept L b t E (done ++ s ∷ []) subs
-        (λ front rest q e. subst (λ xs. SubrecordHolds L (E ++ items xs) q.item) (sym (append_assoc done (s ∷ []) front)) (h (s ∷ front) rest q (ap (λ x. s ∷ x) e))) in
+    (λ front rest q e. subst (λ xs. SubrecordHolds L (E ++ items xs) q.item) (sym (append_assoc done (s ∷ []) front)) (h (s ∷ front) rest q (ap (λ x. s ∷ x) e))) in
     each-append (FixupIsKept b) (plain_fixup (E ++ items done) s.item) _ (fixup-kept L b t (E ++ items done) s.item here)
     (subst (λ x. Each (FixupIsKept b) (with_before plain_fixup x (items subs))) grown later)
 

@@ -1,33 +1,29 @@
 -- Records that spell pieces which keep the rules keep the rules.
-use Rattle.std.proofs.Common.{◌≡◌, ◌≢◌, ℕ, suc, ◌+◌, ◌<◌, ◌≤◌, List, [], ◌∷◌, ◌++◌, length, refl, sym, ◌∙◌, ap, ap₂, subst, Bool, true, false, cond, Option, Some, None, arith, length-append, append_assoc, append-nil}
-use Rattle.std.specs.Prelude.{map, flat_map, option_map, All, max, not, sum_by, ◌==◌, nat_le, IsTrue, ⊤}
+use Rattle.std.proofs.Common.{◌≡◌, ◌≢◌, ℕ, ◌+◌, ◌≤◌, List, [], ◌∷◌, ◌++◌, length, refl, sym, ◌∙◌, ap, subst, Bool, true, false, Option, Some, None, append_assoc, append-nil}
+use Rattle.std.specs.Prelude.{map, option_map, All, not, ◌==◌}
 use Rattle.std.proofs.lemmas.Bool.{le-leb}
-use Rattle.std.proofs.lemmas.List.{map-append, length-map}
+use Rattle.std.proofs.lemmas.List.{map-append}
 use Rattle.std.proofs.lemmas.List.Sums.{sum_by_push}
-use Rattle.std.proofs.lemmas.List.Elements.{All-nil, All-cons, All-head, All-tail}
+use Rattle.std.proofs.lemmas.List.Elements.{All-head, All-tail}
 use Rattle.omf_frame.specs.Bytes.{with_before}
 use Rattle.omf_frame.specs.Fault.{AreKept}
 use Rattle.omf_frame.specs.Framing.{Raw}
 use Rattle.omf_image.specs.declared.limits.Limits.{Limits}
 use Rattle.omf_records.specs.Location.{location_size}
-use Rattle.omf_records.specs.Values.{At, nowhere, unplaced, Rec, Contents, Header, Comment, Names, Segment, Group, Externs, Publics, Communals, Plain, Iterated, Fixups, ModEnd, Carried, DataItem, Reference, Subrecord, Thread, Fixup, location_type, location_offset, contents_alone, subrecord_alone, reference_alone, alone}
+use Rattle.omf_records.specs.Values.{At, nowhere, Rec, Contents, Header, Comment, Names, Segment, Group, Externs, Publics, Communals, Plain, Iterated, Fixups, ModEnd, Carried, DataItem, Reference, Subrecord, Thread, Fixup, location_type, location_offset, contents_alone, subrecord_alone, reference_alone}
 use Rattle.omf_records.specs.Reading.{typed}
 use Rattle.omf_check.specs.Rules.{item_limit, room, item_places, contents_rules, rules, location_rule, frame_rules, target_rules, reference_rules, judged_at, subrecord_rules, subrecord_rules_at, start_rules, is_location_frame}
-use Rattle.omf_check.specs.Sound.{FrameIsDefined, TargetIsDefined, SubrecordsHold, ContentsHold, ModuleHolds}
+use Rattle.omf_check.specs.Sound.{FrameIsDefined, TargetIsDefined, ContentsHold, ModuleHolds}
 use Rattle.omf_check.specs.Tables.{last_data, subrecords, item_count, items_in}
-use Rattle.omf_check.specs.Threads.{FrameMethod, F0, F1, F2, F4, F5, TargetMethod, T0, T1, T2, PlainReference, plain, frame_of, target_of, frame_from, target_from}
+use Rattle.omf_check.specs.Threads.{FrameMethod, F0, F1, F2, F4, F5, TargetMethod, T0, T1, T2, PlainReference, frame_of, target_of, frame_from, target_from}
 use Rattle.omf_check.specs.WellFormed.{IsWellFormed, HasTrees, recs}
 use Rattle.omf_check.specs.declared.profile.Profile.{Profile}
-use Rattle.omf_reloc.specs.Plain.{Piece, Kept, Fixed, End, PlainFixup, plain_fixup, end_byte, piece_of, pieces}
-use Rattle.omf_canon.specs.Joined.{cut_pieces, piece_items}
-use Rattle.omf_canon.specs.Skeleton.{skeleton_of, skeleton}
+use Rattle.omf_reloc.specs.Plain.{Piece, Kept, PlainFixup, plain_fixup, piece_of, pieces}
 use Rattle.omf_canon.specs.Unthreaded.{unthreaded, unthreaded_fixup}
-use Rattle.omf_canon.proofs.AloneLaws.{IsOther, other-alone, alone-other, twice-alone, twice-contents, same-frame, same-target}
-use Rattle.omf_canon.proofs.CountLaws.{items}
+use Rattle.omf_canon.proofs.AloneLaws.{IsOther, other-alone, twice-alone, twice-contents, same-frame, same-target}
 use Rattle.omf_canon.proofs.PlainValueLaws.{Each}
-use Rattle.omf_canon.proofs.RulesLaws.{holds, AreTrue, true-kept, kept-true, kept-front, kept-back, kept-both, items-bounded, items-room, SameTables, same-rules}
+use Rattle.omf_canon.proofs.RulesLaws.{holds, AreTrue, kept-true, kept-front, kept-back, kept-both, items-bounded, SameTables, same-rules}
 use Rattle.omf_canon.proofs.PiecesKeptLaws.{FixupIsKept, StartIsKept, PieceIsKept, kept_after, PiecesAreKept, tables-more, fixups-empty, end-empty, frame-tables, target-tables, fixups-kept, start-kept, trees-alone}
-use Rattle.omf_canon.proofs.SpelledLaws.{rec_of, Spells, SpellAll}
 
 -- ---- from a well-formed module
 
@@ -72,8 +68,7 @@ module _ (profile : Profile) (limits : Limits) where
         let rules_kept : AreKept (rules profile limits L (typed r)) = subst (λ x. AreKept (rules profile limits x (typed r))) is (w.kept done rest r e) in
         let c = (typed r).contents in
         let true_rules = kept-back (room item_limit (item_count L) (item_places c)) (contents_rules profile limits L r.kind c) (kept-true (rules profile limits L (typed r)) rules_kept) in
-        let q = kept-piece L b t r.kind c (m.each L (recs rest) (typed r) split) true_rules (All-head Tree r rest trees) in
-        (
+        let q = kept-piece L b t r.kind c (m.each L (recs rest) (typed r) split) true_rules (All-head Tree r rest trees) in (
           q.0,
           kept-from (done ++ r ∷ []) rest (L ++ typed r ∷ []) _ (e ∙ sym (append_assoc done (r ∷ []) rest)) (map-append typed done (r ∷ []) ∙ ap (λ x. x ++ typed r ∷ []) is) q.1 (All-tail Tree r rest trees),
         )
@@ -260,8 +255,7 @@ module _ (L b : List Rec) (t : SameTables b L) where
   one-true (Fixup locat r) f e h earlier within =
       let same : reference_alone r ≡ reference_alone (unthreaded (f.reference.displacement == 0) f.reference) = cc in
       let there : locat ≡ f.locat = cc in
-      let last : option_map contents_alone (last_data L) ≡ Some (contents_alone (Plain h.data_record)) = sym t.last ∙ h.last in
-      (
+      let last : option_map contents_alone (last_data L) ≡ Some (contents_alone (Plain h.data_record)) = sym t.last ∙ h.last in (
         location-true (last_data L) h.data_record within locat last (subst (λ x. location_offset x + location_size (location_type x) ≤ length h.data_record.bytes) (sym there) h.inside),
         reference-true L (subrecords L ++ earlier) (f.reference.displacement == 0) f.reference r same (frame-tables b L t f.reference.frame h.frame) (target-tables b L t f.reference.target h.target),
       )

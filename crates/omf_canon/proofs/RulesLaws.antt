@@ -1,6 +1,6 @@
 -- Whether the rules of a record hold depends on the tables before it, and not on places.
-use Rattle.std.proofs.Common.{◌≡◌, ℕ, ◌+◌, ◌<◌, ◌≤◌, List, [], ◌∷◌, ◌++◌, length, refl, sym, ◌∙◌, ap, ap₂, subst, Bool, true, false, Option, Some, None, arith, length-append}
-use Rattle.std.specs.Prelude.{map, flat_map, option_map, unwrap_or, All, max, nat_le, nat_lt, IsTrue, ⊤}
+use Rattle.std.proofs.Common.{◌≡◌, ℕ, ◌+◌, ◌≤◌, List, [], ◌∷◌, ◌++◌, length, refl, sym, ◌∙◌, ap, ap₂, subst, Bool, true, arith}
+use Rattle.std.specs.Prelude.{map, option_map, unwrap_or, nat_le, nat_lt, IsTrue}
 use Rattle.std.specs.List.{enumerate_from}
 use Rattle.std.proofs.lemmas.Bool.{lt-ltb, ltb-true}
 use Rattle.std.proofs.lemmas.List.{length-map}
@@ -11,7 +11,7 @@ use Rattle.omf_image.specs.Blocks.{blocks_size}
 use Rattle.omf_image.specs.Expanding.{blocks_of}
 use Rattle.omf_image.specs.declared.limits.Limits.{Limits}
 use Rattle.omf_records.specs.Values.{At, unplaced, nowhere, Rec, Contents, Header, Comment, Names, Segment, Group, Externs, Publics, Communals, Plain, Iterated, Fixups, ModEnd, Carried, DataItem, contents_alone, width}
-use Rattle.omf_check.specs.Rules.{room, table_limit, places, item_places, names_entry, names_entry_or_none, data_rules, contents_rules}
+use Rattle.omf_check.specs.Rules.{room, table_limit, places, item_places, names_entry, names_entry_or_none, contents_rules}
 use Rattle.omf_check.specs.Tables.{names, segments, groups, externals, last_data, is_defined, entry, items_in}
 use Rattle.omf_check.specs.declared.profile.Profile.{Profile}
 use Rattle.omf_check.specs.declared.segment.SegInfo.{SegInfo}

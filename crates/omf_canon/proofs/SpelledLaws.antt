@@ -1,5 +1,5 @@
 -- The canonical records of a module spell the pieces that its skeleton is cut into.
-use Rattle.std.proofs.Common.{◌≡◌, ℕ, suc, ◌+◌, ◌*◌, ◌/◌, ◌%◌, ◌<◌, ◌≤◌, List, [], ◌∷◌, ◌++◌, length, refl, sym, ◌∙◌, ap, ap₂, subst, Bool, true, false, cond, Option, Some, None, arith, length-append, append-nil}
+use Rattle.std.proofs.Common.{◌≡◌, ℕ, suc, ◌+◌, ◌*◌, ◌<◌, ◌≤◌, List, [], ◌∷◌, ◌++◌, length, refl, sym, ◌∙◌, ap, ap₂, subst, Bool, true, false, cond, Option, Some, None, arith, length-append, append-nil}
 use Rattle.std.specs.Prelude.{map, flat_map, option_map, All, ◌==◌, ⊤}
 use Rattle.std.proofs.lemmas.Bool.{eqb-true}
 use Rattle.std.proofs.lemmas.List.Concat.{flat_map-append}
@@ -8,11 +8,11 @@ use Rattle.omf_frame.specs.Bytes.{with_before, bits}
 use Rattle.omf_frame.specs.Framing.{Raw, raw_of, is_end}
 use Rattle.omf_image.specs.declared.limits.Limits.{Limits}
 use Rattle.omf_records.specs.Values.{At, nowhere, Rec, Contents, Header, Comment, Names, Segment, Group, Externs, Publics, Communals, Plain, Iterated, Fixups, ModEnd, Carried, Reference, Subrecord, width, has_start, alone}
-use Rattle.omf_records.specs.Shortest.{contents_bytes, reference_bytes}
+use Rattle.omf_records.specs.Shortest.{contents_bytes}
 use Rattle.omf_records.specs.Reading.{typed}
 use Rattle.omf_records.specs.Records.{IsTyped}
 use Rattle.omf_records.specs.Laws.{AreTyped, ShortestAreTyped, ValuesAreTyped, TypedHaveValues, PlacesDoNotCount}
-use Rattle.omf_records.specs.Valued.{IsThere, IsReferenceValue, IsSubrecordValue, is_fixupp, AreFixupValues, IsEndValue, HaveReferenceValues}
+use Rattle.omf_records.specs.Valued.{IsThere, IsReferenceValue, IsSubrecordValue, is_fixupp, HaveReferenceValues}
 use Rattle.omf_check.specs.Tables.{subrecords, subrecords_in}
 use Rattle.omf_check.specs.Threads.{PlainReference, plain}
 use Rattle.omf_check.specs.WellFormed.{IsWellFormed, recs}

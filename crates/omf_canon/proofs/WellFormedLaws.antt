@@ -1,27 +1,25 @@
 -- Canonical records are well formed.
-use Rattle.std.proofs.Common.{◌≡◌, ◌≢◌, ℕ, suc, ◌+◌, ◌*◌, ◌-◌, ◌%◌, ◌/◌, ◌<◌, ◌≤◌, ◌⊎◌, inl, inr, List, [], ◌∷◌, ◌++◌, length, refl, sym, ◌∙◌, ap, ap₂, subst, Bool, true, false, cond, Option, Some, None, arith, length-append, append_assoc, append-nil}
-use Rattle.std.specs.Prelude.{map, flat_map, option_map, All, max, sum_by, ◌==◌, ⊤}
+use Rattle.std.proofs.Common.{◌≡◌, ℕ, ◌+◌, ◌≤◌, List, [], ◌∷◌, ◌++◌, refl, sym, ◌∙◌, ap, subst, arith, append_assoc, append-nil}
+use Rattle.std.specs.Prelude.{All, max}
 use Rattle.std.proofs.lemmas.List.{length-map}
 use Rattle.std.proofs.lemmas.List.Sums.{sum_by_push}
 use Rattle.std.proofs.lemmas.List.Elements.{All-nil, All-cons}
 use Rattle.omf_frame.specs.Fault.{AreKept}
 use Rattle.omf_frame.specs.Framing.{Raw}
 use Rattle.omf_image.specs.declared.limits.Limits.{Limits}
-use Rattle.omf_records.specs.Values.{At, nowhere, Rec, Contents, Fixups, ModEnd, Subrecord, contents_alone, subrecord_alone, alone}
+use Rattle.omf_records.specs.Values.{At, nowhere, Rec, Contents, Fixups, ModEnd, Subrecord, contents_alone, subrecord_alone}
 use Rattle.omf_records.specs.Reading.{typed}
 use Rattle.omf_check.specs.Rules.{item_limit, room, item_places, contents_rules, rules}
-use Rattle.omf_check.specs.Sound.{ModuleHolds}
 use Rattle.omf_check.specs.Tables.{item_count, items_in}
-use Rattle.omf_check.specs.WellFormed.{IsWellFormed, HasTrees, recs}
+use Rattle.omf_check.specs.WellFormed.{HasTrees, recs}
 use Rattle.omf_check.specs.declared.profile.Profile.{Profile}
-use Rattle.omf_reloc.specs.Plain.{Piece, Kept, Fixed, End, PlainFixup}
+use Rattle.omf_reloc.specs.Plain.{Piece, Kept, Fixed, End}
 use Rattle.omf_canon.specs.Joined.{piece_items}
-use Rattle.omf_canon.specs.Unthreaded.{unthreaded, unthreaded_fixup}
+use Rattle.omf_canon.specs.Unthreaded.{unthreaded_fixup}
 use Rattle.omf_canon.proofs.AloneLaws.{IsOther, other-alone, alone-other}
 use Rattle.omf_canon.proofs.CountLaws.{items}
-use Rattle.omf_canon.proofs.PlainValueLaws.{Each}
 use Rattle.omf_canon.proofs.RulesLaws.{holds, AreTrue, true-kept, kept-both, items-room, SameTables, same-rules}
-use Rattle.omf_canon.proofs.PiecesKeptLaws.{FixupIsKept, StartIsKept, PieceIsKept, kept_after, PiecesAreKept, tables-more, fixups-empty, end-empty, trees-alone}
+use Rattle.omf_canon.proofs.PiecesKeptLaws.{PieceIsKept, kept_after, PiecesAreKept, tables-more, fixups-empty, end-empty, trees-alone}
 use Rattle.omf_canon.proofs.ResultLaws.{fixups-like, end-like, fixups-true, start-true}
 use Rattle.omf_canon.proofs.SpelledLaws.{rec_of, Spells, SpellAll}
 

@@ -1,6 +1,6 @@
 -- Lists of pieces whose FIXUPPs are joined, and the same pieces as records: each FIXUPP cut into groups.
 use Rattle.std.specs.Prelude.{◌≡◌, ◌≢◌, ℕ, List, [], ◌∷◌, ◌++◌, map, flat_map, max, length, All, true}
-use Rattle.omf_reloc.specs.Plain.{Piece, Kept, Fixed, End, PlainFixup}
+use Rattle.omf_reloc.specs.Plain.{Piece, Fixed, PlainFixup}
 use Rattle.omf_canon.specs.Cut.{cut}
 use Rattle.omf_canon.specs.Skeleton.{is_kept}
 

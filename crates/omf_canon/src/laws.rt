@@ -3,7 +3,10 @@
 ghost use Rattle.omf_canon.specs.Laws.{EqualSkeletons, CutsAreGreedy, FixuppsFit, SkeletonsAreJoined, CutsAreJoined, CutsAreNotMore, CanonicalsHold, CanonicalsAreWellFormed, CanonicalsAreFixed, CanonicalsDecide, UnthreadedArePlain, CanonicalsMeanTheSame, CanonicalsAreRead};
 
 use omf_check::laws::modules_hold;
-use omf_records::laws::{contents_are_typed_once, places_do_not_count, shortest_contents_are_typed, typed_have_values, values_are_typed};
+use omf_records::laws::{
+    contents_are_typed_once, places_do_not_count, shortest_contents_are_typed, typed_have_values,
+    values_are_typed,
+};
 use omf_reloc::laws::reach_is_decided;
 
 /// Modules of equal skeletons have the same image and start at every placement, and their fixups reach or not for the same causes.
