@@ -12,3 +12,4 @@ pub mod PiecesKeptLaws
 pub mod ResultLaws
 pub mod WellFormedLaws
 pub mod FramedLaws
+pub mod StreamLaws

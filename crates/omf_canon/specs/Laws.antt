@@ -1,5 +1,5 @@
 -- Laws over the definitions, each the contract of a function of the same name.
-use Rattle.std.specs.Prelude.{◌≡◌, ◌↔◌, ℕ, ◌≤◌, List, Option, option_map, length, sum_by, All, Bool, true}
+use Rattle.std.specs.Prelude.{◌≡◌, ◌↔◌, ℕ, ◌≤◌, List, Option, None, option_map, length, sum_by, All, Bool, true}
 use Rattle.omf_frame.specs.Framing.{Raw, raw_bytes}
 use Rattle.omf_image.specs.declared.limits.Limits.{Limits}
 use Rattle.omf_records.specs.Values.{Rec, Subrecord}
@@ -20,6 +20,7 @@ use Rattle.omf_reloc.specs.Image.{image, start}
 use Rattle.omf_canon.specs.Canonical.{piece_raws, canonical_raws, canonical}
 use Rattle.omf_canon.specs.Cut.{IsGreedyCut, cut}
 use Rattle.omf_canon.specs.PlainBytes.{plain_reference_bytes, fixup_bytes}
+use Rattle.omf_canon.specs.Streaming.{streamed}
 use Rattle.omf_canon.specs.Unthreaded.{unthreaded, unthreaded_fixup}
 use Rattle.omf_canon.specs.Joined.{IsJoined, cut_pieces, piece_items}
 use Rattle.omf_canon.specs.Skeleton.{skeleton_of, skeleton}
@@ -103,3 +104,7 @@ CanonicalsMeanTheSame = (profile : Profile) (limits : Limits) (bytes : List ℕ)
 abbrev pub CanonicalsAreRead : Type 0
 CanonicalsAreRead = (profile : Profile) (limits : Limits) (bytes : List ℕ) (records : List Raw) → IsWellFormed profile limits bytes records
     → records_in (canonical (recs records)) ≡ canonical_raws (skeleton (recs records))
+
+-- One walk over the pieces of a module, with at most one group of fixups open, gives the canonical records of its skeleton.
+abbrev pub WalksAreCanonical : Type 0
+WalksAreCanonical = (ps : List Piece) → streamed None ps ≡ canonical_raws (skeleton_of ps)

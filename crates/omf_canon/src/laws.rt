@@ -1,6 +1,6 @@
 //! Laws over the definitions, each the contract of a function that does nothing.
 
-ghost use Rattle.omf_canon.specs.Laws.{EqualSkeletons, CutsAreGreedy, FixuppsFit, SkeletonsAreJoined, CutsAreJoined, CutsAreNotMore, CanonicalsHold, CanonicalsAreWellFormed, CanonicalsAreFixed, CanonicalsDecide, UnthreadedArePlain, CanonicalsMeanTheSame, CanonicalsAreRead};
+ghost use Rattle.omf_canon.specs.Laws.{EqualSkeletons, CutsAreGreedy, FixuppsFit, SkeletonsAreJoined, CutsAreJoined, CutsAreNotMore, CanonicalsHold, CanonicalsAreWellFormed, CanonicalsAreFixed, CanonicalsDecide, UnthreadedArePlain, CanonicalsMeanTheSame, CanonicalsAreRead, WalksAreCanonical};
 
 use omf_check::laws::modules_hold;
 use omf_records::laws::{
@@ -98,3 +98,8 @@ pub fn canonicals_are_read()
 {
     canonicals_are_well_formed();
 }
+
+/// One walk with at most one open group of fixups gives the canonical records.
+pub fn walks_are_canonical()
+    ensures { WalksAreCanonical }
+{}
