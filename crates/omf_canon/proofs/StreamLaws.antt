@@ -1,13 +1,13 @@
 -- The walk gives the canonical records of the skeleton.
-use Rattle.std.proofs.Common.{◌≡◌, ◌≢◌, ℕ, List, [], ◌∷◌, ◌++◌, refl, sym, ◌∙◌, ap, subst, Bool, true, false, cond, Option, Some, None, append_assoc, true≢false}
-use Rattle.std.specs.Prelude.{map, flat_map, ◌==◌, nat_le}
+use Rattle.std.proofs.Common.{◌≡◌, ℕ, List, [], ◌∷◌, ◌++◌, refl, sym, ◌∙◌, ap, subst, Bool, true, false, cond, Some, None, true≢false}
+use Rattle.std.specs.Prelude.{map, ◌==◌, nat_le}
 use Rattle.std.proofs.lemmas.Bool.{eqb-true, eq-eqb}
 use Rattle.omf_frame.specs.Framing.{Raw}
 use Rattle.omf_reloc.specs.Plain.{Piece, Kept, Fixed, End, PlainFixup}
 use Rattle.omf_canon.specs.Canonical.{piece_raws, canonical_raws}
 use Rattle.omf_canon.specs.Cut.{body_limit, fixups_size, cut_from}
 use Rattle.omf_canon.specs.Skeleton.{join_front, skeleton_of}
-use Rattle.omf_canon.specs.Streaming.{group_raw, Open, close, open_with, closed_by, open_after, closed_all, streamed}
+use Rattle.omf_canon.specs.Streaming.{group_raw, Open, open_after, closed_all, streamed}
 
 by_test : {A : Type 0} (P : A → Type 0) (b : Bool) (x y : A) → (b ≡ true → P x) → (b ≡ false → P y) → P (cond b x y)
 by_test P true x y taken other = taken refl
@@ -100,7 +100,7 @@ one-from kind g f fs ps t e = chosen (kind == kind) (fits kind g f) t (same-kind
   where
     chosen : (s u t : Bool) → s ≡ true → u ≡ t
         → (cond s (cond u [] (group_raw kind g ∷ [])) (group_raw kind g ∷ []) ++ closed_all kind (cond s (cond u (Some (kind, g ++ f ∷ [])) (Some (kind, f ∷ []))) (Some (kind, f ∷ []))) fs)
-            ++ streamed (open_after kind (cond s (cond u (Some (kind, g ++ f ∷ [])) (Some (kind, f ∷ []))) (Some (kind, f ∷ []))) fs) ps
+        ++ streamed (open_after kind (cond s (cond u (Some (kind, g ++ f ∷ [])) (Some (kind, f ∷ []))) (Some (kind, f ∷ []))) fs) ps
         ≡ cond t (all_from kind (Some (kind, g ++ f ∷ [])) fs ps) (group_raw kind g ∷ all_from kind (Some (kind, f ∷ [])) fs ps)
     chosen false u t s e = absurd (true≢false (sym s))
     chosen true true true s e = refl
@@ -124,7 +124,7 @@ other-from k kind g f fs ps n = chosen (k == kind) (fits k g f) n
   where
     chosen : (s u : Bool) → s ≡ false
         → (cond s (cond u [] (group_raw k g ∷ [])) (group_raw k g ∷ []) ++ closed_all kind (cond s (cond u (Some (k, g ++ f ∷ [])) (Some (kind, f ∷ []))) (Some (kind, f ∷ []))) fs)
-            ++ streamed (open_after kind (cond s (cond u (Some (k, g ++ f ∷ [])) (Some (kind, f ∷ []))) (Some (kind, f ∷ []))) fs) ps
+        ++ streamed (open_after kind (cond s (cond u (Some (k, g ++ f ∷ [])) (Some (kind, f ∷ []))) (Some (kind, f ∷ []))) fs) ps
         ≡ group_raw k g ∷ all_from kind (Some (kind, f ∷ [])) fs ps
     chosen true u s = absurd (true≢false s)
     chosen false u s = refl

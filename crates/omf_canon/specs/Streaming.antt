@@ -1,5 +1,5 @@
 -- Canonical records made in one walk over pieces, with at most one group of fixups open: what a writer does step by step.
-use Rattle.std.specs.Prelude.{ℕ, List, [], ◌∷◌, ◌++◌, flat_map, Option, Some, None, ◌==◌, ◌&&◌, nat_le, if◌then◌else◌}
+use Rattle.std.specs.Prelude.{ℕ, List, [], ◌∷◌, ◌++◌, flat_map, Option, Some, None, ◌==◌, nat_le, if◌then◌else◌}
 use Rattle.omf_frame.specs.Framing.{Raw, raw_of}
 use Rattle.omf_reloc.specs.Plain.{Piece, Kept, Fixed, End, PlainFixup}
 use Rattle.omf_canon.specs.Canonical.{piece_raws}
