@@ -13,3 +13,5 @@ pub mod ResultLaws
 pub mod WellFormedLaws
 pub mod FramedLaws
 pub mod StreamLaws
+pub mod WritingLaws
+pub mod FormLaws

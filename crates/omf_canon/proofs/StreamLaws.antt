@@ -13,11 +13,11 @@ by_test : {A : Type 0} (P : A → Type 0) (b : Bool) (x y : A) → (b ≡ true �
 by_test P true x y taken other = taken refl
 by_test P false x y taken other = other refl
 
-if-true : {A : Type 0} (b : Bool) (x y : A) → b ≡ true → cond b x y ≡ x
+pub if-true : {A : Type 0} (b : Bool) (x y : A) → b ≡ true → cond b x y ≡ x
 if-true true x y e = refl
 if-true false x y e = absurd (true≢false (sym e))
 
-if-false : {A : Type 0} (b : Bool) (x y : A) → b ≡ false → cond b x y ≡ y
+pub if-false : {A : Type 0} (b : Bool) (x y : A) → b ≡ false → cond b x y ≡ y
 if-false true x y e = absurd (true≢false e)
 if-false false x y e = refl
 

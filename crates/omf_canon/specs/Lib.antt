@@ -4,5 +4,7 @@ pub mod Cut
 pub mod Canonical
 pub mod Unthreaded
 pub mod Streaming
+pub mod Writing
 pub mod Joined
 pub mod Laws
+pub mod Form
