@@ -22,14 +22,14 @@ cond-le n false xs ys h k = k
 length-index_bytes : (i : ℕ) → length (index_bytes i) ≤ 2
 length-index_bytes i = cond-le 2 (nat_lt i 128) _ _ (omega arith) (omega arith)
 
-length-frame_datum : (m : FrameMethod) → length (frame_datum m) ≤ 2
+pub length-frame_datum : (m : FrameMethod) → length (frame_datum m) ≤ 2
 length-frame_datum (F0 i) = length-index_bytes i
 length-frame_datum (F1 i) = length-index_bytes i
 length-frame_datum (F2 i) = length-index_bytes i
 length-frame_datum F4 = omega arith
 length-frame_datum F5 = omega arith
 
-length-target_datum : (m : TargetMethod) → length (target_datum m) ≤ 2
+pub length-target_datum : (m : TargetMethod) → length (target_datum m) ≤ 2
 length-target_datum (T0 i) = length-index_bytes i
 length-target_datum (T1 i) = length-index_bytes i
 length-target_datum (T2 i) = length-index_bytes i
@@ -38,7 +38,7 @@ width-cases : (b : Bool) → cond b 4 2 ≤ 4
 width-cases true = omega arith
 width-cases false = omega arith
 
-length-displacement : (short : Bool) (kind d : ℕ) → length (cond short [] (little_bytes (width kind) d)) ≤ 4
+pub length-displacement : (short : Bool) (kind d : ℕ) → length (cond short [] (little_bytes (width kind) d)) ≤ 4
 length-displacement true kind d = omega arith
 length-displacement false kind d = omega (arith, length-bytes_low_first 0 (width kind) d, width-cases (is_wide kind))
 
@@ -193,7 +193,7 @@ module _ (kind : ℕ) where
   greedy-cut fixups groups c = one-cut groups c.full c.fits (greedy-from groups c.greedy) ∙ ap (cut kind) (sym c.whole)
 
   -- A group's bytes are its size, and type, length and checksum take four more.
-  length-group : (g : List PlainFixup) → length (flat_map (fixup_bytes kind) g) ≡ size g
+  pub length-group : (g : List PlainFixup) → length (flat_map (fixup_bytes kind) g) ≡ size g
   length-group [] = refl
   length-group (f ∷ fs) = omega (arith, length-append (fixup_bytes kind f) (flat_map (fixup_bytes kind) fs), length-group fs, size-append (f ∷ []) fs)
 

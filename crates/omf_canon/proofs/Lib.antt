@@ -1,3 +1,17 @@
 pub mod SkeletonLaws
 pub mod CutLaws
 pub mod ReachLaws
+pub mod JoinLaws
+pub mod CountLaws
+pub mod UnthreadedLaws
+pub mod AloneLaws
+pub mod PlainValueLaws
+pub mod SpelledLaws
+pub mod RulesLaws
+pub mod PiecesKeptLaws
+pub mod ResultLaws
+pub mod WellFormedLaws
+pub mod FramedLaws
+pub mod StreamLaws
+pub mod WritingLaws
+pub mod FormLaws

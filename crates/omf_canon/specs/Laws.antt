@@ -1,17 +1,29 @@
 -- Laws over the definitions, each the contract of a function of the same name.
-use Rattle.std.specs.Prelude.{◌≡◌, ◌↔◌, ℕ, ◌≤◌, List, Option, option_map, length, All}
-use Rattle.omf_frame.specs.Framing.{raw_bytes}
+use Rattle.std.specs.Prelude.{◌≡◌, ◌↔◌, ℕ, ◌≤◌, List, Option, None, option_map, length, sum_by, All, Bool, true}
+use Rattle.omf_frame.specs.Framing.{Raw, raw_bytes}
 use Rattle.omf_image.specs.declared.limits.Limits.{Limits}
-use Rattle.omf_records.specs.Values.{Rec}
+use Rattle.omf_records.specs.Values.{Rec, Subrecord}
+use Rattle.omf_records.specs.Shortest.{reference_bytes, subrecord_bytes}
+use Rattle.omf_check.specs.Threads.{PlainReference, plain}
+use Rattle.omf_records.specs.Reading.{typed}
+use Rattle.omf_records.specs.Records.{IsTyped}
+use Rattle.omf_check.specs.Tables.{item_count}
+use Rattle.omf_check.specs.WellFormed.{IsWellFormed, recs}
+use Rattle.omf_check.specs.Module.{records_in}
+use Rattle.omf_check.specs.declared.profile.Profile.{Profile}
 use Rattle.omf_reloc.specs.declared.fault.ReachFault.{ReachFault}
 use Rattle.omf_reloc.specs.declared.fault.ReachFault.TheVariants as fault
-use Rattle.omf_reloc.specs.Plain.{Fixed, PlainFixup, pieces}
+use Rattle.omf_reloc.specs.Plain.{Piece, Fixed, PlainFixup, pieces}
 use Rattle.omf_reloc.specs.Placement.{Places}
 use Rattle.omf_reloc.specs.Reach.{causes, reach_fault}
 use Rattle.omf_reloc.specs.Image.{image, start}
-use Rattle.omf_canon.specs.Canonical.{piece_raws}
+use Rattle.omf_canon.specs.Canonical.{piece_raws, canonical_raws, canonical}
 use Rattle.omf_canon.specs.Cut.{IsGreedyCut, cut}
-use Rattle.omf_canon.specs.Skeleton.{skeleton}
+use Rattle.omf_canon.specs.PlainBytes.{plain_reference_bytes, fixup_bytes}
+use Rattle.omf_canon.specs.Streaming.{streamed}
+use Rattle.omf_canon.specs.Unthreaded.{unthreaded, unthreaded_fixup}
+use Rattle.omf_canon.specs.Joined.{IsJoined, cut_pieces, piece_items}
+use Rattle.omf_canon.specs.Skeleton.{skeleton_of, skeleton}
 
 -- What reach answers, but for where a reference stands that does not.
 abbrev pub placeless : ReachFault → ReachFault
@@ -39,3 +51,60 @@ CutsAreGreedy = (kind : ℕ) (fixups : List PlainFixup) (groups : List (List Pla
 -- Each canonical FIXUPP has at most 1,024 bytes in all.
 abbrev pub FixuppsFit : Type 0
 FixuppsFit = (kind : ℕ) (fixups : List PlainFixup) → All (λ r. length (raw_bytes r) ≤ 1024) (piece_raws (Fixed kind fixups))
+
+-- The FIXUPPs of a skeleton are joined.
+abbrev pub SkeletonsAreJoined : Type 0
+SkeletonsAreJoined = (ps : List Piece) → IsJoined (skeleton_of ps)
+
+-- Pieces that are joined are the skeleton of what they are cut into.
+abbrev pub CutsAreJoined : Type 0
+CutsAreJoined = (ps : List Piece) → IsJoined ps → skeleton_of (cut_pieces ps) ≡ ps
+
+-- What the skeleton of a module is cut into has no more items than the module.
+abbrev pub CutsAreNotMore : Type 0
+CutsAreNotMore = (m : List Rec) → sum_by piece_items (cut_pieces (skeleton m)) ≤ item_count m
+
+-- The canonical records of a well-formed module spell the pieces that its skeleton is cut into, and so they have its skeleton.
+pub record CanonicalHolds (records : List Raw) : Type 0 where
+  pub typed : All (λ r. IsTyped (typed r) r.body) (canonical_raws (skeleton (recs records)))
+  pub pieces : pieces (recs (canonical_raws (skeleton (recs records)))) ≡ cut_pieces (skeleton (recs records))
+  pub skeleton : skeleton (recs (canonical_raws (skeleton (recs records)))) ≡ skeleton (recs records)
+
+abbrev pub CanonicalsHold : Type 0
+CanonicalsHold = (profile : Profile) (limits : Limits) (bytes : List ℕ) (records : List Raw) → IsWellFormed profile limits bytes records → CanonicalHolds records
+
+-- The canonical bytes of a well-formed module are well formed under the same profile, as its canonical records, and have no more items.
+abbrev pub CanonicalsAreWellFormed : Type 0
+CanonicalsAreWellFormed = (profile : Profile) (limits : Limits) (bytes : List ℕ) (records : List Raw) → IsWellFormed profile limits bytes records
+    → IsWellFormed profile limits (canonical (recs records)) (canonical_raws (skeleton (recs records)))
+    × (item_count (recs (canonical_raws (skeleton (recs records)))) ≤ item_count (recs records))
+
+-- The canonical bytes of canonical bytes are these.
+abbrev pub CanonicalsAreFixed : Type 0
+CanonicalsAreFixed = (profile : Profile) (limits : Limits) (bytes : List ℕ) (records : List Raw) → IsWellFormed profile limits bytes records
+    → canonical (recs (canonical_raws (skeleton (recs records)))) ≡ canonical (recs records)
+
+-- Two well-formed modules, each under some profile, have the same canonical bytes exactly where their skeletons are equal.
+abbrev pub CanonicalsDecide : Type 0
+CanonicalsDecide = (profile other : Profile) (limits more : Limits) (a b : List ℕ) (rs ss : List Raw) → IsWellFormed profile limits a rs → IsWellFormed other more b ss
+    → (canonical (recs rs) ≡ canonical (recs ss)) ↔ (skeleton (recs rs) ≡ skeleton (recs ss))
+
+-- A plain reference that names no thread is plain as itself, whatever stands before it, and its bytes are the shortest of its reference.
+pub record UnthreadedArePlain : Type 0 where
+  pub plain : (earlier : List Subrecord) (short : Bool) (r : PlainReference) → (short ≡ true → r.displacement ≡ 0) → plain earlier (unthreaded short r) ≡ r
+  pub reference : (short : Bool) (kind : ℕ) (r : PlainReference) → plain_reference_bytes short kind r ≡ reference_bytes kind (unthreaded short r)
+  pub fixup : (kind : ℕ) (f : PlainFixup) → fixup_bytes kind f ≡ subrecord_bytes kind (unthreaded_fixup f)
+
+-- At every placement the canonical records of a module have its image, its start and its answer of reach.
+abbrev pub CanonicalsMeanTheSame : Type 0
+CanonicalsMeanTheSame = (profile : Profile) (limits : Limits) (bytes : List ℕ) (records : List Raw) → IsWellFormed profile limits bytes records
+    → (pl : Places) → MeanTheSame limits pl (recs (canonical_raws (skeleton (recs records)))) (recs records)
+
+-- The records of canonical bytes are the canonical records.
+abbrev pub CanonicalsAreRead : Type 0
+CanonicalsAreRead = (profile : Profile) (limits : Limits) (bytes : List ℕ) (records : List Raw) → IsWellFormed profile limits bytes records
+    → records_in (canonical (recs records)) ≡ canonical_raws (skeleton (recs records))
+
+-- One walk over the pieces of a module, with at most one group of fixups open, gives the canonical records of its skeleton.
+abbrev pub WalksAreCanonical : Type 0
+WalksAreCanonical = (ps : List Piece) → streamed None ps ≡ canonical_raws (skeleton_of ps)

@@ -2,4 +2,9 @@ pub mod Skeleton
 pub mod PlainBytes
 pub mod Cut
 pub mod Canonical
+pub mod Unthreaded
+pub mod Streaming
+pub mod Writing
+pub mod Joined
 pub mod Laws
+pub mod Form

@@ -3,6 +3,9 @@
 
 mod fault;
 pub mod laws;
+mod plain;
 pub mod rows;
+mod writing;
 
 pub use fault::CanonFault;
+pub use writing::canon;

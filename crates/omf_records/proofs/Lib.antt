@@ -4,3 +4,4 @@ pub mod AtStart
 pub mod Shorter
 pub mod Recast
 pub mod ShortestLaws
+pub mod ValueLaws

@@ -120,7 +120,7 @@ plain_communal at there body e (f1, b1, n, p1, s1, (f2, b2, t, p2, s2, (f3, b3, 
 
 -- ---- references and subrecords
 
-alone_same : (fix : ℕ) (at there : ℕ) (f g t u : Option (At ℕ)) (d : Option ℕ) → option_map unplaced f ≡ option_map unplaced g → option_map unplaced t ≡ option_map unplaced u
+pub alone_same : (fix : ℕ) (at there : ℕ) (f g t u : Option (At ℕ)) (d : Option ℕ) → option_map unplaced f ≡ option_map unplaced g → option_map unplaced t ≡ option_map unplaced u
     → reference_alone (record { fix = record { within = there; item = fix }; frame = f; target = t; displacement = d }) ≡ reference_alone (record { fix = record { within = at; item = fix }; frame = g; target = u; displacement = d })
 alone_same fix at there f g t u d e h = rw (e, h) refl
 

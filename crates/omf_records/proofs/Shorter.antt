@@ -66,7 +66,7 @@ plain_byte at there body x (low, is) = ((low, refl), rw is (shorter_itself (x �
 pub plain_name : Plainly name name_bytes
 plain_name at there body x (low, is) = ((low, refl), rw is (shorter_itself (length x ∷ x)))
 
-index_fits : (n : ℕ) (body : List ℕ) → IsIndex n body → AreBytes body
+pub index_fits : (n : ℕ) (body : List ℕ) → IsIndex n body → AreBytes body
 index_fits n [] h = absurd h
 index_fits n (a ∷ []) h = are_bytes_cons a [] (omega (arith, h.0)) AreBytes-none
 index_fits n (a ∷ b ∷ []) h = are_bytes_cons a (b ∷ []) h.1 (are_bytes_cons b [] h.2 AreBytes-none)

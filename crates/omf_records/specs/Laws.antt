@@ -3,10 +3,11 @@ use Rattle.std.specs.Prelude.{◌≡◌, ℕ, ◌≤◌, List, [], ◌∷◌, le
 use Rattle.omf_frame.specs.Bytes.{AreBytes}
 use Rattle.omf_frame.specs.Fault.{Fault, is_before}
 use Rattle.omf_frame.specs.Framing.{Raw}
-use Rattle.omf_records.specs.Values.{Rec, alone}
+use Rattle.omf_records.specs.Values.{Rec, Contents, contents_alone, alone}
 use Rattle.omf_records.specs.Shortest.{contents_bytes}
 use Rattle.omf_records.specs.Reads.{Meets, Behind}
 use Rattle.omf_records.specs.Records.{contents, IsTyped}
+use Rattle.omf_records.specs.Valued.{AreReferenceValues, HaveReferenceValues}
 use Rattle.omf_records.specs.Reading.{read_body, layout_faults, typed}
 
 -- Two typed records of one type with the same contents are equal.
@@ -46,3 +47,18 @@ ShortestAreTyped = (r : Rec) (body : List ℕ) → IsTyped r body
 abbrev pub ShortestDecide : Type 0
 ShortestDecide = (r s : Rec) (body other : List ℕ) → r.kind ≡ s.kind → IsTyped r body → IsTyped s other
     → (contents_bytes r.kind r.contents ≡ contents_bytes s.kind s.contents) ↔ (alone r ≡ alone s)
+
+-- References from their values: the contents of a FIXUPP or a MODEND whose fields are in range are what their shortest contents
+-- spell, but for their places.
+abbrev pub ValuesAreTyped : Type 0
+ValuesAreTyped = (r : Rec) → AreReferenceValues r.kind r.contents
+    → ((s : Rec) × (s.kind ≡ r.kind) × IsTyped s (contents_bytes r.kind r.contents) × (alone s ≡ alone r))
+    × AreBytes (contents_bytes r.kind r.contents)
+
+-- And the fields of one that is typed are in range.
+abbrev pub TypedHaveValues : Type 0
+TypedHaveValues = (r : Rec) (body : List ℕ) → IsTyped r body → HaveReferenceValues r.kind r.contents
+
+-- The shortest contents do not depend on places.
+abbrev pub PlacesDoNotCount : Type 0
+PlacesDoNotCount = (kind : ℕ) (c : Contents) → contents_bytes kind (contents_alone c) ≡ contents_bytes kind c

@@ -20,6 +20,7 @@ pub mod Seen
 pub mod Types
 pub mod Begins
 pub mod Sizes
+pub mod Valued
 pub mod Laws
 pub mod LawProofs
 pub mod Rows

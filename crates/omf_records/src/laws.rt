@@ -1,6 +1,6 @@
 //! Laws of typed records.
 
-ghost use Rattle.omf_records.specs.Laws.{AreUnique, ReadingsMeet, AreDecided, AreTyped, FaultsAreLeast, FaultsStandBehind, ShortestAreTyped, ShortestDecide};
+ghost use Rattle.omf_records.specs.Laws.{AreUnique, ReadingsMeet, AreDecided, AreTyped, FaultsAreLeast, FaultsStandBehind, ShortestAreTyped, ShortestDecide, ValuesAreTyped, TypedHaveValues, PlacesDoNotCount};
 
 /// Two typed records of one type with the same contents are equal.
 pub fn typed_records_are_unique()
@@ -40,4 +40,19 @@ pub fn shortest_contents_are_typed()
 /// Typed records of one type have the same shortest contents exactly where they are equal but for their places.
 pub fn shortest_contents_decide()
     ensures { ShortestDecide }
+{}
+
+/// References whose fields are in range are what their shortest contents spell, but for their places.
+pub fn values_are_typed()
+    ensures { ValuesAreTyped }
+{}
+
+/// The fields of typed references are in range.
+pub fn typed_have_values()
+    ensures { TypedHaveValues }
+{}
+
+/// The shortest contents do not depend on places.
+pub fn places_do_not_count()
+    ensures { PlacesDoNotCount }
 {}

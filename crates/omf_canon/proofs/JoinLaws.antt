@@ -1,0 +1,134 @@
+-- Skeletons are joined, and joined pieces are the skeleton of their cut.
+use Rattle.std.proofs.Common.{◌≡◌, ◌≢◌, ℕ, ◌<◌, List, [], ◌∷◌, ◌++◌, refl, sym, ◌∙◌, ap, subst, Bool, true, false, cond, length, arith, append-nil, true≢false}
+use Rattle.std.specs.Prelude.{map, flat_map, All, ◌==◌, ⊤}
+use Rattle.std.proofs.lemmas.Bool.{eqb-true, eq-eqb, false≢true}
+use Rattle.std.proofs.lemmas.List.Elements.{All-nil, All-cons, All-head, All-tail}
+use Rattle.omf_reloc.specs.Plain.{Piece, Kept, Fixed, End, PlainFixup}
+use Rattle.omf_canon.specs.Cut.{cut}
+use Rattle.omf_canon.specs.Joined.{IsJoined, cut_pieces}
+use Rattle.omf_canon.specs.Skeleton.{is_kept, join_front, skeleton_of}
+use Rattle.omf_canon.proofs.CutLaws.{cut-greedy}
+
+-- The same by recursion: what stands in front of the next piece.
+abbrev Behind : ℕ → List Piece → Type 0
+Behind kind (Fixed other gs ∷ ps) = kind ≢ other
+Behind kind _ = ⊤
+
+abbrev Parted : List Piece → Type 0
+Parted [] = ⊤
+Parted (Fixed kind fs ∷ ps) = (is_kept (Fixed kind fs) ≡ true) × Behind kind ps × Parted ps
+Parted (Kept r ∷ ps) = Parted ps
+Parted (End kind byte s ∷ ps) = Parted ps
+
+by_test : (P : List Piece → Type 0) (b : Bool) (x y : List Piece) → (b ≡ true → P x) → (b ≡ false → P y) → P (cond b x y)
+by_test P true x y taken other = taken refl
+by_test P false x y taken other = other refl
+
+parted-join : (kind : ℕ) (f : PlainFixup) (fs : List PlainFixup) (ps : List Piece) → Parted ps → Parted (join_front (Fixed kind (f ∷ fs)) ps)
+parted-join kind f fs [] h = (refl, tt, tt)
+parted-join kind f fs (Kept r ∷ ps) h = (refl, tt, h)
+parted-join kind f fs (End other byte s ∷ ps) h = (refl, tt, h)
+parted-join kind f fs (Fixed other gs ∷ ps) h = by_test Parted (kind == other) _ _
+    (λ e. (refl, subst (λ k. Behind k ps) (sym (eqb-true kind other e)) h.1, h.2))
+    (λ e. (refl, differ kind other e, h))
+  where
+    differ : (m n : ℕ) → (m == n) ≡ false → m ≢ n
+    differ m n e same = true≢false (sym (eq-eqb m n same) ∙ e)
+
+parted-skeleton : (ps : List Piece) → Parted (skeleton_of ps)
+parted-skeleton [] = tt
+parted-skeleton (Kept r ∷ ps) = parted-skeleton ps
+parted-skeleton (Fixed kind [] ∷ ps) = parted-skeleton ps
+parted-skeleton (Fixed kind (f ∷ fs) ∷ ps) = parted-join kind f fs (skeleton_of ps) (parted-skeleton ps)
+parted-skeleton (End kind byte s ∷ ps) = parted-skeleton ps
+
+-- in the words of the definition, and back
+abbrev IsFull : Piece → Type 0
+IsFull p = is_kept p ≡ true
+
+full-parted : (ps : List Piece) → Parted ps → All IsFull ps
+full-parted [] h = All-nil IsFull
+full-parted (Kept r ∷ ps) h = All-cons IsFull (Kept r) ps refl (full-parted ps h)
+full-parted (End kind byte s ∷ ps) h = All-cons IsFull (End kind byte s) ps refl (full-parted ps h)
+full-parted (Fixed kind fs ∷ ps) h = All-cons IsFull (Fixed kind fs) ps h.0 (full-parted ps h.2)
+
+parted-tail : (p : Piece) (ps : List Piece) → Parted (p ∷ ps) → Parted ps
+parted-tail (Kept r) ps h = h
+parted-tail (End kind byte s) ps h = h
+parted-tail (Fixed kind fs) ps h = h.2
+
+parted-back : (front ps : List Piece) → Parted (front ++ ps) → Parted ps
+parted-back [] ps h = h
+parted-back (p ∷ front) ps h = parted-back front ps (parted-tail p (front ++ ps) h)
+
+joined-parted : (ps : List Piece) → Parted ps → IsJoined ps
+joined-parted ps h = record {
+  full = full-parted ps h;
+  apart = λ front back kind other fs gs e. (parted-back front (Fixed kind fs ∷ Fixed other gs ∷ back) (subst Parted e h)).1;
+}
+
+pub skeleton-joined : (ps : List Piece) → IsJoined (skeleton_of ps)
+skeleton-joined ps = joined-parted (skeleton_of ps) (parted-skeleton ps)
+
+joined-tail : (p : Piece) (ps : List Piece) → IsJoined (p ∷ ps) → IsJoined ps
+joined-tail p ps h = record {
+  full = All-tail IsFull p ps h.full;
+  apart = λ front back kind other fs gs e. h.apart (p ∷ front) back kind other fs gs (ap (λ t. p ∷ t) e);
+}
+
+behind-joined : (kind : ℕ) (fs : List PlainFixup) (ps : List Piece) → IsJoined (Fixed kind fs ∷ ps) → Behind kind ps
+behind-joined kind fs [] h = tt
+behind-joined kind fs (Kept r ∷ ps) h = tt
+behind-joined kind fs (End other byte s ∷ ps) h = tt
+behind-joined kind fs (Fixed other gs ∷ ps) h = h.apart [] ps kind other fs gs refl
+
+-- Groups of one type, in front of pieces that begin with no such FIXUPP, are joined again.
+abbrev all_of : List (List PlainFixup) → List PlainFixup
+all_of gs = flat_map (λ g. g) gs
+
+join-apart : (kind : ℕ) (fs : List PlainFixup) (ps : List Piece) → Behind kind ps → join_front (Fixed kind fs) ps ≡ Fixed kind fs ∷ ps
+join-apart kind fs [] h = refl
+join-apart kind fs (Kept r ∷ ps) h = refl
+join-apart kind fs (End other byte s ∷ ps) h = refl
+join-apart kind fs (Fixed other gs ∷ ps) h = by_test (λ t. t ≡ Fixed kind fs ∷ Fixed other gs ∷ ps) (kind == other) _ _
+    (λ e. absurd (h (eqb-true kind other e)))
+    (λ e. refl)
+
+join-same : (kind : ℕ) (fs gs : List PlainFixup) (ps : List Piece) → join_front (Fixed kind fs) (Fixed kind gs ∷ ps) ≡ Fixed kind (fs ++ gs) ∷ ps
+join-same kind fs gs ps = by_test (λ t. t ≡ Fixed kind (fs ++ gs) ∷ ps) (kind == kind) _ _
+    (λ e. refl)
+    (λ e. absurd (true≢false (sym (eq-eqb kind kind refl) ∙ e)))
+
+abbrev IsNonempty : List PlainFixup → Type 0
+IsNonempty g = 0 < length g
+
+skeleton-group : (kind : ℕ) (g : List PlainFixup) (ps : List Piece) → IsNonempty g → skeleton_of (Fixed kind g ∷ ps) ≡ join_front (Fixed kind g) (skeleton_of ps)
+skeleton-group kind [] ps h = absurd (omega (arith, h))
+skeleton-group kind (f ∷ fs) ps h = refl
+
+skeleton-groups : (kind : ℕ) (g : List PlainFixup) (gs : List (List PlainFixup)) (ps : List Piece) → All IsNonempty (g ∷ gs) → Behind kind (skeleton_of ps)
+    → skeleton_of (map (λ k. Fixed kind k) (g ∷ gs) ++ ps) ≡ Fixed kind (all_of (g ∷ gs)) ∷ skeleton_of ps
+skeleton-groups kind g [] ps full h =
+    skeleton-group kind g ps (All-head IsNonempty g [] full)
+    ∙ join-apart kind g (skeleton_of ps) h
+    ∙ ap (λ k. Fixed kind k ∷ skeleton_of ps) (sym (append-nil g))
+skeleton-groups kind g (k ∷ gs) ps full h =
+    skeleton-group kind g (map (λ k. Fixed kind k) (k ∷ gs) ++ ps) (All-head IsNonempty g (k ∷ gs) full)
+    ∙ ap (join_front (Fixed kind g)) (skeleton-groups kind k gs ps (All-tail IsNonempty g (k ∷ gs) full) h)
+    ∙ join-same kind g (all_of (k ∷ gs)) (skeleton_of ps)
+
+skeleton-some : (kind : ℕ) (f : PlainFixup) (fs : List PlainFixup) (gs : List (List PlainFixup)) (ps : List Piece) → f ∷ fs ≡ all_of gs → All IsNonempty gs → Behind kind (skeleton_of ps)
+    → skeleton_of (map (λ k. Fixed kind k) gs ++ ps) ≡ Fixed kind (f ∷ fs) ∷ skeleton_of ps
+skeleton-some kind f fs [] ps whole full h = absurd cc
+skeleton-some kind f fs (g ∷ gs) ps whole full h = skeleton-groups kind g gs ps full h ∙ ap (λ k. Fixed kind k ∷ skeleton_of ps) (sym whole)
+
+pub cut-joined : (ps : List Piece) → IsJoined ps → skeleton_of (cut_pieces ps) ≡ ps
+cut-joined [] h = refl
+cut-joined (Kept r ∷ ps) h = ap (λ t. Kept r ∷ t) (cut-joined ps (joined-tail (Kept r) ps h))
+cut-joined (End kind byte s ∷ ps) h = ap (λ t. End kind byte s ∷ t) (cut-joined ps (joined-tail (End kind byte s) ps h))
+cut-joined (Fixed kind [] ∷ ps) h = absurd (false≢true (All-head IsFull (Fixed kind []) ps h.full))
+cut-joined (Fixed kind (f ∷ fs) ∷ ps) h =
+    let ih = cut-joined ps (joined-tail (Fixed kind (f ∷ fs)) ps h) in
+    let c = cut-greedy kind (f ∷ fs) in
+    skeleton-some kind f fs (cut kind (f ∷ fs)) (cut_pieces ps) c.whole c.full (subst (Behind kind) (sym ih) (behind-joined kind (f ∷ fs) ps h))
+    ∙ ap (λ t. Fixed kind (f ∷ fs) ∷ t) ih

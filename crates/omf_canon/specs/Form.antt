@@ -1,0 +1,29 @@
+-- What canonical bytes are to the module that they are made of.
+use Rattle.std.specs.Prelude.{◌≡◌, ◌↔◌, ℕ, ◌≤◌, List}
+use Rattle.omf_frame.specs.Framing.{Raw}
+use Rattle.omf_records.specs.Values.{Rec}
+use Rattle.omf_image.specs.Limits.{profile_limits}
+use Rattle.omf_image.specs.declared.limits.Limits.{Limits}
+use Rattle.omf_check.specs.Module.{records_in}
+use Rattle.omf_check.specs.Tables.{item_count}
+use Rattle.omf_check.specs.WellFormed.{IsWellFormed, recs}
+use Rattle.omf_check.specs.declared.profile.Profile.{Profile}
+use Rattle.omf_reloc.specs.Placement.{Places}
+use Rattle.omf_canon.specs.Canonical.{canonical}
+use Rattle.omf_canon.specs.Laws.{MeanTheSame}
+use Rattle.omf_canon.specs.Skeleton.{skeleton}
+
+-- The typed records of bytes.
+abbrev pub recs_of : List ℕ → List Rec
+recs_of bytes = recs (records_in bytes)
+
+-- They are well formed under its profile, have no more items and its skeleton, and are their own canonical bytes. Any module has them exactly where it has the skeleton.
+-- At every placement they mean the same.
+pub record IsFormOf (profile : Profile) (whole : List ℕ) (form : List ℕ) : Type 0 where
+  pub well_formed : IsWellFormed profile profile_limits form (records_in form)
+  pub items : item_count (recs_of form) ≤ item_count (recs_of whole)
+  pub same_skeleton : skeleton (recs_of form) ≡ skeleton (recs_of whole)
+  pub fixed : canonical (recs_of form) ≡ form
+  pub decides : (other : Profile) (limits : Limits) (bytes : List ℕ) (records : List Raw) → IsWellFormed other limits bytes records
+      → (form ≡ canonical (recs records)) ↔ (skeleton (recs_of whole) ≡ skeleton (recs records))
+  pub meaning : (pl : Places) → MeanTheSame profile_limits pl (recs_of form) (recs_of whole)

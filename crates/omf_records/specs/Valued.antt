@@ -1,0 +1,65 @@
+-- References from their values: which fields of a FIXUPP or a MODEND can be written.
+use Rattle.std.specs.Prelude.{◌≡◌, ℕ, ◌*◌, ◌^◌, ◌<◌, ◌≤◌, nat_lt, not, Bool, true, false, List, [], ◌∷◌, Option, Some, None, All, ⊤}
+use Rattle.omf_frame.specs.Bytes.{is_one_of}
+use Rattle.omf_frame.specs.Framing.{is_end}
+use Rattle.omf_records.specs.Values.{At, Contents, Fixups, ModEnd, Reference, Subrecord, Thread, Fixup, width, thread_method, has_frame_datum, has_target_datum, has_no_displacement, has_start}
+use Rattle.omf_records.specs.Entries.{wrong_methods, wrong_head}
+
+-- A value stands there exactly if b holds, and is as P says.
+abbrev pub IsThere : {A : Type 0} → (A → Type 0) → Bool → Option A → Type 0
+IsThere P true (Some a) = P a
+IsThere P true None = ⊥
+IsThere P false (Some a) = ⊥
+IsThere P false None = ⊤
+
+-- An index has 15 bits.
+abbrev pub IsIndexValue : At ℕ → Type 0
+IsIndexValue a = a.item < 128 * 256
+
+-- The fix data byte is not refused, and says which of the other fields are there.
+pub record IsReferenceValue (kind : ℕ) (r : Reference) : Type 0 where
+  pub fix : r.fix.item < 256
+  pub methods : wrong_methods r.fix.item ≡ []
+  pub frame : IsThere IsIndexValue (has_frame_datum r.fix.item) r.frame
+  pub target : IsThere IsIndexValue (has_target_datum r.fix.item) r.target
+  pub displacement : IsThere (λ d. d < 256 ^ width kind) (not (has_no_displacement r.fix.item)) r.displacement
+
+-- So does the first byte of a THREAD; the first two of a FIXUP are 2^15 or more.
+pub record IsThreadValue (byte : ℕ) (datum : Option (At ℕ)) : Type 0 where
+  pub low : byte < 128
+  pub head : wrong_head byte ≡ []
+  pub index : IsThere IsIndexValue (nat_lt (thread_method byte) 3) datum
+
+pub record IsFixupValue (kind locat : ℕ) (r : Reference) : Type 0 where
+  pub high : 32768 ≤ locat
+  pub low : locat < 65536
+  pub head : wrong_head locat ≡ []
+  pub reference : IsReferenceValue kind r
+
+abbrev pub IsSubrecordValue : ℕ → Subrecord → Type 0
+IsSubrecordValue kind (Thread byte datum) = IsThreadValue byte datum
+IsSubrecordValue kind (Fixup locat r) = IsFixupValue kind locat r
+
+abbrev pub is_fixupp : ℕ → Bool
+is_fixupp kind = is_one_of (0x9C ∷ 0x9D ∷ []) kind
+
+pub record AreFixupValues (kind : ℕ) (subs : List (At Subrecord)) : Type 0 where
+  pub taken : is_fixupp kind ≡ true
+  pub each : All (λ s. IsSubrecordValue kind s.item) subs
+
+pub record IsEndValue (kind byte : ℕ) (start : Option Reference) : Type 0 where
+  pub taken : is_end kind ≡ true
+  pub fits : byte < 256
+  pub reference : IsThere (IsReferenceValue kind) (has_start byte) start
+
+-- The contents of a FIXUPP or of a MODEND, whose values can be written.
+abbrev pub AreReferenceValues : ℕ → Contents → Type 0
+AreReferenceValues kind (Fixups subs) = AreFixupValues kind subs
+AreReferenceValues kind (ModEnd byte start) = IsEndValue kind byte start
+AreReferenceValues kind _ = ⊥
+
+-- The same where they are contents of these.
+abbrev pub HaveReferenceValues : ℕ → Contents → Type 0
+HaveReferenceValues kind (Fixups subs) = AreFixupValues kind subs
+HaveReferenceValues kind (ModEnd byte start) = IsEndValue kind byte start
+HaveReferenceValues kind _ = ⊤
