@@ -11,3 +11,6 @@ mod writing;
 pub use fault::CanonFault;
 pub use output::canon_to;
 pub use writing::canon;
+
+#[cfg(test)]
+mod tests;
