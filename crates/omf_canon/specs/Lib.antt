@@ -8,3 +8,4 @@ pub mod Writing
 pub mod Joined
 pub mod Laws
 pub mod Form
+pub mod Output

@@ -3,9 +3,14 @@
 
 mod fault;
 pub mod laws;
+mod output;
 mod plain;
 pub mod rows;
 mod writing;
 
 pub use fault::CanonFault;
+pub use output::canon_to;
 pub use writing::canon;
+
+#[cfg(test)]
+mod tests;
