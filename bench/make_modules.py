@@ -4,8 +4,11 @@
   empty.omf    1,048,574 empty FIXUPPs: the most records that a module may have
   fixups.omf   800,000 fixups of 32-bit offsets, with long indices and displacements, over their data: about 12 MB
   data.omf     16 MB of data in LEDATAs
-  mixed.omf  10 MB: half data, half fixups of 16-bit offsets
-  mixed.place, data.place, fixups.place: placements for `omf reloc`
+  mixed.omf    10 MB: half data, half fixups of 16-bit offsets
+  falling-apart.omf, falling-touching.omf, rising.omf, gaps.omf
+               640,000 LEDATAs of one byte each: in falling order, with a gap between any two or none; in rising order; at
+               every second place, and then in the gaps
+  X.place      a placement of X.omf for `omf reloc`
 """
 import pathlib
 import struct
@@ -59,6 +62,27 @@ def mixed(out):
     out.write(END)
 
 
+def bytes_at(offsets):
+    """One byte of data at each of these offsets of a segment, in this order."""
+
+    def write(out):
+        out.write(HEADER + NAMES + BIG_SEGMENT)
+        for offset in offsets:
+            out.write(record(0xA1, b"\x01" + struct.pack("<I", offset) + bytes([offset % 256])))
+        out.write(END)
+
+    return write
+
+
+COUNT = 640_000
+SHAPES = {
+    "falling-apart": range(2 * COUNT, 0, -2),
+    "falling-touching": range(COUNT, 0, -1),
+    "rising": range(COUNT),
+    "gaps": [*range(0, COUNT, 2), *range(1, COUNT, 2)],
+}
+
+
 def placement(count):
     return "".join(f"S {0x10000 * k:X} {0x10000 * k:X} {k & 0xFFFF:X}\n" for k in range(count))
 
@@ -66,13 +90,12 @@ def placement(count):
 def main():
     folder = pathlib.Path(sys.argv[1])
     folder.mkdir(parents=True, exist_ok=True)
-    for name, write in ("empty", empty), ("fixups", fixups), ("data", data), ("mixed", mixed):
+    modules = [("empty", empty, 0), ("fixups", fixups, 1), ("data", data, 1), ("mixed", mixed, 320)]
+    modules += [(name, bytes_at(offsets), 1) for name, offsets in SHAPES.items()]
+    for name, write, segments in modules:
         with open(folder / f"{name}.omf", "wb") as out:
             write(out)
-    (folder / "empty.place").write_text("")
-    (folder / "fixups.place").write_text(placement(1))
-    (folder / "data.place").write_text(placement(1))
-    (folder / "mixed.place").write_text(placement(320))
+        (folder / f"{name}.place").write_text(placement(segments))
 
 
 main()
