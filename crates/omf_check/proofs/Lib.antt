@@ -14,6 +14,7 @@ pub mod ShortLaws
 pub mod ReasonLaws
 pub mod Refusing
 pub mod RecordLaws
+pub mod SoundBytes
 pub mod Passing
 pub mod Moving
 pub mod Advancing
