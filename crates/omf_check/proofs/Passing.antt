@@ -39,7 +39,7 @@ pub least_some : (fs : List Fault) (f : Fault) → least fs ≡ Some f → IsLea
 least_some [] f e = absurd cc
 least_some (g ∷ gs) f e = subst (λ x. IsLeast (g ∷ gs) x) (some_same (least_or g gs) f e) (least_is_least g gs)
 
-first_some : (xs ys : List (List Fault)) (f : Fault) → least (first_step xs) ≡ Some f → least (first_step (xs ++ ys)) ≡ Some f
+pub first_some : (xs ys : List (List Fault)) (f : Fault) → least (first_step xs) ≡ Some f → least (first_step (xs ++ ys)) ≡ Some f
 first_some [] ys f e = absurd cc
 first_some ([] ∷ xs) ys f e = first_some xs ys f e
 first_some ((g ∷ gs) ∷ xs) ys f e = e

@@ -35,7 +35,7 @@ none_some : {A : Type 0} (x : A) → ◌≡◌ {A = Option A} None (Some x) → 
 none_some x e = cc
 
 -- Where the faults of framing are judged.
-type_ends : (t : ℕ) (q : Reason × ℕ) → type_fault (t ∷ []) ≡ Some q → EndsWhereJudged q.0 (t ∷ [])
+pub type_ends : (t : ℕ) (q : Reason × ℕ) → type_fault (t ∷ []) ≡ Some q → EndsWhereJudged q.0 (t ∷ [])
 unfolding type_fault
 type_ends t q e = by (is_unsupported t) (is_taken t) e
   where
@@ -45,7 +45,7 @@ type_ends t q e = by (is_unsupported t) (is_taken t) e
     by false false h = subst (λ (x : Reason × ℕ). EndsWhereJudged x.0 (t ∷ [])) (some_same (reason.UnknownType, 0) q h) refl
 
 -- a whole record and nothing more is as long as it says
-whole_length : (bytes : List ℕ) → is_whole bytes ≡ true → present bytes ≡ bytes → length bytes ≡ 3 + stated_length bytes
+pub whole_length : (bytes : List ℕ) → is_whole bytes ≡ true → present bytes ≡ bytes → length bytes ≡ 3 + stated_length bytes
 whole_length [] w e = absurd cc
 whole_length (t ∷ []) w e = absurd cc
 whole_length (t ∷ lo ∷ []) w e = absurd cc
@@ -53,7 +53,7 @@ whole_length (t ∷ lo ∷ hi ∷ bytes) w e =
     let enough : lo + 256 * hi ≤ length bytes = leb-true (lo + 256 * hi) (length bytes) w in
     omega (arith, enough, ap length e, length-take (lo + 256 * hi) bytes)
 
-whole_ends : (f : Bool) (bytes : List ℕ) (q : Reason × ℕ) → present bytes ≡ bytes → whole_fault f bytes ≡ Some q → EndsWhereJudged q.0 bytes
+pub whole_ends : (f : Bool) (bytes : List ℕ) (q : Reason × ℕ) → present bytes ≡ bytes → whole_fault f bytes ≡ Some q → EndsWhereJudged q.0 bytes
 unfolding whole_fault
 whole_ends f [] q same e = absurd (none_some q e)
 whole_ends f (t ∷ []) q same e = absurd (none_some q e)
@@ -82,7 +82,7 @@ whole_ends f (t ∷ lo ∷ hi ∷ rest) q same e =
     by true w false y true true k = absurd (none_some q k)
 
 -- where the others are
-inner_ends : (why : Reason) (part : List ℕ) → IsInner why → length part ≡ 3 + stated_length part → EndsWhereJudged why part
+pub inner_ends : (why : Reason) (part : List ℕ) → IsInner why → length part ≡ 3 + stated_length part → EndsWhereJudged why part
 inner_ends reason.NoEnd part h e = absurd (omega (arith, h))
 inner_ends reason.Cut part h e = absurd (omega (arith, h))
 inner_ends reason.UnknownType part h e = absurd (omega (arith, h))
@@ -97,7 +97,7 @@ part_short (t ∷ []) h = omega arith
 part_short (t ∷ lo ∷ []) h = omega arith
 part_short (t ∷ lo ∷ hi ∷ a) h = let less = leb-false (lo + 256 * hi) (length a) h in omega (arith, less)
 
-body_small : (bytes : List ℕ) → AreBytes bytes → AreBytes (front_record bytes).body
+pub body_small : (bytes : List ℕ) → AreBytes bytes → AreBytes (front_record bytes).body
 body_small [] h = λ i. omega arith
 body_small (t ∷ []) h = λ i. omega arith
 body_small (t ∷ lo ∷ []) h = λ i. omega arith
