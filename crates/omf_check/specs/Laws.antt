@@ -78,7 +78,7 @@ NoneShorter profile limits bytes = (front back : List ℕ) (b : ℕ) → bytes �
 abbrev pub RefusalsAreJudged : Type 0
 RefusalsAreJudged = (profile : Profile) (limits : Limits) (input : List ℕ) (why : Reason) (at : Place) → AreBytes input → IsRefused profile limits input why at
     → (is_end_of_input why ≡ false → (read : List ℕ) × (rest : List ℕ) × (input ≡ read ++ rest) × EndsWhereJudged why (drop at.start read)
-        × ((more : List ℕ) → IsRefused profile limits (read ++ more) why at))
+    × ((more : List ℕ) → IsRefused profile limits (read ++ more) why at))
     × (EndsWhereJudged why (drop at.start input) ↔ ((is_end_of_input why ≡ false) × NoneShorter profile limits input))
 
 -- After any subrecords the cells are the threads, found by searching backwards; one more subrecord sets the cell of its kind and
