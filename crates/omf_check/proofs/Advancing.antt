@@ -15,8 +15,8 @@ use Rattle.omf_check.specs.declared.profile.Profile.{Profile}
 use Rattle.omf_check.specs.Judging.{raw_fault, rec_of}
 use Rattle.omf_check.specs.Kept.{Kept, IsBounded, with_record}
 use Rattle.omf_check.specs.Session.{IsPassing, Fails, framing_fault, IsStopped}
-use Rattle.omf_check.proofs.Moving.{more_goes_on, passes, start_bound, number_bound}
-use Rattle.omf_check.proofs.Refusing.{framer_here, record_here, lacks_framing, lacks_sound, whole_longer}
+use Rattle.omf_check.proofs.Moving.{more_goes_on, passes, passed_sound, start_bound, number_bound}
+use Rattle.omf_check.proofs.Refusing.{framer_here, record_here, lacks_first, lacks_part, whole_longer}
 
 append_small : (xs ys : List ℕ) → AreBytes xs → AreBytes ys → AreBytes (xs ++ ys)
 append_small [] ys h k i = k i
@@ -34,7 +34,7 @@ module _ (profile : Profile) (held : Held) (taken : List ℕ) (kept : Kept) (p :
   by_cause : (piece : List ℕ) (fault : FrameFault) (new : Held) → FailsAs held piece fault new
       → ((held.fault ≡ Some fault) × (new ≡ held)) ⊎ ((held.fault ≡ None) × IsCause held piece fault) → Fails profile held taken piece (framing_fault fault)
   by_cause piece fault new f (inl h) = absurd (no_fault_kept held.fault fault p.no_fault h.0)
-  by_cause piece frame.Memory new f (inr h) = lacks_framing profile held taken kept p f.not_ended piece h.1.0 h.1.1
+  by_cause piece frame.Memory new f (inr h) = lacks_first profile held taken kept p f.not_ended piece h.1.0 h.1.1 h.1.2 h.1.3
   by_cause piece (frame.Refused why at) new f (inr h) = framer_here profile held taken kept p f.not_ended piece why at h.1
 
   pub framer_fails : (piece : List ℕ) (fault : FrameFault) (new : Held) → FailsAs held piece fault new → Fails profile held taken piece (framing_fault fault)
@@ -62,6 +62,23 @@ module _ (profile : Profile) (held : Held) (taken : List ℕ) (kept : Kept) (p :
     pub whole_now : stands new ≡ true → is_whole (next_of held piece) ≡ true
     whole_now s = ap is_whole (sym new_bytes) ∙ (and_true (is_none new.fault) (is_whole new.bytes) s).1
 
+    framed_now : frame_fault (new.number == 0) new.bytes ≡ None → frame_fault (held.number == 0) (next_of held piece) ≡ None
+    framed_now f = ap (λ x. frame_fault (x == 0) (next_of held piece)) (sym new_number) ∙ ap (frame_fault (new.number == 0)) (sym new_bytes) ∙ f
+
+    record_now : IsRecord (front_record new.bytes) → IsRecord (front_record (next_of held piece))
+    record_now is = subst (λ x. IsRecord (front_record x)) new_bytes is
+
+    back_now : raw_bytes (front_record new.bytes) ≡ new.bytes → raw_bytes (front_record (next_of held piece)) ≡ next_of held piece
+    back_now back = ap (λ x. raw_bytes (front_record x)) (sym new_bytes) ∙ back ∙ new_bytes
+
+    judged_now : (kind : ℕ) (body : List ℕ) → kind ≡ (front_record new.bytes).kind → body ≡ (front_record new.bytes).body → raw_fault profile profile_limits kept kind body ≡ None
+        → raw_fault profile profile_limits kept (front_record (next_of held piece)).kind (front_record (next_of held piece)).body ≡ None
+    judged_now kind body k b judged =
+        let r : Raw = front_record (next_of held piece) in
+        let kind_is : kind ≡ r.kind = k ∙ ap (λ x. (front_record x).kind) new_bytes in
+        let body_is : body ≡ r.body = b ∙ ap (λ x. (front_record x).body) new_bytes in
+        ap (λ x. raw_fault profile profile_limits kept x r.body) (sym kind_is) ∙ ap (raw_fault profile profile_limits kept kind) (sym body_is) ∙ judged
+
     if_ended : Bool → List ℕ
     if_ended b = next_of (record held { ended = b }) piece
 
@@ -73,34 +90,64 @@ module _ (profile : Profile) (held : Held) (taken : List ℕ) (kept : Kept) (p :
     running_by false e w = e
     running_by true e w = absurd (empty (ap (λ b. is_whole (if_ended b)) (sym e) ∙ w))
 
-    next_is : held.ended ≡ false → next_of held piece ≡ next_of (record held { ended = false }) piece
-    next_is e = ap (λ b. next_of (record held { ended = b }) piece) e
+    running_now : (b : Bool) → held.ended ≡ b → length held.bytes < length (next_of held piece) → held.ended ≡ false
+    unfolding if_ended
+    running_now false e more = e
+    running_now true e more = absurd (none (length held.bytes) (subst (λ b. length held.bytes < length (if_ended b)) e more))
+      where
+        none : (n : ℕ) → n < 0 → ⊥
+        none n h = omega (arith, h)
+
+    -- a growth behind a record without fault
+    longer : 0 < length (take count piece) → length held.bytes < length (next_of held piece)
+    longer some =
+        let e : length (next_of held piece) ≡ length held.bytes + length (take count piece) = ap length t.grown ∙ length-append held.bytes (take count piece) in
+        omega (arith, e, some)
+
+    passed_lacks : AreBytes (take count piece) → is_whole (next_of held piece) ≡ true → IsRecord (front_record (next_of held piece)) → raw_bytes (front_record (next_of held piece)) ≡ next_of held piece
+        → frame_fault (held.number == 0) (next_of held piece) ≡ None → raw_fault profile profile_limits kept (front_record (next_of held piece)).kind (front_record (next_of held piece)).body ≡ None
+        → Fails profile held taken piece check.Memory
+    passed_lacks small w is back f judged = record {
+      count = count;
+      needed = whole_longer held.bytes (take count piece) (next_of held piece) t.grown p.partial w;
+      judged = inl t.grown;
+      sound = passed_sound profile held taken kept p piece count whole new t (append_small taken (take count piece) p.small small) w is back f judged;
+    }
+
+    -- a growth in the midst of a record
+    pub part_lacks : 0 < length (take count piece) → stands new ≡ false → Fails profile held taken piece check.Memory
+    part_lacks some s =
+        lacks_part profile held taken kept p (running_now held.ended refl (longer some)) piece count t.grown (longer some)
+        (ap is_whole (sym new_bytes) ∙ ap (λ o. is_none o && is_whole new.bytes) (sym (ap (λ h. h.fault) t.new_is ∙ p.no_fault)) ∙ s) t.sound
 
     by_fault : (fault : CheckFault) → AreBytes (take count piece) → is_whole (next_of held piece) ≡ true → frame_fault (held.number == 0) (next_of held piece) ≡ None
+        → IsRecord (front_record (next_of held piece)) → raw_bytes (front_record (next_of held piece)) ≡ next_of held piece
         → IsStopped (raw_fault profile profile_limits kept (front_record (next_of held piece)).kind (front_record (next_of held piece)).body) held.number held.start fault → Fails profile held taken piece fault
-    by_fault check.Memory small w f h = lacks_sound profile held taken kept p piece count t.grown (whole_longer held.bytes (take count piece) (next_of held piece) t.grown p.partial w) t.sound
-    by_fault check.Read small w f h = h
-    by_fault (check.Refused why at) small w f h =
+    by_fault check.Memory small w f is back h = passed_lacks small w is back f h
+    by_fault check.Read small w f is back h = h
+    by_fault (check.Refused why at) small w f is back h =
         record_here profile held taken kept p (running_by held.ended refl w) piece count t.grown small why at w f h
-
-    -- a growth of the bytes taken
-    pub bytes_lack : 0 < length (take count piece) → Fails profile held taken piece check.Memory
-    bytes_lack some =
-        let e : length (next_of held piece) ≡ length held.bytes + length (take count piece) = ap length t.grown ∙ length-append held.bytes (take count piece) in
-        lacks_sound profile held taken kept p piece count t.grown (omega (arith, e, some)) t.sound
 
     -- the record that stands, as it is shown
     pub take_fails : (fault : CheckFault) (kind number start : ℕ) (body : List ℕ) → stands new ≡ true → frame_fault (new.number == 0) new.bytes ≡ None
+        → IsRecord (front_record new.bytes) → raw_bytes (front_record new.bytes) ≡ new.bytes
         → kind ≡ (front_record new.bytes).kind → body ≡ (front_record new.bytes).body → number ≡ new.number → start ≡ new.start
         → AreBytes piece → IsStopped (raw_fault profile profile_limits kept kind body) number start fault → Fails profile held taken piece fault
-    take_fails fault kind number start body s f k b n st small h =
+    take_fails fault kind number start body s f is back k b n st small h =
         let nb = new_bytes in
         let P : ℕ → List ℕ → ℕ → ℕ → Type 0 = λ kd bd nm sr. IsStopped (raw_fault profile profile_limits kept kd bd) nm sr fault in
         let h1 = subst (λ x. P x body number start) (k ∙ ap (λ x. (front_record x).kind) nb) h in
         let h2 = subst (λ x. P (front_record (next_of held piece)).kind x number start) (b ∙ ap (λ x. (front_record x).body) nb) h1 in
         let h3 = subst (λ x. P (front_record (next_of held piece)).kind (front_record (next_of held piece)).body x start) (n ∙ new_number) h2 in
         let h4 = subst (λ x. P (front_record (next_of held piece)).kind (front_record (next_of held piece)).body held.number x) (st ∙ new_start) h3 in
-        by_fault fault (AreBytes-take count piece small) (whole_now s) (ap (λ x. frame_fault (x == 0) (next_of held piece)) (sym new_number) ∙ ap (frame_fault (new.number == 0)) (sym nb) ∙ f) h4
+        by_fault fault (AreBytes-take count piece small) (whole_now s) (framed_now f) (record_now is) (back_now back) h4
+
+    -- a growth of the bytes taken, behind that record
+    pub record_lacks : (kind : ℕ) (body : List ℕ) → AreBytes piece → stands new ≡ true → frame_fault (new.number == 0) new.bytes ≡ None
+        → IsRecord (front_record new.bytes) → raw_bytes (front_record new.bytes) ≡ new.bytes → kind ≡ (front_record new.bytes).kind → body ≡ (front_record new.bytes).body
+        → raw_fault profile profile_limits kept kind body ≡ None → Fails profile held taken piece check.Memory
+    record_lacks kind body small s f is back k b judged =
+        passed_lacks (AreBytes-take count piece small) (whole_now s) (record_now is) (back_now back) (framed_now f) (judged_now kind body k b judged)
 
     -- what is true after the step
     pub none_passed : (now : List ℕ) → now ≡ taken ++ take count piece → AreBytes piece → length new.bytes ≤ 65538 → stands new ≡ false → IsPassing profile new now kept
@@ -119,12 +166,9 @@ module _ (profile : Profile) (held : Held) (taken : List ℕ) (kept : Kept) (p :
         let body_is : body ≡ r.body = b ∙ ap (λ x. (front_record x).body) nb in
         let tables_are : tables ≡ with_record kept held.start (rec_of r.kind r.body)
         = kt ∙ ap (λ x. with_record kept x (rec_of kind body)) (st ∙ new_start) ∙ ap (λ x. with_record kept held.start (rec_of x body)) kind_is ∙ ap (λ x. with_record kept held.start (rec_of r.kind x)) body_is in
-        let judged_here : raw_fault profile profile_limits kept r.kind r.body ≡ None
-        = ap (λ x. raw_fault profile profile_limits kept x r.body) (sym kind_is) ∙ ap (raw_fault profile profile_limits kept kind) (sym body_is) ∙ judged in
         let done : IsPassing profile (passed (record held { bytes = bytes })) (taken ++ take count piece) (with_record kept held.start (rec_of r.kind r.body))
         = passes profile held taken kept p piece count whole new t (append_small taken (take count piece) p.small (AreBytes-take count piece small)) (whole_now s)
-        (subst (λ x. IsRecord (front_record x)) nb is) (ap (λ x. raw_bytes (front_record x)) (sym nb) ∙ back ∙ nb)
-        (ap (λ x. frame_fault (x == 0) bytes) (sym new_number) ∙ ap (frame_fault (new.number == 0)) (sym nb) ∙ f) judged_here (subst IsBounded tables_are bound) in
+        (record_now is) (back_now back) (framed_now f) (judged_now kind body k b judged) (subst IsBounded tables_are bound) in
         subst (λ x. IsPassing profile x now tables) (sym (a ∙ ap passed t.new_is))
         (subst (λ x. IsPassing profile (passed (record held { bytes = bytes })) x tables) (sym e)
         (subst (λ x. IsPassing profile (passed (record held { bytes = bytes })) (taken ++ take count piece) x) (sym tables_are) done))

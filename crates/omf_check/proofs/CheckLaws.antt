@@ -16,9 +16,10 @@ use Rattle.omf_check.specs.declared.profile.Profile.{Profile}
 use Rattle.omf_check.specs.Checking.{Decides, IsCheckFault}
 use Rattle.omf_check.specs.Module.{Module, records_in}
 use Rattle.omf_check.specs.Refusal.{IsRefused, EndsWhereJudged, AreSoundSoFar}
-use Rattle.omf_check.specs.Session.{Seen, IsOpen, Takes, FailsAs, IsCause, Finishes, IsEndFault, RefusesHere, LacksMemory, may_go_on, want_of}
+use Rattle.omf_check.specs.Session.{Seen, IsOpen, Takes, FailsAs, IsCause, Finishes, IsEndFault, RefusesHere, next_bytes, may_go_on, want_of}
 use Rattle.omf_check.specs.WellFormed.{IsAccepted, IsWellFormed}
 use Rattle.omf_check.proofs.SessionLaws.{records_of}
+use Rattle.omf_check.proofs.SoundBytes.{no_other}
 
 pub none_wanted : (m w k : ℕ) → m ≡ 0 → m ≡ min w 4096 → w ≡ k → k ≡ 0
 none_wanted m w k z e f = omega (arith, z, e, f)
@@ -107,6 +108,10 @@ whole_take : (n : ℕ) (xs : List ℕ) → length xs ≤ length (take n xs) → 
 whole_take n xs h = let e = length-take n xs in take_all n xs (omega (arith, e, h))
 
 module _ (profile : Profile) (s : Seen) (open_s : IsOpen s) (fault : s.fault ≡ None) (same : s.profile ≡ profile) where
+  -- a kept fault, or that the input ends here
+  abbrev EndsBy : CheckFault → Type 0
+  EndsBy why = (s.fault ≡ Some why) ⊎ ((s.fault ≡ None) × (s.ended ≡ false) × IsEndFault s why)
+
   -- the module that the bytes taken are
   accepted : (m : Module) (input rest : List ℕ) → s.ended ≡ true → m ≡ record { bytes = s.taken; profile = s.profile } → input ≡ s.taken ++ rest → Decides profile input (Ok m)
   accepted m input rest e h sp =
@@ -133,9 +138,9 @@ module _ (profile : Profile) (s : Seen) (open_s : IsOpen s) (fault : s.fault ≡
   pub finish_ended : (result : Result Module CheckFault) (old left : Option (List ℕ)) → want_of s ≡ 0 → Finishes s result → Consumes old left s.taken
       → (input : List ℕ) → old ≡ Some input → Decides profile input result
   finish_ended (Ok m) old left w f c input e = let sp = spelled_of old left input s.taken e c in accepted m input sp.0 f.1 f.2 sp.1
-  finish_ended (Err why) old left w f c input e = by why f
+  finish_ended (Err why) old left w f c input e = by why f.1
     where
-      by : (why : CheckFault) → Finishes s (Err why) → Decides profile input (Err why)
+      by : (why : CheckFault) → EndsBy why → Decides profile input (Err why)
       by why (inl h) = absurd (none_some s.fault why fault h)
       by why (inr h) = absurd (clash s.ended (ended_of_want s.ended refl w) h.1)
 
@@ -149,24 +154,24 @@ module _ (profile : Profile) (s : Seen) (open_s : IsOpen s) (fault : s.fault ≡
   pub finish_decides : (result : Result Module CheckFault) (old left : Option (List ℕ)) → Finishes s result → Consumes old left s.taken → IsAtEnd left
       → (input : List ℕ) → old ≡ Some input → Decides profile input result
   finish_decides (Ok m) old left f c k input e = let sp = spelled_of old left input s.taken e c in accepted m input sp.0 f.1 f.2 sp.1
-  finish_decides (Err why) old left f c k input e = by why f
+  finish_decides (Err why) old left f c k input e = by why f.1
     where
-      by : (why : CheckFault) → Finishes s (Err why) → Decides profile input (Err why)
+      by : (why : CheckFault) → EndsBy why → Decides profile input (Err why)
       by why (inl h) = absurd (none_some s.fault why fault h)
       by why (inr h) = refused_at_end why old left h.2 c k input e
 
   fault_at_end : (why : CheckFault) (old left : Option (List ℕ)) (n k : ℕ) → IsEndFault s why → Consumes old left s.taken → IsAtEnd left → IsCheckFault profile old left n k why
   fault_at_end check.Memory old left n k f c z = absurd f
   fault_at_end check.Read old left n k f c z = absurd f
-  fault_at_end (check.Refused why at) old left n k f c z = (s.taken, c, (subst (λ p. IsRefused p profile_limits s.taken why at) same f, inl (open_s.no_refusal why at f, z)))
+  fault_at_end (check.Refused why at) old left n k f c z = (s.taken, c, (subst (λ p. IsRefused p profile_limits s.taken why at) same f, inl (no_other s.profile profile_limits s.taken open_s.sound why at f, z)))
 
-  pub finish_cause : (why : CheckFault) (old left : Option (List ℕ)) (n k : ℕ) → Finishes s (Err why) → Consumes old left s.taken → IsAtEnd left → IsCheckFault profile old left n k why
+  finish_cause : (why : CheckFault) (old left : Option (List ℕ)) (n k : ℕ) → EndsBy why → Consumes old left s.taken → IsAtEnd left → IsCheckFault profile old left n k why
   finish_cause why old left n k (inl h) c z = absurd (none_some s.fault why fault h)
   finish_cause why old left n k (inr h) c z = fault_at_end why old left n k h.2 c z
 
   pub finish_err : (result : Result Module CheckFault) (old left : Option (List ℕ)) (n k : ℕ) → Finishes s result → Consumes old left s.taken → IsAtEnd left → IfErr result (IsCheckFault profile old left n k)
   finish_err (Ok m) old left n k f c z = tt
-  finish_err (Err why) old left n k f c z = finish_cause why old left n k f c z
+  finish_err (Err why) old left n k f c z = finish_cause why old left n k f.1 c z
 
   -- a refusal in the midst
   module _ (piece : List ℕ) (why : CheckFault) (new : Seen) (f : FailsAs s piece why new) where
@@ -202,7 +207,7 @@ module _ (profile : Profile) (s : Seen) (open_s : IsOpen s) (fault : s.fault ≡
         by [] e =
             let before : IsRefused s.profile profile_limits s.taken why at
             = subst (λ x. IsRefused s.profile profile_limits x why at) (append-nil (s.taken ++ take f.count piece) ∙ ap (λ x. s.taken ++ x) e ∙ append-nil s.taken) (f.refused []) in
-            absurd (not_early why (s.at_hand ++ take f.count piece) f.judged (open_s.no_refusal why at before))
+            absurd (not_early why (s.at_hand ++ take f.count piece) f.judged (no_other s.profile profile_limits s.taken open_s.sound why at before))
         by (x ∷ front) e = omega arith
 
     all_needed : (why : Reason) (at : Place) (f : RefusesHere s piece why at) → take f.count piece ≡ piece
@@ -212,18 +217,36 @@ module _ (profile : Profile) (s : Seen) (open_s : IsOpen s) (fault : s.fault ≡
         let least = judged_at_wanted why s.at_hand (take f.count piece) (length piece) (needs_some why at f) most few f.judged in
         whole_take f.count piece least
 
-    all_grown : (f : LacksMemory s piece) → take f.count piece ≡ piece
-    all_grown f =
-        let here : present (s.at_hand ++ piece) ≡ s.at_hand ++ take f.count piece = ap (λ b. cond b [] (present (s.at_hand ++ piece))) (sym not_ended) ∙ f.grown in
-        let same_parts : s.at_hand ++ piece ≡ s.at_hand ++ take f.count piece = sym (present_wanted s.at_hand piece (open_s.wants not_ended) few) ∙ here in
+    all_grown : (count : ℕ) → 0 < length (next_bytes s piece) → (next_bytes s piece ≡ s.at_hand ++ take count piece) ⊎ ((s.taken ≡ []) × (s.at_hand ≡ []) × (count ≡ 1)) → take count piece ≡ piece
+    all_grown count some (inl g) =
+        let here : present (s.at_hand ++ piece) ≡ s.at_hand ++ take count piece = ap (λ b. cond b [] (present (s.at_hand ++ piece))) (sym not_ended) ∙ g in
+        let same_parts : s.at_hand ++ piece ≡ s.at_hand ++ take count piece = sym (present_wanted s.at_hand piece (open_s.wants not_ended) few) ∙ here in
         let a = length-append s.at_hand piece in
-        let b = length-append s.at_hand (take f.count piece) in
+        let b = length-append s.at_hand (take count piece) in
         let d = ap length same_parts in
-        whole_take f.count piece (omega (arith, a, b, d))
+        whole_take count piece (omega (arith, a, b, d))
+    all_grown count some (inr h) =
+        let one : length piece ≤ 1 = subst (λ x. length piece ≤ wanted x) h.1 few in
+        take_all count piece (omega (arith, h.2, one))
+
+    -- a growth needs a byte
+    some_read : length s.at_hand < length (next_bytes s piece) → 0 < length (s.taken ++ piece)
+    some_read more =
+        let here : next_bytes s piece ≡ present (s.at_hand ++ piece) = ap (λ b. cond b [] (present (s.at_hand ++ piece))) not_ended in
+        let all : next_bytes s piece ≡ s.at_hand ++ piece = here ∙ present_wanted s.at_hand piece (open_s.wants not_ended) few in
+        let a = ap length all in
+        let b = length-append s.at_hand piece in
+        let d = length-append s.taken piece in
+        omega (arith, more, a, b, d)
 
     cause_by : (why : CheckFault) (old left : Option (List ℕ)) (n k : ℕ) → IsCause s piece why → Consumes old left (s.taken ++ piece) → IsCheckFault profile old left n k why
     cause_by check.Memory old left n k f c =
-        (s.taken ++ piece, c, subst (λ p. AreSoundSoFar p profile_limits (s.taken ++ piece)) same (subst (λ x. AreSoundSoFar s.profile profile_limits (s.taken ++ x)) (all_grown f) f.sound))
+        let e = all_grown f.count (omega (arith, f.needed)) f.judged in (
+          s.taken ++ piece,
+          c,
+          subst (λ p. AreSoundSoFar p profile_limits (s.taken ++ piece)) same (subst (λ x. AreSoundSoFar s.profile profile_limits (s.taken ++ x)) e f.sound),
+          some_read f.needed,
+        )
     cause_by check.Read old left n k f c = absurd f
     cause_by (check.Refused why at) old left n k f c =
         let e = all_needed why at f in (

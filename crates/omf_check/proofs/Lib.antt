@@ -14,6 +14,9 @@ pub mod ShortLaws
 pub mod ReasonLaws
 pub mod Refusing
 pub mod RecordLaws
+pub mod SoundBytes
+pub mod JudgedLaws
+pub mod SoundRows
 pub mod Passing
 pub mod Moving
 pub mod Advancing

@@ -1,10 +1,12 @@
 -- A session at its start, with more bytes of a record, and with a record passed.
-use Rattle.std.proofs.Common.{◌≡◌, ℕ, suc, ◌+◌, ◌*◌, ◌^◌, ◌<◌, ◌≤◌, Bool, true, false, List, [], ◌∷◌, ◌++◌, refl, sym, ◌∙◌, ap, subst, arith, append_assoc, length, take, length-append}
+use Rattle.std.proofs.Common.{◌≡◌, ℕ, suc, ◌+◌, ◌*◌, ◌^◌, ◌<◌, ◌≤◌, Bool, true, false, List, [], ◌∷◌, ◌++◌, refl, sym, ◌∙◌, ap, subst, arith, append_assoc, length, take, length-append, inl, inr}
 use Rattle.std.specs.Prelude.{All, flat_map, IsTrue, not, ◌==◌, cond, None, slice_index, is_none, ◌&&◌, sum_by, max}
 use Rattle.std.proofs.lemmas.List.{append-nil, map-append}
 use Rattle.std.proofs.lemmas.List.Sums.{sum_by-append}
 use Rattle.omf_frame.specs.Bytes.{AreBytes}
-use Rattle.omf_frame.specs.Fault.{first_step}
+use Rattle.omf_frame.specs.Fault.{Fault, first_step}
+use Rattle.omf_frame.specs.declared.fault.Reason.TheVariants as reason
+use Rattle.omf_frame.proofs.FaultLaws.{least_is_least}
 use Rattle.omf_frame.specs.Framing.{Raw, raw_bytes, IsRecord, is_end, is_whole, present, front_record, frame_steps, frame_fault}
 use Rattle.omf_frame.specs.Framer.{Held, at_start, passed, stands}
 use Rattle.omf_frame.specs.Framer.{next_bytes as next_of, Takes as FramerTakes}
@@ -15,7 +17,7 @@ use Rattle.omf_image.specs.Limits.{profile_limits}
 use Rattle.omf_check.specs.declared.profile.Profile.{Profile}
 use Rattle.omf_check.specs.Judging.{raw_fault, rec_of}
 use Rattle.omf_check.specs.Kept.{Kept, Tells, IsBounded, nothing_kept, with_record}
-use Rattle.omf_check.specs.Refusal.{steps, record_steps, is_empty}
+use Rattle.omf_check.specs.Refusal.{AreSoundSoFar, place_after, steps, record_steps, is_empty}
 use Rattle.omf_check.specs.Tables.{item_count, items_in}
 use Rattle.omf_check.specs.WellFormed.{recs, IsWellFormed}
 use Rattle.omf_check.specs.Session.{IsPassing}
@@ -216,6 +218,34 @@ module _ (profile : Profile) (held : Held) (taken : List ℕ) (kept : Kept) (p :
           let whole_module : IsWellFormed profile profile_limits (flat_map raw_bytes (p.before ++ r ∷ [])) (p.before ++ r ∷ [])
           = sound_module profile profile_limits p.before r more_records (bodies_of (p.before ++ r ∷ []) [] all_small) (ap is_end (kind_front now) ∙ e) (p.running (not_ended w)) more_sound in
           subst (λ x. IsWellFormed profile profile_limits x (p.before ++ r ∷ [])) (sym more_spelled) whole_module
+
+      -- the bytes are the module that ends here, or end behind this record
+      pub passed_sound : AreSoundSoFar profile profile_limits (taken ++ take count piece)
+      unfolding AreSound
+      passed_sound = by (is_end (slice_index now 0)) refl
+        where
+          none : Fault
+          none = record { within = 0; reason = reason.NoEnd }
+
+          by : (b : Bool) → is_end (slice_index now 0) ≡ b → AreSoundSoFar profile profile_limits (taken ++ take count piece)
+          by true e = inl (p.before ++ r ∷ [], ends_here e)
+          by false e = inr (
+            reason.NoEnd,
+            place_after (p.before ++ r ∷ []) none,
+            refl,
+            record {
+              before = p.before ++ r ∷ [];
+              rest = [];
+              fault = none;
+              spelled = more_spelled ∙ sym (append-nil (flat_map raw_bytes (p.before ++ r ∷ [])));
+              records = more_records;
+              running = more_running e;
+              sound = more_sound;
+              least = least_is_least none [];
+              named = refl;
+              there = refl;
+            },
+          )
 
       is_typed : IsReadable r
       is_typed =

@@ -24,12 +24,11 @@ use Rattle.omf_check.specs.declared.fault.CheckFault.TheVariants as check
 use Rattle.omf_check.specs.declared.profile.Profile.{Profile}
 use Rattle.omf_check.specs.Judging.{raw_fault}
 use Rattle.omf_check.specs.Kept.{Kept}
-use Rattle.omf_check.specs.Refusal.{IsRefused, faults_after, record_steps, is_empty}
+use Rattle.omf_check.specs.Refusal.{IsRefused, AreSoundSoFar, faults_after, record_steps, is_empty}
 use Rattle.omf_check.specs.WellFormed.{IsAccepted}
-use Rattle.omf_check.specs.Session.{IsPassing, Seen, IsOpen, IsModule, may_go_on, refused_at}
+use Rattle.omf_check.specs.Session.{IsPassing, Seen, IsOpen, IsModule, refused_at}
 use Rattle.omf_check.proofs.AcceptLaws.{never_both}
 use Rattle.omf_check.proofs.RecordLaws.{raw_law}
-use Rattle.omf_check.proofs.UniqueLaws.{refused_once}
 use Rattle.omf_check.proofs.VerdictLaws.{all_none}
 
 -- Least faults.
@@ -40,7 +39,7 @@ pub least_some : (fs : List Fault) (f : Fault) → least fs ≡ Some f → IsLea
 least_some [] f e = absurd cc
 least_some (g ∷ gs) f e = subst (λ x. IsLeast (g ∷ gs) x) (some_same (least_or g gs) f e) (least_is_least g gs)
 
-first_some : (xs ys : List (List Fault)) (f : Fault) → least (first_step xs) ≡ Some f → least (first_step (xs ++ ys)) ≡ Some f
+pub first_some : (xs ys : List (List Fault)) (f : Fault) → least (first_step xs) ≡ Some f → least (first_step (xs ++ ys)) ≡ Some f
 first_some [] ys f e = absurd cc
 first_some ([] ∷ xs) ys f e = first_some xs ys f e
 first_some ((g ∷ gs) ∷ xs) ys f e = e
@@ -210,30 +209,38 @@ module _ (profile : Profile) (held : Held) (taken : List ℕ) (kept : Kept) (p :
   clash : true ≡ false → ⊥
   clash e = cc
 
+  -- what is there of a record that is not whole and has no fault that stands ends too early
+  part_early : (now : List ℕ) → is_whole now ≡ false → standing_fault (held.number == 0) now ≡ None → (o : Option Fault) → frame_fault (held.number == 0) now ≡ o
+      → (f : Fault) × (frame_fault (held.number == 0) now ≡ Some f) × IsTrue (is_end_of_input f.reason)
+  part_early now w s None h = absurd (clash (sym (framed_of (held.number == 0) now (clean_steps (held.number == 0) now h)).whole ∙ w))
+  part_early now w s (Some f) h = (f, h, lasting_none f (ap lasting (sym h) ∙ s))
+
+  pub part_sound : held.ended ≡ false → (front now : List ℕ) → held.bytes ++ front ≡ now → is_whole now ≡ false → standing_fault (held.number == 0) now ≡ None
+      → AreSoundSoFar profile profile_limits (taken ++ front)
+  part_sound e front now g w s =
+      let x = part_early now w s (frame_fault (held.number == 0) now) refl in
+      let same : present (held.bytes ++ front) ≡ now = ap present g ∙ present_part now w in
+      let P : List ℕ → Type 0 = λ y. IsLeast (faults_after profile profile_limits p.before y) x.0 in
+      let at : Place = record { number = held.number; start = held.start; within = x.0.within } in
+      inr (x.0.reason, at, x.2, refused_by e front x.0 (subst P (sym same) (frame_refused now x.0 x.1)))
+
   -- not at the end, the input ends too early
   pub early : held.ended ≡ false → (o : Option Fault) → frame_fault (held.number == 0) held.bytes ≡ o
       → (f : Fault) × (frame_fault (held.number == 0) held.bytes ≡ Some f) × IsTrue (is_end_of_input f.reason)
-  early e None h = absurd (clash (sym (framed_of (held.number == 0) held.bytes (clean_steps (held.number == 0) held.bytes h)).whole ∙ p.partial))
-  early e (Some f) h = (f, h, lasting_none f (ap lasting (sym h) ∙ p.standing))
+  early e o h = part_early held.bytes p.partial p.standing o h
 
   pub too_early : held.ended ≡ false → (f : Fault) × IsRefused profile profile_limits taken f.reason (record { number = held.number; start = held.start; within = f.within }) × IsTrue (is_end_of_input f.reason)
   too_early e = let x = early e (frame_fault (held.number == 0) held.bytes) refl in (x.0, stopped e x.0 x.1, x.2)
 
-  accepted_here : held.ended ≡ true → IsAccepted profile profile_limits taken p.before
-  accepted_here e = record { bytes = taken; rest = []; spelled = sym (append-nil taken); well_formed = (p.at_end e).1 }
-
-  by_ended : (b : Bool) → held.ended ≡ b → (why : Reason) (at : Place) → IsRefused profile profile_limits taken why at → IsTrue (may_go_on why)
-  by_ended true e why at r = absurd (never_both profile profile_limits taken p.before why at (accepted_here e) r)
-  by_ended false e why at r =
-      let x = too_early e in
-      let same = refused_once profile profile_limits taken x.0.reason why _ at x.1 r in
-      subst (λ y. IsTrue (is_end_of_input y)) same.0 x.2
+  sound_by : (b : Bool) → held.ended ≡ b → AreSoundSoFar profile profile_limits taken
+  sound_by true e = inl (p.before, (p.at_end e).1)
+  sound_by false e = subst (AreSoundSoFar profile profile_limits) (append-nil taken) (part_sound e [] held.bytes (append-nil held.bytes) p.partial p.standing)
 
   pub open_here : length taken < 2 ^ 37 → (s : Seen) → s.profile ≡ profile → s.taken ≡ taken → s.at_hand ≡ held.bytes → s.ended ≡ held.ended → IsOpen s
   open_here low s pr ta ah en = record {
     wants = λ e. subst (λ x. 0 < wanted x) (sym ah) (some_wanted held.bytes p.partial);
     bounded = subst (λ x. length x < 2 ^ 37) (sym ta) low;
-    no_refusal = λ why at r. by_ended held.ended refl why at (subst (λ x. IsRefused x profile_limits taken why at) pr (subst (λ x. IsRefused s.profile profile_limits x why at) ta r));
+    sound = subst (λ x. AreSoundSoFar x profile_limits s.taken) (sym pr) (subst (AreSoundSoFar profile profile_limits) (sym ta) (sound_by held.ended refl));
     ended = λ e. subst (λ x. IsModule x s.taken) (sym pr) (subst (λ x. IsModule profile x) (sym ta) (p.before, (p.at_end (sym en ∙ e)).1));
     running = λ e records a.
         let x = too_early (sym en ∙ e) in

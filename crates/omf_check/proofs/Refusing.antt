@@ -1,12 +1,12 @@
 -- Where the record at hand is refused, and what is found before a growth.
-use Rattle.std.proofs.Common.{◌≡◌, ℕ, zero, suc, ◌+◌, ◌-◌, ◌*◌, ◌<◌, ◌≤◌, Bool, true, false, cond, List, [], ◌∷◌, ◌++◌, refl, sym, ◌∙◌, ap, subst, arith, append_assoc, length, take, drop, min}
+use Rattle.std.proofs.Common.{◌≡◌, ℕ, zero, suc, ◌+◌, ◌-◌, ◌*◌, ◌<◌, ◌≤◌, Bool, true, false, cond, List, [], ◌∷◌, ◌++◌, refl, sym, ◌∙◌, ap, subst, arith, append_assoc, length, take, drop, min, inl, inr}
 use Rattle.std.specs.Prelude.{flat_map, ◌==◌, ◌||◌, nat_le, not, sum, ◌%◌, slice_index, Option, Some, None, option_map}
 use Rattle.std.specs.Option.{option_or}
 use Rattle.std.proofs.lemmas.Bool.{leb-true, leb-false, eqb-true}
 use Rattle.std.proofs.lemmas.List.{length-append, length-take, drop_at}
 use Rattle.omf_frame.specs.Bytes.{AreBytes}
-use Rattle.omf_frame.specs.Fault.{Fault}
-use Rattle.omf_frame.specs.Framing.{raw_bytes, is_taken, is_unsupported, is_header, is_whole, present, front_record, stated_length, type_faults, frame_fault, standing_fault}
+use Rattle.omf_frame.specs.Fault.{Fault, least, first_step}
+use Rattle.omf_frame.specs.Framing.{Raw, raw_bytes, is_taken, is_unsupported, is_header, is_whole, present, front_record, stated_length, type_faults, frame_steps, frame_fault, standing_fault, lasting}
 use Rattle.omf_frame.specs.Framer.{Held, refused}
 use Rattle.omf_frame.specs.Framer.{next_bytes as next_of}
 use Rattle.omf_frame.specs.Judging.{record_len, found, type_fault, whole_fault}
@@ -15,7 +15,7 @@ use Rattle.omf_frame.specs.declared.fault.Place.{Place}
 use Rattle.omf_frame.specs.declared.fault.Reason.{Reason}
 use Rattle.omf_frame.specs.declared.fault.Reason.TheVariants as reason
 use Rattle.omf_frame.proofs.Growing.{grown, type_same, type_later}
-use Rattle.omf_frame.proofs.Judged.{standing_is, sound_type, type_none}
+use Rattle.omf_frame.proofs.Judged.{standing_is, sound_type}
 use Rattle.omf_frame.proofs.Standing.{present_twice}
 use Rattle.omf_records.specs.Steps.{AreBytes-back, AreBytes-take}
 use Rattle.omf_image.specs.Limits.{profile_limits}
@@ -25,7 +25,7 @@ use Rattle.omf_check.specs.Judging.{raw_fault}
 use Rattle.omf_check.specs.Kept.{Kept}
 use Rattle.omf_check.specs.Refusal.{EndsWhereJudged}
 use Rattle.omf_check.specs.Session.{IsPassing, RefusesHere, LacksMemory, here, refused_at}
-use Rattle.omf_check.proofs.Passing.{framing_refuses, record_refuses}
+use Rattle.omf_check.proofs.Passing.{framing_refuses, record_refuses, part_sound}
 use Rattle.omf_check.proofs.ReasonLaws.{IsInner, FaultInner, inner_of, raw_inner}
 
 some_same : {A : Type 0} (x y : A) → ◌≡◌ {A = Option A} (Some x) (Some y) → x ≡ y
@@ -35,7 +35,7 @@ none_some : {A : Type 0} (x : A) → ◌≡◌ {A = Option A} None (Some x) → 
 none_some x e = cc
 
 -- Where the faults of framing are judged.
-type_ends : (t : ℕ) (q : Reason × ℕ) → type_fault (t ∷ []) ≡ Some q → EndsWhereJudged q.0 (t ∷ [])
+pub type_ends : (t : ℕ) (q : Reason × ℕ) → type_fault (t ∷ []) ≡ Some q → EndsWhereJudged q.0 (t ∷ [])
 unfolding type_fault
 type_ends t q e = by (is_unsupported t) (is_taken t) e
   where
@@ -45,7 +45,7 @@ type_ends t q e = by (is_unsupported t) (is_taken t) e
     by false false h = subst (λ (x : Reason × ℕ). EndsWhereJudged x.0 (t ∷ [])) (some_same (reason.UnknownType, 0) q h) refl
 
 -- a whole record and nothing more is as long as it says
-whole_length : (bytes : List ℕ) → is_whole bytes ≡ true → present bytes ≡ bytes → length bytes ≡ 3 + stated_length bytes
+pub whole_length : (bytes : List ℕ) → is_whole bytes ≡ true → present bytes ≡ bytes → length bytes ≡ 3 + stated_length bytes
 whole_length [] w e = absurd cc
 whole_length (t ∷ []) w e = absurd cc
 whole_length (t ∷ lo ∷ []) w e = absurd cc
@@ -53,7 +53,7 @@ whole_length (t ∷ lo ∷ hi ∷ bytes) w e =
     let enough : lo + 256 * hi ≤ length bytes = leb-true (lo + 256 * hi) (length bytes) w in
     omega (arith, enough, ap length e, length-take (lo + 256 * hi) bytes)
 
-whole_ends : (f : Bool) (bytes : List ℕ) (q : Reason × ℕ) → present bytes ≡ bytes → whole_fault f bytes ≡ Some q → EndsWhereJudged q.0 bytes
+pub whole_ends : (f : Bool) (bytes : List ℕ) (q : Reason × ℕ) → present bytes ≡ bytes → whole_fault f bytes ≡ Some q → EndsWhereJudged q.0 bytes
 unfolding whole_fault
 whole_ends f [] q same e = absurd (none_some q e)
 whole_ends f (t ∷ []) q same e = absurd (none_some q e)
@@ -82,7 +82,7 @@ whole_ends f (t ∷ lo ∷ hi ∷ rest) q same e =
     by true w false y true true k = absurd (none_some q k)
 
 -- where the others are
-inner_ends : (why : Reason) (part : List ℕ) → IsInner why → length part ≡ 3 + stated_length part → EndsWhereJudged why part
+pub inner_ends : (why : Reason) (part : List ℕ) → IsInner why → length part ≡ 3 + stated_length part → EndsWhereJudged why part
 inner_ends reason.NoEnd part h e = absurd (omega (arith, h))
 inner_ends reason.Cut part h e = absurd (omega (arith, h))
 inner_ends reason.UnknownType part h e = absurd (omega (arith, h))
@@ -97,7 +97,7 @@ part_short (t ∷ []) h = omega arith
 part_short (t ∷ lo ∷ []) h = omega arith
 part_short (t ∷ lo ∷ hi ∷ a) h = let less = leb-false (lo + 256 * hi) (length a) h in omega (arith, less)
 
-body_small : (bytes : List ℕ) → AreBytes bytes → AreBytes (front_record bytes).body
+pub body_small : (bytes : List ℕ) → AreBytes bytes → AreBytes (front_record bytes).body
 body_small [] h = λ i. omega arith
 body_small (t ∷ []) h = λ i. omega arith
 body_small (t ∷ lo ∷ []) h = λ i. omega arith
@@ -127,6 +127,21 @@ whole_longer a [] now e h w = absurd (clash (sym w ∙ ap is_whole (e ∙ nothin
     nothing [] = refl
     nothing (x ∷ a) = ap (λ t. x ∷ t) (nothing a)
 whole_longer a (x ∷ b) now e h w = omega (arith, ap length e, length-append a (x ∷ b))
+
+-- a first byte whose type is good has no fault that stands
+first_sound : (f : Bool) (hand piece : List ℕ) → hand ≡ [] → 0 < length (present (hand ++ piece)) → type_faults (slice_index (present (hand ++ piece)) 0) ≡ []
+    → (standing_fault f (hand ++ take 1 piece) ≡ None) × (is_whole (hand ++ take 1 piece) ≡ false)
+first_sound f [] [] n some typed = absurd (omega (arith, some))
+first_sound f [] (t ∷ piece) n some typed = (alone (type_faults t) (by piece typed), refl)
+  where
+    by : (more : List ℕ) → type_faults (slice_index (present (t ∷ more)) 0) ≡ [] → type_faults t ≡ []
+    by [] h = h
+    by (lo ∷ []) h = h
+    by (lo ∷ hi ∷ more) h = h
+
+    alone : (fs : List Fault) → fs ≡ [] → lasting (least (first_step ([] ∷ fs ∷ drop 2 (frame_steps f (t ∷ []))))) ≡ None
+    alone fs e = ap (λ gs. lasting (least (first_step ([] ∷ gs ∷ drop 2 (frame_steps f (t ∷ [])))))) e
+first_sound f (x ∷ hand) piece n some typed = absurd cc
 
 module _ (profile : Profile) (held : Held) (taken : List ℕ) (kept : Kept) (p : IsPassing profile held taken kept) where
   abbrev first : Bool
@@ -254,43 +269,32 @@ module _ (profile : Profile) (held : Held) (taken : List ℕ) (kept : Kept) (p :
         record_by small (raw_fault profile profile_limits kept (front_record now).kind (front_record now).body) why at w s refl
         (raw_inner kept profile profile_limits (front_record now).kind (front_record now).body (body_small now (part_small small))) h
 
-  -- What was found before a growth.
-  pub lacks : (piece : List ℕ) (count : ℕ) → next_of held piece ≡ held.bytes ++ take count piece → length held.bytes < length (next_of held piece)
-      → type_faults (slice_index (next_of held piece) 0) ≡ [] → LacksMemory (here profile held taken) piece
-  lacks piece count g more typed =
-      let e : held.ended ≡ false = running_by held.ended refl in
-      record {
-        count = count;
-        grown = g;
-        needed = more;
-        sound = record {
-          before = p.before;
-          part = next_of held piece;
-          spelled = ap (λ x. x ++ take count piece) p.spelled ∙ append_assoc (flat_map raw_bytes p.before) held.bytes (take count piece) ∙ ap (λ x. flat_map raw_bytes p.before ++ x) (sym g);
-          records = p.records;
-          running = p.running e;
-          sound = p.sound;
-          of_one = ap present (sym (next_is e piece count g)) ∙ present_twice (held.bytes ++ piece) ∙ next_is e piece count g;
-          typed = typed;
-        };
-      }
+  -- What is found before a growth: nothing, in what the framer took of a record that goes on.
+  pub lacks_part : held.ended ≡ false → (piece : List ℕ) (count : ℕ) → next_of held piece ≡ held.bytes ++ take count piece → length held.bytes < length (next_of held piece)
+      → is_whole (next_of held piece) ≡ false → standing_fault first (next_of held piece) ≡ None → LacksMemory (here profile held taken) piece
+  lacks_part e piece count g more w s = record {
+    count = count;
+    needed = more;
+    judged = inl g;
+    sound = part_sound profile held taken kept p e (take count piece) (next_of held piece) (sym g) w s;
+  }
+
+  -- nor in the first byte of all
+  no_bytes : held.number ≡ 0 → held.bytes ≡ [] → taken ≡ []
+  no_bytes n h = p.spelled ∙ ap (λ bs. flat_map raw_bytes p.before ++ bs) h ∙ ap (λ rs. flat_map raw_bytes rs ++ []) (nothing p.before (sym p.number ∙ n))
     where
-      nowhere : (n : ℕ) → n < 0 → ⊥
-      nowhere n h = omega (arith, h)
+      nothing : (rs : List Raw) → length rs ≡ 0 → rs ≡ []
+      nothing [] e = refl
+      nothing (r ∷ rs) e = absurd cc
 
-      running_by : (b : Bool) → held.ended ≡ b → held.ended ≡ false
-      running_by false e = e
-      running_by true e =
-          let none : next_of held piece ≡ [] = ap (λ b. cond b [] (present (held.bytes ++ piece))) e in
-          absurd (nowhere (length held.bytes) (subst (λ x. length held.bytes < length x) none more))
-
-  pub lacks_framing : held.ended ≡ false → (piece : List ℕ) → length held.bytes < length (next_of held piece) → type_faults (slice_index (next_of held piece) 0) ≡ [] → LacksMemory (here profile held taken) piece
-  lacks_framing e piece more typed =
-      let g = grows piece in
-      lacks piece (count_of piece) (ap (λ b. cond b [] (present (held.bytes ++ piece))) e ∙ sym g) more typed
-
-  pub lacks_sound : (piece : List ℕ) (count : ℕ) → next_of held piece ≡ held.bytes ++ take count piece → length held.bytes < length (next_of held piece)
-      → standing_fault first (next_of held piece) ≡ None → LacksMemory (here profile held taken) piece
-  lacks_sound piece count g more s =
-      let some : 0 < length (next_of held piece) = omega (arith, more) in
-      lacks piece count g more (type_none (next_of held piece) some (sound_type first (next_of held piece) s))
+  pub lacks_first : held.ended ≡ false → (piece : List ℕ) → held.number ≡ 0 → held.bytes ≡ [] → 0 < length (next_of held piece) → type_faults (slice_index (next_of held piece) 0) ≡ []
+      → LacksMemory (here profile held taken) piece
+  lacks_first e piece n h more typed =
+      let next : next_of held piece ≡ present (held.bytes ++ piece) = ap (λ b. cond b [] (present (held.bytes ++ piece))) e in
+      let x = first_sound first held.bytes piece h (subst (λ bs. 0 < length bs) next more) (subst (λ bs. type_faults (slice_index bs 0) ≡ []) next typed) in
+      record {
+        count = 1;
+        needed = subst (λ bs. length bs < length (next_of held piece)) (sym h) more;
+        judged = inr (no_bytes n h, h, refl);
+        sound = part_sound profile held taken kept p e (take 1 piece) (held.bytes ++ take 1 piece) refl x.1 x.0;
+      }

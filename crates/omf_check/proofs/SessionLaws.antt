@@ -1,20 +1,22 @@
 -- What a session's calls answer.
-use Rattle.std.proofs.Common.{◌≡◌, ℕ, zero, suc, ◌+◌, ◌<◌, ◌≤◌, Bool, true, false, List, [], ◌∷◌, ◌++◌, Result, Ok, Err, refl, sym, ◌∙◌, ap, subst, arith, length, min, length-append}
+use Rattle.std.proofs.Common.{◌≡◌, ◌≢◌, ℕ, zero, suc, ◌+◌, ◌<◌, ◌≤◌, Bool, true, false, List, [], ◌∷◌, ◌++◌, Result, Ok, Err, refl, sym, ◌∙◌, ap, subst, arith, length, min, length-append}
 use Rattle.std.specs.Prelude.{All, flat_map, ◌==◌, Option, Some, None, is_some, cond}
 use Rattle.omf_frame.specs.Fault.{Fault}
 use Rattle.omf_frame.specs.Framing.{Raw, raw_bytes, IsRecord, IsFramed, frame_fault, front_record, after_front}
 use Rattle.omf_frame.specs.Framer.{Held, at_start, stop_of, refused}
 use Rattle.omf_frame.specs.Framer.{want_of as framer_want}
 use Rattle.omf_frame.specs.declared.fault.FrameFault.{FrameFault}
+use Rattle.omf_frame.specs.declared.fault.FrameFault.TheVariants as frame
 use Rattle.omf_frame.proofs.FramingLaws.{present_raw, front_raw, after_raw}
 use Rattle.omf_image.specs.Limits.{profile_limits}
 use Rattle.omf_check.specs.declared.fault.CheckFault.{CheckFault}
+use Rattle.omf_check.specs.declared.fault.CheckFault.TheVariants as check
 use Rattle.omf_check.specs.declared.profile.Profile.{Profile}
 use Rattle.omf_check.specs.Kept.{Kept, Tells, nothing_kept}
 use Rattle.omf_check.specs.Module.{records_from, records_in, IsChecked}
 use Rattle.omf_check.specs.Points.{PointsTo}
 use Rattle.omf_check.specs.WellFormed.{IsWellFormed, recs}
-use Rattle.omf_check.specs.Session.{Seen, IsOpen, IsPassing, IsState, Moves, Takes, framing_fault, IsEndFault}
+use Rattle.omf_check.specs.Session.{Seen, IsOpen, IsPassing, IsState, Moves, Takes, IsCause, framing_fault, IsEndFault}
 use Rattle.omf_check.proofs.Moving.{taken_bound, started}
 use Rattle.omf_check.proofs.Passing.{open_here, stopped, early}
 
@@ -126,6 +128,25 @@ checked_of profile held taken kept p e =
 -- by the state
 pub state_of : (profile : Profile) (held : Held) (taken : List ℕ) (kept : Kept) (fault : Option CheckFault) → fault ≡ None → IsState profile held taken kept fault → IsPassing profile held taken kept
 state_of profile held taken kept fault e s = subst (IsState profile held taken kept) e s
+
+-- a kept fault is not that a reader failed, nor is one that is found
+pub kept_fault : (profile : Profile) (held : Held) (taken : List ℕ) (kept : Kept) (fault : Option CheckFault) (why : CheckFault) → fault ≡ Some why → IsState profile held taken kept fault
+    → (held.ended ≡ false) × (why ≢ check.Read)
+kept_fault profile held taken kept fault why e s = subst (IsState profile held taken kept) e s
+
+pub found_fault : (s : Seen) (piece : List ℕ) (why : CheckFault) → IsCause s piece why → why ≢ check.Read
+found_fault s piece check.Memory h = λ e. cc
+found_fault s piece check.Read h = absurd h
+found_fault s piece (check.Refused reason at) h = λ e. cc
+
+pub framing_not_read : (f : FrameFault) → framing_fault f ≢ check.Read
+framing_not_read frame.Memory = λ e. cc
+framing_not_read (frame.Refused why at) = λ e. cc
+
+pub open_of : (profile : Profile) (held : Held) (taken : List ℕ) (kept : Kept) (fault : Option CheckFault) → IsState profile held taken kept fault → fault ≡ None → IsOpen (seen profile held taken fault)
+open_of profile held taken kept fault s e =
+    let p = state_of profile held taken kept fault e s in
+    subst (λ f. IsOpen (seen profile held taken f)) (sym e) (open_here profile held taken kept p (taken_bound profile held taken kept p) (seen profile held taken None) refl refl refl refl)
 
 pub end_fault : (profile : Profile) (held : Held) (taken : List ℕ) (fault : Option CheckFault) (why : CheckFault) → fault ≡ None → IsEndFault (seen profile held taken None) why → IsEndFault (seen profile held taken fault) why
 end_fault profile held taken fault why e h = subst (λ f. IsEndFault (seen profile held taken f) why) (sym e) h

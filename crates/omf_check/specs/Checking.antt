@@ -1,5 +1,5 @@
 -- What a check answers, and how far it reads.
-use Rattle.std.specs.Prelude.{◌≡◌, ◌⊎◌, ◌<◌, ◌≤◌, ◌^◌, ◌-◌, IsTrue, ⊤, ℕ, List, drop, Option, Result, Ok, Err}
+use Rattle.std.specs.Prelude.{◌≡◌, ◌⊎◌, ◌<◌, ◌≤◌, ◌^◌, ◌-◌, IsTrue, ⊤, ℕ, List, drop, length, Option, Result, Ok, Err}
 use Rattle.std.specs.Io.KnownBytes.{Consumes, IsAtEnd}
 use Rattle.omf_frame.specs.declared.fault.Place.{Place}
 use Rattle.omf_frame.specs.declared.fault.Reason.{Reason}
@@ -22,10 +22,10 @@ abbrev pub IsReadTo : Profile → List ℕ → Option (List ℕ) → Reason → 
 IsReadTo profile read left why at =
     IsRefused profile profile_limits read why at × ((IsTrue (may_go_on why) × IsAtEnd left) ⊎ EndsWhereJudged why (drop at.start read))
 
--- Why a check gives no module, and what it read of a reader that tells its bytes. Where a growth was refused, no refusal is found
--- before the last byte that was read.
+-- Why a check gives no module, and what it read of a reader that tells its bytes. Where a growth was refused, that is a byte at
+-- least, and all that was read has no refusal but that it ends too early.
 abbrev pub IsCheckFault : Profile → Option (List ℕ) → Option (List ℕ) → ℕ → ℕ → CheckFault → Type 0
-IsCheckFault profile old new failed fails Memory = (read : List ℕ) × Consumes old new read × AreSoundSoFar profile profile_limits read
+IsCheckFault profile old new failed fails Memory = (read : List ℕ) × Consumes old new read × AreSoundSoFar profile profile_limits read × (0 < length read)
 IsCheckFault profile old new failed fails Read = HasFailed failed fails
 IsCheckFault profile old new failed fails (Refused why at) = (read : List ℕ) × Consumes old new read × IsReadTo profile read new why at
 

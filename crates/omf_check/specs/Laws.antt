@@ -1,8 +1,8 @@
 -- Laws over the definitions, each the contract of a function of the same name.
-use Rattle.std.specs.Prelude.{◌≡◌, ◌≢◌, ◌⊎◌, ◌↔◌, ◌<◌, ◌≤◌, ℕ, Bool, List, [], ◌∷◌, ◌++◌, map}
+use Rattle.std.specs.Prelude.{◌≡◌, ◌≢◌, ◌⊎◌, ◌↔◌, ◌<◌, ◌≤◌, ℕ, Bool, false, IsTrue, List, [], ◌∷◌, ◌++◌, map, flat_map, drop}
 use Rattle.std.specs.Option.{option_or}
 use Rattle.omf_frame.specs.Bytes.{AreBytes}
-use Rattle.omf_frame.specs.Framing.{Raw}
+use Rattle.omf_frame.specs.Framing.{Raw, raw_bytes, is_end_of_input}
 use Rattle.omf_frame.specs.declared.fault.Place.{Place}
 use Rattle.omf_frame.specs.declared.fault.Reason.{Reason}
 use Rattle.omf_frame.specs.declared.fault.Reason.TheVariants as reason
@@ -11,10 +11,10 @@ use Rattle.omf_records.specs.Values.{At, Subrecord, Reference, thread_number}
 use Rattle.omf_check.specs.Cells.{cells_after}
 use Rattle.omf_check.specs.Judging.{frame_cell, target_cell}
 use Rattle.omf_check.specs.Kept.{HasThreads, no_threads, set_thread, set_threads}
-use Rattle.omf_check.specs.Refusal.{IsRefused}
+use Rattle.omf_check.specs.Refusal.{IsRefused, AreSoundSoFar, EndsWhereJudged}
 use Rattle.omf_check.specs.Sound.{ModuleHolds}
 use Rattle.omf_check.specs.Threads.{setting_of, thread, frame_setting, target_setting}
-use Rattle.omf_check.specs.Verdict.{Accepted, Refused, verdict}
+use Rattle.omf_check.specs.Verdict.{Verdict, Accepted, Refused, Unknown, verdict}
 use Rattle.omf_check.specs.WellFormed.{IsAccepted, IsWellFormed, recs}
 use Rattle.omf_check.specs.declared.profile.Profile.{Profile}
 use Rattle.omf_check.specs.declared.threads.Threads.{Threads}
@@ -49,6 +49,37 @@ abbrev pub VerdictsDecide : Type 0
 VerdictsDecide = (profile : Profile) (limits : Limits) (input : List ℕ) → AreBytes input
     → ((records : List Raw) → (verdict profile limits input ≡ Accepted records) ↔ IsAccepted profile limits input records)
     × ((why : Reason) (at : Place) → (verdict profile limits input ≡ Refused why at) ↔ IsRefused profile limits input why at)
+
+-- What the verdict says of bytes that are a module and nothing more, or end too early for one.
+abbrev pub SaysSound : List ℕ → Verdict → Type 0
+SaysSound bytes (Accepted records) = flat_map raw_bytes records ≡ bytes
+SaysSound bytes (Refused why at) = IsTrue (is_end_of_input why)
+SaysSound bytes Unknown = ⊥
+
+-- The bytes have no refusal but that they end too early, and do not go on behind a module.
+abbrev pub IsUnrefused : Profile → Limits → List ℕ → Type 0
+IsUnrefused profile limits bytes =
+    ((why : Reason) (at : Place) → IsRefused profile limits bytes why at → IsTrue (is_end_of_input why))
+    × ((records : List Raw) (a : IsAccepted profile limits bytes records) → a.rest ≡ [])
+
+-- Bytes are sound so far exactly where no refusal of them stands and nothing is behind their module; and exactly where their verdict says so.
+abbrev pub SoundBytesAreDecided : Type 0
+SoundBytesAreDecided = (profile : Profile) (limits : Limits) (bytes : List ℕ) → AreBytes bytes
+    → (AreSoundSoFar profile limits bytes ↔ IsUnrefused profile limits bytes)
+    × (AreSoundSoFar profile limits bytes ↔ SaysSound bytes (verdict profile limits bytes))
+
+-- No shorter front of the bytes has a refusal but that it ends too early.
+abbrev pub NoneShorter : Profile → Limits → List ℕ → Type 0
+NoneShorter profile limits bytes = (front back : List ℕ) (b : ℕ) → bytes ≡ front ++ b ∷ back → AreSoundSoFar profile limits front
+
+-- A refusal other than NoEnd and Cut is decided by a front of the input, which ends where its record is judged and is refused so
+-- whatever follows. Bytes that are refused end where that is judged exactly where the refusal is another than these two, and no
+-- shorter front of them has one.
+abbrev pub RefusalsAreJudged : Type 0
+RefusalsAreJudged = (profile : Profile) (limits : Limits) (input : List ℕ) (why : Reason) (at : Place) → AreBytes input → IsRefused profile limits input why at
+    → (is_end_of_input why ≡ false → (read : List ℕ) × (rest : List ℕ) × (input ≡ read ++ rest) × EndsWhereJudged why (drop at.start read)
+    × ((more : List ℕ) → IsRefused profile limits (read ++ more) why at))
+    × (EndsWhereJudged why (drop at.start input) ↔ ((is_end_of_input why ≡ false) × NoneShorter profile limits input))
 
 -- After any subrecords the cells are the threads, found by searching backwards; one more subrecord sets the cell of its kind and
 -- number; and no number is 4 or more, so there are eight cells.

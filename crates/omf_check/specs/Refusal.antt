@@ -1,7 +1,7 @@
 -- The first refusal of an input that does not begin with a module.
-use Rattle.std.specs.Prelude.{◌≡◌, ℕ, ◌+◌, List, [], ◌∷◌, ◌++◌, length, map, flat_map, All, Bool, true, false, not, IsTrue, slice_index}
+use Rattle.std.specs.Prelude.{◌≡◌, ◌⊎◌, ℕ, ◌+◌, List, [], ◌∷◌, ◌++◌, length, map, flat_map, All, Bool, true, false, not, IsTrue}
 use Rattle.omf_frame.specs.Fault.{Fault, IsLeast, broken, first_step}
-use Rattle.omf_frame.specs.Framing.{Raw, raw_bytes, IsRecord, is_end, frame_steps, front_record, present, stated_length, type_faults}
+use Rattle.omf_frame.specs.Framing.{Raw, raw_bytes, IsRecord, is_end, is_end_of_input, frame_steps, front_record, present, stated_length}
 use Rattle.omf_frame.specs.declared.fault.Place.{Place}
 use Rattle.omf_frame.specs.declared.fault.Reason.{Reason}
 use Rattle.omf_frame.specs.declared.fault.Reason.TheVariants as reason
@@ -10,7 +10,7 @@ use Rattle.omf_records.specs.Values.{Contents, Iterated, width}
 use Rattle.omf_image.specs.Expanding.{block_faults, length_faults}
 use Rattle.omf_image.specs.declared.limits.Limits.{Limits}
 use Rattle.omf_check.specs.Rules.{rules}
-use Rattle.omf_check.specs.WellFormed.{recs}
+use Rattle.omf_check.specs.WellFormed.{IsWellFormed, recs}
 use Rattle.omf_check.specs.declared.profile.Profile.{Profile}
 
 -- Faults whose places count from a place in the record.
@@ -77,14 +77,8 @@ EndsWhereJudged reason.UnsupportedType part = length part ≡ 1
 EndsWhereJudged reason.EmptyRecord part = length part ≡ 3
 EndsWhereJudged _ part = length part ≡ 3 + stated_length part
 
--- No refusal of these bytes is found before the last of them is there: they are records without fault, none of them a MODEND, and
--- then bytes of one record, whose type byte has no fault.
-pub record AreSoundSoFar (profile : Profile) (limits : Limits) (bytes : List ℕ) : Type 0 where
-  pub before : List Raw
-  pub part : List ℕ
-  pub spelled : bytes ≡ flat_map raw_bytes before ++ part
-  pub records : All IsRecord before
-  pub running : All (λ r. IsTrue (not (is_end r.kind))) before
-  pub sound : (earlier later : List Raw) (r : Raw) → before ≡ earlier ++ r ∷ later → faults_after profile limits earlier (raw_bytes r) ≡ []
-  pub of_one : present part ≡ part
-  pub typed : type_faults (slice_index part 0) ≡ []
+-- The bytes are a module and nothing more, or end too early for one; no other refusal of them is there to be found.
+abbrev pub AreSoundSoFar : Profile → Limits → List ℕ → Type 0
+AreSoundSoFar profile limits bytes =
+    ((records : List Raw) × IsWellFormed profile limits bytes records)
+    ⊎ ((why : Reason) × (at : Place) × IsTrue (is_end_of_input why) × IsRefused profile limits bytes why at)

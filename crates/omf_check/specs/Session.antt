@@ -1,5 +1,5 @@
 -- What is seen of a session, and what its calls do.
-use Rattle.std.specs.Prelude.{◌≡◌, ◌⊎◌, ◌≤◌, ◌<◌, ◌^◌, IsTrue, ℕ, Bool, true, false, not, ◌||◌, ◌==◌, is_some, min, if◌then◌else◌, List, [], ◌∷◌, ◌++◌, length, take, drop, flat_map, All, Option, Some, None, option_map, Result, Ok, Err}
+use Rattle.std.specs.Prelude.{◌≡◌, ◌≢◌, ◌⊎◌, ◌≤◌, ◌<◌, ◌^◌, IsTrue, ℕ, Bool, true, false, not, ◌||◌, ◌==◌, is_some, min, if◌then◌else◌, List, [], ◌∷◌, ◌++◌, length, take, drop, flat_map, All, Option, Some, None, option_map, Result, Ok, Err}
 use Rattle.omf_frame.specs.Bytes.{AreBytes}
 use Rattle.omf_frame.specs.Fault.{Fault}
 use Rattle.omf_frame.specs.Framer.{Held}
@@ -48,10 +48,10 @@ IsModule profile bytes = (records : List Raw) × IsWellFormed profile profile_li
 abbrev pub may_go_on : Reason → Bool
 may_go_on why = is_end_of_input why
 
--- What is true of a session without a fault: the bytes taken have no refusal that stands whatever follows; and they are a module
+-- What is true of a session without a fault: the bytes taken have no refusal but that they end too early; and they are a module
 -- exactly where a MODEND was passed.
 pub record IsOpen (s : Seen) : Type 0 where
-  pub no_refusal : (why : Reason) (at : Place) → IsRefused s.profile profile_limits s.taken why at → IsTrue (may_go_on why)
+  pub sound : AreSoundSoFar s.profile profile_limits s.taken
   pub ended : s.ended ≡ true → IsModule s.profile s.taken
   pub running : s.ended ≡ false → (records : List Raw) → IsAccepted s.profile profile_limits s.taken records → ⊥
   pub bounded : length s.taken < 2 ^ 37
@@ -79,11 +79,12 @@ pub record RefusesHere (old : Seen) (piece : List ℕ) (why : Reason) (at : Plac
   pub judged : EndsWhereJudged why (old.at_hand ++ take count piece)
   pub refused : (more : List ℕ) → IsRefused old.profile profile_limits ((old.taken ++ take count piece) ++ more) why at
 
--- A growth was refused that the record at hand needs; the records before it have no fault, nor has its type byte.
+-- A growth was refused that the record at hand needs, and the bytes taken, with so many of the piece, have no refusal but that they
+-- end too early: to the end of the record, or of the piece; or the first byte of all, which takes room for the records.
 pub record LacksMemory (old : Seen) (piece : List ℕ) : Type 0 where
   pub count : ℕ
-  pub grown : next_bytes old piece ≡ old.at_hand ++ take count piece
   pub needed : length old.at_hand < length (next_bytes old piece)
+  pub judged : (next_bytes old piece ≡ old.at_hand ++ take count piece) ⊎ ((old.taken ≡ []) × (old.at_hand ≡ []) × (count ≡ 1))
   pub sound : AreSoundSoFar old.profile profile_limits (old.taken ++ take count piece)
 
 -- Why a feed fails.
@@ -92,8 +93,9 @@ IsCause old piece Memory = LacksMemory old piece
 IsCause old piece Read = ⊥
 IsCause old piece (Refused why at) = RefusesHere old piece why at
 
--- A feed that fails keeps its fault, which is the answer from then on.
+-- A feed that fails keeps its fault, which is the answer from then on, and is not that a reader failed.
 pub record FailsAs (old : Seen) (piece : List ℕ) (fault : CheckFault) (new : Seen) : Type 0 where
+  pub not_read : fault ≢ Read
   pub not_ended : old.ended ≡ false
   pub new_is : new ≡ record old { at_hand = []; fault = Some fault }
   pub cause : (old.fault ≡ Some fault) ⊎ ((old.fault ≡ None) × IsCause old piece fault)
@@ -130,7 +132,7 @@ pub record IsPassing (profile : Profile) (held : Held) (taken : List ℕ) (kept 
 -- What is true of every session, by its parts.
 abbrev pub IsState : Profile → Held → List ℕ → Kept → Option CheckFault → Type 0
 IsState profile held taken kept None = IsPassing profile held taken kept
-IsState profile held taken kept (Some fault) = held.ended ≡ false
+IsState profile held taken kept (Some fault) = (held.ended ≡ false) × (fault ≢ Read)
 
 -- A step of a session, by its framer and the bytes taken: it takes what the record at hand still lacks, or the whole piece, and
 -- passes a record that is whole then.
@@ -162,4 +164,4 @@ IsEndFault s (Refused why at) = IsRefused s.profile profile_limits s.taken why a
 
 abbrev pub Finishes : Seen → Result Module CheckFault → Type 0
 Finishes s (Ok m) = (s.fault ≡ None) × (s.ended ≡ true) × (m ≡ record { bytes = s.taken; profile = s.profile })
-Finishes s (Err fault) = (s.fault ≡ Some fault) ⊎ ((s.fault ≡ None) × (s.ended ≡ false) × IsEndFault s fault)
+Finishes s (Err fault) = (fault ≢ Read) × ((s.fault ≡ Some fault) ⊎ ((s.fault ≡ None) × (s.ended ≡ false) × IsEndFault s fault))

@@ -20,7 +20,7 @@ use std::alloc::Global;
 /// # Errors
 ///
 /// `Refused` where the input does not begin with a well-formed module. `Read` where the reader failed, or was interrupted 1,000
-/// times running. `Memory` where a growth was refused, and no refusal is found before the last byte that was read.
+/// times running. `Memory` where a growth was refused, and what was read has no refusal but that it ends too early.
 pub fn check<S: Source>(
     alloc: Global,
     reader: &mut S,

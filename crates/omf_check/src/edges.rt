@@ -1,7 +1,7 @@
 //! Worked examples at the edges of the rules, worked out by hand and evaluated by the check. Their checksum bytes are 00, which is
 //! always taken. The first records stand at 0, 6 and 13, and what follows them at 23.
 
-ghost use Rattle.std.specs.Prelude.{◌≡◌, ℕ, [], ◌∷◌, ◌++◌, Some, None};
+ghost use Rattle.std.specs.Prelude.{◌≡◌, ℕ, [], ◌∷◌, ◌++◌, Some, None, take, drop};
 ghost use Rattle.std.specs.List.{repeat};
 ghost use Rattle.omf_frame.specs.Fault.{broken};
 ghost use Rattle.omf_frame.specs.declared.fault.Reason.TheVariants as reason;
@@ -9,7 +9,8 @@ ghost use Rattle.omf_records.specs.Layout.{fault};
 ghost use Rattle.omf_records.specs.Rows.{put_at};
 ghost use Rattle.omf_records.specs.Values.{Comment, Fixups, Thread, ModEnd};
 ghost use Rattle.omf_image.specs.Limits.{profile_limits};
-ghost use Rattle.omf_check.specs.Rows.{any, no_vendors, verdict_of, module_in, place, H, N, S, L, M, with_fixup, repeated, comment, segment_named, group_named, two_externals, meaning_after};
+ghost use Rattle.omf_check.specs.Refusal.{AreSoundSoFar, EndsWhereJudged};
+ghost use Rattle.omf_check.specs.Rows.{any, no_vendors, verdict_of, module_in, place, H, N, S, L, M, first_module, wrong_checksum, with_fixup, repeated, comment, segment_named, group_named, two_externals, meaning_after};
 ghost use Rattle.omf_check.specs.Rules.{room, item_limit, item_places};
 ghost use Rattle.omf_check.specs.Tables.{items_in};
 ghost use Rattle.omf_check.specs.Verdict.{Refused, verdict};
@@ -121,4 +122,26 @@ pub fn full_tables()
     ensures group { meaning_after 32767 (group_named 0) (group_named 0) ≡ Some (fault 3 reason.TooMany) }
     ensures unnamed_group { meaning_after 32767 (group_named 0) (group_named 9) ≡ Some (fault 3 reason.UndefinedName) }
     ensures external { meaning_after 16383 two_externals two_externals ≡ Some (fault 6 reason.TooMany) }
+{}
+
+/// Bytes that are sound so far: a module, a front of one, none at all; not with a wrong checksum, nor with a byte behind the module.
+pub fn sound_bytes()
+    ensures whole { AreSoundSoFar any profile_limits first_module }
+    ensures inside { AreSoundSoFar any profile_limits (take 36 first_module) }
+    ensures between { AreSoundSoFar any profile_limits (take 43 first_module) }
+    ensures nothing { AreSoundSoFar any profile_limits [] }
+    ensures before_checksum { AreSoundSoFar any profile_limits (take 33 wrong_checksum) }
+    ensures checksum { AreSoundSoFar any profile_limits (take 34 wrong_checksum) → ⊥ }
+    ensures behind { AreSoundSoFar any profile_limits (first_module ++ 0xDE ∷ []) → ⊥ }
+{}
+
+/// A record is judged by its type byte, by a length of 0, or to its end.
+pub fn places_of_judging()
+    ensures kind { EndsWhereJudged reason.UnsupportedType (0xC2 ∷ []) }
+    ensures past_kind { EndsWhereJudged reason.UnsupportedType (0xC2 ∷ 0x01 ∷ []) → ⊥ }
+    ensures empty { EndsWhereJudged reason.EmptyRecord (0x96 ∷ 0x00 ∷ 0x00 ∷ []) }
+    ensures end { EndsWhereJudged reason.Checksum (drop 23 (take 34 wrong_checksum)) }
+    ensures before_end { EndsWhereJudged reason.Checksum (drop 23 (take 33 wrong_checksum)) → ⊥ }
+    ensures past_end { EndsWhereJudged reason.Checksum (drop 23 (take 35 wrong_checksum)) → ⊥ }
+    ensures cut { EndsWhereJudged reason.Cut (0x96 ∷ []) → ⊥ }
 {}

@@ -1,6 +1,6 @@
 //! Laws over the definitions, each the contract of a function that does nothing.
 
-ghost use Rattle.omf_check.specs.Laws.{RefusalsStay, RefusalsAreUnique, NeverBoth, ModulesAreUnique, IsEither, VerdictsDecide, CellsAreThreads, LimitsMayGrow, ModulesHold, ThreadsAreKept};
+ghost use Rattle.omf_check.specs.Laws.{RefusalsStay, RefusalsAreUnique, NeverBoth, ModulesAreUnique, IsEither, VerdictsDecide, SoundBytesAreDecided, RefusalsAreJudged, CellsAreThreads, LimitsMayGrow, ModulesHold, ThreadsAreKept};
 
 /// A refusal that is neither NoEnd nor Cut stands, whatever follows the input.
 pub fn refusals_stay()
@@ -30,6 +30,16 @@ pub fn is_either()
 /// The verdict says which, and is right.
 pub fn verdicts_decide()
     ensures { VerdictsDecide }
+{}
+
+/// Bytes are sound so far exactly where no refusal of them stands and nothing is behind their module, and the verdict says so.
+pub fn sound_bytes_are_decided()
+    ensures { SoundBytesAreDecided }
+{}
+
+/// A refusal other than NoEnd and Cut is decided where its record is judged: whatever follows, and by no shorter front.
+pub fn refusals_are_judged()
+    ensures { RefusalsAreJudged }
 {}
 
 /// Eight cells, of which each THREAD sets one, are the threads that a search backwards finds.

@@ -1,6 +1,6 @@
 //! The checker, fed in pieces.
 
-ghost use Rattle.std.specs.Prelude.{◌≡◌, IfOk, IfErr, OnOk, OnErr, false};
+ghost use Rattle.std.specs.Prelude.{◌≡◌, None, IfOk, IfErr, OnOk, OnErr, false};
 ghost use Rattle.omf_check.specs.Session.{at_start, want_of, IsOpen, Takes, FailsAs, IsPassing, Moves, Fails, Finishes, framing_fault};
 
 use crate::checked::Checked;
@@ -94,7 +94,8 @@ impl Session {
     /// How many bytes it can take before it next judges: one before a type byte, then the length bytes that are missing,
     /// then the rest of the record. None after the end, or after a fault.
     pub fn want(&self) -> usize
-        ensures { result ≡ want_of self.now }
+        ensures same { result ≡ want_of self.now }
+        ensures is_open { self.now.fault ≡ None → IsOpen self.now }
     {
         if self.fault.is_some() {
             return 0;
@@ -104,7 +105,8 @@ impl Session {
 
     /// Whether a MODEND was passed.
     pub fn ended(&self) -> bool
-        ensures { result ≡ self.now.ended }
+        ensures same { result ≡ self.now.ended }
+        ensures is_open { self.now.fault ≡ None → IsOpen self.now }
     {
         self.framer.ended()
     }
@@ -112,8 +114,9 @@ impl Session {
     /// Takes bytes to the end of one record at most; none after the end. `whole` says that a record was ended and passed.
     ///
     /// A fault is kept, and is the answer from then on: the refusal of the record at hand, which stands whatever follows, with
-    /// its place; or `Memory` where a growth that this record needs was refused, and the records before it and its type byte have
-    /// no fault. It takes no bytes. No later record of the piece is judged.
+    /// its place; or `Memory` where a growth was refused that this record needs, and what was judged before has no refusal: the
+    /// record to its end, or all of the piece, or at the first byte of all its type. It takes no bytes. No later record of the
+    /// piece is judged. It is never `Read`.
     pub fn feed(&mut self, piece: &[u8]) -> Result<Fed, CheckFault>
         ensures ok { IfOk result (λ fed. Takes self.old piece.now fed.taken fed.whole self.new) }
         ensures err { IfErr result (λ fault. FailsAs self.old piece.now fault self.new) }
@@ -138,7 +141,8 @@ impl Session {
 
     /// The input has ended: the module that the bytes taken are, where a MODEND was passed.
     ///
-    /// A kept fault is the answer; else, before a MODEND, the refusal of the bytes taken: Cut in a record, NoEnd between two.
+    /// A kept fault is the answer; else, before a MODEND, the refusal of the bytes taken: Cut in a record, NoEnd between two. It is
+    /// never `Read`.
     pub fn finish(self) -> Result<Checked, CheckFault>
         ensures { Finishes self result }
     {

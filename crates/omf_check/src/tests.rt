@@ -9,6 +9,7 @@ use omf_records::Rec;
 use std::alloc::{AllocError, Global};
 use std::test::Fail;
 
+mod memory;
 mod pieces;
 mod readers;
 

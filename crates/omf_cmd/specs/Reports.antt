@@ -1,6 +1,6 @@
 -- What `check` and `list` answer for an input: both print a text of the records of the module that it begins with. How the program
 -- ends.
-use Rattle.std.specs.Prelude.{◌≡◌, ◌⊎◌, ⊤, ℕ, List, Option, Some, Result, Ok, Err, IfErr}
+use Rattle.std.specs.Prelude.{◌≡◌, ◌⊎◌, ◌<◌, ⊤, ℕ, List, length, Option, Some, Result, Ok, Err, IfErr}
 use Rattle.std.specs.Io.KnownBytes.{Consumes, Keeps}
 use Rattle.omf_frame.specs.Framing.{Raw}
 use Rattle.omf_image.specs.Limits.{profile_limits}
@@ -30,9 +30,9 @@ pub record IsReadFrom (profile : Profile) (input : List ℕ) (records : List Raw
   pub accepted : IsAccepted profile profile_limits input records
   pub read : Consumes old new accepted.bytes
 
--- No refusal is found before the last byte that was read.
+-- What was read, a byte at least, has no refusal but that it ends too early.
 abbrev pub IsUnrefused : Profile → Option (List ℕ) → Option (List ℕ) → Type 0
-IsUnrefused profile old new = (read : List ℕ) × Consumes old new read × AreSoundSoFar profile profile_limits read
+IsUnrefused profile old new = (read : List ℕ) × Consumes old new read × AreSoundSoFar profile profile_limits read × (0 < length read)
 
 -- What the answer says of an input: done, or failed to write, only for a module of these records; refused as the input is; and no
 -- fault of a placement.

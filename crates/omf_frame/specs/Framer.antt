@@ -49,9 +49,15 @@ pub record Takes (old : Held) (piece : List ℕ) (taken : ℕ) (whole : Bool) (n
   pub whole_is : whole ≡ stands new
   pub sound : standing_fault (old.number == 0) (next_bytes old piece) ≡ None
 
--- Why a feed fails: a growth that was needed was refused, and the type byte has no fault; or the fault that now stands.
+-- The most bytes of a record: its type, its length, and what two length bytes can say.
+abbrev pub longest_record : ℕ
+longest_record = 65538
+
+-- Why a feed fails: a growth was refused, which only the first byte of the first record needs, and that type byte has no fault; or
+-- the fault that now stands.
 abbrev pub IsCause : Held → List ℕ → FrameFault → Type 0
-IsCause old piece Memory = (length old.bytes < length (next_bytes old piece)) × (type_faults (slice_index (next_bytes old piece) 0) ≡ [])
+IsCause old piece Memory =
+    (old.number ≡ 0) × (old.bytes ≡ []) × (0 < length (next_bytes old piece)) × (type_faults (slice_index (next_bytes old piece) 0) ≡ [])
 IsCause old piece (Refused reason place) = option_map (refused old) (standing_fault (old.number == 0) (next_bytes old piece)) ≡ Some (Refused reason place)
 
 -- A feed that fails keeps its fault and drops the bytes at hand; a kept fault is the answer from then on.
@@ -82,8 +88,10 @@ stop_of held = at_fault held.fault
     at_fault (Some fault) = Err fault
     at_fault None = if held.ended then Ok tt else at_hand (frame_fault (held.number == 0) held.bytes)
 
--- What is true of every framer.
-pub record IsState (held : Held) : Type 0 where
+-- What is true of every framer whose buffer has room for so many bytes: it has no room for every record only where it has taken no
+-- byte yet, or was refused its first.
+pub record IsState (room : ℕ) (held : Held) : Type 0 where
+  pub roomy : room < longest_record → (held.number ≡ 0) × (held.bytes ≡ [])
   pub bounded : held.start ≤ held.number * 65538
   pub short : length held.bytes ≤ record_len held.bytes
   pub small : length held.bytes ≤ 65538

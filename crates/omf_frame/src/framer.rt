@@ -1,9 +1,9 @@
 //! One record after another, from bytes in any pieces.
 
-ghost use Rattle.std.specs.Prelude.{◌≡◌, ◌≤◌, ◌<◌, ◌+◌, ◌-◌, ◌^◌, ◌++◌, ◌==◌, ◌||◌, [], true, false, None, IsTrue, length, take, slice_index, IfOk, IfErr, OnOk, OnErr, IfSome, OnSome, ℕ, List, is_some};
+ghost use Rattle.std.specs.Prelude.{◌≡◌, ◌≤◌, ◌<◌, ◌+◌, ◌-◌, ◌^◌, ◌++◌, ◌==◌, ◌||◌, [], true, false, None, IsTrue, length, take, slice_index, IfOk, IfErr, OnOk, OnErr, IfSome, OnSome, ℕ, List, is_some, vec_capacity};
 ghost use Rattle.omf_frame.specs.Framing.{Raw, IsRecord, raw_bytes, present, front_record, frame_fault, standing_fault, is_whole, is_taken, is_end};
 ghost use Rattle.omf_frame.specs.Judging.{record_len, type_fault};
-ghost use Rattle.omf_frame.specs.Framer.{Held, at_start, open_at, next_bytes, stands, want_of, Takes, IsCause, FailsAs, passed, stop_of};
+ghost use Rattle.omf_frame.specs.Framer.{Held, at_start, open_at, next_bytes, stands, want_of, Takes, IsCause, FailsAs, passed, stop_of, longest_record};
 
 use crate::fault::{FrameFault, Place, Reason};
 use crate::framing::{is_whole, len_of, record_len, type_fault, whole_fault};
@@ -28,8 +28,11 @@ pub struct RawRecord<'a> {
     pub start: u64,
 }
 
+/// The most bytes of a record: its type byte, two length bytes, and up to 65,535 more.
+const LONGEST_RECORD: usize = 65_538;
+
 /// Takes bytes in any pieces, and shows one record after another. It keeps one record at most, of up to
-/// 65,538 bytes.
+/// 65,538 bytes, and takes room for the longest at its first byte.
 #[derive(Drop)]
 pub struct Framer {
     bytes: Vec<u8>,
@@ -40,13 +43,14 @@ pub struct Framer {
 }
 
 impl Model for Framer {
+    ghost use Rattle.std.specs.Prelude.{vec_capacity};
     ghost use Rattle.omf_frame.specs.Framer.{Held, IsState};
 
     ghost Value = { Held };
 
     ghost view = { λ a. record { bytes = a.bytes.items; number = a.number; start = a.start; ended = a.ended; fault = a.fault } };
 
-    ghost invariant = { λ a. IsState (record { bytes = a.bytes.items; number = a.number; start = a.start; ended = a.ended; fault = a.fault }) };
+    ghost invariant = { λ a. IsState (vec_capacity a.bytes) (record { bytes = a.bytes.items; number = a.number; start = a.start; ended = a.ended; fault = a.fault }) };
 }
 
 /// How long the record is that begins with some bytes and goes on with others.
@@ -68,20 +72,39 @@ fn joined_len(held: &[u8], piece: &[u8]) -> usize
     }
 }
 
+/// Takes room for every record, where so many bytes are to come and there is none yet.
+fn take_room(bytes: &mut Vec<u8>, coming: usize) -> Result<(), AllocError>
+    requires small { length bytes.old.items ≤ 65538 }
+    ensures same { bytes.new.items ≡ bytes.old.items }
+    ensures capacity { vec_capacity bytes.old ≤ vec_capacity bytes.new }
+    ensures room { OnOk result (0 < coming → longest_record ≤ vec_capacity bytes.new) }
+    ensures first { OnErr result ((0 < coming) × (vec_capacity bytes.old < longest_record)) }
+{
+    if coming == 0 {
+        return Ok(());
+    }
+    bytes.reserve_exact(LONGEST_RECORD - bytes.len())
+}
+
 /// Appends what the record still lacks, and says how much that was.
 fn grow(bytes: &mut Vec<u8>, piece: &[u8]) -> Result<usize, AllocError>
     requires short { length bytes.old.items ≤ record_len bytes.old.items }
     requires small { length bytes.old.items ≤ 65538 }
+    requires room { vec_capacity bytes.old < longest_record → bytes.old.items ≡ [] }
     ensures ok { IfOk result (λ taken. bytes.new.items ≡ present (bytes.old.items ++ piece.now)) }
     ensures grown { IfOk result (λ taken. bytes.new.items ≡ bytes.old.items ++ take taken piece.now) }
     ensures taken { IfOk result (λ taken. taken + length bytes.old.items ≡ length (present (bytes.old.items ++ piece.now))) }
     ensures bound { IfOk result (λ taken. taken ≤ length piece.now) }
     ensures lacked { OnErr result (length bytes.old.items < length (present (bytes.old.items ++ piece.now))) }
+    ensures first { OnErr result (vec_capacity bytes.old < longest_record) }
+    ensures capacity { vec_capacity bytes.old ≤ vec_capacity bytes.new }
+    ensures room { OnOk result (vec_capacity bytes.new < longest_record → bytes.new.items ≡ []) }
     ensures short { OnOk result (length bytes.new.items ≤ record_len bytes.new.items) }
     ensures small { OnOk result (length bytes.new.items ≤ 65538) }
 {
     let lacks = joined_len(bytes, piece) - bytes.len();
     let taken = lacks.min(piece.len());
+    take_room(bytes, taken)?;
     bytes.extend_from_slice(&piece[..taken])?;
     Ok(taken)
 }
@@ -102,12 +125,15 @@ fn advance(bytes: &mut Vec<u8>, at: Place, piece: &[u8]) -> Result<usize, FrameF
     requires short { length bytes.old.items ≤ record_len bytes.old.items }
     requires small { length bytes.old.items ≤ 65538 }
     requires sound { standing_fault (at.number == 0) bytes.old.items ≡ None }
+    requires room { vec_capacity bytes.old < longest_record → (at.number ≡ 0) × (bytes.old.items ≡ []) }
     ensures ok { OnOk result (bytes.new.items ≡ present (bytes.old.items ++ piece.now)) }
     ensures grown { IfOk result (λ taken. bytes.new.items ≡ bytes.old.items ++ take taken piece.now) }
     ensures taken { IfOk result (λ taken. taken + length bytes.old.items ≡ length (present (bytes.old.items ++ piece.now))) }
     ensures bound { IfOk result (λ taken. taken ≤ length piece.now) }
     ensures sound { OnOk result (standing_fault (at.number == 0) bytes.new.items ≡ None) }
     ensures err { IfErr result (λ fault. IsCause (open_at bytes.old.items at.number at.start) piece.now fault) }
+    ensures capacity { vec_capacity bytes.old ≤ vec_capacity bytes.new }
+    ensures room { OnOk result (vec_capacity bytes.new < longest_record → bytes.new.items ≡ []) }
     ensures short { OnOk result (length bytes.new.items ≤ record_len bytes.new.items) }
     ensures small { OnOk result (length bytes.new.items ≤ 65538) }
 {
@@ -167,8 +193,8 @@ impl Framer {
     /// Takes bytes to the end of one record at most: none while a whole record stands, and none after
     /// the end. `whole` says whether a whole record stands then.
     ///
-    /// A fault (a refusal by reasons 3 to 7, or `Memory` where a growth that was needed was refused) is
-    /// kept, drops the bytes at hand, and is the answer from then on.
+    /// A fault is kept, drops the bytes at hand, and is the answer from then on: a refusal by reasons 3 to 7,
+    /// or `Memory` where the first byte of the first record found no room, and its type has no fault.
     pub fn feed(&mut self, piece: &[u8]) -> Result<Fed, FrameFault>
         ensures ok { IfOk result (λ fed. Takes self.old piece.now fed.taken fed.whole self.new) }
         ensures err { IfErr result (λ fault. FailsAs self.old piece.now fault self.new) }

@@ -9,7 +9,7 @@ returns-then-want-eq0-clause-verdict g c =
     let i = c.loop-buffer.invariant in
     let s = c.loop-buffer.session in
     finish_ended c.args.profile s i.is_open i.no_fault i.profile c.finish.result (g.S.Source.left c.args.reader.now) (g.S.Source.left c.loop-buffer.reader)
-    (none_wanted c.min-want.result c.want.result (want_of s) c.if-want-eq0.true c.min-want.ensures c.want.ensures) c.finish.ensures i.consumed
+    (none_wanted c.min-want.result c.want.result (want_of s) c.if-want-eq0.true c.min-want.ensures c.want.ensures.same) c.finish.ensures i.consumed
 
 pub returns-then-count-eq0-clause-verdict : goal.returns-then-count-eq0-clause-verdict
 returns-then-count-eq0-clause-verdict g c =
@@ -34,7 +34,7 @@ loop-buffer-preserved g c =
     let s = c.loop-buffer.session in
     let t = c.in_ok-feed.ensures.ok in
     let piece = take c.in-Ok.count c.pull_piece.new.buffer in
-    let low = piece_low c.pull_piece.new.buffer c.loop-buffer.buffer c.in-Ok.count c.min-want.result c.want.result (want_of s) c.pull_piece.auto.buffer c.min-want.ensures c.want.ensures in
+    let low = piece_low c.pull_piece.new.buffer c.loop-buffer.buffer c.in-Ok.count c.min-want.result c.want.result (want_of s) c.pull_piece.auto.buffer c.min-want.ensures c.want.ensures.same in
     let first = c.loop-buffer.invariant.grows in
     let second = c.in-Ok.ensures.grows in
     record {
@@ -59,7 +59,7 @@ pub returns-in_err-feed-clause-cause : goal.returns-in_err-feed-clause-cause
 returns-in_err-feed-clause-cause g c =
     let i = c.loop-buffer.invariant in
     let s = c.loop-buffer.session in
-    let low = piece_low c.pull_piece.new.buffer c.loop-buffer.buffer c.in-Ok.count c.min-want.result c.want.result (want_of s) c.pull_piece.auto.buffer c.min-want.ensures c.want.ensures in
+    let low = piece_low c.pull_piece.new.buffer c.loop-buffer.buffer c.in-Ok.count c.min-want.result c.want.result (want_of s) c.pull_piece.auto.buffer c.min-want.ensures c.want.ensures.same in
     let e = err_from_is_err_and c.from_residual.result c.from_residual.ensures.1 in
     rw (e.1, e.2) (
     feed_cause c.args.profile s i.is_open i.no_fault i.profile c.in_err-feed.field-0.0 (take c.in-Ok.count c.pull_piece.new.buffer) c.feed.new.self

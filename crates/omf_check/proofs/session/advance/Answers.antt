@@ -1,7 +1,7 @@
 use Rattle.std.proofs.Common.{sym, subst, arith}
 use Rattle.std.proofs.lemmas.Result.{err_from_is_err_and}
 use Rattle.omf_check.specs.Session.{Fails}
-use Rattle.omf_check.proofs.Advancing.{framer_fails, take_fails, start_low, number_low, bytes_lack, none_passed, record_passed}
+use Rattle.omf_check.proofs.Advancing.{framer_fails, take_fails, start_low, number_low, part_lacks, record_lacks, none_passed, record_passed}
 use Rattle.omf_check.proofs.session.advance.Goals as goal
 
 pub returns-in-Err-clause-cause : goal.returns-in-Err-clause-cause
@@ -20,7 +20,7 @@ returns-in_err-take-in-Some-clause-cause c =
     rw (e.1, e.2) (
     take_fails c.args.profile c.args.framer.now c.args.bytes.now.items c.args.tables.now c.requires c.args.piece.now c.in-Ok.fed.taken c.in-Ok.fed.whole c.feed.new.self c.in-Ok.ensures.ok
     c.in_err-take-in-Some.field-0.0 c.in-Some.raw.kind c.in-Some.raw.number c.in-Some.raw.start c.in-Some.raw.body.now
-    (sym c.in-Some.ensures.stands) c.in-Some.ensures.sound c.in-Some.ensures.kind c.in-Some.ensures.body c.in-Some.ensures.number c.in-Some.ensures.start
+    (sym c.in-Some.ensures.stands) c.in-Some.ensures.sound c.in-Some.ensures.record c.in-Some.ensures.spelled c.in-Some.ensures.kind c.in-Some.ensures.body c.in-Some.ensures.number c.in-Some.ensures.start
     (λ i. omega (arith, c.type_inv.piece i)) c.in_err-take-in-Some.ensures.cause)
 
 pub next-requires-clause-number : goal.next-requires-clause-number
@@ -46,14 +46,13 @@ returns-in_err-extend_from_slice-in-None-clause-cause c =
     let full = c.in_err-extend_from_slice-in-None.ensures.full in
     let held = c.args.bytes.now.ok.0 in
     rw (e.1, e.2) (
-    bytes_lack c.args.profile c.args.framer.now c.args.bytes.now.items c.args.tables.now c.requires c.args.piece.now c.in-Ok.fed.taken c.in-Ok.fed.whole c.feed.new.self c.in-Ok.ensures.ok
-    (omega (arith, full, held)))
+    part_lacks c.args.profile c.args.framer.now c.args.bytes.now.items c.args.tables.now c.requires c.args.piece.now c.in-Ok.fed.taken c.in-Ok.fed.whole c.feed.new.self c.in-Ok.ensures.ok
+    (omega (arith, full, held)) (sym c.in-None.ensures.stands))
 
 pub returns-in_err-extend_from_slice-in-Some-clause-cause : goal.returns-in_err-extend_from_slice-in-Some-clause-cause
 returns-in_err-extend_from_slice-in-Some-clause-cause c =
     let e = err_from_is_err_and c.from_residual-in_err-extend_from_slice-in-Some.result c.from_residual-in_err-extend_from_slice-in-Some.ensures.1 in
-    let full = c.in_err-extend_from_slice-in-Some.ensures.full in
-    let held = c.args.bytes.now.ok.0 in
     rw (e.1, e.2) (
-    bytes_lack c.args.profile c.args.framer.now c.args.bytes.now.items c.args.tables.now c.requires c.args.piece.now c.in-Ok.fed.taken c.in-Ok.fed.whole c.feed.new.self c.in-Ok.ensures.ok
-    (omega (arith, full, held)))
+    record_lacks c.args.profile c.args.framer.now c.args.bytes.now.items c.args.tables.now c.requires c.args.piece.now c.in-Ok.fed.taken c.in-Ok.fed.whole c.feed.new.self c.in-Ok.ensures.ok
+    c.in-Some.raw.kind c.in-Some.raw.body.now (λ i. omega (arith, c.type_inv.piece i)) (sym c.in-Some.ensures.stands) c.in-Some.ensures.sound c.in-Some.ensures.record c.in-Some.ensures.spelled
+    c.in-Some.ensures.kind c.in-Some.ensures.body c.in_ok-take-in-Some.ensures.sound)

@@ -23,7 +23,8 @@ returns-in_err-taken-clause-err c =
     let b = c.args.piece.now in
     let some : 0 < length (present (a ++ b)) = omega (arith, c.in_err-taken.ensures.lacked) in
     let none : c.joined_type_fault.result ≡ None = c.in_default.is in
-    rw (p.1, p.2) (c.in_err-taken.ensures.lacked, type_none (present (a ++ b)) some (sym (rw c.deref.ensures.value at c.joined_type_fault.ensures) ∙ none))
+    let fresh = c.requires.room c.in_err-taken.ensures.first in
+    rw (p.1, p.2) (fresh.0, fresh.1, some, type_none (present (a ++ b)) some (sym (rw c.deref.ensures.value at c.joined_type_fault.ensures) ∙ none))
 
 pub returns-in-Some-whole_fault-clause-err : goal.returns-in-Some-whole_fault-clause-err
 returns-in-Some-whole_fault-clause-err c =

@@ -9,4 +9,4 @@ returns-clause-ok c =
     let b = c.args.piece.now in
     let j : c.joined_len.result ≡ record_len (a ++ b) = rw c.deref.ensures.value at c.joined_len.ensures.same in
     let k : c.min-taken.result ≡ min (record_len (a ++ b) - length a) (length b) = omega (arith, c.args.bytes.now.ok.0) in
-    c.in_ok-extend_from_slice.ensures.items ∙ ap (λ (n : ℕ). a ++ take n b) k ∙ grown a b c.requires.short
+    c.in_ok-extend_from_slice.ensures.items ∙ ap (λ t. t ++ take c.min-taken.result b) c.take_room.ensures.same ∙ ap (λ (n : ℕ). a ++ take n b) k ∙ grown a b c.requires.short
