@@ -4,9 +4,8 @@ use Rattle.std.specs.Prelude.{Option, Some, None, nat_lt}
 use Rattle.std.specs.Result.{result_err}
 use Rattle.omf_frame.specs.Fault.{Fault}
 use Rattle.omf_frame.specs.declared.fault.Reason.TheVariants.{TooMany}
-use Rattle.omf_records.specs.Reads.{or_none}
 use Rattle.omf_records.specs.Values.{At, Subrecord, Fixups}
-use Rattle.omf_records.specs.Each.{with_first, with_first_fault, no_fault}
+use Rattle.omf_records.specs.Each.{with_first, with_first_fault}
 use Rattle.omf_check.specs.declared.threads.Threads.{Threads}
 use Rattle.omf_check.specs.Kept.{Kept, IsBounded, set_thread, set_threads}
 use Rattle.omf_check.specs.Rules.{item_limit, places}

@@ -1,10 +1,10 @@
 //! What is kept of the records so far, and the rules that need it.
 
-ghost use Rattle.std.specs.Prelude.{◌≡◌, ◌≤◌, ◌<◌, ◌+◌, ◌^◌, ◌++◌, ℕ, length, OnOk, IfOk, List, unwrap_or, IsTrue, IfErr, None, Ok, nat_lt, ◌-◌};
-ghost use Rattle.omf_check.specs.Rules.{judged_at, item_limit, item_places};
+ghost use Rattle.std.specs.Prelude.{◌≡◌, ◌≤◌, ◌<◌, ◌+◌, ◌^◌, ◌++◌, ℕ, length, OnOk, IfOk, List, unwrap_or, IsTrue, IfErr, None, Ok, ◌-◌, [], ◌∷◌};
+ghost use Rattle.omf_check.specs.Rules.{judged_at, item_limit};
 ghost use Rattle.omf_image.specs.Limits.{profile_limits};
 ghost use Rattle.omf_check.specs.Kept.{Kept, nothing_kept, starts, with_record, with_contents, set_threads};
-ghost use Rattle.omf_check.specs.Judging.{kept_length, data_fault, index_fault, frame_fault, target_fault, reference_fault, location_fault, subrecord_fault, subrecords_fault, start_fault, contents_fault, segment_fault, group_fault, base_fault, room_fault, data_size, placed, record_fault, IsShort, raw_fault, rec_of};
+ghost use Rattle.omf_check.specs.Judging.{kept_length, data_fault, index_fault, frame_fault, target_fault, reference_fault, location_fault, subrecord_fault, start_fault, contents_fault, segment_fault, group_fault, base_fault, room_fault, data_size, placed, record_fault, IsShort, IsNoFixupp, raw_fault, rec_of};
 ghost use Rattle.omf_check.specs.Session.{refused_at, IsStopped};
 ghost use Rattle.omf_frame.specs.Framing.{is_taken};
 ghost use Rattle.omf_check.specs.Kept.{IsBounded};
@@ -125,24 +125,6 @@ fn add_starts<T: Item>(places: &mut Vec<u64>, at: u64, items: Items<T>) -> Resul
         places.push(at + u64::from(item.within))?;
     }
     Ok(())
-}
-
-/// Some subrecord is there.
-fn has_some(subrecords: &Items<Subrecord<'_>>) -> bool
-    ensures { result ≡ nat_lt 0 (length subrecords.now) }
-{
-    subrecords.iter().next().is_some()
-}
-
-/// How many items a record is.
-fn items_in(rec: &Rec<'_>) -> usize
-    requires { items_in (contents_seen rec.now) ≤ item_limit }
-    ensures { result ≡ items_in (contents_seen rec.now) }
-{
-    match rec {
-        Rec::Fixups { subrecords, .. } => subrecords.iter().count().max(1),
-        _ => 1,
-    }
 }
 
 /// How many bytes the blocks of an LIDATA stand for, whose offset stands at this place; or their first fault.
@@ -301,22 +283,6 @@ impl Tables {
         }
     }
 
-    /// The subrecords of a FIXUPP.
-    fn subrecords_fault(&self, subrecords: Items<Subrecord<'_>>) -> Option<LayoutFault>
-        ensures { result ≡ subrecords_fault self.now self.now.threads subrecords.entry }
-    {
-        let mut threads = self.threads;
-        let mut found = None;
-        for subrecord in subrecords {
-            found = lesser(
-                found,
-                self.subrecord_fault(&threads, subrecord.within, &subrecord.item),
-            );
-            threads.set(&subrecord.item);
-        }
-        found
-    }
-
     /// The start of a MODEND: its frame is not that of a location.
     fn start_fault(&self, start: &Option<Reference>) -> Option<LayoutFault>
         ensures { result ≡ start_fault self.now start.now }
@@ -369,8 +335,9 @@ impl Tables {
         )
     }
 
-    /// The rules of a record's contents. Data records have so many bytes of data.
+    /// The rules of a record that is no FIXUPP. Data records have so many bytes of data.
     fn contents_fault(&self, profile: Profile, size: usize, rec: &Rec<'_>) -> Option<LayoutFault>
+        requires { IsNoFixupp (contents_seen rec.now) }
         ensures { result ≡ contents_fault profile self.now size (contents_seen rec.now) }
     {
         let name_room = TABLE_LIMIT.saturating_sub(self.names.len());
@@ -393,43 +360,35 @@ impl Tables {
                 offset,
                 ..
             } => self.data_fault(segment, offset, size),
-            Rec::Fixups { subrecords, .. } => self.subrecords_fault(subrecords.iter()),
+            Rec::Fixups { .. } => unreachable!(),
             Rec::ModEnd { start, .. } => self.start_fault(start),
             Rec::Header { .. } | Rec::Carried { .. } => None,
         }
     }
 
-    /// Each item of a record has room.
-    fn items_fault(&self, rec: &Rec<'_>) -> Option<LayoutFault>
-        ensures { result ≡ room_fault (item_limit - self.now.items) (item_places (contents_seen rec.now)) }
+    /// One item more has room, which stands at the record's start.
+    fn item_fault(&self) -> Option<LayoutFault>
+        ensures { result ≡ room_fault (item_limit - self.now.items) (0 ∷ []) }
     {
-        let room = ITEM_LIMIT.saturating_sub(self.items);
-        match rec {
-            Rec::Fixups { subrecords, .. } if has_some(subrecords) => room_fault(
-                subrecords.iter(),
-                room,
-            ),
-            _ => fault_unless(room > 0, 0, Reason::TooMany),
-        }
+        fault_unless(self.items < ITEM_LIMIT, 0, Reason::TooMany)
     }
 
-    /// The least fault of a record after the records of these tables: that of its blocks, else that of its rules.
-    pub fn record_fault(&self, profile: Profile, rec: &Rec<'_>) -> Option<LayoutFault>
-        requires { IsShort (contents_seen rec.now) }
+    /// The least fault of a record that is no FIXUPP, after the records of these tables: that of its blocks, else that of its rules.
+    fn record_fault(&self, profile: Profile, rec: &Rec<'_>) -> Option<LayoutFault>
+        requires other { IsNoFixupp (contents_seen rec.now) }
+        requires short { IsShort (contents_seen rec.now) }
         ensures { result ≡ record_fault profile profile_limits self.now (rec_seen rec.now) }
     {
         match data_size(rec) {
-            Ok(size) => lesser(
-                self.items_fault(rec),
-                self.contents_fault(profile, size, rec),
-            ),
+            Ok(size) => lesser(self.item_fault(), self.contents_fault(profile, size, rec)),
             Err(fault) => Some(fault),
         }
     }
 
-    /// Keeps what a record defines, which begins at this offset of the module.
+    /// Keeps what a record that is no FIXUPP defines. It begins at this offset of the module.
     fn add_contents(&mut self, at: u64, rec: &Rec<'_>) -> Result<(), AllocError>
-        requires { at < 2 ^ 40 }
+        requires start { at < 2 ^ 40 }
+        requires other { IsNoFixupp (contents_seen rec.now) }
         ensures { OnOk result (self.new ≡ with_contents self.old at (kind_seen rec.now) (contents_seen rec.now)) }
     {
         match rec {
@@ -446,21 +405,23 @@ impl Tables {
                 self.last = Some(LastData::Iterated);
                 Ok(())
             }
-            Rec::Fixups { subrecords, .. } => {
-                self.threads.set_all(subrecords.iter());
-                Ok(())
-            }
-            _ => Ok(()),
+            Rec::Fixups { .. } => unreachable!(),
+            Rec::Header { .. }
+            | Rec::Comment { .. }
+            | Rec::Publics { .. }
+            | Rec::ModEnd { .. }
+            | Rec::Carried { .. } => Ok(()),
         }
     }
 
-    /// Keeps what a record tells later ones. It begins at this offset of the module.
-    pub fn add(&mut self, at: u64, rec: &Rec<'_>) -> Result<(), AllocError>
+    /// Keeps what a record that is no FIXUPP tells later ones. It begins at this offset of the module.
+    fn add(&mut self, at: u64, rec: &Rec<'_>) -> Result<(), AllocError>
         requires start { at < 2 ^ 40 }
-        requires items { self.old.items + items_in (contents_seen rec.now) ≤ item_limit }
+        requires other { IsNoFixupp (contents_seen rec.now) }
+        requires items { self.old.items < item_limit }
         ensures { OnOk result (self.new ≡ with_record self.old at (rec_seen rec.now)) }
     {
-        self.items += items_in(rec);
+        self.items += 1;
         self.add_contents(at, rec)
     }
 

@@ -3,7 +3,7 @@ use Rattle.std.specs.Prelude.{nat_lt}
 use Rattle.omf_frame.specs.declared.fault.Reason.TheVariants.{TooMany}
 use Rattle.omf_records.specs.Unread.{NextGives}
 use Rattle.omf_check.specs.declared.threads.Threads.{Threads}
-use Rattle.omf_check.specs.Kept.{Kept, set_thread, set_threads}
+use Rattle.omf_check.specs.Kept.{Kept, set_thread}
 use Rattle.omf_check.specs.Rules.{item_limit}
 use Rattle.omf_check.specs.Judging.{fault_unless, subrecord_fault}
 use Rattle.omf_check.proofs.Walked.{walks_more, walks_whole}
