@@ -1,6 +1,6 @@
 -- The lesser of faults: the least of several, however they are grouped.
 use Rattle.std.proofs.Common.{◌≡◌, ℕ, ◌-◌, ◌<◌, ◌≤◌, List, [], ◌∷◌, ◌++◌, refl, sym, ◌∙◌, ap, arith, Bool, true, false, inl, inr}
-use Rattle.std.specs.Prelude.{cond, nat_lt, Option, Some, None, ◌⊎◌}
+use Rattle.std.specs.Prelude.{cond, nat_lt, Option, Some, None, is_none, ◌⊎◌, ◌&&◌}
 use Rattle.std.proofs.lemmas.Bool.Decides.{leb_tells}
 use Rattle.omf_frame.specs.declared.fault.Reason.{Reason}
 use Rattle.omf_frame.specs.declared.fault.Reason.TheVariants as reason
@@ -113,3 +113,24 @@ pub room_more : (found one now all : Option Fault) (left fewer within : ℕ) (ol
 room_more found one now all left fewer within old rest n o f s h =
     ap (λ x. lesser x (room_fault fewer rest)) (n ∙ ap (lesser found) o) ∙ ap (λ k. lesser (lesser found (fault_unless (nat_lt 0 left) within reason.TooMany)) (room_fault k rest)) f
     ∙ lesser_more found _ _ (room_fault (left - 1) rest) all (ap (room_fault left) s) h
+
+-- A rule that holds has no fault; the lesser of two faults is none where neither is there.
+pub unless_none : (holds : Bool) (within : ℕ) (r : Reason) → is_none (fault_unless holds within r) ≡ holds
+unless_none true within r = refl
+unless_none false within r = refl
+
+pub lesser_is_none : (a b : Option Fault) → is_none (lesser a b) ≡ is_none a && is_none b
+lesser_is_none None b = refl
+lesser_is_none (Some f) None = refl
+lesser_is_none (Some f) (Some g) = by (is_before f g)
+  where
+    by : (b : Bool) → is_none (cond b (Some f) (Some g)) ≡ false
+    by true = refl
+    by false = refl
+
+-- two tests, of which the second is made where the first holds
+pub both_hold : (a b : Option Fault) (first second : Bool) → first ≡ is_none a → first ≡ true → second ≡ is_none b → second ≡ is_none (lesser a b)
+both_hold a b first second e t f = f ∙ ap (λ x. x && is_none b) (sym t ∙ e) ∙ sym (lesser_is_none a b)
+
+pub first_fails : (a b : Option Fault) (first : Bool) → first ≡ is_none a → first ≡ false → first ≡ is_none (lesser a b)
+first_fails a b first e f = f ∙ ap (λ x. x && is_none b) (sym f ∙ e) ∙ sym (lesser_is_none a b)

@@ -1,5 +1,5 @@
 -- The fault that is computed for a record is the least of the first of its steps that has one.
-use Rattle.std.proofs.Common.{◌≡◌, ℕ, suc, ◌+◌, ◌-◌, ◌≤◌, Bool, true, false, List, [], ◌∷◌, ◌++◌, Result, Ok, Err, refl, sym, ◌∙◌, ap, arith, length, length-append}
+use Rattle.std.proofs.Common.{◌≡◌, ℕ, suc, ◌+◌, ◌-◌, ◌<◌, ◌≤◌, Bool, true, false, List, [], ◌∷◌, ◌++◌, Result, Ok, Err, refl, sym, ◌∙◌, ap, arith, length, length-append}
 use Rattle.std.proofs.lemmas.List.{length-map}
 use Rattle.std.proofs.lemmas.Bool.{leb-true}
 use Rattle.std.specs.Prelude.{Option, Some, None, cond, nat_le, nat_lt}
@@ -7,6 +7,10 @@ use Rattle.omf_frame.specs.Fault.{Fault, Rule, rule, broken, least, first_step}
 use Rattle.omf_frame.specs.Framing.{Raw}
 use Rattle.omf_frame.specs.declared.fault.Reason.TheVariants as reason
 use Rattle.omf_records.specs.Values.{At, Rec, Contents, Names, Segment, Group, Externs, Communals, Plain, Iterated, Fixups, width}
+use Rattle.omf_records.specs.declared.record.Rec.{Rec as Told}
+use Rattle.omf_records.specs.declared.record.Rec.TheVariants as told
+use Rattle.omf_records.specs.Seen.{contents_seen, kind_seen, odd_if}
+use Rattle.omf_records.specs.Unread.{is_fixupp}
 use Rattle.omf_records.specs.Reading.{read_body, fault_list, contents_or}
 use Rattle.omf_image.specs.Blocks.{Blocks, blocks_size}
 use Rattle.omf_image.specs.Expanding.{read_blocks, blocks_of, faults_of, length_or}
@@ -17,7 +21,7 @@ use Rattle.omf_check.specs.Rules.{rules, item_limit, table_limit, item_places, p
 use Rattle.omf_check.specs.WellFormed.{recs}
 use Rattle.omf_check.specs.Refusal.{moved, short_or_deep, too_long, record_steps}
 use Rattle.omf_check.specs.Kept.{Kept, Tells, IsBounded, with_record, with_contents, starts}
-use Rattle.omf_check.specs.Judging.{fault_unless, lesser, room_fault, contents_fault, placed, data_size, judged_by_size, record_fault, raw_fault, read_fault}
+use Rattle.omf_check.specs.Judging.{fault_unless, lesser, room_fault, contents_fault, placed, data_size, judged_by_size, record_fault, raw_fault, read_fault, IsNoFixupp}
 use Rattle.omf_check.proofs.Lesser.{fault_of}
 use Rattle.omf_check.proofs.JudgeLaws.{rules_law}
 
@@ -94,6 +98,21 @@ item_lengths (Fixups (s ∷ subs)) = let e : length (places (s ∷ subs)) ≡ su
 item_lengths (Names items) = refl
 item_lengths _ = refl
 
+-- A record that is no FIXUPP is one item, at its start.
+pub not_fixupp : (r : Told) → is_fixupp (kind_seen r) ≡ false → IsNoFixupp (contents_seen r)
+not_fixupp (told.Fixups wide subs) h = absurd (by wide h)
+  where
+    by : (wide : Bool) → is_fixupp (odd_if wide 0x9C) ≡ false → ⊥
+    by true h = cc
+    by false h = cc
+not_fixupp (told.Names items) h = tt
+not_fixupp _ h = tt
+
+one_item : (c : Contents) → IsNoFixupp c → items_in c ≡ 1
+one_item (Fixups subs) h = absurd h
+one_item (Names items) h = refl
+one_item _ h = refl
+
 fits : (limit old n room : ℕ) → old ≤ limit → room ≡ limit - old → n ≤ room → old + n ≤ limit
 fits limit old n room le e h = omega (arith, le, e, h)
 
@@ -166,6 +185,10 @@ module _ (profile : Profile) (limits : Limits) (kept : Kept) (bounded : IsBounde
       let le = items_fit r.contents both.0 in
       (le, more_bounded at r.kind size (kept.items + items_in r.contents) r.contents le both.1)
   by_data at r (Err f) h = absurd cc
+
+  -- what is no FIXUPP has room as one item
+  pub one_fits_on : (at : ℕ) (r : Rec) → IsNoFixupp r.contents → record_fault profile limits kept r ≡ None → kept.items < 1048576
+  one_fits_on at r other h = let le = (by_data at r (data_size limits r.kind r.contents) h).0 in let one = one_item r.contents other in omega (arith, le, one)
 
   pub fits_on : (at : ℕ) (r : Rec) → record_fault profile limits kept r ≡ None → (kept.items + items_in r.contents ≤ 1048576) × IsBounded (with_record kept at r)
   fits_on at r h = by_data at r (data_size limits r.kind r.contents) h

@@ -9,7 +9,7 @@ use Rattle.omf_image.specs.declared.limits.Limits.{Limits}
 use Rattle.omf_frame.specs.declared.fault.Reason.{Reason}
 use Rattle.omf_frame.specs.declared.fault.Place.{Place}
 use Rattle.omf_frame.specs.Fault.{Fault, IsLeast, least, least_or, first_step}
-use Rattle.omf_frame.specs.Framing.{Raw, raw_bytes, IsRecord, is_taken, is_header, is_end, present, front_record, after_front, frame_steps}
+use Rattle.omf_frame.specs.Framing.{Raw, raw_bytes, IsRecord, is_taken, is_header, is_end, present, front_record, after_front, frame_steps, HasFront}
 use Rattle.omf_records.specs.Records.{IsTyped}
 use Rattle.omf_records.specs.Reading.{typed}
 use Rattle.omf_check.specs.Refusal.{steps, record_steps, is_empty, place_after, IsRefused}
@@ -21,7 +21,8 @@ use Rattle.omf_records.specs.Steps.{AreBytes-front, AreBytes-back}
 use Rattle.omf_check.proofs.TreeLaws.{trees_of}
 use Rattle.omf_frame.proofs.FaultLaws.{all_cons, least_is_least}
 use Rattle.omf_check.proofs.UniqueLaws.{AreSound, sound_first, sound_rest, refused_once}
-use Rattle.omf_check.proofs.StepLaws.{IsSound, HasFront, has_front, sound_of, framed_of, first_parts}
+use Rattle.omf_frame.proofs.StepLaws.{has_front, framed_of, first_parts}
+use Rattle.omf_check.proofs.StepLaws.{IsSound, sound_of}
 use Rattle.omf_check.proofs.AcceptLaws.{all_middle, accepted_once, never_both}
 
 pub all_none : {A : Type 0} (P : A → Type 0) → All P []

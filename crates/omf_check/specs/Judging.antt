@@ -150,6 +150,11 @@ abbrev pub IsShort : Contents → Type 0
 IsShort (Iterated d) = (d.offset.within ≤ 65537) × (length d.bytes ≤ 65534)
 IsShort _ = ⊤
 
+-- A FIXUPP is judged while it is read, all other records afterwards.
+abbrev pub IsNoFixupp : Contents → Type 0
+IsNoFixupp (Fixups subs) = ⊥
+IsNoFixupp _ = ⊤
+
 -- by what its contents spell
 abbrev pub read_fault : Profile → Limits → Kept → ℕ → Result Contents Fault → Option Fault
 read_fault profile limits kept kind (Ok c) = record_fault profile limits kept (record { kind = kind; contents = c })

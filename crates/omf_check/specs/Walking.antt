@@ -1,5 +1,5 @@
 -- What one walk over the subrecords of a FIXUPP finds: the fault of their layout, else the least fault of their rules.
-use Rattle.std.specs.Prelude.{ℕ, ◌-◌, List, Option, Some, None, Result, Ok, Err}
+use Rattle.std.specs.Prelude.{◌-◌, List, Option, Some, Result, Ok, Err}
 use Rattle.omf_frame.specs.Fault.{Fault}
 use Rattle.omf_records.specs.Values.{At, Subrecord, Fixups}
 use Rattle.omf_check.specs.Rules.{item_limit, item_places, places}

@@ -4,6 +4,7 @@ ghost use Rattle.std.specs.Prelude.{◌≡◌, ℕ};
 ghost use Rattle.omf_frame.specs.Fault.{is_before};
 ghost use Rattle.omf_check.specs.Judging.{fault_unless, lesser, room_fault, entry_fault, optional_fault, members_fault, comment_fault};
 ghost use Rattle.omf_check.specs.Rules.{places};
+ghost use Rattle.omf_check.specs.Tables.{is_defined};
 ghost use Rattle.omf_frame.specs.declared.fault.Reason.TheVariants.{UndefinedSegment};
 
 use crate::profile::Profile;
@@ -62,12 +63,19 @@ pub fn room_fault<T: Item>(items: Items<T>, room: usize) -> Option<LayoutFault>
     found
 }
 
+/// A table of so many entries has one of this index, counted from 1.
+#[inline(always)]
+pub fn is_defined(count: usize, index: u16) -> bool
+    ensures { result ≡ is_defined count index }
+{
+    1 <= index && usize::from(index) <= count
+}
+
 /// An index names an entry of a table of so many entries.
 pub fn entry_fault(count: usize, reason: Reason, index: &At<Index>) -> Option<LayoutFault>
     ensures { result ≡ entry_fault count reason index.now }
 {
-    let number = usize::from(index.item.0);
-    fault_unless(1 <= number && number <= count, index.within, reason)
+    fault_unless(is_defined(count, index.item.0), index.within, reason)
 }
 
 /// An index names an entry of a table of so many entries, or is 0 and stands for none.

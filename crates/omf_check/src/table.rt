@@ -1,10 +1,10 @@
 //! What is kept of the records so far, and the rules that need it.
 
-ghost use Rattle.std.specs.Prelude.{◌≡◌, ◌≤◌, ◌<◌, ◌+◌, ◌^◌, ◌++◌, ℕ, length, OnOk, IfOk, List, unwrap_or, IsTrue, IfErr, None, Ok, nat_lt, ◌-◌};
-ghost use Rattle.omf_check.specs.Rules.{judged_at, item_limit, item_places};
+ghost use Rattle.std.specs.Prelude.{◌≡◌, ◌≤◌, ◌<◌, ◌+◌, ◌^◌, ◌++◌, ℕ, length, OnOk, IfOk, List, unwrap_or, IsTrue, IfErr, None, Ok, ◌-◌, [], ◌∷◌, true, false, nat_le, is_none};
+ghost use Rattle.omf_check.specs.Rules.{judged_at, item_limit};
 ghost use Rattle.omf_image.specs.Limits.{profile_limits};
 ghost use Rattle.omf_check.specs.Kept.{Kept, nothing_kept, starts, with_record, with_contents, set_threads};
-ghost use Rattle.omf_check.specs.Judging.{kept_length, data_fault, index_fault, frame_fault, target_fault, reference_fault, location_fault, subrecord_fault, subrecords_fault, start_fault, contents_fault, segment_fault, group_fault, base_fault, room_fault, data_size, placed, record_fault, IsShort, raw_fault, rec_of};
+ghost use Rattle.omf_check.specs.Judging.{kept_length, data_fault, index_fault, frame_fault, target_fault, reference_fault, location_fault, subrecord_fault, start_fault, contents_fault, segment_fault, group_fault, base_fault, room_fault, data_size, placed, record_fault, IsShort, IsNoFixupp, raw_fault, rec_of};
 ghost use Rattle.omf_check.specs.Session.{refused_at, IsStopped};
 ghost use Rattle.omf_frame.specs.Framing.{is_taken};
 ghost use Rattle.omf_check.specs.Kept.{IsBounded};
@@ -12,14 +12,16 @@ ghost use Rattle.omf_image.specs.Blocks.{count_size};
 ghost use Rattle.omf_image.specs.Expanding.{expanded_length};
 ghost use Rattle.omf_check.specs.Tables.{segment_info, items_in, entry};
 ghost use Rattle.omf_records.specs.Seen.{contents_seen, kind_seen, odd_if, rec_seen};
-ghost use Rattle.omf_records.specs.Values.{Fixups};
+ghost use Rattle.omf_records.specs.Location.{location_size};
+ghost use Rattle.omf_records.specs.Values.{Fixup, Fixups, location_type, location_offset};
 ghost use Rattle.omf_check.specs.Walking.{walk_fault, fixups_fault};
 
 use crate::fault::CheckFault;
 use crate::last_data::LastData;
 use crate::profile::Profile;
 use crate::rule::{
-    comment_fault, entry_fault, fault_unless, lesser, members_fault, optional_fault, room_fault,
+    comment_fault, entry_fault, fault_unless, is_defined, lesser, members_fault, optional_fault,
+    room_fault,
 };
 use crate::segment::SegInfo;
 use crate::threads::{Setting, Threads};
@@ -61,16 +63,34 @@ impl Model for Tables {
     ghost view = { λ t. record { names = t.names.items; segments = t.segments.items; groups = t.groups.items; externals = t.externals.items; items = t.items; last = t.last; threads = t.threads } };
 }
 
+/// The bytes at a location end within so many bytes of data.
+#[inline(always)]
+fn ends_within(location: u16, len: usize) -> bool
+    ensures { result ≡ nat_le (location_offset location + location_size (location_type location)) len }
+{
+    let size = location_size(location_type(location));
+    usize::from(location_offset(location) + u16::from(size)) <= len
+}
+
 /// A fixup of this location lies in the data of the last data record, which is an LEDATA.
 #[inline(always)]
+fn has_location(last: Option<LastData>, location: u16) -> bool
+    ensures { (within : ℕ) → result ≡ is_none (location_fault last within location) }
+{
+    match last {
+        Some(LastData::Plain(len)) => ends_within(location, len),
+        Some(LastData::Iterated) => false,
+        None => false,
+    }
+}
+
+/// Why a fixup of this location does not lie in the data of the last data record.
 fn location_fault(last: Option<LastData>, within: u32, location: u16) -> Option<LayoutFault>
     ensures { result ≡ location_fault last within location }
 {
     match last {
         Some(LastData::Plain(len)) => {
-            let size = location_size(location_type(location));
-            let end = location_offset(location) + u16::from(size);
-            fault_unless(usize::from(end) <= len, within, Reason::OutsideRecord)
+            fault_unless(ends_within(location, len), within, Reason::OutsideRecord)
         }
         Some(LastData::Iterated) => fault_unless(false, within, Reason::FixupOnIterated),
         None => fault_unless(false, within, Reason::NoDataRecord),
@@ -89,7 +109,6 @@ fn index_of(datum: Option<Index>) -> u16
 }
 
 /// Where a frame or a target is judged: at its own datum, or at the fix data byte.
-#[inline(always)]
 fn judged_at(reference: &Reference, datum: &Option<At<Index>>) -> u32
     ensures { result ≡ judged_at reference.now datum.now }
 {
@@ -125,24 +144,6 @@ fn add_starts<T: Item>(places: &mut Vec<u64>, at: u64, items: Items<T>) -> Resul
         places.push(at + u64::from(item.within))?;
     }
     Ok(())
-}
-
-/// Some subrecord is there.
-fn has_some(subrecords: &Items<Subrecord<'_>>) -> bool
-    ensures { result ≡ nat_lt 0 (length subrecords.now) }
-{
-    subrecords.iter().next().is_some()
-}
-
-/// How many items a record is.
-fn items_in(rec: &Rec<'_>) -> usize
-    requires { items_in (contents_seen rec.now) ≤ item_limit }
-    ensures { result ≡ items_in (contents_seen rec.now) }
-{
-    match rec {
-        Rec::Fixups { subrecords, .. } => subrecords.iter().count().max(1),
-        _ => 1,
-    }
 }
 
 /// How many bytes the blocks of an LIDATA stand for, whose offset stands at this place; or their first fault.
@@ -229,21 +230,85 @@ impl Tables {
         )
     }
 
-    /// The index of a frame or a target, by its method.
+    /// The table of a method has an entry of this index.
     #[inline(always)]
+    fn has_entry(&self, method: u8, index: u16) -> bool
+        ensures { (at : ℕ) → result ≡ is_none (index_fault self.now at method index) }
+    {
+        match method {
+            0 => is_defined(self.segments.len(), index),
+            1 => is_defined(self.groups.len(), index),
+            _ => is_defined(self.externals.len(), index),
+        }
+    }
+
+    /// A frame is there, and so is the entry that it takes.
+    #[inline(always)]
+    fn has_frame(&self, frame: Option<Setting>) -> bool
+        ensures { (at : ℕ) → result ≡ is_none (frame_fault self.now at frame) }
+    {
+        match frame {
+            None => false,
+            Some(setting) if setting.method < 3 => {
+                self.has_entry(setting.method, index_of(setting.datum))
+            }
+            Some(_) => true,
+        }
+    }
+
+    /// A target is there, and so is the entry that it takes.
+    #[inline(always)]
+    fn has_target(&self, target: Option<Setting>) -> bool
+        ensures { (at : ℕ) → result ≡ is_none (target_fault self.now at target) }
+    {
+        match target {
+            None => false,
+            Some(setting) => self.has_entry(setting.method, index_of(setting.datum)),
+        }
+    }
+
+    /// The frame and the target of a reference have no fault, with these threads in force.
+    #[inline(always)]
+    fn has_reference(&self, threads: &Threads, reference: &Reference) -> bool
+        ensures { result ≡ is_none (reference_fault self.now threads.now reference.now) }
+    {
+        self.has_frame(threads.frame(reference)) && self.has_target(threads.target(reference))
+    }
+
+    /// A FIXUP has no fault, with these threads in force.
+    #[inline(always)]
+    fn has_fixup(&self, threads: &Threads, location: u16, reference: &Reference) -> bool
+        ensures { (within : ℕ) → result ≡ is_none (subrecord_fault self.now threads.now within (Fixup location reference.now)) }
+    {
+        has_location(self.last, location) && self.has_reference(threads, reference)
+    }
+
+    /// A subrecord has no fault, with these threads in force. A THREAD's index is judged where it is used.
+    #[inline(always)]
+    fn is_sound(&self, threads: &Threads, subrecord: &Subrecord<'_>) -> bool
+        ensures { (within : ℕ) → result ≡ is_none (subrecord_fault self.now threads.now within subrecord.now) }
+    {
+        match &subrecord.part {
+            Part::Thread { .. } => true,
+            Part::Fixup {
+                location,
+                reference,
+            } => self.has_fixup(threads, *location, reference),
+        }
+    }
+
+    /// The index of a frame or a target, by its method.
     fn index_fault(&self, at: u32, method: u8, index: u16) -> Option<LayoutFault>
         ensures { result ≡ index_fault self.now at method index }
     {
-        let (count, reason) = match method {
-            0 => (self.segments.len(), Reason::UndefinedSegment),
-            1 => (self.groups.len(), Reason::UndefinedGroup),
-            _ => (self.externals.len(), Reason::UndefinedExternal),
+        let reason = match method {
+            0 => Reason::UndefinedSegment,
+            1 => Reason::UndefinedGroup,
+            _ => Reason::UndefinedExternal,
         };
-        let number = usize::from(index);
-        fault_unless(1 <= number && number <= count, at, reason)
+        fault_unless(self.has_entry(method, index), at, reason)
     }
 
-    #[inline(always)]
     fn frame_fault(&self, at: u32, frame: Option<Setting>) -> Option<LayoutFault>
         ensures { result ≡ frame_fault self.now at frame }
     {
@@ -256,7 +321,6 @@ impl Tables {
         }
     }
 
-    #[inline(always)]
     fn target_fault(&self, at: u32, target: Option<Setting>) -> Option<LayoutFault>
         ensures { result ≡ target_fault self.now at target }
     {
@@ -267,7 +331,6 @@ impl Tables {
     }
 
     /// The frame and the target of a reference, with these threads in force.
-    #[inline(always)]
     fn reference_fault(&self, threads: &Threads, reference: &Reference) -> Option<LayoutFault>
         ensures { result ≡ reference_fault self.now threads.now reference.now }
     {
@@ -279,8 +342,7 @@ impl Tables {
         )
     }
 
-    /// A subrecord, with these threads in force. A THREAD's index is judged where it is used.
-    #[inline(always)]
+    /// The least fault of a subrecord, with these threads in force.
     fn subrecord_fault(
         &self,
         threads: &Threads,
@@ -299,22 +361,6 @@ impl Tables {
                 self.reference_fault(threads, reference),
             ),
         }
-    }
-
-    /// The subrecords of a FIXUPP.
-    fn subrecords_fault(&self, subrecords: Items<Subrecord<'_>>) -> Option<LayoutFault>
-        ensures { result ≡ subrecords_fault self.now self.now.threads subrecords.entry }
-    {
-        let mut threads = self.threads;
-        let mut found = None;
-        for subrecord in subrecords {
-            found = lesser(
-                found,
-                self.subrecord_fault(&threads, subrecord.within, &subrecord.item),
-            );
-            threads.set(&subrecord.item);
-        }
-        found
     }
 
     /// The start of a MODEND: its frame is not that of a location.
@@ -369,8 +415,9 @@ impl Tables {
         )
     }
 
-    /// The rules of a record's contents. Data records have so many bytes of data.
+    /// The rules of a record that is no FIXUPP. Data records have so many bytes of data.
     fn contents_fault(&self, profile: Profile, size: usize, rec: &Rec<'_>) -> Option<LayoutFault>
+        requires { IsNoFixupp (contents_seen rec.now) }
         ensures { result ≡ contents_fault profile self.now size (contents_seen rec.now) }
     {
         let name_room = TABLE_LIMIT.saturating_sub(self.names.len());
@@ -393,43 +440,35 @@ impl Tables {
                 offset,
                 ..
             } => self.data_fault(segment, offset, size),
-            Rec::Fixups { subrecords, .. } => self.subrecords_fault(subrecords.iter()),
+            Rec::Fixups { .. } => unreachable!(),
             Rec::ModEnd { start, .. } => self.start_fault(start),
             Rec::Header { .. } | Rec::Carried { .. } => None,
         }
     }
 
-    /// Each item of a record has room.
-    fn items_fault(&self, rec: &Rec<'_>) -> Option<LayoutFault>
-        ensures { result ≡ room_fault (item_limit - self.now.items) (item_places (contents_seen rec.now)) }
+    /// One item more has room, which stands at the record's start.
+    fn item_fault(&self) -> Option<LayoutFault>
+        ensures { result ≡ room_fault (item_limit - self.now.items) (0 ∷ []) }
     {
-        let room = ITEM_LIMIT.saturating_sub(self.items);
-        match rec {
-            Rec::Fixups { subrecords, .. } if has_some(subrecords) => room_fault(
-                subrecords.iter(),
-                room,
-            ),
-            _ => fault_unless(room > 0, 0, Reason::TooMany),
-        }
+        fault_unless(self.items < ITEM_LIMIT, 0, Reason::TooMany)
     }
 
-    /// The least fault of a record after the records of these tables: that of its blocks, else that of its rules.
-    pub fn record_fault(&self, profile: Profile, rec: &Rec<'_>) -> Option<LayoutFault>
-        requires { IsShort (contents_seen rec.now) }
+    /// The least fault of a record that is no FIXUPP, after the records of these tables: that of its blocks, else that of its rules.
+    fn record_fault(&self, profile: Profile, rec: &Rec<'_>) -> Option<LayoutFault>
+        requires other { IsNoFixupp (contents_seen rec.now) }
+        requires short { IsShort (contents_seen rec.now) }
         ensures { result ≡ record_fault profile profile_limits self.now (rec_seen rec.now) }
     {
         match data_size(rec) {
-            Ok(size) => lesser(
-                self.items_fault(rec),
-                self.contents_fault(profile, size, rec),
-            ),
+            Ok(size) => lesser(self.item_fault(), self.contents_fault(profile, size, rec)),
             Err(fault) => Some(fault),
         }
     }
 
-    /// Keeps what a record defines, which begins at this offset of the module.
+    /// Keeps what a record that is no FIXUPP defines. It begins at this offset of the module.
     fn add_contents(&mut self, at: u64, rec: &Rec<'_>) -> Result<(), AllocError>
-        requires { at < 2 ^ 40 }
+        requires start { at < 2 ^ 40 }
+        requires other { IsNoFixupp (contents_seen rec.now) }
         ensures { OnOk result (self.new ≡ with_contents self.old at (kind_seen rec.now) (contents_seen rec.now)) }
     {
         match rec {
@@ -446,33 +485,64 @@ impl Tables {
                 self.last = Some(LastData::Iterated);
                 Ok(())
             }
-            Rec::Fixups { subrecords, .. } => {
-                self.threads.set_all(subrecords.iter());
-                Ok(())
-            }
-            _ => Ok(()),
+            Rec::Fixups { .. } => unreachable!(),
+            Rec::Header { .. }
+            | Rec::Comment { .. }
+            | Rec::Publics { .. }
+            | Rec::ModEnd { .. }
+            | Rec::Carried { .. } => Ok(()),
         }
     }
 
-    /// Keeps what a record tells later ones. It begins at this offset of the module.
-    pub fn add(&mut self, at: u64, rec: &Rec<'_>) -> Result<(), AllocError>
+    /// Keeps what a record that is no FIXUPP tells later ones. It begins at this offset of the module.
+    fn add(&mut self, at: u64, rec: &Rec<'_>) -> Result<(), AllocError>
         requires start { at < 2 ^ 40 }
-        requires items { self.old.items + items_in (contents_seen rec.now) ≤ item_limit }
+        requires other { IsNoFixupp (contents_seen rec.now) }
+        requires items { self.old.items < item_limit }
         ensures { OnOk result (self.new ≡ with_record self.old at (rec_seen rec.now)) }
     {
-        self.items += items_in(rec);
+        self.items += 1;
         self.add_contents(at, rec)
     }
 
-    /// Reads the subrecords of a FIXUPP, judges them and keeps what they set, in one walk. A fault of their layout comes first. Where
-    /// none has a fault, as many items more are counted.
-    fn take_subrecords(&mut self, subrecords: Unread<Subrecord<'_>>) -> Option<LayoutFault>
+    /// Reads and judges the subrecords of a FIXUPP in one walk. Where none has a fault, it keeps what they set, and counts as many
+    /// items more; else it keeps nothing.
+    fn pass_subrecords(&mut self, subrecords: Unread<Subrecord<'_>>) -> bool
         requires { self.old.items ≤ item_limit }
-        ensures found { result ≡ walk_fault self.old subrecords.entry.items }
-        ensures kept { (subs : _) → subrecords.entry.items ≡ Ok subs → self.new ≡ record self.old { items = item_limit - (item_limit - self.old.items - length subs); threads = set_threads self.old.threads subs } }
+        ensures sound { result ≡ is_none (walk_fault self.old subrecords.entry.items) }
+        ensures kept { (subs : _) → subrecords.entry.items ≡ Ok subs → result ≡ true → self.new ≡ record self.old { items = self.old.items + length subs; threads = set_threads self.old.threads subs } }
+        ensures unchanged { result ≡ false → self.new ≡ self.old }
     {
         let mut subrecords = subrecords;
-        let mut left = ITEM_LIMIT - self.items;
+        let mut items = self.items;
+        let mut in_force = self.threads;
+        'walk: loop {
+            let subrecord = match subrecords.read_next() {
+                Ok(Some(subrecord)) => subrecord,
+                Ok(None) => break,
+                Err(_) => return false,
+            };
+            if items == ITEM_LIMIT {
+                return false;
+            }
+            if !self.is_sound(&in_force, &subrecord.item) {
+                return false;
+            }
+            items += 1;
+            in_force.set(&subrecord.item);
+        }
+        self.items = items;
+        self.threads = in_force;
+        true
+    }
+
+    /// The least fault of the subrecords of a FIXUPP. One of their layout comes first.
+    #[cold]
+    fn subrecords_fault(&self, subrecords: Unread<Subrecord<'_>>) -> Option<LayoutFault>
+        ensures { result ≡ walk_fault self.now subrecords.entry.items }
+    {
+        let mut subrecords = subrecords;
+        let mut left = ITEM_LIMIT.saturating_sub(self.items);
         let mut in_force = self.threads;
         let mut beyond = None;
         let mut found = None;
@@ -493,8 +563,6 @@ impl Tables {
             );
             in_force.set(&subrecord.item);
         }
-        self.items = ITEM_LIMIT - left;
-        self.threads = in_force;
         lesser(beyond, found)
     }
 
@@ -504,14 +572,18 @@ impl Tables {
         ensures found { result ≡ fixups_fault self.old subrecords.entry.items }
         ensures kept { (subs : _) → subrecords.entry.items ≡ Ok subs → result ≡ None → self.new ≡ record self.old { items = self.old.items + items_in (Fixups subs); threads = set_threads self.old.threads subs } }
     {
-        if !subrecords.is_end() {
-            return self.take_subrecords(subrecords);
+        if subrecords.is_end() {
+            if self.items == ITEM_LIMIT {
+                return fault_unless(false, 0, Reason::TooMany);
+            }
+            self.items += 1;
+            return None;
         }
-        if self.items == ITEM_LIMIT {
-            return fault_unless(false, 0, Reason::TooMany);
+        let judged = subrecords.again();
+        if self.pass_subrecords(subrecords) {
+            return None;
         }
-        self.items += 1;
-        None
+        self.subrecords_fault(judged)
     }
 
     /// Judges a record after those of these tables, and keeps what it defines.

@@ -11,18 +11,18 @@ use Rattle.omf_frame.specs.Framing.{Raw, raw_bytes, IsRecord, is_read, is_carrie
 use Rattle.omf_frame.proofs.FaultLaws.{untrue}
 use Rattle.omf_frame.proofs.FramingLaws.{stated, size, checksum_raw, raw_front, body_length}
 
-some_none : (f : Fault) (fs : List Fault) → f ∷ fs ≡ [] → ⊥
+pub some_none : (f : Fault) (fs : List Fault) → f ∷ fs ≡ [] → ⊥
 some_none f fs e = cc
 
 -- no step has a fault
-first_one : (fs : List Fault) (xs : List (List Fault)) → first_step (fs ∷ xs) ≡ [] → (fs ≡ []) × (first_step xs ≡ [])
+pub first_one : (fs : List Fault) (xs : List (List Fault)) → first_step (fs ∷ xs) ≡ [] → (fs ≡ []) × (first_step xs ≡ [])
 first_one [] xs h = (refl, h)
 first_one (f ∷ fs) xs h = absurd (some_none f fs h)
 
-first_of_none : (fs : List Fault) (xs : List (List Fault)) → fs ≡ [] → first_step xs ≡ [] → first_step (fs ∷ xs) ≡ []
+pub first_of_none : (fs : List Fault) (xs : List (List Fault)) → fs ≡ [] → first_step xs ≡ [] → first_step (fs ∷ xs) ≡ []
 first_of_none fs xs e h = subst (λ s. first_step (s ∷ xs) ≡ []) (sym e) h
 
-first_both : (xs ys : List (List Fault)) → first_step xs ≡ [] → first_step ys ≡ [] → first_step (xs ++ ys) ≡ []
+pub first_both : (xs ys : List (List Fault)) → first_step xs ≡ [] → first_step ys ≡ [] → first_step (xs ++ ys) ≡ []
 first_both [] ys hx hy = hy
 first_both ([] ∷ xs) ys hx hy = first_both xs ys hx hy
 first_both ((f ∷ fs) ∷ xs) ys hx hy = absurd (some_none f fs hx)

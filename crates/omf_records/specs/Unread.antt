@@ -1,5 +1,6 @@
 -- Items whose spelling is judged as they are read.
-use Rattle.std.specs.Prelude.{◌≡◌, ◌<◌, ℕ, List, [], Option, Some, None, Result, Ok, Err}
+use Rattle.std.specs.Prelude.{◌≡◌, ◌<◌, ℕ, List, [], ◌∷◌, Bool, Option, Some, None, Result, Ok, Err}
+use Rattle.omf_frame.specs.Bytes.{is_one_of}
 use Rattle.omf_frame.specs.Fault.{Fault}
 use Rattle.omf_records.specs.Values.{At, Subrecord, Contents, Fixups}
 use Rattle.omf_records.specs.Reads.{and_then}
@@ -19,3 +20,7 @@ NextGives old (Err f) new = old.items ≡ Err f
 -- the contents that subrecords are
 abbrev pub fixups_read : Result (List (At Subrecord)) Fault → Result Contents Fault
 fixups_read r = and_then r (λ subs. Ok (Fixups subs))
+
+-- the types of a FIXUPP
+abbrev pub is_fixupp : ℕ → Bool
+is_fixupp kind = is_one_of (0x9C ∷ 0x9D ∷ []) kind

@@ -1,11 +1,11 @@
 //! A record's contents, by the record's type.
-ghost use Rattle.std.specs.Prelude.{◌≡◌, ◌≤◌, length, IfOk, IfSome, ◌⊎◌, IsTrue};
+ghost use Rattle.std.specs.Prelude.{◌≡◌, ◌≤◌, length, IfOk, IfSome, is_some, ◌⊎◌, IsTrue};
 ghost use Rattle.omf_frame.specs.Framing.{is_taken};
 ghost use Rattle.omf_records.specs.Seen.{contents_seen, kind_seen, map_ok};
 ghost use Rattle.omf_records.specs.Reading.{read_body};
 ghost use Rattle.omf_records.specs.Reads.{Meets};
 ghost use Rattle.omf_records.specs.Records.{contents};
-ghost use Rattle.omf_records.specs.Unread.{fixups_read};
+ghost use Rattle.omf_records.specs.Unread.{fixups_read, is_fixupp};
 ghost use Rattle.omf_records.specs.Types.{IsOneOf, types};
 
 use crate::at::LayoutFault;
@@ -85,7 +85,8 @@ pub fn view<'a>(raw: RawRecord<'a>) -> Result<Rec<'a>, LayoutFault>
 /// The subrecords of a FIXUPP, unread: `view` would give them, or their first fault. `None` of another record.
 pub fn unread_fixups<'a>(raw: &RawRecord<'a>) -> Option<Unread<Subrecord<'a>>>
     requires { length raw.now.body.now ≤ 65534 }
-    ensures { IfSome result (λ u. read_body raw.now.kind raw.now.body.now ≡ fixups_read u.items) }
+    ensures read { IfSome result (λ u. read_body raw.now.kind raw.now.body.now ≡ fixups_read u.items) }
+    ensures given { is_some result ≡ is_fixupp raw.now.kind }
 {
     match raw.kind {
         0x9C => Some(Unread::new(Here::start(false, raw.body))),

@@ -32,6 +32,13 @@ impl<T: Item> Unread<T> {
         Unread { from }
     }
 
+    /// The same items, from the one on that is to be read next.
+    pub fn again(&self) -> Unread<T>
+        ensures { result ≡ self.now }
+    {
+        Unread { from: self.from }
+    }
+
     /// No bytes are left.
     pub fn is_end(&self) -> bool
         ensures ends { result ≡ true → self.now.items ≡ Ok [] }

@@ -1,23 +1,36 @@
-use Rattle.std.proofs.Common.{◌∙◌, sym, subst}
-use Rattle.omf_records.specs.Seen.{contents_seen, rec_seen}
+use Rattle.std.proofs.Common.{◌≡◌, ◌∙◌, ℕ, Bool, false, is_some, ap, sym, subst}
+use Rattle.omf_records.specs.declared.record.Rec.{Rec as Told}
+use Rattle.omf_records.specs.Seen.{contents_seen, kind_seen, rec_seen}
+use Rattle.omf_records.specs.Unread.{is_fixupp}
 use Rattle.omf_image.specs.Limits.{profile_limits}
 use Rattle.omf_check.specs.Kept.{IsBounded}
-use Rattle.omf_check.proofs.RecordLaws.{fits_on}
+use Rattle.omf_check.specs.Judging.{IsNoFixupp}
+use Rattle.omf_check.proofs.RecordLaws.{fits_on, one_fits_on, not_fixupp}
 use Rattle.omf_check.proofs.ShortLaws.{spelled_short}
 use Rattle.omf_check.proofs.Walked.{walked_bounded}
 use Rattle.omf_check.proofs.table.Tables.take.Goals as goal
 
+-- what is no FIXUPP has none
+other : (given : Bool) (kind : ℕ) (rec : Told) → given ≡ false → given ≡ is_fixupp kind → kind_seen rec ≡ kind → IsNoFixupp (contents_seen rec)
+other given kind rec none is same = not_fixupp rec (ap is_fixupp same ∙ sym is ∙ none)
+
 pub add-requires-clause-items : goal.add-requires-clause-items
 add-requires-clause-items c =
-    (fits_on c.args.profile profile_limits c.args.self.now c.requires.bounded c.args.raw.start (rec_seen c.in-Ok.rec) (sym c.record_fault.ensures ∙ c.in_default-record_fault.is)).0
+    one_fits_on c.args.profile profile_limits c.args.self.now c.requires.bounded c.args.raw.start (rec_seen c.in-Ok.rec) (other _ c.args.raw.kind c.in-Ok.rec (ap is_some c.in_default.is) c.unread_fixups.ensures.given c.in-Ok.ensures.kind) (sym c.record_fault.ensures ∙ c.in_default-record_fault.is)
+
+pub add-requires-clause-other : goal.add-requires-clause-other
+add-requires-clause-other c = other _ c.args.raw.kind c.in-Ok.rec (ap is_some c.in_default.is) c.unread_fixups.ensures.given c.in-Ok.ensures.kind
 
 pub returns-clause-bounded : goal.returns-clause-bounded
 returns-clause-bounded c =
     subst IsBounded (sym c.in_ok-add.ensures)
     (fits_on c.args.profile profile_limits c.args.self.now c.requires.bounded c.args.raw.start (rec_seen c.in-Ok.rec) (sym c.record_fault.ensures ∙ c.in_default-record_fault.is)).1
 
-pub record_fault-requires : goal.record_fault-requires
-record_fault-requires c = spelled_short c.args.raw.kind c.args.raw.body.now (contents_seen c.in-Ok.rec) c.requires.short c.in-Ok.ensures.meets.spelled
+pub record_fault-requires-clause-other : goal.record_fault-requires-clause-other
+record_fault-requires-clause-other c = other _ c.args.raw.kind c.in-Ok.rec (ap is_some c.in_default.is) c.unread_fixups.ensures.given c.in-Ok.ensures.kind
+
+pub record_fault-requires-clause-short : goal.record_fault-requires-clause-short
+record_fault-requires-clause-short c = spelled_short c.args.raw.kind c.args.raw.body.now (contents_seen c.in-Ok.rec) c.requires.short c.in-Ok.ensures.meets.spelled
 
 pub returns-in-None-clause-bounded : goal.returns-in-None-clause-bounded
 returns-in-None-clause-bounded c =
