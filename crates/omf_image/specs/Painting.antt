@@ -1,6 +1,5 @@
 -- Zeros that are laid ahead of data.
-use Rattle.std.specs.Prelude.{◌+◌, ◌≤◌, ◌^◌, List, map, length}
-use Rattle.std.specs.Prelude.{replicate}
+use Rattle.std.specs.Prelude.{◌≡◌, ◌⊎◌, ◌+◌, ◌<◌, ◌≤◌, ◌^◌, List, map, length, replicate}
 use Rattle.omf_image.specs.Overlay.{Laid}
 use Rattle.omf_image.specs.declared.painting.Extent.{Extent}
 
@@ -18,3 +17,7 @@ all_zeros es = map zeros es
 -- Its places have offsets of 32 bits.
 abbrev pub Fits : Extent → Type 0
 Fits e = e.first + e.len ≤ 2 ^ 32
+
+-- Two intervals do not touch: they lie in two segments, or a place lies between them.
+abbrev pub AreApart : Extent → Extent → Type 0
+AreApart e f = e.segment ≡ f.segment → (e.first + e.len < f.first) ⊎ (f.first + f.len < e.first)

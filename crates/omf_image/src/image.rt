@@ -241,6 +241,10 @@ impl Image {
 
     /// Lays bytes at an offset of a segment, over what was there.
     ///
+    /// Where they lie in one run they are only written. A piece that touches no run, or joins some, moves the runs behind it, and one that
+    /// begins in front of a run that it touches copies the run's bytes. So many pieces in rising order take about linear time; in falling
+    /// order, or in gaps between others, quadratic. `painted` covers their places beforehand, so that each lies in one run.
+    ///
     /// # Errors
     ///
     /// `AllocError` where a growth is refused: the image is unchanged, and the bytes are dropped.

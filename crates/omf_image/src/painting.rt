@@ -1,8 +1,8 @@
-//! Images of zeros, which data are laid over without a run that grows.
+//! Images of zeros, over which data are laid without a run that grows or moves.
 
-ghost use Rattle.std.specs.Prelude.{[], ◌∷◌, OnOk, IfOk, IfSome, All, option_to_list};
+ghost use Rattle.std.specs.Prelude.{◌≡◌, [], ◌∷◌, ◌+◌, OnOk, IfOk, IfSome, IfNone, All, option_to_list};
 ghost use Rattle.omf_image.specs.Overlay.{IsLaidOver, AreLaidOver};
-ghost use Rattle.omf_image.specs.Painting.{zeros, all_zeros, Fits};
+ghost use Rattle.omf_image.specs.Painting.{zeros, all_zeros, Fits, AreApart};
 
 use crate::Image;
 use std::alloc::{AllocError, Global};
@@ -18,31 +18,41 @@ pub struct Extent {
     pub len: u64,
 }
 
-/// Two intervals in one, where the second begins in the first or right behind it.
-fn joined(first: Extent, next: Extent) -> Option<Extent>
-    requires { Fits first × Fits next }
-    ensures fits { IfSome result Fits }
-    ensures covers { IfSome result (λ e. IsLaidOver (zeros first ∷ []) (zeros next) (zeros e ∷ [])) }
-{
-    if first.segment != next.segment || next.first < first.first {
-        return None;
+impl Extent {
+    /// The offset behind its last place.
+    fn end(self) -> u64
+        requires { Fits self }
+        ensures { result ≡ self.first + self.len }
+    {
+        u64::from(self.first) + self.len
     }
-    let skipped = u64::from(next.first - first.first);
-    if skipped > first.len {
+}
+
+/// Two intervals in one, where they touch.
+fn joined(last: Extent, next: Extent) -> Option<Extent>
+    requires { Fits last × Fits next }
+    ensures fits { IfSome result Fits }
+    ensures covers { IfSome result (λ e. IsLaidOver (zeros last ∷ []) (zeros next) (zeros e ∷ [])) }
+    ensures apart { IfNone result (AreApart last next) }
+{
+    let first = last.first.min(next.first);
+    let len = last.end().max(next.end()) - u64::from(first);
+    if last.segment != next.segment || len > last.len + next.len {
         return None;
     }
     Some(Extent {
-        segment: first.segment,
-        first: first.first,
-        len: first.len.max(skipped + next.len),
+        segment: last.segment,
+        first,
+        len,
     })
 }
 
-/// One interval more, after another, if there is one: both in one, where it follows on it.
+/// One interval more, after another, if there is one: both in one, where they touch.
 fn joined_to(last: Option<Extent>, next: Extent) -> Option<Extent>
     requires { IfSome last Fits × Fits next }
     ensures fits { IfSome result Fits }
     ensures covers { IfSome result (λ e. IsLaidOver (all_zeros (option_to_list last)) (zeros next) (zeros e ∷ [])) }
+    ensures apart { IfNone result (IfSome last (λ e. AreApart e next)) }
 {
     joined(last?, next)
 }

@@ -207,6 +207,66 @@ fn paints_intervals_that_touch_in_one_run(rt: HostRuntime) -> Result<(), Fail> {
 }
 
 #[test]
+fn paints_nothing_over_empty_intervals(rt: HostRuntime) -> Result<(), Fail> {
+    let image = painted(rt.alloc(), Vec::new(rt.alloc()))?;
+    assert_eq!(rt; image.run_at(1, 0), None);
+    let extents = vec![in rt.alloc(); extent(9, 0), extent(0, 0)]?;
+    let image = painted(rt.alloc(), extents)?;
+    assert_eq!(rt; image.run_at(1, 0), None);
+    assert_eq!(rt; image.get(1, 9), None);
+    let extents = vec![in rt.alloc(); extent(9, 0), extent(4, 3), extent(7, 0)]?;
+    let image = painted(rt.alloc(), extents)?;
+    assert_eq!(rt; image.run_at(1, 0), Some(Run { first: 4, len: 3 }));
+    assert_eq!(rt; image.run_at(1, 1), None);
+    Ok(())
+}
+
+#[test]
+fn paints_the_last_offset(rt: HostRuntime) -> Result<(), Fail> {
+    let extents = vec![in rt.alloc(); extent(0xFFFF_FFFF, 1), extent(0xFFFF_FFFD, 1)]?;
+    let image = painted(rt.alloc(), extents)?;
+    let below = Run {
+        first: 0xFFFF_FFFD,
+        len: 1,
+    };
+    let last = Run {
+        first: 0xFFFF_FFFF,
+        len: 1,
+    };
+    assert_eq!(rt; image.run_at(1, 0), Some(below));
+    assert_eq!(rt; image.run_at(1, 1), Some(last));
+    assert_eq!(rt; image.run_at(1, 2), None);
+    assert_eq!(rt; image.get(1, 0xFFFF_FFFF), Some(0));
+    assert_eq!(rt; image.get(1, 0xFFFF_FFFE), None);
+    Ok(())
+}
+
+#[test]
+fn paints_equal_intervals_once(rt: HostRuntime) -> Result<(), Fail> {
+    let extents = vec![in rt.alloc(); extent(4, 3), extent(4, 3), extent(4, 3)]?;
+    let image = painted(rt.alloc(), extents)?;
+    assert_eq!(rt; image.run_at(1, 0), Some(Run { first: 4, len: 3 }));
+    assert_eq!(rt; image.run_bytes(1, 0), Some([0, 0, 0].as_slice()));
+    assert_eq!(rt; image.run_at(1, 1), None);
+    Ok(())
+}
+
+#[test]
+fn paints_each_segment(rt: HostRuntime) -> Result<(), Fail> {
+    let second = Extent {
+        segment: 2,
+        first: 2,
+        len: 2,
+    };
+    let image = painted(rt.alloc(), vec![in rt.alloc(); second, extent(0, 2)]?)?;
+    assert_eq!(rt; image.run_at(1, 0), Some(Run { first: 0, len: 2 }));
+    assert_eq!(rt; image.run_at(1, 1), None);
+    assert_eq!(rt; image.run_at(2, 0), Some(Run { first: 2, len: 2 }));
+    assert_eq!(rt; image.run_at(2, 1), None);
+    Ok(())
+}
+
+#[test]
 fn joins_pieces_that_touch(rt: HostRuntime) -> Result<(), Fail> {
     let alloc = rt.alloc();
     let mut image = Image::new(alloc);
@@ -316,5 +376,46 @@ fn lays_what_a_list_of_pieces_says(rt: HostRuntime) -> Result<(), Fail> {
             );
         }
     }
+    Ok(())
+}
+
+/// Whether an image is what a list of the pieces says, after each piece of one byte that is laid at an offset.
+fn agrees_throughout(alloc: Global, offsets: &[u32]) -> Result<bool, Fail> {
+    let mut image = Image::new(alloc);
+    let mut pieces = Vec::new(alloc);
+    let mut byte = 0u8;
+    for offset in offsets {
+        byte = byte.wrapping_add(1);
+        image.lay(1, *offset, Vec::from_slice(alloc, &[byte])?)?;
+        pieces.push(Piece {
+            segment: 1,
+            offset: *offset,
+            bytes: Vec::from_slice(alloc, &[byte])?,
+        })?;
+        if !agrees(&image, &pieces, 1, 20) {
+            return Ok(false);
+        }
+    }
+    Ok(true)
+}
+
+#[test]
+fn lays_pieces_that_rise(rt: HostRuntime) -> Result<(), Fail> {
+    assert!(&rt; agrees_throughout(rt.alloc(), &[2, 3, 4, 5, 6, 7])?);
+    assert!(&rt; agrees_throughout(rt.alloc(), &[2, 4, 6, 8, 10, 12])?);
+    Ok(())
+}
+
+#[test]
+fn lays_pieces_that_fall(rt: HostRuntime) -> Result<(), Fail> {
+    assert!(&rt; agrees_throughout(rt.alloc(), &[12, 11, 10, 9, 8, 7])?);
+    assert!(&rt; agrees_throughout(rt.alloc(), &[12, 10, 8, 6, 4, 2])?);
+    Ok(())
+}
+
+#[test]
+fn fills_every_second_place_and_then_the_gaps(rt: HostRuntime) -> Result<(), Fail> {
+    assert!(&rt; agrees_throughout(rt.alloc(), &[2, 4, 6, 8, 10, 3, 5, 7, 9])?);
+    assert!(&rt; agrees_throughout(rt.alloc(), &[10, 8, 6, 4, 2, 9, 7, 5, 3])?);
     Ok(())
 }
