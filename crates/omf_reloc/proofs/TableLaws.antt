@@ -20,15 +20,9 @@ use Rattle.omf_check.specs.Module.{Module, records_in}
 use Rattle.omf_check.specs.WellFormed.{recs}
 use Rattle.omf_reloc.specs.declared.frame.Frame.{Frame}
 use Rattle.omf_reloc.specs.declared.publics.Found.{Found}
-use Rattle.omf_reloc.specs.declared.publics.Found.TheVariants.{One, Several}
 use Rattle.omf_reloc.specs.Derive.{PlacedPublic, base_address, base_frame, placed_publics, publics, of_name}
 use Rattle.omf_reloc.specs.Placement.{Places, Placed}
-use Rattle.omf_reloc.specs.PublicTable.{summed, IsTable, HasMore, public_at, publics_at, placed_modules, base_of}
-
--- What is found of a name after one more public of that name.
-abbrev pub found_after : Placed → Option Found → Found
-found_after p None = One p.address p.frame
-found_after p (Some f) = Several
+use Rattle.omf_reloc.specs.PublicTable.{summed, found_after, IsTable, HasMore, public_at, publics_at, placed_modules, base_of}
 
 summed-more : (ps : List Placed) (p : Placed) → summed (ps ++ p ∷ []) ≡ Some (found_after p (summed ps))
 summed-more [] p = refl

@@ -19,6 +19,11 @@ summed [] = None
 summed (p ∷ []) = Some (One p.address p.frame)
 summed (p ∷ q ∷ ps) = Some Several
 
+-- With one more public of the name at this place.
+abbrev pub found_after : Placed → Option Found → Found
+found_after p None = One p.address p.frame
+found_after p (Some f) = Several
+
 -- The table of these publics.
 abbrev pub IsTable : BTreeMap (Bor (List ℕ)) Found → List PlacedPublic → Type 0
 IsTable m among = (name : List ℕ) → get_by (λ k. slice_cmp nat_cmp name k.now) m ≡ summed (filter_map (of_name name) among)
