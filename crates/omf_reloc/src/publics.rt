@@ -4,8 +4,8 @@ ghost use Rattle.std.specs.Prelude.{◌≡◌, ◌+◌, [], ◌∷◌, length, O
 ghost use Rattle.omf_check.specs.Module.{records_in};
 ghost use Rattle.omf_check.specs.WellFormed.{recs};
 ghost use Rattle.omf_records.specs.Seen.{contents_seen};
-ghost use Rattle.omf_reloc.specs.Derive.{PlacedPublic, of_name, one_public, placed_publics, publics, all_publics};
-ghost use Rattle.omf_reloc.specs.PublicTable.{IsTable, HasMore, found_after, public_at, publics_at, placed_modules, paragraph, base_of};
+ghost use Rattle.omf_reloc.specs.Derive.{PlacedPublic, paragraph, base_of, public_at, publics_at, of_name, one_public, placed_publics, publics, all_publics};
+ghost use Rattle.omf_reloc.specs.PublicTable.{IsTable, HasMore, found_after, placed_modules};
 
 use crate::fault::DeriveFault;
 use crate::frame::{Frame, Placed};
@@ -112,7 +112,7 @@ impl<'a> PublicTable<'a> {
 
     /// Adds the publics of a PUBDEF with this base.
     fn add_items(&mut self, items: Items<Public<'a>>, base: Placed) -> Result<(), AllocError>
-        ensures { OnOk result (HasMore self.old.by_name self.new.by_name (publics_at base.address base.frame items.entry)) }
+        ensures { OnOk result (HasMore self.old.by_name self.new.by_name (publics_at base items.entry)) }
     {
         for public in items {
             self.add_public(&public.item, base)?;

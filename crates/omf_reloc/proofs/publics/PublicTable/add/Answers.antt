@@ -1,6 +1,6 @@
 use Rattle.std.proofs.Common.{◌≡◌, ap, ◌∙◌}
-use Rattle.omf_reloc.specs.Derive.{PlacedPublic}
-use Rattle.omf_reloc.specs.PublicTable.{found_after, public_at}
+use Rattle.omf_reloc.specs.Derive.{PlacedPublic, public_at}
+use Rattle.omf_reloc.specs.PublicTable.{found_after}
 use Rattle.omf_reloc.proofs.TableLaws.{found_at, table-more}
 use Rattle.omf_reloc.proofs.publics.PublicTable.add.Goals as goal
 
