@@ -89,7 +89,7 @@ module _ (ms : List PlacedModule) (given : List Given) where
   among = all_publics ms
 
   abbrev faults-in : ℕ × PlacedModule → List DeriveFault
-  faults-in m = filter_map err_of (external_places ms given m.0 m.1.0)
+  faults-in m = filter_map err_of (external_places (all_publics ms) given m.0 m.1.0)
 
   abbrev all-faults : List (ℕ × PlacedModule) → List DeriveFault
   all-faults ns = flat_map faults-in ns

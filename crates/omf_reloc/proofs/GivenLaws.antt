@@ -7,7 +7,7 @@ use Rattle.std.specs.Ordering.{is_eq, ordering_then}
 use Rattle.std.proofs.lemmas.Bool.{true≢false, false≢true, cond-true, cond-false, cases_Bool, eqb-true, eq-eqb, and_parts, and_cases, le-ltb}
 use Rattle.std.proofs.lemmas.List.Folds.{find-append}
 use Rattle.omf_reloc.specs.declared.given.Given.{Given}
-use Rattle.omf_reloc.specs.Derive.{given_place}
+use Rattle.omf_reloc.specs.Derive.{place_in, given_place}
 use Rattle.omf_reloc.specs.GivenTable.{IsGivenTable}
 use Rattle.omf_reloc.specs.Placement.{Placed}
 
@@ -16,9 +16,6 @@ Map = BTreeMap (ℕ × ℕ) Placed
 
 abbrev pub pair_cmp : ℕ × ℕ → ℕ × ℕ → Ordering
 pair_cmp x y = ordering_then (nat_cmp x.0 y.0) (nat_cmp x.1 y.1)
-
-abbrev pub place_in : Given → Placed
-place_in g = record { address = g.address; frame = g.frame }
 
 -- two keys are one, or two
 nat-equal : (a : ℕ) → nat_cmp a a ≡ Equal

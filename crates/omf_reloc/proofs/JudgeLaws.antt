@@ -1,43 +1,20 @@
 -- Where a placement's lists are as long as a well-formed module's tables, each of its references can be judged.
-use Rattle.std.proofs.Common.{◌≡◌, ℕ, ◌≤◌, List, [], ◌∷◌, ◌++◌, refl, sym, ◌∙◌, ap, subst, true, length, arith, append_assoc, length-append}
-use Rattle.std.specs.Prelude.{flat_map, Option, Some, None, IsSome, nat_le, ⊤}
-use Rattle.std.proofs.lemmas.Bool.{leb-true, le-leb, and_parts, and_from}
-use Rattle.std.proofs.lemmas.Grind.{flat_map-append}
+use Rattle.std.proofs.Common.{◌≡◌, ℕ, List, [], ◌∷◌, ◌++◌, refl, sym, ◌∙◌, ap, subst, true, length, append_assoc}
+use Rattle.std.specs.Prelude.{Option, Some, None, IsSome, ⊤}
 use Rattle.omf_image.specs.declared.limits.Limits.{Limits}
 use Rattle.omf_records.specs.Values.{At, Rec, Contents, Names, Plain, Iterated, Fixups, ModEnd, Subrecord, Thread, Fixup, Reference}
 use Rattle.omf_check.specs.Kept.{HasThreads, no_threads, set_thread}
-use Rattle.omf_check.specs.Sound.{FrameIsDefined, TargetIsDefined, ReferenceHolds, SubrecordHolds, ContentsHold, ModuleHolds}
-use Rattle.omf_check.specs.Tables.{segments, groups, externals, subrecords, is_defined, defined_segments, defined_groups, defined_externals}
-use Rattle.omf_check.specs.Threads.{FrameMethod, F0, F1, F2, F4, F5, TargetMethod, T0, T1, T2, plain}
+use Rattle.omf_check.specs.Sound.{ReferenceHolds, SubrecordHolds, ContentsHold, ModuleHolds}
+use Rattle.omf_check.specs.Tables.{segments, subrecords, is_defined}
+use Rattle.omf_check.specs.Threads.{F4, plain}
 use Rattle.omf_check.specs.declared.threads.Threads.{Threads}
 use Rattle.omf_check.proofs.ThreadLaws.{threads_kept}
-use Rattle.omf_reloc.specs.Placed.{HasPlaces, HasFrame, HasTarget}
+use Rattle.omf_reloc.specs.Placed.{HasPlaces}
 use Rattle.omf_reloc.specs.Placement.{Places}
 use Rattle.omf_reloc.specs.ReachSteps.{HasEntries, data_place, CanJudge, CanJudgeOne, CanJudgeAll, CanJudgeRecord, CanJudgeRecords}
 use Rattle.omf_reloc.specs.Walking.{threads_after}
+use Rattle.omf_reloc.proofs.FoundLaws.{Covers, covers, defined-more, frame-there, target-there}
 use Rattle.omf_reloc.proofs.FarLaws.{plain-by, place_in, place-more, threads-more, no-data, HoldFrom, hold-first, hold-rest}
-
--- The placement has an entry for each of the tables after these records.
-record Covers (pl : Places) (before : List Rec) : Type 0 where
-  segments : length (segments before) ≤ length pl.segments
-  groups : length (groups before) ≤ length pl.groups
-  externals : length (externals before) ≤ length pl.externals
-
-longer : {A : Type 0} (f : Rec → List A) (before rs : List Rec) → length (flat_map f before) ≤ length (flat_map f (before ++ rs))
-longer f before rs = omega (arith, ap length (flat_map-append f before rs), length-append (flat_map f before) (flat_map f rs))
-
-covers : (pl : Places) (m before rs : List Rec) → HasEntries pl m → m ≡ before ++ rs → Covers pl before
-covers pl m before rs h e = record {
-  segments = omega (arith, h.segments, ap (λ x. length (segments x)) e, longer (λ r. defined_segments r.kind r.contents) before rs);
-  groups = omega (arith, h.groups, ap (λ x. length (groups x)) e, longer (λ r. defined_groups r.contents) before rs);
-  externals = omega (arith, h.externals, ap (λ x. length (externals x)) e, longer (λ r. defined_externals r.contents) before rs);
-}
-
-defined-more : (n k i : ℕ) → n ≤ k → is_defined n i ≡ true → is_defined k i ≡ true
-defined-more n k i le h =
-    let parts = and_parts (nat_le 1 i) (nat_le i n) h in
-    let low : i ≤ n = leb-true i n parts.1 in
-    and_from (nat_le 1 i) (nat_le i k) parts.0 (le-leb i k (omega (arith, low, le)))
 
 -- The segment of the last data record, if there is one, has an entry.
 abbrev IsThere : Places → Option (ℕ × ℕ) → Type 0
@@ -45,26 +22,14 @@ IsThere pl None = ⊤
 IsThere pl (Some p) = is_defined (length pl.segments) p.0 ≡ true
 
 module _ (pl : Places) (before : List Rec) (c : Covers pl before) where
-  frame-there : (segment : ℕ) (f : FrameMethod) → FrameIsDefined before f → (f ≡ F4 → is_defined (length pl.segments) segment ≡ true) → HasFrame pl segment f
-  frame-there segment (F0 i) h s = defined-more (length (segments before)) (length pl.segments) i c.segments h
-  frame-there segment (F1 i) h s = defined-more (length (groups before)) (length pl.groups) i c.groups h
-  frame-there segment (F2 i) h s = defined-more (length (externals before)) (length pl.externals) i c.externals h
-  frame-there segment F4 h s = s refl
-  frame-there segment F5 h s = tt
-
-  target-there : (t : TargetMethod) → TargetIsDefined before t → HasTarget pl t
-  target-there (T0 i) h = defined-more (length (segments before)) (length pl.segments) i c.segments h
-  target-there (T1 i) h = defined-more (length (groups before)) (length pl.groups) i c.groups h
-  target-there (T2 i) h = defined-more (length (externals before)) (length pl.externals) i c.externals h
-
   can-judge : (segment : ℕ) (threads : Threads) (earlier : List Subrecord) (r : Reference) → HasThreads threads earlier → ReferenceHolds before earlier r
       → ((plain earlier r).frame ≡ F4 → is_defined (length pl.segments) segment ≡ true) → CanJudge pl segment threads r
   can-judge segment threads earlier r h holds s = record {
     frame = subst IsSome (sym (threads_kept.frame threads earlier r h)) holds.frame_set;
     target = subst IsSome (sym (threads_kept.target threads earlier r h)) holds.target_set;
     places = subst (HasPlaces pl segment) (plain-by threads earlier r h) (record {
-      frame = frame-there segment (plain earlier r).frame holds.frame s;
-      target = target-there (plain earlier r).target holds.target;
+      frame = frame-there pl before c segment (plain earlier r).frame holds.frame s;
+      target = target-there pl before c (plain earlier r).target holds.target;
     });
   }
 

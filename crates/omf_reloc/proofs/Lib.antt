@@ -5,6 +5,7 @@ pub mod LowestLaws
 pub mod ResolvingLaws
 pub mod ReachLaws
 pub mod FarLaws
+pub mod FoundLaws
 pub mod JudgeLaws
 pub mod ReachedLaws
 pub mod DeriveLaws

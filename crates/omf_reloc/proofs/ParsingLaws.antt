@@ -1,6 +1,6 @@
 -- A placement text, line by line.
 use Rattle.std.proofs.Common.{◌≡◌, ℕ, ◌+◌, true, List, [], ◌∷◌, ◌++◌, length, append_assoc, append-nil, refl, sym, ap, ◌∙◌, arith}
-use Rattle.std.specs.Prelude.{map, filter_map, is_some, Option, Some, None, option_map, Ok, Err, ◌==◌}
+use Rattle.std.specs.Prelude.{map, filter_map, is_some, Option, Some, None, option_map, Ok, Err, IsOk, ◌==◌}
 use Rattle.std.specs.List.{enumerate_from, slice_split}
 use Rattle.std.proofs.lemmas.List.Splits.{length-slice_split}
 use Rattle.omf_reloc.specs.Entries.{Entry, Blank, SegmentEntry, GroupEntry, ExternalEntry, said}
@@ -24,29 +24,38 @@ too_many_words f text second third fourth w x y z more a b d e s = sym (ap entry
 abbrev pub entries_from : ℕ → List (List ℕ) → List (ℕ × Option Entry)
 entries_from n lines = map (λ l. (l.0, entry_said (said l.1))) (enumerate_from n lines)
 
--- A text's entries are those of a draft and those of the lines that are left; all lines at fault are among these.
+-- A text's entries are those of a draft and those of the lines that are left.
 pub record IsRead (text : List ℕ) (d : Draft) (left : List (ℕ × Option Entry)) : Type 0 where
   pub segments : filter_map segment_entry (line_entries text) ≡ d.segments ++ filter_map segment_entry left
   pub groups : filter_map group_entry (line_entries text) ≡ d.groups ++ filter_map group_entry left
   pub externals : filter_map external_entry (line_entries text) ≡ d.externals ++ filter_map external_entry left
-  pub bad : bad_lines text ≡ filter_map bad_line left
+
+-- All lines at fault are among those that are left.
+abbrev pub IsSound : List ℕ → List (ℕ × Option Entry) → Type 0
+IsSound text left = bad_lines text ≡ filter_map bad_line left
 
 one_more : (text : List ℕ) (d : Draft) (n : ℕ) (e : Entry) (left : List (ℕ × Option Entry)) → IsRead text d ((n, Some e) ∷ left) → IsRead text (with_entry d n e) left
-one_more text d n Blank left h = record { segments = h.segments; groups = h.groups; externals = h.externals; bad = h.bad }
-one_more text d n (SegmentEntry p) left h = record { segments = h.segments ∙ sym (append_assoc d.segments (p ∷ []) (filter_map segment_entry left)); groups = h.groups; externals = h.externals; bad = h.bad }
-one_more text d n (GroupEntry f) left h = record { segments = h.segments; groups = h.groups ∙ sym (append_assoc d.groups ((n, f) ∷ []) (filter_map group_entry left)); externals = h.externals; bad = h.bad }
-one_more text d n (ExternalEntry p) left h = record { segments = h.segments; groups = h.groups; externals = h.externals ∙ sym (append_assoc d.externals (p ∷ []) (filter_map external_entry left)); bad = h.bad }
+one_more text d n Blank left h = record { segments = h.segments; groups = h.groups; externals = h.externals }
+one_more text d n (SegmentEntry p) left h = record { segments = h.segments ∙ sym (append_assoc d.segments (p ∷ []) (filter_map segment_entry left)); groups = h.groups; externals = h.externals }
+one_more text d n (GroupEntry f) left h = record { segments = h.segments; groups = h.groups ∙ sym (append_assoc d.groups ((n, f) ∷ []) (filter_map group_entry left)); externals = h.externals }
+one_more text d n (ExternalEntry p) left h = record { segments = h.segments; groups = h.groups; externals = h.externals ∙ sym (append_assoc d.externals (p ∷ []) (filter_map external_entry left)) }
 
 pub line_read : (text : List ℕ) (d new : Draft) (n : ℕ) (line : List ℕ) (lines rest : List (List ℕ)) (e : Entry) → IsRead text d (entries_from n lines) → lines ≡ line ∷ rest → Some e ≡ entry_said (said line) → new ≡ with_entry d n e → IsRead text new (entries_from (n + 1) rest)
 line_read text d new n line lines rest e h s r w = rw w (one_more text d n e (entries_from (n + 1) rest) (rw (← r) at (rw s at h)))
 
--- a line at fault is the first
-pub line_refused : (text : List ℕ) (d : Draft) (n : ℕ) (line : List ℕ) (lines rest : List (List ℕ)) → IsRead text d (entries_from n lines) → lines ≡ line ∷ rest → None ≡ entry_said (said line) → parsed text ≡ Err n
-line_refused text d n line lines rest h s r = let g = rw (← r) at (rw s at h) in rw g.bad refl
+pub line_sound : (text : List ℕ) (n : ℕ) (line : List ℕ) (lines rest : List (List ℕ)) (e : Entry) → IsSound text (entries_from n lines) → lines ≡ line ∷ rest → Some e ≡ entry_said (said line) → IsSound text (entries_from (n + 1) rest)
+line_sound text n line lines rest e h s r = let g = rw s at h in rw (← r) at g
 
--- at the end the draft is the text's
-pub text_read : (text : List ℕ) (d : Draft) (n : ℕ) → IsRead text d (entries_from n []) → parsed text ≡ Ok d
-text_read text d n h = rw (h.bad, h.segments, h.groups, h.externals, append-nil d.segments, append-nil d.groups, append-nil d.externals) refl
+-- a line at fault is the first
+pub line_refused : (text : List ℕ) (n : ℕ) (line : List ℕ) (lines rest : List (List ℕ)) → IsSound text (entries_from n lines) → lines ≡ line ∷ rest → None ≡ entry_said (said line) → parsed text ≡ Err n
+line_refused text n line lines rest h s r = let g = rw (← r) at (rw s at h) in rw g refl
+
+-- at the end the draft is the text's, and no line is at fault
+pub text_read : (text : List ℕ) (d : Draft) (n : ℕ) → IsSound text (entries_from n []) → IsRead text d (entries_from n []) → parsed text ≡ Ok d
+text_read text d n s h = rw (s, h.segments, h.groups, h.externals, append-nil d.segments, append-nil d.groups, append-nil d.externals) refl
+
+pub text_sound : (text : List ℕ) (n : ℕ) → IsSound text (entries_from n []) → IsOk (parsed text)
+text_sound text n s = rw s refl
 
 -- how much of a text is left, its end included
 abbrev pub left_len : Option (List ℕ) → ℕ

@@ -1,7 +1,9 @@
 -- The groups of a draft, one after another.
-use Rattle.std.proofs.Common.{◌≡◌, ℕ, ◌+◌, ◌<◌, List, [], ◌∷◌, ◌++◌, length, drop, slice_index_or, add-one, drop-cons, append_assoc, refl, sym, ap, ◌∙◌}
-use Rattle.std.specs.Prelude.{filter_map, Option, Some, None, Err}
+use Rattle.std.proofs.Common.{◌≡◌, ℕ, ◌+◌, ◌<◌, List, [], ◌∷◌, ◌++◌, length, drop, slice_index_or, add-one, drop-cons, append_assoc, false, refl, sym, ap, ◌∙◌}
+use Rattle.std.specs.Prelude.{filter_map, Option, Some, None, Result, Ok, Err, IsOk, is_ok, if◌then◌else◌}
 use Rattle.std.specs.List.{enumerate_from}
+use Rattle.std.specs.Result.{is_err}
+use Rattle.std.proofs.lemmas.Bool.{true≢false}
 use Rattle.omf_reloc.specs.declared.frame.Frame.{Frame}
 use Rattle.omf_records.specs.Values.{Rec}
 use Rattle.omf_reloc.specs.Placement.{Placed}
@@ -35,6 +37,15 @@ one_found m xs k g groups rest frame frames now all e f n h =
 pub one_sound : (m : List Rec) (xs : List Placed) (k : ℕ) (g : ℕ × Option Frame) (groups rest : List (ℕ × Option Frame)) (frame : Frame) (all : List ℕ) → groups ≡ g ∷ rest → resolved_group m xs (k, g) ≡ Some frame
     → lines_in m xs k groups ≡ all → lines_in m xs (k + 1) rest ≡ all
 one_sound m xs k g groups rest frame all e f h = sym (no_line m xs k g rest frame f) ∙ ap (lines_in m xs k) (sym e) ∙ h
+
+-- what stands where there is an Ok
+pub not_refused : {A B E : Type 0} (r : Result A E) (new old : B) → is_err r ≡ false → (if is_ok r then new else old) ≡ new
+not_refused (Ok a) new old e = refl
+not_refused (Err x) new old e = absurd (true≢false e)
+
+-- at the end no line is at fault
+pub none_at_fault : (m : List Rec) (xs : List Placed) (k : ℕ) (groups rest : List (ℕ × Option Frame)) → rest ≡ [] → lines_in m xs k rest ≡ lines_in m xs 1 groups → IsOk (frames_from m xs 1 groups)
+none_at_fault m xs k groups rest e h = let none : lines_in m xs 1 groups ≡ [] = sym h ∙ ap (lines_in m xs k) e in rw none refl
 
 -- a group whose frame is not found is the first
 pub not_found : (m : List Rec) (xs : List Placed) (k : ℕ) (g : ℕ × Option Frame) (groups rest all : List (ℕ × Option Frame)) → groups ≡ g ∷ rest → resolved_group m xs (k, g) ≡ None

@@ -1,6 +1,6 @@
 -- A table of publics grows public by public.
 use Rattle.std.proofs.Common.{◌≡◌, ℕ, zero, suc, ◌+◌, ◌<◌, ◌≤◌, List, [], ◌∷◌, ◌++◌, length, drop, get_or, refl, sym, ap, ap₂, ◌∙◌, subst, inl, inr, append-nil, append_assoc, arith, Bor, nat_cmp}
-use Rattle.std.specs.Prelude.{◌≢◌, ◌==◌, flat_map, filter_map, Option, Some, None, bytes_eq, cond}
+use Rattle.std.specs.Prelude.{◌≢◌, flat_map, filter_map, Option, Some, None, bytes_eq, cond}
 use Rattle.std.proofs.Math.Seq.{drop-nil}
 use Rattle.std.specs.BTreeMap.{BTreeMap, get_by, is_at, UpdatesBy}
 use Rattle.std.specs.Cmp.Lexicographic.{slice_cmp}
@@ -14,21 +14,15 @@ use Rattle.std.proofs.lemmas.Slice.Eq.{bytes_eq-Decides}
 use Rattle.omf_frame.specs.Framing.{Raw, raw_bytes}
 use Rattle.omf_frame.specs.declared.fault.Place.{Place}
 use Rattle.omf_records.specs.Reading.{typed}
-use Rattle.omf_records.specs.Values.{Rec, Publics, PublicItems}
+use Rattle.omf_records.specs.Values.{Rec}
 use Rattle.omf_check.specs.Listed.{placed_from}
 use Rattle.omf_check.specs.Module.{Module, records_in}
 use Rattle.omf_check.specs.WellFormed.{recs}
 use Rattle.omf_reloc.specs.declared.frame.Frame.{Frame}
 use Rattle.omf_reloc.specs.declared.publics.Found.{Found}
-use Rattle.omf_reloc.specs.declared.publics.Found.TheVariants.{One, Several}
-use Rattle.omf_reloc.specs.Derive.{PlacedPublic, base_address, base_frame, placed_publics, publics, of_name}
+use Rattle.omf_reloc.specs.Derive.{PlacedPublic, public_at, placed_publics, publics, of_name}
 use Rattle.omf_reloc.specs.Placement.{Places, Placed}
-use Rattle.omf_reloc.specs.PublicTable.{summed, IsTable, HasMore, public_at, publics_at, placed_modules, base_of}
-
--- What is found of a name after one more public of that name.
-abbrev pub found_after : Placed → Option Found → Found
-found_after p None = One p.address p.frame
-found_after p (Some f) = Several
+use Rattle.omf_reloc.specs.PublicTable.{summed, found_after, IsTable, HasMore, placed_modules}
 
 summed-more : (ps : List Placed) (p : Placed) → summed (ps ++ p ∷ []) ≡ Some (found_after p (summed ps))
 summed-more [] p = refl
@@ -92,16 +86,6 @@ fill-end m n rest all e f = subst (HasMore m n) (sym (append-nil f.done) ∙ ap 
 -- An empty map is the table of no publics.
 pub fill-empty : (m n : Map) (all : List PlacedPublic) → m.entries ≡ [] → HasMore m n all → IsTable n all
 fill-empty m n all e g = g [] (λ name. ap (lookup (is_at (λ k. slice_cmp nat_cmp name k.now))) e)
-
--- The base of a PUBDEF.
-base-same : (pl : Places) (p : PublicItems) → ((base_of pl p.group.item p.segment.item p.frame).address ≡ base_address pl p) × ((base_of pl p.group.item p.segment.item p.frame).frame ≡ base_frame pl p)
-base-same pl p = elim (cases_Bool (p.segment.item == 0)) [
-  | inl e ↦ (rw e refl, rw e refl)
-  | inr e ↦ (rw e refl, rw e refl)
-]
-
-pub publics-placed : (pl : Places) (p : PublicItems) (base : Placed) → base ≡ base_of pl p.group.item p.segment.item p.frame → publics_at base.address base.frame p.items ≡ placed_publics pl (Publics p)
-publics-placed pl p base e = let s = base-same pl p in ap₂ (λ a f. publics_at a f p.items) (ap (λ b. b.address) e ∙ s.0) (ap (λ b. b.frame) e ∙ s.1)
 
 -- The publics of the records with their places.
 abbrev pub listed_publics : Places → List (Place × Rec) → List PlacedPublic

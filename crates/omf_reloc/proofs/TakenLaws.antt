@@ -13,7 +13,7 @@ use Rattle.omf_reloc.specs.declared.fault.DeriveFault.{DeriveFault}
 use Rattle.omf_reloc.specs.declared.fault.DeriveFault.TheVariants as fault
 use Rattle.omf_reloc.specs.declared.given.Given.{Given}
 use Rattle.omf_reloc.specs.Derivation.{IsFor, IsNotGiven, IsFirstGiven, IsUnnamed, IsOnly, AreSeveral, Takes, Fails}
-use Rattle.omf_reloc.specs.Derive.{PlacedPublic, given_place, of_name, one_public, given_or, external_place}
+use Rattle.omf_reloc.specs.Derive.{PlacedPublic, place_in, given_place, of_name, one_public, given_or, external_place}
 use Rattle.omf_reloc.specs.Placement.{Placed}
 
 -- The entries for an external.
@@ -23,9 +23,6 @@ module _ (j i : ℕ) where
 
   for-decides : (g : Given) → Decides (is-for g) (IsFor j i g)
   for-decides g = Decides-and (g.module == j) (g.external == i) (Decides-eqb g.module j) (Decides-eqb g.external i)
-
-  abbrev place-of : Given → Placed
-  place-of g = record { address = g.address; frame = g.frame }
 
   not-for : (g : Given) → (IsFor j i g → ⊥) → is-for g ≡ false
   not-for g n = false_from_ne_true (is-for g) (λ e. n ((for-decides g).0 e))
@@ -41,10 +38,10 @@ module _ (j i : ℕ) where
       ∙ cond-true (is-for g) (Some g) (find is-for h.after) ((for-decides g).1 h.applies)
 
   given-none : (given : List Given) → IsNotGiven j i given → given_place given j i ≡ None
-  given-none given h = ap (option_map place-of) (find-none given h)
+  given-none given h = ap (option_map place_in) (find-none given h)
 
-  given-first : (given : List Given) (g : Given) → IsFirstGiven j i given g → given_place given j i ≡ Some (place-of g)
-  given-first given g h = ap (option_map place-of) (find-first given g h)
+  given-first : (given : List Given) (g : Given) → IsFirstGiven j i given g → given_place given j i ≡ Some (place_in g)
+  given-first given g h = ap (option_map place_in) (find-first given g h)
 
   given-more : (g : Given) (given : List Given) (x : Given) → (IsFor j i g → ⊥) → IsFirstGiven j i given x → IsFirstGiven j i (g ∷ given) x
   given-more g given x n h = record {
@@ -151,7 +148,7 @@ module _ (among : List PlacedPublic) (given : List Given) (j i : ℕ) (name : Li
   abbrev computed : Result Placed DeriveFault
   computed = external_place among given j i name
 
-  is-given : (g : Given) → IsFirstGiven j i given g → computed ≡ Ok (place-of j i g)
+  is-given : (g : Given) → IsFirstGiven j i given g → computed ≡ Ok (place_in g)
   is-given g h = ap (λ o. given_or o (one_public j i (named name among))) (given-first j i given g h)
 
   not-given : (ps : List Placed) → IsNotGiven j i given → named name among ≡ ps → computed ≡ one_public j i ps
@@ -176,7 +173,7 @@ module _ (among : List PlacedPublic) (given : List Given) (j i : ℕ) (name : Li
   -- It takes a place or fails.
   pub taken-cases : ((p : Placed) × Takes among given j i name p) ⊎ ((f : DeriveFault) × Fails among given j i name f)
   taken-cases = elim (given-cases j i given) [
-    | inl s ↦ inl (place-of j i s.0, inl (record { entry = s.0; first = s.1; place = refl }))
+    | inl s ↦ inl (place_in s.0, inl (record { entry = s.0; first = s.1; place = refl }))
     | inr n ↦ elim (public-cases name among) [
       | inl u ↦ inr (fault.Undefined j i, (n, (refl, refl, u)))
       | inr (inl s) ↦ elim (cases_lt s.0.place.address (2 ^ 32)) [

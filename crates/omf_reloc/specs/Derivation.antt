@@ -7,7 +7,7 @@ use Rattle.omf_reloc.specs.declared.fault.DeriveFault.TheVariants as fault
 use Rattle.omf_reloc.specs.declared.fault.Kind.{Kind}
 use Rattle.omf_reloc.specs.declared.fault.ReachFault.TheVariants as reach
 use Rattle.omf_reloc.specs.declared.given.Given.{Given}
-use Rattle.omf_reloc.specs.Derive.{PlacedModule, PlacedPublic, all_publics, derived}
+use Rattle.omf_reloc.specs.Derive.{PlacedModule, PlacedPublic, all_publics, place_in, derived}
 use Rattle.omf_reloc.specs.Placement.{Places, Placed}
 use Rattle.omf_reloc.specs.Reach.{reach_fault}
 
@@ -58,7 +58,7 @@ pub record IsPublicPlace (name : List ℕ) (among : List PlacedPublic) (p : Plac
 pub record IsGivenPlace (j i : ℕ) (given : List Given) (p : Placed) : Type 0 where
   pub entry : Given
   pub first : IsFirstGiven j i given entry
-  pub place : record { address = entry.address; frame = entry.frame } ≡ p
+  pub place : place_in entry ≡ p
 
 -- External i of module j, of this name, takes a place: that of its first entry, or where it has none that of the one public of its name.
 abbrev pub Takes : List PlacedPublic → List Given → ℕ → ℕ → List ℕ → Placed → Type 0

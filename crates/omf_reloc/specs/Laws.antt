@@ -1,23 +1,26 @@
 -- Laws over the definitions, each the contract of a function of the same name.
-use Rattle.std.specs.Prelude.{◌≡◌, ◌⊎◌, ◌↔◌, ℕ, ◌+◌, ◌<◌, ◌≤◌, List, Some, None, true, Ok, IsOk, ◌∷◌, ◌++◌, map, length, slice_index, All}
+use Rattle.std.specs.Prelude.{◌≡◌, ◌⊎◌, ◌↔◌, ℕ, ◌+◌, ◌<◌, ◌≤◌, List, Some, None, true, Ok, IsOk, IsSome, ◌∷◌, ◌++◌, map, length, slice_index, All}
 use Rattle.std.specs.List.{AllZip}
 use Rattle.omf_records.specs.Location.{location_size}
-use Rattle.omf_records.specs.Values.{DataItem, GroupItem, Rec, Plain, location_type, location_offset}
+use Rattle.omf_records.specs.Values.{At, DataItem, GroupItem, Rec, Plain, Fixups, ModEnd, Subrecord, Fixup, Reference, location_type, location_offset}
 use Rattle.omf_image.specs.Limits.{profile_limits}
+use Rattle.omf_image.specs.declared.limits.Limits.{Limits}
 use Rattle.omf_image.specs.Parts.{Addition, part_size}
 use Rattle.omf_check.specs.Kept.{no_threads}
 use Rattle.omf_check.specs.Rules.{length_of_segment}
-use Rattle.omf_check.specs.Tables.{groups, segments, externals, entry, is_defined}
-use Rattle.omf_check.specs.Threads.{PlainReference}
+use Rattle.omf_check.specs.Sound.{ModuleHolds}
+use Rattle.omf_check.specs.Tables.{groups, segments, externals, entry, is_defined, subrecords, last_data}
+use Rattle.omf_check.specs.Threads.{PlainReference, frame_setting, target_setting, plain}
 use Rattle.omf_reloc.specs.declared.frame.Frame.{Frame}
 use Rattle.omf_reloc.specs.declared.given.Given.{Given}
 use Rattle.omf_reloc.specs.Derive.{PlacedModule, derived}
 use Rattle.omf_reloc.specs.Entries.{Entry, Spells}
 use Rattle.omf_reloc.specs.EntryReading.{entry_said}
 use Rattle.omf_reloc.specs.Plain.{Piece, Kept, End, PlainFixup, pieces, data_contents, fixups_of_data}
+use Rattle.omf_reloc.specs.Placed.{HasPlaces}
 use Rattle.omf_reloc.specs.Placement.{Places, Placed, real_group}
 use Rattle.omf_reloc.specs.Reach.{causes, all_reference_places, far_faults, reach_fault, Reaches}
-use Rattle.omf_reloc.specs.ReachSteps.{records_far}
+use Rattle.omf_reloc.specs.ReachSteps.{HasEntries, records_far}
 use Rattle.omf_reloc.specs.Offsets.{outcome, start_offset}
 use Rattle.omf_reloc.specs.Image.{laid, patched}
 
@@ -87,7 +90,37 @@ pub record TakesFrame (m : List Rec) (xs : List Placed) (i : ℕ) (f : Frame) : 
 abbrev pub GroupsTakeTheLowest : Type 0
 GroupsTakeTheLowest = (m : List Rec) (xs : List Placed) (i : ℕ) (f : Frame) → (real_group m xs i ≡ Some f) ↔ TakesFrame m xs i f
 
--- Where a placement reaches, every fixup of each data record has something to add, and a start has its offset: no default is ever taken.
+-- What a reference looks up is there, after these subrecords of its module: the threads that it names were set, and the placement has the entries of its
+-- frame and of its target. F4 looks up the segment of the last data record, here `segment`; no segment is 0, so where that is 0 the frame is not F4.
+pub record ReferenceIsFound (pl : Places) (segment : ℕ) (earlier : List Subrecord) (r : Reference) : Type 0 where
+  pub frame_set : IsSome (frame_setting earlier r)
+  pub target_set : IsSome (target_setting earlier r)
+  pub places : HasPlaces pl segment (plain earlier r)
+
+-- What a fixup looks up is there, after these records and these subrecords: the last data record is an LEDATA, its segment has an entry, and what the
+-- reference looks up is there.
+pub record FixupIsFound (pl : Places) (before : List Rec) (earlier : List Subrecord) (r : Reference) : Type 0 where
+  pub data_record : DataItem
+  pub last : last_data before ≡ Some (Plain data_record)
+  pub segment : is_defined (length pl.segments) data_record.segment.item ≡ true
+  pub reference : ReferenceIsFound pl data_record.segment.item earlier r
+
+-- What any record of a module looks up is there: the segment of each data record, and all that each fixup and the start look up. So what the definitions
+-- put in the place of an entry, a thread or a data record that is not there is never met.
+pub record AllAreFound (pl : Places) (m : List Rec) : Type 0 where
+  pub data_records : (before after : List Rec) (r : Rec) (d : DataItem) → m ≡ before ++ r ∷ after → data_contents r.contents ≡ Some d
+      → is_defined (length pl.segments) d.segment.item ≡ true
+  pub fixups : (before after : List Rec) (kind : ℕ) (done rest : List (At Subrecord)) (within locat : ℕ) (r : Reference)
+      → m ≡ before ++ record { kind = kind; contents = Fixups (done ++ record { within = within; item = Fixup locat r } ∷ rest) } ∷ after
+      → FixupIsFound pl before (subrecords before ++ map (λ s. s.item) done) r
+  pub start : (before after : List Rec) (kind byte : ℕ) (r : Reference) → m ≡ before ++ record { kind = kind; contents = ModEnd byte (Some r) } ∷ after
+      → ReferenceIsFound pl 0 (subrecords before) r
+
+-- In a well-formed module, for a placement whose lists are as long as its tables.
+abbrev pub LookUpsAreFound : Type 0
+LookUpsAreFound = (limits : Limits) (pl : Places) (m : List Rec) → ModuleHolds limits m → HasEntries pl m → AllAreFound pl m
+
+-- Where a placement reaches, every fixup of each data record has something to add, and a start has its offset.
 pub record AllAreAdded (pl : Places) (m : List Rec) : Type 0 where
   pub fixups : (before after : List Piece) (r : Rec) (d : DataItem) → pieces m ≡ before ++ Kept r ∷ after → data_contents r.contents ≡ Some d
       → All (λ f. IsOk (outcome pl d f)) (fixups_of_data after)

@@ -1,5 +1,5 @@
 -- Placement texts, and the placements that they give a module (this profile's rule).
-use Rattle.std.specs.Prelude.{◌≡◌, ℕ, List, [], ◌∷◌, map, filter_map, Option, Some, None, Result, Ok, Err, ◌==◌, ⊤}
+use Rattle.std.specs.Prelude.{◌≡◌, ℕ, List, [], ◌∷◌, map, filter_map, Option, Some, None, Result, Ok, Err, IsOk, ◌==◌}
 use Rattle.std.specs.List.{enumerate_from, slice_split}
 use Rattle.omf_reloc.specs.declared.fault.TextFault.{TextFault}
 use Rattle.omf_reloc.specs.declared.fault.TextFault.TheVariants.{Memory, Line}
@@ -54,11 +54,11 @@ ok_or_first a (n ∷ ns) = Err n
 abbrev pub parsed : List ℕ → Result Draft ℕ
 parsed text = ok_or_first (draft_of text) (bad_lines text)
 
--- An answer is what is defined: exactly this value, or exactly this line at fault. Of want of memory nothing is said.
+-- An answer is what is defined: exactly this value, or exactly this line at fault. Want of memory is answered only where no line is at fault.
 abbrev pub IsAnswer : {A : Type 0} → Result A ℕ → Result A TextFault → Type 0
 IsAnswer r (Ok a) = r ≡ Ok a
 IsAnswer r (Err (Line n)) = r ≡ Err n
-IsAnswer r (Err Memory) = ⊤
+IsAnswer r (Err Memory) = IsOk r
 
 -- The frame of the k-th group entry, k counted from 1 over all of them without bound: its own, or that of the lowest member of the k-th group.
 abbrev pub resolved_group : List Rec → List Placed → ℕ × (ℕ × Option Frame) → Option Frame

@@ -9,7 +9,7 @@ ghost use Rattle.omf_reloc.specs.Derivation.{DerivedIsTaken, DerivedAreComplete}
 ghost use Rattle.omf_reloc.specs.Derive.{PlacedModule};
 ghost use Rattle.omf_reloc.specs.Placement.{Places};
 ghost use Rattle.omf_reloc.specs.Reach.{Reaches};
-ghost use Rattle.omf_reloc.specs.Laws.{PatchesStayInside, EntriesAreRead, ReachIsDecided, FaultsAreWalked, DerivedFit, AllAreAdded, GroupsTakeTheLowest};
+ghost use Rattle.omf_reloc.specs.Laws.{PatchesStayInside, EntriesAreRead, ReachIsDecided, FaultsAreWalked, LookUpsAreFound, DerivedFit, AllAreAdded, GroupsTakeTheLowest};
 
 /// Fixups whose locations lie inside their data change no byte elsewhere, and keep the data's length.
 pub fn patches_stay_inside()
@@ -36,6 +36,13 @@ pub fn reach_is_decided()
 /// walk over its records comes upon, in that order.
 pub fn faults_are_walked()
     ensures { (limits : Limits) (pl : Places) (m : List Rec) → ModuleHolds limits m → FaultsAreWalked pl m }
+{}
+
+/// In a well-formed module, and for a placement whose lists are as long as its tables, every look-up finds its entry: each thread that a
+/// fixup or the start names was set, each segment, group and external that one of them names has an entry, so has the segment of each data
+/// record, and an LEDATA stands before each fixup. So what the definitions put in the place of something missing is never met.
+pub fn look_ups_are_found()
+    ensures { LookUpsAreFound }
 {}
 
 /// A derived placement has its module's segments and groups where they were placed, and an entry for each external.

@@ -5,9 +5,9 @@ ghost use Rattle.omf_records.specs.Seen.{map_ok};
 ghost use Rattle.omf_check.specs.Module.{records_in};
 ghost use Rattle.omf_check.specs.WellFormed.{recs};
 ghost use Rattle.omf_reloc.specs.declared.given.Given.{Given as Entry};
-ghost use Rattle.omf_reloc.specs.Derive.{PlacedPublic, external_place, derived};
+ghost use Rattle.omf_reloc.specs.Derive.{PlacedPublic, external_place, external_places, derived};
 ghost use Rattle.omf_reloc.specs.GivenTable.{IsGivenTable};
-ghost use Rattle.omf_reloc.specs.Deriving.{IsDerived, IsFound, places_among};
+ghost use Rattle.omf_reloc.specs.Deriving.{IsDerived, IsFound};
 ghost use Rattle.omf_reloc.specs.PublicTable.{IsTable, placed_modules};
 
 use crate::fault::DeriveFault;
@@ -42,7 +42,7 @@ fn external_places<'a>(
     module: &'a Checked,
     number: u32,
 ) -> Result<Vec<Placed>, DeriveFault>
-    ensures { (among : List PlacedPublic) (entries : List Entry) → IsTable table.now.by_name among → IsGivenTable given.now.by_external entries → IsFound (places_among among entries number (recs (records_in «module».entry.now.bytes))) (map_ok (λ v. v.items) result) }
+    ensures { (among : List PlacedPublic) (entries : List Entry) → IsTable table.now.by_name among → IsGivenTable given.now.by_external entries → IsFound (external_places among entries number (recs (records_in «module».entry.now.bytes))) (map_ok (λ v. v.items) result) }
 {
     let mut places = Vec::new(alloc);
     for i in 1..module.externals() + 1 {

@@ -4,8 +4,8 @@ ghost use Rattle.std.specs.Prelude.{◌≡◌, ◌+◌, [], ◌∷◌, length, O
 ghost use Rattle.omf_check.specs.Module.{records_in};
 ghost use Rattle.omf_check.specs.WellFormed.{recs};
 ghost use Rattle.omf_records.specs.Seen.{contents_seen};
-ghost use Rattle.omf_reloc.specs.Derive.{PlacedPublic, of_name, one_public, placed_publics, publics, all_publics};
-ghost use Rattle.omf_reloc.specs.PublicTable.{IsTable, HasMore, public_at, publics_at, placed_modules, paragraph, base_of};
+ghost use Rattle.omf_reloc.specs.Derive.{PlacedPublic, paragraph, base_of, public_at, publics_at, of_name, one_public, placed_publics, publics, all_publics};
+ghost use Rattle.omf_reloc.specs.PublicTable.{IsTable, HasMore, found_after, placed_modules};
 
 use crate::fault::DeriveFault;
 use crate::frame::{Frame, Placed};
@@ -82,15 +82,22 @@ pub struct PublicTable<'a> {
     by_name: BTreeMap<&'a [u8], Found>,
 }
 
+/// What stands under a name once there is one more public of it, where this stood there before.
+fn with_one_more(found: Option<Found>, address: u64, frame: Frame) -> Found
+    ensures { result ≡ found_after (record { address = address; frame = frame }) found }
+{
+    match found {
+        None => Found::One { address, frame },
+        Some(_) => Found::Several,
+    }
+}
+
 impl<'a> PublicTable<'a> {
     /// Adds a public.
     fn add(&mut self, name: &'a [u8], address: u64, frame: Frame) -> Result<(), AllocError>
         ensures { OnOk result (HasMore self.old.by_name self.new.by_name (public_at name.entry.now address frame ∷ [])) }
     {
-        let found = match self.by_name.get(&name) {
-            None => Found::One { address, frame },
-            Some(_) => Found::Several,
-        };
+        let found = with_one_more(self.by_name.get(&name).copied(), address, frame);
         self.by_name.insert(name, found)?;
         Ok(())
     }
@@ -105,7 +112,7 @@ impl<'a> PublicTable<'a> {
 
     /// Adds the publics of a PUBDEF with this base.
     fn add_items(&mut self, items: Items<Public<'a>>, base: Placed) -> Result<(), AllocError>
-        ensures { OnOk result (HasMore self.old.by_name self.new.by_name (publics_at base.address base.frame items.entry)) }
+        ensures { OnOk result (HasMore self.old.by_name self.new.by_name (publics_at base items.entry)) }
     {
         for public in items {
             self.add_public(&public.item, base)?;

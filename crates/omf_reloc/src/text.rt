@@ -65,7 +65,8 @@ impl Draft {
     /// speaks of the k-th group, and all `S` lines count, also later ones.
     ///
     /// `Line` names the line of the first `G real` whose frame is not found: where there is no such group, where it has no member, or
-    /// where a member has no `S` line. A growth that is refused is `Memory`. At an `Err` the draft is dropped.
+    /// where a member has no `S` line. A growth that is refused is `Memory`, which hides no such line: it is answered only where the
+    /// frames of all groups are found. At an `Err` the draft is dropped.
     pub fn resolve(self, alloc: Global, module: &Checked) -> Result<Placement, TextFault>
         ensures { IsAnswer (resolved (recs (records_in «module».now.bytes)) self) result }
     {
@@ -94,7 +95,8 @@ fn group_frame(
     }
 }
 
-/// The frames of all groups, or the line of the first whose frame is not found.
+/// The frames of all groups, or the line of the first whose frame is not found. A growth that is refused hides no such line: the groups
+/// behind it are judged all the same.
 fn group_frames(
     alloc: Global,
     module: &Checked,
@@ -104,11 +106,17 @@ fn group_frames(
     ensures { IsAnswer (frames_from (recs (records_in «module».now.bytes)) segments.now 1 groups.now) (map_ok (λ v. v.items) result) }
 {
     let mut frames = Vec::new(alloc);
+    let mut is_short = false;
     for (i, (line, given)) in groups.iter().enumerate() {
         let Some(frame) = group_frame(module, segments, i + 1, *given) else {
             return Err(TextFault::Line(*line));
         };
-        frames.push(frame)?;
+        if !is_short {
+            is_short = frames.push(frame).is_err();
+        }
+    }
+    if is_short {
+        return Err(TextFault::Memory);
     }
     Ok(frames)
 }
@@ -119,11 +127,13 @@ fn group_frames(
 /// words. Addresses and frames are 1 to 8 hexadecimal digits in either case, selectors 1 to 4. Entries of one letter stand in the
 /// order of their indices.
 ///
-/// `Line` names the first line, from 1, that says anything else. A growth that is refused is `Memory`.
+/// `Line` names the first line, from 1, that says anything else. A growth that is refused is `Memory`, which hides no such line: it is
+/// answered only where there is none.
 pub fn parse_placement(alloc: Global, text: &[u8]) -> Result<Draft, TextFault>
     ensures { IsAnswer (parsed text.now) result }
 {
     let mut draft = Draft::new(alloc);
+    let mut is_short = false;
     let mut rest = Some(text);
     let mut number = 0u64;
     while let Some(lines) = rest {
@@ -132,8 +142,13 @@ pub fn parse_placement(alloc: Global, text: &[u8]) -> Result<Draft, TextFault>
         let Some(entry) = entry_of(said_by(line)) else {
             return Err(TextFault::Line(number));
         };
-        draft.push(number, entry)?;
+        if !is_short {
+            is_short = draft.push(number, entry).is_err();
+        }
         rest = more;
+    }
+    if is_short {
+        return Err(TextFault::Memory);
     }
     Ok(draft)
 }

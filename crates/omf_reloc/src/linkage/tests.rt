@@ -41,6 +41,14 @@ const FRAME_PUBLIC: [u8; 13] = [
     0x90, 0x0A, 0x00, 0x00, 0x00, 0x00, 0xB8, 0x01, 0x58, 0x02, 0x00, 0x00, 0x53,
 ];
 
+// The same one without a segment, in a group.
+const FRAME_AND_GROUP_PUBLIC: [u8; 13] = [
+    0x90, 0x0A, 0x00, 0x01, 0x00, 0x00, 0xB8, 0x01, 0x58, 0x02, 0x00, 0x00, 0x52,
+];
+
+// Externals X and Y.
+const TWO_EXTERNALS: [u8; 10] = [0x8C, 0x07, 0x00, 0x01, 0x58, 0x00, 0x01, 0x59, 0x00, 0xBA];
+
 /// A module's records, the place of its one segment, by its address and its frame's base and selector, and the frames of its groups.
 type Lying<'a> = (&'a [&'a [u8]], (u32, u32, u16), &'a [(u32, u16)]);
 
@@ -261,6 +269,114 @@ fn takes_the_frame_of_a_number(rt: HostRuntime) -> Result<(), Fail> {
             0xB8002,
             frame(0xB8000, 0xB800),
             &[0xB8, 0x02, 0x00, 0x90]
+        )
+    );
+    Ok(())
+}
+
+#[test]
+fn takes_the_frame_of_a_group_at_the_address_of_a_number(rt: HostRuntime) -> Result<(), Fail> {
+    let a = rt.alloc();
+    let second: [&[u8]; 6] = [
+        &HEADER,
+        &NAMES,
+        &SEGMENT,
+        &GROUP,
+        &FRAME_AND_GROUP_PUBLIC,
+        &END,
+    ];
+    let both = linked(
+        a,
+        &[(&FIRST, LOW, &[]), (&second, HIGH, &[(0xB7FF0, 0xB7FF)])],
+        &[],
+    )?;
+    assert!(rt;
+        is_linked(
+            both,
+            0xB8002,
+            frame(0xB7FF0, 0xB7FF),
+            &[0xB8, 0x12, 0x00, 0x90]
+        )
+    );
+    Ok(())
+}
+
+#[test]
+fn takes_addresses_below_4_gb(rt: HostRuntime) -> Result<(), Fail> {
+    let a = rt.alloc();
+    let last = (0xFFFF_FFFD, 0xFFFF_0000, 1);
+    let both = linked(a, &[(&FIRST, LOW, &[]), (&SECOND, last, &[])], &[])?;
+    assert!(rt;
+        is_linked(
+            both,
+            0xFFFF_FFFF,
+            frame(0xFFFF_0000, 1),
+            &[0xB8, 0xFF, 0xFF, 0x90]
+        )
+    );
+    let (module, external) = (0, 1);
+    let beyond = (0xFFFF_FFFE, 0xFFFF_0000, 1);
+    assert_eq!(rt;
+        fault(a, &[(&FIRST, LOW, &[]), (&SECOND, beyond, &[])], &[])?,
+        Some(DeriveFault::TooHigh { module, external })
+    );
+    Ok(())
+}
+
+#[test]
+fn counts_publics_before_it_judges_one(rt: HostRuntime) -> Result<(), Fail> {
+    let a = rt.alloc();
+    let (module, external) = (0, 1);
+    let beyond = (0xFFFF_FFFE, 0xFFFF_0000, 1);
+    let three: [Lying<'_>; 3] = [
+        (&FIRST, LOW, &[]),
+        (&SECOND, HIGH, &[]),
+        (&SECOND, beyond, &[]),
+    ];
+    assert_eq!(rt;
+        fault(a, &three, &[])?,
+        Some(DeriveFault::Twice { module, external })
+    );
+    let twice: [&[u8]; 6] = [&HEADER, &NAMES, &SEGMENT, &PUBLIC, &PUBLIC, &END];
+    assert_eq!(rt;
+        fault(a, &[(&FIRST, LOW, &[]), (&twice, HIGH, &[])], &[])?,
+        Some(DeriveFault::Twice { module, external })
+    );
+    Ok(())
+}
+
+#[test]
+fn names_the_external_and_its_module(rt: HostRuntime) -> Result<(), Fail> {
+    let a = rt.alloc();
+    let two: [&[u8]; 5] = [&HEADER, &NAMES, &SEGMENT, &TWO_EXTERNALS, &END];
+    let (module, external) = (1, 2);
+    assert_eq!(rt;
+        fault(
+            a,
+            &[(&SECOND, HIGH, &[]), (&two, LOW, &[]), (&two, LOW, &[])],
+            &[]
+        )?,
+        Some(DeriveFault::Undefined { module, external })
+    );
+    Ok(())
+}
+
+#[test]
+fn gives_to_one_module_alone(rt: HostRuntime) -> Result<(), Fail> {
+    let a = rt.alloc();
+    let given = [Given {
+        module: 1,
+        external: 1,
+        address: 0x30000,
+        frame: frame(0x30000, 0x3000),
+    }];
+    let modules: [Lying<'_>; 3] = [(&FIRST, LOW, &[]), (&FIRST, LOW, &[]), (&SECOND, HIGH, &[])];
+    assert!(rt;
+        is_linked(
+            linked(a, &modules, &given)?,
+            0x20042,
+            frame(0x20000, 0x2000),
+            &[0xB8, 0x42, 0x00, 0x90]
         )
     );
     Ok(())

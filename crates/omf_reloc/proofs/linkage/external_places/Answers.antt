@@ -4,8 +4,7 @@ use Rattle.omf_records.specs.Seen.{map_ok}
 use Rattle.omf_check.specs.Module.{records_in}
 use Rattle.omf_check.specs.Tables.{externals, entry}
 use Rattle.omf_check.specs.WellFormed.{recs}
-use Rattle.omf_reloc.specs.Derive.{external_place}
-use Rattle.omf_reloc.specs.Deriving.{places_among}
+use Rattle.omf_reloc.specs.Derive.{external_place, external_places}
 use Rattle.omf_reloc.proofs.LinkageLaws.{one-placed, one-fails, err-found}
 use Rattle.omf_reloc.proofs.linkage.external_places.Goals as goal
 
@@ -18,7 +17,7 @@ returns-in_err-place c = λ among given h k.
     let named : entry (externals m) i ≡ Some c.in-Some.name = sym c.external.ensures ∙ c.in-Some.is in
     let fails : external_place among given j i c.in-Some.name ≡ Err f = ap (external_place among given j i) (sym c.name.view_is) ∙ sym (c.in_err-place.ensures among given h k) in
     let same : c.from_residual.result ≡ Err f = search rules in
-    err-found (places_among among given j m) f _ (ap (map_ok (λ v. v.items)) same)
+    err-found (external_places among given j m) f _ (ap (map_ok (λ v. v.items)) same)
     (one-fails among given j m i c.in-Some.name c.loop-i.invariant.start named c.loop-i.places.items f fails (c.loop-i.invariant.so_far among given h k))
 
 pub loop-i-preserved : goal.loop-i-preserved

@@ -1,6 +1,7 @@
 use Rattle.std.proofs.Common.{◌∙◌, ◌+◌, [], ◌∷◌, ap, ap₂, subst}
 use Rattle.std.specs.Prelude.{OnOk}
-use Rattle.omf_reloc.specs.PublicTable.{HasMore, public_at}
+use Rattle.omf_reloc.specs.Derive.{public_at}
+use Rattle.omf_reloc.specs.PublicTable.{HasMore}
 use Rattle.omf_reloc.proofs.publics.PublicTable.add_public.Goals as goal
 
 pub returns : goal.returns
