@@ -1,18 +1,20 @@
 -- A cut is greedy, and there is one greedy cut.
-use Rattle.std.proofs.Common.{◌≡◌, ℕ, ◌+◌, ◌<◌, ◌≤◌, List, [], ◌∷◌, ◌++◌, refl, sym, ◌∙◌, ap, subst, Bool, true, false, cond, length, arith, length-append, append_assoc, append-nil, true≢false}
-use Rattle.std.specs.Prelude.{map, flat_map, All, nat_le, nat_lt, ◌==◌, ⊤}
-use Rattle.std.proofs.lemmas.Bool.{leb-true, leb-false, le-leb, lt-leb, false≢true}
+use Rattle.std.proofs.Common.{◌≡◌, ℕ, ◌+◌, ◌<◌, ◌≤◌, List, [], ◌∷◌, ◌++◌, refl, sym, ◌∙◌, ap, subst, Bool, true, false, cond, length, arith, length-append, append_assoc, append-nil}
+use Rattle.std.specs.Prelude.{map, flat_map, All, nat_le, nat_lt, ◌==◌, Option, Some, None, ⊤}
+use Rattle.std.proofs.lemmas.Bool.{cond_both, cond-true, cond-false, leb-true, leb-false, le-leb, lt-leb}
 use Rattle.std.proofs.lemmas.List.Elements.{All-nil, All-cons, All-head, All-tail, All-map, All-weaker}
 use Rattle.std.proofs.lemmas.List.Sums.{sum_by-append}
 use Rattle.byteorder.specs.Numbers.{length-bytes_low_first}
 use Rattle.byteorder.specs.Endian.{little_bytes}
 use Rattle.omf_frame.specs.Fields.{index_bytes}
 use Rattle.omf_frame.specs.Framing.{raw_bytes, raw_of}
-use Rattle.omf_records.specs.Values.{is_wide, width}
-use Rattle.omf_check.specs.Threads.{FrameMethod, F0, F1, F2, F4, F5, TargetMethod, T0, T1, T2}
+use Rattle.omf_records.specs.Values.{At, Reference, is_wide, width}
+use Rattle.omf_records.specs.Shortest.{option_bytes, datum_bytes, reference_bytes}
+use Rattle.omf_check.specs.Threads.{PlainReference}
 use Rattle.omf_reloc.specs.Plain.{PlainFixup}
 use Rattle.omf_canon.specs.Cut.{IsGreedyCut, body_limit, fixups_size, cut, cut_from}
-use Rattle.omf_canon.specs.PlainBytes.{frame_datum, target_datum, fixup_bytes}
+use Rattle.omf_canon.specs.PlainBytes.{fixup_bytes, start_bytes}
+use Rattle.omf_canon.specs.Unthreaded.{unthreaded}
 
 -- A fixup has 11 bytes at most.
 cond-le : {A : Type 0} (n : ℕ) (b : Bool) (xs ys : List A) → length xs ≤ n → length ys ≤ n → length (cond b xs ys) ≤ n
@@ -22,49 +24,43 @@ cond-le n false xs ys h k = k
 length-index_bytes : (i : ℕ) → length (index_bytes i) ≤ 2
 length-index_bytes i = cond-le 2 (nat_lt i 128) _ _ (omega arith) (omega arith)
 
-pub length-frame_datum : (m : FrameMethod) → length (frame_datum m) ≤ 2
-length-frame_datum (F0 i) = length-index_bytes i
-length-frame_datum (F1 i) = length-index_bytes i
-length-frame_datum (F2 i) = length-index_bytes i
-length-frame_datum F4 = omega arith
-length-frame_datum F5 = omega arith
-
-pub length-target_datum : (m : TargetMethod) → length (target_datum m) ≤ 2
-length-target_datum (T0 i) = length-index_bytes i
-length-target_datum (T1 i) = length-index_bytes i
-length-target_datum (T2 i) = length-index_bytes i
+length-datum : (o : Option (At ℕ)) → length (option_bytes datum_bytes o) ≤ 2
+length-datum None = omega arith
+length-datum (Some a) = length-index_bytes a.item
 
 width-cases : (b : Bool) → cond b 4 2 ≤ 4
 width-cases true = omega arith
 width-cases false = omega arith
 
-pub length-displacement : (short : Bool) (kind d : ℕ) → length (cond short [] (little_bytes (width kind) d)) ≤ 4
-length-displacement true kind d = omega arith
-length-displacement false kind d = omega (arith, length-bytes_low_first 0 (width kind) d, width-cases (is_wide kind))
+length-displacement : (kind : ℕ) (o : Option ℕ) → length (option_bytes (little_bytes (width kind)) o) ≤ 4
+length-displacement kind None = omega arith
+length-displacement kind (Some d) = omega (arith, length-bytes_low_first 0 (width kind) d, width-cases (is_wide kind))
 
-pub length-fixup_bytes : (kind : ℕ) (f : PlainFixup) → length (fixup_bytes kind f) ≤ 11
-length-fixup_bytes kind f =
-    let r = f.reference in
-    let short = r.displacement == 0 in
-    let tail = cond short [] (little_bytes (width kind) r.displacement) in
+pub length-reference_bytes : (kind : ℕ) (r : Reference) → length (reference_bytes kind r) ≤ 9
+length-reference_bytes kind r =
+    let last = option_bytes (little_bytes (width kind)) r.displacement in
     omega (
       arith,
-      length-frame_datum r.frame,
-      length-target_datum r.target,
-      length-displacement short kind r.displacement,
-      length-append (frame_datum r.frame ++ target_datum r.target) tail,
-      length-append (frame_datum r.frame) (target_datum r.target),
+      length-datum r.frame,
+      length-datum r.target,
+      length-displacement kind r.displacement,
+      length-append (option_bytes datum_bytes r.frame) (option_bytes datum_bytes r.target ++ last),
+      length-append (option_bytes datum_bytes r.target) last,
     )
+
+pub length-fixup_bytes : (kind : ℕ) (f : PlainFixup) → length (fixup_bytes kind f) ≤ 11
+length-fixup_bytes kind f = omega (arith, length-reference_bytes kind (unthreaded (f.reference.displacement == 0) f.reference))
+
+-- A start has 9 at most.
+pub length-start_bytes : (kind : ℕ) (start : Option PlainReference) → length (start_bytes kind start) ≤ 9
+length-start_bytes kind None = omega arith
+length-start_bytes kind (Some r) = length-reference_bytes kind (unthreaded false r)
 
 abbrev Groups : Type 0
 Groups = List (List PlainFixup)
 
 abbrev all_of : Groups → List PlainFixup
 all_of gs = flat_map (λ g. g) gs
-
-by_test : (P : Groups → Type 0) (b : Bool) (x y : Groups) → (b ≡ true → P x) → (b ≡ false → P y) → P (cond b x y)
-by_test P true x y taken other = taken refl
-by_test P false x y taken other = other refl
 
 module _ (kind : ℕ) where
   abbrev size : List PlainFixup → ℕ
@@ -79,21 +75,21 @@ module _ (kind : ℕ) where
   -- The groups are the fixups in their order.
   whole-cut_from : (g fs : List PlainFixup) → g ++ fs ≡ all_of (cut_from kind g fs)
   whole-cut_from g [] = refl
-  whole-cut_from g (f ∷ fs) = by_test (λ gs. g ++ f ∷ fs ≡ all_of gs) (nat_le (size (g ++ f ∷ [])) body_limit) _ _
+  whole-cut_from g (f ∷ fs) = cond_both (nat_le (size (g ++ f ∷ [])) body_limit) _ _ (λ gs. g ++ f ∷ fs ≡ all_of gs)
       (λ e. sym (append_assoc g (f ∷ []) fs) ∙ whole-cut_from (g ++ f ∷ []) fs)
       (λ e. ap (λ t. g ++ t) (whole-cut_from (f ∷ []) fs))
 
   -- None is empty.
   full-cut_from : (g fs : List PlainFixup) → 0 < length g → All (λ h. 0 < length h) (cut_from kind g fs)
   full-cut_from g [] h = All-cons (λ k. 0 < length k) g [] h (All-nil (λ k. 0 < length k))
-  full-cut_from g (f ∷ fs) h = by_test (λ gs. All (λ k. 0 < length k) gs) (nat_le (size (g ++ f ∷ [])) body_limit) _ _
+  full-cut_from g (f ∷ fs) h = cond_both (nat_le (size (g ++ f ∷ [])) body_limit) _ _ (λ gs. All (λ k. 0 < length k) gs)
       (λ e. full-cut_from (g ++ f ∷ []) fs (omega (arith, length-append g (f ∷ []))))
       (λ e. All-cons (λ k. 0 < length k) g (cut_from kind (f ∷ []) fs) h (full-cut_from (f ∷ []) fs (omega arith)))
 
   -- Each fits.
   fits-cut_from : (g fs : List PlainFixup) → size g ≤ body_limit → All (λ h. size h ≤ body_limit) (cut_from kind g fs)
   fits-cut_from g [] h = All-cons (λ k. size k ≤ body_limit) g [] h (All-nil (λ k. size k ≤ body_limit))
-  fits-cut_from g (f ∷ fs) h = by_test (λ gs. All (λ k. size k ≤ body_limit) gs) (nat_le (size (g ++ f ∷ [])) body_limit) _ _
+  fits-cut_from g (f ∷ fs) h = cond_both (nat_le (size (g ++ f ∷ [])) body_limit) _ _ (λ gs. All (λ k. size k ≤ body_limit) gs)
       (λ e. fits-cut_from (g ++ f ∷ []) fs (leb-true (size (g ++ f ∷ [])) body_limit e))
       (λ e. All-cons (λ k. size k ≤ body_limit) g (cut_from kind (f ∷ []) fs) h (fits-cut_from (f ∷ []) fs (size-one f)))
 
@@ -109,13 +105,13 @@ module _ (kind : ℕ) where
 
   next-cut_from : (g : List PlainFixup) (f : PlainFixup) (hs fs : List PlainFixup) → body_limit < size (g ++ f ∷ []) → Next g (cut_from kind (f ∷ hs) fs)
   next-cut_from g f hs [] h = h
-  next-cut_from g f hs (k ∷ fs) h = by_test (λ gs. Next g gs) (nat_le (size (f ∷ hs ++ k ∷ [])) body_limit) _ _
+  next-cut_from g f hs (k ∷ fs) h = cond_both (nat_le (size (f ∷ hs ++ k ∷ [])) body_limit) _ _ (λ gs. Next g gs)
       (λ e. next-cut_from g f (hs ++ k ∷ []) fs h)
       (λ e. h)
 
   greedy-cut_from : (g fs : List PlainFixup) → Greedy (cut_from kind g fs)
   greedy-cut_from g [] = (tt, tt)
-  greedy-cut_from g (f ∷ fs) = by_test Greedy (nat_le (size (g ++ f ∷ [])) body_limit) _ _
+  greedy-cut_from g (f ∷ fs) = cond_both (nat_le (size (g ++ f ∷ [])) body_limit) _ _ Greedy
       (λ e. greedy-cut_from (g ++ f ∷ []) fs)
       (λ e. (next-cut_from g f [] fs (leb-false (size (g ++ f ∷ [])) body_limit e), greedy-cut_from (f ∷ []) fs))
 
@@ -144,20 +140,12 @@ module _ (kind : ℕ) where
   abbrev Full : Groups → Type 0
   Full gs = All (λ h. 0 < length h) gs
 
-  if-true : {A : Type 0} (b : Bool) (x y : A) → b ≡ true → cond b x y ≡ x
-  if-true true x y e = refl
-  if-true false x y e = absurd (false≢true e)
-
-  if-false : {A : Type 0} (b : Bool) (x y : A) → b ≡ false → cond b x y ≡ y
-  if-false true x y e = absurd (true≢false e)
-  if-false false x y e = refl
-
   close-group : (g : List PlainFixup) (gs : Groups) → gs ≡ cut kind (all_of gs) → Full gs → Next g gs → g ∷ gs ≡ cut_from kind g (all_of gs)
   close-group g [] ih full next = refl
   close-group g ([] ∷ gs) ih full next = absurd (omega (arith, All-head (λ h. 0 < length h) [] gs full))
   close-group g ((f ∷ fs) ∷ gs) ih full next =
       ap (λ t. g ∷ t) ih
-      ∙ sym (if-false (nat_le (size (g ++ f ∷ [])) body_limit) (cut_from kind (g ++ f ∷ []) (fs ++ all_of gs)) (g ∷ cut_from kind (f ∷ []) (fs ++ all_of gs)) (lt-leb (size (g ++ f ∷ [])) body_limit next))
+      ∙ sym (cond-false (nat_le (size (g ++ f ∷ [])) body_limit) (cut_from kind (g ++ f ∷ []) (fs ++ all_of gs)) (g ∷ cut_from kind (f ∷ []) (fs ++ all_of gs)) (lt-leb (size (g ++ f ∷ [])) body_limit next))
 
   grow-group : (g ks : List PlainFixup) (gs : Groups) → gs ≡ cut kind (all_of gs) → Full gs → size (g ++ ks) ≤ body_limit → Next (g ++ ks) gs
       → (g ++ ks) ∷ gs ≡ cut_from kind g (ks ++ all_of gs)
@@ -168,7 +156,7 @@ module _ (kind : ℕ) where
       (omega (arith, fit, size-append g (k ∷ ks), size-append g (k ∷ []), size-append (k ∷ []) ks)) in
       ap (λ l. l ∷ gs) e
       ∙ grow-group (g ++ k ∷ []) ks gs ih full (subst (λ l. size l ≤ body_limit) e fit) (subst (λ l. Next l gs) e next)
-      ∙ sym (if-true (nat_le (size (g ++ k ∷ [])) body_limit) (cut_from kind (g ++ k ∷ []) (ks ++ all_of gs)) (g ∷ cut_from kind (k ∷ []) (ks ++ all_of gs)) t)
+      ∙ sym (cond-true (nat_le (size (g ++ k ∷ [])) body_limit) (cut_from kind (g ++ k ∷ []) (ks ++ all_of gs)) (g ∷ cut_from kind (k ∷ []) (ks ++ all_of gs)) t)
 
   one-cut : (gs : Groups) → Full gs → Fits gs → Greedy gs → gs ≡ cut kind (all_of gs)
   one-cut [] full fits greedy = refl

@@ -1,7 +1,8 @@
 -- Canonical records are a module's frame: a header first, a MODEND last, known types and right checksums.
-use Rattle.std.proofs.Common.{◌≡◌, ℕ, ◌+◌, ◌-◌, ◌%◌, ◌/◌, ◌<◌, ◌≤◌, ◌⊎◌, inl, inr, List, [], ◌∷◌, ◌++◌, length, refl, sym, ◌∙◌, ap, subst, Bool, true, false, cond, arith, true≢false}
+use Rattle.std.proofs.Common.{◌≡◌, ℕ, ◌+◌, ◌-◌, ◌%◌, ◌/◌, ◌<◌, ◌≤◌, ◌⊎◌, inl, inr, List, [], ◌∷◌, ◌++◌, length, refl, sym, ◌∙◌, ap, subst, Bool, true, false, arith, true≢false}
 use Rattle.std.specs.Prelude.{map, All, not, sum, slice_index, IsTrue, ◌==◌}
-use Rattle.std.proofs.lemmas.Bool.{eqb-true, or_cases, false≢true}
+use Rattle.std.specs.List.{AllByRecursion as Each}
+use Rattle.std.proofs.lemmas.Bool.{cond_both, eqb-true, or_cases, false≢true}
 use Rattle.std.proofs.lemmas.List.Sums.{sum_by_push}
 use Rattle.std.proofs.lemmas.List.Elements.{All-nil, All-cons, All-head, All-tail}
 use Rattle.omf_frame.specs.Bytes.{with_before, is_one_of}
@@ -21,7 +22,6 @@ use Rattle.omf_canon.specs.Joined.{cut_pieces}
 use Rattle.omf_canon.specs.Laws.{CanonicalsAreWellFormed}
 use Rattle.omf_canon.specs.Skeleton.{join_front, skeleton_of, skeleton}
 use Rattle.omf_canon.proofs.CountLaws.{items, items-sum, canonical-items}
-use Rattle.omf_canon.proofs.PlainValueLaws.{Each}
 use Rattle.omf_canon.proofs.PiecesKeptLaws.{PiecesAreKept, kept-skeleton, kept-cut}
 use Rattle.omf_canon.proofs.ResultLaws.{kept-module, items-limited}
 use Rattle.omf_canon.proofs.RulesLaws.{SameTables}
@@ -51,10 +51,6 @@ records-framed (p ∷ ps) (r ∷ rs) s = All-cons IsRecord r rs (spelled-record 
 
 -- ---- types
 
-by_test : (P : List Piece → Type 0) (t : Bool) (x y : List Piece) → (t ≡ true → P x) → (t ≡ false → P y) → P (cond t x y)
-by_test P true x y taken other = taken refl
-by_test P false x y taken other = other refl
-
 abbrev IsTaken : Piece → Type 0
 IsTaken p = is_taken (piece_kind p) ≡ true
 
@@ -62,7 +58,7 @@ taken-join : (kind : ℕ) (fs : List PlainFixup) (ps : List Piece) → is_taken 
 taken-join kind fs [] w h = (w, tt)
 taken-join kind fs (Kept r ∷ ps) w h = (w, h)
 taken-join kind fs (End other byte s ∷ ps) w h = (w, h)
-taken-join kind fs (Fixed other gs ∷ ps) w h = by_test (Each IsTaken) (kind == other) _ _ (λ e. (w, h.1)) (λ e. (w, h))
+taken-join kind fs (Fixed other gs ∷ ps) w h = cond_both (kind == other) _ _ (Each IsTaken) (λ e. (w, h.1)) (λ e. (w, h))
 
 taken-skeleton : (ps : List Piece) → Each IsTaken ps → Each IsTaken (skeleton_of ps)
 taken-skeleton [] h = tt
@@ -143,8 +139,8 @@ closed-join : (kind : ℕ) (fs : List PlainFixup) (ps : List Piece) → is_end k
 closed-join kind fs [] n h = absurd h
 closed-join kind fs (Kept r ∷ ps) n h = inr (n, h)
 closed-join kind fs (End other byte s ∷ ps) n h = inr (n, h)
-closed-join kind fs (Fixed other gs ∷ ps) n (inl (e, k)) = by_test Closed (kind == other) _ _ (λ q. inl (e, subst (λ x. is_end x ≡ true) (sym (eqb-true kind other q)) k)) (λ q. inr (n, inl (e, k)))
-closed-join kind fs (Fixed other gs ∷ ps) n (inr (m, h)) = by_test Closed (kind == other) _ _ (λ q. inr (n, h)) (λ q. inr (n, inr (m, h)))
+closed-join kind fs (Fixed other gs ∷ ps) n (inl (e, k)) = cond_both (kind == other) _ _ Closed (λ q. inl (e, subst (λ x. is_end x ≡ true) (sym (eqb-true kind other q)) k)) (λ q. inr (n, inl (e, k)))
+closed-join kind fs (Fixed other gs ∷ ps) n (inr (m, h)) = cond_both (kind == other) _ _ Closed (λ q. inr (n, h)) (λ q. inr (n, inr (m, h)))
 
 closed-skeleton : (ps : List Piece) → Each IsWritable ps → Closed ps → Closed (skeleton_of ps)
 closed-skeleton [] w h = absurd h

@@ -1,7 +1,7 @@
 -- Skeletons are joined, and joined pieces are the skeleton of their cut.
-use Rattle.std.proofs.Common.{◌≡◌, ◌≢◌, ℕ, ◌<◌, List, [], ◌∷◌, ◌++◌, refl, sym, ◌∙◌, ap, subst, Bool, true, false, cond, length, arith, append-nil, true≢false}
+use Rattle.std.proofs.Common.{◌≡◌, ◌≢◌, ℕ, ◌<◌, List, [], ◌∷◌, ◌++◌, refl, sym, ◌∙◌, ap, subst, true, false, length, arith, append-nil, true≢false}
 use Rattle.std.specs.Prelude.{map, flat_map, All, ◌==◌, ⊤}
-use Rattle.std.proofs.lemmas.Bool.{eqb-true, eq-eqb, false≢true}
+use Rattle.std.proofs.lemmas.Bool.{cond_both, eqb-true, eq-eqb, false≢true}
 use Rattle.std.proofs.lemmas.List.Elements.{All-nil, All-cons, All-head, All-tail}
 use Rattle.omf_reloc.specs.Plain.{Piece, Kept, Fixed, End, PlainFixup}
 use Rattle.omf_canon.specs.Cut.{cut}
@@ -20,15 +20,11 @@ Parted (Fixed kind fs ∷ ps) = (is_kept (Fixed kind fs) ≡ true) × Behind kin
 Parted (Kept r ∷ ps) = Parted ps
 Parted (End kind byte s ∷ ps) = Parted ps
 
-by_test : (P : List Piece → Type 0) (b : Bool) (x y : List Piece) → (b ≡ true → P x) → (b ≡ false → P y) → P (cond b x y)
-by_test P true x y taken other = taken refl
-by_test P false x y taken other = other refl
-
 parted-join : (kind : ℕ) (f : PlainFixup) (fs : List PlainFixup) (ps : List Piece) → Parted ps → Parted (join_front (Fixed kind (f ∷ fs)) ps)
 parted-join kind f fs [] h = (refl, tt, tt)
 parted-join kind f fs (Kept r ∷ ps) h = (refl, tt, h)
 parted-join kind f fs (End other byte s ∷ ps) h = (refl, tt, h)
-parted-join kind f fs (Fixed other gs ∷ ps) h = by_test Parted (kind == other) _ _
+parted-join kind f fs (Fixed other gs ∷ ps) h = cond_both (kind == other) _ _ Parted
     (λ e. (refl, subst (λ k. Behind k ps) (sym (eqb-true kind other e)) h.1, h.2))
     (λ e. (refl, differ kind other e, h))
   where
@@ -90,12 +86,12 @@ join-apart : (kind : ℕ) (fs : List PlainFixup) (ps : List Piece) → Behind ki
 join-apart kind fs [] h = refl
 join-apart kind fs (Kept r ∷ ps) h = refl
 join-apart kind fs (End other byte s ∷ ps) h = refl
-join-apart kind fs (Fixed other gs ∷ ps) h = by_test (λ t. t ≡ Fixed kind fs ∷ Fixed other gs ∷ ps) (kind == other) _ _
+join-apart kind fs (Fixed other gs ∷ ps) h = cond_both (kind == other) _ _ (λ t. t ≡ Fixed kind fs ∷ Fixed other gs ∷ ps)
     (λ e. absurd (h (eqb-true kind other e)))
     (λ e. refl)
 
 join-same : (kind : ℕ) (fs gs : List PlainFixup) (ps : List Piece) → join_front (Fixed kind fs) (Fixed kind gs ∷ ps) ≡ Fixed kind (fs ++ gs) ∷ ps
-join-same kind fs gs ps = by_test (λ t. t ≡ Fixed kind (fs ++ gs) ∷ ps) (kind == kind) _ _
+join-same kind fs gs ps = cond_both (kind == kind) _ _ (λ t. t ≡ Fixed kind (fs ++ gs) ∷ ps)
     (λ e. refl)
     (λ e. absurd (true≢false (sym (eq-eqb kind kind refl) ∙ e)))
 

@@ -1,7 +1,8 @@
 -- The pieces of a well-formed module keep the rules, one after another; so do those of its skeleton, and those that it is cut into.
-use Rattle.std.proofs.Common.{◌≡◌, ◌≢◌, ℕ, suc, ◌+◌, ◌≤◌, List, [], ◌∷◌, ◌++◌, length, refl, sym, ◌∙◌, ap, ap₂, subst, Bool, true, false, cond, Option, Some, None, length-append, append_assoc, append-nil}
+use Rattle.std.proofs.Common.{◌≡◌, ◌≢◌, ℕ, suc, ◌+◌, ◌≤◌, List, [], ◌∷◌, ◌++◌, length, refl, sym, ◌∙◌, ap, ap₂, subst, true, Option, Some, None, length-append, append_assoc, append-nil}
 use Rattle.std.specs.Prelude.{map, flat_map, option_map, ◌==◌, ⊤}
-use Rattle.std.specs.List.{last_or}
+use Rattle.std.specs.List.{AllByRecursion as Each, last_or}
+use Rattle.std.proofs.lemmas.Bool.{cond_both}
 use Rattle.std.proofs.lemmas.List.{map-append}
 use Rattle.std.proofs.lemmas.List.Concat.{flat_map-append}
 use Rattle.omf_frame.specs.Bytes.{with_before}
@@ -20,7 +21,7 @@ use Rattle.omf_canon.specs.Joined.{cut_pieces}
 use Rattle.omf_canon.specs.Skeleton.{join_front, skeleton_of}
 use Rattle.omf_canon.proofs.AloneLaws.{IsOther}
 use Rattle.omf_canon.proofs.CutLaws.{cut-greedy}
-use Rattle.omf_canon.proofs.PlainValueLaws.{Each, each-append, each-front, each-back}
+use Rattle.omf_canon.proofs.PlainValueLaws.{each-append, each-front, each-back}
 use Rattle.omf_canon.proofs.RulesLaws.{holds, AreTrue, SameTables}
 
 -- A fixup lies in the last data record, and its frame and its target are defined.
@@ -52,15 +53,11 @@ module _ (profile : Profile) (limits : Limits) where
   PiecesAreKept b [] = ⊤
   PiecesAreKept b (p ∷ ps) = PieceIsKept b p × PiecesAreKept (kept_after b p) ps
 
-  by_test : (P : List Piece → Type 0) (t : Bool) (x y : List Piece) → (t ≡ true → P x) → (t ≡ false → P y) → P (cond t x y)
-  by_test P true x y taken other = taken refl
-  by_test P false x y taken other = other refl
-
   kept-join : (b : List Rec) (kind : ℕ) (fs : List PlainFixup) (ps : List Piece) → Each (FixupIsKept b) fs → PiecesAreKept b ps → PiecesAreKept b (join_front (Fixed kind fs) ps)
   kept-join b kind fs [] h k = (h, k)
   kept-join b kind fs (Kept r ∷ ps) h k = (h, k)
   kept-join b kind fs (End other byte s ∷ ps) h k = (h, k)
-  kept-join b kind fs (Fixed other gs ∷ ps) h k = by_test (PiecesAreKept b) (kind == other) _ _ (λ e. (each-append (FixupIsKept b) fs gs h k.0, k.1)) (λ e. (h, k))
+  kept-join b kind fs (Fixed other gs ∷ ps) h k = cond_both (kind == other) _ _ (PiecesAreKept b) (λ e. (each-append (FixupIsKept b) fs gs h k.0, k.1)) (λ e. (h, k))
 
   pub kept-skeleton : (b : List Rec) (ps : List Piece) → PiecesAreKept b ps → PiecesAreKept b (skeleton_of ps)
   kept-skeleton b [] h = tt

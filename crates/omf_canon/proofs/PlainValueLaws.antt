@@ -1,7 +1,7 @@
 -- The plain references of typed records can be written: each index that a thread gives was read from one.
 use Rattle.std.proofs.Common.{ℕ, ◌*◌, ◌^◌, ◌<◌, List, [], ◌∷◌, ◌++◌, sym, subst, Bool, true, false, cond, Option, Some, None, arith, append_assoc, append-nil}
 use Rattle.std.specs.Prelude.{map, filter_map, option_map, unwrap_or, All, not, nat_lt, ◌==◌, ◌&&◌, ⊤}
-use Rattle.std.specs.List.{cons_option, last_or}
+use Rattle.std.specs.List.{AllByRecursion as Each, cons_option, last_or}
 use Rattle.std.proofs.lemmas.List.Elements.{filter_map-append, All-head, All-tail}
 use Rattle.omf_frame.specs.Bytes.{with_before}
 use Rattle.omf_records.specs.Values.{At, Reference, Subrecord, Thread, Fixup, width, is_wide, thread_is_frame, thread_number, thread_method, frame_by_thread, frame_bits, frame_thread, target_by_thread, target_bits, has_frame_datum, has_target_datum, has_no_displacement}
@@ -9,11 +9,6 @@ use Rattle.omf_records.specs.Valued.{IsThere, IsIndexValue, IsReferenceValue, Is
 use Rattle.omf_check.specs.Threads.{Setting, setting, setting_of, same, frame_setting, target_setting, frame_from, target_from, F0, F1, F2, F4, F5, T0, T1, T2, plain}
 use Rattle.omf_reloc.specs.Plain.{plain_fixup}
 use Rattle.omf_canon.proofs.UnthreadedLaws.{IsSmallFrame, IsSmallTarget, IsPlainValue, IsPlainFixupValue}
-
--- by recursion
-abbrev pub Each : {A : Type 0} → (A → Type 0) → List A → Type 0
-Each P [] = ⊤
-Each P (x ∷ xs) = P x × Each P xs
 
 pub each-append : {A : Type 0} (P : A → Type 0) (xs ys : List A) → Each P xs → Each P ys → Each P (xs ++ ys)
 each-append P [] ys h k = k

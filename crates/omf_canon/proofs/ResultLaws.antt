@@ -1,6 +1,7 @@
 -- Records that spell pieces which keep the rules keep the rules.
 use Rattle.std.proofs.Common.{◌≡◌, ◌≢◌, ℕ, ◌+◌, ◌≤◌, List, [], ◌∷◌, ◌++◌, length, refl, sym, ◌∙◌, ap, subst, Bool, true, false, Option, Some, None, append_assoc, append-nil}
 use Rattle.std.specs.Prelude.{map, option_map, All, not, ◌==◌}
+use Rattle.std.specs.List.{AllByRecursion as Each}
 use Rattle.std.proofs.lemmas.Bool.{le-leb}
 use Rattle.std.proofs.lemmas.List.{map-append}
 use Rattle.std.proofs.lemmas.List.Sums.{sum_by_push}
@@ -21,7 +22,7 @@ use Rattle.omf_check.specs.declared.profile.Profile.{Profile}
 use Rattle.omf_reloc.specs.Plain.{Piece, Kept, PlainFixup, plain_fixup, piece_of, pieces}
 use Rattle.omf_canon.specs.Unthreaded.{unthreaded, unthreaded_fixup}
 use Rattle.omf_canon.proofs.AloneLaws.{IsOther, other-alone, twice-alone, twice-contents, same-frame, same-target}
-use Rattle.omf_canon.proofs.PlainValueLaws.{Each}
+use Rattle.omf_canon.proofs.UnthreadedLaws.{frame-again, target-again}
 use Rattle.omf_canon.proofs.RulesLaws.{holds, AreTrue, kept-true, kept-front, kept-back, kept-both, items-bounded, SameTables, same-rules}
 use Rattle.omf_canon.proofs.PiecesKeptLaws.{FixupIsKept, StartIsKept, PieceIsKept, kept_after, PiecesAreKept, tables-more, fixups-empty, end-empty, frame-tables, target-tables, fixups-kept, start-kept, trees-alone}
 
@@ -123,86 +124,19 @@ end-like (Iterated x) byte y e = absurd cc
 end-like (Carried x) byte y e = absurd cc
 end-like (Fixups x) byte y e = absurd cc
 
-abbrev made : FrameMethod → TargetMethod → ℕ → PlainReference
-made f t d = record { frame = f; target = t; displacement = d }
-
-frame-made : (E : List Subrecord) (short : Bool) (f : FrameMethod) (t : TargetMethod) (d : ℕ) → frame_of E (unthreaded short (made f t d)) ≡ Some f
-frame-made E false (F0 i) (T0 j) d = refl
-frame-made E true (F0 i) (T0 j) d = refl
-frame-made E false (F0 i) (T1 j) d = refl
-frame-made E true (F0 i) (T1 j) d = refl
-frame-made E false (F0 i) (T2 j) d = refl
-frame-made E true (F0 i) (T2 j) d = refl
-frame-made E false (F1 i) (T0 j) d = refl
-frame-made E true (F1 i) (T0 j) d = refl
-frame-made E false (F1 i) (T1 j) d = refl
-frame-made E true (F1 i) (T1 j) d = refl
-frame-made E false (F1 i) (T2 j) d = refl
-frame-made E true (F1 i) (T2 j) d = refl
-frame-made E false (F2 i) (T0 j) d = refl
-frame-made E true (F2 i) (T0 j) d = refl
-frame-made E false (F2 i) (T1 j) d = refl
-frame-made E true (F2 i) (T1 j) d = refl
-frame-made E false (F2 i) (T2 j) d = refl
-frame-made E true (F2 i) (T2 j) d = refl
-frame-made E false (F4) (T0 j) d = refl
-frame-made E true (F4) (T0 j) d = refl
-frame-made E false (F4) (T1 j) d = refl
-frame-made E true (F4) (T1 j) d = refl
-frame-made E false (F4) (T2 j) d = refl
-frame-made E true (F4) (T2 j) d = refl
-frame-made E false (F5) (T0 j) d = refl
-frame-made E true (F5) (T0 j) d = refl
-frame-made E false (F5) (T1 j) d = refl
-frame-made E true (F5) (T1 j) d = refl
-frame-made E false (F5) (T2 j) d = refl
-frame-made E true (F5) (T2 j) d = refl
-
-target-made : (E : List Subrecord) (short : Bool) (f : FrameMethod) (t : TargetMethod) (d : ℕ) → target_of E (unthreaded short (made f t d)) ≡ Some t
-target-made E false (F0 i) (T0 j) d = refl
-target-made E true (F0 i) (T0 j) d = refl
-target-made E false (F0 i) (T1 j) d = refl
-target-made E true (F0 i) (T1 j) d = refl
-target-made E false (F0 i) (T2 j) d = refl
-target-made E true (F0 i) (T2 j) d = refl
-target-made E false (F1 i) (T0 j) d = refl
-target-made E true (F1 i) (T0 j) d = refl
-target-made E false (F1 i) (T1 j) d = refl
-target-made E true (F1 i) (T1 j) d = refl
-target-made E false (F1 i) (T2 j) d = refl
-target-made E true (F1 i) (T2 j) d = refl
-target-made E false (F2 i) (T0 j) d = refl
-target-made E true (F2 i) (T0 j) d = refl
-target-made E false (F2 i) (T1 j) d = refl
-target-made E true (F2 i) (T1 j) d = refl
-target-made E false (F2 i) (T2 j) d = refl
-target-made E true (F2 i) (T2 j) d = refl
-target-made E false (F4) (T0 j) d = refl
-target-made E true (F4) (T0 j) d = refl
-target-made E false (F4) (T1 j) d = refl
-target-made E true (F4) (T1 j) d = refl
-target-made E false (F4) (T2 j) d = refl
-target-made E true (F4) (T2 j) d = refl
-target-made E false (F5) (T0 j) d = refl
-target-made E true (F5) (T0 j) d = refl
-target-made E false (F5) (T1 j) d = refl
-target-made E true (F5) (T1 j) d = refl
-target-made E false (F5) (T2 j) d = refl
-target-made E true (F5) (T2 j) d = refl
-
 frame-like : (E : List Subrecord) (short : Bool) (p : PlainReference) (r : Reference) → reference_alone r ≡ reference_alone (unthreaded short p) → frame_of E r ≡ Some p.frame
 frame-like E short p r e =
     ap (option_map frame_from) (same-frame E E (λ b k. refl) r)
     ∙ ap (frame_of E) e
     ∙ sym (ap (option_map frame_from) (same-frame E E (λ b k. refl) (unthreaded short p)))
-    ∙ frame-made E short p.frame p.target p.displacement
+    ∙ frame-again E short p
 
 target-like : (E : List Subrecord) (short : Bool) (p : PlainReference) (r : Reference) → reference_alone r ≡ reference_alone (unthreaded short p) → target_of E r ≡ Some p.target
 target-like E short p r e =
     ap (option_map target_from) (same-target E E (λ b k. refl) r)
     ∙ ap (target_of E) e
     ∙ sym (ap (option_map target_from) (same-target E E (λ b k. refl) (unthreaded short p)))
-    ∙ target-made E short p.frame p.target p.displacement
+    ∙ target-again E short p
 
 frame-true : (L : List Rec) (at : ℕ) (m : FrameMethod) → FrameIsDefined L m → AreTrue (holds (frame_rules L at (Some m)))
 frame-true L at (F0 i) h = (h, tt)

@@ -1,7 +1,7 @@
 -- Whether the rules of a record hold depends on the tables before it, and not on places.
 use Rattle.std.proofs.Common.{◌≡◌, ℕ, ◌+◌, ◌≤◌, List, [], ◌∷◌, ◌++◌, length, refl, sym, ◌∙◌, ap, ap₂, subst, Bool, true, arith}
 use Rattle.std.specs.Prelude.{map, option_map, unwrap_or, nat_le, nat_lt, IsTrue}
-use Rattle.std.specs.List.{enumerate_from}
+use Rattle.std.specs.List.{AllByRecursion as Each, enumerate_from}
 use Rattle.std.proofs.lemmas.Bool.{lt-ltb, ltb-true}
 use Rattle.std.proofs.lemmas.List.{length-map}
 use Rattle.std.proofs.lemmas.List.Elements.{All-nil, All-cons, All-head, All-tail}
@@ -16,7 +16,6 @@ use Rattle.omf_check.specs.Tables.{names, segments, groups, externals, last_data
 use Rattle.omf_check.specs.declared.profile.Profile.{Profile}
 use Rattle.omf_check.specs.declared.segment.SegInfo.{SegInfo}
 use Rattle.omf_canon.proofs.AloneLaws.{IsOther, other-alone, alone-other}
-use Rattle.omf_canon.proofs.PlainValueLaws.{Each}
 
 abbrev pub holds : List Rule → List Bool
 holds rules = map (λ r. r.holds) rules

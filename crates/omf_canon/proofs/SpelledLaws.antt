@@ -1,14 +1,15 @@
 -- The canonical records of a module spell the pieces that its skeleton is cut into.
-use Rattle.std.proofs.Common.{◌≡◌, ℕ, suc, ◌+◌, ◌*◌, ◌<◌, ◌≤◌, List, [], ◌∷◌, ◌++◌, length, refl, sym, ◌∙◌, ap, ap₂, subst, Bool, true, false, cond, Option, Some, None, arith, length-append, append-nil}
+use Rattle.std.proofs.Common.{◌≡◌, ℕ, suc, ◌+◌, ◌*◌, ◌<◌, ◌≤◌, List, [], ◌∷◌, ◌++◌, length, refl, sym, ◌∙◌, ap, ap₂, subst, Bool, true, false, Option, Some, None, arith, append-nil}
 use Rattle.std.specs.Prelude.{map, flat_map, option_map, All, ◌==◌, ⊤}
-use Rattle.std.proofs.lemmas.Bool.{eqb-true}
+use Rattle.std.specs.List.{AllByRecursion as Each}
+use Rattle.std.proofs.lemmas.Bool.{cond_both, eqb-true}
 use Rattle.std.proofs.lemmas.List.Concat.{flat_map-append}
 use Rattle.std.proofs.lemmas.List.Elements.{All-nil, All-cons, All-head, All-tail}
 use Rattle.omf_frame.specs.Bytes.{with_before, bits}
 use Rattle.omf_frame.specs.Framing.{Raw, raw_of, is_end}
 use Rattle.omf_image.specs.declared.limits.Limits.{Limits}
-use Rattle.omf_records.specs.Values.{At, nowhere, Rec, Contents, Header, Comment, Names, Segment, Group, Externs, Publics, Communals, Plain, Iterated, Fixups, ModEnd, Carried, Reference, Subrecord, width, has_start, alone}
-use Rattle.omf_records.specs.Shortest.{contents_bytes}
+use Rattle.omf_records.specs.Values.{At, nowhere, Rec, Contents, Header, Comment, Names, Segment, Group, Externs, Publics, Communals, Plain, Iterated, Fixups, ModEnd, Carried, Reference, Subrecord, has_start, alone}
+use Rattle.omf_records.specs.Shortest.{reference_bytes, contents_bytes}
 use Rattle.omf_records.specs.Reading.{typed}
 use Rattle.omf_records.specs.Records.{IsTyped}
 use Rattle.omf_records.specs.Laws.{AreTyped, ShortestAreTyped, ValuesAreTyped, TypedHaveValues, PlacesDoNotCount}
@@ -22,15 +23,14 @@ use Rattle.omf_canon.specs.Canonical.{piece_raws, canonical_raws}
 use Rattle.omf_canon.specs.Cut.{cut, body_limit, fixups_size}
 use Rattle.omf_canon.specs.Joined.{cut_piece, cut_pieces}
 use Rattle.omf_canon.specs.Laws.{CanonicalHolds}
-use Rattle.byteorder.specs.Endian.{little_bytes}
-use Rattle.omf_canon.specs.PlainBytes.{frame_datum, target_datum, fixup_bytes, plain_reference_bytes, start_bytes}
+use Rattle.omf_canon.specs.PlainBytes.{fixup_bytes, start_bytes}
 use Rattle.omf_canon.specs.Skeleton.{join_front, skeleton_of, skeleton}
 use Rattle.omf_canon.specs.Unthreaded.{unthreaded, unthreaded_fixup}
 use Rattle.omf_canon.proofs.AloneLaws.{same-piece, twice-alone, IsOther}
-use Rattle.omf_canon.proofs.CutLaws.{cut-greedy, length-group, length-frame_datum, length-target_datum, length-displacement}
+use Rattle.omf_canon.proofs.CutLaws.{cut-greedy, length-group, length-reference_bytes}
 use Rattle.omf_canon.proofs.JoinLaws.{skeleton-joined, cut-joined}
-use Rattle.omf_canon.proofs.PlainValueLaws.{Each, each-append, each-front, each-back, AreSmall, small-all, plain-value, fixups-value}
-use Rattle.omf_canon.proofs.UnthreadedLaws.{plain-again, bytes-again, bytes-fixup, IsPlainValue, value-again, IsPlainFixupValue, value-fixup}
+use Rattle.omf_canon.proofs.PlainValueLaws.{each-append, each-front, each-back, AreSmall, small-all, plain-value, fixups-value}
+use Rattle.omf_canon.proofs.UnthreadedLaws.{plain-again, IsPlainValue, value-again, IsPlainFixupValue, value-fixup}
 
 -- A kept piece is that of a record which is typed.
 pub record IsKeptFrom (r : Rec) : Type 0 where
@@ -105,15 +105,11 @@ spelled-typed (p ∷ ps) (r ∷ rs) h = All-cons IsSpelt r rs h.0.is_typed (spel
 
 -- ---- skeletons and their cuts can be written
 
-by_test : (P : List Piece → Type 0) (b : Bool) (x y : List Piece) → (b ≡ true → P x) → (b ≡ false → P y) → P (cond b x y)
-by_test P true x y taken other = taken refl
-by_test P false x y taken other = other refl
-
 writable-join : (kind : ℕ) (fs : List PlainFixup) (ps : List Piece) → IsWritable (Fixed kind fs) → Each IsWritable ps → Each IsWritable (join_front (Fixed kind fs) ps)
 writable-join kind fs [] w h = (w, tt)
 writable-join kind fs (Kept r ∷ ps) w h = (w, h)
 writable-join kind fs (End other byte s ∷ ps) w h = (w, h)
-writable-join kind fs (Fixed other gs ∷ ps) w h = by_test (Each IsWritable) (kind == other) _ _
+writable-join kind fs (Fixed other gs ∷ ps) w h = cond_both (kind == other) _ _ (Each IsWritable)
     (λ e. ((w.0, each-append (IsPlainFixupValue kind) fs gs w.1 (subst (λ k. Each (IsPlainFixupValue k) gs) (sym (eqb-true kind other e)) h.0.1)), h.1))
     (λ e. (w, h))
 
@@ -160,7 +156,7 @@ module _ (once : AreTyped) (shortest : ShortestAreTyped) (values : ValuesAreType
 
   group-bytes : (kind : ℕ) (g : List PlainFixup) → flat_map (fixup_bytes kind) g ≡ contents_bytes kind (Fixups (map (λ f. nowhere (unthreaded_fixup f)) g))
   group-bytes kind [] = refl
-  group-bytes kind (f ∷ g) = ap₂ (λ x y. x ++ y) (bytes-fixup kind f) (group-bytes kind g)
+  group-bytes kind (f ∷ g) = ap (λ y. fixup_bytes kind f ++ y) (group-bytes kind g)
 
   group-values : (kind : ℕ) (g : List PlainFixup) → Each (IsPlainFixupValue kind) g → All (λ s. IsSubrecordValue kind s.item) (map (λ f. nowhere (unthreaded_fixup f)) g)
   group-values kind [] h = All-nil (λ s. IsSubrecordValue kind s.item)
@@ -193,16 +189,6 @@ module _ (once : AreTyped) (shortest : ShortestAreTyped) (values : ValuesAreType
     write-groups kind gs taken h.1 (All-tail (λ k. fixups_size kind k ≤ body_limit) g gs small),
   )
 
-  reference-short : (kind : ℕ) (r : PlainReference) → length (plain_reference_bytes false kind r) ≤ 9
-  reference-short kind r = omega (
-    arith,
-    length-frame_datum r.frame,
-    length-target_datum r.target,
-    length-displacement false kind r.displacement,
-    length-append (frame_datum r.frame ++ target_datum r.target) (little_bytes (width kind) r.displacement),
-    length-append (frame_datum r.frame) (target_datum r.target),
-  )
-
   few : (a : ℕ) → a ≤ 9 → suc a + 1 < 65536
   few a h = omega (arith, h)
 
@@ -216,12 +202,11 @@ module _ (once : AreTyped) (shortest : ShortestAreTyped) (values : ValuesAreType
       let r : Rec = record { kind = kind; contents = ModEnd byte (Some (unthreaded false p)) } in
       let q = values r (record { taken = h.0; fits = h.1; reference = subst (λ b. IsThere (IsReferenceValue kind) b (Some (unthreaded false p))) (sym h.3.0) (value-again kind false p h.3.1) }) in
       let s = q.0.0 in
-      let bytes : List ℕ → Type 0 = λ x. IsTyped s (byte ∷ x) in
-      spells-of (End kind byte (Some p)) s kind (byte ∷ plain_reference_bytes false kind p) q.0.1 (subst bytes (sym (bytes-again false kind p)) q.0.2)
+      spells-of (End kind byte (Some p)) s kind (byte ∷ reference_bytes kind (unthreaded false p)) q.0.1 q.0.2
       (λ earlier. same-piece earlier s r q.0.3 ∙ ap₂ (λ x y. End kind x (Some y)) h.2 (plain-again earlier false p (λ e. absurd cc)))
       refl
       q.0.3
-      (few (length (plain_reference_bytes false kind p)) (reference-short kind p))
+      (few (length (reference_bytes kind (unthreaded false p))) (length-reference_bytes kind (unthreaded false p)))
 
   write-piece : (p : Piece) → IsWritable p → SpellAll (cut_piece p) (piece_raws p)
   write-piece (Kept r) h = (write-kept r h, tt)

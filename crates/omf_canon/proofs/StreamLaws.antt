@@ -1,25 +1,13 @@
 -- The walk gives the canonical records of the skeleton.
 use Rattle.std.proofs.Common.{◌≡◌, ℕ, List, [], ◌∷◌, ◌++◌, refl, sym, ◌∙◌, ap, subst, Bool, true, false, cond, Some, None, true≢false}
 use Rattle.std.specs.Prelude.{map, ◌==◌, nat_le}
-use Rattle.std.proofs.lemmas.Bool.{eqb-true, eq-eqb}
+use Rattle.std.proofs.lemmas.Bool.{cond-true, cond-false, eqb-true, eq-eqb}
 use Rattle.omf_frame.specs.Framing.{Raw}
 use Rattle.omf_reloc.specs.Plain.{Piece, Kept, Fixed, End, PlainFixup}
 use Rattle.omf_canon.specs.Canonical.{piece_raws, canonical_raws}
 use Rattle.omf_canon.specs.Cut.{body_limit, fixups_size, cut_from}
 use Rattle.omf_canon.specs.Skeleton.{join_front, skeleton_of}
 use Rattle.omf_canon.specs.Streaming.{group_raw, Open, open_after, closed_all, streamed}
-
-by_test : {A : Type 0} (P : A → Type 0) (b : Bool) (x y : A) → (b ≡ true → P x) → (b ≡ false → P y) → P (cond b x y)
-by_test P true x y taken other = taken refl
-by_test P false x y taken other = other refl
-
-pub if-true : {A : Type 0} (b : Bool) (x y : A) → b ≡ true → cond b x y ≡ x
-if-true true x y e = refl
-if-true false x y e = absurd (true≢false (sym e))
-
-pub if-false : {A : Type 0} (b : Bool) (x y : A) → b ≡ false → cond b x y ≡ y
-if-false true x y e = absurd (true≢false e)
-if-false false x y e = refl
 
 same-kind : (kind : ℕ) → (kind == kind) ≡ true
 same-kind kind = eq-eqb kind kind refl
@@ -37,8 +25,8 @@ opened kind g fs ps = raws kind (cut_from kind g fs) ++ canonical_raws ps
 
 cut-step : (kind : ℕ) (g : List PlainFixup) (f : PlainFixup) (fs : List PlainFixup) (t : Bool) → fits kind g f ≡ t → (more : List Raw)
     → raws kind (cut_from kind g (f ∷ fs)) ++ more ≡ cond t (raws kind (cut_from kind (g ++ f ∷ []) fs) ++ more) (group_raw kind g ∷ (raws kind (cut_from kind (f ∷ []) fs) ++ more))
-cut-step kind g f fs true e more = ap (λ x. raws kind x ++ more) (if-true (fits kind g f) (cut_from kind (g ++ f ∷ []) fs) (g ∷ cut_from kind (f ∷ []) fs) e)
-cut-step kind g f fs false e more = ap (λ x. raws kind x ++ more) (if-false (fits kind g f) (cut_from kind (g ++ f ∷ []) fs) (g ∷ cut_from kind (f ∷ []) fs) e)
+cut-step kind g f fs true e more = ap (λ x. raws kind x ++ more) (cond-true (fits kind g f) (cut_from kind (g ++ f ∷ []) fs) (g ∷ cut_from kind (f ∷ []) fs) e)
+cut-step kind g f fs false e more = ap (λ x. raws kind x ++ more) (cond-false (fits kind g f) (cut_from kind (g ++ f ∷ []) fs) (g ∷ cut_from kind (f ∷ []) fs) e)
 
 both : (t s : Bool) (a b c d : List Raw) (r : Raw) → cond s (cond t a (r ∷ b)) (cond t c (r ∷ d)) ≡ cond t (cond s a c) (r ∷ cond s b d)
 both true s a b c d r = refl
@@ -69,25 +57,25 @@ front-none kind f fs (Fixed other hs ∷ ps) = choose (kind == other)
     choose false = refl
 
 front-same : (kind : ℕ) (g fs : List PlainFixup) (S : List Piece) → opened kind g fs S ≡ opened kind g [] (join_front (Fixed kind fs) S)
-front-same kind g fs [] = sym (if-true (kind == kind) _ _ (same-kind kind))
-front-same kind g fs (Kept r ∷ ps) = sym (if-true (kind == kind) _ _ (same-kind kind))
-front-same kind g fs (End other byte s ∷ ps) = sym (if-true (kind == kind) _ _ (same-kind kind))
+front-same kind g fs [] = sym (cond-true (kind == kind) _ _ (same-kind kind))
+front-same kind g fs (Kept r ∷ ps) = sym (cond-true (kind == kind) _ _ (same-kind kind))
+front-same kind g fs (End other byte s ∷ ps) = sym (cond-true (kind == kind) _ _ (same-kind kind))
 front-same kind g fs (Fixed other hs ∷ ps) = choose (kind == other)
   where
     choose : (t : Bool) → cond t (raws kind (cut_from kind g (fs ++ hs)) ++ canonical_raws ps) (raws kind (cut_from kind g fs) ++ canonical_raws (Fixed other hs ∷ ps))
         ≡ opened kind g [] (cond t (Fixed kind (fs ++ hs) ∷ ps) (Fixed kind fs ∷ Fixed other hs ∷ ps))
-    choose true = sym (if-true (kind == kind) _ _ (same-kind kind))
-    choose false = sym (if-true (kind == kind) _ _ (same-kind kind))
+    choose true = sym (cond-true (kind == kind) _ _ (same-kind kind))
+    choose false = sym (cond-true (kind == kind) _ _ (same-kind kind))
 
 front-other : (k kind : ℕ) (g fs : List PlainFixup) (S : List Piece) → (k == kind) ≡ false → group_raw k g ∷ canonical_raws (join_front (Fixed kind fs) S) ≡ opened k g [] (join_front (Fixed kind fs) S)
-front-other k kind g fs [] n = sym (if-false (k == kind) _ _ n)
-front-other k kind g fs (Kept r ∷ ps) n = sym (if-false (k == kind) _ _ n)
-front-other k kind g fs (End other byte s ∷ ps) n = sym (if-false (k == kind) _ _ n)
+front-other k kind g fs [] n = sym (cond-false (k == kind) _ _ n)
+front-other k kind g fs (Kept r ∷ ps) n = sym (cond-false (k == kind) _ _ n)
+front-other k kind g fs (End other byte s ∷ ps) n = sym (cond-false (k == kind) _ _ n)
 front-other k kind g fs (Fixed other hs ∷ ps) n = choose (kind == other)
   where
     choose : (t : Bool) → group_raw k g ∷ canonical_raws (cond t (Fixed kind (fs ++ hs) ∷ ps) (Fixed kind fs ∷ Fixed other hs ∷ ps)) ≡ opened k g [] (cond t (Fixed kind (fs ++ hs) ∷ ps) (Fixed kind fs ∷ Fixed other hs ∷ ps))
-    choose true = sym (if-false (k == kind) _ _ n)
-    choose false = sym (if-false (k == kind) _ _ n)
+    choose true = sym (cond-false (k == kind) _ _ n)
+    choose false = sym (cond-false (k == kind) _ _ n)
 
 -- ---- the walk
 

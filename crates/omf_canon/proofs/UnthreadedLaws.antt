@@ -1,91 +1,110 @@
--- A plain reference without threads is plain as itself after any subrecords, has the same bytes, and can be written.
-use Rattle.std.proofs.Common.{◌≡◌, ℕ, ◌+◌, ◌*◌, ◌/◌, ◌%◌, ◌^◌, ◌<◌, ◌≤◌, List, [], ◌∷◌, Bool, true, false, refl, sym, ap, arith, append_assoc}
-use Rattle.std.specs.Prelude.{◌==◌, ⊤}
-use Rattle.byteorder.specs.Endian.{little_bytes}
-use Rattle.omf_records.specs.Values.{Subrecord, width}
-use Rattle.omf_records.specs.Shortest.{reference_bytes, subrecord_bytes}
-use Rattle.omf_records.specs.Entries.{wrong_head}
-use Rattle.omf_records.specs.Valued.{IsReferenceValue, IsSubrecordValue}
-use Rattle.omf_check.specs.Threads.{FrameMethod, F0, F1, F2, F4, F5, TargetMethod, T0, T1, T2, PlainReference, plain}
+-- A plain reference without threads is plain as itself after any subrecords, and can be written.
+use Rattle.std.proofs.Common.{◌≡◌, ℕ, ◌+◌, ◌*◌, ◌^◌, ◌<◌, ◌≤◌, List, [], ◌++◌, Bool, true, false, cond, Option, Some, None, refl, sym, ◌∙◌, ap, ap₂, subst, arith}
+use Rattle.std.specs.Prelude.{◌==◌, ◌&&◌, ◌||◌, not, nat_lt, option_map, unwrap_or, ⊤}
+use Rattle.std.proofs.lemmas.Bool.{cond-false}
+use Rattle.omf_frame.specs.Bytes.{bits, has_bit}
+use Rattle.omf_frame.specs.declared.fault.Reason.{Reason}
+use Rattle.omf_frame.specs.declared.fault.Reason.TheVariants as reason
+use Rattle.omf_records.specs.Values.{Subrecord, nowhere, width, frame_by_thread, frame_bits, target_by_thread, target_bits, has_no_displacement}
+use Rattle.omf_records.specs.Entries.{unless, wrong_head, is_frame_method}
+use Rattle.omf_records.specs.Valued.{IsThere, IsIndexValue, IsReferenceValue, IsSubrecordValue}
+use Rattle.omf_check.specs.Threads.{FrameMethod, F0, F1, F2, F4, F5, TargetMethod, T0, T1, T2, PlainReference, plain, setting, frame_from, target_from, frame_of, target_of}
 use Rattle.omf_reloc.specs.Plain.{PlainFixup}
-use Rattle.omf_canon.specs.PlainBytes.{frame_code, target_code, frame_datum, target_datum, plain_reference_bytes, fixup_bytes}
-use Rattle.omf_canon.specs.Unthreaded.{unthreaded, unthreaded_fixup}
+use Rattle.omf_canon.specs.Unthreaded.{frame_code, frame_index, target_code, target_index, fix_byte, unthreaded, unthreaded_fixup}
 
-abbrev made : FrameMethod → TargetMethod → ℕ → PlainReference
-made f t d = record { frame = f; target = t; displacement = d }
+-- ---- the bits of the fix data byte
 
-plain-made : (earlier : List Subrecord) (short : Bool) (f : FrameMethod) (t : TargetMethod) (d : ℕ) → (short ≡ true → d ≡ 0) → plain earlier (unthreaded short (made f t d)) ≡ made f t d
-plain-made earlier false (F0 i) (T0 j) d h = refl
-plain-made earlier true (F0 i) (T0 j) d h = ap (made (F0 i) (T0 j)) (sym (h refl))
-plain-made earlier false (F0 i) (T1 j) d h = refl
-plain-made earlier true (F0 i) (T1 j) d h = ap (made (F0 i) (T1 j)) (sym (h refl))
-plain-made earlier false (F0 i) (T2 j) d h = refl
-plain-made earlier true (F0 i) (T2 j) d h = ap (made (F0 i) (T2 j)) (sym (h refl))
-plain-made earlier false (F1 i) (T0 j) d h = refl
-plain-made earlier true (F1 i) (T0 j) d h = ap (made (F1 i) (T0 j)) (sym (h refl))
-plain-made earlier false (F1 i) (T1 j) d h = refl
-plain-made earlier true (F1 i) (T1 j) d h = ap (made (F1 i) (T1 j)) (sym (h refl))
-plain-made earlier false (F1 i) (T2 j) d h = refl
-plain-made earlier true (F1 i) (T2 j) d h = ap (made (F1 i) (T2 j)) (sym (h refl))
-plain-made earlier false (F2 i) (T0 j) d h = refl
-plain-made earlier true (F2 i) (T0 j) d h = ap (made (F2 i) (T0 j)) (sym (h refl))
-plain-made earlier false (F2 i) (T1 j) d h = refl
-plain-made earlier true (F2 i) (T1 j) d h = ap (made (F2 i) (T1 j)) (sym (h refl))
-plain-made earlier false (F2 i) (T2 j) d h = refl
-plain-made earlier true (F2 i) (T2 j) d h = ap (made (F2 i) (T2 j)) (sym (h refl))
-plain-made earlier false (F4) (T0 j) d h = refl
-plain-made earlier true (F4) (T0 j) d h = ap (made (F4) (T0 j)) (sym (h refl))
-plain-made earlier false (F4) (T1 j) d h = refl
-plain-made earlier true (F4) (T1 j) d h = ap (made (F4) (T1 j)) (sym (h refl))
-plain-made earlier false (F4) (T2 j) d h = refl
-plain-made earlier true (F4) (T2 j) d h = ap (made (F4) (T2 j)) (sym (h refl))
-plain-made earlier false (F5) (T0 j) d h = refl
-plain-made earlier true (F5) (T0 j) d h = ap (made (F5) (T0 j)) (sym (h refl))
-plain-made earlier false (F5) (T1 j) d h = refl
-plain-made earlier true (F5) (T1 j) d h = ap (made (F5) (T1 j)) (sym (h refl))
-plain-made earlier false (F5) (T2 j) d h = refl
-plain-made earlier true (F5) (T2 j) d h = ap (made (F5) (T2 j)) (sym (h refl))
+small-frame-code : (f : FrameMethod) → frame_code f < 8
+small-frame-code (F0 i) = omega arith
+small-frame-code (F1 i) = omega arith
+small-frame-code (F2 i) = omega arith
+small-frame-code F4 = omega arith
+small-frame-code F5 = omega arith
+
+small-target-code : (t : TargetMethod) → target_code t < 3
+small-target-code (T0 i) = omega arith
+small-target-code (T1 i) = omega arith
+small-target-code (T2 i) = omega arith
+
+-- The bits of 16 * a + b + c, where c is bit 2.
+record HasBits (a b : ℕ) (short : Bool) (n : ℕ) : Type 0 where
+  no_frame_thread : frame_by_thread n ≡ false
+  frame : frame_bits n ≡ a
+  no_target_thread : target_by_thread n ≡ false
+  target : target_bits n ≡ b
+  short_bit : has_no_displacement n ≡ short
+  byte : n < 256
+
+clear : (n k : ℕ) → bits n k 1 ≡ 0 → has_bit n k ≡ false
+clear n k e = ap (λ m. m == 1) e
+
+set : (n k : ℕ) → bits n k 1 ≡ 1 → has_bit n k ≡ true
+set n k e = ap (λ m. m == 1) e
+
+has-bits : (a b : ℕ) (short : Bool) → a < 8 → b < 3 → HasBits a b short (16 * a + b + cond short 4 0)
+has-bits a b true h k = record {
+  no_frame_thread = clear (16 * a + b + 4) 7 (omega (arith, h, k));
+  frame = omega (arith, h, k);
+  no_target_thread = clear (16 * a + b + 4) 3 (omega (arith, h, k));
+  target = omega (arith, h, k);
+  short_bit = set (16 * a + b + 4) 2 (omega (arith, h, k));
+  byte = omega (arith, h, k);
+}
+has-bits a b false h k = record {
+  no_frame_thread = clear (16 * a + b + 0) 7 (omega (arith, h, k));
+  frame = omega (arith, h, k);
+  no_target_thread = clear (16 * a + b + 0) 3 (omega (arith, h, k));
+  target = omega (arith, h, k);
+  short_bit = clear (16 * a + b + 0) 2 (omega (arith, h, k));
+  byte = omega (arith, h, k);
+}
+
+fix-bits : (short : Bool) (f : FrameMethod) (t : TargetMethod) → HasBits (frame_code f) (target_code t) short (fix_byte short f t)
+fix-bits short f t = has-bits (frame_code f) (target_code t) short (small-frame-code f) (small-target-code t)
+
+-- ---- plain as itself
+
+frame-read : (f : FrameMethod) → frame_from (setting (frame_code f) (frame_index f)) ≡ f
+frame-read (F0 i) = refl
+frame-read (F1 i) = refl
+frame-read (F2 i) = refl
+frame-read F4 = refl
+frame-read F5 = refl
+
+target-read : (t : TargetMethod) → target_from (setting (target_code t) (target_index t)) ≡ t
+target-read (T0 i) = refl
+target-read (T1 i) = refl
+target-read (T2 i) = refl
+
+module _ (earlier : List Subrecord) (short : Bool) (r : PlainReference) where
+  abbrev fix : ℕ
+  fix = fix_byte short r.frame r.target
+
+  known : HasBits (frame_code r.frame) (target_code r.target) short fix
+  known = fix-bits short r.frame r.target
+
+  pub frame-again : frame_of earlier (unthreaded short r) ≡ Some r.frame
+  frame-again =
+      ap (option_map frame_from) (cond-false (frame_by_thread fix) _ _ known.no_frame_thread)
+      ∙ ap (λ n. Some (frame_from (setting n (frame_index r.frame)))) known.frame
+      ∙ ap (λ f. Some f) (frame-read r.frame)
+
+  pub target-again : target_of earlier (unthreaded short r) ≡ Some r.target
+  target-again =
+      ap (option_map target_from) (cond-false (target_by_thread fix) _ _ known.no_target_thread)
+      ∙ ap (λ n. Some (target_from (setting n (target_index r.target)))) known.target
+      ∙ ap (λ t. Some t) (target-read r.target)
+
+displacement-again : (short : Bool) (d : ℕ) → (short ≡ true → d ≡ 0) → unwrap_or (cond short None (Some d)) 0 ≡ d
+displacement-again true d h = sym (h refl)
+displacement-again false d h = refl
 
 pub plain-again : (earlier : List Subrecord) (short : Bool) (r : PlainReference) → (short ≡ true → r.displacement ≡ 0) → plain earlier (unthreaded short r) ≡ r
-plain-again earlier short r h = plain-made earlier short r.frame r.target r.displacement h
-
-bytes-made : (short : Bool) (kind : ℕ) (f : FrameMethod) (t : TargetMethod) (d : ℕ) → plain_reference_bytes short kind (made f t d) ≡ reference_bytes kind (unthreaded short (made f t d))
-bytes-made false kind (F0 i) (T0 j) d = ap (λ (x : List ℕ). (16 * frame_code (F0 i) + target_code (T0 j) + 0) ∷ x) (append_assoc (frame_datum (F0 i)) (target_datum (T0 j)) (little_bytes (width kind) d))
-bytes-made true kind (F0 i) (T0 j) d = ap (λ (x : List ℕ). (16 * frame_code (F0 i) + target_code (T0 j) + 4) ∷ x) (append_assoc (frame_datum (F0 i)) (target_datum (T0 j)) [])
-bytes-made false kind (F0 i) (T1 j) d = ap (λ (x : List ℕ). (16 * frame_code (F0 i) + target_code (T1 j) + 0) ∷ x) (append_assoc (frame_datum (F0 i)) (target_datum (T1 j)) (little_bytes (width kind) d))
-bytes-made true kind (F0 i) (T1 j) d = ap (λ (x : List ℕ). (16 * frame_code (F0 i) + target_code (T1 j) + 4) ∷ x) (append_assoc (frame_datum (F0 i)) (target_datum (T1 j)) [])
-bytes-made false kind (F0 i) (T2 j) d = ap (λ (x : List ℕ). (16 * frame_code (F0 i) + target_code (T2 j) + 0) ∷ x) (append_assoc (frame_datum (F0 i)) (target_datum (T2 j)) (little_bytes (width kind) d))
-bytes-made true kind (F0 i) (T2 j) d = ap (λ (x : List ℕ). (16 * frame_code (F0 i) + target_code (T2 j) + 4) ∷ x) (append_assoc (frame_datum (F0 i)) (target_datum (T2 j)) [])
-bytes-made false kind (F1 i) (T0 j) d = ap (λ (x : List ℕ). (16 * frame_code (F1 i) + target_code (T0 j) + 0) ∷ x) (append_assoc (frame_datum (F1 i)) (target_datum (T0 j)) (little_bytes (width kind) d))
-bytes-made true kind (F1 i) (T0 j) d = ap (λ (x : List ℕ). (16 * frame_code (F1 i) + target_code (T0 j) + 4) ∷ x) (append_assoc (frame_datum (F1 i)) (target_datum (T0 j)) [])
-bytes-made false kind (F1 i) (T1 j) d = ap (λ (x : List ℕ). (16 * frame_code (F1 i) + target_code (T1 j) + 0) ∷ x) (append_assoc (frame_datum (F1 i)) (target_datum (T1 j)) (little_bytes (width kind) d))
-bytes-made true kind (F1 i) (T1 j) d = ap (λ (x : List ℕ). (16 * frame_code (F1 i) + target_code (T1 j) + 4) ∷ x) (append_assoc (frame_datum (F1 i)) (target_datum (T1 j)) [])
-bytes-made false kind (F1 i) (T2 j) d = ap (λ (x : List ℕ). (16 * frame_code (F1 i) + target_code (T2 j) + 0) ∷ x) (append_assoc (frame_datum (F1 i)) (target_datum (T2 j)) (little_bytes (width kind) d))
-bytes-made true kind (F1 i) (T2 j) d = ap (λ (x : List ℕ). (16 * frame_code (F1 i) + target_code (T2 j) + 4) ∷ x) (append_assoc (frame_datum (F1 i)) (target_datum (T2 j)) [])
-bytes-made false kind (F2 i) (T0 j) d = ap (λ (x : List ℕ). (16 * frame_code (F2 i) + target_code (T0 j) + 0) ∷ x) (append_assoc (frame_datum (F2 i)) (target_datum (T0 j)) (little_bytes (width kind) d))
-bytes-made true kind (F2 i) (T0 j) d = ap (λ (x : List ℕ). (16 * frame_code (F2 i) + target_code (T0 j) + 4) ∷ x) (append_assoc (frame_datum (F2 i)) (target_datum (T0 j)) [])
-bytes-made false kind (F2 i) (T1 j) d = ap (λ (x : List ℕ). (16 * frame_code (F2 i) + target_code (T1 j) + 0) ∷ x) (append_assoc (frame_datum (F2 i)) (target_datum (T1 j)) (little_bytes (width kind) d))
-bytes-made true kind (F2 i) (T1 j) d = ap (λ (x : List ℕ). (16 * frame_code (F2 i) + target_code (T1 j) + 4) ∷ x) (append_assoc (frame_datum (F2 i)) (target_datum (T1 j)) [])
-bytes-made false kind (F2 i) (T2 j) d = ap (λ (x : List ℕ). (16 * frame_code (F2 i) + target_code (T2 j) + 0) ∷ x) (append_assoc (frame_datum (F2 i)) (target_datum (T2 j)) (little_bytes (width kind) d))
-bytes-made true kind (F2 i) (T2 j) d = ap (λ (x : List ℕ). (16 * frame_code (F2 i) + target_code (T2 j) + 4) ∷ x) (append_assoc (frame_datum (F2 i)) (target_datum (T2 j)) [])
-bytes-made false kind (F4) (T0 j) d = ap (λ (x : List ℕ). (16 * frame_code (F4) + target_code (T0 j) + 0) ∷ x) (append_assoc (frame_datum (F4)) (target_datum (T0 j)) (little_bytes (width kind) d))
-bytes-made true kind (F4) (T0 j) d = ap (λ (x : List ℕ). (16 * frame_code (F4) + target_code (T0 j) + 4) ∷ x) (append_assoc (frame_datum (F4)) (target_datum (T0 j)) [])
-bytes-made false kind (F4) (T1 j) d = ap (λ (x : List ℕ). (16 * frame_code (F4) + target_code (T1 j) + 0) ∷ x) (append_assoc (frame_datum (F4)) (target_datum (T1 j)) (little_bytes (width kind) d))
-bytes-made true kind (F4) (T1 j) d = ap (λ (x : List ℕ). (16 * frame_code (F4) + target_code (T1 j) + 4) ∷ x) (append_assoc (frame_datum (F4)) (target_datum (T1 j)) [])
-bytes-made false kind (F4) (T2 j) d = ap (λ (x : List ℕ). (16 * frame_code (F4) + target_code (T2 j) + 0) ∷ x) (append_assoc (frame_datum (F4)) (target_datum (T2 j)) (little_bytes (width kind) d))
-bytes-made true kind (F4) (T2 j) d = ap (λ (x : List ℕ). (16 * frame_code (F4) + target_code (T2 j) + 4) ∷ x) (append_assoc (frame_datum (F4)) (target_datum (T2 j)) [])
-bytes-made false kind (F5) (T0 j) d = ap (λ (x : List ℕ). (16 * frame_code (F5) + target_code (T0 j) + 0) ∷ x) (append_assoc (frame_datum (F5)) (target_datum (T0 j)) (little_bytes (width kind) d))
-bytes-made true kind (F5) (T0 j) d = ap (λ (x : List ℕ). (16 * frame_code (F5) + target_code (T0 j) + 4) ∷ x) (append_assoc (frame_datum (F5)) (target_datum (T0 j)) [])
-bytes-made false kind (F5) (T1 j) d = ap (λ (x : List ℕ). (16 * frame_code (F5) + target_code (T1 j) + 0) ∷ x) (append_assoc (frame_datum (F5)) (target_datum (T1 j)) (little_bytes (width kind) d))
-bytes-made true kind (F5) (T1 j) d = ap (λ (x : List ℕ). (16 * frame_code (F5) + target_code (T1 j) + 4) ∷ x) (append_assoc (frame_datum (F5)) (target_datum (T1 j)) [])
-bytes-made false kind (F5) (T2 j) d = ap (λ (x : List ℕ). (16 * frame_code (F5) + target_code (T2 j) + 0) ∷ x) (append_assoc (frame_datum (F5)) (target_datum (T2 j)) (little_bytes (width kind) d))
-bytes-made true kind (F5) (T2 j) d = ap (λ (x : List ℕ). (16 * frame_code (F5) + target_code (T2 j) + 4) ∷ x) (append_assoc (frame_datum (F5)) (target_datum (T2 j)) [])
-
-pub bytes-again : (short : Bool) (kind : ℕ) (r : PlainReference) → plain_reference_bytes short kind r ≡ reference_bytes kind (unthreaded short r)
-bytes-again short kind r = bytes-made short kind r.frame r.target r.displacement
-
-pub bytes-fixup : (kind : ℕ) (f : PlainFixup) → fixup_bytes kind f ≡ subrecord_bytes kind (unthreaded_fixup f)
-bytes-fixup kind f = ap (λ (x : List ℕ). f.locat / 256 ∷ f.locat % 256 ∷ x) (bytes-again (f.reference.displacement == 0) kind f.reference)
+plain-again earlier short r h =
+    let made : Option FrameMethod → Option TargetMethod → ℕ → PlainReference = λ f t d. record { frame = unwrap_or f F5; target = unwrap_or t (T0 0); displacement = d } in
+    let d = unwrap_or (cond short None (Some r.displacement)) 0 in
+    ap₂ (λ f t. made f t d) (frame-again earlier short r) (target-again earlier short r)
+    ∙ ap (made (Some r.frame) (Some r.target)) (displacement-again short r.displacement h)
 
 -- which plain references can be written
 abbrev pub IsSmallFrame : FrameMethod → Type 0
@@ -111,40 +130,55 @@ pub record IsPlainFixupValue (kind : ℕ) (f : PlainFixup) : Type 0 where
   pub head : wrong_head f.locat ≡ []
   pub reference : IsPlainValue kind f.reference
 
-value-made : (kind : ℕ) (short : Bool) (f : FrameMethod) (t : TargetMethod) (d : ℕ) → IsSmallFrame f → IsSmallTarget t → d < 256 ^ width kind → IsReferenceValue kind (unthreaded short (made f t d))
-value-made kind false (F0 i) (T0 j) d hf ht hd = record { fix = omega arith; methods = refl; frame = hf; target = ht; displacement = hd }
-value-made kind true (F0 i) (T0 j) d hf ht hd = record { fix = omega arith; methods = refl; frame = hf; target = ht; displacement = tt }
-value-made kind false (F0 i) (T1 j) d hf ht hd = record { fix = omega arith; methods = refl; frame = hf; target = ht; displacement = hd }
-value-made kind true (F0 i) (T1 j) d hf ht hd = record { fix = omega arith; methods = refl; frame = hf; target = ht; displacement = tt }
-value-made kind false (F0 i) (T2 j) d hf ht hd = record { fix = omega arith; methods = refl; frame = hf; target = ht; displacement = hd }
-value-made kind true (F0 i) (T2 j) d hf ht hd = record { fix = omega arith; methods = refl; frame = hf; target = ht; displacement = tt }
-value-made kind false (F1 i) (T0 j) d hf ht hd = record { fix = omega arith; methods = refl; frame = hf; target = ht; displacement = hd }
-value-made kind true (F1 i) (T0 j) d hf ht hd = record { fix = omega arith; methods = refl; frame = hf; target = ht; displacement = tt }
-value-made kind false (F1 i) (T1 j) d hf ht hd = record { fix = omega arith; methods = refl; frame = hf; target = ht; displacement = hd }
-value-made kind true (F1 i) (T1 j) d hf ht hd = record { fix = omega arith; methods = refl; frame = hf; target = ht; displacement = tt }
-value-made kind false (F1 i) (T2 j) d hf ht hd = record { fix = omega arith; methods = refl; frame = hf; target = ht; displacement = hd }
-value-made kind true (F1 i) (T2 j) d hf ht hd = record { fix = omega arith; methods = refl; frame = hf; target = ht; displacement = tt }
-value-made kind false (F2 i) (T0 j) d hf ht hd = record { fix = omega arith; methods = refl; frame = hf; target = ht; displacement = hd }
-value-made kind true (F2 i) (T0 j) d hf ht hd = record { fix = omega arith; methods = refl; frame = hf; target = ht; displacement = tt }
-value-made kind false (F2 i) (T1 j) d hf ht hd = record { fix = omega arith; methods = refl; frame = hf; target = ht; displacement = hd }
-value-made kind true (F2 i) (T1 j) d hf ht hd = record { fix = omega arith; methods = refl; frame = hf; target = ht; displacement = tt }
-value-made kind false (F2 i) (T2 j) d hf ht hd = record { fix = omega arith; methods = refl; frame = hf; target = ht; displacement = hd }
-value-made kind true (F2 i) (T2 j) d hf ht hd = record { fix = omega arith; methods = refl; frame = hf; target = ht; displacement = tt }
-value-made kind false (F4) (T0 j) d hf ht hd = record { fix = omega arith; methods = refl; frame = tt; target = ht; displacement = hd }
-value-made kind true (F4) (T0 j) d hf ht hd = record { fix = omega arith; methods = refl; frame = tt; target = ht; displacement = tt }
-value-made kind false (F4) (T1 j) d hf ht hd = record { fix = omega arith; methods = refl; frame = tt; target = ht; displacement = hd }
-value-made kind true (F4) (T1 j) d hf ht hd = record { fix = omega arith; methods = refl; frame = tt; target = ht; displacement = tt }
-value-made kind false (F4) (T2 j) d hf ht hd = record { fix = omega arith; methods = refl; frame = tt; target = ht; displacement = hd }
-value-made kind true (F4) (T2 j) d hf ht hd = record { fix = omega arith; methods = refl; frame = tt; target = ht; displacement = tt }
-value-made kind false (F5) (T0 j) d hf ht hd = record { fix = omega arith; methods = refl; frame = tt; target = ht; displacement = hd }
-value-made kind true (F5) (T0 j) d hf ht hd = record { fix = omega arith; methods = refl; frame = tt; target = ht; displacement = tt }
-value-made kind false (F5) (T1 j) d hf ht hd = record { fix = omega arith; methods = refl; frame = tt; target = ht; displacement = hd }
-value-made kind true (F5) (T1 j) d hf ht hd = record { fix = omega arith; methods = refl; frame = tt; target = ht; displacement = tt }
-value-made kind false (F5) (T2 j) d hf ht hd = record { fix = omega arith; methods = refl; frame = tt; target = ht; displacement = hd }
-value-made kind true (F5) (T2 j) d hf ht hd = record { fix = omega arith; methods = refl; frame = tt; target = ht; displacement = tt }
+-- ---- they can be written
+
+frame-is-method : (f : FrameMethod) → is_frame_method (frame_code f) ≡ true
+frame-is-method (F0 i) = refl
+frame-is-method (F1 i) = refl
+frame-is-method (F2 i) = refl
+frame-is-method F4 = refl
+frame-is-method F5 = refl
+
+target-is-method : (t : TargetMethod) → nat_lt (target_code t) 3 ≡ true
+target-is-method (T0 i) = refl
+target-is-method (T1 i) = refl
+target-is-method (T2 i) = refl
+
+frame-there : (f : FrameMethod) → IsSmallFrame f → IsThere IsIndexValue (nat_lt (frame_code f) 3) (frame_index f)
+frame-there (F0 i) h = h
+frame-there (F1 i) h = h
+frame-there (F2 i) h = h
+frame-there F4 h = tt
+frame-there F5 h = tt
+
+target-there : (t : TargetMethod) → IsSmallTarget t → IsThere IsIndexValue (nat_lt (target_code t) 3) (target_index t)
+target-there (T0 i) h = h
+target-there (T1 i) h = h
+target-there (T2 i) h = h
+
+displacement-there : (kind : ℕ) (short : Bool) (d : ℕ) → d < 256 ^ width kind → IsThere (λ n. n < 256 ^ width kind) (not short) (cond short None (Some d))
+displacement-there kind true d h = tt
+displacement-there kind false d h = h
+
+-- what is wrong with a fix data byte, by its bits
+abbrev wrong_bits : Bool → ℕ → Bool → ℕ → List Reason
+wrong_bits by_frame frame by_target target = unless (by_frame || is_frame_method frame) reason.FrameMethod ++ unless (by_target || nat_lt target 3) reason.TargetMethod
+
+value-by : (kind : ℕ) (short : Bool) (f : FrameMethod) (t : TargetMethod) (d : ℕ) (n : ℕ) → HasBits (frame_code f) (target_code t) short n → IsSmallFrame f → IsSmallTarget t → d < 256 ^ width kind
+    → IsReferenceValue kind (record { fix = nowhere n; frame = frame_index f; target = target_index t; displacement = cond short None (Some d) })
+value-by kind short f t d n b hf ht hd = record {
+  fix = b.byte;
+  methods =
+      ap₂ (λ x y. wrong_bits x y (target_by_thread n) (target_bits n)) b.no_frame_thread b.frame
+      ∙ ap₂ (λ x y. wrong_bits false (frame_code f) x y) b.no_target_thread b.target
+      ∙ ap₂ (λ x y. unless x reason.FrameMethod ++ unless y reason.TargetMethod) (frame-is-method f) (target-is-method t);
+  frame = subst (λ x. IsThere IsIndexValue x (frame_index f)) (sym (ap₂ (λ x y. not x && nat_lt y 3) b.no_frame_thread b.frame)) (frame-there f hf);
+  target = subst (λ x. IsThere IsIndexValue x (target_index t)) (sym (ap₂ (λ x y. not x && nat_lt y 3) b.no_target_thread b.target)) (target-there t ht);
+  displacement = subst (λ x. IsThere (λ v. v < 256 ^ width kind) (not x) (cond short None (Some d))) (sym b.short_bit) (displacement-there kind short d hd);
+}
 
 pub value-again : (kind : ℕ) (short : Bool) (r : PlainReference) → IsPlainValue kind r → IsReferenceValue kind (unthreaded short r)
-value-again kind short r h = value-made kind short r.frame r.target r.displacement h.small_frame h.small_target h.small_displacement
+value-again kind short r h = value-by kind short r.frame r.target r.displacement (fix_byte short r.frame r.target) (fix-bits short r.frame r.target) h.small_frame h.small_target h.small_displacement
 
 pub value-fixup : (kind : ℕ) (f : PlainFixup) → IsPlainFixupValue kind f → IsSubrecordValue kind (unthreaded_fixup f)
 value-fixup kind f h = record { high = h.high; low = h.low; head = h.head; reference = value-again kind (f.reference.displacement == 0) f.reference h.reference }

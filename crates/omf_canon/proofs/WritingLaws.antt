@@ -1,14 +1,17 @@
 -- What a walk over a module's records writes is the canonical bytes.
 use Rattle.std.proofs.Common.{◌≡◌, ℕ, ◌+◌, ◌≤◌, List, [], ◌∷◌, ◌++◌, length, refl, sym, ◌∙◌, ap, ap₂, subst, Bool, true, false, Some, None, arith, append_assoc, append-nil, length-append, Result, Ok, Err, Vec, Global}
-use Rattle.std.specs.Prelude.{IfOk, flat_map, All, Option, option_map, unwrap_or, ◌==◌, ◌&&◌, nat_le}
-use Rattle.std.proofs.lemmas.Bool.{eqb-true}
+use Rattle.std.specs.Prelude.{IfOk, IsSome, IfSome, map, flat_map, All, Option, option_map, unwrap_or, ◌==◌, ◌&&◌, nat_le}
+use Rattle.std.proofs.lemmas.Bool.{cond-true, cond-false, eqb-true}
 use Rattle.std.proofs.lemmas.Grind.{flat_map-append}
+use Rattle.std.proofs.lemmas.List.{map-append}
 use Rattle.std.proofs.lemmas.List.Elements.{All-head, All-tail}
 use Rattle.omf_frame.specs.Framing.{Raw, raw_bytes, raw_of, IsRecord}
+use Rattle.omf_image.specs.declared.limits.Limits.{Limits}
 use Rattle.omf_records.specs.Values.{At, Rec, Contents, Names, Fixups, ModEnd, Subrecord, Thread, Fixup, Reference}
 use Rattle.omf_records.proofs.ShortestLaws.{shown}
 use Rattle.omf_check.proofs.ThreadLaws.{threads_kept}
 use Rattle.omf_check.specs.Kept.{HasThreads, no_threads, set_thread}
+use Rattle.omf_check.specs.Sound.{ReferenceHolds, SubrecordHolds, SubrecordsHold, ContentsHold, ModuleHolds}
 use Rattle.omf_check.specs.Tables.{subrecords, subrecords_in}
 use Rattle.omf_check.specs.Threads.{Setting, PlainReference, plain, frame_from, target_from, F5, T0}
 use Rattle.omf_check.specs.declared.threads.Threads.{Threads}
@@ -20,10 +23,10 @@ use Rattle.omf_canon.specs.Cut.{body_limit, fixups_size}
 use Rattle.omf_canon.specs.PlainBytes.{fixup_bytes, start_bytes}
 use Rattle.omf_canon.specs.Skeleton.{skeleton}
 use Rattle.omf_canon.specs.Streaming.{group_raw, Open, close, open_with, closed_by, open_after, closed_all, streamed}
-use Rattle.omf_canon.specs.Writing.{Held, held, record_bytes, closed, has_room, held_with, subrecord_held, subrecord_closes, held_after, end_bytes, record_puts, record_held, CanPut, CanPutAll, bytes_left}
+use Rattle.omf_canon.specs.Writing.{Held, held, record_bytes, closed, has_room, held_with, subrecord_held, subrecord_closes, held_after, end_bytes, record_puts, record_held, IsResolved, CanTake, CanTakeAll, CanPut, CanPutAll, bytes_left}
 use Rattle.omf_canon.specs.Writing.{closed_by as closes, closed_all as closes_all}
 use Rattle.omf_canon.proofs.CutLaws.{length-group}
-use Rattle.omf_canon.proofs.StreamLaws.{if-true, if-false, streamed-canonical}
+use Rattle.omf_canon.proofs.StreamLaws.{streamed-canonical}
 
 abbrev spelt : List Raw → List ℕ
 spelt rs = flat_map raw_bytes rs
@@ -76,17 +79,17 @@ module _ (k kind : ℕ) (g : List PlainFixup) (f : PlainFixup) where
   joined-held e = ap (λ b. Some (held k (body_of k g ++ b))) (same-bytes e) ∙ ap (λ b. Some (held k b)) (sym (pushed k g f))
 
   held-some : (s u : Bool) → (k == kind) ≡ s → fits ≡ u → held_with kind bytes (Some group) ≡ held_of (open_with kind (Some (k, g)) f)
-  held-some true true e h = if-true (has_room kind bytes group) _ _ (room-same e ∙ h) ∙ joined-held e ∙ sym (ap held_of (if-true (k == kind) _ _ e ∙ if-true fits _ _ h))
-  held-some true false e h = if-false (has_room kind bytes group) _ _ (room-same e ∙ h) ∙ alone-held ∙ sym (ap held_of (if-true (k == kind) _ _ e ∙ if-false fits _ _ h))
-  held-some false u e h = if-false (has_room kind bytes group) _ _ (room-other e) ∙ alone-held ∙ sym (ap held_of (if-false (k == kind) _ _ e))
+  held-some true true e h = cond-true (has_room kind bytes group) _ _ (room-same e ∙ h) ∙ joined-held e ∙ sym (ap held_of (cond-true (k == kind) _ _ e ∙ cond-true fits _ _ h))
+  held-some true false e h = cond-false (has_room kind bytes group) _ _ (room-same e ∙ h) ∙ alone-held ∙ sym (ap held_of (cond-true (k == kind) _ _ e ∙ cond-false fits _ _ h))
+  held-some false u e h = cond-false (has_room kind bytes group) _ _ (room-other e) ∙ alone-held ∙ sym (ap held_of (cond-false (k == kind) _ _ e))
 
   shut : record_bytes k (body_of k g) ≡ spelt (group_raw k g ∷ [])
   shut = sym (append-nil (raw_bytes (group_raw k g)))
 
   closes-some : (s u : Bool) → (k == kind) ≡ s → fits ≡ u → closes kind bytes (Some group) ≡ spelt (closed_by kind (Some (k, g)) f)
-  closes-some true true e h = if-true (has_room kind bytes group) _ _ (room-same e ∙ h) ∙ sym (ap spelt (if-true (k == kind) _ _ e ∙ if-true fits _ _ h))
-  closes-some true false e h = if-false (has_room kind bytes group) _ _ (room-same e ∙ h) ∙ shut ∙ sym (ap spelt (if-true (k == kind) _ _ e ∙ if-false fits _ _ h))
-  closes-some false u e h = if-false (has_room kind bytes group) _ _ (room-other e) ∙ shut ∙ sym (ap spelt (if-false (k == kind) _ _ e))
+  closes-some true true e h = cond-true (has_room kind bytes group) _ _ (room-same e ∙ h) ∙ sym (ap spelt (cond-true (k == kind) _ _ e ∙ cond-true fits _ _ h))
+  closes-some true false e h = cond-false (has_room kind bytes group) _ _ (room-same e ∙ h) ∙ shut ∙ sym (ap spelt (cond-true (k == kind) _ _ e ∙ cond-false fits _ _ h))
+  closes-some false u e h = cond-false (has_room kind bytes group) _ _ (room-other e) ∙ shut ∙ sym (ap spelt (cond-false (k == kind) _ _ e))
 
 held-one : (kind : ℕ) (o : Open) (f : PlainFixup) → held_with kind (fixup_bytes kind f) (held_of o) ≡ held_of (open_with kind o f)
 held-one kind None f = ap (λ b. Some (held kind b)) (sym (append-nil (fixup_bytes kind f)))
@@ -207,12 +210,41 @@ one-fits : (o : Open) (kind : ℕ) (body other : List ℕ) (ps : List Piece) →
 one-fits o kind body other ps e h =
     subst (λ (b : List ℕ). length b ≤ 65534) (sym e) (short-raw (raw_of kind other) (All-head IsRecord (raw_of kind other) (streamed None ps) (all-right (close o) (raw_of kind other ∷ streamed None ps) h)))
 
-fits-here : (earlier : List Subrecord) (kind : ℕ) (c : Contents) (threads : Threads) (o : Open) → HasThreads threads earlier → (ps : List Piece)
-    → All IsRecord (streamed o (piece_of earlier kind c ∷ ps)) → CanPut threads kind c
-fits-here earlier kind (Fixups subs) threads o h ps a = tt
-fits-here earlier kind (ModEnd byte start) threads o h ps a = one-fits o kind _ _ ps (end-same kind threads earlier byte start h) a
-fits-here earlier kind (Names ns) threads o h ps a = one-fits o kind _ _ ps (sym (shown kind (Names ns))) a
-fits-here earlier kind c threads o h ps a = one-fits o kind _ _ ps (sym (shown kind c)) a
+-- The threads that a well-formed module names are set.
+resolved : (before : List Rec) (threads : Threads) (earlier : List Subrecord) (r : Reference) → HasThreads threads earlier → ReferenceHolds before earlier r → IsResolved threads r
+resolved before threads earlier r h k = record {
+  frame = subst IsSome (sym (threads_kept.frame threads earlier r h)) k.frame_set;
+  target = subst IsSome (sym (threads_kept.target threads earlier r h)) k.target_set;
+}
+
+can-take : (before : List Rec) (threads : Threads) (earlier : List Subrecord) (s : Subrecord) → HasThreads threads earlier → SubrecordHolds before earlier s → CanTake threads s
+can-take before threads earlier (Thread byte datum) h k = tt
+can-take before threads earlier (Fixup locat r) h k = resolved before threads earlier r h k.reference
+
+abbrev items_of : List (At Subrecord) → List Subrecord
+items_of subs = map (λ s. s.item) subs
+
+can-take-from : (before : List Rec) (all done rest : List (At Subrecord)) (threads : Threads) → SubrecordsHold before all → all ≡ done ++ rest → HasThreads threads (subrecords before ++ items_of done) → CanTakeAll threads rest
+can-take-from before all done [] threads k e h = tt
+can-take-from before all done (s ∷ rest) threads k e h =
+    let more : (subrecords before ++ items_of done) ++ s.item ∷ [] ≡ subrecords before ++ items_of (done ++ s ∷ []) =
+    append_assoc (subrecords before) (items_of done) (s.item ∷ []) ∙ ap (λ x. subrecords before ++ x) (sym (map-append (λ (q : At Subrecord). q.item) done (s ∷ []))) in (
+      can-take before threads (subrecords before ++ items_of done) s.item h (k done rest s e),
+      can-take-from before all (done ++ s ∷ []) rest (set_thread threads s.item) k (e ∙ sym (append_assoc done (s ∷ []) rest))
+          (subst (HasThreads (set_thread threads s.item)) more (threads_kept.one threads (subrecords before ++ items_of done) s.item h)),
+    )
+
+can-start : (limits : Limits) (before : List Rec) (kind byte : ℕ) (start : Option Reference) (threads : Threads) → HasThreads threads (subrecords before) → ContentsHold limits before kind (ModEnd byte start)
+    → IfSome start (IsResolved threads)
+can-start limits before kind byte None threads h k = tt
+can-start limits before kind byte (Some r) threads h k = resolved before threads (subrecords before) r h k.reference
+
+fits-here : (limits : Limits) (before : List Rec) (kind : ℕ) (c : Contents) (threads : Threads) (o : Open) → HasThreads threads (subrecords before) → (ps : List Piece)
+    → All IsRecord (streamed o (piece_of (subrecords before) kind c ∷ ps)) → ContentsHold limits before kind c → CanPut threads kind c
+fits-here limits before kind (Fixups subs) threads o h ps a k = can-take-from before subs [] subs threads k refl (subst (HasThreads threads) (sym (append-nil (subrecords before))) h)
+fits-here limits before kind (ModEnd byte start) threads o h ps a k = can-start limits before kind byte start threads h k
+fits-here limits before kind (Names ns) threads o h ps a k = one-fits o kind _ _ ps (sym (shown kind (Names ns))) a
+fits-here limits before kind c threads o h ps a k = one-fits o kind _ _ ps (sym (shown kind c)) a
 
 -- the group that is open after a piece
 abbrev after : Open → Piece → Open
@@ -224,17 +256,18 @@ fits-rest o (Fixed kind fs) ps h = all-right (closed_all kind o fs) (streamed (o
 fits-rest o (Kept r) ps h = all-right (_ ∷ []) (streamed None ps) (all-right (close o) _ h)
 fits-rest o (End kind byte s) ps h = all-right (_ ∷ []) (streamed None ps) (all-right (close o) _ h)
 
-fits-from : (before rs : List Rec) (threads : Threads) (o : Open) → HasThreads threads (subrecords before) → All IsRecord (streamed o (pieces_from before rs)) → CanPutAll threads rs
-fits-from before [] threads o h a = tt
-fits-from before (r ∷ rs) threads o h a =
-    let p = piece_of (subrecords before) r.kind r.contents in
-    let ps = pieces_from (before ++ r ∷ []) rs in (
-      fits-here (subrecords before) r.kind r.contents threads o h ps a,
-      fits-from (before ++ r ∷ []) rs (threads_after threads r.contents) (after o p) (threads-next threads before r h) (fits-rest o p ps a),
-    )
+module _ (limits : Limits) (m : List Rec) (holds : ModuleHolds limits m) where
+  fits-from : (before rs : List Rec) (threads : Threads) (o : Open) → m ≡ before ++ rs → HasThreads threads (subrecords before) → All IsRecord (streamed o (pieces_from before rs)) → CanPutAll threads rs
+  fits-from before [] threads o e h a = tt
+  fits-from before (r ∷ rs) threads o e h a =
+      let p = piece_of (subrecords before) r.kind r.contents in
+      let ps = pieces_from (before ++ r ∷ []) rs in (
+        fits-here limits before r.kind r.contents threads o h ps a (holds.each before rs r e),
+        fits-from (before ++ r ∷ []) rs (threads_after threads r.contents) (after o p) (e ∙ sym (append_assoc before (r ∷ []) rs)) (threads-next threads before r h) (fits-rest o p ps a),
+      )
 
-pub fits-all : (m : List Rec) → All IsRecord (canonical_raws (skeleton m)) → CanPutAll no_threads m
-fits-all m h = fits-from [] m no_threads None threads_kept.none (subst (All IsRecord) (sym (streamed-canonical (pieces m))) h)
+  pub fits-all : All IsRecord (canonical_raws (skeleton m)) → CanPutAll no_threads m
+  fits-all h = fits-from [] m no_threads None refl threads_kept.none (subst (All IsRecord) (sym (streamed-canonical (pieces m))) h)
 
 -- What is known while records are walked over: their contents fit, and what is written and what is left are the canonical bytes.
 pub record IsWritten (m : List Rec) (out : List ℕ) (threads : Threads) (group : Option Held) (rest : List Rec) : Type 0 where
@@ -242,13 +275,13 @@ pub record IsWritten (m : List Rec) (out : List ℕ) (threads : Threads) (group 
   pub same : out ++ bytes_left threads group rest ≡ canonical m
 
 module _ (m : List Rec) where
-  pub write-first : (out : List ℕ) (threads : Threads) (group : Option Held) (rest : List Rec) → All IsRecord (canonical_raws (skeleton m)) → out ≡ [] → threads ≡ no_threads → group ≡ None → rest ≡ m
+  pub write-first : (limits : Limits) → ModuleHolds limits m → (out : List ℕ) (threads : Threads) (group : Option Held) (rest : List Rec) → All IsRecord (canonical_raws (skeleton m)) → out ≡ [] → threads ≡ no_threads → group ≡ None → rest ≡ m
       → IsWritten m out threads group rest
-  write-first out threads group rest h o t g e =
+  write-first limits holds out threads group rest h o t g e =
       subst (λ x. IsWritten m x threads group rest) (sym o)
       (subst (λ x. IsWritten m [] x group rest) (sym t)
       (subst (λ x. IsWritten m [] no_threads x rest) (sym g)
-      (subst (IsWritten m [] no_threads None) (sym e) (record { can = fits-all m h; same = left-all m }))))
+      (subst (IsWritten m [] no_threads None) (sym e) (record { can = fits-all limits m holds h; same = left-all m }))))
 
   pub write-next : (out : List ℕ) (threads : Threads) (group : Option Held) (r : Rec) (rest : List Rec) → IsWritten m out threads group (r ∷ rest)
       → (out' : List ℕ) (threads' : Threads) (group' : Option Held)

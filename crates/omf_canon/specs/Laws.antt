@@ -3,7 +3,6 @@ use Rattle.std.specs.Prelude.{◌≡◌, ◌↔◌, ℕ, ◌≤◌, List, Option
 use Rattle.omf_frame.specs.Framing.{Raw, raw_bytes}
 use Rattle.omf_image.specs.declared.limits.Limits.{Limits}
 use Rattle.omf_records.specs.Values.{Rec, Subrecord}
-use Rattle.omf_records.specs.Shortest.{reference_bytes, subrecord_bytes}
 use Rattle.omf_check.specs.Threads.{PlainReference, plain}
 use Rattle.omf_records.specs.Reading.{typed}
 use Rattle.omf_records.specs.Records.{IsTyped}
@@ -19,9 +18,8 @@ use Rattle.omf_reloc.specs.Reach.{causes, reach_fault}
 use Rattle.omf_reloc.specs.Image.{image, start}
 use Rattle.omf_canon.specs.Canonical.{piece_raws, canonical_raws, canonical}
 use Rattle.omf_canon.specs.Cut.{IsGreedyCut, cut}
-use Rattle.omf_canon.specs.PlainBytes.{plain_reference_bytes, fixup_bytes}
 use Rattle.omf_canon.specs.Streaming.{streamed}
-use Rattle.omf_canon.specs.Unthreaded.{unthreaded, unthreaded_fixup}
+use Rattle.omf_canon.specs.Unthreaded.{unthreaded}
 use Rattle.omf_canon.specs.Joined.{IsJoined, cut_pieces, piece_items}
 use Rattle.omf_canon.specs.Skeleton.{skeleton_of, skeleton}
 
@@ -89,11 +87,9 @@ abbrev pub CanonicalsDecide : Type 0
 CanonicalsDecide = (profile other : Profile) (limits more : Limits) (a b : List ℕ) (rs ss : List Raw) → IsWellFormed profile limits a rs → IsWellFormed other more b ss
     → (canonical (recs rs) ≡ canonical (recs ss)) ↔ (skeleton (recs rs) ≡ skeleton (recs ss))
 
--- A plain reference that names no thread is plain as itself, whatever stands before it, and its bytes are the shortest of its reference.
-pub record UnthreadedArePlain : Type 0 where
-  pub plain : (earlier : List Subrecord) (short : Bool) (r : PlainReference) → (short ≡ true → r.displacement ≡ 0) → plain earlier (unthreaded short r) ≡ r
-  pub reference : (short : Bool) (kind : ℕ) (r : PlainReference) → plain_reference_bytes short kind r ≡ reference_bytes kind (unthreaded short r)
-  pub fixup : (kind : ℕ) (f : PlainFixup) → fixup_bytes kind f ≡ subrecord_bytes kind (unthreaded_fixup f)
+-- A plain reference that names no thread is plain as itself, whatever stands before it; a short one where its displacement is 0.
+abbrev pub UnthreadedArePlain : Type 0
+UnthreadedArePlain = (earlier : List Subrecord) (short : Bool) (r : PlainReference) → (short ≡ true → r.displacement ≡ 0) → plain earlier (unthreaded short r) ≡ r
 
 -- At every placement the canonical records of a module have its image, its start and its answer of reach.
 abbrev pub CanonicalsMeanTheSame : Type 0

@@ -1,8 +1,8 @@
 pub mod Skeleton
+pub mod Unthreaded
 pub mod PlainBytes
 pub mod Cut
 pub mod Canonical
-pub mod Unthreaded
 pub mod Streaming
 pub mod Writing
 pub mod Joined

@@ -1,9 +1,10 @@
 -- What a walk over a module's records writes, step by step, with the threads in force and at most one open FIXUPP. Private functions speak in these words; public ones
 -- say what the canonical bytes are by their definition.
-use Rattle.std.specs.Prelude.{ℕ, ◌+◌, ◌≤◌, ⊤, List, [], ◌∷◌, ◌++◌, length, Bool, ◌&&◌, ◌==◌, nat_le, Option, Some, None, option_map, if◌then◌else◌}
+use Rattle.std.specs.Prelude.{ℕ, ◌+◌, ◌≤◌, ⊤, IsSome, IfSome, List, [], ◌∷◌, ◌++◌, length, Bool, ◌&&◌, ◌==◌, nat_le, Option, Some, None, option_map, if◌then◌else◌}
 use Rattle.omf_frame.specs.Framing.{raw_bytes, raw_of}
 use Rattle.omf_records.specs.Values.{At, Rec, Contents, Fixups, ModEnd, Subrecord, Thread, Fixup, Reference}
 use Rattle.omf_records.specs.Shortest.{contents_bytes}
+use Rattle.omf_check.specs.Judging.{frame_cell, target_cell}
 use Rattle.omf_check.specs.Kept.{set_thread}
 use Rattle.omf_check.specs.declared.threads.Threads.{Threads}
 use Rattle.omf_reloc.specs.Plain.{end_byte}
@@ -71,10 +72,24 @@ abbrev pub record_held : Threads → ℕ → Contents → Option Held → Option
 record_held threads kind (Fixups subs) h = held_after kind threads subs h
 record_held threads kind _ h = None
 
--- The contents have at most 65,534 bytes.
+-- The threads that a reference names are set.
+pub record IsResolved (threads : Threads) (r : Reference) : Type 0 where
+  pub frame : IsSome (frame_cell threads r)
+  pub target : IsSome (target_cell threads r)
+
+-- So are those of a subrecord; and those of all subrecords of a FIXUPP, each by the threads in force at it.
+abbrev pub CanTake : Threads → Subrecord → Type 0
+CanTake threads (Thread byte datum) = ⊤
+CanTake threads (Fixup locat r) = IsResolved threads r
+
+abbrev pub CanTakeAll : Threads → List (At Subrecord) → Type 0
+CanTakeAll threads [] = ⊤
+CanTakeAll threads (s ∷ subs) = CanTake threads s.item × CanTakeAll (set_thread threads s.item) subs
+
+-- A record can be written: its threads are set, and the contents have at most 65,534 bytes.
 abbrev pub CanPut : Threads → ℕ → Contents → Type 0
-CanPut threads kind (Fixups subs) = ⊤
-CanPut threads kind (ModEnd byte start) = length (end_bytes kind threads byte start) ≤ 65534
+CanPut threads kind (Fixups subs) = CanTakeAll threads subs
+CanPut threads kind (ModEnd byte start) = IfSome start (IsResolved threads)
 CanPut threads kind c = length (contents_bytes kind c) ≤ 65534
 
 abbrev pub CanPutAll : Threads → List Rec → Type 0

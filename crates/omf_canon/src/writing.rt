@@ -1,15 +1,17 @@
 //! The canonical bytes of a module.
 
-ghost use Rattle.std.specs.Prelude.{◌≡◌, ◌≤◌, ◌++◌, [], None, Some, OnOk, IfOk, length, option_map};
+ghost use Rattle.std.specs.Prelude.{All, ◌≡◌, ◌≤◌, ◌++◌, [], None, Some, OnOk, IfOk, IfSome, length};
 ghost use Rattle.omf_records.specs.Seen.{kind_seen, contents_seen};
 ghost use Rattle.omf_reloc.specs.Walking.{threads_after};
 ghost use Rattle.omf_check.specs.Kept.{no_threads, set_thread, set_threads};
 ghost use Rattle.omf_reloc.specs.Plain.{end_byte};
 ghost use Rattle.omf_check.specs.Module.{records_in};
 ghost use Rattle.omf_check.specs.WellFormed.{recs};
-ghost use Rattle.omf_canon.specs.Canonical.{canonical};
+ghost use Rattle.omf_frame.specs.Framing.{IsRecord};
+ghost use Rattle.omf_canon.specs.Canonical.{canonical, canonical_raws};
+ghost use Rattle.omf_canon.specs.Skeleton.{skeleton};
 ghost use Rattle.omf_canon.specs.Form.{IsFormOf};
-ghost use Rattle.omf_canon.specs.Writing.{Held, held, record_bytes, closed, has_room, held_with, closed_by, subrecord_held, subrecord_closes, held_after, closed_all, end_bytes, record_puts, record_held, CanPut};
+ghost use Rattle.omf_canon.specs.Writing.{Held, held, record_bytes, closed, has_room, held_with, closed_by, subrecord_held, subrecord_closes, held_after, closed_all, end_bytes, record_puts, record_held, IsResolved, CanTake, CanTakeAll, CanPut};
 
 use crate::laws;
 use crate::plain::{fixup_bytes, put_start};
@@ -41,7 +43,7 @@ struct Group {
 }
 
 impl Model for Group {
-    ghost use Rattle.std.specs.Prelude.{◌≤◌, length};
+    ghost use Rattle.std.specs.Prelude.{All, ◌≤◌, length};
     ghost use Rattle.omf_canon.specs.Writing.{Held};
 
     ghost Value = { Held };
@@ -123,6 +125,7 @@ impl Walk {
         kind: u8,
         subrecord: &Subrecord<'_>,
     ) -> Result<(), AllocError>
+        requires { CanTake self.old.threads subrecord.now }
         ensures out { OnOk result (self.new.out.items ≡ self.old.out.items ++ subrecord_closes kind self.old.threads subrecord.now self.old.group) }
         ensures group { OnOk result (self.new.group ≡ subrecord_held kind self.old.threads subrecord.now self.old.group) }
         ensures threads { OnOk result (self.new.threads ≡ set_thread self.old.threads subrecord.now) }
@@ -147,6 +150,7 @@ impl Walk {
         kind: u8,
         subrecords: Items<Subrecord<'_>>,
     ) -> Result<(), AllocError>
+        requires { CanTakeAll self.old.threads subrecords }
         ensures out { OnOk result (self.new.out.items ≡ self.old.out.items ++ closed_all kind self.old.threads subrecords.entry self.old.group) }
         ensures group { OnOk result (self.new.group ≡ held_after kind self.old.threads subrecords.entry self.old.group) }
         ensures threads { OnOk result (self.new.threads ≡ set_threads self.old.threads subrecords.entry) }
@@ -212,13 +216,27 @@ fn end_contents(
     type_byte: u8,
     start: &Option<Reference>,
 ) -> Result<Vec<u8>, AllocError>
-    ensures { IfOk result (λ v. v.items ≡ end_bytes kind threads.now type_byte start.now) }
+    requires { IfSome start.now (IsResolved threads.now) }
+    ensures bytes { IfOk result (λ v. v.items ≡ end_bytes kind threads.now type_byte start.now) }
+    ensures short { IfOk result (λ v. length v.items ≤ 10) }
 {
     let has_start = type_byte / 64 % 2;
     let mut body = Vec::new(alloc);
     body.push(128 * (type_byte / 128) + 64 * has_start + has_start)?;
     put_start(&mut body, kind, threads, start)?;
     Ok(body)
+}
+
+/// What one walk over a module's records writes: its canonical bytes, with room for so many from the start.
+fn written(alloc: Global, module: &Checked, capacity: usize) -> Result<Vec<u8>, AllocError>
+    requires { All IsRecord (canonical_raws (skeleton (recs (records_in «module».now.bytes)))) }
+    ensures { IfOk result (λ v. v.items ≡ canonical (recs (records_in «module».now.bytes))) }
+{
+    let mut walk = Walk::new(alloc, capacity)?;
+    for (_place, rec) in module.records() {
+        walk.take(alloc, &rec)?;
+    }
+    walk.finish()
 }
 
 /// The canonical bytes of a module: shortest spellings, computed checksums, fixups without threads in records of at most 1,024 bytes.
@@ -238,9 +256,5 @@ pub fn canon(alloc: Global, module: &Checked) -> Result<Vec<u8>, AllocError>
     laws::canonicals_are_fixed();
     laws::canonicals_decide();
     laws::canonicals_mean_the_same();
-    let mut walk = Walk::new(alloc, module.bytes().len())?;
-    for (_place, rec) in module.records() {
-        walk.take(alloc, &rec)?;
-    }
-    walk.finish()
+    written(alloc, module, module.bytes().len())
 }

@@ -38,7 +38,7 @@ pub use entry::{Communal, CommunalSize, Extern, Member, Public};
 pub use here::Here;
 pub use item::{Cursor, Item, Items};
 pub use record::{Blocks, Rec, Segment};
-pub use subrecord::{Part, Reference, Subrecord};
+pub use subrecord::{Part, Reference, Subrecord, put_reference};
 pub use unread::Unread;
 pub use writing::put_rec;
 

@@ -309,8 +309,13 @@ fn put_target(out: &mut Vec<u8>, kind: u8, reference: &Reference) -> Result<(), 
     put_displacement(out, kind, reference.displacement)
 }
 
+/// Appends the bytes of a reference in a record of a type, its indices in their shortest spellings.
+///
+/// # Errors
+///
+/// `AllocError` where a growth is refused: a front of the bytes may be appended then.
 #[tactic(auto, using(crate::specs::Begins::begins_then))]
-pub(crate) fn put_reference(
+pub fn put_reference(
     out: &mut Vec<u8>,
     kind: u8,
     reference: &Reference,

@@ -1,56 +1,19 @@
-use Rattle.std.proofs.Common.{◌∙◌, ap, subst, List}
-use Rattle.std.specs.Prelude.{map}
-use Rattle.omf_frame.specs.declared.fault.Place.{Place}
 use Rattle.omf_image.specs.Limits.{profile_limits}
-use Rattle.omf_records.specs.Seen.{rec_seen}
-use Rattle.omf_records.specs.Values.{Rec}
 use Rattle.omf_check.specs.Module.{records_in}
 use Rattle.omf_check.specs.WellFormed.{recs}
-use Rattle.omf_reloc.proofs.WalkedLaws.{records-listed}
 use Rattle.omf_canon.specs.Canonical.{canonical}
 use Rattle.omf_canon.proofs.FormLaws.{form-of, ok-form}
-use Rattle.omf_canon.proofs.WritingLaws.{IsWritten, write-first, write-next, write-last}
 use Rattle.omf_canon.proofs.writing.canon.Goals as goal
 
-abbrev without_places : List (Place × Rec) → List Rec
-without_places xs = map (λ x. x.1) xs
-
-pub loop-place-init : goal.loop-place-init
-loop-place-init c =
-    let w = c.in_ok-walk.walk in
-    let raws = records_in c.args.module.now.bytes in
-    write-first (recs raws) w.out.items w.threads w.group (without_places c.into_iter-place-iterator.result)
-    (c.canonicals_are_well_formed.ensures c.args.module.now.profile profile_limits c.args.module.now.bytes raws c.bytes.ensures.well_formed).0.framed.each
-    c.in_ok-walk.ensures.out c.in_ok-walk.ensures.threads c.in_ok-walk.ensures.group
-    (ap without_places (c.into_iter-place-iterator.ensures.into_iter_gives ∙ c.records-place-items.ensures.listed) ∙ records-listed 0 0 raws)
-
-pub take-requires : goal.take-requires
-take-requires c =
-    let w = c.loop-place.walk in
-    (subst (λ xs. IsWritten (recs (records_in c.args.module.now.bytes)) w.out.items w.threads w.group (without_places xs)) c.in-Some.ensures.steps c.loop-place.invariant).can.0
-
-pub loop-place-preserved : goal.loop-place-preserved
-loop-place-preserved c =
-    let w = c.loop-place.walk in
-    let m = recs (records_in c.args.module.now.bytes) in
-    let n = c.take.new.self in
-    write-next m w.out.items w.threads w.group (rec_seen c.in-Some.rec) (without_places c.next.new.self)
-    (subst (λ xs. IsWritten m w.out.items w.threads w.group (without_places xs)) c.in-Some.ensures.steps c.loop-place.invariant)
-    n.out.items n.threads n.group c.in_ok-take.ensures.out c.in_ok-take.ensures.threads c.in_ok-take.ensures.group
-
-pub returns-clause-bytes : goal.returns-clause-bytes
-returns-clause-bytes c =
-    let w = c.loop-place.walk in
-    let m = recs (records_in c.args.module.now.bytes) in
-    let ended = subst (λ xs. IsWritten m w.out.items w.threads w.group (without_places xs)) c.in-None.ensures.steps.0 c.loop-place.invariant in
-    write-last m w.out.items w.threads w.group ended c.finish.result c.finish.ensures
+pub written-requires : goal.written-requires
+written-requires c =
+    let p = c.args.module.now.profile in
+    let b = c.args.module.now.bytes in
+    (c.canonicals_are_well_formed.ensures p profile_limits b (records_in b) c.bytes.ensures.well_formed).0.framed.each
 
 pub returns-clause-form : goal.returns-clause-form
 returns-clause-form c =
     let p = c.args.module.now.profile in
     let b = c.args.module.now.bytes in
-    let w = c.loop-place.walk in
-    let m = recs (records_in b) in
-    let ended = subst (λ xs. IsWritten m w.out.items w.threads w.group (without_places xs)) c.in-None.ensures.steps.0 c.loop-place.invariant in
     let form = form-of c.canonicals_are_well_formed.ensures c.canonicals_are_read.ensures c.canonicals_hold.ensures c.canonicals_are_fixed.ensures c.canonicals_decide.ensures c.canonicals_mean_the_same.ensures p b c.bytes.ensures.well_formed in
-    ok-form p b (canonical m) form c.finish.result (write-last m w.out.items w.threads w.group ended c.finish.result c.finish.ensures)
+    ok-form p b (canonical (recs (records_in b))) form c.written.result c.written.ensures

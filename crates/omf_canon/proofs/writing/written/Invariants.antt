@@ -2,7 +2,7 @@ use Rattle.std.specs.Prelude.{map}
 use Rattle.omf_check.specs.Module.{records_in}
 use Rattle.omf_check.specs.WellFormed.{recs}
 use Rattle.omf_canon.proofs.WritingLaws.{IsWritten}
-use Rattle.omf_canon.proofs.writing.canon.Given as goal
+use Rattle.omf_canon.proofs.writing.written.Given as goal
 
 -- what is written, and what the records to come write, is the canonical bytes
 abbrev pub invariant-loop-place : goal.invariant-loop-place
