@@ -27,3 +27,4 @@ pub mod WalkedLaws
 pub mod InsideLaws
 pub mod StartLaws
 pub mod MeasureLaws
+pub mod PieceLaws

@@ -82,25 +82,3 @@ pub start_outcome : (pl : Places) (wide : Bool) (r : PlainReference)
 start_outcome pl wide r =
     first_is cause.Target (offsets_of pl 0 (number_bits wide) (number_bits wide) r)
     ∙ ap (λ n. first_or cause.Target (offsets_of pl 0 n n r)) (modend_width wide)
-
--- The settings that the cells give a reference are those that a search backwards gives.
-pub frame_kept : (threads : Threads) (subs : List Subrecord) (r : Reference) → HasThreads threads subs → frame_cell threads r ≡ frame_setting subs r
-frame_kept threads subs r h =
-    let few : frame_thread r.fix.item < 4 = omega arith in
-    ap (λ s. cond (frame_by_thread r.fix.item) s (Some (setting (frame_bits r.fix.item) r.frame))) (h.same true (frame_thread r.fix.item) few)
-
-pub target_kept : (threads : Threads) (subs : List Subrecord) (r : Reference) → HasThreads threads subs → target_cell threads r ≡ target_setting subs r
-target_kept threads subs r h =
-    let few : target_bits r.fix.item < 4 = omega arith in
-    ap (λ s. cond (target_by_thread r.fix.item) s (Some (setting (target_bits r.fix.item) r.target))) (h.same false (target_bits r.fix.item) few)
-
--- a plain reference, of what gives its frame and its target
-abbrev pub made : Option Setting → Option Setting → ℕ → PlainReference
-made f t u = record { frame = unwrap_or (option_map frame_from f) F5; target = unwrap_or (option_map target_from t) (T0 0); displacement = u }
-
-pub plain_made : (threads : Threads) (subs : List Subrecord) (r : Reference) (f t : Setting) (u : ℕ) → HasThreads threads subs
-    → frame_cell threads r ≡ Some f → target_cell threads r ≡ Some t → u ≡ unwrap_or r.displacement 0 → made (Some f) (Some t) u ≡ plain subs r
-plain_made threads subs r f t u h ef et eu =
-    ap (λ s. made s (Some t) u) (sym ef ∙ frame_kept threads subs r h)
-    ∙ ap (λ s. made (frame_setting subs r) s u) (sym et ∙ target_kept threads subs r h)
-    ∙ ap (λ n. made (frame_setting subs r) (target_setting subs r) n) eu

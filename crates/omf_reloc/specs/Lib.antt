@@ -4,10 +4,13 @@ pub mod Lowest
 pub mod Additions
 pub mod Offsets
 pub mod Placed
+pub mod Methods
 pub mod Seen
 pub mod Reach
 pub mod Image
 pub mod Walking
+pub mod Pieces
+pub mod PieceSeen
 pub mod Measuring
 pub mod ReachSteps
 pub mod Entries

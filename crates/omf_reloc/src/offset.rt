@@ -1,12 +1,12 @@
 //! The offset of a reference in its frame, and whether it reaches (TIS OMF 1.1, "FIXUPP"; readings, ranges and causes are this
 //! profile's rule).
 
-ghost use Rattle.std.specs.Prelude.{◌≡◌, ◌+◌, true, filter, length, unwrap_or, slice_get};
+ghost use Rattle.std.specs.Prelude.{◌≡◌, ◌+◌, true, filter, length, slice_get};
 ghost use Rattle.omf_frame.specs.Bytes.{difference};
 ghost use Rattle.omf_records.specs.Location.{offset_bits, self_relative_bits};
 ghost use Rattle.omf_records.specs.Values.{location_offset};
 ghost use Rattle.omf_check.specs.Tables.{is_defined};
-ghost use Rattle.omf_check.specs.Threads.{target_from};
+ghost use Rattle.omf_reloc.specs.Methods.{target_seen};
 ghost use Rattle.omf_reloc.specs.Offsets.{offsets, in_bits, is_near, in_frame, from_location, outcome_at, start_offset};
 ghost use Rattle.omf_reloc.specs.Placed.{HasTarget, HasPlaces, fixupp_type, modend_type, number_bits};
 ghost use Rattle.omf_reloc.specs.Placement.{placed, frame_by, target_frame, target_address};
@@ -15,8 +15,7 @@ use crate::addition::Additions;
 use crate::fault::Cause;
 use crate::frame::Frame;
 use crate::placement::Placement;
-use crate::plain::{PlainFixup, PlainReference};
-use omf_check::Setting;
+use crate::plain::{FrameMethod, PlainFixup, PlainReference, TargetMethod};
 use omf_frame::Index;
 use omf_records::{is_segment_relative, location_offset, location_type};
 use std::marker::Model;
@@ -37,39 +36,27 @@ impl Model for Offsets {
     ghost view = { λ o. option_to_list o.unsigned ++ option_to_list o.signed };
 }
 
-/// The index of a frame or a target; 0 where its method takes none.
-fn index_of(setting: &Setting) -> usize
-    ensures { result ≡ unwrap_or setting.now.datum 0 }
-{
-    match setting.datum {
-        Some(Index(index)) => usize::from(index),
-        None => 0,
-    }
-}
-
 /// The address of a target: of a group, the base of its frame.
-fn target_address(placement: &Placement, target: &Setting) -> u32
-    requires { HasTarget placement.now (target_from target.now) }
-    ensures { result ≡ target_address placement.now (target_from target.now) }
+fn target_address(placement: &Placement, target: &TargetMethod) -> u32
+    requires { HasTarget placement.now (target_seen target.now) }
+    ensures { result ≡ target_address placement.now (target_seen target.now) }
 {
-    let index = index_of(target);
-    match target.method {
-        0 => placement.segment_at(index).address,
-        1 => placement.group_at(index).base,
-        _ => placement.external_at(index).address,
+    match target {
+        TargetMethod::Segment(Index(index)) => placement.segment_at(usize::from(*index)).address,
+        TargetMethod::Group(Index(index)) => placement.group_at(usize::from(*index)).base,
+        TargetMethod::External(Index(index)) => placement.external_at(usize::from(*index)).address,
     }
 }
 
 /// The frame of a target.
-fn target_frame(placement: &Placement, target: &Setting) -> Frame
-    requires { HasTarget placement.now (target_from target.now) }
-    ensures { result ≡ target_frame placement.now (target_from target.now) }
+fn target_frame(placement: &Placement, target: &TargetMethod) -> Frame
+    requires { HasTarget placement.now (target_seen target.now) }
+    ensures { result ≡ target_frame placement.now (target_seen target.now) }
 {
-    let index = index_of(target);
-    match target.method {
-        0 => placement.segment_at(index).frame,
-        1 => placement.group_at(index),
-        _ => placement.external_at(index).frame,
+    match target {
+        TargetMethod::Segment(Index(index)) => placement.segment_at(usize::from(*index)).frame,
+        TargetMethod::Group(Index(index)) => placement.group_at(usize::from(*index)),
+        TargetMethod::External(Index(index)) => placement.external_at(usize::from(*index)).frame,
     }
 }
 
@@ -78,13 +65,12 @@ pub(crate) fn frame_of(placement: &Placement, segment: u16, reference: &PlainRef
     requires { HasPlaces placement.now segment reference.now }
     ensures { result ≡ frame_by placement.now segment reference.now.target reference.now.frame }
 {
-    let index = index_of(&reference.frame);
-    match reference.frame.method {
-        0 => placement.segment_at(index).frame,
-        1 => placement.group_at(index),
-        2 => placement.external_at(index).frame,
-        4 => placement.segment_at(usize::from(segment)).frame,
-        _ => target_frame(placement, &reference.target),
+    match &reference.frame {
+        FrameMethod::Segment(Index(index)) => placement.segment_at(usize::from(*index)).frame,
+        FrameMethod::Group(Index(index)) => placement.group_at(usize::from(*index)),
+        FrameMethod::External(Index(index)) => placement.external_at(usize::from(*index)).frame,
+        FrameMethod::Location => placement.segment_at(usize::from(segment)).frame,
+        FrameMethod::Target => target_frame(placement, &reference.target),
     }
 }
 

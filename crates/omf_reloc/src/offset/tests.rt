@@ -10,7 +10,7 @@ use super::{outcome, start_offset};
 use crate::fault::Cause;
 use crate::frame::Frame;
 use crate::placement::Placement;
-use crate::plain::{PlainFixup, PlainReference};
+use crate::plain::{FrameMethod, PlainFixup, PlainReference, TargetMethod};
 use omf_check::Setting;
 use omf_frame::Index;
 use omf_records::location_offset;
@@ -65,8 +65,8 @@ fn setting(method: u8) -> Setting
 fn reference(frame: u8, target: u8, displacement: u32) -> PlainReference
     ensures { result ≡ record { frame = frame_from (record { method = frame; datum = Some 1 }); target = target_from (record { method = target; datum = Some 1 }); displacement = displacement } }
 {
-    let frame = setting(frame);
-    let target = setting(target);
+    let frame = FrameMethod::new(setting(frame));
+    let target = TargetMethod::new(setting(target));
     PlainReference {
         frame,
         target,

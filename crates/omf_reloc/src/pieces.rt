@@ -1,0 +1,270 @@
+//! The pieces of a checked module, one after another: what reach, the image and the start go over.
+
+ghost use Rattle.std.specs.Prelude.{◌≡◌, ◌∷◌, map, None, option_map};
+ghost use Rattle.omf_image.specs.Limits.{profile_limits};
+ghost use Rattle.omf_check.specs.Kept.{no_threads};
+ghost use Rattle.omf_check.specs.Listed.{placed_from};
+ghost use Rattle.omf_check.specs.Module.{records_in};
+ghost use Rattle.omf_check.specs.Sound.{ModuleHolds};
+ghost use Rattle.omf_check.specs.WellFormed.{recs};
+ghost use Rattle.omf_reloc.specs.PieceSeen.{step_seen, placed_seen};
+ghost use Rattle.omf_reloc.specs.Pieces.{subrecord_step, contents_steps, open_steps, steps_from, threads_behind, end_at, single_pieces, reference_places, placed_pieces, SubrecordIsSet, ContentsAreSet, OpenIsSet, RecordsAreSet};
+ghost use Rattle.omf_reloc.specs.Placed.{fixupp_type, modend_type};
+ghost use Rattle.omf_reloc.specs.Plain.{End, end_byte};
+ghost use Rattle.omf_reloc.specs.Walking.{plain_by, threads_after};
+ghost use Rattle.omf_records.specs.Seen.{contents_seen, kind_seen};
+ghost use Rattle.omf_records.specs.Values.{ModEnd};
+ghost use Rattle.omf_reloc.specs.Reach.{all_reference_places};
+
+use crate::plain::{PlainFixup, PlainReference, plain_reference};
+use omf_check::{Checked, Records, Threads};
+use omf_frame::Place;
+use omf_records::{At, Items, Part, Rec, Reference, Subrecord};
+use std::marker::Model;
+
+/// A piece of a module, with no thread in it.
+#[derive(Drop)]
+pub enum Piece<'a> {
+    /// A record that is neither a FIXUPP nor a MODEND.
+    Kept(Rec<'a>),
+    /// A fixup of a FIXUPP, wide or not.
+    Fixed {
+        wide: bool,
+        fixup: PlainFixup,
+    },
+    /// The MODEND, wide or not: its type byte, of which bit 0 is as bit 6 and the ignored bits are 0, and its start.
+    End {
+        wide: bool,
+        type_byte: u8,
+        start: Option<PlainReference>,
+    },
+}
+
+/// A FIXUPP some of whose subrecords are still to come.
+#[derive(Drop)]
+struct OpenFixups<'a> {
+    place: Place,
+    wide: bool,
+    left: Items<Subrecord<'a>>,
+}
+
+impl<'a> Model for OpenFixups<'a> {
+    ghost use Rattle.omf_reloc.specs.Placed.{fixupp_type};
+    ghost use Rattle.omf_reloc.specs.Pieces.{OpenFixups as Said};
+
+    ghost Value = { Said };
+
+    ghost view = { λ o. record { place = o.place; kind = fixupp_type o.wide; left = o.left } };
+}
+
+/// What a subrecord of a FIXUPP gives, wide or not, that stands at a place: a fixup at its first byte, a THREAD nothing.
+fn subrecord_step<'a>(
+    threads: &Threads,
+    at: Place,
+    wide: bool,
+    subrecord: &At<Subrecord<'_>>,
+) -> Option<(Place, Piece<'a>)>
+    requires { SubrecordIsSet threads.now subrecord.now.item }
+    ensures { step_seen result ≡ subrecord_step threads.now at (fixupp_type wide) subrecord.now.within subrecord.now.item }
+{
+    match &subrecord.item.part {
+        Part::Thread { .. } => None,
+        Part::Fixup {
+            location,
+            reference,
+        } => {
+            let fixup = PlainFixup {
+                location: *location,
+                reference: plain_reference(threads, reference),
+            };
+            let within = subrecord.within;
+            Some((Place { within, ..at }, Piece::Fixed { wide, fixup }))
+        }
+    }
+}
+
+/// MODEND's type byte: bits 7 and 6 as they stand, bit 0 as bit 6, the ignored ones 0.
+fn end_byte(type_byte: u8) -> u8
+    ensures { result ≡ end_byte type_byte }
+{
+    let has_start = type_byte / 64 % 2;
+    128 * (type_byte / 128) + 64 * has_start + has_start
+}
+
+/// The end of a module, of a MODEND that stands at a place.
+fn end_piece<'a>(
+    threads: &Threads,
+    at: Place,
+    wide: bool,
+    type_byte: u8,
+    start: &Option<Reference>,
+) -> (Place, Piece<'a>)
+    requires { ContentsAreSet threads.now (ModEnd type_byte start.now) }
+    ensures { placed_seen result ≡ (end_at at start.now, End (modend_type wide) (end_byte type_byte) (option_map (plain_by threads.now) start.now)) }
+{
+    let type_byte = end_byte(type_byte);
+    match start {
+        None => (
+            at,
+            Piece::End {
+                wide,
+                type_byte,
+                start: None,
+            },
+        ),
+        Some(reference) => {
+            let within = reference.fix.within;
+            let start = Some(plain_reference(threads, reference));
+            (
+                Place { within, ..at },
+                Piece::End {
+                    wide,
+                    type_byte,
+                    start,
+                },
+            )
+        }
+    }
+}
+
+/// Records and the subrecords of FIXUPPs, step by step: each gives a piece, or nothing.
+#[derive(Drop)]
+struct Steps<'a> {
+    records: Records<'a>,
+    /// The FIXUPP that is open.
+    fixups: Option<OpenFixups<'a>>,
+    /// The threads in force.
+    threads: Threads,
+}
+
+impl<'a> Model for Steps<'a> {
+    ghost use Rattle.std.specs.Prelude.{List, Option};
+    ghost use Rattle.omf_frame.specs.declared.fault.Place.{Place as Placed};
+    ghost use Rattle.omf_reloc.specs.Plain.{Piece as Plain};
+    ghost use Rattle.omf_reloc.specs.Pieces.{steps_left, AreSet};
+
+    ghost Value = { List (Option (Placed × Plain)) };
+
+    ghost view = { λ s. steps_left s.threads s.fixups s.records };
+
+    ghost invariant = { λ s. AreSet s.threads s.fixups s.records };
+}
+
+/// What a record at its place gives: a FIXUPP nothing but what its subrecords give.
+fn record_step<'a>(
+    threads: &Threads,
+    at: Place,
+    rec: Rec<'a>,
+) -> (Option<(Place, Piece<'a>)>, Option<OpenFixups<'a>>)
+    requires { ContentsAreSet threads.now (contents_seen rec) }
+    ensures step { step_seen result.0 ∷ open_steps threads.now result.1 ≡ contents_steps threads.now at (kind_seen rec.entry) (contents_seen rec.entry) }
+    ensures threads { threads_behind threads.now result.1 ≡ threads_after threads.now (contents_seen rec.entry) }
+    ensures set { OpenIsSet threads.now result.1 }
+{
+    match &rec {
+        Rec::Fixups { wide, subrecords } => {
+            let fixups = OpenFixups {
+                place: at,
+                wide: *wide,
+                left: subrecords.iter(),
+            };
+            (None, Some(fixups))
+        }
+        Rec::ModEnd {
+            wide,
+            type_byte,
+            start,
+        } => (Some(end_piece(threads, at, *wide, *type_byte, start)), None),
+        _ => (Some((at, Piece::Kept(rec))), None),
+    }
+}
+
+impl<'a> Steps<'a> {
+    /// No record is read.
+    fn new(records: Records<'a>) -> Steps<'a>
+        requires { RecordsAreSet no_threads records }
+        ensures { result ≡ steps_from no_threads records.entry }
+    {
+        Steps {
+            records,
+            fixups: None,
+            threads: Threads::new(),
+        }
+    }
+}
+
+impl<'a> Iterator for Steps<'a> {
+    ghost use Rattle.std.specs.Iterator.{YieldsFirstBy, item_count};
+    ghost use Rattle.omf_reloc.specs.PieceSeen.{step_seen};
+
+    type Item = Option<(Place, Piece<'a>)>;
+
+    ghost next_gives = { YieldsFirstBy step_seen (λ s. s) };
+
+    ghost remaining = { item_count (λ s. s) };
+
+    fn next(&mut self) -> Option<Option<(Place, Piece<'a>)>> {
+        if let Some(open) = &mut self.fixups {
+            if let Some(subrecord) = open.left.next() {
+                let step = subrecord_step(&self.threads, open.place, open.wide, &subrecord);
+                self.threads.set(&subrecord.item);
+                return Some(step);
+            }
+        }
+        self.fixups = None;
+        let (place, rec) = self.records.next()?;
+        let (step, fixups) = record_step(&self.threads, place, rec);
+        self.fixups = fixups;
+        Some(step)
+    }
+}
+
+/// The pieces of a module that are still to come, each with its place: a record at its type byte, a fixup at its first byte, and the
+/// MODEND at the fix data byte of its start, or at its type byte where it names none.
+#[derive(Drop)]
+pub struct Pieces<'a> {
+    steps: Steps<'a>,
+}
+
+impl<'a> Model for Pieces<'a> {
+    ghost use Rattle.std.specs.Prelude.{List};
+    ghost use Rattle.omf_frame.specs.declared.fault.Place.{Place as Placed};
+    ghost use Rattle.omf_reloc.specs.Plain.{Piece as Plain};
+    ghost use Rattle.omf_reloc.specs.Pieces.{given};
+
+    ghost Value = { List (Placed × Plain) };
+
+    ghost view = { λ p. given p.steps };
+}
+
+impl<'a> Iterator for Pieces<'a> {
+    ghost use Rattle.std.specs.Iterator.{YieldsFirstBy, item_count};
+    ghost use Rattle.omf_reloc.specs.PieceSeen.{placed_seen};
+
+    type Item = (Place, Piece<'a>);
+
+    ghost next_gives = { YieldsFirstBy placed_seen (λ s. s) };
+
+    ghost remaining = { item_count (λ s. s) };
+
+    fn next(&mut self) -> Option<(Place, Piece<'a>)> {
+        while let Some(step) = self.steps.next() {
+            if step.is_some() {
+                return step;
+            }
+        }
+        None
+    }
+}
+
+/// The pieces of a module, in the order of the file.
+pub fn pieces_of(module: &Checked) -> Pieces<'_>
+    ensures walked { result ≡ placed_pieces (placed_from 0 0 (records_in «module».now.bytes)) }
+    ensures listed { map (λ p. p.1) result ≡ single_pieces (recs (records_in «module».now.bytes)) }
+    ensures places { reference_places result ≡ all_reference_places (recs (records_in «module».now.bytes)) }
+    ensures holds { ModuleHolds profile_limits (recs (records_in «module».now.bytes)) }
+{
+    Pieces {
+        steps: Steps::new(module.records()),
+    }
+}
