@@ -1,10 +1,10 @@
 //! What is kept of the records so far, and the rules that need it.
 
-ghost use Rattle.std.specs.Prelude.{◌≡◌, ◌≤◌, ◌<◌, ◌+◌, ◌^◌, ◌++◌, ℕ, length, OnOk, IfOk, List, unwrap_or, IsTrue, IfErr, None, Ok, ◌-◌, [], ◌∷◌, true, false, nat_le, is_none};
+ghost use Rattle.std.specs.Prelude.{◌≡◌, ◌≤◌, ◌<◌, ◌+◌, ◌^◌, ◌++◌, ℕ, length, OnOk, IfOk, List, unwrap_or, IsTrue, IfErr, None, Ok, ◌-◌, [], ◌∷◌, true, false, nat_le, is_none, option_map};
 ghost use Rattle.omf_check.specs.Rules.{judged_at, item_limit};
 ghost use Rattle.omf_image.specs.Limits.{profile_limits};
 ghost use Rattle.omf_check.specs.Kept.{Kept, nothing_kept, starts, with_record, with_contents, set_threads};
-ghost use Rattle.omf_check.specs.Judging.{kept_length, data_fault, index_fault, frame_fault, target_fault, reference_fault, location_fault, subrecord_fault, start_fault, contents_fault, segment_fault, group_fault, base_fault, room_fault, data_size, placed, record_fault, IsShort, IsNoFixupp, raw_fault, rec_of};
+ghost use Rattle.omf_check.specs.Judging.{kept_length, data_fault, index_fault, frame_cell, frame_fault, target_cell, target_fault, reference_fault, location_fault, subrecord_fault, start_fault, contents_fault, segment_fault, group_fault, base_fault, room_fault, data_size, placed, record_fault, IsShort, IsNoFixupp, raw_fault, rec_of};
 ghost use Rattle.omf_check.specs.Session.{refused_at, IsStopped};
 ghost use Rattle.omf_frame.specs.Framing.{is_taken};
 ghost use Rattle.omf_check.specs.Kept.{IsBounded};
@@ -40,6 +40,9 @@ const TABLE_LIMIT: usize = 32_767;
 /// The most items of a module: one per subrecord of a FIXUPP, one per empty FIXUPP, one per other record.
 const ITEM_LIMIT: usize = 1_048_576;
 
+/// The bytes of a pointer 16:32, the largest location.
+const LARGEST_LOCATION: u16 = 6;
+
 /// What is kept of the records so far.
 #[derive(Drop)]
 pub struct Tables {
@@ -68,8 +71,13 @@ impl Model for Tables {
 fn ends_within(location: u16, len: usize) -> bool
     ensures { result ≡ nat_le (location_offset location + location_size (location_type location)) len }
 {
+    let offset = location_offset(location);
+    // Wherever the largest location ends within them, all do.
+    if usize::from(offset + LARGEST_LOCATION) <= len {
+        return true;
+    }
     let size = location_size(location_type(location));
-    usize::from(location_offset(location) + u16::from(size)) <= len
+    usize::from(offset + u16::from(size)) <= len
 }
 
 /// A fixup of this location lies in the data of the last data record, which is an LEDATA.
@@ -242,9 +250,19 @@ impl Tables {
         }
     }
 
-    /// A frame is there, and so is the entry that it takes.
+    /// The table of a method has the entry of an index, if the index is there.
     #[inline(always)]
-    fn has_frame(&self, frame: Option<Setting>) -> bool
+    fn has_datum(&self, method: u8, datum: &Option<At<Index>>) -> bool
+        ensures { (at : ℕ) → result ≡ is_none (index_fault self.now at method (unwrap_or (option_map (λ a. a.item) datum.now) 0)) }
+    {
+        match datum {
+            Some(index) => self.has_entry(method, index.item.0),
+            None => self.has_entry(method, 0),
+        }
+    }
+
+    /// A frame that a thread gives is there, and so is the entry that it takes.
+    fn has_set_frame(&self, frame: Option<Setting>) -> bool
         ensures { (at : ℕ) → result ≡ is_none (frame_fault self.now at frame) }
     {
         match frame {
@@ -256,9 +274,8 @@ impl Tables {
         }
     }
 
-    /// A target is there, and so is the entry that it takes.
-    #[inline(always)]
-    fn has_target(&self, target: Option<Setting>) -> bool
+    /// A target that a thread gives is there, and so is the entry that it takes.
+    fn has_set_target(&self, target: Option<Setting>) -> bool
         ensures { (at : ℕ) → result ≡ is_none (target_fault self.now at target) }
     {
         match target {
@@ -267,12 +284,35 @@ impl Tables {
         }
     }
 
+    /// The frame of a reference has no fault, with these threads in force.
+    #[inline(always)]
+    fn has_frame(&self, threads: &Threads, reference: &Reference) -> bool
+        ensures { (at : ℕ) → result ≡ is_none (frame_fault self.now at (frame_cell threads.now reference.now)) }
+    {
+        if reference.frame_thread().is_some() {
+            return self.has_set_frame(threads.frame(reference));
+        }
+        let method = reference.frame_method();
+        method > 2 || self.has_datum(method, &reference.frame)
+    }
+
+    /// The target of a reference has no fault, with these threads in force.
+    #[inline(always)]
+    fn has_target(&self, threads: &Threads, reference: &Reference) -> bool
+        ensures { (at : ℕ) → result ≡ is_none (target_fault self.now at (target_cell threads.now reference.now)) }
+    {
+        if reference.target_thread().is_some() {
+            return self.has_set_target(threads.target(reference));
+        }
+        self.has_datum(reference.target_method(), &reference.target)
+    }
+
     /// The frame and the target of a reference have no fault, with these threads in force.
     #[inline(always)]
     fn has_reference(&self, threads: &Threads, reference: &Reference) -> bool
         ensures { result ≡ is_none (reference_fault self.now threads.now reference.now) }
     {
-        self.has_frame(threads.frame(reference)) && self.has_target(threads.target(reference))
+        self.has_frame(threads, reference) && self.has_target(threads, reference)
     }
 
     /// A FIXUP has no fault, with these threads in force.

@@ -1,5 +1,3 @@
-use Rattle.std.proofs.Common.{ap, ◌∙◌}
-use Rattle.std.specs.Prelude.{is_none}
 use Rattle.omf_check.specs.Rules.{judged_at}
 use Rattle.omf_check.specs.Judging.{frame_cell, frame_fault, target_cell, target_fault}
 use Rattle.omf_check.proofs.Lesser.{both_hold, first_fails}
@@ -11,8 +9,8 @@ returns-then-has_frame c =
     let cells = c.args.threads.now in
     let r = c.args.reference.now in
     both_hold (frame_fault kept (judged_at r r.frame) (frame_cell cells r)) (target_fault kept (judged_at r r.target) (target_cell cells r)) c.has_frame.result c.has_target.result
-    (c.has_frame.ensures (judged_at r r.frame) ∙ ap (λ o. is_none (frame_fault kept (judged_at r r.frame) o)) c.frame.ensures) c.if-has_frame.true
-    (c.has_target.ensures (judged_at r r.target) ∙ ap (λ o. is_none (target_fault kept (judged_at r r.target) o)) c.target.ensures)
+    (c.has_frame.ensures (judged_at r r.frame)) c.if-has_frame.true
+    (c.has_target.ensures (judged_at r r.target))
 
 pub returns-else-has_frame : goal.returns-else-has_frame
 returns-else-has_frame c =
@@ -20,4 +18,4 @@ returns-else-has_frame c =
     let cells = c.args.threads.now in
     let r = c.args.reference.now in
     first_fails (frame_fault kept (judged_at r r.frame) (frame_cell cells r)) (target_fault kept (judged_at r r.target) (target_cell cells r)) c.has_frame.result
-    (c.has_frame.ensures (judged_at r r.frame) ∙ ap (λ o. is_none (frame_fault kept (judged_at r r.frame) o)) c.frame.ensures) c.if-has_frame.false
+    (c.has_frame.ensures (judged_at r r.frame)) c.if-has_frame.false
