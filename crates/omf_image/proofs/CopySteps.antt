@@ -1,107 +1,23 @@
 -- Steps of the functions that write the bytes of blocks.
-use Rattle.std.proofs.Common.{◌≡◌, ℕ, zero, suc, ◌+◌, ◌-◌, ◌*◌, ◌<◌, ◌≤◌, Bool, true, false, List, [], ◌∷◌, ◌++◌, append_assoc, length, length-append, length-drop, take, drop, Result, Ok, Err, refl, sym, ◌∙◌, ap, subst, arith}
-use Rattle.std.specs.Prelude.{IsOk, slice_range, nat_lt, if◌then◌else◌}
+use Rattle.std.proofs.Common.{◌≡◌, ◌⊎◌, inl, inr, ℕ, zero, suc, ◌+◌, ◌-◌, ◌*◌, ◌<◌, ◌≤◌, Bool, true, false, List, [], ◌∷◌, ◌++◌, append_assoc, length, length-append, length-drop, take, drop, Result, Ok, Err, refl, sym, ◌∙◌, ap, subst, arith}
+use Rattle.std.specs.Prelude.{IsOk, slice_range}
 use Rattle.std.specs.List.{repeat}
 use Rattle.std.proofs.lemmas.List.{append-nil, take_at, drop_at, drop-append-le}
-use Rattle.std.proofs.lemmas.Bool.{ltb-false}
 use Rattle.std.proofs.Math.Nat.{mul-le-mul_right}
-use Rattle.byteorder.specs.Endian.{little_number}
 use Rattle.omf_frame.specs.Fault.{Fault}
 use Rattle.omf_frame.specs.declared.fault.Reason.TheVariants as reason
 use Rattle.omf_records.specs.FieldReaders.{le_read, name_read}
 use Rattle.omf_records.specs.Layout.{fault}
 use Rattle.omf_records.specs.Reads.{After, after, Reading, and_then}
 use Rattle.omf_image.specs.Blocks.{repeated}
-use Rattle.omf_image.specs.Copying.{bytes_times, bytes_contents, bytes_block, IsMoved}
-use Rattle.omf_image.specs.Lengths.{len_times, len_data, len_contents, len_block}
+use Rattle.omf_image.specs.Copying.{bytes_times, bytes_contents, bytes_block, wanted, IsMoved}
 use Rattle.omf_image.proofs.BlocksLaws.{length-repeated}
-
--- ---- both computations end at one place
-
-abbrev ends : {A : Type 0} → Result (After A) Fault → Result (After (List ℕ)) Fault
-ends r = and_then r (λ a. Ok (after [] a.within a.rest))
-
-abbrev SameEnd : Reading ℕ → Reading (List ℕ) → Type 0
-SameEnd p q = (at : ℕ) (bytes : List ℕ) → ends (p at bytes) ≡ ends (q at bytes)
-
-on : {A B C D : Type 0} (x : Result (After A) Fault) (y : Result (After B) Fault) → ends x ≡ ends y → (f : After A → Result (After C) Fault) (g : After B → Result (After D) Fault)
-    → ((a : After A) (b : After B) → a.within ≡ b.within → a.rest ≡ b.rest → ends (f a) ≡ ends (g b)) → ends (and_then x f) ≡ ends (and_then y g)
-on (Ok a) (Ok b) e f g h =
-    let same : after {A = List ℕ} [] a.within a.rest ≡ after [] b.within b.rest = cc in
-    h a b (ap (λ k. k.within) same) (ap (λ k. k.rest) same)
-on (Ok a) (Err d) e f g h = absurd cc
-on (Err c) (Ok b) e f g h = absurd cc
-on (Err c) (Err d) e f g h = let same : c ≡ d = cc in ap (λ k. Err k) same
-
-on_one : {A C D : Type 0} (x : Result (After A) Fault) (f : After A → Result (After C) Fault) (g : After A → Result (After D) Fault) → ((a : After A) → ends (f a) ≡ ends (g a)) → ends (and_then x f) ≡ ends (and_then x g)
-on_one (Ok a) f g h = h a
-on_one (Err c) f g h = refl
-
--- from the same place on
-moved_to : {A : Type 0} (q : Reading A) (w v : ℕ) (xs ys : List ℕ) → w ≡ v → xs ≡ ys → ends (q w xs) ≡ ends (q v ys)
-moved_to q w v xs ys e f = ap (λ k. ends (q k xs)) e ∙ ap (λ zs. ends (q v zs)) f
-
-times_ends : (p : Reading ℕ) (q : Reading (List ℕ)) → SameEnd p q → (n sum : ℕ) (front : List ℕ) → SameEnd (len_times p n sum) (bytes_times q n front)
-times_ends p q h zero sum front at bytes = refl
-times_ends p q h (suc n) sum front at bytes =
-    on (p at bytes) (q at bytes) (h at bytes) _ _ (λ a b e f.
-    times_ends p q h n _ (front ++ b.value) a.within a.rest ∙ moved_to (bytes_times q n (front ++ b.value)) a.within b.within a.rest b.rest e f)
-
-data_ends : SameEnd len_data name_read
-data_ends at bytes = by (name_read at bytes)
-  where
-    by : (r : Result (After (List ℕ)) Fault) → ends (and_then r (λ a. Ok (after (length a.value) a.within a.rest))) ≡ ends r
-    by (Ok a) = refl
-    by (Err e) = refl
-
-contents_ends : (p : Reading ℕ) (q : Reading (List ℕ)) → SameEnd p q → (n : ℕ) → SameEnd (len_contents p n) (bytes_contents q n)
-contents_ends p q h zero = data_ends
-contents_ends p q h (suc n) = times_ends p q h (suc n) 0 []
-
-block_ends : (width levels : ℕ) → SameEnd (len_block width levels) (bytes_block width levels)
-block_ends width zero at bytes = by (le_read width at bytes)
-  where
-    by : (r : Result (After ℕ) Fault) → ends {A = ℕ} (and_then r (λ c. Err (fault at reason.TooDeep))) ≡ ends {A = List ℕ} (and_then r (λ c. Err (fault at reason.TooDeep)))
-    by (Ok a) = refl
-    by (Err e) = refl
-block_ends width (suc levels) at bytes =
-    on_one (le_read width at bytes) _ _ (λ c.
-    on_one (le_read 2 c.within c.rest) _ _ (λ n.
-    on (len_contents (len_block width levels) n.value n.within n.rest) (bytes_contents (bytes_block width levels) n.value n.within n.rest)
-    (contents_ends (len_block width levels) (bytes_block width levels) (block_ends width levels) n.value n.within n.rest) _ _
-    (λ x y u v. ap (λ w. Ok (after [] w x.rest)) u ∙ ap (λ zs. Ok (after [] y.within zs)) v)))
-
--- where one gives, the other does, at the same place
-pub ends_ok : (r : Result (After ℕ) Fault) (q : Result (After (List ℕ)) Fault) → ends r ≡ ends q → (n e : ℕ) (rest : List ℕ) → Ok (after n e rest) ≡ r → (x : List ℕ) × (Ok (after x e rest) ≡ q)
-ends_ok (Ok a) (Ok b) h n e rest is =
-    let same : after {A = List ℕ} [] a.within a.rest ≡ after [] b.within b.rest = cc in
-    let given : after n e rest ≡ a = cc in
-    let w : e ≡ b.within = ap (λ k. k.within) given ∙ ap (λ k. k.within) same in
-    let r : rest ≡ b.rest = ap (λ k. k.rest) given ∙ ap (λ k. k.rest) same in
-    (b.value, ap (λ k. Ok (after b.value k rest)) w ∙ ap (λ zs. Ok (after b.value b.within zs)) r)
-ends_ok (Ok a) (Err d) h n e rest is = absurd cc
-ends_ok (Err c) q h n e rest is = absurd cc
-
-pub ends_err : (r : Result (After ℕ) Fault) (q : Result (After (List ℕ)) Fault) → ends r ≡ ends q → (f : Fault) → Err f ≡ r → IsOk q → ⊥
-ends_err (Ok a) q h f is ok = absurd cc
-ends_err (Err c) (Ok b) h f is ok = absurd cc
-ends_err (Err c) (Err d) h f is ok = cc
-
-pub contents_end : (width levels n at : ℕ) (bytes : List ℕ) → ends (len_contents (len_block width levels) n at bytes) ≡ ends (bytes_contents (bytes_block width levels) n at bytes)
-contents_end width levels n at bytes = contents_ends (len_block width levels) (bytes_block width levels) (block_ends width levels) n at bytes
 
 -- ---- what a block that is spelled has
 
 ok_first : {A B : Type 0} (r : Result A Fault) (f : A → Result B Fault) → IsOk (and_then r f) → (a : A) × (r ≡ Ok a) × IsOk (f a)
 ok_first (Ok a) f h = (a, refl, h)
 ok_first (Err e) f h = absurd cc
-
-ok_number : (size at : ℕ) (bytes : List ℕ) (a : After ℕ) → le_read size at bytes ≡ Ok a → size ≤ length bytes
-ok_number size at bytes a = by (nat_lt (length bytes) size) refl
-  where
-    by : (b : Bool) → nat_lt (length bytes) size ≡ b → (if b then Err (fault at reason.Short) else Ok (after (little_number size (take size bytes)) (at + size) (drop size bytes))) ≡ Ok a → size ≤ length bytes
-    by true e h = absurd cc
-    by false e h = ltb-false (length bytes) size e
 
 module _ (width levels at : ℕ) (bytes : List ℕ) (ok : IsOk (bytes_block width levels at bytes)) where
   never_deep : (l : ℕ) → l ≡ 0 → IsOk (bytes_block width l at bytes) → ⊥
@@ -122,8 +38,8 @@ module _ (width levels at : ℕ) (bytes : List ℕ) (ok : IsOk (bytes_block widt
   parts : IsOk (bytes_block width (suc (levels - 1)) at bytes)
   parts = subst (λ l. IsOk (bytes_block width l at bytes)) (lower levels block_some) ok
 
-  pub block_counts : width ≤ length bytes
-  block_counts = let q = ok_first (le_read width at bytes) _ parts in ok_number width at bytes q.0 q.1
+  pub block_counts : IsOk (le_read width at bytes)
+  block_counts = let q = ok_first (le_read width at bytes) _ parts in subst (λ r. IsOk r) (sym q.1) refl
 
   module _ (count c : ℕ) (cr : List ℕ) (h : Ok (after count c cr) ≡ le_read width at bytes) where
     abbrev contents_ok : After ℕ → Result (After (List ℕ)) Fault
@@ -133,8 +49,8 @@ module _ (width levels at : ℕ) (bytes : List ℕ) (ok : IsOk (bytes_block widt
     rest_ok = subst (λ q. IsOk (and_then q (λ count. and_then (le_read 2 count.within count.rest) (λ n. and_then (bytes_contents (bytes_block width (levels - 1)) n.value n.within n.rest)
         (λ x. Ok (after (repeated count.value x.value) x.within x.rest)))))) (sym h) parts
 
-    pub block_words : 2 ≤ length cr
-    block_words = let q = ok_first (le_read 2 c cr) contents_ok rest_ok in ok_number 2 c cr q.0 q.1
+    pub block_words : IsOk (le_read 2 c cr)
+    block_words = let q = ok_first (le_read 2 c cr) contents_ok rest_ok in subst (λ r. IsOk r) (sym q.1) refl
 
     module _ (n k : ℕ) (kr : List ℕ) (g : Ok (after n k kr) ≡ le_read 2 c cr) where
       pub contents_are : IsOk (bytes_contents (bytes_block width (levels - 1)) n k kr)
@@ -191,14 +107,30 @@ pub moves_then : {a b c : List ℕ} {m n k i j : ℕ} {x y : List ℕ} → IsMov
 moves_then {a} {b} {c} {m} {n} {k} {i} {j} {x} {y} g h = record {
   appended = h.appended ∙ ap (λ z. z ++ y) g.appended ∙ append_assoc a x y;
   most = omega (arith, g.most, h.most, length-append x y);
-  least = λ l. h.least (g.least l);
+  least = omega (arith, g.least, h.least, length-append x y);
 }
 
 pub moves_as : {a b : List ℕ} {m n i j : ℕ} {x y : List ℕ} → IsMoved a m b n i x → i ≡ j → x ≡ y → IsMoved a m b n j y
 moves_as {a} {b} {m} {n} {i} {j} {x} {y} h e f = subst (λ z. IsMoved a m b n j z) f (subst (λ k. IsMoved a m b n k x) e h)
 
 pub moves_none : (a : List ℕ) (m i : ℕ) → i ≡ 0 → IsMoved a m a m i []
-moves_none a m i e = record { appended = sym (append-nil a); most = omega arith; least = λ h. h }
+moves_none a m i e = record { appended = sym (append-nil a); most = omega arith; least = omega arith }
+
+pub wanted_all : (want : Bool) (x : List ℕ) → want ≡ true → x ≡ wanted want x
+wanted_all true x e = refl
+wanted_all false x e = absurd cc
+
+pub wanted_none : (want : Bool) (x : List ℕ) → want ≡ false → [] ≡ wanted want x
+wanted_none true x e = absurd cc
+wanted_none false x e = refl
+
+pub wanted_nothing : (want : Bool) → [] ≡ wanted want []
+wanted_nothing true = refl
+wanted_nothing false = refl
+
+pub wanted_more : (want : Bool) (x y : List ℕ) → wanted want x ++ wanted want y ≡ wanted want (x ++ y)
+wanted_more true x y = refl
+wanted_more false x y = refl
 
 -- ---- the contents of a block
 
@@ -233,6 +165,11 @@ written_again (suc n) x some = let e : suc n - 1 ≡ n = omega arith in ap (λ k
 
 pub written_never : (n : ℕ) (x : List ℕ) → n ≡ 0 → repeated n x ≡ []
 written_never n x e = ap (λ k. repeated k x) e ∙ repeated_none x
+
+-- what is not wanted, or is repeated 0 times, is not written
+pub unwanted : (want : Bool) (n : ℕ) (x : List ℕ) → (want ≡ false) ⊎ ((want ≡ true) × (n ≡ 0)) → [] ≡ wanted want (repeated n x)
+unwanted want n x (inl e) = wanted_none want (repeated n x) e
+unwanted want n x (inr (e, none)) = sym (written_never n x none) ∙ wanted_all want (repeated n x) e
 
 -- the last of what stands there
 pub back_part : (a b x : List ℕ) (from : ℕ) → b ≡ a ++ x → from ≡ length a → drop from b ≡ x

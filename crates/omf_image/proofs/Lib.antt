@@ -7,6 +7,7 @@ pub mod LengthSteps
 pub mod Counting
 pub mod ReadingSteps
 pub mod Expansion
+pub mod FieldSteps
 pub mod CopySteps
 pub mod SortedLaws
 pub mod OverLaws

@@ -7,8 +7,7 @@ ghost use Rattle.omf_image.specs.Lengths.{read_to, len_data, len_contents, len_b
 ghost use Rattle.omf_image.specs.Expanding.{expanded_length};
 
 use crate::limits::Limits;
-use byteorder::{ByteOrder, LittleEndian};
-use omf_frame::Reason;
+use omf_frame::{Field, Le16, Le32, Name, Reason};
 use omf_records::{Blocks, LayoutFault};
 
 /// A fault at a position, counted from the first block's byte.
@@ -23,63 +22,51 @@ fn fault_at(pos: usize, reason: Reason) -> LayoutFault
 }
 
 /// The number of two bytes at `pos`, and the position after it.
-pub fn word_at(bytes: &[u8], pos: usize) -> Result<(u32, usize), LayoutFault>
+fn word_at(bytes: &[u8], pos: usize) -> Result<(u32, usize), LayoutFault>
     requires { (pos ≤ length bytes.now) × (length bytes.now ≤ 65534) }
     ensures read { read_to bytes.now result ≡ le_read 2 pos (drop pos bytes.now) }
-    ensures bound { IfOk result (λ r. (r.1 ≡ pos + 2) × (r.1 ≤ length bytes.now)) }
+    ensures bound { IfOk result (λ r. (pos < r.1) × (r.1 ≤ length bytes.now)) }
     ensures near { IfErr result (λ f. f.within < 65536) }
 {
-    if bytes.len() - pos < 2 {
-        return Err(fault_at(pos, Reason::Short));
+    match Le16::read_at(bytes, pos) {
+        Some((Le16(value), end)) => Ok((u32::from(value), end)),
+        None => Err(fault_at(pos, Reason::Short)),
     }
-    Ok((u32::from(LittleEndian::read_u16(&bytes[pos..])), pos + 2))
-}
-
-/// The number of four bytes at `pos`, and the position after it.
-fn dword_at(bytes: &[u8], pos: usize) -> Result<(u32, usize), LayoutFault>
-    requires { (pos ≤ length bytes.now) × (length bytes.now ≤ 65534) }
-    ensures read { read_to bytes.now result ≡ le_read 4 pos (drop pos bytes.now) }
-    ensures bound { IfOk result (λ r. (r.1 ≡ pos + 4) × (r.1 ≤ length bytes.now)) }
-    ensures near { IfErr result (λ f. f.within < 65536) }
-{
-    if bytes.len() - pos < 4 {
-        return Err(fault_at(pos, Reason::Short));
-    }
-    Ok((LittleEndian::read_u32(&bytes[pos..]), pos + 4))
 }
 
 /// The repeat count at `pos`, of 32 bits or 16, and the position after it.
-pub fn count_at(bytes: &[u8], wide: bool, pos: usize) -> Result<(u32, usize), LayoutFault>
+fn count_at(bytes: &[u8], wide: bool, pos: usize) -> Result<(u32, usize), LayoutFault>
     requires { (pos ≤ length bytes.now) × (length bytes.now ≤ 65534) }
     ensures read { read_to bytes.now result ≡ le_read (count_size wide) pos (drop pos bytes.now) }
     ensures bound { IfOk result (λ r. (pos < r.1) × (r.1 ≤ length bytes.now)) }
     ensures near { IfErr result (λ f. f.within < 65536) }
 {
-    if wide {
-        return dword_at(bytes, pos);
+    if !wide {
+        return word_at(bytes, pos);
     }
-    word_at(bytes, pos)
+    match Le32::read_at(bytes, pos) {
+        Some((Le32(value), end)) => Ok((value, end)),
+        None => Err(fault_at(pos, Reason::Short)),
+    }
 }
 
 /// How many bytes of data stand at `pos` after their length byte, and the position after them.
-pub fn data_at(bytes: &[u8], pos: usize) -> Result<(u64, usize), LayoutFault>
+fn data_at(bytes: &[u8], pos: usize) -> Result<(u64, usize), LayoutFault>
     requires { (pos ≤ length bytes.now) × (length bytes.now ≤ 65534) }
     ensures read { read_to bytes.now result ≡ len_data pos (drop pos bytes.now) }
-    ensures bound { IfOk result (λ r. (pos < r.1) × (r.1 ≤ length bytes.now)) }
+    ensures bound { IfOk result (λ r. (pos ≤ r.1) × (r.1 ≤ length bytes.now)) }
     ensures near { IfErr result (λ f. f.within < 65536) }
 {
-    match &bytes[pos..] {
-        [len, data @ ..] if usize::from(*len) <= data.len() => {
-            Ok((u64::from(*len), pos + 1 + usize::from(*len)))
-        }
-        _ => Err(fault_at(pos, Reason::Short)),
+    match Name::read_at(bytes, pos) {
+        Some((name, end)) => Ok((name.0.len() as u64, end)),
+        None => Err(fault_at(pos, Reason::Short)),
     }
 }
 
 /// How many bytes the contents of a block stand for, and the position after them: the data at `start`, or as many blocks as stated,
 /// where `levels` levels are allowed.
 #[cycle(lengths)]
-pub fn contents_len(
+fn contents_len(
     bytes: &[u8],
     wide: bool,
     levels: u32,

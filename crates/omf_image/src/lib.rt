@@ -2,6 +2,7 @@
 //! last piece laid wins.
 #![tactic(auto)]
 
+mod copier;
 mod expanding;
 mod image;
 pub mod laws;

@@ -1,17 +1,18 @@
 use Rattle.std.proofs.Common.{◌≡◌, ◌≤◌, ◌+◌, ◌-◌, [], length, drop}
 use Rattle.omf_image.specs.Blocks.{count_size}
+use Rattle.omf_image.specs.Lengths.{capped}
 use Rattle.omf_image.specs.Copying.{bytes_block, bytes_all}
 use Rattle.omf_image.proofs.expanding.expand.Given as goal
 
 -- the blocks that are left, after those that were written, are all the blocks
 abbrev pub invariant-loop-pos : goal.invariant-loop-pos
 invariant-loop-pos l = record {
-  inside : l.pos ≤ length l.blocks.bytes.now;
-  same : bytes_all (bytes_block (count_size l.blocks.wide) l.limits.nesting) (length l.blocks.bytes.now) l.copier.out.items l.pos (drop l.pos l.blocks.bytes.now)
-      ≡ bytes_all (bytes_block (count_size l.blocks.wide) l.limits.nesting) (length l.blocks.bytes.now) [] 0 l.blocks.bytes.now;
-  least : length l.copier.out.items ≤ l.copier.moved;
+  inside : l.pos ≤ length l.source.bytes.now;
+  same : bytes_all (bytes_block (count_size l.source.is_wide) l.limits.nesting) (length l.source.bytes.now) l.copier.out.items l.pos (drop l.pos l.source.bytes.now)
+      ≡ bytes_all (bytes_block (count_size l.source.is_wide) l.limits.nesting) (length l.source.bytes.now) [] 0 l.source.bytes.now;
+  least : capped (l.pos + length l.copier.out.items) ≤ l.copier.moved;
   most : l.copier.moved ≤ l.pos + length l.copier.out.items;
 }
 
 abbrev pub decreases-loop-pos : goal.decreases-loop-pos
-decreases-loop-pos l = length l.blocks.bytes.now - l.pos
+decreases-loop-pos l = length l.source.bytes.now - l.pos

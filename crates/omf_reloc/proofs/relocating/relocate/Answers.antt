@@ -1,5 +1,6 @@
-use Rattle.std.proofs.Common.{◌∙◌, ap, sym, subst, [], List, Result, Ok, Err}
-use Rattle.std.specs.Prelude.{All, map, IfOk}
+use Rattle.std.proofs.Common.{◌∙◌, ap, sym, subst, [], List}
+use Rattle.std.specs.Prelude.{All, map}
+use Rattle.std.proofs.lemmas.Result.{IfOk-weaker}
 use Rattle.omf_frame.specs.declared.fault.Place.{Place}
 use Rattle.omf_image.proofs.TurnLaws.{images_are}
 use Rattle.omf_image.specs.Limits.{profile_limits}
@@ -20,10 +21,6 @@ use Rattle.omf_reloc.proofs.relocating.relocate.Goals as goal
 
 abbrev without_places : List (Place × Rec) → List Rec
 without_places xs = map (λ x. x.1) xs
-
-if-ok : {A E : Type 0} {P Q : A → Type 0} (r : Result A E) → ((a : A) → P a → Q a) → IfOk r P → IfOk r Q
-if-ok (Ok a) f h = f a h
-if-ok (Err e) f h = tt
 
 pub loop-place-init : goal.loop-place-init
 loop-place-init c =
@@ -64,30 +61,18 @@ returns-clause-laid c =
     let start = c.new-walk.result.image in
     let ended = subst (λ xs. IsWalked start pl m w (without_places xs)) c.in-None.ensures.steps.0 c.loop-place.invariant in
     let zeros = subst (AreLaidOver [] (all_zeros c.in_ok-extents.field-0.items)) (sym (ap (λ (v : Walk). v.image) c.new-walk.ensures)) c.in_ok-zeros.ensures in
-    if-ok c.finish.result (λ i h. zeros-lost pl m c.extents.ensures.holds c.in_ok-extents.field-0.items start i c.in_ok-extents.ensures.listed zeros
+    IfOk-weaker c.finish.result _ (AreLaidOver [] (laid profile_limits pl (pieces m))) (λ i h. zeros-lost pl m c.extents.ensures.holds c.in_ok-extents.field-0.items start i c.in_ok-extents.ensures.listed zeros
     (walk-last start threads_kept pl m c.records-place-items.ensures.holds c.requires w i ended h)) c.finish.ensures
 
 pub returns-clause-bytes : goal.returns-clause-bytes
 returns-clause-bytes c =
-    let pl = c.args.placement.now in
-    let m = recs (records_in c.args.module.now.bytes) in
-    let w = c.loop-place.walk in
-    let start = c.new-walk.result.image in
-    let ended = subst (λ xs. IsWalked start pl m w (without_places xs)) c.in-None.ensures.steps.0 c.loop-place.invariant in
-    let zeros = subst (AreLaidOver [] (all_zeros c.in_ok-extents.field-0.items)) (sym (ap (λ (v : Walk). v.image) c.new-walk.ensures)) c.in_ok-zeros.ensures in
-    if-ok c.finish.result (λ i h. (images_are (laid profile_limits pl (pieces m)) i (zeros-lost pl m c.extents.ensures.holds c.in_ok-extents.field-0.items start i c.in_ok-extents.ensures.listed zeros
-    (walk-last start threads_kept pl m c.records-place-items.ensures.holds c.requires w i ended h))).0) c.finish.ensures
+    let ls = laid profile_limits c.args.placement.now (pieces (recs (records_in c.args.module.now.bytes))) in
+    IfOk-weaker c.finish.result (AreLaidOver [] ls) _ (λ i h. (images_are ls i h).0) (returns-clause-laid c)
 
 pub returns-clause-runs : goal.returns-clause-runs
 returns-clause-runs c =
-    let pl = c.args.placement.now in
-    let m = recs (records_in c.args.module.now.bytes) in
-    let w = c.loop-place.walk in
-    let start = c.new-walk.result.image in
-    let ended = subst (λ xs. IsWalked start pl m w (without_places xs)) c.in-None.ensures.steps.0 c.loop-place.invariant in
-    let zeros = subst (AreLaidOver [] (all_zeros c.in_ok-extents.field-0.items)) (sym (ap (λ (v : Walk). v.image) c.new-walk.ensures)) c.in_ok-zeros.ensures in
-    if-ok c.finish.result (λ i h. (images_are (laid profile_limits pl (pieces m)) i (zeros-lost pl m c.extents.ensures.holds c.in_ok-extents.field-0.items start i c.in_ok-extents.ensures.listed zeros
-    (walk-last start threads_kept pl m c.records-place-items.ensures.holds c.requires w i ended h))).1) c.finish.ensures
+    let ls = laid profile_limits c.args.placement.now (pieces (recs (records_in c.args.module.now.bytes))) in
+    IfOk-weaker c.finish.result (AreLaidOver [] ls) _ (λ i h. (images_are ls i h).1) (returns-clause-laid c)
 
 pub returns-clause-inside : goal.returns-clause-inside
 returns-clause-inside c = all-inside c.args.placement.now (recs (records_in c.args.module.now.bytes)) c.extents.ensures.holds

@@ -1,7 +1,7 @@
 use Rattle.std.proofs.Common.{◌≤◌, ◌-◌, drop}
 use Rattle.omf_image.specs.Blocks.{repeated}
 use Rattle.omf_image.specs.Copying.{IsMoved}
-use Rattle.omf_image.proofs.expanding.Copier.repeat.Given as goal
+use Rattle.omf_image.proofs.copier.Copier.repeat.Given as goal
 
 -- so often it stands there
 abbrev pub invariant-loop-done : goal.invariant-loop-done

@@ -2,16 +2,16 @@ use Rattle.std.proofs.Common.{◌≡◌, ◌∙◌, ◌≤◌, ◌<◌, ◌+◌,
 use Rattle.std.specs.Prelude.{slice_range}
 use Rattle.omf_image.specs.Blocks.{repeated}
 use Rattle.omf_image.proofs.CopySteps.{moves_then, moves_as, copy_end, copy_part, copies_more}
-use Rattle.omf_image.proofs.expanding.Copier.repeat.Goals as goal
+use Rattle.omf_image.proofs.copier.Copier.repeat.Goals as goal
 
 pub copy-requires : goal.copy-requires
 copy-requires c =
     let old : List ℕ = c.args.self.now.out.items in
     let i = c.loop-done.invariant in
     let inside : c.args.from ≤ length old = search rules in
-    let size : c.len.result - c.args.from ≡ length old - c.args.from = search rules in
+    let size : c.written.result - c.args.from ≡ length old - c.args.from = search rules in
     let within : c.min-more.result ≤ c.loop-done.done = search rules in
-    let end = copy_end old c.args.from c.loop-done.done c.min-more.result (c.len.result - c.args.from) inside size i.some within in
+    let end = copy_end old c.args.from c.loop-done.done c.min-more.result (c.written.result - c.args.from) inside size i.some within in
     (omega arith, omega (arith, end, ap (λ (z : List ℕ). length z) i.moves.appended, c.loop-done.self.out.ok))
 
 pub loop-done-preserved : goal.loop-done-preserved
@@ -20,7 +20,7 @@ loop-done-preserved c =
     let i = c.loop-done.invariant in
     let done = c.loop-done.done in
     let more = c.min-more.result in
-    let len = c.len.result - c.args.from in
+    let len = c.written.result - c.args.from in
     let inside : c.args.from ≤ length old = search rules in
     let size : len ≡ length old - c.args.from = search rules in
     let within : more ≤ done = search rules in

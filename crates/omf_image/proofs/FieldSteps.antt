@@ -1,0 +1,28 @@
+-- A field that is read at a position is what its reading gives there.
+use Rattle.std.proofs.Common.{◌≡◌, ℕ, ◌+◌, ◌-◌, List, length, length-take, length-drop, take, drop, Ok, Err, sym, ap, ◌∙◌, arith}
+use Rattle.std.specs.Prelude.{slice_range, IsOk}
+use Rattle.std.proofs.lemmas.List.{take-append-drop}
+use Rattle.std.proofs.lemmas.List.Folds.{drop_split}
+use Rattle.omf_frame.specs.Bytes.{AreBytes}
+use Rattle.omf_frame.specs.Fields.{IsSpelledAt, IsUnspelled}
+use Rattle.omf_frame.specs.declared.fault.Reason.TheVariants as reason
+use Rattle.omf_records.specs.FieldReaders.{FieldOk, FieldAgain, FieldRefused, short}
+use Rattle.omf_records.specs.Layout.{fault}
+use Rattle.omf_records.specs.Reads.{after, Reading}
+use Rattle.omf_records.specs.Steps.{AreBytes-rest}
+use Rattle.omf_records.proofs.FieldGives.{not_found}
+
+module _ {A : Type 0} (P : A → List ℕ → Type 0) (read : Reading A) where
+  pub read_at : FieldAgain short P read → (pos end : ℕ) (bytes : List ℕ) (x : A) → IsSpelledAt P bytes pos x end → Ok (after x end (drop end bytes)) ≡ read pos (drop pos bytes)
+  read_at again pos end bytes x (from, to, spells) =
+      let cut = slice_range bytes pos end in
+      let long : pos + length cut ≡ end = omega (arith, length-take (end - pos) (drop pos bytes), length-drop pos bytes, from, to) in
+      sym (ap (λ (t : List ℕ). read pos t) (drop_split bytes pos end from) ∙ again pos cut (drop end bytes) x spells ∙ ap (λ k. Ok (after x k (drop end bytes))) long)
+
+  -- where no spelling begins, reading gives Short
+  pub unread : FieldOk short P read → FieldRefused short P read → (pos : ℕ) (bytes : List ℕ) → AreBytes bytes → IsUnspelled P (drop pos bytes) → read pos (drop pos bytes) ≡ Err (fault pos reason.Short)
+  unread ok refused pos bytes fit none =
+      not_found short P read ok refused pos (drop pos bytes) (AreBytes-rest bytes (take pos bytes) (drop pos bytes) (sym (take-append-drop pos bytes)) fit) none
+
+  pub never_unspelled : FieldOk short P read → FieldRefused short P read → (pos : ℕ) (bytes : List ℕ) → AreBytes bytes → IsUnspelled P (drop pos bytes) → IsOk (read pos (drop pos bytes)) → ⊥
+  never_unspelled ok refused pos bytes fit none given = let e = unread ok refused pos bytes fit none in absurd cc
