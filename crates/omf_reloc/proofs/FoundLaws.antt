@@ -23,7 +23,7 @@ pub record Covers (pl : Places) (before : List Rec) : Type 0 where
   pub groups : length (groups before) ≤ length pl.groups
   pub externals : length (externals before) ≤ length pl.externals
 
-longer : {A : Type 0} (f : Rec → List A) (before rs : List Rec) → length (flat_map f before) ≤ length (flat_map f (before ++ rs))
+pub longer : {A : Type 0} (f : Rec → List A) (before rs : List Rec) → length (flat_map f before) ≤ length (flat_map f (before ++ rs))
 longer f before rs = omega (arith, ap length (flat_map-append f before rs), length-append (flat_map f before) (flat_map f rs))
 
 pub covers : (pl : Places) (m before rs : List Rec) → HasEntries pl m → m ≡ before ++ rs → Covers pl before

@@ -6,6 +6,7 @@ pub mod ResolvingLaws
 pub mod ReachLaws
 pub mod FarLaws
 pub mod FoundLaws
+pub mod BaseLaws
 pub mod JudgeLaws
 pub mod ReachedLaws
 pub mod DeriveLaws

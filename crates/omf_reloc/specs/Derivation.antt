@@ -1,7 +1,13 @@
 -- Which place each external takes, and which external is the first at fault, in words. A law ties this to what is computed (Derive).
-use Rattle.std.specs.Prelude.{◌≡◌, ◌≢◌, ◌⊎◌, ◌↔◌, ℕ, ◌<◌, ◌≤◌, ◌^◌, All, List, ◌∷◌, ◌++◌, length, Some, Ok, Err}
+use Rattle.std.specs.Prelude.{◌≡◌, ◌≢◌, ◌⊎◌, ◌↔◌, ℕ, ◌<◌, ◌≤◌, ◌^◌, All, List, ◌∷◌, ◌++◌, length, true, Some, Ok, Err}
 use Rattle.std.specs.List.{AllZip, enumerate_from}
-use Rattle.omf_check.specs.Tables.{segments, groups, externals}
+use Rattle.omf_frame.specs.Framing.{Raw}
+use Rattle.omf_records.specs.Reading.{typed}
+use Rattle.omf_records.specs.Values.{Publics, PublicItems}
+use Rattle.omf_image.specs.declared.limits.Limits.{Limits}
+use Rattle.omf_check.specs.Tables.{segments, groups, externals, is_none_or_defined}
+use Rattle.omf_check.specs.WellFormed.{IsWellFormed, recs}
+use Rattle.omf_check.specs.declared.profile.Profile.{Profile}
 use Rattle.omf_reloc.specs.declared.fault.DeriveFault.{DeriveFault}
 use Rattle.omf_reloc.specs.declared.fault.DeriveFault.TheVariants as fault
 use Rattle.omf_reloc.specs.declared.fault.Kind.{Kind}
@@ -135,3 +141,13 @@ pub record IsComplete (m : PlacedModule) (pl : Places) : Type 0 where
 
 abbrev pub DerivedAreComplete : Type 0
 DerivedAreComplete = (ms : List PlacedModule) (given : List Given) (pls : List Places) → All IsPlaceOf ms → derived ms given ≡ Ok pls → AllZip IsComplete ms pls
+
+-- The base of a PUBDEF is there: its segment and its group have entries, where it names them; index 0 names none.
+pub record BaseIsFound (pl : Places) (p : PublicItems) : Type 0 where
+  pub segment : is_none_or_defined (length pl.segments) p.segment.item ≡ true
+  pub group : is_none_or_defined (length pl.groups) p.group.item ≡ true
+
+-- So is that of every PUBDEF of a well-formed module, in its place.
+abbrev pub BasesAreFound : Type 0
+BasesAreFound = (profile : Profile) (limits : Limits) (bytes : List ℕ) (records : List Raw) (pl : Places) → IsWellFormed profile limits bytes records → IsPlaceOf (recs records, pl)
+    → (before after : List Raw) (r : Raw) (p : PublicItems) → records ≡ before ++ r ∷ after → (typed r).contents ≡ Publics p → BaseIsFound pl p

@@ -1,8 +1,8 @@
 -- Modules of the worked examples, besides those of the checker.
-use Rattle.std.specs.Prelude.{ℕ, List, [], ◌∷◌, ◌++◌}
+use Rattle.std.specs.Prelude.{ℕ, List, [], ◌∷◌, ◌++◌, Some, None}
 use Rattle.std.specs.List.{repeat}
 use Rattle.omf_frame.specs.Framing.{Raw}
-use Rattle.omf_records.specs.Values.{Rec}
+use Rattle.omf_records.specs.Values.{Rec, Plain, Fixups, Fixup}
 use Rattle.omf_check.specs.Verdict.{Verdict, Accepted, Refused, Unknown}
 use Rattle.omf_check.specs.WellFormed.{recs}
 use Rattle.omf_check.specs.Rows.{verdict_of, H, N, S, L, F, M, with_fixup, threads, defined_thread, repeated, nested_blocks, big, started, thread_ahead}
@@ -94,3 +94,24 @@ two_segments = H ++ N ++ S ++ S ++ 0x9A ∷ 0x06 ∷ 0x00 ∷ 0x02 ∷ 0xFF ∷ 
 -- A start of the segment in its own frame, in a MODEND of this type, without a displacement.
 abbrev pub start_at : ℕ → List ℕ
 start_at kind = H ++ N ++ S ++ kind ∷ 0x05 ∷ 0x00 ∷ 0xC1 ∷ 0x04 ∷ 0x01 ∷ 0x01 ∷ 0x00 ∷ []
+
+-- An LEDATA in segment 7, and a fixup by that segment, where no segment is defined.
+abbrev pub data_in_7 : Rec
+data_in_7 = record { kind = 0xA0; contents = Plain (record { segment = record { within = 3; item = 7 }; offset = record { within = 4; item = 0 }; bytes = 0 ∷ 0 ∷ [] }) }
+
+abbrev pub fixup_by_7 : Rec
+fixup_by_7 = record {
+  kind = 0x9C;
+  contents = Fixups (record {
+    within = 3;
+    item = Fixup 0xC800 (record {
+      fix = record { within = 5; item = 4 };
+      frame = Some (record { within = 6; item = 7 });
+      target = Some (record { within = 7; item = 7 });
+      displacement = None;
+    });
+  } ∷ []);
+}
+
+abbrev pub in_no_segment : List Rec
+in_no_segment = data_in_7 ∷ fixup_by_7 ∷ []

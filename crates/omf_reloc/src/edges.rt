@@ -5,7 +5,11 @@ ghost use Rattle.omf_reloc.specs.declared.fault.Cause.TheVariants as cause;
 ghost use Rattle.omf_reloc.specs.declared.fault.Kind.TheVariants as kind;
 ghost use Rattle.omf_reloc.specs.declared.fault.ReachFault.TheVariants as fault;
 ghost use Rattle.omf_check.specs.Rows.{H, N, S, L, F, M, first_module, with_fixup, absolute};
-ghost use Rattle.omf_reloc.specs.Modules.{using, with_start, jump_by, absolute_at, two_segments, start_at};
+ghost use Rattle.omf_image.specs.declared.limits.Limits.{Limits};
+ghost use Rattle.omf_check.specs.Sound.{ModuleHolds};
+ghost use Rattle.omf_reloc.specs.Laws.{AllAreFound};
+ghost use Rattle.omf_reloc.specs.Reach.{reach_fault};
+ghost use Rattle.omf_reloc.specs.Modules.{in_no_segment, using, with_start, jump_by, absolute_at, two_segments, start_at};
 ghost use Rattle.omf_reloc.specs.Rows.{frame, at, places, only, low, relocated, run_from_0, started, placed_by};
 
 /// Entries that are missing, then those too many, each by kind; then absolute segments, and last the references.
@@ -114,4 +118,12 @@ pub fn far_jumps()
 /// An offset that overflows its word carries nothing into the selector's.
 pub fn no_carry()
     ensures { relocated (with_fixup (0x9C ∷ 6 ∷ 0 ∷ 0xCC ∷ 0 ∷ 4 ∷ 1 ∷ 1 ∷ 0 ∷ [])) (only (at 0x1FFFF 0x10000 0x1000)) 1 ≡ run_from_0 (0xB7 ∷ 0 ∷ 0 ∷ 0xA0 ∷ []) }
+{}
+
+/// Where no segment is defined, data in segment 7 and a fixup by that segment look up what is not there. Nothing says that such a
+/// placement does not reach, but no module of these records is well formed.
+pub fn look_ups_that_find_nothing()
+    ensures reaches { reach_fault (places [] [] []) in_no_segment ≡ None }
+    ensures not_found { AllAreFound (places [] [] []) in_no_segment → ⊥ }
+    ensures not_held { (limits : Limits) → ModuleHolds limits in_no_segment → ⊥ }
 {}

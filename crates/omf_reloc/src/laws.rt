@@ -5,7 +5,7 @@ ghost use Rattle.omf_image.specs.declared.limits.Limits.{Limits};
 ghost use Rattle.omf_records.specs.Values.{Rec};
 ghost use Rattle.omf_check.specs.Sound.{ModuleHolds};
 ghost use Rattle.omf_reloc.specs.declared.given.Given.{Given};
-ghost use Rattle.omf_reloc.specs.Derivation.{DerivedIsTaken, DerivedAreComplete};
+ghost use Rattle.omf_reloc.specs.Derivation.{BasesAreFound, DerivedIsTaken, DerivedAreComplete};
 ghost use Rattle.omf_reloc.specs.Derive.{PlacedModule};
 ghost use Rattle.omf_reloc.specs.Placement.{Places};
 ghost use Rattle.omf_reloc.specs.Reach.{Reaches};
@@ -55,6 +55,12 @@ pub fn derived_fit()
 /// has one.
 pub fn derived_is_taken()
     ensures { (ms : List PlacedModule) (given : List Given) → DerivedIsTaken ms given }
+{}
+
+/// In a well-formed module, and for a place that has an entry for each of its segments and groups, the segment and the group that a
+/// PUBDEF names have entries: so what the definition of a public's address and frame puts in the place of something missing is never met.
+pub fn bases_are_found()
+    ensures { BasesAreFound }
 {}
 
 /// Where each place has an entry for each segment and group of its module, and no other, no placement that is derived misses an entry
