@@ -28,3 +28,4 @@ pub mod LimitLaws
 pub mod SoundLaws
 pub mod ThreadLaws
 pub mod Walked
+pub mod Patience
