@@ -1,7 +1,7 @@
 //! Verdicts on whole modules, by a reader and in pieces; `readers` has tests of how far is read, `pieces` of what a session does
 //! on the way.
 
-ghost use Rattle.std.specs.Prelude.{◌<◌};
+ghost use Rattle.std.specs.Prelude.{◌<◌, length};
 
 use crate::{CheckFault, Checked, Profile, SegInfo, Session, check};
 use omf_frame::{Place, Reading, Reason};
@@ -292,6 +292,56 @@ fn keeps_threads(rt: HostRuntime) -> Result<(), Fail> {
             ]
         )?,
         fault(Reason::UndefinedThread, 6, 56, 5)
+    );
+    Ok(())
+}
+
+/// The answer for a module whose LEDATA of four bytes has these subrecords behind it; the FIXUPP is record 4, at 34.
+fn answer_of_fixups(alloc: Global, subrecords: &[u8]) -> Result<Option<Answer>, AllocError>
+    requires { length subrecords.now < 256 }
+{
+    let length = subrecords.len() as u8;
+    let head = [0x9C, length.wrapping_add(1), 0x00];
+    answer(
+        alloc,
+        &[
+            &HEADER,
+            &NAMES,
+            &SEGMENT,
+            &DATA,
+            &head,
+            subrecords,
+            &[0x00],
+            &END,
+        ],
+    )
+}
+
+#[test]
+fn names_the_first_of_several_fixups(rt: HostRuntime) -> Result<(), Fail> {
+    let a = rt.alloc();
+    // The first lies past its data, which is a fault of meaning; the location of the second has no type, which is one of layout.
+    assert_eq!(rt;
+        answer_of_fixups(
+            a,
+            &[0xC4, 0x03, 0x04, 0x01, 0x01, 0xDC, 0x00, 0x04, 0x01, 0x01]
+        )?,
+        fault(Reason::LocationType, 4, 34, 8)
+    );
+    // The first takes the data's last two bytes; the second lies past them, and the third uses a thread that was not set.
+    assert_eq!(rt;
+        answer_of_fixups(
+            a,
+            &[
+                0xC4, 0x02, 0x04, 0x01, 0x01, 0xC4, 0x03, 0x04, 0x01, 0x01, 0xC4, 0x00, 0x8C
+            ]
+        )?,
+        fault(Reason::OutsideRecord, 4, 34, 8)
+    );
+    // The first uses a target thread that is set only behind it.
+    assert_eq!(rt;
+        answer_of_fixups(a, &[0xC4, 0x00, 0x0C, 0x01, 0x00, 0x01])?,
+        fault(Reason::UndefinedThread, 4, 34, 5)
     );
     Ok(())
 }

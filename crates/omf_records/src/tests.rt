@@ -305,6 +305,46 @@ fn shows_subrecords_with_their_places(rt: HostRuntime) -> Result<(), Fail> {
     Ok(())
 }
 
+/// The place of the next subrecord, or the fault of its layout and its place.
+fn next_place(subrecords: &mut Unread<Subrecord<'_>>) -> Result<Option<u32>, (Reason, u32)> {
+    match subrecords.read_next() {
+        Ok(Some(subrecord)) => Ok(Some(subrecord.within)),
+        Ok(None) => Ok(None),
+        Err(fault) => Err((fault.reason, fault.within)),
+    }
+}
+
+#[test]
+fn reads_subrecords_up_to_a_cut(rt: HostRuntime) -> Result<(), Fail> {
+    // A THREAD, a FIXUP, and the first of the two bytes of a FIXUP.
+    let body = [0x00, 0x01, 0xC4, 0x02, 0x44, 0x01, 0xC4];
+    let Some(mut subrecords) = unread_fixups(&raw(0x9C, &body)) else {
+        panic!(rt; "a FIXUPP");
+    };
+    let mut again = subrecords.again();
+    assert_eq!(rt; next_place(&mut subrecords), Ok(Some(3)));
+    assert_eq!(rt; next_place(&mut subrecords), Ok(Some(5)));
+    assert_eq!(rt; next_place(&mut subrecords), Err((Reason::Short, 9)));
+    assert_eq!(rt; next_place(&mut subrecords), Err((Reason::Short, 9)));
+    assert!(rt; !subrecords.is_end());
+    assert_eq!(rt; next_place(&mut again), Ok(Some(3)));
+    Ok(())
+}
+
+#[test]
+fn reads_subrecords_to_the_end(rt: HostRuntime) -> Result<(), Fail> {
+    // A FIXUP with a displacement of four bytes.
+    let body = [0xE4, 0x00, 0x50, 0x01, 0x78, 0x56, 0x34, 0x12];
+    let Some(mut subrecords) = unread_fixups(&raw(0x9D, &body)) else {
+        panic!(rt; "a FIXUPP");
+    };
+    assert_eq!(rt; next_place(&mut subrecords), Ok(Some(3)));
+    assert!(rt; subrecords.is_end());
+    assert_eq!(rt; next_place(&mut subrecords), Ok(None));
+    assert!(rt; unread_fixups(&raw(0x96, &[0x01, 0x54])).is_none());
+    Ok(())
+}
+
 #[test]
 fn shows_names_with_their_places(rt: HostRuntime) -> Result<(), Fail> {
     let rec = view(raw(0x96, &[0x01, 0x54, 0x00, 0x02, 0x41, 0x42]))?;
