@@ -1,16 +1,16 @@
 -- Where a refusal is decided: in a front of the input that ends where the record at fault is judged, and in no shorter one.
-use Rattle.std.proofs.Common.{◌≡◌, ◌≢◌, ℕ, ◌+◌, ◌*◌, ◌<◌, ◌≤◌, Bool, true, false, cond, List, [], ◌∷◌, ◌++◌, Option, Some, None, refl, sym, ◌∙◌, ap, subst, arith, append_assoc, length, take, drop, inl, inr}
-use Rattle.std.specs.Prelude.{◌⊎◌, ◌↔◌, flat_map, IsTrue, option_map}
+use Rattle.std.proofs.Common.{◌≡◌, ◌≢◌, ℕ, ◌+◌, ◌*◌, Bool, true, false, cond, List, [], ◌∷◌, ◌++◌, Option, Some, None, refl, sym, ◌∙◌, ap, subst, arith, append_assoc, length, take, drop, inl, inr}
+use Rattle.std.specs.Prelude.{◌⊎◌, ◌↔◌, flat_map, option_map}
 use Rattle.std.specs.Option.{option_or}
 use Rattle.std.proofs.lemmas.List.{append-nil, length-append, map-append, drop_at, take-append-drop}
 use Rattle.omf_frame.specs.Bytes.{AreBytes}
 use Rattle.omf_frame.specs.Fault.{Fault, IsLeast, least, least_or, first_step}
-use Rattle.omf_frame.specs.Framing.{Raw, raw_bytes, present, after_front, front_record, stated_length, is_end_of_input, lasting, frame_steps, frame_fault, standing_fault}
+use Rattle.omf_frame.specs.Framing.{Raw, raw_bytes, present, front_record, stated_length, is_end_of_input, lasting, frame_steps, frame_fault, standing_fault}
 use Rattle.omf_frame.specs.Judging.{found, type_fault, whole_fault}
 use Rattle.omf_frame.specs.declared.fault.Place.{Place}
 use Rattle.omf_frame.specs.declared.fault.Reason.{Reason}
 use Rattle.omf_frame.specs.declared.fault.Reason.TheVariants as reason
-use Rattle.omf_frame.proofs.FaultLaws.{least_is_least, least_unique, untrue}
+use Rattle.omf_frame.proofs.FaultLaws.{least_is_least, least_unique}
 use Rattle.omf_frame.proofs.Growing.{type_same}
 use Rattle.omf_frame.proofs.Judged.{standing_is}
 use Rattle.omf_frame.proofs.Standing.{present_twice, lasting_some}
