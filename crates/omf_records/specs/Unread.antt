@@ -11,11 +11,11 @@ pub record Pending (A : Type 0) : Type 0 where
   pub items : Result (List (At A)) Fault
   pub size : ℕ
 
--- what is read next: the first item, in front of the others; or their end, or the fault
+-- what is read next: the first item, in front of the others; or their end, or the fault, and then all is as it was
 abbrev pub NextGives : {A : Type 0} → Pending A → Result (Option (At A)) Fault → Pending A → Type 0
-NextGives old (Ok None) new = old.items ≡ Ok []
+NextGives old (Ok None) new = (old.items ≡ Ok []) × (new ≡ old)
 NextGives old (Ok (Some x)) new = (old.items ≡ with_first x new.items) × (new.size < old.size)
-NextGives old (Err f) new = old.items ≡ Err f
+NextGives old (Err f) new = (old.items ≡ Err f) × (new ≡ old)
 
 -- the contents that subrecords are
 abbrev pub fixups_read : Result (List (At Subrecord)) Fault → Result Contents Fault

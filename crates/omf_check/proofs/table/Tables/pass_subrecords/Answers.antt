@@ -40,13 +40,13 @@ pub returns-clause-sound : goal.returns-clause-sound
 returns-clause-sound c =
     let l = c.walk in
     ap is_none (walks_whole c.args.self.now _ l.in_force _ _ l.subrecords.items c.args.subrecords.items
-    (subst (λ o. NextGives l.subrecords (Ok o) c.read_next.new.self) c.in-Ok-None.field-0-is c.in-Ok-None.ensures) l.invariant.walks)
+    (subst (λ o. NextGives l.subrecords (Ok o) c.read_next.new.self) c.in-Ok-None.field-0-is c.in-Ok-None.ensures).0 l.invariant.walks)
 
 pub returns-clause-kept : goal.returns-clause-kept
 returns-clause-kept c subs q t =
     let kept = c.args.self.now in
     let l = c.walk in
-    let whole = subst (λ o. NextGives l.subrecords (Ok o) c.read_next.new.self) c.in-Ok-None.field-0-is c.in-Ok-None.ensures in
+    let whole = (subst (λ o. NextGives l.subrecords (Ok o) c.read_next.new.self) c.in-Ok-None.field-0-is c.in-Ok-None.ensures).0 in
     let n : l.items ≡ kept.items + length subs = all_counted l.items (kept.items + length subs) (l.invariant.counted [] subs whole q) in
     ap (λ (k : Kept). record k { items = l.items; threads = l.in_force }) c.self.view_is
     ∙ ap (λ (k : ℕ). record kept { items = k; threads = l.in_force }) n

@@ -22,4 +22,4 @@ walk-preserved c =
     (subst (λ o. NextGives l.subrecords (Ok o) c.read_next.new.self) c.in-Ok-Some.field-0-is c.in-Ok-Some.ensures).0 l.invariant
 
 pub returns : goal.returns
-returns c = c.lesser.ensures ∙ walks_whole c.args.self.now c.walk.left c.walk.in_force c.walk.beyond c.walk.found c.walk.subrecords.items c.args.subrecords.items (subst (λ o. NextGives c.walk.subrecords (Ok o) c.read_next.new.self) c.in-Ok-None.field-0-is c.in-Ok-None.ensures) c.walk.invariant
+returns c = c.lesser.ensures ∙ walks_whole c.args.self.now c.walk.left c.walk.in_force c.walk.beyond c.walk.found c.walk.subrecords.items c.args.subrecords.items (subst (λ o. NextGives c.walk.subrecords (Ok o) c.read_next.new.self) c.in-Ok-None.field-0-is c.in-Ok-None.ensures).0 c.walk.invariant
