@@ -6,7 +6,7 @@ use Rattle.std.specs.Io.KnownBytes.{Appends}
 use Rattle.std.specs.Prelude.{Option, IfErr}
 use Rattle.std.specs.Result.{IsErr}
 use Rattle.omf_check.specs.declared.profile.Profile.{Profile}
-use Rattle.omf_cmd.specs.Relocating.{Answers, Relocates}
+use Rattle.omf_cmd.specs.Relocating.{IsAnswered, Relocates}
 use Rattle.omf_cmd.specs.Runs.{HasFailed, IsPart, IsPrintFault, IsWrittenUpTo, Passes, Prints, PrintsInPieces}
 use Rattle.omf_cmd.specs.declared.fault.RunFault.{RunFault}
 use Rattle.omf_cmd.specs.declared.fault.RunFault.TheVariants as fault
@@ -94,25 +94,26 @@ nothing_printed held fault.TooLong = Keeps-refl held
 nothing_printed held (fault.Reach r) = Keeps-refl held
 
 -- where nothing is printed, the answer is that for the input
-pub nothing_relocated : (profile : Profile) (input : List ℕ) (e : RunFault) → Answers profile input (Err e) → Relocates profile input [] (Err e)
-nothing_relocated profile input fault.Memory a = inr refl
-nothing_relocated profile input fault.Write a = absurd a
-nothing_relocated profile input fault.Read a = a
-nothing_relocated profile input (fault.Refused why at) a = a
-nothing_relocated profile input (fault.Line n) a = a
-nothing_relocated profile input fault.TooLong a = a
-nothing_relocated profile input (fault.Reach r) a = a
+pub nothing_relocated : (profile : Profile) (input : List ℕ) (old new : Option (List ℕ)) (e : RunFault) → IsAnswered profile input old new (Err e) → Relocates profile input old new [] (Err e)
+nothing_relocated profile input old new fault.Memory a = inr (refl, a)
+nothing_relocated profile input old new fault.Write a = absurd a.0
+nothing_relocated profile input old new fault.Read a = a
+nothing_relocated profile input old new (fault.Refused why at) a = a
+nothing_relocated profile input old new (fault.Line n) a = a
+nothing_relocated profile input old new fault.TooLong a = a
+nothing_relocated profile input old new (fault.Reach r) a = a
 
 -- where the image's text is printed, or a part of it, it is that of the input
-pub relocates : (profile : Profile) (input text : List ℕ) (failed fails : ℕ) (r : Result (Unit {0}) RunFault) → IfErr r (IsPrintFault failed fails) → Answers profile input (Ok text) → Relocates profile input text r
-relocates profile input text failed fails (Ok done) f a = a
-relocates profile input text failed fails (Err fault.Memory) f a = inl a
-relocates profile input text failed fails (Err fault.Write) f a = a
-relocates profile input text failed fails (Err fault.Read) f a = absurd f
-relocates profile input text failed fails (Err (fault.Refused why at)) f a = absurd f
-relocates profile input text failed fails (Err (fault.Line n)) f a = absurd f
-relocates profile input text failed fails (Err fault.TooLong) f a = absurd f
-relocates profile input text failed fails (Err (fault.Reach x)) f a = absurd f
+pub relocates : (profile : Profile) (input text : List ℕ) (old new : Option (List ℕ)) (failed fails : ℕ) (r : Result (Unit {0}) RunFault) → IfErr r (IsPrintFault failed fails) → IsAnswered profile input old new (Ok text)
+    → Relocates profile input old new text r
+relocates profile input text old new failed fails (Ok done) f a = a
+relocates profile input text old new failed fails (Err fault.Memory) f a = inl a
+relocates profile input text old new failed fails (Err fault.Write) f a = a
+relocates profile input text old new failed fails (Err fault.Read) f a = absurd f
+relocates profile input text old new failed fails (Err (fault.Refused why at)) f a = absurd f
+relocates profile input text old new failed fails (Err (fault.Line n)) f a = absurd f
+relocates profile input text old new failed fails (Err fault.TooLong) f a = absurd f
+relocates profile input text old new failed fails (Err (fault.Reach x)) f a = absurd f
 
 -- with nothing kept yet, the whole text is to be written
 pub begun_empty : (held : Option (List ℕ)) (front back kept : List ℕ) → kept ≡ [] → IsWrittenUpTo held held (front ++ back) ((kept ++ front) ++ back)

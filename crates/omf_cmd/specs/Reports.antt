@@ -1,15 +1,15 @@
 -- What `check` and `list` answer for an input: both print a text of the records of the module that it begins with. How the program
 -- ends.
-use Rattle.std.specs.Prelude.{◌≡◌, ◌⊎◌, ⊤, ℕ, List, Option, Some, Result, Ok, Err, IfErr}
-use Rattle.std.specs.Io.KnownBytes.{Consumes, Keeps}
+use Rattle.std.specs.Prelude.{◌≡◌, ◌⊎◌, ⊤, IsTrue, ℕ, List, Option, Some, Result, Ok, Err, IfErr}
+use Rattle.std.specs.Io.KnownBytes.{Keeps}
 use Rattle.omf_frame.specs.Framing.{Raw}
 use Rattle.omf_image.specs.Limits.{profile_limits}
-use Rattle.omf_check.specs.Refusal.{IsRefused, AreSoundSoFar}
-use Rattle.omf_check.specs.WellFormed.{IsAccepted}
+use Rattle.omf_check.specs.Refusal.{IsRefused}
 use Rattle.omf_check.specs.declared.fault.CheckFault.{CheckFault}
 use Rattle.omf_check.specs.declared.fault.CheckFault.TheVariants as check
 use Rattle.omf_check.specs.declared.profile.Profile.{Profile}
-use Rattle.omf_cmd.specs.FaultLine.{fault_text}
+use Rattle.omf_cmd.specs.FaultLine.{fault_text, takes_memory}
+use Rattle.omf_cmd.specs.HowFar.{EndsAtRefusal, IsReadFrom, IsUnrefused}
 use Rattle.omf_cmd.specs.Listing.{check_text, list_text}
 use Rattle.omf_cmd.specs.Relocating.{IsRelocation}
 use Rattle.omf_cmd.specs.Runs.{IsCausedBy, IsWritten, Prints}
@@ -25,21 +25,19 @@ of_check check.Memory = fault.Memory
 of_check check.Read = fault.Read
 of_check (check.Refused why at) = fault.Refused why at
 
--- The input begins with a module of these records, and exactly its bytes were read.
-pub record IsReadFrom (profile : Profile) (input : List ℕ) (records : List Raw) (old new : Option (List ℕ)) : Type 0 where
-  pub accepted : IsAccepted profile profile_limits input records
-  pub read : Consumes old new accepted.bytes
+-- No fault of a placement.
+abbrev pub IsModuleFault : RunFault → Type 0
+IsModuleFault (fault.Line n) = ⊥
+IsModuleFault fault.TooLong = ⊥
+IsModuleFault (fault.Reach f) = ⊥
+IsModuleFault _ = Unit {0}
 
--- No refusal is found before the last byte that was read.
-abbrev pub IsUnrefused : Profile → Option (List ℕ) → Option (List ℕ) → Type 0
-IsUnrefused profile old new = (read : List ℕ) × Consumes old new read × AreSoundSoFar profile profile_limits read
-
--- What the answer says of an input: done, or failed to write, only for a module of these records; refused as the input is; and no
--- fault of a placement.
+-- What the answer says of an input, and how far that was read: done, or failed to write, only for a module of these records; refused as
+-- the input is; out of memory only where nothing is refused; and no fault of a placement.
 abbrev pub Judges : Profile → List ℕ → List Raw → Option (List ℕ) → Option (List ℕ) → Result (Unit {0}) RunFault → Type 0
 Judges profile input records old new (Ok done) = IsReadFrom profile input records old new
 Judges profile input records old new (Err fault.Write) = IsReadFrom profile input records old new
-Judges profile input records old new (Err (fault.Refused why at)) = IsRefused profile profile_limits input why at
+Judges profile input records old new (Err (fault.Refused why at)) = IsRefused profile profile_limits input why at × EndsAtRefusal profile old new why at
 Judges profile input records old new (Err fault.Memory) = IsUnrefused profile old new ⊎ IsReadFrom profile input records old new
 Judges profile input records old new (Err fault.Read) = ⊤
 Judges profile input records old new (Err (fault.Line n)) = ⊥
@@ -55,16 +53,16 @@ Reports text profile left left' held held' ran =
 abbrev pub IsRun : Job → Profile → Option (List ℕ) → Option (List ℕ) → Option (List ℕ) → Option (List ℕ) → Result (Unit {0}) RunFault → Type 0
 IsRun job.List profile left left' held held' ran = Reports list_text profile left left' held held' ran
 IsRun job.Check profile left left' held held' ran = Reports check_text profile left left' held held' ran
-IsRun job.Reloc profile left left' held held' ran = IsRelocation profile left held held' ran
+IsRun job.Reloc profile left left' held held' ran = IsRelocation profile left left' held held' ran
 
--- What is written of a fault: its whole text, or a part of it where the writer failed; or nothing, where the line found no memory.
-abbrev pub Tells : Option (List ℕ) → Option (List ℕ) → ℕ → ℕ → List ℕ → Type 0
-Tells held held' failed fails text = Keeps held held' ⊎ IsWritten held held' failed fails text
+-- What is written of a fault: its whole text, or a part of it where the writer failed; where its line takes memory, it may be nothing.
+abbrev pub Tells : Option (List ℕ) → Option (List ℕ) → ℕ → ℕ → RunFault → Type 0
+Tells held held' failed fails f = IsWritten held held' failed fails (fault_text f) ⊎ (IsTrue (takes_memory f) × Keeps held held')
 
 -- How the program ends after a run: the status is that of the answer, and a fault's text is written.
 abbrev pub IsEnded : Option (List ℕ) → Option (List ℕ) → ℕ → ℕ → Result (Unit {0}) RunFault → ℕ → Type 0
 IsEnded held held' failed fails (Ok done) status = (status ≡ 0) × (held' ≡ held)
-IsEnded held held' failed fails (Err f) status = (status ≡ status_of f) × Tells held held' failed fails (fault_text f)
+IsEnded held held' failed fails (Err f) status = (status ≡ status_of f) × Tells held held' failed fails f
 
 -- The program's answer to words that ask for a job: it ran, and the program ended. A device that is named has failed in the run.
 pub record IsAnswer (asked : Job × Profile) (left left' held held' : Option (List ℕ)) (reads reads' writes writes' : ℕ) (status : ℕ) : Type 0 where
@@ -77,4 +75,4 @@ pub record IsAnswer (asked : Job × Profile) (left left' held held' : Option (Li
 
 -- The program's answer to words that are not understood: how it is called, unless the writer failed; or memory ran out.
 abbrev pub IsMisuse : Option (List ℕ) → Option (List ℕ) → ℕ → ℕ → ℕ → Type 0
-IsMisuse held held' failed fails status = ((status ≡ 2) × IsWritten held held' failed fails usage) ⊎ ((status ≡ 3) × Tells held held' failed fails (fault_text fault.Memory))
+IsMisuse held held' failed fails status = ((status ≡ 2) × IsWritten held held' failed fails usage) ⊎ ((status ≡ 3) × Tells held held' failed fails fault.Memory)

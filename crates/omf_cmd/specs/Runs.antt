@@ -20,15 +20,15 @@ IsCausedBy reads_old reads_new writes_old writes_new fault.Read = HasFailed read
 IsCausedBy reads_old reads_new writes_old writes_new fault.Write = HasFailed writes_old writes_new
 IsCausedBy reads_old reads_new writes_old writes_new _ = Unit {0}
 
--- what the writer got: the whole text, a part of it from the front where the writer failed, and nothing at any other fault
-abbrev pub Prints : Option (List ℕ) → Option (List ℕ) → Result (Unit {0}) RunFault → List ℕ → Type 0
-Prints old new (Ok done) text = Appends old new text
-Prints old new (Err fault.Write) text = (front : List ℕ) × (back : List ℕ) × (text ≡ front ++ back) × Appends old new front
-Prints old new (Err e) text = Keeps old new
-
 -- a part of the text from the front was written, which may be all of it or nothing
 abbrev pub IsPart : Option (List ℕ) → Option (List ℕ) → List ℕ → Type 0
 IsPart old new text = (front : List ℕ) × (back : List ℕ) × (text ≡ front ++ back) × Appends old new front
+
+-- what the writer got: the whole text, a part of it from the front where the writer failed, and nothing at any other fault
+abbrev pub Prints : Option (List ℕ) → Option (List ℕ) → Result (Unit {0}) RunFault → List ℕ → Type 0
+Prints old new (Ok done) text = Appends old new text
+Prints old new (Err fault.Write) text = IsPart old new text
+Prints old new (Err e) text = Keeps old new
 
 -- the whole text was written; or the writer failed, and a part of it was
 abbrev pub IsWritten : Option (List ℕ) → Option (List ℕ) → ℕ → ℕ → List ℕ → Type 0

@@ -9,5 +9,5 @@ returns-in_err-listing-clause-prints g c =
     rw (e.1, e.2) (
       [],
       nothing_printed (g.K.Sink.held c.args.writer.now) c.in_err-listing.field-0.0,
-      λ input told. nothing_relocated c.args.profile input c.in_err-listing.field-0.0 (c.in_err-listing.ensures.answer input told),
+      λ input told. nothing_relocated c.args.profile input (g.S.Source.left c.args.reader.now) (g.S.Source.left c.listed.new.reader) c.in_err-listing.field-0.0 (c.in_err-listing.ensures.answer input told),
     )
