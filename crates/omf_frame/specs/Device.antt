@@ -1,6 +1,17 @@
--- What a source of bytes and a sink do to the bytes that they tell, and to their count of failures.
-use Rattle.std.specs.Prelude.{◌≡◌, ◌⊎◌, ◌<◌, ◌≤◌, ℕ, ◌+◌, ◌-◌, ◌^◌, ◌/◌, ◌%◌, ◌++◌, List, [], ◌∷◌, length, take, Bool, true, false, ◌==◌, ◌&&◌, nat_lt, if◌then◌else◌, Option, Result, Ok, Err}
+-- What a source of bytes and a sink do to the bytes that they tell, and to their counts of failures.
+use Rattle.std.specs.Prelude.{◌≡◌, ◌⊎◌, ◌<◌, ◌≤◌, ℕ, ◌+◌, ◌-◌, ◌^◌, ◌/◌, ◌%◌, ◌++◌, List, [], ◌∷◌, length, take, Bool, true, false, not, ◌==◌, ◌&&◌, nat_lt, if◌then◌else◌, Option, Result, Ok, Err}
 use Rattle.std.specs.Io.KnownBytes.{Appends, Consumes, Keeps, IsAtEnd}
+use Rattle.std.specs.IoError.{error_kind}
+use Rattle.std.specs.declared.io.Error.{Error}
+use Rattle.std.specs.declared.io.ErrorKind.{ErrorKind}
+use Rattle.std.specs.declared.io.ErrorKind.TheVariants.{Interrupted}
+
+-- What is seen of a source or a sink: its bytes, where it tells them (of a source those that are left, of a sink those that it
+-- holds); how often it has failed; and its breaks, the failures that are no interruption. Both counts stay at the largest u64.
+pub record Device : Type 0 where
+  pub bytes : Option (List ℕ)
+  pub failures : ℕ
+  pub breaks : ℕ
 
 -- one failure more; the count stays at its last value
 abbrev pub one_more : ℕ → ℕ
@@ -16,17 +27,31 @@ abbrev pub Pushes : {E : Type 0} → Option (List ℕ) → Option (List ℕ) →
 Pushes old new (Ok n) bytes = Appends old new (take n bytes)
 Pushes old new (Err e) bytes = Keeps old new
 
+abbrev pub is_interruption : ErrorKind → Bool
+is_interruption Interrupted = true
+is_interruption _ = false
+
 -- a pull fails where it answers an error
 abbrev pub pull_fails : {E : Type 0} → Result ℕ E → Bool
 pull_fails (Ok n) = false
 pull_fails (Err e) = true
+
+-- and breaks where that is no interruption
+abbrev pub pull_breaks : Result ℕ Error → Bool
+pull_breaks (Ok n) = false
+pull_breaks (Err e) = not (is_interruption (error_kind e))
 
 -- a push fails where it answers an error, or takes none of some bytes
 abbrev pub push_fails : {E : Type 0} → Result ℕ E → List ℕ → Bool
 push_fails (Ok n) bytes = n == 0 && nat_lt 0 (length bytes)
 push_fails (Err e) bytes = true
 
--- the count of failures after a call
+-- and breaks where that is no interruption
+abbrev pub push_breaks : Result ℕ Error → List ℕ → Bool
+push_breaks (Ok n) bytes = n == 0 && nat_lt 0 (length bytes)
+push_breaks (Err e) bytes = not (is_interruption (error_kind e))
+
+-- a count of failures after a call
 abbrev pub counted : Bool → ℕ → ℕ
 counted failed count = if failed then one_more count else count
 
@@ -35,14 +60,27 @@ abbrev pub Writes : {E : Type 0} → Option (List ℕ) → Option (List ℕ) →
 Writes old new (Ok n) text = Appends old new text
 Writes old new (Err e) text = (front : List ℕ) × (back : List ℕ) × (text ≡ front ++ back) × Appends old new front
 
--- an error comes only with a failure that is counted, or where the count is at its last value
-abbrev pub IsCaused : {X E : Type 0} → ℕ → ℕ → Result X E → Type 0
-IsCaused old new (Ok x) = Unit {0}
-IsCaused old new (Err e) = (old < new) ⊎ (2 ^ 64 - 1 ≤ new)
+-- a failure was counted, or the count is at its last value
+abbrev pub HasFailed : ℕ → ℕ → Type 0
+HasFailed old new = (old < new) ⊎ (2 ^ 64 - 1 ≤ new)
 
 -- a thousand failures were counted, or the count is at its last value
 abbrev pub IsThousandMore : ℕ → ℕ → Type 0
 IsThousandMore old new = (old + 1000 ≤ new) ⊎ (2 ^ 64 - 1 ≤ new)
+
+-- An interruption is answered after a thousand of them, and no break; another failure at once, as the one break.
+abbrev pub IsLastTry : Bool → Device → Device → Type 0
+IsLastTry true old new = (new.breaks ≡ old.breaks) × IsThousandMore old.failures new.failures
+IsLastTry false old new = new.breaks ≡ one_more old.breaks
+
+-- Only an interruption is tried again: where all goes well nothing broke, and an error is that of the last try.
+abbrev pub TriesAgain : {A : Type 0} → Device → Device → Result A Error → Type 0
+TriesAgain old new (Ok x) = new.breaks ≡ old.breaks
+TriesAgain old new (Err e) = IsLastTry (is_interruption (error_kind e)) old new
+
+-- why a call on a device gives up: the one break, or a thousand interruptions and no break
+abbrev pub GivesUp : Device → Device → Type 0
+GivesUp old new = (new.breaks ≡ one_more old.breaks) ⊎ ((new.breaks ≡ old.breaks) × IsThousandMore old.failures new.failures)
 
 -- the type byte and the length of a record
 abbrev pub head : ℕ → List ℕ → List ℕ

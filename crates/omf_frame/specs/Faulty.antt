@@ -2,22 +2,26 @@
 use Rattle.std.specs.Prelude.{◌≡◌, ℕ, ◌-◌, ◌++◌, min, List, [], ◌∷◌, length, take, drop, replicate, Bool, true, false, ◌==◌, ◌&&◌, nat_lt, if◌then◌else◌, Option, Some, None, Result, Ok, Err}
 use Rattle.std.specs.IoError.{error_kind}
 use Rattle.std.specs.declared.io.Error.{Error}
+use Rattle.std.specs.declared.io.ErrorKind.{ErrorKind}
 use Rattle.std.specs.declared.io.ErrorKind.TheVariants.{Interrupted, Other}
 use Rattle.omf_frame.specs.declared.faulty.Then.{Then}
 use Rattle.omf_frame.specs.declared.faulty.Then.TheVariants.{Ends, Fails, Repeats}
 use Rattle.omf_frame.specs.declared.faulty.Full.{Full}
 use Rattle.omf_frame.specs.declared.faulty.Full.TheVariants as full
-use Rattle.omf_frame.specs.Device.{counted}
+use Rattle.omf_frame.specs.Device.{Device, counted}
 
 -- What is seen of a script: the bytes still to be given, and what comes then; the size of its pieces; how many interruptions come before each
--- other answer, and how many of them are due; how often it has failed.
+-- other answer, and how many of them are due; how many other answers come before the call that fails once, if one is to; how often it
+-- has failed, and how often it broke.
 pub record Scripted : Type 0 where
   pub bytes : List ℕ
   pub after : Then
   pub piece : ℕ
   pub interruptions : ℕ
   pub due : ℕ
+  pub fails_in : Option ℕ
   pub failures : ℕ
+  pub breaks : ℕ
 
 -- What is seen of a taker: the bytes that it took, the room that is left, and what comes when there is none; then as above.
 pub record Taking : Type 0 where
@@ -27,7 +31,9 @@ pub record Taking : Type 0 where
   pub piece : ℕ
   pub interruptions : ℕ
   pub due : ℕ
+  pub fails_in : Option ℕ
   pub failures : ℕ
+  pub breaks : ℕ
 
 -- what a device answers to one call
 pub data Answer : Type 0 where
@@ -52,8 +58,18 @@ given (Repeats b) n [] = Passes (replicate n b)
 abbrev pub unless_due : ℕ → Answer → Answer
 unless_due due answer = if nat_lt 0 due then Interrupts else answer
 
+-- an answer, unless it is the turn of the call that fails once
+abbrev pub unless_failing : Option ℕ → Answer → Answer
+unless_failing None answer = answer
+unless_failing (Some n) answer = if n == 0 then Refuses else answer
+
 abbrev pub pulled : Scripted → ℕ → Answer
-pulled s room = unless_due s.due (given s.after (min room s.piece) s.bytes)
+pulled s room = unless_due s.due (unless_failing s.fails_in (given s.after (min room s.piece) s.bytes))
+
+abbrev pub is_break : Answer → Bool
+is_break (Passes bytes) = false
+is_break Interrupts = false
+is_break Refuses = true
 
 abbrev pub is_failure : Answer → Bool
 is_failure (Passes bytes) = false
@@ -64,6 +80,14 @@ is_failure Refuses = true
 abbrev pub next_due : ℕ → ℕ → ℕ
 next_due due interruptions = if nat_lt 0 due then due - 1 else interruptions
 
+-- how many answers come before the failure after a call that was not interrupted; after the failure there is none
+abbrev pub one_fewer : Option ℕ → Option ℕ
+one_fewer None = None
+one_fewer (Some n) = if n == 0 then None else Some (n - 1)
+
+abbrev pub next_failing : ℕ → Option ℕ → Option ℕ
+next_failing due fails_in = if nat_lt 0 due then fails_in else one_fewer fails_in
+
 -- the bytes that an answer passes on
 abbrev pub passed_on : Answer → List ℕ
 passed_on (Passes bytes) = bytes
@@ -71,7 +95,11 @@ passed_on Interrupts = []
 passed_on Refuses = []
 
 abbrev pub after_pull : Scripted → ℕ → Scripted
-after_pull s room = record { bytes = drop (length (passed_on (pulled s room))) s.bytes; after = s.after; piece = s.piece; interruptions = s.interruptions; due = next_due s.due s.interruptions; failures = counted (is_failure (pulled s room)) s.failures }
+after_pull s room = record { bytes = drop (length (passed_on (pulled s room))) s.bytes; after = s.after; piece = s.piece; interruptions = s.interruptions; due = next_due s.due s.interruptions; fails_in = next_failing s.due s.fails_in; failures = counted (is_failure (pulled s room)) s.failures; breaks = counted (is_break (pulled s room)) s.breaks }
+
+-- what a script shows as a source
+abbrev pub script_seen : Scripted → Device
+script_seen s = record { bytes = told s.after s.bytes; failures = s.failures; breaks = s.breaks }
 
 -- A taker's answer to bytes: it takes those that there is room for, at most a piece; where there is no room, none of them, or it fails.
 abbrev pub refusal : Full → Answer
@@ -83,7 +111,13 @@ taken after piece room [] = Passes []
 taken after piece room (b ∷ bytes) = if nat_lt 0 room then Passes (take (min piece room) (b ∷ bytes)) else refusal after
 
 abbrev pub pushed : Taking → List ℕ → Answer
-pushed t bytes = unless_due t.due (taken t.full t.piece t.room bytes)
+pushed t bytes = unless_due t.due (unless_failing t.fails_in (taken t.full t.piece t.room bytes))
+
+-- a push breaks also where it takes none of some bytes
+abbrev pub is_push_break : Answer → List ℕ → Bool
+is_push_break (Passes front) bytes = length front == 0 && nat_lt 0 (length bytes)
+is_push_break Interrupts bytes = false
+is_push_break Refuses bytes = true
 
 -- a push fails also where it takes none of some bytes
 abbrev pub is_push_failure : Answer → List ℕ → Bool
@@ -92,7 +126,19 @@ is_push_failure Interrupts bytes = true
 is_push_failure Refuses bytes = true
 
 abbrev pub after_push : Taking → List ℕ → Taking
-after_push t bytes = record { held = t.held ++ passed_on (pushed t bytes); room = t.room - length (passed_on (pushed t bytes)); full = t.full; piece = t.piece; interruptions = t.interruptions; due = next_due t.due t.interruptions; failures = counted (is_push_failure (pushed t bytes) bytes) t.failures }
+after_push t bytes = record { held = t.held ++ passed_on (pushed t bytes); room = t.room - length (passed_on (pushed t bytes)); full = t.full; piece = t.piece; interruptions = t.interruptions; due = next_due t.due t.interruptions; fails_in = next_failing t.due t.fails_in; failures = counted (is_push_failure (pushed t bytes) bytes) t.failures; breaks = counted (is_push_break (pushed t bytes) bytes) t.breaks }
+
+-- what a taker shows as a sink
+abbrev pub taker_seen : Taking → Device
+taker_seen t = record { bytes = Some t.held; failures = t.failures; breaks = t.breaks }
+
+-- the failure that a call answers by its turn
+abbrev pub kind_once : Option ℕ → Option ErrorKind
+kind_once None = None
+kind_once (Some n) = if n == 0 then Some Other else None
+
+abbrev pub kind_due : ℕ → Option ℕ → Option ErrorKind
+kind_due due fails_in = if nat_lt 0 due then Some Interrupted else kind_once fails_in
 
 -- What a push answered: how many it took, or an error.
 abbrev pub IsPushed : Answer → Result ℕ Error → Type 0

@@ -1,12 +1,12 @@
-//! A source and a sink that behave as a test asks: in pieces, with interruptions, with a failure at a chosen place.
+//! A source and a sink that behave as a test asks: in pieces, with interruptions, with failures at a chosen place, once or from then on.
 
-ghost use Rattle.std.specs.Prelude.{◌≡◌, ◌<◌, ◌≤◌, ◌-◌, ◌^◌, [], length, take, min, replicate, Some, IfOk};
-ghost use Rattle.omf_frame.specs.Device.{Pulls, Pushes, pull_fails, push_fails, counted};
+ghost use Rattle.std.specs.Prelude.{◌≡◌, ◌<◌, ◌≤◌, ◌-◌, ◌^◌, [], length, take, min, replicate, Some, None, IfOk};
+ghost use Rattle.omf_frame.specs.Device.{Device, Pulls, Pushes, pull_fails, pull_breaks, push_fails, push_breaks, counted};
 
-use crate::device::{Sink, Source};
+use crate::device::{Sink, Source, Tally};
 use std::alloc::{AllocError, Global};
 use std::io;
-use std::io::{Error, ErrorKind};
+use std::io::ErrorKind;
 use std::marker::Model;
 
 /// What a script does once its bytes are given.
@@ -37,7 +37,8 @@ pub struct Script<'a> {
     piece: usize,
     interruptions: u64,
     due: u64,
-    failures: u64,
+    fails_in: Option<u64>,
+    tally: Tally,
 }
 
 impl<'a> Model for Script<'a> {
@@ -46,7 +47,7 @@ impl<'a> Model for Script<'a> {
 
     ghost Value = { Scripted };
 
-    ghost view = { λ s. record { bytes = s.bytes.now; after = s.then; piece = s.piece; interruptions = s.interruptions; due = s.due; failures = s.failures } };
+    ghost view = { λ s. record { bytes = s.bytes.now; after = s.then; piece = s.piece; interruptions = s.interruptions; due = s.due; fails_in = s.fails_in; failures = s.tally.failures; breaks = s.tally.breaks } };
 
     ghost invariant = { λ s. 0 < s.piece };
 }
@@ -56,9 +57,8 @@ impl<'a> Script<'a> {
 
     /// Gives the bytes, as many at a time as are wanted, and then does what `then` says. No call is interrupted.
     pub fn new(bytes: &'a [u8], then: Then) -> Self
-        ensures script { result ≡ record { bytes = bytes.now; after = then; piece = 2 ^ 64 - 1; interruptions = 0; due = 0; failures = 0 } }
-        ensures left { ⟦<Script<'a> as Source>⟧.left result ≡ told then bytes.now }
-        ensures failures { ⟦<Script<'a> as Source>⟧.failures result ≡ 0 }
+        ensures script { result ≡ record { bytes = bytes.now; after = then; piece = 2 ^ 64 - 1; interruptions = 0; due = 0; fails_in = None; failures = 0; breaks = 0 } }
+        ensures seen { ⟦<Script<'a> as Source>⟧.seen result ≡ record { bytes = told then bytes.now; failures = 0; breaks = 0 } }
     {
         Script {
             bytes,
@@ -66,7 +66,8 @@ impl<'a> Script<'a> {
             piece: usize::MAX,
             interruptions: 0,
             due: 0,
-            failures: 0,
+            fails_in: None,
+            tally: Tally::new(),
         }
     }
 
@@ -86,6 +87,42 @@ impl<'a> Script<'a> {
             interruptions: times,
             due: times,
             ..self
+        }
+    }
+
+    /// The same, but after this many answers that are no interruption one pull fails, with `Other`; those behind it go on.
+    pub fn failing_once(self, after: u64) -> Self
+        ensures { result ≡ record self.entry { fails_in = Some after } }
+    {
+        Script {
+            fails_in: Some(after),
+            ..self
+        }
+    }
+}
+
+ghost use Rattle.omf_frame.specs.Faulty.{kind_due, next_due, next_failing};
+
+/// The failure that a call is to answer by its turn, if any: an interruption while some are due, or the one failure.
+fn failure_due(interruptions: u64, due: &mut u64, fails_in: &mut Option<u64>) -> Option<ErrorKind>
+    ensures answer { result ≡ kind_due due.old fails_in.old }
+    ensures due { due.new ≡ next_due due.old interruptions }
+    ensures failing { fails_in.new ≡ next_failing due.old fails_in.old }
+{
+    if *due > 0 {
+        *due -= 1;
+        return Some(ErrorKind::Interrupted);
+    }
+    *due = interruptions;
+    match *fails_in {
+        None => None,
+        Some(0) => {
+            *fails_in = None;
+            Some(ErrorKind::Other)
+        }
+        Some(answers) => {
+            *fails_in = Some(answers - 1);
+            None
         }
     }
 }
@@ -114,26 +151,22 @@ fn fill_front(byte: u8, buf: &mut [u8], most: usize)
 }
 
 impl<'a> Source for Script<'a> {
-    ghost use Rattle.omf_frame.specs.Faulty.{told, pulled, after_pull, IsPulled};
+    ghost use Rattle.omf_frame.specs.Faulty.{told, pulled, after_pull, script_seen, IsPulled};
 
-    ghost left = { λ s. told s.after s.bytes };
-
-    ghost failures = { λ s. s.failures };
+    ghost seen = { script_seen };
 
     fn pull(&mut self, buf: &mut [u8]) -> io::Result<usize>
         requires { 0 < length buf.old }
         ensures bound { IfOk result (λ n. n ≤ length buf.new) }
         ensures bytes { Pulls (told self.old.after self.old.bytes) (told self.new.after self.new.bytes) result buf.new }
-        ensures count { self.new.failures ≡ counted (pull_fails result) self.old.failures }
+        ensures failures { self.new.failures ≡ counted (pull_fails result) self.old.failures }
+        ensures breaks { self.new.breaks ≡ counted (pull_breaks result) self.old.breaks }
         ensures answer { IsPulled (pulled self.old (length buf.old)) result buf.new }
         ensures after { self.new ≡ after_pull self.old (length buf.old) }
     {
-        if self.due > 0 {
-            self.due -= 1;
-            self.failures = self.failures.saturating_add(1);
-            return Err(Error::from(ErrorKind::Interrupted));
+        if let Some(kind) = failure_due(self.interruptions, &mut self.due, &mut self.fails_in) {
+            return Err(self.tally.fails(kind));
         }
-        self.due = self.interruptions;
         let most = self.piece.min(buf.len());
         if !self.bytes.is_empty() {
             let count = copy_front(self.bytes, buf, most);
@@ -142,10 +175,7 @@ impl<'a> Source for Script<'a> {
         }
         match self.then {
             Then::Ends => Ok(0),
-            Then::Fails => {
-                self.failures = self.failures.saturating_add(1);
-                Err(Error::from(ErrorKind::Other))
-            }
+            Then::Fails => Err(self.tally.fails(ErrorKind::Other)),
             Then::Repeats(byte) => {
                 fill_front(byte, buf, most);
                 Ok(most)
@@ -163,7 +193,8 @@ pub struct Taker {
     piece: usize,
     interruptions: u64,
     due: u64,
-    failures: u64,
+    fails_in: Option<u64>,
+    tally: Tally,
 }
 
 impl Model for Taker {
@@ -172,7 +203,7 @@ impl Model for Taker {
 
     ghost Value = { Taking };
 
-    ghost view = { λ t. record { held = t.held.items; room = t.room; full = t.full; piece = t.piece; interruptions = t.interruptions; due = t.due; failures = t.failures } };
+    ghost view = { λ t. record { held = t.held.items; room = t.room; full = t.full; piece = t.piece; interruptions = t.interruptions; due = t.due; fails_in = t.fails_in; failures = t.tally.failures; breaks = t.tally.breaks } };
 
     ghost invariant = { λ t. (0 < t.piece) × (vec_len t.held + t.room ≤ vec_capacity t.held) };
 }
@@ -183,9 +214,8 @@ impl Taker {
     /// Takes `room` bytes, as many at a time as come, and then does what `full` says. No call is interrupted. The room is set aside
     /// here, so that no push is refused for want of memory.
     pub fn new(alloc: Global, room: usize, full: Full) -> Result<Self, AllocError>
-        ensures taker { IfOk result (λ t. t ≡ record { held = []; room = room; full = full; piece = 2 ^ 64 - 1; interruptions = 0; due = 0; failures = 0 }) }
-        ensures held { IfOk result (λ t. ⟦<Taker as Sink>⟧.held t ≡ Some []) }
-        ensures failures { IfOk result (λ t. ⟦<Taker as Sink>⟧.failures t ≡ 0) }
+        ensures taker { IfOk result (λ t. t ≡ record { held = []; room = room; full = full; piece = 2 ^ 64 - 1; interruptions = 0; due = 0; fails_in = None; failures = 0; breaks = 0 }) }
+        ensures seen { IfOk result (λ t. ⟦<Taker as Sink>⟧.seen t ≡ record { bytes = Some []; failures = 0; breaks = 0 }) }
     {
         Ok(Taker {
             held: Vec::with_capacity(alloc, room)?,
@@ -194,7 +224,8 @@ impl Taker {
             piece: usize::MAX,
             interruptions: 0,
             due: 0,
-            failures: 0,
+            fails_in: None,
+            tally: Tally::new(),
         })
     }
 
@@ -217,6 +248,16 @@ impl Taker {
         }
     }
 
+    /// The same, but after this many answers that are no interruption one push fails, with `Other`; those behind it go on.
+    pub fn failing_once(self, after: u64) -> Self
+        ensures { result ≡ record self { fails_in = Some after } }
+    {
+        Taker {
+            fails_in: Some(after),
+            ..self
+        }
+    }
+
     /// The bytes that it took.
     pub fn bytes(&self) -> &[u8]
         ensures { result.now ≡ self.now.held }
@@ -226,32 +267,28 @@ impl Taker {
 }
 
 impl Sink for Taker {
-    ghost use Rattle.omf_frame.specs.Faulty.{pushed, after_push, IsPushed};
+    ghost use Rattle.omf_frame.specs.Faulty.{pushed, after_push, taker_seen, IsPushed};
 
-    ghost held = { λ t. Some t.held };
-
-    ghost failures = { λ t. t.failures };
+    ghost seen = { taker_seen };
 
     fn push(&mut self, bytes: &[u8]) -> io::Result<usize>
         ensures bound { IfOk result (λ n. n ≤ length bytes.now) }
         ensures bytes { Pushes (Some self.old.held) (Some self.new.held) result bytes.now }
-        ensures count { self.new.failures ≡ counted (push_fails result bytes.now) self.old.failures }
+        ensures failures { self.new.failures ≡ counted (push_fails result bytes.now) self.old.failures }
+        ensures breaks { self.new.breaks ≡ counted (push_breaks result bytes.now) self.old.breaks }
         ensures answer { IsPushed (pushed self.old bytes.now) result }
         ensures after { self.new ≡ after_push self.old bytes.now }
     {
-        if self.due > 0 {
-            self.due -= 1;
-            self.failures = self.failures.saturating_add(1);
-            return Err(Error::from(ErrorKind::Interrupted));
+        if let Some(kind) = failure_due(self.interruptions, &mut self.due, &mut self.fails_in) {
+            return Err(self.tally.fails(kind));
         }
-        self.due = self.interruptions;
         if bytes.is_empty() {
             return Ok(0);
         }
         if self.room == 0 {
-            self.failures = self.failures.saturating_add(1);
+            let error = self.tally.fails(ErrorKind::Other);
             return match self.full {
-                Full::Fails => Err(Error::from(ErrorKind::Other)),
+                Full::Fails => Err(error),
                 Full::TakesNone => Ok(0),
             };
         }

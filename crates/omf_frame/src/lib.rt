@@ -23,7 +23,7 @@ pub use laws::{
 };
 pub use pull::pull_piece;
 pub use sums::checksum;
-pub use write::write_record;
+pub use write::{push_all, write_record};
 
 #[cfg(test)]
 mod tests;

@@ -1,28 +1,27 @@
 //! Records written to a sink.
 
-ghost use Rattle.std.specs.Prelude.{◌≡◌, ◌⊎◌, ◌+◌, ◌-◌, ◌^◌, ◌≤◌, ℕ, length, IfErr};
-ghost use Rattle.std.specs.IoError.{error_kind};
+ghost use Rattle.std.specs.Prelude.{◌≡◌, ◌+◌, ◌*◌, ◌≤◌, length, OnErr};
 ghost use Rattle.omf_frame.specs.Framing.{raw_bytes, raw_of};
-ghost use Rattle.omf_frame.specs.Device.{head, Writes, IsCaused, IsThousandMore};
+ghost use Rattle.omf_frame.specs.Device.{head, Writes, HasFailed, TriesAgain};
 
-use crate::device::Sink;
+use crate::device::{Sink, TRIES, is_interrupted};
 use crate::sums::checksum;
 use std::io;
 use std::io::{Error, ErrorKind};
 
-/// How many interruptions running are a failure.
-const TRIES: u64 = 1000;
-
-/// Pushes all of the bytes.
-fn push_all<S: Sink>(writer: &mut S, bytes: &[u8]) -> io::Result<()>
-    ensures bytes { Writes (S.held writer.old) (S.held writer.new) result bytes.now }
-    ensures cause { IsCaused (S.failures writer.old) (S.failures writer.new) result }
-    ensures grows { S.failures writer.old ≤ S.failures writer.new }
-    ensures patient { IfErr result (λ e. error_kind e ≡ ErrorKind.Interrupted
-        → IsThousandMore (S.failures writer.old) (S.failures writer.new)) }
+/// Writes all of the bytes to a sink.
+///
+/// An `Err` is the sink's own, at once, or `WriteZero` where it took none of some bytes; only `Interrupted` is tried again, and is
+/// the answer after a thousand running. What was written before an `Err` is a front of the bytes.
+pub fn push_all<S: Sink>(writer: &mut S, bytes: &[u8]) -> io::Result<()>
+    ensures bytes { Writes (S.seen writer.old).bytes (S.seen writer.new).bytes result bytes.now }
+    ensures cause { OnErr result (HasFailed (S.seen writer.old).failures (S.seen writer.new).failures) }
+    ensures grows { (S.seen writer.old).failures ≤ (S.seen writer.new).failures }
+    ensures bounded { (S.seen writer.new).failures ≤ (S.seen writer.old).failures + 1000 * length bytes.now }
+    ensures tried { TriesAgain (S.seen writer.old) (S.seen writer.new) result }
 {
     let mut rest = bytes;
-    let mut interrupted = 0u64;
+    let mut interrupted = 0;
     while !rest.is_empty() {
         match writer.push(rest) {
             Ok(0) => return Err(Error::from(ErrorKind::WriteZero)),
@@ -32,7 +31,7 @@ fn push_all<S: Sink>(writer: &mut S, bytes: &[u8]) -> io::Result<()>
             }
             Err(error) => {
                 interrupted += 1;
-                if error.kind() != ErrorKind::Interrupted || interrupted >= TRIES {
+                if !is_interrupted(&error) || interrupted == TRIES {
                     return Err(error);
                 }
             }
@@ -52,14 +51,14 @@ fn head_of(kind: u8, body: &[u8]) -> [u8; 3]
 
 /// Writes a record of a type and at most 65,534 bytes of contents, with its checksum byte.
 ///
-/// An `Err` is the writer's own, or `WriteZero` where it took none of some bytes; `Interrupted` is tried
-/// again, and is the answer after a thousand running. What was written before it is the record's front.
+/// An `Err` is that of `push_all`. What was written before it is the record's front.
 pub fn write_record<S: Sink>(writer: &mut S, kind: u8, body: &[u8]) -> io::Result<()>
     requires { length body.now ≤ 65534 }
-    ensures bytes { Writes (S.held writer.old) (S.held writer.new) result (raw_bytes (raw_of kind body.now)) }
-    ensures cause { IsCaused (S.failures writer.old) (S.failures writer.new) result }
-    ensures patient { IfErr result (λ e. error_kind e ≡ ErrorKind.Interrupted
-        → IsThousandMore (S.failures writer.old) (S.failures writer.new)) }
+    ensures bytes { Writes (S.seen writer.old).bytes (S.seen writer.new).bytes result (raw_bytes (raw_of kind body.now)) }
+    ensures cause { OnErr result (HasFailed (S.seen writer.old).failures (S.seen writer.new).failures) }
+    ensures grows { (S.seen writer.old).failures ≤ (S.seen writer.new).failures }
+    ensures bounded { (S.seen writer.new).failures ≤ (S.seen writer.old).failures + 1000 * (length body.now + 4) }
+    ensures tried { TriesAgain (S.seen writer.old) (S.seen writer.new) result }
 {
     let head = head_of(kind, body);
     push_all(writer, &head)?;

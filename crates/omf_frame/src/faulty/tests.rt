@@ -1,7 +1,7 @@
 //! Pieces, interruptions, failures and ends, each at its place.
 
 use super::{Full, Script, Taker, Then};
-use crate::{Sink, Source, write_record};
+use crate::{Sink, Source, pull_piece, push_all, write_record};
 use std::io::ErrorKind;
 use std::process::Abort;
 use std::test::Fail;
@@ -122,5 +122,72 @@ fn records_are_written_until_the_room_is_used_up(rt: HostRuntime) -> Result<(), 
         assert_eq!(rt; answer.err().map(|error| error.kind()), kind, "room {room}");
         assert_eq!(rt; taker.bytes(), &HEADER[..written]);
     }
+    Ok(())
+}
+
+#[test]
+fn fails_once_and_goes_on(rt: HostRuntime) -> Result<(), Fail> {
+    let mut script = Script::new(&HEADER, Then::Ends)
+        .in_pieces(4)
+        .failing_once(1);
+    let answers = [
+        Ok(&HEADER[..4]),
+        Err(ErrorKind::Other),
+        Ok(&HEADER[4..]),
+        Ok([].as_slice()),
+    ];
+    pulls(&rt, &mut script, 8, &answers)?;
+    let mut script = Script::new(&HEADER[..1], Then::Ends)
+        .interrupted(1)
+        .failing_once(0);
+    let answers = [
+        Err(ErrorKind::Interrupted),
+        Err(ErrorKind::Other),
+        Err(ErrorKind::Interrupted),
+        Ok(&HEADER[..1]),
+    ];
+    pulls(&rt, &mut script, 8, &answers)
+}
+
+#[test]
+fn a_failure_is_answered_at_once(rt: HostRuntime) -> Result<(), Fail> {
+    let mut buf = [0; 4];
+    let mut script = Script::new(&HEADER, Then::Ends)
+        .interrupted(2)
+        .failing_once(1);
+    assert_eq!(rt; pull_piece(&mut script, &mut buf)?, 4);
+    let failed = pull_piece(&mut script, &mut buf);
+    assert_eq!(rt;
+        failed.err().map(|error| error.kind()),
+        Some(ErrorKind::Other)
+    );
+    assert_eq!(rt; pull_piece(&mut script, &mut buf)?, 2);
+    assert_eq!(rt; &buf[..2], &HEADER[4..]);
+    Ok(())
+}
+
+#[test]
+fn a_push_that_fails_ends_the_writing(rt: HostRuntime) -> Result<(), Fail> {
+    for (after, written) in [(0, 0), (1, 2), (2, 3), (3, 5), (4, 6)] {
+        let mut taker = Taker::new(rt.alloc(), 6, Full::Fails)?
+            .in_pieces(2)
+            .interrupted(3)
+            .failing_once(after);
+        let answer = write_record(&mut taker, 0x80, &[0x01, 0x41]);
+        let kind = answer.err().map(|error| error.kind());
+        let failed = (after < 4).then_some(ErrorKind::Other);
+        assert_eq!(rt; kind, failed, "after {after}");
+        assert_eq!(rt; taker.bytes(), &HEADER[..written]);
+    }
+    let mut taker = Taker::new(rt.alloc(), 6, Full::Fails)?
+        .in_pieces(4)
+        .failing_once(1);
+    let failed = push_all(&mut taker, &HEADER);
+    assert_eq!(rt;
+        failed.err().map(|error| error.kind()),
+        Some(ErrorKind::Other)
+    );
+    push_all(&mut taker, &HEADER[4..])?;
+    assert_eq!(rt; taker.bytes(), HEADER.as_slice());
     Ok(())
 }
