@@ -1,5 +1,5 @@
 -- What devices made for tests give.
-use Rattle.std.proofs.Common.{◌≡◌, ℕ, ◌-◌, ◌<◌, min, Bool, true, false, not, List, [], ◌∷◌, ◌++◌, length, take, drop, Option, Some, None, sym, refl, ap, ◌∙◌, arith, take-append-drop}
+use Rattle.std.proofs.Common.{◌≡◌, ℕ, ◌-◌, ◌<◌, min, Bool, true, false, not, List, [], ◌∷◌, ◌++◌, length, take, drop, Option, Some, None, sym, refl, arith, take-append-drop}
 use Rattle.std.proofs.lemmas.List.{append-nil, take_min}
 use Rattle.std.specs.Prelude.{◌==◌, nat_lt, if◌then◌else◌}
 use Rattle.std.specs.Io.KnownBytes.{Consumes, IsAtEnd}
@@ -8,7 +8,7 @@ use Rattle.omf_frame.specs.declared.faulty.Then.TheVariants.{Ends, Fails, Repeat
 use Rattle.std.specs.declared.io.ErrorKind.{ErrorKind}
 use Rattle.std.specs.declared.io.ErrorKind.TheVariants.{Interrupted, Other}
 use Rattle.omf_frame.specs.Device.{one_more, counted, is_interruption}
-use Rattle.omf_frame.specs.Faulty.{Taking, Answer, Interrupts, Refuses, told, kind_once, kind_due, next_due, next_failing, unless_due, unless_failing, taken, passed_on, is_push_failure, is_push_break, pushed, after_push}
+use Rattle.omf_frame.specs.Faulty.{Taking, Answer, Interrupts, Refuses, told, kind_once, kind_due, next_due, next_failing, unless_failing, taken, passed_on, is_push_failure, is_push_break, after_push}
 
 -- bytes that are given from the front are consumed
 pub gives_front : (after : Then) (bytes rest front : List ℕ) (count : ℕ) → bytes ≡ front ++ rest → 0 < count → Consumes (told after bytes) (told after rest) front × (count ≡ 0 → IsAtEnd (told after rest))

@@ -11,3 +11,4 @@ pub mod RunLaws
 pub mod ModuleLaws
 pub mod StepLaws
 pub mod FaultyLaws
+pub mod Tries
