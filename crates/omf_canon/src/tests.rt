@@ -254,3 +254,33 @@ fn writes_to_a_writer(rt: HostRuntime) -> Result<(), Fail> {
     assert!(rt; bytes.starts_with(full.bytes()));
     Ok(())
 }
+
+#[test]
+fn a_failure_of_the_writer_is_answered_at_once(rt: HostRuntime) -> Result<(), Fail> {
+    let a = rt.alloc();
+    let module = module(a, &[&HEADER, &NAMES, &SEGMENT, &DATA, &FIXUP, &END])?;
+    for answers in 0..7 {
+        let mut writer = Taker::new(a, 48, Full::Fails)?
+            .in_pieces(7)
+            .interrupted(3)
+            .failing_once(answers);
+        assert_eq!(rt; canon_to(a, &module, &mut writer), Err(CanonFault::Write));
+        assert_eq!(rt; writer.bytes().len() as u64, 7 * answers);
+    }
+    let mut writer = Taker::new(a, 48, Full::Fails)?.in_pieces(7).failing_once(7);
+    assert_eq!(rt; canon_to(a, &module, &mut writer), Ok(()));
+    Ok(())
+}
+
+#[test]
+fn writing_goes_on_after_interruptions(rt: HostRuntime) -> Result<(), Fail> {
+    let a = rt.alloc();
+    let module = module(a, &[&HEADER, &NAMES, &SEGMENT, &DATA, &FIXUP, &END])?;
+    let mut patient = Taker::new(a, 48, Full::Fails)?.interrupted(999);
+    assert_eq!(rt; canon_to(a, &module, &mut patient), Ok(()));
+    assert_eq!(rt; patient.bytes().len(), 48);
+    let mut stuck = Taker::new(a, 48, Full::Fails)?.interrupted(1000);
+    assert_eq!(rt; canon_to(a, &module, &mut stuck), Err(CanonFault::Write));
+    assert!(rt; stuck.bytes().is_empty());
+    Ok(())
+}

@@ -25,3 +25,4 @@ pub mod LimitLaws
 pub mod SoundLaws
 pub mod ThreadLaws
 pub mod Walked
+pub mod Patience

@@ -1,6 +1,7 @@
 -- What a check answers, and how far it reads.
-use Rattle.std.specs.Prelude.{◌≡◌, ◌⊎◌, ◌<◌, ◌≤◌, ◌^◌, ◌-◌, IsTrue, ⊤, ℕ, List, drop, Option, Result, Ok, Err}
+use Rattle.std.specs.Prelude.{◌≡◌, ◌⊎◌, IsTrue, ⊤, ℕ, List, drop, Option, Result, Ok, Err}
 use Rattle.std.specs.Io.KnownBytes.{Consumes, IsAtEnd}
+use Rattle.omf_frame.specs.Device.{Device, HasFailed, GivesUp}
 use Rattle.omf_frame.specs.declared.fault.Place.{Place}
 use Rattle.omf_frame.specs.declared.fault.Reason.{Reason}
 use Rattle.omf_image.specs.Limits.{profile_limits}
@@ -11,10 +12,6 @@ use Rattle.omf_check.specs.WellFormed.{IsAccepted}
 use Rattle.omf_check.specs.declared.fault.CheckFault.{CheckFault}
 use Rattle.omf_check.specs.declared.fault.CheckFault.TheVariants.{Memory, Read, Refused}
 use Rattle.omf_check.specs.declared.profile.Profile.{Profile}
-
--- A failure was counted, or the count stands at its last value.
-abbrev pub HasFailed : ℕ → ℕ → Type 0
-HasFailed old new = (old < new) ⊎ (2 ^ 64 - 1 ≤ new)
 
 -- The bytes that were read are refused so, and no more was read than that needs: all of the input, where it ends too early; else
 -- they end where the record at fault is judged.
@@ -28,6 +25,14 @@ abbrev pub IsCheckFault : Profile → Option (List ℕ) → Option (List ℕ) �
 IsCheckFault profile old new failed fails Memory = (read : List ℕ) × Consumes old new read × AreSoundSoFar profile profile_limits read
 IsCheckFault profile old new failed fails Read = HasFailed failed fails
 IsCheckFault profile old new failed fails (Refused why at) = (read : List ℕ) × Consumes old new read × IsReadTo profile read new why at
+
+-- Only an interruption of the reader is tried again: Read is answered for the reader's one break, or for a thousand interruptions;
+-- with every other answer the reader did not break.
+abbrev pub IsReadPatiently : Device → Device → Result Module CheckFault → Type 0
+IsReadPatiently old new (Ok m) = new.breaks ≡ old.breaks
+IsReadPatiently old new (Err Memory) = new.breaks ≡ old.breaks
+IsReadPatiently old new (Err Read) = GivesUp old new
+IsReadPatiently old new (Err (Refused why at)) = new.breaks ≡ old.breaks
 
 -- What a check says of an input: the module that it begins with, or its refusal; nothing where memory or the reader failed.
 abbrev pub Decides : Profile → List ℕ → Result Module CheckFault → Type 0

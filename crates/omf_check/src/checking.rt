@@ -2,7 +2,7 @@
 
 ghost use Rattle.std.specs.Prelude.{◌≡◌, ◌≤◌, ℕ, List, Some, IfOk, IfErr};
 ghost use Rattle.std.specs.Io.KnownBytes.{Consumes};
-ghost use Rattle.omf_check.specs.Checking.{IsCheckFault, Decides};
+ghost use Rattle.omf_check.specs.Checking.{IsCheckFault, IsReadPatiently, Decides};
 
 use crate::checked::Checked;
 use crate::fault::CheckFault;
@@ -19,17 +19,19 @@ use std::alloc::Global;
 ///
 /// # Errors
 ///
-/// `Refused` where the input does not begin with a well-formed module. `Read` where the reader failed, or was interrupted 1,000
-/// times running. `Memory` where a growth was refused, and no refusal is found before the last byte that was read.
+/// `Refused` where the input does not begin with a well-formed module. `Read` where the reader failed, at once, or was interrupted
+/// 1,000 times running; only an interruption is tried again. `Memory` where a growth was refused, and no refusal is found before the last byte that was read.
 pub fn check<S: Source>(
     alloc: Global,
     reader: &mut S,
     profile: Profile,
 ) -> Result<Checked, CheckFault>
-    ensures verdict { (input : List ℕ) → S.left reader.old ≡ Some input → Decides profile input result }
-    ensures read { IfOk result (λ m. Consumes (S.left reader.old) (S.left reader.new) m.bytes) }
-    ensures cause { IfErr result (IsCheckFault profile (S.left reader.old) (S.left reader.new) (S.failures reader.old) (S.failures reader.new)) }
-    ensures grows { S.failures reader.old ≤ S.failures reader.new }
+    ensures verdict { (input : List ℕ) → (S.seen reader.old).bytes ≡ Some input → Decides profile input result }
+    ensures read { IfOk result (λ m. Consumes (S.seen reader.old).bytes (S.seen reader.new).bytes m.bytes) }
+    ensures cause { IfErr result (IsCheckFault profile (S.seen reader.old).bytes (S.seen reader.new).bytes (S.seen reader.old).failures (S.seen reader.new).failures) }
+    ensures patient { IsReadPatiently (S.seen reader.old) (S.seen reader.new) result }
+    ensures grows { (S.seen reader.old).failures ≤ (S.seen reader.new).failures }
+    ensures profile { IfOk result (λ m. m.profile ≡ profile) }
 {
     let mut session = Session::new(alloc, profile);
     let mut buffer = [0; 4096];

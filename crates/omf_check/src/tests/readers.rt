@@ -164,6 +164,26 @@ fn names_a_failing_reader(rt: HostRuntime) -> Result<(), Fail> {
 }
 
 #[test]
+fn a_failure_of_the_reader_is_answered_at_once(rt: HostRuntime) -> Result<(), Fail> {
+    let a = rt.alloc();
+    let bytes = module(a, &[&HEADER, &NAMES, &SEGMENT, &DATA, &FIXUP, &END])?;
+    // Of each of its six records it reads the type byte, the length and the rest.
+    for answers in 0..18 {
+        let script = Script::new(&bytes, Then::Ends).interrupted(2);
+        assert_eq!(rt;
+            by_script(a, script.failing_once(answers)),
+            Err(CheckFault::Read),
+            "{answers}"
+        );
+    }
+    assert_eq!(rt;
+        by_script(a, Script::new(&bytes, Then::Ends).failing_once(18)),
+        Ok(48)
+    );
+    Ok(())
+}
+
+#[test]
 fn goes_on_after_interruptions(rt: HostRuntime) -> Result<(), Fail> {
     let a = rt.alloc();
     let bytes = module(a, &[&HEADER, &NAMES, &SEGMENT, &DATA, &FIXUP, &END])?;
@@ -187,9 +207,7 @@ struct Endless {
 impl Source for Endless {
     ghost use Rattle.std.specs.Prelude.{None};
 
-    ghost left = { λ s. None };
-
-    ghost failures = { λ s. 0 };
+    ghost seen = { λ s. record { bytes = None; failures = 0; breaks = 0 } };
 
     fn pull(&mut self, buf: &mut [u8]) -> io::Result<usize> {
         for slot in buf.iter_mut() {

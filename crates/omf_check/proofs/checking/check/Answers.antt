@@ -2,30 +2,31 @@ use Rattle.std.proofs.Common.{◌∙◌, take, arith}
 use Rattle.std.proofs.lemmas.Result.{err_from_is_err_and}
 use Rattle.omf_check.specs.Session.{want_of}
 use Rattle.omf_check.proofs.CheckLaws.{none_wanted, piece_low, consumes_none, finish_ended, finish_decides, finish_err, feed_decides, feed_cause, feed_consumes}
+use Rattle.omf_check.proofs.Patience.{finish_patient, feed_patient, finish_profile}
 use Rattle.omf_check.proofs.checking.check.Goals as goal
 
 pub returns-then-want-eq0-clause-verdict : goal.returns-then-want-eq0-clause-verdict
 returns-then-want-eq0-clause-verdict g c =
     let i = c.loop-buffer.invariant in
     let s = c.loop-buffer.session in
-    finish_ended c.args.profile s i.is_open i.no_fault i.profile c.finish.result (g.S.Source.left c.args.reader.now) (g.S.Source.left c.loop-buffer.reader)
+    finish_ended c.args.profile s i.is_open i.no_fault i.profile c.finish.result (g.S.Source.seen c.args.reader.now).bytes (g.S.Source.seen c.loop-buffer.reader).bytes
     (none_wanted c.min-want.result c.want.result (want_of s) c.if-want-eq0.true c.min-want.ensures c.want.ensures) c.finish.ensures i.consumed
 
 pub returns-then-count-eq0-clause-verdict : goal.returns-then-count-eq0-clause-verdict
 returns-then-count-eq0-clause-verdict g c =
     let i = c.loop-buffer.invariant in
     let s = c.loop-buffer.session in
-    finish_decides c.args.profile s i.is_open i.no_fault i.profile c.finish-then-count-eq0.result (g.S.Source.left c.args.reader.now) (g.S.Source.left c.pull_piece.new.source) c.finish-then-count-eq0.ensures
-    (consumes_none _ (g.S.Source.left c.loop-buffer.reader) _ s.taken c.pull_piece.new.buffer c.in-Ok.count c.if-count-eq0.true i.consumed c.in-Ok.ensures.bytes)
+    finish_decides c.args.profile s i.is_open i.no_fault i.profile c.finish-then-count-eq0.result (g.S.Source.seen c.args.reader.now).bytes (g.S.Source.seen c.pull_piece.new.source).bytes c.finish-then-count-eq0.ensures
+    (consumes_none _ (g.S.Source.seen c.loop-buffer.reader).bytes _ s.taken c.pull_piece.new.buffer c.in-Ok.count c.if-count-eq0.true i.consumed c.in-Ok.ensures.bytes)
     (c.in-Ok.ensures.end c.if-count-eq0.true)
 
 pub returns-then-count-eq0-clause-cause : goal.returns-then-count-eq0-clause-cause
 returns-then-count-eq0-clause-cause g c =
     let i = c.loop-buffer.invariant in
     let s = c.loop-buffer.session in
-    finish_err c.args.profile s i.is_open i.no_fault i.profile c.finish-then-count-eq0.result (g.S.Source.left c.args.reader.now) (g.S.Source.left c.pull_piece.new.source)
-    (g.S.Source.failures c.args.reader.now) (g.S.Source.failures c.pull_piece.new.source) c.finish-then-count-eq0.ensures
-    (consumes_none _ (g.S.Source.left c.loop-buffer.reader) _ s.taken c.pull_piece.new.buffer c.in-Ok.count c.if-count-eq0.true i.consumed c.in-Ok.ensures.bytes)
+    finish_err c.args.profile s i.is_open i.no_fault i.profile c.finish-then-count-eq0.result (g.S.Source.seen c.args.reader.now).bytes (g.S.Source.seen c.pull_piece.new.source).bytes
+    (g.S.Source.seen c.args.reader.now).failures (g.S.Source.seen c.pull_piece.new.source).failures c.finish-then-count-eq0.ensures
+    (consumes_none _ (g.S.Source.seen c.loop-buffer.reader).bytes _ s.taken c.pull_piece.new.buffer c.in-Ok.count c.if-count-eq0.true i.consumed c.in-Ok.ensures.bytes)
     (c.in-Ok.ensures.end c.if-count-eq0.true)
 
 pub loop-buffer-preserved : goal.loop-buffer-preserved
@@ -42,8 +43,9 @@ loop-buffer-preserved g c =
       no_fault = t.fault;
       profile = t.profile ∙ i.profile;
       consumed = feed_consumes c.args.profile s i.is_open i.no_fault i.profile piece c.in_ok-feed.field-0.taken c.in_ok-feed.field-0.whole c.feed.new.self
-          (g.S.Source.left c.args.reader.now) (g.S.Source.left c.loop-buffer.reader) (g.S.Source.left c.pull_piece.new.source) low t i.consumed c.in-Ok.ensures.bytes;
+          (g.S.Source.seen c.args.reader.now).bytes (g.S.Source.seen c.loop-buffer.reader).bytes (g.S.Source.seen c.pull_piece.new.source).bytes low t i.consumed c.in-Ok.ensures.bytes;
       grows = omega (arith, first, second);
+      unbroken = c.in-Ok.ensures.tried ∙ i.unbroken;
     }
 
 pub returns-in_err-feed-clause-verdict : goal.returns-in_err-feed-clause-verdict
@@ -53,7 +55,7 @@ returns-in_err-feed-clause-verdict g c =
     let e = err_from_is_err_and c.from_residual.result c.from_residual.ensures.1 in
     rw (e.1, e.2) (
     feed_decides c.args.profile s i.is_open i.no_fault i.profile c.in_err-feed.field-0.0 (take c.in-Ok.count c.pull_piece.new.buffer) c.feed.new.self
-    (g.S.Source.left c.args.reader.now) (g.S.Source.left c.loop-buffer.reader) (g.S.Source.left c.pull_piece.new.source) c.in_err-feed.ensures.err i.consumed c.in-Ok.ensures.bytes)
+    (g.S.Source.seen c.args.reader.now).bytes (g.S.Source.seen c.loop-buffer.reader).bytes (g.S.Source.seen c.pull_piece.new.source).bytes c.in_err-feed.ensures.err i.consumed c.in-Ok.ensures.bytes)
 
 pub returns-in_err-feed-clause-cause : goal.returns-in_err-feed-clause-cause
 returns-in_err-feed-clause-cause g c =
@@ -63,4 +65,27 @@ returns-in_err-feed-clause-cause g c =
     let e = err_from_is_err_and c.from_residual.result c.from_residual.ensures.1 in
     rw (e.1, e.2) (
     feed_cause c.args.profile s i.is_open i.no_fault i.profile c.in_err-feed.field-0.0 (take c.in-Ok.count c.pull_piece.new.buffer) c.feed.new.self
-    (g.S.Source.left c.args.reader.now) (g.S.Source.left c.loop-buffer.reader) (g.S.Source.left c.pull_piece.new.source) (g.S.Source.failures c.args.reader.now) (g.S.Source.failures c.pull_piece.new.source) low c.in_err-feed.ensures.err i.consumed c.in-Ok.ensures.bytes)
+    (g.S.Source.seen c.args.reader.now).bytes (g.S.Source.seen c.loop-buffer.reader).bytes (g.S.Source.seen c.pull_piece.new.source).bytes (g.S.Source.seen c.args.reader.now).failures (g.S.Source.seen c.pull_piece.new.source).failures low c.in_err-feed.ensures.err i.consumed c.in-Ok.ensures.bytes)
+
+pub returns-then-want-eq0-clause-patient : goal.returns-then-want-eq0-clause-patient
+returns-then-want-eq0-clause-patient g c =
+    let i = c.loop-buffer.invariant in
+    finish_patient c.loop-buffer.session i.no_fault (g.S.Source.seen c.args.reader.now) (g.S.Source.seen c.loop-buffer.reader) i.unbroken c.finish.result c.finish.ensures
+
+pub returns-then-count-eq0-clause-patient : goal.returns-then-count-eq0-clause-patient
+returns-then-count-eq0-clause-patient g c =
+    let i = c.loop-buffer.invariant in
+    finish_patient c.loop-buffer.session i.no_fault (g.S.Source.seen c.args.reader.now) (g.S.Source.seen c.pull_piece.new.source) (c.in-Ok.ensures.tried ∙ i.unbroken) c.finish-then-count-eq0.result c.finish-then-count-eq0.ensures
+
+pub returns-in_err-feed-clause-patient : goal.returns-in_err-feed-clause-patient
+returns-in_err-feed-clause-patient g c =
+    let i = c.loop-buffer.invariant in
+    let e = err_from_is_err_and c.from_residual.result c.from_residual.ensures.1 in
+    rw (e.1, e.2) (
+    feed_patient c.loop-buffer.session i.no_fault (g.S.Source.seen c.args.reader.now) (g.S.Source.seen c.pull_piece.new.source) (c.in-Ok.ensures.tried ∙ i.unbroken) (take c.in-Ok.count c.pull_piece.new.buffer) c.in_err-feed.field-0.0 c.feed.new.self c.in_err-feed.ensures.err)
+
+pub returns-then-want-eq0-clause-profile : goal.returns-then-want-eq0-clause-profile
+returns-then-want-eq0-clause-profile g c = finish_profile c.loop-buffer.session c.args.profile c.finish.result c.loop-buffer.invariant.profile c.finish.ensures
+
+pub returns-then-count-eq0-clause-profile : goal.returns-then-count-eq0-clause-profile
+returns-then-count-eq0-clause-profile g c = finish_profile c.loop-buffer.session c.args.profile c.finish-then-count-eq0.result c.loop-buffer.invariant.profile c.finish-then-count-eq0.ensures

@@ -9,8 +9,9 @@ invariant-loop-buffer g l = record {
   is_open : IsOpen l.session;
   no_fault : l.session.fault ≡ None;
   profile : l.session.profile ≡ l.fn.profile;
-  consumed : Consumes (g.S.Source.left l.initial.reader) (g.S.Source.left l.reader) l.session.taken;
-  grows : g.S.Source.failures l.initial.reader ≤ g.S.Source.failures l.reader;
+  consumed : Consumes (g.S.Source.seen l.initial.reader).bytes (g.S.Source.seen l.reader).bytes l.session.taken;
+  grows : (g.S.Source.seen l.initial.reader).failures ≤ (g.S.Source.seen l.reader).failures;
+  unbroken : (g.S.Source.seen l.reader).breaks ≡ (g.S.Source.seen l.initial.reader).breaks;
 }
 
 abbrev pub decreases-loop-buffer : goal.decreases-loop-buffer
