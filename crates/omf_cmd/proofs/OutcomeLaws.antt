@@ -98,22 +98,22 @@ module _ (profile : Profile) (input : List ℕ) (m : Module) (d : Decides profil
       let both : length rest ≡ length read + length left = ap length of_text ∙ length-append read left in
       with_outcome rest (Err fault.TooLong) of_module (beyond_limit (recs (records_in m.bytes)) rest (omega arith))
 
-  no_text : (mid new : Option (List ℕ)) (failed fails : ℕ) (e : RunFault) → Consumes (Some input) mid m.bytes → IsTextFault mid new failed fails e → IsAnswered profile input (Some input) new (Err e)
-  no_text mid new failed fails fault.Memory of_module of = (tt, no_more mid new of_module of)
-  no_text mid new failed fails fault.Read of_module of = (tt, tt)
-  no_text mid new failed fails fault.TooLong of_module of = (
+  no_text : (mid new : Option (List ℕ)) (e : RunFault) → Consumes (Some input) mid m.bytes → IsTextFault mid new e → IsAnswered profile input (Some input) new (Err e)
+  no_text mid new fault.Memory of_module of = (tt, no_more mid new of_module of)
+  no_text mid new fault.Read of_module of = (tt, tt)
+  no_text mid new fault.TooLong of_module of = (
     too_long mid new of.0 of_module of.1 of.2,
     subst (IsReadPast profile input (Some input) new) of.2 (read_past mid new of.0 of_module of.1),
   )
-  no_text mid new failed fails fault.Write of_module of = absurd of
-  no_text mid new failed fails (fault.Refused why at) of_module of = absurd of
-  no_text mid new failed fails (fault.Line n) of_module of = absurd of
-  no_text mid new failed fails (fault.Reach f) of_module of = absurd of
+  no_text mid new fault.Write of_module of = absurd of
+  no_text mid new (fault.Refused why at) of_module of = absurd of
+  no_text mid new (fault.Line n) of_module of = absurd of
+  no_text mid new (fault.Reach f) of_module of = absurd of
 
   -- no text was read
-  pub text_refused : (old mid new : Option (List ℕ)) (failed fails : ℕ) (e : RunFault) → old ≡ Some input → Consumes old mid m.bytes → IsTextFault mid new failed fails e → IsAnswered profile input old new (Err e)
-  text_refused old mid new failed fails e told of_module of =
-      subst (λ (o : Option (List ℕ)). IsAnswered profile input o new (Err e)) (sym told) (no_text mid new failed fails e (subst (λ (o : Option (List ℕ)). Consumes o mid m.bytes) told of_module) of)
+  pub text_refused : (old mid new : Option (List ℕ)) (e : RunFault) → old ≡ Some input → Consumes old mid m.bytes → IsTextFault mid new e → IsAnswered profile input old new (Err e)
+  text_refused old mid new e told of_module of =
+      subst (λ (o : Option (List ℕ)). IsAnswered profile input o new (Err e)) (sym told) (no_text mid new e (subst (λ (o : Option (List ℕ)). Consumes o mid m.bytes) told of_module) of)
 
   -- all that is left of the input is the text
   whole : (mid new : Option (List ℕ)) (text : List ℕ) → Consumes (Some input) mid m.bytes → IsWholeText mid new text → input ≡ m.bytes ++ text

@@ -5,9 +5,9 @@ use Rattle.omf_frame.specs.Framing.{Raw}
 use Rattle.omf_frame.specs.declared.fault.Place.{Place}
 use Rattle.omf_frame.specs.declared.fault.Reason.{Reason}
 use Rattle.omf_image.specs.Limits.{profile_limits}
-use Rattle.omf_check.specs.Checking.{IsReadTo}
-use Rattle.omf_check.specs.Refusal.{AreSoundSoFar}
+use Rattle.omf_check.specs.Checking.{IsCheckFault, IsReadTo}
 use Rattle.omf_check.specs.WellFormed.{IsAccepted}
+use Rattle.omf_check.specs.declared.fault.CheckFault.TheVariants as check
 use Rattle.omf_check.specs.declared.profile.Profile.{Profile}
 use Rattle.omf_cmd.specs.Outcome.{text_limit}
 use Rattle.omf_cmd.specs.declared.fault.RunFault.{RunFault}
@@ -17,9 +17,9 @@ use Rattle.omf_cmd.specs.declared.fault.RunFault.TheVariants as fault
 abbrev pub EndsAtRefusal : Profile → Option (List ℕ) → Option (List ℕ) → Reason → Place → Type 0
 EndsAtRefusal profile old new why at = (read : List ℕ) × Consumes old new read × IsReadTo profile read new why at
 
--- No refusal is found before the last byte that was read.
+-- No refusal is found in what was read: what a check says where memory runs out, whatever failed before.
 abbrev pub IsUnrefused : Profile → Option (List ℕ) → Option (List ℕ) → Type 0
-IsUnrefused profile old new = (read : List ℕ) × Consumes old new read × AreSoundSoFar profile profile_limits read
+IsUnrefused profile old new = IsCheckFault profile old new 0 0 check.Memory
 
 -- The input begins with a module of these records, and exactly its bytes were read.
 pub record IsReadFrom (profile : Profile) (input : List ℕ) (records : List Raw) (old new : Option (List ℕ)) : Type 0 where

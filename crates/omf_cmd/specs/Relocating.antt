@@ -1,6 +1,7 @@
 -- What `reloc` answers for an input: a module, and the placement text that is all that is left.
 use Rattle.std.specs.Prelude.{◌≡◌, ◌⊎◌, ◌≤◌, ⊤, ℕ, ◌+◌, List, [], length, Option, Some, None, Result, Ok, Err}
 use Rattle.std.specs.Io.KnownBytes.{Consumes, IsAtEnd}
+use Rattle.omf_frame.specs.Device.{Device}
 use Rattle.omf_frame.specs.Framing.{Raw}
 use Rattle.omf_records.specs.Values.{Rec}
 use Rattle.omf_image.specs.Limits.{profile_limits}
@@ -14,7 +15,7 @@ use Rattle.omf_reloc.specs.Placement.{Places}
 use Rattle.omf_reloc.specs.Reach.{reach_fault}
 use Rattle.omf_cmd.specs.HowFar.{IsReadFor}
 use Rattle.omf_cmd.specs.Outcome.{reloc_outcome, text_limit, unless_far}
-use Rattle.omf_cmd.specs.Runs.{HasFailed, PrintsInPieces}
+use Rattle.omf_cmd.specs.Runs.{PrintsInPieces}
 use Rattle.omf_cmd.specs.declared.fault.RunFault.{RunFault}
 use Rattle.omf_cmd.specs.declared.fault.RunFault.TheVariants as fault
 
@@ -30,11 +31,11 @@ IsShortText old new = (read : List ℕ) × Consumes old new read × (length read
 
 -- Why no text was read, and what was read of it: one byte more is there than a text may have; the reader failed, or memory ran out, before
 -- that.
-abbrev pub IsTextFault : Option (List ℕ) → Option (List ℕ) → ℕ → ℕ → RunFault → Type 0
-IsTextFault old new failed fails fault.TooLong = (read : List ℕ) × Consumes old new read × (length read ≡ text_limit + 1)
-IsTextFault old new failed fails fault.Read = HasFailed failed fails × IsShortText old new
-IsTextFault old new failed fails fault.Memory = IsShortText old new
-IsTextFault old new failed fails _ = ⊥
+abbrev pub IsTextFault : Option (List ℕ) → Option (List ℕ) → RunFault → Type 0
+IsTextFault old new fault.TooLong = (read : List ℕ) × Consumes old new read × (length read ≡ text_limit + 1)
+IsTextFault old new fault.Read = IsShortText old new
+IsTextFault old new fault.Memory = IsShortText old new
+IsTextFault old new _ = ⊥
 
 -- The input begins with a module, and this is the outcome for it and for what follows it.
 pub record HasOutcome (profile : Profile) (input : List ℕ) (outcome : Result (List ℕ) RunFault) : Type 0 where
@@ -67,8 +68,9 @@ Relocates profile input old new text (Err fault.Memory) = IsAnswered profile inp
 Relocates profile input old new text (Err e) = IsAnswered profile input old new (Err e)
 
 -- What a run answers, and what it reads and writes.
-abbrev pub IsRelocation : Profile → Option (List ℕ) → Option (List ℕ) → Option (List ℕ) → Option (List ℕ) → Result (Unit {0}) RunFault → Type 0
-IsRelocation profile left left' held held' ran = (text : List ℕ) × PrintsInPieces held held' ran text × ((input : List ℕ) → left ≡ Some input → Relocates profile input left left' text ran)
+abbrev pub IsRelocation : Profile → Device → Device → Device → Device → Result (Unit {0}) RunFault → Type 0
+IsRelocation profile reader reader' writer writer' ran =
+    (text : List ℕ) × PrintsInPieces writer.bytes writer'.bytes ran text × ((input : List ℕ) → reader.bytes ≡ Some input → Relocates profile input reader.bytes reader'.bytes text ran)
 
 -- What the faults of a placement text are to a run.
 abbrev pub of_text : TextFault → RunFault

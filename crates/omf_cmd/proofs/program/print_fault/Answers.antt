@@ -6,4 +6,4 @@ use Rattle.omf_cmd.proofs.program.print_fault.Goals as goal
 pub returns-in-Ok : goal.returns-in-Ok
 returns-in-Ok g c =
     let same = c.as_bytes-in-Ok.ensures.value ∙ c.in-Ok.ensures ∙ shown c.args.fault.now (c.fixed_text.ensures.none c.in-None.is) in
-    inl (subst (IsWritten _ _ _ _) same (written_or_failed _ _ _ _ c.write_all-in-Ok.result _ c.write_all-in-Ok.ensures.fault c.write_all-in-Ok.ensures.cause c.write_all-in-Ok.ensures.prints))
+    inl (subst (IsWritten _ _) same (written_or_failed _ _ c.write_all-in-Ok.result _ c.write_all-in-Ok.ensures.fault c.write_all-in-Ok.ensures.cause c.write_all-in-Ok.ensures.prints))
