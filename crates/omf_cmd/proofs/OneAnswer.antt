@@ -14,11 +14,11 @@ use Rattle.omf_check.proofs.AcceptLaws.{accepted_once, never_both}
 use Rattle.omf_check.proofs.UniqueLaws.{refused_once}
 use Rattle.omf_check.proofs.VerdictLaws.{either}
 use Rattle.omf_reloc.specs.Placement.{Places}
-use Rattle.omf_reloc.specs.PlacementText.{Draft, parsed, resolved}
+use Rattle.omf_reloc.specs.PlacementText.{parsed}
 use Rattle.omf_reloc.specs.Reach.{reach_fault}
 use Rattle.omf_reloc.specs.declared.fault.ReachFault.{ReachFault}
 use Rattle.omf_cmd.specs.Laws.{is_settled, IsTheAnswer, InputsHaveOneAnswer}
-use Rattle.omf_cmd.specs.Outcome.{of_draft, of_placement, reloc_outcome, text_limit, unless_far}
+use Rattle.omf_cmd.specs.Outcome.{of_placement, placement_of, reloc_outcome, text_limit, unless_far}
 use Rattle.omf_cmd.specs.Relocating.{Answers, HasOutcome}
 use Rattle.omf_cmd.specs.declared.fault.RunFault.{RunFault}
 use Rattle.omf_cmd.specs.declared.fault.RunFault.TheVariants as fault
@@ -39,13 +39,9 @@ placement_outcome : (m : List Rec) (r : Result Places ℕ) → is_outcome (of_pl
 placement_outcome m (Ok pl) = far_outcome m pl (reach_fault pl m)
 placement_outcome m (Err n) = refl
 
-draft_outcome : (m : List Rec) (r : Result Draft ℕ) → is_outcome (of_draft profile_limits m r) ≡ true
-draft_outcome m (Ok d) = placement_outcome m (resolved m d)
-draft_outcome m (Err n) = refl
-
-either_outcome : (m : List Rec) (text : List ℕ) (b : Bool) → is_outcome (if b then Err fault.TooLong else of_draft profile_limits m (parsed text)) ≡ true
+either_outcome : (m : List Rec) (text : List ℕ) (b : Bool) → is_outcome (if b then Err fault.TooLong else of_placement profile_limits m (placement_of m (parsed text))) ≡ true
 either_outcome m text true = refl
-either_outcome m text false = draft_outcome m (parsed text)
+either_outcome m text false = placement_outcome m (placement_of m (parsed text))
 
 outcome_is : (m : List Rec) (text : List ℕ) → is_outcome (reloc_outcome profile_limits m text) ≡ true
 outcome_is m text = either_outcome m text (nat_lt text_limit (length text))

@@ -5,9 +5,11 @@ use Rattle.std.proofs.lemmas.List.{append-nil}
 use Rattle.std.specs.Io.KnownBytes.{Appends}
 use Rattle.std.specs.Prelude.{Option, IfErr}
 use Rattle.std.specs.Result.{IsErr}
+use Rattle.omf_frame.specs.Device.{Device, HasFailed}
+use Rattle.omf_frame.proofs.Tries.{gives_up_later}
 use Rattle.omf_check.specs.declared.profile.Profile.{Profile}
-use Rattle.omf_cmd.specs.Relocating.{Answers, Relocates}
-use Rattle.omf_cmd.specs.Runs.{HasFailed, IsPart, IsPrintFault, IsWrittenUpTo, Passes, Prints, PrintsInPieces}
+use Rattle.omf_cmd.specs.Relocating.{IsAnswered, Relocates}
+use Rattle.omf_cmd.specs.Runs.{HasGivenUp, IsPart, IsPrintCause, IsUnbroken, IsWrittenUpTo, Passes, Prints, PrintsInPieces}
 use Rattle.omf_cmd.specs.declared.fault.RunFault.{RunFault}
 use Rattle.omf_cmd.specs.declared.fault.RunFault.TheVariants as fault
 
@@ -36,19 +38,27 @@ stopped old mid new text due more h p = (
 pub kept_back : (old new : Option (List ℕ)) (text left : List ℕ) → IsWrittenUpTo old new text left → IsPart old new text
 kept_back old new text left h = (h.front, left, h.whole, h.written)
 
--- a count that rose later has risen
-pub failed_later : (old mid new : ℕ) → old ≤ mid → HasFailed mid new → HasFailed old new
-failed_later old mid new grows (inl rose) = inl (omega arith)
+-- ---- what a device did, one call after another
+
+pub unbroken_on : (old mid new : Device) → IsUnbroken old mid → IsUnbroken mid new → IsUnbroken old new
+unbroken_on old mid new h k = (k.0 ∙ h.0, let first = h.1 in let second = k.1 in omega (arith, first, second))
+
+failed_later : (old mid new : ℕ) → old ≤ mid → HasFailed mid new → HasFailed old new
+failed_later old mid new grows (inl rose) = inl (omega (arith, grows, rose))
 failed_later old mid new grows (inr full) = inr full
 
-pub fault_later : (old mid new : ℕ) (e : RunFault) → old ≤ mid → IsPrintFault mid new e → IsPrintFault old new e
-fault_later old mid new fault.Memory grows f = tt
-fault_later old mid new fault.Write grows f = failed_later old mid new grows f
-fault_later old mid new fault.Read grows f = absurd f
-fault_later old mid new (fault.Refused why at) grows f = absurd f
-fault_later old mid new (fault.Line n) grows f = absurd f
-fault_later old mid new fault.TooLong grows f = absurd f
-fault_later old mid new (fault.Reach r) grows f = absurd f
+pub given_up_later : (old mid new : Device) → IsUnbroken old mid → HasGivenUp mid new → HasGivenUp old new
+given_up_later old mid new h k = (failed_later old.failures mid.failures new.failures h.1 k.0, gives_up_later old mid new h.0 h.1 k.1)
+
+pub cause_later : (old mid new : Device) (r : Result (Unit {0}) RunFault) → IsUnbroken old mid → IsPrintCause mid new r → IsPrintCause old new r
+cause_later old mid new (Ok done) h c = unbroken_on old mid new h c
+cause_later old mid new (Err fault.Memory) h c = unbroken_on old mid new h c
+cause_later old mid new (Err fault.Write) h c = given_up_later old mid new h c
+cause_later old mid new (Err fault.Read) h c = absurd c
+cause_later old mid new (Err (fault.Refused why at)) h c = absurd c
+cause_later old mid new (Err (fault.Line n)) h c = absurd c
+cause_later old mid new (Err fault.TooLong) h c = absurd c
+cause_later old mid new (Err (fault.Reach r)) h c = absurd c
 
 -- ---- a text that is printed in pieces
 
@@ -62,14 +72,14 @@ pub went_on : (old mid new : Option (List ℕ)) (text rest due more left : List 
 went_on old mid new text rest due more left h e w = passed_on old mid new text due more left (subst (IsWrittenUpTo old mid text) (sym e) h) w
 
 -- a fault of printing leaves a part of the text
-pub part_printed : (old new : Option (List ℕ)) (text : List ℕ) (e : RunFault) (failed fails : ℕ) → IsPrintFault failed fails e → IsPart old new text → PrintsInPieces old new (Err e) text
-part_printed old new text fault.Memory failed fails f p = p
-part_printed old new text fault.Write failed fails f p = p
-part_printed old new text fault.Read failed fails f p = absurd f
-part_printed old new text (fault.Refused why at) failed fails f p = absurd f
-part_printed old new text (fault.Line n) failed fails f p = absurd f
-part_printed old new text fault.TooLong failed fails f p = absurd f
-part_printed old new text (fault.Reach r) failed fails f p = absurd f
+pub part_printed : (old new : Option (List ℕ)) (text : List ℕ) (e : RunFault) (before after : Device) → IsPrintCause before after (Err e) → IsPart old new text → PrintsInPieces old new (Err e) text
+part_printed old new text fault.Memory before after f p = p
+part_printed old new text fault.Write before after f p = p
+part_printed old new text fault.Read before after f p = absurd f
+part_printed old new text (fault.Refused why at) before after f p = absurd f
+part_printed old new text (fault.Line n) before after f p = absurd f
+part_printed old new text fault.TooLong before after f p = absurd f
+part_printed old new text (fault.Reach r) before after f p = absurd f
 
 -- what was left of the text was written, or the writer failed
 pub rest_printed : (old mid new : Option (List ℕ)) (text left shown : List ℕ) (r : Result (Unit {0}) RunFault) → IsWrittenUpTo old mid text left → shown ≡ left → IfErr r (λ e. e ≡ fault.Write) → Prints mid new r shown → PrintsInPieces old new r text
@@ -94,25 +104,26 @@ nothing_printed held fault.TooLong = Keeps-refl held
 nothing_printed held (fault.Reach r) = Keeps-refl held
 
 -- where nothing is printed, the answer is that for the input
-pub nothing_relocated : (profile : Profile) (input : List ℕ) (e : RunFault) → Answers profile input (Err e) → Relocates profile input [] (Err e)
-nothing_relocated profile input fault.Memory a = inr refl
-nothing_relocated profile input fault.Write a = absurd a
-nothing_relocated profile input fault.Read a = a
-nothing_relocated profile input (fault.Refused why at) a = a
-nothing_relocated profile input (fault.Line n) a = a
-nothing_relocated profile input fault.TooLong a = a
-nothing_relocated profile input (fault.Reach r) a = a
+pub nothing_relocated : (profile : Profile) (input : List ℕ) (old new : Option (List ℕ)) (e : RunFault) → IsAnswered profile input old new (Err e) → Relocates profile input old new [] (Err e)
+nothing_relocated profile input old new fault.Memory a = inr (refl, a)
+nothing_relocated profile input old new fault.Write a = absurd a.0
+nothing_relocated profile input old new fault.Read a = a
+nothing_relocated profile input old new (fault.Refused why at) a = a
+nothing_relocated profile input old new (fault.Line n) a = a
+nothing_relocated profile input old new fault.TooLong a = a
+nothing_relocated profile input old new (fault.Reach r) a = a
 
 -- where the image's text is printed, or a part of it, it is that of the input
-pub relocates : (profile : Profile) (input text : List ℕ) (failed fails : ℕ) (r : Result (Unit {0}) RunFault) → IfErr r (IsPrintFault failed fails) → Answers profile input (Ok text) → Relocates profile input text r
-relocates profile input text failed fails (Ok done) f a = a
-relocates profile input text failed fails (Err fault.Memory) f a = inl a
-relocates profile input text failed fails (Err fault.Write) f a = a
-relocates profile input text failed fails (Err fault.Read) f a = absurd f
-relocates profile input text failed fails (Err (fault.Refused why at)) f a = absurd f
-relocates profile input text failed fails (Err (fault.Line n)) f a = absurd f
-relocates profile input text failed fails (Err fault.TooLong) f a = absurd f
-relocates profile input text failed fails (Err (fault.Reach x)) f a = absurd f
+pub relocates : (profile : Profile) (input text : List ℕ) (old new : Option (List ℕ)) (before after : Device) (r : Result (Unit {0}) RunFault) → IsPrintCause before after r → IsAnswered profile input old new (Ok text)
+    → Relocates profile input old new text r
+relocates profile input text old new before after (Ok done) f a = a
+relocates profile input text old new before after (Err fault.Memory) f a = inl a
+relocates profile input text old new before after (Err fault.Write) f a = a
+relocates profile input text old new before after (Err fault.Read) f a = absurd f
+relocates profile input text old new before after (Err (fault.Refused why at)) f a = absurd f
+relocates profile input text old new before after (Err (fault.Line n)) f a = absurd f
+relocates profile input text old new before after (Err fault.TooLong) f a = absurd f
+relocates profile input text old new before after (Err (fault.Reach x)) f a = absurd f
 
 -- with nothing kept yet, the whole text is to be written
 pub begun_empty : (held : Option (List ℕ)) (front back kept : List ℕ) → kept ≡ [] → IsWrittenUpTo held held (front ++ back) ((kept ++ front) ++ back)

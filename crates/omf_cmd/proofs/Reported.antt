@@ -171,42 +171,6 @@ pub line_of : (before : List Raw) (one : Raw) (number start kind size : ℕ) →
     → line (codes "R" ∷ decimal number ∷ hex 8 start ∷ hex 2 kind ∷ decimal size ∷ type_name kind ∷ []) ≡ record_line before one
 line_of before one number start kind size a b c d = rw (a, b, c, d) refl
 
--- ---- the count of records
-
-pub record AreCounted (records : List Raw) (left : List (Place × Rec)) (count : ℕ) : Type 0 where
-  pub start : ℕ
-  pub after : List Raw
-  pub placed : left ≡ placed_from count start after
-  pub all : count + length after ≡ length records
-
-counted_by : (records after : List Raw) (count start : ℕ) (x : Place × Rec) (left : List (Place × Rec)) → x ∷ left ≡ placed_from count start after → count + length after ≡ length records
-    → (x.0.number ≡ count) × AreCounted records left (count + 1)
-counted_by records [] count start x left placed all = absurd (clash placed)
-  where
-    clash : x ∷ left ≡ [] → ⊥
-    clash e = cc
-counted_by records (r ∷ after) count start x left placed all =
-    (ap (λ (p : Place × Rec). p.0.number) (head_is placed), record { start = start + length (raw_bytes r); after = after; placed = tail_is placed; all = omega (arith, all) })
-  where
-    head_is : {A : Type 0} {a b : A} {xs ys : List A} → a ∷ xs ≡ b ∷ ys → a ≡ b
-    head_is e = cc
-
-    tail_is : {A : Type 0} {a b : A} {xs ys : List A} → a ∷ xs ≡ b ∷ ys → xs ≡ ys
-    tail_is e = cc
-
-pub next_counted : (records : List Raw) (all left : List (Place × Rec)) (x : Place × Rec) (count : ℕ) → AreCounted records all count → all ≡ x ∷ left → (x.0.number ≡ count) × AreCounted records left (count + 1)
-next_counted records all left x count h e = counted_by records h.after count h.start x left (sym e ∙ h.placed) h.all
-
-pub all_counted : (records : List Raw) (left : List (Place × Rec)) (count : ℕ) → AreCounted records left count → left ≡ [] → count ≡ length records
-all_counted records left count h e = none_after h.after h.start (sym h.placed ∙ e) h.all
-  where
-    none_after : (after : List Raw) (start : ℕ) → placed_from count start after ≡ [] → count + length after ≡ length records → count ≡ length records
-    none_after [] start e all = omega (arith, all)
-    none_after (r ∷ after) start e all = absurd (clash e)
-      where
-        clash : {A : Type 0} {a : A} {rest : List A} → a ∷ rest ≡ [] → ⊥
-        clash e = cc
-
 -- what the records of a walk print
 pub placed_lines : (f : Contents → List ℕ) (rs : List Raw) (number start : ℕ) → flat_map (λ (p : Place × Rec). f p.1.contents) (placed_from number start rs) ≡ flat_map (λ (r : Rec). f r.contents) (recs rs)
 placed_lines f [] number start = refl

@@ -1,5 +1,5 @@
 -- The line that a fault is printed as (this profile's rule).
-use Rattle.std.specs.Prelude.{ℕ, List, [], ◌∷◌, ◌++◌, codes, decimal}
+use Rattle.std.specs.Prelude.{ℕ, List, [], ◌∷◌, ◌++◌, Bool, true, false, codes, decimal}
 use Rattle.omf_frame.specs.Fault.{reason_number}
 use Rattle.omf_frame.specs.declared.fault.Reason.{Reason}
 use Rattle.omf_frame.specs.declared.fault.Reason.TheVariants as reason
@@ -9,7 +9,7 @@ use Rattle.omf_reloc.specs.declared.fault.Cause.{Cause}
 use Rattle.omf_reloc.specs.declared.fault.Cause.TheVariants as cause
 use Rattle.omf_reloc.specs.declared.fault.ReachFault.{ReachFault}
 use Rattle.omf_reloc.specs.declared.fault.ReachFault.TheVariants as reach
-use Rattle.omf_cmd.specs.Printed.{in_words}
+use Rattle.omf_reloc.specs.Entries.{in_words}
 use Rattle.omf_cmd.specs.declared.fault.RunFault.{RunFault}
 use Rattle.omf_cmd.specs.declared.fault.RunFault.TheVariants as fault
 
@@ -83,3 +83,10 @@ fault_line f = in_words (fault_words f)
 abbrev pub fault_text : RunFault → List ℕ
 fault_text fault.Write = []
 fault_text f = fault_line f ++ 10 ∷ []
+
+-- A line that tells numbers is put together first, which takes memory. The others are fixed.
+abbrev pub takes_memory : RunFault → Bool
+takes_memory (fault.Refused r p) = true
+takes_memory (fault.Line n) = true
+takes_memory (fault.Reach f) = true
+takes_memory _ = false

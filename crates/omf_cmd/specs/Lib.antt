@@ -6,6 +6,7 @@ pub mod Rows
 pub mod Runs
 pub mod Words
 pub mod Outcome
+pub mod HowFar
 pub mod Parsed
 pub mod RunLines
 pub mod Relocating

@@ -23,9 +23,10 @@ abbrev pub of_placement : Limits → List Rec → Result Places ℕ → Result (
 of_placement limits m (Ok pl) = unless_far limits m pl (reach_fault pl m)
 of_placement limits m (Err n) = Err (fault.Line n)
 
-abbrev pub of_draft : Limits → List Rec → Result Draft ℕ → Result (List ℕ) RunFault
-of_draft limits m (Ok d) = of_placement limits m (resolved m d)
-of_draft limits m (Err n) = Err (fault.Line n)
+-- The placement that a text gives a module, or the number of the first line at fault.
+abbrev pub placement_of : List Rec → Result Draft ℕ → Result Places ℕ
+placement_of m (Ok d) = resolved m d
+placement_of m (Err n) = Err n
 
 abbrev pub reloc_outcome : Limits → List Rec → List ℕ → Result (List ℕ) RunFault
-reloc_outcome limits m text = if nat_lt text_limit (length text) then Err fault.TooLong else of_draft limits m (parsed text)
+reloc_outcome limits m text = if nat_lt text_limit (length text) then Err fault.TooLong else of_placement limits m (placement_of m (parsed text))

@@ -1,17 +1,14 @@
 -- Words of the printed texts (this profile's rule).
 use Rattle.std.specs.Prelude.{ℕ, ◌-◌, List, [], ◌∷◌, ◌++◌, length, flat_map, replicate, unwrap_or, option_map, true, Bool, ◌==◌, ◌&&◌, not, nat_le, codes, decimal, if◌then◌else◌}
 use Rattle.std.specs.Fmt.{digits}
-use Rattle.std.specs.List.{join_with_byte}
 use Rattle.omf_check.specs.Tables.{entry}
+use Rattle.omf_reloc.specs.Entries.{in_words}
 
 -- A number in upper-case hexadecimal, with at least so many digits.
 abbrev pub hex : ℕ → ℕ → List ℕ
 hex least n = let shown = digits 16 true n in replicate (least - length shown) 48 ++ shown
 
--- Words with one space between each two; the same as a line.
-abbrev pub in_words : List (List ℕ) → List ℕ
-in_words words = join_with_byte 32 words
-
+-- A line: words with one space between each two.
 abbrev pub line : List (List ℕ) → List ℕ
 line words = in_words words ++ 10 ∷ []
 

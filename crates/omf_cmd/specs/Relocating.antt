@@ -1,15 +1,21 @@
 -- What `reloc` answers for an input: a module, and the placement text that is all that is left.
-use Rattle.std.specs.Prelude.{◌≡◌, ◌⊎◌, ◌<◌, ◌≤◌, ⊤, ℕ, List, [], length, Option, Some, Result, Ok, Err}
+use Rattle.std.specs.Prelude.{◌≡◌, ◌⊎◌, ◌≤◌, ⊤, ℕ, ◌+◌, List, [], length, Option, Some, None, Result, Ok, Err}
 use Rattle.std.specs.Io.KnownBytes.{Consumes, IsAtEnd}
+use Rattle.omf_frame.specs.Device.{Device}
 use Rattle.omf_frame.specs.Framing.{Raw}
+use Rattle.omf_records.specs.Values.{Rec}
 use Rattle.omf_image.specs.Limits.{profile_limits}
+use Rattle.omf_image.specs.declared.limits.Limits.{Limits}
 use Rattle.omf_check.specs.Refusal.{IsRefused}
 use Rattle.omf_check.specs.WellFormed.{IsAccepted, recs}
 use Rattle.omf_check.specs.declared.profile.Profile.{Profile}
 use Rattle.omf_reloc.specs.declared.fault.TextFault.{TextFault}
 use Rattle.omf_reloc.specs.declared.fault.TextFault.TheVariants as text
-use Rattle.omf_cmd.specs.Outcome.{reloc_outcome, text_limit}
-use Rattle.omf_cmd.specs.Runs.{HasFailed, PrintsInPieces}
+use Rattle.omf_reloc.specs.Placement.{Places}
+use Rattle.omf_reloc.specs.Reach.{reach_fault}
+use Rattle.omf_cmd.specs.HowFar.{IsReadFor}
+use Rattle.omf_cmd.specs.Outcome.{reloc_outcome, text_limit, unless_far}
+use Rattle.omf_cmd.specs.Runs.{PrintsInPieces}
 use Rattle.omf_cmd.specs.declared.fault.RunFault.{RunFault}
 use Rattle.omf_cmd.specs.declared.fault.RunFault.TheVariants as fault
 
@@ -19,12 +25,17 @@ pub record IsWholeText (old new : Option (List ℕ)) (text : List ℕ) : Type 0 
   pub all : IsAtEnd new
   pub short : length text ≤ text_limit
 
--- Why no text was read: more is there than a text may have; the reader failed; memory ran out, of which nothing is said.
-abbrev pub IsTextFault : Option (List ℕ) → Option (List ℕ) → ℕ → ℕ → RunFault → Type 0
-IsTextFault old new failed fails fault.TooLong = (read : List ℕ) × Consumes old new read × (text_limit < length read)
-IsTextFault old new failed fails fault.Read = HasFailed failed fails
-IsTextFault old new failed fails fault.Memory = ⊤
-IsTextFault old new failed fails _ = ⊥
+-- What was read of a text that is not whole: no more than a text may have.
+abbrev pub IsShortText : Option (List ℕ) → Option (List ℕ) → Type 0
+IsShortText old new = (read : List ℕ) × Consumes old new read × (length read ≤ text_limit)
+
+-- Why no text was read, and what was read of it: one byte more is there than a text may have; the reader failed, or memory ran out, before
+-- that.
+abbrev pub IsTextFault : Option (List ℕ) → Option (List ℕ) → RunFault → Type 0
+IsTextFault old new fault.TooLong = (read : List ℕ) × Consumes old new read × (length read ≡ text_limit + 1)
+IsTextFault old new fault.Read = IsShortText old new
+IsTextFault old new fault.Memory = IsShortText old new
+IsTextFault old new _ = ⊥
 
 -- The input begins with a module, and this is the outcome for it and for what follows it.
 pub record HasOutcome (profile : Profile) (input : List ℕ) (outcome : Result (List ℕ) RunFault) : Type 0 where
@@ -44,27 +55,32 @@ Answers profile input (Err (fault.Line n)) = HasOutcome profile input (Err (faul
 Answers profile input (Err fault.TooLong) = HasOutcome profile input (Err fault.TooLong)
 Answers profile input (Err (fault.Reach f)) = HasOutcome profile input (Err (fault.Reach f))
 
+-- What is answered for an input, and how far it is read for that.
+abbrev pub IsAnswered : Profile → List ℕ → Option (List ℕ) → Option (List ℕ) → Result (List ℕ) RunFault → Type 0
+IsAnswered profile input old new answer = Answers profile input answer × IsReadFor profile input old new answer
+
 -- What a run answers for an input, and the text that is its to print: all of it on Ok, and where the writer failed a part of it. Where
 -- memory ran out it is the same text, or there is none, so that nothing was printed.
-abbrev pub Relocates : Profile → List ℕ → List ℕ → Result (Unit {0}) RunFault → Type 0
-Relocates profile input text (Ok done) = Answers profile input (Ok text)
-Relocates profile input text (Err fault.Write) = Answers profile input (Ok text)
-Relocates profile input text (Err fault.Memory) = Answers profile input (Ok text) ⊎ (text ≡ [])
-Relocates profile input text (Err e) = Answers profile input (Err e)
+abbrev pub Relocates : Profile → List ℕ → Option (List ℕ) → Option (List ℕ) → List ℕ → Result (Unit {0}) RunFault → Type 0
+Relocates profile input old new text (Ok done) = IsAnswered profile input old new (Ok text)
+Relocates profile input old new text (Err fault.Write) = IsAnswered profile input old new (Ok text)
+Relocates profile input old new text (Err fault.Memory) = IsAnswered profile input old new (Ok text) ⊎ ((text ≡ []) × IsAnswered profile input old new (Err fault.Memory))
+Relocates profile input old new text (Err e) = IsAnswered profile input old new (Err e)
 
 -- What a run answers, and what it reads and writes.
-abbrev pub IsRelocation : Profile → Option (List ℕ) → Option (List ℕ) → Option (List ℕ) → Result (Unit {0}) RunFault → Type 0
-IsRelocation profile left held held' ran = (text : List ℕ) × PrintsInPieces held held' ran text × ((input : List ℕ) → left ≡ Some input → Relocates profile input text ran)
+abbrev pub IsRelocation : Profile → Device → Device → Device → Device → Result (Unit {0}) RunFault → Type 0
+IsRelocation profile reader reader' writer writer' ran =
+    (text : List ℕ) × PrintsInPieces writer.bytes writer'.bytes ran text × ((input : List ℕ) → reader.bytes ≡ Some input → Relocates profile input reader.bytes reader'.bytes text ran)
 
 -- What the faults of a placement text are to a run.
 abbrev pub of_text : TextFault → RunFault
 of_text text.Memory = fault.Memory
 of_text (text.Line n) = fault.Line n
 
--- What is answered for a checked module and a text within the limit: the outcome, or want of memory.
-abbrev pub IsOutcome : Result (List ℕ) RunFault → Result (List ℕ) RunFault → Type 0
-IsOutcome outcome (Ok shown) = outcome ≡ Ok shown
-IsOutcome outcome (Err fault.Memory) = ⊤
-IsOutcome outcome (Err (fault.Line n)) = outcome ≡ Err (fault.Line n)
-IsOutcome outcome (Err (fault.Reach f)) = outcome ≡ Err (fault.Reach f)
-IsOutcome outcome (Err _) = ⊥
+-- What a module is at a placement: the text to print, or the first reason why the placement does not reach; want of memory only where it
+-- reaches.
+abbrev pub IsShown : Limits → List Rec → Places → Result (List ℕ) RunFault → Type 0
+IsShown limits m pl (Ok shown) = unless_far limits m pl (reach_fault pl m) ≡ Ok shown
+IsShown limits m pl (Err fault.Memory) = reach_fault pl m ≡ None
+IsShown limits m pl (Err (fault.Reach f)) = reach_fault pl m ≡ Some f
+IsShown limits m pl (Err _) = ⊥

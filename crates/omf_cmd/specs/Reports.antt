@@ -1,15 +1,15 @@
 -- What `check` and `list` answer for an input: both print a text of the records of the module that it begins with. How the program
 -- ends.
-use Rattle.std.specs.Prelude.{◌≡◌, ◌⊎◌, ◌<◌, ⊤, ℕ, List, length, Option, Some, Result, Ok, Err, IfErr}
-use Rattle.std.specs.Io.KnownBytes.{Consumes, Keeps}
+use Rattle.std.specs.Prelude.{◌≡◌, ◌⊎◌, ⊤, IsTrue, ℕ, List, Option, Some, Result, Ok, Err}
+use Rattle.omf_frame.specs.Device.{Device}
 use Rattle.omf_frame.specs.Framing.{Raw}
 use Rattle.omf_image.specs.Limits.{profile_limits}
-use Rattle.omf_check.specs.Refusal.{IsRefused, AreSoundSoFar}
-use Rattle.omf_check.specs.WellFormed.{IsAccepted}
+use Rattle.omf_check.specs.Refusal.{IsRefused}
 use Rattle.omf_check.specs.declared.fault.CheckFault.{CheckFault}
 use Rattle.omf_check.specs.declared.fault.CheckFault.TheVariants as check
 use Rattle.omf_check.specs.declared.profile.Profile.{Profile}
-use Rattle.omf_cmd.specs.FaultLine.{fault_text}
+use Rattle.omf_cmd.specs.FaultLine.{fault_text, takes_memory}
+use Rattle.omf_cmd.specs.HowFar.{EndsAtRefusal, IsReadFrom, IsUnrefused}
 use Rattle.omf_cmd.specs.Listing.{check_text, list_text}
 use Rattle.omf_cmd.specs.Relocating.{IsRelocation}
 use Rattle.omf_cmd.specs.Runs.{IsCausedBy, IsWritten, Prints}
@@ -25,21 +25,19 @@ of_check check.Memory = fault.Memory
 of_check check.Read = fault.Read
 of_check (check.Refused why at) = fault.Refused why at
 
--- The input begins with a module of these records, and exactly its bytes were read.
-pub record IsReadFrom (profile : Profile) (input : List ℕ) (records : List Raw) (old new : Option (List ℕ)) : Type 0 where
-  pub accepted : IsAccepted profile profile_limits input records
-  pub read : Consumes old new accepted.bytes
+-- No fault of a placement.
+abbrev pub IsModuleFault : RunFault → Type 0
+IsModuleFault (fault.Line n) = ⊥
+IsModuleFault fault.TooLong = ⊥
+IsModuleFault (fault.Reach f) = ⊥
+IsModuleFault _ = Unit {0}
 
--- What was read, a byte at least, has no refusal but that it ends too early.
-abbrev pub IsUnrefused : Profile → Option (List ℕ) → Option (List ℕ) → Type 0
-IsUnrefused profile old new = (read : List ℕ) × Consumes old new read × AreSoundSoFar profile profile_limits read × (0 < length read)
-
--- What the answer says of an input: done, or failed to write, only for a module of these records; refused as the input is; and no
--- fault of a placement.
+-- What the answer says of an input, and how far that was read: done, or failed to write, only for a module of these records; refused as
+-- the input is; out of memory only where nothing is refused; and no fault of a placement.
 abbrev pub Judges : Profile → List ℕ → List Raw → Option (List ℕ) → Option (List ℕ) → Result (Unit {0}) RunFault → Type 0
 Judges profile input records old new (Ok done) = IsReadFrom profile input records old new
 Judges profile input records old new (Err fault.Write) = IsReadFrom profile input records old new
-Judges profile input records old new (Err (fault.Refused why at)) = IsRefused profile profile_limits input why at
+Judges profile input records old new (Err (fault.Refused why at)) = IsRefused profile profile_limits input why at × EndsAtRefusal profile old new why at
 Judges profile input records old new (Err fault.Memory) = IsUnrefused profile old new ⊎ IsReadFrom profile input records old new
 Judges profile input records old new (Err fault.Read) = ⊤
 Judges profile input records old new (Err (fault.Line n)) = ⊥
@@ -47,34 +45,38 @@ Judges profile input records old new (Err fault.TooLong) = ⊥
 Judges profile input records old new (Err (fault.Reach f)) = ⊥
 
 -- What a run that prints a text of the module's records answers, and what it reads and writes.
-abbrev pub Reports : (List Raw → List ℕ) → Profile → Option (List ℕ) → Option (List ℕ) → Option (List ℕ) → Option (List ℕ) → Result (Unit {0}) RunFault → Type 0
-Reports text profile left left' held held' ran =
-    (records : List Raw) × Prints held held' ran (text records) × ((input : List ℕ) → left ≡ Some input → Judges profile input records left left' ran)
+abbrev pub Reports : (List Raw → List ℕ) → Profile → Device → Device → Device → Device → Result (Unit {0}) RunFault → Type 0
+Reports text profile reader reader' writer writer' ran =
+    (records : List Raw) × Prints writer.bytes writer'.bytes ran (text records) × ((input : List ℕ) → reader.bytes ≡ Some input → Judges profile input records reader.bytes reader'.bytes ran)
 
 -- What a job answers, and what it reads and writes.
-abbrev pub IsRun : Job → Profile → Option (List ℕ) → Option (List ℕ) → Option (List ℕ) → Option (List ℕ) → Result (Unit {0}) RunFault → Type 0
-IsRun job.List profile left left' held held' ran = Reports list_text profile left left' held held' ran
-IsRun job.Check profile left left' held held' ran = Reports check_text profile left left' held held' ran
-IsRun job.Reloc profile left left' held held' ran = IsRelocation profile left held held' ran
+abbrev pub IsRun : Job → Profile → Device → Device → Device → Device → Result (Unit {0}) RunFault → Type 0
+IsRun job.List profile reader reader' writer writer' ran = Reports list_text profile reader reader' writer writer' ran
+IsRun job.Check profile reader reader' writer writer' ran = Reports check_text profile reader reader' writer writer' ran
+IsRun job.Reloc profile reader reader' writer writer' ran = IsRelocation profile reader reader' writer writer' ran
 
--- What is written of a fault: its whole text, or a part of it where the writer failed; or nothing, where the line found no memory.
-abbrev pub Tells : Option (List ℕ) → Option (List ℕ) → ℕ → ℕ → List ℕ → Type 0
-Tells held held' failed fails text = Keeps held held' ⊎ IsWritten held held' failed fails text
+-- What is written of a fault: its whole text, or a part of it where the writer failed; where its line takes memory, it may be nothing.
+abbrev pub Tells : Device → Device → RunFault → Type 0
+Tells old new f = IsWritten old new (fault_text f) ⊎ (IsTrue (takes_memory f) × (new ≡ old))
 
 -- How the program ends after a run: the status is that of the answer, and a fault's text is written.
-abbrev pub IsEnded : Option (List ℕ) → Option (List ℕ) → ℕ → ℕ → Result (Unit {0}) RunFault → ℕ → Type 0
-IsEnded held held' failed fails (Ok done) status = (status ≡ 0) × (held' ≡ held)
-IsEnded held held' failed fails (Err f) status = (status ≡ status_of f) × Tells held held' failed fails (fault_text f)
+abbrev pub IsEnded : Device → Device → Result (Unit {0}) RunFault → ℕ → Type 0
+IsEnded old new (Ok done) status = (status ≡ 0) × (new ≡ old)
+IsEnded old new (Err f) status = (status ≡ status_of f) × Tells old new f
 
 -- The program's answer to words that ask for a job: it ran, and the program ended. A device that is named has failed in the run.
-pub record IsAnswer (asked : Job × Profile) (left left' held held' : Option (List ℕ)) (reads reads' writes writes' : ℕ) (status : ℕ) : Type 0 where
+pub record IsAnswer (asked : Job × Profile) (reader reader' writer writer' : Device) (status : ℕ) : Type 0 where
   pub ran : Result (Unit {0}) RunFault
-  pub between : Option (List ℕ)
-  pub writes_between : ℕ
-  pub run : IsRun asked.0 asked.1 left left' held between ran
-  pub cause : IfErr ran (IsCausedBy reads reads' writes writes_between)
-  pub ended : IsEnded between held' writes_between writes' ran status
+  pub between : Device
+  pub run : IsRun asked.0 asked.1 reader reader' writer between ran
+  pub cause : IsCausedBy reader reader' writer between ran
+  pub ended : IsEnded between writer' ran status
 
--- The program's answer to words that are not understood: how it is called, unless the writer failed; or memory ran out.
-abbrev pub IsMisuse : Option (List ℕ) → Option (List ℕ) → ℕ → ℕ → ℕ → Type 0
-IsMisuse held held' failed fails status = ((status ≡ 2) × IsWritten held held' failed fails usage) ⊎ ((status ≡ 3) × Tells held held' failed fails (fault_text fault.Memory))
+-- The program's answer where memory runs out before its words are read: the line of that fault, unless the writer failed. Nothing is
+-- read.
+abbrev pub IsOutOfMemory : Device → Device → Device → Device → ℕ → Type 0
+IsOutOfMemory reader reader' writer writer' status = (reader' ≡ reader) × (status ≡ 3) × Tells writer writer' fault.Memory
+
+-- The program's answer to words that are not understood: how it is called, unless the writer failed; or memory ran out. Nothing is read.
+abbrev pub IsMisuse : Device → Device → Device → Device → ℕ → Type 0
+IsMisuse reader reader' writer writer' status = ((reader' ≡ reader) × (status ≡ 2) × IsWritten writer writer' usage) ⊎ IsOutOfMemory reader reader' writer writer' status

@@ -1,38 +1,50 @@
 -- What a run of the program answers and writes.
-use Rattle.std.specs.Prelude.{◌≡◌, ◌⊎◌, ◌<◌, ◌≤◌, ℕ, ◌-◌, ◌^◌, ◌++◌, List, Option, Result, Ok, Err}
+use Rattle.std.specs.Prelude.{◌≡◌, ◌⊎◌, ◌≤◌, ℕ, ◌++◌, List, Option, Result, Ok, Err}
 use Rattle.std.specs.Io.KnownBytes.{Appends, Keeps}
+use Rattle.omf_frame.specs.Device.{Device, GivesUp, HasFailed}
 use Rattle.omf_cmd.specs.declared.fault.RunFault.{RunFault}
 use Rattle.omf_cmd.specs.declared.fault.RunFault.TheVariants as fault
 
--- a count of failures rose, or is at its last value
-abbrev pub HasFailed : ℕ → ℕ → Type 0
-HasFailed old new = (old < new) ⊎ (2 ^ 64 - 1 ≤ new)
+-- a device did not break; interruptions of it may have been counted
+abbrev pub IsUnbroken : Device → Device → Type 0
+IsUnbroken old new = (new.breaks ≡ old.breaks) × (old.failures ≤ new.failures)
 
--- a fault comes of the reader only with a failure that is counted, and never of the writer
-abbrev pub IsReadFault : ℕ → ℕ → RunFault → Type 0
-IsReadFault old new fault.Read = HasFailed old new
-IsReadFault old new fault.Write = ⊥
-IsReadFault old new _ = Unit {0}
+-- a device failed: a failure of it was counted; and it was its first break, or the last of a thousand interruptions
+abbrev pub HasGivenUp : Device → Device → Type 0
+HasGivenUp old new = HasFailed old.failures new.failures × GivesUp old new
 
--- a fault comes of the reader or of the writer only with a failure of it that is counted
-abbrev pub IsCausedBy : ℕ → ℕ → ℕ → ℕ → RunFault → Type 0
-IsCausedBy reads_old reads_new writes_old writes_new fault.Read = HasFailed reads_old reads_new
-IsCausedBy reads_old reads_new writes_old writes_new fault.Write = HasFailed writes_old writes_new
-IsCausedBy reads_old reads_new writes_old writes_new _ = Unit {0}
+-- the reader is named where it failed, and else did not break; the writer is not named
+abbrev pub IsReadCause : {A : Type 0} → Device → Device → Result A RunFault → Type 0
+IsReadCause old new (Err fault.Read) = HasGivenUp old new
+IsReadCause old new (Err fault.Write) = ⊥
+IsReadCause old new _ = IsUnbroken old new
 
--- what the writer got: the whole text, a part of it from the front where the writer failed, and nothing at any other fault
-abbrev pub Prints : Option (List ℕ) → Option (List ℕ) → Result (Unit {0}) RunFault → List ℕ → Type 0
-Prints old new (Ok done) text = Appends old new text
-Prints old new (Err fault.Write) text = (front : List ℕ) × (back : List ℕ) × (text ≡ front ++ back) × Appends old new front
-Prints old new (Err e) text = Keeps old new
+-- printing fails for want of memory, or names the writer where it failed; it else did not break
+abbrev pub IsPrintCause : Device → Device → Result (Unit {0}) RunFault → Type 0
+IsPrintCause old new (Ok done) = IsUnbroken old new
+IsPrintCause old new (Err fault.Memory) = IsUnbroken old new
+IsPrintCause old new (Err fault.Write) = HasGivenUp old new
+IsPrintCause old new (Err _) = ⊥
+
+-- the reader or the writer is named where it failed; a device that is not named did not break
+abbrev pub IsCausedBy : Device → Device → Device → Device → Result (Unit {0}) RunFault → Type 0
+IsCausedBy reader reader' writer writer' (Err fault.Read) = HasGivenUp reader reader' × IsUnbroken writer writer'
+IsCausedBy reader reader' writer writer' (Err fault.Write) = IsUnbroken reader reader' × HasGivenUp writer writer'
+IsCausedBy reader reader' writer writer' _ = IsUnbroken reader reader' × IsUnbroken writer writer'
 
 -- a part of the text from the front was written, which may be all of it or nothing
 abbrev pub IsPart : Option (List ℕ) → Option (List ℕ) → List ℕ → Type 0
 IsPart old new text = (front : List ℕ) × (back : List ℕ) × (text ≡ front ++ back) × Appends old new front
 
+-- what the writer got: the whole text, a part of it from the front where the writer failed, and nothing at any other fault
+abbrev pub Prints : Option (List ℕ) → Option (List ℕ) → Result (Unit {0}) RunFault → List ℕ → Type 0
+Prints old new (Ok done) text = Appends old new text
+Prints old new (Err fault.Write) text = IsPart old new text
+Prints old new (Err e) text = Keeps old new
+
 -- the whole text was written; or the writer failed, and a part of it was
-abbrev pub IsWritten : Option (List ℕ) → Option (List ℕ) → ℕ → ℕ → List ℕ → Type 0
-IsWritten old new failed fails text = Appends old new text ⊎ (HasFailed failed fails × IsPart old new text)
+abbrev pub IsWritten : Device → Device → List ℕ → Type 0
+IsWritten old new text = (IsUnbroken old new × Appends old.bytes new.bytes text) ⊎ (HasGivenUp old new × IsPart old.bytes new.bytes text)
 
 -- a front of the text was written, and the rest of it is left
 pub record IsWrittenUpTo (old new : Option (List ℕ)) (text left : List ℕ) : Type 0 where
@@ -52,9 +64,3 @@ PrintsInPieces old new (Ok done) text = Appends old new text
 PrintsInPieces old new (Err fault.Write) text = IsPart old new text
 PrintsInPieces old new (Err fault.Memory) text = IsPart old new text
 PrintsInPieces old new (Err e) text = Keeps old new
-
--- a fault of printing: memory ran out, or the writer failed, with a failure that is counted
-abbrev pub IsPrintFault : ℕ → ℕ → RunFault → Type 0
-IsPrintFault old new fault.Memory = Unit {0}
-IsPrintFault old new fault.Write = HasFailed old new
-IsPrintFault old new _ = ⊥

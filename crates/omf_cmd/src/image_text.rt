@@ -1,11 +1,11 @@
 //! The text of an image and a start: lines of up to 16 bytes for each run of covered bytes.
 
-ghost use Rattle.std.specs.Prelude.{◌≡◌, ◌+◌, ◌^◌, ◌≤◌, ◌++◌, flat_map, length, option_map, IfErr, OnOk, string_bytes};
+ghost use Rattle.std.specs.Prelude.{◌≡◌, ◌+◌, ◌^◌, ◌≤◌, ◌++◌, flat_map, length, option_map, OnOk, string_bytes};
 ghost use Rattle.omf_image.specs.Joined.{runs_of};
 ghost use Rattle.omf_image.specs.Overlay.{byte_at};
 ghost use Rattle.omf_cmd.specs.Relocated.{run_lines, start_line, image_text};
 ghost use Rattle.omf_cmd.specs.RunLines.{place_text, byte_text, line_text, lines_of, segments_text, IsRunShown};
-ghost use Rattle.omf_cmd.specs.Runs.{Passes, PrintsInPieces, IsPrintFault};
+ghost use Rattle.omf_cmd.specs.Runs.{Passes, PrintsInPieces, IsPrintCause};
 
 use crate::fault::RunFault;
 use crate::output::{write_all, write_piece};
@@ -51,9 +51,8 @@ fn print_run<K: Sink>(
     bytes: &[u8],
 ) -> Result<(), RunFault>
     requires { first + length bytes.now ≤ 2 ^ 32 }
-    ensures passes { Passes (K.held writer.old) (K.held writer.new) result (string_bytes text.old ++ lines_of segment first bytes.now) (string_bytes text.new) }
-    ensures fault { IfErr result (IsPrintFault (K.failures writer.old) (K.failures writer.new)) }
-    ensures grows { K.failures writer.old ≤ K.failures writer.new }
+    ensures passes { Passes (K.seen writer.old).bytes (K.seen writer.new).bytes result (string_bytes text.old ++ lines_of segment first bytes.now) (string_bytes text.new) }
+    ensures cause { IsPrintCause (K.seen writer.old) (K.seen writer.new) result }
 {
     let mut offset = u64::from(first);
     let mut rest = bytes;
@@ -83,9 +82,8 @@ fn print_runs<K: Sink>(
     image: &Image,
     segment: u16,
 ) -> Result<(), RunFault>
-    ensures passes { Passes (K.held writer.old) (K.held writer.new) result (string_bytes text.old ++ flat_map (run_lines segment (byte_at image.now segment)) (runs_of image.now segment)) (string_bytes text.new) }
-    ensures fault { IfErr result (IsPrintFault (K.failures writer.old) (K.failures writer.new)) }
-    ensures grows { K.failures writer.old ≤ K.failures writer.new }
+    ensures passes { Passes (K.seen writer.old).bytes (K.seen writer.new).bytes result (string_bytes text.old ++ flat_map (run_lines segment (byte_at image.now segment)) (runs_of image.now segment)) (string_bytes text.new) }
+    ensures cause { IsPrintCause (K.seen writer.old) (K.seen writer.new) result }
 {
     let mut k = 0;
     while let Some((first, bytes)) = numbered_run(image, segment, k) {
@@ -114,9 +112,8 @@ fn print_segments<K: Sink>(
     image: &Image,
     segments: u16,
 ) -> Result<(), RunFault>
-    ensures passes { Passes (K.held writer.old) (K.held writer.new) result (string_bytes text.old ++ segments_text segments (byte_at image.now) (runs_of image.now)) (string_bytes text.new) }
-    ensures fault { IfErr result (IsPrintFault (K.failures writer.old) (K.failures writer.new)) }
-    ensures grows { K.failures writer.old ≤ K.failures writer.new }
+    ensures passes { Passes (K.seen writer.old).bytes (K.seen writer.new).bytes result (string_bytes text.old ++ segments_text segments (byte_at image.now) (runs_of image.now)) (string_bytes text.new) }
+    ensures cause { IsPrintCause (K.seen writer.old) (K.seen writer.new) result }
 {
     for before in 0..segments {
         print_runs(writer, text, image, before + 1)?;
@@ -137,8 +134,8 @@ pub fn print_image<K: Sink>(
     segments: u16,
     start: Option<(u16, u32)>,
 ) -> Result<(), RunFault>
-    ensures prints { PrintsInPieces (K.held writer.old) (K.held writer.new) result (image_text segments (byte_at image.now) (runs_of image.now) start) }
-    ensures fault { IfErr result (IsPrintFault (K.failures writer.old) (K.failures writer.new)) }
+    ensures prints { PrintsInPieces (K.seen writer.old).bytes (K.seen writer.new).bytes result (image_text segments (byte_at image.now) (runs_of image.now) start) }
+    ensures cause { IsPrintCause (K.seen writer.old) (K.seen writer.new) result }
 {
     let mut text = String::new(alloc);
     print_segments(writer, &mut text, image, segments)?;

@@ -1,12 +1,11 @@
 //! The program over its words, a reader and a writer: what it prints and which status it ends with.
 
-ghost use Rattle.omf_cmd.specs.declared.fault.RunFault.TheVariants.{Memory};
-ghost use Rattle.std.specs.Prelude.{◌≡◌, ◌⊎◌, ◌≤◌, ◌++◌, ◌∷◌, [], ℕ, List, map, string_bytes, IfErr, IfOk, OnOk, Some, None};
+ghost use Rattle.std.specs.Prelude.{◌≡◌, ◌⊎◌, ◌≤◌, ◌++◌, ◌∷◌, [], map, string_bytes, IfOk, IfSome, IsTrue, OnOk, Some, None};
 ghost use Rattle.clap.specs.Words.{fault_of, subcommand_of};
 ghost use Rattle.omf_cmd.specs.Parsed.{omf_app};
 ghost use Rattle.omf_check.specs.declared.profile.Profile.{Profile};
-ghost use Rattle.omf_cmd.specs.FaultLine.{fault_line, fault_text};
-ghost use Rattle.omf_cmd.specs.Reports.{IsRun, IsAnswer, IsMisuse, Tells};
+ghost use Rattle.omf_cmd.specs.FaultLine.{fault_line, fault_text, takes_memory};
+ghost use Rattle.omf_cmd.specs.Reports.{IsRun, IsAnswer, IsMisuse, IsOutOfMemory, Tells};
 ghost use Rattle.omf_cmd.specs.Runs.{IsCausedBy, IsWritten};
 ghost use Rattle.omf_cmd.specs.Words.{asks, status_of, usage};
 ghost use Rattle.omf_cmd.specs.declared.words.Job.{Job};
@@ -42,8 +41,8 @@ fn run<S: Source, K: Sink>(
     reader: &mut S,
     writer: &mut K,
 ) -> Result<(), RunFault>
-    ensures cause { IfErr result (IsCausedBy (S.failures reader.old) (S.failures reader.new) (K.failures writer.old) (K.failures writer.new)) }
-    ensures runs { IsRun job profile (S.left reader.old) (S.left reader.new) (K.held writer.old) (K.held writer.new) result }
+    ensures cause { IsCausedBy (S.seen reader.old) (S.seen reader.new) (K.seen writer.old) (K.seen writer.new) result }
+    ensures runs { IsRun job profile (S.seen reader.old) (S.seen reader.new) (K.seen writer.old) (K.seen writer.new) result }
 {
     match job {
         Job::List => run_list(alloc, profile, reader, writer),
@@ -52,8 +51,22 @@ fn run<S: Source, K: Sink>(
     }
 }
 
+/// What is printed of a fault whose line is always the same; nothing of a writer that has failed. None where the line tells numbers.
+fn fixed_text(fault: &RunFault) -> Option<&'static str>
+    ensures text { IfSome result (λ text. text.now ≡ fault_text fault.now) }
+    ensures none { result ≡ None → IsTrue (takes_memory fault.now) }
+{
+    match fault {
+        RunFault::Memory => Some("memory\n"),
+        RunFault::Read => Some("read\n"),
+        RunFault::Write => Some(""),
+        RunFault::TooLong => Some("placement too long\n"),
+        RunFault::Refused { .. } | RunFault::Line(_) | RunFault::Reach(_) => None,
+    }
+}
+
 /// A fault's line and a line feed.
-fn fault_text(alloc: Global, fault: &RunFault) -> Result<String, AllocError>
+fn line_text(alloc: Global, fault: &RunFault) -> Result<String, AllocError>
     ensures { IfOk result (λ text. string_bytes text ≡ fault_line fault.now ++ 10 ∷ []) }
 {
     let mut text = fault_line(alloc, fault)?;
@@ -61,14 +74,17 @@ fn fault_text(alloc: Global, fault: &RunFault) -> Result<String, AllocError>
     Ok(text)
 }
 
-/// Prints a fault's line, where its text finds memory; nothing where the writer has failed already. A failure to print is passed over.
+/// Prints a fault's line; nothing where the writer has failed already, nor where a line that tells numbers finds no memory. A failure to
+/// print is passed over.
 fn print_fault<K: Sink>(alloc: Global, fault: &RunFault, writer: &mut K)
-    ensures { Tells (K.held writer.old) (K.held writer.new) (K.failures writer.old) (K.failures writer.new) (fault_text fault.now) }
+    ensures { Tells (K.seen writer.old) (K.seen writer.new) fault.now }
 {
-    match fault {
-        RunFault::Write => {}
-        _ => {
-            if let Ok(text) = fault_text(alloc, fault) {
+    match fixed_text(fault) {
+        Some(text) => {
+            let _ = write_all(writer, text.as_bytes());
+        }
+        None => {
+            if let Ok(text) = line_text(alloc, fault) {
                 let _ = write_all(writer, text.as_bytes());
             }
         }
@@ -78,7 +94,7 @@ fn print_fault<K: Sink>(alloc: Global, fault: &RunFault, writer: &mut K)
 /// Prints a fault's line, and answers its exit status.
 pub fn fail<K: Sink>(alloc: Global, fault: &RunFault, writer: &mut K) -> u8
     ensures status { result ≡ status_of fault.now }
-    ensures prints { Tells (K.held writer.old) (K.held writer.new) (K.failures writer.old) (K.failures writer.new) (fault_text fault.now) }
+    ensures prints { Tells (K.seen writer.old) (K.seen writer.new) fault.now }
 {
     print_fault(alloc, fault, writer);
     status_of(fault)
@@ -86,7 +102,7 @@ pub fn fail<K: Sink>(alloc: Global, fault: &RunFault, writer: &mut K) -> u8
 
 /// Prints how the program is called. A failure to print is passed over.
 fn print_usage<K: Sink>(writer: &mut K)
-    ensures { IsWritten (K.held writer.old) (K.held writer.new) (K.failures writer.old) (K.failures writer.new) usage }
+    ensures { IsWritten (K.seen writer.old) (K.seen writer.new) usage }
 {
     let _ = write_all(writer, USAGE);
 }
@@ -100,12 +116,12 @@ pub fn main_with<S: Source, K: Sink>(
     writer: &mut K,
 ) -> u8
     ensures known { result ≤ 3 }
-    // Where the words ask for a job, it was run, and the status and what was written tell its answer.
-    ensures answer { (asked : Job × Profile) → asks (map string_bytes words.now) ≡ Some asked → IsAnswer asked (S.left reader.old) (S.left reader.new) (K.held writer.old) (K.held writer.new) (S.failures reader.old) (S.failures reader.new) (K.failures writer.old) (K.failures writer.new) result ⊎ ((result ≡ 3) × Tells (K.held writer.old) (K.held writer.new) (K.failures writer.old) (K.failures writer.new) (fault_text Memory)) }
+    // Where the words ask for a job, it was run, and the status and what was written tell its answer; or memory ran out before.
+    ensures answer { (asked : Job × Profile) → asks (map string_bytes words.now) ≡ Some asked → IsAnswer asked (S.seen reader.old) (S.seen reader.new) (K.seen writer.old) (K.seen writer.new) result ⊎ IsOutOfMemory (S.seen reader.old) (S.seen reader.new) (K.seen writer.old) (K.seen writer.new) result }
     // Where the words name no subcommand, the program says how it is called.
-    ensures nothing { subcommand_of omf_app (map string_bytes words.now) ≡ None → IsMisuse (K.held writer.old) (K.held writer.new) (K.failures writer.old) (K.failures writer.new) result }
+    ensures nothing { subcommand_of omf_app (map string_bytes words.now) ≡ None → IsMisuse (S.seen reader.old) (S.seen reader.new) (K.seen writer.old) (K.seen writer.new) result }
     // Where clap refuses the words, the program says how it is called.
-    ensures misuse { (fault_of omf_app (map string_bytes words.now) ≡ [] → ⊥) → IsMisuse (K.held writer.old) (K.held writer.new) (K.failures writer.old) (K.failures writer.new) result }
+    ensures misuse { (fault_of omf_app (map string_bytes words.now) ≡ [] → ⊥) → IsMisuse (S.seen reader.old) (S.seen reader.new) (K.seen writer.old) (K.seen writer.new) result }
 {
     let ran = match command(alloc, words) {
         Ok(Some((job, profile))) => run(alloc, job, profile, reader, writer),

@@ -1,12 +1,13 @@
 //! The run of `reloc`, from a reader to a writer.
 
-ghost use Rattle.std.specs.Prelude.{◌≡◌, ◌≤◌, ℕ, List, Some, length, IfErr};
+ghost use Rattle.std.specs.Prelude.{◌≡◌, ℕ, List, Some};
 ghost use Rattle.omf_image.specs.Limits.{profile_limits};
 ghost use Rattle.omf_check.specs.Module.{records_in};
 ghost use Rattle.omf_check.specs.WellFormed.{recs};
-ghost use Rattle.omf_cmd.specs.Outcome.{reloc_outcome, text_limit};
-ghost use Rattle.omf_cmd.specs.Relocating.{Answers, IsOutcome, IsRelocation};
-ghost use Rattle.omf_cmd.specs.Runs.{IsCausedBy, IsReadFault};
+ghost use Rattle.omf_reloc.specs.PlacementText.{IsAnswer, parsed};
+ghost use Rattle.omf_cmd.specs.Outcome.{placement_of};
+ghost use Rattle.omf_cmd.specs.Relocating.{IsAnswered, IsRelocation, IsShown};
+ghost use Rattle.omf_cmd.specs.Runs.{IsCausedBy, IsReadCause};
 
 use crate::fault::RunFault;
 use crate::image_text::print_image;
@@ -14,7 +15,7 @@ use crate::input::read_text;
 use omf_check::{Checked, Profile, check};
 use omf_frame::{Sink, Source};
 use omf_image::Image;
-use omf_reloc::{parse_placement, reach, relocate, start};
+use omf_reloc::{Placement, TextFault, parse_placement, reach, relocate, start};
 use std::alloc::Global;
 use std::marker::Model;
 
@@ -51,11 +52,12 @@ pub fn run_reloc<S: Source, K: Sink>(
     reader: &mut S,
     writer: &mut K,
 ) -> Result<(), RunFault>
-    // A failing reader or writer is named only where its count of failures rose, or stands at its last value.
-    ensures cause { IfErr result (IsCausedBy (S.failures reader.old) (S.failures reader.new) (K.failures writer.old) (K.failures writer.new)) }
+    // A reader or a writer is named only where it failed: at once, or after a thousand interruptions. Else it did not break.
+    ensures cause { IsCausedBy (S.seen reader.old) (S.seen reader.new) (K.seen writer.old) (K.seen writer.new) result }
     // The answer is that of the definition, and the whole text is written, or where the writer failed or memory ran out a part of it
     // from the front.
-    ensures prints { IsRelocation profile (S.left reader.old) (K.held writer.old) (K.held writer.new) result }
+    // A refusal is read as far as decides it, a text that is too long to the first byte beyond its limit, and all else to the end.
+    ensures prints { IsRelocation profile (S.seen reader.old) (S.seen reader.new) (K.seen writer.old) (K.seen writer.new) result }
 {
     let listing = listed(alloc, profile, reader)?;
     print_image(
@@ -69,24 +71,30 @@ pub fn run_reloc<S: Source, K: Sink>(
 
 /// What is to be printed of the module and the placement text that the reader gives.
 fn listed<S: Source>(alloc: Global, profile: Profile, reader: &mut S) -> Result<Listing, RunFault>
-    ensures answer { (input : List ℕ) → S.left reader.old ≡ Some input → Answers profile input result }
-    ensures cause { IfErr result (IsReadFault (S.failures reader.old) (S.failures reader.new)) }
+    ensures answer { (input : List ℕ) → (S.seen reader.old).bytes ≡ Some input → IsAnswered profile input (S.seen reader.old).bytes (S.seen reader.new).bytes result }
+    ensures cause { IsReadCause (S.seen reader.old) (S.seen reader.new) result }
 {
     let checked = check(alloc, reader, profile)?;
     let text = read_text(alloc, reader)?;
-    relocated(alloc, &checked, &text)
+    let placement = placed(alloc, &checked, &text)?;
+    listing_of(alloc, &checked, &placement)
 }
 
-/// What is to be printed of a module at the placement that a text gives it.
-fn relocated(alloc: Global, checked: &Checked, text: &[u8]) -> Result<Listing, RunFault>
-    requires { length text.now ≤ text_limit }
-    ensures { IsOutcome (reloc_outcome profile_limits (recs (records_in checked.now.bytes)) text.now) result }
+/// The placement that a text gives a module.
+fn placed(alloc: Global, checked: &Checked, text: &[u8]) -> Result<Placement, TextFault>
+    ensures { IsAnswer (placement_of (recs (records_in checked.now.bytes)) (parsed text.now)) result }
 {
     let draft = parse_placement(alloc, text)?;
-    let placement = draft.resolve(alloc, checked)?;
-    reach(checked, &placement)?;
-    let image = relocate(alloc, checked, &placement)?;
-    let start = start(checked, &placement);
+    draft.resolve(alloc, checked)
+}
+
+/// What is to be printed of a module at a placement. Where it does not reach, that is the answer, whatever memory there is.
+fn listing_of(alloc: Global, checked: &Checked, placement: &Placement) -> Result<Listing, RunFault>
+    ensures { IsShown profile_limits (recs (records_in checked.now.bytes)) placement.now result }
+{
+    reach(checked, placement)?;
+    let image = relocate(alloc, checked, placement)?;
+    let start = start(checked, placement);
     let segments = checked.segments();
     Ok(Listing {
         image,

@@ -2,7 +2,7 @@
 
 ghost use Rattle.std.specs.Prelude.{IfErr};
 ghost use Rattle.omf_cmd.specs.Listing.{check_text, list_text};
-ghost use Rattle.omf_cmd.specs.Reports.{Reports};
+ghost use Rattle.omf_cmd.specs.Reports.{IsModuleFault, Reports};
 ghost use Rattle.omf_cmd.specs.Runs.{IsCausedBy};
 
 use crate::fault::RunFault;
@@ -24,10 +24,12 @@ pub fn run_check<S: Source, K: Sink>(
     reader: &mut S,
     writer: &mut K,
 ) -> Result<(), RunFault>
-    // A failing reader or writer is named only where its count of failures rose, or stands at its last value.
-    ensures cause { IfErr result (IsCausedBy (S.failures reader.old) (S.failures reader.new) (K.failures writer.old) (K.failures writer.new)) }
+    // A reader or a writer is named only where it failed: at once, or after a thousand interruptions. Else it did not break.
+    ensures cause { IsCausedBy (S.seen reader.old) (S.seen reader.new) (K.seen writer.old) (K.seen writer.new) result }
+    // No fault of a placement is named, whatever the reader tells.
+    ensures module { IfErr result IsModuleFault }
     // The answer is that of the definition, and the whole text is written, or where the writer failed a part of it from the front.
-    ensures prints { Reports check_text profile (S.left reader.old) (S.left reader.new) (K.held writer.old) (K.held writer.new) result }
+    ensures prints { Reports check_text profile (S.seen reader.old) (S.seen reader.new) (K.seen writer.old) (K.seen writer.new) result }
 {
     let checked = check(alloc, reader, profile)?;
     let text = check_text(alloc, &checked)?;
@@ -46,10 +48,12 @@ pub fn run_list<S: Source, K: Sink>(
     reader: &mut S,
     writer: &mut K,
 ) -> Result<(), RunFault>
-    // A failing reader or writer is named only where its count of failures rose, or stands at its last value.
-    ensures cause { IfErr result (IsCausedBy (S.failures reader.old) (S.failures reader.new) (K.failures writer.old) (K.failures writer.new)) }
+    // A reader or a writer is named only where it failed: at once, or after a thousand interruptions. Else it did not break.
+    ensures cause { IsCausedBy (S.seen reader.old) (S.seen reader.new) (K.seen writer.old) (K.seen writer.new) result }
+    // No fault of a placement is named, whatever the reader tells.
+    ensures module { IfErr result IsModuleFault }
     // The answer is that of the definition, and the whole text is written, or where the writer failed a part of it from the front.
-    ensures prints { Reports list_text profile (S.left reader.old) (S.left reader.new) (K.held writer.old) (K.held writer.new) result }
+    ensures prints { Reports list_text profile (S.seen reader.old) (S.seen reader.new) (K.seen writer.old) (K.seen writer.new) result }
 {
     let checked = check(alloc, reader, profile)?;
     let text = list_text(alloc, &checked)?;

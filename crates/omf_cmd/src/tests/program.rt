@@ -106,6 +106,14 @@ fn prints_what_it_is_refused_for(rt: HostRuntime) -> Result<(), Fail> {
         1,
         b"placement line 2\n",
     )?;
+    let long = vec![in rt.alloc(); b' '; 4_194_305]?;
+    ends_on(
+        &rt,
+        &["omf", "reloc"],
+        &[header, names, segment, data, fixup, end, &long],
+        1,
+        b"placement too long\n",
+    )?;
     Ok(())
 }
 

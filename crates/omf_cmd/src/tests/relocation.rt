@@ -662,3 +662,37 @@ fn limits_a_text_of_spaces(rt: HostRuntime) -> Result<(), Fail> {
     stops(&rt, &records, &text, RunFault::TooLong)?;
     Ok(())
 }
+
+/// Of a text that is too long the first byte beyond its limit is read, and none behind that.
+#[test]
+fn reads_one_byte_beyond_the_limit(rt: HostRuntime) -> Result<(), Fail> {
+    let mut input = input_of(rt.alloc(), &fixed_by(FIXUP), b"")?;
+    input.resize(input.len() + 4_194_305, b' ')?;
+    input.extend_from_slice(b"behind")?;
+    for piece in [usize::MAX, 65_535, 4_096] {
+        let mut reader = Script::new(&input, Then::Ends).in_pieces(piece);
+        let run = run_by(rt.alloc(), ANY, &mut reader)?;
+        assert_eq!(rt; run.answer, Err(RunFault::TooLong));
+        let mut behind = [0; 16];
+        let count = reader.pull(&mut behind)?;
+        assert_eq!(rt; behind.as_slice().split_at(count).0, b"behind".as_slice());
+    }
+    Ok(())
+}
+
+/// Of a module that is refused nothing is read behind what decides that.
+#[test]
+fn leaves_what_follows_a_refusal(rt: HostRuntime) -> Result<(), Fail> {
+    let unchecked = "96 04 00 00 01 54 12";
+    for records in [[HEADER, "C2"], [HEADER, "96 00 00"], [HEADER, unchecked]] {
+        let module = input_of(rt.alloc(), &records, b"")?;
+        let mut input = input_of(rt.alloc(), &records, b"")?;
+        input.extend_from_slice(b"behind")?;
+        let mut reader = Script::new(&input, Then::Ends);
+        let run = run_by(rt.alloc(), ANY, &mut reader)?;
+        let mut behind = [0; 64];
+        let count = reader.pull(&mut behind)?;
+        assert_eq!(rt; count, 6, "behind {} bytes: {:?}", module.len(), run.answer);
+    }
+    Ok(())
+}

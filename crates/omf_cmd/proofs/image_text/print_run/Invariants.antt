@@ -1,15 +1,15 @@
 use Rattle.std.proofs.Common.{◌≡◌, ◌≤◌, ◌+◌, ◌++◌, length}
 use Rattle.std.specs.Prelude.{string_bytes}
 use Rattle.omf_cmd.specs.RunLines.{lines_of}
-use Rattle.omf_cmd.specs.Runs.{IsWrittenUpTo}
+use Rattle.omf_cmd.specs.Runs.{IsUnbroken, IsWrittenUpTo}
 use Rattle.omf_cmd.proofs.image_text.print_run.Given as goal
 
 -- what is kept, and the lines of what is left, are still to be written
 abbrev pub invariant-loop-rest : goal.invariant-loop-rest
 invariant-loop-rest g l = record {
-  written : IsWrittenUpTo (g.K.Sink.held l.initial.writer) (g.K.Sink.held l.writer) (string_bytes l.initial.text ++ lines_of l.segment l.first l.bytes) (string_bytes l.text ++ lines_of l.segment l.offset l.rest);
+  written : IsWrittenUpTo (g.K.Sink.seen l.initial.writer).bytes (g.K.Sink.seen l.writer).bytes (string_bytes l.initial.text ++ lines_of l.segment l.first l.bytes) (string_bytes l.text ++ lines_of l.segment l.offset l.rest);
   ends : l.offset + length l.rest ≡ l.first + length l.bytes;
-  grows : g.K.Sink.failures l.initial.writer ≤ g.K.Sink.failures l.writer;
+  unbroken : IsUnbroken (g.K.Sink.seen l.initial.writer) (g.K.Sink.seen l.writer);
 }
 
 abbrev pub decreases-loop-rest : goal.decreases-loop-rest

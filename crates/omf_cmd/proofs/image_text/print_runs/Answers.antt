@@ -1,10 +1,11 @@
-use Rattle.std.proofs.Common.{◌++◌, ℕ, List, ap, arith, subst, append-nil, ◌∙◌}
+use Rattle.std.proofs.Common.{Err, ◌++◌, ℕ, List, ap, arith, subst, append-nil, ◌∙◌}
 use Rattle.std.specs.Prelude.{flat_map, string_bytes}
+use Rattle.std.proofs.lemmas.Result.{err_from_is_err_and}
 use Rattle.omf_image.specs.Overlay.{byte_at}
 use Rattle.omf_image.specs.declared.run.Run.{Run}
 use Rattle.omf_cmd.specs.Relocated.{run_lines}
 use Rattle.omf_cmd.specs.Runs.{IsWrittenUpTo}
-use Rattle.omf_cmd.proofs.Pieces.{stopped_by, went_on}
+use Rattle.omf_cmd.proofs.Pieces.{cause_later, stopped_by, unbroken_on, went_on}
 use Rattle.omf_cmd.proofs.RunLines.{number_bounds, run_and_others, no_others}
 use Rattle.omf_cmd.proofs.image_text.print_runs.Goals as goal
 
@@ -30,7 +31,7 @@ loop-first-preserved g c =
     record {
       within = omega (arith, bounds.0);
       written = went_on _ _ _ _ _ _ _ _ c.loop-first.invariant.written due c.in_ok-print_run.ensures.passes;
-      grows = omega arith;
+      unbroken = unbroken_on (g.K.Sink.seen c.args.writer.now) (g.K.Sink.seen c.loop-first.writer) (g.K.Sink.seen c.print_run.new.writer) c.loop-first.invariant.unbroken c.in_ok-print_run.ensures.cause;
     }
 
 pub returns-clause-passes : goal.returns-clause-passes
@@ -38,3 +39,10 @@ returns-clause-passes g c =
     let shown : Run → List ℕ = run_lines c.args.segment (byte_at c.args.image.now c.args.segment) in
     let left = ap (λ (rs : List Run). string_bytes c.loop-first.text ++ flat_map shown rs) (no_others c.args.image.now c.args.segment c.loop-first.k c.in_default.ensures) ∙ append-nil (string_bytes c.loop-first.text) in
     subst (IsWrittenUpTo _ _ _) left c.loop-first.invariant.written
+
+pub returns-in_err-print_run-clause-cause : goal.returns-in_err-print_run-clause-cause
+returns-in_err-print_run-clause-cause g c =
+    let e = err_from_is_err_and c.from_residual.result c.from_residual.ensures.1 in
+    rw (e.1, e.2) (
+    cause_later (g.K.Sink.seen c.args.writer.now) (g.K.Sink.seen c.loop-first.writer) (g.K.Sink.seen c.print_run.new.writer) (Err c.in_err-print_run.field-0.0)
+    c.loop-first.invariant.unbroken c.in_err-print_run.ensures.cause)

@@ -3,17 +3,17 @@ use Rattle.std.specs.Prelude.{string_bytes, flat_map}
 use Rattle.omf_image.specs.Joined.{runs_of}
 use Rattle.omf_image.specs.Overlay.{byte_at}
 use Rattle.omf_cmd.specs.Relocated.{run_lines}
-use Rattle.omf_cmd.specs.Runs.{IsWrittenUpTo}
+use Rattle.omf_cmd.specs.Runs.{IsUnbroken, IsWrittenUpTo}
 use Rattle.omf_cmd.proofs.image_text.print_runs.Given as goal
 
 -- what is kept, and the runs that are left, are still to be written
 abbrev pub invariant-loop-first : goal.invariant-loop-first
 invariant-loop-first g l = record {
   within : l.k ≤ length (runs_of l.image l.segment);
-  written : IsWrittenUpTo (g.K.Sink.held l.initial.writer) (g.K.Sink.held l.writer)
+  written : IsWrittenUpTo (g.K.Sink.seen l.initial.writer).bytes (g.K.Sink.seen l.writer).bytes
       (string_bytes l.initial.text ++ flat_map (run_lines l.segment (byte_at l.image l.segment)) (runs_of l.image l.segment))
       (string_bytes l.text ++ flat_map (run_lines l.segment (byte_at l.image l.segment)) (drop l.k (runs_of l.image l.segment)));
-  grows : g.K.Sink.failures l.initial.writer ≤ g.K.Sink.failures l.writer;
+  unbroken : IsUnbroken (g.K.Sink.seen l.initial.writer) (g.K.Sink.seen l.writer);
 }
 
 abbrev pub decreases-loop-first : goal.decreases-loop-first

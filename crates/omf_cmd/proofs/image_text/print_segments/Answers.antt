@@ -1,9 +1,10 @@
-use Rattle.std.proofs.Common.{ℕ, List, arith}
+use Rattle.std.proofs.Common.{Err, ℕ, List, arith}
 use Rattle.std.specs.Prelude.{flat_map, string_bytes}
+use Rattle.std.proofs.lemmas.Result.{err_from_is_err_and}
 use Rattle.omf_image.specs.Joined.{runs_of}
 use Rattle.omf_image.specs.Overlay.{byte_at}
 use Rattle.omf_cmd.specs.Relocated.{run_lines}
-use Rattle.omf_cmd.proofs.Pieces.{stopped_by, went_on}
+use Rattle.omf_cmd.proofs.Pieces.{cause_later, stopped_by, unbroken_on, went_on}
 use Rattle.omf_cmd.proofs.RunLines.{segment_and_others}
 use Rattle.omf_cmd.proofs.image_text.print_segments.Goals as goal
 
@@ -19,5 +20,12 @@ loop-before-preserved g c =
     let due = segment_and_others shown c.loop-before.before c.args.segments (string_bytes c.loop-before.text) (omega arith) in
     record {
       written = went_on _ _ _ _ _ _ _ _ c.loop-before.invariant.written due c.in_ok-print_runs.ensures.passes;
-      grows = omega arith;
+      unbroken = unbroken_on (g.K.Sink.seen c.args.writer.now) (g.K.Sink.seen c.loop-before.writer) (g.K.Sink.seen c.print_runs.new.writer) c.loop-before.invariant.unbroken c.in_ok-print_runs.ensures.cause;
     }
+
+pub returns-in_err-print_runs-clause-cause : goal.returns-in_err-print_runs-clause-cause
+returns-in_err-print_runs-clause-cause g c =
+    let e = err_from_is_err_and c.from_residual.result c.from_residual.ensures.1 in
+    rw (e.1, e.2) (
+    cause_later (g.K.Sink.seen c.args.writer.now) (g.K.Sink.seen c.loop-before.writer) (g.K.Sink.seen c.print_runs.new.writer) (Err c.in_err-print_runs.field-0.0)
+    c.loop-before.invariant.unbroken c.in_err-print_runs.ensures.cause)

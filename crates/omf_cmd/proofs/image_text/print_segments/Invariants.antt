@@ -5,14 +5,14 @@ use Rattle.omf_image.specs.Joined.{runs_of}
 use Rattle.omf_image.specs.Overlay.{byte_at}
 use Rattle.omf_cmd.specs.Relocated.{run_lines}
 use Rattle.omf_cmd.specs.RunLines.{segments_text}
-use Rattle.omf_cmd.specs.Runs.{IsWrittenUpTo}
+use Rattle.omf_cmd.specs.Runs.{IsUnbroken, IsWrittenUpTo}
 use Rattle.omf_cmd.proofs.image_text.print_segments.Given as goal
 
 -- what is kept, and the segments that are left, are still to be written
 abbrev pub invariant-loop-before : goal.invariant-loop-before
 invariant-loop-before g l = record {
-  written : IsWrittenUpTo (g.K.Sink.held l.initial.writer) (g.K.Sink.held l.writer)
+  written : IsWrittenUpTo (g.K.Sink.seen l.initial.writer).bytes (g.K.Sink.seen l.writer).bytes
       (string_bytes l.initial.text ++ segments_text l.segments (byte_at l.image) (runs_of l.image))
       (string_bytes l.text ++ flat_map (λ segment. flat_map (run_lines segment (byte_at l.image segment)) (runs_of l.image segment)) (range_with_len (l.before + 1) (l.segments - l.before)));
-  grows : g.K.Sink.failures l.initial.writer ≤ g.K.Sink.failures l.writer;
+  unbroken : IsUnbroken (g.K.Sink.seen l.initial.writer) (g.K.Sink.seen l.writer);
 }

@@ -1,10 +1,5 @@
-use Rattle.std.proofs.Common.{rules}
-use Rattle.omf_frame.proofs.Pushed.{more_pushed}
+use Rattle.omf_frame.proofs.Tries.{last_try}
 use Rattle.omf_cmd.proofs.output.write_all.Goals as goal
 
-pub loop-rest-preserved-in-Ok : goal.loop-rest-preserved-in-Ok
-loop-rest-preserved-in-Ok g c = record {
-  partly = search (rules, more_pushed);
-  patient = search rules;
-  grows = search rules;
-}
+pub returns-in-Err-clause-cause : goal.returns-in-Err-clause-cause
+returns-in-Err-clause-cause g c = (c.in-Err.ensures.cause, last_try _ _ _ c.in-Err.ensures.tried)

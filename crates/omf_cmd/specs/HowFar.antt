@@ -1,0 +1,50 @@
+-- How far a run reads: no further than decides its answer.
+use Rattle.std.specs.Prelude.{◌≡◌, ◌⊎◌, ◌≤◌, ⊤, ℕ, ◌+◌, List, ◌++◌, length, Option, Result, Ok, Err}
+use Rattle.std.specs.Io.KnownBytes.{Consumes}
+use Rattle.omf_frame.specs.Framing.{Raw}
+use Rattle.omf_frame.specs.declared.fault.Place.{Place}
+use Rattle.omf_frame.specs.declared.fault.Reason.{Reason}
+use Rattle.omf_image.specs.Limits.{profile_limits}
+use Rattle.omf_check.specs.Checking.{IsCheckFault, IsReadTo}
+use Rattle.omf_check.specs.WellFormed.{IsAccepted}
+use Rattle.omf_check.specs.declared.fault.CheckFault.TheVariants as check
+use Rattle.omf_check.specs.declared.profile.Profile.{Profile}
+use Rattle.omf_cmd.specs.Outcome.{text_limit}
+use Rattle.omf_cmd.specs.declared.fault.RunFault.{RunFault}
+use Rattle.omf_cmd.specs.declared.fault.RunFault.TheVariants as fault
+
+-- What was read is refused so, and is no more than decides that.
+abbrev pub EndsAtRefusal : Profile → Option (List ℕ) → Option (List ℕ) → Reason → Place → Type 0
+EndsAtRefusal profile old new why at = (read : List ℕ) × Consumes old new read × IsReadTo profile read new why at
+
+-- No refusal is found in what was read: what a check says where memory runs out, whatever failed before.
+abbrev pub IsUnrefused : Profile → Option (List ℕ) → Option (List ℕ) → Type 0
+IsUnrefused profile old new = IsCheckFault profile old new 0 0 check.Memory
+
+-- The input begins with a module of these records, and exactly its bytes were read.
+pub record IsReadFrom (profile : Profile) (input : List ℕ) (records : List Raw) (old new : Option (List ℕ)) : Type 0 where
+  pub accepted : IsAccepted profile profile_limits input records
+  pub read : Consumes old new accepted.bytes
+
+-- The input begins with a module, and its bytes and so many of what follows were read.
+pub record IsReadPast (profile : Profile) (input : List ℕ) (old new : Option (List ℕ)) (count : ℕ) : Type 0 where
+  pub records : List Raw
+  pub accepted : IsAccepted profile profile_limits input records
+  pub text : List ℕ
+  pub read : Consumes old new (accepted.bytes ++ text)
+  pub counted : length text ≡ count
+
+-- Nothing that was read decides a fault: no refusal is found in it; or it is a module and no more of a text than may be.
+abbrev pub IsUndecided : Profile → List ℕ → Option (List ℕ) → Option (List ℕ) → Type 0
+IsUndecided profile input old new = IsUnrefused profile old new ⊎ ((count : ℕ) × (count ≤ text_limit) × IsReadPast profile input old new count)
+
+-- How far `reloc` reads an input, by its answer: to where it is refused, to the first byte that a text may not have, or all of it.
+abbrev pub IsReadFor : Profile → List ℕ → Option (List ℕ) → Option (List ℕ) → Result (List ℕ) RunFault → Type 0
+IsReadFor profile input old new (Ok done) = Consumes old new input
+IsReadFor profile input old new (Err fault.Write) = Consumes old new input
+IsReadFor profile input old new (Err (fault.Line n)) = Consumes old new input
+IsReadFor profile input old new (Err (fault.Reach f)) = Consumes old new input
+IsReadFor profile input old new (Err fault.TooLong) = IsReadPast profile input old new (text_limit + 1)
+IsReadFor profile input old new (Err (fault.Refused why at)) = EndsAtRefusal profile old new why at
+IsReadFor profile input old new (Err fault.Memory) = IsUndecided profile input old new
+IsReadFor profile input old new (Err fault.Read) = ⊤
