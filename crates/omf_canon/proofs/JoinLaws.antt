@@ -1,11 +1,12 @@
 -- Skeletons are joined, and joined pieces are the skeleton of their cut.
-use Rattle.std.proofs.Common.{◌≡◌, ◌≢◌, ℕ, ◌<◌, List, [], ◌∷◌, ◌++◌, refl, sym, ◌∙◌, ap, subst, true, false, length, arith, append-nil, true≢false}
+use Rattle.std.proofs.Common.{◌≡◌, ◌≢◌, ℕ, ◌<◌, List, [], ◌∷◌, ◌++◌, refl, sym, ◌∙◌, ap, subst, Bool, true, false, cond, length, arith, append-nil, append_assoc, true≢false}
 use Rattle.std.specs.Prelude.{map, flat_map, All, ◌==◌, ⊤}
 use Rattle.std.proofs.lemmas.Bool.{cond_both, eqb-true, eq-eqb, false≢true}
+use Rattle.std.proofs.lemmas.List.{map-append}
 use Rattle.std.proofs.lemmas.List.Elements.{All-nil, All-cons, All-head, All-tail}
 use Rattle.omf_reloc.specs.Plain.{Piece, Kept, Fixed, End, PlainFixup}
 use Rattle.omf_canon.specs.Cut.{cut}
-use Rattle.omf_canon.specs.Joined.{IsJoined, cut_pieces}
+use Rattle.omf_canon.specs.Joined.{IsJoined, parts, cut_pieces}
 use Rattle.omf_canon.specs.Skeleton.{is_kept, join_front, skeleton_of}
 use Rattle.omf_canon.proofs.CutLaws.{cut-greedy}
 
@@ -128,3 +129,60 @@ cut-joined (Fixed kind (f ∷ fs) ∷ ps) h =
     let c = cut-greedy kind (f ∷ fs) in
     skeleton-some kind f fs (cut kind (f ∷ fs)) (cut_pieces ps) c.whole c.full (subst (Behind kind) (sym ih) (behind-joined kind (f ∷ fs) ps h))
     ∙ ap (λ t. Fixed kind (f ∷ fs) ∷ t) ih
+
+-- ---- one joined list has the same fixups in their order
+
+join-twice : (kind : ℕ) (fs gs : List PlainFixup) (ps : List Piece) → join_front (Fixed kind fs) (join_front (Fixed kind gs) ps) ≡ join_front (Fixed kind (fs ++ gs)) ps
+join-twice kind fs gs [] = join-same kind fs gs []
+join-twice kind fs gs (Kept r ∷ ps) = join-same kind fs gs (Kept r ∷ ps)
+join-twice kind fs gs (End other byte s ∷ ps) = join-same kind fs gs (End other byte s ∷ ps)
+join-twice kind fs gs (Fixed other hs ∷ ps) = choose (kind == other) refl
+  where
+    choose : (t : Bool) → (kind == other) ≡ t
+        → join_front (Fixed kind fs) (cond t (Fixed kind (gs ++ hs) ∷ ps) (Fixed kind gs ∷ Fixed other hs ∷ ps)) ≡ cond t (Fixed kind ((fs ++ gs) ++ hs) ∷ ps) (Fixed kind (fs ++ gs) ∷ Fixed other hs ∷ ps)
+    choose true e = join-same kind fs (gs ++ hs) ps ∙ ap (λ x. Fixed kind x ∷ ps) (sym (append_assoc fs gs hs))
+    choose false e = join-same kind fs gs (Fixed other hs ∷ ps)
+
+skeleton-singles : (kind : ℕ) (f : PlainFixup) (fs : List PlainFixup) (ps : List Piece) → skeleton_of (map (λ g. Fixed kind (g ∷ [])) (f ∷ fs) ++ ps) ≡ join_front (Fixed kind (f ∷ fs)) (skeleton_of ps)
+skeleton-singles kind f [] ps = refl
+skeleton-singles kind f (g ∷ fs) ps = ap (join_front (Fixed kind (f ∷ []))) (skeleton-singles kind g fs ps) ∙ join-twice kind (f ∷ []) (g ∷ fs) (skeleton_of ps)
+
+skeleton-parts : (ps : List Piece) → skeleton_of (parts ps) ≡ skeleton_of ps
+skeleton-parts [] = refl
+skeleton-parts (Kept r ∷ ps) = ap (λ t. Kept r ∷ t) (skeleton-parts ps)
+skeleton-parts (End kind byte s ∷ ps) = ap (λ t. End kind byte s ∷ t) (skeleton-parts ps)
+skeleton-parts (Fixed kind [] ∷ ps) = skeleton-parts ps
+skeleton-parts (Fixed kind (f ∷ fs) ∷ ps) = skeleton-singles kind f fs (parts ps) ∙ ap (join_front (Fixed kind (f ∷ fs))) (skeleton-parts ps)
+
+skeleton-itself : (ps : List Piece) → IsJoined ps → skeleton_of ps ≡ ps
+skeleton-itself [] h = refl
+skeleton-itself (Kept r ∷ ps) h = ap (λ t. Kept r ∷ t) (skeleton-itself ps (joined-tail (Kept r) ps h))
+skeleton-itself (End kind byte s ∷ ps) h = ap (λ t. End kind byte s ∷ t) (skeleton-itself ps (joined-tail (End kind byte s) ps h))
+skeleton-itself (Fixed kind [] ∷ ps) h = absurd (false≢true (All-head IsFull (Fixed kind []) ps h.full))
+skeleton-itself (Fixed kind (f ∷ fs) ∷ ps) h =
+    ap (join_front (Fixed kind (f ∷ fs))) (skeleton-itself ps (joined-tail (Fixed kind (f ∷ fs)) ps h))
+    ∙ join-apart kind (f ∷ fs) ps (behind-joined kind (f ∷ fs) ps h)
+
+singles-append : (kind : ℕ) (fs gs : List PlainFixup) (ps : List Piece) → parts (Fixed kind (fs ++ gs) ∷ ps) ≡ parts (Fixed kind fs ∷ Fixed kind gs ∷ ps)
+singles-append kind fs gs ps = ap (λ x. x ++ parts ps) (map-append (λ g. Fixed kind (g ∷ [])) fs gs) ∙ append_assoc (map (λ g. Fixed kind (g ∷ [])) fs) (map (λ g. Fixed kind (g ∷ [])) gs) (parts ps)
+
+parts-join : (kind : ℕ) (fs : List PlainFixup) (ps : List Piece) → parts (join_front (Fixed kind fs) ps) ≡ parts (Fixed kind fs ∷ ps)
+parts-join kind fs [] = refl
+parts-join kind fs (Kept r ∷ ps) = refl
+parts-join kind fs (End other byte s ∷ ps) = refl
+parts-join kind fs (Fixed other gs ∷ ps) = cond_both (kind == other) _ _ (λ x. parts x ≡ parts (Fixed kind fs ∷ Fixed other gs ∷ ps))
+    (λ e. singles-append kind fs gs ps ∙ ap (λ k. parts (Fixed kind fs ∷ Fixed k gs ∷ ps)) (eqb-true kind other e))
+    (λ e. refl)
+
+parts-skeleton : (ps : List Piece) → parts (skeleton_of ps) ≡ parts ps
+parts-skeleton [] = refl
+parts-skeleton (Kept r ∷ ps) = ap (λ t. Kept r ∷ t) (parts-skeleton ps)
+parts-skeleton (End kind byte s ∷ ps) = ap (λ t. End kind byte s ∷ t) (parts-skeleton ps)
+parts-skeleton (Fixed kind [] ∷ ps) = parts-skeleton ps
+parts-skeleton (Fixed kind (f ∷ fs) ∷ ps) = parts-join kind (f ∷ fs) (skeleton_of ps) ∙ ap (λ t. map (λ g. Fixed kind (g ∷ [])) (f ∷ fs) ++ t) (parts-skeleton ps)
+
+pub joined-once : (ps qs : List Piece) → IsJoined qs → parts qs ≡ parts ps → qs ≡ skeleton_of ps
+joined-once ps qs h e = sym (skeleton-itself qs h) ∙ sym (skeleton-parts qs) ∙ ap skeleton_of e ∙ skeleton-parts ps
+
+pub skeleton-from : (ps qs : List Piece) → qs ≡ skeleton_of ps → IsJoined qs × (parts qs ≡ parts ps)
+skeleton-from ps qs e = (subst IsJoined (sym e) (skeleton-joined ps), ap parts e ∙ parts-skeleton ps)

@@ -9,6 +9,14 @@ pub record IsJoined (ps : List Piece) : Type 0 where
   pub full : All (λ p. is_kept p ≡ true) ps
   pub apart : (front back : List Piece) (kind other : ℕ) (fs gs : List PlainFixup) → ps ≡ front ++ Fixed kind fs ∷ Fixed other gs ∷ back → kind ≢ other
 
+-- The pieces with each fixup in a FIXUPP of its own: what stands there and in which order, and not how fixups are gathered.
+abbrev pub piece_parts : Piece → List Piece
+piece_parts (Fixed kind fs) = map (λ f. Fixed kind (f ∷ [])) fs
+piece_parts p = p ∷ []
+
+abbrev pub parts : List Piece → List Piece
+parts ps = flat_map piece_parts ps
+
 -- The pieces that a piece is cut into: a FIXUPP into one for each group of its greedy cut, any other into itself.
 abbrev pub cut_piece : Piece → List Piece
 cut_piece (Fixed kind fs) = map (λ g. Fixed kind g) (cut kind fs)

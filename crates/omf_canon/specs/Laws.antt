@@ -20,7 +20,7 @@ use Rattle.omf_canon.specs.Canonical.{piece_raws, canonical_raws, canonical}
 use Rattle.omf_canon.specs.Cut.{IsGreedyCut, cut}
 use Rattle.omf_canon.specs.Streaming.{streamed}
 use Rattle.omf_canon.specs.Unthreaded.{unthreaded}
-use Rattle.omf_canon.specs.Joined.{IsJoined, cut_pieces, piece_items}
+use Rattle.omf_canon.specs.Joined.{IsJoined, parts, cut_pieces, piece_items}
 use Rattle.omf_canon.specs.Skeleton.{skeleton_of, skeleton}
 
 -- What reach answers, but for where a reference stands that does not.
@@ -53,6 +53,10 @@ FixuppsFit = (kind : ℕ) (fixups : List PlainFixup) → All (λ r. length (raw_
 -- The FIXUPPs of a skeleton are joined.
 abbrev pub SkeletonsAreJoined : Type 0
 SkeletonsAreJoined = (ps : List Piece) → IsJoined (skeleton_of ps)
+
+-- Pieces are the skeleton of others exactly where they are joined, and have the same fixups in FIXUPPs of the same types, and the same other records, in the same order.
+abbrev pub SkeletonsAreUnique : Type 0
+SkeletonsAreUnique = (ps qs : List Piece) → (IsJoined qs × (parts qs ≡ parts ps)) ↔ (qs ≡ skeleton_of ps)
 
 -- Pieces that are joined are the skeleton of what they are cut into.
 abbrev pub CutsAreJoined : Type 0

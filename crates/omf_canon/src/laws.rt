@@ -1,6 +1,6 @@
 //! Laws over the definitions, each the contract of a function that does nothing.
 
-ghost use Rattle.omf_canon.specs.Laws.{EqualSkeletons, CutsAreGreedy, FixuppsFit, SkeletonsAreJoined, CutsAreJoined, CutsAreNotMore, CanonicalsHold, CanonicalsAreWellFormed, CanonicalsAreFixed, CanonicalsDecide, UnthreadedArePlain, CanonicalsMeanTheSame, CanonicalsAreRead, WalksAreCanonical};
+ghost use Rattle.omf_canon.specs.Laws.{EqualSkeletons, CutsAreGreedy, FixuppsFit, SkeletonsAreJoined, SkeletonsAreUnique, CutsAreJoined, CutsAreNotMore, CanonicalsHold, CanonicalsAreWellFormed, CanonicalsAreFixed, CanonicalsDecide, UnthreadedArePlain, CanonicalsMeanTheSame, CanonicalsAreRead, WalksAreCanonical};
 
 use omf_check::laws::modules_hold;
 use omf_records::laws::{
@@ -29,6 +29,11 @@ pub fn fixupps_fit()
 /// In a skeleton each FIXUPP has a fixup, and two that are adjacent differ in type.
 pub fn skeletons_are_joined()
     ensures { SkeletonsAreJoined }
+{}
+
+/// There is one joined list with the same fixups and records in their order: the skeleton.
+pub fn skeletons_are_unique()
+    ensures { SkeletonsAreUnique }
 {}
 
 /// Joined pieces are the skeleton of what they are cut into.

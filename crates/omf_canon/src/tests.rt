@@ -1,257 +1,235 @@
-//! Canonical bytes of whole modules.
+//! Canonical bytes of whole modules. Records are written in hexadecimal.
 
 use crate::{CanonFault, canon, canon_to};
 use omf_check::{Checked, Profile, check};
 use omf_frame::Reading;
 use omf_frame::faulty::{Full, Taker};
 use std::alloc::{AllocError, Global};
+use std::process::Abort;
 use std::test::Fail;
 
-// A header, a name T, a segment T of 4 bytes, its data, a fixup of its bytes 1 and 2, and the end.
-const HEADER: [u8; 6] = [0x80, 0x03, 0x00, 0x01, 0x41, 0x3B];
+const HEADER: &str = "80 03 00 01 41 3B";
 
-const NAMES: [u8; 7] = [0x96, 0x04, 0x00, 0x00, 0x01, 0x54, 0x11];
+/// The names: none, and T.
+const NAMES: &str = "96 04 00 00 01 54 11";
 
-const SEGMENT: [u8; 10] = [0x98, 0x07, 0x00, 0x28, 0x04, 0x00, 0x02, 0x01, 0x01, 0x31];
+/// A segment T of 4 bytes.
+const SEGMENT: &str = "98 07 00 28 04 00 02 01 01 31";
 
-const DATA: [u8; 11] = [
-    0xA0, 0x08, 0x00, 0x01, 0x00, 0x00, 0xB8, 0x00, 0x00, 0x90, 0x0F,
-];
+/// A segment T of 2 bytes.
+const SHORT_SEGMENT: &str = "98 07 00 28 02 00 02 01 01 33";
 
-const FIXUP: [u8; 9] = [0x9C, 0x06, 0x00, 0xC4, 0x01, 0x04, 0x01, 0x01, 0x93];
+/// A group of segment 1.
+const GROUP: &str = "9A 04 00 02 FF 01 60";
 
-const END: [u8; 5] = [0x8A, 0x02, 0x00, 0x00, 0x74];
+const DATA: &str = "A0 08 00 01 00 00 B8 00 00 90 0F";
+
+/// The offset of segment 1 at byte 1 of the data.
+const FIXUP: &str = "9C 06 00 C4 01 04 01 01 93";
+
+const END: &str = "8A 02 00 00 74";
+
+/// Appends the bytes that are written in hexadecimal, with a space between each two.
+fn push_record(bytes: &mut Vec<u8>, record: &str) -> Result<(), AllocError> {
+    let mut byte = 0u8;
+    let mut digits = 0u32;
+    for c in record.chars() {
+        if let Some(digit) = c.to_digit(16) {
+            byte = byte.wrapping_mul(16) | digit as u8;
+            digits = digits.wrapping_add(1);
+            if digits % 2 == 0 {
+                bytes.push(byte)?;
+            }
+        }
+    }
+    Ok(())
+}
 
 /// The bytes of these records.
-fn joined(alloc: Global, records: &[&[u8]]) -> Result<Vec<u8>, AllocError> {
+fn bytes_of(alloc: Global, records: &[&str]) -> Result<Vec<u8>, AllocError> {
     let mut bytes = Vec::new(alloc);
     for record in records {
-        bytes.extend_from_slice(record)?;
+        push_record(&mut bytes, *record)?;
     }
     Ok(bytes)
 }
 
-/// The module that these records are.
-fn module(alloc: Global, records: &[&[u8]]) -> Result<Checked, Fail> {
-    let bytes = joined(alloc, records)?;
+/// The module that these bytes are.
+fn module_of(alloc: Global, bytes: &[u8]) -> Result<Checked, Fail> {
     let profile = Profile {
         refuse_vendor_comments: false,
     };
-    let mut reader = Reading::new(bytes.as_slice());
+    let mut reader = Reading::new(bytes);
     Ok(check(alloc, &mut reader, profile)?)
 }
 
-/// The canonical bytes of the module that some records are, are those of others, and they stay so.
-fn has_form(alloc: Global, records: &[&[u8]], form: &[&[u8]]) -> Result<bool, Fail> {
-    let made = canon(alloc, &module(alloc, records)?)?;
-    let again = canon(alloc, &module(alloc, &[&made])?)?;
-    Ok(made == joined(alloc, form)? && again == made)
-}
-
-#[test]
-fn is_canonical_already(rt: HostRuntime) -> Result<(), Fail> {
+/// The canonical bytes of the module that some bytes are, are those bytes, and they stay so.
+fn has_bytes(rt: &(impl Abort + AllocGlobal), bytes: &[u8], form: &[u8]) -> Result<(), Fail> {
     let a = rt.alloc();
-    let records: [&[u8]; 6] = [&HEADER, &NAMES, &SEGMENT, &DATA, &FIXUP, &END];
-    assert!(rt; has_form(a, &records, &records)?);
+    let made = canon(a, &module_of(a, bytes)?)?;
+    assert_eq!(rt; made.as_slice(), form);
+    let again = canon(a, &module_of(a, &made)?)?;
+    assert_eq!(rt; again.as_slice(), form);
     Ok(())
 }
 
-#[test]
-fn computes_checksums(rt: HostRuntime) -> Result<(), Fail> {
-    let a = rt.alloc();
-    assert!(rt;
-        has_form(
-            a,
-            &[
-                &[0x80, 0x03, 0x00, 0x01, 0x41, 0x00],
-                &[0x96, 0x04, 0x00, 0x00, 0x01, 0x54, 0x00],
-                &[0x98, 0x07, 0x00, 0x28, 0x04, 0x00, 0x02, 0x01, 0x01, 0x00],
-                &[
-                    0xA0, 0x08, 0x00, 0x01, 0x00, 0x00, 0xB8, 0x00, 0x00, 0x90, 0x00,
-                ],
-                &[0x9C, 0x06, 0x00, 0xC4, 0x01, 0x04, 0x01, 0x01, 0x00],
-                &[0x8A, 0x02, 0x00, 0x00, 0x00],
-            ],
-            &[&HEADER, &NAMES, &SEGMENT, &DATA, &FIXUP, &END]
-        )?
-    );
-    Ok(())
+/// The canonical records of the module that some records are, are those records.
+fn has_form(rt: &(impl Abort + AllocGlobal), records: &[&str], form: &[&str]) -> Result<(), Fail> {
+    let bytes = bytes_of(rt.alloc(), records)?;
+    let wanted = bytes_of(rt.alloc(), form)?;
+    has_bytes(rt, &bytes, &wanted)
 }
 
 #[test]
-fn shortens_indices(rt: HostRuntime) -> Result<(), Fail> {
-    let a = rt.alloc();
-    assert!(rt;
-        has_form(
-            a,
-            &[
-                &HEADER,
-                &NAMES,
-                &SEGMENT,
-                &[
-                    0xA0, 0x09, 0x00, 0x80, 0x01, 0x00, 0x00, 0xB8, 0x00, 0x00, 0x90, 0x8E,
-                ],
-                &FIXUP,
-                &END,
-            ],
-            &[&HEADER, &NAMES, &SEGMENT, &DATA, &FIXUP, &END]
-        )?
-    );
-    Ok(())
+fn canonical_records_stay(rt: HostRuntime) -> Result<(), Fail> {
+    let first = [HEADER, NAMES, SEGMENT, DATA, FIXUP, END];
+    has_form(&rt, &first, &first)?;
+    let comment = [HEADER, "88 03 00 00 E9 8C", END];
+    has_form(&rt, &comment, &comment)
 }
 
 #[test]
-fn resolves_threads(rt: HostRuntime) -> Result<(), Fail> {
-    let a = rt.alloc();
-    let second: [u8; 10] = [0x98, 0x07, 0x00, 0x28, 0x02, 0x00, 0x02, 0x01, 0x01, 0x33];
-    let data: [u8; 11] = [
-        0xA0, 0x08, 0x00, 0x01, 0x00, 0x00, 0x00, 0x00, 0x00, 0x00, 0x57,
-    ];
-    let more: [u8; 9] = [0xA0, 0x06, 0x00, 0x02, 0x00, 0x00, 0x00, 0x00, 0x58];
-    assert!(rt;
-        has_form(
-            a,
-            &[
-                &HEADER,
-                &NAMES,
-                &SEGMENT,
-                &second,
-                &data,
-                &[
-                    0x9C, 0x09, 0x00, 0x50, 0x00, 0x01, 0xC4, 0x00, 0x8C, 0x00, 0x02, 0xB8,
-                ],
-                &[0x9C, 0x04, 0x00, 0xC4, 0x02, 0x8C, 0x0E],
-                &more,
-                &[0x9C, 0x04, 0x00, 0xC4, 0x00, 0x8C, 0x10],
-                &END,
-            ],
-            &[
-                &HEADER,
-                &NAMES,
-                &SEGMENT,
-                &second,
-                &data,
-                &[
-                    0x9C, 0x09, 0x00, 0xC4, 0x00, 0x44, 0x01, 0xC4, 0x02, 0x44, 0x02, 0x46,
-                ],
-                &more,
-                &[0x9C, 0x05, 0x00, 0xC4, 0x00, 0x44, 0x02, 0x55],
-                &END,
-            ]
-        )?
-    );
-    Ok(())
+fn checksums_are_computed(rt: HostRuntime) -> Result<(), Fail> {
+    has_form(
+        &rt,
+        &[
+            "80 03 00 01 41 00",
+            "96 04 00 00 01 54 00",
+            "98 07 00 28 04 00 02 01 01 00",
+            "A0 08 00 01 00 00 B8 00 00 90 00",
+            "9C 06 00 C4 01 04 01 01 00",
+            "8A 02 00 00 00",
+        ],
+        &[HEADER, NAMES, SEGMENT, DATA, FIXUP, END],
+    )
 }
 
 #[test]
-fn writes_the_start(rt: HostRuntime) -> Result<(), Fail> {
-    let a = rt.alloc();
-    let group: [u8; 7] = [0x9A, 0x04, 0x00, 0x02, 0xFF, 0x01, 0x60];
-    assert!(rt;
-        has_form(
-            a,
-            &[
-                &HEADER,
-                &NAMES,
-                &SEGMENT,
-                &group,
-                &[0x9C, 0x03, 0x00, 0x46, 0x01, 0x1A],
-                &[0x8A, 0x06, 0x00, 0xC1, 0xA0, 0x01, 0x02, 0x00, 0x0C],
-            ],
-            &[
-                &HEADER,
-                &NAMES,
-                &SEGMENT,
-                &group,
-                &[0x8A, 0x07, 0x00, 0xC1, 0x10, 0x01, 0x01, 0x02, 0x00, 0x9A],
-            ]
-        )?
-    );
-    Ok(())
+fn indices_are_shortened(rt: HostRuntime) -> Result<(), Fail> {
+    let long = "A0 09 00 80 01 00 00 B8 00 00 90 8E";
+    has_form(
+        &rt,
+        &[HEADER, NAMES, SEGMENT, long, FIXUP, END],
+        &[HEADER, NAMES, SEGMENT, DATA, FIXUP, END],
+    )
 }
 
 #[test]
-fn shortens_communal_lengths(rt: HostRuntime) -> Result<(), Fail> {
-    let a = rt.alloc();
-    assert!(rt;
-        has_form(
-            a,
-            &[
-                &HEADER,
-                &[
-                    0xB0, 0x08, 0x00, 0x01, 0x58, 0x00, 0x62, 0x81, 0x80, 0x00, 0x8C,
-                ],
-                &END,
-            ],
-            &[
-                &HEADER,
-                &[0xB0, 0x06, 0x00, 0x01, 0x58, 0x00, 0x62, 0x80, 0x0F],
-                &END,
-            ]
-        )?
-    );
-    Ok(())
+fn threads_are_resolved(rt: HostRuntime) -> Result<(), Fail> {
+    let data = "A0 08 00 01 00 00 00 00 00 00 57";
+    let more = "A0 06 00 02 00 00 00 00 58";
+    has_form(
+        &rt,
+        &[
+            HEADER,
+            NAMES,
+            SEGMENT,
+            SHORT_SEGMENT,
+            data,
+            "9C 09 00 50 00 01 C4 00 8C 00 02 B8",
+            "9C 04 00 C4 02 8C 0E",
+            more,
+            "9C 04 00 C4 00 8C 10",
+            END,
+        ],
+        &[
+            HEADER,
+            NAMES,
+            SEGMENT,
+            SHORT_SEGMENT,
+            data,
+            "9C 09 00 C4 00 44 01 C4 02 44 02 46",
+            more,
+            "9C 05 00 C4 00 44 02 55",
+            END,
+        ],
+    )
 }
 
-/// A FIXUPP of so many times the fixup of FIXUP, with this length and checksum.
-fn repeated(
-    alloc: Global,
-    count: usize,
-    length: [u8; 2],
-    checksum: u8,
-) -> Result<Vec<u8>, AllocError> {
-    let [low, high] = length;
-    let mut bytes = Vec::new(alloc);
-    bytes.extend_from_slice(&[0x9C, low, high])?;
-    for _ in 0..count {
-        bytes.extend_from_slice(&[0xC4, 0x01, 0x04, 0x01, 0x01])?;
+#[test]
+fn the_start_has_its_frame_and_displacement(rt: HostRuntime) -> Result<(), Fail> {
+    has_form(
+        &rt,
+        &[
+            HEADER,
+            NAMES,
+            SEGMENT,
+            GROUP,
+            "9C 03 00 46 01 1A",
+            "8A 06 00 C1 A0 01 02 00 0C",
+        ],
+        &[
+            HEADER,
+            NAMES,
+            SEGMENT,
+            GROUP,
+            "8A 07 00 C1 10 01 01 02 00 9A",
+        ],
+    )
+}
+
+#[test]
+fn communal_lengths_are_shortened(rt: HostRuntime) -> Result<(), Fail> {
+    has_form(
+        &rt,
+        &[HEADER, "B0 08 00 01 58 00 62 81 80 00 8C", END],
+        &[HEADER, "B0 06 00 01 58 00 62 80 0F", END],
+    )
+}
+
+/// A module of the first data and of FIXUPPs of so many times its fixup, each with this length and checksum.
+fn module_with(alloc: Global, fixupps: &[(usize, &str, &str)]) -> Result<Vec<u8>, AllocError> {
+    let mut bytes = bytes_of(alloc, &[HEADER, NAMES, SEGMENT, DATA])?;
+    for (count, length, checksum) in fixupps {
+        push_record(&mut bytes, "9C")?;
+        push_record(&mut bytes, *length)?;
+        for _ in 0..*count {
+            push_record(&mut bytes, "C4 01 04 01 01")?;
+        }
+        push_record(&mut bytes, *checksum)?;
     }
-    bytes.push(checksum)?;
+    push_record(&mut bytes, END)?;
     Ok(bytes)
 }
 
 #[test]
-fn cuts_long_fixupps(rt: HostRuntime) -> Result<(), Fail> {
+fn long_fixupps_are_cut(rt: HostRuntime) -> Result<(), Fail> {
     let a = rt.alloc();
-    let long = repeated(a, 205, [0x02, 0x04], 0xCF)?;
-    let cut = repeated(a, 204, [0xFD, 0x03], 0xA0)?;
-    assert_eq!(rt; cut.len(), 1024);
-    assert!(rt;
-        has_form(
-            a,
-            &[&HEADER, &NAMES, &SEGMENT, &DATA, &long, &END],
-            &[&HEADER, &NAMES, &SEGMENT, &DATA, &cut, &FIXUP, &END]
-        )?
-    );
-    // Two FIXUPPs that are adjacent are joined before they are cut.
-    let half = repeated(a, 102, [0xFF, 0x01], 0x00)?;
-    assert!(rt;
-        has_form(
-            a,
-            &[&HEADER, &NAMES, &SEGMENT, &DATA, &half, &half, &FIXUP, &END],
-            &[&HEADER, &NAMES, &SEGMENT, &DATA, &cut, &FIXUP, &END]
-        )?
-    );
+    let cut = module_with(a, &[(204, "FD 03", "A0"), (1, "06 00", "93")])?;
+    // Four records of 34 bytes, 1,024 bytes, the last fixup, and the end.
+    assert_eq!(&rt; cut.len(), 34 + 1024 + 9 + 5);
+    has_bytes(&rt, &module_with(a, &[(205, "02 04", "CF")])?, &cut)?;
+    // FIXUPPs that are adjacent are joined before they are cut; a checksum byte of 00 is right whatever the sum.
+    let apart = [
+        (102, "FF 01", "00"),
+        (102, "FF 01", "00"),
+        (1, "06 00", "00"),
+    ];
+    has_bytes(&rt, &module_with(a, &apart)?, &cut)
+}
+
+#[test]
+fn canonical_bytes_are_written(rt: HostRuntime) -> Result<(), Fail> {
+    let a = rt.alloc();
+    let bytes = bytes_of(a, &[HEADER, NAMES, SEGMENT, DATA, FIXUP, END])?;
+    let module = module_of(a, &bytes)?;
+    let mut whole = Taker::new(a, 48, Full::Fails)?.in_pieces(7).interrupted(3);
+    assert_eq!(rt; canon_to(a, &module, &mut whole), Ok(()));
+    assert_eq!(rt; whole.bytes(), bytes.as_slice());
     Ok(())
 }
 
 #[test]
-fn writes_to_a_writer(rt: HostRuntime) -> Result<(), Fail> {
+fn a_failing_writer_has_the_first_bytes(rt: HostRuntime) -> Result<(), Fail> {
     let a = rt.alloc();
-    let records: [&[u8]; 6] = [&HEADER, &NAMES, &SEGMENT, &DATA, &FIXUP, &END];
-    let module = module(a, &records)?;
-    let bytes = joined(a, &records)?;
-    let mut whole = Taker::new(a, 48, Full::Fails)?.in_pieces(7).interrupted(3);
-    assert_eq!(rt; canon_to(a, &module, &mut whole), Ok(()));
-    assert_eq!(rt; whole.bytes(), bytes.as_slice());
+    let bytes = bytes_of(a, &[HEADER, NAMES, SEGMENT, DATA, FIXUP, END])?;
+    let module = module_of(a, &bytes)?;
     let mut failing = Taker::new(a, 10, Full::Fails)?;
     assert_eq!(rt; canon_to(a, &module, &mut failing), Err(CanonFault::Write));
-    assert_eq!(rt; failing.bytes().len(), 10);
-    assert!(rt; bytes.starts_with(failing.bytes()));
+    assert_eq!(rt; failing.bytes(), bytes.split_at(10).0);
     let mut full = Taker::new(a, 10, Full::TakesNone)?;
     assert_eq!(rt; canon_to(a, &module, &mut full), Err(CanonFault::Write));
-    assert_eq!(rt; full.bytes().len(), 10);
-    assert!(rt; bytes.starts_with(full.bytes()));
+    assert_eq!(rt; full.bytes(), bytes.split_at(10).0);
     Ok(())
 }
 
