@@ -14,7 +14,7 @@ use Rattle.omf_frame.proofs.FaultLaws.{least_is_least, least_unique}
 use Rattle.omf_frame.proofs.Growing.{type_same}
 use Rattle.omf_frame.proofs.Judged.{standing_is}
 use Rattle.omf_frame.proofs.Standing.{present_twice, lasting_some}
-use Rattle.omf_frame.proofs.StepLaws.{clean_steps}
+use Rattle.omf_frame.proofs.StepLaws.{clean_steps, framed_of}
 use Rattle.omf_records.specs.Reading.{typed}
 use Rattle.omf_records.specs.Steps.{AreBytes-front, AreBytes-back}
 use Rattle.omf_image.specs.declared.limits.Limits.{Limits}
@@ -32,7 +32,6 @@ use Rattle.omf_check.proofs.RecordLaws.{raw_law}
 use Rattle.omf_check.proofs.RefusalLaws.{refusal_stays}
 use Rattle.omf_check.proofs.Refusing.{type_ends, whole_length, whole_ends, inner_ends, body_small}
 use Rattle.omf_check.proofs.SoundBytes.{no_other}
-use Rattle.omf_check.proofs.StepLaws.{framed_of}
 use Rattle.omf_check.proofs.UniqueLaws.{nothing_least, refused_once}
 use Rattle.omf_check.proofs.VerdictLaws.{either}
 

@@ -21,8 +21,8 @@ module _ (s : Seen) (fault : s.fault ≡ None) (old new : Device) (same : new.br
   -- the end of a session is no failure of the reader
   pub finish_patient : (result : Result Module CheckFault) → Finishes s result → IsReadPatiently old new result
   finish_patient (Ok m) f = same
-  finish_patient (Err why) (inl h) = absurd (no_fault_kept s why fault h)
-  finish_patient (Err why) (inr h) = at_end why h.2
+  finish_patient (Err why) (not_read, inl h) = absurd (no_fault_kept s why fault h)
+  finish_patient (Err why) (not_read, inr h) = at_end why h.2
 
   in_midst : (piece : List ℕ) (why : CheckFault) → IsCause s piece why → IsReadPatiently old new (Err why)
   in_midst piece check.Memory f = same
