@@ -243,17 +243,18 @@ end-last (x ∷ front) (b ∷ before) rs end r e h t = end-last front before rs 
     tails : (x y : Rec) (xs ys : List Rec) → x ∷ xs ≡ y ∷ ys → xs ≡ ys
     tails x y xs ys h = cc
 
-module _ (pl : Places) (limits : Limits) (m : List Rec) (holds : ModuleHolds limits m) where
-  ends-here : (before rs : List Rec) (r : Rec) → m ≡ before ++ r ∷ rs → is_module_end r.contents ≡ true → rs ≡ []
+module _ (limits : Limits) (m : List Rec) (holds : ModuleHolds limits m) where
+  pub ends-here : (before rs : List Rec) (r : Rec) → m ≡ before ++ r ∷ rs → is_module_end r.contents ≡ true → rs ≡ []
   ends-here before rs r e t = let (front, end, parts, is, others) = holds.ends in end-last front before rs end r (sym parts ∙ e) others t
 
+module _ (pl : Places) (limits : Limits) (m : List Rec) (holds : ModuleHolds limits m) where
   from-here : (number : ℕ) (before rs : List Rec) (place : Option (ℕ × ℕ)) (threads : Threads) → m ≡ before ++ rs → place ≡ place_in before → HasThreads threads (subrecords before)
       → AreFar pl limits (flat_map numbered (enumerate_from number rs)) (After pl limits (with_before piece_at before rs) place) (records_far pl number place threads rs)
   from-here number before [] place threads e p h = after-data pl limits [] place [] [] [] (record { count = refl; faults = refl })
   from-here number before (r ∷ rs) place threads e p h =
       of-record pl limits number r.kind before r.contents place threads (with_before piece_at (before ++ r ∷ []) rs) (flat_map numbered (enumerate_from (number + 1) rs))
       (records_far pl (number + 1) (data_place r.contents place) (threads_after threads r.contents) rs) p h (holds.each before rs r e)
-      (λ t. ap (λ xs. with_before piece_at (before ++ r ∷ []) xs) (ends-here before rs r e t))
+      (λ t. ap (λ xs. with_before piece_at (before ++ r ∷ []) xs) (ends-here limits m holds before rs r e t))
       (from-here (number + 1) (before ++ r ∷ []) rs (data_place r.contents place) (threads_after threads r.contents) (e ∙ sym (append_assoc before (r ∷ []) rs))
       (ap (data_place r.contents) p ∙ sym (place-more before r)) (threads-more threads before r h))
 

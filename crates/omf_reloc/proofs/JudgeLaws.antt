@@ -18,10 +18,10 @@ use Rattle.omf_reloc.specs.Walking.{threads_after}
 use Rattle.omf_reloc.proofs.FarLaws.{plain-by, place_in, place-more, threads-more, no-data, HoldFrom, hold-first, hold-rest}
 
 -- The placement has an entry for each of the tables after these records.
-record Covers (pl : Places) (before : List Rec) : Type 0 where
-  segments : length (segments before) ≤ length pl.segments
-  groups : length (groups before) ≤ length pl.groups
-  externals : length (externals before) ≤ length pl.externals
+pub record Covers (pl : Places) (before : List Rec) : Type 0 where
+  pub segments : length (segments before) ≤ length pl.segments
+  pub groups : length (groups before) ≤ length pl.groups
+  pub externals : length (externals before) ≤ length pl.externals
 
 longer : {A : Type 0} (f : Rec → List A) (before rs : List Rec) → length (flat_map f before) ≤ length (flat_map f (before ++ rs))
 longer f before rs = omega (arith, ap length (flat_map-append f before rs), length-append (flat_map f before) (flat_map f rs))
@@ -45,14 +45,14 @@ IsThere pl None = ⊤
 IsThere pl (Some p) = is_defined (length pl.segments) p.0 ≡ true
 
 module _ (pl : Places) (before : List Rec) (c : Covers pl before) where
-  frame-there : (segment : ℕ) (f : FrameMethod) → FrameIsDefined before f → (f ≡ F4 → is_defined (length pl.segments) segment ≡ true) → HasFrame pl segment f
+  pub frame-there : (segment : ℕ) (f : FrameMethod) → FrameIsDefined before f → (f ≡ F4 → is_defined (length pl.segments) segment ≡ true) → HasFrame pl segment f
   frame-there segment (F0 i) h s = defined-more (length (segments before)) (length pl.segments) i c.segments h
   frame-there segment (F1 i) h s = defined-more (length (groups before)) (length pl.groups) i c.groups h
   frame-there segment (F2 i) h s = defined-more (length (externals before)) (length pl.externals) i c.externals h
   frame-there segment F4 h s = s refl
   frame-there segment F5 h s = tt
 
-  target-there : (t : TargetMethod) → TargetIsDefined before t → HasTarget pl t
+  pub target-there : (t : TargetMethod) → TargetIsDefined before t → HasTarget pl t
   target-there (T0 i) h = defined-more (length (segments before)) (length pl.segments) i c.segments h
   target-there (T1 i) h = defined-more (length (groups before)) (length pl.groups) i c.groups h
   target-there (T2 i) h = defined-more (length (externals before)) (length pl.externals) i c.externals h

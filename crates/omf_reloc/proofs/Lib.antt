@@ -27,3 +27,5 @@ pub mod InsideLaws
 pub mod StartLaws
 pub mod MeasureLaws
 pub mod PieceLaws
+pub mod SingleLaws
+pub mod HoldLaws

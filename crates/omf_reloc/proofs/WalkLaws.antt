@@ -73,6 +73,23 @@ length-more m before rest i e h =
     ap (λ o. unwrap_or (option_map (λ (s : SegInfo). s.length) o) 0)
     (sym (ap (λ xs. entry xs i) (longer (λ r. defined_segments r.kind r.contents) m before rest e) ∙ entry-more (segments before) (segments rest) i h))
 
+-- The tables of a module have what those of its first records have.
+pub defined-after : (m before rest : List Rec) → m ≡ before ++ rest
+    → ((i : ℕ) → is_defined (length (segments before)) i ≡ true → is_defined (length (segments m)) i ≡ true)
+    × ((i : ℕ) → is_defined (length (groups before)) i ≡ true → is_defined (length (groups m)) i ≡ true)
+    × ((i : ℕ) → is_defined (length (externals before)) i ≡ true → is_defined (length (externals m)) i ≡ true)
+defined-after m before rest e = (
+  λ i h. defined-more i (segments before) (segments rest) (segments m) (longer (λ r. defined_segments r.kind r.contents) m before rest e) h,
+  λ i h. defined-more i (groups before) (groups rest) (groups m) (longer (λ r. defined_groups r.contents) m before rest e) h,
+  λ i h. defined-more i (externals before) (externals rest) (externals m) (longer (λ r. defined_externals r.contents) m before rest e) h,
+)
+
+pub lies-in : (m before rest : List Rec) (d : DataItem) (size : ℕ) → m ≡ before ++ rest → DataHolds before d size → LiesInSegment m d.segment.item d.offset.item size
+lies-in m before rest d size e h = record {
+  segment_defined = defined-more d.segment.item (segments before) (segments rest) (segments m) (longer (λ r. defined_segments r.kind r.contents) m before rest e) h.segment;
+  inside = subst (λ n. d.offset.item + size ≤ n) (length-more m before rest d.segment.item e h.segment) h.inside;
+}
+
 -- Segments have no more than 2^32 bytes.
 abbrev IsShort : SegInfo → Type 0
 IsShort s = s.length ≤ 2 ^ 32
@@ -106,11 +123,11 @@ pub record IsOpen (m : List Rec) (o : Option Gathered) (l : Option Contents) : T
   pub tells : Tells o l
   pub lies : IfSome o (Lies m)
 
-last-end : {A : Type 0} (o : Option A) (xs : List A) (x : A) → last_or o (xs ++ x ∷ []) ≡ Some x
+pub last-end : {A : Type 0} (o : Option A) (xs : List A) (x : A) → last_or o (xs ++ x ∷ []) ≡ Some x
 last-end o [] x = refl
 last-end o (y ∷ xs) x = last-end (Some y) xs x
 
-last-more : (before : List Rec) (r : Rec) → last_data (before ++ r ∷ []) ≡ last (flat_map (λ x. data_in x.contents) before ++ data_in r.contents)
+pub last-more : (before : List Rec) (r : Rec) → last_data (before ++ r ∷ []) ≡ last (flat_map (λ x. data_in x.contents) before ++ data_in r.contents)
 last-more before r =
     ap last (flat_map-append (λ x. data_in x.contents) before (r ∷ []) ∙ ap (λ t. flat_map (λ x. data_in x.contents) before ++ t) (append-nil (data_in r.contents)))
 
@@ -194,12 +211,6 @@ module _ (m : List Rec) (holds : ModuleHolds profile_limits m) where
   pub length-short : (i : ℕ) → length_of_segment m i ≤ 2 ^ 32
   length-short i = short-if (nat_le 1 i) (slice_get (segments m) (i - 1)) (short-at (segments m) (i - 1) (short-from [] m refl))
 
-  lies-from : (before rest : List Rec) (d : DataItem) (size : ℕ) → m ≡ before ++ rest → DataHolds before d size → LiesInSegment m d.segment.item d.offset.item size
-  lies-from before rest d size e h = record {
-    segment_defined = defined-more d.segment.item (segments before) (segments rest) (segments m) (longer (λ r. defined_segments r.kind r.contents) m before rest e) h.segment;
-    inside = subst (λ n. d.offset.item + size ≤ n) (length-more m before rest d.segment.item e h.segment) h.inside;
-  }
-
   -- One record more: what is open then.
   tells-same : (o : Option Gathered) (xs : List Contents) → Tells o (last xs) → Tells o (last (xs ++ []))
   tells-same o xs h d e = h d (sym (ap last (append-nil xs)) ∙ e)
@@ -229,10 +240,10 @@ module _ (m : List Rec) (holds : ModuleHolds profile_limits m) where
 
   open-by : (before rest : List Rec) (kind : ℕ) (c : Contents) (o : Option Gathered) → m ≡ before ++ rest → ContentsHold profile_limits before kind c → IsOpen m o (last_data before)
       → IsOpen m (opened_by (subrecords before) kind c o) (last (flat_map (λ x. data_in x.contents) before ++ data_in c))
-  open-by before rest kind (Plain d) o e h is = record { tells = tells-plain (flat_map (λ x. data_in x.contents) before) d; lies = (lies-from before rest d (length d.bytes) e h, All-nil (λ f. location_end f ≤ length d.bytes)) }
+  open-by before rest kind (Plain d) o e h is = record { tells = tells-plain (flat_map (λ x. data_in x.contents) before) d; lies = (lies-in m before rest d (length d.bytes) e h, All-nil (λ f. location_end f ≤ length d.bytes)) }
   open-by before rest kind (Iterated d) o e h is = record {
     tells = tells-iterated (Some (Repeated kind (bare d) [])) (flat_map (λ x. data_in x.contents) before) d;
-    lies = lies-from before rest d (length (expanded (width kind) profile_limits d.bytes)) e h.lies;
+    lies = lies-in m before rest d (length (expanded (width kind) profile_limits d.bytes)) e h.lies;
   }
   open-by before rest kind (Fixups subs) o e h is = record {
     tells = tells-same (opened_by (subrecords before) kind (Fixups subs) o) (flat_map (λ x. data_in x.contents) before) (tells-more (tagged kind (plain_fixups (subrecords before) subs)) o (last_data before) is.tells);

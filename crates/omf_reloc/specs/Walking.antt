@@ -1,9 +1,8 @@
 -- What each step of a walk over a module's records makes of the image, of the data record that is open and of the threads. Private functions speak in these
 -- words; public ones say what the image is by its definition.
 use Rattle.std.specs.Prelude.{◌≡◌, ◌≤◌, ◌+◌, ◌^◌, ⊤, ℕ, List, [], ◌∷◌, length, true, Option, Some, option_map, option_to_list, unwrap_or, IsSome, IfSome, IsOk}
-use Rattle.std.specs.List.{last_or}
 use Rattle.omf_records.specs.Location.{location_size}
-use Rattle.omf_records.specs.Values.{At, Rec, Contents, Plain, Iterated, Fixups, ModEnd, Subrecord, Thread, Fixup, Reference, width, location_type, location_offset}
+use Rattle.omf_records.specs.Values.{At, Rec, Contents, Plain, Iterated, Fixups, Subrecord, Thread, Fixup, Reference, width, location_type, location_offset}
 use Rattle.omf_image.specs.Expanding.{expanded, expanded_length}
 use Rattle.omf_image.specs.Limits.{profile_limits}
 use Rattle.omf_image.specs.Overlay.{Laid, AreLaidOver}
@@ -12,11 +11,11 @@ use Rattle.omf_check.specs.Kept.{set_thread, set_threads}
 use Rattle.omf_check.specs.Tables.{is_defined}
 use Rattle.omf_check.specs.Threads.{F5, T0, frame_from, target_from, PlainReference}
 use Rattle.omf_check.specs.declared.threads.Threads.{Threads}
-use Rattle.omf_reloc.specs.Image.{added, start_at}
+use Rattle.omf_reloc.specs.Image.{added}
 use Rattle.omf_reloc.specs.Offsets.{outcome_at, start_offset}
 use Rattle.omf_reloc.specs.Placed.{HasPlaces}
 use Rattle.omf_reloc.specs.Placement.{Places}
-use Rattle.omf_reloc.specs.Plain.{PlainFixup}
+use Rattle.omf_reloc.specs.Plain.{Piece, End, PlainFixup}
 
 -- A reference without threads, by the threads in force.
 abbrev pub plain_by : Threads → Reference → PlainReference
@@ -108,21 +107,11 @@ pub record CanWalk (pl : Places) (r : Rec) (w : Walk) : Type 0 where
   pub offsets : IfSome w.open_data HasOffsets
   pub contents : CanRead pl w.threads r.kind r.contents w.open_data
 
--- A start can be given: its threads are set, the placement has the places that it needs, and it reaches.
-pub record CanStart (pl : Places) (kind : ℕ) (threads : Threads) (r : Reference) : Type 0 where
-  pub frame : IsSome (frame_cell threads r)
-  pub target : IsSome (target_cell threads r)
-  pub places : HasPlaces pl 0 (plain_by threads r)
-  pub reaches : IsOk (start_offset pl kind (plain_by threads r))
+-- A start can be given: the placement has the places that it needs, and it reaches.
+pub record HasStart (pl : Places) (kind : ℕ) (r : PlainReference) : Type 0 where
+  pub places : HasPlaces pl 0 r
+  pub reaches : IsOk (start_offset pl kind r)
 
-abbrev pub CanStartAt : Places → Threads → ℕ → Contents → Type 0
-CanStartAt pl threads kind (ModEnd byte (Some r)) = CanStart pl kind threads r
-CanStartAt pl threads kind _ = ⊤
-
--- The start after one record more.
-abbrev pub start_by : Places → Threads → ℕ → Reference → List (ℕ × ℕ)
-start_by pl threads kind r = start_at pl (plain_by threads r) (start_offset pl kind (plain_by threads r))
-
-abbrev pub start_after : Places → Threads → ℕ → Contents → Option (ℕ × ℕ) → Option (ℕ × ℕ)
-start_after pl threads kind (ModEnd byte (Some r)) found = last_or found (start_by pl threads kind r)
-start_after pl threads kind _ found = found
+abbrev pub CanStart : Places → Piece → Type 0
+CanStart pl (End kind byte (Some r)) = HasStart pl kind r
+CanStart pl _ = ⊤
