@@ -1,9 +1,8 @@
 -- What the pieces of a well-formed module may rely on: each fixup has an LEDATA before it and lies in its data, each index is in its table, each data record lies
 -- in its segment, and the end is the last piece.
 use Rattle.std.proofs.Common.{◌≡◌, ◌≢◌, ℕ, ◌+◌, ◌≤◌, List, [], ◌∷◌, ◌++◌, length, true, refl, sym, ◌∙◌, ap, subst, append_assoc}
-use Rattle.std.specs.Prelude.{All, map, flat_map, Option, Some, None, option_map, IsOk, ⊤}
+use Rattle.std.specs.Prelude.{map, flat_map, Option, Some, None, option_map, IsOk, ⊤}
 use Rattle.std.proofs.lemmas.List.{append-nil}
-use Rattle.std.proofs.lemmas.List.Elements.{All-nil, All-cons}
 use Rattle.omf_frame.specs.Bytes.{last}
 use Rattle.omf_image.specs.Expanding.{expanded, expanded_length}
 use Rattle.omf_image.specs.declared.limits.Limits.{Limits}
@@ -14,7 +13,7 @@ use Rattle.omf_check.specs.Tables.{segments, groups, externals, is_defined, subr
 use Rattle.omf_check.specs.Threads.{FrameMethod, F0, F1, F2, F4, F5, TargetMethod, T0, T1, T2, PlainReference, plain}
 use Rattle.omf_reloc.specs.Pieces.{one_by_one, single_pieces}
 use Rattle.omf_reloc.specs.Plain.{Piece, Kept, Fixed, End, PlainFixup, piece_of, plain_fixups}
-use Rattle.omf_reloc.proofs.FarLaws.{HoldFrom, hold-first, hold-rest, ends-here}
+use Rattle.omf_reloc.proofs.EarlierLaws.{HoldFrom, hold-first, hold-rest, ends-here}
 use Rattle.omf_reloc.proofs.GatherLaws.{pieces_from, bare}
 use Rattle.omf_reloc.proofs.SingleLaws.{singles}
 use Rattle.omf_reloc.proofs.WalkLaws.{defined-after, lies-in, last-more, last-end, next-split}
@@ -46,10 +45,12 @@ KeptHolds limits m kind (Plain d) = PlacedDataHolds m d (length d.bytes)
 KeptHolds limits m kind (Iterated d) = RepeatedHolds limits m kind d
 KeptHolds limits m kind _ = ⊤
 
--- A piece, with the last data record before it and the pieces after it.
+-- A piece, with the last data record before it and the pieces after it. A FIXUPP is of one fixup.
 abbrev pub PieceHolds : Limits → List Rec → Option Contents → Piece → List Piece → Type 0
 PieceHolds limits m last_one (Kept r) after = KeptHolds limits m r.kind r.contents
-PieceHolds limits m last_one (Fixed kind fs) after = All (PlainFixupHolds m last_one) fs
+PieceHolds limits m last_one (Fixed kind []) after = ⊥
+PieceHolds limits m last_one (Fixed kind (f ∷ [])) after = PlainFixupHolds m last_one f
+PieceHolds limits m last_one (Fixed kind (f ∷ g ∷ fs)) after = ⊥
 PieceHolds limits m last_one (End kind byte None) after = after ≡ []
 PieceHolds limits m last_one (End kind byte (Some r)) after = PlainHolds m r × (r.frame ≢ F4) × (after ≡ [])
 
@@ -105,8 +106,7 @@ module _ (limits : Limits) (m : List Rec) (holds : ModuleHolds limits m) where
           by : (within : ℕ) (x : Subrecord) → SubrecordHolds before earlier x → PiecesHold limits m last_one (singles kind (plain_fixups (earlier ++ x ∷ []) subs) ++ qs)
               → PiecesHold limits m last_one (singles kind (plain_fixups earlier (record { within = within; item = x } ∷ subs)) ++ qs)
           by within (Thread byte datum) g k = k
-          by within (Fixup locat r) g k =
-              (All-cons (PlainFixupHolds m last_one) (record { locat = locat; reference = plain earlier r }) [] (fixup-holds earlier locat r g) (All-nil (PlainFixupHolds m last_one)), k)
+          by within (Fixup locat r) g k = (fixup-holds earlier locat r g, k)
 
     -- One record.
     record-holds : (kind : ℕ) (c : Contents) (last_one next : Option Contents) (qs : List Piece) → last_one ≡ option_map contents_alone (last_data before) → next ≡ data_kept (contents_alone c) last_one

@@ -4,6 +4,7 @@ pub mod GroupLaws
 pub mod LowestLaws
 pub mod ResolvingLaws
 pub mod ReachLaws
+pub mod EarlierLaws
 pub mod FarLaws
 pub mod JudgeLaws
 pub mod ReachedLaws

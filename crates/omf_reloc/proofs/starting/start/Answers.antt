@@ -23,6 +23,13 @@ start_after-found-requires c =
     can-start pl m c.loop-place.found (piece_seen c.in-Some.piece) (without_places c.next.new.self)
     (subst (λ xs. IsSought pl m c.loop-place.found (without_places xs)) c.in-Some.ensures.steps c.loop-place.invariant) c.requires.fits
 
+pub loop-place-preserved : goal.loop-place-preserved
+loop-place-preserved c =
+    let pl = c.args.placement.now in
+    let m = recs (records_in c.args.module.now.bytes) in
+    seek-next pl m c.loop-place.found (piece_seen c.in-Some.piece) (without_places c.next.new.self)
+    (subst (λ xs. IsSought pl m c.loop-place.found (without_places xs)) c.in-Some.ensures.steps c.loop-place.invariant) c.start_after-found.result c.start_after-found.ensures
+
 pub loop-place-preserved-in-Some : goal.loop-place-preserved-in-Some
 loop-place-preserved-in-Some c =
     let pl = c.args.placement.now in
