@@ -1,6 +1,6 @@
 -- The references of a well-formed module are judged one after another: their faults, from left to right, are those that the definition lists by data records.
 use Rattle.std.proofs.Common.{◌≡◌, ℕ, ◌+◌, List, [], ◌∷◌, ◌++◌, refl, sym, ◌∙◌, ap, ap₂, subst, length, map, arith, length-append}
-use Rattle.std.specs.Prelude.{flat_map, filter_map, zip, Option, Some, None}
+use Rattle.std.specs.Prelude.{filter_map, zip, Option, Some, None}
 use Rattle.std.proofs.lemmas.Option.{none-some}
 use Rattle.omf_frame.specs.declared.fault.Place.{Place}
 use Rattle.omf_image.specs.declared.limits.Limits.{Limits}

@@ -1,15 +1,15 @@
 -- What the pieces of a well-formed module may rely on: each fixup has an LEDATA before it and lies in its data, each index is in its table, each data record lies
 -- in its segment, and the end is the last piece.
-use Rattle.std.proofs.Common.{◌≡◌, ◌≢◌, ℕ, ◌+◌, ◌≤◌, List, [], ◌∷◌, ◌++◌, length, true, refl, sym, ◌∙◌, ap, subst, append_assoc}
-use Rattle.std.specs.Prelude.{map, flat_map, Option, Some, None, option_map, IsOk, ⊤}
+use Rattle.std.proofs.Common.{◌≡◌, ◌≢◌, ℕ, ◌+◌, ◌≤◌, List, [], ◌∷◌, ◌++◌, length, true, refl, ◌∙◌, ap, subst}
+use Rattle.std.specs.Prelude.{flat_map, Option, Some, None, option_map, IsOk, ⊤}
 use Rattle.std.proofs.lemmas.List.{append-nil}
 use Rattle.omf_frame.specs.Bytes.{last}
 use Rattle.omf_image.specs.Expanding.{expanded, expanded_length}
 use Rattle.omf_image.specs.declared.limits.Limits.{Limits}
 use Rattle.omf_records.specs.Location.{location_size}
-use Rattle.omf_records.specs.Values.{At, Rec, alone, Contents, contents_alone, Names, Segment, Plain, Iterated, Fixups, ModEnd, DataItem, Subrecord, Thread, Fixup, Reference, width, location_type, location_offset}
-use Rattle.omf_check.specs.Sound.{FrameIsDefined, TargetIsDefined, ReferenceHolds, FixupHolds, SubrecordHolds, DataHolds, BlocksHold, ContentsHold, is_module_end, ModuleHolds}
-use Rattle.omf_check.specs.Tables.{segments, groups, externals, is_defined, subrecords, data_in, last_data}
+use Rattle.omf_records.specs.Values.{At, Rec, Contents, contents_alone, Names, Plain, Iterated, Fixups, ModEnd, DataItem, Subrecord, Thread, Fixup, Reference, width, location_type, location_offset}
+use Rattle.omf_check.specs.Sound.{FrameIsDefined, TargetIsDefined, ReferenceHolds, FixupHolds, SubrecordHolds, DataHolds, ContentsHold, is_module_end, ModuleHolds}
+use Rattle.omf_check.specs.Tables.{subrecords, data_in, last_data}
 use Rattle.omf_check.specs.Threads.{FrameMethod, F0, F1, F2, F4, F5, TargetMethod, T0, T1, T2, PlainReference, plain}
 use Rattle.omf_reloc.specs.Pieces.{one_by_one, single_pieces}
 use Rattle.omf_reloc.specs.Plain.{Piece, Kept, Fixed, End, PlainFixup, piece_of, plain_fixups}

@@ -1,5 +1,5 @@
 -- The pieces that records give by the threads in force are those of the definition, each at its place.
-use Rattle.std.proofs.Common.{◌≡◌, ℕ, ◌+◌, List, [], ◌∷◌, ◌++◌, refl, sym, ◌∙◌, ap, ap₂, subst, length, append_assoc}
+use Rattle.std.proofs.Common.{◌≡◌, ℕ, ◌+◌, List, [], ◌∷◌, ◌++◌, refl, sym, ◌∙◌, ap, ap₂, subst, length}
 use Rattle.std.specs.Prelude.{map, flat_map, filter_map, Option, Some, None, IsSome}
 use Rattle.std.specs.List.{enumerate_from}
 use Rattle.std.proofs.lemmas.Grind.{flat_map-append}
@@ -13,16 +13,16 @@ use Rattle.omf_records.specs.Values.{At, Rec, Contents, Names, Fixups, ModEnd, S
 use Rattle.omf_check.proofs.ThreadLaws.{threads_kept}
 use Rattle.omf_check.specs.Kept.{HasThreads, no_threads, set_thread}
 use Rattle.omf_check.specs.Listed.{placed_from}
-use Rattle.omf_check.specs.Sound.{ReferenceHolds, SubrecordHolds, SubrecordsHold, ContentsHold, ModuleHolds}
+use Rattle.omf_check.specs.Sound.{ReferenceHolds, SubrecordHolds, ContentsHold, ModuleHolds}
 use Rattle.omf_check.specs.Tables.{subrecords}
 use Rattle.omf_check.specs.WellFormed.{recs}
 use Rattle.omf_check.specs.declared.threads.Threads.{Threads}
-use Rattle.omf_reloc.specs.Pieces.{one_by_one, single_pieces, references_at, reference_places, subrecord_step, subrecord_steps, contents_steps, steps_from, given, placed_pieces, IsSet, SubrecordIsSet, SubrecordsAreSet, ContentsAreSet, RecordsAreSet}
-use Rattle.omf_reloc.specs.Plain.{Piece, Fixed, End, PlainFixup, piece_of, pieces, end_byte, plain_fixups}
+use Rattle.omf_reloc.specs.Pieces.{one_by_one, single_pieces, references_at, reference_places, subrecord_steps, contents_steps, steps_from, given, placed_pieces, IsSet, SubrecordIsSet, SubrecordsAreSet, ContentsAreSet, RecordsAreSet}
+use Rattle.omf_reloc.specs.Plain.{Piece, Fixed, End, PlainFixup, piece_of, end_byte, plain_fixups}
 use Rattle.omf_reloc.specs.Reach.{fixup_place, reference_places as stood, all_reference_places}
-use Rattle.omf_reloc.specs.Walking.{plain_by, threads_after}
+use Rattle.omf_reloc.specs.Walking.{threads_after}
 use Rattle.omf_reloc.proofs.EarlierLaws.{plain-by, threads-more, HoldFrom, hold-first, hold-rest}
-use Rattle.omf_reloc.proofs.GatherLaws.{piece_at, pieces_from}
+use Rattle.omf_reloc.proofs.GatherLaws.{pieces_from}
 use Rattle.omf_reloc.proofs.WalkLaws.{next-split}
 
 abbrev Placed : Type 0

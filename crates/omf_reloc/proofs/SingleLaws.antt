@@ -1,12 +1,11 @@
 -- Pieces mean the same where each fixup is a piece of its own.
-use Rattle.std.proofs.Common.{◌≡◌, ℕ, List, [], ◌∷◌, ◌++◌, Bool, true, false, refl, sym, ◌∙◌, ap, ap₂, cond}
+use Rattle.std.proofs.Common.{◌≡◌, ℕ, List, [], ◌∷◌, ◌++◌, Bool, true, false, refl, ◌∙◌, ap, ap₂, cond}
 use Rattle.std.specs.Prelude.{map, flat_map, Option, Some, None}
 use Rattle.omf_frame.specs.Bytes.{up_to}
 use Rattle.omf_image.specs.Overlay.{Laid}
 use Rattle.omf_image.specs.declared.limits.Limits.{Limits}
 use Rattle.omf_records.specs.Values.{Contents, Plain, Iterated, DataItem}
-use Rattle.omf_reloc.specs.declared.fault.Cause.{Cause}
-use Rattle.omf_reloc.specs.Image.{laid, laid_contents, laid_piece, patched, starts, piece_start}
+use Rattle.omf_reloc.specs.Image.{laid, laid_contents, patched, starts, piece_start}
 use Rattle.omf_reloc.specs.Offsets.{outcome, cause_of}
 use Rattle.omf_reloc.specs.Pieces.{one_by_one}
 use Rattle.omf_reloc.specs.Placement.{Places}

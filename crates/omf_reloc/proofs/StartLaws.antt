@@ -13,7 +13,7 @@ use Rattle.omf_reloc.specs.Pieces.{single_pieces}
 use Rattle.omf_reloc.specs.Placement.{Places}
 use Rattle.omf_reloc.specs.Plain.{Piece, Kept, Fixed, End, pieces}
 use Rattle.omf_reloc.specs.Reach.{Fits, causes, piece_causes, Reaches}
-use Rattle.omf_reloc.specs.Walking.{HasStart, CanStart}
+use Rattle.omf_reloc.specs.Walking.{CanStart}
 use Rattle.omf_reloc.proofs.AddedLaws.{IsFine, left, right, fine-ok}
 use Rattle.omf_reloc.proofs.HoldLaws.{PieceHolds, PiecesHold, data_after, pieces-hold}
 use Rattle.omf_reloc.proofs.SingleLaws.{causes-same, starts-same}

@@ -1,15 +1,11 @@
 use Rattle.std.proofs.Common.{◌∙◌, ap, sym, subst, None}
-use Rattle.std.specs.Prelude.{map, slice_get}
+use Rattle.std.specs.Prelude.{slice_get}
 use Rattle.omf_image.specs.Limits.{profile_limits}
-use Rattle.omf_frame.specs.declared.fault.Place.{Place}
 use Rattle.omf_check.specs.Module.{records_in}
 use Rattle.omf_check.specs.WellFormed.{recs}
-use Rattle.omf_reloc.specs.PieceSeen.{piece_seen}
-use Rattle.omf_reloc.specs.Plain.{Piece}
 use Rattle.omf_reloc.specs.ReachSteps.{CanJudgeAll, pieces_far}
 use Rattle.omf_reloc.proofs.FarLaws.{without_places, far-walked}
 use Rattle.omf_reloc.proofs.JudgeLaws.{judged-all}
-use Rattle.omf_reloc.proofs.ReachedLaws.{can-here, can-rest, pieces-stop, pieces-go}
 use Rattle.omf_reloc.proofs.reaching.far_fault.Goals as goal
 
 pub loop-place-init : goal.loop-place-init
