@@ -89,14 +89,14 @@ pieces_from before rs = with_before piece_at before rs
 pub subrecords-more : (before : List Rec) (r : Rec) → subrecords (before ++ r ∷ []) ≡ subrecords before ++ subrecords_in r.contents
 subrecords-more before r = flat_map-append (λ x. subrecords_in x.contents) before (r ∷ []) ∙ ap (λ t. subrecords before ++ t) (append-nil (subrecords_in r.contents))
 
-abbrev with_open : Option Gathered → List Piece → List Gathered
+abbrev pub with_open : Option Gathered → List Piece → List Gathered
 with_open open_one ps = option_to_list (option_map (more (fixups_of_data ps)) open_one) ++ gathered ps
 
-open-none : (open_one : Option Gathered) → option_to_list (option_map (more []) open_one) ≡ option_to_list open_one
+pub open-none : (open_one : Option Gathered) → option_to_list (option_map (more []) open_one) ≡ option_to_list open_one
 open-none None = refl
 open-none (Some g) = ap (λ x. x ∷ []) (more-none g)
 
-open-more : (fs gs : List (ℕ × PlainFixup)) (open_one : Option Gathered) → option_map (more (fs ++ gs)) open_one ≡ option_map (more gs) (option_map (more fs) open_one)
+pub open-more : (fs gs : List (ℕ × PlainFixup)) (open_one : Option Gathered) → option_map (more (fs ++ gs)) open_one ≡ option_map (more gs) (option_map (more fs) open_one)
 open-more fs gs None = refl
 open-more fs gs (Some g) = ap Some (sym (more-more fs gs g))
 

@@ -1,77 +1,67 @@
 -- Where a placement's lists are as long as a well-formed module's tables, each of its references can be judged.
-use Rattle.std.proofs.Common.{◌≡◌, ℕ, List, [], ◌∷◌, ◌++◌, refl, sym, ◌∙◌, ap, subst, true, length, append_assoc}
-use Rattle.std.specs.Prelude.{Option, Some, None, IsSome, ⊤}
+use Rattle.std.proofs.Common.{◌≡◌, ℕ, ◌≤◌, List, [], ◌∷◌, refl, sym, ◌∙◌, ap, subst, true, length, arith}
+use Rattle.std.specs.Prelude.{Option, Some, None, nat_le, ⊤}
+use Rattle.std.proofs.lemmas.Bool.{leb-true, le-leb, and_parts, and_from}
 use Rattle.omf_image.specs.declared.limits.Limits.{Limits}
-use Rattle.omf_records.specs.Values.{At, Rec, Contents, Names, Plain, Iterated, Fixups, ModEnd, Subrecord, Thread, Fixup, Reference}
-use Rattle.omf_check.specs.Kept.{HasThreads, no_threads, set_thread}
-use Rattle.omf_check.specs.Sound.{ReferenceHolds, SubrecordHolds, ContentsHold, ModuleHolds}
-use Rattle.omf_check.specs.Tables.{segments, subrecords, is_defined}
-use Rattle.omf_check.specs.Threads.{F4, plain}
-use Rattle.omf_check.specs.declared.threads.Threads.{Threads}
-use Rattle.omf_check.proofs.ThreadLaws.{threads_kept}
-use Rattle.omf_reloc.specs.Placed.{HasPlaces}
+use Rattle.omf_records.specs.Values.{Rec, Contents, Names, Plain, Iterated}
+use Rattle.omf_check.specs.Sound.{FrameIsDefined, TargetIsDefined, ModuleHolds}
+use Rattle.omf_check.specs.Tables.{segments, groups, externals, is_defined}
+use Rattle.omf_check.specs.Threads.{FrameMethod, F0, F1, F2, F4, F5, TargetMethod, T0, T1, T2}
+use Rattle.omf_reloc.specs.Pieces.{single_pieces}
+use Rattle.omf_reloc.specs.Placed.{HasFrame, HasTarget}
 use Rattle.omf_reloc.specs.Placement.{Places}
-use Rattle.omf_reloc.specs.ReachSteps.{HasEntries, data_place, CanJudge, CanJudgeOne, CanJudgeAll, CanJudgeRecord, CanJudgeRecords}
-use Rattle.omf_reloc.specs.Walking.{threads_after}
-use Rattle.omf_reloc.proofs.FoundLaws.{Covers, covers, defined-more, frame-there, target-there}
-use Rattle.omf_reloc.proofs.FarLaws.{plain-by, place_in, place-more, threads-more, no-data, HoldFrom, hold-first, hold-rest}
+use Rattle.omf_reloc.specs.Plain.{Piece, Kept, Fixed, End}
+use Rattle.omf_reloc.specs.ReachSteps.{HasEntries, data_place, place_behind, CanJudge, CanJudgeAll}
+use Rattle.omf_reloc.proofs.FoundLaws.{Covers, defined-more, frame-there, target-there}
+use Rattle.omf_reloc.proofs.FarLaws.{place_of, place-after, no-data}
+use Rattle.omf_reloc.proofs.HoldLaws.{KeptHolds, PieceHolds, PiecesHold, data_after, pieces-hold}
 
 -- The segment of the last data record, if there is one, has an entry.
 abbrev IsThere : Places → Option (ℕ × ℕ) → Type 0
 IsThere pl None = ⊤
 IsThere pl (Some p) = is_defined (length pl.segments) p.0 ≡ true
 
-module _ (pl : Places) (before : List Rec) (c : Covers pl before) where
-  can-judge : (segment : ℕ) (threads : Threads) (earlier : List Subrecord) (r : Reference) → HasThreads threads earlier → ReferenceHolds before earlier r
-      → ((plain earlier r).frame ≡ F4 → is_defined (length pl.segments) segment ≡ true) → CanJudge pl segment threads r
-  can-judge segment threads earlier r h holds s = record {
-    frame = subst IsSome (sym (threads_kept.frame threads earlier r h)) holds.frame_set;
-    target = subst IsSome (sym (threads_kept.target threads earlier r h)) holds.target_set;
-    places = subst (HasPlaces pl segment) (plain-by threads earlier r h) (record {
-      frame = frame-there pl before c segment (plain earlier r).frame holds.frame s;
-      target = target-there pl before c (plain earlier r).target holds.target;
-    });
-  }
+module _ (pl : Places) (m : List Rec) (c : Covers pl m) where
+  pub segment-there : (i : ℕ) → is_defined (length (segments m)) i ≡ true → is_defined (length pl.segments) i ≡ true
+  segment-there i h = defined-more (length (segments m)) (length pl.segments) i c.segments h
 
-  can-judge-one : (place : Option (ℕ × ℕ)) (threads : Threads) (earlier : List Subrecord) (s : Subrecord) → place ≡ place_in before → IsThere pl place → HasThreads threads earlier
-      → SubrecordHolds before earlier s → CanJudgeOne pl place threads s
-  can-judge-one place threads earlier (Thread byte datum) e there h holds = tt
-  can-judge-one None threads earlier (Fixup locat r) e there h holds = no-data before earlier locat r e holds
-  can-judge-one (Some p) threads earlier (Fixup locat r) e there h holds = (there, can-judge p.0 threads earlier r h holds.reference (λ f. there))
+  module _ (limits : Limits) where
+    can-judge : (last_one : Option Contents) (place : Option (ℕ × ℕ)) (p : Piece) (ps : List Piece) → place ≡ place_of last_one → IsThere pl place → PieceHolds limits m last_one p ps → CanJudge pl place p
+    can-judge last_one place (Kept r) ps e there h = tt
+    can-judge last_one place (Fixed kind []) ps e there h = absurd h
+    can-judge last_one None (Fixed kind (f ∷ [])) ps e there h = no-data m last_one f e h
+    can-judge last_one (Some p) (Fixed kind (f ∷ [])) ps e there h = (
+      there,
+      record { frame = frame-there pl m c p.0 f.reference.frame h.reference.frame (λ x. there); target = target-there pl m c f.reference.target h.reference.target },
+    )
+    can-judge last_one place (Fixed kind (f ∷ g ∷ fs)) ps e there h = absurd h
+    can-judge last_one place (End kind byte None) ps e there h = tt
+    can-judge last_one place (End kind byte (Some r)) ps e there h =
+        record { frame = frame-there pl m c 0 r.frame h.0.frame (λ x. absurd (h.1 x)); target = target-there pl m c r.target h.0.target }
 
-  can-judge-all : (place : Option (ℕ × ℕ)) (threads : Threads) (earlier : List Subrecord) (subs : List (At Subrecord)) → place ≡ place_in before → IsThere pl place → HasThreads threads earlier
-      → HoldFrom before earlier subs → CanJudgeAll pl place threads subs
-  can-judge-all place threads earlier [] e there h holds = tt
-  can-judge-all place threads earlier (s ∷ subs) e there h holds = (
-    can-judge-one place threads earlier s.item e there h (hold-first before earlier s subs holds),
-    can-judge-all place (set_thread threads s.item) (earlier ++ s.item ∷ []) subs e there (threads_kept.one threads earlier s.item h) (hold-rest before earlier s subs holds),
-  )
+    there-kept : (kind : ℕ) (place : Option (ℕ × ℕ)) (x : Contents) → IsThere pl place → KeptHolds limits m kind x → IsThere pl (data_place x place)
+    there-kept kind place (Plain d) there h = segment-there d.segment.item h.lies.segment_defined
+    there-kept kind place (Iterated d) there h = segment-there d.segment.item h.data_holds.lies.segment_defined
+    there-kept kind place (Names items) there h = there
+    there-kept kind place _ there h = there
 
-  can-judge-record : (limits : Limits) (kind : ℕ) (place : Option (ℕ × ℕ)) (threads : Threads) (x : Contents) → place ≡ place_in before → IsThere pl place → HasThreads threads (subrecords before)
-      → ContentsHold limits before kind x → CanJudgeRecord pl place threads x
-  can-judge-record limits kind place threads (Fixups subs) e there h holds = can-judge-all place threads (subrecords before) subs e there h holds
-  can-judge-record limits kind place threads (ModEnd byte None) e there h holds = tt
-  can-judge-record limits kind place threads (ModEnd byte (Some r)) e there h holds = can-judge 0 threads (subrecords before) r h holds.reference (λ f. absurd (holds.frame f))
-  can-judge-record limits kind place threads (Names items) e there h holds = tt
-  can-judge-record limits kind place threads _ e there h holds = tt
+    there-after : (last_one : Option Contents) (place : Option (ℕ × ℕ)) (p : Piece) (ps : List Piece) → IsThere pl place → PieceHolds limits m last_one p ps → IsThere pl (place_behind p place)
+    there-after last_one place (Kept r) ps there h = there-kept r.kind place r.contents there h
+    there-after last_one place (Fixed kind fs) ps there h = there
+    there-after last_one place (End kind byte s) ps there h = there
 
-  there-after : (limits : Limits) (kind : ℕ) (place : Option (ℕ × ℕ)) (x : Contents) → IsThere pl place → ContentsHold limits before kind x → IsThere pl (data_place x place)
-  there-after limits kind place (Plain d) there holds = defined-more (length (segments before)) (length pl.segments) d.segment.item c.segments holds.segment
-  there-after limits kind place (Iterated d) there holds = defined-more (length (segments before)) (length pl.segments) d.segment.item c.segments holds.lies.segment
-  there-after limits kind place (Names items) there holds = there
-  there-after limits kind place _ there holds = there
+    judge-from : (ps : List Piece) (last_one : Option Contents) (place : Option (ℕ × ℕ)) → place ≡ place_of last_one → IsThere pl place → PiecesHold limits m last_one ps → CanJudgeAll pl place ps
+    judge-from [] last_one place e there h = tt
+    judge-from (p ∷ ps) last_one place e there h = (
+      can-judge last_one place p ps e there h.0,
+      judge-from ps (data_after p last_one) (place_behind p place) (ap (place_behind p) e ∙ place-after p last_one) (there-after last_one place p ps there h.0) h.1,
+    )
 
-module _ (pl : Places) (limits : Limits) (m : List Rec) (holds : ModuleHolds limits m) (entries : HasEntries pl m) where
-  judge-from : (before rs : List Rec) (place : Option (ℕ × ℕ)) (threads : Threads) → m ≡ before ++ rs → place ≡ place_in before → IsThere pl place → HasThreads threads (subrecords before)
-      → CanJudgeRecords pl place threads rs
-  judge-from before [] place threads e p there h = tt
-  judge-from before (r ∷ rs) place threads e p there h =
-      let c = covers pl m before (r ∷ rs) entries e in
-      let held = holds.each before rs r e in (
-        can-judge-record pl before c limits r.kind place threads r.contents p there h held,
-        judge-from (before ++ r ∷ []) rs (data_place r.contents place) (threads_after threads r.contents) (e ∙ sym (append_assoc before (r ∷ []) rs))
-            (ap (data_place r.contents) p ∙ sym (place-more before r)) (there-after pl before c limits r.kind place r.contents there held) (threads-more threads before r h),
-      )
-
-  pub judged-all : CanJudgeRecords pl None no_threads m
-  judged-all = judge-from [] m None no_threads refl refl tt threads_kept.none
+pub judged-all : (pl : Places) (limits : Limits) (m : List Rec) → ModuleHolds limits m → HasEntries pl m → CanJudgeAll pl None (single_pieces m)
+judged-all pl limits m holds entries =
+    let c : Covers pl m = record {
+      segments = subst (λ n. length (segments m) ≤ n) (sym entries.segments) (omega arith);
+      groups = subst (λ n. length (groups m) ≤ n) (sym entries.groups) (omega arith);
+      externals = subst (λ n. length (externals m) ≤ n) (sym entries.externals) (omega arith);
+    } in
+    judge-from pl m c limits (single_pieces m) None None refl tt (pieces-hold limits m holds)

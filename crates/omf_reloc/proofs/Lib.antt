@@ -4,6 +4,7 @@ pub mod GroupLaws
 pub mod LowestLaws
 pub mod ResolvingLaws
 pub mod ReachLaws
+pub mod EarlierLaws
 pub mod FarLaws
 pub mod FoundLaws
 pub mod BaseLaws
@@ -29,3 +30,5 @@ pub mod InsideLaws
 pub mod StartLaws
 pub mod MeasureLaws
 pub mod PieceLaws
+pub mod SingleLaws
+pub mod HoldLaws

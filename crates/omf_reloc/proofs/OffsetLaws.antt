@@ -1,17 +1,14 @@
 -- Outcomes and start offsets, put together from what the steps of the code answer.
-use Rattle.std.proofs.Common.{◌≡◌, ℕ, ◌+◌, ◌<◌, List, [], ◌∷◌, Bool, true, false, cond, Option, Some, refl, sym, ◌∙◌, ap, arith}
-use Rattle.std.specs.Prelude.{slice_get, unwrap_or, option_map}
+use Rattle.std.proofs.Common.{◌≡◌, ℕ, ◌+◌, List, [], ◌∷◌, Bool, true, false, cond, Option, refl, ◌∙◌, ap}
+use Rattle.std.specs.Prelude.{slice_get}
 use Rattle.std.specs.Option.{ok_or}
 use Rattle.omf_reloc.specs.declared.fault.Cause.{Cause}
 use Rattle.omf_reloc.specs.declared.fault.Cause.TheVariants as cause
 use Rattle.omf_reloc.specs.declared.frame.Frame.{Frame}
 use Rattle.omf_frame.specs.Bytes.{difference}
-use Rattle.omf_records.specs.Values.{width_bits, location_type, location_offset, is_segment_relative, Subrecord, Reference, frame_by_thread, frame_thread, frame_bits, target_by_thread, target_bits}
+use Rattle.omf_records.specs.Values.{width_bits, location_type, location_offset, is_segment_relative}
 use Rattle.omf_records.specs.Location.{offset_bits, self_relative_bits}
-use Rattle.omf_check.specs.Judging.{frame_cell, target_cell}
-use Rattle.omf_check.specs.Kept.{HasThreads}
-use Rattle.omf_check.specs.Threads.{Setting, setting, frame_from, target_from, F5, T0, PlainReference, plain, frame_setting, target_setting}
-use Rattle.omf_check.specs.declared.threads.Threads.{Threads}
+use Rattle.omf_check.specs.Threads.{PlainReference}
 use Rattle.omf_reloc.specs.Plain.{PlainFixup}
 use Rattle.omf_reloc.specs.Placed.{fixupp_type, modend_type, number_bits}
 use Rattle.omf_reloc.specs.Placement.{Places, placed, target_address, frame_by}

@@ -1,5 +1,5 @@
 -- The pieces that records give by the threads in force are those of the definition, each at its place.
-use Rattle.std.proofs.Common.{◌≡◌, ℕ, ◌+◌, List, [], ◌∷◌, ◌++◌, refl, sym, ◌∙◌, ap, ap₂, subst, length, append_assoc}
+use Rattle.std.proofs.Common.{◌≡◌, ℕ, ◌+◌, List, [], ◌∷◌, ◌++◌, refl, sym, ◌∙◌, ap, ap₂, subst, length}
 use Rattle.std.specs.Prelude.{map, flat_map, filter_map, Option, Some, None, IsSome}
 use Rattle.std.specs.List.{enumerate_from}
 use Rattle.std.proofs.lemmas.Grind.{flat_map-append}
@@ -13,16 +13,16 @@ use Rattle.omf_records.specs.Values.{At, Rec, Contents, Names, Fixups, ModEnd, S
 use Rattle.omf_check.proofs.ThreadLaws.{threads_kept}
 use Rattle.omf_check.specs.Kept.{HasThreads, no_threads, set_thread}
 use Rattle.omf_check.specs.Listed.{placed_from}
-use Rattle.omf_check.specs.Sound.{ReferenceHolds, SubrecordHolds, SubrecordsHold, ContentsHold, ModuleHolds}
+use Rattle.omf_check.specs.Sound.{ReferenceHolds, SubrecordHolds, ContentsHold, ModuleHolds}
 use Rattle.omf_check.specs.Tables.{subrecords}
 use Rattle.omf_check.specs.WellFormed.{recs}
 use Rattle.omf_check.specs.declared.threads.Threads.{Threads}
-use Rattle.omf_reloc.specs.Pieces.{one_by_one, single_pieces, references_at, reference_places, subrecord_step, subrecord_steps, contents_steps, steps_from, given, placed_pieces, IsSet, SubrecordIsSet, SubrecordsAreSet, ContentsAreSet, RecordsAreSet}
-use Rattle.omf_reloc.specs.Plain.{Piece, Fixed, End, PlainFixup, piece_of, pieces, end_byte, plain_fixups}
+use Rattle.omf_reloc.specs.Pieces.{one_by_one, single_pieces, references_at, reference_places, subrecord_steps, contents_steps, steps_from, given, placed_pieces, IsSet, SubrecordIsSet, SubrecordsAreSet, ContentsAreSet, RecordsAreSet}
+use Rattle.omf_reloc.specs.Plain.{Piece, Fixed, End, PlainFixup, piece_of, end_byte, plain_fixups}
 use Rattle.omf_reloc.specs.Reach.{fixup_place, reference_places as stood, all_reference_places}
-use Rattle.omf_reloc.specs.Walking.{plain_by, threads_after}
-use Rattle.omf_reloc.proofs.FarLaws.{plain-by, threads-more, HoldFrom, hold-first, hold-rest}
-use Rattle.omf_reloc.proofs.GatherLaws.{piece_at, pieces_from}
+use Rattle.omf_reloc.specs.Walking.{threads_after}
+use Rattle.omf_reloc.proofs.EarlierLaws.{plain-by, threads-more, HoldFrom, hold-first, hold-rest}
+use Rattle.omf_reloc.proofs.GatherLaws.{pieces_from}
 use Rattle.omf_reloc.proofs.WalkLaws.{next-split}
 
 abbrev Placed : Type 0
@@ -95,18 +95,45 @@ contents-places at kind threads _ = refl
 places-more : (xs ys : List (Option Placed)) → reference_places (given (xs ++ ys)) ≡ reference_places (given xs) ++ reference_places (given ys)
 places-more xs ys = ap reference_places (filter_map-append (λ s. s) xs ys) ∙ flat_map-append (λ p. references_at p.0 p.1) (given xs) (given ys)
 
-places-from : (number start : ℕ) (threads : Threads) (rs : List Raw)
-    → reference_places (given (steps_from threads (placed_from number start rs))) ≡ flat_map (λ p. at_number p.0 (stood p.1.contents)) (enumerate_from number (recs rs))
-places-from number start threads [] = refl
-places-from number start threads (r ∷ rs) =
-    let at : Place = record { number = number; start = start; within = 0 } in
-    let t = typed r in
-    let after = start + length (raw_bytes r) in
-    places-more (contents_steps threads at t.kind t.contents) (steps_from (threads_after threads t.contents) (placed_from (number + 1) after rs))
-    ∙ ap₂ (λ ys zs. ys ++ zs) (contents-places at t.kind threads t.contents) (places-from (number + 1) after (threads_after threads t.contents) rs)
+places-from : (threads : Threads) (xs : List (Place × Rec)) → reference_places (given (steps_from threads xs)) ≡ flat_map (λ x. at_number x.0.number (stood x.1.contents)) xs
+places-from threads [] = refl
+places-from threads (x ∷ xs) =
+    places-more (contents_steps threads x.0 x.1.kind x.1.contents) (steps_from (threads_after threads x.1.contents) xs)
+    ∙ ap₂ (λ ys zs. ys ++ zs) (contents-places x.0 x.1.kind threads x.1.contents) (places-from (threads_after threads x.1.contents) xs)
+
+abbrev record_places : List (Place × Rec) → List (ℕ × ℕ)
+record_places xs = flat_map (λ x. at_number x.0.number (stood x.1.contents)) xs
+
+abbrev number_places : List (ℕ × Rec) → List (ℕ × ℕ)
+number_places xs = flat_map (λ x. at_number x.0 (stood x.1.contents)) xs
+
+raws-placed : (number start : ℕ) (rs : List Raw) → record_places (placed_from number start rs) ≡ number_places (enumerate_from number (recs rs))
+raws-placed number start [] = refl
+raws-placed number start (r ∷ rs) = ap (λ ps. at_number number (stood (typed r).contents) ++ ps) (raws-placed (number + 1) (start + length (raw_bytes r)) rs)
 
 pub pieces-placed : (rs : List Raw) → reference_places (placed_pieces (placed_from 0 0 rs)) ≡ all_reference_places (recs rs)
-pieces-placed rs = places-from 0 0 no_threads rs
+pieces-placed rs = places-from no_threads (placed_from 0 0 rs) ∙ raws-placed 0 0 rs
+
+-- The records of a module, numbered.
+abbrev at_start : ℕ → Place
+at_start number = record { number = number; start = 0; within = 0 }
+
+abbrev numbered_from : ℕ → List Rec → List (Place × Rec)
+numbered_from number rs = map (λ x. (at_start x.0, x.1)) (enumerate_from number rs)
+
+abbrev pub numbered_records : List Rec → List (Place × Rec)
+numbered_records m = numbered_from 0 m
+
+pub numbered-listed : (number : ℕ) (rs : List Rec) → map (λ x. x.1) (numbered_from number rs) ≡ rs
+numbered-listed number [] = refl
+numbered-listed number (r ∷ rs) = ap (λ xs. r ∷ xs) (numbered-listed (number + 1) rs)
+
+numbered-same : (number : ℕ) (rs : List Rec) → record_places (numbered_from number rs) ≡ number_places (enumerate_from number rs)
+numbered-same number [] = refl
+numbered-same number (r ∷ rs) = ap (λ ps. at_number number (stood r.contents) ++ ps) (numbered-same (number + 1) rs)
+
+pub numbered-placed : (m : List Rec) → reference_places (placed_pieces (numbered_records m)) ≡ all_reference_places m
+numbered-placed m = places-from no_threads (numbered_records m) ∙ numbered-same 0 m
 
 -- Each thread that is named is set.
 reference-set : (before : List Rec) (threads : Threads) (earlier : List Subrecord) (r : Reference) → HasThreads threads earlier → ReferenceHolds before earlier r → IsSet threads r

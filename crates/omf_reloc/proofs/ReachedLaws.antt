@@ -1,29 +1,22 @@
 -- The first fault of a list in parts, and the parts that reach judges one after another.
-use Rattle.std.proofs.Common.{◌≡◌, ℕ, zero, suc, ◌+◌, ◌-◌, ◌≤◌, List, [], ◌∷◌, ◌++◌, refl, sym, ◌∙◌, ap, ap₂, subst, arith, length, drop, true, false}
+use Rattle.std.proofs.Common.{◌≡◌, ℕ, zero, suc, ◌+◌, ◌-◌, ◌≤◌, List, [], ◌∷◌, ◌++◌, refl, sym, ◌∙◌, ap, subst, arith, length, drop, true, false}
 use Rattle.std.specs.Prelude.{Option, Some, None, slice_get, is_some, ◌↔◌}
 use Rattle.std.proofs.lemmas.Bool.{true≢false, false≢true}
 use Rattle.std.proofs.lemmas.Option.{none-some, same_Some}
-use Rattle.omf_frame.specs.Framing.{Raw, raw_bytes}
-use Rattle.omf_records.specs.Reading.{typed}
 use Rattle.omf_frame.specs.declared.fault.Place.{Place}
-use Rattle.omf_image.specs.declared.limits.Limits.{Limits}
 use Rattle.omf_records.specs.Values.{Rec}
-use Rattle.omf_check.specs.Kept.{no_threads}
-use Rattle.omf_check.specs.Listed.{placed_from}
-use Rattle.omf_check.specs.Sound.{ModuleHolds}
 use Rattle.omf_check.specs.Tables.{segments, groups, externals, entry}
-use Rattle.omf_check.specs.WellFormed.{recs}
 use Rattle.omf_check.specs.declared.segment.SegInfo.{SegInfo}
-use Rattle.omf_check.specs.declared.threads.Threads.{Threads}
+use Rattle.omf_reloc.specs.declared.fault.Cause.{Cause}
 use Rattle.omf_reloc.specs.declared.fault.ReachFault.{ReachFault}
+use Rattle.omf_reloc.specs.declared.fault.ReachFault.TheVariants as fault
+use Rattle.omf_reloc.specs.Plain.{Piece}
 use Rattle.omf_reloc.specs.Placement.{Places}
 use Rattle.omf_reloc.specs.declared.fault.Kind.TheVariants as kinds
 use Rattle.omf_reloc.specs.Reach.{missing, extra, misplaced, far_faults, reach_fault, Reaches}
-use Rattle.omf_reloc.specs.ReachSteps.{HasEntries, miscounts, misplaced_from, data_place, record_far, records_far, placed_far, CanJudgeRecord, CanJudgeRecords, CanJudgePlaced}
-use Rattle.omf_reloc.specs.Walking.{threads_after}
+use Rattle.omf_reloc.specs.ReachSteps.{HasEntries, miscounts, misplaced_from, far_at, place_behind, piece_cause, pieces_far, CanJudge, CanJudgeAll}
 use Rattle.omf_reloc.proofs.ReachLaws.{entry-suc, same-count, nil-left, nil-right, first-none, reach-decided}
-use Rattle.omf_reloc.proofs.FarLaws.{far-walked}
-use Rattle.omf_reloc.proofs.JudgeLaws.{judged-all}
+use Rattle.omf_reloc.proofs.FarLaws.{without_places}
 
 -- The first of two lists' elements: that of the first list, if it has one, or else that of the second.
 pub first-stop : {A : Type 0} (r all : Option A) (xs ys : List A) → r ≡ slice_get xs 0 → is_some r ≡ true → slice_get (xs ++ ys) 0 ≡ all → r ≡ all
@@ -55,52 +48,24 @@ module _ (pl : Places) (infos : List SegInfo) (i : ℕ) (info : SegInfo) (low : 
     pub segments-go : is_some r ≡ false → slice_get (misplaced_from pl (i + 1) (drop (i + 1 - 1) infos)) 0 ≡ all
     segments-go b = first-go r all (misplaced pl i info.absolute) (misplaced_from pl (i + 1) (drop (i + 1 - 1) infos)) found b (sym (ap (λ xs. slice_get xs 0) segments-step) ∙ h)
 
--- Records with their places.
-pub placed-same : (pl : Places) (number start : ℕ) (place : Option (ℕ × ℕ)) (threads : Threads) (rs : List Raw)
-    → placed_far pl place threads (placed_from number start rs) ≡ records_far pl number place threads (recs rs)
-placed-same pl number start place threads [] = refl
-placed-same pl number start place threads (r ∷ rs) =
-    let x = typed r in
-    ap (λ fs. record_far pl number x.kind place threads x.contents ++ fs) (placed-same pl (number + 1) (start + length (raw_bytes r)) (data_place x.contents place) (threads_after threads x.contents) rs)
+-- One piece more.
+module _ (pl : Places) (place : Option (ℕ × ℕ)) (xs ys : List (Place × Piece)) (x : Place × Piece) (e : xs ≡ x ∷ ys) where
+  pub can-here : CanJudgeAll pl place (without_places xs) → CanJudge pl place x.1
+  can-here h = (subst (λ zs. CanJudgeAll pl place (without_places zs)) e h).0
 
-pub placed-can : (pl : Places) (number start : ℕ) (place : Option (ℕ × ℕ)) (threads : Threads) (rs : List Raw)
-    → CanJudgeRecords pl place threads (recs rs) → CanJudgePlaced pl place threads (placed_from number start rs)
-placed-can pl number start place threads [] h = tt
-placed-can pl number start place threads (r ∷ rs) h =
-    let x = typed r in
-    (h.0, placed-can pl (number + 1) (start + length (raw_bytes r)) (data_place x.contents place) (threads_after threads x.contents) rs h.1)
+  pub can-rest : (next : Option (ℕ × ℕ)) → next ≡ place_behind x.1 place → CanJudgeAll pl place (without_places xs) → CanJudgeAll pl next (without_places ys)
+  can-rest next n h = subst (λ p. CanJudgeAll pl p (without_places ys)) (sym n) (subst (λ zs. CanJudgeAll pl place (without_places zs)) e h).1
 
--- One record more.
-module _ (pl : Places) (place : Option (ℕ × ℕ)) (threads : Threads) (xs ys : List (Place × Rec)) (x : Place × Rec) (e : xs ≡ x ∷ ys) where
-  pub can-here : CanJudgePlaced pl place threads xs → CanJudgeRecord pl place threads x.1.contents
-  can-here h = (subst (CanJudgePlaced pl place threads) e h).0
+  module _ (all : Option ReachFault) (cause : Option Cause) (found : cause ≡ piece_cause pl place x.1) (h : slice_get (pieces_far pl place xs) 0 ≡ all) where
+    same : slice_get (far_at x.0.number x.0.within cause ++ pieces_far pl (place_behind x.1 place) ys) 0 ≡ all
+    same = ap (λ c. slice_get (far_at x.0.number x.0.within c ++ pieces_far pl (place_behind x.1 place) ys) 0) found ∙ sym (ap (λ zs. slice_get (pieces_far pl place zs) 0) e) ∙ h
 
-  pub can-rest : (next : Option (ℕ × ℕ)) (after : Threads) → next ≡ data_place x.1.contents place → after ≡ threads_after threads x.1.contents → CanJudgePlaced pl place threads xs
-      → CanJudgePlaced pl next after ys
-  can-rest next after n t h =
-      subst (λ p. CanJudgePlaced pl p after ys) (sym n) (subst (λ c. CanJudgePlaced pl (data_place x.1.contents place) c ys) (sym t) (subst (CanJudgePlaced pl place threads) e h).1)
+    pub pieces-stop : (c : Cause) → cause ≡ Some c → Some (fault.TooFar x.0.number x.0.within c) ≡ all
+    pieces-stop c s = sym (ap (λ o. slice_get (far_at x.0.number x.0.within o ++ pieces_far pl (place_behind x.1 place) ys) 0) s) ∙ same
 
-  module _ (r all : Option ReachFault) (found : r ≡ slice_get (record_far pl x.0.number x.1.kind place threads x.1.contents) 0) (h : slice_get (placed_far pl place threads xs) 0 ≡ all) where
-    abbrev rest : List ReachFault
-    rest = placed_far pl (data_place x.1.contents place) (threads_after threads x.1.contents) ys
-
-    same : slice_get (record_far pl x.0.number x.1.kind place threads x.1.contents ++ rest) 0 ≡ all
-    same = sym (ap (λ zs. slice_get (placed_far pl place threads zs) 0) e) ∙ h
-
-    pub records-stop : is_some r ≡ true → r ≡ all
-    records-stop b = first-stop r all (record_far pl x.0.number x.1.kind place threads x.1.contents) rest found b same
-
-    pub records-go : is_some r ≡ false → (next : Option (ℕ × ℕ)) (after : Threads) → next ≡ data_place x.1.contents place → after ≡ threads_after threads x.1.contents
-        → slice_get (placed_far pl next after ys) 0 ≡ all
-    records-go b next after n t =
-        ap₂ (λ p c. slice_get (placed_far pl p c ys) 0) n t ∙ first-go r all (record_far pl x.0.number x.1.kind place threads x.1.contents) rest found b same
-
-module _ (pl : Places) (limits : Limits) (raws : List Raw) (holds : ModuleHolds limits (recs raws)) where
-  pub far-placed : far_faults pl (recs raws) ≡ placed_far pl None no_threads (placed_from 0 0 raws)
-  far-placed = far-walked pl limits (recs raws) holds ∙ sym (placed-same pl 0 0 None no_threads raws)
-
-  pub can-placed : HasEntries pl (recs raws) → CanJudgePlaced pl None no_threads (placed_from 0 0 raws)
-  can-placed entries = placed-can pl 0 0 None no_threads raws (judged-all pl limits (recs raws) holds entries)
+    pub pieces-go : cause ≡ None → (next : Option (ℕ × ℕ)) → next ≡ place_behind x.1 place → slice_get (pieces_far pl next ys) 0 ≡ all
+    pieces-go s next n =
+        ap (λ p. slice_get (pieces_far pl p ys) 0) n ∙ sym (ap (λ o. slice_get (far_at x.0.number x.0.within o ++ pieces_far pl (place_behind x.1 place) ys) 0) s) ∙ same
 
 -- The parts of the list of all faults.
 pub first-later : {A : Type 0} (xs ys : List A) (o : Option A) → None ≡ slice_get xs 0 → o ≡ slice_get ys 0 → o ≡ slice_get (xs ++ ys) 0

@@ -1,34 +1,23 @@
 -- A walk over the records of a module that holds, by a placement that reaches, can take every record, and its image is that of the module.
-use Rattle.std.proofs.Common.{◌≡◌, ℕ, zero, suc, ◌+◌, ◌-◌, ◌^◌, ◌<◌, ◌≤◌, Bool, true, false, cond, List, [], ◌∷◌, ◌++◌, append_assoc, length, length-append, refl, sym, ap, ap₂, subst, ◌∙◌, arith}
-use Rattle.std.specs.Prelude.{All, map, flat_map, Option, Some, None, option_map, option_to_list, unwrap_or, IfSome, IsSome, IsOk, slice_get, nat_le}
+use Rattle.std.proofs.Common.{◌≡◌, ℕ, zero, suc, ◌+◌, ◌-◌, ◌^◌, ◌<◌, ◌≤◌, Bool, true, false, cond, List, [], ◌∷◌, ◌++◌, append_assoc, length, length-append, refl, sym, ap, subst, ◌∙◌, arith}
+use Rattle.std.specs.Prelude.{All, map, flat_map, Option, Some, None, option_map, option_to_list, unwrap_or, IfSome, slice_get, nat_le}
 use Rattle.std.specs.List.{last_or}
 use Rattle.std.proofs.lemmas.Bool.{leb-true, le-leb, and_parts, and_from}
 use Rattle.std.proofs.lemmas.List.{append-nil, map-append}
 use Rattle.std.proofs.lemmas.List.Elements.{All-nil, All-cons, All-head, All-tail, All-append}
-use Rattle.std.proofs.lemmas.Grind.{flat_map-append, fold-append}
+use Rattle.std.proofs.lemmas.Grind.{flat_map-append}
 use Rattle.omf_frame.specs.Bytes.{last}
-use Rattle.omf_records.specs.Values.{At, Rec, Contents, Segment, Names, Plain, Iterated, Fixups, DataItem, Subrecord, Thread, Fixup, Reference, width, location_offset}
+use Rattle.omf_records.specs.Values.{At, Rec, Contents, Segment, Names, Plain, Iterated, Fixups, DataItem, Subrecord, Thread, Fixup, width}
 use Rattle.omf_image.specs.Expanding.{expanded}
 use Rattle.omf_image.specs.Limits.{profile_limits}
-use Rattle.omf_image.specs.Overlay.{Laid}
-use Rattle.omf_check.specs.Kept.{HasThreads, set_thread}
-use Rattle.omf_check.specs.Laws.{ThreadsAreKept}
 use Rattle.omf_check.specs.Rules.{length_of_segment}
-use Rattle.omf_check.specs.Sound.{FrameIsDefined, TargetIsDefined, ReferenceHolds, FixupHolds, SubrecordHolds, SubrecordsHold, DataHolds, ContentsHold, ModuleHolds}
+use Rattle.omf_check.specs.Sound.{SubrecordHolds, SubrecordsHold, DataHolds, ContentsHold, ModuleHolds}
 use Rattle.omf_check.specs.Tables.{segments, groups, externals, entry, is_defined, subrecords, subrecords_in, last_data, data_in, defined_segments, defined_groups, defined_externals}
-use Rattle.omf_check.specs.Threads.{FrameMethod, F0, F1, F2, F4, F5, TargetMethod, T0, T1, T2, Setting, frame_from, target_from, PlainReference, plain}
+use Rattle.omf_check.specs.Threads.{plain}
 use Rattle.omf_check.specs.declared.segment.SegInfo.{SegInfo}
-use Rattle.omf_check.specs.declared.threads.Threads.{Threads}
-use Rattle.omf_reloc.specs.Image.{added}
 use Rattle.omf_reloc.specs.Laws.{location_end, AreInside, LiesInSegment}
-use Rattle.omf_reloc.specs.Offsets.{outcome}
-use Rattle.omf_reloc.specs.Placed.{HasFrame, HasTarget, HasPlaces}
-use Rattle.omf_reloc.specs.Placement.{Places}
 use Rattle.omf_reloc.specs.Plain.{PlainFixup, pieces, plain_fixup, plain_fixups}
-use Rattle.omf_reloc.specs.Reach.{Fits}
-use Rattle.omf_reloc.specs.Walking.{plain_by, with_fixup, with_subrecord, with_subrecords, CanAdd, CanTake, CanTakeAll}
-use Rattle.omf_reloc.proofs.GatherLaws.{Gathered, Once, Repeated, more, more-none, more-more, bare, tagged, gathered, closed_by, opened_by, gathered_from, gathered-all, subrecords-more, laid_of, Reach}
-use Rattle.omf_reloc.proofs.PatchLaws.{stays_inside}
+use Rattle.omf_reloc.proofs.GatherLaws.{Gathered, Once, Repeated, more, bare, tagged, gathered, closed_by, opened_by, gathered_from, gathered-all, subrecords-more}
 
 -- What holds of all holds of a part of them.
 pub all-left : {A : Type 0} (P : A → Type 0) (xs ys : List A) → All P (xs ++ ys) → All P xs
@@ -73,6 +62,23 @@ length-more m before rest i e h =
     ap (λ o. unwrap_or (option_map (λ (s : SegInfo). s.length) o) 0)
     (sym (ap (λ xs. entry xs i) (longer (λ r. defined_segments r.kind r.contents) m before rest e) ∙ entry-more (segments before) (segments rest) i h))
 
+-- The tables of a module have what those of its first records have.
+pub defined-after : (m before rest : List Rec) → m ≡ before ++ rest
+    → ((i : ℕ) → is_defined (length (segments before)) i ≡ true → is_defined (length (segments m)) i ≡ true)
+    × ((i : ℕ) → is_defined (length (groups before)) i ≡ true → is_defined (length (groups m)) i ≡ true)
+    × ((i : ℕ) → is_defined (length (externals before)) i ≡ true → is_defined (length (externals m)) i ≡ true)
+defined-after m before rest e = (
+  λ i h. defined-more i (segments before) (segments rest) (segments m) (longer (λ r. defined_segments r.kind r.contents) m before rest e) h,
+  λ i h. defined-more i (groups before) (groups rest) (groups m) (longer (λ r. defined_groups r.contents) m before rest e) h,
+  λ i h. defined-more i (externals before) (externals rest) (externals m) (longer (λ r. defined_externals r.contents) m before rest e) h,
+)
+
+pub lies-in : (m before rest : List Rec) (d : DataItem) (size : ℕ) → m ≡ before ++ rest → DataHolds before d size → LiesInSegment m d.segment.item d.offset.item size
+lies-in m before rest d size e h = record {
+  segment_defined = defined-more d.segment.item (segments before) (segments rest) (segments m) (longer (λ r. defined_segments r.kind r.contents) m before rest e) h.segment;
+  inside = subst (λ n. d.offset.item + size ≤ n) (length-more m before rest d.segment.item e h.segment) h.inside;
+}
+
 -- Segments have no more than 2^32 bytes.
 abbrev IsShort : SegInfo → Type 0
 IsShort s = s.length ≤ 2 ^ 32
@@ -106,11 +112,11 @@ pub record IsOpen (m : List Rec) (o : Option Gathered) (l : Option Contents) : T
   pub tells : Tells o l
   pub lies : IfSome o (Lies m)
 
-last-end : {A : Type 0} (o : Option A) (xs : List A) (x : A) → last_or o (xs ++ x ∷ []) ≡ Some x
+pub last-end : {A : Type 0} (o : Option A) (xs : List A) (x : A) → last_or o (xs ++ x ∷ []) ≡ Some x
 last-end o [] x = refl
 last-end o (y ∷ xs) x = last-end (Some y) xs x
 
-last-more : (before : List Rec) (r : Rec) → last_data (before ++ r ∷ []) ≡ last (flat_map (λ x. data_in x.contents) before ++ data_in r.contents)
+pub last-more : (before : List Rec) (r : Rec) → last_data (before ++ r ∷ []) ≡ last (flat_map (λ x. data_in x.contents) before ++ data_in r.contents)
 last-more before r =
     ap last (flat_map-append (λ x. data_in x.contents) before (r ∷ []) ∙ ap (λ t. flat_map (λ x. data_in x.contents) before ++ t) (append-nil (data_in r.contents)))
 
@@ -155,34 +161,6 @@ sized-by d fs l tells e h = same (tells e h).0 (tells e h).1
     same : (gs : List (ℕ × PlainFixup)) → Some (Once d fs) ≡ Some (Once (bare e) gs) → length e.bytes ≡ length d.bytes
     same gs q = let p : d ≡ bare e = cc in ap (λ (x : DataItem). length x.bytes) (sym p)
 
--- The first of those that are gathered is the open one, with more fixups.
-abbrev IsFirst : List Gathered → Gathered → Type 0
-IsFirst gs g = (fs : List (ℕ × PlainFixup)) × (others : List Gathered) × (gs ≡ more fs g ∷ others)
-
-first-by : (earlier : List Subrecord) (kind : ℕ) (c : Contents) (g : Gathered) (rest : List Rec) → ((s : List Subrecord) (h : Gathered) → IsFirst (gathered_from s (Some h) rest) h)
-    → IsFirst (closed_by c (Some g) ++ gathered_from (earlier ++ subrecords_in c) (opened_by earlier kind c (Some g)) rest) g
-first-by earlier kind (Plain d) g rest again = ([], gathered_from (earlier ++ []) (Some (Once (bare d) [])) rest, ap (λ x. x ∷ gathered_from (earlier ++ []) (Some (Once (bare d) [])) rest) (sym (more-none g)))
-first-by earlier kind (Iterated d) g rest again = ([], gathered_from (earlier ++ []) (Some (Repeated kind (bare d) [])) rest, ap (λ x. x ∷ gathered_from (earlier ++ []) (Some (Repeated kind (bare d) [])) rest) (sym (more-none g)))
-first-by earlier kind (Fixups subs) g rest again =
-    let new = tagged kind (plain_fixups earlier subs) in
-    let a = again (earlier ++ items subs) (more new g) in
-    (new ++ a.0, a.1, a.2 ∙ ap (λ x. x ∷ a.1) (more-more new a.0 g))
-first-by earlier kind (Names ns) g rest again = again (earlier ++ []) g
-first-by earlier kind _ g rest again = again (earlier ++ []) g
-
-first-is : (rest : List Rec) (earlier : List Subrecord) (g : Gathered) → IsFirst (gathered_from earlier (Some g) rest) g
-first-is [] earlier g = ([], [], ap (λ x. x ∷ []) (sym (more-none g)))
-first-is (r ∷ rest) earlier g = first-by earlier r.kind r.contents g rest (λ s h. first-is rest s h)
-
-fixups-more : (pl : Places) (fs : List (ℕ × PlainFixup)) (g : Gathered) → Reach pl (more fs g) → Reach pl g
-fixups-more pl fs (Once d gs) h = all-left (λ f. IsOk (outcome pl d f)) gs fs h
-fixups-more pl fs (Repeated kind d gs) h = all-left (λ f. IsOk (outcome pl d f)) gs fs h
-
-pub reach-open : (pl : Places) (done : List Gathered) (earlier : List Subrecord) (g : Gathered) (rest : List Rec) → All (Reach pl) (done ++ gathered_from earlier (Some g) rest) → Reach pl g
-reach-open pl done earlier g rest h =
-    let a = first-is rest earlier g in
-    fixups-more pl a.0 g (All-head (Reach pl) (more a.0 g) a.1 (subst (All (Reach pl)) a.2 (all-right (Reach pl) done (gathered_from earlier (Some g) rest) h)))
-
 -- A module that holds.
 module _ (m : List Rec) (holds : ModuleHolds profile_limits m) where
   short-from : (before rest : List Rec) → m ≡ before ++ rest → All IsShort (segments rest)
@@ -193,12 +171,6 @@ module _ (m : List Rec) (holds : ModuleHolds profile_limits m) where
 
   pub length-short : (i : ℕ) → length_of_segment m i ≤ 2 ^ 32
   length-short i = short-if (nat_le 1 i) (slice_get (segments m) (i - 1)) (short-at (segments m) (i - 1) (short-from [] m refl))
-
-  lies-from : (before rest : List Rec) (d : DataItem) (size : ℕ) → m ≡ before ++ rest → DataHolds before d size → LiesInSegment m d.segment.item d.offset.item size
-  lies-from before rest d size e h = record {
-    segment_defined = defined-more d.segment.item (segments before) (segments rest) (segments m) (longer (λ r. defined_segments r.kind r.contents) m before rest e) h.segment;
-    inside = subst (λ n. d.offset.item + size ≤ n) (length-more m before rest d.segment.item e h.segment) h.inside;
-  }
 
   -- One record more: what is open then.
   tells-same : (o : Option Gathered) (xs : List Contents) → Tells o (last xs) → Tells o (last (xs ++ []))
@@ -229,10 +201,10 @@ module _ (m : List Rec) (holds : ModuleHolds profile_limits m) where
 
   open-by : (before rest : List Rec) (kind : ℕ) (c : Contents) (o : Option Gathered) → m ≡ before ++ rest → ContentsHold profile_limits before kind c → IsOpen m o (last_data before)
       → IsOpen m (opened_by (subrecords before) kind c o) (last (flat_map (λ x. data_in x.contents) before ++ data_in c))
-  open-by before rest kind (Plain d) o e h is = record { tells = tells-plain (flat_map (λ x. data_in x.contents) before) d; lies = (lies-from before rest d (length d.bytes) e h, All-nil (λ f. location_end f ≤ length d.bytes)) }
+  open-by before rest kind (Plain d) o e h is = record { tells = tells-plain (flat_map (λ x. data_in x.contents) before) d; lies = (lies-in m before rest d (length d.bytes) e h, All-nil (λ f. location_end f ≤ length d.bytes)) }
   open-by before rest kind (Iterated d) o e h is = record {
     tells = tells-iterated (Some (Repeated kind (bare d) [])) (flat_map (λ x. data_in x.contents) before) d;
-    lies = lies-from before rest d (length (expanded (width kind) profile_limits d.bytes)) e h.lies;
+    lies = lies-in m before rest d (length (expanded (width kind) profile_limits d.bytes)) e h.lies;
   }
   open-by before rest kind (Fixups subs) o e h is = record {
     tells = tells-same (opened_by (subrecords before) kind (Fixups subs) o) (flat_map (λ x. data_in x.contents) before) (tells-more (tagged kind (plain_fixups (subrecords before) subs)) o (last_data before) is.tells);
@@ -272,112 +244,3 @@ module _ (m : List Rec) (holds : ModuleHolds profile_limits m) where
 
   pub all-lie : All (Lies m) (gathered (pieces m))
   all-lie = subst (All (Lies m)) (sym (gathered-all m)) (lies-after [] m None refl open-first)
-
--- A fixup can be added where its record holds and the placement reaches.
-module _ (kept : ThreadsAreKept) (pl : Places) where
-  pub plain-same : (threads : Threads) (earlier : List Subrecord) (r : Reference) → HasThreads threads earlier → plain_by threads r ≡ plain earlier r
-  plain-same threads earlier r h =
-      ap₂ (λ (f t : Option Setting). let p : PlainReference = record { frame = unwrap_or (option_map frame_from f) F5; target = unwrap_or (option_map target_from t) (T0 0); displacement = unwrap_or r.displacement 0 } in p)
-      (kept.frame threads earlier r h) (kept.target threads earlier r h)
-
-  module _ (m : List Rec) (fits : Fits pl m) (before rest : List Rec) (e : m ≡ before ++ rest) where
-    pub has-segment : (i : ℕ) → is_defined (length (segments before)) i ≡ true → is_defined (length pl.segments) i ≡ true
-    has-segment i h = subst (λ n. is_defined n i ≡ true) (sym fits.segment_count) (defined-more i (segments before) (segments rest) (segments m) (longer (λ r. defined_segments r.kind r.contents) m before rest e) h)
-
-    pub has-group : (i : ℕ) → is_defined (length (groups before)) i ≡ true → is_defined (length pl.groups) i ≡ true
-    has-group i h = subst (λ n. is_defined n i ≡ true) (sym fits.group_count) (defined-more i (groups before) (groups rest) (groups m) (longer (λ r. defined_groups r.contents) m before rest e) h)
-
-    pub has-external : (i : ℕ) → is_defined (length (externals before)) i ≡ true → is_defined (length pl.externals) i ≡ true
-    has-external i h = subst (λ n. is_defined n i ≡ true) (sym fits.external_count) (defined-more i (externals before) (externals rest) (externals m) (longer (λ r. defined_externals r.contents) m before rest e) h)
-
-    has-frame : (segment : ℕ) → is_defined (length pl.segments) segment ≡ true → (f : FrameMethod) → FrameIsDefined before f → HasFrame pl segment f
-    has-frame segment s (F0 i) h = has-segment i h
-    has-frame segment s (F1 i) h = has-group i h
-    has-frame segment s (F2 i) h = has-external i h
-    has-frame segment s F4 h = s
-    has-frame segment s F5 h = tt
-
-    pub has-target : (t : TargetMethod) → TargetIsDefined before t → HasTarget pl t
-    has-target (T0 i) h = has-segment i h
-    has-target (T1 i) h = has-group i h
-    has-target (T2 i) h = has-external i h
-
-    pub has-places : (segment : ℕ) (earlier : List Subrecord) (r : Reference) → is_defined (length pl.segments) segment ≡ true → ReferenceHolds before earlier r → HasPlaces pl segment (plain earlier r)
-    has-places segment earlier r s h = record { frame = has-frame segment s (plain earlier r).frame h.frame; target = has-target (plain earlier r).target h.target }
-
-    -- The fixups of an LEDATA.
-    module _ (kind : ℕ) (d : DataItem) (there : is_defined (length pl.segments) d.segment.item ≡ true) (sized : (x : DataItem) → last_data before ≡ Some (Plain x) → length x.bytes ≡ length d.bytes) where
-      abbrev Adds : ℕ × PlainFixup → Type 0
-      Adds f = IsOk (outcome pl d f)
-
-      abbrev laid_by : List (ℕ × PlainFixup) → Laid
-      laid_by fs = laid_of profile_limits pl (Once d fs)
-
-      can-add : (earlier : List Subrecord) (fs : List (ℕ × PlainFixup)) (locat : ℕ) (r : Reference) → FixupHolds before earlier locat r → AreInside (length d.bytes) fs
-          → Adds (kind, record { locat = locat; reference = plain earlier r }) → CanAdd pl kind (record { locat = locat; reference = plain earlier r }) (laid_by fs)
-      can-add earlier fs locat r h inside adds =
-          let size = (stays_inside pl d fs inside).size in
-          let same = sized h.data_record h.last in
-          let low = h.inside in
-          record {
-            segment = there;
-            places = has-places d.segment.item earlier r there h.reference;
-            reaches = adds;
-            inside = omega (arith, size, same, low);
-          }
-
-      take-one : (threads : Threads) (earlier : List Subrecord) (fs : List (ℕ × PlainFixup)) (x : Subrecord) → HasThreads threads earlier → SubrecordHolds before earlier x → AreInside (length d.bytes) fs
-          → All Adds (tagged kind (plain_fixup earlier x)) → CanTake pl kind threads x (laid_by fs)
-      take-one threads earlier fs (Thread byte datum) t h inside adds = tt
-      take-one threads earlier fs (Fixup locat r) t h inside adds = record {
-        frame = subst (λ o. IsSome o) (sym (kept.frame threads earlier r t)) h.reference.frame_set;
-        target = subst (λ o. IsSome o) (sym (kept.target threads earlier r t)) h.reference.target_set;
-        fixup = subst (λ p. CanAdd pl kind (record { locat = locat; reference = p }) (laid_by fs)) (sym (plain-same threads earlier r t))
-            (can-add earlier fs locat r h inside (All-head Adds (kind, record { locat = locat; reference = plain earlier r }) [] adds));
-      }
-
-      with-one : (threads : Threads) (earlier : List Subrecord) (fs : List (ℕ × PlainFixup)) (x : Subrecord) → HasThreads threads earlier
-          → with_subrecord pl kind threads x (laid_by fs) ≡ laid_by (fs ++ tagged kind (plain_fixup earlier x))
-      with-one threads earlier fs (Thread byte datum) t = ap laid_by (sym (append-nil fs))
-      with-one threads earlier fs (Fixup locat r) t =
-          let f : ℕ × PlainFixup = (kind, record { locat = locat; reference = plain earlier r }) in
-          let with_bytes = λ (bs : List ℕ). let l : Laid = record { segment = d.segment.item; offset = d.offset.item; bytes = bs } in l in
-          ap (λ p. with_fixup pl kind (record { locat = locat; reference = p }) (laid_by fs)) (plain-same threads earlier r t)
-          ∙ ap with_bytes (sym (fold-append (λ bytes g. added (location_offset g.1.locat) (outcome pl d g) bytes) d.bytes fs (f ∷ [])))
-
-      pub with-all : (subs : List (At Subrecord)) (threads : Threads) (earlier : List Subrecord) (fs : List (ℕ × PlainFixup)) → HasThreads threads earlier
-          → with_subrecords pl kind threads subs (laid_by fs) ≡ laid_by (fs ++ tagged kind (plain_fixups earlier subs))
-      with-all [] threads earlier fs t = ap laid_by (sym (append-nil fs))
-      with-all (s ∷ subs) threads earlier fs t =
-          let one = tagged kind (plain_fixup earlier s.item) in
-          let others = tagged kind (plain_fixups (earlier ++ s.item ∷ []) subs) in
-          ap (with_subrecords pl kind (set_thread threads s.item) subs) (with-one threads earlier fs s.item t)
-          ∙ with-all subs (set_thread threads s.item) (earlier ++ s.item ∷ []) (fs ++ one) (kept.one threads earlier s.item t)
-          ∙ ap laid_by (append_assoc fs one others ∙ ap (λ t. fs ++ t) (sym (tagged-more kind earlier s subs)))
-
-      pub take-all : (subs : List (At Subrecord)) (threads : Threads) (earlier : List Subrecord) (fs : List (ℕ × PlainFixup)) → HasThreads threads earlier → HoldAfter before earlier subs → AreInside (length d.bytes) fs
-          → All Adds (tagged kind (plain_fixups earlier subs)) → CanTakeAll pl kind threads subs (laid_by fs)
-      take-all [] threads earlier fs t h inside adds = tt
-      take-all (s ∷ subs) threads earlier fs t h inside adds =
-          let one = tagged kind (plain_fixup earlier s.item) in
-          let others = tagged kind (plain_fixups (earlier ++ s.item ∷ []) subs) in
-          let both : All Adds (one ++ others) = subst (All Adds) (tagged-more kind earlier s subs) adds in
-          let here = hold-head before earlier s subs h in (
-            take-one threads earlier fs s.item t here inside (all-left Adds one others both),
-            subst (CanTakeAll pl kind (set_thread threads s.item) subs) (sym (with-one threads earlier fs s.item t))
-                (take-all subs (set_thread threads s.item) (earlier ++ s.item ∷ []) (fs ++ one) (kept.one threads earlier s.item t) (hold-tail before earlier s subs h)
-                (All-append (λ f. location_end f ≤ length d.bytes) fs one inside (inside-one before kind (length d.bytes) sized earlier s.item here)) (all-right Adds one others both)),
-          )
-
-  -- Where the last data record is no LEDATA there are no fixups.
-  module _ (before : List Rec) (none : (d : DataItem) → last_data before ≡ Some (Plain d) → ⊥) (kind : ℕ) (l : Laid) where
-    none-one : (threads : Threads) (earlier : List Subrecord) (x : Subrecord) → SubrecordHolds before earlier x → CanTake pl kind threads x l × (with_subrecord pl kind threads x l ≡ l)
-    none-one threads earlier (Thread byte datum) h = (tt, refl)
-    none-one threads earlier (Fixup locat r) h = absurd (none h.data_record h.last)
-
-    pub none-all : (subs : List (At Subrecord)) (threads : Threads) (earlier : List Subrecord) → HoldAfter before earlier subs → CanTakeAll pl kind threads subs l × (with_subrecords pl kind threads subs l ≡ l)
-    none-all [] threads earlier h = (tt, refl)
-    none-all (s ∷ subs) threads earlier h =
-        let one = none-one threads earlier s.item (hold-head before earlier s subs h) in
-        let others = none-all subs (set_thread threads s.item) (earlier ++ s.item ∷ []) (hold-tail before earlier s subs h) in
-        ((one.0, subst (CanTakeAll pl kind (set_thread threads s.item) subs) (sym one.1) others.0), ap (with_subrecords pl kind (set_thread threads s.item) subs) one.1 ∙ others.1)

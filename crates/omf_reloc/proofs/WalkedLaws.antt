@@ -1,65 +1,135 @@
--- What is known while a module's records are walked over: the image holds what the data records that are closed lay, and the others are still to be laid.
-use Rattle.std.proofs.Common.{◌≡◌, ℕ, ◌+◌, true, List, [], ◌∷◌, ◌++◌, append_assoc, length, refl, sym, ap, subst, ◌∙◌, arith}
+-- What is known while a module's pieces are walked over: the image holds what the data records that are closed lay, and the others are still to be laid.
+use Rattle.std.proofs.Common.{◌≡◌, ℕ, ◌+◌, ◌≤◌, List, [], ◌∷◌, ◌++◌, append_assoc, length, refl, sym, ap, subst, ◌∙◌, arith}
 use Rattle.std.specs.Prelude.{All, map, Option, Some, None, option_map, option_to_list, IfSome, IsOk}
+use Rattle.std.proofs.lemmas.Grind.{fold-append}
 use Rattle.std.proofs.lemmas.List.{append-nil, map-append}
-use Rattle.omf_records.specs.Values.{At, Rec, Contents, Names, Plain, Iterated, Fixups, DataItem, Subrecord}
+use Rattle.std.proofs.lemmas.List.Elements.{All-nil, All-cons, All-head, All-append}
+use Rattle.std.proofs.lemmas.Option.{none-some}
+use Rattle.omf_records.specs.Reading.{typed}
+use Rattle.omf_records.specs.Values.{Rec, Contents, Names, Plain, Iterated, DataItem, location_offset}
+use Rattle.omf_frame.specs.Framing.{Raw, raw_bytes}
 use Rattle.omf_image.specs.Limits.{profile_limits}
 use Rattle.omf_image.specs.Overlay.{Laid, AreLaidOver}
-use Rattle.omf_check.specs.Kept.{HasThreads, no_threads}
-use Rattle.omf_check.specs.Laws.{ThreadsAreKept}
-use Rattle.omf_check.specs.Sound.{SubrecordsHold, ContentsHold, ModuleHolds}
-use Rattle.omf_check.specs.Tables.{is_defined, subrecords, subrecords_in, last_data}
-use Rattle.omf_check.specs.WellFormed.{recs}
-use Rattle.omf_check.specs.declared.threads.Threads.{Threads}
 use Rattle.omf_check.specs.Listed.{placed_from}
-use Rattle.omf_frame.specs.Framing.{Raw, raw_bytes}
-use Rattle.omf_records.specs.Reading.{typed}
-use Rattle.omf_reloc.specs.Image.{laid}
+use Rattle.omf_check.specs.Sound.{ModuleHolds}
+use Rattle.omf_check.specs.Tables.{segments, groups, externals}
+use Rattle.omf_check.specs.WellFormed.{recs}
+use Rattle.omf_reloc.specs.Image.{added, laid}
+use Rattle.omf_reloc.specs.Laws.{location_end}
 use Rattle.omf_reloc.specs.Offsets.{outcome}
+use Rattle.omf_reloc.specs.Pieces.{single_pieces}
 use Rattle.omf_reloc.specs.Placement.{Places}
-use Rattle.omf_reloc.specs.Plain.{PlainFixup, pieces, plain_fixups}
+use Rattle.omf_reloc.specs.Plain.{Piece, Kept, Fixed, End, PlainFixup, pieces, fixups_of_data}
 use Rattle.omf_reloc.specs.Reach.{Reaches}
-use Rattle.omf_reloc.specs.Walking.{with_subrecords, CanTakeAll, Walk, closed, opened, threads_after, IsNext, HasOffsets, CanRead, CanWalk}
-use Rattle.omf_reloc.proofs.GatherLaws.{Gathered, Once, Repeated, more, bare, tagged, gathered, closed_by, opened_by, gathered_from, gathered-all, subrecords-more, laid_of, laid-gathered, Reach, reach-gathered}
+use Rattle.omf_reloc.specs.Walking.{with_fixup, Walk, closed, opened, IsNext, HasOffsets, CanAdd, CanTake, CanWalk}
+use Rattle.omf_reloc.proofs.AddedLaws.{IsFine}
+use Rattle.omf_reloc.proofs.GatherLaws.{Gathered, Once, Repeated, more, tagged, closed_by, with_open, open-none, open-more, gathered, laid_of, laid-gathered, Reach, reach-gathered}
+use Rattle.omf_reloc.proofs.HoldLaws.{KeptHolds, PlainFixupHolds, PieceHolds, PiecesHold, data_after, pieces-hold}
+use Rattle.omf_reloc.proofs.FoundLaws.{Covers, frame-there, target-there}
+use Rattle.omf_reloc.proofs.JudgeLaws.{segment-there}
 use Rattle.omf_reloc.proofs.PatchLaws.{stays_inside}
-use Rattle.omf_reloc.proofs.WalkLaws.{all-right, next-split, Lies, IsOpen, sized-by, reach-open, length-short, open-next, open-first, take-all, with-all, none-all}
+use Rattle.omf_reloc.proofs.SingleLaws.{causes-same, laid-same}
+use Rattle.omf_reloc.proofs.WalkLaws.{all-left, all-right, Lies, length-short}
 
 -- A walk begins with its own image.
-pub first-walk : (image : List Laid) (w : Walk) → w ≡ record { image = image; open_data = None; threads = no_threads } → w ≡ record { image = w.image; open_data = None; threads = no_threads }
-first-walk image w e = e ∙ ap (λ (i : List Laid). let v : Walk = record { image = i; open_data = None; threads = no_threads } in v) (sym (ap (λ (v : Walk). v.image) e))
+pub first-walk : (image : List Laid) (w : Walk) → w ≡ record { image = image; open_data = None } → w ≡ record { image = w.image; open_data = None }
+first-walk image w e = e ∙ ap (λ (i : List Laid). let v : Walk = record { image = i; open_data = None } in v) (sym (ap (λ (v : Walk). v.image) e))
 
 -- What is laid in two turns is laid in one.
 pub laid-on : (old next new : List Laid) (ls ms : List Laid) → AreLaidOver old ls next → AreLaidOver next ms new → AreLaidOver old (ls ++ ms) new
 laid-on old next new [] ms h k = subst (λ x. AreLaidOver x ms new) (sym h) k
 laid-on old next new (l ∷ ls) ms (first, one, h) k = (first, one, laid-on first next new ls ms h k)
 
+-- Data records with their fixups, piece by piece from left to right.
+abbrev closed_at : Piece → Option Gathered → List Gathered
+closed_at (Kept r) o = closed_by r.contents o
+closed_at (Fixed kind fs) o = []
+closed_at (End kind byte s) o = []
+
+abbrev opened_contents : ℕ → Contents → Option Gathered → Option Gathered
+opened_contents kind (Plain d) o = Some (Once d [])
+opened_contents kind (Iterated d) o = Some (Repeated kind d [])
+opened_contents kind _ o = o
+
+abbrev opened_at : Piece → Option Gathered → Option Gathered
+opened_at (Kept r) o = opened_contents r.kind r.contents o
+opened_at (Fixed kind fs) o = option_map (more (tagged kind fs)) o
+opened_at (End kind byte s) o = o
+
+abbrev along : Option Gathered → List Piece → List Gathered
+along o [] = option_to_list o
+along o (p ∷ ps) = closed_at p o ++ along (opened_at p o) ps
+
+along-kept : (r : Rec) (c : Contents) (o : Option Gathered) (ps : List Piece)
+    → with_open o (Kept (record r { contents = c }) ∷ ps) ≡ closed_by c o ++ with_open (opened_contents r.kind c o) ps
+along-kept r (Plain d) o ps = ap (λ t. t ++ gathered (Kept (record r { contents = Plain d }) ∷ ps)) (open-none o)
+along-kept r (Iterated d) o ps = ap (λ t. t ++ gathered (Kept (record r { contents = Iterated d }) ∷ ps)) (open-none o)
+along-kept r (Names items) o ps = refl
+along-kept r _ o ps = refl
+
+along-step : (p : Piece) (o : Option Gathered) (ps : List Piece) → with_open o (p ∷ ps) ≡ closed_at p o ++ with_open (opened_at p o) ps
+along-step (Kept r) o ps = along-kept r r.contents o ps
+along-step (Fixed kind fs) o ps = ap (λ t. option_to_list t ++ gathered ps) (open-more (tagged kind fs) (fixups_of_data ps) o)
+along-step (End kind byte s) o ps = refl
+
+along-all : (o : Option Gathered) (ps : List Piece) → with_open o ps ≡ along o ps
+along-all o [] = append-nil (option_to_list (option_map (more []) o)) ∙ open-none o
+along-all o (p ∷ ps) = along-step p o ps ∙ ap (λ t. closed_at p o ++ t) (along-all (opened_at p o) ps)
+
+-- What is open reaches where all that it is to be reaches.
+fixups-more : (pl : Places) (fs : List (ℕ × PlainFixup)) (g : Gathered) → Reach pl (more fs g) → Reach pl g
+fixups-more pl fs (Once d gs) h = all-left (λ f. IsOk (outcome pl d f)) gs fs h
+fixups-more pl fs (Repeated kind d gs) h = all-left (λ f. IsOk (outcome pl d f)) gs fs h
+
+reach-kept : (pl : Places) (g : Gathered) (kind : ℕ) (c : Contents) (ps : List Piece) → ((x : Gathered) → All (Reach pl) (along (Some x) ps) → Reach pl x)
+    → All (Reach pl) (closed_by c (Some g) ++ along (opened_contents kind c (Some g)) ps) → Reach pl g
+reach-kept pl g kind (Plain d) ps again h = All-head (Reach pl) g (along (Some (Once d [])) ps) h
+reach-kept pl g kind (Iterated d) ps again h = All-head (Reach pl) g (along (Some (Repeated kind d [])) ps) h
+reach-kept pl g kind (Names items) ps again h = again g h
+reach-kept pl g kind _ ps again h = again g h
+
+reach-open : (pl : Places) (g : Gathered) (ps : List Piece) → All (Reach pl) (along (Some g) ps) → Reach pl g
+reach-open pl g [] h = All-head (Reach pl) g [] h
+reach-open pl g (Kept r ∷ ps) h = reach-kept pl g r.kind r.contents ps (λ x k. reach-open pl x ps k) h
+reach-open pl g (Fixed kind fs ∷ ps) h = fixups-more pl (tagged kind fs) g (reach-open pl (more (tagged kind fs) g) ps h)
+reach-open pl g (End kind byte s ∷ ps) h = reach-open pl g ps h
+
 abbrev laid_now : Places → Gathered → Laid
 laid_now pl g = laid_of profile_limits pl g
 
-pub record IsWalked (start : List Laid) (pl : Places) (m : List Rec) (w : Walk) (rest : List Rec) : Type 0 where
-  pub before : List Rec
-  pub done : List Gathered
-  pub last_one : Option Gathered
-  pub split : m ≡ before ++ rest
-  pub threads : HasThreads w.threads (subrecords before)
-  pub all : gathered (pieces m) ≡ done ++ gathered_from (subrecords before) last_one rest
-  pub image : AreLaidOver start (map (laid_now pl) done) w.image
-  pub open_data : w.open_data ≡ option_map (laid_now pl) last_one
-  pub is_open : IsOpen m last_one (last_data before)
+-- What is open is the last data record, where that is an LEDATA.
+abbrev Tells : Option Gathered → Option Contents → Type 0
+Tells o l = (d : DataItem) → l ≡ Some (Plain d) → (fs : List (ℕ × PlainFixup)) × (o ≡ Some (Once d fs))
 
-module _ (start : List Laid) (kept : ThreadsAreKept) (pl : Places) (m : List Rec) (holds : ModuleHolds profile_limits m) (reaches : Reaches pl m) where
-  pub walk-first : (w : Walk) (rest : List Rec) → w ≡ record { image = start; open_data = None; threads = no_threads } → rest ≡ m → IsWalked start pl m w rest
-  walk-first w rest e f =
-      subst (IsWalked start pl m w) (sym f) (subst (λ v. IsWalked start pl m v m) (sym e) (record {
-        before = [];
-        done = [];
+pub record IsWalked (start : List Laid) (pl : Places) (m : List Rec) (w : Walk) (ps : List Piece) : Type 0 where
+  pub last_one : Option Contents
+  pub hold : PiecesHold profile_limits m last_one ps
+  pub done : List Gathered
+  pub open_one : Option Gathered
+  pub all : laid profile_limits pl (pieces m) ≡ map (laid_now pl) (done ++ along open_one ps)
+  pub reaches : All (Reach pl) (along open_one ps)
+  pub image : AreLaidOver start (map (laid_now pl) done) w.image
+  pub open_data : w.open_data ≡ option_map (laid_now pl) open_one
+  pub tells : Tells open_one last_one
+  pub lies : IfSome open_one (Lies m)
+
+module _ (start : List Laid) (pl : Places) (m : List Rec) (holds : ModuleHolds profile_limits m) (reaches : Reaches pl m) where
+  singles-along : gathered (single_pieces m) ≡ along None (single_pieces m)
+  singles-along = along-all None (single_pieces m)
+
+  pub walk-first : (w : Walk) (ps : List Piece) → w ≡ record { image = start; open_data = None } → ps ≡ single_pieces m → IsWalked start pl m w ps
+  walk-first w ps e f =
+      subst (IsWalked start pl m w) (sym f) (subst (λ v. IsWalked start pl m v (single_pieces m)) (sym e) (record {
         last_one = None;
-        split = refl;
-        threads = kept.none;
-        all = gathered-all m;
+        hold = pieces-hold profile_limits m holds;
+        done = [];
+        open_one = None;
+        all = sym (laid-same profile_limits pl (pieces m)) ∙ laid-gathered profile_limits pl (single_pieces m) ∙ ap (map (laid_now pl)) singles-along;
+        reaches = subst (All (Reach pl)) singles-along (reach-gathered pl (single_pieces m) (subst (All IsFine) (sym (causes-same pl (pieces m))) reaches.each));
         image = refl;
         open_data = refl;
-        is_open = open-first m holds;
+        tells = λ d q. absurd (none-some (Plain d) q);
+        lies = tt;
       }))
 
   -- what is open lies in a segment, which has no more than 2^32 bytes
@@ -75,120 +145,147 @@ module _ (start : List Laid) (kept : ThreadsAreKept) (pl : Places) (m : List Rec
       let short = length-short m holds d.segment.item in
       omega (arith, low, short)
 
-  pub has-offsets : (w : Walk) (rest : List Rec) → IsWalked start pl m w rest → IfSome w.open_data HasOffsets
-  has-offsets w rest h = subst (λ o. IfSome o HasOffsets) (sym h.open_data) (offsets-of h.last_one h.is_open.lies)
+  pub has-offsets : (w : Walk) (ps : List Piece) → IsWalked start pl m w ps → IfSome w.open_data HasOffsets
+  has-offsets w ps h = subst (λ o. IfSome o HasOffsets) (sym h.open_data) (offsets-of h.open_one h.lies)
 
-  -- A FIXUPP can be walked over, and what is open has the fixups of the definition then.
-  record IsFixed (threads : Threads) (kind : ℕ) (subs : List (At Subrecord)) (earlier : List Subrecord) (o : Option Gathered) : Type 0 where
-    can : IfSome (option_map (laid_now pl) o) (CanTakeAll pl kind threads subs)
-    same : option_map (with_subrecords pl kind threads subs) (option_map (laid_now pl) o) ≡ option_map (laid_now pl) (option_map (more (tagged kind (plain_fixups earlier subs))) o)
+  covered : Covers pl m
+  covered = record {
+    segments = subst (λ n. length (segments m) ≤ n) (sym reaches.fits.segment_count) (omega arith);
+    groups = subst (λ n. length (groups m) ≤ n) (sym reaches.fits.group_count) (omega arith);
+    externals = subst (λ n. length (externals m) ≤ n) (sym reaches.fits.external_count) (omega arith);
+  }
 
-  fixed-by : (threads : Threads) (before rest : List Rec) (kind : ℕ) (subs : List (At Subrecord)) (o : Option Gathered) → m ≡ before ++ rest → HasThreads threads (subrecords before)
-      → SubrecordsHold before subs → IsOpen m o (last_data before)
-      → ((g : Gathered) → o ≡ Some g → Reach pl (more (tagged kind (plain_fixups (subrecords before) subs)) g))
-      → IsFixed threads kind subs (subrecords before) o
-  fixed-by threads before rest kind subs None e t h is reach = record { can = tt; same = refl }
-  fixed-by threads before rest kind subs (Some (Once d fs)) e t h is reach =
-      let there : is_defined (length pl.segments) d.segment.item ≡ true = subst (λ n. is_defined n d.segment.item ≡ true) (sym reaches.fits.segment_count) is.lies.0.segment_defined in
-      let sized = sized-by d fs (last_data before) is.tells in
-      let new = tagged kind (plain_fixups (subrecords before) subs) in
-      let adds = all-right (λ f. IsOk (outcome pl d f)) fs new (reach (Once d fs) refl) in
+  -- A fixup can be added to the LEDATA before it, and what is open then has it behind those that it had.
+  module _ (kind : ℕ) (f : PlainFixup) (d : DataItem) (fs : List (ℕ × PlainFixup)) (lies : Lies m (Once d fs)) (low : location_end (kind, f) ≤ length d.bytes) where
+    can-add : (h : PlainFixupHolds m (Some (Plain d)) f) → IsOk (outcome pl d (kind, f)) → CanAdd pl kind f (laid_now pl (Once d fs))
+    can-add h ok =
+        let size = (stays_inside pl d fs lies.1).size in
+        let there = segment-there pl m covered d.segment.item lies.0.segment_defined in
+        record {
+          segment = there;
+          places = record {
+            frame = frame-there pl m covered d.segment.item f.reference.frame h.reference.frame (λ x. there);
+            target = target-there pl m covered f.reference.target h.reference.target;
+          };
+          reaches = ok;
+          inside = omega (arith, size, low);
+        }
+
+    added-same : with_fixup pl kind f (laid_now pl (Once d fs)) ≡ laid_now pl (Once d (fs ++ (kind, f) ∷ []))
+    added-same =
+        let with_bytes = λ (bs : List ℕ). let l : Laid = record { segment = d.segment.item; offset = d.offset.item; bytes = bs } in l in
+        ap with_bytes (sym (fold-append (λ bytes g. added (location_offset g.1.locat) (outcome pl d g) bytes) d.bytes fs ((kind, f) ∷ [])))
+
+    lies-more : Lies m (Once d (fs ++ (kind, f) ∷ []))
+    lies-more = (
+      lies.0,
+      All-append (λ g. location_end g ≤ length d.bytes) fs ((kind, f) ∷ []) lies.1
+          (All-cons (λ g. location_end g ≤ length d.bytes) (kind, f) [] low (All-nil (λ g. location_end g ≤ length d.bytes))),
+    )
+
+  -- What is open before and after a fixup.
+  record IsFixed (kind : ℕ) (f : PlainFixup) (o : Option Gathered) : Type 0 where
+    can : IfSome (option_map (laid_now pl) o) (CanAdd pl kind f)
+    same : option_map (with_fixup pl kind f) (option_map (laid_now pl) o) ≡ option_map (laid_now pl) (option_map (more (tagged kind (f ∷ []))) o)
+    lie : IfSome (option_map (more (tagged kind (f ∷ []))) o) (Lies m)
+
+  fixed-once : (kind : ℕ) (f : PlainFixup) (d : DataItem) (fs : List (ℕ × PlainFixup)) (ps : List Piece) → PlainFixupHolds m (Some (Plain d)) f → location_end (kind, f) ≤ length d.bytes
+      → Lies m (Once d fs) → All (Reach pl) (along (Some (Once d (fs ++ (kind, f) ∷ []))) ps) → IsFixed kind f (Some (Once d fs))
+  fixed-once kind f d fs ps h low lies r =
+      let adds = all-right (λ g. IsOk (outcome pl d g)) fs ((kind, f) ∷ []) (reach-open pl (Once d (fs ++ (kind, f) ∷ [])) ps r) in
       record {
-        can = take-all kept pl m reaches.fits before rest e kind d there sized subs threads (subrecords before) fs t h is.lies.1 adds;
-        same = ap Some (with-all kept pl m reaches.fits before rest e kind d there sized subs threads (subrecords before) fs t);
+        can = can-add kind f d fs lies low h (All-head (λ g. IsOk (outcome pl d g)) (kind, f) [] adds);
+        same = ap Some (added-same kind f d fs lies low);
+        lie = lies-more kind f d fs lies low;
       }
-  fixed-by threads before rest kind subs (Some (Repeated other d fs)) e t h is reach =
-      let l = laid_now pl (Repeated other d fs) in
-      let none = none-all kept pl before (λ x q. absurd (differ x (is.tells x q).0 (is.tells x q).1)) kind l subs threads (subrecords before) h in
-      record { can = none.0; same = ap Some none.1 }
-    where
-      differ : (x : DataItem) (gs : List (ℕ × PlainFixup)) → Some (Repeated other d fs) ≡ Some (Once (bare x) gs) → ⊥
-      differ x gs q = cc
 
-  module _ (w : Walk) (r : Rec) (rest : List Rec) (h : IsWalked start pl m w (r ∷ rest)) where
-    abbrev next_one : Option Gathered
-    next_one = opened_by (subrecords h.before) r.kind r.contents h.last_one
+  fixed-by : (kind : ℕ) (f : PlainFixup) (l : Option Contents) (o : Option Gathered) (ps : List Piece) → PlainFixupHolds m l f → Tells o l → IfSome o (Lies m)
+      → All (Reach pl) (along (option_map (more (tagged kind (f ∷ []))) o) ps) → IsFixed kind f o
+  fixed-by kind f l o ps h tells lies r =
+      let d = h.data_record in
+      let t = tells d h.is_last in
+      let low = h.inside in
+      subst (IsFixed kind f) (sym t.1)
+      (fixed-once kind f d t.0 ps (subst (λ x. PlainFixupHolds m x f) h.is_last h) (omega (arith, low)) (subst (λ x. IfSome x (Lies m)) t.1 lies)
+      (subst (λ x. All (Reach pl) (along (option_map (more (tagged kind (f ∷ []))) x) ps)) t.1 r))
 
-    here : ContentsHold profile_limits h.before r.kind r.contents
-    here = holds.each h.before rest r h.split
+  -- One piece more.
+  record IsStep (p : Piece) (o : Option Gathered) (l : Option Contents) : Type 0 where
+    can : CanTake pl p (option_map (laid_now pl) o)
+    close : closed p (option_map (laid_now pl) o) ≡ map (laid_now pl) (closed_at p o)
+    open_up : opened pl p (option_map (laid_now pl) o) ≡ option_map (laid_now pl) (opened_at p o)
+    tell : Tells (opened_at p o) (data_after p l)
+    lie : IfSome (opened_at p o) (Lies m)
 
-    all-next : gathered (pieces m) ≡ (h.done ++ closed_by r.contents h.last_one) ++ gathered_from (subrecords (h.before ++ r ∷ [])) next_one rest
-    all-next =
-        h.all ∙ sym (append_assoc h.done (closed_by r.contents h.last_one) (gathered_from (subrecords h.before ++ subrecords_in r.contents) next_one rest))
-        ∙ ap (λ s. (h.done ++ closed_by r.contents h.last_one) ++ gathered_from s next_one rest) (sym (subrecords-more h.before r))
+  list-of : (o : Option Gathered) → option_to_list (option_map (laid_now pl) o) ≡ map (laid_now pl) (option_to_list o)
+  list-of None = refl
+  list-of (Some g) = refl
 
-    all-reach : All (Reach pl) ((h.done ++ closed_by r.contents h.last_one) ++ gathered_from (subrecords (h.before ++ r ∷ [])) next_one rest)
-    all-reach = subst (All (Reach pl)) all-next (reach-gathered pl (pieces m) reaches.each)
+  tells-plain : (d : DataItem) → Tells (Some (Once d [])) (Some (Plain d))
+  tells-plain d e q = let same : d ≡ e = cc in ([], ap (λ x. Some (Once x [])) same)
 
-    reach-next : (g : Gathered) → next_one ≡ Some g → Reach pl g
-    reach-next g e =
-        reach-open pl (h.done ++ closed_by r.contents h.last_one) (subrecords (h.before ++ r ∷ [])) g rest
-        (subst (λ o. All (Reach pl) ((h.done ++ closed_by r.contents h.last_one) ++ gathered_from (subrecords (h.before ++ r ∷ [])) o rest)) e all-reach)
+  tells-iterated : (o : Option Gathered) (d : DataItem) → Tells o (Some (Iterated d))
+  tells-iterated o d e q = let p : Some (Iterated d) ≡ Some (Plain e) = q in absurd cc
 
-    fixed-here : (subs : List (At Subrecord)) → r.contents ≡ Fixups subs → IsFixed w.threads r.kind subs (subrecords h.before) h.last_one
-    fixed-here subs e =
-        let new = tagged r.kind (plain_fixups (subrecords h.before) subs) in
-        fixed-by w.threads h.before (r ∷ rest) r.kind subs h.last_one h.split h.threads (subst (ContentsHold profile_limits h.before r.kind) e here) h.is_open
-        (λ g q. reach-next (more new g) (ap (λ c. opened_by (subrecords h.before) r.kind c h.last_one) e ∙ ap (option_map (more new)) q))
+  tells-more : (new : List (ℕ × PlainFixup)) (o : Option Gathered) (l : Option Contents) → Tells o l → Tells (option_map (more new) o) l
+  tells-more new o l h d e = ((h d e).0 ++ new, ap (option_map (more new)) (h d e).1)
 
-    can-read : (c : Contents) → r.contents ≡ c → ContentsHold profile_limits h.before r.kind c → CanRead pl w.threads r.kind c w.open_data
-    can-read (Iterated d) e k = record { short = k.lies.short; fits = k.expands }
-    can-read (Fixups subs) e k = subst (λ o. IfSome o (CanTakeAll pl r.kind w.threads subs)) (sym h.open_data) (fixed-here subs e).can
-    can-read (Names ns) e k = tt
-    can-read _ e k = tt
+  step-kept : (r : Rec) (c : Contents) (o : Option Gathered) (l : Option Contents) → KeptHolds profile_limits m r.kind c → Tells o l → IfSome o (Lies m) → IsStep (Kept (record r { contents = c })) o l
+  step-kept r (Plain d) o l h tells lies = record { can = tt; close = list-of o; open_up = refl; tell = tells-plain d; lie = (h.lies, All-nil (λ f. location_end f ≤ length d.bytes)) }
+  step-kept r (Iterated d) o l h tells lies = record {
+    can = record { short = h.data_holds.short; fits = h.expands };
+    close = list-of o;
+    open_up = refl;
+    tell = tells-iterated (Some (Repeated r.kind d [])) d;
+    lie = h.data_holds.lies;
+  }
+  step-kept r (Names items) o l h tells lies = record { can = tt; close = refl; open_up = refl; tell = tells; lie = lies }
+  step-kept r _ o l h tells lies = record { can = tt; close = refl; open_up = refl; tell = tells; lie = lies }
 
-    -- Each record can be walked over.
-    pub can-walk : CanWalk pl r w
-    can-walk = record { offsets = has-offsets w (r ∷ rest) h; contents = can-read r.contents refl here }
+  step : (p : Piece) (o : Option Gathered) (l : Option Contents) (ps : List Piece) → PieceHolds profile_limits m l p ps → Tells o l → IfSome o (Lies m) → All (Reach pl) (along (opened_at p o) ps)
+      → IsStep p o l
+  step (Kept r) o l ps h tells lies reach = step-kept r r.contents o l h tells lies
+  step (Fixed kind []) o l ps h tells lies reach = absurd h
+  step (Fixed kind (f ∷ [])) o l ps h tells lies reach =
+      let x = fixed-by kind f l o ps h tells lies reach in
+      record { can = x.can; close = refl; open_up = x.same; tell = tells-more (tagged kind (f ∷ [])) o l tells; lie = x.lie }
+  step (Fixed kind (f ∷ g ∷ fs)) o l ps h tells lies reach = absurd h
+  step (End kind byte s) o l ps h tells lies reach = record { can = tt; close = refl; open_up = refl; tell = tells; lie = lies }
 
-    threads-next : (c : Contents) → HasThreads (threads_after w.threads c) (subrecords h.before ++ subrecords_in c)
-    threads-next (Fixups subs) = kept.all w.threads (subrecords h.before) subs h.threads
-    threads-next (Names ns) = subst (HasThreads w.threads) (sym (append-nil (subrecords h.before))) h.threads
-    threads-next _ = subst (HasThreads w.threads) (sym (append-nil (subrecords h.before))) h.threads
+  module _ (w : Walk) (p : Piece) (ps : List Piece) (h : IsWalked start pl m w (p ∷ ps)) where
+    reach-next : All (Reach pl) (along (opened_at p h.open_one) ps)
+    reach-next = all-right (Reach pl) (closed_at p h.open_one) (along (opened_at p h.open_one) ps) h.reaches
 
-    list-of : (o : Option Gathered) → option_to_list (option_map (laid_now pl) o) ≡ map (laid_now pl) (option_to_list o)
-    list-of None = refl
-    list-of (Some g) = refl
+    here : IsStep p h.open_one h.last_one
+    here = step p h.open_one h.last_one ps h.hold.0 h.tells h.lies reach-next
 
-    closed-same : (c : Contents) → closed c w.open_data ≡ map (laid_now pl) (closed_by c h.last_one)
-    closed-same (Plain d) = ap option_to_list h.open_data ∙ list-of h.last_one
-    closed-same (Iterated d) = ap option_to_list h.open_data ∙ list-of h.last_one
-    closed-same (Names ns) = refl
-    closed-same _ = refl
-
-    opened-same : (c : Contents) → r.contents ≡ c → opened pl w.threads r.kind c w.open_data ≡ option_map (laid_now pl) (opened_by (subrecords h.before) r.kind c h.last_one)
-    opened-same (Plain d) e = refl
-    opened-same (Iterated d) e = refl
-    opened-same (Fixups subs) e = ap (option_map (with_subrecords pl r.kind w.threads subs)) h.open_data ∙ (fixed-here subs e).same
-    opened-same (Names ns) e = h.open_data
-    opened-same _ e = h.open_data
+    -- Each piece can be walked over.
+    pub can-walk : CanWalk pl p w
+    can-walk = record { offsets = has-offsets w (p ∷ ps) h; piece = subst (CanTake pl p) (sym h.open_data) here.can }
 
     -- And so it goes on.
-    pub walk-next : (new : Walk) → IsNext pl r w new → IsWalked start pl m new rest
+    pub walk-next : (new : Walk) → IsNext pl p w new → IsWalked start pl m new ps
     walk-next new n = record {
-      before = h.before ++ r ∷ [];
-      done = h.done ++ closed_by r.contents h.last_one;
-      last_one = next_one;
-      split = next-split m h.before rest r h.split;
-      threads = subst (λ t. HasThreads t (subrecords (h.before ++ r ∷ []))) (sym n.threads) (subst (HasThreads (threads_after w.threads r.contents)) (sym (subrecords-more h.before r)) (threads-next r.contents));
-      all = all-next;
-      image = subst (λ ls. AreLaidOver start ls new.image) (sym (map-append (laid_now pl) h.done (closed_by r.contents h.last_one)))
-          (laid-on start w.image new.image (map (laid_now pl) h.done) (map (laid_now pl) (closed_by r.contents h.last_one)) h.image (subst (λ ls. AreLaidOver w.image ls new.image) (closed-same r.contents) n.image));
-      open_data = n.open_data ∙ opened-same r.contents refl;
-      is_open = open-next m holds h.before rest r h.last_one h.split h.is_open;
+      last_one = data_after p h.last_one;
+      hold = h.hold.1;
+      done = h.done ++ closed_at p h.open_one;
+      open_one = opened_at p h.open_one;
+      all = h.all ∙ ap (map (laid_now pl)) (sym (append_assoc h.done (closed_at p h.open_one) (along (opened_at p h.open_one) ps)));
+      reaches = reach-next;
+      image = subst (λ ls. AreLaidOver start ls new.image) (sym (map-append (laid_now pl) h.done (closed_at p h.open_one)))
+          (laid-on start w.image new.image (map (laid_now pl) h.done) (map (laid_now pl) (closed_at p h.open_one)) h.image
+          (subst (λ ls. AreLaidOver w.image ls new.image) (ap (closed p) h.open_data ∙ here.close) n.image));
+      open_data = n.open_data ∙ ap (opened pl p) h.open_data ∙ here.open_up;
+      tells = here.tell;
+      lies = here.lie;
     }
 
   -- At the end the image is that of the module.
   pub walk-last : (w : Walk) (image : List Laid) → IsWalked start pl m w [] → AreLaidOver w.image (option_to_list w.open_data) image → AreLaidOver start (laid profile_limits pl (pieces m)) image
   walk-last w image h last =
-      let closing : option_to_list w.open_data ≡ map (laid_now pl) (option_to_list h.last_one) = ap option_to_list h.open_data ∙ list-one h.last_one in
-      subst (λ ls. AreLaidOver start ls image)
-      (sym (map-append (laid_now pl) h.done (option_to_list h.last_one)) ∙ ap (map (laid_now pl)) (sym h.all) ∙ sym (laid-gathered profile_limits pl (pieces m)))
-      (laid-on start w.image image (map (laid_now pl) h.done) (map (laid_now pl) (option_to_list h.last_one)) h.image (subst (λ ls. AreLaidOver w.image ls image) closing last))
-    where
-      list-one : (o : Option Gathered) → option_to_list (option_map (laid_now pl) o) ≡ map (laid_now pl) (option_to_list o)
-      list-one None = refl
-      list-one (Some g) = refl
+      let closing : option_to_list w.open_data ≡ map (laid_now pl) (option_to_list h.open_one) = ap option_to_list h.open_data ∙ list-of h.open_one in
+      subst (λ ls. AreLaidOver start ls image) (sym (map-append (laid_now pl) h.done (option_to_list h.open_one)) ∙ sym h.all)
+      (laid-on start w.image image (map (laid_now pl) h.done) (map (laid_now pl) (option_to_list h.open_one)) h.image (subst (λ ls. AreLaidOver w.image ls image) closing last))
 
 -- The records of a checked module, without their places.
 pub records-listed : (number start : ℕ) (rs : List Raw) → map (λ x. x.1) (placed_from number start rs) ≡ recs rs

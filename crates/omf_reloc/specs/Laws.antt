@@ -1,12 +1,12 @@
 -- Laws over the definitions, each the contract of a function of the same name.
 use Rattle.std.specs.Prelude.{◌≡◌, ◌⊎◌, ◌↔◌, ℕ, ◌+◌, ◌<◌, ◌≤◌, List, Some, None, true, Ok, IsOk, IsSome, ◌∷◌, ◌++◌, map, length, slice_index, All}
 use Rattle.std.specs.List.{AllZip}
+use Rattle.omf_frame.specs.declared.fault.Place.{Place}
 use Rattle.omf_records.specs.Location.{location_size}
 use Rattle.omf_records.specs.Values.{At, DataItem, GroupItem, Rec, Plain, Fixups, ModEnd, Subrecord, Fixup, Reference, location_type, location_offset}
 use Rattle.omf_image.specs.Limits.{profile_limits}
 use Rattle.omf_image.specs.declared.limits.Limits.{Limits}
 use Rattle.omf_image.specs.Parts.{Addition, part_size}
-use Rattle.omf_check.specs.Kept.{no_threads}
 use Rattle.omf_check.specs.Rules.{length_of_segment}
 use Rattle.omf_check.specs.Sound.{ModuleHolds}
 use Rattle.omf_check.specs.Tables.{groups, segments, externals, entry, is_defined, subrecords, last_data}
@@ -17,10 +17,11 @@ use Rattle.omf_reloc.specs.Derive.{PlacedModule, derived}
 use Rattle.omf_reloc.specs.Entries.{Entry, Spells}
 use Rattle.omf_reloc.specs.EntryReading.{entry_said}
 use Rattle.omf_reloc.specs.Plain.{Piece, Kept, End, PlainFixup, pieces, data_contents, fixups_of_data}
+use Rattle.omf_reloc.specs.Pieces.{single_pieces, reference_places}
 use Rattle.omf_reloc.specs.Placed.{HasPlaces}
 use Rattle.omf_reloc.specs.Placement.{Places, Placed, real_group}
 use Rattle.omf_reloc.specs.Reach.{causes, all_reference_places, far_faults, reach_fault, Reaches}
-use Rattle.omf_reloc.specs.ReachSteps.{HasEntries, records_far}
+use Rattle.omf_reloc.specs.ReachSteps.{HasEntries, pieces_far}
 use Rattle.omf_reloc.specs.Offsets.{outcome, start_offset}
 use Rattle.omf_reloc.specs.Image.{laid, patched}
 
@@ -54,11 +55,11 @@ pub record ReachIsDecided (pl : Places) (m : List Rec) : Type 0 where
   pub decided : (reach_fault pl m ≡ None) ↔ Reaches pl m
   pub places : length (causes pl (pieces m)) ≤ length (all_reference_places m)
 
--- In a well-formed module each reference that is judged has a place of its own, and the references that do not reach are those that a walk over its records
--- comes upon, in that order.
+-- In a well-formed module each reference that is judged has a place of its own, and the references that do not reach are those that a walk over its pieces
+-- comes upon, one fixup at a time and each at its place, in that order.
 pub record FaultsAreWalked (pl : Places) (m : List Rec) : Type 0 where
   pub places : length (causes pl (pieces m)) ≡ length (all_reference_places m)
-  pub faults : far_faults pl m ≡ records_far pl 0 None no_threads m
+  pub faults : (ps : List (Place × Piece)) → map (λ p. p.1) ps ≡ single_pieces m → reference_places ps ≡ all_reference_places m → far_faults pl m ≡ pieces_far pl None ps
 
 -- A derived placement keeps the segments and groups of its module's place, and has an entry for each external.
 pub record KeepsPlace (m : PlacedModule) (pl : Places) : Type 0 where

@@ -4,18 +4,22 @@ use Rattle.std.specs.List.{range_with_len}
 use Rattle.omf_image.specs.declared.run.Run.{Run}
 use Rattle.omf_image.specs.Limits.{profile_limits}
 use Rattle.omf_image.specs.Joined.{runs_of}
+use Rattle.omf_frame.specs.declared.fault.Place.{Place}
 use Rattle.omf_records.specs.Values.{Rec}
+use Rattle.omf_check.specs.Listed.{placed_from}
+use Rattle.omf_check.specs.Threads.{FrameMethod, TargetMethod, PlainReference}
 use Rattle.omf_reloc.specs.declared.frame.Frame.{Frame}
 use Rattle.omf_reloc.specs.declared.fault.ReachFault.{ReachFault}
 use Rattle.omf_reloc.specs.declared.fault.DeriveFault.{DeriveFault}
 use Rattle.omf_reloc.specs.declared.given.Given.{Given}
-use Rattle.omf_reloc.specs.Plain.{pieces}
+use Rattle.omf_reloc.specs.Pieces.{references_at, placed_pieces}
+use Rattle.omf_reloc.specs.Plain.{Piece, Fixed, pieces}
 use Rattle.omf_reloc.specs.Placement.{Places, Placed}
 use Rattle.omf_reloc.specs.Reach.{reach_fault}
 use Rattle.omf_reloc.specs.Image.{image, laid, start}
 use Rattle.omf_reloc.specs.PlacementText.{Draft, parsed, resolved}
 use Rattle.omf_reloc.specs.Derive.{PlacedModule, derived}
-use Rattle.omf_reloc.specs.Modules.{module_of}
+use Rattle.omf_reloc.specs.Modules.{raws_of, module_of}
 
 abbrev pub frame : ℕ → ℕ → Frame
 frame base selector = record { base = base; selector = selector }
@@ -81,3 +85,17 @@ derived_image ms given = first_image (joined ms) (derived (joined ms) given)
 -- a module with one segment at an address, in a frame
 abbrev pub lies : List ℕ → ℕ → ℕ → ℕ → List ℕ × Places
 lies bytes address base selector = (bytes, only (at address base selector))
+
+-- The references of a module, each with its record's number and its place there.
+abbrev pub referred : Place × Piece → List ((ℕ × ℕ) × Piece)
+referred p = map (λ at. (at, p.1)) (references_at p.0 p.1)
+
+abbrev pub references : List ℕ → List ((ℕ × ℕ) × Piece)
+references bytes = flat_map referred (placed_pieces (placed_from 0 0 (raws_of bytes)))
+
+-- A fixup of a FIXUPP of a type, by its first two bytes, its frame, its target and its displacement; and the end of a module, with a start.
+abbrev pub plain_reference : FrameMethod → TargetMethod → ℕ → PlainReference
+plain_reference frame_method target displacement = record { frame = frame_method; target = target; displacement = displacement }
+
+abbrev pub fixup : ℕ → ℕ → PlainReference → Piece
+fixup kind locat reference = Fixed kind (record { locat = locat; reference = reference } ∷ [])

@@ -33,7 +33,7 @@ pub fn reach_is_decided()
 {}
 
 /// In a well-formed module each reference that is judged has a place of its own, and the references that do not reach are those that a
-/// walk over its records comes upon, in that order.
+/// walk over its pieces comes upon, one fixup at a time and each at its place, in that order.
 pub fn faults_are_walked()
     ensures { (limits : Limits) (pl : Places) (m : List Rec) → ModuleHolds limits m → FaultsAreWalked pl m }
 {}

@@ -268,3 +268,6 @@ pub fn pieces_of(module: &Checked) -> Pieces<'_>
         steps: Steps::new(module.records()),
     }
 }
+
+#[cfg(test)]
+mod tests;

@@ -1,23 +1,19 @@
 //! Whether a placement reaches: it fits the module, and every fixup and the start reach.
 
 ghost use Rattle.std.specs.Prelude.{◌≡◌, ◌≤◌, length, slice_get, ◌↔◌, true, None, Some, IsOk, IfErr};
-ghost use Rattle.omf_records.specs.Seen.{kind_seen, contents_seen, rec_seen};
-ghost use Rattle.omf_check.specs.Kept.{no_threads};
 ghost use Rattle.omf_check.specs.Module.{records_in};
-ghost use Rattle.omf_check.specs.Tables.{segments, groups, externals, is_defined};
+ghost use Rattle.omf_check.specs.Tables.{segments, is_defined};
 ghost use Rattle.omf_check.specs.WellFormed.{recs};
-ghost use Rattle.omf_reloc.specs.Placed.{fixupp_type, modend_type};
+ghost use Rattle.omf_reloc.specs.PieceSeen.{piece_seen};
 ghost use Rattle.omf_reloc.specs.Reach.{missing, extra, misplaced, far_faults, reach_fault, Reaches};
-ghost use Rattle.omf_reloc.specs.Offsets.{cause_of, start_offset};
-ghost use Rattle.omf_reloc.specs.ReachSteps.{HasEntries, miscounts, misplaced_from, far_at, data_place, subrecord_far, subrecords_far, record_far, CanJudge, CanJudgeOne, CanJudgeAll, CanJudgeRecord};
-ghost use Rattle.omf_reloc.specs.Walking.{plain_by, threads_after};
+ghost use Rattle.omf_reloc.specs.ReachSteps.{HasEntries, miscounts, misplaced_from, place_behind, piece_cause, CanJudge};
 
-use crate::fault::{Kind, ReachFault};
+use crate::fault::{Cause, Kind, ReachFault};
 use crate::offset::{outcome, start_offset};
+use crate::pieces::{Piece, pieces_of};
 use crate::placement::Placement;
-use crate::plain::{PlainFixup, plain_reference};
-use omf_check::{Checked, Threads};
-use omf_records::{At, Items, Part, Rec, Reference, Subrecord};
+use omf_check::Checked;
+use omf_records::Rec;
 
 /// The first index, from 1, of a table of so many entries for which the placement gives none.
 fn missing(kind: Kind, entries: u16, given: usize) -> Option<ReachFault>
@@ -92,127 +88,45 @@ fn absolute_fault(module: &Checked, placement: &Placement) -> Option<ReachFault>
     None
 }
 
-/// What the references of a record need of the records before it.
-#[derive(Clone, Copy, Drop)]
-struct Before {
-    /// The segment of the last data record, and its offset there.
-    data: Option<(u16, u32)>,
-    /// The threads in force.
-    threads: Threads,
+/// Why a piece does not reach. The last data record before it lies at an offset of a segment.
+fn piece_cause(placement: &Placement, last: Option<(u16, u32)>, piece: &Piece<'_>) -> Option<Cause>
+    requires { CanJudge placement.now last (piece_seen piece.now) }
+    ensures { result ≡ piece_cause placement.now last (piece_seen piece.now) }
+{
+    match piece {
+        Piece::Fixed { wide, fixup } => match last {
+            Some((segment, offset)) => outcome(placement, segment, offset, *wide, fixup).err(),
+            None => unreachable!(),
+        },
+        Piece::End {
+            wide,
+            start: Some(reference),
+            ..
+        } => start_offset(placement, *wide, reference).err(),
+        _ => None,
+    }
 }
 
-impl Before {
-    /// A subrecord of a FIXUPP, wide or not, that is a fixup and does not reach. The number is the record's.
-    fn subrecord_fault(
-        &self,
-        placement: &Placement,
-        number: u32,
-        is_wide: bool,
-        subrecord: &At<Subrecord<'_>>,
-    ) -> Option<ReachFault>
-        requires { CanJudgeOne placement.now self.now.data self.now.threads subrecord.now.item }
-        ensures { result ≡ slice_get (subrecord_far placement.now number (fixupp_type is_wide) self.now.data self.now.threads subrecord.now.within subrecord.now.item) 0 }
-    {
-        let Part::Fixup {
-            location,
-            reference,
-        } = &subrecord.item.part
-        else {
-            return None;
-        };
-        let Some((segment, offset)) = self.data else {
-            unreachable!()
-        };
-        let fixup = PlainFixup {
-            location: *location,
-            reference: plain_reference(&self.threads, reference),
-        };
-        let cause = outcome(placement, segment, offset, is_wide, &fixup).err()?;
-        Some(ReachFault::TooFar {
-            number,
-            within: subrecord.within,
-            cause,
-        })
-    }
-
-    /// The first fixup of a FIXUPP, wide or not, that does not reach.
-    fn fixupp_fault(
-        mut self,
-        placement: &Placement,
-        number: u32,
-        is_wide: bool,
-        subrecords: Items<Subrecord<'_>>,
-    ) -> Option<ReachFault>
-        requires { CanJudgeAll placement.now self.data self.threads subrecords }
-        ensures { result ≡ slice_get (subrecords_far placement.now number (fixupp_type is_wide) self.data self.threads subrecords.entry) 0 }
-    {
-        for subrecord in subrecords {
-            let fault = self.subrecord_fault(placement, number, is_wide, &subrecord);
-            if fault.is_some() {
-                return fault;
-            }
-            self.threads.set(&subrecord.item);
-        }
-        None
-    }
-
-    /// The start that a MODEND, wide or not, names, where it does not reach.
-    fn start_fault(
-        &self,
-        placement: &Placement,
-        number: u32,
-        is_wide: bool,
-        reference: &Reference,
-    ) -> Option<ReachFault>
-        requires { CanJudge placement.now 0 self.now.threads reference.now }
-        ensures { result ≡ slice_get (far_at number reference.now.fix.within (cause_of (start_offset placement.now (modend_type is_wide) (plain_by self.now.threads reference.now)))) 0 }
-    {
-        let plain = plain_reference(&self.threads, reference);
-        let cause = start_offset(placement, is_wide, &plain).err()?;
-        Some(ReachFault::TooFar {
-            number,
-            within: reference.fix.within,
-            cause,
-        })
-    }
-
-    /// The first reference of a record that does not reach.
-    fn record_fault(&self, placement: &Placement, number: u32, rec: &Rec<'_>) -> Option<ReachFault>
-        requires { CanJudgeRecord placement.now self.now.data self.now.threads (contents_seen rec.now) }
-        ensures { result ≡ slice_get (record_far placement.now number (kind_seen rec.now) self.now.data self.now.threads (contents_seen rec.now)) 0 }
-    {
-        match rec {
-            Rec::Fixups { wide, subrecords } => {
-                self.fixupp_fault(placement, number, *wide, subrecords.iter())
-            }
-            Rec::ModEnd {
-                wide,
-                start: Some(reference),
-                ..
-            } => self.start_fault(placement, number, *wide, reference),
-            _ => None,
-        }
-    }
-
-    /// Passes a record.
-    fn pass(&mut self, rec: &Rec<'_>)
-        ensures data { self.new.data ≡ data_place (contents_seen rec.now) self.old.data }
-        ensures threads { self.new.threads ≡ threads_after self.old.threads (contents_seen rec.now) }
-    {
-        match rec {
+/// Where the last data record lies after one piece more: its segment, and its offset there.
+fn data_after(piece: &Piece<'_>, last: Option<(u16, u32)>) -> Option<(u16, u32)>
+    ensures { result ≡ place_behind (piece_seen piece.now) last }
+{
+    match piece {
+        Piece::Kept(
             Rec::Plain {
                 segment,
                 offset,
                 ..
-            } => self.data = Some((segment.item.0, offset.item)),
+            },
+        ) => Some((segment.item.0, offset.item)),
+        Piece::Kept(
             Rec::Iterated {
                 segment,
                 offset,
                 ..
-            } => self.data = Some((segment.item.0, offset.item)),
-            Rec::Fixups { subrecords, .. } => self.threads.set_all(subrecords.iter()),
-            _ => {}
-        }
+            },
+        ) => Some((segment.item.0, offset.item)),
+        _ => last,
     }
 }
 
@@ -221,16 +135,18 @@ fn far_fault(module: &Checked, placement: &Placement) -> Option<ReachFault>
     requires { HasEntries placement.now (recs (records_in «module».now.bytes)) }
     ensures { result ≡ slice_get (far_faults placement.now (recs (records_in «module».now.bytes))) 0 }
 {
-    let mut before = Before {
-        data: None,
-        threads: Threads::new(),
-    };
-    for (place, rec) in module.records() {
-        let fault = before.record_fault(placement, place.number, &rec);
-        if fault.is_some() {
-            return fault;
+    let mut last = None;
+    for (place, piece) in pieces_of(module) {
+        if let Some(cause) = piece_cause(placement, last, &piece) {
+            let number = place.number;
+            let within = place.within;
+            return Some(ReachFault::TooFar {
+                number,
+                within,
+                cause,
+            });
         }
-        before.pass(&rec);
+        last = data_after(&piece, last);
     }
     None
 }

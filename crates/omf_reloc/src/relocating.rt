@@ -1,11 +1,10 @@
 //! The image that a placement gives a module.
 
 ghost use Rattle.std.specs.Prelude.{◌≡◌, ◌↔◌, ℕ, [], IfSome, OnOk, IfOk, None, Some, Option, slice_get, option_map, option_to_list};
-ghost use Rattle.omf_records.specs.Seen.{odd_if, rec_seen};
-ghost use Rattle.omf_records.specs.Values.{width};
+ghost use Rattle.omf_records.specs.Seen.{odd_if, kind_seen, contents_seen};
+ghost use Rattle.omf_records.specs.Values.{width, contents_alone};
 ghost use Rattle.omf_image.specs.Expanding.{expanded};
 ghost use Rattle.omf_image.specs.Limits.{profile_limits};
-ghost use Rattle.omf_check.specs.Kept.{set_thread, set_threads, no_threads};
 ghost use Rattle.omf_image.specs.Joined.{runs_of};
 ghost use Rattle.omf_image.specs.Overlay.{AreLaidOver, IsRunAt, byte_at};
 ghost use Rattle.omf_image.specs.declared.run.Run.{Run};
@@ -13,19 +12,21 @@ ghost use Rattle.omf_check.specs.Module.{records_in};
 ghost use Rattle.omf_check.specs.WellFormed.{recs};
 ghost use Rattle.omf_reloc.specs.Image.{laid, image};
 ghost use Rattle.omf_reloc.specs.Laws.{AllLieInside};
+ghost use Rattle.omf_reloc.specs.PieceSeen.{piece_seen};
 ghost use Rattle.omf_reloc.specs.Placed.{fixupp_type};
 ghost use Rattle.omf_reloc.specs.Plain.{pieces};
 ghost use Rattle.omf_reloc.specs.Reach.{Reaches};
-ghost use Rattle.omf_reloc.specs.Walking.{with_fixup, with_subrecord, with_subrecords, CanAdd, CanTake, CanTakeAll, Expands, HasOffsets, IsNext, CanWalk};
+ghost use Rattle.omf_reloc.specs.Walking.{with_fixup, closed_by, opened_by, CanAdd, Expands, CanExpand, HasOffsets, IsNext, CanWalk};
 
 use crate::measuring::extents;
 use crate::offset::outcome;
+use crate::pieces::{Piece, pieces_of};
 use crate::placement::Placement;
-use crate::plain::{PlainFixup, plain_reference};
-use omf_check::{Checked, Threads};
+use crate::plain::PlainFixup;
+use omf_check::Checked;
 use omf_frame::Index;
 use omf_image::{Image, Limits, expand, painted};
-use omf_records::{At, Blocks, Items, Part, Rec, Subrecord, location_offset};
+use omf_records::{At, Blocks, Rec, location_offset};
 use std::alloc::{AllocError, Global};
 use std::marker::Model;
 
@@ -70,59 +71,15 @@ impl Open {
             Err(_) => unreachable!(),
         }
     }
-
-    /// Adds what a subrecord of a FIXUPP, wide or not, adds.
-    fn take(
-        &mut self,
-        placement: &Placement,
-        threads: &Threads,
-        is_wide: bool,
-        subrecord: &Subrecord<'_>,
-    )
-        requires { CanTake placement.now (fixupp_type is_wide) threads.now subrecord.now self.old }
-        ensures { self.new ≡ with_subrecord placement.now (fixupp_type is_wide) threads.now subrecord.now self.old }
-    {
-        if let Part::Fixup {
-            location,
-            reference,
-        } = &subrecord.part
-        {
-            let fixup = PlainFixup {
-                location: *location,
-                reference: plain_reference(threads, reference),
-            };
-            self.add(placement, is_wide, &fixup);
-        }
-    }
-
-    /// Adds what the subrecords of a FIXUPP, wide or not, add, each by the threads in force at it.
-    fn take_all(
-        &mut self,
-        placement: &Placement,
-        threads: &Threads,
-        is_wide: bool,
-        subrecords: Items<Subrecord<'_>>,
-    )
-        requires { CanTakeAll placement.now (fixupp_type is_wide) threads.now subrecords self.old }
-        ensures { self.new ≡ with_subrecords placement.now (fixupp_type is_wide) threads.now subrecords.entry self.old }
-    {
-        let mut threads = *threads;
-        for subrecord in subrecords {
-            self.take(placement, &threads, is_wide, &subrecord.item);
-            threads.set(&subrecord.item);
-        }
-    }
 }
 
-/// A walk over a module's records.
+/// A walk over a module's pieces.
 #[derive(Drop)]
 struct Walk {
     /// What the data records that are closed give.
     image: Image,
     /// The last data record.
     open_data: Option<Open>,
-    /// The threads in force.
-    threads: Threads,
 }
 
 impl Model for Walk {
@@ -130,7 +87,7 @@ impl Model for Walk {
 
     ghost Value = { Walked };
 
-    ghost view = { λ w. record { image = w.image; open_data = w.open_data; threads = w.threads } };
+    ghost view = { λ w. record { image = w.image; open_data = w.open_data } };
 }
 
 /// The bytes that the blocks of an LIDATA stand for.
@@ -154,14 +111,13 @@ fn lay(image: &mut Image, last: Option<Open>) -> Result<(), AllocError>
 }
 
 impl Walk {
-    /// No record is walked over.
+    /// No piece is walked over.
     fn new(image: Image) -> Walk
-        ensures { result ≡ record { image = image; open_data = None; threads = no_threads } }
+        ensures { result ≡ record { image = image; open_data = None } }
     {
         Walk {
             image,
             open_data: None,
-            threads: Threads::new(),
         }
     }
 
@@ -170,34 +126,28 @@ impl Walk {
         requires { IfSome self.old.open_data HasOffsets }
         ensures image { OnOk result (AreLaidOver self.old.image (option_to_list self.old.open_data) self.new.image) }
         ensures open_data { OnOk result (self.new.open_data ≡ Some next) }
-        ensures threads { OnOk result (self.new.threads ≡ self.old.threads) }
     {
         let last = self.open_data.replace(next);
         lay(&mut self.image, last)
     }
 
-    /// Adds what the subrecords of a FIXUPP, wide or not, add to the data record that is open, and sets their threads.
-    fn fix(&mut self, placement: &Placement, is_wide: bool, subrecords: Items<Subrecord<'_>>)
-        requires { IfSome self.old.open_data (CanTakeAll placement.now (fixupp_type is_wide) self.old.threads subrecords) }
+    /// Adds what a fixup of a FIXUPP, wide or not, adds to the data record that is open.
+    fn fix(&mut self, placement: &Placement, is_wide: bool, fixup: &PlainFixup)
+        requires { IfSome self.old.open_data (CanAdd placement.now (fixupp_type is_wide) fixup.now) }
         ensures image { self.new.image ≡ self.old.image }
-        ensures open_data { self.new.open_data ≡ option_map (with_subrecords placement.now (fixupp_type is_wide) self.old.threads subrecords.entry) self.old.open_data }
-        ensures threads { self.new.threads ≡ set_threads self.old.threads subrecords.entry }
+        ensures open_data { self.new.open_data ≡ option_map (with_fixup placement.now (fixupp_type is_wide) fixup.now) self.old.open_data }
     {
         if let Some(data) = &mut self.open_data {
-            data.take_all(placement, &self.threads, is_wide, subrecords.iter());
+            data.add(placement, is_wide, fixup);
         }
-        self.threads.set_all(subrecords);
     }
 
-    /// Walks over the next record.
-    fn take(
-        &mut self,
-        alloc: Global,
-        placement: &Placement,
-        rec: &Rec<'_>,
-    ) -> Result<(), AllocError>
-        requires { CanWalk placement.now (rec_seen rec.now) self.old }
-        ensures { OnOk result (IsNext placement.now (rec_seen rec.now) self.old self.new) }
+    /// Walks over a record: a data record is open then, and any other changes nothing.
+    fn take_record(&mut self, alloc: Global, rec: &Rec<'_>) -> Result<(), AllocError>
+        requires offsets { IfSome self.old.open_data HasOffsets }
+        requires expands { CanExpand (kind_seen rec.now) (contents_seen rec.now) }
+        ensures image { OnOk result (AreLaidOver self.old.image (closed_by (contents_alone (contents_seen rec.now)) self.old.open_data) self.new.image) }
+        ensures open_data { OnOk result (self.new.open_data ≡ opened_by (kind_seen rec.now) (contents_alone (contents_seen rec.now)) self.old.open_data) }
     {
         match rec {
             Rec::Plain {
@@ -211,11 +161,27 @@ impl Walk {
                 offset,
                 blocks,
             } => self.begin(Open::new(segment, offset, expanded(alloc, *blocks)?)),
-            Rec::Fixups { wide, subrecords } => {
-                self.fix(placement, *wide, subrecords.iter());
+            _ => Ok(()),
+        }
+    }
+
+    /// Walks over the next piece.
+    fn take(
+        &mut self,
+        alloc: Global,
+        placement: &Placement,
+        piece: &Piece<'_>,
+    ) -> Result<(), AllocError>
+        requires { CanWalk placement.now (piece_seen piece.now) self.old }
+        ensures { OnOk result (IsNext placement.now (piece_seen piece.now) self.old self.new) }
+    {
+        match piece {
+            Piece::Kept(rec) => self.take_record(alloc, rec),
+            Piece::Fixed { wide, fixup } => {
+                self.fix(placement, *wide, fixup);
                 Ok(())
             }
-            _ => Ok(()),
+            Piece::End { .. } => Ok(()),
         }
     }
 
@@ -247,8 +213,8 @@ pub fn relocate(alloc: Global, module: &Checked, placement: &Placement) -> Resul
 {
     let zeros = painted(alloc, extents(alloc, module)?)?;
     let mut walk = Walk::new(zeros);
-    for (_place, rec) in module.records() {
-        walk.take(alloc, placement, &rec)?;
+    for (_place, piece) in pieces_of(module) {
+        walk.take(alloc, placement, &piece)?;
     }
     walk.finish()
 }

@@ -7,7 +7,9 @@ ghost use Rattle.omf_reloc.specs.declared.fault.Kind.TheVariants as kind;
 ghost use Rattle.omf_reloc.specs.declared.fault.ReachFault.TheVariants as fault;
 ghost use Rattle.omf_check.specs.Rows.{first_module, with_fixup, flat, absolute, public};
 ghost use Rattle.omf_reloc.specs.Modules.{with_threads, overlaid, overlapping, displaced, call, jump, with_blocks, big_end, with_start, early_thread, group_base, many_fixups, using, group_public, constant_public};
-ghost use Rattle.omf_reloc.specs.Rows.{frame, at, places, only, low, relocated, run_from_0, started, placed_by, derived_image, lies};
+ghost use Rattle.omf_check.specs.Threads.{F0, F1, F4, T0};
+ghost use Rattle.omf_reloc.specs.Plain.{End};
+ghost use Rattle.omf_reloc.specs.Rows.{references, fixup, plain_reference, frame, at, places, only, low, relocated, run_from_0, started, placed_by, derived_image, lies};
 
 /// A fixup adds the offset of its target, 20H; without an entry for the segment the placement does not reach.
 pub fn first_image()
@@ -140,4 +142,24 @@ pub fn given_place_counts()
 pub fn public_bases()
     ensures group { derived_image (lies using 0x10020 0x10000 0x1000 ∷ (group_public, places (at 0x20040 0x20000 0x2000 ∷ []) (frame 0x20010 0x2001 ∷ []) []) ∷ []) [] ≡ Ok (at 0x20042 0x20010 0x2001 ∷ [], run_from_0 (0xB8 ∷ 0x32 ∷ 0 ∷ 0x90 ∷ [])) }
     ensures constant { derived_image (lies using 0x10020 0x10000 0x1000 ∷ lies constant_public 0x20040 0x20000 0x2000 ∷ []) [] ≡ Ok (at 0xB8002 0xB8000 0xB800 ∷ [], run_from_0 (0xB8 ∷ 2 ∷ 0 ∷ 0x90 ∷ [])) }
+{}
+
+/// A thread counts from where it is set to where it is set anew, over FIXUPPs and data records; not in front of it.
+pub fn references_by_threads()
+    ensures { references with_threads ≡ ((5, 6), fixup 0x9C 0xC400 (plain_reference F4 (T0 1) 0)) ∷ ((6, 3), fixup 0x9C 0xC402 (plain_reference F4 (T0 2) 0)) ∷ ((8, 3), fixup 0x9C 0xC400 (plain_reference F4 (T0 2) 0)) ∷ [] }
+{}
+
+/// A FIXUPP of 32 bits: two fixups in the frame of a group, the second with a displacement.
+pub fn wide_references()
+    ensures { references flat ≡ ((5, 3), fixup 0x9D 0xEC00 (plain_reference (F1 1) (T0 1) 0)) ∷ ((5, 8), fixup 0x9D 0xE406 (plain_reference (F1 1) (T0 1) 4)) ∷ [] }
+{}
+
+/// The start stands at its fix data byte; its frame is a thread's.
+pub fn start_by_a_thread()
+    ensures { references with_start ≡ ((5, 4), End 0x8A 0xC1 (Some (plain_reference (F1 1) (T0 1) 2))) ∷ [] }
+{}
+
+/// A thread may name a segment that is defined after it.
+pub fn reference_by_an_early_thread()
+    ensures { references early_thread ≡ ((6, 3), fixup 0x9C 0xC401 (plain_reference (F0 1) (T0 2) 0)) ∷ [] }
 {}

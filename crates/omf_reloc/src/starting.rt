@@ -1,64 +1,50 @@
 //! The start address that a placement gives a module.
 
 ghost use Rattle.std.specs.Prelude.{◌≡◌, [], ◌∷◌};
-ghost use Rattle.omf_records.specs.Seen.{contents_seen, kind_seen};
+ghost use Rattle.std.specs.List.{last_or};
 ghost use Rattle.omf_check.specs.Module.{records_in};
 ghost use Rattle.omf_check.specs.WellFormed.{recs};
-ghost use Rattle.omf_reloc.specs.Image.{start};
+ghost use Rattle.omf_reloc.specs.Image.{start, start_at, piece_start};
+ghost use Rattle.omf_reloc.specs.Offsets.{start_offset};
+ghost use Rattle.omf_reloc.specs.PieceSeen.{piece_seen};
 ghost use Rattle.omf_reloc.specs.Placed.{modend_type};
 ghost use Rattle.omf_reloc.specs.Reach.{Reaches};
-ghost use Rattle.omf_reloc.specs.Walking.{CanStart, CanStartAt, start_by, start_after, threads_after};
+ghost use Rattle.omf_reloc.specs.Walking.{HasStart, CanStart};
 
 use crate::offset::{frame_of, start_offset};
+use crate::pieces::{Piece, pieces_of};
 use crate::placement::Placement;
-use crate::plain::plain_reference;
-use omf_check::{Checked, Threads};
-use omf_records::{Rec, Reference};
+use crate::plain::PlainReference;
+use omf_check::Checked;
 
 /// The start that a MODEND, wide or not, names: the selector of its frame, and its offset.
-fn named_start(
-    placement: &Placement,
-    threads: &Threads,
-    is_wide: bool,
-    reference: &Reference,
-) -> (u16, u32)
-    requires { CanStart placement.now (modend_type is_wide) threads.now reference.now }
-    ensures { result ∷ [] ≡ start_by placement.now threads.now (modend_type is_wide) reference.now }
+fn named_start(placement: &Placement, is_wide: bool, reference: &PlainReference) -> (u16, u32)
+    requires { HasStart placement.now (modend_type is_wide) reference.now }
+    ensures { result ∷ [] ≡ start_at placement.now reference.now (start_offset placement.now (modend_type is_wide) reference.now) }
 {
-    let reference = plain_reference(threads, reference);
-    let frame = frame_of(placement, 0, &reference);
-    match start_offset(placement, is_wide, &reference) {
+    let frame = frame_of(placement, 0, reference);
+    match start_offset(placement, is_wide, reference) {
         Ok(offset) => (frame.selector, offset),
         Err(_) => unreachable!(),
     }
 }
 
-/// The start after one record more.
+/// The start after one piece more.
 fn start_after(
     placement: &Placement,
-    threads: &Threads,
-    rec: &Rec<'_>,
+    piece: &Piece<'_>,
     found: Option<(u16, u32)>,
 ) -> Option<(u16, u32)>
-    requires { CanStartAt placement.now threads.now (kind_seen rec.now) (contents_seen rec.now) }
-    ensures { result ≡ start_after placement.now threads.now (kind_seen rec.now) (contents_seen rec.now) found }
+    requires { CanStart placement.now (piece_seen piece.now) }
+    ensures { result ≡ last_or found (piece_start placement.now (piece_seen piece.now)) }
 {
-    match rec {
-        Rec::ModEnd {
+    match piece {
+        Piece::End {
             wide,
             start: Some(reference),
             ..
-        } => Some(named_start(placement, threads, *wide, reference)),
+        } => Some(named_start(placement, *wide, reference)),
         _ => found,
-    }
-}
-
-/// Sets the threads of a record, if it is a FIXUPP.
-fn set_threads(threads: &mut Threads, rec: &Rec<'_>)
-    ensures { threads.new ≡ threads_after threads.old (contents_seen rec.now) }
-{
-    if let Rec::Fixups { subrecords, .. } = rec {
-        threads.set_all(subrecords.iter());
     }
 }
 
@@ -68,11 +54,9 @@ pub fn start(module: &Checked, placement: &Placement) -> Option<(u16, u32)>
     requires { Reaches placement.now (recs (records_in «module».now.bytes)) }
     ensures { result ≡ start placement.now (recs (records_in «module».now.bytes)) }
 {
-    let mut threads = Threads::new();
     let mut found = None;
-    for (_place, rec) in module.records() {
-        found = start_after(placement, &threads, &rec, found);
-        set_threads(&mut threads, &rec);
+    for (_place, piece) in pieces_of(module) {
+        found = start_after(placement, &piece, found);
     }
     found
 }

@@ -1,4 +1,4 @@
-use Rattle.std.proofs.Common.{◌≡◌, ◌∷◌, [], ◌++◌, ◌∙◌, ap, sym, subst, refl, List, append_assoc, append-nil}
+use Rattle.std.proofs.Common.{◌++◌, ◌∙◌, ap, sym, subst, List, append_assoc}
 use Rattle.std.specs.Prelude.{All, map, flat_map}
 use Rattle.std.proofs.lemmas.List.Elements.{All-head, All-tail}
 use Rattle.omf_frame.specs.declared.fault.Place.{Place}

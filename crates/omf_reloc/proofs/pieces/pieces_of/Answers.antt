@@ -1,4 +1,4 @@
-use Rattle.std.proofs.Common.{◌≡◌, ◌∙◌, ap, List}
+use Rattle.std.proofs.Common.{◌∙◌, ap, List}
 use Rattle.std.specs.Prelude.{map}
 use Rattle.omf_frame.specs.declared.fault.Place.{Place}
 use Rattle.omf_image.specs.Limits.{profile_limits}

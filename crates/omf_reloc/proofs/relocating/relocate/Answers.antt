@@ -6,34 +6,32 @@ use Rattle.omf_image.proofs.TurnLaws.{images_are}
 use Rattle.omf_image.specs.Limits.{profile_limits}
 use Rattle.omf_image.specs.Overlay.{AreLaidOver}
 use Rattle.omf_image.specs.Painting.{all_zeros, Fits}
-use Rattle.omf_records.specs.Seen.{rec_seen}
-use Rattle.omf_records.specs.Values.{Rec}
 use Rattle.omf_check.specs.Module.{records_in}
 use Rattle.omf_check.specs.WellFormed.{recs}
-use Rattle.omf_check.proofs.ThreadLaws.{threads_kept}
 use Rattle.omf_reloc.specs.Image.{laid}
-use Rattle.omf_reloc.specs.Plain.{pieces}
+use Rattle.omf_reloc.specs.PieceSeen.{piece_seen}
+use Rattle.omf_reloc.specs.Plain.{Piece, pieces}
 use Rattle.omf_reloc.specs.Walking.{Walk}
 use Rattle.omf_reloc.proofs.InsideLaws.{all-inside}
 use Rattle.omf_reloc.proofs.MeasureLaws.{all-fit, zeros-lost}
-use Rattle.omf_reloc.proofs.WalkedLaws.{IsWalked, first-walk, walk-first, can-walk, walk-next, walk-last, has-offsets, records-listed}
+use Rattle.omf_reloc.proofs.WalkedLaws.{IsWalked, first-walk, walk-first, can-walk, walk-next, walk-last, has-offsets}
 use Rattle.omf_reloc.proofs.relocating.relocate.Goals as goal
 
-abbrev without_places : List (Place × Rec) → List Rec
-without_places xs = map (λ x. x.1) xs
+abbrev without_places : List (Place × Piece) → List Piece
+without_places xs = map (λ p. p.1) xs
 
 pub loop-place-init : goal.loop-place-init
 loop-place-init c =
-    let r = c.records-place-items in
-    walk-first c.new-walk.result.image threads_kept c.args.placement.now (recs (records_in c.args.module.now.bytes)) r.ensures.holds c.requires c.new-walk.result (without_places c.into_iter-place-iterator.result)
-    (first-walk _ c.new-walk.result c.new-walk.ensures) (ap without_places (c.into_iter-place-iterator.ensures.into_iter_gives ∙ r.ensures.listed) ∙ records-listed 0 0 (records_in c.args.module.now.bytes))
+    let p = c.pieces_of-place-items in
+    walk-first c.new-walk.result.image c.args.placement.now (recs (records_in c.args.module.now.bytes)) p.ensures.holds c.requires c.new-walk.result (without_places c.into_iter-place-iterator.result)
+    (first-walk _ c.new-walk.result c.new-walk.ensures) (ap without_places c.into_iter-place-iterator.ensures.into_iter_gives ∙ p.ensures.listed)
 
 pub take-requires : goal.take-requires
 take-requires c =
     let pl = c.args.placement.now in
     let m = recs (records_in c.args.module.now.bytes) in
     let w = c.loop-place.walk in
-    can-walk c.new-walk.result.image threads_kept pl m c.records-place-items.ensures.holds c.requires w (rec_seen c.in-Some.rec) (without_places c.next.new.self)
+    can-walk c.new-walk.result.image pl m c.pieces_of-place-items.ensures.holds c.requires w (piece_seen c.in-Some.piece) (without_places c.next.new.self)
     (subst (λ xs. IsWalked c.new-walk.result.image pl m w (without_places xs)) c.in-Some.ensures.steps c.loop-place.invariant)
 
 pub loop-place-preserved : goal.loop-place-preserved
@@ -41,12 +39,20 @@ loop-place-preserved c =
     let pl = c.args.placement.now in
     let m = recs (records_in c.args.module.now.bytes) in
     let w = c.loop-place.walk in
-    walk-next c.new-walk.result.image threads_kept pl m c.records-place-items.ensures.holds c.requires w (rec_seen c.in-Some.rec) (without_places c.next.new.self)
+    walk-next c.new-walk.result.image pl m c.pieces_of-place-items.ensures.holds c.requires w (piece_seen c.in-Some.piece) (without_places c.next.new.self)
+    (subst (λ xs. IsWalked c.new-walk.result.image pl m w (without_places xs)) c.in-Some.ensures.steps c.loop-place.invariant) c.take.new.self c.in_ok-take.ensures
+
+pub loop-place-preserved-in_ok-take : goal.loop-place-preserved-in_ok-take
+loop-place-preserved-in_ok-take c =
+    let pl = c.args.placement.now in
+    let m = recs (records_in c.args.module.now.bytes) in
+    let w = c.loop-place.walk in
+    walk-next c.new-walk.result.image pl m c.pieces_of-place-items.ensures.holds c.requires w (piece_seen c.in-Some.piece) (without_places c.next.new.self)
     (subst (λ xs. IsWalked c.new-walk.result.image pl m w (without_places xs)) c.in-Some.ensures.steps c.loop-place.invariant) c.take.new.self c.in_ok-take.ensures
 
 pub finish-requires : goal.finish-requires
 finish-requires c =
-    has-offsets c.new-walk.result.image threads_kept c.args.placement.now (recs (records_in c.args.module.now.bytes)) c.records-place-items.ensures.holds c.requires c.loop-place.walk
+    has-offsets c.new-walk.result.image c.args.placement.now (recs (records_in c.args.module.now.bytes)) c.pieces_of-place-items.ensures.holds c.requires c.loop-place.walk
     (without_places c.loop-place._place-iterator) c.loop-place.invariant
 
 pub painted-requires : goal.painted-requires
@@ -62,7 +68,7 @@ returns-clause-laid c =
     let ended = subst (λ xs. IsWalked start pl m w (without_places xs)) c.in-None.ensures.steps.0 c.loop-place.invariant in
     let zeros = subst (AreLaidOver [] (all_zeros c.in_ok-extents.field-0.items)) (sym (ap (λ (v : Walk). v.image) c.new-walk.ensures)) c.in_ok-zeros.ensures in
     IfOk-weaker c.finish.result _ (AreLaidOver [] (laid profile_limits pl (pieces m))) (λ i h. zeros-lost pl m c.extents.ensures.holds c.in_ok-extents.field-0.items start i c.in_ok-extents.ensures.listed zeros
-    (walk-last start threads_kept pl m c.records-place-items.ensures.holds c.requires w i ended h)) c.finish.ensures
+    (walk-last start pl m c.pieces_of-place-items.ensures.holds c.requires w i ended h)) c.finish.ensures
 
 pub returns-clause-bytes : goal.returns-clause-bytes
 returns-clause-bytes c =

@@ -4,6 +4,6 @@ use Rattle.omf_check.specs.WellFormed.{recs}
 use Rattle.omf_reloc.proofs.WalkedLaws.{IsWalked}
 use Rattle.omf_reloc.proofs.relocating.relocate.Given as goal
 
--- the records so far are walked over
+-- the pieces so far are walked over
 abbrev pub invariant-loop-place : goal.invariant-loop-place
-invariant-loop-place l = IsWalked l.initial.walk.image l.placement (recs (records_in l.module.bytes)) l.walk (map (λ x. x.1) l._place-iterator)
+invariant-loop-place l = IsWalked l.initial.walk.image l.placement (recs (records_in l.module.bytes)) l.walk (map (λ p. p.1) l._place-iterator)

@@ -4,6 +4,6 @@ use Rattle.omf_check.specs.WellFormed.{recs}
 use Rattle.omf_reloc.proofs.StartLaws.{IsSought}
 use Rattle.omf_reloc.proofs.starting.start.Given as goal
 
--- the start is sought in the records so far
+-- the start is sought in the pieces so far
 abbrev pub invariant-loop-place : goal.invariant-loop-place
-invariant-loop-place l = IsSought l.placement (recs (records_in l.module.bytes)) l.threads l.found (map (λ x. x.1) l._place-iterator)
+invariant-loop-place l = IsSought l.placement (recs (records_in l.module.bytes)) l.found (map (λ p. p.1) l._place-iterator)

@@ -1,0 +1,65 @@
+-- What stands before a record or a subrecord: the threads in force, what holds there, and that a MODEND is the last record.
+use Rattle.std.proofs.Common.{◌≡◌, List, [], ◌∷◌, ◌++◌, refl, sym, ◌∙◌, ap, ap₂, subst, true, false, length, map, arith, append_assoc, length-append}
+use Rattle.std.specs.Prelude.{All, option_map, unwrap_or}
+use Rattle.std.proofs.lemmas.Bool.{true≢false}
+use Rattle.std.proofs.lemmas.List.{append-nil}
+use Rattle.std.proofs.lemmas.List.Elements.{All-head, All-tail}
+use Rattle.omf_image.specs.declared.limits.Limits.{Limits}
+use Rattle.omf_records.specs.Values.{At, Rec, Contents, Names, Fixups, Subrecord, Reference}
+use Rattle.omf_check.specs.Kept.{HasThreads}
+use Rattle.omf_check.specs.Sound.{SubrecordHolds, is_module_end, ModuleHolds}
+use Rattle.omf_check.specs.Tables.{subrecords, subrecords_in}
+use Rattle.omf_check.specs.Threads.{F5, T0, frame_from, target_from, plain, PlainReference}
+use Rattle.omf_check.specs.declared.threads.Threads.{Threads}
+use Rattle.omf_check.proofs.ThreadLaws.{threads_kept}
+use Rattle.omf_reloc.specs.Walking.{plain_by, threads_after}
+use Rattle.omf_reloc.proofs.GatherLaws.{subrecords-more}
+
+-- The threads in force make the same plain reference as a search backwards.
+pub plain-by : (threads : Threads) (earlier : List Subrecord) (r : Reference) → HasThreads threads earlier → plain earlier r ≡ plain_by threads r
+plain-by threads earlier r h =
+    ap₂ (λ f t. let x : PlainReference = record { frame = unwrap_or (option_map frame_from f) F5; target = unwrap_or (option_map target_from t) (T0 0); displacement = unwrap_or r.displacement 0 } in x)
+    (sym (threads_kept.frame threads earlier r h)) (sym (threads_kept.target threads earlier r h))
+
+-- The threads in force, after one more record.
+threads-contents : (threads : Threads) (earlier : List Subrecord) (c : Contents) → HasThreads threads earlier → HasThreads (threads_after threads c) (earlier ++ subrecords_in c)
+threads-contents threads earlier (Fixups subs) h = threads_kept.all threads earlier subs h
+threads-contents threads earlier (Names items) h = subst (HasThreads threads) (sym (append-nil earlier)) h
+threads-contents threads earlier _ h = subst (HasThreads threads) (sym (append-nil earlier)) h
+
+pub threads-more : (threads : Threads) (before : List Rec) (r : Rec) → HasThreads threads (subrecords before) → HasThreads (threads_after threads r.contents) (subrecords (before ++ r ∷ []))
+threads-more threads before r h = subst (HasThreads (threads_after threads r.contents)) (sym (subrecords-more before r)) (threads-contents threads (subrecords before) r.contents h)
+
+-- The subrecords that hold, of the first and of the others.
+abbrev pub HoldFrom : List Rec → List Subrecord → List (At Subrecord) → Type 0
+HoldFrom before earlier subs = (done rest : List (At Subrecord)) (s : At Subrecord) → subs ≡ done ++ s ∷ rest → SubrecordHolds before (earlier ++ map (λ e. e.item) done) s.item
+
+pub hold-first : (before : List Rec) (earlier : List Subrecord) (s : At Subrecord) (subs : List (At Subrecord)) → HoldFrom before earlier (s ∷ subs) → SubrecordHolds before earlier s.item
+hold-first before earlier s subs h = subst (λ xs. SubrecordHolds before xs s.item) (append-nil earlier) (h [] subs s refl)
+
+pub hold-rest : (before : List Rec) (earlier : List Subrecord) (s : At Subrecord) (subs : List (At Subrecord)) → HoldFrom before earlier (s ∷ subs) → HoldFrom before (earlier ++ s.item ∷ []) subs
+hold-rest before earlier s subs h done rest x e =
+    subst (λ xs. SubrecordHolds before xs x.item) (sym (append_assoc earlier (s.item ∷ []) (map (λ t. t.item) done))) (h (s ∷ done) rest x (ap (λ t. s ∷ t) e))
+
+-- A MODEND is the last record.
+abbrev IsNoEnd : Rec → Type 0
+IsNoEnd r = is_module_end r.contents ≡ false
+
+end-last : (front before rs : List Rec) (end r : Rec) → front ++ end ∷ [] ≡ before ++ r ∷ rs → All IsNoEnd front → is_module_end r.contents ≡ true → rs ≡ []
+end-last [] [] rs end r e h t = tail-same end r [] rs e
+  where
+    tail-same : (x y : Rec) (xs ys : List Rec) → x ∷ xs ≡ y ∷ ys → ys ≡ xs
+    tail-same x y xs ys h = cc
+end-last [] (b ∷ before) rs end r e h t = absurd (omega (arith, ap length e, length-append before (r ∷ rs)))
+end-last (x ∷ front) [] rs end r e h t = absurd (true≢false (sym t ∙ sym (ap (λ y. is_module_end y.contents) (head-same x r (front ++ end ∷ []) rs e)) ∙ All-head IsNoEnd x front h))
+  where
+    head-same : (x y : Rec) (xs ys : List Rec) → x ∷ xs ≡ y ∷ ys → x ≡ y
+    head-same x y xs ys h = cc
+end-last (x ∷ front) (b ∷ before) rs end r e h t = end-last front before rs end r (tails x b _ _ e) (All-tail IsNoEnd x front h) t
+  where
+    tails : (x y : Rec) (xs ys : List Rec) → x ∷ xs ≡ y ∷ ys → xs ≡ ys
+    tails x y xs ys h = cc
+
+module _ (limits : Limits) (m : List Rec) (holds : ModuleHolds limits m) where
+  pub ends-here : (before rs : List Rec) (r : Rec) → m ≡ before ++ r ∷ rs → is_module_end r.contents ≡ true → rs ≡ []
+  ends-here before rs r e t = let (front, end, parts, is, others) = holds.ends in end-last front before rs end r (sym parts ∙ e) others t
