@@ -106,14 +106,18 @@ fn prints_what_it_is_refused_for(rt: HostRuntime) -> Result<(), Fail> {
         1,
         b"placement line 2\n",
     )?;
-    let long = vec![in rt.alloc(); b' '; 4_194_305]?;
-    ends_on(
-        &rt,
-        &["omf", "reloc"],
-        &[header, names, segment, data, fixup, end, &long],
-        1,
-        b"placement too long\n",
-    )?;
+    Ok(())
+}
+
+#[test]
+fn prints_that_a_text_is_too_long(rt: HostRuntime) -> Result<(), Fail> {
+    let mut input = Vec::new(rt.alloc());
+    for piece in FIRST {
+        input.extend_from_slice(piece)?;
+    }
+    let mut reader = Script::new(&input, Then::Repeats(b' '));
+    let long = b"placement too long\n";
+    ends(&rt, &["omf", "reloc"], &mut reader, 1, long)?;
     Ok(())
 }
 
