@@ -52,7 +52,7 @@ fn resolves_threads(rt: HostRuntime) -> Result<(), Fail> {
     let module = module(rt.alloc())?;
     let mut fixups = Vec::new(rt.alloc());
     for (place, piece) in pieces_of(&module) {
-        if let Piece::Fixed { fixup, .. } = piece {
+        if let Piece::Fixed { fixup, .. } = &piece {
             let segment = segment_of(&fixup.reference.target);
             fixups.push((place.number, place.within, fixup.location, segment))?;
         }
@@ -69,7 +69,7 @@ fn gives_other_records_and_the_end(rt: HostRuntime) -> Result<(), Fail> {
     let module = module(rt.alloc())?;
     let mut numbers = Vec::new(rt.alloc());
     for (place, piece) in pieces_of(&module) {
-        match piece {
+        match &piece {
             Piece::Kept(rec) => numbers.push((place.number, rec.kind()))?,
             Piece::Fixed { .. } => {}
             Piece::End { .. } => numbers.push((place.number, 0x8A))?,
