@@ -18,7 +18,7 @@ use Rattle.omf_check.specs.declared.fault.CheckFault.TheVariants as check
 use Rattle.omf_check.specs.declared.profile.Profile.{Profile}
 use Rattle.omf_reloc.specs.Image.{laid, start}
 use Rattle.omf_reloc.specs.Placement.{Places}
-use Rattle.omf_reloc.specs.PlacementText.{IsAnswer, parsed}
+use Rattle.omf_reloc.specs.PlacementText.{parsed}
 use Rattle.omf_reloc.specs.Plain.{pieces}
 use Rattle.omf_reloc.specs.Reach.{reach_fault}
 use Rattle.omf_reloc.specs.declared.fault.TextFault.{TextFault}
@@ -26,7 +26,7 @@ use Rattle.omf_reloc.specs.declared.fault.TextFault.TheVariants as text_fault
 use Rattle.omf_cmd.specs.HowFar.{IsReadPast, IsUndecided}
 use Rattle.omf_cmd.specs.Outcome.{of_placement, placement_of, reloc_outcome, text_limit, unless_far}
 use Rattle.omf_cmd.specs.Relocated.{image_text}
-use Rattle.omf_cmd.specs.Relocating.{HasOutcome, IsAnswered, IsShortText, IsShown, IsTextFault, IsWholeText, of_text}
+use Rattle.omf_cmd.specs.Relocating.{HasOutcome, IsAnswered, IsPlaced, IsShortText, IsShown, IsTextFault, IsWholeText, of_text}
 use Rattle.omf_cmd.specs.Reports.{of_check}
 use Rattle.omf_cmd.specs.declared.fault.RunFault.{RunFault}
 use Rattle.omf_cmd.specs.declared.fault.RunFault.TheVariants as fault
@@ -133,11 +133,11 @@ module _ (profile : Profile) (input : List ℕ) (m : Module) (d : Decides profil
     outcome_is : (r : Result (List ℕ) RunFault) → of_placement profile_limits (recs (records_in m.bytes)) (placement_of (recs (records_in m.bytes)) (parsed text)) ≡ r → HasOutcome profile input r
     outcome_is r is = with_outcome text r (whole mid new text of_module of) (within_limit (recs (records_in m.bytes)) text of.short ∙ is)
 
-    unplaced : (f : TextFault) → IsAnswer {A = Places} (placement_of (recs (records_in m.bytes)) (parsed text)) (Err f) → IsAnswered profile input (Some input) new (Err (of_text f))
+    unplaced : (f : TextFault) → IsPlaced (recs (records_in m.bytes)) text (Err f) → IsAnswered profile input (Some input) new (Err (of_text f))
     unplaced text_fault.Memory is = (tt, no_more mid new of_module (text, of.read, of.short))
     unplaced (text_fault.Line n) is = (outcome_is (Err (fault.Line n)) (ap (of_placement profile_limits (recs (records_in m.bytes))) is), all_read mid new text of_module of)
 
-    shown_at : (pl : Places) (r : Result (List ℕ) RunFault) → IsAnswer {A = Places} (placement_of (recs (records_in m.bytes)) (parsed text)) (Ok pl)
+    shown_at : (pl : Places) (r : Result (List ℕ) RunFault) → IsPlaced (recs (records_in m.bytes)) text (Ok pl)
         → IsShown profile_limits (recs (records_in m.bytes)) pl r → IsAnswered profile input (Some input) new r
     shown_at pl (Ok shown) is of_pl = (outcome_is (Ok shown) (ap (of_placement profile_limits (recs (records_in m.bytes))) is ∙ of_pl), all_read mid new text of_module of)
     shown_at pl (Err fault.Memory) is of_pl = (tt, no_more mid new of_module (text, of.read, of.short))
@@ -153,16 +153,16 @@ module _ (profile : Profile) (input : List ℕ) (m : Module) (d : Decides profil
 
   -- the text gives the module no placement
   pub not_placed : (old mid new : Option (List ℕ)) (text given : List ℕ) (f : TextFault) → old ≡ Some input → Consumes old mid m.bytes → IsWholeText mid new text → given ≡ text
-      → IsAnswer {A = Places} (placement_of (recs (records_in m.bytes)) (parsed given)) (Err f) → IsAnswered profile input old new (Err (of_text f))
+      → IsPlaced (recs (records_in m.bytes)) given (Err f) → IsAnswered profile input old new (Err (of_text f))
   not_placed old mid new text given f told of_module of same is =
       subst (λ (o : Option (List ℕ)). IsAnswered profile input o new (Err (of_text f))) (sym told)
       (unplaced mid new text (subst (λ (o : Option (List ℕ)). Consumes o mid m.bytes) told of_module) of f
-      (subst (λ (t : List ℕ). IsAnswer {A = Places} (placement_of (recs (records_in m.bytes)) (parsed t)) (Err f)) same is))
+      (subst (λ (t : List ℕ). IsPlaced (recs (records_in m.bytes)) t (Err f)) same is))
 
   -- it gives one
   pub is_placed : (old mid new : Option (List ℕ)) (text given : List ℕ) (pl : Places) (r : Result (List ℕ) RunFault) → old ≡ Some input → Consumes old mid m.bytes → IsWholeText mid new text → given ≡ text
-      → IsAnswer {A = Places} (placement_of (recs (records_in m.bytes)) (parsed given)) (Ok pl) → IsShown profile_limits (recs (records_in m.bytes)) pl r → IsAnswered profile input old new r
+      → IsPlaced (recs (records_in m.bytes)) given (Ok pl) → IsShown profile_limits (recs (records_in m.bytes)) pl r → IsAnswered profile input old new r
   is_placed old mid new text given pl r told of_module of same is of_pl =
       subst (λ (o : Option (List ℕ)). IsAnswered profile input o new r) (sym told)
       (shown_at mid new text (subst (λ (o : Option (List ℕ)). Consumes o mid m.bytes) told of_module) of pl r
-      (subst (λ (t : List ℕ). IsAnswer {A = Places} (placement_of (recs (records_in m.bytes)) (parsed t)) (Ok pl)) same is) of_pl)
+      (subst (λ (t : List ℕ). IsPlaced (recs (records_in m.bytes)) t (Ok pl)) same is) of_pl)

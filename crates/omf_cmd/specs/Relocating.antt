@@ -1,5 +1,5 @@
 -- What `reloc` answers for an input: a module, and the placement text that is all that is left.
-use Rattle.std.specs.Prelude.{◌≡◌, ◌⊎◌, ◌≤◌, ⊤, ℕ, ◌+◌, List, [], length, Option, Some, None, Result, Ok, Err}
+use Rattle.std.specs.Prelude.{◌≡◌, ◌⊎◌, ◌≤◌, ⊤, ℕ, ◌+◌, List, [], length, Option, Some, None, Result, Ok, Err, IsOk}
 use Rattle.std.specs.Io.KnownBytes.{Consumes, IsAtEnd}
 use Rattle.omf_frame.specs.Device.{Device}
 use Rattle.omf_frame.specs.Framing.{Raw}
@@ -12,9 +12,10 @@ use Rattle.omf_check.specs.declared.profile.Profile.{Profile}
 use Rattle.omf_reloc.specs.declared.fault.TextFault.{TextFault}
 use Rattle.omf_reloc.specs.declared.fault.TextFault.TheVariants as text
 use Rattle.omf_reloc.specs.Placement.{Places}
+use Rattle.omf_reloc.specs.PlacementText.{parsed}
 use Rattle.omf_reloc.specs.Reach.{reach_fault}
 use Rattle.omf_cmd.specs.HowFar.{IsReadFor}
-use Rattle.omf_cmd.specs.Outcome.{reloc_outcome, text_limit, unless_far}
+use Rattle.omf_cmd.specs.Outcome.{placement_of, reloc_outcome, text_limit, unless_far}
 use Rattle.omf_cmd.specs.Runs.{PrintsInPieces}
 use Rattle.omf_cmd.specs.declared.fault.RunFault.{RunFault}
 use Rattle.omf_cmd.specs.declared.fault.RunFault.TheVariants as fault
@@ -76,6 +77,13 @@ IsRelocation profile reader reader' writer writer' ran =
 abbrev pub of_text : TextFault → RunFault
 of_text text.Memory = fault.Memory
 of_text (text.Line n) = fault.Line n
+
+-- What a text gives a module: exactly the placement, or the line at fault; want of memory only where each of its lines is an entry or
+-- empty.
+abbrev pub IsPlaced : List Rec → List ℕ → Result Places TextFault → Type 0
+IsPlaced m given (Ok pl) = placement_of m (parsed given) ≡ Ok pl
+IsPlaced m given (Err (text.Line n)) = placement_of m (parsed given) ≡ Err n
+IsPlaced m given (Err text.Memory) = IsOk (parsed given)
 
 -- What a module is at a placement: the text to print, or the first reason why the placement does not reach; want of memory only where it
 -- reaches.

@@ -4,9 +4,7 @@ ghost use Rattle.std.specs.Prelude.{◌≡◌, ℕ, List, Some};
 ghost use Rattle.omf_image.specs.Limits.{profile_limits};
 ghost use Rattle.omf_check.specs.Module.{records_in};
 ghost use Rattle.omf_check.specs.WellFormed.{recs};
-ghost use Rattle.omf_reloc.specs.PlacementText.{IsAnswer, parsed};
-ghost use Rattle.omf_cmd.specs.Outcome.{placement_of};
-ghost use Rattle.omf_cmd.specs.Relocating.{IsAnswered, IsRelocation, IsShown};
+ghost use Rattle.omf_cmd.specs.Relocating.{IsAnswered, IsPlaced, IsRelocation, IsShown};
 ghost use Rattle.omf_cmd.specs.Runs.{IsCausedBy, IsReadCause};
 
 use crate::fault::RunFault;
@@ -82,7 +80,7 @@ fn listed<S: Source>(alloc: Global, profile: Profile, reader: &mut S) -> Result<
 
 /// The placement that a text gives a module.
 fn placed(alloc: Global, checked: &Checked, text: &[u8]) -> Result<Placement, TextFault>
-    ensures { IsAnswer (placement_of (recs (records_in checked.now.bytes)) (parsed text.now)) result }
+    ensures { IsPlaced (recs (records_in checked.now.bytes)) text.now result }
 {
     let draft = parse_placement(alloc, text)?;
     draft.resolve(alloc, checked)
