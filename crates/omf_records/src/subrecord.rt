@@ -315,11 +315,7 @@ fn put_target(out: &mut Vec<u8>, kind: u8, reference: &Reference) -> Result<(), 
 ///
 /// `AllocError` where a growth is refused: a front of the bytes may be appended then.
 #[tactic(auto, using(crate::specs::Begins::begins_then))]
-pub fn put_reference(
-    out: &mut Vec<u8>,
-    kind: u8,
-    reference: &Reference,
-) -> Result<(), AllocError>
+pub fn put_reference(out: &mut Vec<u8>, kind: u8, reference: &Reference) -> Result<(), AllocError>
     ensures put { OnOk result (out.new.items ≡ out.old.items ++ reference_bytes kind reference.now) }
     ensures grows { Begins out.old.items out.new.items }
 {
