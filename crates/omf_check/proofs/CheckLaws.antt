@@ -1,7 +1,8 @@
 -- What a check answers, from what its session answers.
 use Rattle.std.proofs.Common.{◌≡◌, ℕ, ◌+◌, ◌*◌, ◌<◌, ◌≤◌, ◌⊎◌, Bool, true, false, List, [], ◌∷◌, ◌++◌, Result, Ok, Err, refl, sym, ◌∙◌, ap, subst, arith, append_assoc, length, take, drop, min, inl, inr}
 use Rattle.std.specs.Prelude.{Option, Some, None, is_some, ◌||◌, cond, IfErr, IsTrue}
-use Rattle.std.specs.Io.KnownBytes.{Consumes, IsAtEnd}
+use Rattle.std.specs.Io.KnownBytes.{Consumes, IsAtEnd, Keeps}
+use Rattle.std.proofs.KnownBytes.{Consumes-kept}
 use Rattle.std.proofs.lemmas.List.{append-nil, length-append, length-take, take_all, take-append-drop}
 use Rattle.std.proofs.Math.Seq.{take-length}
 use Rattle.omf_frame.specs.Framing.{present, wanted, stated_length}
@@ -13,7 +14,7 @@ use Rattle.omf_image.specs.Limits.{profile_limits}
 use Rattle.omf_check.specs.declared.fault.CheckFault.{CheckFault}
 use Rattle.omf_check.specs.declared.fault.CheckFault.TheVariants as check
 use Rattle.omf_check.specs.declared.profile.Profile.{Profile}
-use Rattle.omf_check.specs.Checking.{Decides, IsCheckFault}
+use Rattle.omf_check.specs.Checking.{Decides, IsCheckFault, IsUndecided}
 use Rattle.omf_check.specs.Module.{Module, records_in}
 use Rattle.omf_check.specs.Refusal.{IsRefused, EndsWhereJudged, AreSoundSoFar}
 use Rattle.omf_check.specs.Session.{Seen, IsOpen, Takes, FailsAs, IsCause, Finishes, IsEndFault, RefusesHere, next_bytes, may_go_on, want_of}
@@ -172,6 +173,10 @@ module _ (profile : Profile) (s : Seen) (open_s : IsOpen s) (fault : s.fault ≡
   pub finish_err : (result : Result Module CheckFault) (old left : Option (List ℕ)) (n k : ℕ) → Finishes s result → Consumes old left s.taken → IsAtEnd left → IfErr result (IsCheckFault profile old left n k)
   finish_err (Ok m) old left n k f c z = tt
   finish_err (Err why) old left n k f c z = finish_cause why old left n k f.1 c z
+
+  -- the reader failed, and what was read decides nothing
+  pub read_failed : (old mid new : Option (List ℕ)) → Consumes old mid s.taken → Keeps mid new → IsUndecided profile old new
+  read_failed old mid new c k = (s.taken, Consumes-kept old mid new s.taken c k, subst (λ p. AreSoundSoFar p profile_limits s.taken) same open_s.sound)
 
   -- a refusal in the midst
   module _ (piece : List ℕ) (why : CheckFault) (new : Seen) (f : FailsAs s piece why new) where

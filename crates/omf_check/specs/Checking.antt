@@ -19,11 +19,15 @@ abbrev pub IsReadTo : Profile → List ℕ → Option (List ℕ) → Reason → 
 IsReadTo profile read left why at =
     IsRefused profile profile_limits read why at × ((IsTrue (may_go_on why) × IsAtEnd left) ⊎ EndsWhereJudged why (drop at.start read))
 
--- Why a check gives no module, and what it read of a reader that tells its bytes. Where a growth was refused, that is a byte at
--- least, and all that was read has no refusal but that it ends too early.
+-- What was read, which may be nothing, has no refusal but that it ends too early.
+abbrev pub IsUndecided : Profile → Option (List ℕ) → Option (List ℕ) → Type 0
+IsUndecided profile old new = (read : List ℕ) × Consumes old new read × AreSoundSoFar profile profile_limits read
+
+-- Why a check gives no module, and what it read of a reader that tells its bytes. Where the reader failed, that decides nothing; nor
+-- where a growth was refused, and then it is a byte at least.
 abbrev pub IsCheckFault : Profile → Option (List ℕ) → Option (List ℕ) → ℕ → ℕ → CheckFault → Type 0
 IsCheckFault profile old new failed fails Memory = (read : List ℕ) × Consumes old new read × AreSoundSoFar profile profile_limits read × (0 < length read)
-IsCheckFault profile old new failed fails Read = HasFailed failed fails
+IsCheckFault profile old new failed fails Read = HasFailed failed fails × IsUndecided profile old new
 IsCheckFault profile old new failed fails (Refused why at) = (read : List ℕ) × Consumes old new read × IsReadTo profile read new why at
 
 -- Only an interruption of the reader is tried again: Read is answered for the reader's one break, or for a thousand interruptions;

@@ -1,6 +1,6 @@
 -- What `reloc` answers, from what its parts answer.
 use Rattle.std.proofs.Common.{◌≡◌, ◌<◌, ◌≤◌, ℕ, ◌+◌, List, [], ◌++◌, length, refl, sym, ap, subst, ◌∙◌, arith, Result, Ok, Err, Some, None, inl, inr}
-use Rattle.std.specs.Prelude.{Option, if◌then◌else◌}
+use Rattle.std.specs.Prelude.{◌⊎◌, Option, if◌then◌else◌}
 use Rattle.std.specs.Io.KnownBytes.{Consumes}
 use Rattle.std.proofs.KnownBytes.{Consumes-trans}
 use Rattle.std.proofs.lemmas.Bool.{le-ltb, lt-ltb}
@@ -23,7 +23,7 @@ use Rattle.omf_reloc.specs.Plain.{pieces}
 use Rattle.omf_reloc.specs.Reach.{reach_fault}
 use Rattle.omf_reloc.specs.declared.fault.TextFault.{TextFault}
 use Rattle.omf_reloc.specs.declared.fault.TextFault.TheVariants as text_fault
-use Rattle.omf_cmd.specs.HowFar.{IsReadPast, IsUndecided}
+use Rattle.omf_cmd.specs.HowFar.{IsReadPast, IsReadWithin}
 use Rattle.omf_cmd.specs.Outcome.{of_placement, placement_of, reloc_outcome, text_limit, unless_far}
 use Rattle.omf_cmd.specs.Relocated.{image_text}
 use Rattle.omf_cmd.specs.Relocating.{HasOutcome, IsAnswered, IsPlaced, IsShortText, IsShown, IsTextFault, IsWholeText, of_text}
@@ -59,7 +59,7 @@ relocated_text m pl image count begin shown reaches over counted begun printed =
 pub not_checked : (profile : Profile) (input : List ℕ) (old new : Option (List ℕ)) (failed fails : ℕ) (e : CheckFault) → Decides profile input (Err e) → IsCheckFault profile old new failed fails e
     → IsAnswered profile input old new (Err (of_check e))
 not_checked profile input old new failed fails check.Memory d c = (tt, inl c)
-not_checked profile input old new failed fails check.Read d c = (tt, tt)
+not_checked profile input old new failed fails check.Read d c = (tt, inl c.1)
 not_checked profile input old new failed fails (check.Refused why at) d c = (d, c)
 
 module _ (profile : Profile) (input : List ℕ) (m : Module) (d : Decides profile input (Ok m)) where
@@ -88,7 +88,7 @@ module _ (profile : Profile) (input : List ℕ) (m : Module) (d : Decides profil
     counted = refl;
   }
 
-  no_more : (mid new : Option (List ℕ)) → Consumes (Some input) mid m.bytes → IsShortText mid new → IsUndecided profile input (Some input) new
+  no_more : {A : Type 0} (mid new : Option (List ℕ)) → Consumes (Some input) mid m.bytes → IsShortText mid new → A ⊎ IsReadWithin profile input (Some input) new
   no_more mid new of_module of = inr (length of.0, of.2, read_past mid new of.0 of_module of.1)
 
   too_long : (mid new : Option (List ℕ)) (read : List ℕ) → Consumes (Some input) mid m.bytes → Consumes mid new read → length read ≡ text_limit + 1 → HasOutcome profile input (Err fault.TooLong)
@@ -100,7 +100,7 @@ module _ (profile : Profile) (input : List ℕ) (m : Module) (d : Decides profil
 
   no_text : (mid new : Option (List ℕ)) (e : RunFault) → Consumes (Some input) mid m.bytes → IsTextFault mid new e → IsAnswered profile input (Some input) new (Err e)
   no_text mid new fault.Memory of_module of = (tt, no_more mid new of_module of)
-  no_text mid new fault.Read of_module of = (tt, tt)
+  no_text mid new fault.Read of_module of = (tt, no_more mid new of_module of)
   no_text mid new fault.TooLong of_module of = (
     too_long mid new of.0 of_module of.1 of.2,
     subst (IsReadPast profile input (Some input) new) of.2 (read_past mid new of.0 of_module of.1),

@@ -5,8 +5,8 @@ use Rattle.std.proofs.lemmas.List.{append-nil}
 use Rattle.std.specs.Io.KnownBytes.{Appends}
 use Rattle.std.specs.Prelude.{Option, IfErr}
 use Rattle.std.specs.Result.{IsErr}
-use Rattle.omf_frame.specs.Device.{Device, HasFailed}
-use Rattle.omf_frame.proofs.Tries.{gives_up_later}
+use Rattle.omf_frame.specs.Device.{Device}
+use Rattle.omf_frame.proofs.Tries.{failed_later, gives_up_later}
 use Rattle.omf_check.specs.declared.profile.Profile.{Profile}
 use Rattle.omf_cmd.specs.Relocating.{IsAnswered, Relocates}
 use Rattle.omf_cmd.specs.Runs.{HasGivenUp, IsPart, IsPrintCause, IsUnbroken, IsWrittenUpTo, Passes, Prints, PrintsInPieces}
@@ -42,10 +42,6 @@ kept_back old new text left h = (h.front, left, h.whole, h.written)
 
 pub unbroken_on : (old mid new : Device) → IsUnbroken old mid → IsUnbroken mid new → IsUnbroken old new
 unbroken_on old mid new h k = (k.0 ∙ h.0, let first = h.1 in let second = k.1 in omega (arith, first, second))
-
-failed_later : (old mid new : ℕ) → old ≤ mid → HasFailed mid new → HasFailed old new
-failed_later old mid new grows (inl rose) = inl (omega (arith, grows, rose))
-failed_later old mid new grows (inr full) = inr full
 
 pub given_up_later : (old mid new : Device) → IsUnbroken old mid → HasGivenUp mid new → HasGivenUp old new
 given_up_later old mid new h k = (failed_later old.failures mid.failures new.failures h.1 k.0, gives_up_later old mid new h.0 h.1 k.1)

@@ -47,7 +47,7 @@ none_printed held (check.Refused why at) text = kept held
 
 none_judged : (profile : Profile) (input : List ℕ) (records : List Raw) (old new : Option (List ℕ)) (failed fails : ℕ) (e : CheckFault) → Decides profile input (Err e) → IsCheckFault profile old new failed fails e → Judges profile input records old new (Err (of_check e))
 none_judged profile input records old new failed fails check.Memory d c = inl c
-none_judged profile input records old new failed fails check.Read d c = tt
+none_judged profile input records old new failed fails check.Read d c = c.1
 none_judged profile input records old new failed fails (check.Refused why at) d c = (d, c)
 
 -- a run that prints a text of the module's records
@@ -92,7 +92,7 @@ still device = (refl, omega arith)
 pub check_cause : (profile : Profile) (old new : Device) (e : CheckFault) → old.failures ≤ new.failures → IsReadPatiently old new (Err e) → IsCheckFault profile old.bytes new.bytes old.failures new.failures e
     → IsReadCause {A = List ℕ} old new (Err (of_check e))
 check_cause profile old new check.Memory grows h c = (h, grows)
-check_cause profile old new check.Read grows h c = (c, h)
+check_cause profile old new check.Read grows h c = (c.0, h)
 check_cause profile old new (check.Refused why at) grows h c = (h, grows)
 
 -- a fault of a placement text, and what is shown of a module

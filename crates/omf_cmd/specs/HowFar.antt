@@ -1,11 +1,11 @@
 -- How far a run reads: no further than decides its answer.
-use Rattle.std.specs.Prelude.{◌≡◌, ◌⊎◌, ◌≤◌, ⊤, ℕ, ◌+◌, List, ◌++◌, length, Option, Result, Ok, Err}
+use Rattle.std.specs.Prelude.{◌≡◌, ◌⊎◌, ◌≤◌, ℕ, ◌+◌, List, ◌++◌, length, Option, Result, Ok, Err}
 use Rattle.std.specs.Io.KnownBytes.{Consumes}
 use Rattle.omf_frame.specs.Framing.{Raw}
 use Rattle.omf_frame.specs.declared.fault.Place.{Place}
 use Rattle.omf_frame.specs.declared.fault.Reason.{Reason}
 use Rattle.omf_image.specs.Limits.{profile_limits}
-use Rattle.omf_check.specs.Checking.{IsCheckFault, IsReadTo}
+use Rattle.omf_check.specs.Checking.{IsCheckFault, IsReadTo, IsUndecided}
 use Rattle.omf_check.specs.WellFormed.{IsAccepted}
 use Rattle.omf_check.specs.declared.fault.CheckFault.TheVariants as check
 use Rattle.omf_check.specs.declared.profile.Profile.{Profile}
@@ -34,11 +34,12 @@ pub record IsReadPast (profile : Profile) (input : List ℕ) (old new : Option (
   pub read : Consumes old new (accepted.bytes ++ text)
   pub counted : length text ≡ count
 
--- Nothing that was read decides a fault: no refusal is found in it; or it is a module and no more of a text than may be.
-abbrev pub IsUndecided : Profile → List ℕ → Option (List ℕ) → Option (List ℕ) → Type 0
-IsUndecided profile input old new = IsUnrefused profile old new ⊎ ((count : ℕ) × (count ≤ text_limit) × IsReadPast profile input old new count)
+-- What was read is a module and no more of a text than may be.
+abbrev pub IsReadWithin : Profile → List ℕ → Option (List ℕ) → Option (List ℕ) → Type 0
+IsReadWithin profile input old new = (count : ℕ) × (count ≤ text_limit) × IsReadPast profile input old new count
 
--- How far `reloc` reads an input, by its answer: to where it is refused, to the first byte that a text may not have, or all of it.
+-- How far `reloc` reads an input, by its answer: to where it is refused, to the first byte that a text may not have, or all of it. Where
+-- memory ran out or the reader failed, nothing that was read is refused, and no text that was read is too long.
 abbrev pub IsReadFor : Profile → List ℕ → Option (List ℕ) → Option (List ℕ) → Result (List ℕ) RunFault → Type 0
 IsReadFor profile input old new (Ok done) = Consumes old new input
 IsReadFor profile input old new (Err fault.Write) = Consumes old new input
@@ -46,5 +47,5 @@ IsReadFor profile input old new (Err (fault.Line n)) = Consumes old new input
 IsReadFor profile input old new (Err (fault.Reach f)) = Consumes old new input
 IsReadFor profile input old new (Err fault.TooLong) = IsReadPast profile input old new (text_limit + 1)
 IsReadFor profile input old new (Err (fault.Refused why at)) = EndsAtRefusal profile old new why at
-IsReadFor profile input old new (Err fault.Memory) = IsUndecided profile input old new
-IsReadFor profile input old new (Err fault.Read) = ⊤
+IsReadFor profile input old new (Err fault.Memory) = IsUnrefused profile old new ⊎ IsReadWithin profile input old new
+IsReadFor profile input old new (Err fault.Read) = IsUndecided profile old new ⊎ IsReadWithin profile input old new

@@ -1,9 +1,10 @@
 -- What `check` and `list` answer for an input: both print a text of the records of the module that it begins with. How the program
 -- ends.
-use Rattle.std.specs.Prelude.{◌≡◌, ◌⊎◌, ⊤, IsTrue, ℕ, List, Option, Some, Result, Ok, Err}
+use Rattle.std.specs.Prelude.{◌≡◌, ◌⊎◌, IsTrue, ℕ, List, Option, Some, Result, Ok, Err}
 use Rattle.omf_frame.specs.Device.{Device}
 use Rattle.omf_frame.specs.Framing.{Raw}
 use Rattle.omf_image.specs.Limits.{profile_limits}
+use Rattle.omf_check.specs.Checking.{IsUndecided}
 use Rattle.omf_check.specs.Refusal.{IsRefused}
 use Rattle.omf_check.specs.declared.fault.CheckFault.{CheckFault}
 use Rattle.omf_check.specs.declared.fault.CheckFault.TheVariants as check
@@ -33,13 +34,13 @@ IsModuleFault (fault.Reach f) = ⊥
 IsModuleFault _ = Unit {0}
 
 -- What the answer says of an input, and how far that was read: done, or failed to write, only for a module of these records; refused as
--- the input is; out of memory only where nothing is refused; and no fault of a placement.
+-- the input is; out of memory, or failed to read, only where nothing that was read is refused; and no fault of a placement.
 abbrev pub Judges : Profile → List ℕ → List Raw → Option (List ℕ) → Option (List ℕ) → Result (Unit {0}) RunFault → Type 0
 Judges profile input records old new (Ok done) = IsReadFrom profile input records old new
 Judges profile input records old new (Err fault.Write) = IsReadFrom profile input records old new
 Judges profile input records old new (Err (fault.Refused why at)) = IsRefused profile profile_limits input why at × EndsAtRefusal profile old new why at
 Judges profile input records old new (Err fault.Memory) = IsUnrefused profile old new ⊎ IsReadFrom profile input records old new
-Judges profile input records old new (Err fault.Read) = ⊤
+Judges profile input records old new (Err fault.Read) = IsUndecided profile old new
 Judges profile input records old new (Err (fault.Line n)) = ⊥
 Judges profile input records old new (Err fault.TooLong) = ⊥
 Judges profile input records old new (Err (fault.Reach f)) = ⊥

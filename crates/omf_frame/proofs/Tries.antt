@@ -1,11 +1,16 @@
 -- Calls on a device, one after another.
 use Rattle.std.proofs.Common.{◌≡◌, inl, inr, ℕ, ◌≤◌, Bool, true, false, ap, ◌∙◌, arith}
-use Rattle.omf_frame.specs.Device.{Device, one_more, IsThousandMore, IsLastTry, GivesUp}
+use Rattle.omf_frame.specs.Device.{Device, one_more, HasFailed, IsThousandMore, IsLastTry, GivesUp}
 
 -- the last try of a call is why it gives up
 pub last_try : (is_interruption : Bool) (old new : Device) → IsLastTry is_interruption old new → GivesUp old new
 last_try true old new h = inr h
 last_try false old new h = inl h
+
+-- a failure that is counted after other calls
+pub failed_later : (old mid new : ℕ) → old ≤ mid → HasFailed mid new → HasFailed old new
+failed_later old mid new grows (inl rose) = inl (omega (arith, grows, rose))
+failed_later old mid new grows (inr full) = inr full
 
 thousand_later : (old mid new : ℕ) → old ≤ mid → IsThousandMore mid new → IsThousandMore old new
 thousand_later old mid new le (inl more) = inl (omega (arith, le, more))

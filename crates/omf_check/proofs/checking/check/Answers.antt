@@ -1,7 +1,8 @@
 use Rattle.std.proofs.Common.{◌∙◌, take, arith}
 use Rattle.std.proofs.lemmas.Result.{err_from_is_err_and}
+use Rattle.omf_frame.proofs.Tries.{failed_later}
 use Rattle.omf_check.specs.Session.{want_of}
-use Rattle.omf_check.proofs.CheckLaws.{none_wanted, piece_low, consumes_none, finish_ended, finish_decides, finish_err, feed_decides, feed_cause, feed_consumes}
+use Rattle.omf_check.proofs.CheckLaws.{none_wanted, piece_low, consumes_none, finish_ended, finish_decides, finish_err, read_failed, feed_decides, feed_cause, feed_consumes}
 use Rattle.omf_check.proofs.Patience.{finish_patient, feed_patient, finish_profile}
 use Rattle.omf_check.proofs.checking.check.Goals as goal
 
@@ -28,6 +29,12 @@ returns-then-count-eq0-clause-cause g c =
     (g.S.Source.seen c.args.reader.now).failures (g.S.Source.seen c.pull_piece.new.source).failures c.finish-then-count-eq0.ensures
     (consumes_none _ (g.S.Source.seen c.loop-buffer.reader).bytes _ s.taken c.pull_piece.new.buffer c.in-Ok.count c.if-count-eq0.true i.consumed c.in-Ok.ensures.bytes)
     (c.in-Ok.ensures.end c.if-count-eq0.true)
+
+pub returns-in_default-clause-cause : goal.returns-in_default-clause-cause
+returns-in_default-clause-cause g c =
+    let i = c.loop-buffer.invariant in
+    let s = c.loop-buffer.session in
+    (failed_later _ (g.S.Source.seen c.loop-buffer.reader).failures _ i.grows c.in_default.ensures.cause, read_failed c.args.profile s i.is_open i.no_fault i.profile (g.S.Source.seen c.args.reader.now).bytes (g.S.Source.seen c.loop-buffer.reader).bytes (g.S.Source.seen c.pull_piece.new.source).bytes i.consumed c.in_default.ensures.kept)
 
 pub loop-buffer-preserved : goal.loop-buffer-preserved
 loop-buffer-preserved g c =
