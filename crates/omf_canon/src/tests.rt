@@ -237,7 +237,8 @@ fn a_failing_writer_has_the_first_bytes(rt: HostRuntime) -> Result<(), Fail> {
 #[test]
 fn a_failure_of_the_writer_is_answered_at_once(rt: HostRuntime) -> Result<(), Fail> {
     let a = rt.alloc();
-    let module = module(a, &[&HEADER, &NAMES, &SEGMENT, &DATA, &FIXUP, &END])?;
+    let bytes = bytes_of(a, &[HEADER, NAMES, SEGMENT, DATA, FIXUP, END])?;
+    let module = module_of(a, &bytes)?;
     for answers in 0..7 {
         let mut writer = Taker::new(a, 48, Full::Fails)?
             .in_pieces(7)
@@ -254,7 +255,8 @@ fn a_failure_of_the_writer_is_answered_at_once(rt: HostRuntime) -> Result<(), Fa
 #[test]
 fn writing_goes_on_after_interruptions(rt: HostRuntime) -> Result<(), Fail> {
     let a = rt.alloc();
-    let module = module(a, &[&HEADER, &NAMES, &SEGMENT, &DATA, &FIXUP, &END])?;
+    let bytes = bytes_of(a, &[HEADER, NAMES, SEGMENT, DATA, FIXUP, END])?;
+    let module = module_of(a, &bytes)?;
     let mut patient = Taker::new(a, 48, Full::Fails)?.interrupted(999);
     assert_eq!(rt; canon_to(a, &module, &mut patient), Ok(()));
     assert_eq!(rt; patient.bytes().len(), 48);
