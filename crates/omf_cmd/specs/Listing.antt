@@ -1,4 +1,4 @@
--- What `list` and `check` print of a module (this profile's rule).
+-- What `list`, `check` and `canon` print of a module (this profile's rule).
 use Rattle.std.specs.Prelude.{ℕ, List, [], ◌∷◌, ◌++◌, length, flat_map, find, unwrap_or, option_map, codes, decimal}
 use Rattle.std.specs.List.{enumerate_from}
 use Rattle.omf_frame.specs.Bytes.{with_before, is_one_of}
@@ -7,6 +7,7 @@ use Rattle.omf_records.specs.Values.{Rec, Contents, GroupItem, Publics, PublicIt
 use Rattle.omf_check.specs.Tables.{names, segments, groups, externals}
 use Rattle.omf_check.specs.declared.segment.SegInfo.{SegInfo}
 use Rattle.omf_check.specs.WellFormed.{recs}
+use Rattle.omf_canon.specs.Canonical.{canonical}
 use Rattle.omf_cmd.specs.Printed.{hex, line, quoted, named, index_or_dash}
 
 -- The names of the record types that a module can have (TIS OMF 1.1, the page of each record).
@@ -62,3 +63,7 @@ list_text rs = with_before record_line [] rs
 -- What `check` prints: how many records and bytes the module has.
 abbrev pub check_text : List Raw → List ℕ
 check_text rs = line (codes "OK" ∷ decimal (length rs) ∷ codes "records," ∷ decimal (length (flat_map raw_bytes rs)) ∷ codes "bytes" ∷ [])
+
+-- What `canon` writes: the module's canonical bytes.
+abbrev pub canonical_text : List Raw → List ℕ
+canonical_text rs = canonical (recs rs)

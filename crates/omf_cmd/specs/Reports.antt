@@ -1,5 +1,5 @@
--- What `check` and `list` answer for an input: both print a text of the records of the module that it begins with. How the program
--- ends.
+-- What `check`, `list` and `canon` answer for an input: each prints a text of the records of the module that it begins with. How the
+-- program ends.
 use Rattle.std.specs.Prelude.{◌≡◌, ◌⊎◌, IsTrue, ℕ, List, Option, Some, Result, Ok, Err}
 use Rattle.omf_frame.specs.Device.{Device}
 use Rattle.omf_frame.specs.Framing.{Raw}
@@ -11,7 +11,7 @@ use Rattle.omf_check.specs.declared.fault.CheckFault.TheVariants as check
 use Rattle.omf_check.specs.declared.profile.Profile.{Profile}
 use Rattle.omf_cmd.specs.FaultLine.{fault_text, takes_memory}
 use Rattle.omf_cmd.specs.HowFar.{EndsAtRefusal, IsReadFrom, IsUnrefused}
-use Rattle.omf_cmd.specs.Listing.{check_text, list_text}
+use Rattle.omf_cmd.specs.Listing.{canonical_text, check_text, list_text}
 use Rattle.omf_cmd.specs.Relocating.{IsRelocation}
 use Rattle.omf_cmd.specs.Runs.{IsCausedBy, IsWritten, Prints}
 use Rattle.omf_cmd.specs.Words.{status_of, usage}
@@ -54,6 +54,7 @@ Reports text profile reader reader' writer writer' ran =
 abbrev pub IsRun : Job → Profile → Device → Device → Device → Device → Result (Unit {0}) RunFault → Type 0
 IsRun job.List profile reader reader' writer writer' ran = Reports list_text profile reader reader' writer writer' ran
 IsRun job.Check profile reader reader' writer writer' ran = Reports check_text profile reader reader' writer writer' ran
+IsRun job.Canon profile reader reader' writer writer' ran = Reports canonical_text profile reader reader' writer writer' ran
 IsRun job.Reloc profile reader reader' writer writer' ran = IsRelocation profile reader reader' writer writer' ran
 
 -- What is written of a fault: its whole text, or a part of it where the writer failed; where its line takes memory, it may be nothing.

@@ -23,7 +23,7 @@ pub use printed::fault_line;
 use program::fail;
 pub use program::main_with;
 pub use relocation::run_reloc;
-pub use running::{run_check, run_list};
+pub use running::{run_canon, run_check, run_list};
 use std::alloc::AllocError;
 use std::env;
 use std::io::{BufReader, ErrorKind, Write};
