@@ -42,11 +42,6 @@ Prints old new (Ok done) text = Appends old new text
 Prints old new (Err fault.Write) text = IsPart old new text
 Prints old new (Err e) text = Keeps old new
 
--- what printing a text answers: the writer got what that answer says, and is named where it failed
-pub record IsPrinted (old new : Device) (ran : Result (Unit {0}) RunFault) (text : List ℕ) : Type 0 where
-  pub prints : Prints old.bytes new.bytes ran text
-  pub cause : IsPrintCause old new ran
-
 -- the whole text was written; or the writer failed, and a part of it was
 abbrev pub IsWritten : Device → Device → List ℕ → Type 0
 IsWritten old new text = (IsUnbroken old new × Appends old.bytes new.bytes text) ⊎ (HasGivenUp old new × IsPart old.bytes new.bytes text)

@@ -3,12 +3,12 @@
 ghost use Rattle.std.specs.Prelude.{IfErr};
 ghost use Rattle.omf_check.specs.Module.{records_in};
 ghost use Rattle.omf_cmd.specs.Listing.{canonical_text, check_text, list_text};
-ghost use Rattle.omf_cmd.specs.Reports.{IsModuleFault, Reports};
-ghost use Rattle.omf_cmd.specs.Runs.{IsCausedBy, IsPrinted};
+ghost use Rattle.omf_cmd.specs.Reports.{IsModuleFault, Reports, ReportsInPieces};
+ghost use Rattle.omf_cmd.specs.Runs.{IsCausedBy, IsPrintCause, Prints};
 
 use crate::fault::RunFault;
 use crate::output::write_all;
-use crate::report::{check_text, list_text};
+use crate::report::{check_text, print_list};
 use omf_canon::canon;
 use omf_check::{Checked, Profile, check};
 use omf_frame::{Sink, Source};
@@ -39,7 +39,8 @@ pub fn run_check<S: Source, K: Sink>(
 
 /// Writes what `check` prints of a module.
 fn print_check<K: Sink>(alloc: Global, checked: &Checked, writer: &mut K) -> Result<(), RunFault>
-    ensures { IsPrinted (K.seen writer.old) (K.seen writer.new) result (check_text (records_in checked.now.bytes)) }
+    ensures prints { Prints (K.seen writer.old).bytes (K.seen writer.new).bytes result (check_text (records_in checked.now.bytes)) }
+    ensures cause { IsPrintCause (K.seen writer.old) (K.seen writer.new) result }
 {
     let text = check_text(alloc, checked)?;
     write_all(writer, text.as_bytes())
@@ -50,7 +51,8 @@ fn print_check<K: Sink>(alloc: Global, checked: &Checked, writer: &mut K) -> Res
 ///
 /// # Errors
 ///
-/// `Refused` where the input does not begin with a well-formed module; `Read`, `Write` where that device failed; `Memory`.
+/// `Refused` where the input does not begin with a well-formed module; `Read`, `Write` where that device failed; `Memory`. At `Write`
+/// and at `Memory` a part of the listing may have been written.
 pub fn run_list<S: Source, K: Sink>(
     alloc: Global,
     profile: Profile,
@@ -61,19 +63,12 @@ pub fn run_list<S: Source, K: Sink>(
     ensures cause { IsCausedBy (S.seen reader.old) (S.seen reader.new) (K.seen writer.old) (K.seen writer.new) result }
     // No fault of a placement is named, whatever the reader tells.
     ensures module { IfErr result IsModuleFault }
-    // The answer is that of the definition, and the whole text is written, or where the writer failed a part of it from the front.
-    ensures prints { Reports list_text profile (S.seen reader.old) (S.seen reader.new) (K.seen writer.old) (K.seen writer.new) result }
+    // The answer is that of the definition, and the whole text is written, or where the writer failed or memory ran out a part of it
+    // from the front; nothing where memory ran out before the module was there.
+    ensures prints { ReportsInPieces list_text profile (S.seen reader.old) (S.seen reader.new) (K.seen writer.old) (K.seen writer.new) result }
 {
     let checked = check(alloc, reader, profile)?;
     print_list(alloc, &checked, writer)
-}
-
-/// Writes what `list` prints of a module.
-fn print_list<K: Sink>(alloc: Global, checked: &Checked, writer: &mut K) -> Result<(), RunFault>
-    ensures { IsPrinted (K.seen writer.old) (K.seen writer.new) result (list_text (records_in checked.now.bytes)) }
-{
-    let text = list_text(alloc, checked)?;
-    write_all(writer, text.as_bytes())
 }
 
 /// Writes the canonical bytes of the module at the front of the input: of two modules that differ in spelling alone they are the same.
@@ -105,7 +100,8 @@ fn print_canonical<K: Sink>(
     checked: &Checked,
     writer: &mut K,
 ) -> Result<(), RunFault>
-    ensures { IsPrinted (K.seen writer.old) (K.seen writer.new) result (canonical_text (records_in checked.now.bytes)) }
+    ensures prints { Prints (K.seen writer.old).bytes (K.seen writer.new).bytes result (canonical_text (records_in checked.now.bytes)) }
+    ensures cause { IsPrintCause (K.seen writer.old) (K.seen writer.new) result }
 {
     let bytes = canon(alloc, checked)?;
     write_all(writer, &bytes)
