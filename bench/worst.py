@@ -2,7 +2,7 @@
 """Makes the modules and placements that cost the most, and measures the program on them: worst.py [FOLDER]
 
 For each it prints the bytes of the input, the time of `sha256sum` of it, and for `check`, `list` and `reloc` the processor time as
-a ratio to that, the peak of memory in megabytes, and the bytes that were written. Each time is the least of RUNS runs (3). Below
+a ratio to that, the peak of memory in megabytes, and the bytes that were written. Each time is the best of RUNS runs (3). Below
 1 MB the program's own start is most of a time, so there the time itself is printed, in milliseconds. OMF names the program. The
 modules are written to FOLDER, or to one that is removed again.
 """
@@ -134,7 +134,7 @@ SHAPES = {
 
 
 def run(launch, command, given):
-    """Milliseconds, megabytes, bytes written, status: the least of the runs."""
+    """Milliseconds, megabytes, bytes written, status: the best of the runs."""
     times, peaks, written, status = [], [], 0, 0
     for _ in range(RUNS):
         with open(given, "rb") as source, tempfile.TemporaryFile() as out:
