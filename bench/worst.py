@@ -18,6 +18,8 @@ RUNS = int(os.environ.get("RUNS", "3"))
 LIMIT_SECONDS = 120
 ITEMS = 1_048_576
 TABLE = 32_767
+NESTING = 32
+LONGEST = 16_777_216
 BODY = 65_534
 
 
@@ -45,12 +47,12 @@ def iterated(offset, blocks):
 
 def nested(inner):
     """Blocks one in another as deep as they may be, in records that are full of them: 8 MB."""
-    chain = b"".join(struct.pack("<IH", 1, 1) for _ in range(31)) + inner
+    chain = b"".join(struct.pack("<IH", 1, 1) for _ in range(NESTING - 1)) + inner
     return FRONT + iterated(0, chain * ((BODY - 5) // len(chain))) * 128 + END
 
 
 def repeats_of_nothing():
-    chain = b"".join(struct.pack("<IH", 0xFFFFFFFF, 1) for _ in range(31)) + struct.pack("<IH", 0xFFFFFFFF, 0) + b"\x00"
+    chain = b"".join(struct.pack("<IH", 0xFFFFFFFF, 1) for _ in range(NESTING - 1)) + struct.pack("<IH", 0xFFFFFFFF, 0) + b"\x00"
     return FRONT + iterated(0, chain * ((BODY - 5) // len(chain))) * 128 + END
 
 
@@ -102,16 +104,16 @@ def publics():
 
 
 def repeated(count, step):
-    """LIDATAs of 16 MB each."""
-    one = struct.pack("<IH", 16_777_216, 0) + b"\x01\xAA"
+    """LIDATAs of so many bytes each as they may stand for."""
+    one = struct.pack("<IH", LONGEST, 0) + b"\x01\xAA"
     return FRONT + b"".join(iterated(step * k, one) for k in range(count)) + END
 
 
 EXTERNAL_LINES = "E 100 0 0\n" * (163 * 200)
 SMALL = FRONT + DATA + END
 SHAPES = {
-    "blocks in blocks, 31 deep": (lambda: nested(struct.pack("<IH", 1, 0) + b"\x01\xAA"), ONE),
-    "repeats of nothing, 32 deep": (repeats_of_nothing, ONE),
+    f"blocks in blocks, {NESTING} deep": (lambda: nested(struct.pack("<IH", 1, 0) + b"\x01\xAA"), ONE),
+    f"repeats of nothing, {NESTING} deep": (repeats_of_nothing, ONE),
     "blocks of one byte": (flat_blocks, ONE),
     "32,767 segments of one byte": (segments, ONE * TABLE),
     "32,767 segments and groups of one long name": (shared_name, ONE * TABLE + "G 0 0\n" * TABLE),
@@ -128,8 +130,8 @@ SHAPES = {
     "4 MB of spaces": (lambda: SMALL, " " * 4_000_000 + ONE),
     "500,000 S lines": (lambda: SMALL, ONE * 500_000),
     "590,000 G real lines": (lambda: SMALL, ONE + "G real\n" * 590_000),
-    "8 LIDATAs of 16 MB, one behind another": (lambda: repeated(8, 16_777_216), ONE),
-    "64 LIDATAs of 16 MB, one over another": (lambda: repeated(64, 0), ONE),
+    f"8 LIDATAs of {LONGEST:,} bytes, one behind another": (lambda: repeated(8, LONGEST), ONE),
+    f"64 LIDATAs of {LONGEST:,} bytes, one over another": (lambda: repeated(64, 0), ONE),
 }
 
 

@@ -18,7 +18,7 @@ awk -v work="$work" '
     /^```text$/ { bytes = ""; inside = "text"; next }
     /^```console$/ { inside = "console"; next }
     /^```$/ { if (inside == "console" && number) { close(command); close(said) } inside = ""; next }
-    inside == "text" { line = $0; sub(/;.*/, "", line); bytes = bytes line; next }
+    inside == "text" { line = $0; sub(/ *;.*/, "", line); if (line ~ /^([0-9A-F][0-9A-F] )*[0-9A-F][0-9A-F]$/) bytes = bytes line " "; next }
     inside == "console" && /^\$ / {
         number++; command = work "/" number ".command"; said = work "/" number ".said"
         print substr($0, 3) > command; printf "" > said
