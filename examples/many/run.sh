@@ -10,6 +10,7 @@ here=$(cd "$(dirname "$0")" && pwd)
 folder=${1:?usage: run.sh FOLDER OUT} out=${2:?usage: run.sh FOLDER OUT}
 command -v parallel > /dev/null || { echo "skipped: GNU parallel is not installed"; exit 0; }
 export OMF=${OMF:-omf}
+command -v "$OMF" > /dev/null || { echo "$OMF is not installed; OMF names the program" >&2; exit 2; }
 mkdir -p "$out"
 if [ ! -e "$out/names" ]; then
     find "$(realpath "$folder")" -type f \( -iname '*.obj' -o -iname '*.o' -o -iname '*.omf' -o -iname '*.t' \) | sort > "$out/new"
