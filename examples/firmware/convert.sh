@@ -12,7 +12,7 @@ work=$(mktemp -d)
 trap 'rm -rf "$work"' EXIT
 
 # The listing as a dump with the address of each line, in the form that srec_cat calls hex-dump.
-awk -v placement="$placement" '
+awk -v placement="$placement" -v range="$work/range" '
     function number(digits,    i, value) {
         for (i = 1; i <= length(digits); i++) value = value * 16 + index("0123456789ABCDEF", toupper(substr(digits, i, 1))) - 1
         return value
@@ -26,14 +26,18 @@ awk -v placement="$placement" '
     $1 == "START" { next }
     {
         split($1, place, ":")
-        printf "%08X:", base[number(place[1])] + number(place[2])
+        address = base[number(place[1])] + number(place[2])
+        if (!lines++ || address < lowest) lowest = address
+        if (address + NF - 1 > end) end = address + NF - 1
+        printf "%08X:", address
         for (i = 2; i <= NF; i++) printf " %s", $i
         print ""
-    }' > "$work/dump"
+    }
+    END { printf "%.0f %.0f\n", lowest, end > range }' > "$work/dump"
 
-lowest=$(sort "$work/dump" | head -1 | cut -d: -f1)
-begin=$((16#${BEGIN:-$lowest}))
-srec_cat "$work/dump" -hex-dump -offset -$begin -fill 0xFF -over "$work/dump" -hex-dump -offset -$begin -o "$name.bin" -binary
+read -r lowest end < "$work/range"
+begin=$([ -n "${BEGIN:-}" ] && echo $((16#$BEGIN)) || echo "$lowest")
+srec_cat "$work/dump" -hex-dump -offset -$begin -fill 0xFF 0 $((end - begin)) -o "$name.bin" -binary
 srec_cat "$work/dump" -hex-dump -o "$name.hex" -intel
 srec_cat "$work/dump" -hex-dump -execution-start-address=$((16#${START:-$(printf %X $begin)})) -o "$name.srec" -motorola
 echo "$(wc -c < "$name.bin") bytes from $(printf %08X $begin)"
