@@ -11,7 +11,7 @@ use Rattle.omf_reloc.specs.declared.fault.Cause.{Cause}
 use Rattle.omf_reloc.specs.declared.fault.ReachFault.{ReachFault}
 use Rattle.omf_reloc.specs.declared.fault.ReachFault.TheVariants as fault
 use Rattle.omf_reloc.specs.Plain.{Piece, Kept, Fixed, End, PlainFixup, piece_of, pieces}
-use Rattle.omf_reloc.specs.Placement.{Places}
+use Rattle.omf_placement.specs.Placement.{Places}
 use Rattle.omf_reloc.specs.Reach.{misfits_of, causes, all_reference_places, far_fault, misfits, far_faults, reach_faults}
 use Rattle.omf_canon.specs.Laws.{placeless, reach_answer}
 use Rattle.omf_canon.specs.Skeleton.{skeleton, skeleton_of, join_front}

@@ -7,7 +7,7 @@ use Rattle.omf_image.specs.declared.limits.Limits.{Limits}
 use Rattle.omf_frame.specs.Bytes.{up_to}
 use Rattle.omf_records.specs.Values.{Rec, Contents, Plain, DataItem}
 use Rattle.omf_reloc.specs.Plain.{Piece, Kept, Fixed, End, PlainFixup, pieces, fixups_of_data, fixups_in, is_data, data_contents, is_data_contents}
-use Rattle.omf_reloc.specs.Placement.{Places}
+use Rattle.omf_placement.specs.Placement.{Places}
 use Rattle.omf_image.specs.Overlay.{byte_at}
 use Rattle.omf_reloc.specs.Image.{laid, laid_contents, image, patched, start, starts, piece_start}
 use Rattle.omf_frame.specs.Bytes.{last}

@@ -8,7 +8,7 @@ use Rattle.omf_check.specs.Module.{records_in}
 use Rattle.omf_check.specs.Tables.{item_count}
 use Rattle.omf_check.specs.WellFormed.{IsWellFormed, recs}
 use Rattle.omf_check.specs.declared.profile.Profile.{Profile}
-use Rattle.omf_reloc.specs.Placement.{Places}
+use Rattle.omf_placement.specs.Placement.{Places}
 use Rattle.omf_canon.specs.Canonical.{canonical}
 use Rattle.omf_canon.specs.Laws.{MeanTheSame}
 use Rattle.omf_canon.specs.Skeleton.{skeleton}

@@ -13,7 +13,7 @@ use Rattle.omf_check.specs.declared.profile.Profile.{Profile}
 use Rattle.omf_reloc.specs.declared.fault.ReachFault.{ReachFault}
 use Rattle.omf_reloc.specs.declared.fault.ReachFault.TheVariants as fault
 use Rattle.omf_reloc.specs.Plain.{Piece, Fixed, PlainFixup, pieces}
-use Rattle.omf_reloc.specs.Placement.{Places}
+use Rattle.omf_placement.specs.Placement.{Places}
 use Rattle.omf_reloc.specs.Reach.{causes, reach_fault}
 use Rattle.omf_reloc.specs.Image.{image, start}
 use Rattle.omf_canon.specs.Canonical.{piece_raws, canonical_raws, canonical}

@@ -13,8 +13,8 @@ use Rattle.omf_check.specs.declared.profile.Profile.{Profile}
 use Rattle.omf_check.proofs.AcceptLaws.{accepted_once, never_both}
 use Rattle.omf_check.proofs.UniqueLaws.{refused_once}
 use Rattle.omf_check.proofs.VerdictLaws.{either}
-use Rattle.omf_reloc.specs.Placement.{Places}
-use Rattle.omf_reloc.specs.PlacementText.{parsed}
+use Rattle.omf_placement.specs.Placement.{Places}
+use Rattle.omf_placement.specs.PlacementText.{parsed}
 use Rattle.omf_reloc.specs.Reach.{reach_fault}
 use Rattle.omf_reloc.specs.declared.fault.ReachFault.{ReachFault}
 use Rattle.omf_cmd.specs.Laws.{is_settled, IsTheAnswer, InputsHaveOneAnswer}

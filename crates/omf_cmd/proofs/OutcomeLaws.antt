@@ -17,12 +17,12 @@ use Rattle.omf_check.specs.declared.fault.CheckFault.{CheckFault}
 use Rattle.omf_check.specs.declared.fault.CheckFault.TheVariants as check
 use Rattle.omf_check.specs.declared.profile.Profile.{Profile}
 use Rattle.omf_reloc.specs.Image.{laid, start}
-use Rattle.omf_reloc.specs.Placement.{Places}
-use Rattle.omf_reloc.specs.PlacementText.{parsed}
+use Rattle.omf_placement.specs.Placement.{Places}
+use Rattle.omf_placement.specs.PlacementText.{parsed}
 use Rattle.omf_reloc.specs.Plain.{pieces}
 use Rattle.omf_reloc.specs.Reach.{reach_fault}
-use Rattle.omf_reloc.specs.declared.fault.TextFault.{TextFault}
-use Rattle.omf_reloc.specs.declared.fault.TextFault.TheVariants as text_fault
+use Rattle.omf_placement.specs.declared.fault.TextFault.{TextFault}
+use Rattle.omf_placement.specs.declared.fault.TextFault.TheVariants as text_fault
 use Rattle.omf_cmd.specs.HowFar.{IsReadPast, IsReadWithin}
 use Rattle.omf_cmd.specs.Outcome.{of_placement, placement_of, reloc_outcome, text_limit, unless_far}
 use Rattle.omf_cmd.specs.Relocated.{image_text}

@@ -8,9 +8,9 @@ use Rattle.omf_frame.specs.Framing.{Raw}
 use Rattle.omf_frame.proofs.FaultLaws.{untrue}
 use Rattle.omf_records.specs.Values.{Rec}
 use Rattle.omf_image.specs.Limits.{profile_limits}
-use Rattle.omf_reloc.specs.Placement.{Places}
-use Rattle.omf_reloc.specs.declared.fault.TextFault.{TextFault}
-use Rattle.omf_reloc.specs.declared.fault.TextFault.TheVariants as text
+use Rattle.omf_placement.specs.Placement.{Places}
+use Rattle.omf_placement.specs.declared.fault.TextFault.{TextFault}
+use Rattle.omf_placement.specs.declared.fault.TextFault.TheVariants as text
 use Rattle.omf_cmd.specs.Relocating.{IsShown, of_text}
 use Rattle.omf_check.specs.Checking.{Decides, IsCheckFault, IsReadPatiently}
 use Rattle.omf_check.specs.Module.{Module, records_in}

@@ -3,8 +3,8 @@ use Rattle.std.specs.Prelude.{ℕ, List, length, nat_lt, Option, Some, None, Res
 use Rattle.omf_image.specs.declared.limits.Limits.{Limits}
 use Rattle.omf_records.specs.Values.{Rec}
 use Rattle.omf_reloc.specs.declared.fault.ReachFault.{ReachFault}
-use Rattle.omf_reloc.specs.Placement.{Places}
-use Rattle.omf_reloc.specs.PlacementText.{Draft, parsed, resolved}
+use Rattle.omf_placement.specs.Placement.{Places}
+use Rattle.omf_placement.specs.PlacementText.{Draft, parsed, resolved}
 use Rattle.omf_reloc.specs.Reach.{reach_fault}
 use Rattle.omf_cmd.specs.declared.fault.RunFault.{RunFault}
 use Rattle.omf_cmd.specs.declared.fault.RunFault.TheVariants as fault

@@ -2,7 +2,7 @@
 use Rattle.std.specs.Prelude.{ℕ, ◌-◌, List, [], ◌∷◌, ◌++◌, length, flat_map, replicate, unwrap_or, option_map, true, Bool, ◌==◌, ◌&&◌, not, nat_le, codes, decimal, if◌then◌else◌}
 use Rattle.std.specs.Fmt.{digits}
 use Rattle.omf_check.specs.Tables.{entry}
-use Rattle.omf_reloc.specs.Entries.{in_words}
+use Rattle.omf_placement.specs.Entries.{in_words}
 
 -- A number in upper-case hexadecimal, with at least so many digits.
 abbrev pub hex : ℕ → ℕ → List ℕ

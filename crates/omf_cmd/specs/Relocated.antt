@@ -7,7 +7,7 @@ use Rattle.omf_image.specs.declared.run.Run.{Run}
 use Rattle.omf_records.specs.Values.{Rec}
 use Rattle.omf_check.specs.Tables.{segments}
 use Rattle.omf_reloc.specs.Image.{image, laid, start}
-use Rattle.omf_reloc.specs.Placement.{Places}
+use Rattle.omf_placement.specs.Placement.{Places}
 use Rattle.omf_reloc.specs.Plain.{pieces}
 use Rattle.omf_cmd.specs.Printed.{hex}
 

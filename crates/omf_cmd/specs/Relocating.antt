@@ -9,10 +9,10 @@ use Rattle.omf_image.specs.declared.limits.Limits.{Limits}
 use Rattle.omf_check.specs.Refusal.{IsRefused}
 use Rattle.omf_check.specs.WellFormed.{IsAccepted, recs}
 use Rattle.omf_check.specs.declared.profile.Profile.{Profile}
-use Rattle.omf_reloc.specs.declared.fault.TextFault.{TextFault}
-use Rattle.omf_reloc.specs.declared.fault.TextFault.TheVariants as text
-use Rattle.omf_reloc.specs.Placement.{Places}
-use Rattle.omf_reloc.specs.PlacementText.{parsed}
+use Rattle.omf_placement.specs.declared.fault.TextFault.{TextFault}
+use Rattle.omf_placement.specs.declared.fault.TextFault.TheVariants as text
+use Rattle.omf_placement.specs.Placement.{Places}
+use Rattle.omf_placement.specs.PlacementText.{parsed}
 use Rattle.omf_reloc.specs.Reach.{reach_fault}
 use Rattle.omf_cmd.specs.HowFar.{IsReadFor}
 use Rattle.omf_cmd.specs.Outcome.{placement_of, reloc_outcome, text_limit, unless_far}

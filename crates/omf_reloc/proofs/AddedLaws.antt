@@ -7,7 +7,7 @@ use Rattle.omf_records.specs.Values.{Rec, DataItem}
 use Rattle.omf_reloc.specs.declared.fault.Cause.{Cause}
 use Rattle.omf_reloc.specs.Laws.{AllAreAdded}
 use Rattle.omf_reloc.specs.Offsets.{outcome, start_offset, cause_of}
-use Rattle.omf_reloc.specs.Placement.{Places}
+use Rattle.omf_placement.specs.Placement.{Places}
 use Rattle.omf_reloc.specs.Plain.{Piece, Kept, End, PlainFixup, data_contents, fixups_of_data}
 use Rattle.omf_reloc.specs.Reach.{causes, causes_at, piece_causes, Reaches}
 

@@ -12,13 +12,13 @@ use Rattle.omf_reloc.specs.declared.fault.Kind.{Kind}
 use Rattle.omf_reloc.specs.declared.fault.Kind.TheVariants as kinds
 use Rattle.omf_reloc.specs.declared.fault.ReachFault.{ReachFault}
 use Rattle.omf_reloc.specs.declared.fault.ReachFault.TheVariants as fault
-use Rattle.omf_reloc.specs.Derivation.{IsPlaceOf, IsComplete, DerivedAreComplete}
-use Rattle.omf_reloc.specs.Derive.{PlacedModule}
-use Rattle.omf_reloc.specs.Laws.{KeepsPlace}
-use Rattle.omf_reloc.specs.Placement.{Places, placed, absolute_place}
+use Rattle.omf_derive.specs.Derive.{PlacedModule}
+use Rattle.omf_derive.specs.Derivation.{IsPlaceOf, KeepsPlace}
+use Rattle.omf_placement.specs.Placement.{Places, placed, absolute_place}
+use Rattle.omf_reloc.specs.Laws.{IsComplete, DerivedAreComplete}
 use Rattle.omf_reloc.specs.Plain.{pieces}
 use Rattle.omf_reloc.specs.Reach.{missing, extra, misplaced, lies_at, causes, all_reference_places, far_fault, far_faults, reach_faults}
-use Rattle.omf_reloc.proofs.DeriveLaws.{derived-fit}
+use Rattle.omf_derive.proofs.DeriveLaws.{derived-fit}
 
 -- Faults that speak of no entry's lack.
 abbrev IsOther : ReachFault → Type 0

@@ -11,7 +11,7 @@ use Rattle.omf_reloc.specs.declared.fault.ReachFault.{ReachFault}
 use Rattle.omf_reloc.specs.declared.fault.ReachFault.TheVariants as fault
 use Rattle.omf_reloc.specs.Offsets.{outcome_at, start_offset, cause_of}
 use Rattle.omf_reloc.specs.Pieces.{single_pieces, references_at, reference_places, placed_pieces}
-use Rattle.omf_reloc.specs.Placement.{Places}
+use Rattle.omf_placement.specs.Placement.{Places}
 use Rattle.omf_reloc.specs.Plain.{Piece, Kept, Fixed, End, PlainFixup, pieces, fixups_of_data}
 use Rattle.omf_reloc.specs.Reach.{causes, all_reference_places, far_fault, far_faults}
 use Rattle.omf_reloc.specs.ReachSteps.{far_at, data_place, place_behind, piece_cause, pieces_far}

@@ -11,9 +11,10 @@ use Rattle.omf_records.specs.Values.{Rec, Contents, Plain, Iterated, Fixups, Mod
 use Rattle.omf_check.specs.Sound.{FrameIsDefined, TargetIsDefined, ReferenceHolds, ContentsHold, ModuleHolds}
 use Rattle.omf_check.specs.Tables.{segments, groups, externals, subrecords, is_defined, defined_segments, defined_groups, defined_externals, data_in, last_data}
 use Rattle.omf_check.specs.Threads.{FrameMethod, F0, F1, F2, F4, F5, TargetMethod, T0, T1, T2, plain}
+use Rattle.omf_derive.proofs.BaseLaws.{longer}
 use Rattle.omf_reloc.specs.Laws.{ReferenceIsFound, AllAreFound}
 use Rattle.omf_reloc.specs.Placed.{HasFrame, HasTarget}
-use Rattle.omf_reloc.specs.Placement.{Places}
+use Rattle.omf_placement.specs.Placement.{Places}
 use Rattle.omf_reloc.specs.Plain.{data_contents}
 use Rattle.omf_reloc.specs.ReachSteps.{HasEntries}
 
@@ -22,9 +23,6 @@ pub record Covers (pl : Places) (before : List Rec) : Type 0 where
   pub segments : length (segments before) ≤ length pl.segments
   pub groups : length (groups before) ≤ length pl.groups
   pub externals : length (externals before) ≤ length pl.externals
-
-pub longer : {A : Type 0} (f : Rec → List A) (before rs : List Rec) → length (flat_map f before) ≤ length (flat_map f (before ++ rs))
-longer f before rs = omega (arith, ap length (flat_map-append f before rs), length-append (flat_map f before) (flat_map f rs))
 
 pub covers : (pl : Places) (m before rs : List Rec) → HasEntries pl m → m ≡ before ++ rs → Covers pl before
 covers pl m before rs h e = record {

@@ -12,7 +12,7 @@ use Rattle.omf_records.specs.Values.{Rec, Contents, Plain, Iterated, Fixups, Mod
 use Rattle.omf_check.specs.Tables.{subrecords, subrecords_in}
 use Rattle.omf_reloc.specs.Image.{laid, laid_contents, patched}
 use Rattle.omf_reloc.specs.Offsets.{outcome}
-use Rattle.omf_reloc.specs.Placement.{Places}
+use Rattle.omf_placement.specs.Placement.{Places}
 use Rattle.omf_reloc.specs.Plain.{Piece, Kept, Fixed, End, PlainFixup, piece_of, pieces, plain_fixups, fixups_of_data}
 use Rattle.omf_reloc.specs.Reach.{causes, piece_causes}
 use Rattle.omf_reloc.proofs.AddedLaws.{IsFine, left, right, fine-all}

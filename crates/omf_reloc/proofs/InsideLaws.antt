@@ -9,7 +9,7 @@ use Rattle.omf_image.specs.Parts.{Addition}
 use Rattle.omf_check.specs.Sound.{ModuleHolds}
 use Rattle.omf_reloc.specs.Laws.{location_start, location_end, AreInside, LiesInSegment, PartsLieIn, PatchesLieIn, AllLieInside}
 use Rattle.omf_reloc.specs.Offsets.{outcome}
-use Rattle.omf_reloc.specs.Placement.{Places}
+use Rattle.omf_placement.specs.Placement.{Places}
 use Rattle.omf_reloc.specs.Plain.{Piece, Kept, PlainFixup, pieces, fixups_of_data}
 use Rattle.omf_reloc.proofs.GatherLaws.{Gathered, Once, Repeated, gathered, gathered_piece, gathered_contents, laid_of, laid-gathered}
 use Rattle.omf_reloc.proofs.PatchLaws.{stays_inside, parts_inside}

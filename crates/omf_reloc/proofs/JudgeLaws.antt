@@ -9,7 +9,7 @@ use Rattle.omf_check.specs.Tables.{segments, groups, externals, is_defined}
 use Rattle.omf_check.specs.Threads.{FrameMethod, F0, F1, F2, F4, F5, TargetMethod, T0, T1, T2}
 use Rattle.omf_reloc.specs.Pieces.{single_pieces}
 use Rattle.omf_reloc.specs.Placed.{HasFrame, HasTarget}
-use Rattle.omf_reloc.specs.Placement.{Places}
+use Rattle.omf_placement.specs.Placement.{Places}
 use Rattle.omf_reloc.specs.Plain.{Piece, Kept, Fixed, End}
 use Rattle.omf_reloc.specs.ReachSteps.{HasEntries, data_place, place_behind, CanJudge, CanJudgeAll}
 use Rattle.omf_reloc.proofs.FoundLaws.{Covers, defined-more, frame-there, target-there}

@@ -20,7 +20,7 @@ use Rattle.omf_check.specs.Tables.{subrecords_in}
 use Rattle.omf_reloc.specs.Image.{laid}
 use Rattle.omf_reloc.specs.Laws.{LiesInSegment}
 use Rattle.omf_reloc.specs.Measuring.{measured, measured_contents, HasMeasure, CanMeasure}
-use Rattle.omf_reloc.specs.Placement.{Places}
+use Rattle.omf_placement.specs.Placement.{Places}
 use Rattle.omf_reloc.specs.Plain.{pieces, plain_fixups}
 use Rattle.omf_reloc.proofs.GatherLaws.{Gathered, Once, Repeated, more, tagged, closed_by, opened_by, gathered, gathered_from, gathered-all, laid_of, laid-gathered}
 use Rattle.omf_reloc.proofs.InsideLaws.{all-inside}

@@ -4,14 +4,14 @@ use Rattle.std.specs.Prelude.{slice_get}
 use Rattle.std.specs.Option.{ok_or}
 use Rattle.omf_reloc.specs.declared.fault.Cause.{Cause}
 use Rattle.omf_reloc.specs.declared.fault.Cause.TheVariants as cause
-use Rattle.omf_reloc.specs.declared.frame.Frame.{Frame}
+use Rattle.omf_placement.specs.declared.frame.Frame.{Frame}
 use Rattle.omf_frame.specs.Bytes.{difference}
 use Rattle.omf_records.specs.Values.{width_bits, location_type, location_offset, is_segment_relative}
 use Rattle.omf_records.specs.Location.{offset_bits, self_relative_bits}
 use Rattle.omf_check.specs.Threads.{PlainReference}
 use Rattle.omf_reloc.specs.Plain.{PlainFixup}
 use Rattle.omf_reloc.specs.Placed.{fixupp_type, modend_type, number_bits}
-use Rattle.omf_reloc.specs.Placement.{Places, placed, target_address, frame_by}
+use Rattle.omf_placement.specs.Placement.{Places, placed, target_address, frame_by}
 use Rattle.omf_reloc.specs.Offsets.{offsets, first_or, in_bits, in_frame, from_location, outcome_at, start_offset}
 
 -- the width of a displacement, by the type of its record

@@ -17,7 +17,7 @@ use Rattle.omf_reloc.specs.Additions.{additions, self_relative_additions}
 use Rattle.omf_reloc.specs.Image.{added}
 use Rattle.omf_reloc.specs.Laws.{location_start, location_end, AreInside, AreElsewhere, StaysInside}
 use Rattle.omf_reloc.specs.Offsets.{outcome, outcome_at, map_ok, from_location, first_or, is_near}
-use Rattle.omf_reloc.specs.Placement.{Places}
+use Rattle.omf_placement.specs.Placement.{Places}
 use Rattle.omf_reloc.specs.Plain.{PlainFixup}
 
 length-sum_bytes : (n : ℕ) (bytes : List ℕ) (v : ℕ) → length (sum_bytes n bytes v) ≡ n

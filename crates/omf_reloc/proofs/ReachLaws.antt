@@ -16,9 +16,11 @@ use Rattle.omf_reloc.specs.declared.fault.Kind.{Kind}
 use Rattle.omf_reloc.specs.declared.fault.Kind.TheVariants as kinds
 use Rattle.omf_reloc.specs.declared.fault.ReachFault.{ReachFault}
 use Rattle.omf_reloc.specs.declared.fault.ReachFault.TheVariants as fault
+use Rattle.omf_derive.proofs.LinkageLaws.{entry-suc}
 use Rattle.omf_reloc.specs.Laws.{ReachIsDecided}
 use Rattle.omf_reloc.specs.Offsets.{cause_of, outcome}
-use Rattle.omf_reloc.specs.Placement.{Places, Placed, no_place, placed, absolute_place}
+use Rattle.omf_placement.specs.declared.frame.Placed.{Placed}
+use Rattle.omf_placement.specs.Placement.{Places, no_place, placed, absolute_place}
 use Rattle.omf_reloc.specs.Plain.{Piece, Kept, Fixed, End, PlainFixup, piece_of, pieces, plain_fixup, plain_fixups, fixups_of_data, fixups_in, is_data, data_contents, is_data_contents}
 use Rattle.omf_reloc.specs.Reach.{causes, causes_at, piece_causes, fixup_place, reference_places, all_reference_places, far_fault, missing, extra, lies_at, misplaced, misfits, far_faults, reach_faults, reach_fault, Fits, Reaches}
 
@@ -119,10 +121,6 @@ pub first-none : {A : Type 0} (xs : List A) → slice_get xs 0 ≡ None → xs �
 first-none [] h = refl
 first-none (x ∷ xs) h = absurd (none-some x (sym h))
 
-taken : {A : Type 0} (b : Bool) (x y : A) → b ≡ true → cond b x y ≡ x
-taken true x y e = refl
-taken false x y e = absurd (false≢true e)
-
 -- The lengths.
 pub same-count : (k j : Kind) (n given : ℕ) → missing k n given ≡ [] → extra j n given ≡ [] → given ≡ n
 same-count k j n given h g = omega (arith, ltb-false given n (not-one (nat_lt given n) (fault.Missing k (given + 1)) h), ltb-false n given (not-one (nat_lt n given) (fault.Extra j (n + 1)) g))
@@ -183,9 +181,6 @@ all-to pl k (s ∷ infos) h = nil-both (misplaced pl k s.absolute) (misplaced_al
     (all-to pl (k + 1) infos (λ j number offset info e g. ap (placed pl.segments) (omega arith) ∙ h (suc j) number offset info e g))
 
 -- An entry of an index, from 1.
-pub entry-suc : {A : Type 0} (xs : List A) (j : ℕ) → entry xs (suc j) ≡ slice_get xs j
-entry-suc xs j = taken (nat_le 1 (suc j)) (slice_get xs (suc j - 1)) None (le-leb 1 (suc j) (omega arith)) ∙ ap (slice_get xs) (omega arith)
-
 entry-placed : (ps : List Placed) (j : ℕ) → j < length ps → entry ps (suc j) ≡ Some (placed ps (suc j))
 entry-placed ps j h =
     let e = slice_get-get_or ps j no_place h in

@@ -11,11 +11,12 @@ use Rattle.omf_reloc.specs.declared.fault.Cause.{Cause}
 use Rattle.omf_reloc.specs.declared.fault.ReachFault.{ReachFault}
 use Rattle.omf_reloc.specs.declared.fault.ReachFault.TheVariants as fault
 use Rattle.omf_reloc.specs.Plain.{Piece}
-use Rattle.omf_reloc.specs.Placement.{Places}
+use Rattle.omf_placement.specs.Placement.{Places}
 use Rattle.omf_reloc.specs.declared.fault.Kind.TheVariants as kinds
 use Rattle.omf_reloc.specs.Reach.{missing, extra, misplaced, far_faults, reach_fault, Reaches}
 use Rattle.omf_reloc.specs.ReachSteps.{HasEntries, miscounts, misplaced_from, far_at, place_behind, piece_cause, pieces_far, CanJudge, CanJudgeAll}
-use Rattle.omf_reloc.proofs.ReachLaws.{entry-suc, same-count, nil-left, nil-right, first-none, reach-decided}
+use Rattle.omf_derive.proofs.LinkageLaws.{entry-suc}
+use Rattle.omf_reloc.proofs.ReachLaws.{same-count, nil-left, nil-right, first-none, reach-decided}
 use Rattle.omf_reloc.proofs.FarLaws.{without_places}
 
 -- The first of two lists' elements: that of the first list, if it has one, or else that of the second.

@@ -10,7 +10,7 @@ use Rattle.omf_check.specs.Tables.{segments, groups, externals}
 use Rattle.omf_reloc.specs.Image.{start, starts, piece_start}
 use Rattle.omf_reloc.specs.Offsets.{start_offset, cause_of}
 use Rattle.omf_reloc.specs.Pieces.{single_pieces}
-use Rattle.omf_reloc.specs.Placement.{Places}
+use Rattle.omf_placement.specs.Placement.{Places}
 use Rattle.omf_reloc.specs.Plain.{Piece, Kept, Fixed, End, pieces}
 use Rattle.omf_reloc.specs.Reach.{Fits, causes, piece_causes, Reaches}
 use Rattle.omf_reloc.specs.Walking.{CanStart}

@@ -18,7 +18,7 @@ use Rattle.omf_reloc.specs.Image.{added, laid}
 use Rattle.omf_reloc.specs.Laws.{location_end}
 use Rattle.omf_reloc.specs.Offsets.{outcome}
 use Rattle.omf_reloc.specs.Pieces.{single_pieces}
-use Rattle.omf_reloc.specs.Placement.{Places}
+use Rattle.omf_placement.specs.Placement.{Places}
 use Rattle.omf_reloc.specs.Plain.{Piece, Kept, Fixed, End, PlainFixup, pieces, fixups_of_data}
 use Rattle.omf_reloc.specs.Reach.{Reaches}
 use Rattle.omf_reloc.specs.Walking.{with_fixup, Walk, closed, opened, IsNext, HasOffsets, CanAdd, CanTake, CanWalk}

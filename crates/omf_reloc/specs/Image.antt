@@ -9,7 +9,7 @@ use Rattle.omf_image.specs.Parts.{Addition, add_parts}
 use Rattle.omf_image.specs.Overlay.{Laid, byte_at}
 use Rattle.omf_check.specs.Threads.{PlainReference}
 use Rattle.omf_reloc.specs.Plain.{Piece, Kept, Fixed, End, PlainFixup, pieces, fixups_of_data}
-use Rattle.omf_reloc.specs.Placement.{Places, frame_by}
+use Rattle.omf_placement.specs.Placement.{Places, frame_by}
 use Rattle.omf_reloc.specs.Offsets.{outcome, start_offset}
 
 -- Data with what one fixup adds at its location; a fixup that does not reach adds nothing, and a placement that reaches has none such.

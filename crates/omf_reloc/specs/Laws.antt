@@ -1,5 +1,5 @@
 -- Laws over the definitions, each the contract of a function of the same name.
-use Rattle.std.specs.Prelude.{◌≡◌, ◌⊎◌, ◌↔◌, ℕ, ◌+◌, ◌<◌, ◌≤◌, List, Some, None, true, Ok, IsOk, IsSome, ◌∷◌, ◌++◌, map, length, slice_index, All}
+use Rattle.std.specs.Prelude.{◌≡◌, ◌≢◌, ◌⊎◌, ◌↔◌, ℕ, ◌+◌, ◌<◌, ◌≤◌, List, Some, None, true, Ok, IsOk, IsSome, ◌∷◌, ◌++◌, map, length, slice_index, All}
 use Rattle.std.specs.List.{AllZip}
 use Rattle.omf_frame.specs.declared.fault.Place.{Place}
 use Rattle.omf_records.specs.Location.{location_size}
@@ -11,15 +11,15 @@ use Rattle.omf_check.specs.Rules.{length_of_segment}
 use Rattle.omf_check.specs.Sound.{ModuleHolds}
 use Rattle.omf_check.specs.Tables.{groups, segments, externals, entry, is_defined, subrecords, last_data}
 use Rattle.omf_check.specs.Threads.{PlainReference, frame_setting, target_setting, plain}
-use Rattle.omf_reloc.specs.declared.frame.Frame.{Frame}
-use Rattle.omf_reloc.specs.declared.given.Given.{Given}
-use Rattle.omf_reloc.specs.Derive.{PlacedModule, derived}
-use Rattle.omf_reloc.specs.Entries.{Entry, Spells}
-use Rattle.omf_reloc.specs.EntryReading.{entry_said}
+use Rattle.omf_derive.specs.Derivation.{IsPlaceOf}
+use Rattle.omf_reloc.specs.declared.fault.Kind.{Kind}
+use Rattle.omf_reloc.specs.declared.fault.ReachFault.TheVariants as reach
+use Rattle.omf_derive.specs.Derive.{PlacedModule, derived}
+use Rattle.omf_derive.specs.declared.given.Given.{Given}
 use Rattle.omf_reloc.specs.Plain.{Piece, Kept, End, PlainFixup, pieces, data_contents, fixups_of_data}
 use Rattle.omf_reloc.specs.Pieces.{single_pieces, reference_places}
 use Rattle.omf_reloc.specs.Placed.{HasPlaces}
-use Rattle.omf_reloc.specs.Placement.{Places, Placed, real_group}
+use Rattle.omf_placement.specs.Placement.{Places}
 use Rattle.omf_reloc.specs.Reach.{causes, all_reference_places, far_faults, reach_fault, Reaches}
 use Rattle.omf_reloc.specs.ReachSteps.{HasEntries, pieces_far}
 use Rattle.omf_reloc.specs.Offsets.{outcome, start_offset}
@@ -46,10 +46,6 @@ pub record StaysInside (pl : Places) (d : DataItem) (fixups : List (ℕ × Plain
 abbrev pub PatchesStayInside : Type 0
 PatchesStayInside = (pl : Places) (d : DataItem) (fixups : List (ℕ × PlainFixup)) → AreInside (length d.bytes) fixups → StaysInside pl d fixups
 
--- The entry that is computed of what a line says is the entry that it spells.
-abbrev pub EntriesAreRead : Type 0
-EntriesAreRead = (text : List ℕ) (e : Entry) → (entry_said text ≡ Some e) ↔ Spells text e
-
 -- A placement reaches exactly where reach has no fault to name; and each reference that is judged has a place to be named by.
 pub record ReachIsDecided (pl : Places) (m : List Rec) : Type 0 where
   pub decided : (reach_fault pl m ≡ None) ↔ Reaches pl m
@@ -60,36 +56,6 @@ pub record ReachIsDecided (pl : Places) (m : List Rec) : Type 0 where
 pub record FaultsAreWalked (pl : Places) (m : List Rec) : Type 0 where
   pub places : length (causes pl (pieces m)) ≡ length (all_reference_places m)
   pub faults : (ps : List (Place × Piece)) → map (λ p. p.1) ps ≡ single_pieces m → reference_places ps ≡ all_reference_places m → far_faults pl m ≡ pieces_far pl None ps
-
--- A derived placement keeps the segments and groups of its module's place, and has an entry for each external.
-pub record KeepsPlace (m : PlacedModule) (pl : Places) : Type 0 where
-  pub segments : pl.segments ≡ m.1.segments
-  pub groups : pl.groups ≡ m.1.groups
-  pub external_count : length pl.externals ≡ length (externals m.0)
-
-abbrev pub DerivedFit : Type 0
-DerivedFit = (ms : List PlacedModule) (given : List Given) (pls : List Places) → derived ms given ≡ Ok pls → AllZip KeepsPlace ms pls
-
--- A place is the lowest of a list, and the first of those that lie lowest.
-pub record IsLowest (ps : List Placed) (p : Placed) : Type 0 where
-  pub before : List Placed
-  pub after : List Placed
-  pub all : ps ≡ before ++ p ∷ after
-  pub higher : All (λ q. p.address < q.address) before
-  pub not_lower : All (λ q. p.address ≤ q.address) after
-
--- A group takes the frame of its lowest member: it is there, each of its members has a place, and this is the lowest place's frame.
-pub record TakesFrame (m : List Rec) (xs : List Placed) (i : ℕ) (f : Frame) : Type 0 where
-  pub group : GroupItem
-  pub defined : entry (groups m) i ≡ Some group
-  pub members : List Placed
-  pub each_placed : map (λ x. entry xs x.item.item) group.members ≡ map Some members
-  pub member : Placed
-  pub is_lowest : IsLowest members member
-  pub frame : member.frame ≡ f
-
-abbrev pub GroupsTakeTheLowest : Type 0
-GroupsTakeTheLowest = (m : List Rec) (xs : List Placed) (i : ℕ) (f : Frame) → (real_group m xs i ≡ Some f) ↔ TakesFrame m xs i f
 
 -- What a reference looks up is there, after these subrecords of its module: the threads that it names were set, and the placement has the entries of its
 -- frame and of its target. F4 looks up the segment of the last data record, here `segment`; no segment is 0, so where that is 0 the frame is not F4.
@@ -147,3 +113,11 @@ pub record PatchesLieIn (pl : Places) (m : List Rec) (d : DataItem) (fixups : Li
 pub record AllLieInside (pl : Places) (m : List Rec) : Type 0 where
   pub each_piece : All (λ l. LiesInSegment m l.segment l.offset (length l.bytes)) (laid profile_limits pl (pieces m))
   pub each_patch : (before after : List Piece) (r : Rec) (d : DataItem) → pieces m ≡ before ++ Kept r ∷ after → r.contents ≡ Plain d → PatchesLieIn pl m d (fixups_of_data after)
+
+-- A placement is never refused because an entry is missing, or is one too many.
+pub record IsComplete (m : PlacedModule) (pl : Places) : Type 0 where
+  pub never_missing : (k : Kind) (i : ℕ) → reach_fault pl m.0 ≢ Some (reach.Missing k i)
+  pub never_extra : (k : Kind) (i : ℕ) → reach_fault pl m.0 ≢ Some (reach.Extra k i)
+
+abbrev pub DerivedAreComplete : Type 0
+DerivedAreComplete = (ms : List PlacedModule) (given : List Given) (pls : List Places) → All IsPlaceOf ms → derived ms given ≡ Ok pls → AllZip IsComplete ms pls

@@ -1,6 +1,4 @@
 pub mod Plain
-pub mod Placement
-pub mod Lowest
 pub mod Additions
 pub mod Offsets
 pub mod Placed
@@ -13,15 +11,6 @@ pub mod Pieces
 pub mod PieceSeen
 pub mod Measuring
 pub mod ReachSteps
-pub mod Entries
-pub mod EntryReading
-pub mod PlacementText
-pub mod Parsing
-pub mod Derive
-pub mod Derivation
-pub mod PublicTable
-pub mod Deriving
-pub mod GivenTable
 pub mod Modules
 pub mod Rows
 pub mod Laws

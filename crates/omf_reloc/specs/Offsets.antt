@@ -9,7 +9,7 @@ use Rattle.omf_check.specs.Threads.{PlainReference}
 use Rattle.omf_image.specs.Parts.{Addition}
 use Rattle.omf_reloc.specs.Plain.{PlainFixup}
 use Rattle.omf_reloc.specs.Additions.{additions, self_relative_additions}
-use Rattle.omf_reloc.specs.Placement.{Places, placed, target_address, frame_by}
+use Rattle.omf_placement.specs.Placement.{Places, placed, target_address, frame_by}
 
 -- The readings of a displacement u of n bits, in their order: u, and u - 2^n where its top bit is set. Each is given by what it takes off u.
 abbrev pub readings : ℕ → ℕ → List ℕ

@@ -2,7 +2,7 @@
 use Rattle.std.specs.Prelude.{◌≡◌, ℕ, length, Bool, true, if◌then◌else◌}
 use Rattle.omf_check.specs.Tables.{is_defined}
 use Rattle.omf_check.specs.Threads.{FrameMethod, F0, F1, F2, F4, F5, TargetMethod, T0, T1, T2, PlainReference}
-use Rattle.omf_reloc.specs.Placement.{Places}
+use Rattle.omf_placement.specs.Placement.{Places}
 
 -- The target's entry is there.
 abbrev pub HasTarget : Places → TargetMethod → Type 0

@@ -11,7 +11,8 @@ use Rattle.omf_records.specs.Values.{Rec, Contents, Fixups, ModEnd, DataItem, Su
 use Rattle.omf_check.specs.Tables.{segments, groups, externals, entry}
 use Rattle.omf_check.specs.declared.segment.SegInfo.{SegInfo}
 use Rattle.omf_reloc.specs.Plain.{Piece, Kept, Fixed, End, pieces, data_contents, fixups_of_data}
-use Rattle.omf_reloc.specs.Placement.{Places, Placed, placed, absolute_place}
+use Rattle.omf_placement.specs.declared.frame.Placed.{Placed}
+use Rattle.omf_placement.specs.Placement.{Places, placed, absolute_place}
 use Rattle.omf_reloc.specs.Offsets.{outcome, start_offset, cause_of}
 
 -- Whether each fixup of a data record reaches, in file order: none, or the cause.

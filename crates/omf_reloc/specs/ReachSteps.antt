@@ -13,7 +13,7 @@ use Rattle.omf_reloc.specs.declared.fault.Kind.TheVariants as kinds
 use Rattle.omf_reloc.specs.Reach.{missing, extra, misplaced}
 use Rattle.omf_reloc.specs.Offsets.{outcome_at, start_offset, cause_of}
 use Rattle.omf_reloc.specs.Placed.{HasPlaces}
-use Rattle.omf_reloc.specs.Placement.{Places}
+use Rattle.omf_placement.specs.Placement.{Places}
 use Rattle.omf_reloc.specs.Plain.{Piece, Kept, Fixed, End}
 
 -- The placement's lists are as long as the module's tables.

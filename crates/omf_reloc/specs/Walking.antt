@@ -14,7 +14,7 @@ use Rattle.omf_check.specs.declared.threads.Threads.{Threads}
 use Rattle.omf_reloc.specs.Image.{added}
 use Rattle.omf_reloc.specs.Offsets.{outcome_at, start_offset}
 use Rattle.omf_reloc.specs.Placed.{HasPlaces}
-use Rattle.omf_reloc.specs.Placement.{Places}
+use Rattle.omf_placement.specs.Placement.{Places}
 use Rattle.omf_reloc.specs.Plain.{Piece, Kept, Fixed, End, PlainFixup}
 
 -- A reference without threads, by the threads in force.

@@ -1,6 +1,5 @@
-//! Why a placement does not reach, is not read, or is not derived.
+//! Why a placement does not reach.
 
-use std::alloc::{AllocError, AllocFailed};
 use thiserror::Error;
 
 /// What a placement has entries for.
@@ -50,94 +49,4 @@ pub enum ReachFault {
         /// Why it does not.
         cause: Cause,
     },
-}
-
-/// Why a placement text gives no placement. The numbers of the reasons are 1 and 2.
-#[derive(Clone, Copy, Debug, PartialEq, Eq, Error)]
-pub enum TextFault {
-    /// 1: a growth was refused.
-    #[error("memory")]
-    Memory,
-    /// 2: the first line, numbered from 1, that is neither empty nor an entry; where there is none, the first group whose frame is
-    /// to be found and cannot be.
-    #[error("a line of the placement is not understood")]
-    Line(u64),
-}
-
-impl From<AllocError> for TextFault {
-    ghost use Rattle.std.specs.Prelude.{◌≡◌};
-    ghost use Rattle.omf_reloc.specs.declared.fault.TextFault.TheVariants.{Memory};
-
-    ghost from_gives = { λ _ e. e ≡ Memory };
-
-    fn from(_error: AllocError) -> Self {
-        TextFault::Memory
-    }
-}
-
-impl<T: Drop> From<AllocFailed<T>> for TextFault {
-    ghost use Rattle.std.specs.Prelude.{◌≡◌};
-    ghost use Rattle.omf_reloc.specs.declared.fault.TextFault.TheVariants.{Memory};
-
-    ghost from_gives = { λ _ e. e ≡ Memory };
-
-    fn from(_error: AllocFailed<T>) -> Self {
-        TextFault::Memory
-    }
-}
-
-/// Why no placements are derived. The numbers of the reasons are 1 to 4.
-///
-/// A fault that names an external names the first at fault, by module (from 0), then by external (from 1).
-#[derive(Clone, Copy, Debug, PartialEq, Eq, Error)]
-pub enum DeriveFault {
-    /// 1: a growth was refused.
-    #[error("memory")]
-    Memory,
-    /// 2: no public has the external's name.
-    #[error("an external has no public")]
-    Undefined {
-        /// The module, from 0.
-        module: u32,
-        /// The index of the external in it, from 1.
-        external: u16,
-    },
-    /// 3: two or more publics have the external's name.
-    #[error("an external has two publics")]
-    Twice {
-        /// The module, from 0.
-        module: u32,
-        /// The index of the external in it, from 1.
-        external: u16,
-    },
-    /// 4: the public's address is 2^32 or more.
-    #[error("a public's address is too high")]
-    TooHigh {
-        /// The module, from 0.
-        module: u32,
-        /// The index of the external in it, from 1.
-        external: u16,
-    },
-}
-
-impl From<AllocError> for DeriveFault {
-    ghost use Rattle.std.specs.Prelude.{◌≡◌};
-    ghost use Rattle.omf_reloc.specs.declared.fault.DeriveFault.TheVariants.{Memory};
-
-    ghost from_gives = { λ _ e. e ≡ Memory };
-
-    fn from(_error: AllocError) -> Self {
-        DeriveFault::Memory
-    }
-}
-
-impl<T: Drop> From<AllocFailed<T>> for DeriveFault {
-    ghost use Rattle.std.specs.Prelude.{◌≡◌};
-    ghost use Rattle.omf_reloc.specs.declared.fault.DeriveFault.TheVariants.{Memory};
-
-    ghost from_gives = { λ _ e. e ≡ Memory };
-
-    fn from(_error: AllocFailed<T>) -> Self {
-        DeriveFault::Memory
-    }
 }

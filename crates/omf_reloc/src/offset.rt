@@ -9,14 +9,13 @@ ghost use Rattle.omf_check.specs.Tables.{is_defined};
 ghost use Rattle.omf_reloc.specs.Methods.{target_seen};
 ghost use Rattle.omf_reloc.specs.Offsets.{offsets, in_bits, is_near, in_frame, from_location, outcome_at, start_offset};
 ghost use Rattle.omf_reloc.specs.Placed.{HasTarget, HasPlaces, fixupp_type, modend_type, number_bits};
-ghost use Rattle.omf_reloc.specs.Placement.{placed, frame_by, target_frame, target_address};
+ghost use Rattle.omf_placement.specs.Placement.{placed, frame_by, target_frame, target_address};
 
 use crate::addition::Additions;
 use crate::fault::Cause;
-use crate::frame::Frame;
-use crate::placement::Placement;
 use crate::plain::{FrameMethod, PlainFixup, PlainReference, TargetMethod};
 use omf_frame::Index;
+use omf_placement::{Frame, Placement};
 use omf_records::{is_segment_relative, location_offset, location_type};
 use std::marker::Model;
 

@@ -11,8 +11,8 @@ ghost use Rattle.omf_reloc.specs.ReachSteps.{HasEntries, miscounts, misplaced_fr
 use crate::fault::{Cause, Kind, ReachFault};
 use crate::offset::{outcome, start_offset};
 use crate::pieces::{Piece, pieces_of};
-use crate::placement::Placement;
 use omf_check::Checked;
+use omf_placement::Placement;
 use omf_records::Rec;
 
 /// The first index, from 1, of a table of so many entries for which the placement gives none.

@@ -21,11 +21,11 @@ ghost use Rattle.omf_reloc.specs.Walking.{with_fixup, closed_by, opened_by, CanA
 use crate::measuring::extents;
 use crate::offset::outcome;
 use crate::pieces::{Piece, pieces_of};
-use crate::placement::Placement;
 use crate::plain::PlainFixup;
 use omf_check::Checked;
 use omf_frame::Index;
 use omf_image::{Image, Limits, expand, painted};
+use omf_placement::Placement;
 use omf_records::{At, Blocks, Rec, location_offset};
 use std::alloc::{AllocError, Global};
 use std::marker::Model;

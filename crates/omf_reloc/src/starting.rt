@@ -13,9 +13,9 @@ ghost use Rattle.omf_reloc.specs.Walking.{HasStart, CanStart};
 
 use crate::offset::{frame_of, start_offset};
 use crate::pieces::{Piece, pieces_of};
-use crate::placement::Placement;
 use crate::plain::PlainReference;
 use omf_check::Checked;
+use omf_placement::Placement;
 
 /// The start that a MODEND, wide or not, names: the selector of its frame, and its offset.
 fn named_start(placement: &Placement, is_wide: bool, reference: &PlainReference) -> (u16, u32)

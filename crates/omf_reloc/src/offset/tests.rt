@@ -8,11 +8,10 @@ ghost use Rattle.omf_reloc.specs.Placed.{HasPlaces};
 
 use super::{outcome, start_offset};
 use crate::fault::Cause;
-use crate::frame::Frame;
-use crate::placement::Placement;
 use crate::plain::{FrameMethod, PlainFixup, PlainReference, TargetMethod};
 use omf_check::Setting;
 use omf_frame::Index;
+use omf_placement::{Frame, Placement};
 use omf_records::location_offset;
 use std::alloc::{AllocError, Global};
 use std::test::Fail;

@@ -1,0 +1,7 @@
+use Rattle.omf_derive.specs.PublicTable.{placed_modules}
+use Rattle.omf_derive.proofs.LinkageLaws.{IsReached}
+use Rattle.omf_derive.proofs.linkage.derive.Given as goal
+
+-- the modules so far have these placements
+abbrev pub invariant-loop-j : goal.invariant-loop-j
+invariant-loop-j l = IsReached (placed_modules l.modules l.places) l.given l.placements.items l.j

@@ -1,0 +1,13 @@
+use Rattle.std.proofs.Common.{◌≡◌, ◌∙◌, ap, ap₂, rules, sym, subst}
+use Rattle.std.specs.Prelude.{OnOk}
+use Rattle.omf_records.specs.Seen.{contents_seen}
+use Rattle.omf_derive.specs.Derive.{base_of, placed_publics, publics_at}
+use Rattle.omf_derive.specs.PublicTable.{HasMore}
+use Rattle.omf_derive.proofs.publics.PublicTable.add_record.Goals as goal
+
+pub returns-in-Publics : goal.returns-in-Publics
+returns-in-Publics c =
+    let pl = c.args.placement.now in
+    let e : c.base_of.result ≡ base_of pl c.in-Publics.group.item c.in-Publics.segment.item c.in-Publics.frame = search rules in
+    subst (λ xs. OnOk c.add_items.result (HasMore c.args.self.now.by_name c.add_items.new.self.by_name xs))
+    (ap₂ publics_at e c.iter.ensures ∙ ap (λ r. placed_publics pl (contents_seen r)) (sym c.in-Publics.is)) c.add_items.ensures

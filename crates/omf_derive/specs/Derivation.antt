@@ -1,0 +1,152 @@
+-- Which place each external takes, and which external is the first at fault, in words. A law ties this to what is computed (Derive).
+use Rattle.std.specs.Prelude.{◌≡◌, ◌≢◌, ◌⊎◌, ◌↔◌, ℕ, ◌<◌, ◌≤◌, ◌^◌, All, List, ◌∷◌, ◌++◌, length, true, Some, Ok, Err}
+use Rattle.std.specs.List.{AllZip, enumerate_from}
+use Rattle.omf_frame.specs.Framing.{Raw}
+use Rattle.omf_records.specs.Reading.{typed}
+use Rattle.omf_records.specs.Values.{Publics, PublicItems}
+use Rattle.omf_image.specs.declared.limits.Limits.{Limits}
+use Rattle.omf_check.specs.Tables.{segments, groups, externals, is_none_or_defined}
+use Rattle.omf_check.specs.WellFormed.{IsWellFormed, recs}
+use Rattle.omf_check.specs.declared.profile.Profile.{Profile}
+use Rattle.omf_derive.specs.declared.fault.DeriveFault.{DeriveFault}
+use Rattle.omf_derive.specs.declared.fault.DeriveFault.TheVariants as fault
+use Rattle.omf_derive.specs.declared.given.Given.{Given}
+use Rattle.omf_derive.specs.Derive.{PlacedModule, PlacedPublic, all_publics, place_in, derived}
+use Rattle.omf_placement.specs.declared.frame.Placed.{Placed}
+use Rattle.omf_placement.specs.Placement.{Places}
+
+-- An entry is for external i of module j; none is; this one is the first that is.
+abbrev pub IsFor : ℕ → ℕ → Given → Type 0
+IsFor j i g = (g.module ≡ j) × (g.external ≡ i)
+
+abbrev pub IsNotGiven : ℕ → ℕ → List Given → Type 0
+IsNotGiven j i given = All (λ g. IsFor j i g → ⊥) given
+
+pub record IsFirstGiven (j i : ℕ) (given : List Given) (g : Given) : Type 0 where
+  pub before : List Given
+  pub after : List Given
+  pub all : given ≡ before ++ g ∷ after
+  pub applies : IsFor j i g
+  pub earlier : IsNotGiven j i before
+
+-- No public has a name; this one has it and no other; two or more have it.
+abbrev pub IsUnnamed : List ℕ → List PlacedPublic → Type 0
+IsUnnamed name among = All (λ p. p.name ≢ name) among
+
+pub record IsOnly (name : List ℕ) (among : List PlacedPublic) (p : PlacedPublic) : Type 0 where
+  pub before : List PlacedPublic
+  pub after : List PlacedPublic
+  pub all : among ≡ before ++ p ∷ after
+  pub named : p.name ≡ name
+  pub none_before : IsUnnamed name before
+  pub none_after : IsUnnamed name after
+
+pub record AreSeveral (name : List ℕ) (among : List PlacedPublic) : Type 0 where
+  pub before : List PlacedPublic
+  pub first : PlacedPublic
+  pub between : List PlacedPublic
+  pub second : PlacedPublic
+  pub after : List PlacedPublic
+  pub all : among ≡ before ++ first ∷ (between ++ second ∷ after)
+  pub first_named : first.name ≡ name
+  pub second_named : second.name ≡ name
+
+-- A place is that of the one public of a name, and lies below 2^32.
+pub record IsPublicPlace (name : List ℕ) (among : List PlacedPublic) (p : Placed) : Type 0 where
+  pub source : PlacedPublic
+  pub only : IsOnly name among source
+  pub low : source.place.address < 2 ^ 32
+  pub place : source.place ≡ p
+
+-- A place is that of the first entry for an external.
+pub record IsGivenPlace (j i : ℕ) (given : List Given) (p : Placed) : Type 0 where
+  pub entry : Given
+  pub first : IsFirstGiven j i given entry
+  pub place : place_in entry ≡ p
+
+-- External i of module j, of this name, takes a place: that of its first entry, or where it has none that of the one public of its name.
+abbrev pub Takes : List PlacedPublic → List Given → ℕ → ℕ → List ℕ → Placed → Type 0
+Takes among given j i name p = IsGivenPlace j i given p ⊎ (IsNotGiven j i given × IsPublicPlace name among p)
+
+-- The one public of a name lies too high.
+pub record IsTooHigh (name : List ℕ) (among : List PlacedPublic) : Type 0 where
+  pub source : PlacedPublic
+  pub only : IsOnly name among source
+  pub high : 2 ^ 32 ≤ source.place.address
+
+-- Why external i of module j, of this name, has no place: nothing is given, and there is no public of its name, or several, or the one lies too high.
+abbrev pub IsFaultOf : List PlacedPublic → ℕ → ℕ → List ℕ → DeriveFault → Type 0
+IsFaultOf among j i name (fault.Undefined k n) = (k ≡ j) × (n ≡ i) × IsUnnamed name among
+IsFaultOf among j i name (fault.Twice k n) = (k ≡ j) × (n ≡ i) × AreSeveral name among
+IsFaultOf among j i name (fault.TooHigh k n) = (k ≡ j) × (n ≡ i) × IsTooHigh name among
+IsFaultOf among j i name fault.Memory = ⊥
+
+abbrev pub Fails : List PlacedPublic → List Given → ℕ → ℕ → List ℕ → DeriveFault → Type 0
+Fails among given j i name e = IsNotGiven j i given × IsFaultOf among j i name e
+
+-- The externals of a module with their indices, from 1.
+abbrev pub numbered : PlacedModule → List (ℕ × List ℕ)
+numbered m = enumerate_from 1 (externals m.0)
+
+-- The placement of a module with its number: its place's segments and groups, and the place that each external takes, in order.
+pub record IsPlacement (among : List PlacedPublic) (given : List Given) (m : ℕ × PlacedModule) (pl : Places) : Type 0 where
+  pub segments : pl.segments ≡ m.1.1.segments
+  pub groups : pl.groups ≡ m.1.1.groups
+  pub externals : AllZip (λ e p. Takes among given m.0 e.0 e.1 p) (numbered m.1) pl.externals
+
+abbrev pub AreDerived : List PlacedModule → List Given → List Places → Type 0
+AreDerived ms given pls = AllZip (IsPlacement (all_publics ms) given) (enumerate_from 0 ms) pls
+
+-- Each of these externals of module j takes a place.
+abbrev pub AllTake : List PlacedPublic → List Given → ℕ → List (ℕ × List ℕ) → Type 0
+AllTake among given j es = All (λ e. (p : Placed) × Takes among given j e.0 e.1 p) es
+
+-- An external has a fault, and each before it in its module takes a place.
+pub record IsFirstIn (among : List PlacedPublic) (given : List Given) (j : ℕ) (es : List (ℕ × List ℕ)) (f : DeriveFault) : Type 0 where
+  pub before : List (ℕ × List ℕ)
+  pub external : ℕ × List ℕ
+  pub after : List (ℕ × List ℕ)
+  pub all : es ≡ before ++ external ∷ after
+  pub earlier : AllTake among given j before
+  pub fails : Fails among given j external.0 external.1 f
+
+-- The first fault: that of the first such external of the first module that has one.
+pub record IsFirstAmong (among : List PlacedPublic) (given : List Given) (ms : List (ℕ × PlacedModule)) (f : DeriveFault) : Type 0 where
+  pub before : List (ℕ × PlacedModule)
+  pub «module» : ℕ × PlacedModule
+  pub after : List (ℕ × PlacedModule)
+  pub all : ms ≡ before ++ «module» ∷ after
+  pub earlier : All (λ m. AllTake among given m.0 (numbered m.1)) before
+  pub fault : IsFirstIn among given «module».0 (numbered «module».1) f
+
+abbrev pub IsFirstFault : List PlacedModule → List Given → DeriveFault → Type 0
+IsFirstFault ms given f = IsFirstAmong (all_publics ms) given (enumerate_from 0 ms) f
+
+-- What is computed is what the words say.
+pub record DerivedIsTaken (ms : List PlacedModule) (given : List Given) : Type 0 where
+  pub placements : (pls : List Places) → (derived ms given ≡ Ok pls) ↔ AreDerived ms given pls
+  pub fault : (f : DeriveFault) → (derived ms given ≡ Err f) ↔ IsFirstFault ms given f
+
+-- The place of a module has an entry for each of its segments and groups, and no other.
+pub record IsPlaceOf (m : PlacedModule) : Type 0 where
+  pub segments : length m.1.segments ≡ length (segments m.0)
+  pub groups : length m.1.groups ≡ length (groups m.0)
+
+-- The base of a PUBDEF is there: its segment and its group have entries, where it names them; index 0 names none.
+pub record BaseIsFound (pl : Places) (p : PublicItems) : Type 0 where
+  pub segment : is_none_or_defined (length pl.segments) p.segment.item ≡ true
+  pub group : is_none_or_defined (length pl.groups) p.group.item ≡ true
+
+-- So is that of every PUBDEF of a well-formed module, in its place.
+abbrev pub BasesAreFound : Type 0
+BasesAreFound = (profile : Profile) (limits : Limits) (bytes : List ℕ) (records : List Raw) (pl : Places) → IsWellFormed profile limits bytes records → IsPlaceOf (recs records, pl)
+    → (before after : List Raw) (r : Raw) (p : PublicItems) → records ≡ before ++ r ∷ after → (typed r).contents ≡ Publics p → BaseIsFound pl p
+
+-- A derived placement keeps the segments and groups of its module's place, and has an entry for each external.
+pub record KeepsPlace (m : PlacedModule) (pl : Places) : Type 0 where
+  pub segments : pl.segments ≡ m.1.segments
+  pub groups : pl.groups ≡ m.1.groups
+  pub external_count : length pl.externals ≡ length (externals m.0)
+
+abbrev pub DerivedFit : Type 0
+DerivedFit = (ms : List PlacedModule) (given : List Given) (pls : List Places) → derived ms given ≡ Ok pls → AllZip KeepsPlace ms pls

@@ -1,0 +1,107 @@
+-- Placements of several modules, in which each external has the place of the public of its name (this profile's rule; TIS OMF 1.1, "PUBDEF").
+use Rattle.std.specs.Prelude.{ℕ, ◌+◌, ◌*◌, ◌^◌, List, [], ◌∷◌, map, flat_map, filter_map, find, Option, Some, None, unwrap_or, option_map, Result, Ok, Err, bytes_eq, ◌==◌, ◌&&◌, nat_lt, if◌then◌else◌}
+use Rattle.std.specs.List.{enumerate_from}
+use Rattle.omf_records.specs.Values.{At, Rec, Contents, Publics, PublicItem}
+use Rattle.omf_check.specs.Tables.{externals}
+use Rattle.omf_derive.specs.declared.fault.DeriveFault.{DeriveFault}
+use Rattle.omf_derive.specs.declared.fault.DeriveFault.TheVariants as fault
+use Rattle.omf_placement.specs.declared.frame.Frame.{Frame}
+use Rattle.omf_derive.specs.declared.given.Given.{Given}
+use Rattle.omf_placement.specs.declared.frame.Placed.{Placed}
+use Rattle.omf_placement.specs.Placement.{Places, placed, group_frame}
+
+-- A module and its place: the places of its segments and groups.
+abbrev pub PlacedModule : Type 0
+PlacedModule = List Rec × Places
+
+-- A public: its name, and where the place of its module puts it.
+pub record PlacedPublic : Type 0 where
+  pub name : List ℕ
+  pub place : Placed
+
+-- A place at a frame's number: the frame begins there.
+abbrev pub paragraph : ℕ → Placed
+paragraph number = record { address = 16 * number; frame = record { base = 16 * number; selector = number } }
+
+-- Where a PUBDEF's segment lies, by its index; where it names none, its base frame, by its number.
+abbrev pub segment_base : Places → ℕ → Option ℕ → Placed
+segment_base pl segment number = if segment == 0 then paragraph (unwrap_or number 0) else placed pl.segments segment
+
+-- The base of a PUBDEF, by the indices of its group and its segment: the address is that of its segment or base frame; the frame is that of the group that
+-- it names, else that of its segment or base frame.
+abbrev pub base_of : Places → ℕ → ℕ → Option ℕ → Placed
+base_of pl group segment number = record {
+  address = (segment_base pl segment number).address;
+  frame = if group == 0 then (segment_base pl segment number).frame else group_frame pl group;
+}
+
+-- A public of a name, at an address in a frame; the publics of a PUBDEF whose base is at an address in a frame, each at its offset.
+abbrev pub public_at : List ℕ → ℕ → Frame → PlacedPublic
+public_at name address frame = record { name = name; place = record { address = address; frame = frame } }
+
+abbrev pub publics_at : Placed → List (At PublicItem) → List PlacedPublic
+publics_at base items = map (λ q. public_at q.item.name (base.address + q.item.offset) base.frame) items
+
+abbrev pub placed_publics : Places → Contents → List PlacedPublic
+placed_publics pl (Publics p) = publics_at (base_of pl p.group.item p.segment.item p.frame) p.items
+placed_publics pl _ = []
+
+-- The publics of all modules: where an external of an EXTDEF or a COMDEF looks for its name. A name that is twice in one module counts twice.
+abbrev pub publics : PlacedModule → List PlacedPublic
+publics m = flat_map (λ r. placed_publics m.1 r.contents) m.0
+
+abbrev pub all_publics : List PlacedModule → List PlacedPublic
+all_publics ms = flat_map publics ms
+
+-- The first given entry of an external. It counts whatever publics there are.
+abbrev pub place_in : Given → Placed
+place_in g = record { address = g.address; frame = g.frame }
+
+abbrev pub given_place : List Given → ℕ → ℕ → Option Placed
+given_place given j i = option_map place_in (find (λ g. (g.module == j) && (g.external == i)) given)
+
+-- The places of the publics of a name.
+abbrev pub of_name : List ℕ → PlacedPublic → Option Placed
+of_name name p = if bytes_eq name p.name then Some p.place else None
+
+-- There is one, and its address is below 2^32; else the fault of external i of module j.
+abbrev pub one_public : ℕ → ℕ → List Placed → Result Placed DeriveFault
+one_public j i [] = Err (fault.Undefined j i)
+one_public j i (p ∷ []) = if nat_lt p.address (2 ^ 32) then Ok p else Err (fault.TooHigh j i)
+one_public j i (p ∷ q ∷ ps) = Err (fault.Twice j i)
+
+abbrev pub given_or : Option Placed → Result Placed DeriveFault → Result Placed DeriveFault
+given_or (Some p) r = Ok p
+given_or None r = r
+
+-- The place of external i of module j, which has this name.
+abbrev pub external_place : List PlacedPublic → List Given → ℕ → ℕ → List ℕ → Result Placed DeriveFault
+external_place among given j i name = given_or (given_place given j i) (one_public j i (filter_map (of_name name) among))
+
+-- The place or the fault of each external of module j, in order.
+abbrev pub external_places : List PlacedPublic → List Given → ℕ → List Rec → List (Result Placed DeriveFault)
+external_places among given j m = map (λ e. external_place among given j e.0 e.1) (enumerate_from 1 (externals m))
+
+abbrev pub ok_of : Result Placed DeriveFault → Option Placed
+ok_of (Ok p) = Some p
+ok_of (Err e) = None
+
+abbrev pub err_of : Result Placed DeriveFault → Option DeriveFault
+err_of (Ok p) = None
+err_of (Err e) = Some e
+
+-- Every fault, by module and then by external.
+abbrev pub derive_faults : List PlacedModule → List Given → List DeriveFault
+derive_faults ms given = flat_map (λ m. filter_map err_of (external_places (all_publics ms) given m.0 m.1.0)) (enumerate_from 0 ms)
+
+-- The placement of a module: the segments and groups of its place, and its externals.
+abbrev pub with_externals : List PlacedModule → List Given → ℕ × PlacedModule → Places
+with_externals ms given m = record m.1.1 { externals = filter_map ok_of (external_places (all_publics ms) given m.0 m.1.0) }
+
+-- The placements where there is no fault, else the first.
+abbrev pub unless_fault : {A : Type 0} → List DeriveFault → A → Result A DeriveFault
+unless_fault [] a = Ok a
+unless_fault (e ∷ es) a = Err e
+
+abbrev pub derived : List PlacedModule → List Given → Result (List Places) DeriveFault
+derived ms given = unless_fault (derive_faults ms given) (map (with_externals ms given) (enumerate_from 0 ms))

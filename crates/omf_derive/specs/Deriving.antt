@@ -1,0 +1,22 @@
+-- What the steps that derive placements answer.
+use Rattle.std.specs.Prelude.{◌≡◌, ◌⊎◌, List, ◌∷◌, ◌++◌, map, Result, Ok, Err}
+use Rattle.omf_derive.specs.declared.fault.DeriveFault.{DeriveFault}
+use Rattle.omf_derive.specs.declared.fault.DeriveFault.TheVariants as fault
+use Rattle.omf_placement.specs.declared.frame.Placed.{Placed}
+use Rattle.omf_placement.specs.Placement.{Places}
+
+-- An answer is what is defined: exactly these placements, or exactly this fault. Of want of memory nothing is said.
+abbrev pub IsDerived : Result (List Places) DeriveFault → Result (List Places) DeriveFault → Type 0
+IsDerived r (Ok pls) = r ≡ Ok pls
+IsDerived r (Err f) = (f ≡ fault.Memory) ⊎ (r ≡ Err f)
+
+-- The first fault of a list.
+pub record IsFirstErr (rs : List (Result Placed DeriveFault)) (f : DeriveFault) : Type 0 where
+  pub before : List Placed
+  pub after : List (Result Placed DeriveFault)
+  pub all : rs ≡ map (λ p. Ok p) before ++ Err f ∷ after
+
+-- All places of a list, or its first fault, or want of memory.
+abbrev pub IsFound : List (Result Placed DeriveFault) → Result (List Placed) DeriveFault → Type 0
+IsFound rs (Ok ps) = rs ≡ map (λ p. Ok p) ps
+IsFound rs (Err f) = (f ≡ fault.Memory) ⊎ IsFirstErr rs f

@@ -1,0 +1,197 @@
+//! The publics of several modules, by name.
+
+ghost use Rattle.std.specs.Prelude.{◌≡◌, ◌+◌, [], ◌∷◌, length, OnOk, IfOk, List, filter_map};
+ghost use Rattle.omf_check.specs.Module.{records_in};
+ghost use Rattle.omf_check.specs.WellFormed.{recs};
+ghost use Rattle.omf_records.specs.Seen.{contents_seen};
+ghost use Rattle.omf_derive.specs.Derive.{PlacedPublic, paragraph, base_of, public_at, publics_at, of_name, one_public, placed_publics, publics, all_publics};
+ghost use Rattle.omf_derive.specs.PublicTable.{IsTable, HasMore, found_after, placed_modules};
+
+use crate::fault::DeriveFault;
+use omf_check::Checked;
+use omf_placement::{Frame, Placed, Placement};
+use omf_records::{Items, Public, Rec};
+use std::alloc::{AllocError, Global};
+use std::collections::BTreeMap;
+
+/// What stands under a name.
+#[derive(Clone, Copy, Drop)]
+pub enum Found {
+    /// One public, at an address that may be 2^32 or more.
+    One {
+        /// Its address.
+        address: u64,
+        /// Its frame.
+        frame: Frame,
+    },
+    /// More than one.
+    Several,
+}
+
+/// A frame that counts from address 0.
+const NO_FRAME: Frame = Frame {
+    base: 0,
+    selector: 0,
+};
+
+/// What stands for a place that a placement does not have.
+const NO_PLACE: Placed = Placed {
+    address: 0,
+    frame: NO_FRAME,
+};
+
+/// The place of a frame's number: the frame begins there.
+fn paragraph(number: u16) -> Placed
+    ensures { result ≡ paragraph number }
+{
+    let base = 16 * u32::from(number);
+    let frame = Frame {
+        base,
+        selector: number,
+    };
+    Placed {
+        address: base,
+        frame,
+    }
+}
+
+/// Where the base of a PUBDEF lies that names a group and a segment by their indices, and where that is 0 a frame by its number.
+fn base_of(placement: &Placement, group: usize, segment: usize, number: Option<u16>) -> Placed
+    ensures { result ≡ base_of placement.now group segment number }
+{
+    let base = if segment == 0 {
+        paragraph(number.unwrap_or(0))
+    } else {
+        match placement.segment(segment) {
+            Some((address, frame)) => Placed { address, frame },
+            None => NO_PLACE,
+        }
+    };
+    let frame = if group == 0 {
+        base.frame
+    } else {
+        placement.group(group).unwrap_or(NO_FRAME)
+    };
+    Placed {
+        address: base.address,
+        frame,
+    }
+}
+
+/// The publics of some modules.
+#[derive(Drop)]
+pub struct PublicTable<'a> {
+    by_name: BTreeMap<&'a [u8], Found>,
+}
+
+/// What stands under a name once there is one more public of it, where this stood there before.
+fn with_one_more(found: Option<Found>, address: u64, frame: Frame) -> Found
+    ensures { result ≡ found_after (record { address = address; frame = frame }) found }
+{
+    match found {
+        None => Found::One { address, frame },
+        Some(_) => Found::Several,
+    }
+}
+
+impl<'a> PublicTable<'a> {
+    /// Adds a public.
+    fn add(&mut self, name: &'a [u8], address: u64, frame: Frame) -> Result<(), AllocError>
+        ensures { OnOk result (HasMore self.old.by_name self.new.by_name (public_at name.entry.now address frame ∷ [])) }
+    {
+        let found = with_one_more(self.by_name.get(&name).copied(), address, frame);
+        self.by_name.insert(name, found)?;
+        Ok(())
+    }
+
+    /// Adds a public of a PUBDEF with this base.
+    fn add_public(&mut self, public: &Public<'a>, base: Placed) -> Result<(), AllocError>
+        ensures { OnOk result (HasMore self.old.by_name self.new.by_name (public_at public.now.name (base.address + public.now.offset) base.frame ∷ [])) }
+    {
+        let address = u64::from(base.address) + u64::from(public.offset);
+        self.add(public.name.0, address, base.frame)
+    }
+
+    /// Adds the publics of a PUBDEF with this base.
+    fn add_items(&mut self, items: Items<Public<'a>>, base: Placed) -> Result<(), AllocError>
+        ensures { OnOk result (HasMore self.old.by_name self.new.by_name (publics_at base items.entry)) }
+    {
+        for public in items {
+            self.add_public(&public.item, base)?;
+        }
+        Ok(())
+    }
+
+    /// Adds the publics of a record.
+    fn add_record(&mut self, rec: &Rec<'a>, placement: &Placement) -> Result<(), AllocError>
+        ensures { OnOk result (HasMore self.old.by_name self.new.by_name (placed_publics placement.now (contents_seen rec.now))) }
+    {
+        match rec {
+            Rec::Publics {
+                group,
+                segment,
+                frame,
+                publics,
+                ..
+            } => {
+                let group = usize::from(group.item.0);
+                let segment = usize::from(segment.item.0);
+                self.add_items(publics.iter(), base_of(placement, group, segment, *frame))
+            }
+            _ => Ok(()),
+        }
+    }
+
+    /// Adds the publics of a module.
+    fn add_module(&mut self, module: &'a Checked, placement: &Placement) -> Result<(), AllocError>
+        ensures { OnOk result (HasMore self.old.by_name self.new.by_name (publics (recs (records_in «module».entry.now.bytes), placement.now))) }
+    {
+        for (_, rec) in module.records() {
+            self.add_record(&rec, placement)?;
+        }
+        Ok(())
+    }
+
+    /// The publics of modules, each with its placement.
+    pub(crate) fn of(
+        alloc: Global,
+        modules: &'a [Checked],
+        placements: &[Placement],
+    ) -> Result<PublicTable<'a>, AllocError>
+        requires { length placements.now ≡ length modules.now }
+        ensures { IfOk result (λ t. IsTable t.by_name (all_publics (placed_modules modules.entry.now placements.now))) }
+    {
+        let mut table = PublicTable {
+            by_name: BTreeMap::new(alloc),
+        };
+        for (j, module) in modules.iter().enumerate() {
+            table.add_module(module, &placements[j])?;
+        }
+        Ok(table)
+    }
+
+    /// The place of an external of this name, which is that of the one public of its name.
+    pub(crate) fn place_of(
+        &self,
+        name: &'a [u8],
+        module: u32,
+        external: u16,
+    ) -> Result<Placed, DeriveFault>
+        ensures { (among : List PlacedPublic) → IsTable self.now.by_name among → result ≡ one_public «module» external (filter_map (of_name name.now) among) }
+    {
+        match self.by_name.get(&name) {
+            None => Err(DeriveFault::Undefined { module, external }),
+            Some(Found::Several) => Err(DeriveFault::Twice { module, external }),
+            Some(Found::One { address, frame }) => {
+                if *address < 1 << 32 {
+                    Ok(Placed {
+                        address: *address as u32,
+                        frame: *frame,
+                    })
+                } else {
+                    Err(DeriveFault::TooHigh { module, external })
+                }
+            }
+        }
+    }
+}

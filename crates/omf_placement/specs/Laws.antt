@@ -1,0 +1,33 @@
+-- Laws of placement texts and of the frames that groups take, each the contract of a function of the same name.
+use Rattle.std.specs.Prelude.{◌≡◌, ◌↔◌, ℕ, ◌<◌, ◌≤◌, List, Some, ◌∷◌, ◌++◌, map, All}
+use Rattle.omf_records.specs.Values.{GroupItem, Rec}
+use Rattle.omf_check.specs.Tables.{groups, entry}
+use Rattle.omf_placement.specs.declared.frame.Frame.{Frame}
+use Rattle.omf_placement.specs.Entries.{Entry, Spells}
+use Rattle.omf_placement.specs.EntryReading.{entry_said}
+use Rattle.omf_placement.specs.Placement.{Placed, real_group}
+
+-- The entry that is computed of what a line says is the entry that it spells.
+abbrev pub EntriesAreRead : Type 0
+EntriesAreRead = (text : List ℕ) (e : Entry) → (entry_said text ≡ Some e) ↔ Spells text e
+
+-- A place is the lowest of a list, and the first of those that lie lowest.
+pub record IsLowest (ps : List Placed) (p : Placed) : Type 0 where
+  pub before : List Placed
+  pub after : List Placed
+  pub all : ps ≡ before ++ p ∷ after
+  pub higher : All (λ q. p.address < q.address) before
+  pub not_lower : All (λ q. p.address ≤ q.address) after
+
+-- A group takes the frame of its lowest member: it is there, each of its members has a place, and this is the lowest place's frame.
+pub record TakesFrame (m : List Rec) (xs : List Placed) (i : ℕ) (f : Frame) : Type 0 where
+  pub group : GroupItem
+  pub defined : entry (groups m) i ≡ Some group
+  pub members : List Placed
+  pub each_placed : map (λ x. entry xs x.item.item) group.members ≡ map Some members
+  pub member : Placed
+  pub is_lowest : IsLowest members member
+  pub frame : member.frame ≡ f
+
+abbrev pub GroupsTakeTheLowest : Type 0
+GroupsTakeTheLowest = (m : List Rec) (xs : List Placed) (i : ℕ) (f : Frame) → (real_group m xs i ≡ Some f) ↔ TakesFrame m xs i f

@@ -1,0 +1,80 @@
+-- Placement texts, and the placements that they give a module (this profile's rule).
+use Rattle.std.specs.Prelude.{◌≡◌, ℕ, List, [], ◌∷◌, map, filter_map, Option, Some, None, Result, Ok, Err, IsOk, ◌==◌}
+use Rattle.std.specs.List.{enumerate_from, slice_split}
+use Rattle.omf_placement.specs.declared.fault.TextFault.{TextFault}
+use Rattle.omf_placement.specs.declared.fault.TextFault.TheVariants.{Memory, Line}
+use Rattle.omf_placement.specs.declared.frame.Frame.{Frame}
+use Rattle.omf_records.specs.Values.{Rec}
+use Rattle.omf_placement.specs.Placement.{Places, Placed, real_group}
+use Rattle.omf_placement.specs.Entries.{Entry, SegmentEntry, GroupEntry, ExternalEntry, said}
+use Rattle.omf_placement.specs.EntryReading.{entry_said}
+
+-- The lines of a text, which end at a line feed or at the end of the text, each with its number from 1 and its entry, if it has one.
+abbrev pub numbered_lines : List ℕ → List (ℕ × List ℕ)
+numbered_lines text = enumerate_from 1 (slice_split (λ c. c == 10) text)
+
+abbrev pub line_entries : List ℕ → List (ℕ × Option Entry)
+line_entries text = map (λ l. (l.0, entry_said (said l.1))) (numbered_lines text)
+
+-- The numbers of the lines that are neither empty nor an entry.
+abbrev pub bad_line : ℕ × Option Entry → Option ℕ
+bad_line (n, None) = Some n
+bad_line (n, Some e) = None
+
+abbrev pub bad_lines : List ℕ → List ℕ
+bad_lines text = filter_map bad_line (line_entries text)
+
+-- The entries of each letter, in their order; those of groups with the numbers of their lines.
+abbrev pub segment_entry : ℕ × Option Entry → Option Placed
+segment_entry (n, Some (SegmentEntry p)) = Some p
+segment_entry _ = None
+
+abbrev pub group_entry : ℕ × Option Entry → Option (ℕ × Option Frame)
+group_entry (n, Some (GroupEntry f)) = Some (n, f)
+group_entry _ = None
+
+abbrev pub external_entry : ℕ × Option Entry → Option Placed
+external_entry (n, Some (ExternalEntry p)) = Some p
+external_entry _ = None
+
+pub record Draft : Type 0 where
+  pub segments : List Placed
+  pub groups : List (ℕ × Option Frame)
+  pub externals : List Placed
+
+abbrev pub draft_of : List ℕ → Draft
+draft_of text = record { segments = filter_map segment_entry (line_entries text); groups = filter_map group_entry (line_entries text); externals = filter_map external_entry (line_entries text) }
+
+abbrev pub ok_or_first : {A : Type 0} → A → List ℕ → Result A ℕ
+ok_or_first a [] = Ok a
+ok_or_first a (n ∷ ns) = Err n
+
+-- The draft that a text spells, or the first line at fault. No module is needed for it, so that a line that is not understood is named before a group
+-- that is not found.
+abbrev pub parsed : List ℕ → Result Draft ℕ
+parsed text = ok_or_first (draft_of text) (bad_lines text)
+
+-- An answer is what is defined: exactly this value, or exactly this line at fault. Want of memory is answered only where no line is at fault.
+abbrev pub IsAnswer : {A : Type 0} → Result A ℕ → Result A TextFault → Type 0
+IsAnswer r (Ok a) = r ≡ Ok a
+IsAnswer r (Err (Line n)) = r ≡ Err n
+IsAnswer r (Err Memory) = IsOk r
+
+-- The frame of the k-th group entry, k counted from 1 over all of them without bound: its own, or that of the lowest member of the k-th group.
+abbrev pub resolved_group : List Rec → List Placed → ℕ × (ℕ × Option Frame) → Option Frame
+resolved_group m placed_segments (k, (n, Some f)) = Some f
+resolved_group m placed_segments (k, (n, None)) = real_group m placed_segments k
+
+-- the line of a group entry whose frame is not found
+abbrev pub line_unless : ℕ → Option Frame → Option ℕ
+line_unless n (Some f) = None
+line_unless n None = Some n
+
+abbrev pub unresolved_group : List Rec → List Placed → ℕ × (ℕ × Option Frame) → Option ℕ
+unresolved_group m placed_segments g = line_unless g.1.0 (resolved_group m placed_segments g)
+
+-- The placement that a draft gives a module, or the line of the first group whose frame is not found. All segment entries count, also those after it.
+abbrev pub resolved : List Rec → Draft → Result Places ℕ
+resolved m d = let numbered = enumerate_from 1 d.groups in
+    ok_or_first (record { segments = d.segments; groups = filter_map (resolved_group m d.segments) numbered; externals = d.externals })
+    (filter_map (unresolved_group m d.segments) numbered)

@@ -1,0 +1,18 @@
+//! Placements: the frames and addresses of a module's segments, groups and externals, the frames that groups take from their members, and the texts that
+//! placements are written in.
+#![tactic(auto)]
+
+mod cut;
+mod entry;
+mod fault;
+mod frame;
+mod group;
+pub mod laws;
+mod placement;
+mod text;
+
+pub use fault::TextFault;
+pub use frame::{Frame, Placed};
+pub use group::real_group;
+pub use placement::Placement;
+pub use text::{Draft, parse_placement};

@@ -1,5 +1,0 @@
-use Rattle.omf_reloc.proofs.EntryLaws.{entry-from, entry-to}
-use Rattle.omf_reloc.proofs.laws.entries_are_read.Goals as goal
-
-pub returns : goal.returns
-returns c = λ text e. (entry-from text e, entry-to text e)

@@ -1,5 +1,0 @@
-use Rattle.omf_reloc.proofs.LowestLaws.{takes-from, takes-to}
-use Rattle.omf_reloc.proofs.laws.groups_take_the_lowest.Goals as goal
-
-pub returns : goal.returns
-returns c = λ m xs i f. (takes-from m xs i f, takes-to m xs i f)

@@ -1,7 +1,0 @@
-use Rattle.omf_reloc.specs.Derive.{publics_at}
-use Rattle.omf_reloc.proofs.TableLaws.{IsFilled}
-use Rattle.omf_reloc.proofs.publics.PublicTable.add_items.Given as goal
-
--- the publics so far are in the table
-abbrev pub invariant-loop-public : goal.invariant-loop-public
-invariant-loop-public l = IsFilled l.fn.self.by_name l.self.by_name (publics_at l.base l.public-iterator) (publics_at l.base l.fn.items)
