@@ -1,6 +1,7 @@
 //! A module that was checked.
 
-ghost use Rattle.std.specs.Prelude.{◌≡◌, ◌≤◌, length, drop, option_map};
+ghost use Rattle.std.specs.Prelude.{◌≡◌, ◌≤◌, Some, length, drop, option_map};
+ghost use Rattle.omf_frame.specs.Bytes.{last};
 ghost use Rattle.omf_image.specs.Limits.{profile_limits};
 ghost use Rattle.omf_check.specs.Module.{records_in, IsChecked};
 ghost use Rattle.omf_check.specs.Listed.{placed_from};
@@ -14,7 +15,7 @@ ghost use Rattle.omf_check.specs.Tables.{names, segments, groups, externals, ent
 ghost use Rattle.omf_check.specs.WellFormed.{recs, IsWellFormed};
 
 use crate::profile::Profile;
-use crate::records::{Records, first_record};
+use crate::records::{Records, first_record, last_record};
 use crate::segment::SegInfo;
 use crate::table::Tables;
 use omf_frame::{Field, Name};
@@ -143,6 +144,14 @@ impl Checked {
         ensures holds { ModuleHolds profile_limits (recs (records_in self.now.bytes)) }
     {
         Records::new(&self.bytes)
+    }
+
+    /// The record that it ends with: its MODEND. It is found by the lengths of the records before it, which are not read again.
+    pub fn end(&self) -> Rec<'_>
+        ensures last { Some (rec_seen result) ≡ last (recs (records_in self.now.bytes)) }
+        ensures holds { ModuleHolds profile_limits (recs (records_in self.now.bytes)) }
+    {
+        last_record(&self.bytes)
     }
 
     /// A name, by its index from 1; `None` outside the table.

@@ -608,6 +608,7 @@ fn shows_tables(rt: HostRuntime) -> Result<(), Fail> {
     assert_eq!(rt; checked.name(3).is_none(), true);
     assert_eq!(rt; checked.group(1).is_none(), true);
     assert_eq!(rt; checked.external(1).is_none(), true);
+    assert_eq!(rt; checked.end().kind(), 0x8A);
     let mut records = checked.records();
     for (number, start) in [(0, 0), (1, 6), (2, 13), (3, 23), (4, 34), (5, 43)] {
         let place = Place {
