@@ -1,0 +1,3 @@
+pub mod Gathered
+pub mod TableLaws
+pub mod LaidLaws

@@ -1,0 +1,4 @@
+pub mod Wants
+pub mod Room
+pub mod Layout
+pub mod Spots
