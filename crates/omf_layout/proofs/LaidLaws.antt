@@ -1,7 +1,9 @@
 -- What is laid one after another.
-use Rattle.std.proofs.Common.{◌≡◌, ℕ, List, [], ◌∷◌, ◌++◌, refl, sym, ap, ◌∙◌, append-nil, append_assoc}
+use Rattle.std.proofs.Common.{◌≡◌, ℕ, List, [], ◌∷◌, ◌++◌, refl, sym, ap, ap₂, ◌∙◌, append-nil, append_assoc}
 use Rattle.std.specs.Prelude.{Option, Some, None, option_map, option_and_then}
+use Rattle.omf_reloc.specs.Placement.{Places}
 use Rattle.omf_layout.specs.Layout.{Laid, and_then_more, all_laid}
+use Rattle.omf_layout.specs.Spots.{segments_alone}
 
 module _ {A B : Type 0} (lay : ℕ → A → Option (Laid B)) where
   more-more : (before next : List B) (rest : Option (Laid (List B))) → and_then_more before (and_then_more next rest) ≡ and_then_more (before ++ next) rest
@@ -35,3 +37,7 @@ module _ {A B : Type 0} (lay : ℕ → A → Option (Laid B)) where
     same : (o : Option (Laid (List B))) → and_then_more [] o ≡ o
     same None = refl
     same (Some l) = refl
+
+-- A placement of segments alone.
+pub alone-same : (pl : Places) (free : ℕ) → pl.groups ≡ [] → pl.externals ≡ [] → Some (segments_alone (record { what = pl.segments; free = free })) ≡ Some (pl, free)
+alone-same pl free g e = ap₂ (λ gs es. Some (record { segments = pl.segments; groups = gs; externals = es }, free)) (sym g) (sym e)

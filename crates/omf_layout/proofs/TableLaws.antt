@@ -1,11 +1,13 @@
 -- Alignments and rooms are as many as the tables have segments and externals.
-use Rattle.std.proofs.Common.{◌≡◌, ℕ, zero, suc, ◌+◌, ◌<◌, List, [], ◌∷◌, ◌++◌, length, drop, get_or, refl, sym, ap, ap₂, ◌∙◌, arith, length-append}
-use Rattle.std.specs.Prelude.{map, flat_map, Option, Some, None, slice_get}
-use Rattle.std.specs.List.{zip}
+use Rattle.std.proofs.Common.{◌≡◌, ℕ, zero, suc, ◌+◌, ◌<◌, List, [], ◌∷◌, ◌++◌, length, drop, refl, sym, ap, ap₂, ◌∙◌, arith, length-append, append_assoc, ◌≤◌, ◌-◌}
+use Rattle.std.proofs.Math.Seq.{drop-nil}
+use Rattle.std.specs.Prelude.{map, flat_map, Option, Some, None, slice_get, cond}
+use Rattle.std.specs.List.{zip, range_with_len}
+use Rattle.std.proofs.lemmas.Bool.{le-leb}
 use Rattle.std.proofs.lemmas.List.{length-map}
 use Rattle.std.proofs.lemmas.Option.{none-some, same_Some}
 use Rattle.omf_records.specs.Values.{Rec, Contents, Header, Comment, Names, Segment, Group, Externs, Publics, Communals, Plain, Iterated, Fixups, ModEnd, Carried}
-use Rattle.omf_check.specs.Tables.{segments, externals, defined_segments, defined_externals}
+use Rattle.omf_check.specs.Tables.{segments, externals, entry, defined_segments, defined_externals}
 use Rattle.omf_layout.specs.Wants.{alignments, alignments_in, rooms, rooms_in, room_of}
 
 one-alignment : (kind : ℕ) (c : Contents) → length (alignments_in c) ≡ length (defined_segments kind c)
@@ -46,19 +48,29 @@ pub length-rooms : (m : List Rec) → length (rooms m) ≡ length (externals m)
 length-rooms [] = refl
 length-rooms (r ∷ m) = length-append (rooms_in r.contents) (rooms m) ∙ ap₂ (λ a b. a + b) (some-rooms r.contents) (length-rooms m) ∙ sym (length-append (defined_externals r.contents) (externals m))
 
--- The next pair of two lists.
-pub next-pair : {A B : Type 0} (xs : List A) (ys : List B) (j : ℕ) (x : A) (y : B) → slice_get xs j ≡ Some x → y ≡ get_or ys j y → j < length ys → drop j (zip xs ys) ≡ (x, y) ∷ drop (j + 1) (zip xs ys)
-next-pair [] ys j x y e g h = absurd (none-some x e)
-next-pair (a ∷ xs) [] j x y e g h = absurd (omega arith)
-next-pair (a ∷ xs) (b ∷ ys) zero x y e g h = ap₂ (λ u v. (u, v) ∷ zip xs ys) (same_Some a x e) (sym g)
-next-pair (a ∷ xs) (b ∷ ys) (suc j) x y e g h =
-    let same : suc (j + 1) ≡ suc j + 1 = omega arith in
-    next-pair xs ys j x y e g (omega arith) ∙ ap (λ n. (x, y) ∷ drop n (zip (a ∷ xs) (b ∷ ys))) same
+-- The entry of an index from 1, by its position.
+pub entry-at : {A : Type 0} (xs : List A) (j : ℕ) → entry xs (j + 1) ≡ slice_get xs j
+entry-at xs j = let back : j + 1 - 1 ≡ j = omega arith in ap₂ (λ b k. cond b (slice_get xs k) None) (le-leb 1 (j + 1) (omega arith)) back
 
-pub no-pair : {A B : Type 0} (xs : List A) (ys : List B) (j : ℕ) → length xs ≡ j → drop j (zip xs ys) ≡ []
-no-pair [] ys zero h = refl
-no-pair [] ys (suc j) h = absurd (omega arith)
-no-pair (x ∷ xs) [] zero h = absurd (omega arith)
-no-pair (x ∷ xs) [] (suc j) h = refl
+-- The next pair of two lists.
+pub next-pair : {A B : Type 0} (xs : List A) (ys : List B) (j : ℕ) (x : A) (y : B) → slice_get xs j ≡ Some x → slice_get ys j ≡ Some y → drop j (zip xs ys) ≡ (x, y) ∷ drop (j + 1) (zip xs ys)
+next-pair [] ys j x y e g = absurd (none-some x e)
+next-pair (a ∷ xs) [] j x y e g = absurd (none-some y g)
+next-pair (a ∷ xs) (b ∷ ys) zero x y e g = ap₂ (λ u v. (u, v) ∷ zip xs ys) (same_Some a x e) (same_Some b y g)
+next-pair (a ∷ xs) (b ∷ ys) (suc j) x y e g =
+    let same : suc (j + 1) ≡ suc j + 1 = omega arith in
+    next-pair xs ys j x y e g ∙ ap (λ n. (x, y) ∷ drop n (zip (a ∷ xs) (b ∷ ys))) same
+
+pub no-pair : {A B : Type 0} (xs : List A) (ys : List B) (j : ℕ) → length xs ≤ j → drop j (zip xs ys) ≡ []
+no-pair [] ys j h = drop-nil j
+no-pair (x ∷ xs) [] j h = drop-nil j
 no-pair (x ∷ xs) (y ∷ ys) zero h = absurd (omega arith)
 no-pair (x ∷ xs) (y ∷ ys) (suc j) h = no-pair xs ys j (omega arith)
+
+-- One more number of a range.
+pub one-more : {A : Type 0} (g : ℕ → A) (old new all : List A) (x : A) (k n : ℕ) → k < n → x ≡ g k → new ≡ old ++ x ∷ [] → old ++ map g (range_with_len k (n - k)) ≡ all → new ++ map g (range_with_len (k + 1) (n - (k + 1))) ≡ all
+one-more g old new all x k n h e f whole =
+    let next : n - k ≡ suc (n - (k + 1)) = omega arith in
+    ap (λ xs. xs ++ map g (range_with_len (k + 1) (n - (k + 1)))) (f ∙ ap (λ y. old ++ y ∷ []) e)
+    ∙ append_assoc old (g k ∷ []) (map g (range_with_len (k + 1) (n - (k + 1))))
+    ∙ ap (λ j. old ++ map g (range_with_len k j)) (sym next) ∙ whole

@@ -1,6 +1,6 @@
 //! Layouts of a module.
 
-ghost use Rattle.std.specs.Prelude.{◌≡◌, ◌≤◌, ◌^◌, [], IfOk, OnOk, IfSome, length, option_map};
+ghost use Rattle.std.specs.Prelude.{◌≡◌, ◌≤◌, ◌^◌, [], IfOk, OnOk, IfSome, length, option_map, slice_get, Some, ◌<◌};
 ghost use Rattle.omf_records.specs.Seen.{map_ok};
 ghost use Rattle.omf_check.specs.Module.{records_in};
 ghost use Rattle.omf_check.specs.Tables.{segments};
@@ -42,6 +42,14 @@ const NO_FRAME: Frame = Frame {
     selector: 0,
 };
 
+/// The alignment at a position.
+fn alignment_at(each: &[Alignment], i: u16) -> Alignment
+    requires { i < length each.now }
+    ensures { slice_get each.now i ≡ Some result }
+{
+    each[usize::from(i)]
+}
+
 /// A placement of the segments, and the first free address behind them.
 fn lay_segments(
     alloc: Global,
@@ -61,7 +69,7 @@ fn lay_segments(
         let Some(segment) = module.segment(before + 1) else {
             unreachable!()
         };
-        let alignment = each[usize::from(before)];
+        let alignment = alignment_at(each, before);
         let Some(spot) = segment_spot(options, free, segment, alignment) else {
             return Err(LayoutFault::NoRoom);
         };
