@@ -1,3 +1,4 @@
 pub mod Gathered
 pub mod TableLaws
 pub mod LaidLaws
+pub mod Lines

@@ -2,3 +2,5 @@ pub mod Wants
 pub mod Room
 pub mod Layout
 pub mod Spots
+pub mod Quoted
+pub mod Draft

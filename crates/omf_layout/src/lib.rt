@@ -6,6 +6,7 @@ mod alignment;
 mod fault;
 mod laying;
 mod options;
+mod printing;
 mod room;
 mod spot;
 mod wants;

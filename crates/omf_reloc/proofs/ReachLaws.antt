@@ -218,7 +218,7 @@ fits-from pl m h =
       absolute = absolute-from pl m n (nil-right (a ++ b ++ c ++ d ++ e ++ f) (misplaced_all pl 1 (segments m)) h);
     }
 
-fits-to : (pl : Places) (m : List Rec) → Fits pl m → misfits pl m ≡ []
+pub fits-to : (pl : Places) (m : List Rec) → Fits pl m → misfits pl m ≡ []
 fits-to pl m fit =
     let ns = length (segments m) in let ng = length (groups m) in let ne = length (externals m) in
     let gs = length pl.segments in let gg = length pl.groups in let ge = length pl.externals in
