@@ -33,13 +33,13 @@ abbrev pub segment_entry : Frames → Placed → List ℕ
 segment_entry Real p = if is_same_frame (real_frame p.address) p.frame then in_words (codes "S" ∷ number p.address ∷ codes "real" ∷ []) else placed_entry (codes "S") p
 segment_entry (Flat selector) p = placed_entry (codes "S") p
 
--- Its comment: index, name, class, alignment and length, all numbers decimal.
-abbrev pub alignment_words : Option (ℕ × ℕ) → Alignment → List (List ℕ)
-alignment_words None a = codes "align" ∷ decimal (bytes_aligned a) ∷ []
-alignment_words (Some p) a = codes "absolute" ∷ []
+-- Its comment: index, name, class, alignment in bytes and length, all numbers decimal.
+abbrev pub alignment_text : Option (ℕ × ℕ) → Alignment → List ℕ
+alignment_text None a = codes "align " ++ decimal (bytes_aligned a)
+alignment_text (Some p) a = codes "absolute"
 
 abbrev pub segment_comment : List Rec → ℕ → SegInfo → Alignment → List (List ℕ)
-segment_comment m i s a = decimal i ∷ named (names m) s.name ∷ codes "class" ∷ named (names m) s.class ∷ alignment_words s.absolute a ++ codes "length" ∷ decimal s.length ∷ []
+segment_comment m i s a = decimal i ∷ named (names m) s.name ∷ codes "class" ∷ named (names m) s.class ∷ alignment_text s.absolute a ∷ codes "length" ∷ decimal s.length ∷ []
 
 abbrev pub segment_line : Frames → List Rec → ℕ × ((SegInfo × Alignment) × Placed) → List ℕ
 segment_line frames m s = line (segment_entry frames s.1.1) (segment_comment m s.0 s.1.0.0 s.1.0.1)
@@ -60,12 +60,12 @@ abbrev pub group_line : Frames → List Rec → List Placed → ℕ × (GroupIte
 group_line frames m xs g = line (group_entry frames m xs g.0 g.1.1) (decimal g.0 ∷ named (names m) g.1.0.name.item ∷ [])
 
 -- An external's comment: index, name, and what it asks for; where it is no communal, that its place is not known.
-abbrev pub room_words : Option ℕ → List (List ℕ)
-room_words None = codes "to" ∷ codes "be" ∷ codes "filled" ∷ codes "in" ∷ []
-room_words (Some size) = codes "communal" ∷ codes "length" ∷ decimal size ∷ []
+abbrev pub room_text : Option ℕ → List ℕ
+room_text None = codes "to be filled in"
+room_text (Some size) = codes "communal length " ++ decimal size
 
 abbrev pub external_line : ℕ × ((List ℕ × Option ℕ) × Placed) → List ℕ
-external_line e = line (placed_entry (codes "E") e.1.1) (decimal e.0 ∷ quoted e.1.0.0 ∷ room_words e.1.0.1)
+external_line e = line (placed_entry (codes "E") e.1.1) (decimal e.0 ∷ quoted e.1.0.0 ∷ room_text e.1.0.1 ∷ [])
 
 abbrev pub draft_text : Frames → List Rec → LaidOut → List ℕ
 draft_text frames m l =

@@ -4,3 +4,4 @@ pub mod Layout
 pub mod Spots
 pub mod Quoted
 pub mod Draft
+pub mod Laws

@@ -36,6 +36,39 @@ impl Model for Layout {
     ghost view = { λ l. record { places = l.placement; alignments = l.alignments.items; rooms = l.rooms.items; free = l.free } };
 }
 
+impl Layout {
+    ghost use Rattle.omf_check.specs.Tables.{entry};
+
+    /// The addresses and frames that the module's entries are given.
+    pub fn placement(&self) -> &Placement
+        ensures { result.now ≡ self.now.places }
+    {
+        &self.placement
+    }
+
+    /// The alignment of a segment, by its index from 1; `None` outside the table.
+    pub fn alignment(&self, i: u16) -> Option<Alignment>
+        ensures { result ≡ entry self.now.alignments i }
+    {
+        self.alignments.get(usize::from(i).checked_sub(1)?).copied()
+    }
+
+    /// The bytes that an external asks for, by its index from 1: none of an external that is no communal. `None` outside the table.
+    pub fn room(&self, i: u16) -> Option<Option<u64>>
+        ensures { result ≡ entry self.now.rooms i }
+    {
+        self.rooms.get(usize::from(i).checked_sub(1)?).copied()
+    }
+
+    /// The first address that is free behind the segments and the communals: what is laid from there, as a further module, lies apart
+    /// from them.
+    pub fn end(&self) -> u64
+        ensures { result ≡ self.now.free }
+    {
+        self.free
+    }
+}
+
 /// A frame that counts from address 0.
 const NO_FRAME: Frame = Frame {
     base: 0,

@@ -3,7 +3,9 @@
 #![tactic(auto)]
 
 mod alignment;
+mod draft;
 mod fault;
+pub mod laws;
 mod laying;
 mod options;
 mod printing;
@@ -12,6 +14,10 @@ mod spot;
 mod wants;
 
 pub use alignment::Alignment;
+pub use draft::draft_text;
 pub use fault::LayoutFault;
 pub use laying::{Layout, layout_of};
 pub use options::{Frames, Options};
+
+#[cfg(test)]
+mod tests;

@@ -1,9 +1,8 @@
 //! The lines of a placement text with comments.
 
-ghost use Rattle.std.specs.Prelude.{◌≡◌, ◌++◌, ◌∷◌, [], OnOk, string_bytes, codes, decimal, unwrap_or, option_map, ◌<◌};
-ghost use Rattle.omf_reloc.specs.Entries.{in_words};
+ghost use Rattle.std.specs.Prelude.{◌≡◌, ◌++◌, ◌∷◌, [], OnOk, string_bytes, codes, decimal, unwrap_or, option_map, Some, ◌<◌};
 ghost use Rattle.omf_reloc.specs.Placement.{real_frame};
-ghost use Rattle.omf_layout.specs.Draft.{placed_entry, is_same_frame, segment_entry, frame_entry, frame_or_real, alignment_words, room_words};
+ghost use Rattle.omf_layout.specs.Draft.{placed_entry, is_same_frame, segment_entry, frame_entry, frame_or_real, alignment_text, room_text};
 ghost use Rattle.omf_layout.specs.Quoted.{number, hex, is_plain, escaped, quoted};
 
 use crate::alignment::Alignment;
@@ -146,7 +145,7 @@ pub fn print_segment_room(
     alignment: Alignment,
     length: u64,
 ) -> Result<(), AllocError>
-    ensures { OnOk result (string_bytes text.new ≡ string_bytes text.old ++ 32 ∷ in_words (alignment_words absolute alignment ++ codes "length" ∷ decimal length ∷ []) ++ 10 ∷ []) }
+    ensures { OnOk result (string_bytes text.new ≡ string_bytes text.old ++ 32 ∷ alignment_text absolute alignment ++ codes " length " ++ decimal length ++ 10 ∷ []) }
 {
     let align = alignment.bytes();
     match absolute {
@@ -155,12 +154,19 @@ pub fn print_segment_room(
     }
 }
 
+/// What a communal asks for, and the end of the line.
+fn print_communal(text: &mut String, size: u64) -> Result<(), AllocError>
+    ensures { OnOk result (string_bytes text.new ≡ string_bytes text.old ++ 32 ∷ room_text (Some size) ++ 10 ∷ []) }
+{
+    write!(text, " communal length {size}\n")
+}
+
 /// What an external asks for, and the end of the line.
 pub fn print_room(text: &mut String, room: Option<u64>) -> Result<(), AllocError>
-    ensures { OnOk result (string_bytes text.new ≡ string_bytes text.old ++ 32 ∷ in_words (room_words room) ++ 10 ∷ []) }
+    ensures { OnOk result (string_bytes text.new ≡ string_bytes text.old ++ 32 ∷ room_text room ++ 10 ∷ []) }
 {
     match room {
-        Some(size) => write!(text, " communal length {size}\n"),
+        Some(size) => print_communal(text, size),
         None => text.push_str(" to be filled in\n"),
     }
 }
