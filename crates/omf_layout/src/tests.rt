@@ -4,7 +4,8 @@ use crate::{Frames, LayoutFault, Options, draft_text, layout_of};
 use omf_check::{CheckFault, Checked, Profile, check};
 use omf_frame::Reading;
 use omf_reloc::{parse_placement, reach};
-use std::alloc::Global;
+use std::alloc::{AllocGlobal, Global};
+use std::process::Abort;
 use std::test::Fail;
 
 // A header, an empty name and a name T, and the end. Checksum bytes of 0 are accepted.

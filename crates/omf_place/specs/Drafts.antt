@@ -1,5 +1,6 @@
 -- What a draft is.
-use Rattle.std.specs.Prelude.{◌≡◌, List, Some, string_bytes, String, Global}
+use Rattle.std.specs.Prelude.{◌≡◌, List, Some, string_bytes, String}
+use Rattle.std.specs.Global.{Global}
 use Rattle.omf_records.specs.Values.{Rec}
 use Rattle.omf_layout.specs.declared.options.Options.{Options}
 use Rattle.omf_layout.specs.Draft.{draft_text}
