@@ -201,11 +201,7 @@ fn print_external(
 }
 
 /// A line for each external.
-fn print_externals(
-    text: &mut String,
-    module: &Checked,
-    layout: &Layout,
-) -> Result<(), AllocError>
+fn print_externals(text: &mut String, module: &Checked, layout: &Layout) -> Result<(), AllocError>
     requires roomed { length layout.now.rooms ≡ length (externals (recs (records_in «module».now.bytes))) }
     requires placed { length layout.now.places.externals ≡ length (externals (recs (records_in «module».now.bytes))) }
     ensures { OnOk result (string_bytes text.new ≡ string_bytes text.old ++ flat_map external_line (enumerate_from 1 (zip (zip (externals (recs (records_in «module».now.bytes))) layout.now.rooms) layout.now.places.externals))) }

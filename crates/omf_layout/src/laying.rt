@@ -123,11 +123,7 @@ fn group_frame(module: &Checked, placement: &Placement, frames: Frames, k: u16) 
 }
 
 /// Gives the groups their frames.
-fn lay_groups(
-    placement: &mut Placement,
-    module: &Checked,
-    frames: Frames,
-) -> Result<(), AllocError>
+fn lay_groups(placement: &mut Placement, module: &Checked, frames: Frames) -> Result<(), AllocError>
     requires { placement.old.groups ≡ [] }
     ensures { OnOk result (placement.new ≡ record placement.old { groups = group_frames frames (recs (records_in «module».now.bytes)) placement.old.segments }) }
 {
@@ -191,11 +187,7 @@ fn lay_externals(
 /// # Errors
 ///
 /// `NoRoom` where a segment, a communal or another external does not lie below the last address; `Memory` where a growth was refused.
-pub fn layout_of(
-    alloc: Global,
-    module: &Checked,
-    options: Options,
-) -> Result<Layout, LayoutFault>
+pub fn layout_of(alloc: Global, module: &Checked, options: Options) -> Result<Layout, LayoutFault>
     ensures { IsAnswer (layout_of options (recs (records_in «module».now.bytes))) result }
 {
     let alignments = alignments_of(alloc, module)?;

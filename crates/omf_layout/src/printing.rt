@@ -75,11 +75,7 @@ pub fn print_group_entry(
 }
 
 /// An external's entry.
-pub fn print_external_entry(
-    text: &mut String,
-    address: u32,
-    frame: Frame,
-) -> Result<(), AllocError>
+pub fn print_external_entry(text: &mut String, address: u32, frame: Frame) -> Result<(), AllocError>
     ensures { OnOk result (string_bytes text.new ≡ string_bytes text.old ++ placed_entry (codes "E") (record { address = address; frame = frame })) }
 {
     print_placed(text, 'E', address, frame)
