@@ -8,17 +8,17 @@ PREFIX ?= /usr/local
 .PHONY: first look build install ci
 
 first:
-	@cd crates/omf_cmd && cat ../../examples/first.omf ../../examples/first.place | rt run -- reloc
+	@cd crates/omf && cat ../../examples/first.omf ../../examples/first.place | rt run -- reloc
 
 look:
-	@cd crates/omf_cmd && cat ../../examples/first.omf ../../examples/first.place | rt try -- reloc
+	@cd crates/omf && cat ../../examples/first.omf ../../examples/first.place | rt try -- reloc
 
 build:
-	@cat examples/first.omf examples/first.place | (cd crates/omf_cmd && rt run -- reloc) > /dev/null
+	@cat examples/first.omf examples/first.place | (cd crates/omf && rt run -- reloc) > /dev/null
 
 install: build
 	install -d $(DESTDIR)$(PREFIX)/bin
-	install -m 755 crates/omf_cmd/out/omf_cmd $(DESTDIR)$(PREFIX)/bin/omf
+	install -m 755 crates/omf/out/omf $(DESTDIR)$(PREFIX)/bin/omf
 
 ci:
 	rt ci

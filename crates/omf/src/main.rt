@@ -1,34 +1,12 @@
 //! `omf`: checks, relocates and rewrites object modules.
 #![tactic(auto)]
 
-mod fault;
-mod image_text;
-mod input;
-pub mod laws;
-mod output;
-mod printed;
-mod printing;
-mod program;
-mod relocation;
-mod report;
-pub mod rows;
-mod running;
-#[cfg(test)]
-mod tests;
-mod words;
-
-pub use fault::RunFault;
+use omf_cmd::{RunFault, fail, main_with};
 use omf_frame::{Reading, Sink, Writing};
-pub use printed::fault_line;
-use program::fail;
-pub use program::main_with;
-pub use relocation::run_reloc;
-pub use running::{run_check, run_list};
 use std::alloc::AllocError;
 use std::env;
 use std::io::{BufReader, ErrorKind, Write};
 use std::process::ExitCode;
-pub use words::{Job, command};
 
 /// How many bytes of the standard input are read at once.
 const PIECE: usize = 65_536;
