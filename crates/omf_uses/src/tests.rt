@@ -84,18 +84,12 @@ fn says_why_a_file_is_refused(rt: HostRuntime) -> Result<(), Fail> {
 #[test]
 fn lays_a_boot_sector_at_its_place(rt: HostRuntime) -> Result<(), Fail> {
     let alloc = rt.alloc();
-    let Ok(first) = module(alloc, &[HEADER, NAMES, SEGMENT, DATA, FIXUP, END]) else {
-        return Err(Fail);
-    };
-    let Ok(image) = boot_image(alloc, &first) else {
-        return Err(Fail);
-    };
+    let first = module(alloc, &[HEADER, NAMES, SEGMENT, DATA, FIXUP, END])?;
+    let image = boot_image(alloc, &first)?;
     // mov ax, 7C00H; nop
     let bytes: &[u8] = &[0xB8, 0x00, 0x7C, 0x90];
     assert_eq!(&rt; image.run_bytes(1, 0), Some(bytes));
-    let Ok(other) = module(alloc, &[HEADER, NAMES, SEGMENT, EXTERNAL, END]) else {
-        return Err(Fail);
-    };
+    let other = module(alloc, &[HEADER, NAMES, SEGMENT, EXTERNAL, END])?;
     let missing = ReachFault::Missing(Kind::External, 1);
     assert_eq!(&rt;
         boot_image(alloc, &other).err(),
@@ -108,9 +102,7 @@ fn lays_a_boot_sector_at_its_place(rt: HostRuntime) -> Result<(), Fail> {
 fn gives_spellings_of_one_module_one_key(rt: HostRuntime) -> Result<(), Fail> {
     let alloc = rt.alloc();
     for data in [DATA, LONG_DATA] {
-        let Ok(spelled) = module(alloc, &[HEADER, NAMES, SEGMENT, data, FIXUP, END]) else {
-            return Err(Fail);
-        };
+        let spelled = module(alloc, &[HEADER, NAMES, SEGMENT, data, FIXUP, END])?;
         assert_eq!(&rt; key(alloc, &spelled)?, FIRST_KEY);
     }
     Ok(())
@@ -119,16 +111,10 @@ fn gives_spellings_of_one_module_one_key(rt: HostRuntime) -> Result<(), Fail> {
 #[test]
 fn finds_an_external_in_the_other_module(rt: HostRuntime) -> Result<(), Fail> {
     let alloc = rt.alloc();
-    let Ok(caller) = module(alloc, &[HEADER, NAMES, SEGMENT, EXTERNAL, END]) else {
-        return Err(Fail);
-    };
-    let Ok(callee) = module(alloc, &[HEADER, NAMES, SEGMENT, PUBLIC, END]) else {
-        return Err(Fail);
-    };
+    let caller = module(alloc, &[HEADER, NAMES, SEGMENT, EXTERNAL, END])?;
+    let callee = module(alloc, &[HEADER, NAMES, SEGMENT, PUBLIC, END])?;
     let places = [place(alloc, 0x10020)?, place(alloc, 0x10100)?];
-    let Ok(placements) = link(alloc, &[caller, callee], &places) else {
-        return Err(Fail);
-    };
+    let placements = link(alloc, &[caller, callee], &places)?;
     let found = placements
         .first()
         .and_then(|placement| placement.external(1));
@@ -139,12 +125,8 @@ fn finds_an_external_in_the_other_module(rt: HostRuntime) -> Result<(), Fail> {
 #[test]
 fn names_an_external_that_no_module_defines(rt: HostRuntime) -> Result<(), Fail> {
     let alloc = rt.alloc();
-    let Ok(caller) = module(alloc, &[HEADER, NAMES, SEGMENT, EXTERNAL, END]) else {
-        return Err(Fail);
-    };
-    let Ok(other) = module(alloc, &[HEADER, NAMES, SEGMENT, END]) else {
-        return Err(Fail);
-    };
+    let caller = module(alloc, &[HEADER, NAMES, SEGMENT, EXTERNAL, END])?;
+    let other = module(alloc, &[HEADER, NAMES, SEGMENT, END])?;
     let places = [place(alloc, 0x10020)?, place(alloc, 0x10100)?];
     let undefined = DeriveFault::Undefined {
         module: 0,
