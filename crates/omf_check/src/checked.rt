@@ -10,7 +10,7 @@ ghost use Rattle.omf_frame.specs.Framing.{front_record, present};
 ghost use Rattle.omf_records.specs.Reading.{typed};
 ghost use Rattle.omf_records.specs.Seen.{contents_seen, rec_seen};
 ghost use Rattle.omf_records.specs.Values.{Group};
-ghost use Rattle.omf_check.specs.Tables.{names, segments, groups, externals, entry};
+ghost use Rattle.omf_check.specs.Tables.{names, segments, groups, externals, locals, entry};
 ghost use Rattle.omf_check.specs.WellFormed.{recs, IsWellFormed};
 
 use crate::profile::Profile;
@@ -90,7 +90,7 @@ impl Checked {
         self.profile
     }
 
-    /// How many names its LNAMES define.
+    /// How many names its LNAMES and LLNAMES define.
     pub fn names(&self) -> u16
         ensures count { result ≡ length (names (recs (records_in self.now.bytes))) }
         ensures bounded { result ≤ 32767 }
@@ -114,7 +114,7 @@ impl Checked {
         self.tables.group_count()
     }
 
-    /// How many external names it has; those of EXTDEFs and COMDEFs share one table.
+    /// How many external names it has; those of EXTDEFs, COMDEFs, LEXTDEFs and LCOMDEFs share one table.
     pub fn externals(&self) -> u16
         ensures count { result ≡ length (externals (recs (records_in self.now.bytes))) }
         ensures bounded { result ≤ 32767 }
@@ -163,6 +163,14 @@ impl Checked {
             Some(place) => Some(name_at(&self.bytes, place)),
             None => None,
         }
+    }
+
+    /// Whether an external is local, by its index from 1: that of a LEXTDEF or an LCOMDEF is, that of an EXTDEF or a COMDEF is not. `None`
+    /// outside the table.
+    pub fn local(&self, i: u16) -> Option<bool>
+        ensures { result ≡ entry (locals (recs (records_in self.now.bytes))) i }
+    {
+        self.tables.is_local(i)
     }
 
     /// The typed record of a group's GRPDEF, by the group's index from 1; `None` outside the table.
