@@ -10,6 +10,7 @@ pub mod FoundLaws
 pub mod BaseLaws
 pub mod JudgeLaws
 pub mod ReachedLaws
+pub mod NamedLaws
 pub mod DeriveLaws
 pub mod TakenLaws
 pub mod DerivedLaws
