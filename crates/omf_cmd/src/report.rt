@@ -101,7 +101,7 @@ fn print_externals(text: &mut String, checked: &Checked) -> Result<(), AllocErro
     Ok(())
 }
 
-/// A line for each public name of a PUBDEF.
+/// A line for each public name of a PUBDEF or an LPUBDEF.
 fn print_items(
     text: &mut String,
     group: u16,
@@ -123,6 +123,12 @@ fn print_publics_of(text: &mut String, rec: &Rec<'_>) -> Result<(), AllocError>
 {
     match rec {
         Rec::Publics {
+            group,
+            segment,
+            publics,
+            ..
+        } => print_items(text, group.item.0, segment.item.0, publics),
+        Rec::LocalPublics {
             group,
             segment,
             publics,

@@ -217,6 +217,38 @@ fn lists_tables_in_their_order(rt: HostRuntime) -> Result<(), Fail> {
 }
 
 #[test]
+fn lists_local_records(rt: HostRuntime) -> Result<(), Fail> {
+    let name: &[u8] = &[0xCA, 0x03, 0x00, 0x01, 0x55, 0xDD];
+    let segment: &[u8] = &[0x98, 0x07, 0x00, 0x28, 0x04, 0x00, 0x01, 0x00, 0x00, 0x34];
+    prints(
+        &rt,
+        Job::List,
+        &[HEADER, name, segment, END],
+        b"R 0 00000000 80 2 THEADR\nR 1 00000006 CA 2 LLNAMES\nR 2 0000000C 98 6 SEGDEF\nR 3 00000016 8A 1 MODEND\nS 1 4 \"U\"\n",
+    )?;
+    let external: &[u8] = &[0xB4, 0x04, 0x00, 0x01, 0x58, 0x00, 0xEF];
+    let second: &[u8] = &[0xB5, 0x04, 0x00, 0x01, 0x59, 0x00, 0x00];
+    let communal: &[u8] = &[
+        0xB8, 0x08, 0x00, 0x01, 0x58, 0x00, 0x62, 0x81, 0x80, 0x00, 0x84,
+    ];
+    let public: &[u8] = &[
+        0xB6, 0x08, 0x00, 0x00, 0x01, 0x01, 0x50, 0x02, 0x00, 0x00, 0x00,
+    ];
+    let wide: &[u8] = &[
+        0xB7, 0x0A, 0x00, 0x00, 0x01, 0x01, 0x51, 0x00, 0x00, 0x01, 0x00, 0x00, 0x00,
+    ];
+    prints(
+        &rt,
+        Job::List,
+        &[
+            HEADER, NAMES, SEGMENT, external, second, communal, public, wide, END,
+        ],
+        b"R 0 00000000 80 2 THEADR\nR 1 00000006 96 3 LNAMES\nR 2 0000000D 98 6 SEGDEF\nR 3 00000017 B4 3 LEXTDEF\nR 4 0000001E B5 3 LEXTDEF\nR 5 00000025 B8 7 LCOMDEF\nR 6 00000030 B6 7 LPUBDEF\nR 7 0000003B B7 9 LPUBDEF\nR 8 00000048 8A 1 MODEND\nS 1 4 \"T\"\nE 1 \"X\"\nE 2 \"Y\"\nE 3 \"X\"\nP - 1 00000002 \"P\"\nP - 1 00010000 \"Q\"\n",
+    )?;
+    Ok(())
+}
+
+#[test]
 fn lists_a_public_name(rt: HostRuntime) -> Result<(), Fail> {
     let public: &[u8] = &[
         0x90, 0x08, 0x00, 0x00, 0x01, 0x01, 0x58, 0x02, 0x00, 0x00, 0x0C,
