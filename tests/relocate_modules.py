@@ -70,4 +70,5 @@ def main():
     print(f"{accepted} accepted, {reached} of them reach")
 
 
-main()
+if __name__ == "__main__":
+    main()

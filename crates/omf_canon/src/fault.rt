@@ -6,9 +6,9 @@ use thiserror::Error;
 #[derive(Clone, Copy, Debug, PartialEq, Eq, Error)]
 pub enum CanonFault {
     /// 1: a growth was refused.
-    #[error("memory")]
+    #[error("memory ran out")]
     Memory,
     /// 2: the writer failed; what it took before is a beginning of the canonical bytes.
-    #[error("write")]
+    #[error("the output could not be written")]
     Write,
 }

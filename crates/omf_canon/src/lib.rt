@@ -1,4 +1,10 @@
 //! Canonical bytes: modules of one meaning, written in one way.
+//!
+//! ```
+//! let module = check(alloc, &mut Reading::new(bytes), profile)?;
+//! let canonical = canon(alloc, &module)?;
+//! // check accepts them, canon gives them again, and relocate gives the same image at each placement
+//! ```
 #![tactic(auto)]
 
 mod fault;

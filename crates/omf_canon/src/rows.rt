@@ -2,7 +2,7 @@
 
 ghost use Rattle.std.specs.Prelude.{◌≡◌, ℕ, [], ◌∷◌, ◌++◌, drop};
 ghost use Rattle.std.specs.List.{repeat};
-ghost use Rattle.omf_check.specs.Rows.{H, N, S, L, F, M, first_module, without_checksums, long_index, communal, with_fixup};
+ghost use Rattle.omf_check.specs.Rows.{H, N, S, L, F, M, first_module, without_checksums, long_index, communal, local_communal, local_name, local_jump, with_fixup};
 ghost use Rattle.omf_reloc.specs.Modules.{module_of, with_threads, with_start, many_fixups, start_at};
 ghost use Rattle.omf_canon.specs.Canonical.{canonical};
 ghost use Rattle.omf_canon.specs.Skeleton.{skeleton};
@@ -32,6 +32,14 @@ pub fn start_without_thread()
 /// A communal length of 128 has one byte.
 pub fn communal_length()
     ensures { canonical (module_of communal) ≡ H ++ 0xB0 ∷ 6 ∷ 0 ∷ 1 ∷ 0x58 ∷ 0 ∷ 0x62 ∷ 0x80 ∷ 0x0F ∷ M }
+{}
+
+/// Local records stay what they are, in shortest spellings.
+pub fn local_records()
+    ensures communal { canonical (module_of local_communal) ≡ H ++ 0xB8 ∷ 6 ∷ 0 ∷ 1 ∷ 0x58 ∷ 0 ∷ 0x62 ∷ 0x80 ∷ 7 ∷ M }
+    ensures names { canonical (module_of local_name) ≡ local_name }
+    ensures external { canonical (module_of local_jump) ≡ local_jump }
+    ensures public { canonical (module_of (H ++ N ++ S ++ 0xB6 ∷ 0x0A ∷ 0 ∷ 0x80 ∷ 0 ∷ 1 ∷ 1 ∷ 0x58 ∷ 2 ∷ 0 ∷ 0x81 ∷ 0x2C ∷ 0 ∷ M)) ≡ H ++ N ++ S ++ 0xB6 ∷ 9 ∷ 0 ∷ 0 ∷ 1 ∷ 1 ∷ 0x58 ∷ 2 ∷ 0 ∷ 0x81 ∷ 0x2C ∷ 0x38 ∷ M }
 {}
 
 /// 204 fixups fill a record of 1,024 bytes, and the 205th stands in a record of its own.

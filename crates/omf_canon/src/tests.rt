@@ -177,6 +177,38 @@ fn communal_lengths_are_shortened(rt: HostRuntime) -> Result<(), Fail> {
     )
 }
 
+#[test]
+fn local_records_are_kept(rt: HostRuntime) -> Result<(), Fail> {
+    has_form(
+        &rt,
+        &[HEADER, "B8 08 00 01 58 00 62 81 80 00 84", END],
+        &[HEADER, "B8 06 00 01 58 00 62 80 07", END],
+    )?;
+    has_form(
+        &rt,
+        &[
+            HEADER,
+            "CA 03 00 01 55 DD",
+            "98 08 00 28 04 00 80 01 00 00 00",
+            "B4 05 00 01 58 80 00 00",
+            "B5 04 00 01 59 00 00",
+            "B6 09 00 80 00 01 01 50 02 00 00 00",
+            "B7 0B 00 00 80 01 01 51 02 00 00 00 00 00",
+            END,
+        ],
+        &[
+            HEADER,
+            "CA 03 00 01 55 DD",
+            "98 07 00 28 04 00 01 00 00 34",
+            "B4 04 00 01 58 00 EF",
+            "B5 04 00 01 59 00 ED",
+            "B6 08 00 00 01 01 50 02 00 00 EE",
+            "B7 0A 00 00 01 01 51 02 00 00 00 00 EA",
+            END,
+        ],
+    )
+}
+
 /// A module of the first data and of FIXUPPs of so many times its fixup, each with this length and checksum.
 fn module_with(alloc: Global, fixupps: &[(usize, &str, &str)]) -> Result<Vec<u8>, AllocError> {
     let mut bytes = bytes_of(alloc, &[HEADER, NAMES, SEGMENT, DATA])?;

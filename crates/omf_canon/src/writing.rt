@@ -1,25 +1,42 @@
 //! The canonical bytes of a module.
 
-ghost use Rattle.std.specs.Prelude.{All, ◌≡◌, ◌≤◌, ◌++◌, [], None, Some, OnOk, IfOk, IfSome, length};
-ghost use Rattle.omf_records.specs.Seen.{kind_seen, contents_seen};
-ghost use Rattle.omf_reloc.specs.Walking.{threads_after};
-ghost use Rattle.omf_check.specs.Kept.{no_threads, set_thread, set_threads};
-ghost use Rattle.omf_reloc.specs.Plain.{end_byte};
+ghost use Rattle.std.specs.Prelude.{All, ◌≡◌, ◌≤◌, ◌++◌, [], ◌∷◌, None, Some, OnOk, IfOk, length};
 ghost use Rattle.omf_check.specs.Module.{records_in};
 ghost use Rattle.omf_check.specs.WellFormed.{recs};
 ghost use Rattle.omf_frame.specs.Framing.{IsRecord};
+ghost use Rattle.omf_records.specs.Seen.{rec_seen};
+ghost use Rattle.omf_records.specs.Values.{alone};
+ghost use Rattle.omf_reloc.specs.PieceSeen.{piece_seen};
+ghost use Rattle.omf_reloc.specs.Placed.{fixupp_type, modend_type};
+ghost use Rattle.omf_reloc.specs.Plain.{Kept};
 ghost use Rattle.omf_canon.specs.Canonical.{canonical, canonical_raws};
 ghost use Rattle.omf_canon.specs.Skeleton.{skeleton};
 ghost use Rattle.omf_canon.specs.Form.{IsFormOf};
-ghost use Rattle.omf_canon.specs.Writing.{Held, held, record_bytes, closed, has_room, held_with, closed_by, subrecord_held, subrecord_closes, held_after, closed_all, end_bytes, record_puts, record_held, IsResolved, CanTake, CanTakeAll, CanPut};
+ghost use Rattle.omf_canon.specs.PlainBytes.{fixup_bytes, start_bytes};
+ghost use Rattle.omf_canon.specs.Writing.{Held, held, record_bytes, closed, has_room, held_with, closed_by, piece_held, piece_puts, CanPut};
 
 use crate::laws;
 use crate::plain::{fixup_bytes, put_start};
-use omf_check::{Checked, Threads};
+use omf_check::Checked;
 use omf_frame::checksum;
-use omf_records::{Items, Part, Rec, Reference, Subrecord, put_rec};
+use omf_records::{Rec, put_rec};
+use omf_reloc::{Piece, PlainFixup, PlainReference, pieces_of};
 use std::alloc::{AllocError, Global};
 use std::marker::Model;
+
+/// The type of a FIXUPP, wide or not.
+fn fixupp_type(wide: bool) -> u8
+    ensures { result ≡ fixupp_type wide }
+{
+    if wide { 0x9D } else { 0x9C }
+}
+
+/// The type of a MODEND, wide or not.
+fn modend_type(wide: bool) -> u8
+    ensures { result ≡ modend_type wide }
+{
+    if wide { 0x8B } else { 0x8A }
+}
 
 /// Type byte, two bytes of length and the checksum leave so many bytes for the contents of a canonical FIXUPP.
 const BODY_LIMIT: usize = 1020;
@@ -63,14 +80,12 @@ impl Group {
     }
 }
 
-/// A walk over a module's records.
+/// A walk over a module's pieces.
 #[derive(Drop)]
 struct Walk {
     out: Vec<u8>,
     /// The FIXUPP that is open.
     group: Option<Group>,
-    /// The threads in force.
-    threads: Threads,
 }
 
 /// Writes the record of an open FIXUPP, if there is one.
@@ -105,59 +120,25 @@ fn join(
 }
 
 impl Walk {
-    /// No record is walked over, and there is room for so many bytes.
+    /// No piece is walked over, and there is room for so many bytes.
     fn new(alloc: Global, capacity: usize) -> Result<Walk, AllocError>
         ensures out { IfOk result (λ w. w.out.items ≡ []) }
         ensures group { IfOk result (λ w. w.group ≡ None) }
-        ensures threads { IfOk result (λ w. w.threads ≡ no_threads) }
     {
         Ok(Walk {
             out: Vec::with_capacity(alloc, capacity)?,
             group: None,
-            threads: Threads::new(),
         })
     }
 
-    /// Takes a subrecord of a FIXUPP of a type.
-    fn take_subrecord(
-        &mut self,
-        alloc: Global,
-        kind: u8,
-        subrecord: &Subrecord<'_>,
-    ) -> Result<(), AllocError>
-        requires { CanTake self.old.threads subrecord.now }
-        ensures out { OnOk result (self.new.out.items ≡ self.old.out.items ++ subrecord_closes kind self.old.threads subrecord.now self.old.group) }
-        ensures group { OnOk result (self.new.group ≡ subrecord_held kind self.old.threads subrecord.now self.old.group) }
-        ensures threads { OnOk result (self.new.threads ≡ set_thread self.old.threads subrecord.now) }
+    /// Takes a fixup of a FIXUPP of a type.
+    fn take_fixup(&mut self, alloc: Global, kind: u8, fixup: &PlainFixup) -> Result<(), AllocError>
+        ensures out { OnOk result (self.new.out.items ≡ self.old.out.items ++ closed_by kind (fixup_bytes kind fixup.now) self.old.group) }
+        ensures group { OnOk result (self.new.group ≡ held_with kind (fixup_bytes kind fixup.now) self.old.group) }
     {
-        if let Part::Fixup {
-            location,
-            reference,
-        } = &subrecord.part
-        {
-            let bytes = fixup_bytes(alloc, kind, &self.threads, *location, reference)?;
-            let group = join(&mut self.out, self.group.take(), kind, bytes)?;
-            self.group = Some(group);
-        }
-        self.threads.set(subrecord);
-        Ok(())
-    }
-
-    /// Takes the subrecords of a FIXUPP of a type.
-    fn take_all(
-        &mut self,
-        alloc: Global,
-        kind: u8,
-        subrecords: Items<Subrecord<'_>>,
-    ) -> Result<(), AllocError>
-        requires { CanTakeAll self.old.threads subrecords }
-        ensures out { OnOk result (self.new.out.items ≡ self.old.out.items ++ closed_all kind self.old.threads subrecords.entry self.old.group) }
-        ensures group { OnOk result (self.new.group ≡ held_after kind self.old.threads subrecords.entry self.old.group) }
-        ensures threads { OnOk result (self.new.threads ≡ set_threads self.old.threads subrecords.entry) }
-    {
-        for subrecord in subrecords {
-            self.take_subrecord(alloc, kind, &subrecord.item)?;
-        }
+        let bytes = fixup_bytes(alloc, kind, fixup)?;
+        let group = join(&mut self.out, self.group.take(), kind, bytes)?;
+        self.group = Some(group);
         Ok(())
     }
 
@@ -166,33 +147,38 @@ impl Walk {
         requires { length body.now ≤ 65534 }
         ensures out { OnOk result (self.new.out.items ≡ self.old.out.items ++ (closed self.old.group ++ record_bytes kind body.now)) }
         ensures group { OnOk result (self.new.group ≡ None) }
-        ensures threads { OnOk result (self.new.threads ≡ self.old.threads) }
     {
         close(&mut self.out, self.group.take())?;
         put_record(&mut self.out, kind, body)
     }
 
-    /// Takes the next record.
-    fn take(&mut self, alloc: Global, rec: &Rec<'_>) -> Result<(), AllocError>
-        requires { CanPut self.old.threads (kind_seen rec.now) (contents_seen rec.now) }
-        ensures out { OnOk result (self.new.out.items ≡ self.old.out.items ++ record_puts self.old.threads (kind_seen rec.now) (contents_seen rec.now) self.old.group) }
-        ensures group { OnOk result (self.new.group ≡ record_held self.old.threads (kind_seen rec.now) (contents_seen rec.now) self.old.group) }
-        ensures threads { OnOk result (self.new.threads ≡ threads_after self.old.threads (contents_seen rec.now)) }
+    /// Writes a record that is kept.
+    fn keep(&mut self, alloc: Global, rec: &Rec<'_>) -> Result<(), AllocError>
+        requires { CanPut (Kept (alone (rec_seen rec.now))) }
+        ensures out { OnOk result (self.new.out.items ≡ self.old.out.items ++ piece_puts (Kept (alone (rec_seen rec.now))) self.old.group) }
+        ensures group { OnOk result (self.new.group ≡ None) }
     {
-        let kind = rec.kind();
-        match rec {
-            Rec::Fixups { subrecords, .. } => self.take_all(alloc, kind, subrecords.iter()),
-            Rec::ModEnd {
+        let mut body = Vec::new(alloc);
+        put_rec(&mut body, rec)?;
+        self.write(rec.kind(), &body)
+    }
+
+    /// Takes the next piece.
+    fn take(&mut self, alloc: Global, piece: &Piece<'_>) -> Result<(), AllocError>
+        requires { CanPut (piece_seen piece.now) }
+        ensures out { OnOk result (self.new.out.items ≡ self.old.out.items ++ piece_puts (piece_seen piece.now) self.old.group) }
+        ensures group { OnOk result (self.new.group ≡ piece_held (piece_seen piece.now) self.old.group) }
+    {
+        match piece {
+            Piece::Kept(rec) => self.keep(alloc, rec),
+            Piece::Fixed { wide, fixup } => self.take_fixup(alloc, fixupp_type(*wide), fixup),
+            Piece::End {
+                wide,
                 type_byte,
                 start,
-                ..
             } => {
-                let body = end_contents(alloc, kind, &self.threads, *type_byte, start)?;
-                self.write(kind, &body)
-            }
-            _ => {
-                let mut body = Vec::new(alloc);
-                put_rec(&mut body, rec)?;
+                let kind = modend_type(*wide);
+                let body = end_contents(alloc, kind, *type_byte, start)?;
                 self.write(kind, &body)
             }
         }
@@ -208,33 +194,30 @@ impl Walk {
     }
 }
 
-/// The contents of a MODEND: of its type byte bits 7 and 6 stay, bit 0 is bit 6, and the others are 0.
+/// The contents of a MODEND of a type.
 fn end_contents(
     alloc: Global,
     kind: u8,
-    threads: &Threads,
     type_byte: u8,
-    start: &Option<Reference>,
+    start: &Option<PlainReference>,
 ) -> Result<Vec<u8>, AllocError>
-    requires { IfSome start.now (IsResolved threads.now) }
-    ensures bytes { IfOk result (λ v. v.items ≡ end_bytes kind threads.now type_byte start.now) }
+    ensures bytes { IfOk result (λ v. v.items ≡ type_byte ∷ start_bytes kind start.now) }
     ensures short { IfOk result (λ v. length v.items ≤ 10) }
 {
-    let has_start = type_byte / 64 % 2;
     let mut body = Vec::new(alloc);
-    body.push(128 * (type_byte / 128) + 64 * has_start + has_start)?;
-    put_start(&mut body, kind, threads, start)?;
+    body.push(type_byte)?;
+    put_start(&mut body, kind, start)?;
     Ok(body)
 }
 
-/// What one walk over a module's records writes: its canonical bytes, with room for so many from the start.
+/// What one walk over a module's pieces writes: its canonical bytes, with room for so many from the start.
 fn written(alloc: Global, module: &Checked, capacity: usize) -> Result<Vec<u8>, AllocError>
     requires { All IsRecord (canonical_raws (skeleton (recs (records_in «module».now.bytes)))) }
     ensures { IfOk result (λ v. v.items ≡ canonical (recs (records_in «module».now.bytes))) }
 {
     let mut walk = Walk::new(alloc, capacity)?;
-    for (_place, rec) in module.records() {
-        walk.take(alloc, &rec)?;
+    for (_place, piece) in pieces_of(module) {
+        walk.take(alloc, &piece)?;
     }
     walk.finish()
 }

@@ -10,7 +10,8 @@ use Rattle.std.proofs.lemmas.Grind.{flat_map-append}
 use Rattle.std.specs.List.{last_or}
 use Rattle.omf_frame.specs.Bytes.{last}
 use Rattle.omf_records.specs.Values.{At, Rec, Contents, Names, Segment, Group, Externs, Communals, Plain, Iterated, Fixups, Subrecord, Thread, Fixup, thread_is_frame, thread_method, thread_number}
-use Rattle.omf_check.specs.Tables.{names, groups, externals, item_count, items_in, subrecords, subrecords_in, data_in, defined_names, defined_segments, defined_groups, defined_externals}
+use Rattle.omf_frame.specs.Types.{is_local}
+use Rattle.omf_check.specs.Tables.{names, groups, externals, item_count, items_in, subrecords, subrecords_in, data_in, defined_names, defined_segments, defined_groups, defined_externals, locals}
 use Rattle.omf_check.specs.Threads.{Setting, setting, setting_of, same, thread}
 use Rattle.omf_check.specs.Kept.{Kept, Tells, HasThreads, cell, set_thread, set_threads, no_threads, nothing_kept, with_contents, with_record, starts, last_kept}
 use Rattle.omf_check.specs.declared.threads.Threads.{Threads}
@@ -96,6 +97,7 @@ nothing_tells = record {
   segments = refl;
   groups = refl;
   externals = refl;
+  locals = refl;
   items = refl;
   last = refl;
   threads = record { frames = refl; targets = refl; same = λ d k low. nothing_at k d ∙ sym (no_thread d k) };
@@ -123,6 +125,16 @@ kept_externals kept at kind (Externs items) =
 kept_externals kept at kind (Communals items) =
     length-append kept.externals (starts at items) ∙ ap (λ n. length kept.externals + n) (length-map items (λ a. at + a.within) ∙ sym (length-map items (λ e. e.item.name)))
 kept_externals kept at kind _ = omega arith
+
+-- the same for each of as many items
+alike_map : {A B : Type 0} (b : Bool) (f : A → B) (xs : List A) → map (λ a. b) xs ≡ map (λ y. b) (map f xs)
+alike_map b f [] = refl
+alike_map b f (x ∷ xs) = ap (λ t. b ∷ t) (alike_map b f xs)
+
+kept_locals : (kept : Kept) (at kind : ℕ) (c : Contents) → (with_contents kept at kind c).locals ≡ kept.locals ++ map (λ e. is_local kind) (defined_externals c)
+kept_locals kept at kind (Externs items) = ap (λ t. kept.locals ++ t) (alike_map (is_local kind) (λ e. e.item.name) items)
+kept_locals kept at kind (Communals items) = ap (λ t. kept.locals ++ t) (alike_map (is_local kind) (λ e. e.item.name) items)
+kept_locals kept at kind _ = sym (append-nil kept.locals)
 
 kept_segments : (kept : Kept) (at kind : ℕ) (c : Contents) → (with_contents kept at kind c).segments ≡ kept.segments ++ defined_segments kind c
 kept_segments kept at kind (Segment s) = refl
@@ -162,6 +174,8 @@ tells_more kept before at r h =
           (kept_groups now at r.kind r.contents) h.groups (flat_more (λ x. defined_groups x.contents) before r);
       externals = length_more (with_record kept at r).externals (externals before) (defined_externals r.contents) (length kept.externals) (externals (before ++ r ∷ []))
           (kept_externals now at r.kind r.contents) h.externals (flat_more (λ x. defined_externals x.contents) before r);
+      locals = kept_locals now at r.kind r.contents ∙ ap (λ t. t ++ map (λ e. is_local r.kind) (defined_externals r.contents)) h.locals
+          ∙ sym (flat_more (λ x. map (λ e. is_local x.kind) (defined_externals x.contents)) before r);
       items = let e = sum_by-append (λ x. items_in x.contents) before (r ∷ []) in
           kept_items now at r.kind r.contents ∙ ap (λ n. n + items_in r.contents) h.items ∙ item_one before r ∙ sym e;
       last = kept_last now at r.kind r.contents (flat_map (λ x. data_in x.contents) before) h.last ∙ ap (λ t. option_map last_kept (last t)) (sym (flat_more (λ x. data_in x.contents) before r));

@@ -24,6 +24,7 @@ pub mod SessionLaws
 pub mod CheckLaws
 pub mod NameLaws
 pub mod ListedLaws
+pub mod LastLaws
 pub mod LimitLaws
 pub mod SoundLaws
 pub mod ThreadLaws

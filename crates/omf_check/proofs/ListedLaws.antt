@@ -82,6 +82,9 @@ module _ (bytes : List ℕ) (number start : ℕ) (a : AreListed bytes number sta
     pub shorter : (rest : List ℕ) → rest ≡ after_front bytes → length rest ≤ length bytes
     shorter rest e = let s = sizes in let f = ap length (e ∙ after_is) in omega (arith, s, f)
 
+    pub less : (rest : List ℕ) → rest ≡ after_front bytes → length rest < length bytes
+    less rest e = let s = sizes in let f = ap length (e ∙ after_is) in omega (arith, s, f)
+
     pub list_rest : (rest : List ℕ) → rest ≡ after_front bytes → AreListed rest (number + 1) (start + (length bytes - length rest))
     list_rest rest e = record {
       records = more;
@@ -90,6 +93,12 @@ module _ (bytes : List ℕ) (number start : ℕ) (a : AreListed bytes number sta
       few = let f = a.few in let g = ap length parts.2 in omega (arith, f, g);
       short = let s = sizes in let t = a.short in let u = ap length (e ∙ after_is) in omega (arith, s, t, u);
     }
+
+    pub split_here : (rest : List ℕ) → rest ≡ after_front bytes → records_in bytes ≡ front_record (present bytes) ∷ records_in rest
+    split_here rest e =
+        records_back bytes (r ∷ more) here readable
+        ∙ ap (λ x. x ∷ more) (sym front_is)
+        ∙ ap (λ rs. front_record (present bytes) ∷ rs) (sym (records_back rest more (e ∙ after_is) (all_tail IsReadable r more readable)))
 
     pub list_here : (rest : List ℕ) → rest ≡ after_front bytes
         → placed_from number start (records_in bytes)

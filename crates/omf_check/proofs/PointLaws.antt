@@ -3,6 +3,7 @@ use Rattle.std.proofs.Common.{◌≡◌, ℕ, zero, suc, ◌+◌, ◌/◌, ◌%�
 use Rattle.std.specs.Prelude.{◌==◌, ⊤, Option, Some, None, slice_get}
 use Rattle.std.proofs.lemmas.List.{append-nil}
 use Rattle.omf_frame.specs.Bytes.{is_one_of}
+use Rattle.omf_frame.specs.Types.{coment, extdef, pubdef, lnames, segdef, grpdef, fixupp, ledata, lidata, comdef, lextdef, lpubdef, lcomdef, llnames}
 use Rattle.omf_frame.specs.Framing.{Raw, raw_bytes, is_header, is_end}
 use Rattle.omf_records.specs.Entries.{external, communal}
 use Rattle.omf_records.specs.Layout.{Layout, SpellsEach, called, either, name}
@@ -187,16 +188,16 @@ named_contents : (kind : ℕ) → Named (contents kind)
 named_contents kind =
     let wide = is_wide kind in
     named_either (is_header kind) header _ named_header (
-    named_either (kind == 0x88) comment _ named_comment (
-    named_either (kind == 0x96) names _ named_names (
-    named_either (is_one_of (0x98 ∷ 0x99 ∷ []) kind) (segment wide) _ (named_segment wide) (
-    named_either (kind == 0x9A) group _ named_group (
-    named_either (kind == 0x8C) externs _ named_externs (
-    named_either (is_one_of (0x90 ∷ 0x91 ∷ []) kind) (publics wide) _ (named_publics wide) (
-    named_either (kind == 0xB0) communals _ named_communals (
-    named_either (is_one_of (0xA0 ∷ 0xA1 ∷ []) kind) (called (data_item wide) Plain) _ (named_plain wide) (
-    named_either (is_one_of (0xA2 ∷ 0xA3 ∷ []) kind) (called (data_item wide) Iterated) _ (named_iterated wide) (
-    named_either (is_one_of (0x9C ∷ 0x9D ∷ []) kind) (fixups wide) _ (named_fixups wide) (
+    named_either (is_one_of coment kind) comment _ named_comment (
+    named_either (is_one_of (lnames ++ llnames) kind) names _ named_names (
+    named_either (is_one_of segdef kind) (segment wide) _ (named_segment wide) (
+    named_either (is_one_of grpdef kind) group _ named_group (
+    named_either (is_one_of (extdef ++ lextdef) kind) externs _ named_externs (
+    named_either (is_one_of (pubdef ++ lpubdef) kind) (publics wide) _ (named_publics wide) (
+    named_either (is_one_of (comdef ++ lcomdef) kind) communals _ named_communals (
+    named_either (is_one_of ledata kind) (called (data_item wide) Plain) _ (named_plain wide) (
+    named_either (is_one_of lidata kind) (called (data_item wide) Iterated) _ (named_iterated wide) (
+    named_either (is_one_of fixupp kind) (fixups wide) _ (named_fixups wide) (
     named_either (is_end kind) (mod_end wide) carried (named_end wide) named_carried)))))))))))
 
 -- A record's names in the module, behind `before` bytes.

@@ -3,6 +3,7 @@ use Rattle.std.proofs.Common.{◌≡◌, ℕ, zero, suc, ◌+◌, ◌-◌, ◌<�
 use Rattle.std.specs.Prelude.{⊤, ◌==◌, ◌||◌, not, nat_lt, nat_le}
 use Rattle.omf_frame.specs.Bytes.{AreBytes, is_one_of}
 use Rattle.omf_frame.specs.Fault.{Fault, reason_number, is_before, rule, broken, least, first_step}
+use Rattle.omf_frame.specs.Types.{coment, extdef, pubdef, lnames, segdef, grpdef, fixupp, ledata, lidata, comdef, lextdef, lpubdef, lcomdef, llnames}
 use Rattle.omf_frame.specs.Framing.{is_header, is_end}
 use Rattle.omf_frame.specs.declared.fault.Reason.{Reason}
 use Rattle.omf_frame.specs.declared.fault.Reason.TheVariants as reason
@@ -222,16 +223,16 @@ contents_inner : (kind : ℕ) → Inner (contents kind)
 contents_inner kind =
     let wide = is_wide kind in
     either_inner (is_header kind) header _ header_inner (
-    either_inner (kind == 0x88) comment _ comment_inner (
-    either_inner (kind == 0x96) names _ (called_inner (many name) Names (many_inner name name_inner)) (
-    either_inner (is_one_of (0x98 ∷ 0x99 ∷ []) kind) (segment wide) _ (segment_inner wide) (
-    either_inner (kind == 0x9A) group _ group_inner (
-    either_inner (kind == 0x8C) externs _ (called_inner (many external) Externs (many_inner external external_inner)) (
-    either_inner (is_one_of (0x90 ∷ 0x91 ∷ []) kind) (publics wide) _ (publics_inner wide) (
-    either_inner (kind == 0xB0) communals _ (called_inner (many communal) Communals (many_inner communal communal_inner)) (
-    either_inner (is_one_of (0xA0 ∷ 0xA1 ∷ []) kind) (called (data_item wide) Plain) _ (called_inner (data_item wide) Plain (data_inner wide)) (
-    either_inner (is_one_of (0xA2 ∷ 0xA3 ∷ []) kind) (called (data_item wide) Iterated) _ (called_inner (data_item wide) Iterated (data_inner wide)) (
-    either_inner (is_one_of (0x9C ∷ 0x9D ∷ []) kind) (fixups wide) _ (called_inner (many (subrecord wide)) Fixups (many_inner (subrecord wide) (subrecord_inner wide))) (
+    either_inner (is_one_of coment kind) comment _ comment_inner (
+    either_inner (is_one_of (lnames ++ llnames) kind) names _ (called_inner (many name) Names (many_inner name name_inner)) (
+    either_inner (is_one_of segdef kind) (segment wide) _ (segment_inner wide) (
+    either_inner (is_one_of grpdef kind) group _ group_inner (
+    either_inner (is_one_of (extdef ++ lextdef) kind) externs _ (called_inner (many external) Externs (many_inner external external_inner)) (
+    either_inner (is_one_of (pubdef ++ lpubdef) kind) (publics wide) _ (publics_inner wide) (
+    either_inner (is_one_of (comdef ++ lcomdef) kind) communals _ (called_inner (many communal) Communals (many_inner communal communal_inner)) (
+    either_inner (is_one_of ledata kind) (called (data_item wide) Plain) _ (called_inner (data_item wide) Plain (data_inner wide)) (
+    either_inner (is_one_of lidata kind) (called (data_item wide) Iterated) _ (called_inner (data_item wide) Iterated (data_inner wide)) (
+    either_inner (is_one_of fixupp kind) (fixups wide) _ (called_inner (many (subrecord wide)) Fixups (many_inner (subrecord wide) (subrecord_inner wide))) (
     either_inner (is_end kind) (mod_end wide) carried (end_inner wide) (called_inner rest _ rest_inner))))))))))))
 
 -- Blocks.

@@ -2,6 +2,7 @@
 use Rattle.std.proofs.Common.{◌≡◌, ℕ, ◌+◌, ◌≤◌, Bool, true, false, List, [], ◌∷◌, ◌++◌, sym, ◌∙◌, ap, subst, arith, length, length-append, append_assoc}
 use Rattle.std.specs.Prelude.{◌==◌, ⊤}
 use Rattle.omf_frame.specs.Bytes.{AreBytes, is_one_of}
+use Rattle.omf_frame.specs.Types.{coment, extdef, pubdef, lnames, segdef, grpdef, fixupp, ledata, lidata, comdef, lextdef, lpubdef, lcomdef, llnames}
 use Rattle.omf_frame.specs.Framing.{is_header, is_end}
 use Rattle.omf_records.specs.Values.{Contents, Header, Plain, Iterated, is_wide}
 use Rattle.omf_records.specs.Layout.{Layout, called, either}
@@ -71,16 +72,16 @@ in_contents : (kind : ℕ) → AreIn (contents kind)
 in_contents kind =
     let wide = is_wide kind in
     in_either (is_header kind) header _ in_header (
-    in_either (kind == 0x88) comment _ in_comment (
-    in_either (kind == 0x96) names _ in_names (
-    in_either (is_one_of (0x98 ∷ 0x99 ∷ []) kind) (segment wide) _ (in_segment wide) (
-    in_either (kind == 0x9A) group _ in_group (
-    in_either (kind == 0x8C) externs _ in_externs (
-    in_either (is_one_of (0x90 ∷ 0x91 ∷ []) kind) (publics wide) _ (in_publics wide) (
-    in_either (kind == 0xB0) communals _ in_communals (
-    in_either (is_one_of (0xA0 ∷ 0xA1 ∷ []) kind) (called (data_item wide) Plain) _ (in_plain wide) (
-    in_either (is_one_of (0xA2 ∷ 0xA3 ∷ []) kind) (called (data_item wide) Iterated) _ (in_iterated wide) (
-    in_either (is_one_of (0x9C ∷ 0x9D ∷ []) kind) (fixups wide) _ (in_fixups wide) (
+    in_either (is_one_of coment kind) comment _ in_comment (
+    in_either (is_one_of (lnames ++ llnames) kind) names _ in_names (
+    in_either (is_one_of segdef kind) (segment wide) _ (in_segment wide) (
+    in_either (is_one_of grpdef kind) group _ in_group (
+    in_either (is_one_of (extdef ++ lextdef) kind) externs _ in_externs (
+    in_either (is_one_of (pubdef ++ lpubdef) kind) (publics wide) _ (in_publics wide) (
+    in_either (is_one_of (comdef ++ lcomdef) kind) communals _ in_communals (
+    in_either (is_one_of ledata kind) (called (data_item wide) Plain) _ (in_plain wide) (
+    in_either (is_one_of lidata kind) (called (data_item wide) Iterated) _ (in_iterated wide) (
+    in_either (is_one_of fixupp kind) (fixups wide) _ (in_fixups wide) (
     in_either (is_end kind) (mod_end wide) carried (in_end wide) in_carried)))))))))))
 
 is_short : (body : List ℕ) (c : Contents) → length body ≤ 65534 → IsIn 3 body c → IsShort c

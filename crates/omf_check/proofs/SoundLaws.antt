@@ -9,6 +9,7 @@ use Rattle.omf_frame.specs.Fault.{Fault, Rule, rule, broken, AreKept, least, fir
 use Rattle.omf_frame.specs.declared.fault.Reason.TheVariants as reason
 use Rattle.omf_frame.specs.Fields.{IsLittle}
 use Rattle.omf_frame.specs.FieldLaws.{little_fits}
+use Rattle.omf_frame.specs.Types.{coment, extdef, pubdef, lnames, segdef, grpdef, fixupp, ledata, lidata, comdef, lextdef, lpubdef, lcomdef, llnames}
 use Rattle.omf_frame.specs.Framing.{Raw, IsRecord, is_header, is_end}
 use Rattle.omf_image.proofs.BlocksLaws.{length-blocks_bytes}
 use Rattle.omf_image.specs.Blocks.{Blocks, blocks_size, AreBlocks}
@@ -232,16 +233,16 @@ said_no_end : (kind : ℕ) → is_end kind ≡ false → AreSaid false (contents
 said_no_end kind other_kind =
     let wide = is_wide kind in
     said_either (is_header kind) false header _ said_header (
-    said_either (kind == 0x88) false comment _ said_comment (
-    said_either (kind == 0x96) false names _ said_names (
-    said_either (is_one_of (0x98 ∷ 0x99 ∷ []) kind) false (segment wide) _ (said_segment wide) (
-    said_either (kind == 0x9A) false group _ said_group (
-    said_either (kind == 0x8C) false externs _ said_externs (
-    said_either (is_one_of (0x90 ∷ 0x91 ∷ []) kind) false (publics wide) _ (said_publics wide) (
-    said_either (kind == 0xB0) false communals _ said_communals (
-    said_either (is_one_of (0xA0 ∷ 0xA1 ∷ []) kind) false (called (data_item wide) Plain) _ (said_plain wide) (
-    said_either (is_one_of (0xA2 ∷ 0xA3 ∷ []) kind) false (called (data_item wide) Iterated) _ (said_iterated wide) (
-    said_either (is_one_of (0x9C ∷ 0x9D ∷ []) kind) false (fixups wide) _ (said_fixups wide) (
+    said_either (is_one_of coment kind) false comment _ said_comment (
+    said_either (is_one_of (lnames ++ llnames) kind) false names _ said_names (
+    said_either (is_one_of segdef kind) false (segment wide) _ (said_segment wide) (
+    said_either (is_one_of grpdef kind) false group _ said_group (
+    said_either (is_one_of (extdef ++ lextdef) kind) false externs _ said_externs (
+    said_either (is_one_of (pubdef ++ lpubdef) kind) false (publics wide) _ (said_publics wide) (
+    said_either (is_one_of (comdef ++ lcomdef) kind) false communals _ said_communals (
+    said_either (is_one_of ledata kind) false (called (data_item wide) Plain) _ (said_plain wide) (
+    said_either (is_one_of lidata kind) false (called (data_item wide) Iterated) _ (said_iterated wide) (
+    said_either (is_one_of fixupp kind) false (fixups wide) _ (said_fixups wide) (
     subst (λ b. AreSaid false (either b (mod_end wide) carried)) (sym other_kind) said_carried)))))))))))
 
 said_by_end : (kind : ℕ) → is_end kind ≡ true → AreSaid true (contents kind)

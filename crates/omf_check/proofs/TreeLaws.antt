@@ -1,9 +1,10 @@
 -- The blocks of an LIDATA have no fault exactly where they are trees within the limits.
 use Rattle.std.proofs.Common.{◌≡◌, ℕ, ◌+◌, ◌≤◌, Bool, true, false, List, [], ◌∷◌, Result, Ok, Err, refl, sym, ◌∙◌, ap, subst}
-use Rattle.std.specs.Prelude.{◌==◌, nat_le}
+use Rattle.std.specs.Prelude.{◌==◌, nat_le, ◌++◌}
 use Rattle.std.proofs.lemmas.Bool.{le-leb, leb-true}
 use Rattle.omf_frame.specs.Bytes.{AreBytes, is_one_of}
 use Rattle.omf_frame.specs.Fault.{Fault, rule, broken}
+use Rattle.omf_frame.specs.Types.{coment, extdef, pubdef, lnames, segdef, grpdef, fixupp, ledata, lidata, comdef, lextdef, lpubdef, lcomdef, llnames}
 use Rattle.omf_frame.specs.Framing.{Raw, is_header, is_end}
 use Rattle.omf_frame.specs.declared.fault.Reason.TheVariants as reason
 use Rattle.omf_records.specs.Values.{Contents, Header, Plain, Iterated, width, is_wide}
@@ -79,16 +80,16 @@ small_contents : (kind : ℕ) → AreSmall (contents kind)
 small_contents kind =
     let wide = is_wide kind in
     small_either (is_header kind) header _ small_header (
-    small_either (kind == 0x88) comment _ small_comment (
-    small_either (kind == 0x96) names _ small_names (
-    small_either (is_one_of (0x98 ∷ 0x99 ∷ []) kind) (segment wide) _ (small_segment wide) (
-    small_either (kind == 0x9A) group _ small_group (
-    small_either (kind == 0x8C) externs _ small_externs (
-    small_either (is_one_of (0x90 ∷ 0x91 ∷ []) kind) (publics wide) _ (small_publics wide) (
-    small_either (kind == 0xB0) communals _ small_communals (
-    small_either (is_one_of (0xA0 ∷ 0xA1 ∷ []) kind) (called (data_item wide) Plain) _ (small_plain wide) (
-    small_either (is_one_of (0xA2 ∷ 0xA3 ∷ []) kind) (called (data_item wide) Iterated) _ (small_iterated wide) (
-    small_either (is_one_of (0x9C ∷ 0x9D ∷ []) kind) (fixups wide) _ (small_fixups wide) (
+    small_either (is_one_of coment kind) comment _ small_comment (
+    small_either (is_one_of (lnames ++ llnames) kind) names _ small_names (
+    small_either (is_one_of segdef kind) (segment wide) _ (small_segment wide) (
+    small_either (is_one_of grpdef kind) group _ small_group (
+    small_either (is_one_of (extdef ++ lextdef) kind) externs _ small_externs (
+    small_either (is_one_of (pubdef ++ lpubdef) kind) (publics wide) _ (small_publics wide) (
+    small_either (is_one_of (comdef ++ lcomdef) kind) communals _ small_communals (
+    small_either (is_one_of ledata kind) (called (data_item wide) Plain) _ (small_plain wide) (
+    small_either (is_one_of lidata kind) (called (data_item wide) Iterated) _ (small_iterated wide) (
+    small_either (is_one_of fixupp kind) (fixups wide) _ (small_fixups wide) (
     small_either (is_end kind) (mod_end wide) carried (small_end wide) small_carried)))))))))))
 
 some_none : (f : Fault) → f ∷ [] ≡ [] → ⊥

@@ -1,7 +1,8 @@
 -- What a checker keeps of the records so far, in place of the records themselves.
 use Rattle.std.specs.Prelude.{◌≡◌, ◌<◌, ◌≤◌, ℕ, ◌+◌, List, [], ◌∷◌, ◌++◌, length, map, get_or, set, Bool, Option, Some, None, option_map, if◌then◌else◌}
+use Rattle.omf_frame.specs.Types.{is_local}
 use Rattle.omf_records.specs.Values.{At, Rec, Contents, Names, Segment, Group, Externs, Communals, Plain, Iterated, Fixups, Subrecord, Thread, Fixup, thread_is_frame, thread_method, thread_number}
-use Rattle.omf_check.specs.Tables.{names, segments, groups, externals, item_count, items_in, subrecords, last_data, segment_info}
+use Rattle.omf_check.specs.Tables.{names, segments, groups, externals, locals, item_count, items_in, subrecords, last_data, segment_info}
 use Rattle.omf_check.specs.Threads.{Setting, setting, thread}
 use Rattle.omf_check.specs.declared.segment.SegInfo.{SegInfo}
 use Rattle.omf_check.specs.declared.last_data.LastData.{LastData}
@@ -27,30 +28,35 @@ abbrev pub set_threads : Threads → List (At Subrecord) → Threads
 set_threads threads [] = threads
 set_threads threads (s ∷ subs) = set_threads (set_thread threads s.item) subs
 
--- where each name, GRPDEF record and external name stands in the module; the segments; how many items there were; the last data
--- record; the threads
+-- where each name, GRPDEF record and external name stands in the module; whether each external is local; the segments; how many items
+-- there were; the last data record; the threads
 pub record Kept : Type 0 where
   pub names : List ℕ
   pub segments : List SegInfo
   pub groups : List ℕ
   pub externals : List ℕ
+  pub locals : List Bool
   pub items : ℕ
   pub last : Option LastData
   pub threads : Threads
 
 abbrev pub nothing_kept : Kept
-nothing_kept = record { names = []; segments = []; groups = []; externals = []; items = 0; last = None; threads = no_threads }
+nothing_kept = record { names = []; segments = []; groups = []; externals = []; locals = []; items = 0; last = None; threads = no_threads }
 
 -- after one more record, which begins at some offset in the module
 abbrev pub starts : {A : Type 0} → ℕ → List (At A) → List ℕ
 starts at items = map (λ a. at + a.within) items
 
+-- the same for each item
+abbrev pub alike : {A : Type 0} → Bool → List A → List Bool
+alike b items = map (λ a. b) items
+
 abbrev pub with_contents : Kept → ℕ → ℕ → Contents → Kept
 with_contents kept at kind (Names items) = record kept { names = kept.names ++ starts at items }
 with_contents kept at kind (Segment s) = record kept { segments = kept.segments ++ segment_info kind s ∷ [] }
 with_contents kept at kind (Group g) = record kept { groups = kept.groups ++ at ∷ [] }
-with_contents kept at kind (Externs items) = record kept { externals = kept.externals ++ starts at items }
-with_contents kept at kind (Communals items) = record kept { externals = kept.externals ++ starts at items }
+with_contents kept at kind (Externs items) = record kept { externals = kept.externals ++ starts at items; locals = kept.locals ++ alike (is_local kind) items }
+with_contents kept at kind (Communals items) = record kept { externals = kept.externals ++ starts at items; locals = kept.locals ++ alike (is_local kind) items }
 with_contents kept at kind (Plain d) = record kept { last = Some (last.Plain (length d.bytes)) }
 with_contents kept at kind (Iterated d) = record kept { last = Some last.Iterated }
 with_contents kept at kind (Fixups subs) = record kept { threads = set_threads kept.threads subs }
@@ -76,6 +82,7 @@ pub record Tells (kept : Kept) (before : List Rec) : Type 0 where
   pub segments : kept.segments ≡ segments before
   pub groups : length kept.groups ≡ length (groups before)
   pub externals : length kept.externals ≡ length (externals before)
+  pub locals : kept.locals ≡ locals before
   pub items : kept.items ≡ item_count before
   pub last : kept.last ≡ option_map last_kept (last_data before)
   pub threads : HasThreads kept.threads (subrecords before)

@@ -1,6 +1,8 @@
--- The tables that records define, in their order (TIS OMF 1.1, LNAMES, SEGDEF, GRPDEF, EXTDEF, COMDEF: indices count from 1).
+-- The tables that records define, in their order (TIS OMF 1.1, LNAMES, LLNAMES, SEGDEF, GRPDEF, EXTDEF, COMDEF, LEXTDEF, LCOMDEF: indices
+-- count from 1).
 use Rattle.std.specs.Prelude.{ℕ, ◌-◌, ◌^◌, List, [], ◌∷◌, length, map, flat_map, sum_by, max, Bool, ◌&&◌, nat_le, Option, None, slice_get, if◌then◌else◌}
 use Rattle.omf_frame.specs.Bytes.{last}
+use Rattle.omf_frame.specs.Types.{is_local}
 use Rattle.omf_records.specs.Values.{Rec, Contents, Names, Segment, Group, Externs, Communals, Fixups, Plain, Iterated, SegmentItem, GroupItem, Subrecord, is_big, width_bits}
 use Rattle.omf_check.specs.declared.segment.SegInfo.{SegInfo}
 
@@ -11,7 +13,7 @@ segment_length kind s = if is_big s.attribute then 2 ^ width_bits kind else s.si
 abbrev pub segment_info : ℕ → SegmentItem → SegInfo
 segment_info kind s = record { length = segment_length kind s; absolute = s.absolute; name = s.name.item; class = s.class.item }
 
--- What one record defines. EXTDEF and COMDEF share one index space.
+-- What one record defines. LNAMES and LLNAMES share one index space, and EXTDEF, COMDEF, LEXTDEF and LCOMDEF another.
 abbrev pub defined_names : Contents → List (List ℕ)
 defined_names (Names items) = map (λ n. n.item) items
 defined_names _ = []
@@ -41,6 +43,10 @@ groups rs = flat_map (λ r. defined_groups r.contents) rs
 
 abbrev pub externals : List Rec → List (List ℕ)
 externals rs = flat_map (λ r. defined_externals r.contents) rs
+
+-- Whether each external is local.
+abbrev pub locals : List Rec → List Bool
+locals rs = flat_map (λ r. map (λ e. is_local r.kind) (defined_externals r.contents)) rs
 
 -- Whether an index is one of a table of n entries; whether it is, or is 0 and stands for none.
 abbrev pub is_defined : ℕ → ℕ → Bool

@@ -1,6 +1,7 @@
 //! A module that was checked.
 
-ghost use Rattle.std.specs.Prelude.{◌≡◌, ◌≤◌, length, drop, option_map};
+ghost use Rattle.std.specs.Prelude.{◌≡◌, ◌≤◌, Some, length, drop, option_map};
+ghost use Rattle.omf_frame.specs.Bytes.{last};
 ghost use Rattle.omf_image.specs.Limits.{profile_limits};
 ghost use Rattle.omf_check.specs.Module.{records_in, IsChecked};
 ghost use Rattle.omf_check.specs.Listed.{placed_from};
@@ -10,11 +11,11 @@ ghost use Rattle.omf_frame.specs.Framing.{front_record, present};
 ghost use Rattle.omf_records.specs.Reading.{typed};
 ghost use Rattle.omf_records.specs.Seen.{contents_seen, rec_seen};
 ghost use Rattle.omf_records.specs.Values.{Group};
-ghost use Rattle.omf_check.specs.Tables.{names, segments, groups, externals, entry};
+ghost use Rattle.omf_check.specs.Tables.{names, segments, groups, externals, locals, entry};
 ghost use Rattle.omf_check.specs.WellFormed.{recs, IsWellFormed};
 
 use crate::profile::Profile;
-use crate::records::{Records, first_record};
+use crate::records::{Records, first_record, last_record};
 use crate::segment::SegInfo;
 use crate::table::Tables;
 use omf_frame::{Field, Name};
@@ -90,7 +91,7 @@ impl Checked {
         self.profile
     }
 
-    /// How many names its LNAMES define.
+    /// How many names its LNAMES and LLNAMES define.
     pub fn names(&self) -> u16
         ensures count { result ≡ length (names (recs (records_in self.now.bytes))) }
         ensures bounded { result ≤ 32767 }
@@ -114,7 +115,7 @@ impl Checked {
         self.tables.group_count()
     }
 
-    /// How many external names it has; those of EXTDEFs and COMDEFs share one table.
+    /// How many external names it has; those of EXTDEFs, COMDEFs, LEXTDEFs and LCOMDEFs share one table.
     pub fn externals(&self) -> u16
         ensures count { result ≡ length (externals (recs (records_in self.now.bytes))) }
         ensures bounded { result ≤ 32767 }
@@ -145,6 +146,14 @@ impl Checked {
         Records::new(&self.bytes)
     }
 
+    /// The record that it ends with: its MODEND. It is found by the lengths of the records before it, which are not read again.
+    pub fn end(&self) -> Rec<'_>
+        ensures last { Some (rec_seen result) ≡ last (recs (records_in self.now.bytes)) }
+        ensures holds { ModuleHolds profile_limits (recs (records_in self.now.bytes)) }
+    {
+        last_record(&self.bytes)
+    }
+
     /// A name, by its index from 1; `None` outside the table.
     pub fn name(&self, i: u16) -> Option<Name<'_>>
         ensures { result ≡ entry (names (recs (records_in self.now.bytes))) i }
@@ -163,6 +172,14 @@ impl Checked {
             Some(place) => Some(name_at(&self.bytes, place)),
             None => None,
         }
+    }
+
+    /// Whether an external is local, by its index from 1: that of a LEXTDEF or an LCOMDEF is, that of an EXTDEF or a COMDEF is not. `None`
+    /// outside the table.
+    pub fn local(&self, i: u16) -> Option<bool>
+        ensures { result ≡ entry (locals (recs (records_in self.now.bytes))) i }
+    {
+        self.tables.is_local(i)
     }
 
     /// The typed record of a group's GRPDEF, by the group's index from 1; `None` outside the table.

@@ -1,7 +1,7 @@
 //! Worked examples at the edges of the rules, worked out by hand and evaluated by the check. Their checksum bytes are 00, which is
 //! always taken. The first records stand at 0, 6 and 13, and what follows them at 23.
 
-ghost use Rattle.std.specs.Prelude.{◌≡◌, ℕ, [], ◌∷◌, ◌++◌, Some, None, take, drop};
+ghost use Rattle.std.specs.Prelude.{◌≡◌, ℕ, [], ◌∷◌, ◌++◌, Some, None, take, drop, true, false};
 ghost use Rattle.std.specs.List.{repeat};
 ghost use Rattle.omf_frame.specs.Fault.{broken};
 ghost use Rattle.omf_frame.specs.declared.fault.Reason.TheVariants as reason;
@@ -10,15 +10,16 @@ ghost use Rattle.omf_records.specs.Rows.{put_at};
 ghost use Rattle.omf_records.specs.Values.{Comment, Fixups, Thread, ModEnd};
 ghost use Rattle.omf_image.specs.Limits.{profile_limits};
 ghost use Rattle.omf_check.specs.Refusal.{AreSoundSoFar, EndsWhereJudged};
-ghost use Rattle.omf_check.specs.Rows.{any, no_vendors, verdict_of, module_in, place, H, N, S, L, M, first_module, wrong_checksum, with_fixup, repeated, comment, segment_named, group_named, two_externals, meaning_after};
+ghost use Rattle.omf_check.specs.Rows.{any, no_vendors, verdict_of, module_in, place, H, N, S, L, M, first_module, wrong_checksum, with_fixup, repeated, comment, segment_named, group_named, two_externals, named_in, meaning_after};
 ghost use Rattle.omf_check.specs.Rules.{room, item_limit, item_places};
-ghost use Rattle.omf_check.specs.Tables.{items_in};
+ghost use Rattle.omf_check.specs.Tables.{items_in, locals};
 ghost use Rattle.omf_check.specs.Verdict.{Refused, verdict};
 
 /// The steps of framing: the type before the end of the input, that before the checksum, and that before the header.
 pub fn framing_steps()
     ensures unknown { verdict_of (H ++ 0xFF ∷ []) ≡ Refused reason.UnknownType (place 1 6 0) }
-    ensures local { verdict_of (0xB4 ∷ []) ≡ Refused reason.UnsupportedType (place 0 0 0) }
+    ensures unsupported { verdict_of (0xBC ∷ []) ≡ Refused reason.UnsupportedType (place 0 0 0) }
+    ensures local { verdict_of (0xB4 ∷ []) ≡ Refused reason.Cut (place 0 0 1) }
     ensures no_length { verdict_of (H ++ 0x96 ∷ 0x04 ∷ []) ≡ Refused reason.Cut (place 1 6 2) }
     ensures cut { verdict_of (0x8A ∷ 0x02 ∷ 0x00 ∷ 0x00 ∷ []) ≡ Refused reason.Cut (place 0 0 4) }
     ensures checksum { verdict_of (0x8A ∷ 0x02 ∷ 0x00 ∷ 0x00 ∷ 0x75 ∷ []) ≡ Refused reason.Checksum (place 0 0 4) }
@@ -87,9 +88,29 @@ pub fn one_external_table()
     ensures { verdict_of (H ++ N ++ S ++ 0x8C ∷ 0x04 ∷ 0x00 ∷ 0x01 ∷ 0x58 ∷ 0x00 ∷ 0x00 ∷ 0xB0 ∷ 0x06 ∷ 0x00 ∷ 0x01 ∷ 0x59 ∷ 0x00 ∷ 0x62 ∷ 0x01 ∷ 0x00 ∷ L ++ 0x9C ∷ 0x09 ∷ 0x00 ∷ 0xC4 ∷ 0x01 ∷ 0x46 ∷ 0x02 ∷ 0xC4 ∷ 0x01 ∷ 0x46 ∷ 0x03 ∷ 0x00 ∷ M) ≡ Refused reason.UndefinedExternal (place 6 50 10) }
 {}
 
+/// So have those of a LEXTDEF and of an LCOMDEF, in front of them or behind.
+pub fn local_externals_count()
+    ensures local { verdict_of (H ++ N ++ S ++ 0xB4 ∷ 0x04 ∷ 0x00 ∷ 0x01 ∷ 0x58 ∷ 0x00 ∷ 0x00 ∷ 0xB8 ∷ 0x06 ∷ 0x00 ∷ 0x01 ∷ 0x59 ∷ 0x00 ∷ 0x62 ∷ 0x01 ∷ 0x00 ∷ L ++ 0x9C ∷ 0x09 ∷ 0x00 ∷ 0xC4 ∷ 0x01 ∷ 0x46 ∷ 0x02 ∷ 0xC4 ∷ 0x01 ∷ 0x46 ∷ 0x03 ∷ 0x00 ∷ M) ≡ Refused reason.UndefinedExternal (place 6 50 10) }
+    ensures mixed { verdict_of (H ++ N ++ S ++ 0xB5 ∷ 0x04 ∷ 0x00 ∷ 0x01 ∷ 0x58 ∷ 0x00 ∷ 0x00 ∷ 0xB0 ∷ 0x06 ∷ 0x00 ∷ 0x01 ∷ 0x59 ∷ 0x00 ∷ 0x62 ∷ 0x01 ∷ 0x00 ∷ L ++ 0x9C ∷ 0x09 ∷ 0x00 ∷ 0xC4 ∷ 0x01 ∷ 0x46 ∷ 0x02 ∷ 0xC4 ∷ 0x01 ∷ 0x46 ∷ 0x03 ∷ 0x00 ∷ M) ≡ Refused reason.UndefinedExternal (place 6 50 10) }
+    ensures told { locals (two_externals ∷ record two_externals { kind = 0xB4 } ∷ []) ≡ false ∷ false ∷ true ∷ true ∷ [] }
+{}
+
+/// Names of an LNAMES and of an LLNAMES have one count.
+pub fn one_name_table()
+    ensures last { verdict_of (H ++ 0xCA ∷ 0x03 ∷ 0x00 ∷ 0x01 ∷ 0x55 ∷ 0x00 ∷ N ++ 0x98 ∷ 0x07 ∷ 0x00 ∷ 0x28 ∷ 0x04 ∷ 0x00 ∷ 0x03 ∷ 0x04 ∷ 0x01 ∷ 0x00 ∷ M) ≡ Refused reason.UndefinedName (place 3 19 7) }
+    ensures beyond { meaning_after 32767 (named_in 0x96) (named_in 0xCA) ≡ Some (fault 3 reason.TooMany) }
+{}
+
+/// The base of an LPUBDEF is judged as that of a PUBDEF; 0 stands for none.
+pub fn local_bases()
+    ensures group { verdict_of (H ++ N ++ S ++ 0xB6 ∷ 0x03 ∷ 0x00 ∷ 0x01 ∷ 0x02 ∷ 0x00 ∷ []) ≡ Refused reason.UndefinedGroup (place 3 23 3) }
+    ensures segment { verdict_of (H ++ N ++ S ++ 0xB7 ∷ 0x03 ∷ 0x00 ∷ 0x00 ∷ 0x02 ∷ 0x00 ∷ []) ≡ Refused reason.UndefinedSegment (place 3 23 4) }
+    ensures none { module_in (verdict_of (H ++ 0xB6 ∷ 0x05 ∷ 0x00 ∷ 0x00 ∷ 0x00 ∷ 0x34 ∷ 0x12 ∷ 0x00 ∷ M)) ≡ Some (H ++ 0xB6 ∷ 0x05 ∷ 0x00 ∷ 0x00 ∷ 0x00 ∷ 0x34 ∷ 0x12 ∷ 0x00 ∷ M) }
+{}
+
 /// Blocks: too deep even where they are taken 0 times, too many bytes without wrap, Short to the right of them, and all of it before meaning.
 pub fn block_steps()
-    ensures deep { verdict_of (repeated (0xA2 ∷ 0x8A ∷ 0x00 ∷ 0x01 ∷ 0x00 ∷ 0x00 ∷ repeat 32 (0x00 ∷ 0x00 ∷ 0x01 ∷ 0x00 ∷ []) ++ 0x01 ∷ 0x00 ∷ 0x00 ∷ 0x00 ∷ 0x01 ∷ 0xAA ∷ 0x00 ∷ [])) ≡ Refused reason.TooDeep (place 3 23 134) }
+    ensures deep { verdict_of (repeated (0xA2 ∷ 0x0A ∷ 0x01 ∷ 0x01 ∷ 0x00 ∷ 0x00 ∷ repeat 64 (0x00 ∷ 0x00 ∷ 0x01 ∷ 0x00 ∷ []) ++ 0x01 ∷ 0x00 ∷ 0x00 ∷ 0x00 ∷ 0x01 ∷ 0xAA ∷ 0x00 ∷ [])) ≡ Refused reason.TooDeep (place 3 23 262) }
     ensures no_wrap { verdict_of (repeated (0xA2 ∷ 0x1E ∷ 0x00 ∷ 0x01 ∷ 0x00 ∷ 0x00 ∷ repeat 5 (0xFF ∷ 0xFF ∷ 0x01 ∷ 0x00 ∷ []) ++ 0x01 ∷ 0x00 ∷ 0x00 ∷ 0x00 ∷ 0x01 ∷ 0xAA ∷ 0x00 ∷ [])) ≡ Refused reason.DataTooLong (place 3 23 6) }
     ensures short { verdict_of (repeated (0xA2 ∷ 0x0F ∷ 0x00 ∷ 0x01 ∷ 0x00 ∷ 0x00 ∷ 0xFF ∷ 0xFF ∷ 0x01 ∷ 0x00 ∷ 0xFF ∷ 0xFF ∷ 0x00 ∷ 0x00 ∷ 0x01 ∷ 0xAA ∷ 0x01 ∷ 0x00 ∷ [])) ≡ Refused reason.Short (place 3 23 16) }
     ensures before_segment { verdict_of (repeated (0xA2 ∷ 0x0E ∷ 0x00 ∷ 0x09 ∷ 0x00 ∷ 0x00 ∷ 0xFF ∷ 0xFF ∷ 0x01 ∷ 0x00 ∷ 0xFF ∷ 0xFF ∷ 0x00 ∷ 0x00 ∷ 0x01 ∷ 0xAA ∷ 0x00 ∷ [])) ≡ Refused reason.DataTooLong (place 3 23 6) }

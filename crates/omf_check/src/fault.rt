@@ -7,17 +7,17 @@ use omf_frame::{Place, Reason};
 use std::alloc::AllocError;
 use thiserror::Error;
 
-/// A growth was refused, the reader failed, or the input does not begin with a module.
+/// Why a check answers no module. The numbers of the reasons are 1 to 3.
 #[derive(Clone, Copy, Debug, PartialEq, Eq, Error)]
 pub enum CheckFault {
-    /// A growth was refused.
-    #[error("memory")]
+    /// 1: a growth was refused.
+    #[error("memory ran out")]
     Memory,
-    /// The reader failed.
-    #[error("read")]
+    /// 2: the reader failed, or was interrupted a thousand times running.
+    #[error("the input could not be read")]
     Read,
-    /// The input does not begin with a module.
-    #[error("refused")]
+    /// 3: the input does not begin with a well-formed module.
+    #[error("the input does not begin with a well-formed module")]
     Refused {
         /// What is wrong with its first record at fault.
         reason: Reason,

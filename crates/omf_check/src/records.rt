@@ -1,11 +1,13 @@
 //! The records of a checked module, one after another.
 
-ghost use Rattle.std.specs.Prelude.{◌≡◌};
+ghost use Rattle.std.specs.Prelude.{◌≡◌, ◌<◌, Some, length};
+ghost use Rattle.omf_frame.specs.Bytes.{last};
 ghost use Rattle.omf_frame.specs.Framing.{front_record, present, after_front};
 ghost use Rattle.omf_records.specs.Reading.{typed};
 ghost use Rattle.omf_records.specs.Seen.{rec_seen};
 ghost use Rattle.omf_check.specs.Listed.{StartsWithRecord, AreListed, placed_from};
 ghost use Rattle.omf_check.specs.Module.{records_in};
+ghost use Rattle.omf_check.specs.WellFormed.{recs};
 
 use omf_frame::{Place, RawRecord};
 use omf_records::{Rec, view};
@@ -44,6 +46,23 @@ pub(crate) fn first_record<'a>(bytes: &'a [u8]) -> (Rec<'a>, &'a [u8])
     match view(raw) {
         Ok(rec) => (rec, rest),
         Err(_) => unreachable!(),
+    }
+}
+
+/// The last of the records that bytes are. The contents of those before it are passed over by their lengths alone.
+pub(crate) fn last_record<'a>(bytes: &'a [u8]) -> Rec<'a>
+    requires listed { AreListed bytes.now 0 0 }
+    requires filled { 0 < length bytes.now }
+    ensures { Some (rec_seen result) ≡ last (recs (records_in bytes.entry.now)) }
+{
+    let mut left = bytes;
+    loop {
+        let (_front, rest) = split_record(left);
+        if rest.is_empty() {
+            let (rec, _rest) = first_record(left);
+            return rec;
+        }
+        left = rest;
     }
 }
 

@@ -4,7 +4,7 @@ ghost use Rattle.std.specs.Prelude.{◌≡◌, ℕ, [], ◌∷◌, ◌++◌, Som
 ghost use Rattle.omf_frame.specs.declared.fault.Reason.TheVariants as reason;
 ghost use Rattle.omf_image.specs.Limits.{profile_limits};
 ghost use Rattle.omf_check.specs.Verdict.{Refused, verdict};
-ghost use Rattle.omf_check.specs.Rows.{any, no_vendors, verdict_of, module_in, place, H, N, S, L, F, M, first_module, without_checksums, wrong_checksum, long_index, threads, defined_thread, undefined_thread, flat, repeated, nested_blocks, blocks_of_nothing, too_many_bytes, most_bytes, with_fixup, big, started, absolute, thread_ahead, comment, communal, public, nameless};
+ghost use Rattle.omf_check.specs.Rows.{any, no_vendors, verdict_of, module_in, place, H, N, S, L, F, M, first_module, without_checksums, wrong_checksum, long_index, threads, defined_thread, undefined_thread, flat, repeated, nested_blocks, blocks_of_nothing, too_many_bytes, most_bytes, with_fixup, big, started, absolute, thread_ahead, comment, communal, public, nameless, many_bytes, local_jump, local_name, local_communal};
 
 /// Six records, and what follows them is not read.
 pub fn a_module()
@@ -69,6 +69,7 @@ pub fn blocks()
     ensures nothing { module_in (verdict_of (repeated blocks_of_nothing)) ≡ Some (repeated blocks_of_nothing) }
     ensures fixup { verdict_of (repeated (nested_blocks ++ F)) ≡ Refused reason.FixupOnIterated (place 4 47 3) }
     ensures too_long { verdict_of (repeated too_many_bytes) ≡ Refused reason.DataTooLong (place 3 23 8) }
+    ensures beyond_segment { verdict_of (repeated many_bytes) ≡ Refused reason.OutsideSegment (place 3 23 4) }
     ensures outside { verdict_of (repeated most_bytes) ≡ Refused reason.OutsideSegment (place 3 23 4) }
 {}
 
@@ -128,6 +129,14 @@ pub fn target_before_frame()
 /// The 32,768th name is named.
 pub fn too_many_names()
     ensures { verdict_of (H ++ 0x96 ∷ 0x01 ∷ 0x80 ∷ replicate 32768 0 ++ 0 ∷ M) ≡ Refused reason.TooMany (place 1 6 32770) }
+{}
+
+/// Local records: an external that a fixup names, a name that a segment has, a communal; and a public whose segment is not there.
+pub fn local_records()
+    ensures external { module_in (verdict_of local_jump) ≡ Some local_jump }
+    ensures name { module_in (verdict_of local_name) ≡ Some local_name }
+    ensures communal { module_in (verdict_of local_communal) ≡ Some local_communal }
+    ensures public { verdict_of (H ++ N ++ S ++ 0xB6 ∷ 0x08 ∷ 0x00 ∷ 0x00 ∷ 0x02 ∷ 0x01 ∷ 0x50 ∷ 0x00 ∷ 0x00 ∷ 0x00 ∷ 0xEF ∷ M) ≡ Refused reason.UndefinedSegment (place 3 23 4) }
 {}
 
 /// An index of 0 names no segment where one must be named: of data, of a group's member, of a target.

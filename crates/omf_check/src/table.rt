@@ -3,7 +3,7 @@
 ghost use Rattle.std.specs.Prelude.{◌≡◌, ◌≤◌, ◌<◌, ◌+◌, ◌^◌, ◌++◌, ℕ, length, OnOk, IfOk, List, unwrap_or, IsTrue, IfErr, None, Ok, ◌-◌, [], ◌∷◌, true, false, nat_le, is_none, option_map};
 ghost use Rattle.omf_check.specs.Rules.{judged_at, item_limit};
 ghost use Rattle.omf_image.specs.Limits.{profile_limits};
-ghost use Rattle.omf_check.specs.Kept.{Kept, nothing_kept, starts, with_record, with_contents, set_threads};
+ghost use Rattle.omf_check.specs.Kept.{Kept, nothing_kept, starts, alike, with_record, with_contents, set_threads};
 ghost use Rattle.omf_check.specs.Judging.{kept_length, data_fault, index_fault, frame_cell, frame_fault, target_cell, target_fault, reference_fault, location_fault, subrecord_fault, start_fault, contents_fault, segment_fault, group_fault, base_fault, room_fault, data_size, placed, record_fault, IsShort, IsNoFixupp, raw_fault, rec_of};
 ghost use Rattle.omf_check.specs.Session.{refused_at, IsStopped};
 ghost use Rattle.omf_frame.specs.Framing.{is_taken};
@@ -53,6 +53,8 @@ pub struct Tables {
     groups: Vec<u64>,
     /// Where each external name stands in the module.
     externals: Vec<u64>,
+    /// Whether each external is local.
+    locals: Vec<bool>,
     items: usize,
     last: Option<LastData>,
     threads: Threads,
@@ -63,7 +65,7 @@ impl Model for Tables {
 
     ghost Value = { Kept };
 
-    ghost view = { λ t. record { names = t.names.items; segments = t.segments.items; groups = t.groups.items; externals = t.externals.items; items = t.items; last = t.last; threads = t.threads } };
+    ghost view = { λ t. record { names = t.names.items; segments = t.segments.items; groups = t.groups.items; externals = t.externals.items; locals = t.locals.items; items = t.items; last = t.last; threads = t.threads } };
 }
 
 /// The bytes at a location end within so many bytes of data.
@@ -154,6 +156,20 @@ fn add_starts<T: Item>(places: &mut Vec<u64>, at: u64, items: Items<T>) -> Resul
     Ok(())
 }
 
+/// Appends a value for each item.
+fn add_alike<T: Item>(
+    values: &mut Vec<bool>,
+    value: bool,
+    items: Items<T>,
+) -> Result<(), AllocError>
+    ensures { OnOk result (values.new.items ≡ values.old.items ++ alike value items) }
+{
+    for _item in items {
+        values.push(value)?;
+    }
+    Ok(())
+}
+
 /// How many bytes the blocks of an LIDATA stand for, whose offset stands at this place; or their first fault.
 fn blocks_size(at: u32, blocks: Blocks<'_>) -> Result<usize, LayoutFault>
     requires place { at ≤ 65537 }
@@ -206,6 +222,7 @@ impl Tables {
             segments: Vec::new(alloc),
             groups: Vec::new(alloc),
             externals: Vec::new(alloc),
+            locals: Vec::new(alloc),
             items: 0,
             last: None,
             threads: Threads::new(),
@@ -465,11 +482,15 @@ impl Tables {
         match rec {
             Rec::Comment { class, .. } => comment_fault(profile, *class),
             Rec::Names(items) => room_fault(items.iter(), name_room),
+            Rec::LocalNames(items) => room_fault(items.iter(), name_room),
             Rec::Segment { segment, .. } => self.segment_fault(segment),
             Rec::Group { name, members } => self.group_fault(name, members.iter()),
             Rec::Externs(items) => room_fault(items.iter(), external_room),
+            Rec::LocalExterns { externs, .. } => room_fault(externs.iter(), external_room),
             Rec::Publics { group, segment, .. } => self.base_fault(group, segment),
+            Rec::LocalPublics { group, segment, .. } => self.base_fault(group, segment),
             Rec::Communals(items) => room_fault(items.iter(), external_room),
+            Rec::LocalCommunals(items) => room_fault(items.iter(), external_room),
             Rec::Plain {
                 segment,
                 offset,
@@ -505,6 +526,20 @@ impl Tables {
         }
     }
 
+    /// Keeps where external names stand, all of them local or none.
+    fn add_externals<T: Item>(
+        &mut self,
+        at: u64,
+        is_local: bool,
+        items: Items<T>,
+    ) -> Result<(), AllocError>
+        requires { at < 2 ^ 40 }
+        ensures { OnOk result (self.new ≡ record self.old { externals = self.old.externals ++ starts at items; locals = self.old.locals ++ alike is_local items }) }
+    {
+        add_starts(&mut self.externals, at, items.iter())?;
+        add_alike(&mut self.locals, is_local, items)
+    }
+
     /// Keeps what a record that is no FIXUPP defines. It begins at this offset of the module.
     fn add_contents(&mut self, at: u64, rec: &Rec<'_>) -> Result<(), AllocError>
         requires start { at < 2 ^ 40 }
@@ -513,10 +548,13 @@ impl Tables {
     {
         match rec {
             Rec::Names(items) => add_starts(&mut self.names, at, items.iter()),
+            Rec::LocalNames(items) => add_starts(&mut self.names, at, items.iter()),
             Rec::Segment { wide, segment } => Ok(self.segments.push(segment_info(*wide, segment))?),
             Rec::Group { .. } => Ok(self.groups.push(at)?),
-            Rec::Externs(items) => add_starts(&mut self.externals, at, items.iter()),
-            Rec::Communals(items) => add_starts(&mut self.externals, at, items.iter()),
+            Rec::Externs(items) => self.add_externals(at, false, items.iter()),
+            Rec::LocalExterns { externs, .. } => self.add_externals(at, true, externs.iter()),
+            Rec::Communals(items) => self.add_externals(at, false, items.iter()),
+            Rec::LocalCommunals(items) => self.add_externals(at, true, items.iter()),
             Rec::Plain { data, .. } => {
                 self.last = Some(LastData::Plain(data.len()));
                 Ok(())
@@ -529,6 +567,7 @@ impl Tables {
             Rec::Header { .. }
             | Rec::Comment { .. }
             | Rec::Publics { .. }
+            | Rec::LocalPublics { .. }
             | Rec::ModEnd { .. }
             | Rec::Carried { .. } => Ok(()),
         }
@@ -714,6 +753,16 @@ impl Tables {
             return None;
         }
         self.externals.get(usize::from(i) - 1).copied()
+    }
+
+    /// Whether the external of an index from 1 is local.
+    pub fn is_local(&self, i: u16) -> Option<bool>
+        ensures { result ≡ entry self.now.locals i }
+    {
+        if i == 0 {
+            return None;
+        }
+        self.locals.get(usize::from(i) - 1).copied()
     }
 
     /// Where the GRPDEF of an index from 1 stands in the module.

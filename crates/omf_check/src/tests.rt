@@ -9,6 +9,7 @@ use omf_records::Rec;
 use std::alloc::{AllocError, Global};
 use std::test::Fail;
 
+mod local;
 mod memory;
 mod pieces;
 mod readers;
@@ -375,6 +376,14 @@ fn judges_blocks(rt: HostRuntime) -> Result<(), Fail> {
     ];
     assert_eq!(rt;
         answer(a, &[&HEADER, &NAMES, &SEGMENT_OF_12, &long, &END])?,
+        fault(Reason::OutsideSegment, 3, 23, 4)
+    );
+    let too_long = [
+        0xA3, 0x0E, 0x00, 0x01, 0x00, 0x00, 0x00, 0x00, 0x01, 0x00, 0x00, 0x10, 0x00, 0x00, 0x01,
+        0xAA, 0x92,
+    ];
+    assert_eq!(rt;
+        answer(a, &[&HEADER, &NAMES, &SEGMENT_OF_12, &too_long, &END])?,
         fault(Reason::DataTooLong, 3, 23, 8)
     );
     let most = [
@@ -608,6 +617,7 @@ fn shows_tables(rt: HostRuntime) -> Result<(), Fail> {
     assert_eq!(rt; checked.name(3).is_none(), true);
     assert_eq!(rt; checked.group(1).is_none(), true);
     assert_eq!(rt; checked.external(1).is_none(), true);
+    assert_eq!(rt; checked.end().kind(), 0x8A);
     let mut records = checked.records();
     for (number, start) in [(0, 0), (1, 6), (2, 13), (3, 23), (4, 34), (5, 43)] {
         let place = Place {

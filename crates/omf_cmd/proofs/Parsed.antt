@@ -60,6 +60,10 @@ reloc_is : IsUnderstood (codes "reloc")
 unfolding clap_on_literals
 reloc_is = record { alone = λ p. (record { named = refl; set = refl }, refl); flagged = λ p. (record { named = refl; set = refl }, refl) }
 
+canon_is : IsUnderstood (codes "canon")
+unfolding clap_on_literals
+canon_is = record { alone = λ p. (record { named = refl; set = refl }, refl); flagged = λ p. (record { named = refl; set = refl }, refl) }
+
 -- ---- the words that are asked for
 
 -- a name that stands for a job is understood
@@ -71,7 +75,8 @@ pub understood : (name : Text) (j : Job) → job_named name ≡ Some j → IsUnd
 understood name j e =
     first_name (bytes_eq name (codes "list")) name (codes "list") j job.List _ (bytes_eq-Decides name (codes "list")).0 list_is
     (first_name (bytes_eq name (codes "check")) name (codes "check") j job.Check _ (bytes_eq-Decides name (codes "check")).0 check_is
-    (first_name (bytes_eq name (codes "reloc")) name (codes "reloc") j job.Reloc None (bytes_eq-Decides name (codes "reloc")).0 reloc_is (λ none. absurd cc)))
+    (first_name (bytes_eq name (codes "reloc")) name (codes "reloc") j job.Reloc _ (bytes_eq-Decides name (codes "reloc")).0 reloc_is
+    (first_name (bytes_eq name (codes "canon")) name (codes "canon") j job.Canon None (bytes_eq-Decides name (codes "canon")).0 canon_is (λ none. absurd cc))))
     e
 
 map_some : (o : Option Job) (refuses : Bool) (asked : Job × Profile) → option_map (λ j. (j, profile_of refuses)) o ≡ Some asked → (j : Job) × (o ≡ Some j) × (asked_of j refuses ≡ Some asked)

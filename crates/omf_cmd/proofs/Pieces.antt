@@ -1,5 +1,5 @@
 -- A text that goes to a writer in pieces.
-use Rattle.std.proofs.Common.{◌≡◌, ◌≤◌, ℕ, List, [], ◌++◌, Result, Ok, Err, refl, sym, ap, subst, ◌∙◌, append_assoc, arith, inl, inr}
+use Rattle.std.proofs.Common.{◌≡◌, ℕ, List, [], ◌++◌, Result, Ok, Err, refl, sym, ap, subst, ◌∙◌, append_assoc, arith, inl, inr}
 use Rattle.std.proofs.KnownBytes.{Appends-nil, Appends-trans, Keeps-refl}
 use Rattle.std.proofs.lemmas.List.{append-nil}
 use Rattle.std.specs.Io.KnownBytes.{Appends}
@@ -37,6 +37,10 @@ stopped old mid new text due more h p = (
 -- a fault came before any of what was left was passed on
 pub kept_back : (old new : Option (List ℕ)) (text left : List ℕ) → IsWrittenUpTo old new text left → IsPart old new text
 kept_back old new text left h = (h.front, left, h.whole, h.written)
+
+pub halted : (old new : Option (List ℕ)) (text left kept : List ℕ) (r : Result (Unit {0}) RunFault) → IsErr r → IsWrittenUpTo old new text left → Passes old new r text kept
+halted old new text left kept (Ok done) is h = absurd (cc is)
+halted old new text left kept (Err x) is h = kept_back old new text left h
 
 -- ---- what a device did, one call after another
 
@@ -124,3 +128,24 @@ relocates profile input text old new before after (Err (fault.Reach x)) f a = ab
 -- with nothing kept yet, the whole text is to be written
 pub begun_empty : (held : Option (List ℕ)) (front back kept : List ℕ) → kept ≡ [] → IsWrittenUpTo held held (front ++ back) ((kept ++ front) ++ back)
 begun_empty held front back kept e = subst (λ (t : List ℕ). IsWrittenUpTo held held (front ++ back) ((t ++ front) ++ back)) (sym e) (none_written held (front ++ back))
+
+-- ---- a text of several parts, one after another
+
+-- none of five parts is printed yet
+pub begun_in_parts : (held : Option (List ℕ)) (kept a b c d e : List ℕ) → IsWrittenUpTo held held (kept ++ ((((a ++ b) ++ c) ++ d) ++ e)) (kept ++ (a ++ (b ++ (c ++ (d ++ e)))))
+begun_in_parts held kept a b c d e =
+    let parts = append_assoc ((a ++ b) ++ c) d e ∙ append_assoc (a ++ b) c (d ++ e) ∙ append_assoc a b (c ++ (d ++ e)) in
+    subst (IsWrittenUpTo held held (kept ++ ((((a ++ b) ++ c) ++ d) ++ e))) (ap (λ (t : List ℕ). kept ++ t) parts) (none_written held (kept ++ ((((a ++ b) ++ c) ++ d) ++ e)))
+
+-- the next part was printed, and more is still to come
+pub part_done : (old mid new : Option (List ℕ)) (text kept part more left : List ℕ) → IsWrittenUpTo old mid text (kept ++ (part ++ more)) → IsWrittenUpTo mid new (kept ++ part) left → IsWrittenUpTo old new text (left ++ more)
+part_done old mid new text kept part more left h w = went_on old mid new text (kept ++ (part ++ more)) (kept ++ part) more left h (append_assoc kept part more) w
+
+-- a fault came in the next part
+pub part_stopped : (old mid new : Option (List ℕ)) (text kept part more left : List ℕ) (r : Result (Unit {0}) RunFault) → IsErr r → IsWrittenUpTo old mid text (kept ++ (part ++ more)) → IsPart mid new (kept ++ part) → Passes old new r text left
+part_stopped old mid new text kept part more left r is h p = stopped_by old mid new text (kept ++ (part ++ more)) (kept ++ part) more left r is h (append_assoc kept part more) p
+
+-- the last part was printed, or a fault came in it
+pub last_part : (old mid new : Option (List ℕ)) (text due left : List ℕ) (r : Result (Unit {0}) RunFault) → IsWrittenUpTo old mid text due → Passes mid new r due left → Passes old new r text left
+last_part old mid new text due left (Ok done) h p = subst (IsWrittenUpTo old new text) (append-nil left) (went_on old mid new text due due [] left h (append-nil due) p)
+last_part old mid new text due left (Err x) h p = stopped old mid new text due [] (subst (IsWrittenUpTo old mid text) (sym (append-nil due)) h) p

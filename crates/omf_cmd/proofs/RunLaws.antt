@@ -1,6 +1,7 @@
 -- What a run over a module answers and writes, from what its parts answer.
 use Rattle.std.proofs.Common.{◌≡◌, ◌≤◌, arith, ℕ, List, [], ◌∷◌, ◌++◌, Result, Ok, Err, refl, sym, subst, ◌∙◌, inl, inr}
 use Rattle.std.proofs.lemmas.List.{append-nil}
+use Rattle.std.proofs.KnownBytes.{Appends-nil}
 use Rattle.std.specs.Io.KnownBytes.{Consumes, Keeps}
 use Rattle.std.specs.Prelude.{Option, Some, None, IfErr, IsTrue}
 use Rattle.omf_frame.specs.Device.{Device}
@@ -19,8 +20,8 @@ use Rattle.omf_check.specs.declared.fault.CheckFault.TheVariants as check
 use Rattle.omf_check.specs.declared.profile.Profile.{Profile}
 use Rattle.omf_cmd.specs.FaultLine.{fault_line, fault_text, takes_memory}
 use Rattle.omf_cmd.specs.HowFar.{IsReadFrom}
-use Rattle.omf_cmd.specs.Reports.{of_check, IsModuleFault, Judges, Reports}
-use Rattle.omf_cmd.specs.Runs.{IsCausedBy, IsPart, IsPrintCause, IsReadCause, IsUnbroken, IsWritten, Prints}
+use Rattle.omf_cmd.specs.Reports.{of_check, IsModuleFault, Judges, ReportsBy}
+use Rattle.omf_cmd.specs.Runs.{IsCausedBy, IsPart, IsPrintCause, IsReadCause, IsUnbroken, IsWritten, Prints, PrintsInPieces}
 use Rattle.omf_cmd.proofs.Pieces.{given_up_later, unbroken_on}
 use Rattle.omf_cmd.specs.declared.fault.RunFault.{RunFault}
 use Rattle.omf_cmd.specs.declared.fault.RunFault.TheVariants as fault
@@ -28,49 +29,6 @@ use Rattle.omf_cmd.specs.declared.fault.RunFault.TheVariants as fault
 pub kept : (held : Option (List ℕ)) → Keeps held held
 kept None = tt
 kept (Some xs) = refl
-
--- the faults of a check and of a writer are no faults of a placement
-pub check_fault : (e : CheckFault) → IsModuleFault (of_check e)
-check_fault check.Memory = tt
-check_fault check.Read = tt
-check_fault (check.Refused why at) = tt
-
-pub write_fault : (r : Result (Unit {0}) RunFault) → IfErr r (λ e. e ≡ fault.Write) → IfErr r IsModuleFault
-write_fault (Ok done) w = tt
-write_fault (Err e) w = subst IsModuleFault (sym w) tt
-
--- nothing is written where the check answers no module
-none_printed : (held : Option (List ℕ)) (e : CheckFault) (text : List ℕ) → Prints held held (Err (of_check e)) text
-none_printed held check.Memory text = kept held
-none_printed held check.Read text = kept held
-none_printed held (check.Refused why at) text = kept held
-
-none_judged : (profile : Profile) (input : List ℕ) (records : List Raw) (old new : Option (List ℕ)) (failed fails : ℕ) (e : CheckFault) → Decides profile input (Err e) → IsCheckFault profile old new failed fails e → Judges profile input records old new (Err (of_check e))
-none_judged profile input records old new failed fails check.Memory d c = inl c
-none_judged profile input records old new failed fails check.Read d c = c.1
-none_judged profile input records old new failed fails (check.Refused why at) d c = (d, c)
-
--- a run that prints a text of the module's records
-module _ (text : List Raw → List ℕ) (profile : Profile) (reader reader' : Device) where
-  pub none_reported : (writer : Device) (failed fails : ℕ) (e : CheckFault) → ((input : List ℕ) → reader.bytes ≡ Some input → Decides profile input (Err e)) → IsCheckFault profile reader.bytes reader'.bytes failed fails e
-      → Reports text profile reader reader' writer writer (Err (of_check e))
-  none_reported writer failed fails e d c = ([], none_printed writer.bytes e (text []), λ input told. none_judged profile input [] reader.bytes reader'.bytes failed fails e (d input told) c)
-
-  -- the module's text is written, or the writer failed, or its text found no memory
-  module _ (m : Module) (d : (input : List ℕ) → reader.bytes ≡ Some input → Decides profile input (Ok m)) (read : Consumes reader.bytes reader'.bytes m.bytes) where
-    read_from : (input : List ℕ) → reader.bytes ≡ Some input → IsReadFrom profile input (records_in m.bytes) reader.bytes reader'.bytes
-    read_from input told = let a = d input told in record { accepted = a.1.0; read = subst (Consumes reader.bytes reader'.bytes) (sym a.1.1) read }
-
-    pub text_reported : (writer : Device) → Reports text profile reader reader' writer writer (Err fault.Memory)
-    text_reported writer = (records_in m.bytes, kept writer.bytes, λ input told. inr (read_from input told))
-
-    one_judged : (input : List ℕ) (r : Result (Unit {0}) RunFault) → reader.bytes ≡ Some input → IfErr r (λ e. e ≡ fault.Write) → Judges profile input (records_in m.bytes) reader.bytes reader'.bytes r
-    one_judged input (Ok done) told w = read_from input told
-    one_judged input (Err e) told w = subst (λ (x : RunFault). Judges profile input (records_in m.bytes) reader.bytes reader'.bytes (Err x)) (sym w) (read_from input told)
-
-    pub one_reported : (writer writer' : Device) (r : Result (Unit {0}) RunFault) (shown : List ℕ) → shown ≡ text (records_in m.bytes) → IfErr r (λ e. e ≡ fault.Write) → Prints writer.bytes writer'.bytes r shown
-        → Reports text profile reader reader' writer writer' r
-    one_reported writer writer' r shown same w p = (records_in m.bytes, subst (Prints writer.bytes writer'.bytes r) same p, λ input told. one_judged input r told w)
 
 -- a text that may not be written whole
 pub part_written : (old new : Option (List ℕ)) (r : Result (Unit {0}) RunFault) (shown text : List ℕ) → shown ≡ text → IfErr r (λ e. e ≡ fault.Write) → Prints old new r shown → IsPart old new text
@@ -140,6 +98,86 @@ read_later old mid new (fault.Refused why at) h c = unbroken_on old mid new h c
 read_later old mid new (fault.Line n) h c = unbroken_on old mid new h c
 read_later old mid new fault.TooLong h c = unbroken_on old mid new h c
 read_later old mid new (fault.Reach f) h c = unbroken_on old mid new h c
+
+-- ---- a run that prints a text of the module's records
+
+-- What the writer gets of a text, by the answer.
+abbrev pub Printing : Type 1
+Printing = Option (List ℕ) → Option (List ℕ) → Result (Unit {0}) RunFault → List ℕ → Type 0
+
+-- What such a run answers, reads and writes: the clauses of `check`, `list` and `canon`.
+pub record IsReport (prints_by : Printing) (text : List Raw → List ℕ) (profile : Profile) (reader reader' writer writer' : Device) (ran : Result (Unit {0}) RunFault) : Type 0 where
+  pub cause : IsCausedBy reader reader' writer writer' ran
+  pub fault : IfErr ran IsModuleFault
+  pub prints : ReportsBy prints_by text profile reader reader' writer writer' ran
+
+-- the faults of a check and of printing are no faults of a placement
+check_fault : (e : CheckFault) → IsModuleFault (of_check e)
+check_fault check.Memory = tt
+check_fault check.Read = tt
+check_fault (check.Refused why at) = tt
+
+print_fault : (old new : Device) (r : Result (Unit {0}) RunFault) → IsPrintCause old new r → IfErr r IsModuleFault
+print_fault old new (Ok done) c = tt
+print_fault old new (Err fault.Memory) c = tt
+print_fault old new (Err fault.Write) c = tt
+print_fault old new (Err fault.Read) c = absurd c
+print_fault old new (Err (fault.Refused why at)) c = absurd c
+print_fault old new (Err (fault.Line n)) c = absurd c
+print_fault old new (Err fault.TooLong) c = absurd c
+print_fault old new (Err (fault.Reach f)) c = absurd c
+
+-- nothing is written where the check answers no module
+pub none_printed : (held : Option (List ℕ)) (e : CheckFault) (text : List ℕ) → Prints held held (Err (of_check e)) text
+none_printed held check.Memory text = kept held
+none_printed held check.Read text = kept held
+none_printed held (check.Refused why at) text = kept held
+
+pub none_in_pieces : (held : Option (List ℕ)) (e : CheckFault) (text : List ℕ) → PrintsInPieces held held (Err (of_check e)) text
+none_in_pieces held check.Memory text = ([], text, refl, Appends-nil held)
+none_in_pieces held check.Read text = kept held
+none_in_pieces held (check.Refused why at) text = kept held
+
+none_judged : (profile : Profile) (input : List ℕ) (old new : Option (List ℕ)) (failed fails : ℕ) (e : CheckFault) → Decides profile input (Err e) → IsCheckFault profile old new failed fails e → Judges profile input [] old new (Err (of_check e))
+none_judged profile input old new failed fails check.Memory d c = inl (c, refl)
+none_judged profile input old new failed fails check.Read d c = c.1
+none_judged profile input old new failed fails (check.Refused why at) d c = (d, c)
+
+-- a module that was read, and then something printed
+one_judged : (profile : Profile) (input : List ℕ) (records : List Raw) (old new : Option (List ℕ)) (before after : Device) (r : Result (Unit {0}) RunFault) → IsPrintCause before after r → IsReadFrom profile input records old new → Judges profile input records old new r
+one_judged profile input records old new before after (Ok done) c h = h
+one_judged profile input records old new before after (Err fault.Memory) c h = inr h
+one_judged profile input records old new before after (Err fault.Write) c h = h
+one_judged profile input records old new before after (Err fault.Read) c h = absurd c
+one_judged profile input records old new before after (Err (fault.Refused why at)) c h = absurd c
+one_judged profile input records old new before after (Err (fault.Line n)) c h = absurd c
+one_judged profile input records old new before after (Err fault.TooLong) c h = absurd c
+one_judged profile input records old new before after (Err (fault.Reach f)) c h = absurd c
+
+module _ (prints_by : Printing) (text : List Raw → List ℕ) (profile : Profile) (reader reader' writer : Device) where
+  -- The check gives no module: its fault is answered, and nothing is written.
+  pub not_reported : (e : CheckFault) → prints_by writer.bytes writer.bytes (Err (of_check e)) (text []) → ((input : List ℕ) → reader.bytes ≡ Some input → Decides profile input (Err e))
+      → IsCheckFault profile reader.bytes reader'.bytes reader.failures reader'.failures e → IsReadPatiently reader reader' (Err e) → reader.failures ≤ reader'.failures
+      → IsReport prints_by text profile reader reader' writer writer (Err (of_check e))
+  not_reported e none d c patient grows = record {
+    cause = read_caused reader reader' writer (of_check e) (check_cause profile reader reader' e grows patient c);
+    fault = check_fault e;
+    prints = ([], none, λ input told. none_judged profile input reader.bytes reader'.bytes reader.failures reader'.failures e (d input told) c);
+  }
+
+  -- It gives a module, and that one's text is printed: the answer of printing is that of the run.
+  pub reported : (writer' : Device) (m : Module) → ((input : List ℕ) → reader.bytes ≡ Some input → Decides profile input (Ok m)) → Consumes reader.bytes reader'.bytes m.bytes
+      → reader'.breaks ≡ reader.breaks → reader.failures ≤ reader'.failures → (r : Result (Unit {0}) RunFault)
+      → prints_by writer.bytes writer'.bytes r (text (records_in m.bytes)) → IsPrintCause writer writer' r
+      → IsReport prints_by text profile reader reader' writer writer' r
+  reported writer' m d read patient grows r p cause =
+      let from : (input : List ℕ) → reader.bytes ≡ Some input → IsReadFrom profile input (records_in m.bytes) reader.bytes reader'.bytes = λ input told.
+      let a = d input told in record { accepted = a.1.0; read = subst (Consumes reader.bytes reader'.bytes) (sym a.1.1) read } in
+      record {
+        cause = print_caused reader reader' writer writer' r (patient, grows) cause;
+        fault = print_fault writer writer' r cause;
+        prints = (records_in m.bytes, p, λ input told. one_judged profile input (records_in m.bytes) reader.bytes reader'.bytes writer writer' r cause (from input told));
+      }
 
 -- of a fault whose line takes memory, the line is printed
 pub shown : (f : RunFault) → IsTrue (takes_memory f) → fault_line f ++ 10 ∷ [] ≡ fault_text f

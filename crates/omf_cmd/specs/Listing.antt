@@ -1,24 +1,15 @@
--- What `list` and `check` print of a module (this profile's rule).
-use Rattle.std.specs.Prelude.{ℕ, List, [], ◌∷◌, ◌++◌, length, flat_map, find, unwrap_or, option_map, codes, decimal}
+-- What `list`, `check` and `canon` print of a module (this profile's rule).
+use Rattle.std.specs.Prelude.{ℕ, List, [], ◌∷◌, ◌++◌, length, flat_map, codes, decimal}
 use Rattle.std.specs.List.{enumerate_from}
-use Rattle.omf_frame.specs.Bytes.{with_before, is_one_of}
+use Rattle.omf_frame.specs.Bytes.{with_before}
+use Rattle.omf_frame.specs.Types.{type_name}
 use Rattle.omf_frame.specs.Framing.{Raw, raw_bytes}
 use Rattle.omf_records.specs.Values.{Rec, Contents, GroupItem, Publics, PublicItem, PublicItems}
 use Rattle.omf_check.specs.Tables.{names, segments, groups, externals}
 use Rattle.omf_check.specs.declared.segment.SegInfo.{SegInfo}
 use Rattle.omf_check.specs.WellFormed.{recs}
+use Rattle.omf_canon.specs.Canonical.{canonical}
 use Rattle.omf_cmd.specs.Printed.{hex, line, quoted, named, index_or_dash}
-
--- The names of the record types that a module can have (TIS OMF 1.1, the page of each record).
-abbrev pub type_names : List (List ℕ × List ℕ)
-type_names = (0x80 ∷ [], codes "THEADR") ∷ (0x82 ∷ [], codes "LHEADR") ∷ (0x88 ∷ [], codes "COMENT") ∷ (0x8A ∷ 0x8B ∷ [], codes "MODEND")
-    ∷ (0x8C ∷ [], codes "EXTDEF") ∷ (0x8E ∷ [], codes "TYPDEF") ∷ (0x90 ∷ 0x91 ∷ [], codes "PUBDEF") ∷ (0x94 ∷ 0x95 ∷ [], codes "LINNUM")
-    ∷ (0x96 ∷ [], codes "LNAMES") ∷ (0x98 ∷ 0x99 ∷ [], codes "SEGDEF") ∷ (0x9A ∷ [], codes "GRPDEF") ∷ (0x9C ∷ 0x9D ∷ [], codes "FIXUPP")
-    ∷ (0xA0 ∷ 0xA1 ∷ [], codes "LEDATA") ∷ (0xA2 ∷ 0xA3 ∷ [], codes "LIDATA") ∷ (0xB0 ∷ [], codes "COMDEF") ∷ (0xC4 ∷ 0xC5 ∷ [], codes "LINSYM")
-    ∷ (0xC6 ∷ [], codes "ALIAS") ∷ (0xCC ∷ [], codes "VERNUM") ∷ []
-
-abbrev pub type_name : ℕ → List ℕ
-type_name kind = unwrap_or (option_map (λ p. p.1) (find (λ p. is_one_of p.0 kind) type_names)) []
 
 -- R: number, start, type, contents length (without the checksum byte), name. The start has at least eight hexadecimal digits, the type two.
 abbrev pub record_line : List Raw → Raw → List ℕ
@@ -43,7 +34,7 @@ external_line e = line (codes "E" ∷ decimal e.0 ∷ quoted e.1 ∷ [])
 abbrev pub external_lines : List Rec → List ℕ
 external_lines m = flat_map external_line (enumerate_from 1 (externals m))
 
--- P: group, segment, offset, name of each item of a PUBDEF, in file order. The offset has at least eight hexadecimal digits.
+-- P: group, segment, offset, name of each item of a PUBDEF or LPUBDEF, in file order. The offset has at least eight hexadecimal digits.
 abbrev pub public_line : PublicItems → PublicItem → List ℕ
 public_line p q = line (codes "P" ∷ index_or_dash p.group.item ∷ index_or_dash p.segment.item ∷ hex 8 q.offset ∷ quoted q.name ∷ [])
 
@@ -62,3 +53,7 @@ list_text rs = with_before record_line [] rs
 -- What `check` prints: how many records and bytes the module has.
 abbrev pub check_text : List Raw → List ℕ
 check_text rs = line (codes "OK" ∷ decimal (length rs) ∷ codes "records," ∷ decimal (length (flat_map raw_bytes rs)) ∷ codes "bytes" ∷ [])
+
+-- What `canon` writes: the module's canonical bytes.
+abbrev pub canonical_text : List Raw → List ℕ
+canonical_text rs = canonical (recs rs)

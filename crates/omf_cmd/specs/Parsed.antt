@@ -14,7 +14,7 @@ abbrev pub with_flag : Text → App
 with_flag name = with_rule (new_app name) flag_rule
 
 abbrev pub omf_app : App
-omf_app = with_subcommand (with_subcommand (with_subcommand (new_app (codes "omf")) (with_flag (codes "list")).top) (with_flag (codes "check")).top) (with_flag (codes "reloc")).top
+omf_app = with_subcommand (with_subcommand (with_subcommand (with_subcommand (new_app (codes "omf")) (with_flag (codes "list")).top) (with_flag (codes "check")).top) (with_flag (codes "reloc")).top) (with_flag (codes "canon")).top
 
 -- the value of the flag, as text
 abbrev pub flag_text : Bool → Text

@@ -44,6 +44,18 @@ pub record HasOutcome (profile : Profile) (input : List ℕ) (outcome : Result (
   pub accepted : IsAccepted profile profile_limits input records
   pub is : reloc_outcome profile_limits (recs records) accepted.rest ≡ outcome
 
+-- What a module and a placement text give: the text to print, or the first fault. Want of memory may come at any time, and no device has a
+-- part in it.
+abbrev pub IsOutcome : List Rec → List ℕ → Result (List ℕ) RunFault → Type 0
+IsOutcome m given (Ok text) = reloc_outcome profile_limits m given ≡ Ok text
+IsOutcome m given (Err fault.Memory) = ⊤
+IsOutcome m given (Err fault.Read) = ⊥
+IsOutcome m given (Err fault.Write) = ⊥
+IsOutcome m given (Err (fault.Refused why at)) = ⊥
+IsOutcome m given (Err (fault.Line n)) = reloc_outcome profile_limits m given ≡ Err (fault.Line n)
+IsOutcome m given (Err fault.TooLong) = reloc_outcome profile_limits m given ≡ Err fault.TooLong
+IsOutcome m given (Err (fault.Reach f)) = reloc_outcome profile_limits m given ≡ Err (fault.Reach f)
+
 -- What is answered for an input: the text to print, or the first fault: of the module, of the text, of the placement. Want of memory and
 -- a failing reader may come at any time, and a writer has no part in it.
 abbrev pub Answers : Profile → List ℕ → Result (List ℕ) RunFault → Type 0

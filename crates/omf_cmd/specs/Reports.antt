@@ -1,6 +1,6 @@
--- What `check` and `list` answer for an input: both print a text of the records of the module that it begins with. How the program
--- ends.
-use Rattle.std.specs.Prelude.{◌≡◌, ◌⊎◌, IsTrue, ℕ, List, Option, Some, Result, Ok, Err}
+-- What `check`, `list` and `canon` answer for an input: each prints a text of the records of the module that it begins with. How the
+-- program ends.
+use Rattle.std.specs.Prelude.{◌≡◌, ◌⊎◌, IsTrue, ℕ, List, [], Option, Some, Result, Ok, Err}
 use Rattle.omf_frame.specs.Device.{Device}
 use Rattle.omf_frame.specs.Framing.{Raw}
 use Rattle.omf_image.specs.Limits.{profile_limits}
@@ -11,9 +11,9 @@ use Rattle.omf_check.specs.declared.fault.CheckFault.TheVariants as check
 use Rattle.omf_check.specs.declared.profile.Profile.{Profile}
 use Rattle.omf_cmd.specs.FaultLine.{fault_text, takes_memory}
 use Rattle.omf_cmd.specs.HowFar.{EndsAtRefusal, IsReadFrom, IsUnrefused}
-use Rattle.omf_cmd.specs.Listing.{check_text, list_text}
+use Rattle.omf_cmd.specs.Listing.{canonical_text, check_text, list_text}
 use Rattle.omf_cmd.specs.Relocating.{IsRelocation}
-use Rattle.omf_cmd.specs.Runs.{IsCausedBy, IsWritten, Prints}
+use Rattle.omf_cmd.specs.Runs.{IsCausedBy, IsWritten, Prints, PrintsInPieces}
 use Rattle.omf_cmd.specs.Words.{status_of, usage}
 use Rattle.omf_cmd.specs.declared.fault.RunFault.{RunFault}
 use Rattle.omf_cmd.specs.declared.fault.RunFault.TheVariants as fault
@@ -34,26 +34,36 @@ IsModuleFault (fault.Reach f) = ⊥
 IsModuleFault _ = Unit {0}
 
 -- What the answer says of an input, and how far that was read: done, or failed to write, only for a module of these records; refused as
--- the input is; out of memory, or failed to read, only where nothing that was read is refused; and no fault of a placement.
+-- the input is; out of memory, or failed to read, only where nothing that was read is refused; and no fault of a placement. Where memory
+-- ran out before the module was there, there are no records.
 abbrev pub Judges : Profile → List ℕ → List Raw → Option (List ℕ) → Option (List ℕ) → Result (Unit {0}) RunFault → Type 0
 Judges profile input records old new (Ok done) = IsReadFrom profile input records old new
 Judges profile input records old new (Err fault.Write) = IsReadFrom profile input records old new
 Judges profile input records old new (Err (fault.Refused why at)) = IsRefused profile profile_limits input why at × EndsAtRefusal profile old new why at
-Judges profile input records old new (Err fault.Memory) = IsUnrefused profile old new ⊎ IsReadFrom profile input records old new
+Judges profile input records old new (Err fault.Memory) = (IsUnrefused profile old new × (records ≡ [])) ⊎ IsReadFrom profile input records old new
 Judges profile input records old new (Err fault.Read) = IsUndecided profile old new
 Judges profile input records old new (Err (fault.Line n)) = ⊥
 Judges profile input records old new (Err fault.TooLong) = ⊥
 Judges profile input records old new (Err (fault.Reach f)) = ⊥
 
--- What a run that prints a text of the module's records answers, and what it reads and writes.
+-- What a run that prints a text of the module's records answers, and what it reads and writes, by the way in which it prints.
+abbrev pub ReportsBy : (Option (List ℕ) → Option (List ℕ) → Result (Unit {0}) RunFault → List ℕ → Type 0) → (List Raw → List ℕ) → Profile → Device → Device → Device → Device → Result (Unit {0}) RunFault → Type 0
+ReportsBy prints text profile reader reader' writer writer' ran =
+    (records : List Raw) × prints writer.bytes writer'.bytes ran (text records) × ((input : List ℕ) → reader.bytes ≡ Some input → Judges profile input records reader.bytes reader'.bytes ran)
+
+-- Its text is written in one go.
 abbrev pub Reports : (List Raw → List ℕ) → Profile → Device → Device → Device → Device → Result (Unit {0}) RunFault → Type 0
-Reports text profile reader reader' writer writer' ran =
-    (records : List Raw) × Prints writer.bytes writer'.bytes ran (text records) × ((input : List ℕ) → reader.bytes ≡ Some input → Judges profile input records reader.bytes reader'.bytes ran)
+Reports text profile reader reader' writer writer' ran = ReportsBy Prints text profile reader reader' writer writer' ran
+
+-- Its text is written in pieces, so that where memory runs out a part of it may be written.
+abbrev pub ReportsInPieces : (List Raw → List ℕ) → Profile → Device → Device → Device → Device → Result (Unit {0}) RunFault → Type 0
+ReportsInPieces text profile reader reader' writer writer' ran = ReportsBy PrintsInPieces text profile reader reader' writer writer' ran
 
 -- What a job answers, and what it reads and writes.
 abbrev pub IsRun : Job → Profile → Device → Device → Device → Device → Result (Unit {0}) RunFault → Type 0
-IsRun job.List profile reader reader' writer writer' ran = Reports list_text profile reader reader' writer writer' ran
+IsRun job.List profile reader reader' writer writer' ran = ReportsInPieces list_text profile reader reader' writer writer' ran
 IsRun job.Check profile reader reader' writer writer' ran = Reports check_text profile reader reader' writer writer' ran
+IsRun job.Canon profile reader reader' writer writer' ran = Reports canonical_text profile reader reader' writer writer' ran
 IsRun job.Reloc profile reader reader' writer writer' ran = IsRelocation profile reader reader' writer writer' ran
 
 -- What is written of a fault: its whole text, or a part of it where the writer failed; where its line takes memory, it may be nothing.

@@ -9,7 +9,7 @@ use Rattle.omf_cmd.specs.declared.words.Job.TheVariants as job
 
 -- The subcommands, and the flag that may follow one.
 abbrev pub subcommands : List (List ℕ × Job)
-subcommands = (codes "list", job.List) ∷ (codes "check", job.Check) ∷ (codes "reloc", job.Reloc) ∷ []
+subcommands = (codes "list", job.List) ∷ (codes "check", job.Check) ∷ (codes "reloc", job.Reloc) ∷ (codes "canon", job.Canon) ∷ []
 
 abbrev pub job_named : List ℕ → Option Job
 job_named name = option_map (λ s. s.1) (find (λ s. bytes_eq name s.0) subcommands)

@@ -14,25 +14,31 @@ use thiserror::Error;
 /// Why a run stops. The numbers are those that a host can print or keep.
 #[derive(Clone, Copy, Debug, PartialEq, Eq, Error)]
 pub enum RunFault {
-    /// 1: no memory was to be had.
-    #[error("memory")]
+    /// 1: a growth was refused.
+    #[error("memory ran out")]
     Memory,
-    /// 2: the reader failed.
-    #[error("read")]
+    /// 2: the reader failed, or was interrupted a thousand times running.
+    #[error("the input could not be read")]
     Read,
     /// 3: the writer failed, or took nothing.
-    #[error("write")]
+    #[error("the output could not be written")]
     Write,
-    /// 4: the module is refused.
-    #[error("the module is refused")]
-    Refused { reason: Reason, place: Place },
-    /// 5: a line of the placement text, counted from 1, is neither empty nor an entry.
-    #[error("a line of the placement is not understood")]
+    /// 4: the input does not begin with a well-formed module.
+    #[error("the input does not begin with a well-formed module")]
+    Refused {
+        /// What is wrong with its first record at fault.
+        reason: Reason,
+        /// Where that is.
+        place: Place,
+    },
+    /// 5: this line of the placement text, counted from 1, is neither empty nor an entry; or, where each is, this is the first `G real`
+    /// line whose group has no frame.
+    #[error("a line of the placement gives no entry")]
     Line(u64),
     /// 6: the placement text has more than 4,194,304 bytes.
-    #[error("the placement is too long")]
+    #[error("the placement has more than 4,194,304 bytes")]
     TooLong,
-    /// 7: the placement does not reach.
+    /// 7: the placement does not fit the module, or a fixup or the start does not reach.
     #[error("the placement does not reach")]
     Reach(ReachFault),
 }

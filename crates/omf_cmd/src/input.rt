@@ -12,7 +12,7 @@ use std::alloc::Global;
 const PIECE: usize = 65_536;
 
 /// The most bytes that a placement text may have.
-const TEXT_LIMIT: usize = 4_194_304;
+pub(crate) const TEXT_LIMIT: usize = 4_194_304;
 
 /// All that is left of the input, which is the placement text. No more than one byte beyond its limit is read.
 ///

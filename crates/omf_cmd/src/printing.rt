@@ -2,7 +2,7 @@
 
 ghost use Rattle.std.specs.Prelude.{◌≡◌, ◌++◌, ◌∷◌, [], OnOk, string_bytes, codes, decimal, unwrap_or, option_map};
 ghost use Rattle.omf_cmd.specs.Printed.{hex, line, is_plain, escaped, quoted, index_or_dash};
-ghost use Rattle.omf_cmd.specs.Listing.{type_name};
+ghost use Rattle.omf_frame.specs.Types.{type_name};
 
 use omf_frame::Name;
 use std::alloc::AllocError;
@@ -28,8 +28,12 @@ fn type_name(kind: u8) -> &'static str
         0xA0 | 0xA1 => "LEDATA",
         0xA2 | 0xA3 => "LIDATA",
         0xB0 => "COMDEF",
+        0xB4 | 0xB5 => "LEXTDEF",
+        0xB6 | 0xB7 => "LPUBDEF",
+        0xB8 => "LCOMDEF",
         0xC4 | 0xC5 => "LINSYM",
         0xC6 => "ALIAS",
+        0xCA => "LLNAMES",
         0xCC => "VERNUM",
         _ => "",
     }
@@ -63,6 +67,25 @@ fn print_last_word(text: &mut String, word: &str) -> Result<(), AllocError>
     write!(text, " {word}\n")
 }
 
+/// A record's line, which ends with this name.
+fn print_named(
+    text: &mut String,
+    number: u32,
+    start: u64,
+    kind: u8,
+    length: usize,
+    name: &str,
+) -> Result<(), AllocError>
+    ensures { OnOk result (string_bytes text.new ≡ string_bytes text.old ++ line (codes "R" ∷ decimal number ∷ hex 8 start ∷ hex 2 kind ∷ decimal length ∷ name.now ∷ [])) }
+{
+    text.push_str("R")?;
+    print_number(text, u64::from(number))?;
+    print_offset(text, start)?;
+    print_type(text, kind)?;
+    print_number(text, length as u64)?;
+    print_last_word(text, name)
+}
+
 /// A record: its number, its offset, its type, how many bytes its contents have, its name.
 pub fn print_record(
     text: &mut String,
@@ -73,12 +96,7 @@ pub fn print_record(
 ) -> Result<(), AllocError>
     ensures { OnOk result (string_bytes text.new ≡ string_bytes text.old ++ line (codes "R" ∷ decimal number ∷ hex 8 start ∷ hex 2 kind ∷ decimal length ∷ type_name kind ∷ [])) }
 {
-    text.push_str("R")?;
-    print_number(text, u64::from(number))?;
-    print_offset(text, start)?;
-    print_type(text, kind)?;
-    print_number(text, length as u64)?;
-    print_last_word(text, type_name(kind))
+    print_named(text, number, start, kind, length, type_name(kind))
 }
 
 /// A byte from 20H to 7EH but the quote and the backslash.

@@ -14,7 +14,7 @@ use crate::fault::RunFault;
 use crate::output::write_all;
 use crate::printed::fault_line;
 use crate::relocation::run_reloc;
-use crate::running::{run_check, run_list};
+use crate::running::{run_canon, run_check, run_list};
 use crate::words::{Job, command};
 use omf_check::Profile;
 use omf_frame::{Sink, Source};
@@ -48,6 +48,24 @@ fn run<S: Source, K: Sink>(
         Job::List => run_list(alloc, profile, reader, writer),
         Job::Check => run_check(alloc, profile, reader, writer),
         Job::Reloc => run_reloc(alloc, profile, reader, writer),
+        Job::Canon => run_canon(alloc, profile, reader, writer),
+    }
+}
+
+/// Runs a job, and prints its fault's line where it has one. It answers the exit status.
+fn run_to_end<S: Source, K: Sink>(
+    alloc: Global,
+    job: Job,
+    profile: Profile,
+    reader: &mut S,
+    writer: &mut K,
+) -> u8
+    ensures known { result ≤ 3 }
+    ensures answer { IsAnswer (job, profile) (S.seen reader.old) (S.seen reader.new) (K.seen writer.old) (K.seen writer.new) result }
+{
+    match run(alloc, job, profile, reader, writer) {
+        Ok(()) => 0,
+        Err(fault) => fail(alloc, &fault, writer),
     }
 }
 
@@ -123,16 +141,12 @@ pub fn main_with<S: Source, K: Sink>(
     // Where clap refuses the words, the program says how it is called.
     ensures misuse { (fault_of omf_app (map string_bytes words.now) ≡ [] → ⊥) → IsMisuse (S.seen reader.old) (S.seen reader.new) (K.seen writer.old) (K.seen writer.new) result }
 {
-    let ran = match command(alloc, words) {
-        Ok(Some((job, profile))) => run(alloc, job, profile, reader, writer),
+    match command(alloc, words) {
+        Ok(Some((job, profile))) => run_to_end(alloc, job, profile, reader, writer),
         Ok(None) => {
             print_usage(writer);
-            return 2;
+            2
         }
-        Err(AllocError) => Err(RunFault::Memory),
-    };
-    match ran {
-        Ok(()) => 0,
-        Err(fault) => fail(alloc, &fault, writer),
+        Err(AllocError) => fail(alloc, &RunFault::Memory, writer),
     }
 }

@@ -4,12 +4,12 @@ ghost use Rattle.std.specs.Prelude.{◌≡◌, ℕ, List, Some};
 ghost use Rattle.omf_image.specs.Limits.{profile_limits};
 ghost use Rattle.omf_check.specs.Module.{records_in};
 ghost use Rattle.omf_check.specs.WellFormed.{recs};
-ghost use Rattle.omf_cmd.specs.Relocating.{IsAnswered, IsPlaced, IsRelocation, IsShown};
-ghost use Rattle.omf_cmd.specs.Runs.{IsCausedBy, IsReadCause};
+ghost use Rattle.omf_cmd.specs.Relocating.{IsAnswered, IsOutcome, IsPlaced, IsRelocation, IsShown};
+ghost use Rattle.omf_cmd.specs.Runs.{IsCausedBy, IsPrintCause, IsReadCause, PrintsInPieces};
 
 use crate::fault::RunFault;
 use crate::image_text::print_image;
-use crate::input::read_text;
+use crate::input::{TEXT_LIMIT, read_text};
 use omf_check::{Checked, Profile, check};
 use omf_frame::{Sink, Source};
 use omf_image::Image;
@@ -19,7 +19,7 @@ use std::marker::Model;
 
 /// What is printed of a module at a placement: so many segments of its image, and its start. It is seen as the text.
 #[derive(Drop)]
-struct Listing {
+pub struct Listing {
     image: Image,
     segments: u16,
     start: Option<(u16, u32)>,
@@ -34,6 +34,36 @@ impl Model for Listing {
     ghost Value = { List ℕ };
 
     ghost view = { λ l. image_text l.segments (byte_at l.image) (runs_of l.image) l.start };
+}
+
+impl Listing {
+    /// The listing of a module at the placement that a text gives it.
+    ///
+    /// # Errors
+    ///
+    /// The first of: `TooLong` where the text has more than 4,194,304 bytes; `Line` for a line that is no entry, or a group whose frame is
+    /// not found; `Reach` where the placement does not reach. `Memory` where a growth was refused.
+    pub fn of(alloc: Global, checked: &Checked, text: &[u8]) -> Result<Listing, RunFault>
+        ensures { IsOutcome (recs (records_in checked.now.bytes)) text.now result }
+    {
+        if text.len() > TEXT_LIMIT {
+            return Err(RunFault::TooLong);
+        }
+        let placement = placed(alloc, checked, text)?;
+        listing_of(alloc, checked, &placement)
+    }
+
+    /// Prints it. The text is written in pieces of 64 KB or a line more, so no more than that of it is kept.
+    ///
+    /// # Errors
+    ///
+    /// `Write` where the writer failed, `Memory` where the text that is kept does not grow: a part of the text may have been written.
+    pub fn print<K: Sink>(&self, alloc: Global, writer: &mut K) -> Result<(), RunFault>
+        ensures prints { PrintsInPieces (K.seen writer.old).bytes (K.seen writer.new).bytes result self.now }
+        ensures cause { IsPrintCause (K.seen writer.old) (K.seen writer.new) result }
+    {
+        print_image(alloc, writer, &self.image, self.segments, self.start)
+    }
 }
 
 /// Relocates the module at the front of the input by the placement text after it, which is all that is left, and writes the
@@ -58,13 +88,7 @@ pub fn run_reloc<S: Source, K: Sink>(
     ensures prints { IsRelocation profile (S.seen reader.old) (S.seen reader.new) (K.seen writer.old) (K.seen writer.new) result }
 {
     let listing = listed(alloc, profile, reader)?;
-    print_image(
-        alloc,
-        writer,
-        &listing.image,
-        listing.segments,
-        listing.start,
-    )
+    listing.print(alloc, writer)
 }
 
 /// What is to be printed of the module and the placement text that the reader gives.

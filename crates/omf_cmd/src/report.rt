@@ -1,4 +1,4 @@
-//! The texts of `check` and `list`.
+//! The texts of `check` and `list`. That of `list` goes to the writer in pieces.
 
 ghost use Rattle.std.specs.Prelude.{◌≡◌, ◌++◌, ◌∷◌, [], OnOk, IfOk, string_bytes, codes, decimal, flat_map, length};
 ghost use Rattle.omf_frame.specs.Bytes.{with_before};
@@ -10,13 +10,17 @@ ghost use Rattle.omf_check.specs.Tables.{names};
 ghost use Rattle.omf_check.specs.WellFormed.{recs};
 ghost use Rattle.omf_cmd.specs.Listing.{record_line, segment_lines, group_lines, external_lines, public_lines, list_text, check_text};
 ghost use Rattle.omf_cmd.specs.Printed.{hex, line, quoted, named, index_or_dash};
+ghost use Rattle.omf_cmd.specs.Runs.{Passes, PrintsInPieces, IsPrintCause};
 ghost use Rattle.omf_cmd.specs.Standing.{StandsAt, HasRecord};
 
+use crate::fault::RunFault;
+use crate::output::{write_all, write_piece};
 use crate::printing::{
     print_external, print_group, print_public, print_record, print_segment, print_totals,
 };
 use omf_check::Checked;
-use omf_records::{Items, Public, Rec};
+use omf_frame::Sink;
+use omf_records::{At, Items, Public, Rec};
 use std::alloc::{AllocError, Global};
 
 /// How many bytes the contents of the record at an offset have, without the checksum byte.
@@ -32,20 +36,31 @@ fn contents_length(bytes: &[u8], start: u64) -> usize
 }
 
 /// A line for each record.
-fn print_records(text: &mut String, checked: &Checked) -> Result<(), AllocError>
-    ensures { OnOk result (string_bytes text.new ≡ string_bytes text.old ++ with_before record_line [] (records_in checked.now.bytes)) }
+fn print_records<K: Sink>(
+    writer: &mut K,
+    text: &mut String,
+    checked: &Checked,
+) -> Result<(), RunFault>
+    ensures passes { Passes (K.seen writer.old).bytes (K.seen writer.new).bytes result (string_bytes text.old ++ with_before record_line [] (records_in checked.now.bytes)) (string_bytes text.new) }
+    ensures cause { IsPrintCause (K.seen writer.old) (K.seen writer.new) result }
 {
     let bytes = checked.bytes();
     for (place, rec) in checked.records() {
         let length = contents_length(bytes, place.start);
         print_record(text, place.number, place.start, rec.kind(), length)?;
+        write_piece(writer, text)?;
     }
     Ok(())
 }
 
 /// A line for each segment.
-fn print_segments(text: &mut String, checked: &Checked) -> Result<(), AllocError>
-    ensures { OnOk result (string_bytes text.new ≡ string_bytes text.old ++ segment_lines (recs (records_in checked.now.bytes))) }
+fn print_segments<K: Sink>(
+    writer: &mut K,
+    text: &mut String,
+    checked: &Checked,
+) -> Result<(), RunFault>
+    ensures passes { Passes (K.seen writer.old).bytes (K.seen writer.new).bytes result (string_bytes text.old ++ segment_lines (recs (records_in checked.now.bytes))) (string_bytes text.new) }
+    ensures cause { IsPrintCause (K.seen writer.old) (K.seen writer.new) result }
 {
     for before in 0..checked.segments() {
         let index = before + 1;
@@ -53,6 +68,7 @@ fn print_segments(text: &mut String, checked: &Checked) -> Result<(), AllocError
             unreachable!()
         };
         print_segment(text, index, segment.length, checked.name(segment.name))?;
+        write_piece(writer, text)?;
     }
     Ok(())
 }
@@ -74,8 +90,13 @@ fn print_group_of(
 }
 
 /// A line for each group.
-fn print_groups(text: &mut String, checked: &Checked) -> Result<(), AllocError>
-    ensures { OnOk result (string_bytes text.new ≡ string_bytes text.old ++ group_lines (recs (records_in checked.now.bytes))) }
+fn print_groups<K: Sink>(
+    writer: &mut K,
+    text: &mut String,
+    checked: &Checked,
+) -> Result<(), RunFault>
+    ensures passes { Passes (K.seen writer.old).bytes (K.seen writer.new).bytes result (string_bytes text.old ++ group_lines (recs (records_in checked.now.bytes))) (string_bytes text.new) }
+    ensures cause { IsPrintCause (K.seen writer.old) (K.seen writer.new) result }
 {
     for before in 0..checked.groups() {
         let index = before + 1;
@@ -83,13 +104,19 @@ fn print_groups(text: &mut String, checked: &Checked) -> Result<(), AllocError>
             unreachable!()
         };
         print_group_of(text, checked, index, &group)?;
+        write_piece(writer, text)?;
     }
     Ok(())
 }
 
 /// A line for each external name.
-fn print_externals(text: &mut String, checked: &Checked) -> Result<(), AllocError>
-    ensures { OnOk result (string_bytes text.new ≡ string_bytes text.old ++ external_lines (recs (records_in checked.now.bytes))) }
+fn print_externals<K: Sink>(
+    writer: &mut K,
+    text: &mut String,
+    checked: &Checked,
+) -> Result<(), RunFault>
+    ensures passes { Passes (K.seen writer.old).bytes (K.seen writer.new).bytes result (string_bytes text.old ++ external_lines (recs (records_in checked.now.bytes))) (string_bytes text.new) }
+    ensures cause { IsPrintCause (K.seen writer.old) (K.seen writer.new) result }
 {
     for before in 0..checked.externals() {
         let index = before + 1;
@@ -97,29 +124,50 @@ fn print_externals(text: &mut String, checked: &Checked) -> Result<(), AllocErro
             unreachable!()
         };
         print_external(text, index, name.0)?;
+        write_piece(writer, text)?;
     }
     Ok(())
 }
 
-/// A line for each public name of a PUBDEF.
-fn print_items(
+/// The line of a public name of a PUBDEF or an LPUBDEF.
+fn print_item(
+    text: &mut String,
+    group: u16,
+    segment: u16,
+    public: &At<Public<'_>>,
+) -> Result<(), AllocError>
+    ensures { OnOk result (string_bytes text.new ≡ string_bytes text.old ++ line (codes "P" ∷ index_or_dash group ∷ index_or_dash segment ∷ hex 8 public.now.item.offset ∷ quoted public.now.item.name ∷ [])) }
+{
+    let item = &public.item;
+    print_public(text, group, segment, item.offset, item.name.0)
+}
+
+/// A line for each public name of a PUBDEF or an LPUBDEF.
+fn print_items<K: Sink>(
+    writer: &mut K,
     text: &mut String,
     group: u16,
     segment: u16,
     publics: &Items<Public<'_>>,
-) -> Result<(), AllocError>
-    ensures { OnOk result (string_bytes text.new ≡ string_bytes text.old ++ flat_map (λ q. line (codes "P" ∷ index_or_dash group ∷ index_or_dash segment ∷ hex 8 q.item.offset ∷ quoted q.item.name ∷ [])) publics.now) }
+) -> Result<(), RunFault>
+    ensures passes { Passes (K.seen writer.old).bytes (K.seen writer.new).bytes result (string_bytes text.old ++ flat_map (λ q. line (codes "P" ∷ index_or_dash group ∷ index_or_dash segment ∷ hex 8 q.item.offset ∷ quoted q.item.name ∷ [])) publics.now) (string_bytes text.new) }
+    ensures cause { IsPrintCause (K.seen writer.old) (K.seen writer.new) result }
 {
     for public in publics.iter() {
-        let item = public.item;
-        print_public(text, group, segment, item.offset, item.name.0)?;
+        print_item(text, group, segment, &public)?;
+        write_piece(writer, text)?;
     }
     Ok(())
 }
 
 /// The public names of a record.
-fn print_publics_of(text: &mut String, rec: &Rec<'_>) -> Result<(), AllocError>
-    ensures { OnOk result (string_bytes text.new ≡ string_bytes text.old ++ public_lines (contents_seen rec.now)) }
+fn print_publics_of<K: Sink>(
+    writer: &mut K,
+    text: &mut String,
+    rec: &Rec<'_>,
+) -> Result<(), RunFault>
+    ensures passes { Passes (K.seen writer.old).bytes (K.seen writer.new).bytes result (string_bytes text.old ++ public_lines (contents_seen rec.now)) (string_bytes text.new) }
+    ensures cause { IsPrintCause (K.seen writer.old) (K.seen writer.new) result }
 {
     match rec {
         Rec::Publics {
@@ -127,32 +175,60 @@ fn print_publics_of(text: &mut String, rec: &Rec<'_>) -> Result<(), AllocError>
             segment,
             publics,
             ..
-        } => print_items(text, group.item.0, segment.item.0, publics),
+        } => print_items(writer, text, group.item.0, segment.item.0, publics),
+        Rec::LocalPublics {
+            group,
+            segment,
+            publics,
+            ..
+        } => print_items(writer, text, group.item.0, segment.item.0, publics),
         _ => Ok(()),
     }
 }
 
 /// A line for each public name, in file order.
-fn print_publics(text: &mut String, checked: &Checked) -> Result<(), AllocError>
-    ensures { OnOk result (string_bytes text.new ≡ string_bytes text.old ++ flat_map (λ r. public_lines r.contents) (recs (records_in checked.now.bytes))) }
+fn print_publics<K: Sink>(
+    writer: &mut K,
+    text: &mut String,
+    checked: &Checked,
+) -> Result<(), RunFault>
+    ensures passes { Passes (K.seen writer.old).bytes (K.seen writer.new).bytes result (string_bytes text.old ++ flat_map (λ r. public_lines r.contents) (recs (records_in checked.now.bytes))) (string_bytes text.new) }
+    ensures cause { IsPrintCause (K.seen writer.old) (K.seen writer.new) result }
 {
     for (_place, rec) in checked.records() {
-        print_publics_of(text, &rec)?;
+        print_publics_of(writer, text, &rec)?;
     }
     Ok(())
 }
 
-/// What `list` prints of a module: its records, its segments, its groups, its externals, its publics.
-pub fn list_text(alloc: Global, checked: &Checked) -> Result<String, AllocError>
-    ensures { IfOk result (λ text. string_bytes text ≡ list_text (records_in checked.now.bytes)) }
+/// The lines of a module: its records, its segments, its groups, its externals, its publics.
+fn print_lines<K: Sink>(
+    writer: &mut K,
+    text: &mut String,
+    checked: &Checked,
+) -> Result<(), RunFault>
+    ensures passes { Passes (K.seen writer.old).bytes (K.seen writer.new).bytes result (string_bytes text.old ++ list_text (records_in checked.now.bytes)) (string_bytes text.new) }
+    ensures cause { IsPrintCause (K.seen writer.old) (K.seen writer.new) result }
+{
+    print_records(writer, text, checked)?;
+    print_segments(writer, text, checked)?;
+    print_groups(writer, text, checked)?;
+    print_externals(writer, text, checked)?;
+    print_publics(writer, text, checked)
+}
+
+/// Prints what `list` prints of a module. The text is written in pieces of 64 KB or a line more, so no more than that of it is kept.
+///
+/// # Errors
+///
+/// `Write` where the writer failed, `Memory` where the text that is kept does not grow: a part of the text may have been written.
+pub fn print_list<K: Sink>(alloc: Global, checked: &Checked, writer: &mut K) -> Result<(), RunFault>
+    ensures prints { PrintsInPieces (K.seen writer.old).bytes (K.seen writer.new).bytes result (list_text (records_in checked.now.bytes)) }
+    ensures cause { IsPrintCause (K.seen writer.old) (K.seen writer.new) result }
 {
     let mut text = String::new(alloc);
-    print_records(&mut text, checked)?;
-    print_segments(&mut text, checked)?;
-    print_groups(&mut text, checked)?;
-    print_externals(&mut text, checked)?;
-    print_publics(&mut text, checked)?;
-    Ok(text)
+    print_lines(writer, &mut text, checked)?;
+    write_all(writer, text.as_bytes())
 }
 
 /// What `check` prints of a module: how many records and bytes it has.

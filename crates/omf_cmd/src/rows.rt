@@ -19,6 +19,7 @@ ghost use Rattle.omf_cmd.specs.Rows.{lines, relocating, prints, not_reached, low
 /// What is printed of a module of six records.
 pub fn printed_texts()
     ensures list { list_text (raws_of first_module) ≡ lines (codes "R 0 00000000 80 2 THEADR" ∷ codes "R 1 00000006 96 3 LNAMES" ∷ codes "R 2 0000000D 98 6 SEGDEF" ∷ codes "R 3 00000017 A0 7 LEDATA" ∷ codes "R 4 00000022 9C 5 FIXUPP" ∷ codes "R 5 0000002B 8A 1 MODEND" ∷ codes "S 1 4 \"T\"" ∷ []) }
+    ensures none { list_text [] ≡ [] }
     ensures check { check_text (raws_of first_module) ≡ lines (codes "OK 6 records, 48 bytes" ∷ []) }
     ensures reloc { reloc_text profile_limits low (module_of first_module) ≡ lines (codes "0001:00000000 B8 20 00 90" ∷ []) }
 {}

@@ -1,5 +1,6 @@
 //! Runs of the program on whole modules. Numbers in modules and placements are hexadecimal.
 
+mod canonical;
 mod pieces;
 mod program;
 mod relocation;

@@ -19,6 +19,8 @@ pub enum Job {
     Check,
     /// Relocate a module.
     Reloc,
+    /// Write a module's canonical bytes.
+    Canon,
 }
 
 /// The job that the words name, and its profile. None where they name none, or are not understood.
@@ -47,10 +49,12 @@ fn program<'a>(alloc: Global) -> Result<Command<'a>, AllocError>
     let list = Command::new(alloc, "list").arg(flag(alloc))?;
     let check = Command::new(alloc, "check").arg(flag(alloc))?;
     let reloc = Command::new(alloc, "reloc").arg(flag(alloc))?;
+    let canon = Command::new(alloc, "canon").arg(flag(alloc))?;
     Command::new(alloc, "omf")
         .subcommand(list)?
         .subcommand(check)?
-        .subcommand(reloc)
+        .subcommand(reloc)?
+        .subcommand(canon)
 }
 
 /// The flag that refuses comments of the classes left to vendors.
@@ -71,6 +75,7 @@ fn job_named(name: &str) -> Option<Job>
         "list" => Some(Job::List),
         "check" => Some(Job::Check),
         "reloc" => Some(Job::Reloc),
+        "canon" => Some(Job::Canon),
         _ => None,
     }
 }

@@ -8,10 +8,11 @@ use Rattle.std.proofs.lemmas.List.FromFn.{length-enumerate_from}
 use Rattle.omf_check.specs.Tables.{externals}
 use Rattle.omf_derive.specs.declared.fault.DeriveFault.{DeriveFault}
 use Rattle.omf_derive.specs.declared.given.Given.{Given}
-use Rattle.omf_derive.specs.Derive.{PlacedModule, all_publics, external_place, external_places, ok_of, err_of, derive_faults, with_externals, unless_fault, derived}
+use Rattle.omf_derive.specs.Derive.{PlacedModule, seen_publics, named_externals, external_place, external_places, ok_of, err_of, derive_faults, with_externals, unless_fault, derived}
 use Rattle.omf_derive.specs.Derivation.{KeepsPlace}
 use Rattle.omf_placement.specs.declared.frame.Placed.{Placed}
 use Rattle.omf_placement.specs.Placement.{Places}
+use Rattle.omf_derive.proofs.NamedLaws.{named-count}
 
 nil-left : {A : Type 0} (xs ys : List A) → xs ++ ys ≡ [] → xs ≡ []
 nil-left [] ys h = refl
@@ -32,11 +33,11 @@ all-placed (Ok p ∷ rs) h = ap (λ n. suc n) (all-placed rs h)
 all-placed (Err e ∷ rs) h = absurd (omega (arith, ap length h))
 
 module _ (ms : List PlacedModule) (given : List Given) where
-  count-externals : (j : ℕ) (m : PlacedModule) → length (external_places (all_publics ms) given j m.0) ≡ length (externals m.0)
-  count-externals j m = length-map (enumerate_from 1 (externals m.0)) (λ e. external_place (all_publics ms) given j e.0 e.1) ∙ length-enumerate_from 1 (externals m.0)
+  count-externals : (j : ℕ) (m : PlacedModule) → length (external_places (seen_publics ms m) given j m.0) ≡ length (externals m.0)
+  count-externals j m = length-map (enumerate_from 1 (named_externals m.0)) (λ e. external_place (seen_publics ms m e.1.1) given j e.0 e.1.0) ∙ length-enumerate_from 1 (named_externals m.0) ∙ named-count m.0
 
   abbrev faults-from : ℕ → List PlacedModule → List DeriveFault
-  faults-from k ns = flat_map (λ m. filter_map err_of (external_places (all_publics ms) given m.0 m.1.0)) (enumerate_from k ns)
+  faults-from k ns = flat_map (λ m. filter_map err_of (external_places (seen_publics ms m.1) given m.0 m.1.0)) (enumerate_from k ns)
 
   kept-from : (k : ℕ) (ns : List PlacedModule) → faults-from k ns ≡ [] → AllZip KeepsPlace ns (map (with_externals ms given) (enumerate_from k ns))
   kept-from k [] h = tt
@@ -44,9 +45,9 @@ module _ (ms : List PlacedModule) (given : List Given) where
     record {
       segments = refl;
       groups = refl;
-      external_count = all-placed (external_places (all_publics ms) given k m.0) (nil-left (filter_map err_of (external_places (all_publics ms) given k m.0)) (faults-from (k + 1) ns) h) ∙ count-externals k m;
+      external_count = all-placed (external_places (seen_publics ms m) given k m.0) (nil-left (filter_map err_of (external_places (seen_publics ms m) given k m.0)) (faults-from (k + 1) ns) h) ∙ count-externals k m;
     },
-    kept-from (k + 1) ns (nil-right (filter_map err_of (external_places (all_publics ms) given k m.0)) (faults-from (k + 1) ns) h),
+    kept-from (k + 1) ns (nil-right (filter_map err_of (external_places (seen_publics ms m) given k m.0)) (faults-from (k + 1) ns) h),
   )
 
   no-fault : (es : List DeriveFault) (ns pls : List Places) → unless_fault es ns ≡ Ok pls → (es ≡ []) × (ns ≡ pls)

@@ -1,3 +1,4 @@
+pub mod NamedLaws
 pub mod BaseLaws
 pub mod DeriveLaws
 pub mod TakenLaws

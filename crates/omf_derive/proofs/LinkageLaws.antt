@@ -1,23 +1,20 @@
 -- Externals of a module and modules, one after another, until one has no place.
 use Rattle.std.proofs.Common.{◌≡◌, ℕ, zero, suc, ◌+◌, ◌-◌, ◌≤◌, List, [], ◌∷◌, ◌++◌, length, drop, refl, sym, ap, ap₂, ◌∙◌, subst, inl, inr, append-nil, append_assoc, arith}
-use Rattle.std.specs.Prelude.{◌⊎◌, map, flat_map, filter_map, slice_get, nat_le, Some, None, Result, Ok, Err}
+use Rattle.std.specs.Prelude.{◌⊎◌, Bool, map, flat_map, filter_map, slice_get, Some, None, Result, Ok, Err}
 use Rattle.std.specs.List.{enumerate_from}
 use Rattle.std.proofs.Math.Seq.{drop-nil}
-use Rattle.std.proofs.lemmas.Bool.{cond-true, le-leb}
 use Rattle.std.proofs.lemmas.Option.{none-some, same_Some}
 use Rattle.omf_check.specs.Tables.{externals, entry}
+use Rattle.omf_derive.specs.Derivation.{External}
 use Rattle.omf_records.specs.Values.{Rec}
 use Rattle.omf_derive.specs.declared.fault.DeriveFault.{DeriveFault}
 use Rattle.omf_derive.specs.declared.fault.DeriveFault.TheVariants as fault
 use Rattle.omf_derive.specs.declared.given.Given.{Given}
-use Rattle.omf_derive.specs.Derive.{PlacedModule, PlacedPublic, all_publics, external_place, external_places, ok_of, err_of, with_externals, unless_fault, derived}
+use Rattle.omf_derive.specs.Derive.{PlacedModule, PlacedPublic, seen_publics, named_externals, external_place, external_places, ok_of, err_of, with_externals, unless_fault, derived}
 use Rattle.omf_derive.specs.Deriving.{IsDerived, IsFound, IsFirstErr}
 use Rattle.omf_placement.specs.declared.frame.Placed.{Placed}
 use Rattle.omf_placement.specs.Placement.{Places}
-
--- The entry of an index from 1.
-pub entry-suc : {A : Type 0} (xs : List A) (j : ℕ) → entry xs (suc j) ≡ slice_get xs j
-entry-suc xs j = cond-true (nat_le 1 (suc j)) (slice_get xs (suc j - 1)) None (le-leb 1 (suc j) (omega arith)) ∙ ap (slice_get xs) (omega arith)
+use Rattle.omf_derive.proofs.NamedLaws.{entry-suc, named-count}
 
 -- The entries of a table from one on.
 drop-some : {A : Type 0} (xs : List A) (k : ℕ) (x : A) → slice_get xs k ≡ Some x → drop k xs ≡ x ∷ drop (k + 1) xs
@@ -36,32 +33,32 @@ ok-more : (ps : List Placed) (p : Placed) (rs : List (Result Placed DeriveFault)
 ok-more [] p rs = refl
 ok-more (q ∷ ps) p rs = ap (λ xs. Ok q ∷ xs) (ok-more ps p rs)
 
-module _ (among : List PlacedPublic) (given : List Given) (j : ℕ) (m : List Rec) where
-  abbrev outcome : ℕ × List ℕ → Result Placed DeriveFault
-  outcome e = external_place among given j e.0 e.1
+module _ (among : Bool → List PlacedPublic) (given : List Given) (j : ℕ) (m : List Rec) where
+  abbrev outcome : External → Result Placed DeriveFault
+  outcome e = external_place (among e.1.1) given j e.0 e.1.0
 
   -- the outcomes of the externals from one on
   abbrev pub outcomes_from : ℕ → List (Result Placed DeriveFault)
-  outcomes_from i = map outcome (enumerate_from i (drop (i - 1) (externals m)))
+  outcomes_from i = map outcome (enumerate_from i (drop (i - 1) (named_externals m)))
 
   -- some have their places, and the others are still to come
   abbrev pub IsSoFar : List Placed → ℕ → Type 0
   IsSoFar ps i = map (λ p. Ok p) ps ++ outcomes_from i ≡ external_places among given j m
 
-  module _ (i : ℕ) (name : List ℕ) (low : 1 ≤ i) (e : entry (externals m) i ≡ Some name) where
-    next-outcome : outcomes_from i ≡ external_place among given j i name ∷ outcomes_from (i + 1)
+  module _ (i : ℕ) (x : List ℕ × Bool) (low : 1 ≤ i) (e : entry (named_externals m) i ≡ Some x) where
+    next-outcome : outcomes_from i ≡ external_place (among x.1) given j i x.0 ∷ outcomes_from (i + 1)
     next-outcome =
         let back : suc (i - 1) ≡ i = omega (arith, low) in
         let next : i - 1 + 1 ≡ i + 1 - 1 = omega (arith, low) in
-        let s = drop-some (externals m) (i - 1) name (sym (entry-suc (externals m) (i - 1)) ∙ ap (entry (externals m)) back ∙ e) in
-        ap (λ xs. map outcome (enumerate_from i xs)) (s ∙ ap (λ n. name ∷ drop n (externals m)) next)
+        let s = drop-some (named_externals m) (i - 1) x (sym (entry-suc (named_externals m) (i - 1)) ∙ ap (entry (named_externals m)) back ∙ e) in
+        ap (λ xs. map outcome (enumerate_from i xs)) (s ∙ ap (λ n. x ∷ drop n (named_externals m)) next)
 
-    pub one-placed : (ps now : List Placed) (p : Placed) → external_place among given j i name ≡ Ok p → now ≡ ps ++ p ∷ [] → IsSoFar ps i → IsSoFar now (i + 1)
+    pub one-placed : (ps now : List Placed) (p : Placed) → external_place (among x.1) given j i x.0 ≡ Ok p → now ≡ ps ++ p ∷ [] → IsSoFar ps i → IsSoFar now (i + 1)
     one-placed ps now p f n h =
         ap (λ qs. map (λ q. Ok q) qs ++ outcomes_from (i + 1)) n ∙ ok-more ps p (outcomes_from (i + 1))
         ∙ ap (λ r. map (λ q. Ok q) ps ++ r ∷ outcomes_from (i + 1)) (sym f) ∙ ap (λ rs. map (λ q. Ok q) ps ++ rs) (sym next-outcome) ∙ h
 
-    pub one-fails : (ps : List Placed) (f : DeriveFault) → external_place among given j i name ≡ Err f → IsSoFar ps i → IsFirstErr (external_places among given j m) f
+    pub one-fails : (ps : List Placed) (f : DeriveFault) → external_place (among x.1) given j i x.0 ≡ Err f → IsSoFar ps i → IsFirstErr (external_places among given j m) f
     one-fails ps f e h = record {
       before = ps;
       after = outcomes_from (i + 1);
@@ -70,7 +67,7 @@ module _ (among : List PlacedPublic) (given : List Given) (j : ℕ) (m : List Re
 
   pub all-placed : (ps : List Placed) (i : ℕ) → length (externals m) + 1 ≤ i → IsSoFar ps i → external_places among given j m ≡ map (λ p. Ok p) ps
   all-placed ps i l h =
-      sym h ∙ ap (λ xs. map (λ q. Ok q) ps ++ map outcome (enumerate_from i xs)) (drop-past (externals m) (i - 1) (omega (arith, l))) ∙ append-nil (map (λ q. Ok q) ps)
+      sym h ∙ ap (λ xs. map (λ q. Ok q) ps ++ map outcome (enumerate_from i xs)) (drop-past (named_externals m) (i - 1) (omega (arith, l, named-count m))) ∙ append-nil (map (λ q. Ok q) ps)
 
 pub err-found : (rs : List (Result Placed DeriveFault)) (f : DeriveFault) (r : Result (List Placed) DeriveFault) → r ≡ Err f → IsFirstErr rs f → IsFound rs r
 err-found rs f r e h = subst (IsFound rs) (sym e) (inr h)
@@ -87,7 +84,7 @@ oks-first (p ∷ ps) rs = oks-first ps rs
 module _ (ms : List PlacedModule) (given : List Given) where
   -- the faults of the modules from one on, and their placements
   abbrev pub faults_from : ℕ → List (DeriveFault)
-  faults_from j = flat_map (λ m. filter_map err_of (external_places (all_publics ms) given m.0 m.1.0)) (enumerate_from j (drop j ms))
+  faults_from j = flat_map (λ m. filter_map err_of (external_places (seen_publics ms m.1) given m.0 m.1.0)) (enumerate_from j (drop j ms))
 
   abbrev pub placements_from : ℕ → List Places
   placements_from j = map (with_externals ms given) (enumerate_from j (drop j ms))
@@ -98,18 +95,18 @@ module _ (ms : List PlacedModule) (given : List Given) where
     pub faults : faults_from j ≡ faults_from 0
 
   module _ (j : ℕ) (m : PlacedModule) (next : drop j ms ≡ m ∷ drop (j + 1) ms) where
-    next-faults : faults_from j ≡ filter_map err_of (external_places (all_publics ms) given j m.0) ++ faults_from (j + 1)
-    next-faults = ap (λ xs. flat_map (λ n. filter_map err_of (external_places (all_publics ms) given n.0 n.1.0)) (enumerate_from j xs)) next
+    next-faults : faults_from j ≡ filter_map err_of (external_places (seen_publics ms m) given j m.0) ++ faults_from (j + 1)
+    next-faults = ap (λ xs. flat_map (λ n. filter_map err_of (external_places (seen_publics ms n.1) given n.0 n.1.0)) (enumerate_from j xs)) next
 
     next-placements : placements_from j ≡ with_externals ms given (j, m) ∷ placements_from (j + 1)
     next-placements = ap (λ xs. map (with_externals ms given) (enumerate_from j xs)) next
 
-    pub module-placed : (ps : List Placed) (pl : Places) (pls now : List Places) → external_places (all_publics ms) given j m.0 ≡ map (λ p. Ok p) ps → pl ≡ record m.1 { externals = ps } → now ≡ pls ++ pl ∷ []
+    pub module-placed : (ps : List Placed) (pl : Places) (pls now : List Places) → external_places (seen_publics ms m) given j m.0 ≡ map (λ p. Ok p) ps → pl ≡ record m.1 { externals = ps } → now ≡ pls ++ pl ∷ []
         → IsReached pls j → IsReached now (j + 1)
     module-placed ps pl pls now e p n h =
         let o = oks-only ps in
-        let none : filter_map err_of (external_places (all_publics ms) given j m.0) ≡ [] = ap (filter_map err_of) e ∙ o.0 in
-        let some : filter_map ok_of (external_places (all_publics ms) given j m.0) ≡ ps = ap (filter_map ok_of) e ∙ o.1 in
+        let none : filter_map err_of (external_places (seen_publics ms m) given j m.0) ≡ [] = ap (filter_map err_of) e ∙ o.0 in
+        let some : filter_map ok_of (external_places (seen_publics ms m) given j m.0) ≡ ps = ap (filter_map ok_of) e ∙ o.1 in
         let same : with_externals ms given (j, m) ≡ pl = ap (λ qs. record m.1 { externals = qs }) some ∙ sym p in
         record {
           placements = ap (λ xs. xs ++ placements_from (j + 1)) n ∙ append_assoc pls (pl ∷ []) (placements_from (j + 1))
@@ -117,18 +114,18 @@ module _ (ms : List PlacedModule) (given : List Given) where
           faults = ap (λ fs. fs ++ faults_from (j + 1)) (sym none) ∙ sym next-faults ∙ h.faults;
         }
 
-    pub module-fails : (f : DeriveFault) (pls : List Places) → IsFirstErr (external_places (all_publics ms) given j m.0) f → IsReached pls j → derived ms given ≡ Err f
+    pub module-fails : (f : DeriveFault) (pls : List Places) → IsFirstErr (external_places (seen_publics ms m) given j m.0) f → IsReached pls j → derived ms given ≡ Err f
     module-fails f pls e h =
-        let first : filter_map err_of (external_places (all_publics ms) given j m.0) ≡ f ∷ filter_map err_of e.after = ap (filter_map err_of) e.all ∙ oks-first e.before (Err f ∷ e.after) in
+        let first : filter_map err_of (external_places (seen_publics ms m) given j m.0) ≡ f ∷ filter_map err_of e.after = ap (filter_map err_of) e.all ∙ oks-first e.before (Err f ∷ e.after) in
         ap (λ fs. unless_fault fs (placements_from 0)) (sym h.faults ∙ next-faults ∙ ap (λ fs. fs ++ faults_from (j + 1)) first)
 
-    pub module-ends : (f : DeriveFault) (pls : List Places) → (f ≡ fault.Memory) ⊎ IsFirstErr (external_places (all_publics ms) given j m.0) f → IsReached pls j → (f ≡ fault.Memory) ⊎ (derived ms given ≡ Err f)
+    pub module-ends : (f : DeriveFault) (pls : List Places) → (f ≡ fault.Memory) ⊎ IsFirstErr (external_places (seen_publics ms m) given j m.0) f → IsReached pls j → (f ≡ fault.Memory) ⊎ (derived ms given ≡ Err f)
     module-ends f pls (inl e) h = inl e
     module-ends f pls (inr e) h = inr (module-fails f pls e h)
 
   pub modules-placed : (pls : List Places) (j : ℕ) → drop j ms ≡ [] → IsReached pls j → derived ms given ≡ Ok pls
   modules-placed pls j e h =
-      let none : faults_from 0 ≡ [] = sym h.faults ∙ ap (λ xs. flat_map (λ n. filter_map err_of (external_places (all_publics ms) given n.0 n.1.0)) (enumerate_from j xs)) e in
+      let none : faults_from 0 ≡ [] = sym h.faults ∙ ap (λ xs. flat_map (λ n. filter_map err_of (external_places (seen_publics ms n.1) given n.0 n.1.0)) (enumerate_from j xs)) e in
       let all : placements_from 0 ≡ pls = sym h.placements ∙ ap (λ xs. pls ++ map (with_externals ms given) (enumerate_from j xs)) e ∙ append-nil pls in
       ap₂ (λ fs ps. unless_fault fs ps) none all
 

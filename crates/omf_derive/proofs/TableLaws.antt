@@ -1,6 +1,6 @@
 -- A table of publics grows public by public.
 use Rattle.std.proofs.Common.{◌≡◌, ℕ, zero, suc, ◌+◌, ◌<◌, ◌≤◌, List, [], ◌∷◌, ◌++◌, length, drop, get_or, refl, sym, ap, ap₂, ◌∙◌, subst, inl, inr, append-nil, append_assoc, arith, Bor, nat_cmp}
-use Rattle.std.specs.Prelude.{◌≢◌, flat_map, filter_map, Option, Some, None, bytes_eq, cond}
+use Rattle.std.specs.Prelude.{◌≢◌, flat_map, filter_map, Option, Some, None, bytes_eq, cond, Bool}
 use Rattle.std.proofs.Math.Seq.{drop-nil}
 use Rattle.std.specs.BTreeMap.{BTreeMap, get_by, is_at, UpdatesBy}
 use Rattle.std.specs.Cmp.Lexicographic.{slice_cmp}
@@ -20,7 +20,7 @@ use Rattle.omf_check.specs.Module.{Module, records_in}
 use Rattle.omf_check.specs.WellFormed.{recs}
 use Rattle.omf_placement.specs.declared.frame.Frame.{Frame}
 use Rattle.omf_derive.specs.declared.publics.Found.{Found}
-use Rattle.omf_derive.specs.Derive.{PlacedPublic, public_at, placed_publics, publics, of_name}
+use Rattle.omf_derive.specs.Derive.{PlacedPublic, public_at, record_publics, publics, of_name}
 use Rattle.omf_placement.specs.declared.frame.Placed.{Placed}
 use Rattle.omf_placement.specs.Placement.{Places}
 use Rattle.omf_derive.specs.PublicTable.{summed, found_after, IsTable, HasMore, placed_modules}
@@ -89,12 +89,19 @@ pub fill-empty : (m n : Map) (all : List PlacedPublic) → m.entries ≡ [] → 
 fill-empty m n all e g = g [] (λ name. ap (lookup (is_at (λ k. slice_cmp nat_cmp name k.now))) e)
 
 -- The publics of the records with their places.
-abbrev pub listed_publics : Places → List (Place × Rec) → List PlacedPublic
-listed_publics pl xs = flat_map (λ x. placed_publics pl x.1.contents) xs
+abbrev pub listed_publics : Bool → Places → List (Place × Rec) → List PlacedPublic
+listed_publics local pl xs = flat_map (λ x. record_publics local pl x.1.kind x.1.contents) xs
 
-pub listed-publics : (pl : Places) (number start : ℕ) (rs : List Raw) → listed_publics pl (placed_from number start rs) ≡ publics (recs rs, pl)
-listed-publics pl number start [] = refl
-listed-publics pl number start (r ∷ rs) = ap (λ xs. placed_publics pl (typed r).contents ++ xs) (listed-publics pl (number + 1) (start + length (raw_bytes r)) rs)
+pub listed-publics : (local : Bool) (pl : Places) (number start : ℕ) (rs : List Raw) → listed_publics local pl (placed_from number start rs) ≡ publics local (recs rs, pl)
+listed-publics local pl number start [] = refl
+listed-publics local pl number start (r ∷ rs) = ap (λ xs. record_publics local pl r.kind (typed r).contents ++ xs) (listed-publics local pl (number + 1) (start + length (raw_bytes r)) rs)
+
+-- No public more; and the same publics by other words.
+pub none_more : (m : Map) (xs : List PlacedPublic) → xs ≡ [] → HasMore m m xs
+none_more m xs e = subst (HasMore m m) (sym e) (λ among h. subst (IsTable m) (sym (append-nil among)) h)
+
+pub same_more : (m n : Map) (xs ys : List PlacedPublic) → ys ≡ xs → HasMore m n xs → HasMore m n ys
+same_more m n xs ys e h = subst (HasMore m n) (sym e) h
 
 -- The next module, with its placement.
 pub next-placed : (ms : List Module) (pls : List Places) (j : ℕ) (m : Module) (pl : Places) → m ≡ get_or ms j m → pl ≡ get_or pls j pl → j < length ms → length pls ≡ length ms

@@ -1,17 +1,17 @@
 -- Which place each external takes, and which external is the first at fault, in words. A law ties this to what is computed (Derive).
-use Rattle.std.specs.Prelude.{◌≡◌, ◌≢◌, ◌⊎◌, ◌↔◌, ℕ, ◌<◌, ◌≤◌, ◌^◌, All, List, ◌∷◌, ◌++◌, length, true, Some, Ok, Err}
+use Rattle.std.specs.Prelude.{◌≡◌, ◌≢◌, ◌⊎◌, ◌↔◌, ℕ, ◌<◌, ◌≤◌, ◌^◌, All, List, ◌∷◌, ◌++◌, length, Bool, true, Some, Ok, Err}
 use Rattle.std.specs.List.{AllZip, enumerate_from}
 use Rattle.omf_frame.specs.Framing.{Raw}
 use Rattle.omf_records.specs.Reading.{typed}
 use Rattle.omf_records.specs.Values.{Publics, PublicItems}
 use Rattle.omf_image.specs.declared.limits.Limits.{Limits}
-use Rattle.omf_check.specs.Tables.{segments, groups, externals, is_none_or_defined}
+use Rattle.omf_check.specs.Tables.{segments, groups, is_none_or_defined, externals}
 use Rattle.omf_check.specs.WellFormed.{IsWellFormed, recs}
 use Rattle.omf_check.specs.declared.profile.Profile.{Profile}
 use Rattle.omf_derive.specs.declared.fault.DeriveFault.{DeriveFault}
 use Rattle.omf_derive.specs.declared.fault.DeriveFault.TheVariants as fault
 use Rattle.omf_derive.specs.declared.given.Given.{Given}
-use Rattle.omf_derive.specs.Derive.{PlacedModule, PlacedPublic, all_publics, place_in, derived}
+use Rattle.omf_derive.specs.Derive.{PlacedModule, PlacedPublic, seen_publics, named_externals, place_in, derived}
 use Rattle.omf_placement.specs.declared.frame.Placed.{Placed}
 use Rattle.omf_placement.specs.Placement.{Places}
 
@@ -84,43 +84,46 @@ IsFaultOf among j i name fault.Memory = ⊥
 abbrev pub Fails : List PlacedPublic → List Given → ℕ → ℕ → List ℕ → DeriveFault → Type 0
 Fails among given j i name e = IsNotGiven j i given × IsFaultOf among j i name e
 
--- The externals of a module with their indices, from 1.
-abbrev pub numbered : PlacedModule → List (ℕ × List ℕ)
-numbered m = enumerate_from 1 (externals m.0)
+-- The externals of a module with their indices, from 1: the name of each, and whether it is local.
+abbrev pub External : Type 0
+External = ℕ × (List ℕ × Bool)
+
+abbrev pub numbered : PlacedModule → List External
+numbered m = enumerate_from 1 (named_externals m.0)
 
 -- The placement of a module with its number: its place's segments and groups, and the place that each external takes, in order.
-pub record IsPlacement (among : List PlacedPublic) (given : List Given) (m : ℕ × PlacedModule) (pl : Places) : Type 0 where
+pub record IsPlacement (ms : List PlacedModule) (given : List Given) (m : ℕ × PlacedModule) (pl : Places) : Type 0 where
   pub segments : pl.segments ≡ m.1.1.segments
   pub groups : pl.groups ≡ m.1.1.groups
-  pub externals : AllZip (λ e p. Takes among given m.0 e.0 e.1 p) (numbered m.1) pl.externals
+  pub externals : AllZip (λ e p. Takes (seen_publics ms m.1 e.1.1) given m.0 e.0 e.1.0 p) (numbered m.1) pl.externals
 
 abbrev pub AreDerived : List PlacedModule → List Given → List Places → Type 0
-AreDerived ms given pls = AllZip (IsPlacement (all_publics ms) given) (enumerate_from 0 ms) pls
+AreDerived ms given pls = AllZip (IsPlacement ms given) (enumerate_from 0 ms) pls
 
--- Each of these externals of module j takes a place.
-abbrev pub AllTake : List PlacedPublic → List Given → ℕ → List (ℕ × List ℕ) → Type 0
-AllTake among given j es = All (λ e. (p : Placed) × Takes among given j e.0 e.1 p) es
+-- Each of these externals of module j takes a place, among the publics that it sees.
+abbrev pub AllTake : (Bool → List PlacedPublic) → List Given → ℕ → List External → Type 0
+AllTake among given j es = All (λ e. (p : Placed) × Takes (among e.1.1) given j e.0 e.1.0 p) es
 
 -- An external has a fault, and each before it in its module takes a place.
-pub record IsFirstIn (among : List PlacedPublic) (given : List Given) (j : ℕ) (es : List (ℕ × List ℕ)) (f : DeriveFault) : Type 0 where
-  pub before : List (ℕ × List ℕ)
-  pub external : ℕ × List ℕ
-  pub after : List (ℕ × List ℕ)
+pub record IsFirstIn (among : Bool → List PlacedPublic) (given : List Given) (j : ℕ) (es : List External) (f : DeriveFault) : Type 0 where
+  pub before : List External
+  pub external : External
+  pub after : List External
   pub all : es ≡ before ++ external ∷ after
   pub earlier : AllTake among given j before
-  pub fails : Fails among given j external.0 external.1 f
+  pub fails : Fails (among external.1.1) given j external.0 external.1.0 f
 
 -- The first fault: that of the first such external of the first module that has one.
-pub record IsFirstAmong (among : List PlacedPublic) (given : List Given) (ms : List (ℕ × PlacedModule)) (f : DeriveFault) : Type 0 where
+pub record IsFirstAmong (all : List PlacedModule) (given : List Given) (ms : List (ℕ × PlacedModule)) (f : DeriveFault) : Type 0 where
   pub before : List (ℕ × PlacedModule)
   pub «module» : ℕ × PlacedModule
   pub after : List (ℕ × PlacedModule)
-  pub all : ms ≡ before ++ «module» ∷ after
-  pub earlier : All (λ m. AllTake among given m.0 (numbered m.1)) before
-  pub fault : IsFirstIn among given «module».0 (numbered «module».1) f
+  pub parts : ms ≡ before ++ «module» ∷ after
+  pub earlier : All (λ m. AllTake (seen_publics all m.1) given m.0 (numbered m.1)) before
+  pub fault : IsFirstIn (seen_publics all «module».1) given «module».0 (numbered «module».1) f
 
 abbrev pub IsFirstFault : List PlacedModule → List Given → DeriveFault → Type 0
-IsFirstFault ms given f = IsFirstAmong (all_publics ms) given (enumerate_from 0 ms) f
+IsFirstFault ms given f = IsFirstAmong ms given (enumerate_from 0 ms) f
 
 -- What is computed is what the words say.
 pub record DerivedIsTaken (ms : List PlacedModule) (given : List Given) : Type 0 where

@@ -1,8 +1,9 @@
 -- Placements of several modules, in which each external has the place of the public of its name (this profile's rule; TIS OMF 1.1, "PUBDEF").
-use Rattle.std.specs.Prelude.{ℕ, ◌+◌, ◌*◌, ◌^◌, List, [], ◌∷◌, map, flat_map, filter_map, find, Option, Some, None, unwrap_or, option_map, Result, Ok, Err, bytes_eq, ◌==◌, ◌&&◌, nat_lt, if◌then◌else◌}
+use Rattle.std.specs.Prelude.{ℕ, ◌+◌, ◌*◌, ◌^◌, List, [], ◌∷◌, map, flat_map, filter_map, find, zip, Bool, true, false, Option, Some, None, unwrap_or, option_map, Result, Ok, Err, bytes_eq, ◌==◌, ◌&&◌, nat_lt, if◌then◌else◌}
 use Rattle.std.specs.List.{enumerate_from}
 use Rattle.omf_records.specs.Values.{At, Rec, Contents, Publics, PublicItem}
-use Rattle.omf_check.specs.Tables.{externals}
+use Rattle.omf_frame.specs.Types.{is_local}
+use Rattle.omf_check.specs.Tables.{externals, locals}
 use Rattle.omf_derive.specs.declared.fault.DeriveFault.{DeriveFault}
 use Rattle.omf_derive.specs.declared.fault.DeriveFault.TheVariants as fault
 use Rattle.omf_placement.specs.declared.frame.Frame.{Frame}
@@ -46,12 +47,26 @@ abbrev pub placed_publics : Places → Contents → List PlacedPublic
 placed_publics pl (Publics p) = publics_at (base_of pl p.group.item p.segment.item p.frame) p.items
 placed_publics pl _ = []
 
--- The publics of all modules: where an external of an EXTDEF or a COMDEF looks for its name. A name that is twice in one module counts twice.
-abbrev pub publics : PlacedModule → List PlacedPublic
-publics m = flat_map (λ r. placed_publics m.1 r.contents) m.0
+-- The local publics of a record, or the others: an LPUBDEF defines local ones, a PUBDEF others.
+abbrev pub record_publics : Bool → Places → ℕ → Contents → List PlacedPublic
+record_publics true pl kind c = if is_local kind then placed_publics pl c else []
+record_publics false pl kind c = if is_local kind then [] else placed_publics pl c
+
+-- Those of a module. A name that is twice in one module counts twice.
+abbrev pub publics : Bool → PlacedModule → List PlacedPublic
+publics local m = flat_map (λ r. record_publics local m.1 r.kind r.contents) m.0
 
 abbrev pub all_publics : List PlacedModule → List PlacedPublic
-all_publics ms = flat_map publics ms
+all_publics ms = flat_map (publics false) ms
+
+-- Where an external of a module looks for its name: that of a LEXTDEF or an LCOMDEF among the local publics of the module, that of an
+-- EXTDEF or a COMDEF among the publics of all modules.
+abbrev pub seen_publics : List PlacedModule → PlacedModule → Bool → List PlacedPublic
+seen_publics ms m local = if local then publics true m else all_publics ms
+
+-- The externals of a module: the name of each, and whether it is local.
+abbrev pub named_externals : List Rec → List (List ℕ × Bool)
+named_externals m = zip (externals m) (locals m)
 
 -- The first given entry of an external. It counts whatever publics there are.
 abbrev pub place_in : Given → Placed
@@ -79,8 +94,8 @@ abbrev pub external_place : List PlacedPublic → List Given → ℕ → ℕ →
 external_place among given j i name = given_or (given_place given j i) (one_public j i (filter_map (of_name name) among))
 
 -- The place or the fault of each external of module j, in order.
-abbrev pub external_places : List PlacedPublic → List Given → ℕ → List Rec → List (Result Placed DeriveFault)
-external_places among given j m = map (λ e. external_place among given j e.0 e.1) (enumerate_from 1 (externals m))
+abbrev pub external_places : (Bool → List PlacedPublic) → List Given → ℕ → List Rec → List (Result Placed DeriveFault)
+external_places among given j m = map (λ e. external_place (among e.1.1) given j e.0 e.1.0) (enumerate_from 1 (named_externals m))
 
 abbrev pub ok_of : Result Placed DeriveFault → Option Placed
 ok_of (Ok p) = Some p
@@ -92,11 +107,11 @@ err_of (Err e) = Some e
 
 -- Every fault, by module and then by external.
 abbrev pub derive_faults : List PlacedModule → List Given → List DeriveFault
-derive_faults ms given = flat_map (λ m. filter_map err_of (external_places (all_publics ms) given m.0 m.1.0)) (enumerate_from 0 ms)
+derive_faults ms given = flat_map (λ m. filter_map err_of (external_places (seen_publics ms m.1) given m.0 m.1.0)) (enumerate_from 0 ms)
 
 -- The placement of a module: the segments and groups of its place, and its externals.
 abbrev pub with_externals : List PlacedModule → List Given → ℕ × PlacedModule → Places
-with_externals ms given m = record m.1.1 { externals = filter_map ok_of (external_places (all_publics ms) given m.0 m.1.0) }
+with_externals ms given m = record m.1.1 { externals = filter_map ok_of (external_places (seen_publics ms m.1) given m.0 m.1.0) }
 
 -- The placements where there is no fault, else the first.
 abbrev pub unless_fault : {A : Type 0} → List DeriveFault → A → Result A DeriveFault

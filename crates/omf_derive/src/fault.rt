@@ -9,7 +9,7 @@ use thiserror::Error;
 #[derive(Clone, Copy, Debug, PartialEq, Eq, Error)]
 pub enum DeriveFault {
     /// 1: a growth was refused.
-    #[error("memory")]
+    #[error("memory ran out")]
     Memory,
     /// 2: no public has the external's name.
     #[error("an external has no public")]

@@ -1,6 +1,6 @@
 //! Placements of several modules, in which each external has the place of the public of its name.
 
-ghost use Rattle.std.specs.Prelude.{◌≡◌, ◌<◌, ◌^◌, length, List};
+ghost use Rattle.std.specs.Prelude.{◌≡◌, ◌<◌, ◌^◌, length, List, Bool, true, false};
 ghost use Rattle.omf_records.specs.Seen.{map_ok};
 ghost use Rattle.omf_check.specs.Module.{records_in};
 ghost use Rattle.omf_check.specs.WellFormed.{recs};
@@ -12,9 +12,9 @@ ghost use Rattle.omf_derive.specs.PublicTable.{IsTable, placed_modules};
 
 use crate::fault::DeriveFault;
 use crate::given::{Given, GivenTable};
+use omf_placement::{Placed, Placement};
 use crate::publics::PublicTable;
 use omf_check::Checked;
-use omf_placement::{Placed, Placement};
 use std::alloc::Global;
 
 /// The place of an external of this name: that which it is given, or else that of the one public of its name.
@@ -33,20 +33,42 @@ fn external_place<'a>(
     }
 }
 
-/// The places of the externals of a module of this number, or the fault of the first that has none.
+/// The place of an external of this name, which is local or not.
+fn visible_place<'a>(
+    all: &PublicTable<'a>,
+    own: &PublicTable<'a>,
+    given: &GivenTable,
+    name: &'a [u8],
+    local: bool,
+    module: u32,
+    external: u16,
+) -> Result<Placed, DeriveFault>
+    ensures { (among : Bool → List PlacedPublic) (entries : List Entry) → IsTable all.now.by_name (among false) → IsTable own.now.by_name (among true) → IsGivenTable given.now.by_external entries → result ≡ external_place (among local) entries «module» external name.now }
+{
+    if local {
+        external_place(own, given, name, module, external)
+    } else {
+        external_place(all, given, name, module, external)
+    }
+}
+
+/// The places of the externals of a module of this number, or the fault of the first that has none. A local one has its place among
+/// the module's own local publics.
 fn external_places<'a>(
     alloc: Global,
-    table: &PublicTable<'a>,
+    all: &PublicTable<'a>,
+    own: &PublicTable<'a>,
     given: &GivenTable,
     module: &'a Checked,
     number: u32,
 ) -> Result<Vec<Placed>, DeriveFault>
-    ensures { (among : List PlacedPublic) (entries : List Entry) → IsTable table.now.by_name among → IsGivenTable given.now.by_external entries → IsFound (external_places among entries number (recs (records_in «module».entry.now.bytes))) (map_ok (λ v. v.items) result) }
+    ensures { (among : Bool → List PlacedPublic) (entries : List Entry) → IsTable all.now.by_name (among false) → IsTable own.now.by_name (among true) → IsGivenTable given.now.by_external entries → IsFound (external_places among entries number (recs (records_in «module».entry.now.bytes))) (map_ok (λ v. v.items) result) }
 {
     let mut places = Vec::new(alloc);
     for i in 1..module.externals() + 1 {
+        let local = module.local(i).unwrap_or(false);
         let place = match module.external(i) {
-            Some(name) => external_place(table, given, name.0, number, i),
+            Some(name) => visible_place(all, own, given, name.0, local, number, i),
             None => unreachable!(),
         };
         places.push(place?)?;
@@ -55,7 +77,8 @@ fn external_places<'a>(
 }
 
 /// Placements of modules, each of which lies where its place says, with an entry for each of its externals: that which it is first
-/// given, or else the address and frame of the one public of its name, of all that the modules define. A public's address is that of
+/// given, or else the address and frame of the one public of its name: of all those that the PUBDEFs of the modules define, and for a
+/// local external of those that its own module's LPUBDEFs define. A public's address is that of
 /// its segment plus its offset; where it names no segment, 16 times its base frame's number plus its offset. Its frame is that of the
 /// group that it names, or else of its segment, or else that of its base frame's number.
 ///
@@ -76,7 +99,8 @@ pub fn derive(
     let mut placements = Vec::new(alloc);
     for (j, module) in modules.iter().enumerate() {
         let place = &places[j];
-        let externals = external_places(alloc, &table, &first_given, module, j as u32)?;
+        let own = PublicTable::of_locals(alloc, module, place)?;
+        let externals = external_places(alloc, &table, &own, &first_given, module, j as u32)?;
         let placement = place.with_externals(externals)?;
         placements.push(placement)?;
     }

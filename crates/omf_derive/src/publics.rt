@@ -1,15 +1,18 @@
 //! The publics of several modules, by name.
 
-ghost use Rattle.std.specs.Prelude.{◌≡◌, ◌+◌, [], ◌∷◌, length, OnOk, IfOk, List, filter_map};
+ghost use Rattle.std.specs.Prelude.{◌≡◌, ◌+◌, [], ◌∷◌, length, OnOk, IfOk, List, filter_map, true, false};
 ghost use Rattle.omf_check.specs.Module.{records_in};
 ghost use Rattle.omf_check.specs.WellFormed.{recs};
-ghost use Rattle.omf_records.specs.Seen.{contents_seen};
-ghost use Rattle.omf_derive.specs.Derive.{PlacedPublic, paragraph, base_of, public_at, publics_at, of_name, one_public, placed_publics, publics, all_publics};
+ghost use Rattle.omf_frame.specs.Types.{is_local};
+ghost use Rattle.omf_records.specs.Seen.{contents_seen, kind_seen};
+ghost use Rattle.omf_records.specs.Values.{Contents};
+ghost use Rattle.omf_placement.specs.Placement.{Places};
+ghost use Rattle.omf_derive.specs.Derive.{PlacedPublic, paragraph, base_of, public_at, publics_at, of_name, one_public, placed_publics, record_publics, publics, all_publics};
 ghost use Rattle.omf_derive.specs.PublicTable.{IsTable, HasMore, found_after, placed_modules};
 
 use crate::fault::DeriveFault;
-use omf_check::Checked;
 use omf_placement::{Frame, Placed, Placement};
+use omf_check::Checked;
 use omf_records::{Items, Public, Rec};
 use std::alloc::{AllocError, Global};
 use std::collections::BTreeMap;
@@ -94,6 +97,25 @@ fn with_one_more(found: Option<Found>, address: u64, frame: Frame) -> Found
     }
 }
 
+/// Whether records of this type are local: LEXTDEF, LPUBDEF, LCOMDEF and LLNAMES.
+fn is_local(kind: u8) -> bool
+    ensures { result ≡ is_local kind }
+{
+    matches!(kind, 0xB4..=0xB8 | 0xCA)
+}
+
+/// Whether the publics of a record of this type are among those that are asked for: the local ones, or the others.
+fn has_asked(local: bool, kind: u8) -> bool
+    ensures some { result ≡ true → (pl : Places) (c : Contents) → record_publics local pl kind c ≡ placed_publics pl c }
+    ensures none { result ≡ false → (pl : Places) (c : Contents) → record_publics local pl kind c ≡ [] }
+{
+    if local {
+        is_local(kind)
+    } else {
+        !is_local(kind)
+    }
+}
+
 impl<'a> PublicTable<'a> {
     /// Adds a public.
     fn add(&mut self, name: &'a [u8], address: u64, frame: Frame) -> Result<(), AllocError>
@@ -138,21 +160,68 @@ impl<'a> PublicTable<'a> {
                 let segment = usize::from(segment.item.0);
                 self.add_items(publics.iter(), base_of(placement, group, segment, *frame))
             }
+            Rec::LocalPublics {
+                group,
+                segment,
+                frame,
+                publics,
+                ..
+            } => {
+                let group = usize::from(group.item.0);
+                let segment = usize::from(segment.item.0);
+                self.add_items(publics.iter(), base_of(placement, group, segment, *frame))
+            }
             _ => Ok(()),
         }
     }
 
-    /// Adds the publics of a module.
-    fn add_module(&mut self, module: &'a Checked, placement: &Placement) -> Result<(), AllocError>
-        ensures { OnOk result (HasMore self.old.by_name self.new.by_name (publics (recs (records_in «module».entry.now.bytes), placement.now))) }
+    /// Adds the publics of a record if they are among those that are asked for.
+    #[tactic(auto, using(crate::proofs::TableLaws::none_more, crate::proofs::TableLaws::same_more))]
+    fn add_asked(
+        &mut self,
+        local: bool,
+        rec: &Rec<'a>,
+        placement: &Placement,
+    ) -> Result<(), AllocError>
+        ensures { OnOk result (HasMore self.old.by_name self.new.by_name (record_publics local placement.now (kind_seen rec.now) (contents_seen rec.now))) }
+    {
+        if !has_asked(local, rec.kind()) {
+            return Ok(());
+        }
+        self.add_record(rec, placement)
+    }
+
+    /// Adds the local publics of a module, or the others.
+    fn add_module(
+        &mut self,
+        local: bool,
+        module: &'a Checked,
+        placement: &Placement,
+    ) -> Result<(), AllocError>
+        ensures { OnOk result (HasMore self.old.by_name self.new.by_name (publics local (recs (records_in «module».entry.now.bytes), placement.now))) }
     {
         for (_, rec) in module.records() {
-            self.add_record(&rec, placement)?;
+            self.add_asked(local, &rec, placement)?;
         }
         Ok(())
     }
 
-    /// The publics of modules, each with its placement.
+    /// The local publics of a module, which has this placement.
+    pub(crate) fn of_locals(
+        alloc: Global,
+        module: &'a Checked,
+        placement: &Placement,
+    ) -> Result<PublicTable<'a>, AllocError>
+        ensures { IfOk result (λ t. IsTable t.by_name (publics true (recs (records_in «module».entry.now.bytes), placement.now))) }
+    {
+        let mut table = PublicTable {
+            by_name: BTreeMap::new(alloc),
+        };
+        table.add_module(true, module, placement)?;
+        Ok(table)
+    }
+
+    /// The publics of modules that are not local, each module with its placement.
     pub(crate) fn of(
         alloc: Global,
         modules: &'a [Checked],
@@ -165,7 +234,7 @@ impl<'a> PublicTable<'a> {
             by_name: BTreeMap::new(alloc),
         };
         for (j, module) in modules.iter().enumerate() {
-            table.add_module(module, &placements[j])?;
+            table.add_module(false, module, &placements[j])?;
         }
         Ok(table)
     }

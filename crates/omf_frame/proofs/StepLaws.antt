@@ -7,6 +7,7 @@ use Rattle.omf_frame.specs.declared.fault.Reason.{Reason}
 use Rattle.omf_frame.specs.declared.fault.Reason.TheVariants as reason
 use Rattle.omf_frame.specs.Bytes.{AreBytes, is_one_of}
 use Rattle.omf_frame.specs.Fault.{Fault, least, first_step, broken, rule}
+use Rattle.omf_frame.specs.Types.{read, carried, types_of}
 use Rattle.omf_frame.specs.Framing.{Raw, raw_bytes, IsRecord, is_read, is_carried, is_taken, is_unsupported, is_header, is_nonempty, is_whole, stated_length, front_record, frame_steps, frame_fault, present, HasFront}
 use Rattle.omf_frame.proofs.FaultLaws.{untrue}
 use Rattle.omf_frame.proofs.FramingLaws.{stated, size, checksum_raw, raw_front, body_length}
@@ -75,8 +76,8 @@ or_right false y h = h
 pub known_supported : (kind : ℕ) → IsTrue (is_taken kind) → IsTrue (not (is_unsupported kind))
 unfolding all_of
 known_supported kind h = elim (or_cases (is_read kind) (is_carried kind) h) [
-  | inl t ↦ any_all (λ k. not (is_unsupported k)) (0x80 ∷ 0x82 ∷ 0x88 ∷ 0x8A ∷ 0x8B ∷ 0x8C ∷ 0x90 ∷ 0x91 ∷ 0x96 ∷ 0x98 ∷ 0x99 ∷ 0x9A ∷ 0x9C ∷ 0x9D ∷ 0xA0 ∷ 0xA1 ∷ 0xA2 ∷ 0xA3 ∷ 0xB0 ∷ []) kind t refl
-  | inr t ↦ any_all (λ k. not (is_unsupported k)) (0x8E ∷ 0x94 ∷ 0x95 ∷ 0xC4 ∷ 0xC5 ∷ 0xC6 ∷ 0xCC ∷ []) kind t refl
+  | inl t ↦ any_all (λ k. not (is_unsupported k)) (types_of read) kind t refl
+  | inr t ↦ any_all (λ k. not (is_unsupported k)) (types_of carried) kind t refl
 ]
 
 two_kept : (a b : Bool) (v w : ℕ) (r s : Reason) → broken (rule a v r ∷ rule b w s ∷ []) ≡ [] → IsTrue a × IsTrue b

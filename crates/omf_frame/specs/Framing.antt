@@ -1,6 +1,7 @@
 -- Records and the frame of a module (TIS OMF 1.1, "Object record format" and "Order of records").
 use Rattle.std.specs.Prelude.{◌≡◌, ℕ, ◌+◌, ◌*◌, ◌-◌, ◌/◌, ◌%◌, ◌<◌, ◌⊎◌, List, [], ◌∷◌, ◌++◌, length, sum, take, drop, All, flat_map, Bool, true, false, not, ◌||◌, ◌==◌, nat_le, IsTrue, slice_index, Option, Some, None, if◌then◌else◌}
 use Rattle.omf_frame.specs.Bytes.{is_one_of}
+use Rattle.omf_frame.specs.Types.{theadr, lheadr, modend, read, carried, refused, types_of}
 use Rattle.omf_frame.specs.Fault.{Fault, rule, broken, least, first_step}
 use Rattle.omf_frame.specs.declared.fault.Reason.{Reason}
 use Rattle.omf_frame.specs.declared.fault.Reason.TheVariants as reason
@@ -27,31 +28,26 @@ checksum_of kind body = (256 - sum (raw_bytes (record { kind = kind; body = body
 abbrev pub raw_of : ℕ → List ℕ → Raw
 raw_of kind body = record { kind = kind; body = body; checksum = checksum_of kind body }
 
--- THEADR, LHEADR, COMENT, MODEND, EXTDEF, PUBDEF, LNAMES, SEGDEF, GRPDEF, FIXUPP, LEDATA, LIDATA, COMDEF.
+-- How a type of record is treated: read, carried unread, or known and refused. Types has the table.
 abbrev pub is_read : ℕ → Bool
-is_read kind = is_one_of (0x80 ∷ 0x82 ∷ 0x88 ∷ 0x8A ∷ 0x8B ∷ 0x8C ∷ 0x90 ∷ 0x91 ∷ 0x96 ∷ 0x98 ∷ 0x99
-    ∷ 0x9A ∷ 0x9C ∷ 0x9D ∷ 0xA0 ∷ 0xA1 ∷ 0xA2 ∷ 0xA3 ∷ 0xB0 ∷ []) kind
+is_read kind = is_one_of (types_of read) kind
 
--- TYPDEF, LINNUM, LINSYM, ALIAS, VERNUM: carried unread.
 abbrev pub is_carried : ℕ → Bool
-is_carried kind = is_one_of (0x8E ∷ 0x94 ∷ 0x95 ∷ 0xC4 ∷ 0xC5 ∷ 0xC6 ∷ 0xCC ∷ []) kind
+is_carried kind = is_one_of (types_of carried) kind
 
--- LEXTDEF, LPUBDEF, LCOMDEF, LLNAMES, BAKPAT, CEXTDEF, COMDAT, NBKPAT, VENDEXT, libraries: known, and refused by this profile.
 abbrev pub is_unsupported : ℕ → Bool
-is_unsupported kind = is_one_of (0xB4 ∷ 0xB5 ∷ 0xB6 ∷ 0xB7 ∷ 0xB8 ∷ 0xCA ∷ 0xB2 ∷ 0xB3 ∷ 0xBC ∷ 0xC2 ∷ 0xC3
-    ∷ 0xC8 ∷ 0xC9 ∷ 0xCE ∷ 0xF0 ∷ 0xF1 ∷ []) kind
+is_unsupported kind = is_one_of (types_of refused) kind
 
 -- A record of this type may stand in a module.
 abbrev pub is_taken : ℕ → Bool
 is_taken kind = is_read kind || is_carried kind
 
--- THEADR and LHEADR.
+-- A module begins with a THEADR or an LHEADR, and ends with a MODEND.
 abbrev pub is_header : ℕ → Bool
-is_header kind = is_one_of (0x80 ∷ 0x82 ∷ []) kind
+is_header kind = is_one_of (theadr ++ lheadr) kind
 
--- MODEND.
 abbrev pub is_end : ℕ → Bool
-is_end kind = is_one_of (0x8A ∷ 0x8B ∷ []) kind
+is_end kind = is_one_of modend kind
 
 -- The bytes are these records: known types, a header first, a MODEND last and nowhere else.
 pub record IsFramed (bytes : List ℕ) (records : List Raw) : Type 0 where

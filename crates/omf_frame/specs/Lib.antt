@@ -1,5 +1,6 @@
 pub mod Bytes
 pub mod Fault
+pub mod Types
 pub mod Framing
 pub mod Fields
 pub mod FieldLaws

@@ -1,4 +1,18 @@
 //! The records of an object module: fields, one record after another, readers and writers.
+//!
+//! A record is written to memory, and found again:
+//!
+//! ```
+//! let mut bytes = Vec::new(alloc);
+//! write_record(&mut Writing::new(&mut bytes), 0x80, b"\x01A")?;
+//! let mut framer = Framer::new(alloc);
+//! framer.feed(&bytes)?;
+//! if let Some(record) = framer.raw() {
+//!     // record.kind is 0x80, record.body is b"\x01A", record.start is 0
+//! }
+//! ```
+//!
+//! A framer takes bytes in any pieces; `next` passes the record that stands, and `stop` says whether the input may end there.
 #![tactic(auto)]
 
 mod device;

@@ -155,7 +155,20 @@ fn refuses_faults_of_framing(rt: HostRuntime) -> Result<(), Fail> {
             [0x80, 3, 0, 1, 0x41, 0x3B, 0xC2].as_slice(),
             refused(Reason::UnsupportedType, 1, 6, 0),
         ),
+        (
+            [0x80, 3, 0, 1, 0x41, 0x3B, 0xBC].as_slice(),
+            refused(Reason::UnsupportedType, 1, 6, 0),
+        ),
+        (
+            [0x80, 3, 0, 1, 0x41, 0x3B, 0xB9].as_slice(),
+            refused(Reason::UnknownType, 1, 6, 0),
+        ),
         ([0xF0].as_slice(), refused(Reason::UnsupportedType, 0, 0, 0)),
+        // A local record alone is no header; a module may have it behind one.
+        (
+            [0xCA, 1, 0, 0].as_slice(),
+            refused(Reason::NoHeader, 0, 0, 0),
+        ),
         ([0x00].as_slice(), refused(Reason::UnknownType, 0, 0, 0)),
         (
             [0x8A, 2, 0, 0, 0x74].as_slice(),

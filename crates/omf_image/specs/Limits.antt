@@ -2,4 +2,4 @@
 use Rattle.omf_image.specs.declared.limits.Limits.{Limits}
 
 abbrev pub profile_limits : Limits
-profile_limits = record { nesting = 32; expanded = 16777216 }
+profile_limits = record { nesting = 64; expanded = 268435456 }

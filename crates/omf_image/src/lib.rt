@@ -1,5 +1,14 @@
 //! What data records stand for: repeated blocks as bytes, the numbers that fixups add to them, and the image in which the
 //! last piece laid wins.
+//!
+//! Two pieces that overlap:
+//!
+//! ```
+//! let mut image = Image::new(alloc);
+//! image.lay(1, 4, vec![in alloc; 0xAA, 0xBB]?)?;
+//! image.lay(1, 5, vec![in alloc; 0xCC, 0xDD]?)?;
+//! // image.get(1, 5) is Some(0xCC), and image.run_bytes(1, 0) is Some(&[0xAA, 0xCC, 0xDD])
+//! ```
 #![tactic(auto)]
 
 mod copier;

@@ -13,13 +13,13 @@ pub struct Limits {
 }
 
 impl Limits {
-    /// This profile's limits: 32 levels, and 16,777,216 bytes.
+    /// This profile's limits: 64 levels, and 268,435,456 bytes.
     pub fn profile() -> Limits
         ensures { result ≡ profile_limits }
     {
         Limits {
-            nesting: 32,
-            expanded: 16_777_216,
+            nesting: 64,
+            expanded: 268_435_456,
         }
     }
 }

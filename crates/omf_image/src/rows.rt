@@ -20,34 +20,35 @@ pub fn short_data()
     ensures { expanded_length 2 profile_limits (1 ∷ 0 ∷ 0 ∷ 0 ∷ 2 ∷ 0xAA ∷ []) ≡ Err (fault 4 reason.Short) }
 {}
 
-/// 32 levels of blocks are allowed.
+/// 64 levels of blocks are allowed.
 pub fn deep_enough()
-    ensures { expanded_length 2 profile_limits (repeat 31 (1 ∷ 0 ∷ 1 ∷ 0 ∷ []) ++ innermost) ≡ Ok 1 }
+    ensures { expanded_length 2 profile_limits (repeat 63 (1 ∷ 0 ∷ 1 ∷ 0 ∷ []) ++ innermost) ≡ Ok 1 }
 {}
 
-/// A 33rd level is refused at its first byte.
+/// A 65th level is refused at its first byte.
 pub fn too_deep()
-    ensures { expanded_length 2 profile_limits (repeat 32 (1 ∷ 0 ∷ 1 ∷ 0 ∷ []) ++ innermost) ≡ Err (fault 128 reason.TooDeep) }
+    ensures { expanded_length 2 profile_limits (repeat 64 (1 ∷ 0 ∷ 1 ∷ 0 ∷ []) ++ innermost) ≡ Err (fault 256 reason.TooDeep) }
 {}
 
 /// A block at the forbidden depth without a byte for its repeat count is short.
 pub fn short_and_too_deep()
-    ensures { expanded_length 2 profile_limits (repeat 32 (1 ∷ 0 ∷ 1 ∷ 0 ∷ []) ++ 1 ∷ []) ≡ Err (fault 128 reason.Short) }
+    ensures { expanded_length 2 profile_limits (repeat 64 (1 ∷ 0 ∷ 1 ∷ 0 ∷ []) ++ 1 ∷ []) ≡ Err (fault 256 reason.Short) }
 {}
 
 /// Just within the limit on bytes.
 pub fn long_enough()
-    ensures { expanded_length 2 profile_limits (0xFF ∷ 0xFF ∷ 1 ∷ 0 ∷ 0 ∷ 1 ∷ 0 ∷ 0 ∷ 1 ∷ 0xAA ∷ []) ≡ Ok 16776960 }
+    ensures nearly { expanded_length 2 profile_limits (0xFF ∷ 0xFF ∷ 1 ∷ 0 ∷ 0 ∷ 0x10 ∷ 0 ∷ 0 ∷ 1 ∷ 0xAA ∷ []) ≡ Ok 268431360 }
+    ensures far { expanded_length 2 profile_limits (0xFF ∷ 0xFF ∷ 1 ∷ 0 ∷ 1 ∷ 1 ∷ 0 ∷ 0 ∷ 1 ∷ 0xAA ∷ []) ≡ Ok 16842495 }
 {}
 
 /// Just past it.
 pub fn too_long()
-    ensures { expanded_length 2 profile_limits (0xFF ∷ 0xFF ∷ 1 ∷ 0 ∷ 1 ∷ 1 ∷ 0 ∷ 0 ∷ 1 ∷ 0xAA ∷ []) ≡ Err (fault 0 reason.DataTooLong) }
+    ensures { expanded_length 2 profile_limits (0xFF ∷ 0xFF ∷ 1 ∷ 0 ∷ 1 ∷ 0x10 ∷ 0 ∷ 0 ∷ 1 ∷ 0xAA ∷ []) ≡ Err (fault 0 reason.DataTooLong) }
 {}
 
 /// A short block to the right is named before too many bytes.
 pub fn short_before_too_long()
-    ensures { expanded_length 2 profile_limits (0xFF ∷ 0xFF ∷ 1 ∷ 0 ∷ 1 ∷ 1 ∷ 0 ∷ 0 ∷ 1 ∷ 0xAA ∷ 1 ∷ []) ≡ Err (fault 10 reason.Short) }
+    ensures { expanded_length 2 profile_limits (0xFF ∷ 0xFF ∷ 1 ∷ 0 ∷ 1 ∷ 0x10 ∷ 0 ∷ 0 ∷ 1 ∷ 0xAA ∷ 1 ∷ []) ≡ Err (fault 10 reason.Short) }
 {}
 
 /// Huge repeat counts inside a block that is repeated 0 times.
@@ -56,10 +57,10 @@ pub fn none_of_many()
     ensures bytes { expanded 2 profile_limits (0 ∷ 0 ∷ 1 ∷ 0 ∷ 0xFF ∷ 0xFF ∷ 1 ∷ 0 ∷ 0xFF ∷ 0xFF ∷ 0 ∷ 0 ∷ 1 ∷ 0xAA ∷ []) ≡ [] }
 {}
 
-/// 32 huge repeat counts of no bytes.
+/// 64 huge repeat counts of no bytes.
 pub fn many_of_none()
-    ensures length { expanded_length 2 profile_limits (repeat 31 (0xFF ∷ 0xFF ∷ 1 ∷ 0 ∷ []) ++ 0xFF ∷ 0xFF ∷ 0 ∷ 0 ∷ 0 ∷ []) ≡ Ok 0 }
-    ensures bytes { expanded 2 profile_limits (repeat 31 (0xFF ∷ 0xFF ∷ 1 ∷ 0 ∷ []) ++ 0xFF ∷ 0xFF ∷ 0 ∷ 0 ∷ 0 ∷ []) ≡ [] }
+    ensures length { expanded_length 2 profile_limits (repeat 63 (0xFF ∷ 0xFF ∷ 1 ∷ 0 ∷ []) ++ 0xFF ∷ 0xFF ∷ 0 ∷ 0 ∷ 0 ∷ []) ≡ Ok 0 }
+    ensures bytes { expanded 2 profile_limits (repeat 63 (0xFF ∷ 0xFF ∷ 1 ∷ 0 ∷ []) ++ 0xFF ∷ 0xFF ∷ 0 ∷ 0 ∷ 0 ∷ []) ≡ [] }
 {}
 
 /// Three times two blocks: two of AA, and BB CC.
@@ -72,8 +73,8 @@ pub fn nested_blocks()
 pub fn wide_blocks()
     ensures length { expanded_length 4 profile_limits (0xFF ∷ 0xFF ∷ 0xFF ∷ 0xFF ∷ 0 ∷ 0 ∷ 0 ∷ []) ≡ Ok 0 }
     ensures bytes { expanded 4 profile_limits (0xFF ∷ 0xFF ∷ 0xFF ∷ 0xFF ∷ 0 ∷ 0 ∷ 0 ∷ []) ≡ [] }
-    ensures too_long { expanded_length 4 profile_limits (1 ∷ 0 ∷ 0 ∷ 1 ∷ 0 ∷ 0 ∷ 1 ∷ 0xAA ∷ []) ≡ Err (fault 0 reason.DataTooLong) }
-    ensures long { expanded_length 4 profile_limits (0 ∷ 0 ∷ 0 ∷ 1 ∷ 0 ∷ 0 ∷ 1 ∷ 0xAA ∷ []) ≡ Ok 16777216 }
+    ensures too_long { expanded_length 4 profile_limits (1 ∷ 0 ∷ 0 ∷ 0x10 ∷ 0 ∷ 0 ∷ 1 ∷ 0xAA ∷ []) ≡ Err (fault 0 reason.DataTooLong) }
+    ensures long { expanded_length 4 profile_limits (0 ∷ 0 ∷ 0 ∷ 0x10 ∷ 0 ∷ 0 ∷ 1 ∷ 0xAA ∷ []) ≡ Ok 268435456 }
 {}
 
 /// Pieces that touch are one run.

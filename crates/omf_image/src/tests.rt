@@ -53,6 +53,10 @@ fn counts_bytes(rt: HostRuntime) -> Result<(), Fail> {
     );
     assert_eq!(rt;
         len_of(&[0xFF, 0xFF, 1, 0, 1, 1, 0, 0, 1, 0xAA]),
+        Ok(16_842_495)
+    );
+    assert_eq!(rt;
+        len_of(&[0xFF, 0xFF, 1, 0, 1, 0x10, 0, 0, 1, 0xAA]),
         Err(LayoutFault {
             reason: Reason::DataTooLong,
             within: 0
@@ -63,15 +67,15 @@ fn counts_bytes(rt: HostRuntime) -> Result<(), Fail> {
 
 #[test]
 fn counts_levels(rt: HostRuntime) -> Result<(), Fail> {
-    let deepest = nest(rt.alloc(), [1, 0, 1, 0], 31, &[1, 0, 0, 0, 1, 0xAA])?;
-    let deeper = nest(rt.alloc(), [1, 0, 1, 0], 32, &[1, 0, 0, 0, 1, 0xAA])?;
+    let deepest = nest(rt.alloc(), [1, 0, 1, 0], 63, &[1, 0, 0, 0, 1, 0xAA])?;
+    let deeper = nest(rt.alloc(), [1, 0, 1, 0], 64, &[1, 0, 0, 0, 1, 0xAA])?;
     if deepest.len() < 1000 && deeper.len() < 1000 {
         assert_eq!(rt; len_of(&deepest), Ok(1));
         assert_eq!(rt;
             len_of(&deeper),
             Err(LayoutFault {
                 reason: Reason::TooDeep,
-                within: 128
+                within: 256
             })
         );
     }

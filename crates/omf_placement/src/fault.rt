@@ -7,11 +7,11 @@ use thiserror::Error;
 #[derive(Clone, Copy, Debug, PartialEq, Eq, Error)]
 pub enum TextFault {
     /// 1: a growth was refused.
-    #[error("memory")]
+    #[error("memory ran out")]
     Memory,
     /// 2: the first line, numbered from 1, that is neither empty nor an entry; where there is none, the first group whose frame is
     /// to be found and cannot be.
-    #[error("a line of the placement is not understood")]
+    #[error("a line of the placement gives no entry")]
     Line(u64),
 }
 

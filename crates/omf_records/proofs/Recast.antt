@@ -5,6 +5,7 @@ use Rattle.std.proofs.lemmas.Bool.{eqb-true, lt-ltb, le-ltb, or_cases}
 use Rattle.std.proofs.lemmas.List.{append-nil}
 use Rattle.byteorder.specs.Endian.{little_bytes}
 use Rattle.omf_frame.specs.Bytes.{is_one_of}
+use Rattle.omf_frame.specs.Types.{coment, extdef, pubdef, lnames, segdef, grpdef, fixupp, ledata, lidata, comdef, lextdef, lpubdef, lcomdef, llnames}
 use Rattle.omf_frame.specs.Framing.{is_header, is_end}
 use Rattle.omf_frame.specs.Fields.{index_bytes, name_bytes, communal_length_bytes}
 use Rattle.omf_frame.specs.declared.fault.Reason.{Reason}
@@ -371,14 +372,14 @@ pub shortens : (kind : ℕ) → Shortens kind (contents kind)
 shortens kind =
     let both : (b : Bool) (p q : Layout Contents) → Shortens kind p → Shortens kind q → Shortens kind (either b p q) = λ b p q. recast_either b p q contents_alone (contents_bytes kind) in
     both (is_header kind) _ _ (shortens_header kind) (
-    both (kind == 0x88) _ _ (shortens_comment kind) (
-    both (kind == 0x96) _ _ (shortens_names kind) (
-    both (is_one_of (0x98 ∷ 0x99 ∷ []) kind) _ _ (shortens_segment kind) (
-    both (kind == 0x9A) _ _ (shortens_group kind) (
-    both (kind == 0x8C) _ _ (shortens_externs kind) (
-    both (is_one_of (0x90 ∷ 0x91 ∷ []) kind) _ _ (shortens_publics kind) (
-    both (kind == 0xB0) _ _ (shortens_communals kind) (
-    both (is_one_of (0xA0 ∷ 0xA1 ∷ []) kind) _ _ (shortens_plain kind) (
-    both (is_one_of (0xA2 ∷ 0xA3 ∷ []) kind) _ _ (shortens_iterated kind) (
-    both (is_one_of (0x9C ∷ 0x9D ∷ []) kind) _ _ (shortens_fixups kind) (
+    both (is_one_of coment kind) _ _ (shortens_comment kind) (
+    both (is_one_of (lnames ++ llnames) kind) _ _ (shortens_names kind) (
+    both (is_one_of segdef kind) _ _ (shortens_segment kind) (
+    both (is_one_of grpdef kind) _ _ (shortens_group kind) (
+    both (is_one_of (extdef ++ lextdef) kind) _ _ (shortens_externs kind) (
+    both (is_one_of (pubdef ++ lpubdef) kind) _ _ (shortens_publics kind) (
+    both (is_one_of (comdef ++ lcomdef) kind) _ _ (shortens_communals kind) (
+    both (is_one_of ledata kind) _ _ (shortens_plain kind) (
+    both (is_one_of lidata kind) _ _ (shortens_iterated kind) (
+    both (is_one_of fixupp kind) _ _ (shortens_fixups kind) (
     both (is_end kind) _ _ (shortens_mod_end kind) (shortens_carried kind))))))))))))

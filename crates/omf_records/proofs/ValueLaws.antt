@@ -6,6 +6,7 @@ use Rattle.std.proofs.lemmas.List.{append-nil}
 use Rattle.std.proofs.lemmas.List.Elements.{All-nil, All-cons, All-head, All-tail}
 use Rattle.byteorder.specs.Endian.{little_bytes}
 use Rattle.omf_frame.specs.Bytes.{AreBytes, is_one_of}
+use Rattle.omf_frame.specs.Types.{coment, extdef, pubdef, lnames, segdef, grpdef, ledata, lidata, comdef, lextdef, lpubdef, lcomdef, llnames}
 use Rattle.omf_frame.specs.Framing.{is_header, is_end}
 use Rattle.omf_frame.specs.Fields.{IsIndex, index_bytes}
 use Rattle.omf_frame.specs.FieldLaws.{little_spelled, little_fits, index_spelled, are_bytes_cons}
@@ -258,15 +259,15 @@ values-end kind e at body c (f1, b1, t, p1, s1, (f2, b2, r, p2, s2, (none, is)))
 values-contents : (kind : ℕ) → Values kind (contents kind)
 values-contents kind =
     values-either kind (is_header kind) _ _ (λ e. values-header kind) (
-    values-either kind (kind == 0x88) _ _ (λ e. values-comment kind) (
-    values-either kind (kind == 0x96) _ _ (λ e. values-names kind) (
-    values-either kind (is_one_of (0x98 ∷ 0x99 ∷ []) kind) _ _ (λ e. values-segment kind) (
-    values-either kind (kind == 0x9A) _ _ (λ e. values-group kind) (
-    values-either kind (kind == 0x8C) _ _ (λ e. values-externs kind) (
-    values-either kind (is_one_of (0x90 ∷ 0x91 ∷ []) kind) _ _ (λ e. values-publics kind) (
-    values-either kind (kind == 0xB0) _ _ (λ e. values-communals kind) (
-    values-either kind (is_one_of (0xA0 ∷ 0xA1 ∷ []) kind) _ _ (λ e. values-plain kind) (
-    values-either kind (is_one_of (0xA2 ∷ 0xA3 ∷ []) kind) _ _ (λ e. values-iterated kind) (
+    values-either kind (is_one_of coment kind) _ _ (λ e. values-comment kind) (
+    values-either kind (is_one_of (lnames ++ llnames) kind) _ _ (λ e. values-names kind) (
+    values-either kind (is_one_of segdef kind) _ _ (λ e. values-segment kind) (
+    values-either kind (is_one_of grpdef kind) _ _ (λ e. values-group kind) (
+    values-either kind (is_one_of (extdef ++ lextdef) kind) _ _ (λ e. values-externs kind) (
+    values-either kind (is_one_of (pubdef ++ lpubdef) kind) _ _ (λ e. values-publics kind) (
+    values-either kind (is_one_of (comdef ++ lcomdef) kind) _ _ (λ e. values-communals kind) (
+    values-either kind (is_one_of ledata kind) _ _ (λ e. values-plain kind) (
+    values-either kind (is_one_of lidata kind) _ _ (λ e. values-iterated kind) (
     values-either kind (is_fixupp kind) _ _ (values-fixups kind) (
     values-either kind (is_end kind) _ _ (values-end kind) (values-carried kind))))))))))))
 

@@ -17,7 +17,6 @@ pub mod Reading
 pub mod Gives
 pub mod Parts
 pub mod Seen
-pub mod Types
 pub mod Begins
 pub mod Sizes
 pub mod Valued

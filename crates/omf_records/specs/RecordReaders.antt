@@ -1,7 +1,8 @@
 -- The readings of contents. Each is put together as its layout in Records.
-use Rattle.std.proofs.Common.{ℕ, Bool, [], ◌∷◌}
-use Rattle.std.specs.Prelude.{◌==◌, ◌||◌, not, nat_lt}
+use Rattle.std.proofs.Common.{ℕ, Bool}
+use Rattle.std.specs.Prelude.{◌==◌, ◌||◌, not, nat_lt, ◌++◌}
 use Rattle.omf_frame.specs.Bytes.{is_one_of}
+use Rattle.omf_frame.specs.Types.{coment, extdef, pubdef, lnames, segdef, grpdef, fixupp, ledata, lidata, comdef, lextdef, lpubdef, lcomdef, llnames}
 use Rattle.omf_frame.specs.Framing.{is_header, is_end}
 use Rattle.omf_frame.specs.declared.fault.Reason.TheVariants as reason
 use Rattle.omf_records.specs.Values.{Comment, Names, Group, Externs, Publics, Communals, Plain, Iterated, Fixups, Carried, is_wide, alignment, is_big, has_start}
@@ -85,15 +86,15 @@ carried_whole = called_whole rest Carried rest_whole
 abbrev pub contents_whole : (kind : ℕ) → Whole (contents kind)
 contents_whole kind =
     either_whole (is_header kind) header_whole (
-    either_whole (kind == 0x88) comment_whole (
-    either_whole (kind == 0x96) names_whole (
-    either_whole (is_one_of (0x98 ∷ 0x99 ∷ []) kind) (segment_whole (is_wide kind)) (
-    either_whole (kind == 0x9A) group_whole (
-    either_whole (kind == 0x8C) externs_whole (
-    either_whole (is_one_of (0x90 ∷ 0x91 ∷ []) kind) (publics_whole (is_wide kind)) (
-    either_whole (kind == 0xB0) communals_whole (
-    either_whole (is_one_of (0xA0 ∷ 0xA1 ∷ []) kind) (plain_whole (is_wide kind)) (
-    either_whole (is_one_of (0xA2 ∷ 0xA3 ∷ []) kind) (iterated_whole (is_wide kind)) (
-    either_whole (is_one_of (0x9C ∷ 0x9D ∷ []) kind) (fixups_whole (is_wide kind)) (
+    either_whole (is_one_of coment kind) comment_whole (
+    either_whole (is_one_of (lnames ++ llnames) kind) names_whole (
+    either_whole (is_one_of segdef kind) (segment_whole (is_wide kind)) (
+    either_whole (is_one_of grpdef kind) group_whole (
+    either_whole (is_one_of (extdef ++ lextdef) kind) externs_whole (
+    either_whole (is_one_of (pubdef ++ lpubdef) kind) (publics_whole (is_wide kind)) (
+    either_whole (is_one_of (comdef ++ lcomdef) kind) communals_whole (
+    either_whole (is_one_of ledata kind) (plain_whole (is_wide kind)) (
+    either_whole (is_one_of lidata kind) (iterated_whole (is_wide kind)) (
+    either_whole (is_one_of fixupp kind) (fixups_whole (is_wide kind)) (
     either_whole (is_end kind) (mod_end_whole (is_wide kind))
     carried_whole)))))))))))

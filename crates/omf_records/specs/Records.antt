@@ -1,6 +1,7 @@
 -- The contents of each record: its layout, by the record's type (TIS OMF 1.1, the page of each record).
-use Rattle.std.specs.Prelude.{ℕ, ◌==◌, ◌||◌, not, nat_lt, Bool, List, [], ◌∷◌}
+use Rattle.std.specs.Prelude.{ℕ, ◌==◌, ◌||◌, not, nat_lt, Bool, List, ◌++◌}
 use Rattle.omf_frame.specs.Bytes.{is_one_of}
+use Rattle.omf_frame.specs.Types.{coment, extdef, pubdef, lnames, segdef, grpdef, fixupp, ledata, lidata, comdef, lextdef, lpubdef, lcomdef, llnames}
 use Rattle.omf_frame.specs.Framing.{is_header, is_end}
 use Rattle.omf_frame.specs.declared.fault.Reason.{Reason}
 use Rattle.omf_frame.specs.declared.fault.Reason.TheVariants as reason
@@ -21,7 +22,7 @@ comment = do
   class ← byte
   called rest (Comment type_byte class)
 
--- LNAMES: names to the end.
+-- LNAMES, LLNAMES: names to the end.
 abbrev pub names : Layout Contents
 names = called (many name) Names
 
@@ -55,11 +56,11 @@ group = do
   text ← placed index
   called (many member) (λ ms. Group (record { name = text; members = ms }))
 
--- EXTDEF: external names to the end.
+-- EXTDEF, LEXTDEF: external names to the end.
 abbrev pub externs : Layout Contents
 externs = called (many external) Externs
 
--- PUBDEF: group index, segment index, the frame number of the base where the segment index is 0, and public names to the end.
+-- PUBDEF, LPUBDEF: group index, segment index, the frame number of the base where the segment index is 0, and public names to the end.
 abbrev pub publics : Bool → Layout Contents
 publics wide = do
   group ← placed index
@@ -67,7 +68,7 @@ publics wide = do
   frame ← when (segment.item == 0) (le 2)
   called (many (public_item wide)) (λ ps. Publics (record { group = group; segment = segment; frame = frame; items = ps }))
 
--- COMDEF: communal names to the end.
+-- COMDEF, LCOMDEF: communal names to the end.
 abbrev pub communals : Layout Contents
 communals = called (many communal) Communals
 
@@ -97,16 +98,16 @@ carried = called rest Carried
 abbrev pub contents : ℕ → Layout Contents
 contents kind =
     either (is_header kind) header (
-    either (kind == 0x88) comment (
-    either (kind == 0x96) names (
-    either (is_one_of (0x98 ∷ 0x99 ∷ []) kind) (segment (is_wide kind)) (
-    either (kind == 0x9A) group (
-    either (kind == 0x8C) externs (
-    either (is_one_of (0x90 ∷ 0x91 ∷ []) kind) (publics (is_wide kind)) (
-    either (kind == 0xB0) communals (
-    either (is_one_of (0xA0 ∷ 0xA1 ∷ []) kind) (called (data_item (is_wide kind)) Plain) (
-    either (is_one_of (0xA2 ∷ 0xA3 ∷ []) kind) (called (data_item (is_wide kind)) Iterated) (
-    either (is_one_of (0x9C ∷ 0x9D ∷ []) kind) (fixups (is_wide kind)) (
+    either (is_one_of coment kind) comment (
+    either (is_one_of (lnames ++ llnames) kind) names (
+    either (is_one_of segdef kind) (segment (is_wide kind)) (
+    either (is_one_of grpdef kind) group (
+    either (is_one_of (extdef ++ lextdef) kind) externs (
+    either (is_one_of (pubdef ++ lpubdef) kind) (publics (is_wide kind)) (
+    either (is_one_of (comdef ++ lcomdef) kind) communals (
+    either (is_one_of ledata kind) (called (data_item (is_wide kind)) Plain) (
+    either (is_one_of lidata kind) (called (data_item (is_wide kind)) Iterated) (
+    either (is_one_of fixupp kind) (fixups (is_wide kind)) (
     either (is_end kind) (mod_end (is_wide kind))
     carried)))))))))))
 

@@ -17,6 +17,10 @@ contents_seen (told.Plain wide segment offset bytes) = Plain (record { segment =
 contents_seen (told.Iterated segment offset blocks) = Iterated (record { segment = segment; offset = offset; bytes = blocks.bytes.now })
 contents_seen (told.Fixups wide subrecords) = Fixups subrecords
 contents_seen (told.ModEnd wide type_byte start) = ModEnd type_byte start
+contents_seen (told.LocalNames items) = Names items
+contents_seen (told.LocalExterns odd externs) = Externs externs
+contents_seen (told.LocalPublics wide group segment frame publics) = Publics (record { group = group; segment = segment; frame = frame; items = publics })
+contents_seen (told.LocalCommunals items) = Communals items
 contents_seen (told.Carried kind bytes) = Carried bytes.now
 
 -- the odd one of two types
@@ -36,6 +40,10 @@ kind_seen (told.Plain wide segment offset bytes) = odd_if wide 0xA0
 kind_seen (told.Iterated segment offset blocks) = odd_if blocks.wide 0xA2
 kind_seen (told.Fixups wide subrecords) = odd_if wide 0x9C
 kind_seen (told.ModEnd wide type_byte start) = odd_if wide 0x8A
+kind_seen (told.LocalNames items) = 0xCA
+kind_seen (told.LocalExterns odd externs) = odd_if odd 0xB4
+kind_seen (told.LocalPublics wide group segment frame publics) = odd_if wide 0xB6
+kind_seen (told.LocalCommunals items) = 0xB8
 kind_seen (told.Carried kind bytes) = kind
 
 -- the typed record that a record is

@@ -1,6 +1,7 @@
 -- Items whose spelling is judged as they are read.
-use Rattle.std.specs.Prelude.{◌≡◌, ◌<◌, ℕ, List, [], ◌∷◌, Bool, Option, Some, None, Result, Ok, Err}
+use Rattle.std.specs.Prelude.{◌≡◌, ◌<◌, ℕ, List, [], Bool, Option, Some, None, Result, Ok, Err}
 use Rattle.omf_frame.specs.Bytes.{is_one_of}
+use Rattle.omf_frame.specs.Types.{fixupp}
 use Rattle.omf_frame.specs.Fault.{Fault}
 use Rattle.omf_records.specs.Values.{At, Subrecord, Contents, Fixups}
 use Rattle.omf_records.specs.Reads.{and_then}
@@ -23,4 +24,4 @@ fixups_read r = and_then r (λ subs. Ok (Fixups subs))
 
 -- the types of a FIXUPP
 abbrev pub is_fixupp : ℕ → Bool
-is_fixupp kind = is_one_of (0x9C ∷ 0x9D ∷ []) kind
+is_fixupp kind = is_one_of fixupp kind

@@ -22,12 +22,12 @@ pub record GroupItem : Type 0 where
   pub name : At ℕ
   pub members : List (At (At ℕ))
 
--- EXTDEF: an external name
+-- EXTDEF, LEXTDEF: an external name
 pub record ExternalItem : Type 0 where
   pub name : List ℕ
   pub type_index : ℕ
 
--- PUBDEF: a public name, at an offset in the base of its record
+-- PUBDEF, LPUBDEF: a public name, at an offset in the base of its record
 pub record PublicItem : Type 0 where
   pub name : List ℕ
   pub offset : ℕ
@@ -39,7 +39,7 @@ pub record PublicItems : Type 0 where
   pub frame : Option ℕ
   pub items : List (At PublicItem)
 
--- COMDEF: a communal name; near has a length, far a number of elements and their size
+-- COMDEF, LCOMDEF: a communal name; near has a length, far a number of elements and their size
 pub data CommunalSize : Type 0 where
   Near : ℕ → CommunalSize
   Far : ℕ → ℕ → CommunalSize
@@ -67,7 +67,8 @@ pub data Subrecord : Type 0 where
   Thread : ℕ → Option (At ℕ) → Subrecord
   Fixup : ℕ → Reference → Subrecord
 
--- The contents of a record, by its type.
+-- The contents of a record, by its type. Those of LNAMES and LLNAMES, EXTDEF and LEXTDEF, PUBDEF and LPUBDEF, COMDEF and LCOMDEF are
+-- the same: only its type tells that a record is local.
 pub data Contents : Type 0 where
   Header : List ℕ → Contents
   Comment : ℕ → ℕ → List ℕ → Contents

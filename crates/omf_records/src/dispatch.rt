@@ -1,12 +1,13 @@
 //! A record's contents, by the record's type.
-ghost use Rattle.std.specs.Prelude.{◌≡◌, ◌≤◌, length, IfOk, IfSome, is_some, ◌⊎◌, IsTrue};
+ghost use Rattle.std.specs.Prelude.{◌≡◌, ◌≤◌, length, IfOk, IfSome, is_some, IsTrue, ◌++◌};
+ghost use Rattle.omf_frame.specs.Bytes.{is_one_of};
 ghost use Rattle.omf_frame.specs.Framing.{is_taken};
+ghost use Rattle.omf_frame.specs.Types.{local_types, carried, types_of};
 ghost use Rattle.omf_records.specs.Seen.{contents_seen, kind_seen, map_ok};
 ghost use Rattle.omf_records.specs.Reading.{read_body};
 ghost use Rattle.omf_records.specs.Reads.{Meets};
 ghost use Rattle.omf_records.specs.Records.{contents};
 ghost use Rattle.omf_records.specs.Unread.{fixups_read, is_fixupp};
-ghost use Rattle.omf_records.specs.Types.{IsOneOf, types};
 
 use crate::at::LayoutFault;
 use crate::here::Here;
@@ -15,12 +16,41 @@ use crate::subrecord::Subrecord;
 use crate::unread::Unread;
 use crate::viewing::{
     carried_at, comment_at, communals_at, externs_at, fixups_at, group_at, header_at, iterated_at,
-    mod_end_at, names_at, plain_at, publics_at, segment_at,
+    local_communals_at, local_externs_at, local_names_at, mod_end_at, names_at, plain_at,
+    publics_at, segment_at,
 };
 use omf_frame::RawRecord;
 
+/// Local records, and records that are carried unread.
+fn local_or_carried<'a>(kind: u8, body: &'a [u8]) -> Result<Rec<'a>, LayoutFault>
+    requires taken { IsTrue (is_one_of (local_types ++ types_of carried) kind) }
+    requires short { length body.now ≤ 65534 }
+    ensures contents { map_ok contents_seen result ≡ read_body kind body.now }
+    ensures kind { IfOk result (λ r. kind_seen r ≡ kind) }
+{
+    let narrow = Here::start(false, body);
+    let wide = Here::start(true, body);
+    match kind {
+        0xB4 => local_externs_at(narrow),
+        0xB5 => local_externs_at(wide),
+        0xB6 => publics_at(true, narrow),
+        0xB7 => publics_at(true, wide),
+        0xB8 => local_communals_at(narrow),
+        0xCA => local_names_at(narrow),
+        0x8E => carried_at(0x8E, body),
+        0x94 => carried_at(0x94, body),
+        0x95 => carried_at(0x95, body),
+        0xC4 => carried_at(0xC4, body),
+        0xC5 => carried_at(0xC5, body),
+        0xC6 => carried_at(0xC6, body),
+        0xCC => carried_at(0xCC, body),
+        // No other type is asked for.
+        _ => carried_at(kind, body),
+    }
+}
+
 fn contents_of<'a>(kind: u8, body: &'a [u8]) -> Result<Rec<'a>, LayoutFault>
-    requires taken { IsOneOf types kind }
+    requires taken { IsTrue (is_taken kind) }
     requires short { length body.now ≤ 65534 }
     ensures contents { map_ok contents_seen result ≡ read_body kind body.now }
     ensures kind { IfOk result (λ r. kind_seen r ≡ kind) }
@@ -34,8 +64,8 @@ fn contents_of<'a>(kind: u8, body: &'a [u8]) -> Result<Rec<'a>, LayoutFault>
         0x8A => mod_end_at(narrow),
         0x8B => mod_end_at(wide),
         0x8C => externs_at(narrow),
-        0x90 => publics_at(narrow),
-        0x91 => publics_at(wide),
+        0x90 => publics_at(false, narrow),
+        0x91 => publics_at(false, wide),
         0x96 => names_at(narrow),
         0x98 => segment_at(narrow),
         0x99 => segment_at(wide),
@@ -47,15 +77,7 @@ fn contents_of<'a>(kind: u8, body: &'a [u8]) -> Result<Rec<'a>, LayoutFault>
         0xA2 => iterated_at(narrow),
         0xA3 => iterated_at(wide),
         0xB0 => communals_at(narrow),
-        0x8E => carried_at(0x8E, body),
-        0x94 => carried_at(0x94, body),
-        0x95 => carried_at(0x95, body),
-        0xC4 => carried_at(0xC4, body),
-        0xC5 => carried_at(0xC5, body),
-        0xC6 => carried_at(0xC6, body),
-        0xCC => carried_at(0xCC, body),
-        // No other type is asked for.
-        _ => carried_at(kind, body),
+        _ => local_or_carried(kind, body),
     }
 }
 

@@ -4,6 +4,15 @@
 //! repeats in a record is an iterator, `Items`, over items that tell their offset in the record. Match a `Rec` by
 //! reference, and go over `items.iter()`.
 //!
+//! ```
+//! let raw = RawRecord { kind: 0x96, body: b"\x00\x01T", number: 1, start: 6 };
+//! if let Rec::Names(names) = &view(raw)? {
+//!     for name in names.iter() {
+//!         // name.item.0 is the name's bytes, name.within its offset in the record
+//!     }
+//! }
+//! ```
+//!
 //! `specs/Values` has the values, `specs/Records` and `specs/Entries` the layout of each record in the words of
 //! `specs/Layout`, and `specs/Shortest` the shortest contents. The readings of the same names (`RecordReaders`,
 //! `EntryReaders`, `FieldReaders`) compute what the layouts say, and `laws` has what is proved of both. A further

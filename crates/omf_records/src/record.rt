@@ -99,6 +99,23 @@ pub enum Rec<'a> {
         type_byte: u8,
         start: Option<Reference>,
     },
+    /// LLNAMES.
+    LocalNames(Items<Name<'a>>),
+    /// LEXTDEF: `odd` is set for its type B5H.
+    LocalExterns {
+        odd: bool,
+        externs: Items<Extern<'a>>,
+    },
+    /// LPUBDEF: its base, and the local public names, as in a PUBDEF.
+    LocalPublics {
+        wide: bool,
+        group: At<Index>,
+        segment: At<Index>,
+        frame: Option<u16>,
+        publics: Items<Public<'a>>,
+    },
+    /// LCOMDEF.
+    LocalCommunals(Items<Communal<'a>>),
     /// TYPDEF, LINNUM, LINSYM, ALIAS or VERNUM, carried unread.
     Carried {
         kind: u8,
@@ -127,6 +144,10 @@ impl<'a> Rec<'a> {
             Rec::Iterated { blocks, .. } => 0xA2 + u8::from(blocks.wide),
             Rec::Fixups { wide, .. } => 0x9C + u8::from(*wide),
             Rec::ModEnd { wide, .. } => 0x8A + u8::from(*wide),
+            Rec::LocalNames(_) => 0xCA,
+            Rec::LocalExterns { odd, .. } => 0xB4 + u8::from(*odd),
+            Rec::LocalPublics { wide, .. } => 0xB6 + u8::from(*wide),
+            Rec::LocalCommunals(_) => 0xB8,
         }
     }
 }

@@ -149,6 +149,61 @@ fn keeps_shortest_externals_publics_and_communals(rt: HostRuntime) -> Result<(),
 }
 
 #[test]
+fn keeps_shortest_local_records(rt: HostRuntime) -> Result<(), Fail> {
+    let a = rt.alloc();
+    assert!(rt; keeps(a, 0xCA, &[0x01, 0x55, 0x00])?);
+    assert!(rt; keeps(a, 0xB4, &[0x01, 0x58, 0x00, 0x00, 0x05])?);
+    assert!(rt; keeps(a, 0xB5, &[0x01, 0x58, 0x00, 0x00, 0x05])?);
+    assert!(rt; keeps(a, 0xB6, &[0x00, 0x02, 0x01, 0x50, 0x00, 0x00, 0x00])?);
+    assert!(rt;
+        keeps(
+            a,
+            0xB7,
+            &[0x00, 0x01, 0x01, 0x50, 0x02, 0x00, 0x00, 0x01, 0x07]
+        )?
+    );
+    assert!(rt;
+        keeps(
+            a,
+            0xB8,
+            &[0x01, 0x58, 0x00, 0x62, 0x80, 0x00, 0x00, 0x61, 0x03, 0x05]
+        )?
+    );
+    Ok(())
+}
+
+/// The kind of a record that is local, and how many names it has; none of another record.
+fn local_kind(rec: &Rec<'_>) -> Option<(u8, usize)> {
+    match rec {
+        Rec::LocalNames(names) => Some((rec.kind(), names.iter().count())),
+        Rec::LocalExterns { externs, .. } => Some((rec.kind(), externs.iter().count())),
+        Rec::LocalPublics { publics, .. } => Some((rec.kind(), publics.iter().count())),
+        Rec::LocalCommunals(communals) => Some((rec.kind(), communals.iter().count())),
+        _ => None,
+    }
+}
+
+#[test]
+fn shows_local_records(rt: HostRuntime) -> Result<(), Fail> {
+    let externs = [0x01, 0x58, 0x00, 0x01, 0x59, 0x80, 0x00];
+    assert_eq!(rt; local_kind(&view(raw(0xB4, &externs))?), Some((0xB4, 2)));
+    assert_eq!(rt; local_kind(&view(raw(0xB5, &externs))?), Some((0xB5, 2)));
+    assert_eq!(rt; local_kind(&view(raw(0x8C, &externs))?), None);
+    let publics = [0x00, 0x02, 0x01, 0x50, 0x00, 0x00, 0x00];
+    assert_eq!(rt; local_kind(&view(raw(0xB6, &publics))?), Some((0xB6, 1)));
+    assert_eq!(rt; local_kind(&view(raw(0x90, &publics))?), None);
+    let wide = [0x00, 0x02, 0x01, 0x50, 0x00, 0x00, 0x00, 0x01, 0x07];
+    assert_eq!(rt; local_kind(&view(raw(0xB7, &wide))?), Some((0xB7, 1)));
+    let communals = [0x01, 0x58, 0x00, 0x62, 0x81, 0x80, 0x00];
+    assert_eq!(rt; local_kind(&view(raw(0xB8, &communals))?), Some((0xB8, 1)));
+    assert_eq!(rt; local_kind(&view(raw(0xB0, &communals))?), None);
+    let names = [0x01, 0x55, 0x00, 0x02, 0x41, 0x42];
+    assert_eq!(rt; local_kind(&view(raw(0xCA, &names))?), Some((0xCA, 3)));
+    assert_eq!(rt; local_kind(&view(raw(0x96, &names))?), None);
+    Ok(())
+}
+
+#[test]
 fn keeps_shortest_data(rt: HostRuntime) -> Result<(), Fail> {
     assert!(rt;
         keeps(

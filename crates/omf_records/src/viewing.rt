@@ -1,5 +1,5 @@
 //! A record's contents as a typed record.
-ghost use Rattle.std.specs.Prelude.{◌≡◌, ◌==◌, ℕ, ◌≤◌, length, IfOk, Bool, cond};
+ghost use Rattle.std.specs.Prelude.{◌≡◌, ◌==◌, ℕ, ◌≤◌, length, IfOk, Bool, cond, if◌then◌else◌};
 ghost use Rattle.omf_records.specs.Gives.{Gives};
 ghost use Rattle.omf_records.specs.Reads.{each};
 ghost use Rattle.omf_records.specs.EntryReaders.{public_reader};
@@ -47,6 +47,14 @@ pub(crate) fn names_at<'a>(here: Here<'a>) -> Result<Rec<'a>, LayoutFault>
     ensures kind { IfOk result (λ r. kind_seen r ≡ 0x96) }
 {
     Ok(Rec::Names(Items::new(here)?))
+}
+
+/// LLNAMES.
+pub(crate) fn local_names_at<'a>(here: Here<'a>) -> Result<Rec<'a>, LayoutFault>
+    ensures contents { map_ok contents_seen result ≡ names_whole.read here.entry.within here.entry.bytes.now }
+    ensures kind { IfOk result (λ r. kind_seen r ≡ 0xCA) }
+{
+    Ok(Rec::LocalNames(Items::new(here)?))
 }
 
 /// SEGDEF's attribute byte.
@@ -125,6 +133,16 @@ pub(crate) fn externs_at<'a>(here: Here<'a>) -> Result<Rec<'a>, LayoutFault>
     Ok(Rec::Externs(Items::new(here)?))
 }
 
+/// LEXTDEF.
+pub(crate) fn local_externs_at<'a>(here: Here<'a>) -> Result<Rec<'a>, LayoutFault>
+    ensures contents { map_ok contents_seen result ≡ externs_whole.read here.entry.within here.entry.bytes.now }
+    ensures kind { IfOk result (λ r. kind_seen r ≡ odd_if here.entry.wide 0xB4) }
+{
+    let odd = here.is_wide();
+    let externs = Items::new(here)?;
+    Ok(Rec::LocalExterns { odd, externs })
+}
+
 /// The base frame's number in a PUBDEF, which stands there only if the segment index is 0.
 fn base_frame<'a>(
     here: Here<'a>,
@@ -147,16 +165,23 @@ fn public_names<'a>(here: Here<'a>, wide: bool) -> Result<Items<Public<'a>>, Lay
     Items::new(here)
 }
 
-/// PUBDEF.
-pub(crate) fn publics_at<'a>(here: Here<'a>) -> Result<Rec<'a>, LayoutFault>
+/// PUBDEF, LPUBDEF.
+pub(crate) fn publics_at<'a>(is_local: bool, here: Here<'a>) -> Result<Rec<'a>, LayoutFault>
     ensures contents { map_ok contents_seen result ≡ (publics_whole here.entry.wide).read here.entry.within here.entry.bytes.now }
-    ensures kind { IfOk result (λ r. kind_seen r ≡ odd_if here.entry.wide 0x90) }
+    ensures kind { IfOk result (λ r. kind_seen r ≡ odd_if here.entry.wide (if is_local then 0xB6 else 0x90)) }
 {
     let wide = here.is_wide();
     let (group, here) = index_here(here)?;
     let (segment, here) = index_here(here)?;
     let (frame, here) = base_frame(here, &segment)?;
     match public_names(here, wide) {
+        Ok(publics) if is_local => Ok(Rec::LocalPublics {
+            wide,
+            group,
+            segment,
+            frame,
+            publics,
+        }),
         Ok(publics) => Ok(Rec::Publics {
             wide,
             group,
@@ -174,6 +199,14 @@ pub(crate) fn communals_at<'a>(here: Here<'a>) -> Result<Rec<'a>, LayoutFault>
     ensures kind { IfOk result (λ r. kind_seen r ≡ 0xB0) }
 {
     Ok(Rec::Communals(Items::new(here)?))
+}
+
+/// LCOMDEF.
+pub(crate) fn local_communals_at<'a>(here: Here<'a>) -> Result<Rec<'a>, LayoutFault>
+    ensures contents { map_ok contents_seen result ≡ communals_whole.read here.entry.within here.entry.bytes.now }
+    ensures kind { IfOk result (λ r. kind_seen r ≡ 0xB8) }
+{
+    Ok(Rec::LocalCommunals(Items::new(here)?))
 }
 
 /// LEDATA.

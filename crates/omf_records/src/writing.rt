@@ -195,6 +195,16 @@ fn put_contents(out: &mut Vec<u8>, rec: &Rec<'_>) -> Result<(), AllocError>
             start,
             ..
         } => put_end(out, kind, *type_byte, start),
+        Rec::LocalNames(names) => put_items(out, kind, names.iter()),
+        Rec::LocalExterns { externs, .. } => put_items(out, kind, externs.iter()),
+        Rec::LocalPublics {
+            group,
+            segment,
+            frame,
+            publics,
+            ..
+        } => put_publics(out, kind, group, segment, *frame, publics.iter()),
+        Rec::LocalCommunals(communals) => put_items(out, kind, communals.iter()),
         Rec::Carried { contents, .. } => put_bytes(out, contents),
     }
 }

@@ -1,14 +1,11 @@
 -- Where a placement's lists are as long as a well-formed module's tables, each of its references can be judged.
 use Rattle.std.proofs.Common.{◌≡◌, ℕ, ◌≤◌, List, [], ◌∷◌, refl, sym, ◌∙◌, ap, subst, true, length, arith}
-use Rattle.std.specs.Prelude.{Option, Some, None, nat_le, ⊤}
-use Rattle.std.proofs.lemmas.Bool.{leb-true, le-leb, and_parts, and_from}
+use Rattle.std.specs.Prelude.{Option, Some, None, ⊤}
 use Rattle.omf_image.specs.declared.limits.Limits.{Limits}
 use Rattle.omf_records.specs.Values.{Rec, Contents, Names, Plain, Iterated}
-use Rattle.omf_check.specs.Sound.{FrameIsDefined, TargetIsDefined, ModuleHolds}
+use Rattle.omf_check.specs.Sound.{ModuleHolds}
 use Rattle.omf_check.specs.Tables.{segments, groups, externals, is_defined}
-use Rattle.omf_check.specs.Threads.{FrameMethod, F0, F1, F2, F4, F5, TargetMethod, T0, T1, T2}
 use Rattle.omf_reloc.specs.Pieces.{single_pieces}
-use Rattle.omf_reloc.specs.Placed.{HasFrame, HasTarget}
 use Rattle.omf_placement.specs.Placement.{Places}
 use Rattle.omf_reloc.specs.Plain.{Piece, Kept, Fixed, End}
 use Rattle.omf_reloc.specs.ReachSteps.{HasEntries, data_place, place_behind, CanJudge, CanJudgeAll}

@@ -12,7 +12,7 @@ pub mod OffsetLaws
 pub mod WalkLaws
 pub mod WalkedLaws
 pub mod InsideLaws
-pub mod StartLaws
+pub mod EndLaws
 pub mod MeasureLaws
 pub mod PieceLaws
 pub mod SingleLaws

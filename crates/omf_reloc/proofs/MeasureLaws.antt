@@ -1,5 +1,5 @@
 -- The data records of a module lie where they are laid.
-use Rattle.std.proofs.Common.{Bool, true, false, ◌≡◌, ℕ, ◌+◌, ◌≤◌, ◌^◌, List, [], ◌∷◌, ◌++◌, append_assoc, length, refl, sym, ap, ap₂, subst, ◌∙◌, arith}
+use Rattle.std.proofs.Common.{Bool, true, false, ◌≡◌, ℕ, List, [], ◌∷◌, ◌++◌, append_assoc, length, refl, sym, ap, ap₂, subst, ◌∙◌, arith}
 use Rattle.std.specs.Prelude.{All, map, flat_map, IsOk, Option, Some, None, option_map, option_to_list, Result, Ok, Err}
 use Rattle.std.proofs.lemmas.List.{append-nil, map-append, length-replicate}
 use Rattle.std.proofs.lemmas.List.Elements.{All-nil, All-cons, All-head, All-tail}
@@ -10,7 +10,7 @@ use Rattle.omf_image.specs.Blocks.{blocks_size, count_size}
 use Rattle.omf_image.specs.Expanding.{length_or, blocks_of, expanded, expanded_length}
 use Rattle.omf_image.specs.Limits.{profile_limits}
 use Rattle.omf_image.specs.Overlay.{Laid, AreLaidOver}
-use Rattle.omf_image.specs.Painting.{extent, zeros, all_zeros, Fits}
+use Rattle.omf_image.specs.Painting.{extent, all_zeros, Fits}
 use Rattle.omf_image.specs.declared.limits.Limits.{Limits}
 use Rattle.omf_image.specs.declared.painting.Extent.{Extent}
 use Rattle.omf_image.proofs.BlocksLaws.{length-blocks_bytes}

@@ -16,7 +16,7 @@ use Rattle.omf_reloc.specs.declared.fault.Kind.{Kind}
 use Rattle.omf_reloc.specs.declared.fault.Kind.TheVariants as kinds
 use Rattle.omf_reloc.specs.declared.fault.ReachFault.{ReachFault}
 use Rattle.omf_reloc.specs.declared.fault.ReachFault.TheVariants as fault
-use Rattle.omf_derive.proofs.LinkageLaws.{entry-suc}
+use Rattle.omf_derive.proofs.NamedLaws.{entry-suc}
 use Rattle.omf_reloc.specs.Laws.{ReachIsDecided}
 use Rattle.omf_reloc.specs.Offsets.{cause_of, outcome}
 use Rattle.omf_placement.specs.declared.frame.Placed.{Placed}
@@ -213,7 +213,7 @@ fits-from pl m h =
       absolute = absolute-from pl m n (nil-right (a ++ b ++ c ++ d ++ e ++ f) (misplaced_all pl 1 (segments m)) h);
     }
 
-fits-to : (pl : Places) (m : List Rec) → Fits pl m → misfits pl m ≡ []
+pub fits-to : (pl : Places) (m : List Rec) → Fits pl m → misfits pl m ≡ []
 fits-to pl m fit =
     let ns = length (segments m) in let ng = length (groups m) in let ne = length (externals m) in
     let gs = length pl.segments in let gg = length pl.groups in let ge = length pl.externals in

@@ -5,7 +5,7 @@ use Rattle.omf_frame.specs.Bytes.{up_to}
 use Rattle.omf_image.specs.Overlay.{Laid}
 use Rattle.omf_image.specs.declared.limits.Limits.{Limits}
 use Rattle.omf_records.specs.Values.{Contents, Plain, Iterated, DataItem}
-use Rattle.omf_reloc.specs.Image.{laid, laid_contents, patched, starts, piece_start}
+use Rattle.omf_reloc.specs.Image.{laid, laid_contents, patched}
 use Rattle.omf_reloc.specs.Offsets.{outcome, cause_of}
 use Rattle.omf_reloc.specs.Pieces.{one_by_one}
 use Rattle.omf_placement.specs.Placement.{Places}
@@ -48,17 +48,6 @@ causes-same pl (Kept r ∷ ps) = ap₂ (λ xs ys. xs ++ ys) (causes-at pl (data_
 causes-same pl (Fixed kind fs ∷ ps) = causes-singles pl kind fs (flat_map one_by_one ps) ∙ causes-same pl ps
 causes-same pl (End kind byte None ∷ ps) = causes-same pl ps
 causes-same pl (End kind byte (Some r) ∷ ps) = ap (λ xs. piece_causes pl (End kind byte (Some r)) ps ++ xs) (causes-same pl ps)
-
--- Starts.
-starts-singles : (pl : Places) (kind : ℕ) (fs : List PlainFixup) (ps : List Piece) → starts pl (singles kind fs ++ ps) ≡ starts pl ps
-starts-singles pl kind [] ps = refl
-starts-singles pl kind (f ∷ fs) ps = starts-singles pl kind fs ps
-
-pub starts-same : (pl : Places) (ps : List Piece) → starts pl (flat_map one_by_one ps) ≡ starts pl ps
-starts-same pl [] = refl
-starts-same pl (Kept r ∷ ps) = starts-same pl ps
-starts-same pl (Fixed kind fs ∷ ps) = starts-singles pl kind fs (flat_map one_by_one ps) ∙ starts-same pl ps
-starts-same pl (End kind byte s ∷ ps) = ap (λ xs. piece_start pl (End kind byte s) ++ xs) (starts-same pl ps)
 
 -- What is laid.
 laid-contents-same : (limits : Limits) (pl : Places) (kind : ℕ) (c : Contents) (ps qs : List Piece) → fixups_of_data ps ≡ fixups_of_data qs → laid_contents limits pl kind c ps ≡ laid_contents limits pl kind c qs

@@ -2,7 +2,7 @@
 -- functions speak in these words; public ones say what the image is by its definition.
 use Rattle.std.specs.Prelude.{◌≡◌, ◌≤◌, ◌+◌, ◌^◌, ⊤, ℕ, List, [], ◌∷◌, length, true, Option, Some, option_map, option_to_list, unwrap_or, IfSome, IsOk}
 use Rattle.omf_records.specs.Location.{location_size}
-use Rattle.omf_records.specs.Values.{Contents, Plain, Iterated, Fixups, Reference, width, location_type, location_offset}
+use Rattle.omf_records.specs.Values.{Rec, Contents, Plain, Iterated, Fixups, Reference, width, location_type, location_offset}
 use Rattle.omf_image.specs.Expanding.{expanded, expanded_length}
 use Rattle.omf_image.specs.Limits.{profile_limits}
 use Rattle.omf_image.specs.Overlay.{Laid, AreLaidOver}
@@ -32,6 +32,11 @@ plain_fixup_by threads locat r = record { locat = locat; reference = plain_by th
 abbrev pub threads_after : Threads → Contents → Threads
 threads_after threads (Fixups subs) = set_threads threads subs
 threads_after threads _ = threads
+
+-- And after all of these.
+abbrev pub threads_through : Threads → List Rec → Threads
+threads_through threads [] = threads
+threads_through threads (r ∷ rs) = threads_through (threads_after threads r.contents) rs
 
 -- Data with what a fixup adds at its location, in a FIXUPP of this type.
 abbrev pub with_fixup : Places → ℕ → PlainFixup → Laid → Laid
@@ -103,7 +108,3 @@ pub record CanWalk (pl : Places) (p : Piece) (w : Walk) : Type 0 where
 pub record HasStart (pl : Places) (kind : ℕ) (r : PlainReference) : Type 0 where
   pub places : HasPlaces pl 0 r
   pub reaches : IsOk (start_offset pl kind r)
-
-abbrev pub CanStart : Places → Piece → Type 0
-CanStart pl (End kind byte (Some r)) = HasStart pl kind r
-CanStart pl _ = ⊤

@@ -48,6 +48,13 @@ const FRAME_AND_GROUP_PUBLIC: [u8; 13] = [
 // Externals X and Y.
 const TWO_EXTERNALS: [u8; 10] = [0x8C, 0x07, 0x00, 0x01, 0x58, 0x00, 0x01, 0x59, 0x00, 0xBA];
 
+// A local external X, and a local public X at offset 3 of the segment.
+const LOCAL_EXTERNAL: [u8; 7] = [0xB4, 0x04, 0x00, 0x01, 0x58, 0x00, 0xEF];
+
+const LOCAL_PUBLIC: [u8; 11] = [
+    0xB6, 0x08, 0x00, 0x00, 0x01, 0x01, 0x58, 0x03, 0x00, 0x00, 0xE5,
+];
+
 /// A module's records, the place of its one segment, by its address and its frame's base and selector, and the frames of its groups.
 type Lying<'a> = (&'a [&'a [u8]], (u32, u32, u16), &'a [(u32, u16)]);
 
@@ -165,6 +172,54 @@ fn takes_the_public(rt: HostRuntime) -> Result<(), Fail> {
             frame(0x20000, 0x2000),
             &[0xB8, 0x42, 0x00, 0x90]
         )
+    );
+    Ok(())
+}
+
+#[test]
+fn local_externals_take_local_publics(rt: HostRuntime) -> Result<(), Fail> {
+    let a = rt.alloc();
+    let local: [&[u8]; 8] = [
+        &HEADER,
+        &NAMES,
+        &SEGMENT,
+        &LOCAL_EXTERNAL,
+        &LOCAL_PUBLIC,
+        &DATA,
+        &FIXUP,
+        &END,
+    ];
+    let both = linked(a, &[(&local, LOW, &[]), (&SECOND, HIGH, &[])], &[])?;
+    assert!(rt;
+        is_linked(
+            both,
+            0x10023,
+            frame(0x10000, 0x1000),
+            &[0xB8, 0x23, 0x00, 0x90]
+        )
+    );
+    let without: [&[u8]; 7] = [
+        &HEADER,
+        &NAMES,
+        &SEGMENT,
+        &LOCAL_EXTERNAL,
+        &DATA,
+        &FIXUP,
+        &END,
+    ];
+    let (module, external) = (0, 1);
+    assert_eq!(rt;
+        fault(a, &[(&without, LOW, &[]), (&SECOND, HIGH, &[])], &[])?,
+        Some(DeriveFault::Undefined { module, external })
+    );
+    // Another module's local public is not seen, nor is one by an external that is not local.
+    assert_eq!(rt;
+        fault(a, &[(&without, LOW, &[]), (&local, HIGH, &[])], &[])?,
+        Some(DeriveFault::Undefined { module, external })
+    );
+    assert_eq!(rt;
+        fault(a, &[(&FIRST, LOW, &[]), (&local, HIGH, &[])], &[])?,
+        Some(DeriveFault::Undefined { module, external })
     );
     Ok(())
 }

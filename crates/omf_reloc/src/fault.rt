@@ -31,7 +31,7 @@ pub enum Cause {
 #[derive(Clone, Copy, Debug, PartialEq, Eq, Error)]
 pub enum ReachFault {
     /// 1: the placement has no entry for this index, the first without one.
-    #[error("an entry of the placement is missing")]
+    #[error("the placement has an entry too few")]
     Missing(Kind, u16),
     /// 2: the placement has an entry for this index, the first beyond the module's table.
     #[error("the placement has an entry too many")]

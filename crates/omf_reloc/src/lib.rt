@@ -1,4 +1,16 @@
 //! What a placement makes of a module: whether every fixup reaches, the image and the start.
+//!
+//! A module of one segment, placed in code:
+//!
+//! ```
+//! let mut placement = Placement::new(alloc);
+//! placement.push_segment(0x7C00, Frame { base: 0, selector: 0 })?;
+//! reach(&module, &placement)?;
+//! let image = relocate(alloc, &module, &placement)?;
+//! // image.run_bytes(1, 0) are the bytes of its first covered interval
+//! ```
+//!
+//! `relocate` and `start` ask that `reach` answered Ok for the same module and placement.
 #![tactic(auto)]
 
 mod addition;

@@ -6,7 +6,7 @@ ghost use Rattle.omf_derive.specs.declared.fault.DeriveFault.TheVariants as deri
 ghost use Rattle.omf_reloc.specs.declared.fault.Kind.TheVariants as kind;
 ghost use Rattle.omf_reloc.specs.declared.fault.ReachFault.TheVariants as fault;
 ghost use Rattle.omf_check.specs.Rows.{first_module, with_fixup, flat, absolute, public};
-ghost use Rattle.omf_reloc.specs.Modules.{with_threads, overlaid, overlapping, displaced, call, jump, with_blocks, big_end, with_start, early_thread, group_base, many_fixups, using, group_public, constant_public};
+ghost use Rattle.omf_reloc.specs.Modules.{with_threads, overlaid, overlapping, displaced, call, jump, with_blocks, big_end, with_start, early_thread, group_base, many_fixups, using, group_public, constant_public, using_locally, local_public};
 ghost use Rattle.omf_check.specs.Threads.{F0, F1, F4, T0};
 ghost use Rattle.omf_reloc.specs.Plain.{End};
 ghost use Rattle.omf_reloc.specs.Rows.{references, fixup, plain_reference, frame, at, places, only, low, relocated, run_from_0, started, placed_by, derived_image, lies};
@@ -131,6 +131,13 @@ pub fn not_derived()
     ensures none { derived_image (lies using 0x10020 0x10000 0x1000 ∷ []) [] ≡ Err (derive.Undefined 0 1) }
     ensures two { derived_image (lies using 0x10020 0x10000 0x1000 ∷ lies public 0x20040 0x20000 0x2000 ∷ lies public 0x20040 0x20000 0x2000 ∷ []) [] ≡ Err (derive.Twice 0 1) }
     ensures high { derived_image (lies using 0x10020 0x10000 0x1000 ∷ lies public 0xFFFFFFFF 0xFFFF0000 1 ∷ []) [] ≡ Err (derive.TooHigh 0 1) }
+{}
+
+/// A local external takes the place of a local public of its module, and of no other public.
+pub fn local_place()
+    ensures own { derived_image (lies (using_locally local_public) 0x10020 0x10000 0x1000 ∷ lies public 0x20040 0x20000 0x2000 ∷ []) [] ≡ Ok (at 0x10023 0x10000 0x1000 ∷ [], run_from_0 (0xB8 ∷ 0x23 ∷ 0 ∷ 0x90 ∷ [])) }
+    ensures none { derived_image (lies (using_locally []) 0x10020 0x10000 0x1000 ∷ lies public 0x20040 0x20000 0x2000 ∷ []) [] ≡ Err (derive.Undefined 0 1) }
+    ensures hidden { derived_image (lies using 0x10020 0x10000 0x1000 ∷ lies (using_locally local_public) 0x20040 0x20000 0x2000 ∷ []) [] ≡ Err (derive.Undefined 0 1) }
 {}
 
 /// A given place counts before any public.

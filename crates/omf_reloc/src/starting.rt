@@ -1,21 +1,22 @@
 //! The start address that a placement gives a module.
 
 ghost use Rattle.std.specs.Prelude.{◌≡◌, [], ◌∷◌};
-ghost use Rattle.std.specs.List.{last_or};
+ghost use Rattle.omf_records.specs.Seen.{contents_seen};
+ghost use Rattle.omf_check.specs.Judging.{frame_cell, target_cell};
+ghost use Rattle.omf_check.specs.Kept.{no_threads};
 ghost use Rattle.omf_check.specs.Module.{records_in};
 ghost use Rattle.omf_check.specs.WellFormed.{recs};
-ghost use Rattle.omf_reloc.specs.Image.{start, start_at, piece_start};
+ghost use Rattle.omf_reloc.specs.Image.{start, start_at};
 ghost use Rattle.omf_reloc.specs.Offsets.{start_offset};
-ghost use Rattle.omf_reloc.specs.PieceSeen.{piece_seen};
 ghost use Rattle.omf_reloc.specs.Placed.{modend_type};
 ghost use Rattle.omf_reloc.specs.Reach.{Reaches};
-ghost use Rattle.omf_reloc.specs.Walking.{HasStart, CanStart};
+ghost use Rattle.omf_reloc.specs.Walking.{threads_after, threads_through, HasStart};
 
 use crate::offset::{frame_of, start_offset};
-use crate::pieces::{Piece, pieces_of};
-use crate::plain::PlainReference;
-use omf_check::Checked;
 use omf_placement::Placement;
+use crate::plain::{PlainReference, plain_reference};
+use omf_check::{Checked, Threads};
+use omf_records::{Rec, Reference};
 
 /// The start that a MODEND, wide or not, names: the selector of its frame, and its offset.
 fn named_start(placement: &Placement, is_wide: bool, reference: &PlainReference) -> (u16, u32)
@@ -29,34 +30,54 @@ fn named_start(placement: &Placement, is_wide: bool, reference: &PlainReference)
     }
 }
 
-/// The start after one piece more.
-fn start_after(
-    placement: &Placement,
-    piece: &Piece<'_>,
-    found: Option<(u16, u32)>,
-) -> Option<(u16, u32)>
-    requires { CanStart placement.now (piece_seen piece.now) }
-    ensures { result ≡ last_or found (piece_start placement.now (piece_seen piece.now)) }
+/// Sets the threads that a record sets.
+fn set_threads(threads: &mut Threads, rec: &Rec<'_>)
+    ensures { threads.new ≡ threads_after threads.old (contents_seen rec.now) }
 {
-    match piece {
-        Piece::End {
-            wide,
-            start: Some(reference),
-            ..
-        } => Some(named_start(placement, *wide, reference)),
-        _ => found,
+    if let Rec::Fixups { subrecords, .. } = rec {
+        threads.set_all(subrecords.iter());
+    }
+}
+
+/// The threads in force at the end of a module.
+fn threads_at_end(module: &Checked) -> Threads
+    ensures { result ≡ threads_through no_threads (recs (records_in «module».now.bytes)) }
+{
+    let mut threads = Threads::new();
+    for (_place, rec) in module.records() {
+        set_threads(&mut threads, &rec);
+    }
+    threads
+}
+
+/// Threads by which a reference of a module's end is what it is by those in force there. Where it names none, none is looked for.
+fn threads_of(module: &Checked, reference: &Reference) -> Threads
+    ensures frame { frame_cell result reference.now ≡ frame_cell (threads_through no_threads (recs (records_in «module».now.bytes))) reference.now }
+    ensures target { target_cell result reference.now ≡ target_cell (threads_through no_threads (recs (records_in «module».now.bytes))) reference.now }
+{
+    if reference.frame_thread().is_some() || reference.target_thread().is_some() {
+        threads_at_end(module)
+    } else {
+        Threads::new()
     }
 }
 
 /// The start address that a placement gives a module: the selector of the frame that its MODEND names, and the offset in that frame.
-/// None where the MODEND names no start.
+/// None where the MODEND names no start. The records before it are read for their threads alone, and only where it names one.
 pub fn start(module: &Checked, placement: &Placement) -> Option<(u16, u32)>
     requires { Reaches placement.now (recs (records_in «module».now.bytes)) }
     ensures { result ≡ start placement.now (recs (records_in «module».now.bytes)) }
 {
-    let mut found = None;
-    for (_place, piece) in pieces_of(module) {
-        found = start_after(placement, &piece, found);
+    let end = module.end();
+    let Rec::ModEnd { wide, start, .. } = &end else {
+        return None;
+    };
+    match start {
+        Some(reference) => {
+            let threads = threads_of(module, reference);
+            let plain = plain_reference(&threads, reference);
+            Some(named_start(placement, *wide, &plain))
+        }
+        None => None,
     }
-    found
 }

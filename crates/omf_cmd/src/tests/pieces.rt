@@ -1,10 +1,11 @@
-//! A listing of more than 64 KB, which is written in pieces.
+//! Listings of more than 64 KB, which are written in pieces.
 
 use super::{BIG_SEGMENT, END, HEADER, NAMES, PLACED};
-use crate::{RunFault, run_reloc};
+use crate::{RunFault, run_list, run_reloc};
 use omf_check::Profile;
 use omf_frame::faulty::{Full, Script, Taker, Then};
 use std::alloc::{AllocError, Global};
+use std::fmt::Write;
 use std::process::Abort;
 use std::test::Fail;
 
@@ -121,6 +122,57 @@ fn leaves_the_front_in_a_later_piece(rt: HostRuntime) -> Result<(), Fail> {
         prints(&rt, &input, &mut fails, Err(RunFault::Write), front);
         let mut takes_none = Taker::new(rt.alloc(), room, Full::TakesNone)?;
         prints(&rt, &input, &mut takes_none, Err(RunFault::Write), front);
+    }
+    Ok(())
+}
+
+/// How many records the module to be listed has between its header and its end, each a FIXUPP without contents.
+const EMPTY: u32 = 4_000;
+
+/// How many bytes its list has: 25 of the first line and 28 of the last, and 24 of each other line beside the digits of its number.
+const NAMED: usize = 25 + 9 * 25 + 90 * 26 + 900 * 27 + 3_001 * 28 + 28;
+
+/// A module of many records.
+fn many_records(alloc: Global) -> Result<Vec<u8>, AllocError> {
+    let mut bytes = Vec::new(alloc);
+    bytes.extend_from_slice(HEADER)?;
+    for _ in 0..EMPTY {
+        bytes.extend_from_slice(&[0x9C, 0x01, 0x00, 0x63])?;
+    }
+    bytes.extend_from_slice(END)?;
+    Ok(bytes)
+}
+
+/// What is to be listed of it.
+fn list_of_many(alloc: Global) -> Result<String, AllocError> {
+    let mut text = String::from_str(alloc, "R 0 00000000 80 2 THEADR\n")?;
+    for number in 1..EMPTY + 1 {
+        let start = 6 + 4 * (number - 1);
+        write!(text, "R {number} {start:08X} 9C 0 FIXUPP\n")?;
+    }
+    text.push_str("R 4001 00003E86 8A 1 MODEND\n")?;
+    Ok(text)
+}
+
+#[test]
+fn lists_more_than_a_piece(rt: HostRuntime) -> Result<(), Fail> {
+    let input = many_records(rt.alloc())?;
+    let text = list_of_many(rt.alloc())?;
+    assert_eq!(rt; text.len(), NAMED);
+    for room in [0, 65_535, 65_536, 65_560, 100_000, NAMED - 1, NAMED] {
+        let mut reader = Script::new(&input, Then::Ends);
+        let mut writer = Taker::new(rt.alloc(), room, Full::Fails)?;
+        let ran = run_list(rt.alloc(), ANY, &mut reader, &mut writer);
+        let expected = if room < NAMED {
+            Err(RunFault::Write)
+        } else {
+            Ok(())
+        };
+        assert_eq!(rt; ran, expected);
+        assert_eq!(rt;
+            writer.bytes(),
+            text.as_bytes().split_at(room.min(text.len())).0
+        );
     }
     Ok(())
 }

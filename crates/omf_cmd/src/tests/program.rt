@@ -78,6 +78,20 @@ fn does_its_jobs(rt: HostRuntime) -> Result<(), Fail> {
         0,
         b"0001:00000000 B8 20 00 90\n",
     )?;
+    let long_index: &[u8] = &[
+        0xA0, 0x09, 0x00, 0x80, 0x01, 0x00, 0x00, 0xB8, 0x00, 0x00, 0x90, 0x8E,
+    ];
+    let mut canonical = Vec::new(rt.alloc());
+    for piece in FIRST {
+        canonical.extend_from_slice(piece)?;
+    }
+    ends_on(
+        &rt,
+        &["omf", "canon"],
+        &[header, names, segment, long_index, fixup, end],
+        0,
+        &canonical,
+    )?;
     Ok(())
 }
 
@@ -87,9 +101,12 @@ fn prints_what_it_is_refused_for(rt: HostRuntime) -> Result<(), Fail> {
     ends_on(&rt, &["omf", "check"], &[], 1, empty)?;
     ends_on(&rt, &["omf", "list"], &[], 1, empty)?;
     ends_on(&rt, &["omf", "reloc"], &[], 1, empty)?;
+    ends_on(&rt, &["omf", "canon"], &[], 1, empty)?;
     let comment: &[u8] = &[0x88, 0x03, 0x00, 0x00, 0xE9, 0x8C];
     let vendor = b"refused 32 VendorComment record 1 at 6 within 4\n";
     let flagged = ["omf", "check", "--refuse-vendor-comments"];
+    ends_on(&rt, &flagged, &[HEADER, comment, END], 1, vendor)?;
+    let flagged = ["omf", "canon", "--refuse-vendor-comments"];
     ends_on(&rt, &flagged, &[HEADER, comment, END], 1, vendor)?;
     ends_on(
         &rt,
@@ -127,7 +144,7 @@ fn prints_how_it_is_called(rt: HostRuntime) -> Result<(), Fail> {
         &[],
         &["omf"],
         &["omf", "--help"],
-        &["omf", "canon"],
+        &["omf", "canonical"],
         &["omf", "check", "check"],
     ];
     for words in none {

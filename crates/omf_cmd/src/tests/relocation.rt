@@ -203,24 +203,35 @@ fn adds_distances(rt: HostRuntime) -> Result<(), Fail> {
 
 #[test]
 fn jumps_127_bytes_forward(rt: HostRuntime) -> Result<(), Fail> {
-    let external = "8C 04 00 01 58 00 17";
+    jumps_to(&rt, "8C 04 00 01 58 00 17")?;
+    Ok(())
+}
+
+#[test]
+fn jumps_to_a_local_external(rt: HostRuntime) -> Result<(), Fail> {
+    jumps_to(&rt, "B4 04 00 01 58 00 EF")?;
+    Ok(())
+}
+
+/// A jump to the external of this record, which reaches 127 bytes and no more.
+fn jumps_to(rt: &(impl Abort + AllocGlobal), external: &str) -> Result<(), AllocError> {
     let jump = "A0 08 00 01 00 00 EB 00 00 90 DC";
     let short = "9C 06 00 80 01 06 01 01 D5";
     let records = [HEADER, NAMES, SEGMENT, external, jump, short, END];
     writes(
-        &rt,
+        rt,
         &records,
         b"S 10020 10000 1000\nE 100A1 10000 1000",
         b"0001:00000000 EB 7F 00 90\n",
     )?;
     stops(
-        &rt,
+        rt,
         &records,
         b"S 10020 10000 1000\nE 100A2 10000 1000",
         too_far(5, 3, Cause::Distance),
     )?;
     stops(
-        &rt,
+        rt,
         &records,
         PLACED,
         RunFault::Reach(ReachFault::Missing(Kind::External, 1)),
@@ -269,6 +280,13 @@ fn expands_blocks(rt: HostRuntime) -> Result<(), Fail> {
     stops(
         &rt,
         &[HEADER, NAMES, segment, long, END],
+        PLACED,
+        refused(Reason::OutsideSegment, 3, 23, 4),
+    )?;
+    let too_long = "A3 0E 00 01 00 00 00 00 01 00 00 10 00 00 01 AA 92";
+    stops(
+        &rt,
+        &[HEADER, NAMES, segment, too_long, END],
         PLACED,
         refused(Reason::DataTooLong, 3, 23, 8),
     )?;

@@ -1,7 +1,7 @@
-//! What `check` and `list` print of whole modules. Numbers in modules are hexadecimal.
+//! What `check` and `list` print of whole modules, and what `canon` has in common with them. Numbers in modules are hexadecimal.
 
 use super::{BIG_SEGMENT, DATA, END, FIXUP, HEADER, NAMES, Outcome, SEGMENT, refused};
-use crate::{Job, RunFault, run_check, run_list, run_reloc};
+use crate::{Job, RunFault, run_canon, run_check, run_list, run_reloc};
 use omf_check::Profile;
 use omf_frame::faulty::{Full, Script, Taker, Then};
 use omf_frame::{Reading, Reason, Sink, Source, Writing};
@@ -9,16 +9,16 @@ use std::alloc::{AllocError, Global};
 use std::process::Abort;
 use std::test::Fail;
 
-const ANY: Profile = Profile {
+pub const ANY: Profile = Profile {
     refuse_vendor_comments: false,
 };
 
-const NO_VENDORS: Profile = Profile {
+pub const NO_VENDORS: Profile = Profile {
     refuse_vendor_comments: true,
 };
 
 /// A module of six records.
-const FIRST: [&[u8]; 6] = [HEADER, NAMES, SEGMENT, DATA, FIXUP, END];
+pub const FIRST: [&[u8]; 6] = [HEADER, NAMES, SEGMENT, DATA, FIXUP, END];
 
 /// What `check` prints of it.
 const CHECKED: &[u8] = b"OK 6 records, 48 bytes\n";
@@ -27,7 +27,7 @@ const CHECKED: &[u8] = b"OK 6 records, 48 bytes\n";
 const LISTED: &[u8] =
     b"R 0 00000000 80 2 THEADR\nR 1 00000006 96 3 LNAMES\nR 2 0000000D 98 6 SEGDEF\nR 3 00000017 A0 7 LEDATA\nR 4 00000022 9C 5 FIXUPP\nR 5 0000002B 8A 1 MODEND\nS 1 4 \"T\"\n";
 
-fn joined(alloc: Global, pieces: &[&[u8]]) -> Result<Vec<u8>, AllocError> {
+pub fn joined(alloc: Global, pieces: &[&[u8]]) -> Result<Vec<u8>, AllocError> {
     let mut bytes = Vec::new(alloc);
     for piece in pieces {
         bytes.extend_from_slice(*piece)?;
@@ -35,7 +35,7 @@ fn joined(alloc: Global, pieces: &[&[u8]]) -> Result<Vec<u8>, AllocError> {
     Ok(bytes)
 }
 
-fn run_job<S: Source, K: Sink>(
+pub fn run_job<S: Source, K: Sink>(
     alloc: Global,
     job: Job,
     profile: Profile,
@@ -46,6 +46,7 @@ fn run_job<S: Source, K: Sink>(
         Job::List => run_list(alloc, profile, reader, writer),
         Job::Check => run_check(alloc, profile, reader, writer),
         Job::Reloc => run_reloc(alloc, profile, reader, writer),
+        Job::Canon => run_canon(alloc, profile, reader, writer),
     }
 }
 
@@ -60,7 +61,7 @@ fn run(alloc: Global, job: Job, profile: Profile, pieces: &[&[u8]]) -> Result<Ou
 }
 
 /// The job prints this of the module.
-fn prints(
+pub fn prints(
     rt: &(impl Abort + AllocGlobal),
     job: Job,
     pieces: &[&[u8]],
@@ -72,14 +73,14 @@ fn prints(
     Ok(())
 }
 
-/// Both jobs answer this fault, and print nothing.
-fn refuses(
+/// Each job answers this fault, and prints nothing.
+pub fn refuses(
     rt: &(impl Abort + AllocGlobal),
     profile: Profile,
     pieces: &[&[u8]],
     fault: RunFault,
 ) -> Result<(), AllocError> {
-    for job in [Job::Check, Job::List] {
+    for job in [Job::Check, Job::List, Job::Canon] {
         let run = run(rt.alloc(), job, profile, pieces)?;
         assert_eq!(rt; run.answer, Err(fault));
         assert_eq!(rt; run.text.len(), 0);
@@ -96,11 +97,13 @@ fn counts_and_lists_records(rt: HostRuntime) -> Result<(), Fail> {
 
 #[test]
 fn leaves_what_follows_unread(rt: HostRuntime) -> Result<(), Fail> {
-    let input = joined(
-        rt.alloc(),
-        &[HEADER, NAMES, SEGMENT, DATA, FIXUP, END, &[0xDE, 0xAD]],
-    )?;
-    for (job, expected) in [(Job::Check, CHECKED), (Job::List, LISTED)] {
+    let first = joined(rt.alloc(), &FIRST)?;
+    let input = joined(rt.alloc(), &[&first, &[0xDE, 0xAD]])?;
+    for (job, expected) in [
+        (Job::Check, CHECKED),
+        (Job::List, LISTED),
+        (Job::Canon, &first),
+    ] {
         let mut reader = Reading::new(input.as_slice());
         let mut text = Vec::new(rt.alloc());
         let mut writer = Writing::new(&mut text);
@@ -217,6 +220,38 @@ fn lists_tables_in_their_order(rt: HostRuntime) -> Result<(), Fail> {
 }
 
 #[test]
+fn lists_local_records(rt: HostRuntime) -> Result<(), Fail> {
+    let name: &[u8] = &[0xCA, 0x03, 0x00, 0x01, 0x55, 0xDD];
+    let segment: &[u8] = &[0x98, 0x07, 0x00, 0x28, 0x04, 0x00, 0x01, 0x00, 0x00, 0x34];
+    prints(
+        &rt,
+        Job::List,
+        &[HEADER, name, segment, END],
+        b"R 0 00000000 80 2 THEADR\nR 1 00000006 CA 2 LLNAMES\nR 2 0000000C 98 6 SEGDEF\nR 3 00000016 8A 1 MODEND\nS 1 4 \"U\"\n",
+    )?;
+    let external: &[u8] = &[0xB4, 0x04, 0x00, 0x01, 0x58, 0x00, 0xEF];
+    let second: &[u8] = &[0xB5, 0x04, 0x00, 0x01, 0x59, 0x00, 0x00];
+    let communal: &[u8] = &[
+        0xB8, 0x08, 0x00, 0x01, 0x58, 0x00, 0x62, 0x81, 0x80, 0x00, 0x84,
+    ];
+    let public: &[u8] = &[
+        0xB6, 0x08, 0x00, 0x00, 0x01, 0x01, 0x50, 0x02, 0x00, 0x00, 0x00,
+    ];
+    let wide: &[u8] = &[
+        0xB7, 0x0A, 0x00, 0x00, 0x01, 0x01, 0x51, 0x00, 0x00, 0x01, 0x00, 0x00, 0x00,
+    ];
+    prints(
+        &rt,
+        Job::List,
+        &[
+            HEADER, NAMES, SEGMENT, external, second, communal, public, wide, END,
+        ],
+        b"R 0 00000000 80 2 THEADR\nR 1 00000006 96 3 LNAMES\nR 2 0000000D 98 6 SEGDEF\nR 3 00000017 B4 3 LEXTDEF\nR 4 0000001E B5 3 LEXTDEF\nR 5 00000025 B8 7 LCOMDEF\nR 6 00000030 B6 7 LPUBDEF\nR 7 0000003B B7 9 LPUBDEF\nR 8 00000048 8A 1 MODEND\nS 1 4 \"T\"\nE 1 \"X\"\nE 2 \"Y\"\nE 3 \"X\"\nP - 1 00000002 \"P\"\nP - 1 00010000 \"Q\"\n",
+    )?;
+    Ok(())
+}
+
+#[test]
 fn lists_a_public_name(rt: HostRuntime) -> Result<(), Fail> {
     let public: &[u8] = &[
         0x90, 0x08, 0x00, 0x00, 0x01, 0x01, 0x58, 0x02, 0x00, 0x00, 0x0C,
@@ -282,7 +317,7 @@ fn names_a_failing_reader(rt: HostRuntime) -> Result<(), Fail> {
 }
 
 /// A job's run on the first module, with a writer that takes so many bytes.
-fn writes_front(
+pub fn writes_front(
     rt: &(impl Abort + AllocGlobal),
     job: Job,
     room: usize,

@@ -32,6 +32,7 @@ fn understands_subcommands(rt: HostRuntime) -> Result<(), Fail> {
     understands(&rt, "list", Job::List)?;
     understands(&rt, "check", Job::Check)?;
     understands(&rt, "reloc", Job::Reloc)?;
+    understands(&rt, "canon", Job::Canon)?;
     Ok(())
 }
 
@@ -42,7 +43,7 @@ fn understands_nothing_else(rt: HostRuntime) -> Result<(), Fail> {
         &["omf"],
         &["omf", "--help"],
         &["omf", FLAG],
-        &["omf", "canon"],
+        &["omf", "canonical"],
         &["omf", "LIST"],
         &["omf", ""],
         &["omf", "help"],

@@ -472,6 +472,26 @@ fn gives_the_start(rt: HostRuntime) -> Result<(), Fail> {
 }
 
 #[test]
+fn gives_the_start_by_the_last_threads(rt: HostRuntime) -> Result<(), Fail> {
+    let a = rt.alloc();
+    let records: [&[u8]; 7] = [
+        &HEADER,
+        &NAMES,
+        &SEGMENT,
+        &SEGMENT,
+        &[0x9C, 0x03, 0x00, 0x00, 0x01, 0x60],
+        &[0x9C, 0x03, 0x00, 0x00, 0x02, 0x5F],
+        &[0x8A, 0x05, 0x00, 0xC1, 0x58, 0x03, 0x00, 0x55],
+    ];
+    let placement = segments(a, &[(0x10020, 0x10000, 0x1000), (0x20040, 0x20000, 0x2000)])?;
+    assert_eq!(rt;
+        start_of(a, &records, &placement)?,
+        Some(Some((0x2000, 0x43)))
+    );
+    Ok(())
+}
+
+#[test]
 fn lays_absolute_segments(rt: HostRuntime) -> Result<(), Fail> {
     let a = rt.alloc();
     assert!(rt;

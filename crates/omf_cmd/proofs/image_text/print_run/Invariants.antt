@@ -1,4 +1,4 @@
-use Rattle.std.proofs.Common.{◌≡◌, ◌≤◌, ◌+◌, ◌++◌, length}
+use Rattle.std.proofs.Common.{◌≡◌, ◌+◌, ◌++◌, length}
 use Rattle.std.specs.Prelude.{string_bytes}
 use Rattle.omf_cmd.specs.RunLines.{lines_of}
 use Rattle.omf_cmd.specs.Runs.{IsUnbroken, IsWrittenUpTo}

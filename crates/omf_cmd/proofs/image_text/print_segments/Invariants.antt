@@ -1,4 +1,4 @@
-use Rattle.std.proofs.Common.{◌≤◌, ◌+◌, ◌-◌, ◌++◌}
+use Rattle.std.proofs.Common.{◌+◌, ◌-◌, ◌++◌}
 use Rattle.std.specs.Prelude.{string_bytes, flat_map}
 use Rattle.std.specs.List.{range_with_len}
 use Rattle.omf_image.specs.Joined.{runs_of}

@@ -11,7 +11,7 @@ returns-in_err-listing-clause-cause g c =
 
 pub returns-clause-cause : goal.returns-clause-cause
 returns-clause-cause g c =
-    print_caused (g.S.Source.seen c.args.reader.now) (g.S.Source.seen c.listed.new.reader) (g.K.Sink.seen c.args.writer.now) (g.K.Sink.seen c.print_image.new.writer) c.print_image.result c.in_ok-listing.ensures.cause c.print_image.ensures.cause
+    print_caused (g.S.Source.seen c.args.reader.now) (g.S.Source.seen c.listed.new.reader) (g.K.Sink.seen c.args.writer.now) (g.K.Sink.seen c.print.new.writer) c.print.result c.in_ok-listing.ensures.cause c.print.ensures.cause
 
 pub returns-in_err-listing-clause-prints : goal.returns-in_err-listing-clause-prints
 returns-in_err-listing-clause-prints g c =

@@ -1,11 +1,18 @@
+use Rattle.std.proofs.Common.{◌++◌}
 use Rattle.std.specs.Prelude.{string_bytes}
 use Rattle.omf_check.specs.Module.{records_in}
 use Rattle.omf_check.specs.Tables.{groups}
 use Rattle.omf_check.specs.WellFormed.{recs}
 use Rattle.omf_cmd.specs.Listing.{group_line}
-use Rattle.omf_cmd.proofs.Reported.{ArePrinted}
+use Rattle.omf_cmd.specs.Runs.{IsUnbroken, IsWrittenUpTo}
+use Rattle.omf_cmd.proofs.Reported.{lines_from}
 use Rattle.omf_cmd.proofs.report.print_groups.Given as goal
 
--- the groups so far
+-- what is kept, and the groups that are left, are still to be written
 abbrev pub invariant-loop-before : goal.invariant-loop-before
-invariant-loop-before l = let m = recs (records_in l.checked.bytes) in ArePrinted (group_line m) (groups m) l.before (string_bytes l.fn.text) (string_bytes l.text)
+invariant-loop-before g l =
+    let m = recs (records_in l.checked.bytes) in
+    record {
+      written : IsWrittenUpTo (g.K.Sink.seen l.initial.writer).bytes (g.K.Sink.seen l.writer).bytes (string_bytes l.initial.text ++ lines_from (group_line m) (groups m) 0) (string_bytes l.text ++ lines_from (group_line m) (groups m) l.before);
+      unbroken : IsUnbroken (g.K.Sink.seen l.initial.writer) (g.K.Sink.seen l.writer);
+    }

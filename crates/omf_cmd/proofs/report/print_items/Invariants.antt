@@ -1,10 +1,14 @@
-use Rattle.std.proofs.Common.{◌≡◌, ◌++◌, ◌∷◌, []}
+use Rattle.std.proofs.Common.{◌++◌, ◌∷◌, []}
 use Rattle.std.specs.Prelude.{string_bytes, flat_map, codes}
 use Rattle.omf_cmd.specs.Printed.{hex, line, quoted, index_or_dash}
+use Rattle.omf_cmd.specs.Runs.{IsUnbroken, IsWrittenUpTo}
 use Rattle.omf_cmd.proofs.report.print_items.Given as goal
 
--- the public names so far, and those that are left
+-- what is kept, and the public names that are left, are still to be written
 abbrev pub invariant-loop-public : goal.invariant-loop-public
-invariant-loop-public l =
-    string_bytes l.text ++ flat_map (λ q. line (codes "P" ∷ index_or_dash l.group ∷ index_or_dash l.segment ∷ hex 8 q.item.offset ∷ quoted q.item.name ∷ [])) l.public-iterator
-    ≡ string_bytes l.fn.text ++ flat_map (λ q. line (codes "P" ∷ index_or_dash l.group ∷ index_or_dash l.segment ∷ hex 8 q.item.offset ∷ quoted q.item.name ∷ [])) l.publics
+invariant-loop-public g l = record {
+  written : IsWrittenUpTo (g.K.Sink.seen l.initial.writer).bytes (g.K.Sink.seen l.writer).bytes
+      (string_bytes l.initial.text ++ flat_map (λ q. line (codes "P" ∷ index_or_dash l.group ∷ index_or_dash l.segment ∷ hex 8 q.item.offset ∷ quoted q.item.name ∷ [])) l.publics)
+      (string_bytes l.text ++ flat_map (λ q. line (codes "P" ∷ index_or_dash l.group ∷ index_or_dash l.segment ∷ hex 8 q.item.offset ∷ quoted q.item.name ∷ [])) l.public-iterator);
+  unbroken : IsUnbroken (g.K.Sink.seen l.initial.writer) (g.K.Sink.seen l.writer);
+}

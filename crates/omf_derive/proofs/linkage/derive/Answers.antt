@@ -3,7 +3,7 @@ use Rattle.std.specs.Prelude.{Err}
 use Rattle.omf_records.specs.Seen.{map_ok}
 use Rattle.omf_check.specs.Module.{records_in}
 use Rattle.omf_check.specs.WellFormed.{recs}
-use Rattle.omf_derive.specs.Derive.{PlacedModule, all_publics, derived}
+use Rattle.omf_derive.specs.Derive.{PlacedModule, seen_publics, derived}
 use Rattle.omf_derive.specs.PublicTable.{placed_modules}
 use Rattle.omf_derive.proofs.LinkageLaws.{module-placed, module-ends, modules-placed, err-derived}
 use Rattle.omf_derive.proofs.TableLaws.{next-placed, none-left}
@@ -19,7 +19,7 @@ returns-in_err-externals c =
     = next-placed c.args.modules.now c.args.places.now j c.index-modules-j.result c.index-places-j.result c.index-modules-j.is c.index-places-j.is c.loop-j-test.true c.requires.placed in
     let same : c.from_residual-in_err-externals.result ≡ Err f = search rules in
     err-derived (derived ms c.args.given.now) _ f (ap (map_ok (λ v. v.items)) same)
-    (module-ends ms c.args.given.now j m next f c.loop-j.placements.items (c.in_err-externals.ensures (all_publics ms) c.args.given.now c.in_ok-table.ensures c.in_ok-first_given.ensures) c.loop-j.invariant)
+    (module-ends ms c.args.given.now j m next f c.loop-j.placements.items (c.in_err-externals.ensures (seen_publics ms m) c.args.given.now c.in_ok-table.ensures c.in_ok-own.ensures c.in_ok-first_given.ensures) c.loop-j.invariant)
 
 pub loop-j-preserved : goal.loop-j-preserved
 loop-j-preserved c =
@@ -29,7 +29,7 @@ loop-j-preserved c =
     let next : drop j ms ≡ m ∷ drop (j + 1) ms
     = next-placed c.args.modules.now c.args.places.now j c.index-modules-j.result c.index-places-j.result c.index-modules-j.is c.index-places-j.is c.loop-j-test.true c.requires.placed in
     module-placed ms c.args.given.now j m next c.in_ok-externals.externals.items c.in_ok-placement.placement c.loop-j.placements.items c.push.new.self.items
-    (c.in_ok-externals.ensures (all_publics ms) c.args.given.now c.in_ok-table.ensures c.in_ok-first_given.ensures) c.in_ok-placement.ensures c.in_ok-push.ensures.items c.loop-j.invariant
+    (c.in_ok-externals.ensures (seen_publics ms m) c.args.given.now c.in_ok-table.ensures c.in_ok-own.ensures c.in_ok-first_given.ensures) c.in_ok-placement.ensures c.in_ok-push.ensures.items c.loop-j.invariant
 
 pub returns : goal.returns
 returns c =

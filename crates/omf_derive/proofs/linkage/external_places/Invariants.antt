@@ -1,4 +1,4 @@
-use Rattle.std.proofs.Common.{◌≡◌, ◌+◌, ◌≤◌, length, List}
+use Rattle.std.proofs.Common.{◌≡◌, ◌+◌, ◌≤◌, length, List, Bool, true, false}
 use Rattle.omf_check.specs.Module.{records_in}
 use Rattle.omf_check.specs.Tables.{externals}
 use Rattle.omf_check.specs.WellFormed.{recs}
@@ -14,5 +14,5 @@ abbrev pub invariant-loop-i : goal.invariant-loop-i
 invariant-loop-i l = record {
   start : 1 ≤ l.i;
   end : l.i-end ≡ length (externals (recs (records_in l.module.bytes))) + 1;
-  so_far : (among : List PlacedPublic) (entries : List Given) → IsTable l.table.by_name among → IsGivenTable l.given.by_external entries → IsSoFar among entries l.number (recs (records_in l.module.bytes)) l.places.items l.i;
+  so_far : (among : Bool → List PlacedPublic) (entries : List Given) → IsTable l.all.by_name (among false) → IsTable l.own.by_name (among true) → IsGivenTable l.given.by_external entries → IsSoFar among entries l.number (recs (records_in l.module.bytes)) l.places.items l.i;
 }

@@ -1,7 +1,6 @@
-use Rattle.std.proofs.Common.{◌≡◌, ℕ, true, false, refl, subst, sym}
+use Rattle.std.proofs.Common.{true, false, refl}
 use Rattle.omf_records.specs.RecordReaders.{header_whole, comment_whole, names_whole, segment_whole, group_whole, externs_whole, publics_whole, communals_whole, plain_whole, iterated_whole, fixups_whole, mod_end_whole}
 use Rattle.omf_records.specs.Seen.{contents_seen, map_ok}
-use Rattle.omf_records.specs.Reading.{read_body}
 use Rattle.omf_records.proofs.AtStart.{at_start}
 use Rattle.omf_records.proofs.dispatch.contents_of.Goals as goal
 
@@ -61,24 +60,3 @@ returns-in-163-clause-contents c = at_start (λ w. (iterated_whole w).read) 163 
 
 pub returns-in-176-clause-contents : goal.returns-in-176-clause-contents
 returns-in-176-clause-contents c = at_start (λ w. communals_whole.read) 176 (map_ok contents_seen c.communals_at.result) c.args.kind false c.start-narrow.result c.args.body.now c.start-narrow.ensures.place c.start-narrow.ensures.width c.start-narrow.ensures.bytes c.in-176.is (λ bs. refl) c.communals_at.ensures.contents
-
-pub returns-in-142-clause-contents : goal.returns-in-142-clause-contents
-returns-in-142-clause-contents c = subst (λ (k : ℕ). map_ok contents_seen c.carried_at.result ≡ read_body k c.args.body.now) (sym c.in-142.is) c.carried_at.ensures.contents
-
-pub returns-in-148-clause-contents : goal.returns-in-148-clause-contents
-returns-in-148-clause-contents c = subst (λ (k : ℕ). map_ok contents_seen c.carried_at-in-148.result ≡ read_body k c.args.body.now) (sym c.in-148.is) c.carried_at-in-148.ensures.contents
-
-pub returns-in-149-clause-contents : goal.returns-in-149-clause-contents
-returns-in-149-clause-contents c = subst (λ (k : ℕ). map_ok contents_seen c.carried_at-in-149.result ≡ read_body k c.args.body.now) (sym c.in-149.is) c.carried_at-in-149.ensures.contents
-
-pub returns-in-196-clause-contents : goal.returns-in-196-clause-contents
-returns-in-196-clause-contents c = subst (λ (k : ℕ). map_ok contents_seen c.carried_at-in-196.result ≡ read_body k c.args.body.now) (sym c.in-196.is) c.carried_at-in-196.ensures.contents
-
-pub returns-in-197-clause-contents : goal.returns-in-197-clause-contents
-returns-in-197-clause-contents c = subst (λ (k : ℕ). map_ok contents_seen c.carried_at-in-197.result ≡ read_body k c.args.body.now) (sym c.in-197.is) c.carried_at-in-197.ensures.contents
-
-pub returns-in-198-clause-contents : goal.returns-in-198-clause-contents
-returns-in-198-clause-contents c = subst (λ (k : ℕ). map_ok contents_seen c.carried_at-in-198.result ≡ read_body k c.args.body.now) (sym c.in-198.is) c.carried_at-in-198.ensures.contents
-
-pub returns-in-204-clause-contents : goal.returns-in-204-clause-contents
-returns-in-204-clause-contents c = subst (λ (k : ℕ). map_ok contents_seen c.carried_at-in-204.result ≡ read_body k c.args.body.now) (sym c.in-204.is) c.carried_at-in-204.ensures.contents

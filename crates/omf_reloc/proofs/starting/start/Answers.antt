@@ -1,44 +1,54 @@
-use Rattle.std.proofs.Common.{◌∙◌, ap, subst, List}
-use Rattle.std.specs.Prelude.{map}
-use Rattle.omf_frame.specs.declared.fault.Place.{Place}
+use Rattle.std.proofs.Common.{◌∙◌, ap, sym, subst, Some, None}
 use Rattle.omf_check.specs.Module.{records_in}
 use Rattle.omf_check.specs.WellFormed.{recs}
-use Rattle.omf_reloc.specs.PieceSeen.{piece_seen}
-use Rattle.omf_reloc.specs.Plain.{Piece}
-use Rattle.omf_reloc.proofs.StartLaws.{IsSought, seek-first, can-start, seek-next}
+use Rattle.omf_reloc.specs.Image.{start_at}
+use Rattle.omf_reloc.specs.Offsets.{start_offset}
+use Rattle.omf_reloc.specs.Placed.{modend_type}
+use Rattle.omf_reloc.specs.Walking.{HasStart}
+use Rattle.omf_reloc.proofs.EndLaws.{seen-end, none-here, none-named, frame-set, target-set, has-start, start-found}
 use Rattle.omf_reloc.proofs.starting.start.Goals as goal
 
-abbrev without_places : List (Place × Piece) → List Piece
-without_places xs = map (λ p. p.1) xs
+pub returns-in_default : goal.returns-in_default
+returns-in_default c = none-here c.args.placement.now (recs (records_in c.args.module.now.bytes)) c.end-end.ensures.holds c.end-end.result c.end-end.ensures.last c.in_default.not-ModEnd
 
-pub loop-place-init : goal.loop-place-init
-loop-place-init c =
-    seek-first c.args.placement.now (recs (records_in c.args.module.now.bytes)) (without_places c.into_iter-place-iterator.result)
-    (ap without_places c.into_iter-place-iterator.ensures.into_iter_gives ∙ c.pieces_of-place-items.ensures.listed) c.pieces_of-place-items.ensures.holds c.requires
+pub plain_reference-plain-requires-clause-frame : goal.plain_reference-plain-requires-clause-frame
+plain_reference-plain-requires-clause-frame c =
+    let m = recs (records_in c.args.module.now.bytes) in
+    let e = c.in-ModEnd in
+    frame-set c.args.placement.now m c.end-end.ensures.holds c.requires (modend_type e.wide) e.type_byte c.in-Some.reference
+    (seen-end m c.end-end.result e.wide e.type_byte e.start (Some c.in-Some.reference) e.is c.in-Some.is c.end-end.ensures.last)
+    c.threads_of-threads.result c.threads_of-threads.ensures.frame c.threads_of-threads.ensures.target
 
-pub start_after-found-requires : goal.start_after-found-requires
-start_after-found-requires c =
+pub plain_reference-plain-requires-clause-target : goal.plain_reference-plain-requires-clause-target
+plain_reference-plain-requires-clause-target c =
+    let m = recs (records_in c.args.module.now.bytes) in
+    let e = c.in-ModEnd in
+    target-set c.args.placement.now m c.end-end.ensures.holds c.requires (modend_type e.wide) e.type_byte c.in-Some.reference
+    (seen-end m c.end-end.result e.wide e.type_byte e.start (Some c.in-Some.reference) e.is c.in-Some.is c.end-end.ensures.last)
+    c.threads_of-threads.result c.threads_of-threads.ensures.frame c.threads_of-threads.ensures.target
+
+pub named_start-requires : goal.named_start-requires
+named_start-requires c =
+    let m = recs (records_in c.args.module.now.bytes) in
+    let e = c.in-ModEnd in
+    subst (HasStart c.args.placement.now (modend_type e.wide)) (sym c.plain_reference-plain.ensures)
+    (has-start c.args.placement.now m c.end-end.ensures.holds c.requires (modend_type e.wide) e.type_byte c.in-Some.reference
+    (seen-end m c.end-end.result e.wide e.type_byte e.start (Some c.in-Some.reference) e.is c.in-Some.is c.end-end.ensures.last)
+    c.threads_of-threads.result c.threads_of-threads.ensures.frame c.threads_of-threads.ensures.target)
+
+pub returns-in-Some : goal.returns-in-Some
+returns-in-Some c =
     let pl = c.args.placement.now in
     let m = recs (records_in c.args.module.now.bytes) in
-    can-start pl m c.loop-place.found (piece_seen c.in-Some.piece) (without_places c.next.new.self)
-    (subst (λ xs. IsSought pl m c.loop-place.found (without_places xs)) c.in-Some.ensures.steps c.loop-place.invariant) c.requires.fits
-
-pub loop-place-preserved : goal.loop-place-preserved
-loop-place-preserved c =
-    let pl = c.args.placement.now in
-    let m = recs (records_in c.args.module.now.bytes) in
-    seek-next pl m c.loop-place.found (piece_seen c.in-Some.piece) (without_places c.next.new.self)
-    (subst (λ xs. IsSought pl m c.loop-place.found (without_places xs)) c.in-Some.ensures.steps c.loop-place.invariant) c.start_after-found.result c.start_after-found.ensures
-
-pub loop-place-preserved-in-Some : goal.loop-place-preserved-in-Some
-loop-place-preserved-in-Some c =
-    let pl = c.args.placement.now in
-    let m = recs (records_in c.args.module.now.bytes) in
-    seek-next pl m c.loop-place.found (piece_seen c.in-Some.piece) (without_places c.next.new.self)
-    (subst (λ xs. IsSought pl m c.loop-place.found (without_places xs)) c.in-Some.ensures.steps c.loop-place.invariant) c.start_after-found.result c.start_after-found.ensures
+    let e = c.in-ModEnd in
+    start-found pl m c.end-end.ensures.holds c.requires (modend_type e.wide) e.type_byte c.in-Some.reference
+    (seen-end m c.end-end.result e.wide e.type_byte e.start (Some c.in-Some.reference) e.is c.in-Some.is c.end-end.ensures.last)
+    c.threads_of-threads.result c.threads_of-threads.ensures.frame c.threads_of-threads.ensures.target
+    c.named_start.result (c.named_start.ensures ∙ ap (λ r. start_at pl r (start_offset pl (modend_type e.wide) r)) c.plain_reference-plain.ensures)
 
 pub returns : goal.returns
 returns c =
-    let pl = c.args.placement.now in
     let m = recs (records_in c.args.module.now.bytes) in
-    (subst (λ xs. IsSought pl m c.loop-place.found (without_places xs)) c.in-None.ensures.steps.0 c.loop-place.invariant).found_is
+    let e = c.in-ModEnd in
+    none-named c.args.placement.now m c.end-end.ensures.holds (modend_type e.wide) e.type_byte
+    (seen-end m c.end-end.result e.wide e.type_byte e.start None e.is c.in-None.is c.end-end.ensures.last)

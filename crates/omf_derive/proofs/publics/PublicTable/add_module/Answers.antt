@@ -1,20 +1,22 @@
 use Rattle.std.proofs.Common.{◌∙◌, ap}
 use Rattle.omf_check.specs.Module.{records_in}
-use Rattle.omf_records.specs.Seen.{contents_seen}
-use Rattle.omf_derive.specs.Derive.{placed_publics}
+use Rattle.omf_records.specs.Seen.{contents_seen, kind_seen}
+use Rattle.omf_derive.specs.Derive.{record_publics}
 use Rattle.omf_derive.proofs.TableLaws.{listed_publics, listed-publics, fill-start, fill-more, fill-end}
 use Rattle.omf_derive.proofs.publics.PublicTable.add_module.Goals as goal
 
 pub loop-rec-init : goal.loop-rec-init
 loop-rec-init c =
     let pl = c.args.placement.now in
-    fill-start c.args.self.now.by_name _ _ (ap (listed_publics pl) (c.into_iter-rec-iterator.ensures.into_iter_gives ∙ c.records-rec-items.ensures.listed) ∙ listed-publics pl 0 0 (records_in c.args.module.now.bytes))
+    let local = c.args.local in
+    fill-start c.args.self.now.by_name _ _ (ap (listed_publics local pl) (c.into_iter-rec-iterator.ensures.into_iter_gives ∙ c.records-rec-items.ensures.listed) ∙ listed-publics local pl 0 0 (records_in c.args.module.now.bytes))
 
 pub loop-rec-preserved : goal.loop-rec-preserved
 loop-rec-preserved c =
     let pl = c.args.placement.now in
-    fill-more c.args.self.now.by_name c.loop-rec.self.by_name c.add_record.new.self.by_name (placed_publics pl (contents_seen c.in-Some.rec)) (listed_publics pl c.loop-rec.rec-iterator) _ _
-    (ap (listed_publics pl) c.in-Some.ensures.steps) c.in_ok-add_record.ensures c.loop-rec.invariant
+    let local = c.args.local in
+    fill-more c.args.self.now.by_name c.loop-rec.self.by_name c.add_asked.new.self.by_name (record_publics local pl (kind_seen c.in-Some.rec) (contents_seen c.in-Some.rec)) (listed_publics local pl c.loop-rec.rec-iterator) _ _
+    (ap (listed_publics local pl) c.in-Some.ensures.steps) c.in_ok-add_asked.ensures c.loop-rec.invariant
 
 pub returns : goal.returns
-returns c = fill-end c.args.self.now.by_name c.loop-rec.self.by_name _ _ (ap (listed_publics c.args.placement.now) c.in-None.ensures.steps.0) c.loop-rec.invariant
+returns c = fill-end c.args.self.now.by_name c.loop-rec.self.by_name _ _ (ap (listed_publics c.args.local c.args.placement.now) c.in-None.ensures.steps.0) c.loop-rec.invariant

@@ -6,4 +6,4 @@ use Rattle.omf_derive.proofs.publics.PublicTable.add_module.Given as goal
 
 -- the publics of the records so far are in the table
 abbrev pub invariant-loop-rec : goal.invariant-loop-rec
-invariant-loop-rec l = IsFilled l.fn.self.by_name l.self.by_name (listed_publics l.placement l.rec-iterator) (publics (recs (records_in l.module.bytes), l.placement))
+invariant-loop-rec l = IsFilled l.fn.self.by_name l.self.by_name (listed_publics l.local l.placement l.rec-iterator) (publics l.local (recs (records_in l.module.bytes), l.placement))

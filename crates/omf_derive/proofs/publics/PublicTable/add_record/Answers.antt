@@ -11,3 +11,10 @@ returns-in-Publics c =
     let e : c.base_of.result ≡ base_of pl c.in-Publics.group.item c.in-Publics.segment.item c.in-Publics.frame = search rules in
     subst (λ xs. OnOk c.add_items.result (HasMore c.args.self.now.by_name c.add_items.new.self.by_name xs))
     (ap₂ publics_at e c.iter.ensures ∙ ap (λ r. placed_publics pl (contents_seen r)) (sym c.in-Publics.is)) c.add_items.ensures
+
+pub returns-in-LocalPublics : goal.returns-in-LocalPublics
+returns-in-LocalPublics c =
+    let pl = c.args.placement.now in
+    let e : c.base_of-in-LocalPublics.result ≡ base_of pl c.in-LocalPublics.group.item c.in-LocalPublics.segment.item c.in-LocalPublics.frame = search rules in
+    subst (λ xs. OnOk c.add_items-in-LocalPublics.result (HasMore c.args.self.now.by_name c.add_items-in-LocalPublics.new.self.by_name xs))
+    (ap₂ publics_at e c.iter-in-LocalPublics.ensures ∙ ap (λ r. placed_publics pl (contents_seen r)) (sym c.in-LocalPublics.is)) c.add_items-in-LocalPublics.ensures

@@ -1,4 +1,4 @@
-use Rattle.std.proofs.Common.{◌+◌, refl, ap, drop}
+use Rattle.std.proofs.Common.{◌+◌, refl, ap, drop, false}
 use Rattle.omf_check.specs.Module.{records_in}
 use Rattle.omf_check.specs.WellFormed.{recs}
 use Rattle.omf_derive.specs.Derive.{publics, all_publics}
@@ -14,7 +14,7 @@ loop-j-preserved c =
     let ms = c.args.modules.now in
     let pls = c.args.placements.now in
     let j = c.loop-j.j in
-    fill-more c.new.result c.loop-j.table.by_name c.add_module.new.self.by_name (publics (recs (records_in c.index-modules-j.result.bytes), c.index-placements-j.result)) (all_publics (drop j (placed_modules ms pls)))
+    fill-more c.new.result c.loop-j.table.by_name c.add_module.new.self.by_name (publics false (recs (records_in c.index-modules-j.result.bytes), c.index-placements-j.result)) (all_publics (drop j (placed_modules ms pls)))
     (all_publics (drop (j + 1) (placed_modules ms pls))) (all_publics (placed_modules ms pls))
     (ap all_publics (next-placed ms pls j c.index-modules-j.result c.index-placements-j.result c.index-modules-j.is c.index-placements-j.is c.loop-j-test.true c.requires))
     c.in_ok-add_module.ensures c.loop-j.invariant

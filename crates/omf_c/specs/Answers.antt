@@ -1,0 +1,60 @@
+-- What C is told of a fault and of a text (this profile's rule).
+use Rattle.std.specs.Prelude.{◌≡◌, ◌⊎◌, ◌<◌, ◌≤◌, ℕ, List, ◌++◌, drop, length, Result, Ok, Err}
+use Rattle.omf_frame.specs.Fault.{reason_number}
+use Rattle.omf_reloc.specs.declared.fault.Cause.{Cause}
+use Rattle.omf_reloc.specs.declared.fault.Cause.TheVariants as cause
+use Rattle.omf_reloc.specs.declared.fault.Kind.{Kind}
+use Rattle.omf_reloc.specs.declared.fault.Kind.TheVariants as kinds
+use Rattle.omf_reloc.specs.declared.fault.ReachFault.{ReachFault}
+use Rattle.omf_reloc.specs.declared.fault.ReachFault.TheVariants as reach
+use Rattle.omf_cmd.specs.declared.fault.RunFault.{RunFault}
+use Rattle.omf_cmd.specs.declared.fault.RunFault.TheVariants as fault
+use Rattle.omf_c.specs.declared.answer.Answer.{Answer}
+
+-- Done, and nothing to tell.
+abbrev pub done : Answer
+done = record { status = 0; reason = 0; kind = 0; index = 0; number = 0; within = 0; start = 0; line = 0; size = 0; record_count = 0 }
+
+-- The numbers of kinds and causes.
+abbrev pub kind_number : Kind → ℕ
+kind_number kinds.Segment = 1
+kind_number kinds.Group = 2
+kind_number kinds.External = 3
+
+abbrev pub cause_number : Cause → ℕ
+cause_number cause.Target = 1
+cause_number cause.Location = 2
+cause_number cause.Distance = 3
+
+-- A placement that does not reach: the number of the reason, and what it names.
+abbrev pub of_reach : ReachFault → Answer
+of_reach (reach.Missing k i) = record done { status = 7; reason = 1; kind = kind_number k; index = i }
+of_reach (reach.Extra k i) = record done { status = 7; reason = 2; kind = kind_number k; index = i }
+of_reach (reach.Absolute i) = record done { status = 7; reason = 3; index = i }
+of_reach (reach.TooFar n w c) = record done { status = 7; reason = 4; kind = cause_number c; number = n; within = w }
+
+-- A fault: its number, and what it names.
+abbrev pub of_fault : RunFault → Answer
+of_fault fault.Memory = record done { status = 1 }
+of_fault fault.Read = record done { status = 2 }
+of_fault fault.Write = record done { status = 3 }
+of_fault (fault.Refused why at) = record done { status = 4; reason = reason_number why; number = at.number; within = at.within; start = at.start }
+of_fault (fault.Line n) = record done { status = 5; line = n }
+of_fault fault.TooLong = record done { status = 6 }
+of_fault (fault.Reach f) = of_reach f
+
+-- A text that fits stands at the front of the buffer, and what is behind it stays; a text that does not fit leaves the buffer as it was.
+-- Its length is told.
+abbrev pub HandsOut : List ℕ → Answer → List ℕ → List ℕ → Type 0
+HandsOut text answer old new =
+    ((length text ≤ length old) × (answer ≡ record done { size = length text }) × (new ≡ text ++ drop (length text) old))
+    ⊎ ((length old < length text) × (answer ≡ record done { status = 8; size = length text }) × (new ≡ old))
+
+-- What is told of a text, or of the fault in its place, which leaves the buffer as it was.
+abbrev pub Tells : Result (List ℕ) RunFault → Answer → List ℕ → List ℕ → Type 0
+Tells (Ok text) answer old new = HandsOut text answer old new
+Tells (Err f) answer old new = (answer ≡ of_fault f) × (new ≡ old)
+
+-- A call made a text or a fault, which is as it is to be, and told it.
+abbrev pub IsAnswered : (Result (List ℕ) RunFault → Type 0) → Answer → List ℕ → List ℕ → Type 0
+IsAnswered IsMade answer old new = (made : Result (List ℕ) RunFault) × IsMade made × Tells made answer old new

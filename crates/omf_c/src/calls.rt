@@ -1,0 +1,77 @@
+//! The calls.
+
+ghost use Rattle.std.specs.Prelude.{◌≡◌};
+ghost use Rattle.omf_canon.specs.Canonical.{canonical};
+ghost use Rattle.omf_check.specs.WellFormed.{recs};
+ghost use Rattle.omf_cmd.specs.Listing.{list_text};
+ghost use Rattle.omf_c.specs.Answers.{IsAnswered};
+ghost use Rattle.omf_c.specs.Making.{IsTextOf, IsPlacedText, IsVerdict};
+
+use crate::answer::{Answer, NOTHING, fault_answer, hand_out};
+use crate::making::{canonical, listed, module_of, profile, relocated};
+use std::alloc::Global;
+
+/// Checks the module that the bytes begin with: status 0 with its length and how many records it has, or its refusal.
+#[unsafe(no_mangle)]
+pub extern "C" fn omf_check(alloc: Global, bytes: &[u8], refuse_vendor_comments: bool) -> Answer
+    ensures { IsVerdict (record { refuse_vendor_comments = refuse_vendor_comments }) bytes.now result }
+{
+    match module_of(alloc, profile(refuse_vendor_comments), bytes) {
+        Ok(module) => Answer {
+            size: module.bytes().len() as u64,
+            record_count: u64::from(module.record_count()),
+            ..NOTHING
+        },
+        Err(fault) => fault_answer(fault),
+    }
+}
+
+/// Lists the module that the bytes begin with, as `omf list` prints it: status 0 where the text was put at the front of the buffer.
+#[unsafe(no_mangle)]
+pub extern "C" fn omf_list(
+    alloc: Global,
+    bytes: &[u8],
+    refuse_vendor_comments: bool,
+    out: &mut [u8],
+) -> Answer
+    ensures { IsAnswered (IsTextOf list_text (record { refuse_vendor_comments = refuse_vendor_comments }) bytes.now) result out.old out.new }
+{
+    match listed(alloc, profile(refuse_vendor_comments), bytes) {
+        Ok(text) => hand_out(&text, out),
+        Err(fault) => fault_answer(fault),
+    }
+}
+
+/// Relocates the module that the bytes begin with by a placement text, and gives the listing that `omf reloc` prints: status 0 where it
+/// was put at the front of the buffer.
+#[unsafe(no_mangle)]
+pub extern "C" fn omf_reloc(
+    alloc: Global,
+    bytes: &[u8],
+    placement: &[u8],
+    refuse_vendor_comments: bool,
+    out: &mut [u8],
+) -> Answer
+    ensures { IsAnswered (IsPlacedText (record { refuse_vendor_comments = refuse_vendor_comments }) bytes.now placement.now) result out.old out.new }
+{
+    match relocated(alloc, profile(refuse_vendor_comments), bytes, placement) {
+        Ok(text) => hand_out(&text, out),
+        Err(fault) => fault_answer(fault),
+    }
+}
+
+/// Gives the canonical bytes of the module that the bytes begin with: status 0 where they were put at the front of the buffer.
+#[unsafe(no_mangle)]
+pub extern "C" fn omf_canon(
+    alloc: Global,
+    bytes: &[u8],
+    refuse_vendor_comments: bool,
+    out: &mut [u8],
+) -> Answer
+    ensures { IsAnswered (IsTextOf (λ records. canonical (recs records)) (record { refuse_vendor_comments = refuse_vendor_comments }) bytes.now) result out.old out.new }
+{
+    match canonical(alloc, profile(refuse_vendor_comments), bytes) {
+        Ok(text) => hand_out(&text, out),
+        Err(fault) => fault_answer(fault),
+    }
+}

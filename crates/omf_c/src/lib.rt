@@ -1,0 +1,15 @@
+//! The library for C: modules in memory are checked, listed, relocated and made canonical. `include/omf.h` describes the calls.
+//!
+//! Each call takes bytes as a pointer and a length, requires nothing beyond that, and answers an `Answer` by value. A text goes into the
+//! caller's buffer, whole or not at all.
+#![tactic(auto)]
+
+mod answer;
+mod calls;
+mod making;
+mod memory;
+#[cfg(test)]
+mod tests;
+
+pub use answer::Answer;
+pub use calls::{omf_canon, omf_check, omf_list, omf_reloc};

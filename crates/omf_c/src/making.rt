@@ -1,0 +1,91 @@
+//! What a call makes of the module at the front of some bytes.
+
+ghost use Rattle.std.specs.Prelude.{◌≡◌, IfOk, IfErr};
+ghost use Rattle.omf_canon.specs.Canonical.{canonical};
+ghost use Rattle.omf_check.specs.Module.{records_in};
+ghost use Rattle.omf_check.specs.WellFormed.{recs};
+ghost use Rattle.omf_cmd.specs.Listing.{list_text};
+ghost use Rattle.omf_cmd.specs.Relocating.{IsOutcome};
+ghost use Rattle.omf_records.specs.Seen.{map_ok};
+ghost use Rattle.omf_cmd.specs.declared.fault.RunFault.TheVariants.{Memory};
+ghost use Rattle.omf_c.specs.Making.{IsModule, IsTextOf, IsPlacedText};
+
+use crate::memory::{Bytes, Gathered};
+use omf_canon::canon;
+use omf_check::{CheckFault, Checked, Profile, check};
+use omf_cmd::{Listing, RunFault, print_list};
+use std::alloc::Global;
+
+/// The profile that a caller asks for.
+pub(crate) fn profile(refuse_vendor_comments: bool) -> Profile
+    ensures { result ≡ record { refuse_vendor_comments = refuse_vendor_comments } }
+{
+    Profile {
+        refuse_vendor_comments,
+    }
+}
+
+/// The module that the bytes begin with.
+pub(crate) fn module_of(alloc: Global, profile: Profile, bytes: &[u8]) -> Result<Checked, RunFault>
+    ensures { IsModule profile bytes.now result }
+{
+    match check(alloc, &mut Bytes::new(bytes), profile) {
+        Ok(checked) => Ok(checked),
+        Err(CheckFault::Memory) => Err(RunFault::Memory),
+        Err(CheckFault::Read) => unreachable!(),
+        Err(CheckFault::Refused { reason, place }) => Err(RunFault::Refused { reason, place }),
+    }
+}
+
+/// What `omf list` prints of a module.
+fn listed_module(alloc: Global, checked: &Checked) -> Result<Vec<u8>, RunFault>
+    ensures ok { IfOk result (λ v. v.items ≡ list_text (records_in checked.now.bytes)) }
+    ensures err { IfErr result (λ e. e ≡ Memory) }
+{
+    let mut gathered = Gathered::new(alloc);
+    match print_list(alloc, checked, &mut gathered) {
+        Ok(()) => Ok(gathered.text),
+        Err(_) => Err(RunFault::Memory),
+    }
+}
+
+/// The listing of the module that the bytes begin with.
+pub(crate) fn listed(alloc: Global, profile: Profile, bytes: &[u8]) -> Result<Vec<u8>, RunFault>
+    ensures { IsTextOf list_text profile bytes.now (map_ok (λ v. v.items) result) }
+{
+    let checked = module_of(alloc, profile, bytes)?;
+    listed_module(alloc, &checked)
+}
+
+/// The canonical bytes of the module that the bytes begin with.
+pub(crate) fn canonical(alloc: Global, profile: Profile, bytes: &[u8]) -> Result<Vec<u8>, RunFault>
+    ensures { IsTextOf (λ records. canonical (recs records)) profile bytes.now (map_ok (λ v. v.items) result) }
+{
+    let checked = module_of(alloc, profile, bytes)?;
+    Ok(canon(alloc, &checked)?)
+}
+
+/// The listing of a module at the placement that a text gives it.
+fn relocated_module(alloc: Global, checked: &Checked, text: &[u8]) -> Result<Vec<u8>, RunFault>
+    ensures { IsOutcome (recs (records_in checked.now.bytes)) text.now (map_ok (λ v. v.items) result) }
+{
+    let listing = Listing::of(alloc, checked, text)?;
+    let mut gathered = Gathered::new(alloc);
+    match listing.print(alloc, &mut gathered) {
+        Ok(()) => Ok(gathered.text),
+        Err(_) => Err(RunFault::Memory),
+    }
+}
+
+/// The listing of the module that the bytes begin with, at the placement that a text gives it.
+pub(crate) fn relocated(
+    alloc: Global,
+    profile: Profile,
+    bytes: &[u8],
+    text: &[u8],
+) -> Result<Vec<u8>, RunFault>
+    ensures { IsPlacedText profile bytes.now text.now (map_ok (λ v. v.items) result) }
+{
+    let checked = module_of(alloc, profile, bytes)?;
+    relocated_module(alloc, &checked, text)
+}

@@ -1,0 +1,232 @@
+//! The calls, as C makes them. Numbers in modules and placements are hexadecimal.
+
+use crate::{Answer, omf_canon, omf_check, omf_list, omf_reloc};
+use std::alloc::{AllocError, Global};
+use std::test::Fail;
+
+const HEADER: &[u8] = &[0x80, 0x03, 0x00, 0x01, 0x41, 0x3B];
+
+const NAMES: &[u8] = &[0x96, 0x04, 0x00, 0x00, 0x01, 0x54, 0x11];
+
+const SEGMENT: &[u8] = &[0x98, 0x07, 0x00, 0x28, 0x04, 0x00, 0x02, 0x01, 0x01, 0x31];
+
+const DATA: &[u8] = &[
+    0xA0, 0x08, 0x00, 0x01, 0x00, 0x00, 0xB8, 0x00, 0x00, 0x90, 0x0F,
+];
+
+/// The same data, with the segment's index in two bytes.
+const LONG_DATA: &[u8] = &[
+    0xA0, 0x09, 0x00, 0x80, 0x01, 0x00, 0x00, 0xB8, 0x00, 0x00, 0x90, 0x8E,
+];
+
+const FIXUP: &[u8] = &[0x9C, 0x06, 0x00, 0xC4, 0x01, 0x04, 0x01, 0x01, 0x93];
+
+const END: &[u8] = &[0x8A, 0x02, 0x00, 0x00, 0x74];
+
+/// A comment of a class that is left to vendors.
+const VENDOR: &[u8] = &[0x88, 0x03, 0x00, 0x00, 0xE9, 0x8C];
+
+const PLACED: &[u8] = b"S 10020 10000 1000";
+
+const RELOCATED: &[u8] = b"0001:00000000 B8 20 00 90\n";
+
+/// Done, with nothing to tell.
+const DONE: Answer = Answer {
+    status: 0,
+    reason: 0,
+    kind: 0,
+    index: 0,
+    number: 0,
+    within: 0,
+    start: 0,
+    line: 0,
+    size: 0,
+    record_count: 0,
+};
+
+fn joined(alloc: Global, records: &[&[u8]]) -> Result<Vec<u8>, AllocError> {
+    let mut bytes = Vec::new(alloc);
+    for record in records {
+        bytes.extend_from_slice(*record)?;
+    }
+    Ok(bytes)
+}
+
+fn first_module(alloc: Global) -> Result<Vec<u8>, AllocError> {
+    joined(alloc, &[HEADER, NAMES, SEGMENT, DATA, FIXUP, END])
+}
+
+#[test]
+fn tells_the_size_of_a_module(rt: HostRuntime) -> Result<(), Fail> {
+    let mut bytes = first_module(rt.alloc())?;
+    bytes.extend_from_slice(b"behind")?;
+    let accepted = Answer {
+        size: 48,
+        record_count: 6,
+        ..DONE
+    };
+    assert_eq!(&rt; omf_check(rt.alloc(), &bytes, false), accepted);
+    Ok(())
+}
+
+#[test]
+fn tells_why_a_module_is_refused(rt: HostRuntime) -> Result<(), Fail> {
+    let bytes = joined(rt.alloc(), &[HEADER, NAMES, SEGMENT, DATA, &[0x9C, 0x06]])?;
+    let cut = Answer {
+        status: 4,
+        reason: 2,
+        number: 4,
+        start: 34,
+        within: 2,
+        ..DONE
+    };
+    assert_eq!(&rt; omf_check(rt.alloc(), &bytes, false), cut);
+    let mut room = [7; 4];
+    assert_eq!(&rt; omf_list(rt.alloc(), &bytes, false, &mut room), cut);
+    assert_eq!(&rt; omf_canon(rt.alloc(), &bytes, false, &mut room), cut);
+    assert_eq!(&rt;
+        omf_reloc(rt.alloc(), &bytes, PLACED, false, &mut room),
+        cut
+    );
+    assert_eq!(&rt; room, [7; 4]);
+    Ok(())
+}
+
+#[test]
+fn refuses_vendors_comments_where_it_is_asked_to(rt: HostRuntime) -> Result<(), Fail> {
+    let bytes = joined(rt.alloc(), &[HEADER, VENDOR, END])?;
+    assert_eq!(&rt; omf_check(rt.alloc(), &bytes, false).status, 0);
+    let refused = Answer {
+        status: 4,
+        reason: 32,
+        number: 1,
+        start: 6,
+        within: 4,
+        ..DONE
+    };
+    assert_eq!(&rt; omf_check(rt.alloc(), &bytes, true), refused);
+    Ok(())
+}
+
+#[test]
+fn lists_a_module(rt: HostRuntime) -> Result<(), Fail> {
+    let bytes = joined(rt.alloc(), &[HEADER, END])?;
+    let text: &[u8] = b"R 0 00000000 80 2 THEADR\nR 1 00000006 8A 1 MODEND\n";
+    let mut room = [7; 60];
+    let listed = Answer { size: 50, ..DONE };
+    assert_eq!(&rt; omf_list(rt.alloc(), &bytes, false, &mut room), listed);
+    let filled = joined(rt.alloc(), &[text, &[7; 10]])?;
+    assert_eq!(&rt; room.as_slice(), filled.as_slice());
+    Ok(())
+}
+
+#[test]
+fn gives_a_listing_where_it_fits_exactly(rt: HostRuntime) -> Result<(), Fail> {
+    let bytes = first_module(rt.alloc())?;
+    let mut room = [7; 26];
+    let shown = Answer { size: 26, ..DONE };
+    assert_eq!(&rt;
+        omf_reloc(rt.alloc(), &bytes, PLACED, false, &mut room),
+        shown
+    );
+    assert_eq!(&rt; room.as_slice(), RELOCATED);
+    Ok(())
+}
+
+#[test]
+fn tells_how_much_room_is_needed(rt: HostRuntime) -> Result<(), Fail> {
+    let bytes = first_module(rt.alloc())?;
+    let mut room = [7; 25];
+    let lacking = Answer {
+        status: 8,
+        size: 26,
+        ..DONE
+    };
+    assert_eq!(&rt;
+        omf_reloc(rt.alloc(), &bytes, PLACED, false, &mut room),
+        lacking
+    );
+    assert_eq!(&rt; room, [7; 25]);
+    Ok(())
+}
+
+#[test]
+fn tells_what_a_placement_lacks(rt: HostRuntime) -> Result<(), Fail> {
+    let bytes = first_module(rt.alloc())?;
+    let mut room = [7; 40];
+    let line = Answer {
+        status: 5,
+        line: 2,
+        ..DONE
+    };
+    assert_eq!(&rt;
+        omf_reloc(rt.alloc(), &bytes, b"\nS 100000 real\n", false, &mut room),
+        line
+    );
+    let missing = Answer {
+        status: 7,
+        reason: 1,
+        kind: 1,
+        index: 1,
+        ..DONE
+    };
+    assert_eq!(&rt;
+        omf_reloc(rt.alloc(), &bytes, b"", false, &mut room),
+        missing
+    );
+    let extra = Answer {
+        status: 7,
+        reason: 2,
+        kind: 2,
+        index: 1,
+        ..DONE
+    };
+    assert_eq!(&rt;
+        omf_reloc(
+            rt.alloc(),
+            &bytes,
+            b"S 10020 10000 1000\nG 0 0",
+            false,
+            &mut room
+        ),
+        extra
+    );
+    let far = Answer {
+        status: 7,
+        reason: 4,
+        kind: 1,
+        number: 4,
+        within: 3,
+        ..DONE
+    };
+    assert_eq!(&rt;
+        omf_reloc(rt.alloc(), &bytes, b"S 20000 10000 1000", false, &mut room),
+        far
+    );
+    assert_eq!(&rt; room, [7; 40]);
+    Ok(())
+}
+
+#[test]
+fn refuses_a_placement_that_is_too_long(rt: HostRuntime) -> Result<(), Fail> {
+    let bytes = first_module(rt.alloc())?;
+    let mut text = Vec::new(rt.alloc());
+    text.resize(4_194_305, b'\n')?;
+    let mut room = [7; 1];
+    let long = Answer { status: 6, ..DONE };
+    assert_eq!(&rt;
+        omf_reloc(rt.alloc(), &bytes, &text, false, &mut room),
+        long
+    );
+    Ok(())
+}
+
+#[test]
+fn gives_canonical_bytes(rt: HostRuntime) -> Result<(), Fail> {
+    let bytes = joined(rt.alloc(), &[HEADER, NAMES, SEGMENT, LONG_DATA, FIXUP, END])?;
+    let mut room = [7; 48];
+    let canonical = Answer { size: 48, ..DONE };
+    assert_eq!(&rt; omf_canon(rt.alloc(), &bytes, false, &mut room), canonical);
+    assert_eq!(&rt; room.as_slice(), first_module(rt.alloc())?.as_slice());
+    Ok(())
+}

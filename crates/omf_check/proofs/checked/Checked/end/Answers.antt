@@ -1,0 +1,24 @@
+use Rattle.std.proofs.Common.{◌<◌, length, subst, sym}
+use Rattle.omf_image.specs.Limits.{profile_limits}
+use Rattle.omf_check.specs.Listed.{AreListed}
+use Rattle.omf_check.specs.Module.{records_in}
+use Rattle.omf_check.specs.Sound.{ModuleHolds}
+use Rattle.omf_check.specs.WellFormed.{recs}
+use Rattle.omf_check.proofs.LastLaws.{module-filled}
+use Rattle.omf_check.proofs.ListedLaws.{checked_list}
+use Rattle.omf_check.proofs.SoundLaws.{module_holds}
+use Rattle.omf_check.proofs.checked.Checked.end.Goals as goal
+
+pub last_record-requires-clause-listed : goal.last_record-requires-clause-listed
+last_record-requires-clause-listed c =
+    subst (λ x. AreListed x 0 0) (sym c.deref.ensures.value) (checked_list c.self.inside.profile c.self.inside.bytes.items c.self.inside.tables c.self.inside.count c.self.invariant)
+
+pub last_record-requires-clause-filled : goal.last_record-requires-clause-filled
+last_record-requires-clause-filled c =
+    let bytes = c.self.inside.bytes.items in
+    subst (λ x. 0 < length x) (sym c.deref.ensures.value) (module-filled profile_limits bytes (module_holds c.self.inside.profile profile_limits bytes (records_in bytes) c.self.invariant.well_formed))
+
+pub returns-clause-holds : goal.returns-clause-holds
+returns-clause-holds c =
+    subst (λ m. ModuleHolds profile_limits (recs (records_in m.bytes))) c.self.view_is
+    (module_holds c.self.inside.profile profile_limits c.self.inside.bytes.items (records_in c.self.inside.bytes.items) c.self.invariant.well_formed)

@@ -1,0 +1,36 @@
+//! The command's work, from readers to writers: the texts that `omf` prints, and its runs, words and statuses.
+//!
+//! ```
+//! let mut text = Vec::new(alloc);
+//! match run_check(alloc, profile, &mut Reading::new(bytes), &mut Writing::new(&mut text)) {
+//!     Ok(()) => {} // text is b"OK 6 records, 48 bytes\n"
+//!     Err(fault) => {
+//!         let line = fault_line(alloc, &fault)?; // "refused 2 Cut record 4 at 34 within 2"
+//!     }
+//! }
+//! ```
+#![tactic(auto)]
+
+mod fault;
+mod image_text;
+mod input;
+pub mod laws;
+mod output;
+mod printed;
+mod printing;
+mod program;
+mod relocation;
+mod report;
+pub mod rows;
+mod running;
+#[cfg(test)]
+mod tests;
+mod words;
+
+pub use fault::RunFault;
+pub use printed::fault_line;
+pub use program::{fail, main_with};
+pub use relocation::{Listing, run_reloc};
+pub use report::print_list;
+pub use running::{run_canon, run_check, run_list};
+pub use words::{Job, command};

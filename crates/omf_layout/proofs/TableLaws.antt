@@ -1,0 +1,76 @@
+-- Alignments and rooms are as many as the tables have segments and externals.
+use Rattle.std.proofs.Common.{◌≡◌, ℕ, zero, suc, ◌+◌, ◌<◌, List, [], ◌∷◌, ◌++◌, length, drop, refl, sym, ap, ap₂, ◌∙◌, arith, length-append, append_assoc, ◌≤◌, ◌-◌}
+use Rattle.std.proofs.Math.Seq.{drop-nil}
+use Rattle.std.specs.Prelude.{map, flat_map, Option, Some, None, slice_get, cond}
+use Rattle.std.specs.List.{zip, range_with_len}
+use Rattle.std.proofs.lemmas.Bool.{le-leb}
+use Rattle.std.proofs.lemmas.List.{length-map}
+use Rattle.std.proofs.lemmas.Option.{none-some, same_Some}
+use Rattle.omf_records.specs.Values.{Rec, Contents, Header, Comment, Names, Segment, Group, Externs, Publics, Communals, Plain, Iterated, Fixups, ModEnd, Carried}
+use Rattle.omf_check.specs.Tables.{segments, externals, entry, defined_segments, defined_externals}
+use Rattle.omf_layout.specs.Wants.{alignments, alignments_in, rooms, rooms_in, room_of}
+
+one-alignment : (kind : ℕ) (c : Contents) → length (alignments_in c) ≡ length (defined_segments kind c)
+one-alignment kind (Segment s) = refl
+one-alignment kind (Header n) = refl
+one-alignment kind (Comment a b t) = refl
+one-alignment kind (Names ns) = refl
+one-alignment kind (Group g) = refl
+one-alignment kind (Externs es) = refl
+one-alignment kind (Publics p) = refl
+one-alignment kind (Communals cs) = refl
+one-alignment kind (Plain d) = refl
+one-alignment kind (Iterated d) = refl
+one-alignment kind (Fixups fs) = refl
+one-alignment kind (ModEnd b s) = refl
+one-alignment kind (Carried bs) = refl
+
+pub length-alignments : (m : List Rec) → length (alignments m) ≡ length (segments m)
+length-alignments [] = refl
+length-alignments (r ∷ m) = length-append (alignments_in r.contents) (alignments m) ∙ ap₂ (λ a b. a + b) (one-alignment r.kind r.contents) (length-alignments m) ∙ sym (length-append (defined_segments r.kind r.contents) (segments m))
+
+some-rooms : (c : Contents) → length (rooms_in c) ≡ length (defined_externals c)
+some-rooms (Externs es) = length-map es (λ e. None) ∙ sym (length-map es (λ e. e.item.name))
+some-rooms (Communals cs) = length-map cs (λ c. Some (room_of c.item.size)) ∙ sym (length-map cs (λ c. c.item.name))
+some-rooms (Segment s) = refl
+some-rooms (Header n) = refl
+some-rooms (Comment a b t) = refl
+some-rooms (Names ns) = refl
+some-rooms (Group g) = refl
+some-rooms (Publics p) = refl
+some-rooms (Plain d) = refl
+some-rooms (Iterated d) = refl
+some-rooms (Fixups fs) = refl
+some-rooms (ModEnd b s) = refl
+some-rooms (Carried bs) = refl
+
+pub length-rooms : (m : List Rec) → length (rooms m) ≡ length (externals m)
+length-rooms [] = refl
+length-rooms (r ∷ m) = length-append (rooms_in r.contents) (rooms m) ∙ ap₂ (λ a b. a + b) (some-rooms r.contents) (length-rooms m) ∙ sym (length-append (defined_externals r.contents) (externals m))
+
+-- The entry of an index from 1, by its position.
+pub entry-at : {A : Type 0} (xs : List A) (j : ℕ) → entry xs (j + 1) ≡ slice_get xs j
+entry-at xs j = let back : j + 1 - 1 ≡ j = omega arith in ap₂ (λ b k. cond b (slice_get xs k) None) (le-leb 1 (j + 1) (omega arith)) back
+
+-- The next pair of two lists.
+pub next-pair : {A B : Type 0} (xs : List A) (ys : List B) (j : ℕ) (x : A) (y : B) → slice_get xs j ≡ Some x → slice_get ys j ≡ Some y → drop j (zip xs ys) ≡ (x, y) ∷ drop (j + 1) (zip xs ys)
+next-pair [] ys j x y e g = absurd (none-some x e)
+next-pair (a ∷ xs) [] j x y e g = absurd (none-some y g)
+next-pair (a ∷ xs) (b ∷ ys) zero x y e g = ap₂ (λ u v. (u, v) ∷ zip xs ys) (same_Some a x e) (same_Some b y g)
+next-pair (a ∷ xs) (b ∷ ys) (suc j) x y e g =
+    let same : suc (j + 1) ≡ suc j + 1 = omega arith in
+    next-pair xs ys j x y e g ∙ ap (λ n. (x, y) ∷ drop n (zip (a ∷ xs) (b ∷ ys))) same
+
+pub no-pair : {A B : Type 0} (xs : List A) (ys : List B) (j : ℕ) → length xs ≤ j → drop j (zip xs ys) ≡ []
+no-pair [] ys j h = drop-nil j
+no-pair (x ∷ xs) [] j h = drop-nil j
+no-pair (x ∷ xs) (y ∷ ys) zero h = absurd (omega arith)
+no-pair (x ∷ xs) (y ∷ ys) (suc j) h = no-pair xs ys j (omega arith)
+
+-- One more number of a range.
+pub one-more : {A : Type 0} (g : ℕ → A) (old new all : List A) (x : A) (k n : ℕ) → k < n → x ≡ g k → new ≡ old ++ x ∷ [] → old ++ map g (range_with_len k (n - k)) ≡ all → new ++ map g (range_with_len (k + 1) (n - (k + 1))) ≡ all
+one-more g old new all x k n h e f whole =
+    let next : n - k ≡ suc (n - (k + 1)) = omega arith in
+    ap (λ xs. xs ++ map g (range_with_len (k + 1) (n - (k + 1)))) (f ∙ ap (λ y. old ++ y ∷ []) e)
+    ∙ append_assoc old (g k ∷ []) (map g (range_with_len (k + 1) (n - (k + 1))))
+    ∙ ap (λ j. old ++ map g (range_with_len k j)) (sym next) ∙ whole

@@ -1,0 +1,7 @@
+pub mod Wants
+pub mod Room
+pub mod Layout
+pub mod Spots
+pub mod Quoted
+pub mod Draft
+pub mod Laws

@@ -1,0 +1,53 @@
+//! Alignments of segments.
+
+ghost use Rattle.std.specs.Prelude.{◌≡◌, ◌≤◌};
+ghost use Rattle.omf_records.specs.Values.{alignment};
+ghost use Rattle.omf_layout.specs.Wants.{alignment_named, bytes_aligned};
+
+/// What the address of a segment is a multiple of (TIS OMF 1.1, "SEGDEF", A).
+#[derive(Clone, Copy, Debug, PartialEq, Eq)]
+pub enum Alignment {
+    /// Any address; also that of an absolute segment, which asks for none.
+    Byte,
+    /// A multiple of 2.
+    Word,
+    /// A multiple of 16.
+    Paragraph,
+    /// A multiple of 256.
+    Page,
+    /// A multiple of 4.
+    Dword,
+    /// A multiple of 4,096.
+    LargePage,
+}
+
+impl Alignment {
+    /// The alignment that a SEGDEF's attribute byte names.
+    pub(crate) fn named_by(attribute: u8) -> Alignment
+        ensures { result ≡ alignment_named (alignment attribute) }
+    {
+        match attribute / 32 {
+            2 => Alignment::Word,
+            3 => Alignment::Paragraph,
+            4 => Alignment::Page,
+            5 => Alignment::Dword,
+            6 => Alignment::LargePage,
+            _ => Alignment::Byte,
+        }
+    }
+
+    /// How many bytes an address is a multiple of: 1, 2, 4, 16, 256 or 4,096.
+    pub fn bytes(self) -> u16
+        ensures value { result ≡ bytes_aligned self }
+        ensures some { 1 ≤ result }
+    {
+        match self {
+            Alignment::Byte => 1,
+            Alignment::Word => 2,
+            Alignment::Paragraph => 16,
+            Alignment::Page => 256,
+            Alignment::Dword => 4,
+            Alignment::LargePage => 4096,
+        }
+    }
+}

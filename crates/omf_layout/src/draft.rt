@@ -1,0 +1,242 @@
+//! The placement text of a layout.
+
+ghost use Rattle.std.specs.Prelude.{◌≡◌, ◌++◌, ◌∷◌, [], OnOk, IfOk, string_bytes, flat_map, length, Some, codes, decimal};
+ghost use Rattle.std.specs.List.{enumerate_from, zip};
+ghost use Rattle.omf_records.specs.Seen.{contents_seen};
+ghost use Rattle.omf_records.specs.Values.{Group, GroupItem};
+ghost use Rattle.omf_check.specs.Module.{records_in};
+ghost use Rattle.omf_check.specs.Tables.{names, segments, groups, externals};
+ghost use Rattle.omf_check.specs.WellFormed.{recs};
+ghost use Rattle.omf_placement.specs.Entries.{in_words};
+ghost use Rattle.omf_layout.specs.Draft.{segment_comment, segment_line, group_line, group_entry, external_line, draft_text};
+ghost use Rattle.omf_layout.specs.Layout.{layout_of};
+ghost use Rattle.omf_layout.specs.Quoted.{named};
+
+use crate::alignment::Alignment;
+use crate::laying::Layout;
+use crate::options::{Frames, Options};
+use crate::printing::{
+    print_external_entry, print_group_entry, print_index, print_name, print_quoted, print_room,
+    print_segment_entry, print_segment_room,
+};
+use omf_check::{Checked, SegInfo};
+use omf_frame::Name;
+use omf_records::Rec;
+use omf_reloc::{Frame, Placement, real_group};
+use std::alloc::{AllocError, Global};
+
+/// The name of an index in a module, in double quotes, or a dash for 0.
+fn print_named(text: &mut String, module: &Checked, index: u16) -> Result<(), AllocError>
+    ensures { OnOk result (string_bytes text.new ≡ string_bytes text.old ++ named (names (recs (records_in «module».now.bytes))) index) }
+{
+    print_name(text, module.name(index))
+}
+
+/// The names of a segment and of its class.
+fn print_names(text: &mut String, module: &Checked, segment: SegInfo) -> Result<(), AllocError>
+    ensures { OnOk result (string_bytes text.new ≡ string_bytes text.old ++ named (names (recs (records_in «module».now.bytes))) segment.name ++ codes " class " ++ named (names (recs (records_in «module».now.bytes))) segment.class) }
+{
+    print_named(text, module, segment.name)?;
+    text.push_str(" class ")?;
+    print_named(text, module, segment.class)
+}
+
+/// A segment's comment.
+fn print_segment_comment(
+    text: &mut String,
+    module: &Checked,
+    index: u16,
+    segment: SegInfo,
+    alignment: Alignment,
+) -> Result<(), AllocError>
+    ensures { OnOk result (string_bytes text.new ≡ string_bytes text.old ++ codes " ; " ++ in_words (segment_comment (recs (records_in «module».now.bytes)) index segment alignment) ++ 10 ∷ []) }
+{
+    print_index(text, index)?;
+    print_names(text, module, segment)?;
+    print_segment_room(text, segment.absolute, alignment, segment.length)
+}
+
+/// A segment's line.
+fn print_segment(
+    text: &mut String,
+    module: &Checked,
+    frames: Frames,
+    index: u16,
+    segment: SegInfo,
+    alignment: Alignment,
+    place: (u32, Frame),
+) -> Result<(), AllocError>
+    ensures { OnOk result (string_bytes text.new ≡ string_bytes text.old ++ segment_line frames (recs (records_in «module».now.bytes)) (index, ((segment, alignment), record { address = place.0; frame = place.1 }))) }
+{
+    let (address, frame) = place;
+    print_segment_entry(text, frames, address, frame)?;
+    print_segment_comment(text, module, index, segment, alignment)
+}
+
+/// A line for each segment.
+fn print_segments(
+    text: &mut String,
+    module: &Checked,
+    frames: Frames,
+    layout: &Layout,
+) -> Result<(), AllocError>
+    requires aligned { length layout.now.alignments ≡ length (segments (recs (records_in «module».now.bytes))) }
+    requires placed { length layout.now.places.segments ≡ length (segments (recs (records_in «module».now.bytes))) }
+    ensures { OnOk result (string_bytes text.new ≡ string_bytes text.old ++ flat_map (segment_line frames (recs (records_in «module».now.bytes))) (enumerate_from 1 (zip (zip (segments (recs (records_in «module».now.bytes))) layout.now.alignments) layout.now.places.segments))) }
+{
+    for before in 0..module.segments() {
+        let index = before + 1;
+        let Some(segment) = module.segment(index) else {
+            unreachable!()
+        };
+        let Some(alignment) = layout.alignment(index) else {
+            unreachable!()
+        };
+        let Some(place) = layout.placement().segment(usize::from(index)) else {
+            unreachable!()
+        };
+        print_segment(text, module, frames, index, segment, alignment, place)?;
+    }
+    Ok(())
+}
+
+/// A group's entry.
+fn print_group_place(
+    text: &mut String,
+    module: &Checked,
+    frames: Frames,
+    placement: &Placement,
+    k: u16,
+    frame: Frame,
+) -> Result<(), AllocError>
+    ensures { OnOk result (string_bytes text.new ≡ string_bytes text.old ++ group_entry frames (recs (records_in «module».now.bytes)) placement.now.segments k frame) }
+{
+    match frames {
+        Frames::Real => print_group_entry(text, real_group(module, placement, k), frame),
+        Frames::Flat { .. } => print_group_entry(text, None, frame),
+    }
+}
+
+/// A group's comment.
+fn print_group_comment(
+    text: &mut String,
+    module: &Checked,
+    index: u16,
+    name: u16,
+) -> Result<(), AllocError>
+    ensures { OnOk result (string_bytes text.new ≡ string_bytes text.old ++ codes " ; " ++ in_words (decimal index ∷ named (names (recs (records_in «module».now.bytes))) name ∷ []) ++ 10 ∷ []) }
+{
+    print_index(text, index)?;
+    print_named(text, module, name)?;
+    text.push_str("\n")
+}
+
+/// The index of a group's name.
+fn group_name(group: &Rec<'_>) -> u16
+    requires { (g : GroupItem) × (contents_seen group.now ≡ Group g) }
+    ensures { (g : GroupItem) → contents_seen group.now ≡ Group g → result ≡ g.name.item }
+{
+    match group {
+        Rec::Group { name, .. } => name.item.0,
+        _ => unreachable!(),
+    }
+}
+
+/// A group's line.
+fn print_group(
+    text: &mut String,
+    module: &Checked,
+    frames: Frames,
+    placement: &Placement,
+    index: u16,
+    group: &Rec<'_>,
+    frame: Frame,
+) -> Result<(), AllocError>
+    requires { (g : GroupItem) × (contents_seen group.now ≡ Group g) }
+    ensures { (g : GroupItem) → contents_seen group.now ≡ Group g → OnOk result (string_bytes text.new ≡ string_bytes text.old ++ group_line frames (recs (records_in «module».now.bytes)) placement.now.segments (index, (g, frame))) }
+{
+    print_group_place(text, module, frames, placement, index, frame)?;
+    print_group_comment(text, module, index, group_name(group))
+}
+
+/// A line for each group.
+fn print_groups(
+    text: &mut String,
+    module: &Checked,
+    frames: Frames,
+    layout: &Layout,
+) -> Result<(), AllocError>
+    requires { length layout.now.places.groups ≡ length (groups (recs (records_in «module».now.bytes))) }
+    ensures { OnOk result (string_bytes text.new ≡ string_bytes text.old ++ flat_map (group_line frames (recs (records_in «module».now.bytes)) layout.now.places.segments) (enumerate_from 1 (zip (groups (recs (records_in «module».now.bytes))) layout.now.places.groups))) }
+{
+    for before in 0..module.groups() {
+        let index = before + 1;
+        let Some(group) = module.group(index) else {
+            unreachable!()
+        };
+        let placement = layout.placement();
+        let Some(frame) = placement.group(usize::from(index)) else {
+            unreachable!()
+        };
+        print_group(text, module, frames, placement, index, &group, frame)?;
+    }
+    Ok(())
+}
+
+/// An external's line.
+fn print_external(
+    text: &mut String,
+    index: u16,
+    name: Name<'_>,
+    room: Option<u64>,
+    place: (u32, Frame),
+) -> Result<(), AllocError>
+    ensures { OnOk result (string_bytes text.new ≡ string_bytes text.old ++ external_line (index, ((name.entry, room), record { address = place.0; frame = place.1 }))) }
+{
+    let (address, frame) = place;
+    print_external_entry(text, address, frame)?;
+    print_index(text, index)?;
+    print_quoted(text, name.0)?;
+    print_room(text, room)
+}
+
+/// A line for each external.
+fn print_externals(text: &mut String, module: &Checked, layout: &Layout) -> Result<(), AllocError>
+    requires roomed { length layout.now.rooms ≡ length (externals (recs (records_in «module».now.bytes))) }
+    requires placed { length layout.now.places.externals ≡ length (externals (recs (records_in «module».now.bytes))) }
+    ensures { OnOk result (string_bytes text.new ≡ string_bytes text.old ++ flat_map external_line (enumerate_from 1 (zip (zip (externals (recs (records_in «module».now.bytes))) layout.now.rooms) layout.now.places.externals))) }
+{
+    for before in 0..module.externals() {
+        let index = before + 1;
+        let Some(name) = module.external(index) else {
+            unreachable!()
+        };
+        let Some(room) = layout.room(index) else {
+            unreachable!()
+        };
+        let Some(place) = layout.placement().external(usize::from(index)) else {
+            unreachable!()
+        };
+        print_external(text, index, name, room, place)?;
+    }
+    Ok(())
+}
+
+/// The placement text of a module's layout: a line for each segment, each group and each external, with a comment that says its index and
+/// its name, and of a segment its class, its alignment and its length, of a communal its length, of any other external that its place is
+/// to be filled in. Numbers in comments are decimal.
+pub fn draft_text(
+    alloc: Global,
+    module: &Checked,
+    options: Options,
+    layout: &Layout,
+) -> Result<String, AllocError>
+    requires { layout_of options (recs (records_in «module».now.bytes)) ≡ Some layout.now }
+    ensures { IfOk result (λ text. string_bytes text ≡ draft_text options.frames (recs (records_in «module».now.bytes)) layout.now) }
+{
+    let mut text = String::new(alloc);
+    print_segments(&mut text, module, options.frames, layout)?;
+    print_groups(&mut text, module, options.frames, layout)?;
+    print_externals(&mut text, module, layout)?;
+    Ok(text)
+}

@@ -1,0 +1,23 @@
+//! A first layout of a module: an address and a frame for each of its segments and externals, a frame for each of its groups, and the
+//! placement text that says them, with comments.
+#![tactic(auto)]
+
+mod alignment;
+mod draft;
+mod fault;
+pub mod laws;
+mod laying;
+mod options;
+mod printing;
+mod room;
+mod spot;
+mod wants;
+
+pub use alignment::Alignment;
+pub use draft::draft_text;
+pub use fault::LayoutFault;
+pub use laying::{Layout, layout_of};
+pub use options::{Frames, Options};
+
+#[cfg(test)]
+mod tests;

@@ -1,0 +1,168 @@
+//! The lines of a placement text with comments.
+
+ghost use Rattle.std.specs.Prelude.{◌≡◌, ◌++◌, ◌∷◌, [], OnOk, string_bytes, codes, decimal, unwrap_or, option_map, Some, ◌<◌};
+ghost use Rattle.omf_placement.specs.Placement.{real_frame};
+ghost use Rattle.omf_layout.specs.Draft.{placed_entry, is_same_frame, segment_entry, frame_entry, frame_or_real, alignment_text, room_text};
+ghost use Rattle.omf_layout.specs.Quoted.{number, hex, is_plain, escaped, quoted};
+
+use crate::alignment::Alignment;
+use crate::options::Frames;
+use omf_frame::Name;
+use omf_reloc::Frame;
+use std::alloc::AllocError;
+use std::fmt::Write;
+
+/// A letter, an address and a frame.
+fn print_placed(
+    text: &mut String,
+    letter: char,
+    address: u32,
+    frame: Frame,
+) -> Result<(), AllocError>
+    requires { letter < 128 }
+    ensures { OnOk result (string_bytes text.new ≡ string_bytes text.old ++ placed_entry (letter ∷ []) (record { address = address; frame = frame })) }
+{
+    let base = frame.base;
+    let selector = frame.selector;
+    write!(text, "{letter} {address:X} {base:X} {selector:X}")
+}
+
+/// Whether a segment at an address has the real-mode frame of that.
+fn is_in_paragraph(address: u32, frame: Frame) -> bool
+    ensures { result ≡ is_same_frame (real_frame address) frame }
+{
+    match Frame::real(address) {
+        Some(own) => own.base == frame.base && own.selector == frame.selector,
+        None => false,
+    }
+}
+
+/// A segment's entry.
+pub fn print_segment_entry(
+    text: &mut String,
+    frames: Frames,
+    address: u32,
+    frame: Frame,
+) -> Result<(), AllocError>
+    ensures { OnOk result (string_bytes text.new ≡ string_bytes text.old ++ segment_entry frames (record { address = address; frame = frame })) }
+{
+    match frames {
+        Frames::Real => {
+            if is_in_paragraph(address, frame) {
+                write!(text, "S {address:X} real")
+            } else {
+                print_placed(text, 'S', address, frame)
+            }
+        }
+        Frames::Flat { .. } => print_placed(text, 'S', address, frame),
+    }
+}
+
+/// The entry of a group of this frame, or of one whose members give it.
+pub fn print_group_entry(
+    text: &mut String,
+    by_members: Option<Frame>,
+    frame: Frame,
+) -> Result<(), AllocError>
+    ensures { OnOk result (string_bytes text.new ≡ string_bytes text.old ++ frame_or_real by_members frame) }
+{
+    let base = frame.base;
+    let selector = frame.selector;
+    match by_members {
+        Some(_) => text.push_str("G real"),
+        None => write!(text, "G {base:X} {selector:X}"),
+    }
+}
+
+/// An external's entry.
+pub fn print_external_entry(text: &mut String, address: u32, frame: Frame) -> Result<(), AllocError>
+    ensures { OnOk result (string_bytes text.new ≡ string_bytes text.old ++ placed_entry (codes "E") (record { address = address; frame = frame })) }
+{
+    print_placed(text, 'E', address, frame)
+}
+
+/// The front of a comment: an index and a space.
+pub fn print_index(text: &mut String, index: u16) -> Result<(), AllocError>
+    ensures { OnOk result (string_bytes text.new ≡ string_bytes text.old ++ codes " ; " ++ decimal index ++ 32 ∷ []) }
+{
+    write!(text, " ; {index} ")
+}
+
+/// A byte from 20H to 7EH but the quote and the backslash.
+fn is_plain(byte: u8) -> bool
+    ensures { result ≡ is_plain byte }
+{
+    byte >= 0x20 && byte <= 0x7E && byte != b'"' && byte != b'\\'
+}
+
+/// A byte as `\x` and two hexadecimal digits.
+fn print_digits(text: &mut String, byte: u8) -> Result<(), AllocError>
+    ensures { OnOk result (string_bytes text.new ≡ string_bytes text.old ++ 92 ∷ 120 ∷ hex 2 byte) }
+{
+    write!(text, "\\x{byte:02X}")
+}
+
+/// A byte of a name.
+fn print_escaped(text: &mut String, byte: u8) -> Result<(), AllocError>
+    ensures { OnOk result (string_bytes text.new ≡ string_bytes text.old ++ escaped byte) }
+{
+    if is_plain(byte) {
+        text.push(char::from(byte))
+    } else {
+        print_digits(text, byte)
+    }
+}
+
+/// A name in double quotes.
+pub fn print_quoted(text: &mut String, name: &[u8]) -> Result<(), AllocError>
+    ensures { OnOk result (string_bytes text.new ≡ string_bytes text.old ++ quoted name.now) }
+{
+    text.push_str("\"")?;
+    for byte in name {
+        print_escaped(text, *byte)?;
+    }
+    text.push_str("\"")
+}
+
+/// A name in double quotes, or a dash for none.
+pub fn print_name(text: &mut String, name: Option<Name<'_>>) -> Result<(), AllocError>
+    ensures { OnOk result (string_bytes text.new ≡ string_bytes text.old ++ unwrap_or (option_map quoted name.entry) (codes "-")) }
+{
+    match name {
+        Some(name) => print_quoted(text, name.0),
+        None => text.push_str("-"),
+    }
+}
+
+/// A segment's alignment in bytes, or that it is absolute, and its length; and the end of the line.
+pub fn print_segment_room(
+    text: &mut String,
+    absolute: Option<(u16, u8)>,
+    alignment: Alignment,
+    length: u64,
+) -> Result<(), AllocError>
+    ensures { OnOk result (string_bytes text.new ≡ string_bytes text.old ++ 32 ∷ alignment_text absolute alignment ++ codes " length " ++ decimal length ++ 10 ∷ []) }
+{
+    let align = alignment.bytes();
+    match absolute {
+        Some(_) => write!(text, " absolute length {length}\n"),
+        None => write!(text, " align {align} length {length}\n"),
+    }
+}
+
+/// What a communal asks for, and the end of the line.
+fn print_communal(text: &mut String, size: u64) -> Result<(), AllocError>
+    ensures { OnOk result (string_bytes text.new ≡ string_bytes text.old ++ 32 ∷ room_text (Some size) ++ 10 ∷ []) }
+{
+    write!(text, " communal length {size}\n")
+}
+
+/// What an external asks for, and the end of the line.
+pub fn print_room(text: &mut String, room: Option<u64>) -> Result<(), AllocError>
+    ensures { OnOk result (string_bytes text.new ≡ string_bytes text.old ++ 32 ∷ room_text room ++ 10 ∷ []) }
+{
+    match room {
+        Some(size) => print_communal(text, size),
+        None => text.push_str(" to be filled in\n"),
+    }
+}

@@ -1,0 +1,94 @@
+//! What the segments and the externals of a module ask for.
+
+ghost use Rattle.std.specs.Prelude.{◌≡◌, ◌++◌, OnOk, IfOk, length};
+ghost use Rattle.omf_records.specs.Seen.{contents_seen};
+ghost use Rattle.omf_records.specs.Sizes.{size_seen};
+ghost use Rattle.omf_records.specs.Values.{Externs, Communals};
+ghost use Rattle.omf_check.specs.Module.{records_in};
+ghost use Rattle.omf_check.specs.Tables.{segments};
+ghost use Rattle.omf_check.specs.WellFormed.{recs};
+ghost use Rattle.omf_layout.specs.Wants.{alignments, alignments_in, rooms, rooms_in, room_of};
+
+use crate::alignment::Alignment;
+use omf_check::Checked;
+use omf_records::{Communal, CommunalSize, Extern, Items, Rec};
+use std::alloc::{AllocError, Global};
+
+/// Adds the alignment of a record's segment.
+fn add_alignment(alignments: &mut Vec<Alignment>, rec: &Rec<'_>) -> Result<(), AllocError>
+    ensures { OnOk result (alignments.new.items ≡ alignments.old.items ++ alignments_in (contents_seen rec.now)) }
+{
+    match rec {
+        Rec::Segment { segment, .. } => {
+            alignments.push(Alignment::named_by(segment.attribute))?;
+            Ok(())
+        }
+        _ => Ok(()),
+    }
+}
+
+/// The alignments of a module's segments in their order.
+pub fn alignments_of(alloc: Global, module: &Checked) -> Result<Vec<Alignment>, AllocError>
+    ensures all { IfOk result (λ v. v.items ≡ alignments (recs (records_in «module».now.bytes))) }
+    ensures each { IfOk result (λ v. length v.items ≡ length (segments (recs (records_in «module».now.bytes)))) }
+{
+    let mut alignments = Vec::new(alloc);
+    for (_, rec) in module.records() {
+        add_alignment(&mut alignments, &rec)?;
+    }
+    Ok(alignments)
+}
+
+/// How many bytes a communal asks for.
+fn room_of(size: CommunalSize) -> u64
+    ensures { result ≡ room_of (size_seen size) }
+{
+    match size {
+        CommunalSize::Near(length) => u64::from(length),
+        CommunalSize::Far { count, size } => u64::from(count) * u64::from(size),
+    }
+}
+
+/// Adds that the names of an EXTDEF or a LEXTDEF ask for no room.
+fn add_externs(rooms: &mut Vec<Option<u64>>, items: Items<Extern<'_>>) -> Result<(), AllocError>
+    ensures { OnOk result (rooms.new.items ≡ rooms.old.items ++ rooms_in (Externs items.entry)) }
+{
+    for _item in items {
+        rooms.push(None)?;
+    }
+    Ok(())
+}
+
+/// Adds the rooms that the names of a COMDEF or an LCOMDEF ask for.
+fn add_communals(rooms: &mut Vec<Option<u64>>, items: Items<Communal<'_>>) -> Result<(), AllocError>
+    ensures { OnOk result (rooms.new.items ≡ rooms.old.items ++ rooms_in (Communals items.entry)) }
+{
+    for item in items {
+        rooms.push(Some(room_of(item.item.size)))?;
+    }
+    Ok(())
+}
+
+/// Adds the rooms of a record's externals.
+fn add_rooms(rooms: &mut Vec<Option<u64>>, rec: &Rec<'_>) -> Result<(), AllocError>
+    ensures { OnOk result (rooms.new.items ≡ rooms.old.items ++ rooms_in (contents_seen rec.now)) }
+{
+    match rec {
+        Rec::Externs(items) => add_externs(rooms, items.iter()),
+        Rec::LocalExterns { externs, .. } => add_externs(rooms, externs.iter()),
+        Rec::Communals(items) => add_communals(rooms, items.iter()),
+        Rec::LocalCommunals(items) => add_communals(rooms, items.iter()),
+        _ => Ok(()),
+    }
+}
+
+/// The bytes that each of a module's externals asks for, in their order; none of an external that is no communal.
+pub fn rooms_of(alloc: Global, module: &Checked) -> Result<Vec<Option<u64>>, AllocError>
+    ensures { IfOk result (λ v. v.items ≡ rooms (recs (records_in «module».now.bytes))) }
+{
+    let mut rooms = Vec::new(alloc);
+    for (_, rec) in module.records() {
+        add_rooms(&mut rooms, &rec)?;
+    }
+    Ok(rooms)
+}

@@ -1,0 +1,140 @@
+-- The start of a module is the one that its last record names, by the threads in force there.
+use Rattle.std.proofs.Common.{◌≡◌, ℕ, List, [], ◌∷◌, ◌++◌, append_assoc, refl, sym, ap, ap₂, subst, ◌∙◌, false}
+use Rattle.std.specs.Prelude.{All, Bool, Option, Some, None, IsSome, option_map, unwrap_or}
+use Rattle.std.proofs.lemmas.Bool.{true≢false}
+use Rattle.std.proofs.lemmas.List.{append-nil}
+use Rattle.std.proofs.lemmas.List.Elements.{All-head, All-tail}
+use Rattle.std.proofs.lemmas.Option.{same_Some}
+use Rattle.omf_frame.specs.Bytes.{last}
+use Rattle.omf_image.specs.Limits.{profile_limits}
+use Rattle.omf_records.specs.Seen.{kind_seen, contents_seen, rec_seen}
+use Rattle.omf_records.specs.declared.record.Rec.{Rec as Told}
+use Rattle.omf_records.specs.declared.record.Rec.TheVariants as told
+use Rattle.omf_records.specs.declared.subrecord.Reference.{Reference as Named}
+use Rattle.omf_records.specs.Values.{Rec, Contents, Names, Fixups, ModEnd, Subrecord, Reference}
+use Rattle.omf_check.proofs.ThreadLaws.{threads_kept}
+use Rattle.omf_check.specs.Judging.{frame_cell, target_cell}
+use Rattle.omf_check.specs.Kept.{HasThreads, no_threads}
+use Rattle.omf_check.specs.Sound.{is_module_end, ModuleHolds}
+use Rattle.omf_check.specs.Tables.{subrecords}
+use Rattle.omf_check.specs.Threads.{F5, T0, frame_from, target_from, PlainReference, plain}
+use Rattle.omf_check.specs.declared.threads.Threads.{Threads}
+use Rattle.omf_reloc.specs.Image.{start, starts, start_at, piece_start}
+use Rattle.omf_reloc.specs.Laws.{ReferenceIsFound}
+use Rattle.omf_reloc.specs.Offsets.{start_offset}
+use Rattle.omf_reloc.specs.Placed.{modend_type}
+use Rattle.omf_placement.specs.Placement.{Places}
+use Rattle.omf_reloc.specs.Plain.{Piece, end_byte, piece_of, pieces}
+use Rattle.omf_reloc.specs.Reach.{Reaches}
+use Rattle.omf_reloc.specs.Walking.{plain_by, threads_after, threads_through, HasStart}
+use Rattle.omf_reloc.proofs.AddedLaws.{all-added}
+use Rattle.omf_reloc.proofs.EarlierLaws.{plain-by, threads-more}
+use Rattle.omf_reloc.proofs.FoundLaws.{all-found}
+use Rattle.omf_reloc.proofs.GatherLaws.{pieces_from, subrecords-more}
+use Rattle.omf_reloc.proofs.WalkLaws.{last-end}
+
+abbrev IsNoEnd : Rec → Type 0
+IsNoEnd r = is_module_end r.contents ≡ false
+
+-- The pieces with one record more behind the others.
+pieces-behind : (before front : List Rec) (r : Rec) → pieces_from before (front ++ r ∷ []) ≡ pieces_from before front ++ piece_of (subrecords (before ++ front)) r.kind r.contents ∷ []
+pieces-behind before [] r = ap (λ b. piece_of (subrecords b) r.kind r.contents ∷ []) (sym (append-nil before))
+pieces-behind before (x ∷ front) r =
+    let p = piece_of (subrecords before) x.kind x.contents in
+    ap (λ ps. p ∷ ps) (pieces-behind (before ++ x ∷ []) front r)
+    ∙ ap (λ b. p ∷ (pieces_from (before ++ x ∷ []) front ++ piece_of (subrecords b) r.kind r.contents ∷ [])) (append_assoc before (x ∷ []) front)
+
+-- The threads after records are those that their subrecords set.
+through-kept : (threads : Threads) (before rest : List Rec) → HasThreads threads (subrecords before) → HasThreads (threads_through threads rest) (subrecords (before ++ rest))
+through-kept threads before [] h = subst (λ rs. HasThreads threads (subrecords rs)) (sym (append-nil before)) h
+through-kept threads before (r ∷ rest) h =
+    subst (λ rs. HasThreads (threads_through threads (r ∷ rest)) (subrecords rs)) (append_assoc before (r ∷ []) rest)
+    (through-kept (threads_after threads r.contents) (before ++ r ∷ []) rest (threads-more threads before r h))
+
+-- A record that is no MODEND names no start.
+no-start : (pl : Places) (earlier : List Subrecord) (kind : ℕ) (c : Contents) → is_module_end c ≡ false → piece_start pl (piece_of earlier kind c) ≡ []
+no-start pl earlier kind (Fixups subs) e = refl
+no-start pl earlier kind (ModEnd byte s) e = absurd (true≢false e)
+no-start pl earlier kind (Names items) e = refl
+no-start pl earlier kind _ e = refl
+
+starts-behind : (pl : Places) (before front : List Rec) (p : Piece) → All IsNoEnd front → starts pl (pieces_from before front ++ p ∷ []) ≡ piece_start pl p ++ []
+starts-behind pl before [] p h = refl
+starts-behind pl before (x ∷ front) p h =
+    ap (λ xs. xs ++ starts pl (pieces_from (before ++ x ∷ []) front ++ p ∷ [])) (no-start pl (subrecords before) x.kind x.contents (All-head IsNoEnd x front h))
+    ∙ starts-behind pl (before ++ x ∷ []) front p (All-tail IsNoEnd x front h)
+
+-- A module, and its last record.
+module _ (m : List Rec) (holds : ModuleHolds profile_limits m) (r : Rec) (is : Some r ≡ last m) where
+  abbrev front : List Rec
+  front = holds.ends.0
+
+  parts : m ≡ front ++ r ∷ []
+  parts =
+      let (before, end, e, t, others) = holds.ends in
+      e ∙ ap (λ x. before ++ x ∷ []) (sym (same_Some r end (is ∙ ap last e ∙ last-end None before end)))
+
+  -- its piece is the last one
+  last-piece : pieces m ≡ pieces_from [] front ++ piece_of (subrecords front) r.kind r.contents ∷ []
+  last-piece = ap pieces parts ∙ pieces-behind [] front r
+
+  pub start-is : (pl : Places) → start pl m ≡ last (piece_start pl (piece_of (subrecords front) r.kind r.contents) ++ [])
+  start-is pl =
+      let (before, end, e, t, others) = holds.ends in
+      ap (λ ps. last (starts pl ps)) last-piece ∙ ap last (starts-behind pl [] before (piece_of (subrecords before) r.kind r.contents) others)
+
+-- The last record as it is seen.
+pub seen-end : (m : List Rec) (r : Told) (wide : Bool) (byte : ℕ) (s : Option Named) (named : Option Reference) → r ≡ told.ModEnd wide byte s → s ≡ named → Some (rec_seen r) ≡ last m
+    → Some (record { kind = modend_type wide; contents = ModEnd byte named }) ≡ last m
+seen-end m r wide byte s named e f l = ap (λ x. Some (rec_seen (told.ModEnd wide byte x))) (sym f) ∙ ap (λ x. Some (rec_seen x)) (sym e) ∙ l
+
+no-end : (r : Told) → ((wide : Bool) (byte : ℕ) (s : Option Named) → r ≡ told.ModEnd wide byte s → ⊥) → is_module_end (contents_seen r) ≡ false
+no-end (told.ModEnd wide byte s) h = absurd (h wide byte s refl)
+no-end (told.Names items) h = refl
+no-end _ h = refl
+
+-- It names no start.
+module _ (pl : Places) (m : List Rec) (holds : ModuleHolds profile_limits m) where
+  pub none-here : (r : Told) → Some (rec_seen r) ≡ last m → ((wide : Bool) (byte : ℕ) (s : Option Named) → r ≡ told.ModEnd wide byte s → ⊥) → None ≡ start pl m
+  none-here r is h = sym (start-is m holds (rec_seen r) is pl ∙ ap (λ xs. last (xs ++ [])) (no-start pl (subrecords (front m holds (rec_seen r) is)) (kind_seen r) (contents_seen r) (no-end r h)))
+
+  pub none-named : (kind byte : ℕ) → Some (record { kind = kind; contents = ModEnd byte None }) ≡ last m → None ≡ start pl m
+  none-named kind byte is = sym (start-is m holds (record { kind = kind; contents = ModEnd byte None }) is pl)
+
+-- It names one.
+module _ (pl : Places) (m : List Rec) (holds : ModuleHolds profile_limits m) (reaches : Reaches pl m) (kind byte : ℕ) (r : Reference)
+    (is : Some (record { kind = kind; contents = ModEnd byte (Some r) }) ≡ last m) where
+  abbrev end : Rec
+  end = record { kind = kind; contents = ModEnd byte (Some r) }
+
+  abbrev before : List Rec
+  before = front m holds end is
+
+  found : ReferenceIsFound pl 0 (subrecords before) r
+  found = (all-found pl profile_limits m holds (record { segments = reaches.fits.segment_count; groups = reaches.fits.group_count; externals = reaches.fits.external_count })).start before [] kind byte r (parts m holds end is)
+
+  has-threads : HasThreads (threads_through no_threads m) (subrecords before)
+  has-threads =
+      subst (HasThreads (threads_through no_threads m)) (ap subrecords (parts m holds end is) ∙ subrecords-more before end ∙ append-nil (subrecords before)) (through-kept no_threads [] m threads_kept.none)
+
+  module _ (threads : Threads) (f : frame_cell threads r ≡ frame_cell (threads_through no_threads m) r) (t : target_cell threads r ≡ target_cell (threads_through no_threads m) r) where
+    pub frame-set : IsSome (frame_cell threads r)
+    frame-set = subst (λ o. IsSome o) (sym (f ∙ threads_kept.frame (threads_through no_threads m) (subrecords before) r has-threads)) found.frame_set
+
+    pub target-set : IsSome (target_cell threads r)
+    target-set = subst (λ o. IsSome o) (sym (t ∙ threads_kept.target (threads_through no_threads m) (subrecords before) r has-threads)) found.target_set
+
+    plain-is : plain_by threads r ≡ plain (subrecords before) r
+    plain-is =
+        ap₂ (λ f t. let x : PlainReference = record { frame = unwrap_or (option_map frame_from f) F5; target = unwrap_or (option_map target_from t) (T0 0); displacement = unwrap_or r.displacement 0 } in x) f t
+        ∙ sym (plain-by (threads_through no_threads m) (subrecords before) r has-threads)
+
+    pub has-start : HasStart pl kind (plain_by threads r)
+    has-start = subst (HasStart pl kind) (sym plain-is) (record {
+      places = found.places;
+      reaches = (all-added pl m reaches).start (pieces_from [] before) [] kind (end_byte byte) (plain (subrecords before) r) (last-piece m holds end is);
+    })
+
+    pub start-found : (s : ℕ × ℕ) → s ∷ [] ≡ start_at pl (plain_by threads r) (start_offset pl kind (plain_by threads r)) → Some s ≡ start pl m
+    start-found s e =
+        ap (λ xs. last (xs ++ [])) (e ∙ ap (λ q. start_at pl q (start_offset pl kind q)) plain-is) ∙ sym (start-is m holds end is pl)

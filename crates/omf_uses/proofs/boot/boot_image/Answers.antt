@@ -1,0 +1,13 @@
+use Rattle.std.proofs.Common.{◌≡◌, subst, Some}
+use Rattle.std.proofs.lemmas.Result.{err_from_is_err_and}
+use Rattle.omf_check.specs.Module.{records_in}
+use Rattle.omf_check.specs.WellFormed.{recs}
+use Rattle.omf_placement.specs.Placement.{Places}
+use Rattle.omf_reloc.specs.Reach.{reach_fault}
+use Rattle.omf_uses.proofs.boot.boot_image.Goals as goal
+
+pub returns-in_err-reach : goal.returns-in_err-reach
+returns-in_err-reach c =
+    let e = err_from_is_err_and c.from_residual-in_err-reach.result c.from_residual-in_err-reach.ensures.1 in
+    rw (e.1, e.2) (
+    subst (λ (pl : Places). reach_fault pl (recs (records_in c.args.module.now.bytes)) ≡ Some c.in_err-reach.field-0.0) c.in_ok-placement.ensures c.in_err-reach.ensures.err)

@@ -1,0 +1,44 @@
+-- What the uses of the library answer.
+use Rattle.std.specs.Prelude.{◌≡◌, ⊤, ℕ, List, [], ◌∷◌, Some, Result, Ok, Err, codes, false}
+use Rattle.omf_records.specs.Values.{Rec}
+use Rattle.omf_image.specs.Limits.{profile_limits}
+use Rattle.omf_image.specs.Overlay.{Laid, byte_at}
+use Rattle.omf_check.specs.Checking.{Decides}
+use Rattle.omf_check.specs.Module.{Module}
+use Rattle.omf_check.specs.declared.fault.CheckFault.{CheckFault}
+use Rattle.omf_check.specs.declared.profile.Profile.{Profile}
+use Rattle.omf_cmd.specs.FaultLine.{fault_line}
+use Rattle.omf_cmd.specs.Reports.{of_check}
+use Rattle.omf_cmd.specs.declared.fault.RunFault.{RunFault}
+use Rattle.omf_cmd.specs.declared.fault.RunFault.TheVariants as fault
+use Rattle.omf_reloc.specs.Image.{image}
+use Rattle.omf_placement.specs.Placement.{Places}
+use Rattle.omf_reloc.specs.Reach.{reach_fault}
+
+-- Vendors' comments are let pass.
+abbrev pub lenient : Profile
+lenient = record { refuse_vendor_comments = false }
+
+-- The line for an answer of the check.
+abbrev pub said : Result Module CheckFault → List ℕ
+said (Ok m) = codes "OK"
+said (Err f) = fault_line (of_check f)
+
+-- A line is that of what the check decides for an input.
+abbrev pub IsVerdict : List ℕ → List ℕ → Type 0
+IsVerdict input line = (judged : Result Module CheckFault) × Decides lenient input judged × (line ≡ said judged)
+
+-- One segment, at 7C00H in the frame at 0.
+abbrev pub boot_place : Places
+boot_place = record {
+  segments = record { address = 0x7C00; frame = record { base = 0; selector = 0 } } ∷ [];
+  groups = [];
+  externals = [];
+}
+
+-- Exactly the image there, or the first reason why the module does not reach there.
+abbrev pub IsBootImage : List Rec → Result (List Laid) RunFault → Type 0
+IsBootImage m (Ok made) = (segment x : ℕ) → byte_at made segment x ≡ image profile_limits boot_place m segment x
+IsBootImage m (Err fault.Memory) = ⊤
+IsBootImage m (Err (fault.Reach f)) = reach_fault boot_place m ≡ Some f
+IsBootImage m (Err _) = ⊥

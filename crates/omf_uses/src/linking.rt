@@ -1,0 +1,28 @@
+//! A linker's symbol stage.
+
+ghost use Rattle.std.specs.Prelude.{[]};
+ghost use Rattle.omf_records.specs.Seen.{map_ok};
+ghost use Rattle.omf_derive.specs.Derive.{derived};
+ghost use Rattle.omf_derive.specs.Deriving.{IsDerived};
+ghost use Rattle.omf_derive.specs.PublicTable.{placed_modules};
+
+use omf_check::Checked;
+use omf_reloc::{DeriveFault, Placement, derive};
+use std::alloc::Global;
+
+/// The placements of two modules whose segments and groups lie where their places say: each external has the address and the frame of
+/// the one public of its name, in either module.
+///
+/// # Errors
+///
+/// `Undefined`, `Twice` or `TooHigh`, with the module from 0 and the external, for the first external that has no such public. `Memory`
+/// where a growth was refused.
+pub fn link(
+    alloc: Global,
+    modules: &[Checked; 2],
+    places: &[Placement; 2],
+) -> Result<Vec<Placement>, DeriveFault>
+    ensures { IsDerived (derived (placed_modules modules.now places.now) []) (map_ok (λ v. v.items) result) }
+{
+    derive(alloc, modules, places, &[])
+}

@@ -1,0 +1,23 @@
+//! A module's key.
+
+ghost use Rattle.std.specs.Prelude.{◌≡◌, IfOk};
+ghost use Rattle.omf_canon.specs.Canonical.{canonical};
+ghost use Rattle.omf_check.specs.Module.{records_in};
+ghost use Rattle.omf_check.specs.WellFormed.{recs};
+ghost use Rattle.sha2.specs.Sha256.{sha256};
+
+use omf_canon::canon;
+use omf_check::Checked;
+use sha2::{Digest, Sha256};
+use std::alloc::{AllocError, Global};
+
+/// The SHA-256 of a module's canonical bytes. Modules that differ in spellings, checksums, threads or the cuts of their FIXUPPs alone have
+/// one key.
+pub fn key(alloc: Global, module: &Checked) -> Result<[u8; 32], AllocError>
+    ensures { IfOk result (λ key. key ≡ sha256 (canonical (recs (records_in «module».now.bytes)))) }
+{
+    let bytes = canon(alloc, module)?;
+    let mut hasher = Sha256::new();
+    hasher.update(bytes.as_slice());
+    Ok(hasher.finalize())
+}

@@ -1,0 +1,23 @@
+#!/usr/bin/env bash
+# Judges every module below a folder over all cores: run.sh FOLDER OUT   (Debian's package: parallel)
+#
+# OUT/names has the modules, OUT/log a line for each batch of 50, OUT/results the lines of judge.sh. If it is stopped, the same
+# command goes on with the batches that are not done, and with those that could not be judged. A new OUT begins anew.
+# OMF names the program. HOSTS, a file of GNU parallel's `--sshloginfile`, names hosts that work too: each needs the program,
+# this folder and the modules under the same paths.
+set -euo pipefail
+here=$(cd "$(dirname "$0")" && pwd)
+folder=${1:?usage: run.sh FOLDER OUT} out=${2:?usage: run.sh FOLDER OUT}
+command -v parallel > /dev/null || { echo "skipped: GNU parallel is not installed"; exit 0; }
+export OMF=${OMF:-omf}
+command -v "$OMF" > /dev/null || { echo "$OMF is not installed; OMF names the program" >&2; exit 2; }
+mkdir -p "$out"
+if [ ! -e "$out/names" ]; then
+    find "$(realpath "$folder")" -type f \( -iname '*.obj' -o -iname '*.o' -o -iname '*.omf' -o -iname '*.t' \) | sort > "$out/new"
+    mv "$out/new" "$out/names"
+fi
+hosts=()
+[ -z "${HOSTS:-}" ] || hosts=(--sshloginfile "$HOSTS" --env OMF ${SSH:+--ssh "$SSH"})
+parallel "${hosts[@]}" --arg-file "$out/names" --max-args 50 --joblog "$out/log" --resume-failed \
+    "$here/judge.sh" {} >> "$out/results" || echo "some modules could not be judged; the same command tries them again"
+"$here/summary.sh" "$out"

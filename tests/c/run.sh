@@ -1,0 +1,96 @@
+#!/usr/bin/env bash
+# Tries the C library: run.sh [FOLDER..]. LIBRARY names the archive (libomf.a), OMF the program (omf).
+#
+# The program calls.c is built by gcc and by clang. Each goes through every call and every status. Then each checks, lists, makes
+# canonical and relocates every module of examples/ and of the folders, and what it prints is compared with what the program prints. The
+# same is done once under valgrind, and by the Python example over a shared library. A tool that is missing is named and passed over.
+set -uo pipefail
+here=$(cd "$(dirname "$0")" && pwd)
+library=${LIBRARY:-libomf.a}
+omf=${OMF:-omf}
+work=$(mktemp -d)
+trap 'rm -rf "$work"' EXIT
+failures=0
+
+fail() {
+    echo "$1"
+    failures=$((failures + 1))
+}
+
+# The modules, under short names; each with a placement: its own, or else one that lays everything at 10000H.
+count=0
+while IFS= read -r -d '' module; do
+    count=$((count + 1))
+    copy=$work/m$(printf '%04d' "$count")
+    cp "$module" "$copy"
+    if [ -f "${module%.*}.place" ]; then
+        cp "${module%.*}.place" "$copy.place"
+    else
+        "$omf" list < "$module" \
+            | awk '$1 == "S" { print "S 10000 10000 1000" } $1 == "G" { print "G 10000 1000" } $1 == "E" { print "E 10100 10000 1000" }' > "$copy.place"
+    fi
+done < <(find "$here/../../examples" "$@" -type f \( -iname '*.obj' -o -iname '*.o' -o -iname '*.omf' -o -iname '*.t' \) -print0 | sort -z)
+modules=("$work"/m[0-9][0-9][0-9][0-9])
+
+# What the program prints of each.
+jobs=(check list reloc)
+if "$omf" canon < "$here/../../examples/first.omf" > /dev/null; then
+    jobs+=(canon)
+else
+    echo "the program has no word canon: canonical bytes are not compared with it"
+fi
+for job in "${jobs[@]}"; do
+    for module in "${modules[@]}"; do
+        echo "== $module"
+        if [ "$job" = reloc ]; then
+            # What stands behind the module's end is no placement: the module alone is given to the program.
+            size=$("$omf" check < "$module" | sed -n 's/^OK .* records, \(.*\) bytes$/\1/p')
+            head -c "${size:-$(stat -c %s "$module")}" "$module" | cat - "$module.place" | "$omf" reloc
+        else
+            "$omf" "$job" < "$module"
+        fi
+    done > "$work/$job.wanted"
+done
+
+compare() { # compare NAME COMMAND..: what the command prints for each job is what the program prints
+    local name=$1
+    shift
+    for job in "${jobs[@]}"; do
+        "$@" "$job" "${modules[@]}" > "$work/$job.is" || fail "$name: $job fails"
+        cmp -s "$work/$job.is" "$work/$job.wanted" || fail "$name: $job differs: $(diff -a "$work/$job.is" "$work/$job.wanted" | head -3)"
+    done
+}
+
+for compiler in gcc clang; do
+    if ! command -v "$compiler" > /dev/null; then
+        echo "$compiler is missing: passed over"
+        continue
+    fi
+    "$compiler" -std=c11 -Wall -Wextra -Werror -O1 -g -Wl,--wrap=malloc,--wrap=realloc -I"$here/../../include" "$here/calls.c" "$library" -o "$work/calls-$compiler" || {
+        fail "$compiler does not build it"
+        continue
+    }
+    said=$("$work/calls-$compiler") || fail "$compiler: a call answers otherwise"
+    echo "$compiler: $said"
+    compare "$compiler" "$work/calls-$compiler"
+    echo "$compiler: ${jobs[*]} as the program, on $count modules"
+done
+
+if ! command -v valgrind > /dev/null; then
+    echo "valgrind is missing: passed over"
+elif [ -x "$work/calls-gcc" ]; then
+    valgrind=(valgrind -q --error-exitcode=9 --leak-check=full)
+    said=$("${valgrind[@]}" "$work/calls-gcc") || fail "valgrind finds an error"
+    echo "valgrind: $said"
+    compare valgrind "${valgrind[@]}" "$work/calls-gcc"
+    echo "valgrind: ${jobs[*]} as the program, on $count modules"
+fi
+if ! command -v python3 > /dev/null || ! command -v gcc > /dev/null; then
+    echo "python3 or gcc is missing: passed over"
+else
+    gcc -shared -o "$work/libomf.so" -Wl,--whole-archive "$library" -Wl,--no-whole-archive || fail "no shared library is made"
+    export LIBOMF=$work/libomf.so
+    compare python python3 "$here/../../examples/python/omf.py"
+    echo "python: ${jobs[*]} as the program, on $count modules"
+fi
+exit $((failures > 0))
