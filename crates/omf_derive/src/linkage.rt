@@ -12,9 +12,9 @@ ghost use Rattle.omf_derive.specs.PublicTable.{IsTable, placed_modules};
 
 use crate::fault::DeriveFault;
 use crate::given::{Given, GivenTable};
-use omf_placement::{Placed, Placement};
 use crate::publics::PublicTable;
 use omf_check::Checked;
+use omf_placement::{Placed, Placement};
 use std::alloc::Global;
 
 /// The place of an external of this name: that which it is given, or else that of the one public of its name.

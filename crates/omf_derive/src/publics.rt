@@ -11,8 +11,8 @@ ghost use Rattle.omf_derive.specs.Derive.{PlacedPublic, paragraph, base_of, publ
 ghost use Rattle.omf_derive.specs.PublicTable.{IsTable, HasMore, found_after, placed_modules};
 
 use crate::fault::DeriveFault;
-use omf_placement::{Frame, Placed, Placement};
 use omf_check::Checked;
+use omf_placement::{Frame, Placed, Placement};
 use omf_records::{Items, Public, Rec};
 use std::alloc::{AllocError, Global};
 use std::collections::BTreeMap;

@@ -13,9 +13,9 @@ ghost use Rattle.omf_reloc.specs.Reach.{Reaches};
 ghost use Rattle.omf_reloc.specs.Walking.{threads_after, threads_through, HasStart};
 
 use crate::offset::{frame_of, start_offset};
-use omf_placement::Placement;
 use crate::plain::{PlainReference, plain_reference};
 use omf_check::{Checked, Threads};
+use omf_placement::Placement;
 use omf_records::{Rec, Reference};
 
 /// The start that a MODEND, wide or not, names: the selector of its frame, and its offset.
