@@ -172,13 +172,22 @@ fn keeps_shortest_local_records(rt: HostRuntime) -> Result<(), Fail> {
     Ok(())
 }
 
+/// How many items there are.
+fn size_of<T: Item>(items: Items<T>) -> u32 {
+    let mut size = 0u32;
+    for _item in items {
+        size = size.saturating_add(1);
+    }
+    size
+}
+
 /// The kind of a record that is local, and how many names it has; none of another record.
-fn local_kind(rec: &Rec<'_>) -> Option<(u8, usize)> {
+fn local_kind(rec: &Rec<'_>) -> Option<(u8, u32)> {
     match rec {
-        Rec::LocalNames(names) => Some((rec.kind(), names.iter().count())),
-        Rec::LocalExterns { externs, .. } => Some((rec.kind(), externs.iter().count())),
-        Rec::LocalPublics { publics, .. } => Some((rec.kind(), publics.iter().count())),
-        Rec::LocalCommunals(communals) => Some((rec.kind(), communals.iter().count())),
+        Rec::LocalNames(names) => Some((rec.kind(), size_of(names.iter()))),
+        Rec::LocalExterns { externs, .. } => Some((rec.kind(), size_of(externs.iter()))),
+        Rec::LocalPublics { publics, .. } => Some((rec.kind(), size_of(publics.iter()))),
+        Rec::LocalCommunals(communals) => Some((rec.kind(), size_of(communals.iter()))),
         _ => None,
     }
 }
