@@ -17,6 +17,3 @@ mod writing;
 pub use fault::CanonFault;
 pub use output::canon_to;
 pub use writing::canon;
-
-#[cfg(test)]
-mod tests;

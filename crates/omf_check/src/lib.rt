@@ -29,8 +29,6 @@ mod rule;
 mod segment;
 mod session;
 mod table;
-#[cfg(test)]
-mod tests;
 mod threads;
 
 pub use checked::Checked;

@@ -142,6 +142,3 @@ pub fn print_image<K: Sink>(
     print_start(&mut text, start)?;
     write_all(writer, text.as_bytes())
 }
-
-#[cfg(test)]
-mod tests;

@@ -23,11 +23,10 @@ mod relocation;
 mod report;
 pub mod rows;
 mod running;
-#[cfg(test)]
-mod tests;
 mod words;
 
 pub use fault::RunFault;
+pub use image_text::print_image;
 pub use printed::fault_line;
 pub use program::{fail, main_with};
 pub use relocation::{Listing, run_reloc};

@@ -298,6 +298,3 @@ impl Sink for Taker {
         Ok(count)
     }
 }
-
-#[cfg(test)]
-mod tests;

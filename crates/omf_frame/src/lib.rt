@@ -38,6 +38,3 @@ pub use laws::{
 pub use pull::pull_piece;
 pub use sums::checksum;
 pub use write::{push_all, write_record};
-
-#[cfg(test)]
-mod tests;

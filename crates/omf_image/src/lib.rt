@@ -29,6 +29,3 @@ pub use limits::Limits;
 pub use painting::{Extent, painted};
 pub use part::{Part, add_part};
 pub use run::Run;
-
-#[cfg(test)]
-mod tests;

@@ -75,6 +75,3 @@ pub fn real_group(module: &Checked, placement: &Placement, i: u16) -> Option<Fra
 {
     member_frame(module, placement.segments(), usize::from(i))
 }
-
-#[cfg(test)]
-mod tests;

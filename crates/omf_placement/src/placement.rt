@@ -167,6 +167,3 @@ impl Placement {
         self.externals[i - 1]
     }
 }
-
-#[cfg(test)]
-mod tests;

@@ -60,6 +60,27 @@ impl Draft {
         Ok(())
     }
 
+    /// What the `S` lines say, in their order.
+    pub fn segments(&self) -> &[Placed]
+        ensures { result.now ≡ self.now.segments }
+    {
+        &self.segments
+    }
+
+    /// The number of each `G` line, from 1, and the frame that it gives; `None` where it says `real`.
+    pub fn groups(&self) -> &[(u64, Option<Frame>)]
+        ensures { result.now ≡ self.now.groups }
+    {
+        &self.groups
+    }
+
+    /// What the `E` lines say, in their order.
+    pub fn externals(&self) -> &[Placed]
+        ensures { result.now ≡ self.now.externals }
+    {
+        &self.externals
+    }
+
     /// The placement of a module that the entries give. Segments and externals lie where the text says. A group has the frame that the
     /// text gives it, or, at `G real`, the frame of its member that lies lowest, as `real_group` has it. The k-th of all `G` lines
     /// speaks of the k-th group, and all `S` lines count, also later ones.
@@ -152,6 +173,3 @@ pub fn parse_placement(alloc: Global, text: &[u8]) -> Result<Draft, TextFault>
     }
     Ok(draft)
 }
-
-#[cfg(test)]
-mod tests;

@@ -50,6 +50,3 @@ pub use record::{Blocks, Rec, Segment};
 pub use subrecord::{Part, Reference, Subrecord, put_reference};
 pub use unread::Unread;
 pub use writing::put_rec;
-
-#[cfg(test)]
-mod tests;

@@ -14,8 +14,6 @@
 #![tactic(auto)]
 
 mod addition;
-#[cfg(test)]
-mod derived_tests;
 pub mod edges;
 mod fault;
 pub mod laws;

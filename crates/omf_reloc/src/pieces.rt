@@ -268,6 +268,3 @@ pub fn pieces_of(module: &Checked) -> Pieces<'_>
         steps: Steps::new(module.records()),
     }
 }
-
-#[cfg(test)]
-mod tests;

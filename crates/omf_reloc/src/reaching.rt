@@ -175,6 +175,3 @@ pub fn reach(module: &Checked, placement: &Placement) -> Result<(), ReachFault>
         None => Ok(()),
     }
 }
-
-#[cfg(test)]
-mod tests;

@@ -218,6 +218,3 @@ pub fn relocate(alloc: Global, module: &Checked, placement: &Placement) -> Resul
     }
     walk.finish()
 }
-
-#[cfg(test)]
-mod tests;
