@@ -45,14 +45,16 @@ def peak(found):
     return "-" if found is None else f"{found[1]:.1f}"
 
 
-def others(module):
-    """Other programs that read such modules, where they are installed."""
-    known = [
-        ("rabin2 -R", ["rabin2", "-R", str(module)]),
-        ("objconv -fomf", ["objconv", "-fomf", str(module), "/dev/null"]),
-        ("objconv -dfhsr", ["objconv", "-dfhsr", str(module)]),
-    ]
-    return [(name, command) for name, command in known if shutil.which(command[0])]
+def beside(job, module):
+    """Other programs that do much the same as a job, where they are installed: they list a module, or write it anew."""
+    known = {
+        "list": [
+            ("rabin2 -R", ["rabin2", "-R", str(module)]),
+            ("objconv -dfhsr", ["objconv", "-dfhsr", str(module)]),
+        ],
+        "canon": [("objconv -fomf", ["objconv", "-fomf", str(module), "/dev/null"])],
+    }
+    return [(name, command) for name, command in known.get(job, []) if shutil.which(command[0])]
 
 
 def main():
@@ -75,8 +77,8 @@ def main():
                 f" | {peak(then)} | {peak(now)} |",
                 flush=True,
             )
-        for name, command in others(module):
-            print(f"| {module.stem} | | | {name} | | {ratio(run(command, module), sha)} | | |", flush=True)
+            for name, command in beside(job, module):
+                print(f"| {module.stem} | | | {name} | | {ratio(run(command, module), sha)} | | |", flush=True)
 
 
 main()

@@ -14,4 +14,5 @@ pub mod WellFormedLaws
 pub mod FramedLaws
 pub mod StreamLaws
 pub mod WritingLaws
+pub mod TakingLaws
 pub mod FormLaws

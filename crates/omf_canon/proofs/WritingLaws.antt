@@ -148,7 +148,7 @@ fits-from (End kind byte s ∷ ps) o h = All-cons CanPut (End kind byte s) (flat
 fits-all : (m : List Rec) → All IsRecord (canonical_raws (skeleton m)) → All CanPut (single_pieces m)
 fits-all m h = fits-from (pieces m) None (subst (All IsRecord) (sym (streamed-canonical (pieces m))) h)
 
--- What is known while pieces are walked over: they can be written, and what is written and what is left are the canonical bytes.
+-- What is known while pieces are left: they can be written, and what is written and what is left are the canonical bytes.
 pub record IsWritten (m : List Rec) (out : List ℕ) (group : Option Held) (rest : List Piece) : Type 0 where
   pub can : All CanPut rest
   pub same : out ++ bytes_left group rest ≡ canonical m
@@ -159,18 +159,6 @@ module _ (m : List Rec) where
       subst (λ x. IsWritten m x group rest) (sym o)
       (subst (λ x. IsWritten m [] x rest) (sym g)
       (subst (IsWritten m [] None) (sym e) (record { can = fits-all m h; same = left-all m })))
-
-  pub can-write : (out : List ℕ) (group : Option Held) (p : Piece) (rest : List Piece) → IsWritten m out group (p ∷ rest) → CanPut p
-  can-write out g p rest h = All-head CanPut p rest h.can
-
-  pub write-next : (out : List ℕ) (group : Option Held) (p : Piece) (rest : List Piece) → IsWritten m out group (p ∷ rest) → (out' : List ℕ) (group' : Option Held)
-      → out' ≡ out ++ piece_puts p group → group' ≡ piece_held p group → IsWritten m out' group' rest
-  write-next out group p rest h out' group' o g =
-      subst (λ x. IsWritten m x group' rest) (sym o)
-      (subst (λ x. IsWritten m (out ++ piece_puts p group) x rest) (sym g) (record {
-        can = All-tail CanPut p rest h.can;
-        same = append_assoc out (piece_puts p group) (bytes_left (piece_held p group) rest) ∙ h.same;
-      }))
 
 pub write-last : {E : Type 0} (m : List Rec) (out : List ℕ) (g : Option Held) → IsWritten m out g [] → (r : Result (Vec ℕ Global) E)
     → IfOk r (λ v. v.items ≡ out ++ closed g) → IfOk r (λ v. v.items ≡ canonical m)

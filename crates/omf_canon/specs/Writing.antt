@@ -1,9 +1,13 @@
--- What a walk over a module's pieces writes, step by step, with at most one open FIXUPP. Private functions speak in these words; public ones
+-- What a walk over a module's records writes, step by step, with at most one open FIXUPP. Private functions speak in these words; public ones
 -- say what the canonical bytes are by their definition.
-use Rattle.std.specs.Prelude.{ℕ, ◌+◌, ◌≤◌, ⊤, List, [], ◌∷◌, ◌++◌, length, Bool, ◌&&◌, ◌==◌, nat_le, Option, Some, None, if◌then◌else◌}
+use Rattle.std.specs.Prelude.{◌≡◌, ℕ, ◌+◌, ◌≤◌, ⊤, List, [], ◌∷◌, ◌++◌, length, Bool, ◌&&◌, ◌==◌, nat_le, Option, Some, None, option_map, if◌then◌else◌}
 use Rattle.omf_frame.specs.Framing.{raw_bytes, raw_of}
 use Rattle.omf_records.specs.Shortest.{contents_bytes}
-use Rattle.omf_reloc.specs.Plain.{Piece, Kept, Fixed, End}
+use Rattle.omf_records.specs.Values.{At, Rec, alone, Contents, Fixups, ModEnd, Subrecord, Thread, Fixup}
+use Rattle.omf_check.specs.Kept.{set_thread}
+use Rattle.omf_check.specs.declared.threads.Threads.{Threads}
+use Rattle.omf_reloc.specs.Plain.{Piece, Kept, Fixed, End, end_byte}
+use Rattle.omf_reloc.specs.Walking.{plain_by, plain_fixup_by, threads_after}
 use Rattle.omf_canon.specs.Cut.{body_limit}
 use Rattle.omf_canon.specs.PlainBytes.{fixup_bytes, start_bytes}
 
@@ -59,3 +63,25 @@ CanPut (End kind byte start) = ⊤
 abbrev pub bytes_left : Option Held → List Piece → List ℕ
 bytes_left h [] = closed h
 bytes_left h (p ∷ ps) = piece_puts p h ++ bytes_left (piece_held p h) ps
+
+-- The pieces that records give by the threads in force, each fixup a piece of its own.
+abbrev pub subrecord_piece : Threads → ℕ → Subrecord → List Piece
+subrecord_piece threads kind (Thread byte datum) = []
+subrecord_piece threads kind (Fixup locat r) = Fixed kind (plain_fixup_by threads locat r ∷ []) ∷ []
+
+abbrev pub subrecord_pieces : Threads → ℕ → List (At Subrecord) → List Piece
+subrecord_pieces threads kind [] = []
+subrecord_pieces threads kind (s ∷ subs) = subrecord_piece threads kind s.item ++ subrecord_pieces (set_thread threads s.item) kind subs
+
+abbrev pub contents_pieces : Threads → ℕ → Contents → List Piece
+contents_pieces threads kind (Fixups subs) = subrecord_pieces threads kind subs
+contents_pieces threads kind (ModEnd byte start) = End kind (end_byte byte) (option_map (plain_by threads) start) ∷ []
+contents_pieces threads kind c = Kept (alone (record { kind = kind; contents = c })) ∷ []
+
+abbrev pub record_pieces : Threads → List Rec → List Piece
+record_pieces threads [] = []
+record_pieces threads (r ∷ rs) = contents_pieces threads r.kind r.contents ++ record_pieces (threads_after threads r.contents) rs
+
+-- These pieces were written, from bytes and an open FIXUPP to others: with any pieces behind them both come to the same bytes.
+abbrev pub ArePut : List Piece → List ℕ → Option Held → List ℕ → Option Held → Type 0
+ArePut ps out group new_out new_group = (rest : List Piece) → new_out ++ bytes_left new_group rest ≡ out ++ bytes_left group (ps ++ rest)

@@ -1,6 +1,6 @@
 //! Canonical bytes to a writer.
 
-ghost use Rattle.std.specs.Prelude.{◌≡◌, IfOk, IfErr};
+ghost use Rattle.std.specs.Prelude.{◌≡◌, ◌≤◌, IfOk, IfErr};
 ghost use Rattle.omf_frame.specs.Device.{Writes};
 ghost use Rattle.omf_check.specs.Module.{records_in};
 ghost use Rattle.omf_check.specs.WellFormed.{recs};
@@ -22,6 +22,7 @@ use std::alloc::Global;
 pub fn canon_to<S: Sink>(alloc: Global, module: &Checked, writer: &mut S) -> Result<(), CanonFault>
     ensures bytes { Writes (S.seen writer.old).bytes (S.seen writer.new).bytes result (canonical (recs (records_in «module».now.bytes))) }
     ensures cause { IfErr result (IsCanonFault (S.seen writer.old) (S.seen writer.new)) }
+    ensures grows { (S.seen writer.old).failures ≤ (S.seen writer.new).failures }
     ensures unbroken { IfOk result (λ done. (S.seen writer.new).breaks ≡ (S.seen writer.old).breaks) }
 {
     let Ok(bytes) = canon(alloc, module) else {

@@ -1,42 +1,31 @@
 //! The canonical bytes of a module.
 
-ghost use Rattle.std.specs.Prelude.{All, ◌≡◌, ◌≤◌, ◌++◌, [], ◌∷◌, None, Some, OnOk, IfOk, length};
+ghost use Rattle.std.specs.Prelude.{All, ◌≡◌, ◌≤◌, ◌+◌, ◌++◌, ◌&&◌, ◌==◌, [], ◌∷◌, None, Some, Ok, OnOk, IfOk, IsTrue, length, nat_le, option_map};
+ghost use Rattle.omf_check.specs.Judging.{IsNoFixupp};
+ghost use Rattle.omf_check.specs.Kept.{no_threads, set_thread, set_threads};
+ghost use Rattle.omf_check.specs.Listed.{StartsWithRecord};
 ghost use Rattle.omf_check.specs.Module.{records_in};
 ghost use Rattle.omf_check.specs.WellFormed.{recs};
-ghost use Rattle.omf_frame.specs.Framing.{IsRecord};
-ghost use Rattle.omf_records.specs.Seen.{rec_seen};
-ghost use Rattle.omf_records.specs.Values.{alone};
-ghost use Rattle.omf_reloc.specs.PieceSeen.{piece_seen};
-ghost use Rattle.omf_reloc.specs.Placed.{fixupp_type, modend_type};
-ghost use Rattle.omf_reloc.specs.Plain.{Kept};
+ghost use Rattle.omf_frame.specs.Framing.{IsRecord, front_record, present, after_front, is_taken};
+ghost use Rattle.omf_records.specs.Reading.{read_body};
+ghost use Rattle.omf_records.specs.Seen.{rec_seen, kind_seen, contents_seen};
+ghost use Rattle.omf_records.specs.Shortest.{reference_bytes, subrecord_bytes};
+ghost use Rattle.omf_records.specs.Values.{alone, Fixup};
+ghost use Rattle.omf_reloc.specs.Plain.{Kept, End, end_byte};
+ghost use Rattle.omf_reloc.specs.Walking.{plain_by, threads_after};
 ghost use Rattle.omf_canon.specs.Canonical.{canonical, canonical_raws};
 ghost use Rattle.omf_canon.specs.Skeleton.{skeleton};
 ghost use Rattle.omf_canon.specs.Form.{IsFormOf};
-ghost use Rattle.omf_canon.specs.PlainBytes.{fixup_bytes, start_bytes};
-ghost use Rattle.omf_canon.specs.Writing.{Held, held, record_bytes, closed, has_room, held_with, closed_by, piece_held, piece_puts, CanPut};
+ghost use Rattle.omf_canon.specs.PlainBytes.{start_bytes};
+ghost use Rattle.omf_canon.specs.Writing.{Held, held, record_bytes, closed, held_with, closed_by, piece_puts, CanPut, subrecord_piece, subrecord_pieces, contents_pieces, ArePut};
 
 use crate::laws;
-use crate::plain::{fixup_bytes, put_start};
-use omf_check::Checked;
-use omf_frame::checksum;
-use omf_records::{Rec, put_rec};
-use omf_reloc::{Piece, PlainFixup, PlainReference, pieces_of};
+use crate::plain::{FIXUP_LIMIT, fixup_size, put_fixup, put_start, unthreaded_fixup};
+use omf_check::{Checked, Threads};
+use omf_frame::{RawRecord, checksum};
+use omf_records::{Part, Rec, Reference, Subrecord, Unread, put_rec, unread_fixups, view};
 use std::alloc::{AllocError, Global};
 use std::marker::Model;
-
-/// The type of a FIXUPP, wide or not.
-fn fixupp_type(wide: bool) -> u8
-    ensures { result ≡ fixupp_type wide }
-{
-    if wide { 0x9D } else { 0x9C }
-}
-
-/// The type of a MODEND, wide or not.
-fn modend_type(wide: bool) -> u8
-    ensures { result ≡ modend_type wide }
-{
-    if wide { 0x8B } else { 0x8A }
-}
 
 /// Type byte, two bytes of length and the checksum leave so many bytes for the contents of a canonical FIXUPP.
 const BODY_LIMIT: usize = 1020;
@@ -71,21 +60,47 @@ impl Model for Group {
 }
 
 impl Group {
-    /// It has this type, and room for these bytes.
-    fn has_room(&self, kind: u8, bytes: &[u8]) -> bool
-        requires { length bytes.now ≤ 11 }
-        ensures { result ≡ has_room kind bytes.now self.now }
+    /// The FIXUPP that a fixup opens.
+    fn open(
+        alloc: Global,
+        kind: u8,
+        location: u16,
+        reference: &Reference,
+    ) -> Result<Group, AllocError>
+        ensures { IfOk result (λ g. g ≡ held kind (subrecord_bytes kind (Fixup location reference.now))) }
     {
-        self.kind == kind && self.body.len() + bytes.len() <= BODY_LIMIT
+        let mut body = Vec::with_capacity(alloc, BODY_LIMIT + FIXUP_LIMIT)?;
+        put_fixup(&mut body, kind, location, reference)?;
+        Ok(Group { kind, body })
+    }
+
+    /// It has this type, and room for so many bytes.
+    #[inline(always)]
+    fn has_room(&self, kind: u8, size: usize) -> bool
+        requires { size ≤ 11 }
+        ensures { result ≡ ((self.now.kind == kind) && nat_le (length self.now.body + size) 1020) }
+    {
+        self.kind == kind && self.body.len() + size <= BODY_LIMIT
+    }
+
+    /// Takes a fixup that has room.
+    #[inline(always)]
+    fn push(&mut self, location: u16, reference: &Reference) -> Result<(), AllocError>
+        requires { length self.old.body + (2 + length (reference_bytes self.old.kind reference.now)) ≤ 1020 }
+        ensures { OnOk result (self.new ≡ held self.old.kind (self.old.body ++ subrecord_bytes self.old.kind (Fixup location reference.now))) }
+    {
+        put_fixup(&mut self.body, self.kind, location, reference)
     }
 }
 
-/// A walk over a module's pieces.
+/// A walk over a module's records.
 #[derive(Drop)]
 struct Walk {
     out: Vec<u8>,
     /// The FIXUPP that is open.
     group: Option<Group>,
+    /// The threads in force.
+    threads: Threads,
 }
 
 /// Writes the record of an open FIXUPP, if there is one.
@@ -98,48 +113,89 @@ fn close(out: &mut Vec<u8>, group: Option<Group>) -> Result<(), AllocError>
     }
 }
 
-/// The open FIXUPP with the bytes of a fixup more; where they have no room in it, it is written, and they open the next.
-fn join(
-    out: &mut Vec<u8>,
-    group: Option<Group>,
-    kind: u8,
-    bytes: Vec<u8>,
-) -> Result<Group, AllocError>
-    requires { length bytes.items ≤ 11 }
-    ensures out { OnOk result (out.new.items ≡ out.old.items ++ closed_by kind bytes.items group) }
-    ensures group { IfOk result (λ g. Some g ≡ held_with kind bytes.items group) }
-{
-    if let Some(mut group) = group {
-        if group.has_room(kind, &bytes) {
-            group.body.extend_from_slice(&bytes)?;
-            return Ok(group);
-        }
-        put_record(out, group.kind, &group.body)?;
-    }
-    Ok(Group { kind, body: bytes })
-}
-
 impl Walk {
-    /// No piece is walked over, and there is room for so many bytes.
+    /// No record is walked over, and there is room for so many bytes.
     fn new(alloc: Global, capacity: usize) -> Result<Walk, AllocError>
         ensures out { IfOk result (λ w. w.out.items ≡ []) }
         ensures group { IfOk result (λ w. w.group ≡ None) }
+        ensures threads { IfOk result (λ w. w.threads ≡ no_threads) }
     {
         Ok(Walk {
             out: Vec::with_capacity(alloc, capacity)?,
             group: None,
+            threads: Threads::new(),
         })
     }
 
-    /// Takes a fixup of a FIXUPP of a type.
-    fn take_fixup(&mut self, alloc: Global, kind: u8, fixup: &PlainFixup) -> Result<(), AllocError>
-        ensures out { OnOk result (self.new.out.items ≡ self.old.out.items ++ closed_by kind (fixup_bytes kind fixup.now) self.old.group) }
-        ensures group { OnOk result (self.new.group ≡ held_with kind (fixup_bytes kind fixup.now) self.old.group) }
+    /// Takes a fixup that names no thread, of a FIXUPP of a type: it joins the open one, if that has its type and room for it; else that
+    /// is written, and the fixup opens the next.
+    #[inline(always)]
+    fn take_fixup(
+        &mut self,
+        alloc: Global,
+        kind: u8,
+        location: u16,
+        reference: &Reference,
+    ) -> Result<(), AllocError>
+        ensures out { OnOk result (self.new.out.items ≡ self.old.out.items ++ closed_by kind (subrecord_bytes kind (Fixup location reference.now)) self.old.group) }
+        ensures group { OnOk result (self.new.group ≡ held_with kind (subrecord_bytes kind (Fixup location reference.now)) self.old.group) }
+        ensures threads { self.new.threads ≡ self.old.threads }
     {
-        let bytes = fixup_bytes(alloc, kind, fixup)?;
-        let group = join(&mut self.out, self.group.take(), kind, bytes)?;
-        self.group = Some(group);
+        if let Some(group) = &mut self.group {
+            if group.has_room(kind, fixup_size(kind, reference)) {
+                return group.push(location, reference);
+            }
+        }
+        close(&mut self.out, self.group.take())?;
+        self.group = Some(Group::open(alloc, kind, location, reference)?);
         Ok(())
+    }
+
+    /// Takes a subrecord of a FIXUPP of a type.
+    #[inline(always)]
+    fn take_subrecord(
+        &mut self,
+        alloc: Global,
+        kind: u8,
+        subrecord: &Subrecord<'_>,
+    ) -> Result<(), AllocError>
+        ensures put { OnOk result (ArePut (subrecord_piece self.old.threads kind subrecord.now) self.old.out.items self.old.group self.new.out.items self.new.group) }
+        ensures threads { OnOk result (self.new.threads ≡ set_thread self.old.threads subrecord.now) }
+    {
+        match &subrecord.part {
+            Part::Thread { .. } => {
+                self.threads.set(subrecord);
+                Ok(())
+            }
+            Part::Fixup {
+                location,
+                reference,
+            } => {
+                let plain = unthreaded_fixup(&self.threads, *location, reference);
+                self.take_fixup(alloc, kind, *location, &plain)
+            }
+        }
+    }
+
+    /// Takes the subrecords of a FIXUPP of a type, which are well spelled.
+    fn take_fixups(
+        &mut self,
+        alloc: Global,
+        kind: u8,
+        subrecords: Unread<Subrecord<'_>>,
+    ) -> Result<(), AllocError>
+        ensures put { (subs : _) → subrecords.entry.items ≡ Ok subs → OnOk result (ArePut (subrecord_pieces self.old.threads kind subs) self.old.out.items self.old.group self.new.out.items self.new.group) }
+        ensures threads { (subs : _) → subrecords.entry.items ≡ Ok subs → OnOk result (self.new.threads ≡ set_threads self.old.threads subs) }
+    {
+        let mut subrecords = subrecords;
+        'walk: loop {
+            let subrecord = match subrecords.read_next() {
+                Ok(Some(subrecord)) => subrecord,
+                Ok(None) => return Ok(()),
+                Err(_) => return Ok(()),
+            };
+            self.take_subrecord(alloc, kind, &subrecord.item)?;
+        }
     }
 
     /// Writes a record of a type behind the FIXUPP that is open.
@@ -147,6 +203,7 @@ impl Walk {
         requires { length body.now ≤ 65534 }
         ensures out { OnOk result (self.new.out.items ≡ self.old.out.items ++ (closed self.old.group ++ record_bytes kind body.now)) }
         ensures group { OnOk result (self.new.group ≡ None) }
+        ensures threads { self.new.threads ≡ self.old.threads }
     {
         close(&mut self.out, self.group.take())?;
         put_record(&mut self.out, kind, body)
@@ -157,30 +214,61 @@ impl Walk {
         requires { CanPut (Kept (alone (rec_seen rec.now))) }
         ensures out { OnOk result (self.new.out.items ≡ self.old.out.items ++ piece_puts (Kept (alone (rec_seen rec.now))) self.old.group) }
         ensures group { OnOk result (self.new.group ≡ None) }
+        ensures threads { self.new.threads ≡ self.old.threads }
     {
         let mut body = Vec::new(alloc);
         put_rec(&mut body, rec)?;
         self.write(rec.kind(), &body)
     }
 
-    /// Takes the next piece.
-    fn take(&mut self, alloc: Global, piece: &Piece<'_>) -> Result<(), AllocError>
-        requires { CanPut (piece_seen piece.now) }
-        ensures out { OnOk result (self.new.out.items ≡ self.old.out.items ++ piece_puts (piece_seen piece.now) self.old.group) }
-        ensures group { OnOk result (self.new.group ≡ piece_held (piece_seen piece.now) self.old.group) }
+    /// Writes a MODEND of a type, with bit 0 of its type byte as bit 6, and the ignored bits 0.
+    fn end(
+        &mut self,
+        alloc: Global,
+        kind: u8,
+        type_byte: u8,
+        start: &Option<Reference>,
+    ) -> Result<(), AllocError>
+        ensures out { OnOk result (self.new.out.items ≡ self.old.out.items ++ piece_puts (End kind (end_byte type_byte) (option_map (plain_by self.old.threads) start.now)) self.old.group) }
+        ensures group { OnOk result (self.new.group ≡ None) }
+        ensures threads { self.new.threads ≡ self.old.threads }
     {
-        match piece {
-            Piece::Kept(rec) => self.keep(alloc, rec),
-            Piece::Fixed { wide, fixup } => self.take_fixup(alloc, fixupp_type(*wide), fixup),
-            Piece::End {
-                wide,
+        let body = end_contents(alloc, kind, end_byte(type_byte), &self.threads, start)?;
+        self.write(kind, &body)
+    }
+
+    /// Takes a record that is no FIXUPP.
+    fn take_other(&mut self, alloc: Global, rec: &Rec<'_>) -> Result<(), AllocError>
+        requires other { IsNoFixupp (contents_seen rec.now) }
+        requires short { All CanPut (contents_pieces self.old.threads (kind_seen rec.now) (contents_seen rec.now)) }
+        ensures put { OnOk result (ArePut (contents_pieces self.old.threads (kind_seen rec.now) (contents_seen rec.now)) self.old.out.items self.old.group self.new.out.items self.new.group) }
+        ensures threads { self.new.threads ≡ self.old.threads }
+    {
+        match rec {
+            Rec::Fixups { .. } => unreachable!(),
+            Rec::ModEnd {
                 type_byte,
                 start,
-            } => {
-                let kind = modend_type(*wide);
-                let body = end_contents(alloc, kind, *type_byte, start)?;
-                self.write(kind, &body)
-            }
+                ..
+            } => self.end(alloc, rec.kind(), *type_byte, start),
+            _ => self.keep(alloc, rec),
+        }
+    }
+
+    /// Takes the next record, which is well spelled.
+    fn take(&mut self, alloc: Global, raw: RawRecord<'_>) -> Result<(), AllocError>
+        requires taken { IsTrue (is_taken raw.kind) }
+        requires body { length raw.body.now ≤ 65534 }
+        requires short { (c : _) → read_body raw.kind raw.body.now ≡ Ok c → All CanPut (contents_pieces self.old.threads raw.kind c) }
+        ensures put { (c : _) → read_body raw.entry.kind raw.entry.body.now ≡ Ok c → OnOk result (ArePut (contents_pieces self.old.threads raw.entry.kind c) self.old.out.items self.old.group self.new.out.items self.new.group) }
+        ensures threads { (c : _) → read_body raw.entry.kind raw.entry.body.now ≡ Ok c → OnOk result (self.new.threads ≡ threads_after self.old.threads c) }
+    {
+        if let Some(subrecords) = unread_fixups(&raw) {
+            return self.take_fixups(alloc, raw.kind, subrecords);
+        }
+        match view(raw) {
+            Ok(rec) => self.take_other(alloc, &rec),
+            Err(_) => Ok(()),
         }
     }
 
@@ -194,30 +282,65 @@ impl Walk {
     }
 }
 
+/// MODEND's type byte: bits 7 and 6 as they stand, bit 0 as bit 6, the ignored ones 0.
+fn end_byte(type_byte: u8) -> u8
+    ensures { result ≡ end_byte type_byte }
+{
+    let has_start = type_byte / 64 % 2;
+    128 * (type_byte / 128) + 64 * has_start + has_start
+}
+
 /// The contents of a MODEND of a type.
 fn end_contents(
     alloc: Global,
     kind: u8,
     type_byte: u8,
-    start: &Option<PlainReference>,
+    threads: &Threads,
+    start: &Option<Reference>,
 ) -> Result<Vec<u8>, AllocError>
-    ensures bytes { IfOk result (λ v. v.items ≡ type_byte ∷ start_bytes kind start.now) }
+    ensures bytes { IfOk result (λ v. v.items ≡ type_byte ∷ start_bytes kind (option_map (plain_by threads.now) start.now)) }
     ensures short { IfOk result (λ v. length v.items ≤ 10) }
 {
     let mut body = Vec::new(alloc);
     body.push(type_byte)?;
-    put_start(&mut body, kind, start)?;
+    put_start(&mut body, kind, threads, start)?;
     Ok(body)
 }
 
-/// What one walk over a module's pieces writes: its canonical bytes, with room for so many from the start.
+/// The record that the bytes begin with, and the bytes after it.
+fn split_record<'a>(bytes: &'a [u8]) -> (RawRecord<'a>, &'a [u8])
+    requires { StartsWithRecord bytes.now }
+    ensures kind { result.0.kind ≡ (front_record (present bytes.entry.now)).kind }
+    ensures body { result.0.body.now ≡ (front_record (present bytes.entry.now)).body }
+    ensures rest { result.1.now ≡ after_front bytes.entry.now }
+{
+    match bytes {
+        [kind, low, high, rest @ ..] => {
+            let size = usize::from(*low) + 256 * usize::from(*high);
+            let (contents, after) = rest.split_at(size);
+            let raw = RawRecord {
+                kind: *kind,
+                body: &contents[..size - 1],
+                number: 0,
+                start: 0,
+            };
+            (raw, after)
+        }
+        _ => unreachable!(),
+    }
+}
+
+/// What one walk over a module's records writes: its canonical bytes, with room for so many from the start.
 fn written(alloc: Global, module: &Checked, capacity: usize) -> Result<Vec<u8>, AllocError>
     requires { All IsRecord (canonical_raws (skeleton (recs (records_in «module».now.bytes)))) }
     ensures { IfOk result (λ v. v.items ≡ canonical (recs (records_in «module».now.bytes))) }
 {
     let mut walk = Walk::new(alloc, capacity)?;
-    for (_place, piece) in pieces_of(module) {
-        walk.take(alloc, &piece)?;
+    let mut left = module.bytes();
+    'records: while !left.is_empty() {
+        let (raw, rest) = split_record(left);
+        walk.take(alloc, raw)?;
+        left = rest;
     }
     walk.finish()
 }

@@ -9,7 +9,7 @@ ghost use Rattle.omf_cmd.specs.Runs.{IsCausedBy, IsPrintCause, Prints};
 use crate::fault::RunFault;
 use crate::output::write_all;
 use crate::report::{check_text, print_list};
-use omf_canon::canon;
+use omf_canon::{CanonFault, canon_to};
 use omf_check::{Checked, Profile, check};
 use omf_frame::{Sink, Source};
 use std::alloc::Global;
@@ -103,6 +103,9 @@ fn print_canonical<K: Sink>(
     ensures prints { Prints (K.seen writer.old).bytes (K.seen writer.new).bytes result (canonical_text (records_in checked.now.bytes)) }
     ensures cause { IsPrintCause (K.seen writer.old) (K.seen writer.new) result }
 {
-    let bytes = canon(alloc, checked)?;
-    write_all(writer, &bytes)
+    match canon_to(alloc, checked, writer) {
+        Ok(()) => Ok(()),
+        Err(CanonFault::Memory) => Err(RunFault::Memory),
+        Err(CanonFault::Write) => Err(RunFault::Write),
+    }
 }

@@ -1,0 +1,259 @@
+-- The records of a module are walked over one after another: what each puts, and what is left.
+use Rattle.std.proofs.Common.{◌≡◌, ℕ, ◌+◌, ◌<◌, ◌≤◌, List, [], ◌∷◌, ◌++◌, length, refl, sym, ◌∙◌, ap, ap₂, subst, Bool, true, false, Some, None, arith, append_assoc, length-append, Result, Ok, Err, Vec, Global}
+use Rattle.std.specs.Prelude.{IfOk, OnOk, map, flat_map, All, Option, IsTrue}
+use Rattle.std.proofs.lemmas.Grind.{flat_map-append}
+use Rattle.std.proofs.lemmas.List.{map-append}
+use Rattle.std.proofs.lemmas.List.Elements.{All-nil, All-cons, All-head, All-tail, filter_map-append}
+use Rattle.omf_frame.specs.Fault.{Fault}
+use Rattle.omf_frame.specs.Framing.{Raw, raw_bytes, IsRecord, front_record, present, after_front}
+use Rattle.omf_frame.specs.declared.fault.Place.{Place}
+use Rattle.omf_frame.proofs.FramingLaws.{present_raw, front_raw, after_raw}
+use Rattle.omf_image.specs.declared.limits.Limits.{Limits}
+use Rattle.omf_records.specs.Each.{with_first}
+use Rattle.omf_records.specs.Reading.{typed, read_body}
+use Rattle.omf_records.specs.RecordReaders.{contents_whole}
+use Rattle.omf_records.specs.Unread.{fixups_read}
+use Rattle.omf_records.specs.Values.{At, Rec, Contents, Names, Fixups, ModEnd, Subrecord, Thread, Fixup}
+use Rattle.omf_check.specs.Kept.{no_threads, set_thread, set_threads}
+use Rattle.omf_check.specs.Listed.{IsReadable, StartsWithRecord}
+use Rattle.omf_check.specs.Module.{records_in}
+use Rattle.omf_check.specs.WellFormed.{IsWellFormed, recs}
+use Rattle.omf_check.specs.declared.profile.Profile.{Profile}
+use Rattle.omf_check.specs.declared.threads.Threads.{Threads}
+use Rattle.omf_reloc.proofs.PieceLaws.{pieces-listed, numbered_records, numbered-listed}
+use Rattle.omf_reloc.specs.Pieces.{single_pieces, subrecord_steps, contents_steps, steps_from, given}
+use Rattle.omf_reloc.specs.Plain.{Piece, Fixed}
+use Rattle.omf_reloc.specs.Walking.{plain_fixup_by, threads_after}
+use Rattle.omf_canon.specs.Canonical.{canonical_raws, canonical}
+use Rattle.omf_canon.specs.Skeleton.{skeleton}
+use Rattle.omf_canon.specs.Writing.{Held, closed, piece_puts, piece_held, CanPut, bytes_left, subrecord_piece, subrecord_pieces, contents_pieces, record_pieces, ArePut}
+use Rattle.omf_canon.proofs.WritingLaws.{IsWritten, write-first, write-last}
+
+-- ---- the pieces that records give are the module's
+
+abbrev Step : Type 0
+Step = Option (Place × Piece)
+
+abbrev without_places : List Step → List Piece
+without_places steps = map (λ p. p.1) (given steps)
+
+given-more : (xs ys : List Step) → without_places (xs ++ ys) ≡ without_places xs ++ without_places ys
+given-more xs ys = ap (map (λ p. p.1)) (filter_map-append (λ s. s) xs ys) ∙ map-append (λ p. p.1) (given xs) (given ys)
+
+subs-given : (at : Place) (kind : ℕ) (threads : Threads) (subs : List (At Subrecord)) → without_places (subrecord_steps threads at kind subs) ≡ subrecord_pieces threads kind subs
+subs-given at kind threads [] = refl
+subs-given at kind threads (s ∷ subs) = by s.within s.item (subs-given at kind (set_thread threads s.item) subs)
+  where
+    by : (within : ℕ) (x : Subrecord) → without_places (subrecord_steps (set_thread threads x) at kind subs) ≡ subrecord_pieces (set_thread threads x) kind subs
+        → without_places (subrecord_steps threads at kind (record { within = within; item = x } ∷ subs)) ≡ subrecord_pieces threads kind (record { within = within; item = x } ∷ subs)
+    by within (Thread byte datum) rest = rest
+    by within (Fixup locat r) rest = ap (λ ys. Fixed kind (plain_fixup_by threads locat r ∷ []) ∷ ys) rest
+
+contents-given : (at : Place) (kind : ℕ) (threads : Threads) (c : Contents) → without_places (contents_steps threads at kind c) ≡ contents_pieces threads kind c
+contents-given at kind threads (Fixups subs) = subs-given at kind threads subs
+contents-given at kind threads (ModEnd byte start) = refl
+contents-given at kind threads (Names items) = refl
+contents-given at kind threads _ = refl
+
+records-given : (threads : Threads) (xs : List (Place × Rec)) → without_places (steps_from threads xs) ≡ record_pieces threads (map (λ x. x.1) xs)
+records-given threads [] = refl
+records-given threads (x ∷ xs) =
+    given-more (contents_steps threads x.0 x.1.kind x.1.contents) (steps_from (threads_after threads x.1.contents) xs)
+    ∙ ap₂ (λ (ys zs : List Piece). ys ++ zs) (contents-given x.0 x.1.kind threads x.1.contents) (records-given (threads_after threads x.1.contents) xs)
+
+all-given : (m : List Rec) → record_pieces no_threads m ≡ single_pieces m
+all-given m =
+    ap (record_pieces no_threads) (sym (numbered-listed 0 m))
+    ∙ sym (records-given no_threads (numbered_records m))
+    ∙ pieces-listed m (numbered_records m) (numbered-listed 0 m)
+
+-- ---- what is put
+
+pub put-none : (out new : List ℕ) (group then : Option Held) → new ≡ out → then ≡ group → ArePut [] out group new then
+put-none out new group then o g rest = ap₂ (λ (x : List ℕ) (y : Option Held). x ++ bytes_left y rest) o g
+
+pub put-one : (p : Piece) (out new : List ℕ) (group then : Option Held) → new ≡ out ++ piece_puts p group → then ≡ piece_held p group → ArePut (p ∷ []) out group new then
+put-one p out new group then o g rest = ap₂ (λ (x : List ℕ) (y : Option Held). x ++ bytes_left y rest) o g ∙ append_assoc out (piece_puts p group) (bytes_left (piece_held p group) rest)
+
+pub on-both : {A E P Q R : Type 0} (r : Result A E) → OnOk r P → OnOk r Q → (P → Q → R) → OnOk r R
+on-both (Ok x) p q f = f p q
+on-both (Err e) p q f = tt
+
+pub on-ok : {A E P R : Type 0} (r : Result A E) → OnOk r P → (P → R) → OnOk r R
+on-ok (Ok x) p f = f p
+on-ok (Err e) p f = tt
+
+-- ---- the subrecords of a FIXUPP
+
+first-left : (s : At Subrecord) (then : Result (List (At Subrecord)) Fault) (left : List (At Subrecord)) → ◌≡◌ {A = Result (List (At Subrecord)) Fault} (Ok left) (with_first s then)
+    → (more : List (At Subrecord)) × (then ≡ Ok more) × (left ≡ s ∷ more)
+first-left s (Ok more) left e = (more, refl, let h : left ≡ s ∷ more = cc in h)
+first-left s (Err f) left e = absurd cc
+
+-- What is known while they are walked over: those to come put and set what all do, but for what was put and set.
+pub record IsTaken (kind : ℕ) (threads : Threads) (out : List ℕ) (group : Option Held) (whole : List (At Subrecord)) (now_threads : Threads) (now_out : List ℕ) (now_group : Option Held) (now : Result (List (At Subrecord)) Fault) : Type 0 where
+  pub left : List (At Subrecord)
+  pub read : now ≡ Ok left
+  pub set : set_threads now_threads left ≡ set_threads threads whole
+  pub put : (rest : List Piece) → now_out ++ bytes_left now_group (subrecord_pieces now_threads kind left ++ rest) ≡ out ++ bytes_left group (subrecord_pieces threads kind whole ++ rest)
+
+module _ (kind : ℕ) (threads : Threads) (out : List ℕ) (group : Option Held) (whole : List (At Subrecord)) where
+  pub take-first : (now : Result (List (At Subrecord)) Fault) → now ≡ Ok whole → IsTaken kind threads out group whole threads out group now
+  take-first now e = record { left = whole; read = e; set = refl; put = λ rest. refl }
+
+  module _ (now_threads : Threads) (now_out : List ℕ) (now_group : Option Held) (now : Result (List (At Subrecord)) Fault) (h : IsTaken kind threads out group whole now_threads now_out now_group now) where
+    pub take-next : (s : At Subrecord) (then : Result (List (At Subrecord)) Fault) → now ≡ with_first s then
+        → (new_threads : Threads) (new_out : List ℕ) (new_group : Option Held) → new_threads ≡ set_thread now_threads s.item → ArePut (subrecord_piece now_threads kind s.item) now_out now_group new_out new_group
+        → IsTaken kind threads out group whole new_threads new_out new_group then
+    take-next s then e new_threads new_out new_group t p =
+        let parts = first-left s then h.left (sym h.read ∙ e) in
+        let more = parts.0 in
+        record {
+          left = more;
+          read = parts.1;
+          set = ap (λ (x : Threads). set_threads x more) t ∙ sym (ap (set_threads now_threads) parts.2) ∙ h.set;
+          put = λ rest.
+              p (subrecord_pieces new_threads kind more ++ rest)
+              ∙ ap (λ (x : Threads). now_out ++ bytes_left now_group (subrecord_piece now_threads kind s.item ++ (subrecord_pieces x kind more ++ rest))) t
+              ∙ ap (λ (ps : List Piece). now_out ++ bytes_left now_group ps) (sym (append_assoc (subrecord_piece now_threads kind s.item) (subrecord_pieces (set_thread now_threads s.item) kind more) rest))
+              ∙ sym (ap (λ (xs : List (At Subrecord)). now_out ++ bytes_left now_group (subrecord_pieces now_threads kind xs ++ rest)) parts.2)
+              ∙ h.put rest;
+        }
+
+    none-left : now ≡ Ok [] → h.left ≡ []
+    none-left e = let q : ◌≡◌ {A = Result (List (At Subrecord)) Fault} (Ok h.left) (Ok []) = sym h.read ∙ e in cc
+
+    pub take-last-set : now ≡ Ok [] → now_threads ≡ set_threads threads whole
+    take-last-set e = sym (ap (set_threads now_threads) (none-left e)) ∙ h.set
+
+    pub take-last-put : now ≡ Ok [] → ArePut (subrecord_pieces threads kind whole) out group now_out now_group
+    take-last-put e rest = sym (ap (λ (xs : List (At Subrecord)). now_out ++ bytes_left now_group (subrecord_pieces now_threads kind xs ++ rest)) (none-left e)) ∙ h.put rest
+
+    pub take-never : (f : Fault) → now ≡ Err f → ⊥
+    take-never f e = let q : ◌≡◌ {A = Result (List (At Subrecord)) Fault} (Ok h.left) (Err f) = sym h.read ∙ e in cc
+
+-- What a FIXUPP's contents are, that are read.
+pub fixups-are : (r : Result (List (At Subrecord)) Fault) (c : Contents) → fixups_read r ≡ Ok c → (subs : List (At Subrecord)) × (r ≡ Ok subs) × (c ≡ Fixups subs)
+fixups-are (Ok subs) c e = (subs, refl, let h : c ≡ Fixups subs = cc in h)
+fixups-are (Err f) c e = absurd cc
+
+-- ---- the records
+
+all-left : (ps qs : List Piece) → All CanPut (ps ++ qs) → All CanPut ps
+all-left [] qs h = All-nil CanPut
+all-left (p ∷ ps) qs h = All-cons CanPut p ps (All-head CanPut p (ps ++ qs) h) (all-left ps qs (All-tail CanPut p (ps ++ qs) h))
+
+all-right : (ps qs : List Piece) → All CanPut (ps ++ qs) → All CanPut qs
+all-right [] qs h = h
+all-right (p ∷ ps) qs h = all-right ps qs (All-tail CanPut p (ps ++ qs) h)
+
+-- What is known while records are walked over: those that are left give the pieces that are left.
+pub record IsLeft (m : List Rec) (out : List ℕ) (group : Option Held) (threads : Threads) (left : List ℕ) : Type 0 where
+  pub records : List Raw
+  pub spelled : left ≡ flat_map raw_bytes records
+  pub readable : All IsReadable records
+  pub written : IsWritten m out group (record_pieces threads (recs records))
+
+pub left-first : (profile : Profile) (limits : Limits) (bytes : List ℕ) (w : IsWellFormed profile limits bytes (records_in bytes)) (out : List ℕ) (group : Option Held) (threads : Threads)
+    → All IsRecord (canonical_raws (skeleton (recs (records_in bytes)))) → out ≡ [] → group ≡ None → threads ≡ no_threads → IsLeft (recs (records_in bytes)) out group threads bytes
+left-first profile limits bytes w out group threads h o g t =
+    let m = recs (records_in bytes) in
+    record {
+      records = records_in bytes;
+      spelled = w.framed.spelled;
+      readable = λ k d low. record { is_record = w.framed.each k d low; taken = w.framed.types k d low; typed = w.spelled k d low };
+      written = write-first m out group (record_pieces threads m) h o g (ap (λ (x : Threads). record_pieces x m) t ∙ all-given m);
+    }
+
+pub some-left : (rs : List Raw) (bytes : List ℕ) → bytes ≡ flat_map raw_bytes rs → 0 < length bytes → (r : Raw) × (more : List Raw) × (rs ≡ r ∷ more)
+some-left [] bytes e low = absurd (no (length bytes) (ap (λ (b : List ℕ). length b) e) low)
+  where
+    no : (n : ℕ) → n ≡ 0 → 0 < n → ⊥
+    no n e h = omega (arith, e, h)
+some-left (r ∷ more) bytes e low = (r, more, refl)
+
+none-left-of : (rs : List Raw) → [] ≡ flat_map raw_bytes rs → rs ≡ []
+none-left-of [] e = refl
+none-left-of (r ∷ rs) e = absurd (nothing (length (raw_bytes r ++ flat_map raw_bytes rs)) (ap (λ (b : List ℕ). length b) e) (omega (arith, length-append (raw_bytes r) (flat_map raw_bytes rs))))
+  where
+    nothing : (n : ℕ) → 0 ≡ n → 0 < n → ⊥
+    nothing n e h = omega (arith, e, h)
+
+module _ (m : List Rec) (out : List ℕ) (group : Option Held) (threads : Threads) (left : List ℕ) (h : IsLeft m out group threads left) where
+  pub left-last : left ≡ [] → IsWritten m out group []
+  left-last e = subst (λ (rs : List Raw). IsWritten m out group (record_pieces threads (recs rs))) (none-left-of h.records (sym e ∙ h.spelled)) h.written
+
+  module _ (low : 0 < length left) where
+    abbrev parts : (r : Raw) × (more : List Raw) × (h.records ≡ r ∷ more)
+    parts = some-left h.records left h.spelled low
+
+    abbrev r : Raw
+    r = parts.0
+
+    abbrev more : List Raw
+    more = parts.1
+
+    abbrev c : Contents
+    c = (typed r).contents
+
+    readable : All IsReadable (r ∷ more)
+    readable = subst (All IsReadable) parts.2 h.readable
+
+    here : left ≡ raw_bytes r ++ flat_map raw_bytes more
+    here = h.spelled ∙ ap (flat_map raw_bytes) parts.2
+
+    first-readable : IsReadable r
+    first-readable = All-head IsReadable r more readable
+
+    small : length r.body + 1 < 65536
+    small = first-readable.is_record.0
+
+    pub left-starts : StartsWithRecord left
+    left-starts = record { first = r; rest = flat_map raw_bytes more; spelled = here; readable = first-readable }
+
+    front-is : front_record (present left) ≡ r
+    front-is = ap (λ x. front_record (present x)) here ∙ ap front_record (present_raw r small (flat_map raw_bytes more)) ∙ front_raw r small
+
+    after-is : after_front left ≡ flat_map raw_bytes more
+    after-is = ap after_front here ∙ after_raw r small (flat_map raw_bytes more)
+
+    pub left-less : (rest : List ℕ) → rest ≡ after_front left → length rest < length left
+    left-less rest e =
+        let s = ap (λ (b : List ℕ). length b) here in
+        let t = length-append (raw_bytes r) (flat_map raw_bytes more) in
+        let f = ap (λ (b : List ℕ). length b) (e ∙ after-is) in
+        omega (arith, s, t, f)
+
+    written-here : IsWritten m out group (contents_pieces threads r.kind c ++ record_pieces (threads_after threads c) (recs more))
+    written-here = subst (λ (rs : List Raw). IsWritten m out group (record_pieces threads (recs rs))) parts.2 h.written
+
+    module _ (kind : ℕ) (body : List ℕ) (k : kind ≡ (front_record (present left)).kind) (b : body ≡ (front_record (present left)).body) where
+      kind-is : kind ≡ r.kind
+      kind-is = k ∙ ap (λ (x : Raw). x.kind) front-is
+
+      pub left-read : read_body kind body ≡ Ok c
+      left-read =
+          ap₂ (λ (x : ℕ) (y : List ℕ). read_body x y) kind-is (b ∙ ap (λ (x : Raw). x.body) front-is)
+          ∙ (contents_whole r.kind).again 3 r.body c first-readable.typed
+
+      pub left-short : (d : Contents) → read_body kind body ≡ Ok d → All CanPut (contents_pieces threads kind d)
+      left-short d e =
+          let q : ◌≡◌ {A = Result Contents Fault} (Ok c) (Ok d) = sym left-read ∙ e in
+          let same : c ≡ d = cc in
+          subst (λ (x : Contents). All CanPut (contents_pieces threads kind x)) same
+          (subst (λ (x : ℕ). All CanPut (contents_pieces threads x c)) (sym kind-is)
+          (all-left (contents_pieces threads r.kind c) (record_pieces (threads_after threads c) (recs more)) written-here.can))
+
+      pub left-next : (rest : List ℕ) → rest ≡ after_front left → (new_out : List ℕ) (new_group : Option Held) (new_threads : Threads)
+          → ArePut (contents_pieces threads kind c) out group new_out new_group → new_threads ≡ threads_after threads c → IsLeft m new_out new_group new_threads rest
+      left-next rest e new_out new_group new_threads p t =
+          let after = record_pieces (threads_after threads c) (recs more) in
+          record {
+            records = more;
+            spelled = e ∙ after-is;
+            readable = All-tail IsReadable r more readable;
+            written = subst (λ (x : Threads). IsWritten m new_out new_group (record_pieces x (recs more))) (sym t) (record {
+              can = all-right (contents_pieces threads r.kind c) after written-here.can;
+              same = p after ∙ ap (λ (x : ℕ). out ++ bytes_left group (contents_pieces threads x c ++ after)) kind-is ∙ written-here.same;
+            });
+          }

@@ -1,0 +1,39 @@
+use Rattle.std.proofs.Common.{ap, subst, ◌∙◌, Ok}
+use Rattle.omf_records.specs.Unread.{NextGives}
+use Rattle.omf_check.specs.Kept.{set_thread}
+use Rattle.omf_canon.specs.Writing.{subrecord_piece, ArePut}
+use Rattle.omf_canon.proofs.TakingLaws.{take-next, take-last-set, take-last-put, take-never}
+use Rattle.omf_canon.proofs.writing.Walk.take_fixups.Goals as goal
+
+pub returns-in-Ok-None-clause-put : goal.returns-in-Ok-None-clause-put
+returns-in-Ok-None-clause-put c subs e =
+    let l = c.walk in
+    take-last-put c.args.kind c.args.self.now.threads c.args.self.now.out.items c.args.self.now.group subs l.self.threads l.self.out.items l.self.group l.subrecords.items (l.invariant subs e)
+    (subst (λ o. NextGives l.subrecords (Ok o) c.read_next.new.self) c.in-Ok-None.field-0-is c.in-Ok-None.ensures).0
+
+pub returns-in-Ok-None-clause-threads : goal.returns-in-Ok-None-clause-threads
+returns-in-Ok-None-clause-threads c subs e =
+    let l = c.walk in
+    take-last-set c.args.kind c.args.self.now.threads c.args.self.now.out.items c.args.self.now.group subs l.self.threads l.self.out.items l.self.group l.subrecords.items (l.invariant subs e)
+    (subst (λ o. NextGives l.subrecords (Ok o) c.read_next.new.self) c.in-Ok-None.field-0-is c.in-Ok-None.ensures).0
+
+pub returns-in-Err-clause-put : goal.returns-in-Err-clause-put
+returns-in-Err-clause-put c subs e =
+    let l = c.walk in
+    absurd (take-never c.args.kind c.args.self.now.threads c.args.self.now.out.items c.args.self.now.group subs l.self.threads l.self.out.items l.self.group l.subrecords.items (l.invariant subs e) _ c.in-Err.ensures.0)
+
+pub returns-in-Err-clause-threads : goal.returns-in-Err-clause-threads
+returns-in-Err-clause-threads c subs e =
+    let l = c.walk in
+    absurd (take-never c.args.kind c.args.self.now.threads c.args.self.now.out.items c.args.self.now.group subs l.self.threads l.self.out.items l.self.group l.subrecords.items (l.invariant subs e) _ c.in-Err.ensures.0)
+
+pub walk-preserved : goal.walk-preserved
+walk-preserved c whole e =
+    let l = c.walk in
+    let n = c.take_subrecord.new.self in
+    take-next c.args.kind c.args.self.now.threads c.args.self.now.out.items c.args.self.now.group whole l.self.threads l.self.out.items l.self.group l.subrecords.items (l.invariant whole e)
+    c.in-Ok-Some.subrecord c.read_next.new.self.items
+    (subst (λ o. NextGives l.subrecords (Ok o) c.read_next.new.self) c.in-Ok-Some.field-0-is c.in-Ok-Some.ensures).0
+    n.threads n.out.items n.group
+    (c.in_ok-take_subrecord.ensures.threads ∙ ap (λ s. set_thread l.self.threads s.item) c.subrecord.view_is)
+    (subst (λ s. ArePut (subrecord_piece l.self.threads c.args.kind s.item) l.self.out.items l.self.group n.out.items n.group) c.subrecord.view_is c.in_ok-take_subrecord.ensures.put)
