@@ -30,3 +30,4 @@ pub mod SoundLaws
 pub mod ThreadLaws
 pub mod Walked
 pub mod Patience
+pub mod LengthLaws

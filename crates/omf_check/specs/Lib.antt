@@ -16,3 +16,4 @@ pub mod Checking
 pub mod Laws
 pub mod Rows
 pub mod Walking
+pub mod TableLengths

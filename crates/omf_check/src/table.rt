@@ -1,6 +1,6 @@
 //! What is kept of the records so far, and the rules that need it.
 
-ghost use Rattle.std.specs.Prelude.{◌≡◌, ◌≤◌, ◌<◌, ◌+◌, ◌^◌, ◌++◌, ℕ, length, OnOk, IfOk, List, unwrap_or, IsTrue, IfErr, None, Ok, ◌-◌, [], ◌∷◌, true, false, nat_le, is_none, option_map};
+ghost use Rattle.std.specs.Prelude.{◌≡◌, ◌≤◌, ◌<◌, ◌+◌, ◌^◌, ◌++◌, ℕ, length, OnOk, IfOk, List, unwrap_or, IsTrue, IfErr, None, Ok, ◌-◌, [], ◌∷◌, true, false, nat_le, is_none, option_map, get_or};
 ghost use Rattle.omf_check.specs.Rules.{judged_at, item_limit};
 ghost use Rattle.omf_image.specs.Limits.{profile_limits};
 ghost use Rattle.omf_check.specs.Kept.{Kept, nothing_kept, starts, alike, with_record, with_contents, set_threads};
@@ -10,10 +10,11 @@ ghost use Rattle.omf_frame.specs.Framing.{is_taken};
 ghost use Rattle.omf_check.specs.Kept.{IsBounded};
 ghost use Rattle.omf_image.specs.Blocks.{count_size};
 ghost use Rattle.omf_image.specs.Expanding.{expanded_length};
-ghost use Rattle.omf_check.specs.Tables.{segment_info, items_in, entry};
+ghost use Rattle.omf_check.specs.Tables.{segment_info, items_in, entry, is_defined};
 ghost use Rattle.omf_records.specs.Seen.{contents_seen, kind_seen, odd_if, rec_seen};
 ghost use Rattle.omf_records.specs.Location.{location_size};
 ghost use Rattle.omf_records.specs.Values.{Fixup, Fixups, location_type, location_offset};
+ghost use Rattle.omf_check.specs.TableLengths.{table_lengths};
 ghost use Rattle.omf_check.specs.Walking.{walk_fault, fixups_fault};
 
 use crate::fault::CheckFault;
@@ -42,6 +43,22 @@ const ITEM_LIMIT: usize = 1_048_576;
 
 /// The bytes of a pointer 16:32, the largest location.
 const LARGEST_LOCATION: u16 = 6;
+
+/// How many entries the table of each method has: segments, groups, externals; and externals once more, so that the two bits of a
+/// target method find a length without a test.
+#[derive(Clone, Copy)]
+struct TableLengths([usize; 4]);
+
+impl TableLengths {
+    /// The table of a method has an entry of this index.
+    #[inline(always)]
+    fn has_entry(&self, method: u8, index: u16) -> bool
+        requires { method < 4 }
+        ensures { result ≡ is_defined (get_or self.now.0 method 0) index }
+    {
+        is_defined(self.0[usize::from(method)], index)
+    }
+}
 
 /// What is kept of the records so far.
 #[derive(Drop)]
@@ -267,14 +284,25 @@ impl Tables {
         }
     }
 
+    /// How many entries the table of each method has.
+    fn lengths(&self) -> TableLengths
+        ensures { result.0 ≡ table_lengths self.now }
+    {
+        let externals = self.externals.len();
+        TableLengths([self.segments.len(), self.groups.len(), externals, externals])
+    }
+
     /// The table of a method has the entry of an index, if the index is there.
     #[inline(always)]
-    fn has_datum(&self, method: u8, datum: &Option<At<Index>>) -> bool
+    #[tactic(auto, using(crate::proofs::LengthLaws::entry_counted))]
+    fn has_datum(&self, lengths: &TableLengths, method: u8, datum: &Option<At<Index>>) -> bool
+        requires lengths { lengths.now.0 ≡ table_lengths self.now }
+        requires method { method < 4 }
         ensures { (at : ℕ) → result ≡ is_none (index_fault self.now at method (unwrap_or (option_map (λ a. a.item) datum.now) 0)) }
     {
         match datum {
-            Some(index) => self.has_entry(method, index.item.0),
-            None => self.has_entry(method, 0),
+            Some(index) => lengths.has_entry(method, index.item.0),
+            None => lengths.has_entry(method, 0),
         }
     }
 
@@ -303,46 +331,62 @@ impl Tables {
 
     /// The frame of a reference has no fault, with these threads in force.
     #[inline(always)]
-    fn has_frame(&self, threads: &Threads, reference: &Reference) -> bool
+    fn has_frame(&self, lengths: &TableLengths, threads: &Threads, reference: &Reference) -> bool
+        requires { lengths.now.0 ≡ table_lengths self.now }
         ensures { (at : ℕ) → result ≡ is_none (frame_fault self.now at (frame_cell threads.now reference.now)) }
     {
         if reference.frame_thread().is_some() {
             return self.has_set_frame(threads.frame(reference));
         }
         let method = reference.frame_method();
-        method > 2 || self.has_datum(method, &reference.frame)
+        method > 2 || self.has_datum(lengths, method, &reference.frame)
     }
 
     /// The target of a reference has no fault, with these threads in force.
     #[inline(always)]
-    fn has_target(&self, threads: &Threads, reference: &Reference) -> bool
+    fn has_target(&self, lengths: &TableLengths, threads: &Threads, reference: &Reference) -> bool
+        requires { lengths.now.0 ≡ table_lengths self.now }
         ensures { (at : ℕ) → result ≡ is_none (target_fault self.now at (target_cell threads.now reference.now)) }
     {
         if reference.target_thread().is_some() {
             return self.has_set_target(threads.target(reference));
         }
-        self.has_datum(reference.target_method(), &reference.target)
+        self.has_datum(lengths, reference.target_method(), &reference.target)
     }
 
     /// The frame and the target of a reference have no fault, with these threads in force.
     #[inline(always)]
-    fn has_reference(&self, threads: &Threads, reference: &Reference) -> bool
+    fn has_reference(
+        &self,
+        lengths: &TableLengths,
+        threads: &Threads,
+        reference: &Reference,
+    ) -> bool
+        requires { lengths.now.0 ≡ table_lengths self.now }
         ensures { result ≡ is_none (reference_fault self.now threads.now reference.now) }
     {
-        self.has_frame(threads, reference) && self.has_target(threads, reference)
+        self.has_frame(lengths, threads, reference) && self.has_target(lengths, threads, reference)
     }
 
     /// A FIXUP has no fault, with these threads in force.
     #[inline(always)]
-    fn has_fixup(&self, threads: &Threads, location: u16, reference: &Reference) -> bool
+    fn has_fixup(
+        &self,
+        lengths: &TableLengths,
+        threads: &Threads,
+        location: u16,
+        reference: &Reference,
+    ) -> bool
+        requires { lengths.now.0 ≡ table_lengths self.now }
         ensures { (within : ℕ) → result ≡ is_none (subrecord_fault self.now threads.now within (Fixup location reference.now)) }
     {
-        has_location(self.last, location) && self.has_reference(threads, reference)
+        has_location(self.last, location) && self.has_reference(lengths, threads, reference)
     }
 
     /// A subrecord has no fault, with these threads in force. A THREAD's index is judged where it is used.
     #[inline(always)]
-    fn is_sound(&self, threads: &Threads, subrecord: &Subrecord<'_>) -> bool
+    fn is_sound(&self, lengths: &TableLengths, threads: &Threads, subrecord: &Subrecord<'_>) -> bool
+        requires { lengths.now.0 ≡ table_lengths self.now }
         ensures { (within : ℕ) → result ≡ is_none (subrecord_fault self.now threads.now within subrecord.now) }
     {
         match &subrecord.part {
@@ -350,7 +394,7 @@ impl Tables {
             Part::Fixup {
                 location,
                 reference,
-            } => self.has_fixup(threads, *location, reference),
+            } => self.has_fixup(lengths, threads, *location, reference),
         }
     }
 
@@ -593,6 +637,7 @@ impl Tables {
         ensures unchanged { result ≡ false → self.new ≡ self.old }
     {
         let mut subrecords = subrecords;
+        let lengths = self.lengths();
         let mut items = self.items;
         let mut in_force = self.threads;
         'walk: loop {
@@ -604,7 +649,7 @@ impl Tables {
             if items == ITEM_LIMIT {
                 return false;
             }
-            if !self.is_sound(&in_force, &subrecord.item) {
+            if !self.is_sound(&lengths, &in_force, &subrecord.item) {
                 return false;
             }
             items += 1;

@@ -1,7 +1,7 @@
 //! Fields at a place of a record's contents.
 ghost use Rattle.std.specs.Prelude.{◌≡◌, ℕ, ◌+◌, ◌-◌, ◌*◌, ◌<◌, ◌≤◌, length, drop, take, List, cond};
 ghost use Rattle.omf_records.specs.Gives.{Gives, GivesField};
-ghost use Rattle.omf_records.specs.FieldReaders.{name_read, index_read, byte_read, le_read, head_read, length_read};
+ghost use Rattle.omf_records.specs.FieldReaders.{name_read, index_read, byte_read, le_read, length_read};
 ghost use Rattle.omf_records.specs.FieldReaders.{number_reader};
 ghost use Rattle.omf_records.specs.Layout.{length_reason};
 ghost use Rattle.omf_records.specs.Readers.{index_at, number_at};
@@ -114,17 +114,5 @@ pub(crate) fn byte<'a>(here: Here<'a>) -> Result<(u8, Here<'a>), LayoutFault>
     match here.bytes() {
         [first, ..] => Ok((*first, here.pass(1))),
         [] => Err(here.fault(Reason::Short)),
-    }
-}
-
-/// One byte below 128, or two bytes, the high one first, of which that has bit 7 set.
-#[inline(always)]
-pub(crate) fn head<'a>(here: Here<'a>) -> Result<(u16, Here<'a>), LayoutFault>
-    ensures { Gives here.entry.wide result (head_read here.entry.within here.entry.bytes.now) }
-{
-    match here.bytes() {
-        [first, ..] if *first < 128 => Ok((u16::from(*first), here.pass(1))),
-        [first, second, ..] => Ok((u16::from(*first) * 256 + u16::from(*second), here.pass(2))),
-        _ => Err(here.fault(Reason::Short)),
     }
 }

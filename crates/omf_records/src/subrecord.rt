@@ -1,17 +1,17 @@
 //! Subrecords of a FIXUPP, and the reference that a FIXUP and MODEND's start share.
-ghost use Rattle.std.specs.Prelude.{◌≡◌, ◌<◌, ◌++◌, not, List, Option, OnOk, OnErr};
+ghost use Rattle.std.specs.Prelude.{◌≡◌, ◌<◌, ◌++◌, not, List, Option, OnOk, OnErr, IfOk};
 ghost use Rattle.byteorder.specs.Endian.{little_bytes};
 ghost use Rattle.omf_records.specs.Begins.{Begins};
 ghost use Rattle.omf_records.specs.Shortest.{option_bytes, datum_bytes, reference_bytes};
 ghost use Rattle.omf_records.specs.Values.{width, is_location, may_be_self_relative, thread_method, frame_by_thread, frame_bits, target_by_thread, target_bits, has_frame_datum, has_target_datum, has_no_displacement};
 ghost use Rattle.omf_records.specs.Parts.{first_reason};
 ghost use Rattle.omf_records.specs.Gives.{Gives};
-ghost use Rattle.omf_records.specs.Entries.{is_frame_method, wrong_methods, wrong_thread, wrong_location, wrong_head};
-ghost use Rattle.omf_records.specs.EntryReaders.{subhead_reader, fix_reader, datum_reader, displacement_reader, reference_reader, thread_reader, fixup_reader};
+ghost use Rattle.omf_records.specs.Entries.{is_frame_method, wrong_methods, wrong_thread, wrong_location};
+ghost use Rattle.omf_records.specs.EntryReaders.{fix_reader, datum_reader, displacement_reader, reference_reader, thread_reader, fixup_reader};
 
 use crate::at::{At, LayoutFault};
 use crate::bits::{is_frame_thread, is_segment_relative, location_type, thread_method};
-use crate::field::{byte, head, index, number};
+use crate::field::{byte, index, number};
 use crate::here::Here;
 use crate::item::Item;
 use crate::put::{put_byte, put_bytes, put_datum_if, put_number};
@@ -113,32 +113,11 @@ fn location_fault(location: u16) -> Option<Reason>
     Some(Reason::SelfRelative)
 }
 
-fn head_fault(head: u16) -> Option<Reason>
-    ensures { first_reason result ≡ wrong_head head }
-{
-    if head < 128 {
-        thread_fault(head as u8)
-    } else {
-        location_fault(head)
-    }
-}
-
-/// The first byte of a THREAD, or the first two bytes of a FIXUP.
-#[inline(always)]
-fn subhead<'a>(here: Here<'a>) -> Result<(u16, Here<'a>), LayoutFault>
-    ensures { Gives here.entry.wide result (subhead_reader.read here.entry.within here.entry.bytes.now) }
-{
-    let (head, after) = head(here)?;
-    match head_fault(head) {
-        Some(reason) => Err(here.fault(reason)),
-        None => Ok((head, after)),
-    }
-}
-
 /// The fix data byte.
 #[inline(always)]
 fn fix<'a>(here: Here<'a>) -> Result<(At<u8>, Here<'a>), LayoutFault>
-    ensures { Gives here.entry.wide result (fix_reader.read here.entry.within here.entry.bytes.now) }
+    ensures read { Gives here.entry.wide result (fix_reader.read here.entry.within here.entry.bytes.now) }
+    ensures target { IfOk result (λ x. has_target_datum x.0.item ≡ not (target_by_thread x.0.item)) }
 {
     let (fix, after) = byte(here)?;
     if fix / 128 == 0 && !is_frame_method(fix / 16 % 8) {
@@ -158,11 +137,12 @@ fn has_frame_datum(fix: u8) -> bool
     fix / 128 == 0 && fix / 16 % 8 < 3
 }
 
-/// An index follows for the target.
+/// An index follows for the target, where no thread gives it: each target method takes one.
 fn has_target_datum(fix: u8) -> bool
+    requires { has_target_datum fix ≡ not (target_by_thread fix) }
     ensures { result ≡ has_target_datum fix }
 {
-    fix / 8 % 2 == 0 && fix % 4 < 3
+    fix / 8 % 2 == 0
 }
 
 fn has_displacement(fix: u8) -> bool
@@ -254,11 +234,19 @@ impl<'a> Item for Subrecord<'a> {
 
     #[inline(always)]
     fn read(here: Here<'a>) -> Result<(Subrecord<'a>, Here<'a>), LayoutFault> {
-        let (head, here) = subhead(here)?;
-        if head < 128 {
-            thread(here, head as u8)
-        } else {
-            fixup(here, head)
+        match here.bytes() {
+            [first, ..] if *first < 128 => match thread_fault(*first) {
+                Some(reason) => Err(here.fault(reason)),
+                None => thread(here.pass(1), *first),
+            },
+            [first, second, ..] => {
+                let location = u16::from(*first) * 256 + u16::from(*second);
+                match location_fault(location) {
+                    Some(reason) => Err(here.fault(reason)),
+                    None => fixup(here.pass(2), location),
+                }
+            }
+            _ => Err(here.fault(Reason::Short)),
         }
     }
 
