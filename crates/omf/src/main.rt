@@ -2,7 +2,7 @@
 #![tactic(auto)]
 
 use omf_cmd::{RunFault, fail, main_with};
-use omf_frame::{Reading, Sink, Writing};
+use omf_frame::{Buffered, Sink, Writing};
 use std::alloc::AllocError;
 use std::env;
 use std::io::{BufReader, ErrorKind, Write};
@@ -28,7 +28,7 @@ fn run_input<K: Sink>(rt: &HostRuntime, writer: &mut K) -> u8 {
     let Ok(input) = BufReader::with_capacity(rt.alloc(), PIECE, rt.reader()) else {
         return fail(rt.alloc(), &RunFault::Memory, writer);
     };
-    main_with(rt.alloc(), &words, &mut Reading::new(input), writer)
+    main_with(rt.alloc(), &words, &mut Buffered::new(input), writer)
 }
 
 fn main(rt: HostRuntime) -> ExitCode {

@@ -36,6 +36,10 @@ impl<'a> Source for Bytes<'a> {
         self.left = rest;
         Ok(count)
     }
+
+    fn ahead(&self) -> &[u8] {
+        self.left
+    }
 }
 
 /// A text that is gathered. It fails where a growth is refused, and takes nothing then.

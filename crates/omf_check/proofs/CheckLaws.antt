@@ -1,11 +1,14 @@
 -- What a check answers, from what its session answers.
-use Rattle.std.proofs.Common.{◌≡◌, ℕ, ◌+◌, ◌*◌, ◌<◌, ◌≤◌, ◌⊎◌, Bool, true, false, List, [], ◌∷◌, ◌++◌, Result, Ok, Err, refl, sym, ◌∙◌, ap, subst, arith, append_assoc, length, take, drop, min, inl, inr}
-use Rattle.std.specs.Prelude.{Option, Some, None, is_some, ◌||◌, cond, IfErr, IsTrue}
+use Rattle.std.proofs.Common.{◌≡◌, ℕ, zero, suc, ◌+◌, ◌-◌, ◌*◌, ◌^◌, ◌<◌, ◌≤◌, ◌⊎◌, Bool, true, false, List, [], ◌∷◌, ◌++◌, Result, Ok, Err, refl, sym, ◌∙◌, ap, subst, arith, append_assoc, length, take, drop, min, inl, inr}
+use Rattle.std.specs.Prelude.{Option, Some, None, is_some, not, ◌&&◌, ◌||◌, cond, IfErr, IsTrue, slice_index}
+use Rattle.std.specs.Io.{StartsWith}
 use Rattle.std.specs.Io.KnownBytes.{Consumes, IsAtEnd, Keeps}
-use Rattle.std.proofs.KnownBytes.{Consumes-kept}
+use Rattle.std.proofs.KnownBytes.{Consumes-kept, starts_with_rest}
 use Rattle.std.proofs.lemmas.List.{append-nil, length-append, length-take, take_all, take-append-drop}
-use Rattle.std.proofs.Math.Seq.{take-length}
-use Rattle.omf_frame.specs.Framing.{present, wanted, stated_length}
+use Rattle.omf_frame.specs.Device.{Shows}
+use Rattle.omf_frame.specs.Framer.{begins_record}
+use Rattle.omf_frame.specs.Framing.{is_nonempty, is_taken, present, wanted, stated_length}
+use Rattle.omf_frame.specs.Judging.{record_len}
 use Rattle.omf_frame.specs.declared.fault.Place.{Place}
 use Rattle.omf_frame.specs.declared.fault.Reason.{Reason}
 use Rattle.omf_frame.specs.declared.fault.Reason.TheVariants as reason
@@ -17,7 +20,7 @@ use Rattle.omf_check.specs.declared.profile.Profile.{Profile}
 use Rattle.omf_check.specs.Checking.{Decides, IsCheckFault, IsUndecided}
 use Rattle.omf_check.specs.Module.{Module, records_in}
 use Rattle.omf_check.specs.Refusal.{IsRefused, EndsWhereJudged, AreSoundSoFar}
-use Rattle.omf_check.specs.Session.{Seen, IsOpen, Takes, FailsAs, IsCause, Finishes, IsEndFault, RefusesHere, next_bytes, may_go_on, want_of}
+use Rattle.omf_check.specs.Session.{Seen, IsOpen, Takes, FailsAs, IsCause, Finishes, IsEndFault, RefusesHere, next_bytes, may_go_on, want_of, want_with}
 use Rattle.omf_check.specs.WellFormed.{IsAccepted, IsWellFormed}
 use Rattle.omf_check.proofs.SessionLaws.{records_of}
 use Rattle.omf_check.proofs.SoundBytes.{no_other}
@@ -27,6 +30,10 @@ none_wanted m w k z e f = omega (arith, z, e, f)
 
 pub piece_low : (new buffer : List ℕ) (n m w k : ℕ) → length new ≡ length (take m buffer) → m ≡ min w 4096 → w ≡ k → length (take n new) ≤ k
 piece_low new buffer n m w k a e f = let x = length-take n new in let y = length-take m buffer in omega (arith, a, e, f, x, y)
+
+pub some_given : (n : ℕ) (bytes : List ℕ) → (n ≡ 0 → ⊥) → n ≤ length bytes → 0 < length (take n bytes)
+some_given zero bytes h few = absurd (h refl)
+some_given (suc n) bytes h few = let e = length-take (suc n) bytes in omega (arith, e, few)
 
 -- What was consumed of known bytes.
 pub consumes_more : (old between new : Option (List ℕ)) (xs ys : List ℕ) → Consumes old between xs → Consumes between new ys → Consumes old new (xs ++ ys)
@@ -107,6 +114,53 @@ judged_at_wanted _ hand front n some most few h = all_wanted hand front n some m
 
 whole_take : (n : ℕ) (xs : List ℕ) → length xs ≤ length (take n xs) → take n xs ≡ xs
 whole_take n xs h = let e = length-take n xs in take_all n xs (omega (arith, e, h))
+
+-- What is shown of the bytes that a reader has left.
+no_hand : (hand ahead : List ℕ) → begins_record hand ahead ≡ true → hand ≡ []
+no_hand [] ahead h = refl
+no_hand (b ∷ hand) [] h = absurd (clash false h refl)
+no_hand (b ∷ hand) (t ∷ ahead) h = absurd (clash false h refl)
+
+nonempty_taken : (taken : List ℕ) → taken ≡ [] → is_nonempty taken ≡ true → ⊥
+nonempty_taken taken e h = clash (is_nonempty taken) h (ap is_nonempty e)
+
+good_first : (ahead zs ys : List ℕ) (b : ℕ) (bytes : List ℕ) → begins_record [] ahead ≡ true → ahead ++ zs ≡ b ∷ bytes ++ ys → IsTrue (is_taken b)
+good_first [] zs ys b bytes h e = absurd (clash false h refl)
+good_first (t ∷ ahead) zs ys b bytes h e = let same : t ≡ b = cc in subst (λ x. IsTrue (is_taken x)) same h
+
+three : (ahead : List ℕ) → 3 ≤ record_len ahead
+three [] = omega arith
+three (t ∷ []) = omega arith
+three (t ∷ lo ∷ []) = omega arith
+three (t ∷ lo ∷ hi ∷ ahead) = omega arith
+
+-- of the record that begins with what was shown there is no more than it has
+fits_ahead : (ahead zs piece ys : List ℕ) → ahead ++ zs ≡ piece ++ ys → length piece ≤ record_len ahead → present piece ≡ piece
+fits_ahead ahead zs [] ys e few = refl
+fits_ahead ahead zs (t ∷ []) ys e few = refl
+fits_ahead ahead zs (t ∷ lo ∷ []) ys e few = refl
+fits_ahead [] zs (t ∷ lo ∷ hi ∷ piece) ys e few = ap (λ (r : List ℕ). t ∷ lo ∷ hi ∷ r) (take_all (lo + 256 * hi) piece (omega (arith, few)))
+fits_ahead (a ∷ []) zs (t ∷ lo ∷ hi ∷ piece) ys e few = ap (λ (r : List ℕ). t ∷ lo ∷ hi ∷ r) (take_all (lo + 256 * hi) piece (omega (arith, few)))
+fits_ahead (a ∷ b ∷ []) zs (t ∷ lo ∷ hi ∷ piece) ys e few = ap (λ (r : List ℕ). t ∷ lo ∷ hi ∷ r) (take_all (lo + 256 * hi) piece (omega (arith, few)))
+fits_ahead (a ∷ b ∷ c ∷ ahead) zs (t ∷ lo ∷ hi ∷ piece) ys e few =
+    let low : b ≡ lo = cc in
+    let high : c ≡ hi = cc in
+    ap (λ (r : List ℕ). t ∷ lo ∷ hi ∷ r) (take_all (lo + 256 * hi) piece (omega (arith, few, low, high)))
+
+both_true : (x y : Bool) → x && y ≡ true → (x ≡ true) × (y ≡ true)
+both_true true y h = (refl, h)
+both_true false y h = absurd (clash false h refl)
+
+never : (x y : Bool) → x && (y && false) ≡ false
+never true true = refl
+never true false = refl
+never false y = refl
+
+-- A piece is of one record, what is refused with it needs all of it, and the first byte of all comes alone.
+pub record IsOfRecord (s : Seen) (piece : List ℕ) : Type 0 where
+  pub fits : present (s.at_hand ++ piece) ≡ s.at_hand ++ piece
+  pub needed : (why : Reason) (at : Place) (f : RefusesHere s piece why at) → take f.count piece ≡ piece
+  pub first : s.taken ≡ [] → s.at_hand ≡ [] → length piece ≤ 1
 
 module _ (profile : Profile) (s : Seen) (open_s : IsOpen s) (fault : s.fault ≡ None) (same : s.profile ≡ profile) where
   -- a kept fault, or that the input ends here
@@ -197,11 +251,19 @@ module _ (profile : Profile) (s : Seen) (open_s : IsOpen s) (fault : s.fault ≡
       subst (λ x. IsRefused profile profile_limits x why at) (regroup piece sp.0 f.count ∙ sym sp.1)
       (subst (λ p. IsRefused p profile_limits ((s.taken ++ take f.count piece) ++ (drop f.count piece ++ sp.0)) why at) same (f.refused (drop f.count piece ++ sp.0)))
 
-  module _ (not_ended : s.ended ≡ false) (piece : List ℕ) (low : length piece ≤ want_of s) where
-    few : length piece ≤ wanted s.at_hand
-    few = subst (λ n. length piece ≤ n) (ap (λ (f : Option CheckFault). cond (s.ended || is_some f) 0 (wanted s.at_hand)) fault ∙ ap (λ b. cond (b || false) 0 (wanted s.at_hand)) not_ended) low
+  module _ (not_ended : s.ended ≡ false) (piece : List ℕ) where
+    next_is : next_bytes s piece ≡ present (s.at_hand ++ piece)
+    next_is = ap (λ b. cond b [] (present (s.at_hand ++ piece))) not_ended
 
-    -- what is refused needs all of the piece
+    -- what has come of the record is all of the piece
+    grown_all : present (s.at_hand ++ piece) ≡ s.at_hand ++ piece → (count : ℕ) → next_bytes s piece ≡ s.at_hand ++ take count piece → take count piece ≡ piece
+    grown_all fits count g =
+        let same_parts : s.at_hand ++ piece ≡ s.at_hand ++ take count piece = sym fits ∙ sym next_is ∙ g in
+        let a = length-append s.at_hand piece in
+        let b = length-append s.at_hand (take count piece) in
+        let d = ap length same_parts in
+        whole_take count piece (omega (arith, a, b, d))
+
     refused_here : (why : Reason) (at : Place) (f : RefusesHere s piece why at) → IsRefused profile profile_limits (s.taken ++ take f.count piece) why at
     refused_here why at f = subst (λ p. IsRefused p profile_limits (s.taken ++ take f.count piece) why at) same (subst (λ x. IsRefused s.profile profile_limits x why at) (append-nil (s.taken ++ take f.count piece)) (f.refused []))
 
@@ -215,65 +277,176 @@ module _ (profile : Profile) (s : Seen) (open_s : IsOpen s) (fault : s.fault ≡
             absurd (not_early why (s.at_hand ++ take f.count piece) f.judged (no_other s.profile profile_limits s.taken open_s.sound why at before))
         by (x ∷ front) e = omega arith
 
-    all_needed : (why : Reason) (at : Place) (f : RefusesHere s piece why at) → take f.count piece ≡ piece
-    all_needed why at f =
-        let e = length-take f.count piece in
-        let most : length (take f.count piece) ≤ length piece = omega (arith, e) in
-        let least = judged_at_wanted why s.at_hand (take f.count piece) (length piece) (needs_some why at f) most few f.judged in
-        whole_take f.count piece least
+    -- a piece of no more than the wanted bytes
+    of_wanted : length piece ≤ wanted s.at_hand → IsOfRecord s piece
+    of_wanted few = record {
+      fits = present_wanted s.at_hand piece (open_s.wants not_ended) few;
+      needed = λ why at f.
+          let e = length-take f.count piece in
+          let most : length (take f.count piece) ≤ length piece = omega (arith, e) in
+          let least = judged_at_wanted why s.at_hand (take f.count piece) (length piece) (needs_some why at f) most few f.judged in
+          whole_take f.count piece least;
+      first = λ t h. subst (λ x. length piece ≤ wanted x) h few;
+    }
 
-    all_grown : (count : ℕ) → 0 < length (next_bytes s piece) → (next_bytes s piece ≡ s.at_hand ++ take count piece) ⊎ ((s.taken ≡ []) × (s.at_hand ≡ []) × (count ≡ 1)) → take count piece ≡ piece
-    all_grown count some (inl g) =
-        let here : present (s.at_hand ++ piece) ≡ s.at_hand ++ take count piece = ap (λ b. cond b [] (present (s.at_hand ++ piece))) (sym not_ended) ∙ g in
-        let same_parts : s.at_hand ++ piece ≡ s.at_hand ++ take count piece = sym (present_wanted s.at_hand piece (open_s.wants not_ended) few) ∙ here in
-        let a = length-append s.at_hand piece in
+    -- a piece of no more than the record that begins with what was shown
+    module _ (ahead zs ys : List ℕ) (begins : begins_record s.at_hand ahead ≡ true) (shown : ahead ++ zs ≡ piece ++ ys) (few : length piece ≤ record_len ahead) where
+      hand_is : s.at_hand ≡ []
+      hand_is = no_hand s.at_hand ahead begins
+
+      all_fits : present (s.at_hand ++ piece) ≡ s.at_hand ++ piece
+      all_fits = subst (λ h. present (h ++ piece) ≡ h ++ piece) (sym hand_is) (fits_ahead ahead zs piece ys shown few)
+
+      all_needed : (why : Reason) (at : Place) (f : RefusesHere s piece why at) → take f.count piece ≡ piece
+      all_needed why at f = by piece refl
+        where
+          by : (bytes : List ℕ) → piece ≡ bytes → take f.count piece ≡ piece
+          by [] e = let none : length piece ≡ 0 = ap length e in whole_take f.count piece (omega (arith, none))
+          by (b ∷ bytes) e =
+              let good : IsTrue (is_taken b) = good_first ahead zs ys b bytes (subst (λ h. begins_record h ahead ≡ true) hand_is begins) (shown ∙ ap (λ x. x ++ ys) e) in
+              let now : next_bytes s piece ≡ b ∷ bytes = next_is ∙ all_fits ∙ ap (λ h. h ++ piece) hand_is ∙ e in
+              grown_all all_fits f.count (f.whole (subst (λ x. IsTrue (is_taken (slice_index x 0))) (sym now) good))
+
+      of_ahead : is_nonempty s.taken ≡ true → IsOfRecord s piece
+      of_ahead some = record {
+        fits = all_fits;
+        needed = all_needed;
+        first = λ t h. absurd (nonempty_taken s.taken t some);
+      }
+
+    by_want : (ahead xs ys : List ℕ) → StartsWith xs ahead → xs ≡ piece ++ ys → length piece ≤ want_with s ahead → IsOfRecord s piece
+    by_want ahead xs ys starts e low = by (is_nonempty s.taken && (begins_record s.at_hand ahead && not (s.ended || is_some s.fault))) refl low
+      where
+        by : (b : Bool) → is_nonempty s.taken && (begins_record s.at_hand ahead && not (s.ended || is_some s.fault)) ≡ b → length piece ≤ cond b (record_len ahead) (want_of s) → IsOfRecord s piece
+        by true h few =
+            let a = both_true (is_nonempty s.taken) _ h in
+            let b = both_true (begins_record s.at_hand ahead) _ a.1 in
+            of_ahead ahead (drop (length ahead) xs) ys b.0 (sym (starts_with_rest xs ahead starts) ∙ e) few a.0
+        by false h few =
+            of_wanted (subst (λ n. length piece ≤ n) (ap (λ (f : Option CheckFault). cond (s.ended || is_some f) 0 (wanted s.at_hand)) fault ∙ ap (λ b. cond (b || false) 0 (wanted s.at_hand)) not_ended) few)
+
+    module _ (o : IsOfRecord s piece) where
+      all_grown : (count : ℕ) → (next_bytes s piece ≡ s.at_hand ++ take count piece) ⊎ ((s.taken ≡ []) × (s.at_hand ≡ []) × (count ≡ 1)) → take count piece ≡ piece
+      all_grown count (inl g) = grown_all o.fits count g
+      all_grown count (inr h) =
+          let one : length piece ≤ 1 = o.first h.0 h.1 in
+          take_all count piece (omega (arith, h.2, one))
+
+      -- a growth needs a byte
+      some_read : length s.at_hand < length (next_bytes s piece) → 0 < length (s.taken ++ piece)
+      some_read more =
+          let all : next_bytes s piece ≡ s.at_hand ++ piece = next_is ∙ o.fits in
+          let a = ap length all in
+          let b = length-append s.at_hand piece in
+          let d = length-append s.taken piece in
+          omega (arith, more, a, b, d)
+
+      cause_by : (why : CheckFault) (old left : Option (List ℕ)) (n k : ℕ) → IsCause s piece why → Consumes old left (s.taken ++ piece) → IsCheckFault profile old left n k why
+      cause_by check.Memory old left n k f c =
+          let e = all_grown f.count f.judged in (
+            s.taken ++ piece,
+            c,
+            subst (λ p. AreSoundSoFar p profile_limits (s.taken ++ piece)) same (subst (λ x. AreSoundSoFar s.profile profile_limits (s.taken ++ x)) e f.sound),
+            some_read f.needed,
+          )
+      cause_by check.Read old left n k f c = absurd f
+      cause_by (check.Refused why at) old left n k f c =
+          let e = o.needed why at f in (
+            s.taken ++ piece,
+            c,
+            (subst (λ x. IsRefused profile profile_limits (s.taken ++ x) why at) e (refused_here why at f), inr (subst (EndsWhereJudged why) (sym f.of_it ∙ ap (λ x. drop at.start (s.taken ++ x)) e) f.judged)),
+          )
+
+    -- of a reader that tells no bytes, any will do
+    some_piece : s.at_hand ≡ [] → length s.at_hand < length (next_bytes s piece) → 0 < length piece
+    some_piece h more = by piece (subst (λ x. length x < length (present (x ++ piece))) h (subst (λ x. length s.at_hand < length x) next_is more))
+      where
+        by : (bytes : List ℕ) → 0 < length (present bytes) → 0 < length bytes
+        by [] k = absurd (omega (arith, k))
+        by (b ∷ bytes) k = omega arith
+
+    some_taken : (count : ℕ) → length s.at_hand < length (next_bytes s piece) → (next_bytes s piece ≡ s.at_hand ++ take count piece) ⊎ ((s.taken ≡ []) × (s.at_hand ≡ []) × (count ≡ 1))
+        → 0 < length (s.taken ++ take count piece)
+    some_taken count more (inl g) =
+        let a = ap length g in
         let b = length-append s.at_hand (take count piece) in
-        let d = ap length same_parts in
-        whole_take count piece (omega (arith, a, b, d))
-    all_grown count some (inr h) =
-        let one : length piece ≤ 1 = subst (λ x. length piece ≤ wanted x) h.1 few in
-        take_all count piece (omega (arith, h.2, one))
-
-    -- a growth needs a byte
-    some_read : length s.at_hand < length (next_bytes s piece) → 0 < length (s.taken ++ piece)
-    some_read more =
-        let here : next_bytes s piece ≡ present (s.at_hand ++ piece) = ap (λ b. cond b [] (present (s.at_hand ++ piece))) not_ended in
-        let all : next_bytes s piece ≡ s.at_hand ++ piece = here ∙ present_wanted s.at_hand piece (open_s.wants not_ended) few in
-        let a = ap length all in
-        let b = length-append s.at_hand piece in
-        let d = length-append s.taken piece in
+        let d = length-append s.taken (take count piece) in
         omega (arith, more, a, b, d)
+    some_taken count more (inr h) =
+        let some = some_piece h.1 more in
+        let b = length-take count piece in
+        let d = length-append s.taken (take count piece) in
+        omega (arith, some, h.2, b, d)
 
-    cause_by : (why : CheckFault) (old left : Option (List ℕ)) (n k : ℕ) → IsCause s piece why → Consumes old left (s.taken ++ piece) → IsCheckFault profile old left n k why
-    cause_by check.Memory old left n k f c =
-        let e = all_grown f.count (omega (arith, f.needed)) f.judged in (
-          s.taken ++ piece,
-          c,
-          subst (λ p. AreSoundSoFar p profile_limits (s.taken ++ piece)) same (subst (λ x. AreSoundSoFar s.profile profile_limits (s.taken ++ x)) e f.sound),
-          some_read f.needed,
-        )
-    cause_by check.Read old left n k f c = absurd f
-    cause_by (check.Refused why at) old left n k f c =
-        let e = all_needed why at f in (
-          s.taken ++ piece,
-          c,
-          (subst (λ x. IsRefused profile profile_limits (s.taken ++ x) why at) e (refused_here why at f), inr (subst (EndsWhereJudged why) (sym f.of_it ∙ ap (λ x. drop at.start (s.taken ++ x)) e) f.judged)),
-        )
+    untold : (why : CheckFault) (left : Option (List ℕ)) (n k : ℕ) → IsCause s piece why → IsCheckFault profile None left n k why
+    untold check.Memory left n k f = (s.taken ++ take f.count piece, tt, subst (λ p. AreSoundSoFar p profile_limits (s.taken ++ take f.count piece)) same f.sound, some_taken f.count f.needed f.judged)
+    untold check.Read left n k f = absurd f
+    untold (check.Refused why at) left n k f = (s.taken ++ take f.count piece, tt, (refused_here why at f, inr (subst (EndsWhereJudged why) (sym f.of_it) f.judged)))
+
+  -- it wants none only at the end
+  pub no_want : (ahead : List ℕ) → want_with s ahead ≡ 0 → want_of s ≡ 0
+  no_want ahead e = by (is_nonempty s.taken && (begins_record s.at_hand ahead && not (s.ended || is_some s.fault))) (record_len ahead) (want_of s) (three ahead) e
+    where
+      by : (b : Bool) (n k : ℕ) → 3 ≤ n → cond b n k ≡ 0 → k ≡ 0
+      by true n k h z = absurd (omega (arith, h, z))
+      by false n k h z = z
+
+  pub runs : (ahead : List ℕ) (m w : ℕ) → (m ≡ 0 → ⊥) → m ≡ min w 4096 → w ≡ want_with s ahead → s.ended ≡ false
+  runs ahead m w some e f = by s.ended refl
+    where
+      none_behind : s.ended ≡ true → want_with s ahead ≡ 0
+      none_behind over =
+          ap (λ x. cond (is_nonempty s.taken && (begins_record s.at_hand ahead && not (x || is_some s.fault))) (record_len ahead) (cond (x || is_some s.fault) 0 (wanted s.at_hand))) over
+          ∙ ap (λ x. cond x (record_len ahead) 0) (never (is_nonempty s.taken) (begins_record s.at_hand ahead))
+
+      by : (b : Bool) → s.ended ≡ b → s.ended ≡ false
+      by false h = h
+      by true h =
+          let z : w ≡ 0 = f ∙ none_behind h in
+          let y : m ≡ 0 = omega (arith, e, z) in
+          absurd (some y)
+
+  -- and then there are fewer bytes to come
+  pub fewer_left : (piece : List ℕ) (count : ℕ) (whole : Bool) (new : Seen) → s.ended ≡ false → 0 < length piece → Takes s piece count whole new → 2 ^ 37 - length new.taken < 2 ^ 37 - length s.taken
+  fewer_left piece count whole new e some t =
+      let want = open_s.wants e in
+      let is : want_of s ≡ wanted s.at_hand = ap (λ (f : Option CheckFault). cond (s.ended || is_some f) 0 (wanted s.at_hand)) fault ∙ ap (λ b. cond (b || false) 0 (wanted s.at_hand)) e in
+      let least = t.all_wanted in
+      let most = t.bound in
+      let size : length new.taken ≡ length s.taken + length (take count piece) = ap length t.taken ∙ length-append s.taken (take count piece) in
+      let part = length-take count piece in
+      let room = t.is_open.bounded in
+      omega (arith, want, is, least, most, size, part, room, some)
+
+  -- at the module's end there is no fault
+  pub finish_no_fault : (result : Result Module CheckFault) (old left : Option (List ℕ)) (n k : ℕ) → want_of s ≡ 0 → Finishes s result → IfErr result (IsCheckFault profile old left n k)
+  finish_no_fault (Ok m) old left n k w f = tt
+  finish_no_fault (Err why) old left n k w f = by f.1
+    where
+      by : EndsBy why → IsCheckFault profile old left n k why
+      by (inl h) = absurd (none_some s.fault why fault h)
+      by (inr h) = absurd (clash s.ended (ended_of_want s.ended refl w) h.1)
 
   pub feed_decides : (why : CheckFault) (piece : List ℕ) (new : Seen) (old between left : Option (List ℕ)) → FailsAs s piece why new → Consumes old between s.taken → Consumes between left piece
       → (input : List ℕ) → old ≡ Some input → Decides profile input (Err why)
   feed_decides why piece new old between left f c k input e = feed_by why piece old left (cause_of piece why new f f.cause) (consumes_more old between left s.taken piece c k) input e
 
-  pub feed_cause : (why : CheckFault) (piece : List ℕ) (new : Seen) (old between left : Option (List ℕ)) (n m : ℕ) → length piece ≤ want_of s → FailsAs s piece why new → Consumes old between s.taken → Consumes between left piece
-      → IsCheckFault profile old left n m why
-  feed_cause why piece new old between left n m low f c k = cause_by f.not_ended piece low why old left n m (cause_of piece why new f f.cause) (consumes_more old between left s.taken piece c k)
+  pub feed_cause : (why : CheckFault) (piece ahead : List ℕ) (new : Seen) (old between left : Option (List ℕ)) (n m : ℕ) → Shows between ahead → length piece ≤ want_with s ahead
+      → FailsAs s piece why new → Consumes old between s.taken → Consumes between left piece → IsCheckFault profile old left n m why
+  feed_cause why piece ahead new None between left n m shows low f c k = untold f.not_ended piece why left n m (cause_of piece why new f f.cause)
+  feed_cause why piece ahead new (Some input) None left n m shows low f c k = absurd c
+  feed_cause why piece ahead new (Some input) (Some xs) None n m shows low f c k = absurd k
+  feed_cause why piece ahead new (Some input) (Some xs) (Some ys) n m shows low f c k =
+      cause_by f.not_ended piece (by_want f.not_ended piece ahead xs ys shows k low) why (Some input) (Some ys) n m (cause_of piece why new f f.cause)
+      (consumes_more (Some input) (Some xs) (Some ys) s.taken piece c k)
 
   -- all of a piece that is not more than wanted is taken
-  pub feed_consumes : (piece : List ℕ) (count : ℕ) (whole : Bool) (new : Seen) (old between left : Option (List ℕ)) → length piece ≤ want_of s → Takes s piece count whole new
-      → Consumes old between s.taken → Consumes between left piece → Consumes old left new.taken
-  feed_consumes piece count whole new old between left low t c k =
-      let bound = t.bound in
-      let wants = t.all_wanted in
-      let exact : count ≡ length piece = omega (arith, bound, wants, low) in
-      let all : take count piece ≡ piece = ap (λ n. take n piece) exact ∙ take-length piece in
-      subst (λ x. Consumes old left x) (sym (t.taken ∙ ap (λ x. s.taken ++ x) all)) (consumes_more old between left s.taken piece c k)
+  pub feed_consumes : (piece ahead : List ℕ) (count : ℕ) (whole : Bool) (new : Seen) (old between left : Option (List ℕ)) → s.ended ≡ false → Shows between ahead → length piece ≤ want_with s ahead
+      → Takes s piece count whole new → Consumes old between s.taken → Consumes between left piece → Consumes old left new.taken
+  feed_consumes piece ahead count whole new None between left e shows low t c k = tt
+  feed_consumes piece ahead count whole new (Some input) None left e shows low t c k = absurd c
+  feed_consumes piece ahead count whole new (Some input) (Some xs) None e shows low t c k = absurd k
+  feed_consumes piece ahead count whole new (Some input) (Some xs) (Some ys) e shows low t c k =
+      let o = by_want e piece ahead xs ys shows k low in
+      let all : take count piece ≡ piece = grown_all e piece o.fits count t.grown in
+      subst (λ x. Consumes (Some input) (Some ys) x) (sym (t.taken ∙ ap (λ x. s.taken ++ x) all)) (consumes_more (Some input) (Some xs) (Some ys) s.taken piece c k)

@@ -1,6 +1,6 @@
 -- Where the record at hand is refused, and what is found before a growth.
 use Rattle.std.proofs.Common.{◌≡◌, ℕ, zero, suc, ◌+◌, ◌-◌, ◌*◌, ◌<◌, ◌≤◌, Bool, true, false, cond, List, [], ◌∷◌, ◌++◌, refl, sym, ◌∙◌, ap, subst, arith, append_assoc, length, take, drop, min, inl, inr}
-use Rattle.std.specs.Prelude.{flat_map, ◌==◌, ◌||◌, nat_le, not, sum, ◌%◌, slice_index, Option, Some, None, option_map}
+use Rattle.std.specs.Prelude.{flat_map, IsTrue, ◌==◌, ◌||◌, nat_le, not, sum, ◌%◌, slice_index, Option, Some, None, option_map}
 use Rattle.std.specs.Option.{option_or}
 use Rattle.std.proofs.lemmas.Bool.{leb-true, leb-false, eqb-true}
 use Rattle.std.proofs.lemmas.List.{length-append, length-take, drop_at}
@@ -16,7 +16,9 @@ use Rattle.omf_frame.specs.declared.fault.Reason.{Reason}
 use Rattle.omf_frame.specs.declared.fault.Reason.TheVariants as reason
 use Rattle.omf_frame.proofs.Growing.{grown, type_same, type_later}
 use Rattle.omf_frame.proofs.Judged.{standing_is, sound_type}
+use Rattle.omf_frame.proofs.FaultLaws.{untrue}
 use Rattle.omf_frame.proofs.Standing.{present_twice}
+use Rattle.omf_frame.proofs.StepLaws.{known_supported}
 use Rattle.omf_records.specs.Steps.{AreBytes-back, AreBytes-take}
 use Rattle.omf_image.specs.Limits.{profile_limits}
 use Rattle.omf_check.specs.declared.fault.CheckFault.TheVariants as check
@@ -80,6 +82,17 @@ whole_ends f (t ∷ lo ∷ hi ∷ rest) q same e =
     by true w false y false h k = named reason.Checksum at k (whole_length bytes w same)
     by true w false y true false k = named reason.NoHeader 0 k (whole_length bytes w same)
     by true w false y true true k = absurd (none_some q k)
+
+-- a type that is taken has no fault
+good_type : (bytes : List ℕ) → IsTrue (is_taken (slice_index bytes 0)) → type_fault bytes ≡ None
+unfolding type_fault
+good_type [] h = refl
+good_type (t ∷ rest) h = by (is_unsupported t) (is_taken t) (known_supported t h) h
+  where
+    by : (u k : Bool) → IsTrue (not u) → IsTrue k → ◌≡◌ {A = Option (Reason × ℕ)} (cond u (Some (reason.UnsupportedType, 0)) (cond k None (Some (reason.UnknownType, 0)))) None
+    by true k n h = absurd (untrue n)
+    by false true n h = refl
+    by false false n h = absurd (untrue h)
 
 -- where the others are
 pub inner_ends : (why : Reason) (part : List ℕ) → IsInner why → length part ≡ 3 + stated_length part → EndsWhereJudged why part
@@ -161,6 +174,10 @@ module _ (profile : Profile) (held : Held) (taken : List ℕ) (kept : Kept) (p :
   start_of f why at h = cc
 
   -- A refusal by the framer: of the type byte, or of a whole record.
+  -- the type of the record at hand, before its end
+  good_now : held.ended ≡ false → (piece : List ℕ) → IsTrue (is_taken (slice_index (next_of held piece) 0)) → IsTrue (is_taken (slice_index (present (held.bytes ++ piece)) 0))
+  good_now e piece k = subst (λ b. IsTrue (is_taken (slice_index (cond b [] (present (held.bytes ++ piece))) 0))) e k
+
   by_type_byte : held.ended ≡ false → (piece : List ℕ) (f : Fault) (why : Reason) (at : Place) → option_map (refused held) (Some f) ≡ Some (frame.Refused why at) → (q : Reason × ℕ)
       → type_fault (present (held.bytes ++ piece)) ≡ Some q → found q ≡ f → RefusesHere (here profile held taken) piece why at
   by_type_byte e piece f why at named q h is =
@@ -173,6 +190,7 @@ module _ (profile : Profile) (held : Held) (taken : List ℕ) (kept : Kept) (p :
         count = 1;
         of_it = from_start at (start_of f why at named) (take 1 piece);
         judged = subst (λ x. EndsWhereJudged why x) (sym b.1) (subst (λ r. EndsWhereJudged r (b.0 ∷ [])) reason_is (type_ends b.0 q b.2));
+        whole = λ k. absurd (none_some q (sym (good_type (present (held.bytes ++ piece)) (good_now e piece k)) ∙ h));
         refused = λ more. framing_refuses profile held taken kept p e (take 1 piece) more f why at stands named;
       }
 
@@ -198,6 +216,7 @@ module _ (profile : Profile) (held : Held) (taken : List ℕ) (kept : Kept) (p :
         of_it = from_start at (start_of f why at named) (take (count_of piece) piece);
         judged = subst (λ x. EndsWhereJudged why x) (sym g) (subst (λ r. EndsWhereJudged r (present (held.bytes ++ piece))) reason_is
             (whole_ends first (present (held.bytes ++ piece)) q (present_twice (held.bytes ++ piece)) h));
+        whole = λ k. ap (λ b. cond b [] (present (held.bytes ++ piece))) e ∙ sym g;
         refused = λ more. framing_refuses profile held taken kept p e (take (count_of piece) piece) more f why at (ap (standing_fault first) (present_of piece (take (count_of piece) piece) g) ∙ s) named;
       }
 
@@ -258,6 +277,7 @@ module _ (profile : Profile) (held : Held) (taken : List ℕ) (kept : Kept) (p :
           count = count;
           of_it = from_start at start_is (take count piece);
           judged = subst (λ x. EndsWhereJudged why x) g (inner_ends why now (subst IsInner reason_is (inner_of f inner)) long);
+          whole = λ k. g;
           refused = λ more. record_refuses profile held taken kept p e (take count piece) more now why at (sym same) w s (ap (option_map (refused_at held.number held.start)) r ∙ h);
         }
 

@@ -1,10 +1,11 @@
 -- What a session's calls answer.
 use Rattle.std.proofs.Common.{◌≡◌, ◌≢◌, ℕ, zero, suc, ◌+◌, ◌<◌, ◌≤◌, Bool, true, false, List, [], ◌∷◌, ◌++◌, Result, Ok, Err, refl, sym, ◌∙◌, ap, subst, arith, length, min, length-append}
-use Rattle.std.specs.Prelude.{All, flat_map, ◌==◌, Option, Some, None, is_some, cond}
+use Rattle.std.specs.Prelude.{All, flat_map, ◌==◌, not, ◌&&◌, ◌||◌, Option, Some, None, is_some, cond}
 use Rattle.omf_frame.specs.Fault.{Fault}
-use Rattle.omf_frame.specs.Framing.{Raw, raw_bytes, IsRecord, IsFramed, frame_fault, front_record, after_front}
-use Rattle.omf_frame.specs.Framer.{Held, at_start, stop_of, refused}
-use Rattle.omf_frame.specs.Framer.{want_of as framer_want}
+use Rattle.omf_frame.specs.Framing.{Raw, raw_bytes, IsRecord, IsFramed, is_nonempty, wanted, frame_fault, front_record, after_front}
+use Rattle.omf_frame.specs.Judging.{record_len}
+use Rattle.omf_frame.specs.Framer.{Held, at_start, begins_record, stop_of, refused}
+use Rattle.omf_frame.specs.Framer.{want_of as framer_want, want_with as framer_want_with}
 use Rattle.omf_frame.specs.declared.fault.FrameFault.{FrameFault}
 use Rattle.omf_frame.specs.declared.fault.FrameFault.TheVariants as frame
 use Rattle.omf_frame.proofs.FramingLaws.{present_raw, front_raw, after_raw}
@@ -16,7 +17,7 @@ use Rattle.omf_check.specs.Kept.{Kept, Tells, nothing_kept}
 use Rattle.omf_check.specs.Module.{records_from, records_in, IsChecked}
 use Rattle.omf_check.specs.Points.{PointsTo}
 use Rattle.omf_check.specs.WellFormed.{IsWellFormed, recs}
-use Rattle.omf_check.specs.Session.{Seen, IsOpen, IsPassing, IsState, Moves, Takes, IsCause, framing_fault, IsEndFault}
+use Rattle.omf_check.specs.Session.{Seen, IsOpen, IsPassing, IsState, Moves, Takes, IsCause, framing_fault, IsEndFault, want_with}
 use Rattle.omf_check.proofs.Moving.{taken_bound, started}
 use Rattle.omf_check.proofs.Passing.{open_here, stopped, early}
 
@@ -45,6 +46,27 @@ pub feeds : (profile : Profile) (held new : Held) (taken now piece : List ℕ) (
 feeds profile held new taken now piece kept after count whole fault e s m q =
     subst (λ f. Takes (seen profile held taken f) piece count whole (seen profile new now f)) (sym e)
     (feeds_open profile held new taken now piece kept after count whole (subst (IsState profile held taken kept) e s) m q)
+
+-- What it wants of the bytes that are next.
+pub nonzero : (n : ℕ) → n == 0 ≡ false → 0 < n
+nonzero zero e = cc
+nonzero (suc n) e = omega arith
+
+pub none_of : (o : Option CheckFault) → is_some o ≡ false → o ≡ None
+none_of None e = refl
+none_of (Some f) e = cc
+
+some_taken : (taken : List ℕ) → 0 < length taken → true ≡ is_nonempty taken
+some_taken [] h = absurd (omega (arith, h))
+some_taken (b ∷ taken) h = refl
+
+pub wants_ahead : (profile : Profile) (held : Held) (taken : List ℕ) (kept : Kept) (fault : Option CheckFault) (ahead : List ℕ) → fault ≡ None → IsState profile held taken kept fault → 0 < length taken
+    → framer_want_with held ahead ≡ want_with (seen profile held taken fault) ahead
+wants_ahead profile held taken kept fault ahead e state some =
+    let p : IsPassing profile held taken kept = subst (IsState profile held taken kept) e state in
+    ap (λ f. framer_want_with (record held { fault = f }) ahead) p.no_fault
+    ∙ ap (λ b. cond (b && (begins_record held.bytes ahead && not (held.ended || false))) (record_len ahead) (cond (held.ended || false) 0 (wanted held.bytes))) (some_taken taken some)
+    ∙ ap (λ f. want_with (seen profile held taken f) ahead) (sym e)
 
 -- The end of the input.
 stop_ended : (held : Held) → held.fault ≡ None → held.ended ≡ true → stop_of held ≡ Ok tt

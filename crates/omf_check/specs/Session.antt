@@ -1,12 +1,13 @@
 -- What is seen of a session, and what its calls do.
-use Rattle.std.specs.Prelude.{◌≡◌, ◌≢◌, ◌⊎◌, ◌≤◌, ◌<◌, ◌^◌, IsTrue, ℕ, Bool, true, false, not, ◌||◌, ◌==◌, is_some, min, if◌then◌else◌, List, [], ◌∷◌, ◌++◌, length, take, drop, flat_map, All, Option, Some, None, option_map, Result, Ok, Err}
+use Rattle.std.specs.Prelude.{◌≡◌, ◌≢◌, ◌⊎◌, ◌≤◌, ◌<◌, ◌^◌, IsTrue, ℕ, slice_index, Bool, true, false, not, ◌&&◌, ◌||◌, ◌==◌, is_some, min, if◌then◌else◌, List, [], ◌∷◌, ◌++◌, length, take, drop, flat_map, All, Option, Some, None, option_map, Result, Ok, Err}
 use Rattle.omf_frame.specs.Bytes.{AreBytes}
 use Rattle.omf_frame.specs.Fault.{Fault}
-use Rattle.omf_frame.specs.Framer.{Held}
+use Rattle.omf_frame.specs.Framer.{Held, begins_record}
 use Rattle.omf_frame.specs.Framer.{next_bytes as next_of, want_of as framer_want}
 use Rattle.omf_frame.specs.declared.fault.FrameFault.{FrameFault}
 use Rattle.omf_frame.specs.declared.fault.FrameFault.TheVariants as frame
-use Rattle.omf_frame.specs.Framing.{Raw, raw_bytes, IsRecord, is_end, is_end_of_input, is_whole, present, wanted, standing_fault}
+use Rattle.omf_frame.specs.Framing.{Raw, raw_bytes, IsRecord, is_end, is_end_of_input, is_nonempty, is_taken, is_whole, present, wanted, standing_fault}
+use Rattle.omf_frame.specs.Judging.{record_len}
 use Rattle.omf_frame.specs.declared.fault.Place.{Place}
 use Rattle.omf_frame.specs.declared.fault.Reason.{Reason}
 use Rattle.omf_image.specs.Limits.{profile_limits}
@@ -35,6 +36,10 @@ at_start profile = record { profile = profile; taken = []; at_hand = []; ended =
 -- How many bytes it can take before it next judges; none after the end or after a fault.
 abbrev pub want_of : Seen → ℕ
 want_of s = if s.ended || is_some s.fault then 0 else wanted s.at_hand
+
+-- The same where these are the next bytes: behind a first record, from a type byte that has no fault on, all of the record.
+abbrev pub want_with : Seen → List ℕ → ℕ
+want_with s ahead = if is_nonempty s.taken && (begins_record s.at_hand ahead && not (s.ended || is_some s.fault)) then record_len ahead else want_of s
 
 -- The bytes of the record at hand once a piece has come, up to its end.
 abbrev pub next_bytes : Seen → List ℕ → List ℕ
@@ -72,10 +77,11 @@ pub record Takes (old : Seen) (piece : List ℕ) (count : ℕ) (whole : Bool) (n
   pub is_open : IsOpen new
 
 -- The record at hand is refused: the bytes taken and so many of the piece, which are all of it that is needed to judge it and no
--- more, are refused so whatever follows them.
+-- more, are refused so whatever follows them. Where its type is good, that is all there is of the record.
 pub record RefusesHere (old : Seen) (piece : List ℕ) (why : Reason) (at : Place) : Type 0 where
   pub count : ℕ
   pub of_it : drop at.start (old.taken ++ take count piece) ≡ old.at_hand ++ take count piece
+  pub whole : IsTrue (is_taken (slice_index (next_bytes old piece) 0)) → next_bytes old piece ≡ old.at_hand ++ take count piece
   pub judged : EndsWhereJudged why (old.at_hand ++ take count piece)
   pub refused : (more : List ℕ) → IsRefused old.profile profile_limits ((old.taken ++ take count piece) ++ more) why at
 

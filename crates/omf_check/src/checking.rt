@@ -37,7 +37,7 @@ pub fn check<S: Source>(
     let mut session = Session::new(alloc, profile);
     let mut buffer = [0; 4096];
     loop {
-        let want = session.want().min(buffer.len());
+        let want = session.want_with(reader.ahead()).min(buffer.len());
         if want == 0 {
             return session.finish();
         }

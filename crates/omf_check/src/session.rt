@@ -1,7 +1,7 @@
 //! The checker, fed in pieces.
 
 ghost use Rattle.std.specs.Prelude.{◌≡◌, None, IfOk, IfErr, OnOk, OnErr, false};
-ghost use Rattle.omf_check.specs.Session.{at_start, want_of, IsOpen, Takes, FailsAs, IsPassing, Moves, Fails, Finishes, framing_fault};
+ghost use Rattle.omf_check.specs.Session.{at_start, want_of, want_with, IsOpen, Takes, FailsAs, IsPassing, Moves, Fails, Finishes, framing_fault};
 
 use crate::checked::Checked;
 use crate::fault::CheckFault;
@@ -101,6 +101,21 @@ impl Session {
             return 0;
         }
         self.framer.want()
+    }
+
+    /// The same where these are the next bytes: behind a first record, from a type byte that has no fault on, all of the record, which is
+    /// judged with its last byte.
+    pub fn want_with(&self, ahead: &[u8]) -> usize
+        ensures same { result ≡ want_with self.now ahead.now }
+        ensures is_open { self.now.fault ≡ None → IsOpen self.now }
+    {
+        if self.fault.is_some() {
+            return 0;
+        }
+        if self.bytes.is_empty() {
+            return self.framer.want();
+        }
+        self.framer.want_with(ahead)
     }
 
     /// Whether a MODEND was passed.

@@ -1,5 +1,6 @@
 -- What a source of bytes and a sink do to the bytes that they tell, and to their counts of failures.
-use Rattle.std.specs.Prelude.{◌≡◌, ◌⊎◌, ◌<◌, ◌≤◌, ℕ, ◌+◌, ◌-◌, ◌^◌, ◌/◌, ◌%◌, ◌++◌, List, [], ◌∷◌, length, take, Bool, true, false, not, ◌==◌, ◌&&◌, nat_lt, if◌then◌else◌, Option, Result, Ok, Err}
+use Rattle.std.specs.Prelude.{◌≡◌, ◌⊎◌, ◌<◌, ◌≤◌, ℕ, ◌+◌, ◌-◌, ◌^◌, ◌/◌, ◌%◌, ◌++◌, List, [], ◌∷◌, length, take, Bool, true, false, not, ◌==◌, ◌&&◌, nat_lt, if◌then◌else◌, Option, IfSome, Result, Ok, Err}
+use Rattle.std.specs.Io.{StartsWith}
 use Rattle.std.specs.Io.KnownBytes.{Appends, Consumes, Keeps, IsAtEnd}
 use Rattle.std.specs.IoError.{error_kind}
 use Rattle.std.specs.declared.io.Error.{Error}
@@ -26,6 +27,10 @@ Pulls old new (Err e) buf = Keeps old new
 abbrev pub Pushes : {E : Type 0} → Option (List ℕ) → Option (List ℕ) → Result ℕ E → List ℕ → Type 0
 Pushes old new (Ok n) bytes = Appends old new (take n bytes)
 Pushes old new (Err e) bytes = Keeps old new
+
+-- bytes that are shown are the first of those that are left
+abbrev pub Shows : Option (List ℕ) → List ℕ → Type 0
+Shows left front = IfSome left (λ bytes. StartsWith bytes front)
 
 abbrev pub is_interruption : ErrorKind → Bool
 is_interruption Interrupted = true

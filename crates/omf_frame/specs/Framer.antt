@@ -1,9 +1,9 @@
 -- What is seen of a framer, and what its calls do.
-use Rattle.std.specs.Prelude.{◌≡◌, ◌⊎◌, ◌≤◌, ◌<◌, ℕ, ◌+◌, ◌*◌, Bool, true, false, ◌&&◌, ◌||◌, ◌==◌, is_some, is_none, min, if◌then◌else◌, List, [], ◌++◌, length, take, slice_index, Option, Some, None, option_map, Result, Ok, Err}
+use Rattle.std.specs.Prelude.{◌≡◌, ◌⊎◌, ◌≤◌, ◌<◌, ℕ, ◌+◌, ◌*◌, Bool, true, false, not, ◌&&◌, ◌||◌, ◌==◌, is_some, is_none, min, if◌then◌else◌, List, [], ◌∷◌, ◌++◌, length, take, slice_index, Option, Some, None, option_map, Result, Ok, Err}
 use Rattle.omf_frame.specs.declared.fault.FrameFault.{FrameFault}
 use Rattle.omf_frame.specs.declared.fault.FrameFault.TheVariants.{Memory, Refused}
 use Rattle.omf_frame.specs.Fault.{Fault}
-use Rattle.omf_frame.specs.Framing.{present, is_whole, wanted, is_end, type_faults, frame_fault, standing_fault}
+use Rattle.omf_frame.specs.Framing.{present, is_whole, is_taken, wanted, is_end, type_faults, frame_fault, standing_fault}
 use Rattle.omf_frame.specs.Judging.{record_len}
 
 -- The bytes taken of the record at hand, its number and start, whether a MODEND was passed, and a kept fault.
@@ -33,6 +33,15 @@ stands held = is_none held.fault && is_whole held.bytes
 -- How many bytes it can take before it next judges.
 abbrev pub want_of : Held → ℕ
 want_of held = if held.ended || is_some held.fault then 0 else wanted held.bytes
+
+-- The next bytes begin a record between two others, and its type has no fault.
+abbrev pub begins_record : List ℕ → List ℕ → Bool
+begins_record [] (t ∷ ahead) = is_taken t
+begins_record _ _ = false
+
+-- The same where these are the next bytes: from a type byte that has no fault on, all of the record.
+abbrev pub want_with : Held → List ℕ → ℕ
+want_with held ahead = if begins_record held.bytes ahead && not (held.ended || is_some held.fault) then record_len ahead else want_of held
 
 -- A fault of the record at hand, with its place.
 abbrev pub refused : Held → Fault → FrameFault

@@ -3,11 +3,11 @@
 ghost use Rattle.std.specs.Prelude.{◌≡◌, ◌≤◌, ◌<◌, ◌+◌, ◌-◌, ◌^◌, ◌++◌, ◌==◌, ◌||◌, [], true, false, None, IsTrue, length, take, slice_index, IfOk, IfErr, OnOk, OnErr, IfSome, OnSome, ℕ, List, is_some, vec_capacity};
 ghost use Rattle.omf_frame.specs.Framing.{Raw, IsRecord, raw_bytes, present, front_record, frame_fault, standing_fault, is_whole, is_taken, is_end};
 ghost use Rattle.omf_frame.specs.Judging.{record_len, type_fault};
-ghost use Rattle.omf_frame.specs.Framer.{Held, at_start, open_at, next_bytes, stands, want_of, Takes, IsCause, FailsAs, passed, stop_of, longest_record};
+ghost use Rattle.omf_frame.specs.Framer.{Held, at_start, open_at, next_bytes, stands, want_of, Takes, IsCause, FailsAs, passed, stop_of, longest_record, want_with};
 
 use crate::fault::{FrameFault, Place, Reason};
 use crate::framing::{is_whole, len_of, record_len, type_fault, whole_fault};
-use crate::kinds::is_end;
+use crate::kinds::{is_end, is_taken};
 use std::alloc::{AllocError, Global};
 use std::marker::Model;
 
@@ -241,6 +241,18 @@ impl Framer {
             return 1;
         }
         record_len(&self.bytes) - self.bytes.len()
+    }
+
+    /// The same where these are the next bytes: between two records, from a type byte that has no fault on, all of the record, which
+    /// is judged with its last byte.
+    pub fn want_with(&self, ahead: &[u8]) -> usize
+        ensures { result ≡ want_with self.now ahead.now }
+    {
+        let between = self.bytes.is_empty() && !self.ended && self.fault.is_none();
+        match ahead {
+            [kind, ..] if between && is_taken(*kind) => record_len(ahead),
+            _ => self.want(),
+        }
     }
 
     /// Whether a MODEND was passed by `next`.

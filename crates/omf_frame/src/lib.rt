@@ -27,7 +27,7 @@ mod pull;
 mod sums;
 mod write;
 
-pub use device::{Reading, Sink, Source, Writing};
+pub use device::{Buffered, Reading, Sink, Source, Writing};
 pub use fault::{FrameFault, Place, Reason};
 pub use field::{CommunalLength, Field, Index, Le16, Le32, Name};
 pub use framer::{Fed, Framer, RawRecord};

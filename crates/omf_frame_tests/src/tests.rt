@@ -2,12 +2,12 @@
 
 use omf_frame::faulty::{Script, Then};
 use omf_frame::{
-    CommunalLength, Field, FrameFault, Framer, Index, Le16, Le32, Name, Place, Reading, Reason,
-    Source, Writing, checksum, pull_piece, write_record,
+    Buffered, CommunalLength, Field, FrameFault, Framer, Index, Le16, Le32, Name, Place, Reading,
+    Reason, Source, Writing, checksum, pull_piece, write_record,
 };
 use std::alloc::{AllocError, Global};
 use std::io;
-use std::io::{ErrorKind, Write};
+use std::io::{BufReader, ErrorKind, Write};
 use std::test::Fail;
 
 mod faulty;
@@ -367,6 +367,30 @@ fn pulls_what_a_reader_gives(rt: HostRuntime) -> Result<(), Fail> {
     assert_eq!(rt; buf.as_slice(), &HEADER[..4]);
     assert_eq!(rt; source.pull(&mut buf)?, 2);
     assert_eq!(rt; source.pull(&mut buf)?, 0);
+    Ok(())
+}
+
+#[test]
+fn shows_what_a_buffer_holds(rt: HostRuntime) -> Result<(), Fail> {
+    let input = BufReader::with_capacity(rt.alloc(), 4, HEADER.as_slice())?;
+    let mut source = Buffered::new(input);
+    assert_eq!(rt; source.ahead(), [].as_slice());
+    let mut buf = [0; 1];
+    assert_eq!(rt; source.pull(&mut buf)?, 1);
+    assert_eq!(rt; source.ahead(), &HEADER[1..4]);
+    assert_eq!(rt; Reading::new(HEADER.as_slice()).ahead(), [].as_slice());
+    Ok(())
+}
+
+#[test]
+fn wants_the_record_that_is_ahead(rt: HostRuntime) -> Result<(), Fail> {
+    let mut framer = Framer::new(rt.alloc());
+    assert_eq!(rt; framer.want_with(&[]), 1);
+    assert_eq!(rt; framer.want_with(&HEADER), 6);
+    assert_eq!(rt; framer.want_with(&HEADER[..2]), 3);
+    assert_eq!(rt; framer.want_with(&[0xC2, 0x04, 0x00]), 1);
+    framer.feed(&HEADER[..1])?;
+    assert_eq!(rt; framer.want_with(&HEADER[1..]), 2);
     Ok(())
 }
 

@@ -3,9 +3,10 @@
 use super::{ANY, Answer, DATA, END, FIXUP, HEADER, NAMES, SEGMENT, length_of, module, refused};
 use omf_check::{CheckFault, check};
 use omf_frame::faulty::{Script, Then};
-use omf_frame::{Reading, Reason, Source};
+use omf_frame::{Buffered, Reading, Reason, Source};
 use std::alloc::Global;
 use std::io;
+use std::io::BufReader;
 use std::test::Fail;
 
 #[test]
@@ -35,20 +36,81 @@ fn leaves_what_follows_unread(rt: HostRuntime) -> Result<(), Fail> {
     Ok(())
 }
 
-/// What a check of these records answers, and how many bytes it read.
-fn read_of(alloc: Global, records: &[&[u8]]) -> Result<(Answer, usize), Fail> {
-    let bytes = module(alloc, records)?;
-    let mut reader = Reading::new(bytes.as_slice());
+/// What a check over a source of so many bytes answers, and how many of them it read.
+fn read_by<S: Source + Drop>(
+    alloc: Global,
+    source: S,
+    given: usize,
+) -> Result<(Answer, usize), Fail> {
+    let mut reader = source;
     let answer = length_of(check(alloc, &mut reader, ANY));
-    let mut read = bytes.len();
+    let mut read = given;
     let mut rest = [0];
-    for _ in 0..bytes.len() {
+    for _ in 0..given {
         if reader.pull(&mut rest)? == 0 {
             break;
         }
         read = read.saturating_sub(1);
     }
     Ok((answer, read))
+}
+
+/// The same of these records.
+fn read_of(alloc: Global, records: &[&[u8]]) -> Result<(Answer, usize), Fail> {
+    let bytes = module(alloc, records)?;
+    read_by(alloc, Reading::new(bytes.as_slice()), bytes.len())
+}
+
+/// The same through a buffer, which shows what it holds.
+fn read_through(alloc: Global, bytes: &[u8], capacity: usize) -> Result<(Answer, usize), Fail> {
+    let input = BufReader::with_capacity(alloc, capacity, bytes)?;
+    read_by(alloc, Buffered::new(input), bytes.len())
+}
+
+/// The same through a buffer of a byte, of a record and of all records as through none.
+fn is_buffered_alike(alloc: Global, records: &[&[u8]]) -> Result<bool, Fail> {
+    let bytes = module(alloc, records)?;
+    let whole = read_of(alloc, records)?;
+    for capacity in [1, 11, 64] {
+        if read_through(alloc, &bytes, capacity)? != whole {
+            return Ok(false);
+        }
+    }
+    Ok(true)
+}
+
+#[test]
+fn reads_no_further_than_what_is_ahead(rt: HostRuntime) -> Result<(), Fail> {
+    let a = rt.alloc();
+    let sum = [
+        0xA0, 0x08, 0x00, 0x01, 0x00, 0x00, 0xB8, 0x00, 0x00, 0x90, 0x10,
+    ];
+    let cut = [0x9C, 0x06];
+    assert_eq!(rt;
+        is_buffered_alike(a, &[&HEADER, &[0xC2], &END, &END])?,
+        true
+    );
+    assert_eq!(rt;
+        is_buffered_alike(a, &[&HEADER, &[0x00], &END, &END])?,
+        true
+    );
+    assert_eq!(rt;
+        is_buffered_alike(a, &[&HEADER, &[0x96, 0x00, 0x00], &NAMES, &END])?,
+        true
+    );
+    assert_eq!(rt;
+        is_buffered_alike(a, &[&HEADER, &NAMES, &SEGMENT, &sum, &FIXUP, &END])?,
+        true
+    );
+    assert_eq!(rt;
+        is_buffered_alike(a, &[&HEADER, &NAMES, &SEGMENT, &DATA, &cut])?,
+        true
+    );
+    assert_eq!(rt;
+        is_buffered_alike(a, &[&HEADER, &NAMES, &SEGMENT, &DATA, &FIXUP, &END, &END])?,
+        true
+    );
+    Ok(())
 }
 
 #[test]

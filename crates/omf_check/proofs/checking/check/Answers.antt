@@ -1,8 +1,8 @@
 use Rattle.std.proofs.Common.{◌∙◌, take, arith}
 use Rattle.std.proofs.lemmas.Result.{err_from_is_err_and}
 use Rattle.omf_frame.proofs.Tries.{failed_later}
-use Rattle.omf_check.specs.Session.{want_of}
-use Rattle.omf_check.proofs.CheckLaws.{none_wanted, piece_low, consumes_none, finish_ended, finish_decides, finish_err, read_failed, feed_decides, feed_cause, feed_consumes}
+use Rattle.omf_check.specs.Session.{want_with}
+use Rattle.omf_check.proofs.CheckLaws.{none_wanted, piece_low, some_given, no_want, runs, fewer_left, consumes_none, finish_ended, finish_no_fault, finish_decides, finish_err, read_failed, feed_decides, feed_cause, feed_consumes}
 use Rattle.omf_check.proofs.Patience.{finish_patient, feed_patient, finish_profile}
 use Rattle.omf_check.proofs.checking.check.Goals as goal
 
@@ -11,7 +11,23 @@ returns-then-want-eq0-clause-verdict g c =
     let i = c.loop-buffer.invariant in
     let s = c.loop-buffer.session in
     finish_ended c.args.profile s i.is_open i.no_fault i.profile c.finish.result (g.S.Source.seen c.args.reader.now).bytes (g.S.Source.seen c.loop-buffer.reader).bytes
-    (none_wanted c.min-want.result c.want.result (want_of s) c.if-want-eq0.true c.min-want.ensures c.want.ensures.same) c.finish.ensures i.consumed
+    (no_want c.args.profile s i.is_open i.no_fault i.profile c.ahead.result.now (none_wanted c.min-want.result c.want_with.result (want_with s c.ahead.result.now) c.if-want-eq0.true c.min-want.ensures c.want_with.ensures.same)) c.finish.ensures i.consumed
+
+pub returns-then-want-eq0-clause-cause : goal.returns-then-want-eq0-clause-cause
+returns-then-want-eq0-clause-cause g c =
+    let i = c.loop-buffer.invariant in
+    let s = c.loop-buffer.session in
+    finish_no_fault c.args.profile s i.is_open i.no_fault i.profile c.finish.result (g.S.Source.seen c.args.reader.now).bytes (g.S.Source.seen c.loop-buffer.reader).bytes
+    (g.S.Source.seen c.args.reader.now).failures (g.S.Source.seen c.loop-buffer.reader).failures
+    (no_want c.args.profile s i.is_open i.no_fault i.profile c.ahead.result.now (none_wanted c.min-want.result c.want_with.result (want_with s c.ahead.result.now) c.if-want-eq0.true c.min-want.ensures c.want_with.ensures.same)) c.finish.ensures
+
+pub loop-buffer-smaller : goal.loop-buffer-smaller
+loop-buffer-smaller g c =
+    let i = c.loop-buffer.invariant in
+    let s = c.loop-buffer.session in
+    fewer_left c.args.profile s i.is_open i.no_fault i.profile (take c.in-Ok.count c.pull_piece.new.buffer) c.in_ok-feed.field-0.taken c.in_ok-feed.field-0.whole c.feed.new.self
+    (runs c.args.profile s i.is_open i.no_fault i.profile c.ahead.result.now c.min-want.result c.want_with.result c.if-want-eq0.false c.min-want.ensures c.want_with.ensures.same)
+    (some_given c.in-Ok.count c.pull_piece.new.buffer c.if-count-eq0.false c.in-Ok.ensures.bound) c.in_ok-feed.ensures.ok
 
 pub returns-then-count-eq0-clause-verdict : goal.returns-then-count-eq0-clause-verdict
 returns-then-count-eq0-clause-verdict g c =
@@ -42,15 +58,16 @@ loop-buffer-preserved g c =
     let s = c.loop-buffer.session in
     let t = c.in_ok-feed.ensures.ok in
     let piece = take c.in-Ok.count c.pull_piece.new.buffer in
-    let low = piece_low c.pull_piece.new.buffer c.loop-buffer.buffer c.in-Ok.count c.min-want.result c.want.result (want_of s) c.pull_piece.auto.buffer c.min-want.ensures c.want.ensures.same in
+    let low = piece_low c.pull_piece.new.buffer c.loop-buffer.buffer c.in-Ok.count c.min-want.result c.want_with.result (want_with s c.ahead.result.now) c.pull_piece.auto.buffer c.min-want.ensures c.want_with.ensures.same in
+    let running = runs c.args.profile s i.is_open i.no_fault i.profile c.ahead.result.now c.min-want.result c.want_with.result c.if-want-eq0.false c.min-want.ensures c.want_with.ensures.same in
     let first = c.loop-buffer.invariant.grows in
     let second = c.in-Ok.ensures.grows in
     record {
       is_open = t.is_open;
       no_fault = t.fault;
       profile = t.profile ∙ i.profile;
-      consumed = feed_consumes c.args.profile s i.is_open i.no_fault i.profile piece c.in_ok-feed.field-0.taken c.in_ok-feed.field-0.whole c.feed.new.self
-          (g.S.Source.seen c.args.reader.now).bytes (g.S.Source.seen c.loop-buffer.reader).bytes (g.S.Source.seen c.pull_piece.new.source).bytes low t i.consumed c.in-Ok.ensures.bytes;
+      consumed = feed_consumes c.args.profile s i.is_open i.no_fault i.profile piece c.ahead.result.now c.in_ok-feed.field-0.taken c.in_ok-feed.field-0.whole c.feed.new.self
+          (g.S.Source.seen c.args.reader.now).bytes (g.S.Source.seen c.loop-buffer.reader).bytes (g.S.Source.seen c.pull_piece.new.source).bytes running c.ahead.ensures low t i.consumed c.in-Ok.ensures.bytes;
       grows = omega (arith, first, second);
       unbroken = c.in-Ok.ensures.tried ∙ i.unbroken;
     }
@@ -68,11 +85,11 @@ pub returns-in_err-feed-clause-cause : goal.returns-in_err-feed-clause-cause
 returns-in_err-feed-clause-cause g c =
     let i = c.loop-buffer.invariant in
     let s = c.loop-buffer.session in
-    let low = piece_low c.pull_piece.new.buffer c.loop-buffer.buffer c.in-Ok.count c.min-want.result c.want.result (want_of s) c.pull_piece.auto.buffer c.min-want.ensures c.want.ensures.same in
+    let low = piece_low c.pull_piece.new.buffer c.loop-buffer.buffer c.in-Ok.count c.min-want.result c.want_with.result (want_with s c.ahead.result.now) c.pull_piece.auto.buffer c.min-want.ensures c.want_with.ensures.same in
     let e = err_from_is_err_and c.from_residual.result c.from_residual.ensures.1 in
     rw (e.1, e.2) (
-    feed_cause c.args.profile s i.is_open i.no_fault i.profile c.in_err-feed.field-0.0 (take c.in-Ok.count c.pull_piece.new.buffer) c.feed.new.self
-    (g.S.Source.seen c.args.reader.now).bytes (g.S.Source.seen c.loop-buffer.reader).bytes (g.S.Source.seen c.pull_piece.new.source).bytes (g.S.Source.seen c.args.reader.now).failures (g.S.Source.seen c.pull_piece.new.source).failures low c.in_err-feed.ensures.err i.consumed c.in-Ok.ensures.bytes)
+    feed_cause c.args.profile s i.is_open i.no_fault i.profile c.in_err-feed.field-0.0 (take c.in-Ok.count c.pull_piece.new.buffer) c.ahead.result.now c.feed.new.self
+    (g.S.Source.seen c.args.reader.now).bytes (g.S.Source.seen c.loop-buffer.reader).bytes (g.S.Source.seen c.pull_piece.new.source).bytes (g.S.Source.seen c.args.reader.now).failures (g.S.Source.seen c.pull_piece.new.source).failures c.ahead.ensures low c.in_err-feed.ensures.err i.consumed c.in-Ok.ensures.bytes)
 
 pub returns-then-want-eq0-clause-patient : goal.returns-then-want-eq0-clause-patient
 returns-then-want-eq0-clause-patient g c =
