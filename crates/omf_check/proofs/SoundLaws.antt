@@ -1,6 +1,6 @@
 -- What the records of a well-formed module may rely on follows from the rules that they keep.
 use Rattle.std.proofs.Common.{◌≡◌, ◌≢◌, ℕ, ◌+◌, ◌*◌, ◌^◌, ◌<◌, ◌≤◌, Bool, true, false, List, [], ◌∷◌, ◌++◌, refl, sym, ◌∙◌, ap, subst, arith, append_assoc, length, length-append, map, cond}
-use Rattle.std.specs.Prelude.{Option, Some, None, option_map, unwrap_or, All, IsTrue, IsSome, IsOk, ⊤, not, ◌==◌, ◌||◌, nat_le, Result}
+use Rattle.std.specs.Prelude.{Option, Some, None, option_map, unwrap_or, All, IsTrue, is_some, IsSome, IsOk, ⊤, not, ◌==◌, ◌||◌, nat_le, Result}
 use Rattle.std.proofs.lemmas.Bool.{leb-true, le-leb, eqb-true, true≢false}
 use Rattle.std.proofs.lemmas.List.{append-nil, map-append}
 use Rattle.omf_frame.proofs.FaultLaws.{untrue, all_cons}
@@ -16,14 +16,14 @@ use Rattle.omf_image.specs.Blocks.{Blocks, blocks_size, AreBlocks}
 use Rattle.omf_image.specs.BlockReaders.{blocks_whole}
 use Rattle.omf_image.specs.Expanding.{blocks_of, blocks_or_none, expanded_length, faults_of, length_or}
 use Rattle.omf_image.specs.declared.limits.Limits.{Limits}
-use Rattle.omf_records.specs.Layout.{Layout, called, either}
+use Rattle.omf_records.specs.Layout.{Layout, called, either, when, le}
 use Rattle.omf_records.specs.Location.{location_size}
 use Rattle.omf_records.specs.Reading.{typed}
 use Rattle.omf_records.specs.Records.{contents, header, comment, names, segment, group, externs, publics, communals, data_item, fixups, mod_end, carried, IsTyped}
-use Rattle.omf_records.specs.Values.{At, Rec, Contents, Names, Plain, Iterated, Fixups, ModEnd, DataItem, Subrecord, Thread, Fixup, Reference, width, is_wide, location_type, location_offset, Segment, SegmentItem, is_big}
-use Rattle.omf_check.specs.Rules.{contents_rules, room, item_limit, item_places, data_rules, names_entry, frame_rules, target_rules, reference_rules, judged_at, location_rule, subrecord_rules, start_rules, is_location_frame, length_of_segment}
-use Rattle.omf_check.specs.Sound.{FrameIsDefined, TargetIsDefined, ReferenceHolds, FixupHolds, SubrecordHolds, SubrecordsHold, StartHolds, DataHolds, BlocksHold, ContentsHold, is_module_end, ModuleHolds}
-use Rattle.omf_check.specs.Tables.{segments, item_count, subrecords, last_data, segment_length}
+use Rattle.omf_records.specs.Values.{At, Rec, Contents, Names, Plain, Iterated, Fixups, ModEnd, DataItem, Subrecord, Thread, Fixup, Reference, width, is_wide, location_type, location_offset, Segment, SegmentItem, Publics, PublicItems, is_big}
+use Rattle.omf_check.specs.Rules.{contents_rules, room, item_limit, item_places, data_rules, names_entry, names_entry_or_none, frame_rules, target_rules, reference_rules, judged_at, location_rule, subrecord_rules, start_rules, is_location_frame, length_of_segment}
+use Rattle.omf_check.specs.Sound.{FrameIsDefined, TargetIsDefined, ReferenceHolds, FixupHolds, SubrecordHolds, SubrecordsHold, StartHolds, DataHolds, BlocksHold, PublicsHold, ContentsHold, is_module_end, ModuleHolds}
+use Rattle.omf_check.specs.Tables.{segments, groups, item_count, subrecords, last_data, segment_length}
 use Rattle.omf_check.specs.Threads.{FrameMethod, F0, F1, F2, F4, F5, TargetMethod, T0, T1, T2, frame_from, target_from, frame_setting, target_setting, frame_of, target_of}
 use Rattle.omf_check.specs.WellFormed.{IsWellFormed, HasTrees, recs}
 use Rattle.omf_check.specs.declared.profile.Profile.{Profile}
@@ -130,6 +130,18 @@ data_holds before d size short h =
       short = short;
     }
 
+-- Publics.
+publics_hold : (before : List Rec) (p : PublicItems) → is_some p.frame ≡ (p.segment.item == 0)
+    → AreKept (names_entry_or_none (length (groups before)) reason.UndefinedGroup p.group ∷ names_entry_or_none (length (segments before)) reason.UndefinedSegment p.segment ∷ []) → PublicsHold before p
+publics_hold before p numbered h =
+    let first : Rule = names_entry_or_none (length (groups before)) reason.UndefinedGroup p.group in
+    let second : Rule = names_entry_or_none (length (segments before)) reason.UndefinedSegment p.segment in
+    record {
+      group = first_kept first (second ∷ []) h;
+      segment = first_kept second [] (all_rest IsKept first (second ∷ []) h);
+      frame = numbered;
+    }
+
 abbrev length_by : Limits → Result Blocks Fault → Result ℕ Fault
 length_by limits r = length_or (blocks_size (blocks_or_none r)) (least (first_step (faults_of r ∷ broken (rule (nat_le (blocks_size (blocks_or_none r)) limits.expanded) 0 reason.DataTooLong ∷ []) ∷ [])))
 
@@ -149,9 +161,11 @@ blocks_hold limits before kind d short (trees, t) h = record {
   lies = subst (DataHolds before d) (sym (length-blocks_bytes (blocks_of (width kind) limits d.bytes))) (data_holds before d (blocks_size (blocks_of (width kind) limits d.bytes)) short h);
 }
 
--- What contents say of their record: data have no more bytes than it has, a segment's length has 32 bits at most, and a MODEND is one exactly by its type.
+-- What contents say of their record: data have no more bytes than it has, a segment's length has 32 bits at most, publics have the number of a base frame
+-- exactly where they name no segment, and a MODEND is one exactly by its type.
 abbrev IsBrief : ℕ → Contents → Type 0
 IsBrief n (Segment s) = s.size < 2 ^ 32
+IsBrief n (Publics p) = is_some p.frame ≡ (p.segment.item == 0)
 IsBrief n (Plain d) = length d.bytes ≤ n
 IsBrief n (Iterated d) = length d.bytes ≤ n
 IsBrief n _ = ⊤
@@ -196,8 +210,13 @@ said_group at bytes c (f, b, x, p, s, (y, t, e)) = other _ c _ e tt refl
 said_externs : AreSaid false externs
 said_externs at bytes c (x, s, e) = other _ c _ e tt refl
 
+number_stands : (b : Bool) (at : ℕ) (bytes : List ℕ) (o : Option ℕ) → (when b (le 2)).Spells at bytes o → is_some o ≡ b
+number_stands true at bytes o (n, s, e) = ap is_some e
+number_stands false at bytes o (none, e) = ap is_some e
+
 said_publics : (wide : Bool) → AreSaid false (publics wide)
-said_publics wide at bytes c (f1, b1, x1, p1, s1, (f2, b2, x2, p2, s2, (f3, b3, x3, p3, s3, (y, t, e)))) = other _ c _ e tt refl
+said_publics wide at bytes c (f1, b1, x1, p1, s1, (f2, b2, x2, p2, s2, (f3, b3, x3, p3, s3, (y, t, e)))) =
+    other (length bytes) c _ e (number_stands (x2.item == 0) (at + length f1 + length f2) f3 x3 s3) refl
 
 said_communals : AreSaid false communals
 said_communals at bytes c (x, s, e) = other _ c _ e tt refl
@@ -272,6 +291,7 @@ by_contents : (profile : Profile) (limits : Limits) (before : List Rec) (kind n 
 by_contents profile limits before kind n end (Plain d) short says trees h = data_holds before d (length d.bytes) (let b : length d.bytes ≤ n = says.brief in omega (arith, b, short)) h
 by_contents profile limits before kind n end (Iterated d) short says trees h = blocks_hold limits before kind d (let b : length d.bytes ≤ n = says.brief in omega (arith, b, short)) trees h
 by_contents profile limits before kind n end (Segment s) short says trees h = segment_fits kind s says.brief
+by_contents profile limits before kind n end (Publics p) short says trees h = publics_hold before p says.brief h
 by_contents profile limits before kind n end (Fixups subs) short says trees h = subrecords_hold before subs h
 by_contents profile limits before kind n end (ModEnd byte None) short says trees h = tt
 by_contents profile limits before kind n end (ModEnd byte (Some r)) short says trees h = start_holds before r h

@@ -1,11 +1,11 @@
 -- What the records of a well-formed module may rely on: no thread, entry, datum or byte that one of them names is missing.
-use Rattle.std.specs.Prelude.{◌≡◌, ◌≢◌, ◌≤◌, ℕ, ◌+◌, ◌^◌, List, [], ◌∷◌, ◌++◌, length, map, All, Bool, true, false, Some, None, IsSome, IsOk, ⊤}
+use Rattle.std.specs.Prelude.{◌≡◌, ◌≢◌, ◌≤◌, ℕ, ◌+◌, ◌^◌, List, [], ◌∷◌, ◌++◌, length, map, All, Bool, true, false, ◌==◌, Some, None, is_some, IsSome, IsOk, ⊤}
 use Rattle.omf_records.specs.Location.{location_size}
-use Rattle.omf_records.specs.Values.{At, Rec, Contents, Segment, Plain, Iterated, Fixups, ModEnd, DataItem, Subrecord, Thread, Fixup, Reference, width, location_type, location_offset}
+use Rattle.omf_records.specs.Values.{At, Rec, Contents, Segment, Publics, PublicItems, Plain, Iterated, Fixups, ModEnd, DataItem, Subrecord, Thread, Fixup, Reference, width, location_type, location_offset}
 use Rattle.omf_image.specs.Expanding.{expanded, expanded_length}
 use Rattle.omf_image.specs.declared.limits.Limits.{Limits}
 use Rattle.omf_check.specs.Rules.{length_of_segment}
-use Rattle.omf_check.specs.Tables.{segments, groups, externals, is_defined, subrecords, last_data, segment_length}
+use Rattle.omf_check.specs.Tables.{segments, groups, externals, is_defined, is_none_or_defined, subrecords, last_data, segment_length}
 use Rattle.omf_check.specs.Threads.{FrameMethod, F0, F1, F2, F4, F5, TargetMethod, T0, T1, T2, frame_setting, target_setting, plain}
 
 -- The entry that a frame takes is in its table after these records; F4 and F5 take none.
@@ -56,6 +56,13 @@ pub record BlocksHold (limits : Limits) (before : List Rec) (kind : ℕ) (d : Da
   pub expands : IsOk (expanded_length (width kind) limits d.bytes)
   pub lies : DataHolds before d (length (expanded (width kind) limits d.bytes))
 
+-- A PUBDEF or an LPUBDEF: the group and the segment of its base are defined, where it names them (index 0 names none), and it has the
+-- number of a base frame exactly where it names no segment.
+pub record PublicsHold (before : List Rec) (p : PublicItems) : Type 0 where
+  pub group : is_none_or_defined (length (groups before)) p.group.item ≡ true
+  pub segment : is_none_or_defined (length (segments before)) p.segment.item ≡ true
+  pub frame : is_some p.frame ≡ (p.segment.item == 0)
+
 -- The subrecords of a FIXUPP, each after those before it.
 abbrev pub SubrecordsHold : List Rec → List (At Subrecord) → Type 0
 SubrecordsHold before subs = (done rest : List (At Subrecord)) (s : At Subrecord) → subs ≡ done ++ s ∷ rest
@@ -66,6 +73,7 @@ abbrev pub ContentsHold : Limits → List Rec → ℕ → Contents → Type 0
 ContentsHold limits before kind (Plain d) = DataHolds before d (length d.bytes)
 ContentsHold limits before kind (Iterated d) = BlocksHold limits before kind d
 ContentsHold limits before kind (Segment s) = segment_length kind s ≤ 2 ^ 32
+ContentsHold limits before kind (Publics p) = PublicsHold before p
 ContentsHold limits before kind (Fixups subs) = SubrecordsHold before subs
 ContentsHold limits before kind (ModEnd byte None) = ⊤
 ContentsHold limits before kind (ModEnd byte (Some r)) = StartHolds before r

@@ -53,6 +53,17 @@ impl Listing {
         listing_of(alloc, checked, &placement)
     }
 
+    /// The listing of a module at a placement.
+    ///
+    /// # Errors
+    ///
+    /// `Reach` where the placement does not reach, `Memory` where a growth was refused.
+    pub fn at(alloc: Global, checked: &Checked, placement: &Placement) -> Result<Listing, RunFault>
+        ensures { IsShown profile_limits (recs (records_in checked.now.bytes)) placement.now result }
+    {
+        listing_of(alloc, checked, placement)
+    }
+
     /// Prints it. The text is written in pieces of 64 KB or a line more, so no more than that of it is kept.
     ///
     /// # Errors

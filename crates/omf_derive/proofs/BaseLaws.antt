@@ -1,58 +1,60 @@
 -- The bases of a well-formed module's publics.
-use Rattle.std.proofs.Common.{◌≡◌, ℕ, ◌≤◌, List, [], ◌∷◌, ◌++◌, ap, length-append, subst, true, length, arith, ◌∙◌}
-use Rattle.std.specs.Prelude.{nat_le, IsTrue, flat_map}
-use Rattle.std.proofs.lemmas.Bool.{leb-true, le-leb}
+use Rattle.std.proofs.Common.{◌≡◌, ℕ, zero, suc, ◌≤◌, ◌<◌, List, ◌∷◌, ◌++◌, refl, ap, length-append, subst, true, false, length, arith, ◌∙◌, sym, inl, inr, get_or}
+use Rattle.std.specs.Prelude.{flat_map, ◌==◌, Option, Some, None, is_some, unwrap_or}
+use Rattle.std.proofs.lemmas.Bool.{leb-true, eqb-true, cases_Bool, cond-true, cond-false}
 use Rattle.std.proofs.lemmas.Grind.{flat_map-append}
-use Rattle.std.proofs.lemmas.List.{map-append}
-use Rattle.std.proofs.lemmas.List.Elements.{All-head, All-tail}
-use Rattle.omf_frame.specs.Fault.{Rule, AreKept}
-use Rattle.omf_frame.specs.Framing.{Raw}
-use Rattle.omf_frame.specs.declared.fault.Reason.TheVariants as reason
+use Rattle.std.proofs.lemmas.Option.{slice_get-get_or}
 use Rattle.omf_image.specs.declared.limits.Limits.{Limits}
-use Rattle.omf_records.specs.Reading.{typed}
 use Rattle.omf_records.specs.Values.{Rec, Publics, PublicItems}
-use Rattle.omf_check.specs.Rules.{room, item_limit, item_places, names_entry_or_none, contents_rules}
-use Rattle.omf_check.specs.Tables.{segments, groups, item_count, defined_segments, defined_groups}
-use Rattle.omf_check.specs.WellFormed.{IsWellFormed, recs}
-use Rattle.omf_check.specs.declared.profile.Profile.{Profile}
-use Rattle.omf_derive.specs.Derivation.{IsPlaceOf, BaseIsFound}
-use Rattle.omf_placement.specs.Placement.{Places}
+use Rattle.omf_check.specs.Sound.{PublicsHold, ContentsHold, ModuleHolds}
+use Rattle.omf_check.specs.Tables.{segments, groups, defined_segments, defined_groups, entry}
+use Rattle.omf_derive.specs.Derivation.{IsPlaceOf, BeginsAt, HasBaseFrame, IsBase}
+use Rattle.omf_derive.specs.Derive.{paragraph, segment_base, base_of}
+use Rattle.omf_placement.specs.declared.frame.Placed.{Placed}
+use Rattle.omf_placement.specs.Placement.{Places, placed, group_frame, no_place, no_frame}
+use Rattle.omf_derive.proofs.NamedLaws.{entry-suc}
 
 -- What records define grows with them.
 pub longer : {A : Type 0} (f : Rec → List A) (before rs : List Rec) → length (flat_map f before) ≤ length (flat_map f (before ++ rs))
 longer f before rs = omega (arith, ap length (flat_map-append f before rs), length-append (flat_map f before) (flat_map f rs))
 
--- Rules behind others.
-kept-behind : (xs ys : List Rule) → AreKept (xs ++ ys) → AreKept ys
-kept-behind [] ys h = h
-kept-behind (x ∷ xs) ys h = kept-behind xs ys (All-tail (λ r. IsTrue r.holds) x (xs ++ ys) h)
+-- An index that is not 0 and is within a list has its entry there.
+there : {A : Type 0} (d : A) (xs : List A) (i : ℕ) → (i == 0) ≡ false → i ≤ length xs → entry xs i ≡ Some (unwrap_or (entry xs i) d)
+there d xs zero n h = absurd cc
+there d xs (suc j) n h =
+    let low : j < length xs = omega (arith, h) in
+    let e : entry xs (suc j) ≡ Some (get_or xs j d) = entry-suc xs j ∙ slice_get-get_or xs j d low in
+    e ∙ ap (λ o. Some (unwrap_or o d)) (sym e)
 
-within-more : (n k i : ℕ) → n ≤ k → IsTrue (nat_le i n) → nat_le i k ≡ true
-within-more n k i le h = let low : i ≤ n = leb-true i n h in le-leb i k (omega (arith, low, le))
+module _ (pl : Places) (p : PublicItems) where
+  abbrev start : Placed
+  start = segment_base pl p.segment.item p.frame
 
-module _ (profile : Profile) (limits : Limits) (bytes : List ℕ) (records : List Raw) (pl : Places) (h : IsWellFormed profile limits bytes records) (own : IsPlaceOf (recs records, pl)) where
-  module _ (before after : List Raw) (r : Raw) (e : records ≡ before ++ r ∷ after) where
-    parts : recs records ≡ recs before ++ recs (r ∷ after)
-    parts = ap recs e ∙ map-append typed before (r ∷ after)
+  with-number : (o : Option ℕ) → is_some o ≡ true → p.frame ≡ o → p.segment.item ≡ 0 → start ≡ paragraph (unwrap_or o 0) → BeginsAt pl p start
+  with-number (Some n) h e z s = inr (n, z, e, s)
+  with-number None h e z s = absurd cc
 
-    public-rules : (p : PublicItems) → (typed r).contents ≡ Publics p → AreKept (contents_rules profile limits (recs before) (typed r).kind (Publics p))
-    public-rules p s =
-        subst (λ x. AreKept (contents_rules profile limits (recs before) (typed r).kind x)) s
-        (kept-behind (room item_limit (item_count (recs before)) (item_places (typed r).contents)) (contents_rules profile limits (recs before) (typed r).kind (typed r).contents) (h.kept before after r e))
+  begins : is_some p.frame ≡ (p.segment.item == 0) → p.segment.item ≤ length pl.segments → BeginsAt pl p start
+  begins numbered low = elim (cases_Bool (p.segment.item == 0)) [
+    | inl z ↦ with-number p.frame (numbered ∙ z) refl (eqb-true p.segment.item 0 z) (cond-true (p.segment.item == 0) (paragraph (unwrap_or p.frame 0)) (placed pl.segments p.segment.item) z)
+    | inr n ↦ inl (there no_place pl.segments p.segment.item n low ∙ ap (λ x. Some x) (sym (cond-false (p.segment.item == 0) (paragraph (unwrap_or p.frame 0)) (placed pl.segments p.segment.item) n)))
+  ]
 
-    found : (p : PublicItems) → (typed r).contents ≡ Publics p → BaseIsFound pl p
-    found p s =
-        let group-rule = names_entry_or_none (length (groups (recs before))) reason.UndefinedGroup p.group in
-        let segment-rule = names_entry_or_none (length (segments (recs before))) reason.UndefinedSegment p.segment in
-        let kept = public-rules p s in
-        let n : length (segments (recs before)) ≤ length pl.segments
-        = omega (arith, own.segments, ap (λ x. length (segments x)) parts, longer (λ x. defined_segments x.kind x.contents) (recs before) (recs (r ∷ after))) in
-        let k : length (groups (recs before)) ≤ length pl.groups
-        = omega (arith, own.groups, ap (λ x. length (groups x)) parts, longer (λ x. defined_groups x.contents) (recs before) (recs (r ∷ after))) in
-        record {
-          segment = within-more (length (segments (recs before))) (length pl.segments) p.segment.item n (All-head (λ x. IsTrue x.holds) segment-rule [] (All-tail (λ x. IsTrue x.holds) group-rule (segment-rule ∷ []) kept));
-          group = within-more (length (groups (recs before))) (length pl.groups) p.group.item k (All-head (λ x. IsTrue x.holds) group-rule (segment-rule ∷ []) kept);
-        }
+  framed : p.group.item ≤ length pl.groups → HasBaseFrame pl p start (base_of pl p.group.item p.segment.item p.frame).frame
+  framed low = elim (cases_Bool (p.group.item == 0)) [
+    | inl z ↦ inr (eqb-true p.group.item 0 z, cond-true (p.group.item == 0) start.frame (group_frame pl p.group.item) z)
+    | inr n ↦ inl (there no_frame pl.groups p.group.item n low ∙ ap (λ x. Some x) (sym (cond-false (p.group.item == 0) start.frame (group_frame pl p.group.item) n)))
+  ]
 
-  pub bases-found : (before after : List Raw) (r : Raw) (p : PublicItems) → records ≡ before ++ r ∷ after → (typed r).contents ≡ Publics p → BaseIsFound pl p
-  bases-found before after r p e s = found before after r e p s
+module _ (limits : Limits) (m : List Rec) (pl : Places) (h : ModuleHolds limits m) (own : IsPlaceOf (m, pl)) where
+  pub bases-found : (before after : List Rec) (r : Rec) (p : PublicItems) → m ≡ before ++ r ∷ after → r.contents ≡ Publics p → IsBase pl p (base_of pl p.group.item p.segment.item p.frame)
+  bases-found before after r p e s =
+      let holds : PublicsHold before p = subst (ContentsHold limits before r.kind) s (h.each before after r e) in
+      let g : p.group.item ≤ length (groups before) = leb-true p.group.item (length (groups before)) holds.group in
+      let k : p.segment.item ≤ length (segments before) = leb-true p.segment.item (length (segments before)) holds.segment in
+      record {
+        start = start pl p;
+        begins = begins pl p holds.frame (omega (arith, k, own.segments, ap (λ x. length (segments x)) e, longer (λ x. defined_segments x.kind x.contents) before (r ∷ after)));
+        address = refl;
+        frame = framed pl p (omega (arith, g, own.groups, ap (λ x. length (groups x)) e, longer (λ x. defined_groups x.contents) before (r ∷ after)));
+      }

@@ -1,17 +1,15 @@
 -- Which place each external takes, and which external is the first at fault, in words. A law ties this to what is computed (Derive).
-use Rattle.std.specs.Prelude.{◌≡◌, ◌≢◌, ◌⊎◌, ◌↔◌, ℕ, ◌<◌, ◌≤◌, ◌^◌, All, List, ◌∷◌, ◌++◌, length, Bool, true, Some, Ok, Err}
+use Rattle.std.specs.Prelude.{◌≡◌, ◌≢◌, ◌⊎◌, ◌↔◌, ℕ, ◌<◌, ◌≤◌, ◌^◌, All, List, ◌∷◌, ◌++◌, length, Bool, Some, Ok, Err}
 use Rattle.std.specs.List.{AllZip, enumerate_from}
-use Rattle.omf_frame.specs.Framing.{Raw}
-use Rattle.omf_records.specs.Reading.{typed}
-use Rattle.omf_records.specs.Values.{Publics, PublicItems}
+use Rattle.omf_records.specs.Values.{Rec, Publics, PublicItems}
 use Rattle.omf_image.specs.declared.limits.Limits.{Limits}
-use Rattle.omf_check.specs.Tables.{segments, groups, is_none_or_defined, externals}
-use Rattle.omf_check.specs.WellFormed.{IsWellFormed, recs}
-use Rattle.omf_check.specs.declared.profile.Profile.{Profile}
+use Rattle.omf_check.specs.Sound.{ModuleHolds}
+use Rattle.omf_check.specs.Tables.{segments, groups, externals, entry}
 use Rattle.omf_derive.specs.declared.fault.DeriveFault.{DeriveFault}
 use Rattle.omf_derive.specs.declared.fault.DeriveFault.TheVariants as fault
 use Rattle.omf_derive.specs.declared.given.Given.{Given}
-use Rattle.omf_derive.specs.Derive.{PlacedModule, PlacedPublic, seen_publics, named_externals, place_in, derived}
+use Rattle.omf_derive.specs.Derive.{PlacedModule, PlacedPublic, paragraph, base_of, seen_publics, named_externals, place_in, derived}
+use Rattle.omf_placement.specs.declared.frame.Frame.{Frame}
 use Rattle.omf_placement.specs.declared.frame.Placed.{Placed}
 use Rattle.omf_placement.specs.Placement.{Places}
 
@@ -135,15 +133,26 @@ pub record IsPlaceOf (m : PlacedModule) : Type 0 where
   pub segments : length m.1.segments ≡ length (segments m.0)
   pub groups : length m.1.groups ≡ length (groups m.0)
 
--- The base of a PUBDEF is there: its segment and its group have entries, where it names them; index 0 names none.
-pub record BaseIsFound (pl : Places) (p : PublicItems) : Type 0 where
-  pub segment : is_none_or_defined (length pl.segments) p.segment.item ≡ true
-  pub group : is_none_or_defined (length pl.groups) p.group.item ≡ true
+-- Where the base of a PUBDEF or an LPUBDEF begins, with nothing in the place of an entry that is missing: at the place of the segment that it names, or
+-- where it names none (index 0) at its base frame; and its frame, which is that of the group that it names, or where it names none that of where it begins.
+abbrev pub BeginsAt : Places → PublicItems → Placed → Type 0
+BeginsAt pl p start = (entry pl.segments p.segment.item ≡ Some start) ⊎ ((number : ℕ) × (p.segment.item ≡ 0) × (p.frame ≡ Some number) × (start ≡ paragraph number))
 
--- So is that of every PUBDEF of a well-formed module, in its place.
+abbrev pub HasBaseFrame : Places → PublicItems → Placed → Frame → Type 0
+HasBaseFrame pl p start frame = (entry pl.groups p.group.item ≡ Some frame) ⊎ ((p.group.item ≡ 0) × (frame ≡ start.frame))
+
+pub record IsBase (pl : Places) (p : PublicItems) (base : Placed) : Type 0 where
+  pub start : Placed
+  pub begins : BeginsAt pl p start
+  pub address : base.address ≡ start.address
+  pub frame : HasBaseFrame pl p start base.frame
+
+-- The base from which the publics of a module are computed is that, in each of its places: what the computation takes where an entry or a number is missing
+-- is never met.
 abbrev pub BasesAreFound : Type 0
-BasesAreFound = (profile : Profile) (limits : Limits) (bytes : List ℕ) (records : List Raw) (pl : Places) → IsWellFormed profile limits bytes records → IsPlaceOf (recs records, pl)
-    → (before after : List Raw) (r : Raw) (p : PublicItems) → records ≡ before ++ r ∷ after → (typed r).contents ≡ Publics p → BaseIsFound pl p
+BasesAreFound = (limits : Limits) (m : List Rec) (pl : Places) → ModuleHolds limits m → IsPlaceOf (m, pl)
+    → (before after : List Rec) (r : Rec) (p : PublicItems) → m ≡ before ++ r ∷ after → r.contents ≡ Publics p
+    → IsBase pl p (base_of pl p.group.item p.segment.item p.frame)
 
 -- A derived placement keeps the segments and groups of its module's place, and has an entry for each external.
 pub record KeepsPlace (m : PlacedModule) (pl : Places) : Type 0 where

@@ -17,8 +17,10 @@ pub fn derived_is_taken()
     ensures { (ms : List PlacedModule) (given : List Given) → DerivedIsTaken ms given }
 {}
 
-/// In a well-formed module, and for a place that has an entry for each of its segments and groups, the segment and the group that a
-/// PUBDEF names have entries: so what the definition of a public's address and frame puts in the place of something missing is never met.
+/// In a well-formed module, and for a place that has an entry for each of its segments and groups, the base of a PUBDEF or an LPUBDEF
+/// begins at the place of the segment that it names, or where it names none at its base frame, and has the frame of the group that it
+/// names, or where it names none that of where it begins. So what the definition of a base puts in the place of something missing is
+/// never met.
 pub fn bases_are_found()
     ensures { BasesAreFound }
 {}

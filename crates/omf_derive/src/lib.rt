@@ -6,6 +6,8 @@ mod given;
 pub mod laws;
 mod linkage;
 mod publics;
+#[cfg(test)]
+mod tests;
 
 pub use fault::DeriveFault;
 pub use given::Given;
