@@ -1,57 +1,63 @@
 //! The text of an image and a start: lines of up to 16 bytes for each run of covered bytes.
 
-ghost use Rattle.std.specs.Prelude.{◌≡◌, ◌+◌, ◌^◌, ◌≤◌, ◌++◌, flat_map, length, option_map, OnOk, string_bytes};
+ghost use Rattle.std.specs.Prelude.{◌≡◌, ◌+◌, ◌^◌, ◌≤◌, ◌++◌, flat_map, length, option_map, OnOk};
 ghost use Rattle.omf_image.specs.Joined.{runs_of};
 ghost use Rattle.omf_image.specs.Overlay.{byte_at};
 ghost use Rattle.omf_cmd.specs.Relocated.{run_lines, start_line, image_text};
 ghost use Rattle.omf_cmd.specs.RunLines.{place_text, byte_text, line_text, lines_of, segments_text, IsRunShown};
 ghost use Rattle.omf_cmd.specs.Runs.{Passes, PrintsInPieces, IsPrintCause};
 
+use crate::digits::{eight_digits, four_digits, write_bytes};
 use crate::fault::RunFault;
 use crate::output::{write_all, write_piece};
 use omf_frame::Sink;
 use omf_image::Image;
 use std::alloc::{AllocError, Global};
-use std::fmt::Write;
 
 /// How many bytes a line has at most.
 const LINE_BYTES: usize = 16;
 
 /// A segment and an offset in it.
-fn print_place(text: &mut String, segment: u16, offset: u32) -> Result<(), AllocError>
-    ensures { OnOk result (string_bytes text.new ≡ string_bytes text.old ++ place_text segment offset) }
+fn print_place(text: &mut Vec<u8>, segment: u16, offset: u32) -> Result<(), AllocError>
+    ensures { OnOk result (text.new.items ≡ text.old.items ++ place_text segment offset) }
 {
-    write!(text, "{segment:04X}:{offset:08X}")
+    text.extend_from_slice(&four_digits(segment))?;
+    text.push(b':')?;
+    text.extend_from_slice(&eight_digits(offset))
 }
 
-/// A byte behind a space.
-fn print_byte(text: &mut String, byte: u8) -> Result<(), AllocError>
-    ensures { OnOk result (string_bytes text.new ≡ string_bytes text.old ++ byte_text byte) }
+/// The bytes of a line, each behind a space.
+fn print_bytes(text: &mut Vec<u8>, bytes: &[u8]) -> Result<(), AllocError>
+    requires { length bytes.now ≤ 16 }
+    ensures { OnOk result (text.new.items ≡ text.old.items ++ flat_map byte_text bytes.now) }
 {
-    write!(text, " {byte:02X}")
+    let mut line = [0; 48];
+    let (shown, _rest) = line.split_at_mut(3 * bytes.len());
+    write_bytes(shown, bytes);
+    text.extend_from_slice(shown)
 }
 
 /// A line: the place of its first byte, and its bytes.
-fn print_line(text: &mut String, segment: u16, offset: u32, bytes: &[u8]) -> Result<(), AllocError>
-    ensures { OnOk result (string_bytes text.new ≡ string_bytes text.old ++ line_text segment offset bytes.now) }
+fn print_line(text: &mut Vec<u8>, segment: u16, offset: u32, bytes: &[u8]) -> Result<(), AllocError>
+    requires { length bytes.now ≤ 16 }
+    ensures { OnOk result (text.new.items ≡ text.old.items ++ line_text segment offset bytes.now) }
 {
     print_place(text, segment, offset)?;
-    for byte in bytes {
-        print_byte(text, *byte)?;
-    }
-    text.push_str("\n")
+    print_bytes(text, bytes)?;
+    text.push(b'\n')?;
+    Ok(())
 }
 
 /// A run of covered bytes: lines of 16 bytes from its first byte on, and what is left.
 fn print_run<K: Sink>(
     writer: &mut K,
-    text: &mut String,
+    text: &mut Vec<u8>,
     segment: u16,
     first: u32,
     bytes: &[u8],
 ) -> Result<(), RunFault>
     requires { first + length bytes.now ≤ 2 ^ 32 }
-    ensures passes { Passes (K.seen writer.old).bytes (K.seen writer.new).bytes result (string_bytes text.old ++ lines_of segment first bytes.now) (string_bytes text.new) }
+    ensures passes { Passes (K.seen writer.old).bytes (K.seen writer.new).bytes result (text.old.items ++ lines_of segment first bytes.now) (text.new.items) }
     ensures cause { IsPrintCause (K.seen writer.old) (K.seen writer.new) result }
 {
     let mut offset = u64::from(first);
@@ -78,11 +84,11 @@ fn numbered_run(image: &Image, segment: u16, k: usize) -> Option<(u32, &[u8])>
 /// The runs of a segment, in rising order.
 fn print_runs<K: Sink>(
     writer: &mut K,
-    text: &mut String,
+    text: &mut Vec<u8>,
     image: &Image,
     segment: u16,
 ) -> Result<(), RunFault>
-    ensures passes { Passes (K.seen writer.old).bytes (K.seen writer.new).bytes result (string_bytes text.old ++ flat_map (run_lines segment (byte_at image.now segment)) (runs_of image.now segment)) (string_bytes text.new) }
+    ensures passes { Passes (K.seen writer.old).bytes (K.seen writer.new).bytes result (text.old.items ++ flat_map (run_lines segment (byte_at image.now segment)) (runs_of image.now segment)) (text.new.items) }
     ensures cause { IsPrintCause (K.seen writer.old) (K.seen writer.new) result }
 {
     let mut k = 0;
@@ -94,25 +100,26 @@ fn print_runs<K: Sink>(
 }
 
 /// The start: its selector and its offset. Nothing where there is none.
-fn print_start(text: &mut String, start: Option<(u16, u32)>) -> Result<(), AllocError>
-    ensures { OnOk result (string_bytes text.new ≡ string_bytes text.old ++ start_line start) }
+fn print_start(text: &mut Vec<u8>, start: Option<(u16, u32)>) -> Result<(), AllocError>
+    ensures { OnOk result (text.new.items ≡ text.old.items ++ start_line start) }
 {
     let Some((selector, offset)) = start else {
         return Ok(());
     };
-    text.push_str("START ")?;
+    text.extend_from_slice(b"START ")?;
     print_place(text, selector, offset)?;
-    text.push_str("\n")
+    text.push(b'\n')?;
+    Ok(())
 }
 
 /// The runs of the segments 1 to `segments` of an image.
 fn print_segments<K: Sink>(
     writer: &mut K,
-    text: &mut String,
+    text: &mut Vec<u8>,
     image: &Image,
     segments: u16,
 ) -> Result<(), RunFault>
-    ensures passes { Passes (K.seen writer.old).bytes (K.seen writer.new).bytes result (string_bytes text.old ++ segments_text segments (byte_at image.now) (runs_of image.now)) (string_bytes text.new) }
+    ensures passes { Passes (K.seen writer.old).bytes (K.seen writer.new).bytes result (text.old.items ++ segments_text segments (byte_at image.now) (runs_of image.now)) (text.new.items) }
     ensures cause { IsPrintCause (K.seen writer.old) (K.seen writer.new) result }
 {
     for before in 0..segments {
@@ -137,8 +144,8 @@ pub fn print_image<K: Sink>(
     ensures prints { PrintsInPieces (K.seen writer.old).bytes (K.seen writer.new).bytes result (image_text segments (byte_at image.now) (runs_of image.now) start) }
     ensures cause { IsPrintCause (K.seen writer.old) (K.seen writer.new) result }
 {
-    let mut text = String::new(alloc);
+    let mut text = Vec::new(alloc);
     print_segments(writer, &mut text, image, segments)?;
     print_start(&mut text, start)?;
-    write_all(writer, text.as_bytes())
+    write_all(writer, text.as_slice())
 }

@@ -11,6 +11,7 @@
 //! ```
 #![tactic(auto)]
 
+mod digits;
 mod fault;
 mod image_text;
 mod input;

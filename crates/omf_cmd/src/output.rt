@@ -1,6 +1,6 @@
 //! The output.
 
-ghost use Rattle.std.specs.Prelude.{◌≡◌, IfErr, string_bytes};
+ghost use Rattle.std.specs.Prelude.{◌≡◌, IfErr};
 ghost use Rattle.omf_cmd.specs.Runs.{Prints, Passes, IsPrintCause};
 ghost use Rattle.omf_cmd.specs.declared.fault.RunFault.TheVariants.{Write};
 
@@ -23,12 +23,12 @@ pub fn write_all<K: Sink>(writer: &mut K, bytes: &[u8]) -> Result<(), RunFault>
 }
 
 /// Writes what is kept of a text, once that is a whole piece of 64 KB; till then it is kept.
-pub fn write_piece<K: Sink>(writer: &mut K, kept: &mut String) -> Result<(), RunFault>
-    ensures passes { Passes (K.seen writer.old).bytes (K.seen writer.new).bytes result (string_bytes kept.old) (string_bytes kept.new) }
+pub fn write_piece<K: Sink>(writer: &mut K, kept: &mut Vec<u8>) -> Result<(), RunFault>
+    ensures passes { Passes (K.seen writer.old).bytes (K.seen writer.new).bytes result (kept.old.items) (kept.new.items) }
     ensures cause { IsPrintCause (K.seen writer.old) (K.seen writer.new) result }
 {
     if kept.len() >= PIECE {
-        write_all(writer, kept.as_bytes())?;
+        write_all(writer, kept.as_slice())?;
         kept.clear();
     }
     Ok(())

@@ -4,6 +4,8 @@ ghost use Rattle.std.specs.Prelude.{◌≡◌, ◌++◌, ◌∷◌, [], OnOk, st
 ghost use Rattle.omf_cmd.specs.Printed.{hex, line, is_plain, escaped, quoted, index_or_dash};
 ghost use Rattle.omf_frame.specs.Types.{type_name};
 
+use crate::digits::{eight_digits, two_digits};
+use itoa::Buffer;
 use omf_frame::Name;
 use std::alloc::AllocError;
 use std::fmt::Write;
@@ -40,45 +42,71 @@ fn type_name(kind: u8) -> &'static str
 }
 
 /// A number behind a space.
-fn print_number(text: &mut String, number: u64) -> Result<(), AllocError>
-    ensures { OnOk result (string_bytes text.new ≡ string_bytes text.old ++ 32 ∷ decimal number) }
+fn print_number(text: &mut Vec<u8>, number: u64) -> Result<(), AllocError>
+    ensures { OnOk result (text.new.items ≡ text.old.items ++ 32 ∷ decimal number) }
 {
-    write!(text, " {number}")
+    let mut buffer = Buffer::new();
+    text.push(b' ')?;
+    text.extend_from_slice(buffer.format(number).as_bytes())
 }
 
 /// A type byte behind a space, in two hexadecimal digits.
-fn print_type(text: &mut String, kind: u8) -> Result<(), AllocError>
-    ensures { OnOk result (string_bytes text.new ≡ string_bytes text.old ++ 32 ∷ hex 2 kind) }
+fn print_type(text: &mut Vec<u8>, kind: u8) -> Result<(), AllocError>
+    ensures { OnOk result (text.new.items ≡ text.old.items ++ 32 ∷ hex 2 kind) }
 {
-    write!(text, " {kind:02X}")
+    text.push(b' ')?;
+    text.extend_from_slice(&two_digits(kind))
 }
 
-/// An offset behind a space, in eight hexadecimal digits or more.
-fn print_offset(text: &mut String, offset: u64) -> Result<(), AllocError>
+/// An offset behind a space, in eight hexadecimal digits or more, as it is formatted.
+fn write_offset(text: &mut String, offset: u64) -> Result<(), AllocError>
     ensures { OnOk result (string_bytes text.new ≡ string_bytes text.old ++ 32 ∷ hex 8 offset) }
 {
     write!(text, " {offset:08X}")
 }
 
-/// A word behind a space, and the end of the line.
-fn print_last_word(text: &mut String, word: &str) -> Result<(), AllocError>
-    ensures { OnOk result (string_bytes text.new ≡ string_bytes text.old ++ 32 ∷ word.now ++ 10 ∷ []) }
+/// An offset of any size behind a space. Those of more than 32 bits are rare.
+fn print_far_offset(text: &mut Vec<u8>, offset: u64) -> Result<(), AllocError>
+    ensures { OnOk result (text.new.items ≡ text.old.items ++ 32 ∷ hex 8 offset) }
 {
-    write!(text, " {word}\n")
+    let mut shown = String::new(*text.allocator());
+    write_offset(&mut shown, offset)?;
+    text.extend_from_slice(shown.as_bytes())
+}
+
+/// An offset behind a space, in eight hexadecimal digits or more.
+fn print_offset(text: &mut Vec<u8>, offset: u64) -> Result<(), AllocError>
+    ensures { OnOk result (text.new.items ≡ text.old.items ++ 32 ∷ hex 8 offset) }
+{
+    let Ok(offset) = u32::try_from(offset) else {
+        return print_far_offset(text, offset);
+    };
+    text.push(b' ')?;
+    text.extend_from_slice(&eight_digits(offset))
+}
+
+/// A word behind a space, and the end of the line.
+fn print_last_word(text: &mut Vec<u8>, word: &str) -> Result<(), AllocError>
+    ensures { OnOk result (text.new.items ≡ text.old.items ++ 32 ∷ word.now ++ 10 ∷ []) }
+{
+    text.push(b' ')?;
+    text.extend_from_slice(word.as_bytes())?;
+    text.push(b'\n')?;
+    Ok(())
 }
 
 /// A record's line, which ends with this name.
 fn print_named(
-    text: &mut String,
+    text: &mut Vec<u8>,
     number: u32,
     start: u64,
     kind: u8,
     length: usize,
     name: &str,
 ) -> Result<(), AllocError>
-    ensures { OnOk result (string_bytes text.new ≡ string_bytes text.old ++ line (codes "R" ∷ decimal number ∷ hex 8 start ∷ hex 2 kind ∷ decimal length ∷ name.now ∷ [])) }
+    ensures { OnOk result (text.new.items ≡ text.old.items ++ line (codes "R" ∷ decimal number ∷ hex 8 start ∷ hex 2 kind ∷ decimal length ∷ name.now ∷ [])) }
 {
-    text.push_str("R")?;
+    text.push(b'R')?;
     print_number(text, u64::from(number))?;
     print_offset(text, start)?;
     print_type(text, kind)?;
@@ -88,13 +116,13 @@ fn print_named(
 
 /// A record: its number, its offset, its type, how many bytes its contents have, its name.
 pub fn print_record(
-    text: &mut String,
+    text: &mut Vec<u8>,
     number: u32,
     start: u64,
     kind: u8,
     length: usize,
 ) -> Result<(), AllocError>
-    ensures { OnOk result (string_bytes text.new ≡ string_bytes text.old ++ line (codes "R" ∷ decimal number ∷ hex 8 start ∷ hex 2 kind ∷ decimal length ∷ type_name kind ∷ [])) }
+    ensures { OnOk result (text.new.items ≡ text.old.items ++ line (codes "R" ∷ decimal number ∷ hex 8 start ∷ hex 2 kind ∷ decimal length ∷ type_name kind ∷ [])) }
 {
     print_named(text, number, start, kind, length, type_name(kind))
 }
@@ -107,50 +135,53 @@ fn is_plain(byte: u8) -> bool
 }
 
 /// A byte as `\x` and two hexadecimal digits.
-fn print_digits(text: &mut String, byte: u8) -> Result<(), AllocError>
-    ensures { OnOk result (string_bytes text.new ≡ string_bytes text.old ++ 92 ∷ 120 ∷ hex 2 byte) }
+fn print_digits(text: &mut Vec<u8>, byte: u8) -> Result<(), AllocError>
+    ensures { OnOk result (text.new.items ≡ text.old.items ++ 92 ∷ 120 ∷ hex 2 byte) }
 {
-    write!(text, "\\x{byte:02X}")
+    text.extend_from_slice(b"\\x")?;
+    text.extend_from_slice(&two_digits(byte))
 }
 
 /// A byte of a name.
-fn print_escaped(text: &mut String, byte: u8) -> Result<(), AllocError>
-    ensures { OnOk result (string_bytes text.new ≡ string_bytes text.old ++ escaped byte) }
+fn print_escaped(text: &mut Vec<u8>, byte: u8) -> Result<(), AllocError>
+    ensures { OnOk result (text.new.items ≡ text.old.items ++ escaped byte) }
 {
     if is_plain(byte) {
-        text.push(char::from(byte))
+        text.push(byte)?;
+        Ok(())
     } else {
         print_digits(text, byte)
     }
 }
 
 /// A name in double quotes, behind a space.
-fn print_quoted(text: &mut String, name: &[u8]) -> Result<(), AllocError>
-    ensures { OnOk result (string_bytes text.new ≡ string_bytes text.old ++ 32 ∷ quoted name.now) }
+fn print_quoted(text: &mut Vec<u8>, name: &[u8]) -> Result<(), AllocError>
+    ensures { OnOk result (text.new.items ≡ text.old.items ++ 32 ∷ quoted name.now) }
 {
-    text.push_str(" \"")?;
+    text.extend_from_slice(b" \"")?;
     for byte in name {
         print_escaped(text, *byte)?;
     }
-    text.push_str("\"")
+    text.push(b'"')?;
+    Ok(())
 }
 
 /// A name in double quotes, or a dash for none, behind a space.
-fn print_name(text: &mut String, name: Option<Name<'_>>) -> Result<(), AllocError>
-    ensures { OnOk result (string_bytes text.new ≡ string_bytes text.old ++ 32 ∷ unwrap_or (option_map quoted name.entry) (codes "-")) }
+fn print_name(text: &mut Vec<u8>, name: Option<Name<'_>>) -> Result<(), AllocError>
+    ensures { OnOk result (text.new.items ≡ text.old.items ++ 32 ∷ unwrap_or (option_map quoted name.entry) (codes "-")) }
 {
     match name {
         Some(name) => print_quoted(text, name.0),
-        None => text.push_str(" -"),
+        None => text.extend_from_slice(b" -"),
     }
 }
 
 /// An index, or a dash for 0, behind a space.
-fn print_index(text: &mut String, index: u16) -> Result<(), AllocError>
-    ensures { OnOk result (string_bytes text.new ≡ string_bytes text.old ++ 32 ∷ index_or_dash index) }
+fn print_index(text: &mut Vec<u8>, index: u16) -> Result<(), AllocError>
+    ensures { OnOk result (text.new.items ≡ text.old.items ++ 32 ∷ index_or_dash index) }
 {
     if index == 0 {
-        text.push_str(" -")
+        text.extend_from_slice(b" -")
     } else {
         print_number(text, u64::from(index))
     }
@@ -158,56 +189,60 @@ fn print_index(text: &mut String, index: u16) -> Result<(), AllocError>
 
 /// A segment: its index, how many bytes it has, its name.
 pub fn print_segment(
-    text: &mut String,
+    text: &mut Vec<u8>,
     index: u16,
     length: u64,
     name: Option<Name<'_>>,
 ) -> Result<(), AllocError>
-    ensures { OnOk result (string_bytes text.new ≡ string_bytes text.old ++ line (codes "S" ∷ decimal index ∷ decimal length ∷ unwrap_or (option_map quoted name.entry) (codes "-") ∷ [])) }
+    ensures { OnOk result (text.new.items ≡ text.old.items ++ line (codes "S" ∷ decimal index ∷ decimal length ∷ unwrap_or (option_map quoted name.entry) (codes "-") ∷ [])) }
 {
-    text.push_str("S")?;
+    text.push(b'S')?;
     print_number(text, u64::from(index))?;
     print_number(text, length)?;
     print_name(text, name)?;
-    text.push_str("\n")
+    text.push(b'\n')?;
+    Ok(())
 }
 
 /// A group: its index, its name.
-pub fn print_group(text: &mut String, index: u16, name: Option<Name<'_>>) -> Result<(), AllocError>
-    ensures { OnOk result (string_bytes text.new ≡ string_bytes text.old ++ line (codes "G" ∷ decimal index ∷ unwrap_or (option_map quoted name.entry) (codes "-") ∷ [])) }
+pub fn print_group(text: &mut Vec<u8>, index: u16, name: Option<Name<'_>>) -> Result<(), AllocError>
+    ensures { OnOk result (text.new.items ≡ text.old.items ++ line (codes "G" ∷ decimal index ∷ unwrap_or (option_map quoted name.entry) (codes "-") ∷ [])) }
 {
-    text.push_str("G")?;
+    text.push(b'G')?;
     print_number(text, u64::from(index))?;
     print_name(text, name)?;
-    text.push_str("\n")
+    text.push(b'\n')?;
+    Ok(())
 }
 
 /// An external: its index, its name.
-pub fn print_external(text: &mut String, index: u16, name: &[u8]) -> Result<(), AllocError>
-    ensures { OnOk result (string_bytes text.new ≡ string_bytes text.old ++ line (codes "E" ∷ decimal index ∷ quoted name.now ∷ [])) }
+pub fn print_external(text: &mut Vec<u8>, index: u16, name: &[u8]) -> Result<(), AllocError>
+    ensures { OnOk result (text.new.items ≡ text.old.items ++ line (codes "E" ∷ decimal index ∷ quoted name.now ∷ [])) }
 {
-    text.push_str("E")?;
+    text.push(b'E')?;
     print_number(text, u64::from(index))?;
     print_quoted(text, name)?;
-    text.push_str("\n")
+    text.push(b'\n')?;
+    Ok(())
 }
 
 /// A public: the indices of its group and its segment, its offset, its name.
 pub fn print_public(
-    text: &mut String,
+    text: &mut Vec<u8>,
     group: u16,
     segment: u16,
     offset: u32,
     name: &[u8],
 ) -> Result<(), AllocError>
-    ensures { OnOk result (string_bytes text.new ≡ string_bytes text.old ++ line (codes "P" ∷ index_or_dash group ∷ index_or_dash segment ∷ hex 8 offset ∷ quoted name.now ∷ [])) }
+    ensures { OnOk result (text.new.items ≡ text.old.items ++ line (codes "P" ∷ index_or_dash group ∷ index_or_dash segment ∷ hex 8 offset ∷ quoted name.now ∷ [])) }
 {
-    text.push_str("P")?;
+    text.push(b'P')?;
     print_index(text, group)?;
     print_index(text, segment)?;
     print_offset(text, u64::from(offset))?;
     print_quoted(text, name)?;
-    text.push_str("\n")
+    text.push(b'\n')?;
+    Ok(())
 }
 
 /// How many records and bytes a module has.

@@ -38,10 +38,10 @@ fn contents_length(bytes: &[u8], start: u64) -> usize
 /// A line for each record.
 fn print_records<K: Sink>(
     writer: &mut K,
-    text: &mut String,
+    text: &mut Vec<u8>,
     checked: &Checked,
 ) -> Result<(), RunFault>
-    ensures passes { Passes (K.seen writer.old).bytes (K.seen writer.new).bytes result (string_bytes text.old ++ with_before record_line [] (records_in checked.now.bytes)) (string_bytes text.new) }
+    ensures passes { Passes (K.seen writer.old).bytes (K.seen writer.new).bytes result (text.old.items ++ with_before record_line [] (records_in checked.now.bytes)) (text.new.items) }
     ensures cause { IsPrintCause (K.seen writer.old) (K.seen writer.new) result }
 {
     let bytes = checked.bytes();
@@ -56,10 +56,10 @@ fn print_records<K: Sink>(
 /// A line for each segment.
 fn print_segments<K: Sink>(
     writer: &mut K,
-    text: &mut String,
+    text: &mut Vec<u8>,
     checked: &Checked,
 ) -> Result<(), RunFault>
-    ensures passes { Passes (K.seen writer.old).bytes (K.seen writer.new).bytes result (string_bytes text.old ++ segment_lines (recs (records_in checked.now.bytes))) (string_bytes text.new) }
+    ensures passes { Passes (K.seen writer.old).bytes (K.seen writer.new).bytes result (text.old.items ++ segment_lines (recs (records_in checked.now.bytes))) (text.new.items) }
     ensures cause { IsPrintCause (K.seen writer.old) (K.seen writer.new) result }
 {
     for before in 0..checked.segments() {
@@ -75,13 +75,13 @@ fn print_segments<K: Sink>(
 
 /// A group's line.
 fn print_group_of(
-    text: &mut String,
+    text: &mut Vec<u8>,
     checked: &Checked,
     index: u16,
     group: &Rec<'_>,
 ) -> Result<(), AllocError>
     requires { (g : GroupItem) × (contents_seen group.now ≡ Group g) }
-    ensures { (g : GroupItem) → contents_seen group.now ≡ Group g → OnOk result (string_bytes text.new ≡ string_bytes text.old ++ line (codes "G" ∷ decimal index ∷ named (names (recs (records_in checked.now.bytes))) g.name.item ∷ [])) }
+    ensures { (g : GroupItem) → contents_seen group.now ≡ Group g → OnOk result (text.new.items ≡ text.old.items ++ line (codes "G" ∷ decimal index ∷ named (names (recs (records_in checked.now.bytes))) g.name.item ∷ [])) }
 {
     match group {
         Rec::Group { name, .. } => print_group(text, index, checked.name(name.item.0)),
@@ -92,10 +92,10 @@ fn print_group_of(
 /// A line for each group.
 fn print_groups<K: Sink>(
     writer: &mut K,
-    text: &mut String,
+    text: &mut Vec<u8>,
     checked: &Checked,
 ) -> Result<(), RunFault>
-    ensures passes { Passes (K.seen writer.old).bytes (K.seen writer.new).bytes result (string_bytes text.old ++ group_lines (recs (records_in checked.now.bytes))) (string_bytes text.new) }
+    ensures passes { Passes (K.seen writer.old).bytes (K.seen writer.new).bytes result (text.old.items ++ group_lines (recs (records_in checked.now.bytes))) (text.new.items) }
     ensures cause { IsPrintCause (K.seen writer.old) (K.seen writer.new) result }
 {
     for before in 0..checked.groups() {
@@ -112,10 +112,10 @@ fn print_groups<K: Sink>(
 /// A line for each external name.
 fn print_externals<K: Sink>(
     writer: &mut K,
-    text: &mut String,
+    text: &mut Vec<u8>,
     checked: &Checked,
 ) -> Result<(), RunFault>
-    ensures passes { Passes (K.seen writer.old).bytes (K.seen writer.new).bytes result (string_bytes text.old ++ external_lines (recs (records_in checked.now.bytes))) (string_bytes text.new) }
+    ensures passes { Passes (K.seen writer.old).bytes (K.seen writer.new).bytes result (text.old.items ++ external_lines (recs (records_in checked.now.bytes))) (text.new.items) }
     ensures cause { IsPrintCause (K.seen writer.old) (K.seen writer.new) result }
 {
     for before in 0..checked.externals() {
@@ -131,12 +131,12 @@ fn print_externals<K: Sink>(
 
 /// The line of a public name of a PUBDEF or an LPUBDEF.
 fn print_item(
-    text: &mut String,
+    text: &mut Vec<u8>,
     group: u16,
     segment: u16,
     public: &At<Public<'_>>,
 ) -> Result<(), AllocError>
-    ensures { OnOk result (string_bytes text.new ≡ string_bytes text.old ++ line (codes "P" ∷ index_or_dash group ∷ index_or_dash segment ∷ hex 8 public.now.item.offset ∷ quoted public.now.item.name ∷ [])) }
+    ensures { OnOk result (text.new.items ≡ text.old.items ++ line (codes "P" ∷ index_or_dash group ∷ index_or_dash segment ∷ hex 8 public.now.item.offset ∷ quoted public.now.item.name ∷ [])) }
 {
     let item = &public.item;
     print_public(text, group, segment, item.offset, item.name.0)
@@ -145,12 +145,12 @@ fn print_item(
 /// A line for each public name of a PUBDEF or an LPUBDEF.
 fn print_items<K: Sink>(
     writer: &mut K,
-    text: &mut String,
+    text: &mut Vec<u8>,
     group: u16,
     segment: u16,
     publics: &Items<Public<'_>>,
 ) -> Result<(), RunFault>
-    ensures passes { Passes (K.seen writer.old).bytes (K.seen writer.new).bytes result (string_bytes text.old ++ flat_map (λ q. line (codes "P" ∷ index_or_dash group ∷ index_or_dash segment ∷ hex 8 q.item.offset ∷ quoted q.item.name ∷ [])) publics.now) (string_bytes text.new) }
+    ensures passes { Passes (K.seen writer.old).bytes (K.seen writer.new).bytes result (text.old.items ++ flat_map (λ q. line (codes "P" ∷ index_or_dash group ∷ index_or_dash segment ∷ hex 8 q.item.offset ∷ quoted q.item.name ∷ [])) publics.now) (text.new.items) }
     ensures cause { IsPrintCause (K.seen writer.old) (K.seen writer.new) result }
 {
     for public in publics.iter() {
@@ -163,10 +163,10 @@ fn print_items<K: Sink>(
 /// The public names of a record.
 fn print_publics_of<K: Sink>(
     writer: &mut K,
-    text: &mut String,
+    text: &mut Vec<u8>,
     rec: &Rec<'_>,
 ) -> Result<(), RunFault>
-    ensures passes { Passes (K.seen writer.old).bytes (K.seen writer.new).bytes result (string_bytes text.old ++ public_lines (contents_seen rec.now)) (string_bytes text.new) }
+    ensures passes { Passes (K.seen writer.old).bytes (K.seen writer.new).bytes result (text.old.items ++ public_lines (contents_seen rec.now)) (text.new.items) }
     ensures cause { IsPrintCause (K.seen writer.old) (K.seen writer.new) result }
 {
     match rec {
@@ -189,10 +189,10 @@ fn print_publics_of<K: Sink>(
 /// A line for each public name, in file order.
 fn print_publics<K: Sink>(
     writer: &mut K,
-    text: &mut String,
+    text: &mut Vec<u8>,
     checked: &Checked,
 ) -> Result<(), RunFault>
-    ensures passes { Passes (K.seen writer.old).bytes (K.seen writer.new).bytes result (string_bytes text.old ++ flat_map (λ r. public_lines r.contents) (recs (records_in checked.now.bytes))) (string_bytes text.new) }
+    ensures passes { Passes (K.seen writer.old).bytes (K.seen writer.new).bytes result (text.old.items ++ flat_map (λ r. public_lines r.contents) (recs (records_in checked.now.bytes))) (text.new.items) }
     ensures cause { IsPrintCause (K.seen writer.old) (K.seen writer.new) result }
 {
     for (_place, rec) in checked.records() {
@@ -204,10 +204,10 @@ fn print_publics<K: Sink>(
 /// The lines of a module: its records, its segments, its groups, its externals, its publics.
 fn print_lines<K: Sink>(
     writer: &mut K,
-    text: &mut String,
+    text: &mut Vec<u8>,
     checked: &Checked,
 ) -> Result<(), RunFault>
-    ensures passes { Passes (K.seen writer.old).bytes (K.seen writer.new).bytes result (string_bytes text.old ++ list_text (records_in checked.now.bytes)) (string_bytes text.new) }
+    ensures passes { Passes (K.seen writer.old).bytes (K.seen writer.new).bytes result (text.old.items ++ list_text (records_in checked.now.bytes)) (text.new.items) }
     ensures cause { IsPrintCause (K.seen writer.old) (K.seen writer.new) result }
 {
     print_records(writer, text, checked)?;
@@ -226,9 +226,9 @@ pub fn print_list<K: Sink>(alloc: Global, checked: &Checked, writer: &mut K) -> 
     ensures prints { PrintsInPieces (K.seen writer.old).bytes (K.seen writer.new).bytes result (list_text (records_in checked.now.bytes)) }
     ensures cause { IsPrintCause (K.seen writer.old) (K.seen writer.new) result }
 {
-    let mut text = String::new(alloc);
+    let mut text = Vec::new(alloc);
     print_lines(writer, &mut text, checked)?;
-    write_all(writer, text.as_bytes())
+    write_all(writer, text.as_slice())
 }
 
 /// What `check` prints of a module: how many records and bytes it has.

@@ -1,5 +1,5 @@
 use Rattle.std.proofs.Common.{Err, ℕ, List, arith}
-use Rattle.std.specs.Prelude.{flat_map, string_bytes}
+use Rattle.std.specs.Prelude.{flat_map}
 use Rattle.std.proofs.lemmas.Result.{err_from_is_err_and}
 use Rattle.omf_image.specs.Joined.{runs_of}
 use Rattle.omf_image.specs.Overlay.{byte_at}
@@ -11,13 +11,13 @@ use Rattle.omf_cmd.proofs.image_text.print_segments.Goals as goal
 pub returns-in_err-print_runs-clause-passes : goal.returns-in_err-print_runs-clause-passes
 returns-in_err-print_runs-clause-passes g c =
     let shown : ℕ → List ℕ = λ s. flat_map (run_lines s (byte_at c.args.image.now s)) (runs_of c.args.image.now s) in
-    let due = segment_and_others shown c.loop-before.before c.args.segments (string_bytes c.loop-before.text) (omega arith) in
+    let due = segment_and_others shown c.loop-before.before c.args.segments (c.loop-before.text.items) (omega arith) in
     stopped_by _ _ _ _ _ _ _ _ c.from_residual.result c.from_residual.ensures.0 c.loop-before.invariant.written due c.in_err-print_runs.ensures.passes
 
 pub loop-before-preserved : goal.loop-before-preserved
 loop-before-preserved g c =
     let shown : ℕ → List ℕ = λ s. flat_map (run_lines s (byte_at c.args.image.now s)) (runs_of c.args.image.now s) in
-    let due = segment_and_others shown c.loop-before.before c.args.segments (string_bytes c.loop-before.text) (omega arith) in
+    let due = segment_and_others shown c.loop-before.before c.args.segments (c.loop-before.text.items) (omega arith) in
     record {
       written = went_on _ _ _ _ _ _ _ _ c.loop-before.invariant.written due c.in_ok-print_runs.ensures.passes;
       unbroken = unbroken_on (g.K.Sink.seen c.args.writer.now) (g.K.Sink.seen c.loop-before.writer) (g.K.Sink.seen c.print_runs.new.writer) c.loop-before.invariant.unbroken c.in_ok-print_runs.ensures.cause;

@@ -1,5 +1,5 @@
 use Rattle.std.proofs.Common.{◌+◌, ◌-◌, ◌++◌}
-use Rattle.std.specs.Prelude.{string_bytes, flat_map}
+use Rattle.std.specs.Prelude.{flat_map}
 use Rattle.std.specs.List.{range_with_len}
 use Rattle.omf_image.specs.Joined.{runs_of}
 use Rattle.omf_image.specs.Overlay.{byte_at}
@@ -12,7 +12,7 @@ use Rattle.omf_cmd.proofs.image_text.print_segments.Given as goal
 abbrev pub invariant-loop-before : goal.invariant-loop-before
 invariant-loop-before g l = record {
   written : IsWrittenUpTo (g.K.Sink.seen l.initial.writer).bytes (g.K.Sink.seen l.writer).bytes
-      (string_bytes l.initial.text ++ segments_text l.segments (byte_at l.image) (runs_of l.image))
-      (string_bytes l.text ++ flat_map (λ segment. flat_map (run_lines segment (byte_at l.image segment)) (runs_of l.image segment)) (range_with_len (l.before + 1) (l.segments - l.before)));
+      (l.initial.text.items ++ segments_text l.segments (byte_at l.image) (runs_of l.image))
+      (l.text.items ++ flat_map (λ segment. flat_map (run_lines segment (byte_at l.image segment)) (runs_of l.image segment)) (range_with_len (l.before + 1) (l.segments - l.before)));
   unbroken : IsUnbroken (g.K.Sink.seen l.initial.writer) (g.K.Sink.seen l.writer);
 }

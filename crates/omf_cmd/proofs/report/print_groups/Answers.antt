@@ -1,5 +1,4 @@
 use Rattle.std.proofs.Common.{◌+◌, Err}
-use Rattle.std.specs.Prelude.{string_bytes}
 use Rattle.std.proofs.lemmas.Result.{err_from_is_err_and}
 use Rattle.omf_check.specs.Module.{records_in}
 use Rattle.omf_check.specs.Tables.{entry, groups}
@@ -13,14 +12,14 @@ pub returns-in_err-write_piece-clause-passes : goal.returns-in_err-write_piece-c
 returns-in_err-write_piece-clause-passes g c =
     let m = recs (records_in c.args.checked.now.bytes) in
     let g_is = group_here _ (entry (groups m) (c.loop-before.before + 1)) c.in-Some.ensures in
-    let due = entry_due (group_line m) (groups m) c.loop-before.before g_is.0 (string_bytes c.loop-before.text) _ g_is.1 (c.in_ok-print_group_of.ensures g_is.0 g_is.2) in
+    let due = entry_due (group_line m) (groups m) c.loop-before.before g_is.0 (c.loop-before.text.items) _ g_is.1 (c.in_ok-print_group_of.ensures g_is.0 g_is.2) in
     stopped_by _ _ _ _ _ _ _ _ c.from_residual-in_err-write_piece.result c.from_residual-in_err-write_piece.ensures.0 c.loop-before.invariant.written due c.in_err-write_piece.ensures.passes
 
 pub loop-before-preserved : goal.loop-before-preserved
 loop-before-preserved g c =
     let m = recs (records_in c.args.checked.now.bytes) in
     let g_is = group_here _ (entry (groups m) (c.loop-before.before + 1)) c.in-Some.ensures in
-    let due = entry_due (group_line m) (groups m) c.loop-before.before g_is.0 (string_bytes c.loop-before.text) _ g_is.1 (c.in_ok-print_group_of.ensures g_is.0 g_is.2) in
+    let due = entry_due (group_line m) (groups m) c.loop-before.before g_is.0 (c.loop-before.text.items) _ g_is.1 (c.in_ok-print_group_of.ensures g_is.0 g_is.2) in
     record {
       written = went_on _ _ _ _ _ _ _ _ c.loop-before.invariant.written due c.in_ok-write_piece.ensures.passes;
       unbroken = unbroken_on (g.K.Sink.seen c.args.writer.now) (g.K.Sink.seen c.loop-before.writer) (g.K.Sink.seen c.write_piece.new.writer) c.loop-before.invariant.unbroken c.in_ok-write_piece.ensures.cause;

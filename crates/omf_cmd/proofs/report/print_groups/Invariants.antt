@@ -1,5 +1,4 @@
 use Rattle.std.proofs.Common.{◌++◌}
-use Rattle.std.specs.Prelude.{string_bytes}
 use Rattle.omf_check.specs.Module.{records_in}
 use Rattle.omf_check.specs.Tables.{groups}
 use Rattle.omf_check.specs.WellFormed.{recs}
@@ -13,6 +12,6 @@ abbrev pub invariant-loop-before : goal.invariant-loop-before
 invariant-loop-before g l =
     let m = recs (records_in l.checked.bytes) in
     record {
-      written : IsWrittenUpTo (g.K.Sink.seen l.initial.writer).bytes (g.K.Sink.seen l.writer).bytes (string_bytes l.initial.text ++ lines_from (group_line m) (groups m) 0) (string_bytes l.text ++ lines_from (group_line m) (groups m) l.before);
+      written : IsWrittenUpTo (g.K.Sink.seen l.initial.writer).bytes (g.K.Sink.seen l.writer).bytes (l.initial.text.items ++ lines_from (group_line m) (groups m) 0) (l.text.items ++ lines_from (group_line m) (groups m) l.before);
       unbroken : IsUnbroken (g.K.Sink.seen l.initial.writer) (g.K.Sink.seen l.writer);
     }

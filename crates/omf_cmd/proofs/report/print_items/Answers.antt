@@ -1,5 +1,5 @@
 use Rattle.std.proofs.Common.{[], ◌∷◌, Err}
-use Rattle.std.specs.Prelude.{string_bytes, codes}
+use Rattle.std.specs.Prelude.{codes}
 use Rattle.std.proofs.lemmas.Result.{err_from_is_err_and}
 use Rattle.omf_cmd.specs.Printed.{hex, line, quoted, index_or_dash}
 use Rattle.omf_cmd.proofs.Pieces.{cause_later, halted, stopped_by, unbroken_on, went_on}
@@ -11,12 +11,12 @@ returns-in_err-print_item-clause-passes g c = halted _ _ _ _ _ c.from_residual.r
 
 pub returns-in_err-write_piece-clause-passes : goal.returns-in_err-write_piece-clause-passes
 returns-in_err-write_piece-clause-passes g c =
-    let due = item_due (λ q. line (codes "P" ∷ index_or_dash c.args.group ∷ index_or_dash c.args.segment ∷ hex 8 q.item.offset ∷ quoted q.item.name ∷ [])) _ _ _ (string_bytes c.loop-public.text) (string_bytes c.print_item.new.text) c.in-Some.ensures.steps c.in_ok-print_item.ensures in
+    let due = item_due (λ q. line (codes "P" ∷ index_or_dash c.args.group ∷ index_or_dash c.args.segment ∷ hex 8 q.item.offset ∷ quoted q.item.name ∷ [])) _ _ _ (c.loop-public.text.items) (c.print_item.new.text.items) c.in-Some.ensures.steps c.in_ok-print_item.ensures in
     stopped_by _ _ _ _ _ _ _ _ c.from_residual-in_err-write_piece.result c.from_residual-in_err-write_piece.ensures.0 c.loop-public.invariant.written due c.in_err-write_piece.ensures.passes
 
 pub loop-public-preserved : goal.loop-public-preserved
 loop-public-preserved g c =
-    let due = item_due (λ q. line (codes "P" ∷ index_or_dash c.args.group ∷ index_or_dash c.args.segment ∷ hex 8 q.item.offset ∷ quoted q.item.name ∷ [])) _ _ _ (string_bytes c.loop-public.text) (string_bytes c.print_item.new.text) c.in-Some.ensures.steps c.in_ok-print_item.ensures in
+    let due = item_due (λ q. line (codes "P" ∷ index_or_dash c.args.group ∷ index_or_dash c.args.segment ∷ hex 8 q.item.offset ∷ quoted q.item.name ∷ [])) _ _ _ (c.loop-public.text.items) (c.print_item.new.text.items) c.in-Some.ensures.steps c.in_ok-print_item.ensures in
     record {
       written = went_on _ _ _ _ _ _ _ _ c.loop-public.invariant.written due c.in_ok-write_piece.ensures.passes;
       unbroken = unbroken_on (g.K.Sink.seen c.args.writer.now) (g.K.Sink.seen c.loop-public.writer) (g.K.Sink.seen c.write_piece.new.writer) c.loop-public.invariant.unbroken c.in_ok-write_piece.ensures.cause;

@@ -1,5 +1,5 @@
 use Rattle.std.proofs.Common.{◌++◌, ◌∷◌, []}
-use Rattle.std.specs.Prelude.{string_bytes, flat_map, codes}
+use Rattle.std.specs.Prelude.{flat_map, codes}
 use Rattle.omf_cmd.specs.Printed.{hex, line, quoted, index_or_dash}
 use Rattle.omf_cmd.specs.Runs.{IsUnbroken, IsWrittenUpTo}
 use Rattle.omf_cmd.proofs.report.print_items.Given as goal
@@ -8,7 +8,7 @@ use Rattle.omf_cmd.proofs.report.print_items.Given as goal
 abbrev pub invariant-loop-public : goal.invariant-loop-public
 invariant-loop-public g l = record {
   written : IsWrittenUpTo (g.K.Sink.seen l.initial.writer).bytes (g.K.Sink.seen l.writer).bytes
-      (string_bytes l.initial.text ++ flat_map (λ q. line (codes "P" ∷ index_or_dash l.group ∷ index_or_dash l.segment ∷ hex 8 q.item.offset ∷ quoted q.item.name ∷ [])) l.publics)
-      (string_bytes l.text ++ flat_map (λ q. line (codes "P" ∷ index_or_dash l.group ∷ index_or_dash l.segment ∷ hex 8 q.item.offset ∷ quoted q.item.name ∷ [])) l.public-iterator);
+      (l.initial.text.items ++ flat_map (λ q. line (codes "P" ∷ index_or_dash l.group ∷ index_or_dash l.segment ∷ hex 8 q.item.offset ∷ quoted q.item.name ∷ [])) l.publics)
+      (l.text.items ++ flat_map (λ q. line (codes "P" ∷ index_or_dash l.group ∷ index_or_dash l.segment ∷ hex 8 q.item.offset ∷ quoted q.item.name ∷ [])) l.public-iterator);
   unbroken : IsUnbroken (g.K.Sink.seen l.initial.writer) (g.K.Sink.seen l.writer);
 }

@@ -1,7 +1,7 @@
 use Rattle.std.proofs.Common.{◌++◌, ap, refl, subst, ◌∙◌, Err}
 use Rattle.std.proofs.lemmas.List.{append-nil}
 use Rattle.std.proofs.lemmas.Result.{err_from_is_err_and}
-use Rattle.std.specs.Prelude.{string_bytes, flat_map, List, ℕ}
+use Rattle.std.specs.Prelude.{flat_map, List, ℕ}
 use Rattle.omf_frame.specs.declared.fault.Place.{Place}
 use Rattle.omf_records.specs.Seen.{contents_seen}
 use Rattle.omf_records.specs.Values.{Rec}
@@ -14,18 +14,18 @@ use Rattle.omf_cmd.proofs.report.print_publics.Goals as goal
 
 pub returns-in_err-print_publics_of-clause-passes : goal.returns-in_err-print_publics_of-clause-passes
 returns-in_err-print_publics_of-clause-passes g c =
-    let now = string_bytes c.loop-place.text in
+    let now = c.loop-place.text.items in
     let due = item_due (λ (p : Place × Rec). public_lines p.1.contents) _ _ _ now (now ++ public_lines (contents_seen c.in-Some.rec)) c.in-Some.ensures.steps refl in
     let held = (g.K.Sink.seen c.args.writer.now).bytes in
     let held' = (g.K.Sink.seen c.print_publics_of.new.writer).bytes in
-    let kept = string_bytes c.print_publics_of.new.text in
-    let all = ap (λ (t : List ℕ). string_bytes c.args.text.now ++ t) (placed_lines public_lines (records_in c.args.checked.now.bytes) 0 0) in
+    let kept = c.print_publics_of.new.text.items in
+    let all = ap (λ (t : List ℕ). c.args.text.now.items ++ t) (placed_lines public_lines (records_in c.args.checked.now.bytes) 0 0) in
     subst (λ (w : List ℕ). Passes held held' c.from_residual.result w kept) all
     (stopped_by _ _ _ _ _ _ _ kept c.from_residual.result c.from_residual.ensures.0 c.loop-place.invariant.written due c.in_err-print_publics_of.ensures.passes)
 
 pub loop-place-preserved : goal.loop-place-preserved
 loop-place-preserved g c =
-    let now = string_bytes c.loop-place.text in
+    let now = c.loop-place.text.items in
     let due = item_due (λ (p : Place × Rec). public_lines p.1.contents) _ _ _ now (now ++ public_lines (contents_seen c.in-Some.rec)) c.in-Some.ensures.steps refl in
     record {
       written = went_on _ _ _ _ _ _ _ _ c.loop-place.invariant.written due c.in_ok-print_publics_of.ensures.passes;
@@ -38,8 +38,8 @@ pub returns-clause-passes : goal.returns-clause-passes
 returns-clause-passes g c =
     let held = (g.K.Sink.seen c.args.writer.now).bytes in
     let held' = (g.K.Sink.seen c.loop-place.writer).bytes in
-    let now = string_bytes c.loop-place.text in
-    let all = ap (λ (t : List ℕ). string_bytes c.args.text.now ++ t) (placed_lines public_lines (records_in c.args.checked.now.bytes) 0 0) in
+    let now = c.loop-place.text.items in
+    let all = ap (λ (t : List ℕ). c.args.text.now.items ++ t) (placed_lines public_lines (records_in c.args.checked.now.bytes) 0 0) in
     let left = ap (λ l. now ++ flat_map (λ (p : Place × Rec). public_lines p.1.contents) l) c.in-None.ensures.steps.0 ∙ append-nil now in
     subst (λ (w : List ℕ). IsWrittenUpTo held held' w now) all (subst (IsWrittenUpTo held held' _) left c.loop-place.invariant.written)
 

@@ -1,5 +1,4 @@
 use Rattle.std.proofs.Common.{◌++◌, ap, subst, sym, ◌∙◌, Err}
-use Rattle.std.specs.Prelude.{string_bytes}
 use Rattle.std.proofs.lemmas.Result.{err_from_is_err_and}
 use Rattle.omf_frame.specs.declared.fault.Place.{Place}
 use Rattle.omf_records.specs.Seen.{rec_seen}
@@ -26,7 +25,7 @@ returns-in_err-write_piece-clause-passes g c =
     let at = subst (λ b. StandsAt b c.in-Some.place.start n.one) (sym c.bytes-bytes.ensures.bytes) (stands records c.args.checked.now.bytes x c.next.new.self _ _ _ _ c.bytes-bytes.ensures.well_formed.framed n) in
     let size = c.contents_length-length.ensures n.one at in
     let shown = line_of n.before n.one _ _ _ _ n.number n.start (c.kind.ensures ∙ ap (λ (r : Rec). r.kind) n.rec) size in
-    let due = c.in_ok-print_record.ensures ∙ ap (λ l. string_bytes c.loop-place.text ++ l) shown in
+    let due = c.in_ok-print_record.ensures ∙ ap (λ l. c.loop-place.text.items ++ l) shown in
     line_stopped records x c.next.new.self _ _ _ _ _ _ _ c.from_residual-in_err-write_piece.result n due c.from_residual-in_err-write_piece.ensures.0 c.in_err-write_piece.ensures.passes
 
 pub loop-place-preserved : goal.loop-place-preserved
@@ -37,7 +36,7 @@ loop-place-preserved g c =
     let at = subst (λ b. StandsAt b c.in-Some.place.start n.one) (sym c.bytes-bytes.ensures.bytes) (stands records c.args.checked.now.bytes x c.next.new.self _ _ _ _ c.bytes-bytes.ensures.well_formed.framed n) in
     let size = c.contents_length-length.ensures n.one at in
     let shown = line_of n.before n.one _ _ _ _ n.number n.start (c.kind.ensures ∙ ap (λ (r : Rec). r.kind) n.rec) size in
-    let due = c.in_ok-print_record.ensures ∙ ap (λ l. string_bytes c.loop-place.text ++ l) shown in
+    let due = c.in_ok-print_record.ensures ∙ ap (λ l. c.loop-place.text.items ++ l) shown in
     record {
       written = more_written records x c.next.new.self _ _ _ _ _ _ _ n due c.in_ok-write_piece.ensures.passes;
       unbroken = unbroken_on (g.K.Sink.seen c.args.writer.now) (g.K.Sink.seen c.loop-place.writer) (g.K.Sink.seen c.write_piece.new.writer) c.loop-place.invariant.unbroken c.in_ok-write_piece.ensures.cause;

@@ -1,4 +1,3 @@
-use Rattle.std.specs.Prelude.{string_bytes}
 use Rattle.omf_check.specs.Module.{records_in}
 use Rattle.omf_cmd.specs.Runs.{IsUnbroken}
 use Rattle.omf_cmd.proofs.Reported.{AreWritten}
@@ -7,7 +6,7 @@ use Rattle.omf_cmd.proofs.report.print_records.Given as goal
 -- what is kept, and the lines of the records that are left, are still to be written
 abbrev pub invariant-loop-place : goal.invariant-loop-place
 invariant-loop-place g l = record {
-  written : AreWritten (records_in l.checked.bytes) l.place-iterator (g.K.Sink.seen l.initial.writer).bytes (g.K.Sink.seen l.writer).bytes (string_bytes l.initial.text) (string_bytes l.text);
+  written : AreWritten (records_in l.checked.bytes) l.place-iterator (g.K.Sink.seen l.initial.writer).bytes (g.K.Sink.seen l.writer).bytes (l.initial.text.items) (l.text.items);
   unbroken : IsUnbroken (g.K.Sink.seen l.initial.writer) (g.K.Sink.seen l.writer);
   next : (goal.iterator-loop-place g).can_next l.place-iterator;
   finite : (goal.iterator-loop-place g).is_finite l.place-iterator;

@@ -1,5 +1,5 @@
 use Rattle.omf_cmd.proofs.Lines.{zeros_first}
-use Rattle.omf_cmd.proofs.printing.print_digits.Goals as goal
+use Rattle.omf_cmd.proofs.printing.write_offset.Goals as goal
 
 pub returns : goal.returns
 returns c = rw (c.in_radix.ensures, c.laid_out.ensures, zeros_first) at c.write.ensures.bytes
