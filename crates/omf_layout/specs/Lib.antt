@@ -4,4 +4,5 @@ pub mod Layout
 pub mod Spots
 pub mod Quoted
 pub mod Draft
+pub mod Reading
 pub mod Laws
