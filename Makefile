@@ -5,7 +5,7 @@
 # make library          proves and builds the library for C: build/libomf.a, build/libomf.so
 # make try-c            tries the library for C: tests/c/run.sh over examples/ and the folder MODULES
 # make install          builds the programs and the library, and installs them under PREFIX: bin/omf, bin/omf-place,
-#                       share/man/man1/omf.1, lib/libomf.a, lib/libomf.so, include/omf.h, lib/pkgconfig/omf.pc
+#                       share/man/man1/omf.1 and omf-place.1, lib/libomf.a, lib/libomf.so, include/omf.h, lib/pkgconfig/omf.pc
 # make shown            runs the commands that README.md and docs/REASONS.md show, by the installed program, and compares
 # make ci               the gate: the commands of docs/REASONS.md from the sources, and then `rt ci`, which proves and tests everything
 
@@ -47,6 +47,7 @@ install: build library
 	install -m 755 crates/omf/out/omf $(DESTDIR)$(PREFIX)/bin/omf
 	install -m 755 crates/omf_place/out/omf_place $(DESTDIR)$(PREFIX)/bin/omf-place
 	install -m 644 man/omf.1 $(DESTDIR)$(PREFIX)/share/man/man1/omf.1
+	install -m 644 man/omf-place.1 $(DESTDIR)$(PREFIX)/share/man/man1/omf-place.1
 	install -m 644 include/omf.h $(DESTDIR)$(PREFIX)/include/omf.h
 	install -m 644 build/libomf.a $(DESTDIR)$(PREFIX)/lib/libomf.a
 	install -m 755 build/libomf.so $(DESTDIR)$(PREFIX)/lib/libomf.so

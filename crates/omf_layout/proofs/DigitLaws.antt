@@ -22,8 +22,8 @@ glyph-mark : (upper : Bool) (d : ℕ) → d < 16 → is_mark (digit_glyph upper 
 glyph-mark upper d small = cond_both (nat_lt d 10) (48 + d) (cond upper (55 + d) (87 + d)) (λ c. is_mark c ≡ true)
     (λ e. let low = ltb-true d 10 e in mark (48 + d) (omega arith) (λ s. absurd (omega arith)))
     (λ e. let high = ltb-false d 10 e in cond_both upper (55 + d) (87 + d) (λ c. is_mark c ≡ true)
-      (λ u. mark (55 + d) (omega arith) (λ s. absurd (omega arith)))
-      (λ u. mark (87 + d) (omega arith) (λ s. absurd (omega arith))))
+    (λ u. mark (55 + d) (omega arith) (λ s. absurd (omega arith)))
+    (λ u. mark (87 + d) (omega arith) (λ s. absurd (omega arith))))
 
 module _ (base : ℕ) (upper : Bool) (small : (n : ℕ) → n % base < 16) where
   marks-onto : (fuel n : ℕ) (acc : List ℕ) → list_all is_mark acc ≡ true → list_all is_mark (digits_onto fuel base upper n acc) ≡ true

@@ -149,13 +149,13 @@ module _ (frames : Frames) (m : List Rec) (l : LaidOut) (short : AreShort l.plac
       let whole : a ++ b ++ c ≡ a ++ (b ++ (c ++ [])) = append_assoc a b c ∙ ap (λ t. a ++ (b ++ t)) (sym (append-nil c)) in
       ap (λ t. entries_from 1 (parts_of t)) whole
       ∙ lines-read (segment_line frames m) of_segment told_segments 1 (b ++ (c ++ []))
-        (all-lines IsShortPlace (λ s. IsLine (segment_line frames m s) (of_segment s)) (segment-is-line frames m) 1 (zip (segments m) l.alignments) l.places.segments short.segments)
+      (all-lines IsShortPlace (λ s. IsLine (segment_line frames m s) (of_segment s)) (segment-is-line frames m) 1 (zip (segments m) l.alignments) l.places.segments short.segments)
       ∙ ap (λ es. lines_of of_segment 1 told_segments ++ es)
-        (lines-read (group_line frames m l.places.segments) of_group told_groups group_line_number (c ++ [])
-          (all-lines IsShortFrame (λ g. IsLine (group_line frames m l.places.segments g) (of_group g)) (group-is-line frames m l.places.segments) 1 (groups m) l.places.groups short.groups)
-        ∙ ap (λ es. lines_of of_group group_line_number told_groups ++ es)
-          (lines-read external_line of_external told_externals external_line_number []
-            (all-lines IsShortPlace (λ e. IsLine (external_line e) (of_external e)) external-is-line 1 (zip (externals m) l.rooms) l.places.externals short.externals)))
+      (lines-read (group_line frames m l.places.segments) of_group told_groups group_line_number (c ++ [])
+      (all-lines IsShortFrame (λ g. IsLine (group_line frames m l.places.segments g) (of_group g)) (group-is-line frames m l.places.segments) 1 (groups m) l.places.groups short.groups)
+      ∙ ap (λ es. lines_of of_group group_line_number told_groups ++ es)
+      (lines-read external_line of_external told_externals external_line_number []
+      (all-lines IsShortPlace (λ e. IsLine (external_line e) (of_external e)) external-is-line 1 (zip (externals m) l.rooms) l.places.externals short.externals)))
 
   abbrev all_entries : List (ℕ × Option Entry)
   all_entries = lines_of of_segment 1 told_segments ++ (lines_of of_group group_line_number told_groups ++ (lines_of of_external external_line_number told_externals ++ end_of (external_line_number + length told_externals)))
@@ -177,7 +177,7 @@ module _ (frames : Frames) (m : List Rec) (l : LaidOut) (short : AreShort l.plac
   groups-read : filter_map group_entry all_entries ≡ (draft_entries frames m l.places).groups
   groups-read =
       let number : group_line_number ≡ length l.places.segments + 1
-            = omega (arith, length-numbered 1 (zip (zip (segments m) l.alignments) l.places.segments), length-pairs (zip (segments m) l.alignments) l.places.segments (omega (arith, length-pairs (segments m) l.alignments aligned, segment_count)), length-pairs (segments m) l.alignments aligned, segment_count) in
+      = omega (arith, length-numbered 1 (zip (zip (segments m) l.alignments) l.places.segments), length-pairs (zip (segments m) l.alignments) l.places.segments (omega (arith, length-pairs (segments m) l.alignments aligned, segment_count)), length-pairs (segments m) l.alignments aligned, segment_count) in
       picks group_entry [] (draft_entries frames m l.places).groups []
       (passed group_entry of_segment (λ n x. refl) 1 told_segments)
       (picked group_entry of_group (λ n x. (n, frame_given frames m l.places.segments (x.0, x.1.1))) (λ n x. refl) group_line_number told_groups

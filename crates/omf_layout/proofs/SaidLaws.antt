@@ -96,8 +96,8 @@ is-said e c h =
     let before : List ℕ = e ++ 32 ∷ [] in
     let spelled : e ++ codes " ; " ++ c ≡ before ++ 59 ∷ 32 ∷ c = append_assoc e (32 ∷ 59 ∷ 32 ∷ []) c ∙ sym (append_assoc e (32 ∷ []) (59 ∷ 32 ∷ c)) in
     let cut : before_first (λ x. x == 59) (without_return (e ++ codes " ; " ++ c)) ≡ before
-          = ap (λ t. before_first (λ x. x == 59) (without_return t)) spelled ∙ ap (before_first (λ x. x == 59)) (return-kept before 32 c)
-          ∙ comment-cut before (without_return (32 ∷ c)) (both-pass is_plain e (32 ∷ []) h.plain refl) in
+    = ap (λ t. before_first (λ x. x == 59) (without_return t)) spelled ∙ ap (before_first (λ x. x == 59)) (return-kept before 32 c)
+    ∙ comment-cut before (without_return (32 ∷ c)) (both-pass is_plain e (32 ∷ []) h.plain refl) in
     let back : reverse before ≡ 32 ∷ reverse e = reverse-append e (32 ∷ []) in
     ap (λ t. reverse (without_spaces (reverse (without_spaces t)))) cut
     ∙ ap (λ t. reverse (without_spaces (reverse t))) (h.front (32 ∷ []))

@@ -5,4 +5,5 @@ pub mod Spots
 pub mod Quoted
 pub mod Draft
 pub mod Reading
+pub mod Rows
 pub mod Laws
