@@ -2,10 +2,11 @@
 # make look             the same without any proof
 # make try FILE=x.obj   runs the program on a file of your own, without any proof: JOB=list, JOB=reloc or JOB=canon in place of
 #                       JOB=check, for reloc with PLACE=x.place, and FLAG=--refuse-vendor-comments
+# make draft FILE=x.obj runs omf-place on a file of your own, without any proof; WORDS=--real, or WORDS="--base 7C00 --flat 1B"
 # make library          proves and builds the library for C: build/libomf.a, build/libomf.so
 # make try-c            tries the library for C: tests/c/run.sh over examples/ and the folder MODULES
 # make install          builds the programs and the library, and installs them under PREFIX: bin/omf, bin/omf-place,
-#                       share/man/man1/omf.1, lib/libomf.a, lib/libomf.so, include/omf.h, lib/pkgconfig/omf.pc
+#                       share/man/man1/omf.1 and omf-place.1, lib/libomf.a, lib/libomf.so, include/omf.h, lib/pkgconfig/omf.pc
 # make shown            runs the commands that README.md and docs/REASONS.md show, by the installed program, and compares
 # make ci               the gate: the commands of docs/REASONS.md from the sources, and then `rt ci`, which proves and tests everything
 
@@ -13,8 +14,9 @@ PREFIX ?= /usr/local
 CC ?= cc
 MODULES ?=
 JOB ?= check
+WORDS ?=
 
-.PHONY: first look try build library try-c install shown ci
+.PHONY: first look try draft build library try-c install shown ci
 
 first:
 	@cd crates/omf && cat ../../examples/first.omf ../../examples/first.place | rt run -- reloc
@@ -25,6 +27,10 @@ look:
 try:
 	@test -n "$(FILE)" || { echo "usage: make try FILE=x.obj [JOB=check|list|reloc|canon] [PLACE=x.place] [FLAG=--refuse-vendor-comments]"; exit 2; }
 	@cat "$(FILE)" $(PLACE) | (cd crates/omf && rt try -- $(JOB) $(FLAG))
+
+draft:
+	@test -n "$(FILE)" || { echo "usage: make draft FILE=x.obj [WORDS=\"--base 7C00 --real\"]"; exit 2; }
+	@cat "$(FILE)" | (cd crates/omf_place && rt try -- $(WORDS))
 
 build:
 	@cat examples/first.omf examples/first.place | (cd crates/omf && rt run -- reloc) > /dev/null
@@ -47,6 +53,7 @@ install: build library
 	install -m 755 crates/omf/out/omf $(DESTDIR)$(PREFIX)/bin/omf
 	install -m 755 crates/omf_place/out/omf_place $(DESTDIR)$(PREFIX)/bin/omf-place
 	install -m 644 man/omf.1 $(DESTDIR)$(PREFIX)/share/man/man1/omf.1
+	install -m 644 man/omf-place.1 $(DESTDIR)$(PREFIX)/share/man/man1/omf-place.1
 	install -m 644 include/omf.h $(DESTDIR)$(PREFIX)/include/omf.h
 	install -m 644 build/libomf.a $(DESTDIR)$(PREFIX)/lib/libomf.a
 	install -m 755 build/libomf.so $(DESTDIR)$(PREFIX)/lib/libomf.so

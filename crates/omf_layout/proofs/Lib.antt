@@ -5,3 +5,7 @@ pub mod Lines
 pub mod FitLaws
 pub mod ApartLaws
 pub mod Printed
+pub mod DigitLaws
+pub mod SaidLaws
+pub mod LineLaws
+pub mod ReadLaws

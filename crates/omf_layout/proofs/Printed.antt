@@ -1,10 +1,11 @@
 -- The lines of a text, one after another: what is written, and the lines of what is left, are the whole text.
-use Rattle.std.proofs.Common.{◌≡◌, ℕ, zero, suc, ◌+◌, ◌≤◌, List, [], ◌∷◌, ◌++◌, length, drop, refl, sym, ap, ap₂, ◌∙◌, arith, append_assoc}
+use Rattle.std.proofs.Common.{◌≡◌, ℕ, zero, suc, ◌+◌, ◌<◌, ◌≤◌, List, [], ◌∷◌, ◌++◌, length, drop, slice_index_or, refl, sym, ap, ap₂, subst, ◌∙◌, ⊎_elim, arith, append_assoc}
 use Rattle.std.specs.List.{enumerate_from, zip}
-use Rattle.std.specs.Prelude.{flat_map, Option, Some, None, option_map, slice_get}
+use Rattle.std.specs.Prelude.{flat_map, All, Option, Some, None, option_map, slice_get}
 use Rattle.std.proofs.Math.Seq.{drop-cons}
+use Rattle.std.proofs.lemmas.Bool.{cases_lt}
 use Rattle.std.proofs.lemmas.List.{append-nil, drop_all}
-use Rattle.std.proofs.lemmas.Option.{slice_get_within, get_or_from_slice_get, none-some, same_Some}
+use Rattle.std.proofs.lemmas.Option.{slice_get_within, slice_get-get_or, get_or_from_slice_get, none-some, same_Some}
 use Rattle.omf_records.specs.Values.{Contents, Group, GroupItem}
 use Rattle.omf_check.specs.Tables.{entry}
 use Rattle.omf_placement.specs.declared.frame.Frame.{Frame}
@@ -30,6 +31,25 @@ more-printed f xs i x old now new before here e = record {
 
 pub all-printed : {A : Type 0} (f : ℕ × A → List ℕ) (xs : List A) (i : ℕ) (old now : List ℕ) → length xs ≤ i → ArePrinted f xs i old now → now ≡ old ++ flat_map f (enumerate_from 1 xs)
 all-printed f xs i old now le h = sym (append-nil now) ∙ ap (λ l. now ++ flat_map f (enumerate_from (i + 1) l)) (sym (drop_all i xs le)) ∙ h.whole
+
+-- What holds of each entry so far, and at the end of all.
+pub record HoldsTo {A : Type 0} (P : A → Type 0) (xs : List A) (i : ℕ) : Type 0 where
+  pub each : (k : ℕ) (x : A) → k < i → slice_get xs k ≡ Some x → P x
+
+pub none-so-far : {A : Type 0} (P : A → Type 0) (xs : List A) → HoldsTo P xs 0
+none-so-far P xs = record { each = λ k x low e. absurd (omega arith) }
+
+pub more-hold : {A : Type 0} (P : A → Type 0) (xs : List A) (i : ℕ) (x : A) → HoldsTo P xs i → entry xs (i + 1) ≡ Some x → P x → HoldsTo P xs (i + 1)
+more-hold P xs i x before here h = record {
+  each = λ k y low e. ⊎_elim
+      (λ below. before.each k y below e)
+      (λ high. let last : k ≡ i = omega arith in
+      subst P (same_Some x y (sym here ∙ entry-at xs i ∙ ap (slice_get xs) (sym last) ∙ e)) h)
+      (cases_lt k i);
+}
+
+pub all-hold : {A : Type 0} (P : A → Type 0) (xs : List A) (i : ℕ) → length xs ≤ i → HoldsTo P xs i → All P xs
+all-hold P xs i end h = λ k d low. h.each k (slice_index_or xs k d) (omega arith) (slice_get-get_or xs k d low)
 
 -- The entry of two lists side by side; and how long they are.
 slice-zip : {A B : Type 0} (xs : List A) (ys : List B) (j : ℕ) (x : A) (y : B) → slice_get xs j ≡ Some x → slice_get ys j ≡ Some y → slice_get (zip xs ys) j ≡ Some (x, y)

@@ -11,6 +11,8 @@ use Rattle.omf_reloc.specs.Reach.{Fits, reach_fault}
 use Rattle.omf_layout.specs.declared.alignment.Alignment.{Alignment}
 use Rattle.omf_layout.specs.declared.options.Options.{Options}
 use Rattle.omf_layout.specs.Layout.{LaidOut, layout_of}
+use Rattle.omf_layout.specs.Draft.{draft_text}
+use Rattle.omf_layout.specs.Reading.{AreShort, IsReadBack}
 use Rattle.omf_layout.specs.Room.{limit}
 use Rattle.omf_layout.specs.Wants.{bytes_aligned}
 
@@ -54,3 +56,7 @@ pub record SegmentsLieApart (o : Options) (m : List Rec) (l : LaidOut) : Type 0 
 
 abbrev pub LayoutsLieApart : Type 0
 LayoutsLieApart = (o : Options) (m : List Rec) (l : LaidOut) → layout_of o m ≡ Some l → SegmentsLieApart o m l
+
+-- The text of a layout is a placement text of exactly the layout's entries, and gives the module the layout's places.
+abbrev pub DraftsAreRead : Type 0
+DraftsAreRead = (o : Options) (m : List Rec) (l : LaidOut) → layout_of o m ≡ Some l → AreShort l.places → IsReadBack o.frames m l.places (draft_text o.frames m l)

@@ -4,4 +4,6 @@ pub mod Layout
 pub mod Spots
 pub mod Quoted
 pub mod Draft
+pub mod Reading
+pub mod Rows
 pub mod Laws

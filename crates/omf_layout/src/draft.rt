@@ -1,6 +1,6 @@
 //! The placement text of a layout.
 
-ghost use Rattle.std.specs.Prelude.{◌≡◌, ◌++◌, ◌∷◌, [], OnOk, IfOk, string_bytes, flat_map, length, Some, codes, decimal};
+ghost use Rattle.std.specs.Prelude.{◌≡◌, ◌++◌, ◌∷◌, [], OnOk, IfOk, string_bytes, flat_map, length, Some, codes, decimal, All};
 ghost use Rattle.std.specs.List.{enumerate_from, zip};
 ghost use Rattle.omf_records.specs.Seen.{contents_seen};
 ghost use Rattle.omf_records.specs.Values.{Group, GroupItem};
@@ -9,8 +9,10 @@ ghost use Rattle.omf_check.specs.Tables.{names, segments, groups, externals};
 ghost use Rattle.omf_check.specs.WellFormed.{recs};
 ghost use Rattle.omf_placement.specs.Entries.{in_words};
 ghost use Rattle.omf_layout.specs.Draft.{segment_comment, segment_line, group_line, group_entry, external_line, draft_text};
+ghost use Rattle.omf_layout.specs.Laws.{FitsModule};
 ghost use Rattle.omf_layout.specs.Layout.{layout_of};
 ghost use Rattle.omf_layout.specs.Quoted.{named};
+ghost use Rattle.omf_layout.specs.Reading.{IsShortFrame, IsShortPlace, IsReadBack};
 
 use crate::alignment::Alignment;
 use crate::laying::Layout;
@@ -66,7 +68,8 @@ fn print_segment(
     alignment: Alignment,
     place: (u32, Frame),
 ) -> Result<(), AllocError>
-    ensures { OnOk result (string_bytes text.new ≡ string_bytes text.old ++ segment_line frames (recs (records_in «module».now.bytes)) (index, ((segment, alignment), record { address = place.0; frame = place.1 }))) }
+    ensures short { IsShortPlace (record { address = place.0; frame = place.1 }) }
+    ensures line { OnOk result (string_bytes text.new ≡ string_bytes text.old ++ segment_line frames (recs (records_in «module».now.bytes)) (index, ((segment, alignment), record { address = place.0; frame = place.1 }))) }
 {
     let (address, frame) = place;
     print_segment_entry(text, frames, address, frame)?;
@@ -82,7 +85,8 @@ fn print_segments(
 ) -> Result<(), AllocError>
     requires aligned { length layout.now.alignments ≡ length (segments (recs (records_in «module».now.bytes))) }
     requires placed { length layout.now.places.segments ≡ length (segments (recs (records_in «module».now.bytes))) }
-    ensures { OnOk result (string_bytes text.new ≡ string_bytes text.old ++ flat_map (segment_line frames (recs (records_in «module».now.bytes))) (enumerate_from 1 (zip (zip (segments (recs (records_in «module».now.bytes))) layout.now.alignments) layout.now.places.segments))) }
+    ensures short { OnOk result (All IsShortPlace layout.now.places.segments) }
+    ensures lines { OnOk result (string_bytes text.new ≡ string_bytes text.old ++ flat_map (segment_line frames (recs (records_in «module».now.bytes))) (enumerate_from 1 (zip (zip (segments (recs (records_in «module».now.bytes))) layout.now.alignments) layout.now.places.segments))) }
 {
     for before in 0..module.segments() {
         let index = before + 1;
@@ -153,7 +157,8 @@ fn print_group(
     frame: Frame,
 ) -> Result<(), AllocError>
     requires { (g : GroupItem) × (contents_seen group.now ≡ Group g) }
-    ensures { (g : GroupItem) → contents_seen group.now ≡ Group g → OnOk result (string_bytes text.new ≡ string_bytes text.old ++ group_line frames (recs (records_in «module».now.bytes)) placement.now.segments (index, (g, frame))) }
+    ensures short { IsShortFrame frame }
+    ensures line { (g : GroupItem) → contents_seen group.now ≡ Group g → OnOk result (string_bytes text.new ≡ string_bytes text.old ++ group_line frames (recs (records_in «module».now.bytes)) placement.now.segments (index, (g, frame))) }
 {
     print_group_place(text, module, frames, placement, index, frame)?;
     print_group_comment(text, module, index, group_name(group))
@@ -167,7 +172,8 @@ fn print_groups(
     layout: &Layout,
 ) -> Result<(), AllocError>
     requires { length layout.now.places.groups ≡ length (groups (recs (records_in «module».now.bytes))) }
-    ensures { OnOk result (string_bytes text.new ≡ string_bytes text.old ++ flat_map (group_line frames (recs (records_in «module».now.bytes)) layout.now.places.segments) (enumerate_from 1 (zip (groups (recs (records_in «module».now.bytes))) layout.now.places.groups))) }
+    ensures short { OnOk result (All IsShortFrame layout.now.places.groups) }
+    ensures lines { OnOk result (string_bytes text.new ≡ string_bytes text.old ++ flat_map (group_line frames (recs (records_in «module».now.bytes)) layout.now.places.segments) (enumerate_from 1 (zip (groups (recs (records_in «module».now.bytes))) layout.now.places.groups))) }
 {
     for before in 0..module.groups() {
         let index = before + 1;
@@ -191,7 +197,8 @@ fn print_external(
     room: Option<u64>,
     place: (u32, Frame),
 ) -> Result<(), AllocError>
-    ensures { OnOk result (string_bytes text.new ≡ string_bytes text.old ++ external_line (index, ((name.entry, room), record { address = place.0; frame = place.1 }))) }
+    ensures short { IsShortPlace (record { address = place.0; frame = place.1 }) }
+    ensures line { OnOk result (string_bytes text.new ≡ string_bytes text.old ++ external_line (index, ((name.entry, room), record { address = place.0; frame = place.1 }))) }
 {
     let (address, frame) = place;
     print_external_entry(text, address, frame)?;
@@ -204,7 +211,8 @@ fn print_external(
 fn print_externals(text: &mut String, module: &Checked, layout: &Layout) -> Result<(), AllocError>
     requires roomed { length layout.now.rooms ≡ length (externals (recs (records_in «module».now.bytes))) }
     requires placed { length layout.now.places.externals ≡ length (externals (recs (records_in «module».now.bytes))) }
-    ensures { OnOk result (string_bytes text.new ≡ string_bytes text.old ++ flat_map external_line (enumerate_from 1 (zip (zip (externals (recs (records_in «module».now.bytes))) layout.now.rooms) layout.now.places.externals))) }
+    ensures short { OnOk result (All IsShortPlace layout.now.places.externals) }
+    ensures lines { OnOk result (string_bytes text.new ≡ string_bytes text.old ++ flat_map external_line (enumerate_from 1 (zip (zip (externals (recs (records_in «module».now.bytes))) layout.now.rooms) layout.now.places.externals))) }
 {
     for before in 0..module.externals() {
         let index = before + 1;
@@ -232,7 +240,11 @@ pub fn draft_text(
     layout: &Layout,
 ) -> Result<String, AllocError>
     requires { layout_of options (recs (records_in «module».now.bytes)) ≡ Some layout.now }
-    ensures { IfOk result (λ text. string_bytes text ≡ draft_text options.frames (recs (records_in «module».now.bytes)) layout.now) }
+    ensures text { IfOk result (λ text. string_bytes text ≡ draft_text options.frames (recs (records_in «module».now.bytes)) layout.now) }
+    // It is a placement text of the layout's entries, and gives the module the layout's places.
+    ensures read { IfOk result (λ text. IsReadBack options.frames (recs (records_in «module».now.bytes)) layout.now.places (string_bytes text)) }
+    // At that placement no entry is missing, none is one too many, and each absolute segment lies where it says.
+    ensures fits { OnOk result (FitsModule (recs (records_in «module».now.bytes)) layout.now) }
 {
     let mut text = String::new(alloc);
     print_segments(&mut text, module, options.frames, layout)?;

@@ -10,6 +10,7 @@ mod laying;
 mod options;
 mod printing;
 mod room;
+pub mod rows;
 mod spot;
 mod wants;
 

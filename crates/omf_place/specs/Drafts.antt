@@ -1,13 +1,27 @@
--- What a draft is.
-use Rattle.std.specs.Prelude.{◌≡◌, List, Some, string_bytes, String}
-use Rattle.std.specs.Global.{Global}
+-- What the draft of a module is.
+use Rattle.std.specs.Prelude.{◌≡◌, ⊤, List, ℕ, Some, None, Result, Ok, Err}
 use Rattle.omf_records.specs.Values.{Rec}
 use Rattle.omf_layout.specs.declared.options.Options.{Options}
 use Rattle.omf_layout.specs.Draft.{draft_text}
 use Rattle.omf_layout.specs.Layout.{LaidOut, layout_of}
+use Rattle.omf_layout.specs.Laws.{FitsModule}
+use Rattle.omf_layout.specs.Reading.{IsReadBack}
+use Rattle.omf_cmd.specs.declared.fault.RunFault.TheVariants as run
+use Rattle.omf_place.specs.declared.fault.PlaceFault.{PlaceFault}
+use Rattle.omf_place.specs.declared.fault.PlaceFault.TheVariants as fault
 
--- The text of the module's layout.
-pub record IsDraft (o : Options) (m : List Rec) (text : String Global) : Type 0 where
+-- A text is the draft of a module: that of its layout. It is a placement text of exactly the layout's entries, and the placement that it
+-- gives the module has no entry missing, none too many and none misplaced.
+pub record IsDraft (o : Options) (m : List Rec) (text : List ℕ) : Type 0 where
   pub layout : LaidOut
   pub laid : layout_of o m ≡ Some layout
-  pub text_is : string_bytes text ≡ draft_text o.frames m layout
+  pub text_is : text ≡ draft_text o.frames m layout
+  pub read : IsReadBack o.frames m layout.places text
+  pub fits : FitsModule m layout
+
+-- What is drafted of a module: that; or there is no room. Want of memory may come in either case.
+abbrev pub IsDrafted : Options → List Rec → Result (List ℕ) PlaceFault → Type 0
+IsDrafted o m (Ok text) = IsDraft o m text
+IsDrafted o m (Err fault.NoRoom) = layout_of o m ≡ None
+IsDrafted o m (Err (fault.Run run.Memory)) = ⊤
+IsDrafted o m (Err (fault.Run _)) = ⊥

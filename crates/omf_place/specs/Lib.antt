@@ -1,2 +1,4 @@
 pub mod Faults
 pub mod Drafts
+pub mod Runs
+pub mod Words

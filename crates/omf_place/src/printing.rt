@@ -1,54 +1,39 @@
-//! The lines of faults.
+//! What is printed of faults.
 
-ghost use Rattle.std.specs.Prelude.{◌≤◌};
+ghost use Rattle.std.specs.Prelude.{◌≡◌};
+ghost use Rattle.omf_cmd.specs.Runs.{IsWritten};
+ghost use Rattle.omf_place.specs.Faults.{status_of, TellsFault, usage};
 
 use crate::fault::PlaceFault;
-use omf_frame::{Place, Reason, Sink, push_all};
-use std::alloc::{AllocError, Global};
+use crate::output::tell;
+use omf_frame::Sink;
+use std::alloc::Global;
+
+/// What is printed where something has no room.
+const NO_ROOM: &[u8] = b"no room below the last address\n";
 
 /// How the program is called.
 const USAGE: &[u8] = b"usage: omf-place [--base ADDRESS] [--real | --flat SELECTOR]\n";
 
-/// The line of a refusal.
-fn refused_line(alloc: Global, reason: Reason, place: Place) -> Result<String, AllocError> {
-    let number = reason.number();
-    let record = place.number;
-    let start = place.start;
-    let within = place.within;
-    format!(in alloc; "refused {number} {reason:?} record {record} at {start} within {within}\n")
-}
-
-/// Prints a fault's line; nothing where the writer has failed already, nor where a refusal's line finds no memory. A failure to print is
-/// passed over.
-fn print_fault<K: Sink>(alloc: Global, fault: &PlaceFault, writer: &mut K) {
-    let fixed = match *fault {
-        PlaceFault::Memory => "memory\n",
-        PlaceFault::Read => "read\n",
-        PlaceFault::Write => "",
-        PlaceFault::NoRoom => "no room below the last address\n",
-        PlaceFault::Refused { reason, place } => {
-            if let Ok(line) = refused_line(alloc, reason, place) {
-                let _ = push_all(writer, line.as_bytes());
-            }
-            return;
-        }
-    };
-    let _ = push_all(writer, fixed.as_bytes());
-}
-
 /// Prints a fault's line, and answers its exit status: 1 where the input is refused or has no room, 3 for want of memory and failing
-/// devices.
+/// devices. Nothing is printed where the writer has failed already, nor where a refusal's line finds no memory; a failure to print is
+/// passed over.
 pub fn fail<K: Sink>(alloc: Global, fault: &PlaceFault, writer: &mut K) -> u8
-    ensures { result ≤ 3 }
+    ensures status { result ≡ status_of fault.now }
+    ensures prints { TellsFault (K.seen writer.old) (K.seen writer.new) fault.now }
 {
-    print_fault(alloc, fault, writer);
     match fault {
-        PlaceFault::Memory | PlaceFault::Read | PlaceFault::Write => 3,
-        PlaceFault::Refused { .. } | PlaceFault::NoRoom => 1,
+        PlaceFault::Run(fault) => omf_cmd::fail(alloc, fault, writer),
+        PlaceFault::NoRoom => {
+            tell(writer, NO_ROOM);
+            1
+        }
     }
 }
 
 /// Prints how the program is called. A failure to print is passed over.
-pub fn print_usage<K: Sink>(writer: &mut K) {
-    let _ = push_all(writer, USAGE);
+pub fn print_usage<K: Sink>(writer: &mut K)
+    ensures { IsWritten (K.seen writer.old) (K.seen writer.new) usage }
+{
+    tell(writer, USAGE);
 }

@@ -1,6 +1,11 @@
+use Rattle.std.proofs.Common.{◌≡◌, sym, subst, rules}
+use Rattle.std.specs.Prelude.{string_bytes}
 use Rattle.omf_check.specs.Module.{records_in}
 use Rattle.omf_check.specs.WellFormed.{recs}
-use Rattle.omf_layout.proofs.FitLaws.{segment-count, group-count, external-count, alignment-count, room-count}
+use Rattle.omf_layout.proofs.FitLaws.{segment-count, group-count, external-count, alignment-count, room-count, layouts-fit}
+use Rattle.omf_layout.proofs.ReadLaws.{drafts-are-read}
+use Rattle.omf_layout.specs.Draft.{draft_text}
+use Rattle.omf_layout.specs.Reading.{IsReadBack}
 use Rattle.omf_layout.proofs.draft.draft_text.Goals as goal
 
 pub print_segments-requires-clause-aligned : goal.print_segments-requires-clause-aligned
@@ -17,3 +22,18 @@ print_externals-requires-clause-roomed c = room-count c.args.options (recs (reco
 
 pub print_externals-requires-clause-placed : goal.print_externals-requires-clause-placed
 print_externals-requires-clause-placed c = external-count c.args.options (recs (records_in c.args.«module».now.bytes)) c.args.layout.now c.requires
+
+pub returns-clause-read : goal.returns-clause-read
+returns-clause-read c =
+    let m = recs (records_in c.args.«module».now.bytes) in
+    let o = c.args.options in
+    let l = c.args.layout.now in
+    let is : string_bytes c.print_externals.new.text ≡ draft_text o.frames m l = search rules in
+    subst (IsReadBack o.frames m l.places) (sym is) (drafts-are-read o m l c.requires (record {
+      segments = c.in_ok-print_segments.ensures.short;
+      groups = c.in_ok-print_groups.ensures.short;
+      externals = c.in_ok-print_externals.ensures.short;
+    }))
+
+pub returns-clause-fits : goal.returns-clause-fits
+returns-clause-fits c = layouts-fit c.args.options (recs (records_in c.args.«module».now.bytes)) c.args.layout.now c.requires

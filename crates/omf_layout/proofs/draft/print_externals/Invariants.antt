@@ -4,9 +4,10 @@ use Rattle.omf_check.specs.Module.{records_in}
 use Rattle.omf_check.specs.Tables.{externals}
 use Rattle.omf_check.specs.WellFormed.{recs}
 use Rattle.omf_layout.specs.Draft.{external_line}
-use Rattle.omf_layout.proofs.Printed.{ArePrinted}
+use Rattle.omf_layout.specs.Reading.{IsShortPlace}
+use Rattle.omf_layout.proofs.Printed.{ArePrinted, HoldsTo}
 use Rattle.omf_layout.proofs.draft.print_externals.Given as goal
 
--- the lines so far
+-- the lines so far, and that their numbers are short
 abbrev pub invariant-loop-before : goal.invariant-loop-before
-invariant-loop-before l = let m = recs (records_in l.«module».bytes) in ArePrinted (external_line) (zip (zip (externals m) l.layout.rooms) l.layout.places.externals) l.before (string_bytes l.fn.text) (string_bytes l.text)
+invariant-loop-before l = let m = recs (records_in l.«module».bytes) in record { lines : ArePrinted (external_line) (zip (zip (externals m) l.layout.rooms) l.layout.places.externals) l.before (string_bytes l.fn.text) (string_bytes l.text); short : HoldsTo IsShortPlace l.layout.places.externals l.before }

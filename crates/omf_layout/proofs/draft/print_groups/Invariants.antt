@@ -4,9 +4,10 @@ use Rattle.omf_check.specs.Module.{records_in}
 use Rattle.omf_check.specs.Tables.{groups}
 use Rattle.omf_check.specs.WellFormed.{recs}
 use Rattle.omf_layout.specs.Draft.{group_line}
-use Rattle.omf_layout.proofs.Printed.{ArePrinted}
+use Rattle.omf_layout.specs.Reading.{IsShortFrame}
+use Rattle.omf_layout.proofs.Printed.{ArePrinted, HoldsTo}
 use Rattle.omf_layout.proofs.draft.print_groups.Given as goal
 
--- the lines so far
+-- the lines so far, and that their numbers are short
 abbrev pub invariant-loop-before : goal.invariant-loop-before
-invariant-loop-before l = let m = recs (records_in l.«module».bytes) in ArePrinted (group_line l.frames m l.layout.places.segments) (zip (groups m) l.layout.places.groups) l.before (string_bytes l.fn.text) (string_bytes l.text)
+invariant-loop-before l = let m = recs (records_in l.«module».bytes) in record { lines : ArePrinted (group_line l.frames m l.layout.places.segments) (zip (groups m) l.layout.places.groups) l.before (string_bytes l.fn.text) (string_bytes l.text); short : HoldsTo IsShortFrame l.layout.places.groups l.before }

@@ -1,12 +1,16 @@
-use Rattle.std.proofs.Common.{◌≡◌, ◌+◌, ap, sym, ◌∙◌, arith, rules}
+use Rattle.std.proofs.Common.{◌≡◌, ◌+◌, refl, ap, sym, ◌∙◌, arith, rules}
 use Rattle.std.specs.Prelude.{Some, option_map}
 use Rattle.std.specs.List.{zip}
 use Rattle.omf_check.specs.Module.{records_in}
 use Rattle.omf_check.specs.WellFormed.{recs}
 use Rattle.omf_check.specs.Tables.{segments, entry}
 use Rattle.omf_layout.specs.Draft.{segment_line}
-use Rattle.omf_layout.proofs.Printed.{more-printed, all-printed, entry-zip, zip-short, place-of}
+use Rattle.omf_layout.specs.Reading.{IsShortPlace}
+use Rattle.omf_layout.proofs.Printed.{more-printed, all-printed, none-so-far, more-hold, all-hold, entry-zip, zip-short, place-of}
 use Rattle.omf_layout.proofs.draft.print_segments.Goals as goal
+
+pub loop-before-init : goal.loop-before-init
+loop-before-init c = record { lines = record { whole = refl }; short = none-so-far IsShortPlace c.args.layout.now.places.segments }
 
 pub loop-before-preserved : goal.loop-before-preserved
 loop-before-preserved c =
@@ -16,13 +20,23 @@ loop-before-preserved c =
     let told : entry (segments m) (j + 1) ≡ Some c.in-Some.segment = search rules in
     let aligned : entry l.alignments (j + 1) ≡ Some c.in-Some-alignment.alignment = search rules in
     let placed : option_map (λ p. (p.address, p.frame)) (entry l.places.segments (j + 1)) ≡ Some c.in-Some-segment.place = search rules in
-    more-printed (segment_line c.args.frames m) (zip (zip (segments m) l.alignments) l.places.segments) j _ _ _ _ c.loop-before.invariant
-    (entry-zip (zip (segments m) l.alignments) l.places.segments j _ _ (entry-zip (segments m) l.alignments j _ _ told aligned) (place-of l.places.segments (j + 1) _ placed))
-    c.in_ok-print_segment.ensures
+    let here = place-of l.places.segments (j + 1) c.in-Some-segment.place placed in
+    let short : IsShortPlace (record { address = c.in-Some-segment.place.0; frame = c.in-Some-segment.place.1 }) = search rules in
+    record {
+      lines = more-printed (segment_line c.args.frames m) (zip (zip (segments m) l.alignments) l.places.segments) j _ _ _ _ c.loop-before.invariant.lines
+          (entry-zip (zip (segments m) l.alignments) l.places.segments j _ _ (entry-zip (segments m) l.alignments j _ _ told aligned) here)
+          c.in_ok-print_segment.ensures.line;
+      short = more-hold IsShortPlace l.places.segments j _ c.loop-before.invariant.short here short;
+    }
 
-pub returns : goal.returns
-returns c =
+pub returns-clause-short : goal.returns-clause-short
+returns-clause-short c =
+    all-hold IsShortPlace c.args.layout.now.places.segments c.loop-before.before
+    (omega (arith, c.loop-before-test.false, c.segments-before-end.ensures.count, c.requires.placed)) c.loop-before.invariant.short
+
+pub returns-clause-lines : goal.returns-clause-lines
+returns-clause-lines c =
     let m = recs (records_in c.args.«module».now.bytes) in
     let l = c.args.layout.now in
     all-printed (segment_line c.args.frames m) (zip (zip (segments m) l.alignments) l.places.segments) c.loop-before.before _ _
-    (omega (arith, c.loop-before-test.false, c.segments-before-end.ensures.count, zip-short (zip (segments m) l.alignments) l.places.segments, zip-short (segments m) l.alignments)) c.loop-before.invariant
+    (omega (arith, c.loop-before-test.false, c.segments-before-end.ensures.count, zip-short (zip (segments m) l.alignments) l.places.segments, zip-short (segments m) l.alignments)) c.loop-before.invariant.lines

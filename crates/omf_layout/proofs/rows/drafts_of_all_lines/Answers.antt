@@ -1,0 +1,11 @@
+use Rattle.std.specs.Prelude.{refl}
+use Rattle.std.specs.Fmt.{digits}
+use Rattle.omf_layout.proofs.rows.drafts_of_all_lines.Goals as goal
+
+pub returns-clause-real : goal.returns-clause-real
+unfolding digits
+returns-clause-real c = refl
+
+pub returns-clause-flat : goal.returns-clause-flat
+unfolding digits
+returns-clause-flat c = refl

@@ -1,0 +1,17 @@
+use Rattle.std.proofs.Common.{◌≡◌, ◌-◌, ◌<◌, ◌≤◌, ◌^◌, length}
+use Rattle.std.specs.Char.{is_digit}
+use Rattle.std.specs.List.{list_all}
+use Rattle.std.specs.Str.Parse.{digits_value, digits_value_after}
+use Rattle.omf_place.proofs.words.hexadecimal.Given as goal
+
+-- the value of the digits so far, which the digits that are left go on from
+abbrev pub invariant-loop-digit : goal.invariant-loop-digit
+invariant-loop-digit l = record {
+  value : digits_value_after 16 l.value l.left ≡ digits_value 16 l.word;
+  digits : list_all (λ c. is_digit c 16) l.left ≡ list_all (λ c. is_digit c 16) l.word;
+  bound : l.value < 16 ^ (l.most - length l.left);
+  short : length l.left ≤ l.most;
+}
+
+abbrev pub decreases-loop-digit : goal.decreases-loop-digit
+decreases-loop-digit l = length l.left

@@ -1,0 +1,80 @@
+-- What a run answers, and what it reads and writes.
+use Rattle.std.specs.Prelude.{◌≡◌, ◌⊎◌, ℕ, List, Bool, false, Option, Some, None, Result, Ok, Err}
+use Rattle.std.specs.Io.KnownBytes.{Appends}
+use Rattle.omf_frame.specs.Device.{Device}
+use Rattle.omf_frame.specs.Framing.{Raw}
+use Rattle.omf_image.specs.Limits.{profile_limits}
+use Rattle.omf_check.specs.Checking.{IsUndecided}
+use Rattle.omf_check.specs.Refusal.{IsRefused}
+use Rattle.omf_check.specs.WellFormed.{recs}
+use Rattle.omf_check.specs.declared.profile.Profile.{Profile}
+use Rattle.omf_layout.specs.declared.options.Options.{Options}
+use Rattle.omf_layout.specs.Layout.{layout_of}
+use Rattle.omf_cmd.specs.HowFar.{EndsAtRefusal, IsReadFrom, IsUnrefused}
+use Rattle.omf_cmd.specs.Reports.{IsOutOfMemory}
+use Rattle.omf_cmd.specs.Runs.{HasGivenUp, IsPart, IsReadCause, IsUnbroken, IsWritten}
+use Rattle.omf_cmd.specs.declared.fault.RunFault.TheVariants as run
+use Rattle.omf_place.specs.Drafts.{IsDraft}
+use Rattle.omf_place.specs.Faults.{status_of, TellsFault, usage}
+use Rattle.omf_place.specs.declared.fault.PlaceFault.{PlaceFault}
+use Rattle.omf_place.specs.declared.fault.PlaceFault.TheVariants as fault
+
+-- Comments of all classes are taken.
+abbrev pub any : Profile
+any = record { refuse_vendor_comments = false }
+
+-- The input begins with a module, exactly its bytes were read, and this is the draft of it; or it has no room.
+pub record HasDraft (o : Options) (input : List ℕ) (old new : Option (List ℕ)) (text : List ℕ) : Type 0 where
+  pub records : List Raw
+  pub read : IsReadFrom any input records old new
+  pub draft : IsDraft o (recs records) text
+
+pub record HasNoRoom (o : Options) (input : List ℕ) (old new : Option (List ℕ)) : Type 0 where
+  pub records : List Raw
+  pub read : IsReadFrom any input records old new
+  pub none : layout_of o (recs records) ≡ None
+
+-- What is drafted of an input, and how far it is read for that. Where memory ran out, or the reader failed, nothing that was read is
+-- refused.
+abbrev pub Drafts : Options → List ℕ → Option (List ℕ) → Option (List ℕ) → Result (List ℕ) PlaceFault → Type 0
+Drafts o input old new (Ok text) = HasDraft o input old new text
+Drafts o input old new (Err fault.NoRoom) = HasNoRoom o input old new
+Drafts o input old new (Err (fault.Run (run.Refused why at))) = IsRefused any profile_limits input why at × EndsAtRefusal any old new why at
+Drafts o input old new (Err (fault.Run run.Memory)) = IsUnrefused any old new ⊎ ((records : List Raw) × IsReadFrom any input records old new)
+Drafts o input old new (Err (fault.Run run.Read)) = IsUndecided any old new
+Drafts o input old new (Err (fault.Run _)) = ⊥
+
+-- The reader is named where it failed, and else did not break.
+abbrev pub IsDraftCause : Device → Device → Result (List ℕ) PlaceFault → Type 0
+IsDraftCause old new (Ok text) = IsUnbroken old new
+IsDraftCause old new (Err fault.NoRoom) = IsUnbroken old new
+IsDraftCause old new (Err (fault.Run f)) = IsReadCause {A = List ℕ} old new (Err f)
+
+-- What is written of what was drafted: the whole text, or a part of it from the front where the writer failed; nothing of a fault.
+abbrev pub IsPrinted : Device → Device → Result (List ℕ) PlaceFault → Result (Unit {0}) PlaceFault → Type 0
+IsPrinted old new (Ok text) (Ok done) = IsUnbroken old new × Appends old.bytes new.bytes text
+IsPrinted old new (Ok text) (Err e) = (e ≡ fault.Run run.Write) × HasGivenUp old new × IsPart old.bytes new.bytes text
+IsPrinted old new (Err f) ran = (ran ≡ Err f) × (new ≡ old)
+
+-- A run: what it drafted of its input, and what it wrote of that.
+pub record IsRun (o : Options) (reader reader' writer writer' : Device) (ran : Result (Unit {0}) PlaceFault) : Type 0 where
+  pub drafted : Result (List ℕ) PlaceFault
+  pub cause : IsDraftCause reader reader' drafted
+  pub drafts : (input : List ℕ) → reader.bytes ≡ Some input → Drafts o input reader.bytes reader'.bytes drafted
+  pub printed : IsPrinted writer writer' drafted ran
+
+-- How the program ends after a run: the status is that of the answer, and a fault's line is written.
+abbrev pub IsEnded : Device → Device → Result (Unit {0}) PlaceFault → ℕ → Type 0
+IsEnded old new (Ok done) status = (status ≡ 0) × (new ≡ old)
+IsEnded old new (Err f) status = (status ≡ status_of f) × TellsFault old new f
+
+-- The program's answer at some options: it ran, and ended.
+pub record IsAnswer (o : Options) (reader reader' writer writer' : Device) (status : ℕ) : Type 0 where
+  pub ran : Result (Unit {0}) PlaceFault
+  pub between : Device
+  pub run : IsRun o reader reader' writer between ran
+  pub ended : IsEnded between writer' ran status
+
+-- Its answer to words that are not understood: how it is called, unless the writer failed; or memory ran out. Nothing is read.
+abbrev pub IsMisuse : Device → Device → Device → Device → ℕ → Type 0
+IsMisuse reader reader' writer writer' status = ((reader' ≡ reader) × (status ≡ 2) × IsWritten writer writer' usage) ⊎ IsOutOfMemory reader reader' writer writer' status
