@@ -3,8 +3,9 @@
 
 For each it prints the bytes of the input, the time of `sha256sum` of it, and for `check`, `list` and `reloc` the processor time as
 a ratio to that, the peak of memory in megabytes, and the bytes that were written. Each time is the best of RUNS runs (3). Below
-1 MB the program's own start is most of a time, so there the time itself is printed, in milliseconds. OMF names the program. The
-modules are written to FOLDER, or to one that is removed again.
+1 MB the program's own start is most of a time, so there the time itself is printed, in milliseconds. OMF names the program. SHAPES is a
+part of the names of those that are wanted. The modules are written to FOLDER, or to one that is removed again. The longest listing has
+1.1 GB, for which the folder of temporary files needs room.
 """
 import os
 import pathlib
@@ -20,6 +21,7 @@ ITEMS = 1_048_576
 TABLE = 32_767
 NESTING = 64
 LONGEST = 268_435_456
+LONG = 16_777_216
 BODY = 65_534
 
 
@@ -103,10 +105,16 @@ def publics():
     return FRONT + record(0x90, b"\x00\x01" + one * 16_000) * 128 + END
 
 
-def repeated(count, step):
-    """LIDATAs of so many bytes each as they may stand for."""
-    one = struct.pack("<IH", LONGEST, 0) + b"\x01\xAA"
+def repeated(count, length, step):
+    """LIDATAs that stand for so many bytes each."""
+    one = struct.pack("<IH", length, 0) + b"\x01\xAA"
     return FRONT + b"".join(iterated(step * k, one) for k in range(count)) + END
+
+
+def doubled():
+    """A byte that is doubled as often as an LIDATA may hold."""
+    levels = LONGEST.bit_length() - 1
+    return FRONT + iterated(0, struct.pack("<IH", 2, 1) * (levels - 1) + struct.pack("<IH", 2, 0) + b"\x01\xAA") + END
 
 
 EXTERNAL_LINES = "E 100 0 0\n" * (163 * 200)
@@ -130,8 +138,11 @@ SHAPES = {
     "4 MB of spaces": (lambda: SMALL, " " * 4_000_000 + ONE),
     "500,000 S lines": (lambda: SMALL, ONE * 500_000),
     "590,000 G real lines": (lambda: SMALL, ONE + "G real\n" * 590_000),
-    f"8 LIDATAs of {LONGEST:,} bytes, one behind another": (lambda: repeated(8, LONGEST), ONE),
-    f"64 LIDATAs of {LONGEST:,} bytes, one over another": (lambda: repeated(64, 0), ONE),
+    f"8 LIDATAs of {LONG:,} bytes, one behind another": (lambda: repeated(8, LONG, LONG), ONE),
+    f"64 LIDATAs of {LONG:,} bytes, one over another": (lambda: repeated(64, LONG, 0), ONE),
+    f"an LIDATA of {LONGEST:,} bytes": (lambda: repeated(1, LONGEST, 0), ONE),
+    f"an LIDATA of {LONGEST:,} bytes, doubled level by level": (doubled, ONE),
+    f"8 LIDATAs of {LONGEST:,} bytes, one over another": (lambda: repeated(8, LONGEST, 0), ONE),
 }
 
 
@@ -163,6 +174,8 @@ def cell(found, sha, is_small):
 def measure(folder, launch):
     print("| Input | Bytes | `sha256sum`, ms | `check` | `list` | `reloc` |\n|---|---|---|---|---|---|")
     for name, (make, placement) in SHAPES.items():
+        if os.environ.get("SHAPES", "") not in name:
+            continue
         module, both = folder / "module", folder / "both"
         module.write_bytes(make())
         both.write_bytes(module.read_bytes() + placement.encode())
