@@ -68,7 +68,7 @@ fn trimmed_end(text: &[u8]) -> &[u8]
 }
 
 /// A number of 1 to `most` hexadecimal digits, in either case.
-fn hexadecimal(word: &[u8], most: usize) -> Option<u32>
+pub fn hexadecimal(word: &[u8], most: usize) -> Option<u32>
     requires { most ≤ 8 }
     ensures value { result ≡ hexadecimal most word.now }
     ensures bound { IfSome result (λ n. n < 16 ^ most) }
@@ -95,7 +95,7 @@ fn frame_of(base: &[u8], selector: &[u8]) -> Option<Frame>
 }
 
 /// A place of three words.
-fn placed_of(address: &[u8], base: &[u8], selector: &[u8]) -> Option<Placed>
+pub fn placed_of(address: &[u8], base: &[u8], selector: &[u8]) -> Option<Placed>
     ensures { result ≡ placed_of address.now base.now selector.now }
 {
     let address = hexadecimal(address, 8)?;

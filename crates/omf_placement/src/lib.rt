@@ -2,7 +2,7 @@
 //! placements are written in.
 #![tactic(auto)]
 
-mod cut;
+pub mod cut;
 mod entry;
 mod fault;
 mod frame;
@@ -11,6 +11,7 @@ pub mod laws;
 mod placement;
 mod text;
 
+pub use entry::{Entry, entry_of, hexadecimal, placed_of, said_by};
 pub use fault::TextFault;
 pub use frame::{Frame, Placed};
 pub use group::real_group;

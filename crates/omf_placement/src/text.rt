@@ -37,7 +37,7 @@ impl Draft {
     ghost use Rattle.omf_placement.specs.Parsing.{seen, with_entry};
 
     /// A draft without entries.
-    fn new(alloc: Global) -> Self
+    pub fn new(alloc: Global) -> Self
         ensures { result ≡ record { segments = []; groups = []; externals = [] } }
     {
         Draft {
@@ -48,7 +48,7 @@ impl Draft {
     }
 
     /// Adds the entry of a line.
-    fn push(&mut self, line: u64, entry: Entry) -> Result<(), AllocError>
+    pub fn push(&mut self, line: u64, entry: Entry) -> Result<(), AllocError>
         ensures { OnOk result (self.new ≡ with_entry self.old line (seen entry)) }
     {
         match entry {

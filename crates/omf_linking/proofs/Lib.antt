@@ -1,0 +1,6 @@
+pub mod PartLaws
+pub mod PlacesLaws
+pub mod GiveLaws
+pub mod LinkLaws
+pub mod ReadingLaws
+pub mod RelocatedLaws

@@ -1,0 +1,16 @@
+use Rattle.std.proofs.Common.{◌≡◌, ◌+◌, ◌≤◌, length}
+use Rattle.std.specs.Prelude.{option_map}
+use Rattle.omf_placement.specs.Parsing.{parts_after}
+use Rattle.omf_linking.proofs.PartLaws.{IsRead, IsSound, lines_from, left_len}
+use Rattle.omf_linking.proofs.parts.parse_parts.Given as goal
+
+-- what the lines so far say is in the parts, and the others are left; no line so far is at fault
+abbrev pub invariant-loop-rest : goal.invariant-loop-rest
+invariant-loop-rest l = record {
+  read : IsRead l.text l.parts.whole.items l.parts.current (lines_from (l.number + 1) (parts_after 10 (option_map (λ t. t.now) l.rest)));
+  sound : IsSound l.text (lines_from (l.number + 1) (parts_after 10 (option_map (λ t. t.now) l.rest)));
+  numbered : l.number + left_len (option_map (λ t. t.now) l.rest) ≤ length l.text + 1;
+}
+
+abbrev pub decreases-loop-rest : goal.decreases-loop-rest
+decreases-loop-rest l = left_len (option_map (λ t. t.now) l.rest)

@@ -1,0 +1,10 @@
+use Rattle.std.proofs.Common.{◌≡◌, length}
+use Rattle.omf_linking.specs.Reading.{IsFront}
+use Rattle.omf_linking.proofs.reading.modules_in.Given as goal
+
+-- the input is the modules so far, and then the rest
+abbrev pub invariant-loop-number : goal.invariant-loop-number
+invariant-loop-number l = record {
+  front : IsFront l.profile l.input l.modules.items l.rest;
+  counted : length l.modules.items ≡ l.number;
+}

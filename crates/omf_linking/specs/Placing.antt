@@ -1,0 +1,83 @@
+-- The placements that a link's text gives its modules, each external found by hand or by its name (this profile's rule).
+use Rattle.std.specs.Prelude.{◌≡◌, ⊤, ℕ, List, [], ◌∷◌, length, map, flat_map, filter_map, zip, Option, Some, None, Result, Ok, Err, if◌then◌else◌}
+use Rattle.std.specs.List.{enumerate_from}
+use Rattle.omf_records.specs.Values.{Rec}
+use Rattle.omf_check.specs.Module.{Module, records_in}
+use Rattle.omf_check.specs.Tables.{externals, is_defined}
+use Rattle.omf_check.specs.WellFormed.{recs}
+use Rattle.omf_derive.specs.Derive.{PlacedModule, derived}
+use Rattle.omf_derive.specs.declared.fault.DeriveFault.{DeriveFault}
+use Rattle.omf_derive.specs.declared.given.Given.{Given}
+use Rattle.omf_placement.specs.Placement.{Places}
+use Rattle.omf_placement.specs.PlacementText.{ok_or_first, resolved}
+use Rattle.omf_linking.specs.Parts.{Part, GivenLine, parsed_parts}
+use Rattle.omf_linking.specs.Faults.{of_derive}
+use Rattle.omf_linking.specs.declared.fault.LinkFault.{LinkFault}
+use Rattle.omf_linking.specs.declared.fault.LinkFault.TheVariants as fault
+
+-- The lines that give a place to an external that the module does not have.
+abbrev pub stray : List Rec → GivenLine → Option ℕ
+stray m g = if is_defined (length (externals m)) g.1.0 then None else Some g.0
+
+-- The place of a module by its part: its segments and groups; or the first line that gives a stray external, or else the first group whose frame is not found.
+abbrev pub unless_stray : List ℕ → Result Places ℕ → Result Places ℕ
+unless_stray [] r = r
+unless_stray (n ∷ ns) r = Err n
+
+abbrev pub place_of : List Rec → Part → Result Places ℕ
+place_of m p = unless_stray (filter_map (stray m) p.given) (resolved m p.draft)
+
+abbrev pub no_places : Places
+no_places = record { segments = []; groups = []; externals = [] }
+
+-- A place in front of others, or the first fault.
+abbrev pub in_front : Places → Result (List Places) ℕ → Result (List Places) ℕ
+in_front pl (Ok pls) = Ok (pl ∷ pls)
+in_front pl (Err n) = Err n
+
+abbrev pub and_then_others : Result Places ℕ → Result (List Places) ℕ → Result (List Places) ℕ
+and_then_others (Ok pl) others = in_front pl others
+and_then_others (Err n) others = Err n
+
+-- The place of each module by its own part. A module without a part has no entries; a part without a module is at fault at the line that begins it.
+abbrev pub places_of : List (List Rec) → List Part → Result (List Places) ℕ
+places_of [] [] = Ok []
+places_of [] (p ∷ ps) = Err p.line
+places_of (m ∷ ms) [] = in_front no_places (places_of ms [])
+places_of (m ∷ ms) (p ∷ ps) = and_then_others (place_of m p) (places_of ms ps)
+
+-- The externals that are given by hand, each in the module of its part.
+abbrev pub given_as : ℕ → GivenLine → Given
+given_as j g = record { «module» = j; external = g.1.0; address = g.1.1.address; frame = g.1.1.frame }
+
+abbrev pub given_in : ℕ × Part → List Given
+given_in p = map (given_as p.0) p.1.given
+
+abbrev pub given_of : List Part → List Given
+given_of ps = flat_map given_in (enumerate_from 0 ps)
+
+-- The placements of modules by a text; or the first fault: a line, or an external without a place.
+abbrev pub derived_or : Result (List Places) DeriveFault → Result (List Places) LinkFault
+derived_or (Ok pls) = Ok pls
+derived_or (Err f) = Err (of_derive f)
+
+abbrev pub found : List (List Rec) → List Part → Result (List Places) ℕ → Result (List Places) LinkFault
+found ms ps (Ok pls) = derived_or (derived (zip ms pls) (given_of ps))
+found ms ps (Err n) = Err (fault.Line n)
+
+abbrev pub by_parts : List (List Rec) → Result (List Part) ℕ → Result (List Places) LinkFault
+by_parts ms (Ok ps) = found ms ps (places_of ms ps)
+by_parts ms (Err n) = Err (fault.Line n)
+
+abbrev pub linked : List (List Rec) → List ℕ → Result (List Places) LinkFault
+linked ms text = by_parts ms (parsed_parts text)
+
+-- An answer is what is defined: exactly this, or exactly this fault. Want of memory may come at any time.
+abbrev pub IsOutcome : {A : Type 0} → Result A LinkFault → Result A LinkFault → Type 0
+IsOutcome r (Ok a) = r ≡ Ok a
+IsOutcome r (Err fault.Memory) = ⊤
+IsOutcome r (Err f) = r ≡ Err f
+
+-- The typed records of modules.
+abbrev pub typed_modules : List Module → List (List Rec)
+typed_modules ms = map (λ m. recs (records_in m.bytes)) ms

@@ -1,0 +1,69 @@
+//! What the lines of a link's text say (this profile's rule).
+
+ghost use Rattle.std.specs.Prelude.{◌≡◌, [], ◌∷◌, option_map};
+ghost use Rattle.omf_placement.specs.EntryReading.{words_of};
+ghost use Rattle.omf_placement.specs.Parsing.{seen as entry_seen};
+ghost use Rattle.omf_linking.specs.LinkEntries.{given_of_words, link_entry_said, of_placement, seen};
+
+use omf_placement::cut::cut;
+use omf_placement::{Entry, Placed, entry_of, hexadecimal, placed_of};
+
+/// What a line says.
+#[derive(Clone, Copy, Debug)]
+pub enum LinkEntry {
+    /// `M`: the part of the next module begins.
+    Next,
+    /// `X index address frame selector`: the place of an external, by its index.
+    Given(u16, Placed),
+    /// Nothing, or what a line of a placement text says of a segment or a group.
+    Of(Entry),
+}
+
+/// The entry of a placement text's line, but for that of an external.
+fn of_placement(entry: Entry) -> Option<LinkEntry>
+    ensures { option_map seen result ≡ of_placement (entry_seen entry) }
+{
+    match entry {
+        Entry::External(_) => None,
+        Entry::Blank => Some(LinkEntry::Of(Entry::Blank)),
+        Entry::Segment(placed) => Some(LinkEntry::Of(Entry::Segment(placed))),
+        Entry::Group(frame) => Some(LinkEntry::Of(Entry::Group(frame))),
+    }
+}
+
+/// An external and its place, of these words.
+fn given(index: &[u8], address: &[u8], base: &[u8], selector: &[u8]) -> Option<LinkEntry>
+    ensures { option_map seen result ≡ given_of_words (index.now ∷ address.now ∷ base.now ∷ selector.now ∷ []) }
+{
+    let index = hexadecimal(index, 4)? as u16;
+    let placed = placed_of(address, base, selector)?;
+    Some(LinkEntry::Given(index, placed))
+}
+
+/// The external and the place that the words behind an `X` say: index, address, frame and selector.
+fn given_by(words: &[u8]) -> Option<LinkEntry>
+    ensures { option_map seen result ≡ given_of_words (words_of words.now) }
+{
+    let (index, more) = cut(words, b' ');
+    let (address, more) = cut(more?, b' ');
+    let (base, more) = cut(more?, b' ');
+    let (selector, more) = cut(more?, b' ');
+    if more.is_some() {
+        return None;
+    }
+    given(index, address, base, selector)
+}
+
+/// The entry that a line says; none where it is no entry.
+pub fn link_entry_of(said: &[u8]) -> Option<LinkEntry>
+    ensures { option_map seen result ≡ link_entry_said said.now }
+{
+    if said == b"M".as_slice() {
+        return Some(LinkEntry::Next);
+    }
+    let (letter, more) = cut(said, b' ');
+    if letter == b"X".as_slice() {
+        return given_by(more?);
+    }
+    of_placement(entry_of(said)?)
+}

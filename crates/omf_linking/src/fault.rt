@@ -1,0 +1,92 @@
+//! Why modules are not linked.
+
+ghost use Rattle.std.specs.Prelude.{◌≡◌};
+ghost use Rattle.omf_linking.specs.Faults.{of_derive, of_text};
+ghost use Rattle.omf_linking.specs.declared.fault.LinkFault.TheVariants.{Memory};
+
+use omf_frame::{Place, Reason};
+use omf_reloc::{DeriveFault, ReachFault, TextFault};
+use std::alloc::{AllocError, AllocFailed};
+use thiserror::Error;
+
+/// Why modules are not linked.
+#[derive(Clone, Copy, Debug, PartialEq, Eq, Error)]
+pub enum LinkFault {
+    /// A growth was refused.
+    #[error("memory ran out")]
+    Memory,
+    /// The reader failed.
+    #[error("the input could not be read")]
+    Read,
+    /// A module of the input is not well formed.
+    #[error("a module is refused")]
+    Refused {
+        /// The module, from 0.
+        module: u32,
+        /// What is wrong with its first record at fault.
+        reason: Reason,
+        /// Where that is: its offset is that in the module.
+        place: Place,
+    },
+    /// This line of the text, counted from 1, is no entry; or it says `M` where there is no further module, names an external that its
+    /// module does not have, or is a `G real` of a group whose frame is not found.
+    #[error("a line of the text is not understood")]
+    Line(u64),
+    /// An external finds no place.
+    #[error("an external finds no place")]
+    External(DeriveFault),
+    /// The placement of a module does not fit it, or a fixup or the start does not reach.
+    #[error("a module's placement does not reach")]
+    Reach {
+        /// The module, from 0.
+        module: u32,
+        /// The first reason why.
+        fault: ReachFault,
+    },
+    /// Two main modules name a start.
+    #[error("two modules name a start")]
+    Starts {
+        /// The first of them, from 0.
+        first: u32,
+        /// The next.
+        second: u32,
+    },
+}
+
+impl From<AllocError> for LinkFault {
+    ghost from_gives = { λ _ e. e ≡ Memory };
+
+    fn from(_error: AllocError) -> LinkFault {
+        LinkFault::Memory
+    }
+}
+
+impl<T: Drop> From<AllocFailed<T>> for LinkFault {
+    ghost from_gives = { λ _ e. e ≡ Memory };
+
+    fn from(_error: AllocFailed<T>) -> LinkFault {
+        LinkFault::Memory
+    }
+}
+
+impl From<TextFault> for LinkFault {
+    ghost from_gives = { λ fault e. e ≡ of_text fault };
+
+    fn from(fault: TextFault) -> LinkFault {
+        match fault {
+            TextFault::Memory => LinkFault::Memory,
+            TextFault::Line(number) => LinkFault::Line(number),
+        }
+    }
+}
+
+impl From<DeriveFault> for LinkFault {
+    ghost from_gives = { λ fault e. e ≡ of_derive fault };
+
+    fn from(fault: DeriveFault) -> LinkFault {
+        match fault {
+            DeriveFault::Memory => LinkFault::Memory,
+            other => LinkFault::External(other),
+        }
+    }
+}

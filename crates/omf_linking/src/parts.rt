@@ -1,0 +1,158 @@
+//! The text of a link, in parts.
+
+ghost use Rattle.std.specs.Prelude.{◌≡◌, ◌++◌, OnOk, filter_map};
+ghost use Rattle.omf_records.specs.Seen.{map_ok};
+ghost use Rattle.omf_check.specs.Module.{records_in};
+ghost use Rattle.omf_check.specs.Tables.{is_defined};
+ghost use Rattle.omf_check.specs.WellFormed.{recs};
+ghost use Rattle.omf_placement.specs.PlacementText.{resolved};
+ghost use Rattle.omf_linking.specs.LinkEntries.{seen};
+ghost use Rattle.omf_linking.specs.Parts.{IsAnswer, parsed_parts};
+ghost use Rattle.omf_linking.specs.Parsing.{IsStray, empty_part, with_line};
+ghost use Rattle.omf_linking.specs.Placing.{given_in, stray};
+
+use crate::entry::{LinkEntry, link_entry_of};
+use omf_check::Checked;
+use omf_derive::Given;
+use omf_placement::cut::cut;
+use omf_placement::{Draft, Placed, Placement, TextFault, said_by};
+use std::alloc::{AllocError, Global};
+use std::marker::Model;
+
+/// The part of a module: what its lines say of its segments and groups, and the externals that they give by hand.
+#[derive(Drop)]
+pub struct Part {
+    line: u64,
+    draft: Draft,
+    given: Vec<(u64, (u16, Placed))>,
+}
+
+impl Model for Part {
+    ghost use Rattle.omf_linking.specs.Parts.{Part as Parted};
+
+    ghost Value = { Parted };
+
+    ghost view = { λ p. record { line = p.line; draft = p.draft; given = p.given.items } };
+}
+
+/// Whether a table of so many entries has this index.
+fn is_listed(count: u16, index: u16) -> bool
+    ensures { result ≡ is_defined count index }
+{
+    1 <= index && index <= count
+}
+
+impl Part {
+    /// A part without entries, behind this line.
+    fn new(alloc: Global, line: u64) -> Part
+        ensures { result ≡ empty_part line }
+    {
+        Part {
+            line,
+            draft: Draft::new(alloc),
+            given: Vec::new(alloc),
+        }
+    }
+
+    /// The line that it begins behind.
+    pub(crate) fn line(&self) -> u64
+        ensures { result ≡ self.now.line }
+    {
+        self.line
+    }
+
+    /// Adds the externals that it gives by hand to those of other modules.
+    ///
+    /// # Errors
+    ///
+    /// `Line` for the first line that names an external that the module does not have. `Memory` where a growth was refused.
+    pub(crate) fn give(
+        &self,
+        module: &Checked,
+        number: u32,
+        given: &mut Vec<Given>,
+    ) -> Result<(), TextFault>
+        ensures line { IsStray (filter_map (stray (recs (records_in «module».now.bytes))) self.now.given) result }
+        ensures given { OnOk result (given.new.items ≡ given.old.items ++ given_in (number, self.now)) }
+    {
+        for entry in &self.given {
+            let (line, (index, placed)) = *entry;
+            if !is_listed(module.externals(), index) {
+                return Err(TextFault::Line(line));
+            }
+            given.push(Given {
+                module: number,
+                external: index,
+                address: placed.address,
+                frame: placed.frame,
+            })?;
+        }
+        Ok(())
+    }
+
+    /// The place of the module by this part: that of its segments and groups.
+    ///
+    /// # Errors
+    ///
+    /// `Line` for the first `G real` whose frame is not found. `Memory` where a growth was refused.
+    pub(crate) fn resolve(self, alloc: Global, module: &Checked) -> Result<Placement, TextFault>
+        ensures { IsAnswer (resolved (recs (records_in «module».now.bytes)) self.draft) result }
+    {
+        let Part { draft, .. } = self;
+        draft.resolve(alloc, module)
+    }
+}
+
+/// The parts of the lines so far, of which the last goes on.
+#[derive(Drop)]
+struct Parts {
+    whole: Vec<Part>,
+    current: Part,
+}
+
+impl Parts {
+    /// Adds what a line says.
+    fn take(&mut self, alloc: Global, number: u64, entry: LinkEntry) -> Result<(), AllocError>
+        ensures { OnOk result (with_line self.old.whole.items self.old.current number (seen entry) ≡ (self.new.whole.items, self.new.current)) }
+    {
+        match entry {
+            LinkEntry::Next => {
+                let next = Part::new(alloc, number);
+                self.whole.push(std::mem::replace(&mut self.current, next))?;
+            }
+            LinkEntry::Given(index, placed) => self.current.given.push((number, (index, placed)))?,
+            LinkEntry::Of(entry) => self.current.draft.push(number, entry)?,
+        }
+        Ok(())
+    }
+}
+
+/// Reads the text of a link, in lines as those of a placement text: a line says what is left without a carriage return at its end, without
+/// what stands from the first `;` on, without the spaces at both ends. Lines that say `M` separate the parts of the modules. Any other
+/// line says nothing, or what a placement text's line says of a segment or a group (`S address frame selector`, `S address real`,
+/// `G frame selector`, `G real`), or `X index address frame selector`, the place of an external that is given by hand: its index in
+/// 1 to 4 hexadecimal digits, the rest as in an `S` line.
+///
+/// `Line` names the first line, counted from 1 over the whole text, that says anything else. `Memory` where a growth was refused.
+pub fn parse_parts(alloc: Global, text: &[u8]) -> Result<Vec<Part>, TextFault>
+    ensures { IsAnswer (parsed_parts text.now) (map_ok (λ v. v.items) result) }
+{
+    let mut parts = Parts {
+        whole: Vec::new(alloc),
+        current: Part::new(alloc, 0),
+    };
+    let mut rest = Some(text);
+    let mut number = 0u64;
+    while let Some(lines) = rest {
+        let (line, more) = cut(lines, b'\n');
+        number += 1;
+        let Some(entry) = link_entry_of(said_by(line)) else {
+            return Err(TextFault::Line(number));
+        };
+        parts.take(alloc, number, entry)?;
+        rest = more;
+    }
+    let Parts { mut whole, current } = parts;
+    whole.push(current)?;
+    Ok(whole)
+}

@@ -1,0 +1,93 @@
+//! The placements of several modules.
+
+ghost use Rattle.std.specs.Prelude.{◌≡◌, ◌++◌, ◌<◌, ◌^◌, [], OnOk, IfOk, length};
+ghost use Rattle.omf_check.specs.Module.{records_in};
+ghost use Rattle.omf_check.specs.WellFormed.{recs};
+ghost use Rattle.omf_records.specs.Seen.{map_ok};
+ghost use Rattle.omf_linking.specs.Parts.{IsAnswer};
+ghost use Rattle.omf_linking.specs.Parsing.{given_by, place_by};
+ghost use Rattle.omf_linking.specs.Placing.{IsOutcome, given_in, given_of, linked, place_of, places_of, typed_modules};
+
+use crate::fault::LinkFault;
+use crate::parts::{Part, parse_parts};
+use omf_check::Checked;
+use omf_derive::{Given, derive};
+use omf_placement::{Placement, TextFault};
+use std::alloc::Global;
+
+/// The place of a module by its part. The externals that the part gives are added to those of the parts before it.
+fn place_of(
+    alloc: Global,
+    module: &Checked,
+    number: u32,
+    part: Part,
+    given: &mut Vec<Given>,
+) -> Result<Placement, TextFault>
+    ensures place { IsAnswer (place_of (recs (records_in «module».now.bytes)) part) result }
+    ensures given { OnOk result (given.new.items ≡ given.old.items ++ given_in (number, part)) }
+{
+    part.give(module, number, given)?;
+    part.resolve(alloc, module)
+}
+
+/// The place of a module by its part, if it has one, and else without entries.
+fn next_place(
+    alloc: Global,
+    module: &Checked,
+    number: u32,
+    part: Option<Part>,
+    given: &mut Vec<Given>,
+) -> Result<Placement, TextFault>
+    ensures place { IsAnswer (place_by (recs (records_in «module».now.bytes)) part) result }
+    ensures given { OnOk result (given.new.items ≡ given.old.items ++ given_by number part) }
+{
+    match part {
+        Some(part) => place_of(alloc, module, number, part, given),
+        None => Ok(Placement::new(alloc)),
+    }
+}
+
+/// The places of modules by the parts of a text. The externals that these give by hand are added.
+fn places_of(
+    alloc: Global,
+    modules: &[Checked],
+    parts: Vec<Part>,
+    given: &mut Vec<Given>,
+) -> Result<Vec<Placement>, TextFault>
+    requires few { length modules.now < 2 ^ 32 }
+    requires none { given.old.items ≡ [] }
+    ensures places { IsAnswer (places_of (typed_modules modules.now) parts.items) (map_ok (λ v. v.items) result) }
+    ensures given { OnOk result (given.new.items ≡ given_of parts.items) }
+    ensures each { IfOk result (λ v. length v.items ≡ length modules.now) }
+{
+    let mut places = Vec::new(alloc);
+    let mut left = parts.into_iter();
+    for (j, module) in modules.iter().enumerate() {
+        let part = left.next();
+        let place = next_place(alloc, module, j as u32, part, given)?;
+        places.push(place)?;
+    }
+    match left.next() {
+        Some(part) => Err(TextFault::Line(part.line())),
+        None => Ok(places),
+    }
+}
+
+/// The placements of modules that a text gives: those of their segments and groups that its parts say; each external has the place
+/// that is given by hand, or that of the one public of its name, as `derive` has it.
+///
+/// # Errors
+///
+/// The first of: `Line` for a line that is not understood, or which its module has no use for; `External` for an external that finds no
+/// place. `Memory` where a growth was refused.
+pub fn link(alloc: Global, modules: &[Checked], text: &[u8]) -> Result<Vec<Placement>, LinkFault>
+    requires { length modules.now < 2 ^ 32 }
+    ensures placements { IsOutcome (linked (typed_modules modules.now) text.now) (map_ok (λ v. v.items) result) }
+    ensures each { IfOk result (λ v. length v.items ≡ length modules.now) }
+{
+    let parts = parse_parts(alloc, text)?;
+    let mut given = Vec::new(alloc);
+    let places = places_of(alloc, modules, parts, &mut given)?;
+    let placements = derive(alloc, modules, &places, &given)?;
+    Ok(placements)
+}

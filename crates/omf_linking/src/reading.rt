@@ -1,0 +1,102 @@
+//! The modules and the text of an input.
+
+ghost use Rattle.std.specs.Prelude.{◌≡◌, ◌<◌, ◌^◌, IfOk, length};
+ghost use Rattle.std.specs.Io.KnownBytes.{Consumes, IsAtEnd};
+ghost use Rattle.omf_records.specs.Seen.{map_ok};
+ghost use Rattle.omf_linking.specs.Reading.{AreModules, IsModuleAt, begins_module};
+
+use crate::fault::LinkFault;
+use omf_check::{CheckFault, Checked, Profile, check};
+use omf_frame::{Reading, Source, pull_piece};
+use std::alloc::Global;
+
+/// How many bytes are asked for at once.
+const PIECE: usize = 65_536;
+
+/// All that is left of the input.
+///
+/// # Errors
+///
+/// `Read` where the reader failed, or was interrupted 1,000 times running. `Memory` where a growth was refused.
+pub fn read_all<S: Source>(alloc: Global, source: &mut S) -> Result<Vec<u8>, LinkFault>
+    ensures read { IfOk result (λ bytes. Consumes (S.seen source.old).bytes (S.seen source.new).bytes bytes.items) }
+    ensures end { IfOk result (λ bytes. IsAtEnd (S.seen source.new).bytes) }
+{
+    let mut buffer = [0; PIECE];
+    let mut bytes = Vec::new(alloc);
+    for _ in 0..u64::MAX {
+        let Ok(count) = pull_piece(source, &mut buffer) else {
+            return Err(LinkFault::Read);
+        };
+        if count == 0 {
+            return Ok(bytes);
+        }
+        bytes.extend_from_slice(&buffer[..count])?;
+    }
+    Err(LinkFault::Memory)
+}
+
+/// The module that bytes begin with, which has this number.
+///
+/// # Errors
+///
+/// `Refused` where they begin with no well-formed module. `Memory` where a growth was refused.
+fn module_at(
+    alloc: Global,
+    profile: Profile,
+    number: u32,
+    bytes: &[u8],
+) -> Result<Checked, LinkFault>
+    ensures { IsModuleAt profile number bytes.now result }
+{
+    match check(alloc, &mut Reading::new(bytes), profile) {
+        Ok(module) => Ok(module),
+        Err(CheckFault::Memory) => Err(LinkFault::Memory),
+        Err(CheckFault::Read) => Err(LinkFault::Read),
+        Err(CheckFault::Refused { reason, place }) => {
+            let module = number;
+            Err(LinkFault::Refused {
+                module,
+                reason,
+                place,
+            })
+        }
+    }
+}
+
+/// Whether bytes begin with the type of a THEADR or LHEADR, and so with another module.
+fn begins_module(bytes: &[u8]) -> bool
+    ensures { result ≡ begins_module bytes.now }
+{
+    match bytes {
+        [kind, ..] => *kind == 0x80 || *kind == 0x82,
+        [] => false,
+    }
+}
+
+/// The modules that an input begins with, one behind another, and the text behind them: one module at least, and a further one as long as
+/// the next byte is 80H or 82H.
+///
+/// # Errors
+///
+/// `Refused` for the first module that is not well formed. `Memory` where a growth was refused.
+pub fn modules_in(
+    alloc: Global,
+    profile: Profile,
+    input: &[u8],
+) -> Result<(Vec<Checked>, &[u8]), LinkFault>
+    ensures modules { AreModules profile input.now (map_ok (λ r. (r.0.items, r.1.now)) result) }
+    ensures few { IfOk result (λ r. length r.0.items < 2 ^ 32) }
+{
+    let mut modules = Vec::new(alloc);
+    let mut rest = input;
+    for number in 0..u32::MAX {
+        let module = module_at(alloc, profile, number, rest)?;
+        rest = rest.split_at(module.bytes().len()).1;
+        modules.push(module)?;
+        if !begins_module(rest) {
+            return Ok((modules, rest));
+        }
+    }
+    Err(LinkFault::Memory)
+}

@@ -1,0 +1,121 @@
+//! Modules at their placements.
+
+ghost use Rattle.std.specs.Prelude.{◌≡◌, ◌<◌, ◌^◌, IfOk, length};
+ghost use Rattle.omf_check.specs.Module.{records_in};
+ghost use Rattle.omf_check.specs.WellFormed.{recs};
+ghost use Rattle.omf_derive.specs.PublicTable.{placed_modules};
+ghost use Rattle.omf_records.specs.Seen.{map_ok};
+ghost use Rattle.omf_linking.specs.Relocated.{AreRelocated, IsRelocation};
+
+use crate::fault::LinkFault;
+use omf_check::Checked;
+use omf_image::Image;
+use omf_placement::Placement;
+use omf_records::Rec;
+use omf_reloc::{reach, relocate, start};
+use std::alloc::Global;
+
+/// A module at its placement: its image, and its start, if it names one.
+#[derive(Drop)]
+pub struct Relocated {
+    /// Its image, by segments and offsets.
+    pub image: Image,
+    /// The selector and the offset of its start.
+    pub start: Option<(u16, u32)>,
+}
+
+impl Relocated {
+    /// A module of this number at its placement.
+    ///
+    /// # Errors
+    ///
+    /// `Reach` where the placement does not reach, with the first reason why. `Memory` where a growth was refused.
+    pub fn of(
+        alloc: Global,
+        number: u32,
+        module: &Checked,
+        placement: &Placement,
+    ) -> Result<Relocated, LinkFault>
+        ensures { IsRelocation number (recs (records_in «module».now.bytes), placement.now) result }
+    {
+        match reach(module, placement) {
+            Ok(()) => {}
+            Err(fault) => {
+                let module = number;
+                return Err(LinkFault::Reach { module, fault });
+            }
+        }
+        let image = relocate(alloc, module, placement)?;
+        let start = start(module, placement);
+        Ok(Relocated { image, start })
+    }
+}
+
+/// Whether a module is a main one (TIS OMF 1.1, "MODEND", bit 7 of its type byte).
+fn is_main(module: &Checked) -> bool {
+    let end = module.end();
+    match &end {
+        Rec::ModEnd { type_byte, .. } => *type_byte >= 128,
+        _ => false,
+    }
+}
+
+/// The start of a module, if it is a main one that names one.
+fn main_start(module: &Checked, relocated: &Relocated) -> Option<(u16, u32)> {
+    if is_main(module) {
+        relocated.start
+    } else {
+        None
+    }
+}
+
+/// Modules, each at its placement.
+///
+/// # Errors
+///
+/// `Reach` for the first module whose placement does not reach. `Memory` where a growth was refused.
+pub fn relocate_all(
+    alloc: Global,
+    modules: &[Checked],
+    placements: &[Placement],
+) -> Result<Vec<Relocated>, LinkFault>
+    requires few { length modules.now < 2 ^ 32 }
+    requires placed { length placements.now ≡ length modules.now }
+    ensures relocated { AreRelocated (placed_modules modules.now placements.now) (map_ok (λ v. v.items) result) }
+    ensures each { IfOk result (λ v. length v.items ≡ length modules.now) }
+{
+    let mut relocated = Vec::new(alloc);
+    for (j, module) in modules.iter().enumerate() {
+        let at = Relocated::of(alloc, j as u32, module, &placements[j])?;
+        relocated.push(at)?;
+    }
+    Ok(relocated)
+}
+
+/// The start of the one main module that names one.
+///
+/// # Errors
+///
+/// `Starts` for the second main module that names a start.
+pub fn start_of(
+    modules: &[Checked],
+    relocated: &[Relocated],
+) -> Result<Option<(u16, u32)>, LinkFault>
+    requires few { length modules.now < 2 ^ 32 }
+    requires relocated { length relocated.now ≡ length modules.now }
+{
+    let mut found: Option<(u32, (u16, u32))> = None;
+    for (j, module) in modules.iter().enumerate() {
+        if let Some(start) = main_start(module, &relocated[j]) {
+            let second = j as u32;
+            if let Some((first, _)) = found {
+                return Err(LinkFault::Starts { first, second });
+            }
+            found = Some((second, start));
+        }
+    }
+    match found {
+        Some((_, start)) => Ok(Some(start)),
+        None => Ok(None),
+    }
+}
