@@ -10,18 +10,18 @@ pub const ANY: Profile = Profile {
     refuse_vendor_comments: false,
 };
 
-const HEADER: &str = "80 03 00 01 41 3B";
+pub const HEADER: &str = "80 03 00 01 41 3B";
 
 /// The names: none, and T.
-const NAMES: &str = "96 04 00 00 01 54 11";
+pub const NAMES: &str = "96 04 00 00 01 54 11";
 
 /// A segment T of 4 bytes.
-const SEGMENT: &str = "98 07 00 28 04 00 02 01 01 31";
+pub const SEGMENT: &str = "98 07 00 28 04 00 02 01 01 31";
 
-const END: &str = "8A 02 00 00 74";
+pub const END: &str = "8A 02 00 00 74";
 
 /// Four bytes of data, and the offset of their segment added to bytes 1 and 2.
-const OFFSET: [&str; 6] = [
+pub const OFFSET: [&str; 6] = [
     HEADER,
     NAMES,
     SEGMENT,
@@ -31,7 +31,7 @@ const OFFSET: [&str; 6] = [
 ];
 
 /// Two segments; a frame thread, and a target thread that is set again before the second data record.
-const THREADS: [&str; 10] = [
+pub const THREADS: [&str; 10] = [
     HEADER,
     NAMES,
     SEGMENT,
@@ -45,7 +45,7 @@ const THREADS: [&str; 10] = [
 ];
 
 /// A segment of 32 bits in a flat group; a far pointer and an offset with a displacement.
-const FLAT: [&str; 7] = [
+pub const FLAT: [&str; 7] = [
     HEADER,
     "96 09 00 00 01 54 04 46 4C 41 54 E1",
     "99 09 00 A9 0A 00 00 00 02 01 01 A7",
@@ -56,7 +56,7 @@ const FLAT: [&str; 7] = [
 ];
 
 /// Three times two blocks, of which the first is AA twice.
-const REPEATS: [&str; 5] = [
+pub const REPEATS: [&str; 5] = [
     HEADER,
     NAMES,
     "98 07 00 28 0C 00 02 01 01 29",
@@ -65,7 +65,7 @@ const REPEATS: [&str; 5] = [
 ];
 
 /// A group, a thread of its frame, and a start by that thread.
-const START: [&str; 6] = [
+pub const START: [&str; 6] = [
     HEADER,
     NAMES,
     SEGMENT,
@@ -84,7 +84,7 @@ pub struct Sample {
 }
 
 /// Appends the bytes that are written in hexadecimal, with a space between each two. It answers how many they are.
-fn push_record(bytes: &mut Vec<u8>, record: &str) -> Result<u32, AllocError> {
+pub fn push_record(bytes: &mut Vec<u8>, record: &str) -> Result<u32, AllocError> {
     let mut byte = 0u8;
     let mut digits = 0u32;
     for c in record.chars() {
@@ -99,7 +99,7 @@ fn push_record(bytes: &mut Vec<u8>, record: &str) -> Result<u32, AllocError> {
     Ok(digits / 2)
 }
 
-fn make_sample(
+pub fn make_sample(
     alloc: Global,
     name: &'static str,
     records: &[&str],
