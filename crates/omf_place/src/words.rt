@@ -1,15 +1,15 @@
 //! The words that the program is called with.
 
-ghost use Rattle.std.specs.Prelude.{◌≡◌, ◌⊎◌, ◌≤◌, ◌<◌, ◌^◌, ℕ, [], map, option_map, option_and_then, string_bytes, IfOk, IfSome, Bool, false, Some, None};
+ghost use Rattle.std.specs.Prelude.{◌≡◌, ◌⊎◌, [], map, option_map, option_and_then, string_bytes, IfOk, Bool, false, Some, None};
 ghost use Rattle.clap.specs.Words.{app_of, fault_of, first_of, found_of, one_of, rows_of, rule_of};
 ghost use Rattle.omf_cmd.specs.Parsed.{flag_text};
 ghost use Rattle.omf_layout.specs.declared.options.Options.{Options as Asked};
-ghost use Rattle.omf_placement.specs.EntryReading.{hexadecimal};
 ghost use Rattle.omf_place.specs.Words.{IsAsked, base_id, base_named, flag_rule, flat_id, frames_named, options_named, place_app, real_id, value_rule};
 
 use clap::error::ErrorKind;
 use clap::{Arg, ArgAction, ArgMatches, Command};
 use omf_layout::{Frames, Options};
+use omf_placement::hexadecimal;
 use std::alloc::{AllocError, Global};
 
 /// The base where none is given.
@@ -106,22 +106,4 @@ fn frames_named(real: bool, flat: Option<&str>) -> Option<Frames>
             Some(Frames::Flat { selector: 0 })
         }
     }
-}
-
-/// A number of 1 to `most` hexadecimal digits, in either case.
-fn hexadecimal(word: &[u8], most: usize) -> Option<u32>
-    requires { most ≤ 8 }
-    ensures value { result ≡ hexadecimal most word.now }
-    ensures bound { IfSome result (λ n. n < 16 ^ most) }
-{
-    if word.is_empty() || word.len() > most {
-        return None;
-    }
-    let mut value = 0u32;
-    let mut left = word;
-    while let Some((digit, rest)) = left.split_first() {
-        value = value * 16 + char::from(*digit).to_digit(16)?;
-        left = rest;
-    }
-    Some(value)
 }
