@@ -1,6 +1,6 @@
 -- The records of a checked module are read one after another.
 use Rattle.std.proofs.Common.{◌≡◌, ℕ, suc, ◌+◌, ◌-◌, ◌*◌, ◌/◌, ◌%◌, ◌^◌, ◌<◌, ◌≤◌, List, [], ◌∷◌, ◌++◌, Result, Ok, Err, refl, sym, ◌∙◌, ap, subst, arith, length, length-append}
-use Rattle.std.specs.Prelude.{All, flat_map, IsTrue, Bool, true, false, ◌==◌}
+use Rattle.std.specs.Prelude.{All, flat_map, IsTrue, Bool, true, false, is_ok, ◌==◌}
 use Rattle.omf_frame.specs.Framing.{Raw, raw_bytes, IsRecord, is_taken, front_record, present, after_front}
 use Rattle.omf_frame.specs.Fault.{Fault}
 use Rattle.omf_frame.specs.declared.fault.Place.{Place}
@@ -123,6 +123,9 @@ front_of bytes s =
 
 again : (r : Raw) → IsReadable r → read_body r.kind r.body ≡ Ok (typed r).contents
 again r h = (contents_whole r.kind).again 3 r.body (typed r).contents h.typed
+
+pub well_read : (kind : ℕ) (body : List ℕ) (r : Raw) → IsReadable r → kind ≡ r.kind → body ≡ r.body → is_ok (read_body kind body) ≡ true
+well_read kind body r h k b = ap is_ok (ap (λ y. read_body y body) k ∙ ap (read_body r.kind) b ∙ again r h)
 
 pub never_err : (kind : ℕ) (body : List ℕ) (r : Raw) (e : Fault) → IsReadable r → kind ≡ r.kind → body ≡ r.body → ◌≡◌ {A = Result Contents Fault} (Err e) (read_body kind body) → ⊥
 never_err kind body r e h k b x = clash e (typed r).contents (x ∙ ap (λ y. read_body y body) k ∙ ap (read_body r.kind) b ∙ again r h)

@@ -1,5 +1,5 @@
 //! A record's contents, by the record's type.
-ghost use Rattle.std.specs.Prelude.{◌≡◌, ◌≤◌, length, IfOk, IfSome, is_some, IsTrue, ◌++◌};
+ghost use Rattle.std.specs.Prelude.{◌≡◌, ◌≤◌, length, IfOk, IfSome, Ok, is_ok, is_some, true, IsTrue, ◌++◌};
 ghost use Rattle.omf_frame.specs.Bytes.{is_one_of};
 ghost use Rattle.omf_frame.specs.Framing.{is_taken};
 ghost use Rattle.omf_frame.specs.Types.{local_types, carried, types_of};
@@ -115,4 +115,17 @@ pub fn unread_fixups<'a>(raw: &RawRecord<'a>) -> Option<Unread<Subrecord<'a>>>
         0x9D => Some(Unread::new(Here::start(true, raw.body))),
         _ => None,
     }
+}
+
+/// The record of a FIXUPP that is known to be well spelled: none of its subrecords is read. `None` of another record.
+pub fn known_fixups<'a>(raw: &RawRecord<'a>) -> Option<Rec<'a>>
+    requires short { length raw.now.body.now ≤ 65534 }
+    requires spelled { is_ok (read_body raw.now.kind raw.now.body.now) ≡ true }
+    ensures read { IfSome result (λ r. read_body raw.now.kind raw.now.body.now ≡ Ok (contents_seen r)) }
+    ensures kind { IfSome result (λ r. kind_seen r ≡ raw.now.kind) }
+    ensures given { is_some result ≡ is_fixupp raw.now.kind }
+{
+    let wide = raw.kind % 2 == 1;
+    let subrecords = unread_fixups(raw)?.known();
+    Some(Rec::Fixups { wide, subrecords })
 }

@@ -89,7 +89,7 @@ impl<T: Item> Model for Items<T> {
 }
 
 impl<T: Item> Items<T> {
-    ghost use Rattle.std.specs.Prelude.{◌≡◌};
+    ghost use Rattle.std.specs.Prelude.{◌≡◌, is_ok, true, Ok};
     ghost use Rattle.omf_records.specs.Reads.{each};
 
     /// All of the bytes, as items.
@@ -102,6 +102,14 @@ impl<T: Item> Items<T> {
             left = after;
         }
         Ok(Items { from })
+    }
+
+    /// All of the bytes, as items that are known to be well spelled.
+    pub(crate) fn known(from: T::From) -> Items<T>
+        requires { is_ok (each (T.reader (T.From.wide from)).read (T.From.place from) (T.From.rest from)) ≡ true }
+        ensures { Ok result ≡ each (T.reader (T.From.wide from)).read (T.From.place from) (T.From.rest from) }
+    {
+        Items { from }
     }
 
     /// The same items, from the first of them on.

@@ -42,7 +42,7 @@ pub use bits::{
     is_frame_thread, is_segment_relative, location_offset, location_size, location_type,
     thread_method, thread_number,
 };
-pub use dispatch::{unread_fixups, view};
+pub use dispatch::{known_fixups, unread_fixups, view};
 pub use entry::{Communal, CommunalSize, Extern, Member, Public};
 pub use here::Here;
 pub use item::{Cursor, Item, Items};

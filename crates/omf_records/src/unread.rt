@@ -1,10 +1,11 @@
 //! Items whose spelling is judged as they are read.
 ghost use Rattle.std.specs.Prelude.{◌≡◌, ◌<◌, ◌≤◌, Ok, [], true, false, length};
+ghost use Rattle.std.specs.Prelude.{is_ok};
 ghost use Rattle.omf_records.specs.Reads.{each};
 ghost use Rattle.omf_records.specs.Unread.{NextGives};
 
 use crate::at::{At, LayoutFault};
-use crate::item::{Cursor, Item};
+use crate::item::{Cursor, Item, Items};
 use std::marker::Model;
 
 /// Items that may be ill spelled, each with its offset in the record. It is seen as those that are still to come, or the first
@@ -37,6 +38,14 @@ impl<T: Item> Unread<T> {
         ensures { result ≡ self.now }
     {
         Unread { from: self.from }
+    }
+
+    /// The items, which are known to be well spelled: none of them is read.
+    pub fn known(self) -> Items<T>
+        requires { is_ok self.items ≡ true }
+        ensures { self.items ≡ Ok result }
+    {
+        Items::known(self.from)
     }
 
     /// No bytes are left.
