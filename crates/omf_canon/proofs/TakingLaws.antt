@@ -1,6 +1,6 @@
 -- The records of a module are walked over one after another: what each puts, and what is left.
 use Rattle.std.proofs.Common.{◌≡◌, ℕ, ◌+◌, ◌<◌, ◌≤◌, List, [], ◌∷◌, ◌++◌, length, refl, sym, ◌∙◌, ap, ap₂, subst, Bool, true, false, Some, None, arith, append_assoc, length-append, Result, Ok, Err, Vec, Global}
-use Rattle.std.specs.Prelude.{IfOk, OnOk, map, flat_map, All, Option, IsTrue}
+use Rattle.std.specs.Prelude.{IfOk, IsOk, IsOkAnd, OnOk, IfSome, map, flat_map, All, Option, IsTrue, ⊤}
 use Rattle.std.proofs.lemmas.Grind.{flat_map-append}
 use Rattle.std.proofs.lemmas.List.{map-append}
 use Rattle.std.proofs.lemmas.List.Elements.{All-nil, All-cons, All-head, All-tail, filter_map-append}
@@ -13,15 +13,16 @@ use Rattle.omf_records.specs.Each.{with_first}
 use Rattle.omf_records.specs.Reading.{typed, read_body}
 use Rattle.omf_records.specs.RecordReaders.{contents_whole}
 use Rattle.omf_records.specs.Unread.{fixups_read}
-use Rattle.omf_records.specs.Values.{At, Rec, Contents, Names, Fixups, ModEnd, Subrecord, Thread, Fixup}
+use Rattle.omf_records.specs.Values.{At, Rec, Contents, Names, Fixups, ModEnd, Reference, Subrecord, Thread, Fixup}
 use Rattle.omf_check.specs.Kept.{no_threads, set_thread, set_threads}
 use Rattle.omf_check.specs.Listed.{IsReadable, StartsWithRecord}
 use Rattle.omf_check.specs.Module.{records_in}
+use Rattle.omf_check.specs.Sound.{ModuleHolds}
 use Rattle.omf_check.specs.WellFormed.{IsWellFormed, recs}
 use Rattle.omf_check.specs.declared.profile.Profile.{Profile}
 use Rattle.omf_check.specs.declared.threads.Threads.{Threads}
-use Rattle.omf_reloc.proofs.PieceLaws.{pieces-listed, numbered_records, numbered-listed}
-use Rattle.omf_reloc.specs.Pieces.{single_pieces, subrecord_steps, contents_steps, steps_from, given}
+use Rattle.omf_reloc.proofs.PieceLaws.{pieces-listed, numbered_records, numbered-listed, records-set}
+use Rattle.omf_reloc.specs.Pieces.{single_pieces, subrecord_steps, contents_steps, steps_from, given, IsSet, SubrecordIsSet, SubrecordsAreSet, ContentsAreSet, RecordsAreSet}
 use Rattle.omf_reloc.specs.Plain.{Piece, Fixed}
 use Rattle.omf_reloc.specs.Walking.{plain_fixup_by, threads_after}
 use Rattle.omf_canon.specs.Canonical.{canonical_raws, canonical}
@@ -67,6 +68,35 @@ all-given m =
     ∙ sym (records-given no_threads (numbered_records m))
     ∙ pieces-listed m (numbered_records m) (numbered-listed 0 m)
 
+-- ---- each thread that is named is set
+
+abbrev pub RecsAreSet : Threads → List Rec → Type 0
+RecsAreSet threads [] = ⊤
+RecsAreSet threads (r ∷ rs) = ContentsAreSet threads r.contents × RecsAreSet (threads_after threads r.contents) rs
+
+recs-set : (threads : Threads) (xs : List (Place × Rec)) → RecordsAreSet threads xs → RecsAreSet threads (map (λ x. x.1) xs)
+recs-set threads [] h = tt
+recs-set threads (x ∷ xs) h = (h.0, recs-set (threads_after threads x.1.contents) xs h.1)
+
+all-set : (limits : Limits) (m : List Rec) → ModuleHolds limits m → RecsAreSet no_threads m
+all-set limits m holds =
+    subst (RecsAreSet no_threads) (numbered-listed 0 m)
+    (recs-set no_threads (numbered_records m) (records-set limits m (numbered_records m) holds (numbered-listed 0 m)))
+
+-- in the subrecords of a FIXUPP, and in the start of a MODEND
+pub fixups-set : (threads : Threads) (r : Result (List (At Subrecord)) Fault) (body : Result Contents Fault) → body ≡ fixups_read r → IsOk body
+    → ((c : Contents) → body ≡ Ok c → ContentsAreSet threads c) → IsOkAnd r (SubrecordsAreSet threads)
+fixups-set threads (Ok subs) body e ok set = set (Fixups subs) e
+fixups-set threads (Err f) body e ok set = let q : false ≡ true = subst (λ (b : Result Contents Fault). IsOk b) e ok in absurd cc
+
+pub end_set : (threads : Threads) (byte : ℕ) (start : Option Reference) → ContentsAreSet threads (ModEnd byte start) → IfSome start (IsSet threads)
+end_set threads byte None h = tt
+end_set threads byte (Some r) h = h
+
+pub ok-and : {A E : Type 0} (r : Result A E) (P : A → Type 0) → IsOkAnd r P → (x : A) × (r ≡ Ok x) × P x
+ok-and (Ok x) P h = (x, refl, h)
+ok-and (Err e) P h = absurd h
+
 -- ---- what is put
 
 pub put-none : (out new : List ℕ) (group then : Option Held) → new ≡ out → then ≡ group → ArePut [] out group new then
@@ -95,13 +125,20 @@ pub record IsTaken (kind : ℕ) (threads : Threads) (out : List ℕ) (group : Op
   pub left : List (At Subrecord)
   pub read : now ≡ Ok left
   pub set : set_threads now_threads left ≡ set_threads threads whole
+  pub are_set : SubrecordsAreSet now_threads left
   pub put : (rest : List Piece) → now_out ++ bytes_left now_group (subrecord_pieces now_threads kind left ++ rest) ≡ out ++ bytes_left group (subrecord_pieces threads kind whole ++ rest)
 
 module _ (kind : ℕ) (threads : Threads) (out : List ℕ) (group : Option Held) (whole : List (At Subrecord)) where
-  pub take-first : (now : Result (List (At Subrecord)) Fault) → now ≡ Ok whole → IsTaken kind threads out group whole threads out group now
-  take-first now e = record { left = whole; read = e; set = refl; put = λ rest. refl }
+  pub take-first : (now : Result (List (At Subrecord)) Fault) → now ≡ Ok whole → SubrecordsAreSet threads whole → IsTaken kind threads out group whole threads out group now
+  take-first now e h = record { left = whole; read = e; set = refl; are_set = h; put = λ rest. refl }
 
   module _ (now_threads : Threads) (now_out : List ℕ) (now_group : Option Held) (now : Result (List (At Subrecord)) Fault) (h : IsTaken kind threads out group whole now_threads now_out now_group now) where
+    first-set : (s : At Subrecord) (more : List (At Subrecord)) → h.left ≡ s ∷ more → SubrecordIsSet now_threads s.item × SubrecordsAreSet (set_thread now_threads s.item) more
+    first-set s more e = subst (SubrecordsAreSet now_threads) e h.are_set
+
+    pub take-set : (s : At Subrecord) (then : Result (List (At Subrecord)) Fault) → now ≡ with_first s then → SubrecordIsSet now_threads s.item
+    take-set s then e = let parts = first-left s then h.left (sym h.read ∙ e) in (first-set s parts.0 parts.2).0
+
     pub take-next : (s : At Subrecord) (then : Result (List (At Subrecord)) Fault) → now ≡ with_first s then
         → (new_threads : Threads) (new_out : List ℕ) (new_group : Option Held) → new_threads ≡ set_thread now_threads s.item → ArePut (subrecord_piece now_threads kind s.item) now_out now_group new_out new_group
         → IsTaken kind threads out group whole new_threads new_out new_group then
@@ -112,6 +149,7 @@ module _ (kind : ℕ) (threads : Threads) (out : List ℕ) (group : Option Held)
           left = more;
           read = parts.1;
           set = ap (λ (x : Threads). set_threads x more) t ∙ sym (ap (set_threads now_threads) parts.2) ∙ h.set;
+          are_set = subst (λ (x : Threads). SubrecordsAreSet x more) (sym t) (first-set s more parts.2).1;
           put = λ rest.
               p (subrecord_pieces new_threads kind more ++ rest)
               ∙ ap (λ (x : Threads). now_out ++ bytes_left now_group (subrecord_piece now_threads kind s.item ++ (subrecord_pieces x kind more ++ rest))) t
@@ -152,16 +190,18 @@ pub record IsLeft (m : List Rec) (out : List ℕ) (group : Option Held) (threads
   pub records : List Raw
   pub spelled : left ≡ flat_map raw_bytes records
   pub readable : All IsReadable records
+  pub are_set : RecsAreSet threads (recs records)
   pub written : IsWritten m out group (record_pieces threads (recs records))
 
 pub left-first : (profile : Profile) (limits : Limits) (bytes : List ℕ) (w : IsWellFormed profile limits bytes (records_in bytes)) (out : List ℕ) (group : Option Held) (threads : Threads)
-    → All IsRecord (canonical_raws (skeleton (recs (records_in bytes)))) → out ≡ [] → group ≡ None → threads ≡ no_threads → IsLeft (recs (records_in bytes)) out group threads bytes
-left-first profile limits bytes w out group threads h o g t =
+    → ModuleHolds limits (recs (records_in bytes)) → All IsRecord (canonical_raws (skeleton (recs (records_in bytes)))) → out ≡ [] → group ≡ None → threads ≡ no_threads → IsLeft (recs (records_in bytes)) out group threads bytes
+left-first profile limits bytes w out group threads holds h o g t =
     let m = recs (records_in bytes) in
     record {
       records = records_in bytes;
       spelled = w.framed.spelled;
       readable = λ k d low. record { is_record = w.framed.each k d low; taken = w.framed.types k d low; typed = w.spelled k d low };
+      are_set = subst (λ (x : Threads). RecsAreSet x m) (sym t) (all-set limits m holds);
       written = write-first m out group (record_pieces threads m) h o g (ap (λ (x : Threads). record_pieces x m) t ∙ all-given m);
     }
 
@@ -224,6 +264,9 @@ module _ (m : List Rec) (out : List ℕ) (group : Option Held) (threads : Thread
         let f = ap (λ (b : List ℕ). length b) (e ∙ after-is) in
         omega (arith, s, t, f)
 
+    set-here : RecsAreSet threads (recs (r ∷ more))
+    set-here = subst (λ (rs : List Raw). RecsAreSet threads (recs rs)) parts.2 h.are_set
+
     written-here : IsWritten m out group (contents_pieces threads r.kind c ++ record_pieces (threads_after threads c) (recs more))
     written-here = subst (λ (rs : List Raw). IsWritten m out group (record_pieces threads (recs rs))) parts.2 h.written
 
@@ -235,6 +278,15 @@ module _ (m : List Rec) (out : List ℕ) (group : Option Held) (threads : Thread
       left-read =
           ap₂ (λ (x : ℕ) (y : List ℕ). read_body x y) kind-is (b ∙ ap (λ (x : Raw). x.body) front-is)
           ∙ (contents_whole r.kind).again 3 r.body c first-readable.typed
+
+      pub left-ok : IsOk (read_body kind body)
+      left-ok = subst (λ (b : Result Contents Fault). IsOk b) (sym left-read) refl
+
+      pub left-set : (d : Contents) → read_body kind body ≡ Ok d → ContentsAreSet threads d
+      left-set d e =
+          let q : ◌≡◌ {A = Result Contents Fault} (Ok c) (Ok d) = sym left-read ∙ e in
+          let same : c ≡ d = cc in
+          subst (ContentsAreSet threads) same set-here.0
 
       pub left-short : (d : Contents) → read_body kind body ≡ Ok d → All CanPut (contents_pieces threads kind d)
       left-short d e =
@@ -252,6 +304,7 @@ module _ (m : List Rec) (out : List ℕ) (group : Option Held) (threads : Thread
             records = more;
             spelled = e ∙ after-is;
             readable = All-tail IsReadable r more readable;
+            are_set = subst (λ (x : Threads). RecsAreSet x (recs more)) (sym t) set-here.1;
             written = subst (λ (x : Threads). IsWritten m new_out new_group (record_pieces x (recs more))) (sym t) (record {
               can = all-right (contents_pieces threads r.kind c) after written-here.can;
               same = p after ∙ ap (λ (x : ℕ). out ++ bytes_left group (contents_pieces threads x c ++ after)) kind-is ∙ written-here.same;

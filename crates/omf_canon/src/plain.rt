@@ -1,10 +1,12 @@
 //! Fixups and starts without threads (TIS OMF 1.1, "FIXUPP", frame and target methods), and their bytes.
 
-ghost use Rattle.std.specs.Prelude.{◌≡◌, ◌++◌, ◌+◌, ◌≤◌, length, OnOk, OnErr, option_map, vec_len, vec_capacity};
+ghost use Rattle.std.specs.Prelude.{◌≡◌, ◌++◌, ◌+◌, ◌≤◌, OnOk, OnErr, IfSome, IsSome, option_map, vec_len, vec_capacity};
 ghost use Rattle.byteorder.specs.Endian.{little_bytes};
-ghost use Rattle.omf_records.specs.Shortest.{option_bytes, datum_bytes, reference_bytes, subrecord_bytes};
+ghost use Rattle.omf_records.specs.Shortest.{option_bytes, datum_bytes, subrecord_bytes};
 ghost use Rattle.omf_records.specs.Values.{Fixup, nowhere, width};
+ghost use Rattle.omf_check.specs.Judging.{frame_cell, target_cell};
 ghost use Rattle.omf_check.specs.Threads.{frame_from, target_from};
+ghost use Rattle.omf_reloc.specs.Pieces.{IsSet};
 ghost use Rattle.omf_reloc.specs.Walking.{plain_by, plain_fixup_by};
 ghost use Rattle.omf_canon.specs.PlainBytes.{start_bytes};
 ghost use Rattle.omf_canon.specs.Unthreaded.{frame_code, target_code, frame_index, target_index, fix_byte, unthreaded, unthreaded_fixup};
@@ -17,32 +19,22 @@ use std::alloc::AllocError;
 /// A fixup without threads has at most so many bytes: two of its location, the fix data byte, two indices and a displacement.
 pub(crate) const FIXUP_LIMIT: usize = 11;
 
-/// The frame of a reference: its own, or its thread's. In a checked module each thread that is named is set.
+/// The frame of a reference: its own, or its thread's, which is set.
 #[inline(always)]
 fn frame_setting(threads: &Threads, reference: &Reference) -> Setting
+    requires { IsSome (frame_cell threads.now reference.now) }
     ensures { frame_from result ≡ (plain_by threads.now reference.now).frame }
 {
-    match threads.frame(reference) {
-        Some(setting) => setting,
-        None => Setting {
-            method: 5,
-            datum: None,
-        },
-    }
+    threads.frame(reference).unwrap()
 }
 
-/// The target of a reference: its own, or its thread's.
+/// The target of a reference: its own, or its thread's, which is set.
 #[inline(always)]
 fn target_setting(threads: &Threads, reference: &Reference) -> Setting
+    requires { IsSome (target_cell threads.now reference.now) }
     ensures { target_from result ≡ (plain_by threads.now reference.now).target }
 {
-    match threads.target(reference) {
-        Some(setting) => setting,
-        None => Setting {
-            method: 0,
-            datum: None,
-        },
-    }
+    threads.target(reference).unwrap()
 }
 
 /// The number of a frame's method. Beside 0, 1, 2 and 4 there is 5 alone.
@@ -122,6 +114,7 @@ fn fix_byte(frame: Setting, target: Setting, is_short: bool) -> u8
 /// A reference as one that names no thread. A short one has no displacement.
 #[inline(always)]
 fn unthreaded(threads: &Threads, reference: &Reference, is_short: bool) -> Reference
+    requires { IsSet threads.now reference.now }
     ensures { result ≡ unthreaded is_short (plain_by threads.now reference.now) }
 {
     let frame = frame_setting(threads, reference);
@@ -141,46 +134,11 @@ fn unthreaded(threads: &Threads, reference: &Reference, is_short: bool) -> Refer
 /// The reference of a fixup as one that names no thread: it is short exactly where its displacement is 0.
 #[inline(always)]
 pub(crate) fn unthreaded_fixup(threads: &Threads, location: u16, reference: &Reference) -> Reference
+    requires { IsSet threads.now reference.now }
     ensures { Fixup location result ≡ unthreaded_fixup (plain_fixup_by threads.now location reference.now) }
 {
     let is_short = reference.displacement.unwrap_or(0) == 0;
     unthreaded(threads, reference, is_short)
-}
-
-/// How many bytes an index has, if there is one.
-#[inline(always)]
-fn index_size(index: &Option<At<Index>>) -> usize
-    ensures size { result ≡ length (option_bytes datum_bytes index.now) }
-    ensures short { result ≤ 2 }
-{
-    match index {
-        Some(index) if index.item.0 < 128 => 1,
-        Some(_) => 2,
-        None => 0,
-    }
-}
-
-/// How many bytes a displacement has in a record of a type, if there is one.
-#[inline(always)]
-fn displacement_size(kind: u8, displacement: &Option<u32>) -> usize
-    ensures size { result ≡ length (option_bytes (little_bytes (width kind)) displacement.now) }
-    ensures short { result ≤ 4 }
-{
-    match displacement {
-        Some(_) if kind % 2 == 1 => 4,
-        Some(_) => 2,
-        None => 0,
-    }
-}
-
-/// How many bytes a fixup of this reference has in a FIXUPP of a type.
-#[inline(always)]
-pub(crate) fn fixup_size(kind: u8, reference: &Reference) -> usize
-    ensures size { result ≡ 2 + length (reference_bytes kind reference.now) }
-    ensures short { result ≤ 11 }
-{
-    let indices = index_size(&reference.frame) + index_size(&reference.target);
-    3 + indices + displacement_size(kind, &reference.displacement)
 }
 
 /// Appends an index, if there is one. There is room for it.
@@ -249,13 +207,14 @@ pub(crate) fn put_fixup(
     Ok(())
 }
 
-/// The start of a MODEND, if there is one: it is never short.
+/// Appends the start of a MODEND of a type, if there is one: it is never short.
 pub(crate) fn put_start(
     out: &mut Vec<u8>,
     kind: u8,
     threads: &Threads,
     start: &Option<Reference>,
 ) -> Result<(), AllocError>
+    requires { IfSome start.now (IsSet threads.now) }
     ensures { OnOk result (out.new.items ≡ out.old.items ++ start_bytes kind (option_map (plain_by threads.now) start.now)) }
 {
     match start {

@@ -1,6 +1,6 @@
 //! The canonical bytes of a module.
 
-ghost use Rattle.std.specs.Prelude.{All, ◌≡◌, ◌≤◌, ◌+◌, ◌++◌, ◌&&◌, ◌==◌, [], ◌∷◌, None, Some, Ok, OnOk, IfOk, IsTrue, length, nat_le, option_map};
+ghost use Rattle.std.specs.Prelude.{All, ◌≡◌, ◌≤◌, ◌++◌, [], ◌∷◌, None, Some, Ok, OnOk, IfOk, IsOk, IsOkAnd, IfSome, IsTrue, length, option_map, if◌then◌else◌};
 ghost use Rattle.omf_check.specs.Judging.{IsNoFixupp};
 ghost use Rattle.omf_check.specs.Kept.{no_threads, set_thread, set_threads};
 ghost use Rattle.omf_check.specs.Listed.{StartsWithRecord};
@@ -9,18 +9,20 @@ ghost use Rattle.omf_check.specs.WellFormed.{recs};
 ghost use Rattle.omf_frame.specs.Framing.{IsRecord, front_record, present, after_front, is_taken};
 ghost use Rattle.omf_records.specs.Reading.{read_body};
 ghost use Rattle.omf_records.specs.Seen.{rec_seen, kind_seen, contents_seen};
-ghost use Rattle.omf_records.specs.Shortest.{reference_bytes, subrecord_bytes};
+ghost use Rattle.omf_records.specs.Shortest.{subrecord_bytes};
 ghost use Rattle.omf_records.specs.Values.{alone, Fixup};
+ghost use Rattle.omf_reloc.specs.Pieces.{IsSet, SubrecordIsSet, SubrecordsAreSet, ContentsAreSet};
 ghost use Rattle.omf_reloc.specs.Plain.{Kept, End, end_byte};
 ghost use Rattle.omf_reloc.specs.Walking.{plain_by, threads_after};
 ghost use Rattle.omf_canon.specs.Canonical.{canonical, canonical_raws};
 ghost use Rattle.omf_canon.specs.Skeleton.{skeleton};
 ghost use Rattle.omf_canon.specs.Form.{IsFormOf};
 ghost use Rattle.omf_canon.specs.PlainBytes.{start_bytes};
-ghost use Rattle.omf_canon.specs.Writing.{Held, held, record_bytes, closed, held_with, closed_by, piece_puts, CanPut, subrecord_piece, subrecord_pieces, contents_pieces, ArePut};
+ghost use Rattle.omf_canon.specs.Writing.{Held, held, record_bytes, closed, has_room, held_with, closed_by, piece_puts, CanPut, subrecord_piece, subrecord_pieces, contents_pieces, ArePut};
 
 use crate::laws;
-use crate::plain::{FIXUP_LIMIT, fixup_size, put_fixup, put_start, unthreaded_fixup};
+use crate::plain::{FIXUP_LIMIT, put_fixup, put_start, unthreaded_fixup};
+use omf_check::laws::modules_hold;
 use omf_check::{Checked, Threads};
 use omf_frame::{RawRecord, checksum};
 use omf_records::{Part, Rec, Reference, Subrecord, Unread, put_rec, unread_fixups, view};
@@ -74,22 +76,22 @@ impl Group {
         Ok(Group { kind, body })
     }
 
-    /// It has this type, and room for so many bytes.
+    /// Takes a fixup of a FIXUPP of a type and says so, if it has that type and room for it; else it stays as it was.
     #[inline(always)]
-    fn has_room(&self, kind: u8, size: usize) -> bool
-        requires { size ≤ 11 }
-        ensures { result ≡ ((self.now.kind == kind) && nat_le (length self.now.body + size) 1020) }
+    fn join(&mut self, kind: u8, location: u16, reference: &Reference) -> Result<bool, AllocError>
+        ensures fits { IfOk result (λ taken. taken ≡ has_room kind (subrecord_bytes kind (Fixup location reference.now)) self.old) }
+        ensures taken { IfOk result (λ taken. self.new ≡ (if taken then held self.old.kind (self.old.body ++ subrecord_bytes kind (Fixup location reference.now)) else self.old)) }
     {
-        self.kind == kind && self.body.len() + size <= BODY_LIMIT
-    }
-
-    /// Takes a fixup that has room.
-    #[inline(always)]
-    fn push(&mut self, location: u16, reference: &Reference) -> Result<(), AllocError>
-        requires { length self.old.body + (2 + length (reference_bytes self.old.kind reference.now)) ≤ 1020 }
-        ensures { OnOk result (self.new ≡ held self.old.kind (self.old.body ++ subrecord_bytes self.old.kind (Fixup location reference.now))) }
-    {
-        put_fixup(&mut self.body, self.kind, location, reference)
+        if self.kind != kind {
+            return Ok(false);
+        }
+        let len = self.body.len();
+        put_fixup(&mut self.body, kind, location, reference)?;
+        if self.body.len() <= BODY_LIMIT {
+            return Ok(true);
+        }
+        self.body.truncate(len);
+        Ok(false)
     }
 }
 
@@ -142,8 +144,8 @@ impl Walk {
         ensures threads { self.new.threads ≡ self.old.threads }
     {
         if let Some(group) = &mut self.group {
-            if group.has_room(kind, fixup_size(kind, reference)) {
-                return group.push(location, reference);
+            if group.join(kind, location, reference)? {
+                return Ok(());
             }
         }
         close(&mut self.out, self.group.take())?;
@@ -159,6 +161,7 @@ impl Walk {
         kind: u8,
         subrecord: &Subrecord<'_>,
     ) -> Result<(), AllocError>
+        requires { SubrecordIsSet self.old.threads subrecord.now }
         ensures put { OnOk result (ArePut (subrecord_piece self.old.threads kind subrecord.now) self.old.out.items self.old.group self.new.out.items self.new.group) }
         ensures threads { OnOk result (self.new.threads ≡ set_thread self.old.threads subrecord.now) }
     {
@@ -184,6 +187,7 @@ impl Walk {
         kind: u8,
         subrecords: Unread<Subrecord<'_>>,
     ) -> Result<(), AllocError>
+        requires { IsOkAnd subrecords.items (SubrecordsAreSet self.old.threads) }
         ensures put { (subs : _) → subrecords.entry.items ≡ Ok subs → OnOk result (ArePut (subrecord_pieces self.old.threads kind subs) self.old.out.items self.old.group self.new.out.items self.new.group) }
         ensures threads { (subs : _) → subrecords.entry.items ≡ Ok subs → OnOk result (self.new.threads ≡ set_threads self.old.threads subs) }
     {
@@ -192,7 +196,7 @@ impl Walk {
             let subrecord = match subrecords.read_next() {
                 Ok(Some(subrecord)) => subrecord,
                 Ok(None) => return Ok(()),
-                Err(_) => return Ok(()),
+                Err(_) => unreachable!(),
             };
             self.take_subrecord(alloc, kind, &subrecord.item)?;
         }
@@ -229,6 +233,7 @@ impl Walk {
         type_byte: u8,
         start: &Option<Reference>,
     ) -> Result<(), AllocError>
+        requires { IfSome start.now (IsSet self.old.threads) }
         ensures out { OnOk result (self.new.out.items ≡ self.old.out.items ++ piece_puts (End kind (end_byte type_byte) (option_map (plain_by self.old.threads) start.now)) self.old.group) }
         ensures group { OnOk result (self.new.group ≡ None) }
         ensures threads { self.new.threads ≡ self.old.threads }
@@ -238,8 +243,10 @@ impl Walk {
     }
 
     /// Takes a record that is no FIXUPP.
+    #[tactic(auto, using(crate::proofs::TakingLaws::end_set))]
     fn take_other(&mut self, alloc: Global, rec: &Rec<'_>) -> Result<(), AllocError>
         requires other { IsNoFixupp (contents_seen rec.now) }
+        requires set { ContentsAreSet self.old.threads (contents_seen rec.now) }
         requires short { All CanPut (contents_pieces self.old.threads (kind_seen rec.now) (contents_seen rec.now)) }
         ensures put { OnOk result (ArePut (contents_pieces self.old.threads (kind_seen rec.now) (contents_seen rec.now)) self.old.out.items self.old.group self.new.out.items self.new.group) }
         ensures threads { self.new.threads ≡ self.old.threads }
@@ -259,6 +266,8 @@ impl Walk {
     fn take(&mut self, alloc: Global, raw: RawRecord<'_>) -> Result<(), AllocError>
         requires taken { IsTrue (is_taken raw.kind) }
         requires body { length raw.body.now ≤ 65534 }
+        requires read { IsOk (read_body raw.kind raw.body.now) }
+        requires set { (c : _) → read_body raw.kind raw.body.now ≡ Ok c → ContentsAreSet self.old.threads c }
         requires short { (c : _) → read_body raw.kind raw.body.now ≡ Ok c → All CanPut (contents_pieces self.old.threads raw.kind c) }
         ensures put { (c : _) → read_body raw.entry.kind raw.entry.body.now ≡ Ok c → OnOk result (ArePut (contents_pieces self.old.threads raw.entry.kind c) self.old.out.items self.old.group self.new.out.items self.new.group) }
         ensures threads { (c : _) → read_body raw.entry.kind raw.entry.body.now ≡ Ok c → OnOk result (self.new.threads ≡ threads_after self.old.threads c) }
@@ -268,7 +277,7 @@ impl Walk {
         }
         match view(raw) {
             Ok(rec) => self.take_other(alloc, &rec),
-            Err(_) => Ok(()),
+            Err(_) => unreachable!(),
         }
     }
 
@@ -298,6 +307,7 @@ fn end_contents(
     threads: &Threads,
     start: &Option<Reference>,
 ) -> Result<Vec<u8>, AllocError>
+    requires { IfSome start.now (IsSet threads.now) }
     ensures bytes { IfOk result (λ v. v.items ≡ type_byte ∷ start_bytes kind (option_map (plain_by threads.now) start.now)) }
     ensures short { IfOk result (λ v. length v.items ≤ 10) }
 {
@@ -335,6 +345,7 @@ fn written(alloc: Global, module: &Checked, capacity: usize) -> Result<Vec<u8>, 
     requires { All IsRecord (canonical_raws (skeleton (recs (records_in «module».now.bytes)))) }
     ensures { IfOk result (λ v. v.items ≡ canonical (recs (records_in «module».now.bytes))) }
 {
+    modules_hold();
     let mut walk = Walk::new(alloc, capacity)?;
     let mut left = module.bytes();
     'records: while !left.is_empty() {

@@ -5,7 +5,7 @@ use Rattle.omf_image.specs.Limits.{profile_limits}
 use Rattle.omf_check.specs.Module.{records_in}
 use Rattle.omf_check.specs.WellFormed.{recs}
 use Rattle.omf_check.proofs.ListedLaws.{front_taken, front_short, not_empty}
-use Rattle.omf_canon.proofs.TakingLaws.{IsLeft, left-first, left-last, left-starts, left-less, left-read, left-short, left-next}
+use Rattle.omf_canon.proofs.TakingLaws.{IsLeft, left-first, left-last, left-starts, left-less, left-read, left-ok, left-set, left-short, left-next}
 use Rattle.omf_canon.proofs.WritingLaws.{write-last}
 use Rattle.omf_canon.proofs.writing.written.Goals as goal
 
@@ -14,7 +14,8 @@ records-init c =
     let w = c.in_ok-walk.walk in
     let b = c.args.module.now.bytes in
     subst (λ left. IsLeft (recs (records_in b)) w.out.items w.group w.threads left) (sym c.bytes-left.ensures.bytes)
-    (left-first c.args.module.now.profile profile_limits b c.bytes-left.ensures.well_formed w.out.items w.group w.threads c.requires c.in_ok-walk.ensures.out c.in_ok-walk.ensures.group c.in_ok-walk.ensures.threads)
+    (left-first c.args.module.now.profile profile_limits b c.bytes-left.ensures.well_formed w.out.items w.group w.threads
+    (c.modules_hold.ensures c.args.module.now.profile profile_limits b (records_in b) c.bytes-left.ensures.well_formed) c.requires c.in_ok-walk.ensures.out c.in_ok-walk.ensures.group c.in_ok-walk.ensures.threads)
 
 pub split_record-requires : goal.split_record-requires
 split_record-requires c =
@@ -37,6 +38,22 @@ take-requires-clause-body c =
     front_short left c.split_record.result.0.body.now
     (left-starts (recs (records_in c.args.module.now.bytes)) w.out.items w.group w.threads left c.records.invariant (not_empty left c.is_empty.result c.is_empty.ensures c.records-test.true))
     c.split_record.ensures.body
+
+pub take-requires-clause-read : goal.take-requires-clause-read
+take-requires-clause-read c =
+    let w = c.records.walk in
+    let left = c.records.left.now in
+    let raw = c.split_record.result.0 in
+    left-ok (recs (records_in c.args.module.now.bytes)) w.out.items w.group w.threads left c.records.invariant (not_empty left c.is_empty.result c.is_empty.ensures c.records-test.true)
+    raw.kind raw.body.now c.split_record.ensures.kind c.split_record.ensures.body
+
+pub take-requires-clause-set : goal.take-requires-clause-set
+take-requires-clause-set c d e =
+    let w = c.records.walk in
+    let left = c.records.left.now in
+    let raw = c.split_record.result.0 in
+    left-set (recs (records_in c.args.module.now.bytes)) w.out.items w.group w.threads left c.records.invariant (not_empty left c.is_empty.result c.is_empty.ensures c.records-test.true)
+    raw.kind raw.body.now c.split_record.ensures.kind c.split_record.ensures.body d e
 
 pub take-requires-clause-short : goal.take-requires-clause-short
 take-requires-clause-short c d e =

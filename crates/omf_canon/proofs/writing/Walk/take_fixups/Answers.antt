@@ -1,8 +1,12 @@
-use Rattle.std.proofs.Common.{ap, subst, ◌∙◌, Ok}
+use Rattle.std.proofs.Common.{ap, subst, sym, ◌∙◌, List, Result, Ok}
+use Rattle.std.specs.Prelude.{IsOkAnd}
+use Rattle.omf_frame.specs.Fault.{Fault}
 use Rattle.omf_records.specs.Unread.{NextGives}
+use Rattle.omf_records.specs.Values.{At, Subrecord}
 use Rattle.omf_check.specs.Kept.{set_thread}
+use Rattle.omf_reloc.specs.Pieces.{SubrecordIsSet, SubrecordsAreSet}
 use Rattle.omf_canon.specs.Writing.{subrecord_piece, ArePut}
-use Rattle.omf_canon.proofs.TakingLaws.{take-next, take-last-set, take-last-put, take-never}
+use Rattle.omf_canon.proofs.TakingLaws.{ok-and, take-first, take-set, take-next, take-last-set, take-last-put, take-never}
 use Rattle.omf_canon.proofs.writing.Walk.take_fixups.Goals as goal
 
 pub returns-in-Ok-None-clause-put : goal.returns-in-Ok-None-clause-put
@@ -17,15 +21,27 @@ returns-in-Ok-None-clause-threads c subs e =
     take-last-set c.args.kind c.args.self.now.threads c.args.self.now.out.items c.args.self.now.group subs l.self.threads l.self.out.items l.self.group l.subrecords.items (l.invariant subs e)
     (subst (λ o. NextGives l.subrecords (Ok o) c.read_next.new.self) c.in-Ok-None.field-0-is c.in-Ok-None.ensures).0
 
-pub returns-in-Err-clause-put : goal.returns-in-Err-clause-put
-returns-in-Err-clause-put c subs e =
+pub unreachable-requires : goal.unreachable-requires
+unreachable-requires c =
     let l = c.walk in
-    absurd (take-never c.args.kind c.args.self.now.threads c.args.self.now.out.items c.args.self.now.group subs l.self.threads l.self.out.items l.self.group l.subrecords.items (l.invariant subs e) _ c.in-Err.ensures.0)
+    let whole = ok-and c.args.subrecords.items (SubrecordsAreSet c.args.self.now.threads) c.requires in
+    take-never c.args.kind c.args.self.now.threads c.args.self.now.out.items c.args.self.now.group whole.0 l.self.threads l.self.out.items l.self.group l.subrecords.items (l.invariant whole.0 whole.1)
+    _ c.in-Err.ensures.0
 
-pub returns-in-Err-clause-threads : goal.returns-in-Err-clause-threads
-returns-in-Err-clause-threads c subs e =
+pub walk-init : goal.walk-init
+walk-init c whole e =
+    let w = c.args.self.now in
+    take-first c.args.kind w.threads w.out.items w.group whole c.args.subrecords.items e
+    (subst (λ (r : Result (List (At Subrecord)) Fault). IsOkAnd r (SubrecordsAreSet w.threads)) e c.requires)
+
+pub take_subrecord-requires : goal.take_subrecord-requires
+take_subrecord-requires c =
     let l = c.walk in
-    absurd (take-never c.args.kind c.args.self.now.threads c.args.self.now.out.items c.args.self.now.group subs l.self.threads l.self.out.items l.self.group l.subrecords.items (l.invariant subs e) _ c.in-Err.ensures.0)
+    let whole = ok-and c.args.subrecords.items (SubrecordsAreSet c.args.self.now.threads) c.requires in
+    subst (λ s. SubrecordIsSet l.self.threads s.item) (sym c.subrecord.view_is)
+    (take-set c.args.kind c.args.self.now.threads c.args.self.now.out.items c.args.self.now.group whole.0 l.self.threads l.self.out.items l.self.group l.subrecords.items (l.invariant whole.0 whole.1)
+    c.in-Ok-Some.subrecord c.read_next.new.self.items
+    (subst (λ o. NextGives l.subrecords (Ok o) c.read_next.new.self) c.in-Ok-Some.field-0-is c.in-Ok-Some.ensures).0)
 
 pub walk-preserved : goal.walk-preserved
 walk-preserved c whole e =
