@@ -10,3 +10,6 @@ mod sweep;
 pub use fault::MemoryFault;
 pub use memory::memory_of;
 pub use stretch::{Owner, Stretch};
+
+#[cfg(test)]
+mod tests;
