@@ -1,0 +1,4 @@
+pub mod Memory
+pub mod Sweeping
+pub mod Laying
+pub mod Rows

@@ -1,0 +1,42 @@
+//! Why segments do not lie together.
+
+ghost use Rattle.std.specs.Prelude.{◌≡◌};
+ghost use Rattle.omf_memory.specs.declared.fault.MemoryFault.TheVariants.{Memory};
+
+use crate::stretch::Owner;
+use std::alloc::{AllocError, AllocFailed};
+use thiserror::Error;
+
+/// Why segments do not lie together in memory.
+#[derive(Clone, Copy, Debug, PartialEq, Eq, Error)]
+pub enum MemoryFault {
+    /// A growth was refused.
+    #[error("memory ran out")]
+    Memory,
+    /// Two segments that are not both common have a byte at one address.
+    #[error("two segments have a byte at one address")]
+    Overlap {
+        /// The first address at which two such segments have a byte.
+        address: u32,
+        /// The first of the segments there.
+        first: Owner,
+        /// The next one that may not share the address with it.
+        second: Owner,
+    },
+}
+
+impl From<AllocError> for MemoryFault {
+    ghost from_gives = { λ _ e. e ≡ Memory };
+
+    fn from(_error: AllocError) -> MemoryFault {
+        MemoryFault::Memory
+    }
+}
+
+impl<T: Drop> From<AllocFailed<T>> for MemoryFault {
+    ghost from_gives = { λ _ e. e ≡ Memory };
+
+    fn from(_error: AllocFailed<T>) -> MemoryFault {
+        MemoryFault::Memory
+    }
+}
