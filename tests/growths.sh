@@ -1,6 +1,6 @@
 #!/usr/bin/env bash
 # Refuses each growth in turn, until a run meets none: of the tests that hold whichever growth is refused, and of the program.
-# It takes the programs that `rt test` left in crates/omf_check_tests and crates/omf_derive, and OMF, the program `omf`
+# It takes the programs that `rt test` left in crates/omf_check_tests and crates/omf_derive_tests, and OMF, the program `omf`
 # (crates/omf/out/omf, which `make build` makes); what is not there is skipped. It needs a C compiler.
 # Its status is 0 where every run passed.
 set -uo pipefail
@@ -83,7 +83,7 @@ input() {
 for test in a_refused_growth_is_kept a_refused_growth_ends_a_check a_type_is_refused_without_memory; do
     refuse_each_of_test omf_check_tests "tests::memory::$test"
 done
-refuse_each_of_test omf_derive tests::table::a_refused_growth_is_memory_or_the_answer
+refuse_each_of_test omf_derive_tests tests::table::a_refused_growth_is_memory_or_the_answer
 
 if [ ! -x "$omf" ]; then
     echo "skipped: the program (run make build, or name it in OMF)"

@@ -251,18 +251,36 @@ fn canonical_bytes_are_written(rt: HostRuntime) -> Result<(), Fail> {
     Ok(())
 }
 
+/// A writer with room for so many bytes has the first of them, and `Write` is answered where that are not all.
+fn writes_front(
+    rt: &(impl Abort + AllocGlobal),
+    module: &Checked,
+    room: usize,
+    full: Full,
+) -> Result<(), Fail> {
+    let bytes = module.bytes();
+    let mut writer = Taker::new(rt.alloc(), room, full)?;
+    let wanted = if room < bytes.len() {
+        Err(CanonFault::Write)
+    } else {
+        Ok(())
+    };
+    assert_eq!(rt; canon_to(rt.alloc(), module, &mut writer), wanted);
+    assert_eq!(rt; writer.bytes(), bytes.split_at(room.min(bytes.len())).0);
+    Ok(())
+}
+
+/// The module is canonical, so its own bytes are written.
 #[test]
-fn a_failing_writer_has_the_first_bytes(rt: HostRuntime) -> Result<(), Fail> {
+fn a_writer_that_ends_has_the_first_bytes(rt: HostRuntime) -> Result<(), Fail> {
     let a = rt.alloc();
     let bytes = bytes_of(a, &[HEADER, NAMES, SEGMENT, DATA, FIXUP, END])?;
     let module = module_of(a, &bytes)?;
-    let first = bytes_of(a, &["80 03 00 01 41 3B 96 04 00 00"])?;
-    let mut failing = Taker::new(a, 10, Full::Fails)?;
-    assert_eq!(rt; canon_to(a, &module, &mut failing), Err(CanonFault::Write));
-    assert_eq!(rt; failing.bytes(), first.as_slice());
-    let mut full = Taker::new(a, 10, Full::TakesNone)?;
-    assert_eq!(rt; canon_to(a, &module, &mut full), Err(CanonFault::Write));
-    assert_eq!(rt; full.bytes(), first.as_slice());
+    assert_eq!(rt; bytes.len(), 48);
+    for room in 0..50 {
+        writes_front(&rt, &module, room, Full::Fails)?;
+        writes_front(&rt, &module, room, Full::TakesNone)?;
+    }
     Ok(())
 }
 

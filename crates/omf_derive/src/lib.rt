@@ -6,8 +6,6 @@ mod given;
 pub mod laws;
 mod linkage;
 mod publics;
-#[cfg(test)]
-mod tests;
 
 pub use fault::DeriveFault;
 pub use given::Given;

@@ -1,6 +1,10 @@
 //! Local records.
 
-use super::{ANY, DATA, END, HEADER, NAMES, SEGMENT, accepted, answer, fault, module};
+use super::Verdict::{Fault, Taken};
+use super::{
+    ANY, Answer, DATA, END, HEADER, Line, NAMES, SEGMENT, Verdict, answer_under, first_wrong,
+    module,
+};
 use omf_check::check;
 use omf_frame::{Reading, Reason};
 use std::alloc::{AllocError, Global};
@@ -12,98 +16,110 @@ const LOCAL_COMMUNAL: [u8; 11] = [
     0xB8, 0x08, 0x00, 0x01, 0x58, 0x00, 0x62, 0x81, 0x80, 0x00, 0x84,
 ];
 
-#[test]
-fn takes_local_records(rt: HostRuntime) -> Result<(), Fail> {
-    let a = rt.alloc();
-    let short = [
-        0xA0, 0x08, 0x00, 0x01, 0x00, 0x00, 0xEB, 0x00, 0x00, 0x90, 0xDC,
-    ];
-    let jump = [0x9C, 0x06, 0x00, 0x80, 0x01, 0x06, 0x01, 0x01, 0xD5];
-    assert_eq!(rt;
-        answer(
-            a,
+// A local external X, by the second type of that record.
+const SECOND_TYPE: [u8; 7] = [0xB5, 0x04, 0x00, 0x01, 0x58, 0x00, 0x00];
+
+const LINES: [Line; 8] = [
+    Line {
+        name: "a short jump to a local external",
+        records: &[
+            &HEADER,
+            &NAMES,
+            &SEGMENT,
+            &LOCAL_EXTERNAL,
             &[
-                &HEADER,
-                &NAMES,
-                &SEGMENT,
-                &LOCAL_EXTERNAL,
-                &short,
-                &jump,
-                &END
-            ]
-        )?,
-        accepted(55)
-    );
-    let name = [0xCA, 0x03, 0x00, 0x01, 0x55, 0xDD];
-    let segment = [0x98, 0x07, 0x00, 0x28, 0x04, 0x00, 0x01, 0x00, 0x00, 0x34];
-    assert_eq!(rt; answer(a, &[&HEADER, &name, &segment, &END])?, accepted(27));
-    assert_eq!(rt; answer(a, &[&HEADER, &LOCAL_COMMUNAL, &END])?, accepted(22));
-    Ok(())
-}
+                0xA0, 0x08, 0x00, 0x01, 0x00, 0x00, 0xEB, 0x00, 0x00, 0x90, 0xDC,
+            ],
+            &[0x9C, 0x06, 0x00, 0x80, 0x01, 0x06, 0x01, 0x01, 0xD5],
+            &END,
+        ],
+        verdict: Taken(55),
+    },
+    Line {
+        name: "a segment with a local name",
+        records: &[
+            &HEADER,
+            &[0xCA, 0x03, 0x00, 0x01, 0x55, 0xDD],
+            &[0x98, 0x07, 0x00, 0x28, 0x04, 0x00, 0x01, 0x00, 0x00, 0x34],
+            &END,
+        ],
+        verdict: Taken(27),
+    },
+    Line {
+        name: "a local communal",
+        records: &[&HEADER, &LOCAL_COMMUNAL, &END],
+        verdict: Taken(22),
+    },
+    Line {
+        name: "a local public in a segment that is not defined",
+        records: &[
+            &HEADER,
+            &NAMES,
+            &SEGMENT,
+            &[
+                0xB6, 0x08, 0x00, 0x00, 0x02, 0x01, 0x50, 0x00, 0x00, 0x00, 0xEF,
+            ],
+            &END,
+        ],
+        verdict: Fault(Reason::UndefinedSegment, 3, 23, 4),
+    },
+    Line {
+        name: "a local public in a group that is not defined",
+        records: &[
+            &HEADER,
+            &NAMES,
+            &SEGMENT,
+            &[0xB6, 0x03, 0x00, 0x01, 0x02, 0x00],
+            &END,
+        ],
+        verdict: Fault(Reason::UndefinedGroup, 3, 23, 3),
+    },
+    Line {
+        name: "a local public with an offset of 32 bits",
+        records: &[
+            &HEADER,
+            &NAMES,
+            &SEGMENT,
+            &[
+                0xB7, 0x0A, 0x00, 0x00, 0x01, 0x01, 0x50, 0x00, 0x00, 0x00, 0x00, 0x00, 0x00,
+            ],
+            &END,
+        ],
+        verdict: Taken(41),
+    },
+    Line {
+        name: "a fixup by the second of two local externals",
+        records: &[
+            &HEADER,
+            &NAMES,
+            &SEGMENT,
+            &SECOND_TYPE,
+            &LOCAL_COMMUNAL,
+            &DATA,
+            &[0x9C, 0x05, 0x00, 0xC4, 0x01, 0x56, 0x02, 0x00],
+            &END,
+        ],
+        verdict: Taken(65),
+    },
+    Line {
+        name: "a fixup by the third of two local externals",
+        records: &[
+            &HEADER,
+            &NAMES,
+            &SEGMENT,
+            &SECOND_TYPE,
+            &LOCAL_COMMUNAL,
+            &DATA,
+            &[0x9C, 0x05, 0x00, 0xC4, 0x01, 0x56, 0x03, 0x00],
+            &END,
+        ],
+        verdict: Fault(Reason::UndefinedExternal, 6, 52, 6),
+    },
+];
 
 #[test]
-fn judges_local_publics(rt: HostRuntime) -> Result<(), Fail> {
-    let a = rt.alloc();
-    let public = [
-        0xB6, 0x08, 0x00, 0x00, 0x02, 0x01, 0x50, 0x00, 0x00, 0x00, 0xEF,
-    ];
-    assert_eq!(rt;
-        answer(a, &[&HEADER, &NAMES, &SEGMENT, &public, &END])?,
-        fault(Reason::UndefinedSegment, 3, 23, 4)
-    );
-    let in_group = [0xB6, 0x03, 0x00, 0x01, 0x02, 0x00];
-    assert_eq!(rt;
-        answer(a, &[&HEADER, &NAMES, &SEGMENT, &in_group, &END])?,
-        fault(Reason::UndefinedGroup, 3, 23, 3)
-    );
-    let wide = [
-        0xB7, 0x0A, 0x00, 0x00, 0x01, 0x01, 0x50, 0x00, 0x00, 0x00, 0x00, 0x00, 0x00,
-    ];
-    assert_eq!(rt;
-        answer(a, &[&HEADER, &NAMES, &SEGMENT, &wide, &END])?,
-        accepted(41)
-    );
-    Ok(())
-}
-
-#[test]
-fn counts_local_externals(rt: HostRuntime) -> Result<(), Fail> {
-    let a = rt.alloc();
-    let second_type = [0xB5, 0x04, 0x00, 0x01, 0x58, 0x00, 0x00];
-    let fixup = [0x9C, 0x05, 0x00, 0xC4, 0x01, 0x56, 0x02, 0x00];
-    let third = [0x9C, 0x05, 0x00, 0xC4, 0x01, 0x56, 0x03, 0x00];
-    assert_eq!(rt;
-        answer(
-            a,
-            &[
-                &HEADER,
-                &NAMES,
-                &SEGMENT,
-                &second_type,
-                &LOCAL_COMMUNAL,
-                &DATA,
-                &fixup,
-                &END
-            ]
-        )?,
-        accepted(65)
-    );
-    assert_eq!(rt;
-        answer(
-            a,
-            &[
-                &HEADER,
-                &NAMES,
-                &SEGMENT,
-                &second_type,
-                &LOCAL_COMMUNAL,
-                &DATA,
-                &third,
-                &END
-            ]
-        )?,
-        fault(Reason::UndefinedExternal, 6, 52, 6)
-    );
+fn judges_local_records(rt: HostRuntime) -> Result<(), Fail> {
+    assert_eq!(rt; first_wrong(rt.alloc(), ANY, &LINES)?, None);
     Ok(())
 }
 
@@ -119,32 +135,60 @@ fn repeated(alloc: Global, kind: u8, count: u16, byte: u8) -> Result<Vec<u8>, Al
     Ok(record)
 }
 
+/// A record of this type and of so many bytes 00, which are names or, two by two, externals; a second record with one more; and the
+/// verdict.
+struct Limit {
+    kind: u8,
+    count: u16,
+    second: &'static [u8],
+    verdict: Verdict,
+}
+
+const LIMITS: [Limit; 4] = [
+    Limit {
+        kind: 0x96,
+        count: 32_767,
+        second: &[0xCA, 0x02, 0x00, 0x00, 0x00],
+        verdict: Fault(Reason::TooMany, 2, 32_777, 3),
+    },
+    Limit {
+        kind: 0xCA,
+        count: 32_766,
+        second: &[0xCA, 0x02, 0x00, 0x00, 0x00],
+        verdict: Taken(32_786),
+    },
+    Limit {
+        kind: 0x8C,
+        count: 65_534,
+        second: &[0xB4, 0x03, 0x00, 0x00, 0x00, 0x00],
+        verdict: Fault(Reason::TooMany, 2, 65_544, 3),
+    },
+    Limit {
+        kind: 0xB5,
+        count: 65_534,
+        second: &[0xB8, 0x05, 0x00, 0x00, 0x00, 0x62, 0x01, 0x00],
+        verdict: Fault(Reason::TooMany, 2, 65_544, 3),
+    },
+];
+
+/// The answer of a first record of so many entries, each a byte 00 or two, and a second.
+fn answer_beyond(
+    alloc: Global,
+    kind: u8,
+    count: u16,
+    second: &[u8],
+) -> Result<Option<Answer>, AllocError> {
+    let first = repeated(alloc, kind, count, 0)?;
+    let answer = answer_under(alloc, ANY, &[&HEADER, &first, second, &END])?;
+    Ok(answer)
+}
+
 #[test]
 fn counts_local_entries_to_the_limit(rt: HostRuntime) -> Result<(), Fail> {
-    let a = rt.alloc();
-    let names = repeated(a, 0x96, 32_767, 0)?;
-    let name = [0xCA, 0x02, 0x00, 0x00, 0x00];
-    assert_eq!(rt;
-        answer(a, &[&HEADER, &names, &name, &END])?,
-        fault(Reason::TooMany, 2, 32_777, 3)
-    );
-    let fewer = repeated(a, 0xCA, 32_766, 0)?;
-    assert_eq!(rt;
-        answer(a, &[&HEADER, &fewer, &name, &END])?,
-        accepted(32_786)
-    );
-    let externals = repeated(a, 0x8C, 65_534, 0)?;
-    let external = [0xB4, 0x03, 0x00, 0x00, 0x00, 0x00];
-    assert_eq!(rt;
-        answer(a, &[&HEADER, &externals, &external, &END])?,
-        fault(Reason::TooMany, 2, 65_544, 3)
-    );
-    let local_externals = repeated(a, 0xB5, 65_534, 0)?;
-    let communal = [0xB8, 0x05, 0x00, 0x00, 0x00, 0x62, 0x01, 0x00];
-    assert_eq!(rt;
-        answer(a, &[&HEADER, &local_externals, &communal, &END])?,
-        fault(Reason::TooMany, 2, 65_544, 3)
-    );
+    for limit in &LIMITS {
+        let answer = answer_beyond(rt.alloc(), limit.kind, limit.count, limit.second)?;
+        assert_eq!(rt; answer, Some(limit.verdict.answer()), "{}", limit.kind);
+    }
     Ok(())
 }
 

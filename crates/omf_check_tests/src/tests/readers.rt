@@ -1,6 +1,9 @@
 //! How far a check reads, and what a failing reader makes of it.
 
-use super::{ANY, Answer, DATA, END, FIXUP, HEADER, NAMES, SEGMENT, length_of, module, refused};
+use super::Verdict::{Fault, Taken};
+use super::{
+    ANY, Answer, DATA, END, FIXUP, HEADER, NAMES, SEGMENT, Verdict, length_of, module, refused,
+};
 use omf_check::{CheckFault, check};
 use omf_frame::faulty::{Script, Then};
 use omf_frame::{Buffered, Reading, Reason, Source};
@@ -79,123 +82,147 @@ fn is_buffered_alike(alloc: Global, records: &[&[u8]]) -> Result<bool, Fail> {
     Ok(true)
 }
 
+/// A module or what is taken for one, its verdict, and how many bytes are read of it.
+struct Extent {
+    name: &'static str,
+    records: &'static [&'static [u8]],
+    verdict: Verdict,
+    read: usize,
+}
+
+// The data with a wrong checksum, and an LNAMES whose length is 0.
+const WRONG_SUM: [u8; 11] = [
+    0xA0, 0x08, 0x00, 0x01, 0x00, 0x00, 0xB8, 0x00, 0x00, 0x90, 0x10,
+];
+
+const EMPTY: [u8; 3] = [0x96, 0x00, 0x00];
+
+const EXTENTS: [Extent; 14] = [
+    Extent {
+        name: "an unsupported type",
+        records: &[&HEADER, &[0xC2], &END, &END],
+        verdict: Fault(Reason::UnsupportedType, 1, 6, 0),
+        read: 7,
+    },
+    Extent {
+        name: "an unsupported type at the front",
+        records: &[&[0xF0], &HEADER, &END],
+        verdict: Fault(Reason::UnsupportedType, 0, 0, 0),
+        read: 1,
+    },
+    Extent {
+        name: "an unknown type at the front",
+        records: &[&[0x00], &HEADER, &END],
+        verdict: Fault(Reason::UnknownType, 0, 0, 0),
+        read: 1,
+    },
+    Extent {
+        name: "a length of 0",
+        records: &[&HEADER, &EMPTY, &NAMES, &END],
+        verdict: Fault(Reason::EmptyRecord, 1, 6, 1),
+        read: 9,
+    },
+    Extent {
+        name: "a length of 0 at the front",
+        records: &[&[0x8A, 0x00, 0x00], &HEADER, &END],
+        verdict: Fault(Reason::EmptyRecord, 0, 0, 1),
+        read: 3,
+    },
+    Extent {
+        name: "a wrong checksum",
+        records: &[&HEADER, &NAMES, &SEGMENT, &WRONG_SUM, &FIXUP, &END],
+        verdict: Fault(Reason::Checksum, 3, 23, 10),
+        read: 34,
+    },
+    Extent {
+        name: "no header",
+        records: &[&END, &HEADER, &END],
+        verdict: Fault(Reason::NoHeader, 0, 0, 0),
+        read: 5,
+    },
+    Extent {
+        name: "a name that is cut by its record",
+        records: &[&HEADER, &[0x96, 0x03, 0x00, 0x05, 0x41, 0x00], &NAMES, &END],
+        verdict: Fault(Reason::Short, 1, 6, 3),
+        read: 12,
+    },
+    Extent {
+        name: "data that are too long",
+        records: &[
+            &HEADER,
+            &NAMES,
+            &SEGMENT,
+            &[
+                0xA3, 0x0E, 0x00, 0x01, 0x00, 0x00, 0x00, 0x00, 0x01, 0x00, 0x00, 0x10, 0x00, 0x00,
+                0x01, 0xAA, 0x92,
+            ],
+            &FIXUP,
+            &END,
+        ],
+        verdict: Fault(Reason::DataTooLong, 3, 23, 8),
+        read: 40,
+    },
+    Extent {
+        name: "a fixup past its data",
+        records: &[
+            &HEADER,
+            &NAMES,
+            &SEGMENT,
+            &DATA,
+            &[0x9C, 0x06, 0x00, 0xC4, 0x03, 0x04, 0x01, 0x01, 0x91],
+            &FIXUP,
+            &END,
+        ],
+        verdict: Fault(Reason::OutsideRecord, 4, 34, 3),
+        read: 43,
+    },
+    Extent {
+        name: "no bytes",
+        records: &[],
+        verdict: Fault(Reason::NoEnd, 0, 0, 0),
+        read: 0,
+    },
+    Extent {
+        name: "a record that is cut",
+        records: &[&HEADER, &NAMES, &SEGMENT, &DATA, &[0x9C, 0x06]],
+        verdict: Fault(Reason::Cut, 4, 34, 2),
+        read: 36,
+    },
+    Extent {
+        name: "no end",
+        records: &[&HEADER, &NAMES, &SEGMENT, &DATA, &FIXUP],
+        verdict: Fault(Reason::NoEnd, 5, 43, 0),
+        read: 43,
+    },
+    Extent {
+        name: "a record behind a module",
+        records: &[&HEADER, &NAMES, &SEGMENT, &DATA, &FIXUP, &END, &END],
+        verdict: Taken(48),
+        read: 48,
+    },
+];
+
 #[test]
-fn reads_no_further_than_what_is_ahead(rt: HostRuntime) -> Result<(), Fail> {
-    let a = rt.alloc();
-    let sum = [
-        0xA0, 0x08, 0x00, 0x01, 0x00, 0x00, 0xB8, 0x00, 0x00, 0x90, 0x10,
-    ];
-    let cut = [0x9C, 0x06];
-    assert_eq!(rt;
-        is_buffered_alike(a, &[&HEADER, &[0xC2], &END, &END])?,
-        true
-    );
-    assert_eq!(rt;
-        is_buffered_alike(a, &[&HEADER, &[0x00], &END, &END])?,
-        true
-    );
-    assert_eq!(rt;
-        is_buffered_alike(a, &[&HEADER, &[0x96, 0x00, 0x00], &NAMES, &END])?,
-        true
-    );
-    assert_eq!(rt;
-        is_buffered_alike(a, &[&HEADER, &NAMES, &SEGMENT, &sum, &FIXUP, &END])?,
-        true
-    );
-    assert_eq!(rt;
-        is_buffered_alike(a, &[&HEADER, &NAMES, &SEGMENT, &DATA, &cut])?,
-        true
-    );
-    assert_eq!(rt;
-        is_buffered_alike(a, &[&HEADER, &NAMES, &SEGMENT, &DATA, &FIXUP, &END, &END])?,
-        true
-    );
+fn reads_as_far_as_decides(rt: HostRuntime) -> Result<(), Fail> {
+    for extent in &EXTENTS {
+        let (answer, read) = read_of(rt.alloc(), extent.records)?;
+        assert_eq!(rt; answer, extent.verdict.answer(), "{}", extent.name);
+        assert_eq!(rt; read, extent.read, "{}", extent.name);
+    }
     Ok(())
 }
 
 #[test]
-fn reads_through_a_type_byte(rt: HostRuntime) -> Result<(), Fail> {
-    let a = rt.alloc();
-    assert_eq!(rt;
-        read_of(a, &[&HEADER, &[0xC2], &END, &END])?,
-        (refused(Reason::UnsupportedType, 1, 6, 0), 7)
-    );
-    assert_eq!(rt;
-        read_of(a, &[&[0xF0], &HEADER, &END])?,
-        (refused(Reason::UnsupportedType, 0, 0, 0), 1)
-    );
-    assert_eq!(rt;
-        read_of(a, &[&[0x00], &HEADER, &END])?,
-        (refused(Reason::UnknownType, 0, 0, 0), 1)
-    );
-    Ok(())
-}
-
-#[test]
-fn reads_through_a_length(rt: HostRuntime) -> Result<(), Fail> {
-    let a = rt.alloc();
-    assert_eq!(rt;
-        read_of(a, &[&HEADER, &[0x96, 0x00, 0x00], &NAMES, &END])?,
-        (refused(Reason::EmptyRecord, 1, 6, 1), 9)
-    );
-    assert_eq!(rt;
-        read_of(a, &[&[0x8A, 0x00, 0x00], &HEADER, &END])?,
-        (refused(Reason::EmptyRecord, 0, 0, 1), 3)
-    );
-    Ok(())
-}
-
-#[test]
-fn reads_through_the_record_at_fault(rt: HostRuntime) -> Result<(), Fail> {
-    let a = rt.alloc();
-    let sum = [
-        0xA0, 0x08, 0x00, 0x01, 0x00, 0x00, 0xB8, 0x00, 0x00, 0x90, 0x10,
-    ];
-    assert_eq!(rt;
-        read_of(a, &[&HEADER, &NAMES, &SEGMENT, &sum, &FIXUP, &END])?,
-        (refused(Reason::Checksum, 3, 23, 10), 34)
-    );
-    assert_eq!(rt;
-        read_of(a, &[&END, &HEADER, &END])?,
-        (refused(Reason::NoHeader, 0, 0, 0), 5)
-    );
-    let short = [0x96, 0x03, 0x00, 0x05, 0x41, 0x00];
-    assert_eq!(rt;
-        read_of(a, &[&HEADER, &short, &NAMES, &END])?,
-        (refused(Reason::Short, 1, 6, 3), 12)
-    );
-    let long = [
-        0xA3, 0x0E, 0x00, 0x01, 0x00, 0x00, 0x00, 0x00, 0x01, 0x00, 0x00, 0x10, 0x00, 0x00, 0x01,
-        0xAA, 0x92,
-    ];
-    assert_eq!(rt;
-        read_of(a, &[&HEADER, &NAMES, &SEGMENT, &long, &FIXUP, &END])?,
-        (refused(Reason::DataTooLong, 3, 23, 8), 40)
-    );
-    let past = [0x9C, 0x06, 0x00, 0xC4, 0x03, 0x04, 0x01, 0x01, 0x91];
-    assert_eq!(rt;
-        read_of(a, &[&HEADER, &NAMES, &SEGMENT, &DATA, &past, &FIXUP, &END])?,
-        (refused(Reason::OutsideRecord, 4, 34, 3), 43)
-    );
-    Ok(())
-}
-
-#[test]
-fn reads_to_the_end(rt: HostRuntime) -> Result<(), Fail> {
-    let a = rt.alloc();
-    assert_eq!(rt; read_of(a, &[])?, (refused(Reason::NoEnd, 0, 0, 0), 0));
-    assert_eq!(rt;
-        read_of(a, &[&HEADER, &NAMES, &SEGMENT, &DATA, &[0x9C, 0x06]])?,
-        (refused(Reason::Cut, 4, 34, 2), 36)
-    );
-    assert_eq!(rt;
-        read_of(a, &[&HEADER, &NAMES, &SEGMENT, &DATA, &FIXUP])?,
-        (refused(Reason::NoEnd, 5, 43, 0), 43)
-    );
-    assert_eq!(rt;
-        read_of(a, &[&HEADER, &NAMES, &SEGMENT, &DATA, &FIXUP, &END, &END])?,
-        (Ok(48), 48)
-    );
+fn reads_as_far_through_a_buffer(rt: HostRuntime) -> Result<(), Fail> {
+    for extent in &EXTENTS {
+        assert!(rt;
+            is_buffered_alike(rt.alloc(), extent.records)?,
+            "{}",
+            extent.name
+        );
+    }
+    let unknown: [&[u8]; 4] = [&HEADER, &[0x00], &END, &END];
+    assert!(rt; is_buffered_alike(rt.alloc(), &unknown)?);
     Ok(())
 }
 

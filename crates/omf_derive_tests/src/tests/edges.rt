@@ -5,7 +5,7 @@ use super::{
     Answer, EXTERNAL, GROUP, HIGH, HIGH_FRAME, LOCAL_PUBLIC, LOW, LOW_FRAME, Line, Lying, PUBLIC,
     TOO_HIGH, TWICE, UNDEFINED, first_wrong,
 };
-use crate::{DeriveFault, Given, derive};
+use omf_derive::{DeriveFault, Given, derive};
 use omf_placement::Frame;
 use std::test::Fail;
 

@@ -4,7 +4,7 @@ use super::{
     EXTERNAL, GROUP, HIGH, HIGH_FRAME, LOCAL_EXTERNAL, LOCAL_PUBLIC, LOW, LOW_FRAME, Line, Lying,
     PUBLIC, TOO_HIGH, TWICE, UNDEFINED, first_wrong,
 };
-use crate::Given;
+use omf_derive::Given;
 use omf_placement::Frame;
 use std::test::Fail;
 

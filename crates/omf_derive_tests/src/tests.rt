@@ -3,8 +3,8 @@
 //! Each line holds with ample memory; and whichever growth is refused, its answer is the same or Memory (`tests/growths.sh` refuses
 //! each in turn).
 
-use crate::{DeriveFault, Given, derive};
 use omf_check::{CheckFault, Checked, Profile, check};
+use omf_derive::{DeriveFault, Given, derive};
 use omf_frame::Reading;
 use omf_placement::{Frame, Placement};
 use std::alloc::{AllocError, Global};
