@@ -8,6 +8,7 @@ mod changes;
 mod cuts;
 mod derived;
 mod framing;
+mod local;
 mod placed;
 mod printed;
 mod promises;

@@ -1,8 +1,8 @@
 //! What the calls are to answer of the modules: worked out by hand from the standard and this profile's rules.
 
 use super::samples::{
-    END, FLAT, HEADER, NAMES, OFFSET, REPEATS, SEGMENT, START, Sample, THREADS, make_sample,
-    module_of, push_record,
+    END, FLAT, HEADER, LOCAL, LOCAL_PLACES, NAMES, OFFSET, REPEATS, SEGMENT, START, Sample,
+    THREADS, make_sample, module_of, push_record,
 };
 use omf_check::Checked;
 use std::alloc::{AllocError, Global};
@@ -51,6 +51,21 @@ const START_WRITTEN_OUT: [&str; 5] = [
     "8A 07 00 C1 10 01 01 02 00 9A",
 ];
 
+/// The module of local records, with the length of its communal in one byte.
+const LOCAL_SHORTENED: [&str; 11] = [
+    HEADER,
+    "CA 03 00 01 55 DD",
+    "98 07 00 28 04 00 01 00 00 34",
+    "B4 04 00 01 58 00 EF",
+    "B5 04 00 01 59 00 ED",
+    "B8 06 00 01 5A 00 62 80 05",
+    "B6 08 00 00 01 01 50 02 00 00 EE",
+    "B7 0A 00 00 01 01 51 02 00 00 00 00 EA",
+    "A0 08 00 01 00 00 EB 00 00 90 DC",
+    "9C 06 00 80 01 06 01 01 D5",
+    END,
+];
+
 const FLAT_LIST: &str = "R 0 00000000 80 2 THEADR
 R 1 00000006 96 8 LNAMES
 R 2 00000012 99 8 SEGDEF
@@ -60,6 +75,25 @@ R 5 00000036 9D 14 FIXUPP
 R 6 00000048 8A 1 MODEND
 S 1 10 \"T\"
 G 1 \"FLAT\"
+";
+
+const LOCAL_LIST: &str = "R 0 00000000 80 2 THEADR
+R 1 00000006 CA 2 LLNAMES
+R 2 0000000C 98 6 SEGDEF
+R 3 00000016 B4 3 LEXTDEF
+R 4 0000001D B5 3 LEXTDEF
+R 5 00000024 B8 7 LCOMDEF
+R 6 0000002F B6 7 LPUBDEF
+R 7 0000003A B7 9 LPUBDEF
+R 8 00000047 A0 7 LEDATA
+R 9 00000052 9C 5 FIXUPP
+R 10 0000005B 8A 1 MODEND
+S 1 4 \"U\"
+E 1 \"X\"
+E 2 \"Y\"
+E 3 \"Z\"
+P - 1 00000002 \"P\"
+P - 1 00000002 \"Q\"
 ";
 
 const OFFSET_LIST: &str = "R 0 00000000 80 2 THEADR
@@ -294,6 +328,23 @@ fn real_row(alloc: Global) -> Result<Row, Fail> {
     )
 }
 
+fn local_row(alloc: Global) -> Result<Row, Fail> {
+    let texts = Texts {
+        placement: LOCAL_PLACES,
+        check: "OK 11 records, 96 bytes\n",
+        list: LOCAL_LIST,
+        reloc: "0001:00000000 EB 7F 00 90\n",
+    };
+    make_row(
+        alloc,
+        &LOCAL,
+        texts,
+        &LOCAL_SHORTENED,
+        &["EB 7F 00 90"],
+        None,
+    )
+}
+
 /// All of them.
 pub fn rows(alloc: Global) -> Result<Vec<Row>, Fail> {
     let mut all = Vec::new(alloc);
@@ -305,5 +356,6 @@ pub fn rows(alloc: Global) -> Result<Vec<Row>, Fail> {
     all.push(repeats_row(alloc)?)?;
     all.push(start_row(alloc)?)?;
     all.push(real_row(alloc)?)?;
+    all.push(local_row(alloc)?)?;
     Ok(all)
 }

@@ -74,6 +74,24 @@ pub const START: [&str; 6] = [
     "8A 06 00 C1 A0 01 02 00 0C",
 ];
 
+/// Local names, externals, a communal and publics; and a short jump to a local external.
+pub const LOCAL: [&str; 11] = [
+    HEADER,
+    "CA 03 00 01 55 DD",
+    "98 07 00 28 04 00 01 00 00 34",
+    "B4 04 00 01 58 00 EF",
+    "B5 04 00 01 59 00 ED",
+    "B8 08 00 01 5A 00 62 81 80 00 82",
+    "B6 08 00 00 01 01 50 02 00 00 EE",
+    "B7 0A 00 00 01 01 51 02 00 00 00 00 EA",
+    "A0 08 00 01 00 00 EB 00 00 90 DC",
+    "9C 06 00 80 01 06 01 01 D5",
+    END,
+];
+
+/// Where its segment and its externals lie.
+pub const LOCAL_PLACES: &str = "S 10020 10000 1000\nE 100A1 10000 1000\nE 0 0 0\nE 0 0 0";
+
 /// A module with the lengths of its records, and a placement at which it reaches.
 #[derive(Drop)]
 pub struct Sample {
@@ -134,6 +152,7 @@ pub fn samples(alloc: Global) -> Result<Vec<Sample>, Fail> {
     all.push(make_sample(alloc, "a flat group", &FLAT, "S 401000 0 1B\nG 0 23")?)?;
     all.push(make_sample(alloc, "repeats", &REPEATS, "S 10020 10000 1000")?)?;
     all.push(make_sample(alloc, "a start", &START, "S 10020 10000 1000\nG 10010 1001")?)?;
+    all.push(make_sample(alloc, "local records", &LOCAL, LOCAL_PLACES)?)?;
     Ok(all)
 }
 

@@ -1,5 +1,7 @@
 //! Verdicts by a reader and by a session, which are to be one.
 
+ghost use Rattle.std.specs.Prelude.{◌<◌};
+
 use super::samples::ANY;
 use omf_check::{CheckFault, Checked, Session, check};
 use omf_frame::{Place, Reading, Reason};
@@ -24,6 +26,30 @@ pub fn by_session(alloc: Global, bytes: &[u8]) -> Verdict {
         }
     }
     session.finish()
+}
+
+/// By a session that is fed pieces of one size.
+pub fn by_pieces(alloc: Global, bytes: &[u8], size: usize) -> Verdict
+    requires { 0 < size }
+{
+    let mut session = Session::new(alloc, ANY);
+    for piece in bytes.chunks(size) {
+        feed_all(&mut session, piece)?;
+    }
+    session.finish()
+}
+
+/// Feeds a piece, which no more than three records end in.
+fn feed_all(session: &mut Session, piece: &[u8]) -> Result<(), CheckFault> {
+    let mut rest = piece;
+    for _ in 0..4 {
+        if rest.is_empty() {
+            break;
+        }
+        let fed = session.feed(rest)?;
+        rest = rest.split_at(fed.taken).1;
+    }
+    Ok(())
 }
 
 /// Whether they are of one fault, or of the same module with tables of the same lengths.
