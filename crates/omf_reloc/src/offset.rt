@@ -237,6 +237,3 @@ pub(crate) fn start_offset(
         .first()
         .ok_or(Cause::Target)
 }
-
-#[cfg(test)]
-mod tests;

@@ -1,0 +1,420 @@
+//! What one fixup adds, how far it reaches, and starts: each in a module of one segment, one group and one external.
+
+use omf_check::{CheckFault, Checked, Profile, check};
+use omf_frame::Reading;
+use omf_reloc::{Cause, Frame, Placement, ReachFault, reach, relocate, start};
+use std::alloc::{AllocError, Global};
+use std::test::Fail;
+
+// A header, a name T, a segment T of 4 bytes, a group of it, and an external X. Checksum bytes of 0 are accepted.
+const FRONT: [u8; 37] = [
+    0x80, 0x03, 0x00, 0x01, 0x41, 0x3B, 0x96, 0x04, 0x00, 0x00, 0x01, 0x54, 0x11, 0x98, 0x07, 0x00,
+    0x28, 0x04, 0x00, 0x02, 0x01, 0x01, 0x31, 0x9A, 0x04, 0x00, 0x02, 0xFF, 0x01, 0x60, 0x8C, 0x04,
+    0x00, 0x01, 0x58, 0x00, 0x17,
+];
+
+const END: [u8; 5] = [0x8A, 0x02, 0x00, 0x00, 0x74];
+
+/// Where the segment, the group and the external lie. The external has the segment's frame.
+#[derive(Clone, Copy)]
+struct Places {
+    segment: u32,
+    segment_frame: Frame,
+    group: Frame,
+    external: u32,
+}
+
+/// In frame 1000H of real mode.
+fn low(segment: u32, external: u32) -> Places {
+    Places {
+        segment,
+        segment_frame: Frame {
+            base: 0x10000,
+            selector: 0x1000,
+        },
+        group: Frame {
+            base: 0x10010,
+            selector: 0x1001,
+        },
+        external,
+    }
+}
+
+fn placement(alloc: Global, places: &Places) -> Result<Placement, AllocError> {
+    let mut placement = Placement::new(alloc);
+    placement.push_segment(places.segment, places.segment_frame)?;
+    placement.push_group(places.group)?;
+    placement.push_external(places.external, places.segment_frame)?;
+    Ok(placement)
+}
+
+/// A frame and a target by their methods, whose indices are 1, and a displacement.
+#[derive(Clone, Copy)]
+struct Reference {
+    frame: u8,
+    target: u8,
+    displacement: u32,
+}
+
+fn reference_by(frame: u8, target: u8, displacement: u32) -> Reference {
+    Reference {
+        frame,
+        target,
+        displacement,
+    }
+}
+
+/// Appends a reference of a record of 32 bits, or else of 16. Frames by the location and by the target have no index.
+fn push_reference(
+    bytes: &mut Vec<u8>,
+    is_wide: bool,
+    reference: Reference,
+) -> Result<(), AllocError> {
+    let [low, high, third, fourth] = reference.displacement.to_le_bytes();
+    bytes.push(reference.frame.wrapping_mul(16) | reference.target)?;
+    if reference.frame < 4 {
+        bytes.push(1)?;
+    }
+    bytes.extend_from_slice(&[1, low, high])?;
+    if is_wide {
+        bytes.extend_from_slice(&[third, fourth])?;
+    }
+    Ok(())
+}
+
+/// Appends a record, with a checksum byte of 0.
+fn push_record(bytes: &mut Vec<u8>, kind: u8, contents: &[u8]) -> Result<(), AllocError> {
+    let length = u16::try_from(contents.len())
+        .unwrap_or(u16::MAX)
+        .saturating_add(1);
+    bytes.push(kind)?;
+    bytes.extend_from_slice(&length.to_le_bytes())?;
+    bytes.extend_from_slice(contents)?;
+    bytes.push(0)?;
+    Ok(())
+}
+
+fn checked(alloc: Global, bytes: &[u8]) -> Result<Checked, CheckFault> {
+    let any = Profile {
+        refuse_vendor_comments: false,
+    };
+    check(alloc, &mut Reading::new(bytes), any)
+}
+
+/// Four bytes of data at the front of the segment, and one fixup of them, in a FIXUPP of 32 bits or else of 16.
+#[derive(Clone, Copy)]
+struct Fixing {
+    data: [u8; 4],
+    is_wide: bool,
+    location: u16,
+    reference: Reference,
+}
+
+fn fixed_module(alloc: Global, fixing: &Fixing) -> Result<Checked, Fail> {
+    let mut bytes = Vec::new(alloc);
+    bytes.extend_from_slice(&FRONT)?;
+    let [first, second, third, fourth] = fixing.data;
+    push_record(&mut bytes, 0xA0, &[1, 0, 0, first, second, third, fourth])?;
+    let mut fixup = Vec::new(alloc);
+    fixup.extend_from_slice(&fixing.location.to_be_bytes())?;
+    push_reference(&mut fixup, fixing.is_wide, fixing.reference)?;
+    push_record(&mut bytes, if fixing.is_wide { 0x9D } else { 0x9C }, &fixup)?;
+    bytes.extend_from_slice(&END)?;
+    Ok(checked(alloc, &bytes)?)
+}
+
+/// A reference in a record of that number, after so many of its bytes, does not reach.
+fn too_far(number: u32, within: u32, cause: Cause) -> ReachFault {
+    ReachFault::TooFar {
+        number,
+        within,
+        cause,
+    }
+}
+
+/// Whether the fixup makes these bytes of its data, or does not reach for this cause.
+fn makes(
+    alloc: Global,
+    places: &Places,
+    fixing: &Fixing,
+    sum: Result<[u8; 4], Cause>,
+) -> Result<bool, Fail> {
+    let module = fixed_module(alloc, fixing)?;
+    let placement = placement(alloc, places)?;
+    match reach(&module, &placement) {
+        Ok(()) => {
+            let image = relocate(alloc, &module, &placement)?;
+            Ok(match sum {
+                Ok(bytes) => image.run_bytes(1, 0) == Some(bytes.as_slice()),
+                Err(_) => false,
+            })
+        }
+        Err(fault) => Ok(match sum {
+            Ok(_) => false,
+            Err(cause) => fault == too_far(6, 3, cause),
+        }),
+    }
+}
+
+#[test]
+fn offset_of_16_bits(rt: HostRuntime) -> Result<(), Fail> {
+    for (segment, displacement, sum) in [
+        (0x10020, 0, Ok([0xB8, 0x20, 0, 0x90])),
+        (0x1FFFF, 0, Ok([0xB8, 0xFF, 0xFF, 0x90])),
+        (0x20000, 0, Err(Cause::Target)),
+        (0xFFFF, 0, Err(Cause::Target)),
+        (0xFFFF, 1, Ok([0xB8, 0, 0, 0x90])),
+        (0x10020, 0xFFFC, Ok([0xB8, 0x1C, 0, 0x90])),
+        (0x10002, 0xFFFC, Ok([0xB8, 0xFE, 0xFF, 0x90])),
+        (0x10003, 0xFFFC, Ok([0xB8, 0xFF, 0xFF, 0x90])),
+        (0x10004, 0xFFFC, Ok([0xB8, 0, 0, 0x90])),
+        (0x20003, 0xFFFC, Ok([0xB8, 0xFF, 0xFF, 0x90])),
+        (0x20004, 0xFFFC, Err(Cause::Target)),
+        (0x18001, 0x7FFF, Err(Cause::Target)),
+        (0x18001, 0x8000, Ok([0xB8, 1, 0, 0x90])),
+    ] {
+        let fixing = Fixing {
+            data: [0xB8, 0, 0, 0x90],
+            is_wide: false,
+            location: 0xC401,
+            reference: reference_by(0, 0, displacement),
+        };
+        assert!(rt;
+            makes(rt.alloc(), &low(segment, 0), &fixing, sum)?,
+            "at {segment:X} and {displacement:X}"
+        );
+    }
+    Ok(())
+}
+
+#[test]
+fn displacement_of_32_bits(rt: HostRuntime) -> Result<(), Fail> {
+    for (is_wide, segment, displacement, sum) in [
+        (true, 0x10020, 0xFFFC, Ok([0x1C, 0, 1, 0])),
+        (false, 0x10020, 0xFFFC, Ok([0x1C, 0, 1, 0])),
+        (true, 0x10020, 0xFFFF_FFFC, Ok([0x1C, 0, 0, 0])),
+        (true, 0x10000, 0xFFFF_FFFF, Ok([0xFF, 0xFF, 0xFF, 0xFF])),
+        (true, 0x10000, 0x8000_0000, Ok([0, 0, 0, 0x80])),
+        (true, 0xFFFF_FFFF, 0xFFFF_FFFF, Ok([0xFE, 0xFF, 0xFE, 0xFF])),
+        (true, 0xFFFF_FFFF, 0x7FFF_FFFF, Err(Cause::Target)),
+        (true, 0xFFFF, 0, Err(Cause::Target)),
+    ] {
+        let fixing = Fixing {
+            data: [0, 0, 0, 0],
+            is_wide,
+            location: 0xE400,
+            reference: reference_by(0, 0, displacement),
+        };
+        assert!(rt;
+            makes(rt.alloc(), &low(segment, 0), &fixing, sum)?,
+            "at {segment:X} and {displacement:X}"
+        );
+    }
+    Ok(())
+}
+
+#[test]
+fn near_call(rt: HostRuntime) -> Result<(), Fail> {
+    for (segment, sum) in [
+        (0x10020, Ok([0xE8, 0xFD, 0xFF, 0x90])),
+        (0x1FFFE, Ok([0xE8, 0xFD, 0xFF, 0x90])),
+        (0x1FFFF, Err(Cause::Location)),
+        (0x20000, Err(Cause::Target)),
+        (0xFFFF, Err(Cause::Target)),
+    ] {
+        let fixing = Fixing {
+            data: [0xE8, 0, 0, 0x90],
+            is_wide: false,
+            location: 0x8401,
+            reference: reference_by(0, 0, 0),
+        };
+        assert!(rt;
+            makes(rt.alloc(), &low(segment, 0), &fixing, sum)?,
+            "at {segment:X}"
+        );
+    }
+    Ok(())
+}
+
+#[test]
+fn near_call_of_32_bits(rt: HostRuntime) -> Result<(), Fail> {
+    for (segment, external, sum) in [
+        (0x10020, 0x10020, Ok([0xFC, 0xFF, 0xFF, 0xFF])),
+        (0x10020, 0x2_0024, Ok([0, 0, 1, 0])),
+        (0xFFFF, 0x10000, Err(Cause::Location)),
+        (0x10020, 0xFFFF, Err(Cause::Target)),
+    ] {
+        let fixing = Fixing {
+            data: [0, 0, 0, 0],
+            is_wide: true,
+            location: 0xA400,
+            reference: reference_by(2, 2, 0),
+        };
+        assert!(rt;
+            makes(rt.alloc(), &low(segment, external), &fixing, sum)?,
+            "at {segment:X} to {external:X}"
+        );
+    }
+    Ok(())
+}
+
+#[test]
+fn short_jump(rt: HostRuntime) -> Result<(), Fail> {
+    for (segment, external, displacement, sum) in [
+        (0x10020, 0x100A1, 0, Ok([0xEB, 0x7F, 0, 0x90])),
+        (0x10020, 0x100A2, 0, Err(Cause::Distance)),
+        (0x10200, 0x10182, 0, Ok([0xEB, 0x80, 0, 0x90])),
+        (0x10200, 0x10181, 0, Err(Cause::Distance)),
+        (0x1FFFF, 0x20000, 0, Ok([0xEB, 0xFF, 0, 0x90])),
+        (0x10020, 0x100A2, 0xFFFF, Ok([0xEB, 0x7F, 0, 0x90])),
+        (0xFFFF, 0x10021, 0, Ok([0xEB, 0x20, 0, 0x90])),
+        (0xFFFE, 0x10021, 0, Err(Cause::Location)),
+        (0xFFFE, 0xFFFF, 0, Err(Cause::Target)),
+    ] {
+        let fixing = Fixing {
+            data: [0xEB, 0, 0, 0x90],
+            is_wide: false,
+            location: 0x8001,
+            reference: reference_by(0, 2, displacement),
+        };
+        assert!(rt;
+            makes(rt.alloc(), &low(segment, external), &fixing, sum)?,
+            "at {segment:X} to {external:X} and {displacement:X}"
+        );
+    }
+    Ok(())
+}
+
+/// A pointer whose offset carries nothing into its selector, a low and a high byte, the group's selector, and an offset that a loader
+/// resolves, in the frame of its location.
+#[test]
+fn other_locations(rt: HostRuntime) -> Result<(), Fail> {
+    for (data, location, reference, sum) in [
+        (
+            [0xE0, 0xFB, 0xFF, 0xF0],
+            0xCC00,
+            reference_by(0, 0, 0),
+            [0, 0, 0xFF, 0],
+        ),
+        (
+            [0xF0, 0, 0, 0],
+            0xC000,
+            reference_by(0, 0, 0),
+            [0x10, 0, 0, 0],
+        ),
+        (
+            [0xB8, 0, 0, 0x90],
+            0xD000,
+            reference_by(0, 0, 0),
+            [0xBC, 0, 0, 0x90],
+        ),
+        (
+            [0xB8, 0, 0, 0x90],
+            0xC801,
+            reference_by(5, 1, 0xFFFF),
+            [0xB8, 1, 0x10, 0x90],
+        ),
+        ([0, 0, 0, 0], 0xD402, reference_by(4, 0, 0), [0, 0, 0x20, 4]),
+    ] {
+        let fixing = Fixing {
+            data,
+            is_wide: false,
+            location,
+            reference,
+        };
+        assert!(rt;
+            makes(rt.alloc(), &low(0x10420, 0), &fixing, Ok(sum))?,
+            "at {location:X}"
+        );
+    }
+    Ok(())
+}
+
+#[test]
+fn frames_of_methods(rt: HostRuntime) -> Result<(), Fail> {
+    let places = Places {
+        segment: 0x10420,
+        segment_frame: Frame {
+            base: 0x10000,
+            selector: 0x1000,
+        },
+        group: Frame {
+            base: 0x10100,
+            selector: 0x1010,
+        },
+        external: 0x10500,
+    };
+    for (frame, target, sum) in [
+        (0, 0, [0x20, 4, 0, 0x10]),
+        (1, 0, [0x20, 3, 0x10, 0x10]),
+        (2, 0, [0x20, 4, 0, 0x10]),
+        (4, 2, [0, 5, 0, 0x10]),
+        (5, 1, [0, 0, 0x10, 0x10]),
+        (5, 2, [0, 5, 0, 0x10]),
+        (0, 1, [0, 1, 0, 0x10]),
+    ] {
+        let fixing = Fixing {
+            data: [0, 0, 0, 0],
+            is_wide: false,
+            location: 0xCC00,
+            reference: reference_by(frame, target, 0),
+        };
+        assert!(rt;
+            makes(rt.alloc(), &places, &fixing, Ok(sum))?,
+            "F{frame} and T{target}"
+        );
+    }
+    Ok(())
+}
+
+/// A module whose MODEND, of 32 bits or else of 16, names a start.
+fn started_module(alloc: Global, is_wide: bool, reference: Reference) -> Result<Checked, Fail> {
+    let mut bytes = Vec::new(alloc);
+    bytes.extend_from_slice(&FRONT)?;
+    let mut end = Vec::new(alloc);
+    end.push(0xC1)?;
+    push_reference(&mut end, is_wide, reference)?;
+    push_record(&mut bytes, if is_wide { 0x8B } else { 0x8A }, &end)?;
+    Ok(checked(alloc, &bytes)?)
+}
+
+/// Whether the start lies at this offset of the group's frame, or does not reach for this cause.
+fn starts_at(
+    alloc: Global,
+    places: &Places,
+    module: &Checked,
+    offset: Result<u32, Cause>,
+) -> Result<bool, Fail> {
+    let placement = placement(alloc, places)?;
+    Ok(match reach(module, &placement) {
+        Ok(()) => match offset {
+            Ok(offset) => start(module, &placement) == Some((places.group.selector, offset)),
+            Err(_) => false,
+        },
+        Err(fault) => match offset {
+            Ok(_) => false,
+            Err(cause) => fault == too_far(5, 4, cause),
+        },
+    })
+}
+
+#[test]
+fn starts(rt: HostRuntime) -> Result<(), Fail> {
+    for (segment, is_wide, displacement, offset) in [
+        (0x10020, false, 2, Ok(0x12)),
+        (0x2000F, false, 0, Ok(0xFFFF)),
+        (0x20010, false, 0, Err(Cause::Target)),
+        (0x20010, false, 0xFFFF, Ok(0xFFFF)),
+        (0x20010, true, 0, Ok(0x10000)),
+        (0x20010, true, 0xFFFF, Ok(0x1FFFF)),
+        (0x1000F, true, 0, Err(Cause::Target)),
+        (0x1000F, true, 1, Ok(0)),
+    ] {
+        let module = started_module(rt.alloc(), is_wide, reference_by(1, 0, displacement))?;
+        assert!(rt;
+            starts_at(rt.alloc(), &low(segment, 0), &module, offset)?,
+            "at {segment:X} and {displacement:X}"
+        );
+    }
+    Ok(())
+}
