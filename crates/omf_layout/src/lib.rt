@@ -19,6 +19,3 @@ pub use draft::draft_text;
 pub use fault::LayoutFault;
 pub use laying::{Layout, layout_of};
 pub use options::{Frames, Options};
-
-#[cfg(test)]
-mod tests;

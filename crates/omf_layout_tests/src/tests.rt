@@ -1,8 +1,8 @@
 //! Layouts and drafts of modules that were checked; values worked out by hand.
 
-use crate::{Frames, LayoutFault, Options, draft_text, layout_of};
 use omf_check::{CheckFault, Checked, Profile, check};
 use omf_frame::Reading;
+use omf_layout::{Frames, LayoutFault, Options, draft_text, layout_of};
 use omf_reloc::{parse_placement, reach};
 use std::alloc::{AllocGlobal, Global};
 use std::process::Abort;
