@@ -11,7 +11,10 @@ fn asked(alloc: Global, words: &[&str]) -> Result<Option<(Job, bool)>, AllocErro
     for word in words {
         texts.push(String::from_str(alloc, *word)?)?;
     }
-    Ok(command(alloc, &texts)?.map(|(job, profile)| (job, profile.refuse_vendor_comments)))
+    match command(alloc, &texts)? {
+        Some((job, profile)) => Ok(Some((job, profile.refuse_vendor_comments))),
+        None => Ok(None),
+    }
 }
 
 const FLAG: &str = "--refuse-vendor-comments";
