@@ -3,13 +3,13 @@
 #
 # OUT/names has the modules, OUT/log a line for each batch of 50, OUT/results the lines of judge.sh. If it is stopped, the same
 # command goes on with the batches that are not done, and with those in which a module could not be judged. A new OUT begins anew.
-# OMF names the program. HOSTS, a file of GNU parallel's `--sshloginfile`, names hosts that work too: each needs the program,
+# OMF names the program, LIMITS the words of `ulimit` for each of its runs. HOSTS, a file of GNU parallel's `--sshloginfile`, names hosts that work too: each needs the program,
 # this folder and the modules under the same paths. A batch that fails on one is tried on another, three times in all.
 set -euo pipefail
 here=$(cd "$(dirname "$0")" && pwd)
 folder=${1:?usage: run.sh FOLDER OUT} out=${2:?usage: run.sh FOLDER OUT}
 command -v parallel > /dev/null || { echo "skipped: GNU parallel is not installed"; exit 0; }
-export OMF=${OMF:-omf}
+export OMF=${OMF:-omf} LIMITS=${LIMITS:-}
 command -v "$OMF" > /dev/null || { echo "$OMF is not installed; OMF names the program" >&2; exit 2; }
 mkdir -p "$out"
 if [ ! -e "$out/names" ]; then
@@ -17,7 +17,7 @@ if [ ! -e "$out/names" ]; then
     mv "$out/new" "$out/names"
 fi
 hosts=()
-[ -z "${HOSTS:-}" ] || hosts=(--sshloginfile "$HOSTS" --retries 3 --env OMF ${SSH:+--ssh "$SSH"})
+[ -z "${HOSTS:-}" ] || hosts=(--sshloginfile "$HOSTS" --retries 3 --env OMF --env LIMITS ${SSH:+--ssh "$SSH"})
 parallel "${hosts[@]}" --arg-file "$out/names" --max-args 50 --joblog "$out/log" --resume-failed \
     "$here/judge.sh" {} >> "$out/results" || echo "not every batch was done; the same command goes on"
 "$here/summary.sh" "$out"
