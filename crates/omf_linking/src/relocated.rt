@@ -1,13 +1,11 @@
 //! Modules at their placements.
 
-ghost use Rattle.std.specs.Prelude.{◌≡◌, ◌<◌, ◌^◌, IfOk, length, zip};
+ghost use Rattle.std.specs.Prelude.{◌≡◌, ◌<◌, ◌^◌, IfOk, length};
 ghost use Rattle.omf_check.specs.Module.{records_in};
 ghost use Rattle.omf_check.specs.WellFormed.{recs};
 ghost use Rattle.omf_derive.specs.PublicTable.{placed_modules};
 ghost use Rattle.omf_records.specs.Seen.{map_ok};
-ghost use Rattle.omf_linking.specs.Placing.{typed_modules};
 ghost use Rattle.omf_linking.specs.Relocated.{AreRelocated, IsRelocation};
-ghost use Rattle.omf_linking.specs.Starts.{is_main, main_start, main_starts, one_start};
 
 use crate::fault::LinkFault;
 use omf_check::Checked;
@@ -54,9 +52,7 @@ impl Relocated {
 }
 
 /// Whether a module is a main one (TIS OMF 1.1, "MODEND", bit 7 of its type byte).
-fn is_main(module: &Checked) -> bool
-    ensures { result ≡ is_main (recs (records_in «module».now.bytes)) }
-{
+fn is_main(module: &Checked) -> bool {
     let end = module.end();
     match &end {
         Rec::ModEnd { type_byte, .. } => *type_byte >= 128,
@@ -65,9 +61,7 @@ fn is_main(module: &Checked) -> bool
 }
 
 /// The start of a module, if it is a main one that names one.
-fn main_start(module: &Checked, relocated: &Relocated) -> Option<(u16, u32)>
-    ensures { result ≡ main_start (recs (records_in «module».now.bytes), relocated.now) }
-{
+fn main_start(module: &Checked, relocated: &Relocated) -> Option<(u16, u32)> {
     if is_main(module) {
         relocated.start
     } else {
@@ -98,29 +92,27 @@ pub fn relocate_all(
     Ok(relocated)
 }
 
-/// The start of the one main module that names one; none where no main module does.
+/// The start of the one main module that names one.
 ///
 /// # Errors
 ///
-/// `Starts` where two main modules name a start, or more: the first two of them.
+/// `Starts` for the second main module that names a start.
 pub fn start_of(
     modules: &[Checked],
     relocated: &[Relocated],
 ) -> Result<Option<(u16, u32)>, LinkFault>
     requires few { length modules.now < 2 ^ 32 }
     requires relocated { length relocated.now ≡ length modules.now }
-    ensures { result ≡ one_start (main_starts (zip (typed_modules modules.now) relocated.now)) }
 {
     let mut found: Option<(u32, (u16, u32))> = None;
     for (j, module) in modules.iter().enumerate() {
-        let Some(start) = main_start(module, &relocated[j]) else {
-            continue;
-        };
-        let second = j as u32;
-        if let Some((first, _)) = found {
-            return Err(LinkFault::Starts { first, second });
+        if let Some(start) = main_start(module, &relocated[j]) {
+            let second = j as u32;
+            if let Some((first, _)) = found {
+                return Err(LinkFault::Starts { first, second });
+            }
+            found = Some((second, start));
         }
-        found = Some((second, start));
     }
     match found {
         Some((_, start)) => Ok(Some(start)),
