@@ -69,6 +69,12 @@ fn counts_bytes(rt: HostRuntime) -> Result<(), Fail> {
 fn counts_levels(rt: HostRuntime) -> Result<(), Fail> {
     let deepest = nest(rt.alloc(), [1, 0, 1, 0], 63, &[1, 0, 0, 0, 1, 0xAA])?;
     let deeper = nest(rt.alloc(), [1, 0, 1, 0], 64, &[1, 0, 0, 0, 1, 0xAA])?;
+    let few = nest(rt.alloc(), [1, 0, 1, 0], 31, &[1, 0, 0, 0, 1, 0xAA])?;
+    let half = nest(rt.alloc(), [1, 0, 1, 0], 32, &[1, 0, 0, 0, 1, 0xAA])?;
+    if few.len() < 1000 && half.len() < 1000 {
+        assert_eq!(rt; len_of(&few), Ok(1));
+        assert_eq!(rt; len_of(&half), Ok(1));
+    }
     if deepest.len() < 1000 && deeper.len() < 1000 {
         assert_eq!(rt; len_of(&deepest), Ok(1));
         assert_eq!(rt;

@@ -4,3 +4,4 @@ pub mod GiveLaws
 pub mod LinkLaws
 pub mod ReadingLaws
 pub mod RelocatedLaws
+pub mod StartLaws

@@ -5,4 +5,5 @@ pub mod Placing
 pub mod Parsing
 pub mod Reading
 pub mod Relocated
+pub mod Starts
 pub mod Rows

@@ -1,11 +1,13 @@
 //! Modules at their placements.
 
-ghost use Rattle.std.specs.Prelude.{◌≡◌, ◌<◌, ◌^◌, IfOk, length};
+ghost use Rattle.std.specs.Prelude.{◌≡◌, ◌<◌, ◌^◌, IfOk, length, zip};
 ghost use Rattle.omf_check.specs.Module.{records_in};
 ghost use Rattle.omf_check.specs.WellFormed.{recs};
 ghost use Rattle.omf_derive.specs.PublicTable.{placed_modules};
 ghost use Rattle.omf_records.specs.Seen.{map_ok};
+ghost use Rattle.omf_linking.specs.Placing.{typed_modules};
 ghost use Rattle.omf_linking.specs.Relocated.{AreRelocated, IsRelocation};
+ghost use Rattle.omf_linking.specs.Starts.{is_main, main_start, main_starts, one_start};
 
 use crate::fault::LinkFault;
 use omf_check::Checked;
@@ -52,7 +54,9 @@ impl Relocated {
 }
 
 /// Whether a module is a main one (TIS OMF 1.1, "MODEND", bit 7 of its type byte).
-fn is_main(module: &Checked) -> bool {
+fn is_main(module: &Checked) -> bool
+    ensures { result ≡ is_main (recs (records_in «module».now.bytes)) }
+{
     let end = module.end();
     match &end {
         Rec::ModEnd { type_byte, .. } => *type_byte >= 128,
@@ -61,7 +65,9 @@ fn is_main(module: &Checked) -> bool {
 }
 
 /// The start of a module, if it is a main one that names one.
-fn main_start(module: &Checked, relocated: &Relocated) -> Option<(u16, u32)> {
+fn main_start(module: &Checked, relocated: &Relocated) -> Option<(u16, u32)>
+    ensures { result ≡ main_start (recs (records_in «module».now.bytes), relocated.now) }
+{
     if is_main(module) {
         relocated.start
     } else {
@@ -92,27 +98,29 @@ pub fn relocate_all(
     Ok(relocated)
 }
 
-/// The start of the one main module that names one.
+/// The start of the one main module that names one; none where no main module does.
 ///
 /// # Errors
 ///
-/// `Starts` for the second main module that names a start.
+/// `Starts` where two main modules name a start, or more: the first two of them.
 pub fn start_of(
     modules: &[Checked],
     relocated: &[Relocated],
 ) -> Result<Option<(u16, u32)>, LinkFault>
     requires few { length modules.now < 2 ^ 32 }
     requires relocated { length relocated.now ≡ length modules.now }
+    ensures { result ≡ one_start (main_starts (zip (typed_modules modules.now) relocated.now)) }
 {
     let mut found: Option<(u32, (u16, u32))> = None;
     for (j, module) in modules.iter().enumerate() {
-        if let Some(start) = main_start(module, &relocated[j]) {
-            let second = j as u32;
-            if let Some((first, _)) = found {
-                return Err(LinkFault::Starts { first, second });
-            }
-            found = Some((second, start));
+        let Some(start) = main_start(module, &relocated[j]) else {
+            continue;
+        };
+        let second = j as u32;
+        if let Some((first, _)) = found {
+            return Err(LinkFault::Starts { first, second });
         }
+        found = Some((second, start));
     }
     match found {
         Some((_, start)) => Ok(Some(start)),

@@ -204,18 +204,20 @@ fn shows_which_externals_are_local(rt: HostRuntime) -> Result<(), Fail> {
             &LOCAL_EXTERNAL,
             &communal,
             &LOCAL_COMMUNAL,
+            &SECOND_TYPE,
             &END,
         ],
     )?;
     let mut reader = Reading::new(bytes.as_slice());
     let checked = check(rt.alloc(), &mut reader, ANY)?;
-    assert_eq!(rt; checked.externals(), 4);
+    assert_eq!(rt; checked.externals(), 5);
     assert_eq!(rt; checked.local(0), None);
     assert_eq!(rt; checked.local(1), Some(false));
     assert_eq!(rt; checked.local(2), Some(true));
     assert_eq!(rt; checked.local(3), Some(false));
     assert_eq!(rt; checked.local(4), Some(true));
-    assert_eq!(rt; checked.local(5), None);
+    assert_eq!(rt; checked.local(5), Some(true));
+    assert_eq!(rt; checked.local(6), None);
     match checked.external(4) {
         Some(name) => assert_eq!(rt; name.0, b"X".as_slice()),
         None => assert!(rt; false),

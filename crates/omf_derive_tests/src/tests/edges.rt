@@ -2,8 +2,8 @@
 
 use super::table::{CALLEE, CALLER, LOCAL, LOCAL_CALLER, TOP};
 use super::{
-    Answer, EXTERNAL, GROUP, HIGH, HIGH_FRAME, LOCAL_PUBLIC, LOW, LOW_FRAME, Line, Lying, PUBLIC,
-    TOO_HIGH, TWICE, UNDEFINED, first_wrong,
+    Answer, EXTERNAL, GROUP, HIGH, HIGH_FRAME, LOCAL_EXTERNAL, LOCAL_PUBLIC, LOW, LOW_FRAME, Line,
+    Lying, PUBLIC, TOO_HIGH, TWICE, UNDEFINED, first_wrong,
 };
 use omf_derive::{DeriveFault, Given, derive};
 use omf_placement::Frame;
@@ -32,6 +32,18 @@ const SMALL_LETTER: &[u8] = &[
 
 const LONGER_NAME: &[u8] = &[
     0x90, 0x09, 0x00, 0x00, 0x01, 0x02, 0x58, 0x59, 0x02, 0x00, 0x00, 0xB1,
+];
+
+// A local external X by the second type of that record; local publics X at offset 3 of the segment: with an offset of 32 bits, and in a
+// group.
+const SECOND_TYPE: &[u8] = &[0xB5, 0x04, 0x00, 0x01, 0x58, 0x00, 0xEE];
+
+const WIDE_LOCAL_PUBLIC: &[u8] = &[
+    0xB7, 0x0A, 0x00, 0x00, 0x01, 0x01, 0x58, 0x03, 0x00, 0x00, 0x00, 0x00, 0xE2,
+];
+
+const LOCAL_PUBLIC_IN_GROUP: &[u8] = &[
+    0xB6, 0x08, 0x00, 0x01, 0x01, 0x01, 0x58, 0x03, 0x00, 0x00, 0xE4,
 ];
 
 const GROUP_FRAME: Frame = Frame {
@@ -70,7 +82,7 @@ const SECOND_OF_THE_SECOND: Answer = Some(Err(DeriveFault::Undefined {
     external: 2,
 }));
 
-const LINES: [Line; 19] = [
+const LINES: [Line; 22] = [
     Line {
         name: "the last address",
         modules: &[CALLER, (&[PUBLIC], (0xFFFF_FFFD, TOP), &[])],
@@ -163,6 +175,31 @@ const LINES: [Line; 19] = [
         modules: &[(&[LOCAL_COMMUNAL, LOCAL_PUBLIC], LOW, &[]), CALLEE],
         given: &[],
         answer: Some(Ok((0x10023, LOW_FRAME))),
+    },
+    Line {
+        name: "a local external and the module's own public",
+        modules: &[(&[LOCAL_EXTERNAL, PUBLIC], LOW, &[])],
+        given: &[],
+        answer: UNDEFINED,
+    },
+    Line {
+        name: "a local external and a local public of the other types",
+        modules: &[(&[SECOND_TYPE, WIDE_LOCAL_PUBLIC], LOW, &[]), CALLEE],
+        given: &[],
+        answer: Some(Ok((0x10023, LOW_FRAME))),
+    },
+    Line {
+        name: "a local public in a group",
+        modules: &[
+            (
+                &[GROUP, LOCAL_EXTERNAL, LOCAL_PUBLIC_IN_GROUP],
+                LOW,
+                &[GROUP_FRAME],
+            ),
+            CALLEE,
+        ],
+        given: &[],
+        answer: Some(Ok((0x10023, GROUP_FRAME))),
     },
     Line {
         name: "a name in small letters",

@@ -76,7 +76,18 @@ const SHORT: [&str; 9] = [
     END,
 ];
 
-const MODULES: [Local; 5] = [
+/// Publics of both kinds, two of them in one record: they are listed in the order of the file.
+const PUBLICS: [&str; 7] = [
+    HEADER,
+    NAMES,
+    SEGMENT,
+    "B6 0D 00 00 01 01 51 02 00 00 01 52 03 00 00 92",
+    "90 08 00 00 01 01 58 02 00 00 0C",
+    "B6 08 00 00 01 01 50 01 00 00 EF",
+    END,
+];
+
+const MODULES: [Local; 6] = [
     Local {
         records: &JUMP,
         canonical: &JUMP,
@@ -147,6 +158,23 @@ E 2 \"Y\"
 E 3 \"X\"
 P - 1 00000002 \"P\"
 P - 1 00000002 \"Q\"
+",
+    },
+    Local {
+        records: &PUBLICS,
+        canonical: &PUBLICS,
+        list: "R 0 00000000 80 2 THEADR
+R 1 00000006 96 3 LNAMES
+R 2 0000000D 98 6 SEGDEF
+R 3 00000017 B6 12 LPUBDEF
+R 4 00000027 90 7 PUBDEF
+R 5 00000032 B6 7 LPUBDEF
+R 6 0000003D 8A 1 MODEND
+S 1 4 \"T\"
+P - 1 00000002 \"Q\"
+P - 1 00000003 \"R\"
+P - 1 00000002 \"X\"
+P - 1 00000001 \"P\"
 ",
     },
 ];
