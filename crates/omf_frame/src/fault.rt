@@ -71,7 +71,7 @@ pub enum Reason {
     /// 20: the blocks of an LIDATA stand for more bytes than the limit.
     #[error("repeated data are too long")]
     DataTooLong,
-    /// 21: the name of a segment or a group, or a segment's class, has no LNAMES entry so far.
+    /// 21: the name of a segment or a group, or a segment's class, has no LNAMES or LLNAMES entry so far.
     #[error("the name is not defined")]
     UndefinedName,
     /// 22: a segment index has no SEGDEF so far.
@@ -80,7 +80,7 @@ pub enum Reason {
     /// 23: a group index has no GRPDEF so far.
     #[error("the group is not defined")]
     UndefinedGroup,
-    /// 24: an external index has no EXTDEF or COMDEF entry so far.
+    /// 24: an external index has no EXTDEF, COMDEF, LEXTDEF or LCOMDEF entry so far.
     #[error("the external is not defined")]
     UndefinedExternal,
     /// 25: a fixup or the start names a thread that no THREAD set before it.

@@ -7,7 +7,7 @@ use thiserror::Error;
 #[derive(Clone, Copy, Debug, PartialEq, Eq, Error)]
 pub enum LayoutFault {
     /// A growth was refused.
-    #[error("memory")]
+    #[error("memory ran out")]
     Memory,
     /// A segment or an external has no room below the last address: 2^20 in real mode, else 2^32.
     #[error("the module has no room below the last address")]
