@@ -11,7 +11,8 @@ use omf_reloc::{DeriveFault, Placement, derive};
 use std::alloc::Global;
 
 /// The placements of two modules whose segments and groups lie where their places say: each external has the address and the frame of
-/// the one public of its name, in either module.
+/// the one public of its name, in either module; an external that is local to its module (LEXTDEF, LCOMDEF) those of the one local
+/// public (LPUBDEF) of its name there.
 ///
 /// # Errors
 ///
