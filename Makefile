@@ -7,7 +7,8 @@
 # make try-c            tries the library for C: tests/c/run.sh over examples/ and the folder MODULES
 # make install          builds the programs and the library, and installs them under PREFIX: bin/omf, bin/omf-place,
 #                       share/man/man1/omf.1 and omf-place.1, lib/libomf.a, lib/libomf.so, include/omf.h, lib/pkgconfig/omf.pc
-# make shown            runs the commands that README.md and docs/REASONS.md show, by the installed program, and compares
+# make shown            runs the commands that README.md, docs/REASONS.md and docs/PLACEMENT.md show, by the installed programs, and
+#                       compares what they print
 # make ci               the gate: the commands of docs/REASONS.md from the sources, and then `rt ci`, which proves and tests everything
 
 PREFIX ?= /usr/local
@@ -60,7 +61,7 @@ install: build library
 	sed 's|@PREFIX@|$(PREFIX)|' include/omf.pc.in > $(DESTDIR)$(PREFIX)/lib/pkgconfig/omf.pc
 
 shown:
-	tests/reasons.sh README.md docs/REASONS.md
+	tests/reasons.sh README.md docs/REASONS.md docs/PLACEMENT.md
 
 ci:
 	.ci/run

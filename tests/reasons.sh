@@ -4,7 +4,8 @@
 # A command is a line `$ ..` in a block ```console of the page; the lines after it, up to the next command or the end of the
 # block, are what it must print. Bytes that the page shows before the command are compared with the file that the command reads.
 # OMF names the program (omf, if it is not set). Where there is none, or OMF is empty, `rt try` runs the program from its sources,
-# without any proof; commands that need the system's own files are then left out, and it says how many.
+# without any proof; commands that need the system's own files are then left out. So are commands whose tools are not installed. It says
+# how many were left out.
 set -euo pipefail
 cd "$(dirname "$0")/.."
 omf=${OMF-omf}
@@ -27,6 +28,13 @@ awk -v work="$work" '
     }
     inside == "console" && number { print > said }
 ' "$@"
+
+# Whether a command names a tool that is not installed, or the object that such a tool would have made.
+lacks_tool() {
+    grep -q 'nasm\|/tmp/lamp\.obj' <<< "$1" && ! command -v nasm > /dev/null && return
+    grep -q 'omf-place' <<< "$1" && ! command -v omf-place > /dev/null && return
+    grep -q '^xxd' <<< "$1" && ! command -v xxd > /dev/null
+}
 
 commands=$(find "$work" -maxdepth 1 -name '*.command' | wc -l)
 failed=0 left_out=0
@@ -51,7 +59,10 @@ for number in $(seq "$commands"); do
             failed=$((failed + 1))
         fi
     fi
-    if [ $collects = no ]; then
+    if lacks_tool "$command"; then
+        left_out=$((left_out + 1))
+        continue
+    elif [ $collects = no ]; then
         bash -c "$command" > "$work/got" 2>&1 || true
     elif grep -q '/dev/full\|< examples$\|check examples/' <<< "$command"; then
         left_out=$((left_out + 1))
@@ -72,7 +83,7 @@ done
 
 if [ $collects = yes ]; then
     (cd crates/omf && rt try --cases "$work/cases") > "$work/tried" 2>&1 || { grep -v " output=expected " "$work/tried"; failed=$((failed + 1)); }
-    echo "run by rt try; $left_out commands were left out"
+    echo "run by rt try"
 fi
-echo "$commands commands, $failed failed"
+echo "$commands commands, $failed failed, $left_out left out"
 exit $((failed > 0))
