@@ -7,6 +7,7 @@
 # stops where a promise does not hold, with that input in WORK. It needs a clang with libFuzzer: CLANG (clang).
 # LIBRARY names a library that is built already, as `make library` leaves it in crates/omf_c/out/libomf_c.a: it runs as it is, without
 # counters, so that libFuzzer goes by what its answers lead to in the targets alone.
+# SEEDS is a folder of more modules to begin with (*.omf, *.obj, *.o), which are taken as they are.
 # The status is 0 where every promise held.
 set -euo pipefail
 seconds=${1:?seconds for each target}
@@ -45,15 +46,21 @@ fi
 code=${LIBRARY:-$work/covered.o}
 [ -n "${LIBRARY:-}" ] || "$kit/toolchain/bin/clang" -w -c -x ir "$kept" -O2 -fPIE -fsanitize-coverage=inline-8bit-counters,pc-table -o "$work/covered.o"
 
-# The first inputs: the examples, each with its placement behind it.
+# The first inputs: the examples and local.omf, which has every local record, each with its placement behind it.
 mkdir -p "$work/seeds"
-for module in "$root"/examples/*.omf "$root"/examples/*/*.omf; do
+for module in "$root"/examples/*.omf "$root"/examples/*/*.omf "$root"/tests/fuzz/*.omf; do
     name=$(basename "$(dirname "$module")")-$(basename "$module")
     cat "$module" > "$work/seeds/$name"
     if [ -f "${module%.*}.place" ]; then
         cat "${module%.*}.place" >> "$work/seeds/$name"
     fi
 done
+
+if [ -n "${SEEDS:-}" ]; then
+    find "$SEEDS" -type f \( -iname '*.omf' -o -iname '*.obj' -o -iname '*.o' \) -size -5k | while read -r module; do
+        cp "$module" "$work/seeds/more-$(sha256sum < "$module" | head -c 16)"
+    done
+fi
 
 failed=0
 [ $# -gt 0 ] || set -- check canon reloc
