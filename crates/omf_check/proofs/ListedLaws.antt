@@ -1,5 +1,5 @@
 -- The records of a checked module are read one after another.
-use Rattle.std.proofs.Common.{◌≡◌, ℕ, suc, ◌+◌, ◌-◌, ◌*◌, ◌/◌, ◌%◌, ◌^◌, ◌<◌, ◌≤◌, List, [], ◌∷◌, ◌++◌, Result, Ok, Err, refl, sym, ◌∙◌, ap, subst, arith, length, length-append}
+use Rattle.std.proofs.Common.{◌≡◌, ℕ, suc, ◌+◌, ◌-◌, ◌*◌, ◌/◌, ◌%◌, ◌^◌, ◌<◌, ◌≤◌, List, [], ◌∷◌, ◌++◌, Result, Ok, refl, sym, ◌∙◌, ap, subst, arith, length, length-append}
 use Rattle.std.specs.Prelude.{All, flat_map, IsTrue, Bool, true, false, is_ok, ◌==◌}
 use Rattle.omf_frame.specs.Framing.{Raw, raw_bytes, IsRecord, is_taken, front_record, present, after_front}
 use Rattle.omf_frame.specs.Fault.{Fault}
@@ -126,12 +126,6 @@ again r h = (contents_whole r.kind).again 3 r.body (typed r).contents h.typed
 
 pub well_read : (kind : ℕ) (body : List ℕ) (r : Raw) → IsReadable r → kind ≡ r.kind → body ≡ r.body → is_ok (read_body kind body) ≡ true
 well_read kind body r h k b = ap is_ok (ap (λ y. read_body y body) k ∙ ap (read_body r.kind) b ∙ again r h)
-
-pub never_err : (kind : ℕ) (body : List ℕ) (r : Raw) (e : Fault) → IsReadable r → kind ≡ r.kind → body ≡ r.body → ◌≡◌ {A = Result Contents Fault} (Err e) (read_body kind body) → ⊥
-never_err kind body r e h k b x = clash e (typed r).contents (x ∙ ap (λ y. read_body y body) k ∙ ap (read_body r.kind) b ∙ again r h)
-  where
-    clash : (e : Fault) (c : Contents) → ◌≡◌ {A = Result Contents Fault} (Err e) (Ok c) → ⊥
-    clash e c x = cc
 
 pub rec_is : (kind shown : ℕ) (body : List ℕ) (r : Raw) (c : Contents) → IsReadable r → kind ≡ r.kind → body ≡ r.body → shown ≡ kind → ◌≡◌ {A = Result Contents Fault} (Ok c) (read_body kind body)
     → (let x : Rec = record { kind = shown; contents = c } in x) ≡ typed r

@@ -10,7 +10,7 @@ ghost use Rattle.omf_check.specs.Module.{records_in};
 ghost use Rattle.omf_check.specs.WellFormed.{recs};
 
 use omf_frame::{Place, RawRecord};
-use omf_records::{Rec, known_fixups, view};
+use omf_records::{Rec, view_known};
 use std::marker::Model;
 
 /// The record that the bytes begin with, and the bytes after it.
@@ -43,13 +43,7 @@ pub(crate) fn first_record<'a>(bytes: &'a [u8]) -> (Rec<'a>, &'a [u8])
     ensures rest { result.1.now ≡ after_front bytes.entry.now }
 {
     let (raw, rest) = split_record(bytes);
-    if let Some(fixups) = known_fixups(&raw) {
-        return (fixups, rest);
-    }
-    match view(raw) {
-        Ok(rec) => (rec, rest),
-        Err(_) => unreachable!(),
-    }
+    (view_known(raw), rest)
 }
 
 /// The last of the records that bytes are. The contents of those before it are passed over by their lengths alone.

@@ -1,5 +1,5 @@
 -- Items whose spelling is judged as they are read.
-use Rattle.std.specs.Prelude.{◌≡◌, ◌<◌, ℕ, List, [], Bool, Option, Some, None, Result, Ok, Err}
+use Rattle.std.specs.Prelude.{◌≡◌, ◌<◌, ℕ, List, [], Bool, true, is_ok, Option, Some, None, Result, Ok, Err}
 use Rattle.omf_frame.specs.Bytes.{is_one_of}
 use Rattle.omf_frame.specs.Types.{fixupp}
 use Rattle.omf_frame.specs.Fault.{Fault}
@@ -25,3 +25,7 @@ fixups_read r = and_then r (λ subs. Ok (Fixups subs))
 -- the types of a FIXUPP
 abbrev pub is_fixupp : ℕ → Bool
 is_fixupp kind = is_one_of fixupp kind
+
+-- what is said to be known to have no fault has none
+abbrev pub IsKnown : {A : Type 0} → Bool → Result A Fault → Type 0
+IsKnown known r = known ≡ true → is_ok r ≡ true

@@ -7,7 +7,7 @@ ghost use Rattle.omf_records.specs.Seen.{contents_seen, kind_seen, map_ok};
 ghost use Rattle.omf_records.specs.Reading.{read_body};
 ghost use Rattle.omf_records.specs.Reads.{Meets};
 ghost use Rattle.omf_records.specs.Records.{contents};
-ghost use Rattle.omf_records.specs.Unread.{fixups_read, is_fixupp};
+ghost use Rattle.omf_records.specs.Unread.{IsKnown, fixups_read, is_fixupp};
 
 use crate::at::LayoutFault;
 use crate::here::Here;
@@ -22,21 +22,22 @@ use crate::viewing::{
 use omf_frame::RawRecord;
 
 /// Local records, and records that are carried unread.
-fn local_or_carried<'a>(kind: u8, body: &'a [u8]) -> Result<Rec<'a>, LayoutFault>
+fn local_or_carried<'a>(kind: u8, body: &'a [u8], known: bool) -> Result<Rec<'a>, LayoutFault>
     requires taken { IsTrue (is_one_of (local_types ++ types_of carried) kind) }
     requires short { length body.now ≤ 65534 }
+    requires spelled { IsKnown known (read_body kind body.now) }
     ensures contents { map_ok contents_seen result ≡ read_body kind body.now }
     ensures kind { IfOk result (λ r. kind_seen r ≡ kind) }
 {
     let narrow = Here::start(false, body);
     let wide = Here::start(true, body);
     match kind {
-        0xB4 => local_externs_at(narrow),
-        0xB5 => local_externs_at(wide),
-        0xB6 => publics_at(true, narrow),
-        0xB7 => publics_at(true, wide),
-        0xB8 => local_communals_at(narrow),
-        0xCA => local_names_at(narrow),
+        0xB4 => local_externs_at(narrow, known),
+        0xB5 => local_externs_at(wide, known),
+        0xB6 => publics_at(true, narrow, known),
+        0xB7 => publics_at(true, wide, known),
+        0xB8 => local_communals_at(narrow, known),
+        0xCA => local_names_at(narrow, known),
         0x8E => carried_at(0x8E, body),
         0x94 => carried_at(0x94, body),
         0x95 => carried_at(0x95, body),
@@ -49,9 +50,12 @@ fn local_or_carried<'a>(kind: u8, body: &'a [u8]) -> Result<Rec<'a>, LayoutFault
     }
 }
 
-fn contents_of<'a>(kind: u8, body: &'a [u8]) -> Result<Rec<'a>, LayoutFault>
+/// The contents of a record. What repeats in them is not read where they are known to be well spelled.
+#[inline(always)]
+fn contents_of<'a>(kind: u8, body: &'a [u8], known: bool) -> Result<Rec<'a>, LayoutFault>
     requires taken { IsTrue (is_taken kind) }
     requires short { length body.now ≤ 65534 }
+    requires spelled { IsKnown known (read_body kind body.now) }
     ensures contents { map_ok contents_seen result ≡ read_body kind body.now }
     ensures kind { IfOk result (λ r. kind_seen r ≡ kind) }
 {
@@ -63,21 +67,21 @@ fn contents_of<'a>(kind: u8, body: &'a [u8]) -> Result<Rec<'a>, LayoutFault>
         0x88 => comment_at(narrow),
         0x8A => mod_end_at(narrow),
         0x8B => mod_end_at(wide),
-        0x8C => externs_at(narrow),
-        0x90 => publics_at(false, narrow),
-        0x91 => publics_at(false, wide),
-        0x96 => names_at(narrow),
+        0x8C => externs_at(narrow, known),
+        0x90 => publics_at(false, narrow, known),
+        0x91 => publics_at(false, wide, known),
+        0x96 => names_at(narrow, known),
         0x98 => segment_at(narrow),
         0x99 => segment_at(wide),
-        0x9A => group_at(narrow),
-        0x9C => fixups_at(narrow),
-        0x9D => fixups_at(wide),
+        0x9A => group_at(narrow, known),
+        0x9C => fixups_at(narrow, known),
+        0x9D => fixups_at(wide, known),
         0xA0 => plain_at(narrow),
         0xA1 => plain_at(wide),
         0xA2 => iterated_at(narrow),
         0xA3 => iterated_at(wide),
-        0xB0 => communals_at(narrow),
-        _ => local_or_carried(kind, body),
+        0xB0 => communals_at(narrow, known),
+        _ => local_or_carried(kind, body, known),
     }
 }
 
@@ -88,7 +92,7 @@ fn view_body<'a>(kind: u8, body: &'a [u8]) -> Result<Rec<'a>, LayoutFault>
     ensures kind { IfOk result (λ r. kind_seen r ≡ kind) }
     ensures meets { Meets (contents kind) 3 body.now (map_ok contents_seen result) }
 {
-    contents_of(kind, body)
+    contents_of(kind, body, false)
 }
 
 /// A record's contents: the one typed record that they spell, or the least fault of their layout, by place and
@@ -117,15 +121,22 @@ pub fn unread_fixups<'a>(raw: &RawRecord<'a>) -> Option<Unread<Subrecord<'a>>>
     }
 }
 
-/// The record of a FIXUPP that is known to be well spelled: none of its subrecords is read. `None` of another record.
-pub fn known_fixups<'a>(raw: &RawRecord<'a>) -> Option<Rec<'a>>
-    requires short { length raw.now.body.now ≤ 65534 }
-    requires spelled { is_ok (read_body raw.now.kind raw.now.body.now) ≡ true }
-    ensures read { IfSome result (λ r. read_body raw.now.kind raw.now.body.now ≡ Ok (contents_seen r)) }
-    ensures kind { IfSome result (λ r. kind_seen r ≡ raw.now.kind) }
-    ensures given { is_some result ≡ is_fixupp raw.now.kind }
+/// The record that `view` would answer, where the contents are known to be well spelled: what repeats in the record is not read.
+pub fn view_known<'a>(raw: RawRecord<'a>) -> Rec<'a>
+    requires taken { IsTrue (is_taken raw.kind) }
+    requires short { length raw.body.now ≤ 65534 }
+    requires spelled { is_ok (read_body raw.kind raw.body.now) ≡ true }
+    ensures read { Ok (contents_seen result) ≡ read_body raw.entry.kind raw.entry.body.now }
+    ensures kind { kind_seen result ≡ raw.entry.kind }
 {
-    let wide = raw.kind % 2 == 1;
-    let subrecords = unread_fixups(raw)?.known();
-    Some(Rec::Fixups { wide, subrecords })
+    // A module has many FIXUPPs, each with nothing but its subrecords.
+    if let Some(subrecords) = unread_fixups(&raw) {
+        let wide = raw.kind % 2 == 1;
+        let subrecords = subrecords.known();
+        return Rec::Fixups { wide, subrecords };
+    }
+    match contents_of(raw.kind, raw.body, true) {
+        Ok(rec) => rec,
+        Err(_) => unreachable!(),
+    }
 }

@@ -28,6 +28,7 @@ impl<'a> Item for Name<'a> {
 
     ghost shrinks = { λ w. name_shrinks };
 
+    #[inline(always)]
     fn read(here: Here<'a>) -> Result<(Name<'a>, Here<'a>), LayoutFault> {
         name(here)
     }
@@ -56,6 +57,7 @@ impl<'a> Model for Member<'a> {
 }
 
 /// The byte FFH before each member.
+#[inline(always)]
 fn component<'a>(here: Here<'a>) -> Result<(u8, Here<'a>), LayoutFault>
     ensures { Gives here.entry.wide result (component_reader.read here.entry.within here.entry.bytes.now) }
 {
@@ -79,6 +81,7 @@ impl<'a> Item for Member<'a> {
 
     ghost shrinks = { λ w. member_shrinks };
 
+    #[inline(always)]
     fn read(here: Here<'a>) -> Result<(Member<'a>, Here<'a>), LayoutFault> {
         let (_component, here) = component(here)?;
         let (segment, here) = index_here(here)?;
@@ -123,6 +126,7 @@ impl<'a> Item for Extern<'a> {
 
     ghost shrinks = { λ w. external_shrinks };
 
+    #[inline(always)]
     fn read(here: Here<'a>) -> Result<(Extern<'a>, Here<'a>), LayoutFault> {
         let (name, here) = name(here)?;
         let (type_index, here) = index(here)?;
@@ -167,6 +171,7 @@ impl<'a> Item for Public<'a> {
 
     ghost shrinks = { public_shrinks };
 
+    #[inline(always)]
     fn read(here: Here<'a>) -> Result<(Public<'a>, Here<'a>), LayoutFault> {
         let (name, here) = name(here)?;
         let (offset, here) = number(here)?;

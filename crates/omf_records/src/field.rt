@@ -21,6 +21,7 @@ fn field<'a, F: Field<'a>>(here: Here<'a>) -> Result<(F, Here<'a>), LayoutFault>
     }
 }
 
+#[inline(always)]
 pub(crate) fn name<'a>(here: Here<'a>) -> Result<(Name<'a>, Here<'a>), LayoutFault>
     ensures { Gives here.entry.wide result (name_read here.entry.within here.entry.bytes.now) }
 {

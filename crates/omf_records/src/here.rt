@@ -24,6 +24,7 @@ impl<'a> Here<'a> {
     ghost use Rattle.omf_records.specs.Readers.{ends_read};
 
     /// The start of a record's contents, at offset 3.
+    #[inline(always)]
     pub(crate) fn start(wide: bool, body: &'a [u8]) -> Here<'a>
         requires { length body.now ≤ 65534 }
         ensures place { result.within ≡ 3 }

@@ -91,6 +91,7 @@ impl<T: Item> Model for Items<T> {
 impl<T: Item> Items<T> {
     ghost use Rattle.std.specs.Prelude.{◌≡◌, is_ok, true, Ok};
     ghost use Rattle.omf_records.specs.Reads.{each};
+    ghost use Rattle.omf_records.specs.Unread.{IsKnown};
 
     /// All of the bytes, as items.
     pub(crate) fn new(from: T::From) -> Result<Items<T>, LayoutFault>
@@ -110,6 +111,18 @@ impl<T: Item> Items<T> {
         ensures { Ok result ≡ each (T.reader (T.From.wide from)).read (T.From.place from) (T.From.rest from) }
     {
         Items { from }
+    }
+
+    /// All of the bytes, as items. None is read where they are known to be well spelled.
+    #[inline(always)]
+    pub(crate) fn all(from: T::From, known: bool) -> Result<Items<T>, LayoutFault>
+        requires { IsKnown known (each (T.reader (T.From.wide from)).read (T.From.place from) (T.From.rest from)) }
+        ensures { result ≡ each (T.reader (T.From.wide from)).read (T.From.place from) (T.From.rest from) }
+    {
+        if known {
+            return Ok(Items::known(from));
+        }
+        Items::new(from)
     }
 
     /// The same items, from the first of them on.

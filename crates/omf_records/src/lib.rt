@@ -2,7 +2,8 @@
 //!
 //! `view` reads a record's contents and borrows from them; `put_rec` writes them in shortest spellings. What
 //! repeats in a record is an iterator, `Items`, over items that tell their offset in the record. Match a `Rec` by
-//! reference, and go over `items.iter()`.
+//! reference, and go over `items.iter()`. `view_known` shows contents that were judged before, as those of a checked
+//! module's records: it reads the fields in front of the items alone.
 //!
 //! ```
 //! let raw = RawRecord { kind: 0x96, body: b"\x00\x01T", number: 1, start: 6 };
@@ -42,7 +43,7 @@ pub use bits::{
     is_frame_thread, is_segment_relative, location_offset, location_size, location_type,
     thread_method, thread_number,
 };
-pub use dispatch::{known_fixups, unread_fixups, view};
+pub use dispatch::{unread_fixups, view, view_known};
 pub use entry::{Communal, CommunalSize, Extern, Member, Public};
 pub use here::Here;
 pub use item::{Cursor, Item, Items};

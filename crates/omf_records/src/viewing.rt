@@ -1,7 +1,8 @@
-//! A record's contents as a typed record.
+//! A record's contents as a typed record. What repeats in it is not read where it is known to be well spelled.
 ghost use Rattle.std.specs.Prelude.{◌≡◌, ◌==◌, ℕ, ◌≤◌, length, IfOk, Bool, cond, if◌then◌else◌};
 ghost use Rattle.omf_records.specs.Gives.{Gives};
 ghost use Rattle.omf_records.specs.Reads.{each};
+ghost use Rattle.omf_records.specs.Unread.{IsKnown};
 ghost use Rattle.omf_records.specs.EntryReaders.{public_reader};
 ghost use Rattle.omf_records.specs.Seen.{contents_seen, kind_seen, odd_if, map_ok};
 ghost use Rattle.omf_records.specs.Values.{alignment, has_start};
@@ -42,19 +43,21 @@ pub(crate) fn comment_at<'a>(here: Here<'a>) -> Result<Rec<'a>, LayoutFault>
 }
 
 /// LNAMES.
-pub(crate) fn names_at<'a>(here: Here<'a>) -> Result<Rec<'a>, LayoutFault>
+pub(crate) fn names_at<'a>(here: Here<'a>, known: bool) -> Result<Rec<'a>, LayoutFault>
+    requires { IsKnown known (names_whole.read here.within here.bytes.now) }
     ensures contents { map_ok contents_seen result ≡ names_whole.read here.entry.within here.entry.bytes.now }
     ensures kind { IfOk result (λ r. kind_seen r ≡ 0x96) }
 {
-    Ok(Rec::Names(Items::new(here)?))
+    Ok(Rec::Names(Items::all(here, known)?))
 }
 
 /// LLNAMES.
-pub(crate) fn local_names_at<'a>(here: Here<'a>) -> Result<Rec<'a>, LayoutFault>
+pub(crate) fn local_names_at<'a>(here: Here<'a>, known: bool) -> Result<Rec<'a>, LayoutFault>
+    requires { IsKnown known (names_whole.read here.within here.bytes.now) }
     ensures contents { map_ok contents_seen result ≡ names_whole.read here.entry.within here.entry.bytes.now }
     ensures kind { IfOk result (λ r. kind_seen r ≡ 0xCA) }
 {
-    Ok(Rec::LocalNames(Items::new(here)?))
+    Ok(Rec::LocalNames(Items::all(here, known)?))
 }
 
 /// SEGDEF's attribute byte.
@@ -116,30 +119,33 @@ pub(crate) fn segment_at<'a>(here: Here<'a>) -> Result<Rec<'a>, LayoutFault>
 }
 
 /// GRPDEF.
-pub(crate) fn group_at<'a>(here: Here<'a>) -> Result<Rec<'a>, LayoutFault>
+pub(crate) fn group_at<'a>(here: Here<'a>, known: bool) -> Result<Rec<'a>, LayoutFault>
+    requires { IsKnown known (group_whole.read here.within here.bytes.now) }
     ensures contents { map_ok contents_seen result ≡ group_whole.read here.entry.within here.entry.bytes.now }
     ensures kind { IfOk result (λ r. kind_seen r ≡ 0x9A) }
 {
     let (name, here) = index_here(here)?;
-    let members = Items::new(here)?;
+    let members = Items::all(here, known)?;
     Ok(Rec::Group { name, members })
 }
 
 /// EXTDEF.
-pub(crate) fn externs_at<'a>(here: Here<'a>) -> Result<Rec<'a>, LayoutFault>
+pub(crate) fn externs_at<'a>(here: Here<'a>, known: bool) -> Result<Rec<'a>, LayoutFault>
+    requires { IsKnown known (externs_whole.read here.within here.bytes.now) }
     ensures contents { map_ok contents_seen result ≡ externs_whole.read here.entry.within here.entry.bytes.now }
     ensures kind { IfOk result (λ r. kind_seen r ≡ 0x8C) }
 {
-    Ok(Rec::Externs(Items::new(here)?))
+    Ok(Rec::Externs(Items::all(here, known)?))
 }
 
 /// LEXTDEF.
-pub(crate) fn local_externs_at<'a>(here: Here<'a>) -> Result<Rec<'a>, LayoutFault>
+pub(crate) fn local_externs_at<'a>(here: Here<'a>, known: bool) -> Result<Rec<'a>, LayoutFault>
+    requires { IsKnown known (externs_whole.read here.within here.bytes.now) }
     ensures contents { map_ok contents_seen result ≡ externs_whole.read here.entry.within here.entry.bytes.now }
     ensures kind { IfOk result (λ r. kind_seen r ≡ odd_if here.entry.wide 0xB4) }
 {
     let odd = here.is_wide();
-    let externs = Items::new(here)?;
+    let externs = Items::all(here, known)?;
     Ok(Rec::LocalExterns { odd, externs })
 }
 
@@ -158,15 +164,25 @@ fn base_frame<'a>(
 }
 
 /// The public names of a PUBDEF.
-fn public_names<'a>(here: Here<'a>, wide: bool) -> Result<Items<Public<'a>>, LayoutFault>
-    requires { here.wide ≡ wide }
+fn public_names<'a>(
+    here: Here<'a>,
+    wide: bool,
+    known: bool,
+) -> Result<Items<Public<'a>>, LayoutFault>
+    requires width { here.wide ≡ wide }
+    requires spelled { IsKnown known (each (public_reader wide).read here.within here.bytes.now) }
     ensures { result ≡ each (public_reader wide).read here.entry.within here.entry.bytes.now }
 {
-    Items::new(here)
+    Items::all(here, known)
 }
 
 /// PUBDEF, LPUBDEF.
-pub(crate) fn publics_at<'a>(is_local: bool, here: Here<'a>) -> Result<Rec<'a>, LayoutFault>
+pub(crate) fn publics_at<'a>(
+    is_local: bool,
+    here: Here<'a>,
+    known: bool,
+) -> Result<Rec<'a>, LayoutFault>
+    requires { IsKnown known ((publics_whole here.wide).read here.within here.bytes.now) }
     ensures contents { map_ok contents_seen result ≡ (publics_whole here.entry.wide).read here.entry.within here.entry.bytes.now }
     ensures kind { IfOk result (λ r. kind_seen r ≡ odd_if here.entry.wide (if is_local then 0xB6 else 0x90)) }
 {
@@ -174,7 +190,7 @@ pub(crate) fn publics_at<'a>(is_local: bool, here: Here<'a>) -> Result<Rec<'a>, 
     let (group, here) = index_here(here)?;
     let (segment, here) = index_here(here)?;
     let (frame, here) = base_frame(here, &segment)?;
-    match public_names(here, wide) {
+    match public_names(here, wide, known) {
         Ok(publics) if is_local => Ok(Rec::LocalPublics {
             wide,
             group,
@@ -194,19 +210,21 @@ pub(crate) fn publics_at<'a>(is_local: bool, here: Here<'a>) -> Result<Rec<'a>, 
 }
 
 /// COMDEF.
-pub(crate) fn communals_at<'a>(here: Here<'a>) -> Result<Rec<'a>, LayoutFault>
+pub(crate) fn communals_at<'a>(here: Here<'a>, known: bool) -> Result<Rec<'a>, LayoutFault>
+    requires { IsKnown known (communals_whole.read here.within here.bytes.now) }
     ensures contents { map_ok contents_seen result ≡ communals_whole.read here.entry.within here.entry.bytes.now }
     ensures kind { IfOk result (λ r. kind_seen r ≡ 0xB0) }
 {
-    Ok(Rec::Communals(Items::new(here)?))
+    Ok(Rec::Communals(Items::all(here, known)?))
 }
 
 /// LCOMDEF.
-pub(crate) fn local_communals_at<'a>(here: Here<'a>) -> Result<Rec<'a>, LayoutFault>
+pub(crate) fn local_communals_at<'a>(here: Here<'a>, known: bool) -> Result<Rec<'a>, LayoutFault>
+    requires { IsKnown known (communals_whole.read here.within here.bytes.now) }
     ensures contents { map_ok contents_seen result ≡ communals_whole.read here.entry.within here.entry.bytes.now }
     ensures kind { IfOk result (λ r. kind_seen r ≡ 0xB8) }
 {
-    Ok(Rec::LocalCommunals(Items::new(here)?))
+    Ok(Rec::LocalCommunals(Items::all(here, known)?))
 }
 
 /// LEDATA.
@@ -243,12 +261,13 @@ pub(crate) fn iterated_at<'a>(here: Here<'a>) -> Result<Rec<'a>, LayoutFault>
 }
 
 /// FIXUPP.
-pub(crate) fn fixups_at<'a>(here: Here<'a>) -> Result<Rec<'a>, LayoutFault>
+pub(crate) fn fixups_at<'a>(here: Here<'a>, known: bool) -> Result<Rec<'a>, LayoutFault>
+    requires { IsKnown known ((fixups_whole here.wide).read here.within here.bytes.now) }
     ensures contents { map_ok contents_seen result ≡ (fixups_whole here.entry.wide).read here.entry.within here.entry.bytes.now }
     ensures kind { IfOk result (λ r. kind_seen r ≡ odd_if here.entry.wide 0x9C) }
 {
     let wide = here.is_wide();
-    let subrecords = Items::new(here)?;
+    let subrecords = Items::all(here, known)?;
     Ok(Rec::Fixups { wide, subrecords })
 }
 
