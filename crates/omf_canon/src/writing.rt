@@ -21,11 +21,14 @@ ghost use Rattle.omf_canon.specs.PlainBytes.{start_bytes};
 ghost use Rattle.omf_canon.specs.Writing.{Held, held, record_bytes, closed, has_room, held_with, closed_by, piece_puts, CanPut, subrecord_piece, subrecord_pieces, contents_pieces, ArePut};
 
 use crate::laws;
-use crate::plain::{FIXUP_LIMIT, put_fixup, put_start, unthreaded_fixup};
+use crate::plain::{put_start, unthreaded_fixup};
 use omf_check::laws::modules_hold;
 use omf_check::{Checked, Threads};
 use omf_frame::{RawRecord, checksum};
-use omf_records::{Part, Rec, Reference, Subrecord, Unread, put_rec, unread_fixups, view};
+use omf_records::{
+    FIXUP_LIMIT, Part, Rec, Reference, Subrecord, Unread, put_fixup, put_rec, unread_fixups, view,
+};
+use omf_reloc::end_byte;
 use std::alloc::{AllocError, Global};
 use std::marker::Model;
 
@@ -103,6 +106,8 @@ struct Walk {
     group: Option<Group>,
     /// The threads in force.
     threads: Threads,
+    /// The contents of the record that was kept last, in whose room those of the next are made.
+    body: Vec<u8>,
 }
 
 /// Writes the record of an open FIXUPP, if there is one.
@@ -113,6 +118,21 @@ fn close(out: &mut Vec<u8>, group: Option<Group>) -> Result<(), AllocError>
         Some(group) => put_record(out, group.kind, &group.body),
         None => Ok(()),
     }
+}
+
+/// Writes a record of a type behind the FIXUPP that is open, which is closed.
+fn write(
+    out: &mut Vec<u8>,
+    group: &mut Option<Group>,
+    kind: u8,
+    body: &[u8],
+) -> Result<(), AllocError>
+    requires { length body.now ≤ 65534 }
+    ensures out { OnOk result (out.new.items ≡ out.old.items ++ (closed group.old ++ record_bytes kind body.now)) }
+    ensures group { OnOk result (group.new ≡ None) }
+{
+    close(out, group.take())?;
+    put_record(out, kind, body)
 }
 
 impl Walk {
@@ -126,6 +146,7 @@ impl Walk {
             out: Vec::with_capacity(alloc, capacity)?,
             group: None,
             threads: Threads::new(),
+            body: Vec::new(alloc),
         })
     }
 
@@ -202,27 +223,16 @@ impl Walk {
         }
     }
 
-    /// Writes a record of a type behind the FIXUPP that is open.
-    fn write(&mut self, kind: u8, body: &[u8]) -> Result<(), AllocError>
-        requires { length body.now ≤ 65534 }
-        ensures out { OnOk result (self.new.out.items ≡ self.old.out.items ++ (closed self.old.group ++ record_bytes kind body.now)) }
-        ensures group { OnOk result (self.new.group ≡ None) }
-        ensures threads { self.new.threads ≡ self.old.threads }
-    {
-        close(&mut self.out, self.group.take())?;
-        put_record(&mut self.out, kind, body)
-    }
-
     /// Writes a record that is kept.
-    fn keep(&mut self, alloc: Global, rec: &Rec<'_>) -> Result<(), AllocError>
+    fn keep(&mut self, rec: &Rec<'_>) -> Result<(), AllocError>
         requires { CanPut (Kept (alone (rec_seen rec.now))) }
         ensures out { OnOk result (self.new.out.items ≡ self.old.out.items ++ piece_puts (Kept (alone (rec_seen rec.now))) self.old.group) }
         ensures group { OnOk result (self.new.group ≡ None) }
         ensures threads { self.new.threads ≡ self.old.threads }
     {
-        let mut body = Vec::new(alloc);
-        put_rec(&mut body, rec)?;
-        self.write(rec.kind(), &body)
+        self.body.clear();
+        put_rec(&mut self.body, rec)?;
+        write(&mut self.out, &mut self.group, rec.kind(), &self.body)
     }
 
     /// Writes a MODEND of a type, with bit 0 of its type byte as bit 6, and the ignored bits 0.
@@ -239,7 +249,7 @@ impl Walk {
         ensures threads { self.new.threads ≡ self.old.threads }
     {
         let body = end_contents(alloc, kind, end_byte(type_byte), &self.threads, start)?;
-        self.write(kind, &body)
+        write(&mut self.out, &mut self.group, kind, &body)
     }
 
     /// Takes a record that is no FIXUPP.
@@ -258,7 +268,7 @@ impl Walk {
                 start,
                 ..
             } => self.end(alloc, rec.kind(), *type_byte, start),
-            _ => self.keep(alloc, rec),
+            _ => self.keep(rec),
         }
     }
 
@@ -289,14 +299,6 @@ impl Walk {
         close(&mut out, self.group)?;
         Ok(out)
     }
-}
-
-/// MODEND's type byte: bits 7 and 6 as they stand, bit 0 as bit 6, the ignored ones 0.
-fn end_byte(type_byte: u8) -> u8
-    ensures { result ≡ end_byte type_byte }
-{
-    let has_start = type_byte / 64 % 2;
-    128 * (type_byte / 128) + 64 * has_start + has_start
 }
 
 /// The contents of a MODEND of a type.

@@ -1,9 +1,6 @@
 //! Subrecords of a FIXUPP, and the reference that a FIXUP and MODEND's start share.
-ghost use Rattle.std.specs.Prelude.{◌≡◌, ◌<◌, ◌++◌, not, List, Option, OnOk, OnErr, IfOk};
-ghost use Rattle.byteorder.specs.Endian.{little_bytes};
-ghost use Rattle.omf_records.specs.Begins.{Begins};
-ghost use Rattle.omf_records.specs.Shortest.{option_bytes, datum_bytes, reference_bytes};
-ghost use Rattle.omf_records.specs.Values.{width, is_location, may_be_self_relative, thread_method, frame_by_thread, frame_bits, target_by_thread, target_bits, has_frame_datum, has_target_datum, has_no_displacement};
+ghost use Rattle.std.specs.Prelude.{◌≡◌, ◌<◌, not, List, Option, IfOk};
+ghost use Rattle.omf_records.specs.Values.{is_location, may_be_self_relative, thread_method, frame_by_thread, frame_bits, target_by_thread, target_bits, has_frame_datum, has_target_datum, has_no_displacement};
 ghost use Rattle.omf_records.specs.Parts.{first_reason};
 ghost use Rattle.omf_records.specs.Gives.{Gives};
 ghost use Rattle.omf_records.specs.Entries.{is_frame_method, wrong_methods, wrong_thread, wrong_location};
@@ -12,9 +9,10 @@ ghost use Rattle.omf_records.specs.EntryReaders.{fix_reader, datum_reader, displ
 use crate::at::{At, LayoutFault};
 use crate::bits::{is_frame_thread, is_segment_relative, location_type, thread_method};
 use crate::field::{byte, index, number};
+use crate::fixup::put_fixup;
 use crate::here::Here;
 use crate::item::Item;
-use crate::put::{put_byte, put_bytes, put_datum_if, put_number};
+use crate::put::{put_byte, put_datum_if};
 use omf_frame::{Index, Reason};
 use std::alloc::AllocError;
 use std::marker::{Model, PhantomData};
@@ -262,52 +260,7 @@ impl<'a> Item for Subrecord<'a> {
             Part::Fixup {
                 location,
                 reference,
-            } => {
-                let location = *location;
-                put_bytes(out, &[(location / 256) as u8, (location % 256) as u8])?;
-                put_reference(out, kind, reference)
-            }
+            } => put_fixup(out, kind, *location, reference),
         }
     }
-}
-
-/// The displacement, if there is one.
-#[tactic(auto, using(crate::specs::Begins::begins_itself))]
-fn put_displacement(
-    out: &mut Vec<u8>,
-    kind: u8,
-    displacement: Option<u32>,
-) -> Result<(), AllocError>
-    ensures put { OnOk result (out.new.items ≡ out.old.items ++ option_bytes (little_bytes (width kind)) displacement) }
-    ensures grows { Begins out.old.items out.new.items }
-{
-    match displacement {
-        Some(value) => put_number(out, kind, value),
-        None => Ok(()),
-    }
-}
-
-/// The target's index and the displacement, those that are there.
-#[tactic(auto, using(crate::specs::Begins::begins_then))]
-fn put_target(out: &mut Vec<u8>, kind: u8, reference: &Reference) -> Result<(), AllocError>
-    ensures put { OnOk result (out.new.items ≡ out.old.items ++ (option_bytes datum_bytes reference.now.target ++ option_bytes (little_bytes (width kind)) reference.now.displacement)) }
-    ensures grows { Begins out.old.items out.new.items }
-{
-    put_datum_if(out, &reference.target)?;
-    put_displacement(out, kind, reference.displacement)
-}
-
-/// Appends the bytes of a reference in a record of a type, its indices in their shortest spellings.
-///
-/// # Errors
-///
-/// `AllocError` where a growth is refused: a front of the bytes may be appended then.
-#[tactic(auto, using(crate::specs::Begins::begins_then))]
-pub fn put_reference(out: &mut Vec<u8>, kind: u8, reference: &Reference) -> Result<(), AllocError>
-    ensures put { OnOk result (out.new.items ≡ out.old.items ++ reference_bytes kind reference.now) }
-    ensures grows { Begins out.old.items out.new.items }
-{
-    put_byte(out, reference.fix.item)?;
-    put_datum_if(out, &reference.frame)?;
-    put_target(out, kind, reference)
 }

@@ -9,10 +9,11 @@ ghost use Rattle.omf_records.specs.Values.{width};
 
 use crate::at::At;
 use crate::entry::{Member, Public};
+use crate::fixup::put_reference;
 use crate::item::{Items, put_items};
 use crate::put::{put_byte, put_bytes, put_datum, put_field, put_number};
 use crate::record::{Rec, Segment};
-use crate::subrecord::{Reference, put_reference};
+use crate::subrecord::Reference;
 use omf_frame::{Index, Le16};
 use std::alloc::AllocError;
 

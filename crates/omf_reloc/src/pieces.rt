@@ -84,7 +84,7 @@ fn subrecord_step<'a>(
 }
 
 /// MODEND's type byte: bits 7 and 6 as they stand, bit 0 as bit 6, the ignored ones 0.
-fn end_byte(type_byte: u8) -> u8
+pub fn end_byte(type_byte: u8) -> u8
     ensures { result ≡ end_byte type_byte }
 {
     let has_start = type_byte / 64 % 2;

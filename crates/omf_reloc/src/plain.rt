@@ -39,6 +39,7 @@ pub enum TargetMethod {
 
 impl FrameMethod {
     /// The frame method that a reference or a thread has, with its index. Beside 0, 1, 2 and 4 there is 5 alone.
+    #[inline(always)]
     pub(crate) fn new(setting: Setting) -> FrameMethod
         ensures { frame_seen result ≡ frame_from setting }
     {
@@ -55,6 +56,7 @@ impl FrameMethod {
 
 impl TargetMethod {
     /// The target method that a reference or a thread has, with its index. Beside 0 and 1 there is 2 alone.
+    #[inline(always)]
     pub(crate) fn new(setting: Setting) -> TargetMethod
         ensures { target_seen result ≡ target_from setting }
     {
@@ -102,7 +104,8 @@ impl Model for PlainFixup {
 }
 
 /// The reference without threads: each of frame and target is its own, or what its thread keeps.
-pub(crate) fn plain_reference(threads: &Threads, reference: &Reference) -> PlainReference
+#[inline(always)]
+pub fn plain_reference(threads: &Threads, reference: &Reference) -> PlainReference
     requires frame { IsSome (frame_cell threads.now reference.now) }
     requires target { IsSome (target_cell threads.now reference.now) }
     ensures { result ≡ plain_by threads.now reference.now }

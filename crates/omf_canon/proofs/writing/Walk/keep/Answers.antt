@@ -11,13 +11,13 @@ write-requires c =
     let r = c.args.rec.now in
     let bytes = contents_bytes (kind_seen r) (contents_seen r) in
     subst (λ (b : List ℕ). length b ≤ 65534)
-    (sym (c.deref.ensures.value ∙ c.in_ok-put_rec.ensures.ok ∙ ap (λ xs. xs ++ bytes) c.new-body.ensures.items ∙ sym (shown (kind_seen r) (contents_seen r)))) c.requires
+    (sym (c.deref.ensures.value ∙ c.in_ok-put_rec.ensures.ok ∙ ap (λ xs. xs ++ bytes) c.clear.ensures.items ∙ sym (shown (kind_seen r) (contents_seen r)))) c.requires
 
 pub returns-clause-out : goal.returns-clause-out
 returns-clause-out c =
     let r = c.args.rec.now in
     let bytes = contents_bytes (kind_seen r) (contents_seen r) in
     let g = c.args.self.now.group in
-    subst (λ (x : List ℕ). OnOk c.write.result (c.write.new.self.out.items ≡ c.args.self.now.out.items ++ x))
+    subst (λ (x : List ℕ). OnOk c.write.result (c.write.new.out.items ≡ c.args.self.now.out.items ++ x))
     (ap₂ (λ (k : ℕ) (b : List ℕ). closed g ++ record_bytes k b) c.kind.ensures
-    (c.deref.ensures.value ∙ c.in_ok-put_rec.ensures.ok ∙ ap (λ xs. xs ++ bytes) c.new-body.ensures.items ∙ sym (shown (kind_seen r) (contents_seen r)))) c.write.ensures.out
+    (c.deref.ensures.value ∙ c.in_ok-put_rec.ensures.ok ∙ ap (λ xs. xs ++ bytes) c.clear.ensures.items ∙ sym (shown (kind_seen r) (contents_seen r)))) c.write.ensures.out

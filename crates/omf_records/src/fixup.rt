@@ -1,0 +1,114 @@
+//! The bytes of fixups and of references, for which room is taken once (TIS OMF 1.1, "FIXUPP").
+ghost use Rattle.std.specs.Prelude.{◌≡◌, ◌++◌, ◌+◌, ◌≤◌, OnOk, OnErr, vec_len, vec_capacity};
+ghost use Rattle.byteorder.specs.Endian.{little_bytes};
+ghost use Rattle.omf_records.specs.Begins.{Begins};
+ghost use Rattle.omf_records.specs.Shortest.{option_bytes, datum_bytes, reference_bytes, subrecord_bytes};
+ghost use Rattle.omf_records.specs.Values.{Fixup, width};
+
+use crate::at::At;
+use crate::subrecord::Reference;
+use omf_frame::Index;
+use std::alloc::AllocError;
+
+/// A reference has at most so many bytes: the fix data byte, two indices and a displacement.
+const REFERENCE_LIMIT: usize = 9;
+
+/// A fixup has at most so many bytes: two of its location, and its reference.
+pub const FIXUP_LIMIT: usize = 11;
+
+/// Appends an index, if there is one. There is room for it.
+#[inline(always)]
+fn push_index(out: &mut Vec<u8>, index: &Option<At<Index>>)
+    requires { vec_len out.old + 2 ≤ vec_capacity out.old }
+    ensures items { out.new.items ≡ out.old.items ++ option_bytes datum_bytes index.now }
+    ensures len { vec_len out.new ≤ vec_len out.old + 2 }
+    ensures capacity { vec_capacity out.new ≡ vec_capacity out.old }
+{
+    if let Some(index) = index {
+        let number = index.item.0;
+        if number < 128 {
+            out.push_reserved(number as u8);
+        } else {
+            out.push_reserved((number / 256 + 128) as u8);
+            out.push_reserved((number % 256) as u8);
+        }
+    }
+}
+
+/// Appends a displacement in a record of a type, if there is one. There is room for it.
+#[inline(always)]
+fn push_displacement(out: &mut Vec<u8>, kind: u8, displacement: &Option<u32>)
+    requires { vec_len out.old + 4 ≤ vec_capacity out.old }
+    ensures { out.new.items ≡ out.old.items ++ option_bytes (little_bytes (width kind)) displacement.now }
+{
+    if let Some(displacement) = displacement {
+        let [lowest, second, third, highest] = (*displacement).to_le_bytes();
+        out.push_reserved(lowest);
+        out.push_reserved(second);
+        if kind % 2 == 1 {
+            out.push_reserved(third);
+            out.push_reserved(highest);
+        }
+    }
+}
+
+/// Appends a reference in a record of a type. There is room for it.
+#[inline(always)]
+fn push_reference(out: &mut Vec<u8>, kind: u8, reference: &Reference)
+    requires { vec_len out.old + 9 ≤ vec_capacity out.old }
+    ensures { out.new.items ≡ out.old.items ++ reference_bytes kind reference.now }
+{
+    out.push_reserved(reference.fix.item);
+    push_index(out, &reference.frame);
+    push_index(out, &reference.target);
+    push_displacement(out, kind, &reference.displacement);
+}
+
+/// Appends a fixup in a FIXUPP of a type. There is room for it.
+#[inline(always)]
+fn push_fixup(out: &mut Vec<u8>, kind: u8, location: u16, reference: &Reference)
+    requires { vec_len out.old + 11 ≤ vec_capacity out.old }
+    ensures { out.new.items ≡ out.old.items ++ subrecord_bytes kind (Fixup location reference.now) }
+{
+    out.push_reserved((location / 256) as u8);
+    out.push_reserved((location % 256) as u8);
+    push_reference(out, kind, reference);
+}
+
+/// Appends the bytes of a reference in a record of a type, its indices in their shortest spellings.
+///
+/// # Errors
+///
+/// `AllocError` where a growth is refused: nothing is appended then.
+#[tactic(auto, using(crate::specs::Begins::begins_itself, crate::specs::Begins::begins_more))]
+pub fn put_reference(out: &mut Vec<u8>, kind: u8, reference: &Reference) -> Result<(), AllocError>
+    ensures put { OnOk result (out.new.items ≡ out.old.items ++ reference_bytes kind reference.now) }
+    ensures err { OnErr result (out.new.items ≡ out.old.items) }
+    ensures grows { Begins out.old.items out.new.items }
+{
+    out.reserve(REFERENCE_LIMIT)?;
+    push_reference(out, kind, reference);
+    Ok(())
+}
+
+/// Appends the bytes of a fixup of a location in a FIXUPP of a type, its indices in their shortest spellings.
+///
+/// # Errors
+///
+/// `AllocError` where a growth is refused: nothing is appended then.
+#[inline(always)]
+#[tactic(auto, using(crate::specs::Begins::begins_itself, crate::specs::Begins::begins_more))]
+pub fn put_fixup(
+    out: &mut Vec<u8>,
+    kind: u8,
+    location: u16,
+    reference: &Reference,
+) -> Result<(), AllocError>
+    ensures put { OnOk result (out.new.items ≡ out.old.items ++ subrecord_bytes kind (Fixup location reference.now)) }
+    ensures err { OnErr result (out.new.items ≡ out.old.items) }
+    ensures grows { Begins out.old.items out.new.items }
+{
+    out.reserve(FIXUP_LIMIT)?;
+    push_fixup(out, kind, location, reference);
+    Ok(())
+}
