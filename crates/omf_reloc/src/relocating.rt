@@ -121,14 +121,21 @@ impl Walk {
         }
     }
 
-    /// Opens a data record, and lays the one that was open.
-    fn begin(&mut self, next: Open) -> Result<(), AllocError>
+    /// Lays the data record that is open, if there is one, and gives up its bytes.
+    fn close(&mut self) -> Result<(), AllocError>
         requires { IfSome self.old.open_data HasOffsets }
         ensures image { OnOk result (AreLaidOver self.old.image (option_to_list self.old.open_data) self.new.image) }
-        ensures open_data { OnOk result (self.new.open_data ≡ Some next) }
     {
-        let last = self.open_data.replace(next);
+        let last = self.open_data.take();
         lay(&mut self.image, last)
+    }
+
+    /// Opens a data record.
+    fn open(&mut self, next: Open)
+        ensures image { self.new.image ≡ self.old.image }
+        ensures open_data { self.new.open_data ≡ Some next }
+    {
+        self.open_data = Some(next);
     }
 
     /// Adds what a fixup of a FIXUPP, wide or not, adds to the data record that is open.
@@ -142,7 +149,8 @@ impl Walk {
         }
     }
 
-    /// Walks over a record: a data record is open then, and any other changes nothing.
+    /// Walks over a record: a data record is open then, and any other changes nothing. The bytes of the one that was open are given up
+    /// before the next one's are made, so that there are never two.
     fn take_record(&mut self, alloc: Global, rec: &Rec<'_>) -> Result<(), AllocError>
         requires offsets { IfSome self.old.open_data HasOffsets }
         requires expands { CanExpand (kind_seen rec.now) (contents_seen rec.now) }
@@ -155,12 +163,20 @@ impl Walk {
                 offset,
                 data,
                 ..
-            } => self.begin(Open::new(segment, offset, data.to_vec(alloc)?)),
+            } => {
+                self.close()?;
+                self.open(Open::new(segment, offset, data.to_vec(alloc)?));
+                Ok(())
+            }
             Rec::Iterated {
                 segment,
                 offset,
                 blocks,
-            } => self.begin(Open::new(segment, offset, expanded(alloc, *blocks)?)),
+            } => {
+                self.close()?;
+                self.open(Open::new(segment, offset, expanded(alloc, *blocks)?));
+                Ok(())
+            }
             _ => Ok(()),
         }
     }
