@@ -26,7 +26,8 @@ use omf_check::laws::modules_hold;
 use omf_check::{Checked, Threads};
 use omf_frame::{RawRecord, checksum};
 use omf_records::{
-    FIXUP_LIMIT, Part, Rec, Reference, Subrecord, Unread, put_fixup, put_rec, unread_fixups, view,
+    FIXUP_LIMIT, Part, Rec, Reference, Subrecord, Unread, put_fixup, put_rec, unread_fixups,
+    view_known,
 };
 use omf_reloc::end_byte;
 use std::alloc::{AllocError, Global};
@@ -285,10 +286,7 @@ impl Walk {
         if let Some(subrecords) = unread_fixups(&raw) {
             return self.take_fixups(alloc, raw.kind, subrecords);
         }
-        match view(raw) {
-            Ok(rec) => self.take_other(alloc, &rec),
-            Err(_) => unreachable!(),
-        }
+        self.take_other(alloc, &view_known(raw))
     }
 
     /// Writes the FIXUPP that is open, and gives all that is written.
