@@ -5,3 +5,4 @@ pub mod LinkLaws
 pub mod ReadingLaws
 pub mod RelocatedLaws
 pub mod StartLaws
+pub mod SegmentsLaws

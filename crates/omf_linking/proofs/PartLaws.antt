@@ -1,6 +1,6 @@
 -- The text of a link, line by line.
 use denote.Ref.{Bor}
-use Rattle.std.proofs.Common.{◌≡◌, ℕ, ◌+◌, ◌<◌, ◌≤◌, List, [], ◌∷◌, ◌++◌, length, append_assoc, append-nil, refl, sym, ap, ap₂, ◌∙◌, arith}
+use Rattle.std.proofs.Common.{◌≡◌, ℕ, ◌+◌, ◌<◌, ◌≤◌, List, [], ◌∷◌, ◌++◌, length, append_assoc, append-nil, refl, sym, ap, ◌∙◌, arith}
 use Rattle.std.specs.Prelude.{map, filter_map, is_some, true, Option, Some, None, option_map, Ok, Err, IfSome, ◌==◌}
 use Rattle.std.specs.List.{enumerate_from, slice_split, zip, onto_first}
 use Rattle.std.proofs.lemmas.List.Splits.{length-slice_split}

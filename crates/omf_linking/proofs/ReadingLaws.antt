@@ -38,3 +38,5 @@ refused_behind p input ms rest number (fault.Line n) h c r = absurd r
 refused_behind p input ms rest number (fault.External f) h c r = absurd r
 refused_behind p input ms rest number (fault.Reach k f) h c r = absurd r
 refused_behind p input ms rest number (fault.Starts j k) h c r = absurd r
+refused_behind p input ms rest number (fault.Beyond o) h c r = absurd r
+refused_behind p input ms rest number (fault.Overlap a s t) h c r = absurd r

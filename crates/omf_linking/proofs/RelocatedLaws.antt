@@ -1,7 +1,7 @@
 -- Modules at their placements, one after another.
-use Rattle.std.proofs.Common.{◌≡◌, ℕ, zero, suc, ◌+◌, ◌≤◌, List, [], ◌∷◌, ◌++◌, length, take, drop, refl, sym, ap, subst, ◌∙◌, arith}
+use Rattle.std.proofs.Common.{◌≡◌, ℕ, zero, suc, ◌+◌, List, [], ◌∷◌, ◌++◌, take, drop, refl, sym, ap, subst, ◌∙◌, arith}
 use Rattle.std.proofs.lemmas.List.{append-nil, take-append-drop}
-use Rattle.std.specs.Prelude.{filter_map, slice_get, Option, Some, None, Err}
+use Rattle.std.specs.Prelude.{filter_map, slice_get, Some, None, Err}
 use Rattle.std.specs.List.{AllZip, enumerate_from}
 use Rattle.omf_derive.specs.Derive.{PlacedModule}
 use Rattle.omf_reloc.specs.declared.fault.ReachFault.{ReachFault}
@@ -59,3 +59,5 @@ far_told ms j m next (fault.Refused k why at) r h = absurd r
 far_told ms j m next (fault.Line n) r h = absurd r
 far_told ms j m next (fault.External f) r h = absurd r
 far_told ms j m next (fault.Starts i k) r h = absurd r
+far_told ms j m next (fault.Beyond o) r h = absurd r
+far_told ms j m next (fault.Overlap a s t) r h = absurd r

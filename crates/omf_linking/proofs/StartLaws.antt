@@ -1,7 +1,7 @@
 -- The main modules that name a start, one after another.
 use Rattle.std.proofs.Common.{◌≡◌, ℕ, zero, suc, ◌+◌, ◌<◌, ◌≤◌, List, [], ◌∷◌, ◌++◌, length, drop, get_or, refl, sym, ap, ap₂, ◌∙◌, arith}
 use Rattle.std.proofs.Math.Seq.{drop-nil}
-use Rattle.std.specs.Prelude.{filter_map, zip, option_to_list, Option, Some, None, Result, Ok, Err}
+use Rattle.std.specs.Prelude.{filter_map, zip, option_to_list, Option, Some, None, Result, Err}
 use Rattle.std.specs.List.{enumerate_from}
 use Rattle.omf_check.specs.Module.{Module, records_in}
 use Rattle.omf_check.specs.WellFormed.{recs}

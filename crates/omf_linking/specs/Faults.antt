@@ -1,6 +1,8 @@
--- What the faults of a text and of derived places are to a link.
+-- What the faults of a text, of derived places and of segments in memory are to a link.
 use Rattle.omf_derive.specs.declared.fault.DeriveFault.{DeriveFault}
 use Rattle.omf_derive.specs.declared.fault.DeriveFault.TheVariants as derive
+use Rattle.omf_memory.specs.declared.fault.MemoryFault.{MemoryFault}
+use Rattle.omf_memory.specs.declared.fault.MemoryFault.TheVariants as memory
 use Rattle.omf_placement.specs.declared.fault.TextFault.{TextFault}
 use Rattle.omf_placement.specs.declared.fault.TextFault.TheVariants as text
 use Rattle.omf_linking.specs.declared.fault.LinkFault.{LinkFault}
@@ -13,3 +15,8 @@ of_text (text.Line n) = fault.Line n
 abbrev pub of_derive : DeriveFault → LinkFault
 of_derive derive.Memory = fault.Memory
 of_derive f = fault.External f
+
+abbrev pub of_memory : MemoryFault → LinkFault
+of_memory memory.Memory = fault.Memory
+of_memory (memory.Overlap a s t) = fault.Overlap a s t
+of_memory (memory.Beyond o) = fault.Beyond o

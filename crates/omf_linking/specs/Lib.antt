@@ -5,5 +5,7 @@ pub mod Placing
 pub mod Parsing
 pub mod Reading
 pub mod Relocated
+pub mod Segments
+pub mod LinkedMemory
 pub mod Starts
 pub mod Rows

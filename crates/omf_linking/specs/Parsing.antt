@@ -3,7 +3,6 @@ use Rattle.std.specs.Prelude.{◌≡◌, ⊤, ℕ, List, [], ◌∷◌, ◌++◌
 use Rattle.omf_placement.specs.declared.fault.TextFault.{TextFault}
 use Rattle.omf_placement.specs.declared.fault.TextFault.TheVariants as fault
 use Rattle.omf_placement.specs.Parsing.{with_entry}
-use Rattle.omf_placement.specs.PlacementText.{Draft}
 use Rattle.omf_linking.specs.LinkEntries.{LinkEntry, NextModule, GivenExternal, OfPlacement}
 use Rattle.omf_derive.specs.declared.given.Given.{Given}
 use Rattle.omf_placement.specs.Placement.{Places}

@@ -1,5 +1,5 @@
 -- The text of a link in parts, one for each module (this profile's rule).
-use Rattle.std.specs.Prelude.{◌≡◌, ⊤, ℕ, List, [], ◌∷◌, map, filter_map, Bool, true, false, Option, Some, None, Result, Ok, Err}
+use Rattle.std.specs.Prelude.{◌≡◌, ⊤, ℕ, List, ◌∷◌, map, filter_map, Bool, true, false, Option, Some, None, Result, Ok, Err}
 use Rattle.std.specs.List.{slice_split, zip}
 use Rattle.omf_placement.specs.declared.fault.TextFault.{TextFault}
 use Rattle.omf_placement.specs.declared.fault.TextFault.TheVariants as fault

@@ -5,11 +5,11 @@ use Rattle.omf_records.specs.Values.{Rec}
 use Rattle.omf_check.specs.Module.{Module, records_in}
 use Rattle.omf_check.specs.Tables.{externals, is_defined}
 use Rattle.omf_check.specs.WellFormed.{recs}
-use Rattle.omf_derive.specs.Derive.{PlacedModule, derived}
+use Rattle.omf_derive.specs.Derive.{derived}
 use Rattle.omf_derive.specs.declared.fault.DeriveFault.{DeriveFault}
 use Rattle.omf_derive.specs.declared.given.Given.{Given}
 use Rattle.omf_placement.specs.Placement.{Places}
-use Rattle.omf_placement.specs.PlacementText.{ok_or_first, resolved}
+use Rattle.omf_placement.specs.PlacementText.{resolved}
 use Rattle.omf_linking.specs.Parts.{Part, GivenLine, parsed_parts}
 use Rattle.omf_linking.specs.Faults.{of_derive}
 use Rattle.omf_linking.specs.declared.fault.LinkFault.{LinkFault}

@@ -1,6 +1,6 @@
 -- Where several modules start (this profile's rule).
-use Rattle.std.specs.Prelude.{ℕ, List, [], ◌∷◌, map, filter_map, Bool, false, nat_le, Option, Some, None, option_map, Result, Ok, Err, if◌then◌else◌}
-use Rattle.std.specs.List.{enumerate_from, zip}
+use Rattle.std.specs.Prelude.{ℕ, List, [], ◌∷◌, filter_map, Bool, false, nat_le, Option, Some, None, option_map, Result, Ok, Err, if◌then◌else◌}
+use Rattle.std.specs.List.{enumerate_from}
 use Rattle.omf_frame.specs.Bytes.{last}
 use Rattle.omf_records.specs.Values.{Rec, Contents, ModEnd}
 use Rattle.omf_linking.specs.declared.fault.LinkFault.{LinkFault}

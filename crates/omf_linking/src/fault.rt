@@ -1,10 +1,11 @@
 //! Why modules are not linked.
 
 ghost use Rattle.std.specs.Prelude.{◌≡◌};
-ghost use Rattle.omf_linking.specs.Faults.{of_derive, of_text};
+ghost use Rattle.omf_linking.specs.Faults.{of_derive, of_memory, of_text};
 ghost use Rattle.omf_linking.specs.declared.fault.LinkFault.TheVariants.{Memory};
 
 use omf_frame::{Place, Reason};
+use omf_memory::{MemoryFault, Owner};
 use omf_reloc::{DeriveFault, ReachFault, TextFault};
 use std::alloc::{AllocError, AllocFailed};
 use thiserror::Error;
@@ -51,6 +52,19 @@ pub enum LinkFault {
         /// The next.
         second: u32,
     },
+    /// This segment has a byte beyond the last address, FFFFFFFF.
+    #[error("a segment has a byte beyond the last address")]
+    Beyond(Owner),
+    /// Two segments that are not both common have a byte at one address.
+    #[error("two segments have a byte at one address")]
+    Overlap {
+        /// The first such address.
+        address: u32,
+        /// The first of the segments there.
+        first: Owner,
+        /// The next one that may not share the address with it.
+        second: Owner,
+    },
 }
 
 impl From<AllocError> for LinkFault {
@@ -87,6 +101,26 @@ impl From<DeriveFault> for LinkFault {
         match fault {
             DeriveFault::Memory => LinkFault::Memory,
             other => LinkFault::External(other),
+        }
+    }
+}
+
+impl From<MemoryFault> for LinkFault {
+    ghost from_gives = { λ fault e. e ≡ of_memory fault };
+
+    fn from(fault: MemoryFault) -> LinkFault {
+        match fault {
+            MemoryFault::Memory => LinkFault::Memory,
+            MemoryFault::Overlap {
+                address,
+                first,
+                second,
+            } => LinkFault::Overlap {
+                address,
+                first,
+                second,
+            },
+            MemoryFault::Beyond(owner) => LinkFault::Beyond(owner),
         }
     }
 }

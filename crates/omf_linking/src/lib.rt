@@ -1,15 +1,19 @@
-//! Several modules: the modules of an input, their placements by a text and by their public names, and what they are at these.
+//! Several modules: the modules of an input, their placements by a text and by their public names, what they are at these, and the memory
+//! that they lay together.
 #![tactic(auto)]
 
 mod entry;
 mod fault;
+mod memory;
 mod parts;
 mod placing;
 mod reading;
 mod relocated;
 pub mod rows;
+mod segments;
 
 pub use fault::LinkFault;
+pub use memory::memory_image;
 pub use parts::{Part, parse_parts};
 pub use placing::link;
 pub use reading::{modules_in, read_all};

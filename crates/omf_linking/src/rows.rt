@@ -1,12 +1,16 @@
 //! Worked examples, each evaluated by the check.
 
-ghost use Rattle.std.specs.Prelude.{◌≡◌, [], ◌∷◌, codes, Some, None, Ok, Err};
+ghost use Rattle.std.specs.Prelude.{◌≡◌, [], ◌∷◌, codes, true, false, Some, None, Ok, Err};
+ghost use Rattle.omf_memory.specs.Segments.{segment_shares};
 ghost use Rattle.omf_placement.specs.Entries.{Blank, SegmentEntry};
 ghost use Rattle.omf_reloc.specs.Rows.{at, frame};
 ghost use Rattle.omf_linking.specs.LinkEntries.{link_entry_said, NextModule, GivenExternal, OfPlacement};
 ghost use Rattle.omf_linking.specs.Parts.{parsed_parts};
 ghost use Rattle.omf_linking.specs.Placing.{places_of};
-ghost use Rattle.omf_linking.specs.Rows.{lines, part};
+ghost use Rattle.omf_linking.specs.Rows.{ending, lines, lying, part, share};
+ghost use Rattle.omf_linking.specs.Segments.{all_segments, is_common};
+ghost use Rattle.omf_linking.specs.Starts.{main_starts, one_start};
+ghost use Rattle.omf_linking.specs.declared.fault.LinkFault.TheVariants.{Starts};
 
 /// What lines say: the next part, an external by hand, a segment, nothing. An `E` line says nothing that is understood, nor does an
 /// index of five digits.
@@ -29,4 +33,22 @@ pub fn parts_of_a_text()
 pub fn parts_and_modules()
     ensures beyond { places_of [] (part 3 [] [] [] ∷ []) ≡ Err 3 }
     ensures none { places_of ([] ∷ []) [] ≡ Ok (record { segments = []; groups = []; externals = [] } ∷ []) }
+{}
+
+/// The start is that of the one main module that names one: bit 7 of the type byte of its MODEND is set. Of two or more the first two are
+/// named.
+pub fn starts_of_modules()
+    ensures none { one_start (main_starts (ending 0x40 (0x1000, 1) ∷ [])) ≡ Ok None }
+    ensures one { one_start (main_starts (ending 0x40 (0x1000, 1) ∷ ending 0xC0 (0x2000, 2) ∷ [])) ≡ Ok (Some (0x2000, 2)) }
+    ensures two { one_start (main_starts (ending 0x40 (0, 1) ∷ ending 0xC0 (0, 2) ∷ ending 0x80 (0, 3) ∷ ending 0xC1 (0, 4) ∷ [])) ≡ Err (Starts 1 2) }
+{}
+
+/// What modules have at an address: each the bytes of its segment from where that lies on. A segment is common where bits 2 to 4 of its
+/// attribute byte are 6.
+pub fn bytes_of_modules()
+    ensures both { segment_shares (all_segments (lying 0x20 0x10 (0xAA ∷ 0xBB ∷ []) ∷ lying 0x38 0x11 (0xCC ∷ []) ∷ [])) 0x11 ≡ share 0 false 0xBB ∷ share 1 true 0xCC ∷ [] }
+    ensures first { segment_shares (all_segments (lying 0x20 0x10 (0xAA ∷ 0xBB ∷ []) ∷ lying 0x38 0x11 (0xCC ∷ []) ∷ [])) 0x10 ≡ share 0 false 0xAA ∷ [] }
+    ensures beyond { segment_shares (all_segments (lying 0x20 0x10 (0xAA ∷ 0xBB ∷ []) ∷ lying 0x38 0x11 (0xCC ∷ []) ∷ [])) 0x12 ≡ [] }
+    ensures common { is_common 0x78 ≡ true }
+    ensures stack { is_common 0x74 ≡ false }
 {}

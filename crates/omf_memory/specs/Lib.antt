@@ -1,4 +1,6 @@
 pub mod Memory
 pub mod Sweeping
 pub mod Laying
+pub mod Segments
+pub mod Runs
 pub mod Rows

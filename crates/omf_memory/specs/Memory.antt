@@ -61,4 +61,5 @@ memory_byte ss = option_map (λ s. s.byte) (last ss)
 abbrev pub IsMemory : (ℕ → List Share) → Result (List Laid) MemoryFault → Type 0
 IsMemory at (Ok image) = ((a : ℕ) → IsNone (overlap (at a))) × ((a : ℕ) → byte_at image 0 a ≡ memory_byte (at a))
 IsMemory at (Err fault.Memory) = ⊤
+IsMemory at (Err (fault.Beyond o)) = ⊥
 IsMemory at (Err (fault.Overlap a s t)) = (overlap (at a) ≡ Some (s, t)) × ((b : ℕ) → b < a → IsNone (overlap (at b)))

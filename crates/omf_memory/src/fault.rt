@@ -23,6 +23,9 @@ pub enum MemoryFault {
         /// The next one that may not share the address with it.
         second: Owner,
     },
+    /// This segment has a byte beyond the last address.
+    #[error("a segment has a byte beyond the last address")]
+    Beyond(Owner),
 }
 
 impl From<AllocError> for MemoryFault {

@@ -4,11 +4,15 @@
 mod fault;
 mod memory;
 pub mod rows;
+mod runs;
+mod segment;
 mod stretch;
 mod sweep;
 
 pub use fault::MemoryFault;
 pub use memory::memory_of;
+pub use runs::segments_memory;
+pub use segment::PlacedSegment;
 pub use stretch::{Owner, Stretch};
 
 #[cfg(test)]

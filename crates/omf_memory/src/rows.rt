@@ -2,7 +2,8 @@
 
 ghost use Rattle.std.specs.Prelude.{◌≡◌, [], ◌∷◌, Some, None};
 ghost use Rattle.omf_memory.specs.Memory.{shares, overlap, memory_byte};
-ghost use Rattle.omf_memory.specs.Rows.{owner, own, common};
+ghost use Rattle.omf_memory.specs.Rows.{owner, own, common, segment, own_share};
+ghost use Rattle.omf_memory.specs.Segments.{segment_shares};
 
 /// Two bytes at 10H, and two of another module at 11H: both have a byte at 11H alone.
 pub fn bytes_over_bytes()
@@ -30,4 +31,12 @@ pub fn common_over_common()
 pub fn common_over_another()
     ensures two { overlap (shares (own 0 0x10 (0xAA ∷ []) ∷ common 1 0x10 (0xCC ∷ []) ∷ []) 0x10) ≡ Some (owner 0, owner 1) }
     ensures three { overlap (shares (common 0 0x10 (0xAA ∷ []) ∷ common 1 0x10 (0xBB ∷ []) ∷ own 2 0x10 (0xCC ∷ []) ∷ []) 0x10) ≡ Some (owner 0, owner 2) }
+{}
+
+/// A segment's byte lies at the segment's address and its offset: two bytes from offset 4 on of a segment at 7C00H lie at 7C04H and 7C05H.
+pub fn bytes_of_segments()
+    ensures before { segment_shares (segment 0 0x7C00 4 (0xAA ∷ 0xBB ∷ []) ∷ []) 0x7C03 ≡ [] }
+    ensures here { segment_shares (segment 0 0x7C00 4 (0xAA ∷ 0xBB ∷ []) ∷ segment 1 0x7C05 0 (0xCC ∷ []) ∷ []) 0x7C04 ≡ own_share 0 0xAA ∷ [] }
+    ensures both { segment_shares (segment 0 0x7C00 4 (0xAA ∷ 0xBB ∷ []) ∷ segment 1 0x7C05 0 (0xCC ∷ []) ∷ []) 0x7C05 ≡ own_share 0 0xBB ∷ own_share 1 0xCC ∷ [] }
+    ensures low { segment_shares (segment 0 0x7C00 4 (0xAA ∷ 0xBB ∷ []) ∷ []) 4 ≡ [] }
 {}

@@ -3,8 +3,9 @@
 ghost use Rattle.std.specs.Prelude.{◌+◌, ◌<◌, ◌≤◌, ◌^◌, length};
 ghost use Rattle.omf_memory.specs.Memory.{Lies};
 
-use crate::{MemoryFault, Owner, Stretch, memory_of};
-use omf_image::Run;
+use crate::{MemoryFault, Owner, PlacedSegment, Stretch, memory_of, segments_memory};
+use omf_image::{Image, Run};
+use std::alloc::Global;
 use std::test::Fail;
 
 const LAST: u32 = 0xFFFF_FFFF;
@@ -95,5 +96,64 @@ fn the_first_overlap_is_named(rt: HostRuntime) -> Result<(), Fail> {
 fn nothing_lays_nothing(rt: HostRuntime) -> Result<(), Fail> {
     let image = memory_of(rt.alloc(), &[])?;
     assert_eq!(rt; image.run_at(0, 0), None);
+    Ok(())
+}
+
+/// An image with two bytes at offset 0 and two at offset 4 of segment 1, and one byte of segment 2.
+fn image_of_runs(alloc: Global) -> Result<Image, Fail> {
+    let mut image = Image::new(alloc);
+    image.lay(1, 4, OTHERS.to_vec(alloc)?)?;
+    image.lay(1, 0, TWO.to_vec(alloc)?)?;
+    image.lay(2, 0, vec![in alloc; 0xEE]?)?;
+    Ok(image)
+}
+
+fn segment(image: &Image, module: u32, address: u32) -> PlacedSegment<'_> {
+    PlacedSegment {
+        owner: owner(module),
+        common: false,
+        address,
+        image,
+    }
+}
+
+#[test]
+fn runs_of_a_segment_lie_at_its_address(rt: HostRuntime) -> Result<(), Fail> {
+    let alloc = rt.alloc();
+    let runs = image_of_runs(alloc)?;
+    let memory = segments_memory(
+        alloc,
+        &[segment(&runs, 0, 0x7C06), segment(&runs, 1, 0x7C00)],
+    )?;
+    assert_eq!(rt; memory.get(0, 0x7C01), Some(0xBB));
+    assert_eq!(rt; memory.get(0, 0x7C02), None);
+    assert_eq!(rt;
+        memory.run_bytes(0, 1),
+        Some([0xCC, 0xDD, 0xAA, 0xBB].as_slice())
+    );
+    assert_eq!(rt;
+        memory.run_at(0, 2),
+        Some(Run {
+            first: 0x7C0A,
+            len: 2
+        })
+    );
+    assert_eq!(rt; memory.run_at(0, 3), None);
+    Ok(())
+}
+
+#[test]
+fn a_byte_beyond_the_last_address_is_told_first(rt: HostRuntime) -> Result<(), Fail> {
+    let alloc = rt.alloc();
+    let runs = image_of_runs(alloc)?;
+    let last = segments_memory(alloc, &[segment(&runs, 0, LAST - 5)])?;
+    assert_eq!(rt; last.get(0, LAST), Some(0xDD));
+    let over = [
+        segment(&runs, 0, 0x7C00),
+        segment(&runs, 1, 0x7C00),
+        segment(&runs, 2, LAST - 4),
+    ];
+    let told = segments_memory(alloc, &over);
+    assert!(rt; matches!(told, Err(fault) if fault == MemoryFault::Beyond(owner(2))));
     Ok(())
 }

@@ -1,4 +1,4 @@
-use Rattle.std.proofs.Common.{◌≡◌, ◌+◌, ◌≤◌, length}
+use Rattle.std.proofs.Common.{◌+◌, ◌≤◌, length}
 use Rattle.std.specs.Prelude.{option_map}
 use Rattle.omf_placement.specs.Parsing.{parts_after}
 use Rattle.omf_linking.proofs.PartLaws.{IsRead, IsSound, lines_from, left_len}

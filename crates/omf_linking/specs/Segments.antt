@@ -1,0 +1,61 @@
+-- The segments of modules at their placements (this profile's rule).
+use Rattle.std.specs.Prelude.{ℕ, List, [], ◌∷◌, map, flat_map, zip, Bool, ◌==◌, Option}
+use Rattle.std.specs.List.{enumerate_from}
+use Rattle.omf_frame.specs.Bytes.{bits}
+use Rattle.omf_records.specs.Values.{Rec, Contents, Segment}
+use Rattle.omf_derive.specs.Derive.{PlacedModule}
+use Rattle.omf_image.specs.Limits.{profile_limits}
+use Rattle.omf_image.specs.Overlay.{byte_at}
+use Rattle.omf_memory.specs.Segments.{SegmentAt}
+use Rattle.omf_placement.specs.Placement.{Places, placed}
+use Rattle.omf_reloc.specs.Image.{image}
+use Rattle.omf_linking.specs.declared.relocated.Relocated.{Relocated}
+
+-- A segment is common where the combination of its SEGDEF, bits 2 to 4 of the attribute byte, is 6 (TIS OMF 1.1, "SEGDEF", C).
+abbrev pub is_common : ℕ → Bool
+is_common attribute = bits attribute 2 3 == 6
+
+-- Whether each segment of a module is common, in the order of their indices.
+abbrev pub commons_in : Contents → List Bool
+commons_in (Segment s) = is_common s.attribute ∷ []
+commons_in _ = []
+
+abbrev pub commons : List Rec → List Bool
+commons m = flat_map (λ r. commons_in r.contents) m
+
+-- The bytes of an image, by segments and offsets.
+abbrev pub Bytes : Type 0
+Bytes = ℕ → ℕ → Option ℕ
+
+-- A module at its placement, and the bytes of its image there.
+abbrev pub ModuleBytes : Type 0
+ModuleBytes = PlacedModule × Bytes
+
+-- A segment of module j: its index, and whether it is common. It lies where the placement puts it, with the bytes that the image has of it.
+abbrev pub module_segment : ℕ → Places → Bytes → ℕ × Bool → SegmentAt
+module_segment j pl bytes s = record {
+  owner = record { «module» = j; segment = s.0 };
+  common = s.1;
+  address = (placed pl.segments s.0).address;
+  byte = bytes s.0;
+}
+
+-- The segments of a module of a number, counted from 1, and those of all modules, counted from 0.
+abbrev pub module_segments : ℕ × ModuleBytes → List SegmentAt
+module_segments m = map (module_segment m.0 m.1.0.1 m.1.1) (enumerate_from 1 (commons m.1.0.0))
+
+abbrev pub all_segments : List ModuleBytes → List SegmentAt
+all_segments ms = flat_map module_segments (enumerate_from 0 ms)
+
+-- Modules with the bytes of these images; and with those of the images that their placements give them.
+abbrev pub image_bytes : Relocated → Bytes
+image_bytes r = byte_at r.image
+
+abbrev pub with_images : List PlacedModule → List Relocated → List ModuleBytes
+with_images ms rs = zip ms (map image_bytes rs)
+
+abbrev pub with_own_image : PlacedModule → ModuleBytes
+with_own_image m = (m, image profile_limits m.1 m.0)
+
+abbrev pub with_own_images : List PlacedModule → List ModuleBytes
+with_own_images ms = map with_own_image ms

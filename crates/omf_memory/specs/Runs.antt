@@ -1,0 +1,46 @@
+-- Runs of a segment as stretches (the steps of the code).
+use Rattle.std.specs.Prelude.{◌≡◌, ⊤, Result, Ok, Err, ℕ, ◌+◌, ◌<◌, ◌≤◌, ◌^◌, List, [], ◌∷◌, ◌++◌, All, length, Option, Some, None, slice_get}
+use Rattle.omf_image.specs.Overlay.{AreBytesOver}
+use Rattle.omf_image.specs.declared.run.Run.{Run}
+use Rattle.omf_memory.specs.declared.fault.MemoryFault.{MemoryFault}
+use Rattle.omf_memory.specs.declared.fault.MemoryFault.TheVariants as fault
+use Rattle.omf_memory.specs.declared.stretch.Stretch.{Stretch}
+use Rattle.omf_memory.specs.Memory.{Piece, piece, pieces, Lies, shares}
+use Rattle.omf_memory.specs.Segments.{SegmentAt, segment_shares, IsWithin, IsBeyond, IsFirstBeyond}
+
+-- the run of a number, which ends inside its segment, by its first offset and its bytes; none where there is no such run
+pub record IsRunOf (byte : ℕ → Option ℕ) (run : Option Run) (first : ℕ) (bytes : List ℕ) : Type 0 where
+  pub is : run ≡ Some (record { first = first; len = length bytes })
+  pub bytes_over : AreBytesOver byte (record { first = first; len = length bytes }) bytes
+  pub within : first + length bytes ≤ 2 ^ 32
+
+abbrev pub IsRunShown : (ℕ → Option ℕ) → List Run → ℕ → Option (ℕ × List ℕ) → Type 0
+IsRunShown byte runs k None = slice_get runs k ≡ None
+IsRunShown byte runs k (Some shown) = IsRunOf byte (slice_get runs k) shown.0 shown.1
+
+-- bytes of a segment from an offset on as a stretch, or they reach beyond the last address
+abbrev pub run_piece : SegmentAt → ℕ → List ℕ → Piece
+run_piece s first bytes = record { owner = s.owner; common = s.common; address = s.address + first; bytes = bytes }
+
+abbrev pub IsStretchAt : SegmentAt → ℕ → List ℕ → Result Stretch MemoryFault → Type 0
+IsStretchAt s first bytes (Ok t) = (piece t ≡ run_piece s first bytes) × Lies t
+IsStretchAt s first bytes (Err (fault.Beyond o)) = (o ≡ s.owner) × (2 ^ 32 < s.address + first + length bytes)
+IsStretchAt s first bytes (Err _) = ⊥
+
+-- some stretches have at each address what others have, and then what a segment has
+abbrev pub HasMore : List Stretch → SegmentAt → List Stretch → Type 0
+HasMore old s new = (a : ℕ) → shares (pieces new) a ≡ shares (pieces old) a ++ segment_shares (s ∷ []) a
+
+-- a segment was added: all its bytes lie within memory; or one does not
+abbrev pub IsAdded : SegmentAt → Result (Unit {0}) MemoryFault → Type 0
+IsAdded s (Ok done) = IsWithin s
+IsAdded s (Err fault.Memory) = ⊤
+IsAdded s (Err (fault.Beyond o)) = IsBeyond s × (s.owner ≡ o)
+IsAdded s (Err (fault.Overlap a first second)) = ⊥
+
+-- stretches have at each address what segments have there; or the first segment that lies beyond is told
+abbrev pub AreStretches : List SegmentAt → Result (List Stretch) MemoryFault → Type 0
+AreStretches ss (Ok ts) = All IsWithin ss × ((a : ℕ) → shares (pieces ts) a ≡ segment_shares ss a)
+AreStretches ss (Err fault.Memory) = ⊤
+AreStretches ss (Err (fault.Beyond o)) = IsFirstBeyond ss o
+AreStretches ss (Err (fault.Overlap a first second)) = ⊥

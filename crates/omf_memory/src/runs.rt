@@ -1,0 +1,98 @@
+//! The memory that segments of images lay together.
+
+ghost use Rattle.std.specs.Prelude.{◌≡◌, ◌<◌, All, IfOk, OnOk, length, option_map};
+ghost use Rattle.omf_records.specs.Seen.{map_ok};
+ghost use Rattle.omf_image.specs.Joined.{runs_of};
+ghost use Rattle.omf_image.specs.Overlay.{byte_at};
+ghost use Rattle.omf_memory.specs.Memory.{Lies};
+ghost use Rattle.omf_memory.specs.Runs.{AreStretches, HasMore, IsAdded, IsRunShown, IsStretchAt};
+ghost use Rattle.omf_memory.specs.Segments.{IsMemoryOf, segment_at, segments_at};
+
+use crate::fault::MemoryFault;
+use crate::memory::memory_of;
+use crate::segment::PlacedSegment;
+use crate::stretch::Stretch;
+use omf_image::Image;
+use std::alloc::Global;
+
+/// How many addresses there are.
+const ADDRESSES: u64 = 4_294_967_296;
+
+/// The first offset and the bytes of the run of a segment with a number, from 0; None beyond the last.
+fn numbered_run(image: &Image, segment: u16, k: usize) -> Option<(u32, &[u8])>
+    ensures { IsRunShown (byte_at image.now segment) (runs_of image.now segment) k (option_map (λ run. (run.0, run.1.now)) result) }
+{
+    let run = image.run_at(segment, k)?;
+    let bytes = image.run_bytes(segment, k)?;
+    Some((run.first, bytes))
+}
+
+/// The bytes of a segment from an offset on, at their address.
+fn stretch_at<'a>(
+    segment: &PlacedSegment<'a>,
+    first: u32,
+    bytes: &'a [u8],
+) -> Result<Stretch<'a>, MemoryFault>
+    requires { 0 < length bytes.now }
+    ensures { IsStretchAt (segment_at segment.now) first bytes.now result }
+{
+    let address = u64::from(segment.address) + u64::from(first);
+    let len = bytes.len() as u64;
+    if address >= ADDRESSES || len > ADDRESSES - address {
+        return Err(MemoryFault::Beyond(segment.owner));
+    }
+    Ok(Stretch {
+        owner: segment.owner,
+        common: segment.common,
+        address: address as u32,
+        bytes,
+    })
+}
+
+/// Adds the runs of a segment, each at its address.
+fn add_runs<'a>(
+    stretches: &mut Vec<Stretch<'a>>,
+    segment: &PlacedSegment<'a>,
+) -> Result<(), MemoryFault>
+    requires { All Lies stretches.old.items }
+    ensures lies { OnOk result (All Lies stretches.new.items) }
+    ensures shares { OnOk result (HasMore stretches.old.items (segment_at segment.now) stretches.new.items) }
+    ensures within { IsAdded (segment_at segment.now) result }
+{
+    let mut k = 0;
+    while let Some((first, bytes)) = numbered_run(segment.image, segment.owner.segment, k) {
+        stretches.push(stretch_at(segment, first, bytes)?)?;
+        k += 1;
+    }
+    Ok(())
+}
+
+/// The runs of segments, each at its address.
+fn stretches_of<'a>(
+    alloc: Global,
+    segments: &[PlacedSegment<'a>],
+) -> Result<Vec<Stretch<'a>>, MemoryFault>
+    ensures lies { IfOk result (λ v. All Lies v.items) }
+    ensures stretches { AreStretches (segments_at segments.now) (map_ok (λ v. v.items) result) }
+{
+    let mut stretches = Vec::new(alloc);
+    for segment in segments {
+        add_runs(&mut stretches, segment)?;
+    }
+    Ok(stretches)
+}
+
+/// The memory that segments of images lay together, each at its address: an image that has the addresses as the offsets of segment 0. The
+/// byte at an address is that of the segment that has one there; of common ones, which may lie over one another, the last.
+///
+/// # Errors
+///
+/// `Beyond` for the first segment that has a byte beyond the last address, FFFFFFFF. Else `Overlap` where two segments have a byte at one
+/// address and are not both common: the first such address, the first segment there, and the next that may not share the address with
+/// it. `Memory` where a growth was refused.
+pub fn segments_memory(alloc: Global, segments: &[PlacedSegment<'_>]) -> Result<Image, MemoryFault>
+    ensures { IsMemoryOf (segments_at segments.now) result }
+{
+    let stretches = stretches_of(alloc, segments)?;
+    memory_of(alloc, &stretches)
+}
