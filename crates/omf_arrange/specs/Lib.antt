@@ -1,0 +1,4 @@
+pub mod Gathered
+pub mod Portions
+pub mod Order
+pub mod Rows
