@@ -23,7 +23,7 @@ pub enum Alignment {
 
 impl Alignment {
     /// The alignment that a SEGDEF's attribute byte names.
-    pub(crate) fn named_by(attribute: u8) -> Alignment
+    pub fn named_by(attribute: u8) -> Alignment
         ensures { result ≡ alignment_named (alignment attribute) }
     {
         match attribute / 32 {

@@ -9,10 +9,10 @@ pub mod laws;
 mod laying;
 mod options;
 mod printing;
-mod room;
+pub mod room;
 pub mod rows;
-mod spot;
-mod wants;
+pub mod spot;
+pub mod wants;
 
 pub use alignment::Alignment;
 pub use draft::draft_text;

@@ -1,0 +1,4 @@
+pub mod GatherLaws
+pub mod PortionLaws
+pub mod OrderLaws
+pub mod LayingLaws

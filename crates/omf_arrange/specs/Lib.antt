@@ -1,0 +1,5 @@
+pub mod Gathered
+pub mod Portions
+pub mod Order
+pub mod Laying
+pub mod Rows

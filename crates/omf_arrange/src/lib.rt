@@ -1,0 +1,16 @@
+//! The layout of several modules: the order of their segments, their addresses and frames.
+#![tactic(auto)]
+
+mod arranging;
+mod attributes;
+mod gathering;
+mod laying;
+mod order;
+mod portion;
+pub mod rows;
+mod runs;
+
+pub use arranging::arrange;
+pub use laying::Lying;
+pub use order::order_of;
+pub use portion::{Combination, Portion};

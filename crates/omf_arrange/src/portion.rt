@@ -1,0 +1,131 @@
+//! Segments of several modules.
+
+ghost use Rattle.std.specs.Prelude.{◌≡◌, ◌++◌, ◌<◌, ◌^◌, OnOk, IfOk, length, map, slice_get, Some};
+ghost use Rattle.omf_check.specs.Module.{records_in};
+ghost use Rattle.omf_check.specs.Tables.{segments};
+ghost use Rattle.omf_check.specs.WellFormed.{recs};
+ghost use Rattle.omf_arrange.specs.Portions.{attributes, combination_named, name_at, portion, portions, portions_in, typed_modules, with_names};
+
+use crate::attributes::attributes_of;
+use omf_check::{Checked, SegInfo};
+use omf_layout::Alignment;
+use std::alloc::{AllocError, Global};
+
+/// How a segment lies beside those of its class and name (TIS OMF 1.1, "SEGDEF", C).
+#[derive(Clone, Copy, Debug, PartialEq, Eq)]
+pub enum Combination {
+    /// One behind another in one frame: public, 2, 4 and 7, and stack, 5.
+    Joined,
+    /// All from one address on: common, 6.
+    Common,
+    /// By itself: private, 0, the reserved 1 and 3, and every absolute segment.
+    Alone,
+}
+
+impl Combination {
+    /// What a SEGDEF's attribute byte names.
+    fn named_by(attribute: u8) -> Combination
+        ensures { result ≡ combination_named attribute }
+    {
+        if attribute / 32 == 0 {
+            return Combination::Alone;
+        }
+        match attribute / 4 % 8 {
+            2 => Combination::Joined,
+            4 => Combination::Joined,
+            5 => Combination::Joined,
+            6 => Combination::Common,
+            7 => Combination::Joined,
+            _ => Combination::Alone,
+        }
+    }
+}
+
+/// A segment of one of several modules.
+#[derive(Clone, Copy, Debug, PartialEq, Eq)]
+pub struct Portion {
+    /// The module, from 0.
+    pub module: u32,
+    /// The segment's index, from 1.
+    pub index: u16,
+    /// What its SEGDEF says of it.
+    pub segment: SegInfo,
+    /// What its address is a multiple of.
+    pub alignment: Alignment,
+    /// How it lies beside those of its class and name.
+    pub combination: Combination,
+}
+
+/// The portion of a segment of this attribute.
+fn portion_of(module: u32, index: u16, segment: SegInfo, attribute: u8) -> Portion
+    ensures { result ≡ portion «module» index segment attribute }
+{
+    Portion {
+        module,
+        index,
+        segment,
+        alignment: Alignment::named_by(attribute),
+        combination: Combination::named_by(attribute),
+    }
+}
+
+/// The name of an index; of none the empty one.
+fn name_at(module: &Checked, index: u16) -> &[u8]
+    ensures { result.now ≡ name_at (recs (records_in «module».now.bytes)) index }
+{
+    match module.name(index) {
+        Some(name) => name.0,
+        None => &[],
+    }
+}
+
+/// The attribute at a position.
+fn attribute_at(each: &[u8], before: u16) -> u8
+    requires { before < length each.now }
+    ensures { slice_get each.now before ≡ Some result }
+{
+    each[usize::from(before)]
+}
+
+/// A portion with the names of its class and its segment.
+pub type Classed<'a> = (&'a [u8], (&'a [u8], Portion));
+
+/// Adds the segments of a module, whose attributes these are.
+fn add_portions<'a>(
+    portions: &mut Vec<Classed<'a>>,
+    module: &'a Checked,
+    number: u32,
+    each: &[u8],
+) -> Result<(), AllocError>
+    requires all { each.now ≡ attributes (recs (records_in «module».now.bytes)) }
+    requires as_many { length each.now ≡ length (segments (recs (records_in «module».now.bytes))) }
+    ensures { OnOk result (map with_names portions.new.items ≡ map with_names portions.old.items ++ portions_in (number, recs (records_in «module».entry.now.bytes))) }
+{
+    for before in 0..module.segments() {
+        let index = before + 1;
+        let Some(segment) = module.segment(index) else {
+            unreachable!()
+        };
+        let portion = portion_of(number, index, segment, attribute_at(each, before));
+        let class = name_at(module, segment.class);
+        let name = name_at(module, segment.name);
+        portions.push((class, (name, portion)))?;
+    }
+    Ok(())
+}
+
+/// The segments of modules with the names of their classes and their own, module by module.
+pub fn portions_of<'a>(
+    alloc: Global,
+    modules: &'a [Checked],
+) -> Result<Vec<Classed<'a>>, AllocError>
+    requires { length modules.now < 2 ^ 32 }
+    ensures { IfOk result (λ v. map with_names v.items ≡ portions (typed_modules modules.entry.now)) }
+{
+    let mut portions = Vec::new(alloc);
+    for (number, module) in modules.iter().enumerate() {
+        let each = attributes_of(alloc, module)?;
+        add_portions(&mut portions, module, number as u32, &each)?;
+    }
+    Ok(portions)
+}

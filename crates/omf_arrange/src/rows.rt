@@ -1,0 +1,48 @@
+//! Worked examples, each evaluated by the check.
+
+ghost use Rattle.std.specs.Prelude.{◌≡◌, ℕ, [], ◌∷◌, map, Some, None};
+ghost use Rattle.omf_arrange.specs.Gathered.{distinct, gathered};
+ghost use Rattle.omf_arrange.specs.Order.{order};
+ghost use Rattle.omf_arrange.specs.Portions.{combination_named, name_at};
+ghost use Rattle.omf_arrange.specs.Rows.{absolute, of_records, place, places, segment};
+ghost use Rattle.omf_layout.specs.declared.options.Frames.TheVariants.{Real, Flat};
+ghost use Rattle.omf_arrange.specs.declared.portion.Combination.TheVariants.{Joined, Common, Alone};
+
+/// What the C field of an attribute byte says: private, public, stack, common and the reserved ones; and an absolute segment.
+pub fn combinations()
+    ensures named { map combination_named (0x20 ∷ 0x24 ∷ 0x28 ∷ 0x2C ∷ 0x30 ∷ 0x34 ∷ 0x38 ∷ 0x3C ∷ []) ≡ Alone ∷ Alone ∷ Joined ∷ Alone ∷ Joined ∷ Joined ∷ Common ∷ Joined ∷ [] }
+    ensures absolute { map combination_named (0x08 ∷ 0x18 ∷ []) ≡ Alone ∷ Alone ∷ [] }
+{}
+
+/// Names where they first appear, and what they share.
+pub fn names()
+    ensures distinct { distinct ((2 ∷ []) ∷ (1 ∷ []) ∷ (2 ∷ []) ∷ [] ∷ (1 ∷ []) ∷ []) ≡ (2 ∷ []) ∷ (1 ∷ []) ∷ [] ∷ [] }
+    ensures gathered { gathered {A = ℕ} ((2 ∷ [], 10) ∷ (1 ∷ [], 20) ∷ (2 ∷ [], 30) ∷ []) ≡ (10 ∷ 30 ∷ []) ∷ (20 ∷ []) ∷ [] }
+    ensures named { map (name_at (of_records [])) (0 ∷ 1 ∷ 2 ∷ 4 ∷ []) ≡ [] ∷ [] ∷ (0x41 ∷ []) ∷ (0x43 ∷ []) ∷ [] }
+{}
+
+/// Segments of two modules. The class C is the first of all, and in it the name B; the class B comes last, though its name A is there
+/// before that of the class C.
+pub fn classes_and_names()
+    ensures { order (of_records (segment 0x28 1 3 4 ∷ segment 0x28 1 2 3 ∷ []) ∷ of_records (segment 0x28 1 2 4 ∷ segment 0x28 1 3 4 ∷ []) ∷ []) ≡ (0, 1) ∷ (1, 2) ∷ (1, 1) ∷ (0, 2) ∷ [] }
+{}
+
+/// Segments of one class and name: those that are joined come first, then the common ones, then those that lie alone.
+pub fn combined_ones()
+    ensures { order (of_records (segment 0x20 1 2 2 ∷ segment 0x38 1 2 2 ∷ absolute 2 2 ∷ segment 0x28 1 2 2 ∷ []) ∷ of_records (segment 0x38 1 2 2 ∷ segment 0x34 1 2 2 ∷ []) ∷ []) ≡ (0, 4) ∷ (1, 2) ∷ (0, 2) ∷ (1, 1) ∷ (0, 1) ∷ (0, 3) ∷ [] }
+{}
+
+/// Where such segments lie. Those that are joined, of 5 and 4 bytes, the second at a paragraph, have the frame of the first; the common
+/// ones, of 3 and 2 bytes, the second at a paragraph, lie at one paragraph with 3 bytes of room; the private one behind them has its
+/// own frame; the absolute one lies where it says and takes no room.
+pub fn places_of_combined_ones()
+    ensures real { places 0x10008 Real (of_records (segment 0x20 1 2 2 ∷ segment 0x38 3 2 2 ∷ absolute 2 2 ∷ segment 0x28 5 2 2 ∷ []) ∷ of_records (segment 0x78 2 2 2 ∷ segment 0x68 4 2 2 ∷ []) ∷ []) ≡ Some (((0, 4), place 0x10008 0x1000) ∷ ((1, 2), place 0x10010 0x1000) ∷ ((0, 2), place 0x10020 0x1002) ∷ ((1, 1), place 0x10020 0x1002) ∷ ((0, 1), place 0x10023 0x1002) ∷ ((0, 3), place 0xB8000 0xB800) ∷ [], 0x10024) }
+    ensures flat { places 0x401001 (Flat 0) (of_records (segment 0xA8 5 2 2 ∷ []) ∷ of_records (segment 0x48 1 3 2 ∷ segment 0x28 4 2 2 ∷ []) ∷ []) ≡ Some (((0, 1), place 0x401004 0) ∷ ((1, 2), place 0x401009 0) ∷ ((1, 1), place 0x40100E 0) ∷ [], 0x40100F) }
+{}
+
+/// Segments that have no room: the second of two that are joined, and common ones of which the first is the shorter.
+pub fn places_without_room()
+    ensures joined { places 0xFFFF0 Real (of_records (segment 0x28 12 2 2 ∷ []) ∷ of_records (segment 0x28 5 2 2 ∷ []) ∷ []) ≡ None }
+    ensures joined_last { places 0xFFFF0 Real (of_records (segment 0x28 12 2 2 ∷ []) ∷ of_records (segment 0x28 4 2 2 ∷ []) ∷ []) ≡ Some (((0, 1), place 0xFFFF0 0xFFFF) ∷ ((1, 1), place 0xFFFFC 0xFFFF) ∷ [], 0x100000) }
+    ensures common { places 0xFFFF0 Real (of_records (segment 0x38 12 2 2 ∷ []) ∷ of_records (segment 0x38 17 2 2 ∷ []) ∷ []) ≡ None }
+{}
