@@ -1,0 +1,2 @@
+pub mod MemoryText
+pub mod Rows

@@ -1,0 +1,18 @@
+//! The memory of several modules as text.
+//!
+//! Two bytes at 7C00H:
+//!
+//! ```
+//! let mut memory = Image::new(alloc);
+//! memory.lay(0, 0x7C00, vec![in alloc; 0xEB, 0xFE]?)?;
+//! // memory_text(alloc, &memory)? is "00007C00: EB FE\n"
+//! ```
+#![tactic(auto)]
+
+mod printing;
+pub mod rows;
+
+pub use printing::memory_text;
+
+#[cfg(test)]
+mod tests;
