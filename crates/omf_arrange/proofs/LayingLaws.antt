@@ -1,12 +1,12 @@
 -- Segments that are laid one behind another.
-use Rattle.std.proofs.Common.{◌≡◌, ℕ, zero, suc, ◌+◌, ◌<◌, ◌≤◌, List, [], ◌∷◌, ◌++◌, length, drop, get_or, refl, sym, ap, ap₂, ◌∙◌, arith, append_assoc, Vec, Global}
-use Rattle.std.specs.Prelude.{map, max, Option, Some, None, option_map, option_and_then}
+use Rattle.std.proofs.Common.{◌≡◌, ℕ, zero, suc, ◌+◌, ◌<◌, ◌≤◌, List, [], ◌∷◌, ◌++◌, length, drop, get_or, refl, sym, ap, ◌∙◌, arith, append_assoc, Vec, Global}
+use Rattle.std.specs.Prelude.{map, max, Option, Some, None, option_and_then}
 use Rattle.std.proofs.lemmas.Option.{none-some, same_Some}
 use Rattle.omf_layout.specs.Layout.{Laid, and_then_more, all_laid}
 use Rattle.omf_layout.specs.Room.{address_from, frame_at}
 use Rattle.omf_layout.specs.Wants.{bytes_aligned}
 use Rattle.omf_layout.specs.declared.options.Frames.{Frames}
-use Rattle.omf_arrange.specs.Laying.{laid, and_then_behind, joined_in, joined_laid, strictest, runs_laid, run_laid, Lying}
+use Rattle.omf_arrange.specs.Laying.{laid, and_then_behind, joined_in, joined_laid, strictest}
 use Rattle.omf_arrange.specs.declared.portion.Portion.{Portion}
 
 module _ {A : Type 0} where

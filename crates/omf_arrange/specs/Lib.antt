@@ -2,4 +2,5 @@ pub mod Gathered
 pub mod Portions
 pub mod Order
 pub mod Laying
+pub mod Laws
 pub mod Rows

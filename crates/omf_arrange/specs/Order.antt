@@ -1,5 +1,5 @@
 -- The order in which the segments of several modules are laid (this profile's rule).
-use Rattle.std.specs.Prelude.{ℕ, List, ◌++◌, map, flat_map, Bool, true, false}
+use Rattle.std.specs.Prelude.{ℕ, List, ◌++◌, map, flat_map, Bool, true, false, Option, Some, None}
 use Rattle.std.specs.List.{filter}
 use Rattle.omf_records.specs.Values.{Rec}
 use Rattle.omf_arrange.specs.declared.portion.Combination.{Combination}
@@ -15,15 +15,20 @@ runs_in xs = flat_map gathered (gathered xs)
 abbrev pub runs : List (List Rec) → List (List Portion)
 runs ms = runs_in (portions ms)
 
--- Those of a run that are joined, that are common, or that lie alone.
+-- An absolute segment lies alone, whatever its C field says.
+abbrev pub lies_by : Option (ℕ × ℕ) → Combination → Combination
+lies_by None c = c
+lies_by (Some place) c = Alone
+
 abbrev pub is_same_combination : Combination → Combination → Bool
 is_same_combination Joined Joined = true
 is_same_combination Common Common = true
 is_same_combination Alone Alone = true
 is_same_combination _ _ = false
 
+-- Those of a run that are joined, that are common, or that lie alone.
 abbrev pub combined_by : Combination → List Portion → List Portion
-combined_by c run = filter (λ p. is_same_combination c p.combination) run
+combined_by c run = filter (λ p. is_same_combination c (lies_by p.segment.absolute p.combination)) run
 
 -- A run is laid in that order.
 abbrev pub in_order : List Portion → List Portion

@@ -13,16 +13,15 @@ use Rattle.omf_arrange.specs.declared.portion.Combination.{Combination}
 use Rattle.omf_arrange.specs.declared.portion.Combination.TheVariants.{Joined, Common, Alone}
 use Rattle.omf_arrange.specs.declared.portion.Portion.{Portion}
 
--- The C field of an attribute: 2, 4 and 7 public and 5 stack, which are joined; 6 common. Private ones, 0, lie alone, as do those of the reserved 1 and 3.
+-- The C field of an attribute: 2, 4 and 7 public and 5 stack, which are joined; 6 common. Private ones, 0, lie alone, as do the reserved 1 and 3.
 abbrev pub combination : ℕ → ℕ
 combination attribute = bits attribute 2 3
 
 abbrev pub combined : ℕ → Combination
 combined c = if c == 2 then Joined else (if c == 4 then Joined else (if c == 5 then Joined else (if c == 6 then Common else (if c == 7 then Joined else Alone))))
 
--- An absolute segment, whose A field is 0, lies alone whatever its C field says.
 abbrev pub combination_named : ℕ → Combination
-combination_named attribute = if alignment attribute == 0 then Alone else combined (combination attribute)
+combination_named attribute = combined (combination attribute)
 
 -- The attributes of a module's segments, in their order.
 abbrev pub attributes_in : Contents → List ℕ

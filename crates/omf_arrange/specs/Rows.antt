@@ -4,7 +4,7 @@ use Rattle.omf_layout.specs.declared.options.Frames.{Frames}
 use Rattle.omf_placement.specs.declared.frame.Placed.{Placed}
 use Rattle.omf_records.specs.Values.{Rec}
 use Rattle.omf_reloc.specs.Modules.{module_of}
-use Rattle.omf_arrange.specs.Laying.{Lying, arranged}
+use Rattle.omf_arrange.specs.Laying.{arranged}
 use Rattle.omf_arrange.specs.Order.{place_of}
 
 -- A module with the names "", A, B and C, which have the indices 1 to 4, of these records.

@@ -4,6 +4,7 @@
 mod arranging;
 mod attributes;
 mod gathering;
+pub mod laws;
 mod laying;
 mod order;
 mod portion;

@@ -18,7 +18,7 @@ pub enum Combination {
     Joined,
     /// All from one address on: common, 6.
     Common,
-    /// By itself: private, 0, the reserved 1 and 3, and every absolute segment.
+    /// By itself: private, 0, and the reserved 1 and 3.
     Alone,
 }
 
@@ -27,9 +27,6 @@ impl Combination {
     fn named_by(attribute: u8) -> Combination
         ensures { result ≡ combination_named attribute }
     {
-        if attribute / 32 == 0 {
-            return Combination::Alone;
-        }
         match attribute / 4 % 8 {
             2 => Combination::Joined,
             4 => Combination::Joined,
@@ -52,8 +49,22 @@ pub struct Portion {
     pub segment: SegInfo,
     /// What its address is a multiple of.
     pub alignment: Alignment,
-    /// How it lies beside those of its class and name.
+    /// How its SEGDEF says that it lies beside those of its class and name.
     pub combination: Combination,
+}
+
+impl Portion {
+    ghost use Rattle.omf_arrange.specs.Order.{lies_by};
+
+    /// How it lies beside those of its class and name: an absolute segment by itself, whatever its SEGDEF says.
+    pub fn lies(&self) -> Combination
+        ensures { result ≡ lies_by self.now.segment.absolute self.now.combination }
+    {
+        match self.segment.absolute {
+            Some(_) => Combination::Alone,
+            None => self.combination,
+        }
+    }
 }
 
 /// The portion of a segment of this attribute.

@@ -8,10 +8,9 @@ ghost use Rattle.omf_arrange.specs.Rows.{absolute, of_records, place, places, se
 ghost use Rattle.omf_layout.specs.declared.options.Frames.TheVariants.{Real, Flat};
 ghost use Rattle.omf_arrange.specs.declared.portion.Combination.TheVariants.{Joined, Common, Alone};
 
-/// What the C field of an attribute byte says: private, public, stack, common and the reserved ones; and an absolute segment.
+/// What the C field of an attribute byte says: private, public, stack, common and the reserved ones.
 pub fn combinations()
-    ensures named { map combination_named (0x20 ∷ 0x24 ∷ 0x28 ∷ 0x2C ∷ 0x30 ∷ 0x34 ∷ 0x38 ∷ 0x3C ∷ []) ≡ Alone ∷ Alone ∷ Joined ∷ Alone ∷ Joined ∷ Joined ∷ Common ∷ Joined ∷ [] }
-    ensures absolute { map combination_named (0x08 ∷ 0x18 ∷ []) ≡ Alone ∷ Alone ∷ [] }
+    ensures { map combination_named (0x20 ∷ 0x24 ∷ 0x28 ∷ 0x2C ∷ 0x30 ∷ 0x34 ∷ 0x38 ∷ 0x3C ∷ []) ≡ Alone ∷ Alone ∷ Joined ∷ Alone ∷ Joined ∷ Joined ∷ Common ∷ Joined ∷ [] }
 {}
 
 /// Names where they first appear, and what they share.

@@ -42,7 +42,7 @@ pub fn combined_by(
 {
     let mut combined = Vec::new(alloc);
     for portion in run {
-        if portion.combination == combination {
+        if portion.lies() == combination {
             combined.push(*portion)?;
         }
     }
