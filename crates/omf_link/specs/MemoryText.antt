@@ -3,6 +3,7 @@ use Rattle.std.specs.Prelude.{ℕ, ◌+◌, ◌%◌, List, [], ◌∷◌, ◌++�
 use Rattle.std.specs.List.{enumerate_from, range_with_len}
 use Rattle.omf_image.specs.declared.run.Run.{Run}
 use Rattle.omf_cmd.specs.Printed.{hex}
+use Rattle.omf_cmd.specs.Relocated.{start_line}
 use Rattle.omf_cmd.specs.RunLines.{byte_text}
 
 -- The bytes of a run are numbered from 0. A line begins at the first of them and at each sixteenth behind it: with the address in eight hexadecimal digits and a
@@ -21,6 +22,10 @@ run_text byte r = flat_map (λ number. line_begin r.first number ++ flat_map byt
 -- The runs of a memory in their order.
 abbrev pub memory_text : (ℕ → Option ℕ) → List Run → List ℕ
 memory_text byte runs = flat_map (run_text byte) runs
+
+-- Behind them the line of the start, if there is one.
+abbrev pub image_text : (ℕ → Option ℕ) → List Run → Option (ℕ × ℕ) → List ℕ
+image_text byte runs start = memory_text byte runs ++ start_line start
 
 -- As the printing goes over them: a byte with its number in a run, and the bytes of a run.
 abbrev pub numbered_text : ℕ → ℕ → ℕ × ℕ → List ℕ

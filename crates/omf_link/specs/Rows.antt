@@ -1,8 +1,8 @@
 -- Words of the worked examples.
-use Rattle.std.specs.Prelude.{ℕ, List}
+use Rattle.std.specs.Prelude.{ℕ, List, Option}
 use Rattle.omf_image.specs.Joined.{runs_of}
 use Rattle.omf_image.specs.Overlay.{Laid, byte_at}
-use Rattle.omf_link.specs.MemoryText.{memory_text}
+use Rattle.omf_link.specs.MemoryText.{image_text, memory_text}
 
 -- bytes at an address
 abbrev pub bytes_at : ℕ → List ℕ → Laid
@@ -11,3 +11,7 @@ bytes_at a bs = record { segment = 0; offset = a; bytes = bs }
 -- the text of the memory that pieces lay
 abbrev pub text_of : List Laid → List ℕ
 text_of laid = memory_text (byte_at laid 0) (runs_of laid 0)
+
+-- and with a start
+abbrev pub started_text : List Laid → Option (ℕ × ℕ) → List ℕ
+started_text laid start = image_text (byte_at laid 0) (runs_of laid 0) start

@@ -12,7 +12,7 @@
 mod printing;
 pub mod rows;
 
-pub use printing::memory_text;
+pub use printing::{image_text, memory_text};
 
 #[cfg(test)]
 mod tests;

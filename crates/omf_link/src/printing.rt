@@ -2,10 +2,11 @@
 
 ghost use Rattle.std.specs.Prelude.{◌≡◌, ◌+◌, ◌<◌, ◌≤◌, ◌^◌, ◌++◌, ◌∷◌, [], IfOk, OnOk, length, option_map, string_bytes};
 ghost use Rattle.omf_cmd.specs.Printed.{hex};
+ghost use Rattle.omf_cmd.specs.Relocated.{start_line};
 ghost use Rattle.omf_cmd.specs.RunLines.{IsRunShown, byte_text};
 ghost use Rattle.omf_image.specs.Joined.{runs_of};
 ghost use Rattle.omf_image.specs.Overlay.{byte_at};
-ghost use Rattle.omf_link.specs.MemoryText.{line_begin, line_end, memory_text, numbered_text, shown_bytes};
+ghost use Rattle.omf_link.specs.MemoryText.{image_text, line_begin, line_end, memory_text, numbered_text, shown_bytes};
 
 use omf_image::Image;
 use std::alloc::{AllocError, Global};
@@ -100,5 +101,50 @@ pub fn memory_text(alloc: Global, memory: &Image) -> Result<String, AllocError>
         print_run(&mut text, first, bytes)?;
         k += 1;
     }
+    Ok(text)
+}
+
+/// A selector in four digits.
+fn print_selector(text: &mut String, selector: u16) -> Result<(), AllocError>
+    ensures { OnOk result (string_bytes text.new ≡ string_bytes text.old ++ hex 4 selector) }
+{
+    write!(text, "{selector:04X}")
+}
+
+/// A colon, and an offset in eight digits.
+fn print_offset(text: &mut String, offset: u32) -> Result<(), AllocError>
+    ensures { OnOk result (string_bytes text.new ≡ string_bytes text.old ++ 58 ∷ hex 8 offset) }
+{
+    write!(text, ":{offset:08X}")
+}
+
+/// The line of a start. Nothing where there is none.
+fn print_start(text: &mut String, start: Option<(u16, u32)>) -> Result<(), AllocError>
+    ensures { OnOk result (string_bytes text.new ≡ string_bytes text.old ++ start_line start) }
+{
+    let Some((selector, offset)) = start else {
+        return Ok(());
+    };
+    text.push_str("START ")?;
+    print_selector(text, selector)?;
+    print_offset(text, offset)?;
+    text.push_str("\n")
+}
+
+/// The text of the bytes of a memory, as `memory_text` has it, and then the line of a start, if there is one: its selector in four digits, a
+/// colon, and its offset in eight.
+///
+/// # Errors
+///
+/// `AllocError` where a growth is refused.
+pub fn image_text(
+    alloc: Global,
+    memory: &Image,
+    start: Option<(u16, u32)>,
+) -> Result<String, AllocError>
+    ensures { IfOk result (λ text. string_bytes text ≡ image_text (byte_at memory.now 0) (runs_of memory.now 0) start) }
+{
+    let mut text = memory_text(alloc, memory)?;
+    print_start(&mut text, start)?;
     Ok(text)
 }
