@@ -274,7 +274,7 @@ fn keeps_other_contents(rt: HostRuntime) -> Result<(), Fail> {
     Ok(())
 }
 
-/// Contents that are their own shortest contents, in a record that tells its type.
+/// Contents that are their own shortest contents, in a record that tells its type; and so they are when they are shown again.
 fn keeps(alloc: Global, kind: u8, body: &[u8]) -> Result<bool, Fail>
     requires taken { IsTrue (is_taken kind) }
     requires short { length body.now ≤ 65534 }
@@ -282,7 +282,11 @@ fn keeps(alloc: Global, kind: u8, body: &[u8]) -> Result<bool, Fail>
     let rec = view(raw(kind, body))?;
     let mut out = Vec::new(alloc);
     put_rec(&mut out, &rec)?;
-    Ok(rec.kind() == kind && out.as_slice() == body)
+    let known = view_known(raw(kind, body));
+    let mut again = Vec::new(alloc);
+    put_rec(&mut again, &known)?;
+    let kinds = rec.kind() == kind && known.kind() == kind;
+    Ok(kinds && out.as_slice() == body && again.as_slice() == body)
 }
 
 #[test]
