@@ -104,13 +104,17 @@ fn is_laid(image: &Image, pieces: u32) -> bool {
     }
 }
 
-/// Lays a piece at an offset of segment 1.
-fn lay_one(alloc: Global, image: &mut Image, offset: u32, byte: u8) -> Result<(), AllocError> {
-    let bytes = piece(alloc, byte)?;
+/// Lays bytes at an offset of segment 1.
+fn lay_at(image: &mut Image, offset: u32, bytes: Vec<u8>) -> Result<(), AllocError> {
     if offset > 1000 || bytes.len() > 1000 {
         return Ok(());
     }
     image.lay(1, offset, bytes)
+}
+
+/// Lays a piece at an offset of segment 1.
+fn lay_one(alloc: Global, image: &mut Image, offset: u32, byte: u8) -> Result<(), AllocError> {
+    lay_at(image, offset, piece(alloc, byte)?)
 }
 
 impl Call for Laying {
@@ -132,6 +136,35 @@ impl Call for Laying {
 #[test]
 fn lay_where_memory_ends(rt: HostRuntime) -> Result<(), Fail> {
     hold(&rt, &[Laying])
+}
+
+/// Two pieces of a byte each, of which the second follows the first.
+#[derive(Drop)]
+struct Following;
+
+/// Lays a byte at an offset of segment 1.
+fn lay_byte(alloc: Global, image: &mut Image, offset: u32, byte: u8) -> Result<(), AllocError> {
+    let mut bytes = Vec::new(alloc);
+    bytes.push(byte)?;
+    lay_at(image, offset, bytes)
+}
+
+impl Call for Following {
+    fn run(&self, alloc: Global) -> Tried {
+        let mut image = Image::new(alloc);
+        if lay_byte(alloc, &mut image, 4, 0xAA).is_err() {
+            return refused_if(image.run_at(1, 0).is_none());
+        }
+        if lay_byte(alloc, &mut image, 5, 0xBB).is_err() {
+            return refused_if(has_run(&image, 0, 4, 1, [0xAA; 2]) && image.run_at(1, 1).is_none());
+        }
+        right_if(has_run(&image, 0, 4, 2, [0xAA, 0xBB]) && image.run_at(1, 1).is_none())
+    }
+}
+
+#[test]
+fn lay_behind_another_where_memory_ends(rt: HostRuntime) -> Result<(), Fail> {
+    hold(&rt, &[Following])
 }
 
 /// `relocate`, for a placement that reaches.

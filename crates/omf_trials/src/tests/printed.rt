@@ -120,6 +120,15 @@ fn fault_line_where_memory_ends(rt: HostRuntime) -> Result<(), Fail> {
         within: 2,
     };
     let reason = Reason::Cut;
+    let nothing = Place {
+        number: 0,
+        start: 0,
+        within: 0,
+    };
+    let empty = RunFault::Refused {
+        reason: Reason::NoEnd,
+        place: nothing,
+    };
     let far = ReachFault::TooFar {
         number: 4,
         within: 3,
@@ -131,6 +140,7 @@ fn fault_line_where_memory_ends(rt: HostRuntime) -> Result<(), Fail> {
             RunFault::Refused { reason, place },
             "refused 2 Cut record 4 at 34 within 2",
         ),
+        (empty, "refused 1 NoEnd record 0 at 0 within 0"),
         (RunFault::Line(3), "placement line 3"),
         (
             RunFault::Reach(ReachFault::Missing(Kind::External, 1)),
@@ -144,16 +154,17 @@ fn fault_line_where_memory_ends(rt: HostRuntime) -> Result<(), Fail> {
     hold(&rt, &lines.map(|(fault, line)| Line { fault, line }))
 }
 
-/// The words of a job, and the program's run of it.
+/// The words of a job, with the flag or without it, and the program's run of it.
 #[derive(Drop)]
 struct Asking {
     words: Vec<String>,
     job: Job,
+    refuses: bool,
     run: Running,
 }
 
 /// The program's words.
-fn words(alloc: Global, job: Job) -> Result<Vec<String>, AllocError> {
+fn words(alloc: Global, job: Job, refuses: bool) -> Result<Vec<String>, AllocError> {
     let name = match job {
         Job::Check => "check",
         Job::List => "list",
@@ -161,8 +172,11 @@ fn words(alloc: Global, job: Job) -> Result<Vec<String>, AllocError> {
         Job::Reloc => "reloc",
     };
     let mut words = Vec::new(alloc);
-    for word in ["omf", name, "--refuse-vendor-comments"] {
+    for word in ["omf", name] {
         words.push(String::from_str(alloc, word)?)?;
+    }
+    if refuses {
+        words.push(String::from_str(alloc, "--refuse-vendor-comments")?)?;
     }
     Ok(words)
 }
@@ -171,7 +185,7 @@ impl Call for Asking {
     fn run(&self, alloc: Global) -> Tried {
         match command(alloc, &self.words) {
             Ok(Some((job, profile))) => {
-                right_if(job == self.job && profile.refuse_vendor_comments)
+                right_if(job == self.job && profile.refuse_vendor_comments == self.refuses)
             }
             Ok(None) => Tried::Wrong,
             Err(AllocError) => Tried::Refused,
@@ -179,14 +193,21 @@ impl Call for Asking {
     }
 }
 
-/// The four subcommands with the flag, over the first module.
+/// The four subcommands with the flag, and one without it, over the first module.
 fn askings(alloc: Global) -> Result<Vec<Asking>, Fail> {
     let mut calls = Vec::new(alloc);
     for row in rows(alloc)?.iter().take(1) {
-        for job in [Job::Check, Job::List, Job::Canon, Job::Reloc] {
+        for (job, refuses) in [
+            (Job::Check, false),
+            (Job::Check, true),
+            (Job::List, true),
+            (Job::Canon, true),
+            (Job::Reloc, true),
+        ] {
             calls.push(Asking {
-                words: words(alloc, job)?,
+                words: words(alloc, job, refuses)?,
                 job,
+                refuses,
                 run: run_of(alloc, row, job)?,
             })?;
         }

@@ -1,8 +1,8 @@
 //! Fields and records that are put where memory ends: what was put before stays.
 
 use super::calls::{Call, Tried, hold, refused_if, right_if};
-use super::rows::rows;
-use super::samples::module_of;
+use super::rows::{bytes_of, rows};
+use super::samples::{END, HEADER, NAMES, SEGMENT, module_of};
 use omf_check::Checked;
 use omf_frame::{CommunalLength, Field, Index, Le16, Le32, Name};
 use omf_records::put_rec;
@@ -136,4 +136,42 @@ fn put_rec_where_memory_ends(rt: HostRuntime) -> Result<(), Fail> {
         calls.push(Records { module })?;
     }
     hold(&rt, &calls)
+}
+
+/// A module whose data record is not in its shortest spelling.
+#[derive(Drop)]
+struct LongSpelling {
+    module: Checked,
+}
+
+impl Call for LongSpelling {
+    fn run(&self, alloc: Global) -> Tried {
+        let Ok(mut out) = nearly_full(alloc, NEARLY) else {
+            return Tried::Refused;
+        };
+        for (place, rec) in self.module.records() {
+            if place.number == 3 {
+                let done = put_rec(&mut out, &rec);
+                return compared(done, &out, NEARLY, b"\x01\x00\x00\xB8\x00\x00\x90");
+            }
+        }
+        Tried::Wrong
+    }
+}
+
+/// An LEDATA whose index has two bytes is put with one.
+#[test]
+fn put_rec_of_a_long_spelling_where_memory_ends(rt: HostRuntime) -> Result<(), Fail> {
+    let bytes = bytes_of(
+        rt.alloc(),
+        &[
+            HEADER,
+            NAMES,
+            SEGMENT,
+            "A0 09 00 80 01 00 00 B8 00 00 90 8E",
+            END,
+        ],
+    )?;
+    let module = module_of(rt.alloc(), &bytes)?;
+    hold(&rt, &[LongSpelling { module }])
 }
