@@ -1,5 +1,6 @@
 -- Laws over the places of the segments of several modules, each the contract of a function of the same name.
-use Rattle.std.specs.Prelude.{◌≡◌, ◌⊎◌, ℕ, ◌+◌, ◌<◌, ◌≤◌, List, Some, None, slice_get, map}
+use Rattle.std.specs.Prelude.{◌≡◌, ◌⊎◌, ℕ, ◌+◌, ◌<◌, ◌≤◌, List, Some, None, slice_get, map, flat_map, length, Bool}
+use Rattle.std.specs.List.{filter}
 use Rattle.omf_records.specs.Values.{Rec}
 use Rattle.omf_placement.specs.Placement.{absolute_place}
 use Rattle.omf_layout.specs.Layout.{Laid}
@@ -9,7 +10,9 @@ use Rattle.omf_layout.specs.Wants.{bytes_aligned}
 use Rattle.omf_layout.specs.declared.options.Frames.{Frames}
 use Rattle.omf_layout.specs.declared.options.Options.{Options}
 use Rattle.omf_arrange.specs.Laying.{Lying, arranged}
-use Rattle.omf_arrange.specs.Order.{order, place_of}
+use Rattle.omf_arrange.specs.Order.{order, place_of, in_order, runs}
+use Rattle.omf_arrange.specs.Portions.{portions}
+use Rattle.omf_arrange.specs.declared.portion.Portion.{Portion}
 use Rattle.omf_arrange.specs.declared.portion.Combination.TheVariants.{Common}
 
 -- A segment that is not absolute.
@@ -44,3 +47,11 @@ pub record SegmentsLieApart (o : Options) (ms : List (List Rec)) (l : Laid (List
 
 abbrev pub ArrangedLieApart : Type 0
 ArrangedLieApart = (o : Options) (ms : List (List Rec)) (l : Laid (List Lying)) → arranged o ms ≡ Some l → SegmentsLieApart o ms l
+
+-- How many elements pass a test.
+abbrev pub count : {A : Type 0} → (A → Bool) → List A → ℕ
+count t xs = length (filter t xs)
+
+-- Each segment of each module is in the order as often as its module has it: once.
+abbrev pub OrderedOnce : Type 0
+OrderedOnce = (ms : List (List Rec)) (t : Portion → Bool) → count t (flat_map in_order (runs ms)) ≡ count t (map (λ x. x.1.1) (portions ms))

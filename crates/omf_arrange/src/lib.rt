@@ -7,6 +7,7 @@ mod gathering;
 pub mod laws;
 mod laying;
 mod order;
+mod places;
 mod portion;
 pub mod rows;
 mod runs;
