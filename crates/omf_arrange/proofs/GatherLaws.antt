@@ -176,10 +176,10 @@ module _ {A : Type 0} where
   of-name-step : (xs : List (Name × A)) (x : Name) (v : A) (n : Name) → of_name (xs ++ (x, v) ∷ []) n ≡ of_name xs n ++ cons_option (value_of n (x, v)) []
   of-name-step xs x v n = filter_map-append (value_of n) xs ((x, v) ∷ [])
 
-  of-this : (xs : List (Name × A)) (x : Name) (v : A) → of_name (xs ++ (x, v) ∷ []) x ≡ of_name xs x ++ v ∷ []
+  pub of-this : (xs : List (Name × A)) (x : Name) (v : A) → of_name (xs ++ (x, v) ∷ []) x ≡ of_name xs x ++ v ∷ []
   of-this xs x v = of-name-step xs x v x ∙ ap (λ o. of_name xs x ++ cons_option o []) (cond-true (bytes_eq x x) (Some v) None (itself x))
 
-  of-other : (xs : List (Name × A)) (x : Name) (v : A) (n : Name) → bytes_eq n x ≡ false → of_name (xs ++ (x, v) ∷ []) n ≡ of_name xs n
+  pub of-other : (xs : List (Name × A)) (x : Name) (v : A) (n : Name) → bytes_eq n x ≡ false → of_name (xs ++ (x, v) ∷ []) n ≡ of_name xs n
   of-other xs x v n e = of-name-step xs x v n ∙ ap (λ o. of_name xs n ++ cons_option o []) (cond-false (bytes_eq n x) (Some v) None e) ∙ append-nil (of_name xs n)
 
   pub of-none : (xs : List (Name × A)) (x : Name) → has x (names_in xs) ≡ false → of_name xs x ≡ []

@@ -6,3 +6,5 @@ pub mod OrderedLaws
 pub mod ApartLaws
 pub mod OnceLaws
 pub mod PlaceLaws
+pub mod LowLaws
+pub mod FoundLaws

@@ -13,10 +13,10 @@ use Rattle.omf_arrange.specs.Order.{runs_in, runs, lies_by, is_same_combination,
 use Rattle.omf_arrange.specs.Portions.{Named, Classed, portions}
 use Rattle.omf_arrange.proofs.GatherLaws.{Name, has, other, same, itself, back, dropped, kept, has-self, has-distinct, Once, once-distinct, of-none}
 
-count-both : {A : Type 0} (t : A → Bool) (xs ys : List A) → count t (xs ++ ys) ≡ count t xs + count t ys
+pub count-both : {A : Type 0} (t : A → Bool) (xs ys : List A) → count t (xs ++ ys) ≡ count t xs + count t ys
 count-both t xs ys = ap length (filter-append t xs ys) ∙ length-append (filter t xs) (filter t ys)
 
-count-seen : {A B : Type 0} (t : B → Bool) (f : A → B) (xs : List A) → count t (map f xs) ≡ count (λ x. t (f x)) xs
+pub count-seen : {A B : Type 0} (t : B → Bool) (f : A → B) (xs : List A) → count t (map f xs) ≡ count (λ x. t (f x)) xs
 count-seen t f [] = refl
 count-seen t f (x ∷ xs) =
     count-both t (f x ∷ []) (map f xs) ∙ ap₂ (λ a b. a + b) (one (t (f x))) (count-seen t f xs) ∙ sym (count-both (λ y. t (f y)) (x ∷ []) xs) where

@@ -1,5 +1,5 @@
 -- The places of several modules: where the segments of each lie, and the frames of its groups (this profile's rule).
-use Rattle.std.specs.Prelude.{◌≡◌, ℕ, List, [], length, map, flat_map, filter_map, find, zip, Option, unwrap_or, option_map, option_and_then, ◌==◌, ◌&&◌, Bool}
+use Rattle.std.specs.Prelude.{◌≡◌, ℕ, List, [], ◌++◌, length, map, flat_map, filter_map, find, zip, Option, unwrap_or, option_map, option_and_then, ◌==◌, ◌&&◌, Bool}
 use Rattle.std.specs.List.{range_with_len, enumerate_from}
 use Rattle.std.specs.BTreeMap.{BTreeMap, get, get_by}
 use Rattle.std.specs.Ordering.{nat_cmp, ordering_then}
@@ -14,7 +14,8 @@ use Rattle.omf_layout.specs.declared.options.Frames.{Frames}
 use Rattle.omf_layout.specs.declared.options.Frames.TheVariants.{Real, Flat}
 use Rattle.omf_layout.specs.declared.options.Options.{Options}
 use Rattle.omf_arrange.specs.Gathered.{of_name}
-use Rattle.omf_arrange.specs.Laying.{Lying, arranged}
+use Rattle.omf_layout.specs.Layout.{Laid}
+use Rattle.omf_arrange.specs.Laying.{Lying, laid, arranged}
 use Rattle.omf_arrange.specs.Portions.{Named, name_at}
 
 -- Where segment i of module j lies, of what is laid.
@@ -63,8 +64,9 @@ with_frames frames ls m = record { segments = m.1; groups = group_frames frames 
 abbrev pub all_with_frames : Frames → List (List Rec) → List (List Placed) → List Places
 all_with_frames frames ms xs = map (with_frames frames (lows ms xs)) (zip ms xs)
 
-abbrev pub placed : Options → List (List Rec) → Option (List Places)
-placed o ms = option_map (λ l. all_with_frames o.frames ms (all_segments_in l.what ms)) (arranged o ms)
+-- The places of all modules, and the first address that is free behind what is laid; none where something has no room.
+abbrev pub placed : Options → List (List Rec) → Option (Laid (List Places))
+placed o ms = option_map (λ l. laid (all_with_frames o.frames ms (all_segments_in l.what ms)) l.free) (arranged o ms)
 
 -- A table of what is laid, by module and index: it has the place of each segment.
 abbrev pub IsPlaceTable : BTreeMap (ℕ × ℕ) Placed → List Lying → Type 0
@@ -73,3 +75,7 @@ IsPlaceTable m ls = (j i : ℕ) → get (λ x y. ordering_then (nat_cmp x.0 y.0)
 -- A table by name of lowest places.
 abbrev pub IsLowTable : BTreeMap (Bor (List ℕ)) Placed → List (Named Placed) → Type 0
 IsLowTable m ls = (name : List ℕ) → get_by (λ k. slice_cmp nat_cmp name k.now) m ≡ lowest (of_name ls name)
+
+-- A table has these places more than another.
+abbrev pub HasMore : BTreeMap (Bor (List ℕ)) Placed → BTreeMap (Bor (List ℕ)) Placed → List (Named Placed) → Type 0
+HasMore m n more = (ls : List (Named Placed)) → IsLowTable m ls → IsLowTable n (ls ++ more)
