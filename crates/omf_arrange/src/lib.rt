@@ -4,12 +4,9 @@
 mod arranging;
 mod attributes;
 mod gathering;
-mod groups;
 pub mod laws;
 mod laying;
 mod order;
-mod places;
-mod placing;
 mod portion;
 pub mod rows;
 mod runs;
@@ -17,5 +14,4 @@ mod runs;
 pub use arranging::arrange;
 pub use laying::Lying;
 pub use order::order_of;
-pub use placing::place_segments;
 pub use portion::{Combination, Portion};
