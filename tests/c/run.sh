@@ -8,6 +8,8 @@ set -uo pipefail
 here=$(cd "$(dirname "$0")" && pwd)
 library=${LIBRARY:-libomf.a}
 omf=${OMF:-omf}
+command -v "$omf" > /dev/null || { echo "there is no program $omf: OMF names it"; exit 2; }
+[ -f "$library" ] || { echo "there is no archive $library: LIBRARY names it"; exit 2; }
 work=$(mktemp -d)
 trap 'rm -rf "$work"' EXIT
 failures=0
