@@ -1,3 +1,2 @@
 pub mod MemoryText
-pub mod Linked
 pub mod Rows
