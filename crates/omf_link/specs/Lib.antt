@@ -1,2 +1,3 @@
 pub mod MemoryText
+pub mod Linked
 pub mod Rows

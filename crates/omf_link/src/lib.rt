@@ -9,9 +9,11 @@
 //! ```
 #![tactic(auto)]
 
+mod linking;
 mod printing;
 pub mod rows;
 
+pub use linking::{linked_text, modules_text};
 pub use printing::{image_text, memory_text};
 
 #[cfg(test)]
