@@ -104,16 +104,16 @@ strict (p ∷ ps) =
     ]
 
 -- What is true of each, and of each two.
-abbrev Each : {A : Type 0} → (A → Type 0) → List A → Type 0
+abbrev pub Each : {A : Type 0} → (A → Type 0) → List A → Type 0
 Each P [] = ⊤
 Each P (x ∷ xs) = P x × Each P xs
 
-each-at : {A : Type 0} (P : A → Type 0) (xs : List A) → Each P xs → (i : ℕ) (x : A) → slice_get xs i ≡ Some x → P x
+pub each-at : {A : Type 0} (P : A → Type 0) (xs : List A) → Each P xs → (i : ℕ) (x : A) → slice_get xs i ≡ Some x → P x
 each-at P [] e i x h = absurd (none-some x h)
 each-at P (y ∷ ys) e zero x h = subst P (same_Some y x h) e.0
 each-at P (y ∷ ys) e (suc i) x h = each-at P ys e.1 i x h
 
-each-both : {A : Type 0} (P : A → Type 0) (xs ys : List A) → Each P xs → Each P ys → Each P (xs ++ ys)
+pub each-both : {A : Type 0} (P : A → Type 0) (xs ys : List A) → Each P xs → Each P ys → Each P (xs ++ ys)
 each-both P [] ys e f = f
 each-both P (x ∷ xs) ys e f = (e.0, each-both P xs ys e.1 f)
 

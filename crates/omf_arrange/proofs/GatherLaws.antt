@@ -14,28 +14,28 @@ use Rattle.std.proofs.lemmas.Option.{none-some, same_Some}
 use Rattle.std.proofs.lemmas.Slice.Eq.{bytes_eq-Decides}
 use Rattle.omf_arrange.specs.Gathered.{distinct, value_of, of_name, names_in, gathered, place_of, with_value, IsTable, AreGathered}
 
-abbrev Name : Type 0
+abbrev pub Name : Type 0
 Name = List ℕ
 
-abbrev has : Name → List Name → Bool
+abbrev pub has : Name → List Name → Bool
 has x zs = list_any (bytes_eq x) zs
 
-abbrev other : Name → Name → Bool
+abbrev pub other : Name → Name → Bool
 other y z = not (bytes_eq y z)
 
-same : (x y : Name) → bytes_eq x y ≡ true → x ≡ y
+pub same : (x y : Name) → bytes_eq x y ≡ true → x ≡ y
 same x y e = (bytes_eq-Decides x y).0 e
 
-itself : (x : Name) → bytes_eq x x ≡ true
+pub itself : (x : Name) → bytes_eq x x ≡ true
 itself x = (bytes_eq-Decides x x).1 refl
 
-back : (x y : Name) → bytes_eq x y ≡ false → bytes_eq y x ≡ false
+pub back : (x y : Name) → bytes_eq x y ≡ false → bytes_eq y x ≡ false
 back x y e = false_from_ne_true (bytes_eq y x) (λ t. not_from_Decides (bytes_eq x y) (bytes_eq-Decides x y) e (sym (same y x t)))
 
-dropped : (y z : Name) (zs : List Name) → bytes_eq y z ≡ true → filter (other y) (z ∷ zs) ≡ filter (other y) zs
+pub dropped : (y z : Name) (zs : List Name) → bytes_eq y z ≡ true → filter (other y) (z ∷ zs) ≡ filter (other y) zs
 dropped y z zs t = cond-false (other y z) (z ∷ filter (other y) zs) (filter (other y) zs) (ap not t)
 
-kept : (y z : Name) (zs : List Name) → bytes_eq y z ≡ false → filter (other y) (z ∷ zs) ≡ z ∷ filter (other y) zs
+pub kept : (y z : Name) (zs : List Name) → bytes_eq y z ≡ false → filter (other y) (z ∷ zs) ≡ z ∷ filter (other y) zs
 kept y z zs f = cond-true (other y z) (z ∷ filter (other y) zs) (filter (other y) zs) (ap not f)
 
 has-other : (x y : Name) → bytes_eq x y ≡ false → (zs : List Name) → has x (filter (other y) zs) ≡ has x zs
@@ -45,7 +45,7 @@ has-other x y e (z ∷ zs) = elim (cases_Bool (bytes_eq y z)) [
   | inr f ↦ ap (has x) (kept y z zs f) ∙ ap (λ b. bytes_eq x z || b) (has-other x y e zs)
 ]
 
-has-self : (y : Name) (zs : List Name) → has y (filter (other y) zs) ≡ false
+pub has-self : (y : Name) (zs : List Name) → has y (filter (other y) zs) ≡ false
 has-self y [] = refl
 has-self y (z ∷ zs) = elim (cases_Bool (bytes_eq y z)) [
   | inl t ↦ ap (has y) (dropped y z zs t) ∙ has-self y zs
@@ -62,7 +62,7 @@ has-none x y (z ∷ zs) h =
     ]
 
 -- Each name once.
-abbrev Once : List Name → Type 0
+abbrev pub Once : List Name → Type 0
 Once [] = ⊤
 Once (y ∷ ys) = (has y ys ≡ false) × Once ys
 
@@ -73,7 +73,7 @@ once-filter y (z ∷ zs) o = elim (cases_Bool (bytes_eq y z)) [
   | inr f ↦ subst Once (sym (kept y z zs f)) (has-none z y zs o.0, once-filter y zs o.1)
 ]
 
-once-distinct : (xs : List Name) → Once (distinct xs)
+pub once-distinct : (xs : List Name) → Once (distinct xs)
 once-distinct [] = tt
 once-distinct (x ∷ xs) = (has-self x (distinct xs), once-filter x (distinct xs) (once-distinct xs))
 
@@ -106,7 +106,7 @@ distinct-step (y ∷ ys) x =
           ∙ ap (λ b. with-new b (y ∷ es) x) (sym (has-other x y f ds)) ∙ sym (ap (λ b. with-new (b || has x es) (y ∷ es) x) f)
     ]
 
-has-distinct : (x : Name) (xs : List Name) → has x (distinct xs) ≡ has x xs
+pub has-distinct : (x : Name) (xs : List Name) → has x (distinct xs) ≡ has x xs
 has-distinct x [] = refl
 has-distinct x (y ∷ ys) = elim (cases_Bool (bytes_eq x y)) [
   | inl t ↦ ap (λ b. b || has x (filter (other y) (distinct ys))) t ∙ sym (ap (λ b. b || has x ys) t)
@@ -176,13 +176,13 @@ module _ {A : Type 0} where
   of-name-step : (xs : List (Name × A)) (x : Name) (v : A) (n : Name) → of_name (xs ++ (x, v) ∷ []) n ≡ of_name xs n ++ cons_option (value_of n (x, v)) []
   of-name-step xs x v n = filter_map-append (value_of n) xs ((x, v) ∷ [])
 
-  of-this : (xs : List (Name × A)) (x : Name) (v : A) → of_name (xs ++ (x, v) ∷ []) x ≡ of_name xs x ++ v ∷ []
+  pub of-this : (xs : List (Name × A)) (x : Name) (v : A) → of_name (xs ++ (x, v) ∷ []) x ≡ of_name xs x ++ v ∷ []
   of-this xs x v = of-name-step xs x v x ∙ ap (λ o. of_name xs x ++ cons_option o []) (cond-true (bytes_eq x x) (Some v) None (itself x))
 
-  of-other : (xs : List (Name × A)) (x : Name) (v : A) (n : Name) → bytes_eq n x ≡ false → of_name (xs ++ (x, v) ∷ []) n ≡ of_name xs n
+  pub of-other : (xs : List (Name × A)) (x : Name) (v : A) (n : Name) → bytes_eq n x ≡ false → of_name (xs ++ (x, v) ∷ []) n ≡ of_name xs n
   of-other xs x v n e = of-name-step xs x v n ∙ ap (λ o. of_name xs n ++ cons_option o []) (cond-false (bytes_eq n x) (Some v) None e) ∙ append-nil (of_name xs n)
 
-  of-none : (xs : List (Name × A)) (x : Name) → has x (names_in xs) ≡ false → of_name xs x ≡ []
+  pub of-none : (xs : List (Name × A)) (x : Name) → has x (names_in xs) ≡ false → of_name xs x ≡ []
   of-none [] x h = refl
   of-none (y ∷ ys) x h =
       let parts = or_parts (bytes_eq x y.0) (has x (names_in ys)) h in

@@ -4,3 +4,7 @@ pub mod OrderLaws
 pub mod LayingLaws
 pub mod OrderedLaws
 pub mod ApartLaws
+pub mod OnceLaws
+pub mod PlaceLaws
+pub mod LowLaws
+pub mod FoundLaws

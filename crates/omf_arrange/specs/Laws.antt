@@ -1,5 +1,6 @@
 -- Laws over the places of the segments of several modules, each the contract of a function of the same name.
-use Rattle.std.specs.Prelude.{◌≡◌, ◌⊎◌, ℕ, ◌+◌, ◌<◌, ◌≤◌, List, Some, None, slice_get, map}
+use Rattle.std.specs.Prelude.{◌≡◌, ◌⊎◌, ℕ, ◌+◌, ◌<◌, ◌≤◌, List, Some, None, slice_get, map, flat_map, length, Bool}
+use Rattle.std.specs.List.{filter}
 use Rattle.omf_records.specs.Values.{Rec}
 use Rattle.omf_placement.specs.Placement.{absolute_place}
 use Rattle.omf_layout.specs.Layout.{Laid}
@@ -9,7 +10,12 @@ use Rattle.omf_layout.specs.Wants.{bytes_aligned}
 use Rattle.omf_layout.specs.declared.options.Frames.{Frames}
 use Rattle.omf_layout.specs.declared.options.Options.{Options}
 use Rattle.omf_arrange.specs.Laying.{Lying, arranged}
-use Rattle.omf_arrange.specs.Order.{order, place_of}
+use Rattle.omf_arrange.specs.Order.{order, place_of, in_order, runs}
+use Rattle.omf_arrange.specs.Placing.{place_or_none}
+use Rattle.omf_arrange.specs.Portions.{portions}
+use Rattle.omf_check.specs.Tables.{segments, entry}
+use Rattle.omf_check.specs.declared.segment.SegInfo.{SegInfo}
+use Rattle.omf_arrange.specs.declared.portion.Portion.{Portion}
 use Rattle.omf_arrange.specs.declared.portion.Combination.TheVariants.{Common}
 
 -- A segment that is not absolute.
@@ -44,3 +50,26 @@ pub record SegmentsLieApart (o : Options) (ms : List (List Rec)) (l : Laid (List
 
 abbrev pub ArrangedLieApart : Type 0
 ArrangedLieApart = (o : Options) (ms : List (List Rec)) (l : Laid (List Lying)) → arranged o ms ≡ Some l → SegmentsLieApart o ms l
+
+-- How many elements pass a test.
+abbrev pub count : {A : Type 0} → (A → Bool) → List A → ℕ
+count t xs = length (filter t xs)
+
+-- Each segment of each module is in the order as often as its module has it: once.
+abbrev pub OrderedOnce : Type 0
+OrderedOnce = (ms : List (List Rec)) (t : Portion → Bool) → count t (flat_map in_order (runs ms)) ≡ count t (map (λ x. x.1.1) (portions ms))
+
+-- What is taken as the place of a segment of a module, by the module's number and the segment's index, is where that segment is laid.
+pub record IsLaidAt (ls : List Lying) (j i : ℕ) (s : SegInfo) : Type 0 where
+  pub position : ℕ
+  pub lying : Lying
+  pub laid : slice_get ls position ≡ Some lying
+  pub number : lying.0.«module» ≡ j
+  pub index : lying.0.index ≡ i
+  pub told : lying.0.segment ≡ s
+  pub place : place_or_none ls j i ≡ lying.1
+
+-- Each segment of each module is found among those that are laid: nothing stands for a missing place.
+abbrev pub SegmentsAreFound : Type 0
+SegmentsAreFound = (o : Options) (ms : List (List Rec)) (l : Laid (List Lying)) → arranged o ms ≡ Some l
+    → (j i : ℕ) (m : List Rec) (s : SegInfo) → slice_get ms j ≡ Some m → entry (segments m) i ≡ Some s → IsLaidAt l.what j i s

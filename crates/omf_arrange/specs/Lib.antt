@@ -3,4 +3,5 @@ pub mod Portions
 pub mod Order
 pub mod Laying
 pub mod Laws
+pub mod Placing
 pub mod Rows

@@ -4,9 +4,12 @@
 mod arranging;
 mod attributes;
 mod gathering;
+mod groups;
 pub mod laws;
 mod laying;
 mod order;
+mod places;
+mod placing;
 mod portion;
 pub mod rows;
 mod runs;
@@ -14,4 +17,5 @@ mod runs;
 pub use arranging::arrange;
 pub use laying::Lying;
 pub use order::order_of;
+pub use placing::place_segments;
 pub use portion::{Combination, Portion};

@@ -81,7 +81,7 @@ fn portion_of(module: u32, index: u16, segment: SegInfo, attribute: u8) -> Porti
 }
 
 /// The name of an index; of none the empty one.
-fn name_at(module: &Checked, index: u16) -> &[u8]
+pub fn name_at(module: &Checked, index: u16) -> &[u8]
     ensures { result.now ≡ name_at (recs (records_in «module».now.bytes)) index }
 {
     match module.name(index) {

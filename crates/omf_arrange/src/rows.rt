@@ -4,7 +4,7 @@ ghost use Rattle.std.specs.Prelude.{◌≡◌, ℕ, [], ◌∷◌, map, Some, No
 ghost use Rattle.omf_arrange.specs.Gathered.{distinct, gathered};
 ghost use Rattle.omf_arrange.specs.Order.{order};
 ghost use Rattle.omf_arrange.specs.Portions.{combination_named, name_at};
-ghost use Rattle.omf_arrange.specs.Rows.{absolute, of_records, place, places, segment};
+ghost use Rattle.omf_arrange.specs.Rows.{absolute, empty_group, group, module_places, of_records, paragraph_frame, place, places, segment};
 ghost use Rattle.omf_layout.specs.declared.options.Frames.TheVariants.{Real, Flat};
 ghost use Rattle.omf_arrange.specs.declared.portion.Combination.TheVariants.{Joined, Common, Alone};
 
@@ -44,4 +44,11 @@ pub fn places_without_room()
     ensures joined { places 0xFFFF0 Real (of_records (segment 0x28 12 2 2 ∷ []) ∷ of_records (segment 0x28 5 2 2 ∷ []) ∷ []) ≡ None }
     ensures joined_last { places 0xFFFF0 Real (of_records (segment 0x28 12 2 2 ∷ []) ∷ of_records (segment 0x28 4 2 2 ∷ []) ∷ []) ≡ Some (((0, 1), place 0xFFFF0 0xFFFF) ∷ ((1, 1), place 0xFFFFC 0xFFFF) ∷ [], 0x100000) }
     ensures common { places 0xFFFF0 Real (of_records (segment 0x38 12 2 2 ∷ []) ∷ of_records (segment 0x38 17 2 2 ∷ []) ∷ []) ≡ None }
+{}
+
+/// The groups of one name have one frame in two modules: that of the lowest member, which lies in the second module in the frame of the
+/// first one's segment. A group without members counts from address 0. In a flat frame all have that.
+pub fn frames_of_groups()
+    ensures real { module_places 0x10008 Real (of_records (segment 0x68 1 2 2 ∷ segment 0x68 1 3 3 ∷ group 4 2 ∷ []) ∷ of_records (segment 0x68 1 2 2 ∷ group 4 1 ∷ empty_group 3 ∷ []) ∷ []) ≡ Some ((place 0x10010 0x1001 ∷ place 0x10030 0x1003 ∷ [], paragraph_frame 0x1001 ∷ []) ∷ (place 0x10020 0x1001 ∷ [], paragraph_frame 0x1001 ∷ record { base = 0; selector = 0 } ∷ []) ∷ [], 0x10031) }
+    ensures flat { module_places 0x10 (Flat 8) (of_records (segment 0x28 1 2 2 ∷ group 4 1 ∷ empty_group 3 ∷ []) ∷ []) ≡ Some ((record { address = 0x10; frame = record { base = 0; selector = 8 } } ∷ [], record { base = 0; selector = 8 } ∷ record { base = 0; selector = 8 } ∷ []) ∷ [], 0x11) }
 {}

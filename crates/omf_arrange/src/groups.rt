@@ -1,0 +1,177 @@
+//! The frames of the groups of several modules.
+
+ghost use Rattle.std.specs.Prelude.{◌≡◌, ◌<◌, ◌^◌, ◌∷◌, [], List, OnOk, IfOk, length, map, filter_map, option_and_then};
+ghost use Rattle.omf_check.specs.Module.{records_in};
+ghost use Rattle.omf_check.specs.Tables.{entry as entry_of};
+ghost use Rattle.omf_check.specs.WellFormed.{recs};
+ghost use Rattle.omf_placement.specs.Lowest.{lower_than};
+ghost use Rattle.omf_placement.specs.Placement.{lowest, members_placed};
+ghost use Rattle.omf_records.specs.Seen.{contents_seen};
+ghost use Rattle.omf_records.specs.Values.{Group, GroupItem};
+ghost use Rattle.omf_arrange.specs.Placing.{HasMore, IsLowTable, frame_named, group_frames, low_of, lows, lows_in};
+ghost use Rattle.omf_arrange.specs.Portions.{Named, typed_modules};
+
+use crate::portion::name_at;
+use omf_check::Checked;
+use omf_layout::Frames;
+use omf_placement::{Frame, Placed};
+use omf_records::{Items, Member, Rec};
+use std::alloc::{AllocError, Global};
+use std::collections::BTreeMap;
+
+/// A frame that counts from address 0.
+const NO_FRAME: Frame = Frame {
+    base: 0,
+    selector: 0,
+};
+
+/// The lower of two places, the first of them at a tie.
+fn lower(found: Option<Placed>, place: Placed) -> Placed
+    ensures { result ≡ lower_than found place }
+{
+    match found {
+        Some(lowest) if lowest.address <= place.address => lowest,
+        _ => place,
+    }
+}
+
+/// The place of a group's member.
+fn place_of(member: &Member<'_>, segments: &[Placed]) -> Option<Placed>
+    ensures { result ≡ entry_of segments.now member.now.item }
+{
+    segments
+        .get(usize::from(member.segment.item.0).checked_sub(1)?)
+        .copied()
+}
+
+/// The place of the lowest member, the first of them at a tie; none where there is no member, or one has no place.
+fn lowest_of(members: Items<Member<'_>>, segments: &[Placed]) -> Option<Placed>
+    ensures { result ≡ option_and_then lowest (members_placed segments.now members.entry) }
+{
+    let mut lowest = None;
+    for member in members {
+        match place_of(&member.item, segments) {
+            Some(place) => lowest = Some(lower(lowest, place)),
+            None => return None,
+        }
+    }
+    lowest
+}
+
+/// The place of the lowest member of a group.
+fn low_of(group: &Rec<'_>, segments: &[Placed]) -> Option<Placed>
+    requires { (g : GroupItem) × (contents_seen group.now ≡ Group g) }
+    ensures { (g : GroupItem) → contents_seen group.now ≡ Group g → result ≡ option_and_then lowest (members_placed segments.now g.members) }
+{
+    match group {
+        Rec::Group { members, .. } => lowest_of(members.iter(), segments),
+        _ => None,
+    }
+}
+
+/// The index of a group's name.
+fn group_name(group: &Rec<'_>) -> u16
+    requires { (g : GroupItem) × (contents_seen group.now ≡ Group g) }
+    ensures { (g : GroupItem) → contents_seen group.now ≡ Group g → result ≡ g.name.item }
+{
+    match group {
+        Rec::Group { name, .. } => name.item.0,
+        _ => unreachable!(),
+    }
+}
+
+/// The places of the lowest members of groups, by the groups' names.
+#[derive(Drop)]
+pub struct LowTable<'a> {
+    by_name: BTreeMap<&'a [u8], Placed>,
+}
+
+impl<'a> LowTable<'a> {
+    /// Adds the place of a group's lowest member.
+    fn add(&mut self, name: &'a [u8], place: Placed) -> Result<(), AllocError>
+        ensures { OnOk result (HasMore self.old.by_name self.new.by_name ((name.entry.now, place) ∷ [])) }
+    {
+        let low = lower(self.by_name.get(&name).copied(), place);
+        self.by_name.insert(name, low)?;
+        Ok(())
+    }
+
+    /// Adds a group of a module whose segments lie so.
+    fn add_group(
+        &mut self,
+        module: &'a Checked,
+        segments: &[Placed],
+        group: &Rec<'_>,
+    ) -> Result<(), AllocError>
+        requires { (g : GroupItem) × (contents_seen group.now ≡ Group g) }
+        ensures { (g : GroupItem) → contents_seen group.now ≡ Group g → OnOk result (HasMore self.old.by_name self.new.by_name (filter_map (low_of (recs (records_in «module».entry.now.bytes)) segments.now) (g ∷ []))) }
+    {
+        match low_of(group, segments) {
+            Some(place) => self.add(name_at(module, group_name(group)), place),
+            None => Ok(()),
+        }
+    }
+
+    /// Adds the groups of a module whose segments lie so.
+    fn add_module(&mut self, module: &'a Checked, segments: &[Placed]) -> Result<(), AllocError>
+        ensures { OnOk result (HasMore self.old.by_name self.new.by_name (lows_in (recs (records_in «module».entry.now.bytes), segments.now))) }
+    {
+        for before in 0..module.groups() {
+            let Some(group) = module.group(before + 1) else {
+                unreachable!()
+            };
+            self.add_group(module, segments, &group)?;
+        }
+        Ok(())
+    }
+
+    /// The lowest places of the groups of modules whose segments lie so.
+    pub fn of(
+        alloc: Global,
+        modules: &'a [Checked],
+        places: &[Vec<Placed>],
+    ) -> Result<LowTable<'a>, AllocError>
+        requires { length places.now ≡ length modules.now }
+        ensures { IfOk result (λ t. IsLowTable t.by_name (lows (typed_modules modules.entry.now) (map (λ v. v.items) places.now))) }
+    {
+        let mut table = LowTable {
+            by_name: BTreeMap::new(alloc),
+        };
+        for (j, module) in modules.iter().enumerate() {
+            table.add_module(module, &places[j])?;
+        }
+        Ok(table)
+    }
+
+    /// The frame of the groups of a name.
+    fn frame_of(&self, frames: Frames, name: &'a [u8]) -> Frame
+        ensures { (ls : List (Named Placed)) → IsLowTable self.now.by_name ls → result ≡ frame_named frames ls name.now }
+    {
+        match frames {
+            Frames::Flat { selector } => Frame { base: 0, selector },
+            Frames::Real => match self.by_name.get(&name) {
+                Some(place) => place.frame,
+                None => NO_FRAME,
+            },
+        }
+    }
+
+    /// The frames of a module's groups.
+    pub fn frames_of(
+        &self,
+        alloc: Global,
+        frames: Frames,
+        module: &'a Checked,
+    ) -> Result<Vec<Frame>, AllocError>
+        ensures { (ls : List (Named Placed)) → IsLowTable self.now.by_name ls → IfOk result (λ v. v.items ≡ group_frames frames ls (recs (records_in «module».entry.now.bytes))) }
+    {
+        let mut each = Vec::new(alloc);
+        for before in 0..module.groups() {
+            let Some(group) = module.group(before + 1) else {
+                unreachable!()
+            };
+            each.push(self.frame_of(frames, name_at(module, group_name(&group))))?;
+        }
+        Ok(each)
+    }
+}
