@@ -112,6 +112,19 @@ impl Call for Line {
     }
 }
 
+/// The refusal of an input without a byte.
+fn nothing_refused() -> RunFault {
+    let place = Place {
+        number: 0,
+        start: 0,
+        within: 0,
+    };
+    RunFault::Refused {
+        reason: Reason::NoEnd,
+        place,
+    }
+}
+
 #[test]
 fn fault_line_where_memory_ends(rt: HostRuntime) -> Result<(), Fail> {
     let place = Place {
@@ -120,15 +133,6 @@ fn fault_line_where_memory_ends(rt: HostRuntime) -> Result<(), Fail> {
         within: 2,
     };
     let reason = Reason::Cut;
-    let nothing = Place {
-        number: 0,
-        start: 0,
-        within: 0,
-    };
-    let empty = RunFault::Refused {
-        reason: Reason::NoEnd,
-        place: nothing,
-    };
     let far = ReachFault::TooFar {
         number: 4,
         within: 3,
@@ -140,7 +144,7 @@ fn fault_line_where_memory_ends(rt: HostRuntime) -> Result<(), Fail> {
             RunFault::Refused { reason, place },
             "refused 2 Cut record 4 at 34 within 2",
         ),
-        (empty, "refused 1 NoEnd record 0 at 0 within 0"),
+        (nothing_refused(), "refused 1 NoEnd record 0 at 0 within 0"),
         (RunFault::Line(3), "placement line 3"),
         (
             RunFault::Reach(ReachFault::Missing(Kind::External, 1)),
