@@ -12,7 +12,11 @@ use Rattle.omf_records.specs.Values.{At, unplaced, Rec, Contents, Header, Commen
 use Rattle.omf_check.specs.Rules.{contents_rules}
 use Rattle.omf_check.specs.Sound.{FrameIsDefined, TargetIsDefined, SubrecordHolds, ContentsHold}
 use Rattle.omf_check.specs.Tables.{is_defined, last_data, data_in, defined_names, defined_segments, defined_groups, defined_externals, subrecords}
-use Rattle.omf_check.specs.Threads.{FrameMethod, F0, F1, F2, F4, F5, TargetMethod, T0, T1, T2, PlainReference, plain}
+use Rattle.omf_check.specs.Threads.{PlainReference, plain}
+use Rattle.omf_check.specs.declared.method.FrameMethod.{FrameMethod}
+use Rattle.omf_check.specs.declared.method.FrameMethod.TheVariants.{Segment as F0, Group as F1, External as F2, Location as F4, Target as F5}
+use Rattle.omf_check.specs.declared.method.TargetMethod.{TargetMethod}
+use Rattle.omf_check.specs.declared.method.TargetMethod.TheVariants.{Segment as T0, Group as T1, External as T2}
 use Rattle.omf_check.specs.WellFormed.{HasTrees}
 use Rattle.omf_check.specs.declared.profile.Profile.{Profile}
 use Rattle.omf_reloc.specs.Plain.{Piece, Kept, Fixed, End, PlainFixup, plain_fixup}

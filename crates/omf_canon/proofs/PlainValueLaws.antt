@@ -6,7 +6,9 @@ use Rattle.std.proofs.lemmas.List.Elements.{filter_map-append, All-head, All-tai
 use Rattle.omf_frame.specs.Bytes.{with_before}
 use Rattle.omf_records.specs.Values.{At, Reference, Subrecord, Thread, Fixup, width, is_wide, thread_is_frame, thread_number, thread_method, frame_by_thread, frame_bits, frame_thread, target_by_thread, target_bits, has_frame_datum, has_target_datum, has_no_displacement}
 use Rattle.omf_records.specs.Valued.{IsThere, IsIndexValue, IsReferenceValue, IsSubrecordValue}
-use Rattle.omf_check.specs.Threads.{Setting, setting, setting_of, same, frame_setting, target_setting, frame_from, target_from, F0, F1, F2, F4, F5, T0, T1, T2, plain}
+use Rattle.omf_check.specs.Threads.{Setting, setting, setting_of, same, frame_setting, target_setting, frame_from, target_from, plain}
+use Rattle.omf_check.specs.declared.method.FrameMethod.TheVariants.{Segment as F0, Group as F1, External as F2, Location as F4, Target as F5}
+use Rattle.omf_check.specs.declared.method.TargetMethod.TheVariants.{Segment as T0, Group as T1, External as T2}
 use Rattle.omf_reloc.specs.Plain.{plain_fixup}
 use Rattle.omf_canon.proofs.UnthreadedLaws.{IsSmallFrame, IsSmallTarget, IsPlainValue, IsPlainFixupValue}
 

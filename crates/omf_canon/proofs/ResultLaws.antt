@@ -16,7 +16,11 @@ use Rattle.omf_records.specs.Reading.{typed}
 use Rattle.omf_check.specs.Rules.{item_limit, room, item_places, contents_rules, rules, location_rule, frame_rules, target_rules, reference_rules, judged_at, subrecord_rules, subrecord_rules_at, start_rules, is_location_frame}
 use Rattle.omf_check.specs.Sound.{FrameIsDefined, TargetIsDefined, ContentsHold, ModuleHolds}
 use Rattle.omf_check.specs.Tables.{last_data, subrecords, item_count, items_in}
-use Rattle.omf_check.specs.Threads.{FrameMethod, F0, F1, F2, F4, F5, TargetMethod, T0, T1, T2, PlainReference, frame_of, target_of, frame_from, target_from}
+use Rattle.omf_check.specs.Threads.{PlainReference, frame_of, target_of, frame_from, target_from}
+use Rattle.omf_check.specs.declared.method.FrameMethod.{FrameMethod}
+use Rattle.omf_check.specs.declared.method.FrameMethod.TheVariants.{Segment as F0, Group as F1, External as F2, Location as F4, Target as F5}
+use Rattle.omf_check.specs.declared.method.TargetMethod.{TargetMethod}
+use Rattle.omf_check.specs.declared.method.TargetMethod.TheVariants.{Segment as T0, Group as T1, External as T2}
 use Rattle.omf_check.specs.WellFormed.{IsWellFormed, HasTrees, recs}
 use Rattle.omf_check.specs.declared.profile.Profile.{Profile}
 use Rattle.omf_reloc.specs.Plain.{Piece, Kept, PlainFixup, plain_fixup, piece_of, pieces}

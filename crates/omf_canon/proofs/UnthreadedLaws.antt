@@ -8,7 +8,11 @@ use Rattle.omf_frame.specs.declared.fault.Reason.TheVariants as reason
 use Rattle.omf_records.specs.Values.{Subrecord, nowhere, width, frame_by_thread, frame_bits, target_by_thread, target_bits, has_no_displacement}
 use Rattle.omf_records.specs.Entries.{unless, wrong_head, is_frame_method}
 use Rattle.omf_records.specs.Valued.{IsThere, IsIndexValue, IsReferenceValue, IsSubrecordValue}
-use Rattle.omf_check.specs.Threads.{FrameMethod, F0, F1, F2, F4, F5, TargetMethod, T0, T1, T2, PlainReference, plain, setting, frame_from, target_from, frame_of, target_of}
+use Rattle.omf_check.specs.Threads.{PlainReference, plain, setting, frame_from, target_from, frame_of, target_of}
+use Rattle.omf_check.specs.declared.method.FrameMethod.{FrameMethod}
+use Rattle.omf_check.specs.declared.method.FrameMethod.TheVariants.{Segment as F0, Group as F1, External as F2, Location as F4, Target as F5}
+use Rattle.omf_check.specs.declared.method.TargetMethod.{TargetMethod}
+use Rattle.omf_check.specs.declared.method.TargetMethod.TheVariants.{Segment as T0, Group as T1, External as T2}
 use Rattle.omf_reloc.specs.Plain.{PlainFixup}
 use Rattle.omf_canon.specs.Unthreaded.{frame_code, frame_index, target_code, target_index, fix_byte, unthreaded, unthreaded_fixup}
 

@@ -1,7 +1,11 @@
 -- A plain reference as a reference of a record that names no thread (TIS OMF 1.1, "FIXUPP"): its methods and its indices stand in it.
 use Rattle.std.specs.Prelude.{ℕ, ◌+◌, ◌*◌, Bool, Option, Some, None, ◌==◌, if◌then◌else◌}
 use Rattle.omf_records.specs.Values.{At, Reference, Subrecord, Fixup, nowhere}
-use Rattle.omf_check.specs.Threads.{FrameMethod, F0, F1, F2, F4, F5, TargetMethod, T0, T1, T2, PlainReference}
+use Rattle.omf_check.specs.Threads.{PlainReference}
+use Rattle.omf_check.specs.declared.method.FrameMethod.{FrameMethod}
+use Rattle.omf_check.specs.declared.method.FrameMethod.TheVariants.{Segment as F0, Group as F1, External as F2, Location as F4, Target as F5}
+use Rattle.omf_check.specs.declared.method.TargetMethod.{TargetMethod}
+use Rattle.omf_check.specs.declared.method.TargetMethod.TheVariants.{Segment as T0, Group as T1, External as T2}
 use Rattle.omf_reloc.specs.Plain.{PlainFixup}
 
 -- The number of a frame's method, and the index that follows the fix data byte, if it has one.

@@ -2,7 +2,6 @@
 
 ghost use Rattle.std.specs.Prelude.{◌≡◌, ◌++◌, OnOk, IfSome, option_map};
 ghost use Rattle.omf_records.specs.Values.{Fixup, nowhere};
-ghost use Rattle.omf_reloc.specs.Methods.{frame_seen, target_seen};
 ghost use Rattle.omf_reloc.specs.Pieces.{IsSet};
 ghost use Rattle.omf_reloc.specs.Walking.{plain_by, plain_fixup_by};
 ghost use Rattle.omf_canon.specs.PlainBytes.{start_bytes};
@@ -17,7 +16,7 @@ use std::alloc::AllocError;
 /// The number of a frame's method.
 #[inline(always)]
 fn frame_code(frame: FrameMethod) -> u8
-    ensures { result ≡ frame_code (frame_seen frame) }
+    ensures { result ≡ frame_code frame }
 {
     match frame {
         FrameMethod::Segment(_) => 0,
@@ -31,7 +30,7 @@ fn frame_code(frame: FrameMethod) -> u8
 /// The number of a target's method.
 #[inline(always)]
 fn target_code(target: TargetMethod) -> u8
-    ensures { result ≡ target_code (target_seen target) }
+    ensures { result ≡ target_code target }
 {
     match target {
         TargetMethod::Segment(_) => 0,
@@ -54,7 +53,7 @@ fn nowhere(index: Index) -> At<Index>
 /// The index of a frame whose method has one.
 #[inline(always)]
 fn frame_index(frame: FrameMethod) -> Option<At<Index>>
-    ensures { result ≡ frame_index (frame_seen frame) }
+    ensures { result ≡ frame_index frame }
 {
     match frame {
         FrameMethod::Segment(index) => Some(nowhere(index)),
@@ -68,7 +67,7 @@ fn frame_index(frame: FrameMethod) -> Option<At<Index>>
 /// The index of a target.
 #[inline(always)]
 fn target_index(target: TargetMethod) -> Option<At<Index>>
-    ensures { result ≡ target_index (target_seen target) }
+    ensures { result ≡ target_index target }
 {
     let index = match target {
         TargetMethod::Segment(index) => index,
@@ -81,7 +80,7 @@ fn target_index(target: TargetMethod) -> Option<At<Index>>
 /// The fix data byte: no bit says that a thread gives the frame or the target.
 #[inline(always)]
 fn fix_byte(frame: FrameMethod, target: TargetMethod, is_short: bool) -> u8
-    ensures { result ≡ fix_byte is_short (frame_seen frame) (target_seen target) }
+    ensures { result ≡ fix_byte is_short frame target }
 {
     let methods = 16 * frame_code(frame) + target_code(target);
     if is_short { methods + 4 } else { methods }

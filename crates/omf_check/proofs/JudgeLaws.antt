@@ -1,15 +1,15 @@
 -- The fault computed from what is kept is the least fault of the rules.
 use Rattle.std.proofs.Common.{◌≡◌, ℕ, zero, suc, ◌+◌, ◌-◌, ◌<◌, ◌≤◌, Bool, true, false, List, [], ◌∷◌, ◌++◌, refl, sym, ◌∙◌, ap, subst, arith, length, map, append_assoc, inl, inr}
-use Rattle.std.specs.Prelude.{Option, Some, None, option_map, unwrap_or, cond, ◌||◌, ◌==◌, not, nat_lt, nat_le}
+use Rattle.std.specs.Prelude.{Option, Some, None, option_map, unwrap_or, not, nat_lt, nat_le}
 use Rattle.std.specs.List.{enumerate_from}
-use Rattle.std.proofs.lemmas.Bool.Decides.{leb_tells, eqb_tells}
+use Rattle.std.proofs.lemmas.Bool.Decides.{leb_tells}
 use Rattle.std.proofs.lemmas.Bool.{le-leb}
 use Rattle.std.proofs.lemmas.List.{append-nil, map-append}
 use Rattle.omf_frame.specs.Bytes.{with_before}
 use Rattle.omf_frame.specs.Fault.{Fault, Rule, rule}
 use Rattle.omf_frame.specs.declared.fault.Reason.{Reason}
 use Rattle.omf_frame.specs.declared.fault.Reason.TheVariants as reason
-use Rattle.omf_records.specs.Values.{At, Rec, Contents, Header, Comment, Names, Segment, Group, Externs, Publics, Communals, Plain, Iterated, Fixups, ModEnd, Carried, DataItem, Subrecord, Thread, Fixup, Reference, width, frame_by_thread, frame_thread, frame_bits, target_by_thread, target_bits}
+use Rattle.omf_records.specs.Values.{At, Rec, Contents, Header, Comment, Names, Segment, Group, Externs, Publics, Communals, Plain, Iterated, Fixups, ModEnd, Carried, DataItem, Subrecord, Thread, Fixup, Reference, width}
 use Rattle.omf_image.specs.Blocks.{blocks_size}
 use Rattle.omf_image.specs.Expanding.{blocks_of}
 use Rattle.omf_image.specs.declared.limits.Limits.{Limits}
@@ -17,12 +17,13 @@ use Rattle.omf_check.specs.declared.profile.Profile.{Profile}
 use Rattle.omf_check.specs.declared.threads.Threads.{Threads}
 use Rattle.omf_check.specs.declared.segment.SegInfo.{SegInfo}
 use Rattle.omf_check.specs.Tables.{names, segments, groups, externals, item_count, subrecords, last_data, is_defined, is_none_or_defined}
-use Rattle.omf_check.specs.Threads.{Setting, setting, F0, F1, F2, F4, F5, T0, T1, T2, frame_from, target_from, frame_setting, target_setting, frame_of, target_of}
+use Rattle.omf_check.specs.Threads.{FrameMethod, F0, F1, F2, F4, F5, TargetMethod, T0, T1, T2, frame_of, target_of}
 use Rattle.omf_check.specs.Rules.{table_limit, item_limit, room, places, item_places, names_entry, names_entry_or_none, data_rules, frame_rules, target_rules, judged_at, reference_rules, location_rule, subrecord_rules, subrecord_rules_at, is_location_frame, start_rules, contents_rules, rules}
 use Rattle.omf_check.specs.Kept.{Kept, Tells, HasThreads, set_thread, last_kept}
-use Rattle.omf_check.specs.Judging.{fault_unless, lesser, room_fault, optional_fault, kept_length, data_fault, index_fault, frame_fault, target_fault, frame_cell, target_cell, reference_fault, location_fault, subrecord_fault, subrecords_fault, is_location_cell, start_fault, members_fault, contents_fault}
+use Rattle.omf_check.specs.Judging.{fault_unless, lesser, room_fault, optional_fault, kept_length, data_fault, frame_fault, target_fault, frame_cell, reference_fault, location_fault, subrecord_fault, subrecords_fault, start_fault, members_fault, contents_fault}
 use Rattle.omf_check.proofs.Lesser.{fault_of, fault_append, fault_one, fault_cons}
 use Rattle.omf_check.proofs.KeptLaws.{threads_more}
+use Rattle.omf_check.proofs.ThreadLaws.{frame_kept, target_kept}
 
 -- Room.
 has_room : (taken limit : ℕ) → nat_lt taken limit ≡ nat_lt 0 (limit - taken)
@@ -53,27 +54,6 @@ one_law limit taken kept p e =
     fault_one (nat_lt (taken + 0) limit) p reason.TooMany ∙ ap (λ n. fault_unless (nat_lt n limit) p reason.TooMany) none
 
 -- Frames and targets.
-three_methods : (m : ℕ) → nat_lt m 3 ≡ (m == 0) || ((m == 1) || (m == 2))
-three_methods m = elim (eqb_tells m 0) [
-  | inl t ↦ let low : suc m ≤ 3 = omega (arith, t.1) in le-leb (suc m) 3 low ∙ ap (λ b. b || ((m == 1) || (m == 2))) (sym t.0)
-  | inr t ↦ elim (eqb_tells m 1) [
-    | inl s ↦ let low : suc m ≤ 3 = omega (arith, s.1) in le-leb (suc m) 3 low ∙ ap (λ b. false || (b || (m == 2))) (sym s.0) ∙ ap (λ b. b || ((m == 1) || (m == 2))) (sym t.0)
-    | inr s ↦ elim (eqb_tells m 2) [
-      | inl u ↦ let low : suc m ≤ 3 = omega (arith, u.1) in le-leb (suc m) 3 low ∙ ap (λ b. false || (false || b)) (sym u.0) ∙ ap (λ b. false || (b || (m == 2))) (sym s.0) ∙ ap (λ b. b || ((m == 1) || (m == 2))) (sym t.0)
-      | inr u ↦ elim (leb_tells (suc m) 3) [
-        | inl v ↦ absurd (other m v.1 t.1 s.1 u.1)
-        | inr v ↦ v.0 ∙ ap (λ b. false || (false || b)) (sym u.0) ∙ ap (λ b. false || (b || (m == 2))) (sym s.0) ∙ ap (λ b. b || ((m == 1) || (m == 2))) (sym t.0)
-      ]
-    ]
-  ]
-]
-  where
-    other : (m : ℕ) → suc m ≤ 3 → (m ≡ 0 → ⊥) → (m ≡ 1 → ⊥) → (m ≡ 2 → ⊥) → ⊥
-    other zero h a b c = a refl
-    other (suc zero) h a b c = b refl
-    other (suc (suc zero)) h a b c = c refl
-    other (suc (suc (suc m))) h a b c = omega (arith, h)
-
 module _ (kept : Kept) (before : List Rec) (tells : Tells kept before) where
   segments_same : length (segments before) ≡ length kept.segments
   segments_same = ap length (sym tells.segments)
@@ -87,49 +67,27 @@ module _ (kept : Kept) (before : List Rec) (tells : Tells kept before) where
   external_one : (at i : ℕ) → fault_of (rule (is_defined (length (externals before)) i) at reason.UndefinedExternal ∷ []) ≡ fault_unless (is_defined (length kept.externals) i) at reason.UndefinedExternal
   external_one at i = fault_one (is_defined (length (externals before)) i) at reason.UndefinedExternal ∙ ap (λ n. fault_unless (is_defined n i) at reason.UndefinedExternal) (sym tells.externals)
 
-  by_frame : (b0 b1 b2 b4 : Bool) (at i : ℕ) → fault_of (frame_rules before at (Some (cond b0 (F0 i) (cond b1 (F1 i) (cond b2 (F2 i) (cond b4 F4 F5))))))
-      ≡ cond (b0 || (b1 || b2)) (cond b0 (fault_unless (is_defined (length kept.segments) i) at reason.UndefinedSegment)
-      (cond b1 (fault_unless (is_defined (length kept.groups) i) at reason.UndefinedGroup) (fault_unless (is_defined (length kept.externals) i) at reason.UndefinedExternal))) None
-  by_frame true b1 b2 b4 at i = segment_one at i
-  by_frame false true b2 b4 at i = group_one at i
-  by_frame false false true b4 at i = external_one at i
-  by_frame false false false true at i = refl
-  by_frame false false false false at i = refl
-
-  frame_law : (at : ℕ) (o : Option Setting) → fault_of (frame_rules before at (option_map frame_from o)) ≡ frame_fault kept at o
+  frame_law : (at : ℕ) (o : Option FrameMethod) → fault_of (frame_rules before at o) ≡ frame_fault kept at o
   frame_law at None = refl
-  frame_law at (Some s) =
-      by_frame (s.method == 0) (s.method == 1) (s.method == 2) (s.method == 4) at (unwrap_or s.datum 0)
-      ∙ ap (λ b. cond b (index_fault kept at s.method (unwrap_or s.datum 0)) None) (sym (three_methods s.method))
+  frame_law at (Some (F0 i)) = segment_one at i
+  frame_law at (Some (F1 i)) = group_one at i
+  frame_law at (Some (F2 i)) = external_one at i
+  frame_law at (Some F4) = refl
+  frame_law at (Some F5) = refl
 
-  by_target : (b0 b1 : Bool) (at i : ℕ) → fault_of (target_rules before at (Some (cond b0 (T0 i) (cond b1 (T1 i) (T2 i)))))
-      ≡ cond b0 (fault_unless (is_defined (length kept.segments) i) at reason.UndefinedSegment)
-      (cond b1 (fault_unless (is_defined (length kept.groups) i) at reason.UndefinedGroup) (fault_unless (is_defined (length kept.externals) i) at reason.UndefinedExternal))
-  by_target true b1 at i = segment_one at i
-  by_target false true at i = group_one at i
-  by_target false false at i = external_one at i
-
-  target_law : (at : ℕ) (o : Option Setting) → fault_of (target_rules before at (option_map target_from o)) ≡ target_fault kept at o
+  target_law : (at : ℕ) (o : Option TargetMethod) → fault_of (target_rules before at o) ≡ target_fault kept at o
   target_law at None = refl
-  target_law at (Some s) = by_target (s.method == 0) (s.method == 1) at (unwrap_or s.datum 0)
-
-  frame_cells : (cells : Threads) (earlier : List Subrecord) (r : Reference) → HasThreads cells earlier → frame_setting earlier r ≡ frame_cell cells r
-  frame_cells cells earlier r h =
-      let low : frame_thread r.fix.item < 4 = omega arith in
-      ap (λ o. cond (frame_by_thread r.fix.item) o (Some (setting (frame_bits r.fix.item) r.frame))) (sym (h.same true (frame_thread r.fix.item) low))
-
-  target_cells : (cells : Threads) (earlier : List Subrecord) (r : Reference) → HasThreads cells earlier → target_setting earlier r ≡ target_cell cells r
-  target_cells cells earlier r h =
-      let low : target_bits r.fix.item < 4 = omega arith in
-      ap (λ o. cond (target_by_thread r.fix.item) o (Some (setting (target_bits r.fix.item) r.target))) (sym (h.same false (target_bits r.fix.item) low))
+  target_law at (Some (T0 i)) = segment_one at i
+  target_law at (Some (T1 i)) = group_one at i
+  target_law at (Some (T2 i)) = external_one at i
 
   reference_law : (cells : Threads) (earlier : List Subrecord) (r : Reference) → HasThreads cells earlier → fault_of (reference_rules before earlier r) ≡ reference_fault kept cells r
   reference_law cells earlier r h =
       fault_append (frame_rules before (judged_at r r.frame) (frame_of earlier r)) (target_rules before (judged_at r r.target) (target_of earlier r))
       ∙ ap (λ o. lesser o (fault_of (target_rules before (judged_at r r.target) (target_of earlier r))))
-      (frame_law (judged_at r r.frame) (frame_setting earlier r) ∙ ap (frame_fault kept (judged_at r r.frame)) (frame_cells cells earlier r h))
+      (frame_law (judged_at r r.frame) (frame_of earlier r) ∙ ap (frame_fault kept (judged_at r r.frame)) (sym (frame_kept cells earlier r h)))
       ∙ ap (λ o. lesser (frame_fault kept (judged_at r r.frame) (frame_cell cells r)) o)
-      (target_law (judged_at r r.target) (target_setting earlier r) ∙ ap (target_fault kept (judged_at r r.target)) (target_cells cells earlier r h))
+      (target_law (judged_at r r.target) (target_of earlier r) ∙ ap (target_fault kept (judged_at r r.target)) (sym (target_kept cells earlier r h)))
 
   -- Locations and subrecords.
   by_last : (o : Option Contents) (within locat : ℕ) → fault_of (location_rule o within locat ∷ []) ≡ location_fault (option_map last_kept o) within locat
@@ -165,22 +123,6 @@ module _ (kept : Kept) (before : List Rec) (tells : Tells kept before) where
       ∙ ap (lesser (subrecord_fault kept cells s.within s.item)) (subrecords_law (set_thread cells s.item) (done ++ s ∷ []) subs more)
 
   -- The start.
-  four : (m : ℕ) (i : ℕ) → is_location_frame (Some (cond (m == 0) (F0 i) (cond (m == 1) (F1 i) (cond (m == 2) (F2 i) (cond (m == 4) F4 F5))))) ≡ (m == 4)
-  four m i = elim (eqb_tells m 4) [
-    | inl t ↦ ap (λ k. is_location_frame (Some (cond (k == 0) (F0 i) (cond (k == 1) (F1 i) (cond (k == 2) (F2 i) (cond (k == 4) F4 F5)))))) t.1 ∙ sym t.0
-    | inr t ↦ ap (λ b. is_location_frame (Some (cond (m == 0) (F0 i) (cond (m == 1) (F1 i) (cond (m == 2) (F2 i) (cond b F4 F5)))))) t.0 ∙ none (m == 0) (m == 1) (m == 2) ∙ sym t.0
-  ]
-    where
-      none : (a b c : Bool) → is_location_frame (Some (cond a (F0 i) (cond b (F1 i) (cond c (F2 i) F5)))) ≡ false
-      none true b c = refl
-      none false true c = refl
-      none false false true = refl
-      none false false false = refl
-
-  location_frame : (o : Option Setting) → is_location_frame (option_map frame_from o) ≡ is_location_cell o
-  location_frame None = refl
-  location_frame (Some s) = four s.method (unwrap_or s.datum 0)
-
   start_law : (start : Option Reference) → fault_of (start_rules before start) ≡ start_fault kept start
   start_law None = refl
   start_law (Some r) =
@@ -188,7 +130,7 @@ module _ (kept : Kept) (before : List Rec) (tells : Tells kept before) where
       fault_append (reference_rules before (subrecords before) r) (last_rule ∷ [])
       ∙ ap (λ o. lesser o (fault_of (last_rule ∷ []))) (reference_law kept.threads (subrecords before) r tells.threads)
       ∙ ap (lesser (reference_fault kept kept.threads r)) (fault_one (not (is_location_frame (frame_of (subrecords before) r))) r.fix.within reason.StartFrame
-      ∙ ap (λ b. fault_unless (not b) r.fix.within reason.StartFrame) (location_frame (frame_setting (subrecords before) r) ∙ ap is_location_cell (frame_cells kept.threads (subrecords before) r tells.threads)))
+      ∙ ap (λ o. fault_unless (not (is_location_frame o)) r.fix.within reason.StartFrame) (sym (frame_kept kept.threads (subrecords before) r tells.threads)))
 
   -- The other kinds.
   members_law : (members : List (At (At ℕ))) → fault_of (map (λ m. names_entry (length (segments before)) reason.UndefinedSegment m.item) members) ≡ members_fault (length kept.segments) members

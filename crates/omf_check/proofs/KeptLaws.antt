@@ -12,62 +12,92 @@ use Rattle.omf_frame.specs.Bytes.{last}
 use Rattle.omf_records.specs.Values.{At, Rec, Contents, Names, Segment, Group, Externs, Communals, Plain, Iterated, Fixups, Subrecord, Thread, Fixup, thread_is_frame, thread_method, thread_number}
 use Rattle.omf_frame.specs.Types.{is_local}
 use Rattle.omf_check.specs.Tables.{names, groups, externals, item_count, items_in, subrecords, subrecords_in, data_in, defined_names, defined_segments, defined_groups, defined_externals, locals}
-use Rattle.omf_check.specs.Threads.{Setting, setting, setting_of, same, thread}
-use Rattle.omf_check.specs.Kept.{Kept, Tells, HasThreads, cell, set_thread, set_threads, no_threads, nothing_kept, with_contents, with_record, starts, last_kept}
+use Rattle.omf_check.specs.Threads.{Setting, setting, setting_of, same, frame_from, target_from, thread}
+use Rattle.omf_check.specs.Kept.{Kept, Tells, HasThreads, kept_frame, kept_target, set_thread, set_threads, no_threads, nothing_kept, with_contents, with_record, starts, last_kept}
 use Rattle.omf_check.specs.declared.threads.Threads.{Threads}
 use Rattle.omf_check.proofs.CellLaws.{thread-append, few_numbers}
 
 -- Cells: one more subrecord.
-cell_set : (xs : List (Option Setting)) (number k : ℕ) (s : Setting) → number < length xs
+cell_set : {A : Type 0} (xs : List (Option A)) (number k : ℕ) (s : A) → number < length xs
     → get_or (set xs number (Some s)) k None ≡ option_or (cond (number == k) (Some s) None) (get_or xs k None)
 cell_set xs number k s low = elim (eqb_tells number k) [
   | inl t ↦ ap (λ j. get_or (set xs number (Some s)) j None) (sym t.1) ∙ get_or-set_same xs number (Some s) None low ∙ ap (λ b. option_or (cond b (Some s) None) (get_or xs k None)) (sym t.0)
   | inr t ↦ let ne : k ≢ number = λ e. t.1 (sym e) in get_or-set_other xs number k (Some s) None ne ∙ ap (λ b. option_or (cond b (Some s) None) (get_or xs k None)) (sym t.0)
 ]
 
-thread_set : (threads : Threads) (byte : ℕ) (datum : Option (At ℕ)) (b d : Bool) (k : ℕ) → length threads.frames ≡ 4 → length threads.targets ≡ 4 → thread_is_frame byte ≡ b
-    → cell (set_thread threads (Thread byte datum)) d k ≡ option_or (cond (same d b && (thread_number byte == k)) (Some (setting (thread_method byte) datum)) None) (cell threads d k)
-thread_set threads byte datum true true k lf lt e =
+-- The cells of one kind: what a THREAD of that kind says is made a method, and set.
+abbrev set_cells : {A : Type 0} → (Setting → A) → Bool → ℕ → Option (At ℕ) → List (Option A) → List (Option A)
+set_cells made is_set byte datum xs = cond is_set (set xs (thread_number byte) (Some (made (setting (thread_method byte) datum)))) xs
+
+length_cells : {A : Type 0} (made : Setting → A) (is_set : Bool) (byte : ℕ) (datum : Option (At ℕ)) (xs : List (Option A)) → length (set_cells made is_set byte datum xs) ≡ length xs
+length_cells made true byte datum xs = simp length-set
+length_cells made false byte datum xs = refl
+
+mapped_if : {A B : Type 0} (f : A → B) (b : Bool) (x : A) → option_map f (cond b (Some x) None) ≡ cond b (Some (f x)) None
+mapped_if f true x = refl
+mapped_if f false x = refl
+
+mapped_or : {A B : Type 0} (f : A → B) (x y : Option A) → option_or (option_map f x) (option_map f y) ≡ option_map f (option_or x y)
+mapped_or f None y = refl
+mapped_or f (Some x) y = refl
+
+cells_set : {A : Type 0} (made : Setting → A) (is_set : Bool) (byte : ℕ) (datum : Option (At ℕ)) (xs : List (Option A)) (k : ℕ) → length xs ≡ 4
+    → get_or (set_cells made is_set byte datum xs) k None
+    ≡ option_or (option_map made (cond (is_set && (thread_number byte == k)) (Some (setting (thread_method byte) datum)) None)) (get_or xs k None)
+cells_set made true byte datum xs k h =
     let n : thread_number byte < 4 = few_numbers byte in
-    let low : thread_number byte < length threads.frames = omega (arith, n, lf) in
-    ap (λ b. cell (cond b (record threads { frames = set threads.frames (thread_number byte) (Some (setting (thread_method byte) datum)) }) (record threads { targets = set threads.targets (thread_number byte) (Some (setting (thread_method byte) datum)) })) true k) e
-    ∙ cell_set threads.frames (thread_number byte) k (setting (thread_method byte) datum) low
-thread_set threads byte datum true false k lf lt e =
-    ap (λ b. cell (cond b (record threads { frames = set threads.frames (thread_number byte) (Some (setting (thread_method byte) datum)) }) (record threads { targets = set threads.targets (thread_number byte) (Some (setting (thread_method byte) datum)) })) false k) e
-thread_set threads byte datum false true k lf lt e =
-    ap (λ b. cell (cond b (record threads { frames = set threads.frames (thread_number byte) (Some (setting (thread_method byte) datum)) }) (record threads { targets = set threads.targets (thread_number byte) (Some (setting (thread_method byte) datum)) })) true k) e
-thread_set threads byte datum false false k lf lt e =
-    let n : thread_number byte < 4 = few_numbers byte in
-    let low : thread_number byte < length threads.targets = omega (arith, n, lt) in
-    ap (λ b. cell (cond b (record threads { frames = set threads.frames (thread_number byte) (Some (setting (thread_method byte) datum)) }) (record threads { targets = set threads.targets (thread_number byte) (Some (setting (thread_method byte) datum)) })) false k) e
-    ∙ cell_set threads.targets (thread_number byte) k (setting (thread_method byte) datum) low
+    let low : thread_number byte < length xs = omega (arith, n, h) in
+    cell_set xs (thread_number byte) k (made (setting (thread_method byte) datum)) low
+    ∙ ap (λ o. option_or o (get_or xs k None)) (sym (mapped_if made (thread_number byte == k) (setting (thread_method byte) datum)))
+cells_set made false byte datum xs k h = refl
+
+frames_set : (threads : Threads) (byte : ℕ) (datum : Option (At ℕ)) → (set_thread threads (Thread byte datum)).frames ≡ set_cells frame_from (same true (thread_is_frame byte)) byte datum threads.frames
+frames_set threads byte datum = by (thread_is_frame byte)
+  where
+    by : (b : Bool) → (cond b (record threads { frames = set threads.frames (thread_number byte) (Some (frame_from (setting (thread_method byte) datum))) }) (record threads { targets = set threads.targets (thread_number byte) (Some (target_from (setting (thread_method byte) datum))) })).frames
+        ≡ set_cells frame_from (same true b) byte datum threads.frames
+    by true = refl
+    by false = refl
+
+targets_set : (threads : Threads) (byte : ℕ) (datum : Option (At ℕ)) → (set_thread threads (Thread byte datum)).targets ≡ set_cells target_from (same false (thread_is_frame byte)) byte datum threads.targets
+targets_set threads byte datum = by (thread_is_frame byte)
+  where
+    by : (b : Bool) → (cond b (record threads { frames = set threads.frames (thread_number byte) (Some (frame_from (setting (thread_method byte) datum))) }) (record threads { targets = set threads.targets (thread_number byte) (Some (target_from (setting (thread_method byte) datum))) })).targets
+        ≡ set_cells target_from (same false b) byte datum threads.targets
+    by true = refl
+    by false = refl
 
 length_frames : (threads : Threads) (s : Subrecord) → length (set_thread threads s).frames ≡ length threads.frames
 length_frames threads (Fixup locat r) = refl
-length_frames threads (Thread byte datum) = by (thread_is_frame byte)
-  where
-    by : (b : Bool) → length (cond b (record threads { frames = set threads.frames (thread_number byte) (Some (setting (thread_method byte) datum)) }) (record threads { targets = set threads.targets (thread_number byte) (Some (setting (thread_method byte) datum)) })).frames ≡ length threads.frames
-    by true = simp length-set
-    by false = refl
+length_frames threads (Thread byte datum) = ap length (frames_set threads byte datum) ∙ length_cells frame_from (same true (thread_is_frame byte)) byte datum threads.frames
 
 length_targets : (threads : Threads) (s : Subrecord) → length (set_thread threads s).targets ≡ length threads.targets
 length_targets threads (Fixup locat r) = refl
-length_targets threads (Thread byte datum) = by (thread_is_frame byte)
-  where
-    by : (b : Bool) → length (cond b (record threads { frames = set threads.frames (thread_number byte) (Some (setting (thread_method byte) datum)) }) (record threads { targets = set threads.targets (thread_number byte) (Some (setting (thread_method byte) datum)) })).targets ≡ length threads.targets
-    by true = refl
-    by false = simp length-set
+length_targets threads (Thread byte datum) = ap length (targets_set threads byte datum) ∙ length_cells target_from (same false (thread_is_frame byte)) byte datum threads.targets
 
-cell_more : (threads : Threads) (s : Subrecord) (d : Bool) (k : ℕ) → length threads.frames ≡ 4 → length threads.targets ≡ 4
-    → cell (set_thread threads s) d k ≡ option_or (setting_of d k s) (cell threads d k)
-cell_more threads (Thread byte datum) d k lf lt = thread_set threads byte datum (thread_is_frame byte) d k lf lt refl
-cell_more threads (Fixup locat r) d k lf lt = refl
+frame_more : (threads : Threads) (s : Subrecord) (k : ℕ) → length threads.frames ≡ 4
+    → kept_frame (set_thread threads s) k ≡ option_or (option_map frame_from (setting_of true k s)) (kept_frame threads k)
+frame_more threads (Thread byte datum) k h =
+    ap (λ xs. get_or xs k None) (frames_set threads byte datum) ∙ cells_set frame_from (same true (thread_is_frame byte)) byte datum threads.frames k h
+frame_more threads (Fixup locat r) k h = refl
+
+target_more : (threads : Threads) (s : Subrecord) (k : ℕ) → length threads.targets ≡ 4
+    → kept_target (set_thread threads s) k ≡ option_or (option_map target_from (setting_of false k s)) (kept_target threads k)
+target_more threads (Thread byte datum) k h =
+    ap (λ xs. get_or xs k None) (targets_set threads byte datum) ∙ cells_set target_from (same false (thread_is_frame byte)) byte datum threads.targets k h
+target_more threads (Fixup locat r) k h = refl
+
+-- a thread after one more subrecord, made a method
+made_more : {A : Type 0} (made : Setting → A) (is_frame : Bool) (k : ℕ) (subs : List Subrecord) (s : Subrecord)
+    → option_or (option_map made (setting_of is_frame k s)) (option_map made (thread is_frame k subs)) ≡ option_map made (thread is_frame k (subs ++ s ∷ []))
+made_more made is_frame k subs s = mapped_or made (setting_of is_frame k s) (thread is_frame k subs) ∙ ap (option_map made) (sym (thread-append is_frame k subs s))
 
 pub threads_more : (threads : Threads) (subs : List Subrecord) (s : Subrecord) → HasThreads threads subs → HasThreads (set_thread threads s) (subs ++ s ∷ [])
 threads_more threads subs s h = record {
   frames = length_frames threads s ∙ h.frames;
   targets = length_targets threads s ∙ h.targets;
-  same = λ d k low. cell_more threads s d k h.frames h.targets ∙ ap (option_or (setting_of d k s)) (h.same d k low) ∙ sym (thread-append d k subs s);
+  same_frames = λ k low. frame_more threads s k h.frames ∙ ap (option_or (option_map frame_from (setting_of true k s))) (h.same_frames k low) ∙ made_more frame_from true k subs s;
+  same_targets = λ k low. target_more threads s k h.targets ∙ ap (option_or (option_map target_from (setting_of false k s))) (h.same_targets k low) ∙ made_more target_from false k subs s;
 }
 
 pub threads_all : (threads : Threads) (done : List Subrecord) (subs : List (At Subrecord)) → HasThreads threads done → HasThreads (set_threads threads subs) (done ++ map (λ s. s.item) subs)
@@ -76,20 +106,12 @@ threads_all threads done (s ∷ subs) h =
     subst (λ x. HasThreads (set_threads (set_thread threads s.item) subs) x) (append_assoc done (s.item ∷ []) (map (λ t. t.item) subs))
     (threads_all (set_thread threads s.item) (done ++ s.item ∷ []) subs (threads_more threads done s.item h))
 
-nothing_at : (k : ℕ) (d : Bool) → cell no_threads d k ≡ None
-nothing_at zero true = refl
-nothing_at (suc zero) true = refl
-nothing_at (suc (suc zero)) true = refl
-nothing_at (suc (suc (suc zero))) true = refl
-nothing_at (suc (suc (suc (suc k)))) true = refl
-nothing_at zero false = refl
-nothing_at (suc zero) false = refl
-nothing_at (suc (suc zero)) false = refl
-nothing_at (suc (suc (suc zero))) false = refl
-nothing_at (suc (suc (suc (suc k)))) false = refl
-
-no_thread : (d : Bool) (k : ℕ) → thread d k [] ≡ None
-no_thread d k = refl
+nothing_at : (k : ℕ) → (kept_frame no_threads k ≡ None) × (kept_target no_threads k ≡ None)
+nothing_at zero = (refl, refl)
+nothing_at (suc zero) = (refl, refl)
+nothing_at (suc (suc zero)) = (refl, refl)
+nothing_at (suc (suc (suc zero))) = (refl, refl)
+nothing_at (suc (suc (suc (suc k)))) = (refl, refl)
 
 pub nothing_tells : Tells nothing_kept []
 nothing_tells = record {
@@ -100,7 +122,7 @@ nothing_tells = record {
   locals = refl;
   items = refl;
   last = refl;
-  threads = record { frames = refl; targets = refl; same = λ d k low. nothing_at k d ∙ sym (no_thread d k) };
+  threads = record { frames = refl; targets = refl; same_frames = λ k low. (nothing_at k).0; same_targets = λ k low. (nothing_at k).1 };
 }
 
 -- Tables: one more record.

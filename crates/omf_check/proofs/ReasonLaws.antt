@@ -25,7 +25,7 @@ use Rattle.omf_check.specs.Judging.{placed as placed_at}
 use Rattle.omf_check.specs.Judging.{fault_unless, lesser, room_fault, entry_fault, members_fault, index_fault, frame_fault, target_fault, frame_cell, target_cell, reference_fault, location_fault, subrecord_fault, subrecords_fault, start_fault, contents_fault, data_size, judged_by_size, raw_fault, read_fault}
 use Rattle.omf_check.specs.Kept.{Kept, set_thread}
 use Rattle.omf_check.specs.Rules.{table_limit, item_limit, places, item_places}
-use Rattle.omf_check.specs.Threads.{Setting}
+use Rattle.omf_check.specs.Threads.{FrameMethod, F0, F1, F2, F4, F5, TargetMethod, T0, T1, T2}
 use Rattle.omf_check.proofs.ShortLaws.{HasBytes, spelled_bytes}
 
 abbrev pub IsInner : Reason → Type 0
@@ -307,20 +307,24 @@ members_inner n [] = tt
 members_inner n (m ∷ members) = lesser_inner (entry_fault n reason.UndefinedSegment m.item) (members_fault n members) (rule_inner _ _ reason.UndefinedSegment (lit< tt)) (members_inner n members)
 
 module _ (kept : Kept) where
-  index_fault_inner : (at method i : ℕ) → FaultInner (index_fault kept at method i)
-  index_fault_inner at method i =
-      if_fault (method == 0) _ _ (rule_inner _ at reason.UndefinedSegment (lit< tt))
-      (if_fault (method == 1) _ _ (rule_inner _ at reason.UndefinedGroup (lit< tt)) (rule_inner _ at reason.UndefinedExternal (lit< tt)))
+  index_fault_inner : (at : ℕ) (t : TargetMethod) → FaultInner (index_fault kept at t)
+  index_fault_inner at (T0 i) = rule_inner _ at reason.UndefinedSegment (lit< tt)
+  index_fault_inner at (T1 i) = rule_inner _ at reason.UndefinedGroup (lit< tt)
+  index_fault_inner at (T2 i) = rule_inner _ at reason.UndefinedExternal (lit< tt)
 
-  frame_inner : (at : ℕ) (s : Option Setting) → FaultInner (frame_fault kept at s)
+  frame_inner : (at : ℕ) (f : Option FrameMethod) → FaultInner (frame_fault kept at f)
   unfolding FaultInner
   frame_inner at None = lit< tt
-  frame_inner at (Some s) = if_fault (nat_lt s.method 3) _ None (index_fault_inner at s.method _) tt
+  frame_inner at (Some (F0 i)) = index_fault_inner at (T0 i)
+  frame_inner at (Some (F1 i)) = index_fault_inner at (T1 i)
+  frame_inner at (Some (F2 i)) = index_fault_inner at (T2 i)
+  frame_inner at (Some F4) = tt
+  frame_inner at (Some F5) = tt
 
-  target_inner : (at : ℕ) (s : Option Setting) → FaultInner (target_fault kept at s)
+  target_inner : (at : ℕ) (t : Option TargetMethod) → FaultInner (target_fault kept at t)
   unfolding FaultInner
   target_inner at None = lit< tt
-  target_inner at (Some s) = index_fault_inner at s.method _
+  target_inner at (Some t) = index_fault_inner at t
 
   refers_inner : (cells : Threads) (r : Reference) → FaultInner (reference_fault kept cells r)
   refers_inner cells r = lesser_inner _ _ (frame_inner _ (frame_cell cells r)) (target_inner _ (target_cell cells r))

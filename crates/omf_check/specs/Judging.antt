@@ -9,10 +9,10 @@ use Rattle.omf_records.specs.Values.{At, Rec, Contents, Comment, Names, Segment,
 use Rattle.omf_image.specs.Expanding.{expanded_length}
 use Rattle.omf_image.specs.declared.limits.Limits.{Limits}
 use Rattle.omf_check.specs.Tables.{is_defined, is_none_or_defined, entry}
-use Rattle.omf_check.specs.Threads.{Setting, setting}
-use Rattle.omf_check.specs.Rules.{table_limit, item_limit, item_places, places, judged_at}
+use Rattle.omf_check.specs.Threads.{FrameMethod, F0, F1, F2, F4, F5, TargetMethod, T0, T1, T2, setting, frame_from, target_from}
+use Rattle.omf_check.specs.Rules.{table_limit, item_limit, item_places, places, judged_at, is_location_frame}
 use Rattle.omf_check.specs.Refusal.{fault_from}
-use Rattle.omf_check.specs.Kept.{Kept, cell, set_thread}
+use Rattle.omf_check.specs.Kept.{Kept, kept_frame, kept_target, set_thread}
 use Rattle.omf_check.specs.declared.profile.Profile.{Profile}
 use Rattle.omf_check.specs.declared.segment.SegInfo.{SegInfo}
 use Rattle.omf_check.specs.declared.threads.Threads.{Threads as Cells}
@@ -51,26 +51,29 @@ abbrev pub data_fault : Kept → At ℕ → At ℕ → ℕ → Option Fault
 data_fault kept segment offset size = lesser (entry_fault (length kept.segments) reason.UndefinedSegment segment)
     (fault_unless (nat_le (offset.item + size) (kept_length kept.segments segment.item)) offset.within reason.OutsideSegment)
 
--- a frame or a target, by its method
-abbrev pub index_fault : Kept → ℕ → ℕ → ℕ → Option Fault
-index_fault kept at method i =
-    if method == 0 then fault_unless (is_defined (length kept.segments) i) at reason.UndefinedSegment
-    else (if method == 1 then fault_unless (is_defined (length kept.groups) i) at reason.UndefinedGroup
-    else fault_unless (is_defined (length kept.externals) i) at reason.UndefinedExternal)
+-- the entry that a target names
+abbrev pub index_fault : Kept → ℕ → TargetMethod → Option Fault
+index_fault kept at (T0 i) = fault_unless (is_defined (length kept.segments) i) at reason.UndefinedSegment
+index_fault kept at (T1 i) = fault_unless (is_defined (length kept.groups) i) at reason.UndefinedGroup
+index_fault kept at (T2 i) = fault_unless (is_defined (length kept.externals) i) at reason.UndefinedExternal
 
-abbrev pub frame_fault : Kept → ℕ → Option Setting → Option Fault
+abbrev pub frame_fault : Kept → ℕ → Option FrameMethod → Option Fault
 frame_fault kept at None = fault_unless false at reason.UndefinedThread
-frame_fault kept at (Some s) = if nat_lt s.method 3 then index_fault kept at s.method (unwrap_or s.datum 0) else None
+frame_fault kept at (Some (F0 i)) = index_fault kept at (T0 i)
+frame_fault kept at (Some (F1 i)) = index_fault kept at (T1 i)
+frame_fault kept at (Some (F2 i)) = index_fault kept at (T2 i)
+frame_fault kept at (Some F4) = None
+frame_fault kept at (Some F5) = None
 
-abbrev pub target_fault : Kept → ℕ → Option Setting → Option Fault
+abbrev pub target_fault : Kept → ℕ → Option TargetMethod → Option Fault
 target_fault kept at None = fault_unless false at reason.UndefinedThread
-target_fault kept at (Some s) = index_fault kept at s.method (unwrap_or s.datum 0)
+target_fault kept at (Some t) = index_fault kept at t
 
-abbrev pub frame_cell : Cells → Reference → Option Setting
-frame_cell cells r = if frame_by_thread r.fix.item then cell cells true (frame_thread r.fix.item) else Some (setting (frame_bits r.fix.item) r.frame)
+abbrev pub frame_cell : Cells → Reference → Option FrameMethod
+frame_cell cells r = if frame_by_thread r.fix.item then kept_frame cells (frame_thread r.fix.item) else Some (frame_from (setting (frame_bits r.fix.item) r.frame))
 
-abbrev pub target_cell : Cells → Reference → Option Setting
-target_cell cells r = if target_by_thread r.fix.item then cell cells false (target_bits r.fix.item) else Some (setting (target_bits r.fix.item) r.target)
+abbrev pub target_cell : Cells → Reference → Option TargetMethod
+target_cell cells r = if target_by_thread r.fix.item then kept_target cells (target_bits r.fix.item) else Some (target_from (setting (target_bits r.fix.item) r.target))
 
 abbrev pub reference_fault : Kept → Cells → Reference → Option Fault
 reference_fault kept cells r = lesser (frame_fault kept (judged_at r r.frame) (frame_cell cells r)) (target_fault kept (judged_at r r.target) (target_cell cells r))
@@ -88,14 +91,10 @@ abbrev pub subrecords_fault : Kept → Cells → List (At Subrecord) → Option 
 subrecords_fault kept cells [] = None
 subrecords_fault kept cells (s ∷ subs) = lesser (subrecord_fault kept cells s.within s.item) (subrecords_fault kept (set_thread cells s.item) subs)
 
-abbrev pub is_location_cell : Option Setting → Bool
-is_location_cell (Some s) = s.method == 4
-is_location_cell None = false
-
 abbrev pub start_fault : Kept → Option Reference → Option Fault
 start_fault kept None = None
 start_fault kept (Some r) = lesser (reference_fault kept kept.threads r)
-    (fault_unless (not (is_location_cell (frame_cell kept.threads r))) r.fix.within reason.StartFrame)
+    (fault_unless (not (is_location_frame (frame_cell kept.threads r))) r.fix.within reason.StartFrame)
 
 abbrev pub members_fault : ℕ → List (At (At ℕ)) → Option Fault
 members_fault n [] = None

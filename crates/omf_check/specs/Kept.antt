@@ -1,17 +1,20 @@
 -- What a checker keeps of the records so far, in place of the records themselves.
-use Rattle.std.specs.Prelude.{◌≡◌, ◌<◌, ◌≤◌, ℕ, ◌+◌, List, [], ◌∷◌, ◌++◌, length, map, get_or, set, Bool, Option, Some, None, option_map, if◌then◌else◌}
+use Rattle.std.specs.Prelude.{◌≡◌, ◌<◌, ◌≤◌, ℕ, ◌+◌, List, [], ◌∷◌, ◌++◌, length, map, get_or, set, Bool, true, false, Option, Some, None, option_map, if◌then◌else◌}
 use Rattle.omf_frame.specs.Types.{is_local}
 use Rattle.omf_records.specs.Values.{At, Rec, Contents, Names, Segment, Group, Externs, Communals, Plain, Iterated, Fixups, Subrecord, Thread, Fixup, thread_is_frame, thread_method, thread_number}
 use Rattle.omf_check.specs.Tables.{names, segments, groups, externals, locals, item_count, items_in, subrecords, last_data, segment_info}
-use Rattle.omf_check.specs.Threads.{Setting, setting, thread}
+use Rattle.omf_check.specs.Threads.{FrameMethod, TargetMethod, setting, frame_from, target_from, thread}
 use Rattle.omf_check.specs.declared.segment.SegInfo.{SegInfo}
 use Rattle.omf_check.specs.declared.last_data.LastData.{LastData}
 use Rattle.omf_check.specs.declared.last_data.LastData.TheVariants as last
 use Rattle.omf_check.specs.declared.threads.Threads.{Threads}
 
--- the thread of a kind and number
-abbrev pub cell : Threads → Bool → ℕ → Option Setting
-cell threads is_frame k = get_or (if is_frame then threads.frames else threads.targets) k None
+-- what the frame thread of a number keeps, and the target thread
+abbrev pub kept_frame : Threads → ℕ → Option FrameMethod
+kept_frame threads k = get_or threads.frames k None
+
+abbrev pub kept_target : Threads → ℕ → Option TargetMethod
+kept_target threads k = get_or threads.targets k None
 
 -- no thread was set
 abbrev pub no_threads : Threads
@@ -20,8 +23,8 @@ no_threads = record { frames = None ∷ None ∷ None ∷ None ∷ []; targets =
 -- after one more subrecord
 abbrev pub set_thread : Threads → Subrecord → Threads
 set_thread threads (Thread byte datum) =
-    if thread_is_frame byte then record threads { frames = set threads.frames (thread_number byte) (Some (setting (thread_method byte) datum)) }
-    else record threads { targets = set threads.targets (thread_number byte) (Some (setting (thread_method byte) datum)) }
+    if thread_is_frame byte then record threads { frames = set threads.frames (thread_number byte) (Some (frame_from (setting (thread_method byte) datum))) }
+    else record threads { targets = set threads.targets (thread_number byte) (Some (target_from (setting (thread_method byte) datum))) }
 set_thread threads (Fixup locat r) = threads
 
 abbrev pub set_threads : Threads → List (At Subrecord) → Threads
@@ -74,7 +77,8 @@ last_kept _ = last.Iterated
 pub record HasThreads (threads : Threads) (subs : List Subrecord) : Type 0 where
   pub frames : length threads.frames ≡ 4
   pub targets : length threads.targets ≡ 4
-  pub same : (is_frame : Bool) (k : ℕ) → k < 4 → cell threads is_frame k ≡ thread is_frame k subs
+  pub same_frames : (k : ℕ) → k < 4 → kept_frame threads k ≡ option_map frame_from (thread true k subs)
+  pub same_targets : (k : ℕ) → k < 4 → kept_target threads k ≡ option_map target_from (thread false k subs)
 
 -- What is kept tells all that the rules ask of the records before.
 pub record Tells (kept : Kept) (before : List Rec) : Type 0 where

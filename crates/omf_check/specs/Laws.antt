@@ -13,7 +13,7 @@ use Rattle.omf_check.specs.Judging.{frame_cell, target_cell}
 use Rattle.omf_check.specs.Kept.{HasThreads, no_threads, set_thread, set_threads}
 use Rattle.omf_check.specs.Refusal.{IsRefused, AreSoundSoFar, EndsWhereJudged}
 use Rattle.omf_check.specs.Sound.{ModuleHolds}
-use Rattle.omf_check.specs.Threads.{setting_of, thread, frame_setting, target_setting}
+use Rattle.omf_check.specs.Threads.{setting_of, thread, frame_of, target_of}
 use Rattle.omf_check.specs.Verdict.{Verdict, Accepted, Refused, Unknown, verdict}
 use Rattle.omf_check.specs.WellFormed.{IsAccepted, IsWellFormed, recs}
 use Rattle.omf_check.specs.declared.profile.Profile.{Profile}
@@ -102,5 +102,5 @@ pub record ThreadsAreKept : Type 0 where
   pub none : HasThreads no_threads []
   pub one : (threads : Threads) (subs : List Subrecord) (s : Subrecord) → HasThreads threads subs → HasThreads (set_thread threads s) (subs ++ s ∷ [])
   pub all : (threads : Threads) (done : List Subrecord) (subs : List (At Subrecord)) → HasThreads threads done → HasThreads (set_threads threads subs) (done ++ map (λ s. s.item) subs)
-  pub frame : (threads : Threads) (subs : List Subrecord) (r : Reference) → HasThreads threads subs → frame_cell threads r ≡ frame_setting subs r
-  pub target : (threads : Threads) (subs : List Subrecord) (r : Reference) → HasThreads threads subs → target_cell threads r ≡ target_setting subs r
+  pub frame : (threads : Threads) (subs : List Subrecord) (r : Reference) → HasThreads threads subs → frame_cell threads r ≡ frame_of subs r
+  pub target : (threads : Threads) (subs : List Subrecord) (r : Reference) → HasThreads threads subs → target_cell threads r ≡ target_of subs r

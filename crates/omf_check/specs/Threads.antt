@@ -2,22 +2,14 @@
 use Rattle.std.specs.Prelude.{ℕ, List, filter_map, Bool, true, false, ◌&&◌, ◌==◌, Option, Some, None, unwrap_or, option_map, if◌then◌else◌}
 use Rattle.omf_frame.specs.Bytes.{last}
 use Rattle.omf_records.specs.Values.{At, Subrecord, Thread, Fixup, Reference, thread_is_frame, thread_method, thread_number, frame_by_thread, frame_bits, frame_thread, target_by_thread, target_bits}
-
 -- Frame methods: the frame of a segment, of a group, of an external, of the segment of the last data record, of the target.
-pub data FrameMethod : Type 0 where
-  F0 : ℕ → FrameMethod
-  F1 : ℕ → FrameMethod
-  F2 : ℕ → FrameMethod
-  F4 : FrameMethod
-  F5 : FrameMethod
-
+pub use Rattle.omf_check.specs.declared.method.FrameMethod.{FrameMethod}
+pub use Rattle.omf_check.specs.declared.method.FrameMethod.TheVariants.{Segment as F0, Group as F1, External as F2, Location as F4, Target as F5}
 -- Target methods: a segment, a group, an external.
-pub data TargetMethod : Type 0 where
-  T0 : ℕ → TargetMethod
-  T1 : ℕ → TargetMethod
-  T2 : ℕ → TargetMethod
+pub use Rattle.omf_check.specs.declared.method.TargetMethod.{TargetMethod}
+pub use Rattle.omf_check.specs.declared.method.TargetMethod.TheVariants.{Segment as T0, Group as T1, External as T2}
 
--- What a thread keeps: a method and, if the method has one, an index.
+-- What a THREAD or a reference says: a method's code and, if the method has one, an index.
 pub record Setting : Type 0 where
   pub method : ℕ
   pub datum : Option ℕ

@@ -1,6 +1,6 @@
 //! What is kept of the records so far, and the rules that need it.
 
-ghost use Rattle.std.specs.Prelude.{◌≡◌, ◌≤◌, ◌<◌, ◌+◌, ◌^◌, ◌++◌, ℕ, length, OnOk, IfOk, List, unwrap_or, IsTrue, IfErr, None, Ok, ◌-◌, [], ◌∷◌, true, false, nat_le, is_none, option_map, get_or};
+ghost use Rattle.std.specs.Prelude.{◌≡◌, ◌≤◌, ◌<◌, ◌+◌, ◌^◌, ◌++◌, ℕ, length, OnOk, IfOk, List, IsTrue, IfErr, None, Some, Ok, ◌-◌, [], ◌∷◌, true, false, nat_le, is_none, get_or};
 ghost use Rattle.omf_check.specs.Rules.{judged_at, item_limit};
 ghost use Rattle.omf_image.specs.Limits.{profile_limits};
 ghost use Rattle.omf_check.specs.Kept.{Kept, nothing_kept, starts, alike, with_record, with_contents, set_threads};
@@ -11,6 +11,7 @@ ghost use Rattle.omf_check.specs.Kept.{IsBounded};
 ghost use Rattle.omf_image.specs.Blocks.{count_size};
 ghost use Rattle.omf_image.specs.Expanding.{expanded_length};
 ghost use Rattle.omf_check.specs.Tables.{segment_info, items_in, entry, is_defined};
+ghost use Rattle.omf_check.specs.Threads.{T0, T1, T2, setting, target_from};
 ghost use Rattle.omf_records.specs.Seen.{contents_seen, kind_seen, odd_if, rec_seen};
 ghost use Rattle.omf_records.specs.Location.{location_size};
 ghost use Rattle.omf_records.specs.Values.{Fixup, Fixups, location_type, location_offset};
@@ -19,13 +20,14 @@ ghost use Rattle.omf_check.specs.Walking.{walk_fault, fixups_fault};
 
 use crate::fault::CheckFault;
 use crate::last_data::LastData;
+use crate::method::{FrameMethod, TargetMethod};
 use crate::profile::Profile;
 use crate::rule::{
     comment_fault, entry_fault, fault_unless, is_defined, lesser, members_fault, optional_fault,
     room_fault,
 };
 use crate::segment::SegInfo;
-use crate::threads::{Setting, Threads};
+use crate::threads::Threads;
 use omf_frame::{Index, Place, RawRecord, Reason};
 use omf_image::{Limits, expanded_len};
 use omf_records::{
@@ -121,17 +123,6 @@ fn location_fault(last: Option<LastData>, within: u32, location: u16) -> Option<
         }
         Some(LastData::Iterated) => fault_unless(false, within, Reason::FixupOnIterated),
         None => fault_unless(false, within, Reason::NoDataRecord),
-    }
-}
-
-/// The index of a thread's or a reference's method, or 0.
-#[inline(always)]
-fn index_of(datum: Option<Index>) -> u16
-    ensures { result ≡ unwrap_or datum 0 }
-{
-    match datum {
-        Some(index) => index.0,
-        None => 0,
     }
 }
 
@@ -272,15 +263,15 @@ impl Tables {
         )
     }
 
-    /// The table of a method has an entry of this index.
+    /// The entry that a target names is there.
     #[inline(always)]
-    fn has_entry(&self, method: u8, index: u16) -> bool
-        ensures { (at : ℕ) → result ≡ is_none (index_fault self.now at method index) }
+    fn has_entry(&self, target: TargetMethod) -> bool
+        ensures { (at : ℕ) → result ≡ is_none (index_fault self.now at target) }
     {
-        match method {
-            0 => is_defined(self.segments.len(), index),
-            1 => is_defined(self.groups.len(), index),
-            _ => is_defined(self.externals.len(), index),
+        match target {
+            TargetMethod::Segment(index) => is_defined(self.segments.len(), index.0),
+            TargetMethod::Group(index) => is_defined(self.groups.len(), index.0),
+            TargetMethod::External(index) => is_defined(self.externals.len(), index.0),
         }
     }
 
@@ -292,13 +283,13 @@ impl Tables {
         TableLengths([self.segments.len(), self.groups.len(), externals, externals])
     }
 
-    /// The table of a method has the entry of an index, if the index is there.
+    /// The table of a method's code has the entry of an index, if the index is there.
     #[inline(always)]
     #[tactic(auto, using(crate::proofs::LengthLaws::entry_counted))]
     fn has_datum(&self, lengths: &TableLengths, method: u8, datum: &Option<At<Index>>) -> bool
         requires lengths { lengths.now.0 ≡ table_lengths self.now }
         requires method { method < 4 }
-        ensures { (at : ℕ) → result ≡ is_none (index_fault self.now at method (unwrap_or (option_map (λ a. a.item) datum.now) 0)) }
+        ensures { (at : ℕ) → result ≡ is_none (index_fault self.now at (target_from (setting method datum.now))) }
     {
         match datum {
             Some(index) => lengths.has_entry(method, index.item.0),
@@ -306,31 +297,42 @@ impl Tables {
         }
     }
 
-    /// A frame that a thread gives is there, and so is the entry that it takes.
-    fn has_set_frame(&self, frame: Option<Setting>) -> bool
+    /// The entry that a frame names is there, if it names one.
+    fn has_frame_entry(&self, frame: FrameMethod) -> bool
+        ensures { (at : ℕ) → result ≡ is_none (frame_fault self.now at (Some frame)) }
+    {
+        match frame {
+            FrameMethod::Segment(index) => is_defined(self.segments.len(), index.0),
+            FrameMethod::Group(index) => is_defined(self.groups.len(), index.0),
+            FrameMethod::External(index) => is_defined(self.externals.len(), index.0),
+            FrameMethod::Location => true,
+            FrameMethod::Target => true,
+        }
+    }
+
+    /// A frame that a thread gives is there, and so is the entry that it names.
+    fn has_set_frame(&self, frame: Option<FrameMethod>) -> bool
         ensures { (at : ℕ) → result ≡ is_none (frame_fault self.now at frame) }
     {
         match frame {
             None => false,
-            Some(setting) if setting.method < 3 => {
-                self.has_entry(setting.method, index_of(setting.datum))
-            }
-            Some(_) => true,
+            Some(frame) => self.has_frame_entry(frame),
         }
     }
 
-    /// A target that a thread gives is there, and so is the entry that it takes.
-    fn has_set_target(&self, target: Option<Setting>) -> bool
+    /// A target that a thread gives is there, and so is the entry that it names.
+    fn has_set_target(&self, target: Option<TargetMethod>) -> bool
         ensures { (at : ℕ) → result ≡ is_none (target_fault self.now at target) }
     {
         match target {
             None => false,
-            Some(setting) => self.has_entry(setting.method, index_of(setting.datum)),
+            Some(target) => self.has_entry(target),
         }
     }
 
     /// The frame of a reference has no fault, with these threads in force.
     #[inline(always)]
+    #[tactic(auto, using(crate::proofs::LengthLaws::frame_by_table, crate::proofs::LengthLaws::frame_by_none))]
     fn has_frame(&self, lengths: &TableLengths, threads: &Threads, reference: &Reference) -> bool
         requires { lengths.now.0 ≡ table_lengths self.now }
         ensures { (at : ℕ) → result ≡ is_none (frame_fault self.now at (frame_cell threads.now reference.now)) }
@@ -398,36 +400,66 @@ impl Tables {
         }
     }
 
-    /// The index of a frame or a target, by its method.
-    fn index_fault(&self, at: u32, method: u8, index: u16) -> Option<LayoutFault>
-        ensures { result ≡ index_fault self.now at method index }
+    fn undefined_segment(&self, at: u32, index: u16) -> Option<LayoutFault>
+        ensures { result ≡ index_fault self.now at (T0 index) }
     {
-        let reason = match method {
-            0 => Reason::UndefinedSegment,
-            1 => Reason::UndefinedGroup,
-            _ => Reason::UndefinedExternal,
-        };
-        fault_unless(self.has_entry(method, index), at, reason)
+        let is_there = is_defined(self.segments.len(), index);
+        fault_unless(is_there, at, Reason::UndefinedSegment)
     }
 
-    fn frame_fault(&self, at: u32, frame: Option<Setting>) -> Option<LayoutFault>
+    fn undefined_group(&self, at: u32, index: u16) -> Option<LayoutFault>
+        ensures { result ≡ index_fault self.now at (T1 index) }
+    {
+        let is_there = is_defined(self.groups.len(), index);
+        fault_unless(is_there, at, Reason::UndefinedGroup)
+    }
+
+    fn undefined_external(&self, at: u32, index: u16) -> Option<LayoutFault>
+        ensures { result ≡ index_fault self.now at (T2 index) }
+    {
+        let is_there = is_defined(self.externals.len(), index);
+        fault_unless(is_there, at, Reason::UndefinedExternal)
+    }
+
+    /// The entry that a target names, judged at a place.
+    fn index_fault(&self, at: u32, target: TargetMethod) -> Option<LayoutFault>
+        ensures { result ≡ index_fault self.now at target }
+    {
+        match target {
+            TargetMethod::Segment(index) => self.undefined_segment(at, index.0),
+            TargetMethod::Group(index) => self.undefined_group(at, index.0),
+            TargetMethod::External(index) => self.undefined_external(at, index.0),
+        }
+    }
+
+    /// The entry that a frame names, if it names one, judged at a place.
+    fn frame_index_fault(&self, at: u32, frame: FrameMethod) -> Option<LayoutFault>
+        ensures { result ≡ frame_fault self.now at (Some frame) }
+    {
+        match frame {
+            FrameMethod::Segment(index) => self.undefined_segment(at, index.0),
+            FrameMethod::Group(index) => self.undefined_group(at, index.0),
+            FrameMethod::External(index) => self.undefined_external(at, index.0),
+            FrameMethod::Location => None,
+            FrameMethod::Target => None,
+        }
+    }
+
+    fn frame_fault(&self, at: u32, frame: Option<FrameMethod>) -> Option<LayoutFault>
         ensures { result ≡ frame_fault self.now at frame }
     {
         match frame {
             None => fault_unless(false, at, Reason::UndefinedThread),
-            Some(setting) if setting.method < 3 => {
-                self.index_fault(at, setting.method, index_of(setting.datum))
-            }
-            Some(_) => None,
+            Some(frame) => self.frame_index_fault(at, frame),
         }
     }
 
-    fn target_fault(&self, at: u32, target: Option<Setting>) -> Option<LayoutFault>
+    fn target_fault(&self, at: u32, target: Option<TargetMethod>) -> Option<LayoutFault>
         ensures { result ≡ target_fault self.now at target }
     {
         match target {
             None => fault_unless(false, at, Reason::UndefinedThread),
-            Some(setting) => self.index_fault(at, setting.method, index_of(setting.datum)),
+            Some(target) => self.index_fault(at, target),
         }
     }
 
@@ -471,10 +503,7 @@ impl Tables {
         let Some(reference) = start else {
             return None;
         };
-        let is_location = match self.threads.frame(reference) {
-            Some(setting) => setting.method == 4,
-            None => false,
-        };
+        let is_location = matches!(self.threads.frame(reference), Some(FrameMethod::Location));
         lesser(
             self.reference_fault(&self.threads, reference),
             fault_unless(!is_location, reference.fix.within, Reason::StartFrame),

@@ -1,54 +1,21 @@
 //! The threads in force (TIS OMF 1.1, "FIXUPP", THREAD).
 
-ghost use Rattle.std.specs.Prelude.{◌≡◌, ◌<◌, true, false};
-ghost use Rattle.omf_check.specs.Kept.{cell, set_thread, set_threads, no_threads};
+ghost use Rattle.std.specs.Prelude.{◌≡◌, ◌<◌};
+ghost use Rattle.omf_check.specs.Kept.{kept_frame, kept_target, set_thread, set_threads, no_threads};
 ghost use Rattle.omf_check.specs.Judging.{frame_cell, target_cell};
-ghost use Rattle.omf_check.specs.Threads.{setting};
 
-use omf_frame::Index;
+use crate::method::{FrameMethod, TargetMethod};
 use omf_records::{
-    At, Items, Part, Reference, Subrecord, is_frame_thread, thread_method, thread_number,
+    Items, Part, Reference, Subrecord, is_frame_thread, thread_method, thread_number,
 };
-use std::marker::Model;
-
-/// What a thread keeps: a method, and its index if the method has one.
-#[derive(Clone, Copy, Debug, Drop)]
-pub struct Setting {
-    /// The method, without the bits that its kind ignores.
-    pub method: u8,
-    /// The index that the method takes, if it takes one.
-    pub datum: Option<Index>,
-}
-
-impl Model for Setting {
-    ghost use Rattle.omf_check.specs.Threads.{Setting as Said};
-
-    ghost Value = { Said };
-
-    ghost view = { λ s. record { method = s.method; datum = s.datum } };
-
-    ghost inverse = { λ s. record { method = s.method; datum = s.datum } };
-}
 
 /// Frame threads 0 to 3, and target threads 0 to 3: the threads in force at a place of a module, for whoever walks over its records.
 #[derive(Clone, Copy, Debug, Drop)]
 pub struct Threads {
     /// What each frame thread keeps, if it was set.
-    pub frames: [Option<Setting>; 4],
+    pub frames: [Option<FrameMethod>; 4],
     /// What each target thread keeps, if it was set.
-    pub targets: [Option<Setting>; 4],
-}
-
-/// What a THREAD of this method and index sets.
-#[inline(always)]
-fn made_setting(method: u8, datum: &Option<At<Index>>) -> Setting
-    ensures { result ≡ setting method datum.now }
-{
-    let datum = match datum {
-        Some(index) => Some(index.item),
-        None => None,
-    };
-    Setting { method, datum }
+    pub targets: [Option<TargetMethod>; 4],
 }
 
 impl Threads {
@@ -64,41 +31,41 @@ impl Threads {
 
     /// A frame thread.
     #[inline(always)]
-    fn frame_thread(&self, number: u8) -> Option<Setting>
+    fn frame_thread(&self, number: u8) -> Option<FrameMethod>
         requires { number < 4 }
-        ensures { result ≡ cell self.now true number }
+        ensures { result ≡ kept_frame self.now number }
     {
         self.frames[usize::from(number)]
     }
 
     /// A target thread.
     #[inline(always)]
-    fn target_thread(&self, number: u8) -> Option<Setting>
+    fn target_thread(&self, number: u8) -> Option<TargetMethod>
         requires { number < 4 }
-        ensures { result ≡ cell self.now false number }
+        ensures { result ≡ kept_target self.now number }
     {
         self.targets[usize::from(number)]
     }
 
     /// The frame of a reference: its own, or its thread's.
     #[inline(always)]
-    pub fn frame(&self, reference: &Reference) -> Option<Setting>
+    pub fn frame(&self, reference: &Reference) -> Option<FrameMethod>
         ensures { result ≡ frame_cell self.now reference.now }
     {
         match reference.frame_thread() {
             Some(number) => self.frame_thread(number),
-            None => Some(made_setting(reference.frame_method(), &reference.frame)),
+            None => Some(FrameMethod::new(reference.frame_method(), &reference.frame)),
         }
     }
 
     /// The target of a reference: its own, or its thread's.
     #[inline(always)]
-    pub fn target(&self, reference: &Reference) -> Option<Setting>
+    pub fn target(&self, reference: &Reference) -> Option<TargetMethod>
         ensures { result ≡ target_cell self.now reference.now }
     {
         match reference.target_thread() {
             Some(number) => self.target_thread(number),
-            None => Some(made_setting(reference.target_method(), &reference.target)),
+            None => Some(TargetMethod::new(reference.target_method(), &reference.target)),
         }
     }
 
@@ -109,11 +76,11 @@ impl Threads {
     {
         if let Part::Thread { first, index } = &subrecord.part {
             let number = usize::from(thread_number(*first));
-            let setting = Some(made_setting(thread_method(*first), index));
+            let method = thread_method(*first);
             if is_frame_thread(*first) {
-                self.frames[number] = setting;
+                self.frames[number] = Some(FrameMethod::new(method, index));
             } else {
-                self.targets[number] = setting;
+                self.targets[number] = Some(TargetMethod::new(method, index));
             }
         }
     }

@@ -4,7 +4,10 @@ use Rattle.omf_placement.specs.declared.frame.Frame.{Frame}
 pub use Rattle.omf_placement.specs.declared.frame.Placed.{Placed}
 use Rattle.omf_records.specs.Values.{At, Rec}
 use Rattle.omf_check.specs.Tables.{groups, entry}
-use Rattle.omf_check.specs.Threads.{FrameMethod, F0, F1, F2, F4, F5, TargetMethod, T0, T1, T2}
+use Rattle.omf_check.specs.declared.method.FrameMethod.{FrameMethod}
+use Rattle.omf_check.specs.declared.method.FrameMethod.TheVariants.{Segment as F0, Group as F1, External as F2, Location as F4, Target as F5}
+use Rattle.omf_check.specs.declared.method.TargetMethod.{TargetMethod}
+use Rattle.omf_check.specs.declared.method.TargetMethod.TheVariants.{Segment as T0, Group as T1, External as T2}
 
 -- The addresses and frames of the segments, the frames of the groups, the addresses and frames of the externals, in index order.
 pub record Places : Type 0 where

@@ -1,15 +1,18 @@
 -- What stands before a record or a subrecord: the threads in force, what holds there, and that a MODEND is the last record.
 use Rattle.std.proofs.Common.{◌≡◌, List, [], ◌∷◌, ◌++◌, refl, sym, ◌∙◌, ap, ap₂, subst, true, false, length, map, arith, append_assoc, length-append}
-use Rattle.std.specs.Prelude.{All, option_map, unwrap_or}
+use Rattle.std.specs.Prelude.{All, Option, Some, None, IsSome, option_map, unwrap_or}
 use Rattle.std.proofs.lemmas.Bool.{true≢false}
 use Rattle.std.proofs.lemmas.List.{append-nil}
 use Rattle.std.proofs.lemmas.List.Elements.{All-head, All-tail}
 use Rattle.omf_image.specs.declared.limits.Limits.{Limits}
 use Rattle.omf_records.specs.Values.{At, Rec, Contents, Names, Fixups, Subrecord, Reference}
+use Rattle.omf_check.specs.Judging.{frame_cell, target_cell}
 use Rattle.omf_check.specs.Kept.{HasThreads}
 use Rattle.omf_check.specs.Sound.{SubrecordHolds, is_module_end, ModuleHolds}
 use Rattle.omf_check.specs.Tables.{subrecords, subrecords_in}
-use Rattle.omf_check.specs.Threads.{F5, T0, frame_from, target_from, plain, PlainReference}
+use Rattle.omf_check.specs.Threads.{frame_from, target_from, frame_setting, target_setting, plain, PlainReference}
+use Rattle.omf_check.specs.declared.method.FrameMethod.TheVariants.{Target as F5}
+use Rattle.omf_check.specs.declared.method.TargetMethod.TheVariants.{Segment as T0}
 use Rattle.omf_check.specs.declared.threads.Threads.{Threads}
 use Rattle.omf_check.proofs.ThreadLaws.{threads_kept}
 use Rattle.omf_reloc.specs.Walking.{plain_by, threads_after}
@@ -18,8 +21,19 @@ use Rattle.omf_reloc.proofs.GatherLaws.{subrecords-more}
 -- The threads in force make the same plain reference as a search backwards.
 pub plain-by : (threads : Threads) (earlier : List Subrecord) (r : Reference) → HasThreads threads earlier → plain earlier r ≡ plain_by threads r
 plain-by threads earlier r h =
-    ap₂ (λ f t. let x : PlainReference = record { frame = unwrap_or (option_map frame_from f) F5; target = unwrap_or (option_map target_from t) (T0 0); displacement = unwrap_or r.displacement 0 } in x)
+    ap₂ (λ f t. let x : PlainReference = record { frame = unwrap_or f F5; target = unwrap_or t (T0 0); displacement = unwrap_or r.displacement 0 } in x)
     (sym (threads_kept.frame threads earlier r h)) (sym (threads_kept.target threads earlier r h))
+
+-- A thread that was set is in force.
+some_made : {A B : Type 0} (f : A → B) (o : Option A) → IsSome o → IsSome (option_map f o)
+some_made f (Some x) h = refl
+some_made f None h = h
+
+pub frame-there : (threads : Threads) (earlier : List Subrecord) (r : Reference) → HasThreads threads earlier → IsSome (frame_setting earlier r) → IsSome (frame_cell threads r)
+frame-there threads earlier r h s = subst (λ o. IsSome o) (sym (threads_kept.frame threads earlier r h)) (some_made frame_from (frame_setting earlier r) s)
+
+pub target-there : (threads : Threads) (earlier : List Subrecord) (r : Reference) → HasThreads threads earlier → IsSome (target_setting earlier r) → IsSome (target_cell threads r)
+target-there threads earlier r h s = subst (λ o. IsSome o) (sym (threads_kept.target threads earlier r h)) (some_made target_from (target_setting earlier r) s)
 
 -- The threads in force, after one more record.
 threads-contents : (threads : Threads) (earlier : List Subrecord) (c : Contents) → HasThreads threads earlier → HasThreads (threads_after threads c) (earlier ++ subrecords_in c)

@@ -1,6 +1,6 @@
 -- The start of a module is the one that its last record names, by the threads in force there.
 use Rattle.std.proofs.Common.{◌≡◌, ℕ, List, [], ◌∷◌, ◌++◌, append_assoc, refl, sym, ap, ap₂, subst, ◌∙◌, false}
-use Rattle.std.specs.Prelude.{All, Bool, Option, Some, None, IsSome, option_map, unwrap_or}
+use Rattle.std.specs.Prelude.{All, Bool, Option, Some, None, IsSome, unwrap_or}
 use Rattle.std.proofs.lemmas.Bool.{true≢false}
 use Rattle.std.proofs.lemmas.List.{append-nil}
 use Rattle.std.proofs.lemmas.List.Elements.{All-head, All-tail}
@@ -17,7 +17,9 @@ use Rattle.omf_check.specs.Judging.{frame_cell, target_cell}
 use Rattle.omf_check.specs.Kept.{HasThreads, no_threads}
 use Rattle.omf_check.specs.Sound.{is_module_end, ModuleHolds}
 use Rattle.omf_check.specs.Tables.{subrecords}
-use Rattle.omf_check.specs.Threads.{F5, T0, frame_from, target_from, PlainReference, plain}
+use Rattle.omf_check.specs.Threads.{PlainReference, plain}
+use Rattle.omf_check.specs.declared.method.FrameMethod.TheVariants.{Target as F5}
+use Rattle.omf_check.specs.declared.method.TargetMethod.TheVariants.{Segment as T0}
 use Rattle.omf_check.specs.declared.threads.Threads.{Threads}
 use Rattle.omf_reloc.specs.Image.{start, starts, start_at, piece_start}
 use Rattle.omf_reloc.specs.Laws.{ReferenceIsFound}
@@ -28,7 +30,7 @@ use Rattle.omf_reloc.specs.Plain.{Piece, end_byte, piece_of, pieces}
 use Rattle.omf_reloc.specs.Reach.{Reaches}
 use Rattle.omf_reloc.specs.Walking.{plain_by, threads_after, threads_through, HasStart}
 use Rattle.omf_reloc.proofs.AddedLaws.{all-added}
-use Rattle.omf_reloc.proofs.EarlierLaws.{plain-by, threads-more}
+use Rattle.omf_reloc.proofs.EarlierLaws.{plain-by, threads-more, frame-there, target-there}
 use Rattle.omf_reloc.proofs.FoundLaws.{all-found}
 use Rattle.omf_reloc.proofs.GatherLaws.{pieces_from, subrecords-more}
 use Rattle.omf_reloc.proofs.WalkLaws.{last-end}
@@ -119,14 +121,14 @@ module _ (pl : Places) (m : List Rec) (holds : ModuleHolds profile_limits m) (re
 
   module _ (threads : Threads) (f : frame_cell threads r ≡ frame_cell (threads_through no_threads m) r) (t : target_cell threads r ≡ target_cell (threads_through no_threads m) r) where
     pub frame-set : IsSome (frame_cell threads r)
-    frame-set = subst (λ o. IsSome o) (sym (f ∙ threads_kept.frame (threads_through no_threads m) (subrecords before) r has-threads)) found.frame_set
+    frame-set = subst (λ o. IsSome o) (sym f) (frame-there (threads_through no_threads m) (subrecords before) r has-threads found.frame_set)
 
     pub target-set : IsSome (target_cell threads r)
-    target-set = subst (λ o. IsSome o) (sym (t ∙ threads_kept.target (threads_through no_threads m) (subrecords before) r has-threads)) found.target_set
+    target-set = subst (λ o. IsSome o) (sym t) (target-there (threads_through no_threads m) (subrecords before) r has-threads found.target_set)
 
     plain-is : plain_by threads r ≡ plain (subrecords before) r
     plain-is =
-        ap₂ (λ f t. let x : PlainReference = record { frame = unwrap_or (option_map frame_from f) F5; target = unwrap_or (option_map target_from t) (T0 0); displacement = unwrap_or r.displacement 0 } in x) f t
+        ap₂ (λ f t. let x : PlainReference = record { frame = unwrap_or f F5; target = unwrap_or t (T0 0); displacement = unwrap_or r.displacement 0 } in x) f t
         ∙ sym (plain-by (threads_through no_threads m) (subrecords before) r has-threads)
 
     pub has-start : HasStart pl kind (plain_by threads r)

@@ -10,7 +10,11 @@ use Rattle.omf_image.specs.declared.limits.Limits.{Limits}
 use Rattle.omf_records.specs.Values.{Rec, Contents, Plain, Iterated, Fixups, ModEnd, DataItem, Subrecord, Fixup, Reference}
 use Rattle.omf_check.specs.Sound.{FrameIsDefined, TargetIsDefined, ReferenceHolds, ContentsHold, ModuleHolds}
 use Rattle.omf_check.specs.Tables.{segments, groups, externals, subrecords, is_defined, defined_segments, defined_groups, defined_externals, data_in, last_data}
-use Rattle.omf_check.specs.Threads.{FrameMethod, F0, F1, F2, F4, F5, TargetMethod, T0, T1, T2, plain}
+use Rattle.omf_check.specs.Threads.{plain}
+use Rattle.omf_check.specs.declared.method.FrameMethod.{FrameMethod}
+use Rattle.omf_check.specs.declared.method.FrameMethod.TheVariants.{Segment as F0, Group as F1, External as F2, Location as F4, Target as F5}
+use Rattle.omf_check.specs.declared.method.TargetMethod.{TargetMethod}
+use Rattle.omf_check.specs.declared.method.TargetMethod.TheVariants.{Segment as T0, Group as T1, External as T2}
 use Rattle.omf_derive.proofs.BaseLaws.{longer}
 use Rattle.omf_reloc.specs.Laws.{ReferenceIsFound, AllAreFound}
 use Rattle.omf_reloc.specs.Placed.{HasFrame, HasTarget}

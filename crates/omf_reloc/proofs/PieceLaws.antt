@@ -21,7 +21,7 @@ use Rattle.omf_reloc.specs.Pieces.{one_by_one, single_pieces, references_at, ref
 use Rattle.omf_reloc.specs.Plain.{Piece, Fixed, End, PlainFixup, piece_of, end_byte, plain_fixups}
 use Rattle.omf_reloc.specs.Reach.{fixup_place, reference_places as stood, all_reference_places}
 use Rattle.omf_reloc.specs.Walking.{threads_after}
-use Rattle.omf_reloc.proofs.EarlierLaws.{plain-by, threads-more, HoldFrom, hold-first, hold-rest}
+use Rattle.omf_reloc.proofs.EarlierLaws.{plain-by, threads-more, HoldFrom, hold-first, hold-rest, frame-there, target-there}
 use Rattle.omf_reloc.proofs.GatherLaws.{pieces_from}
 use Rattle.omf_reloc.proofs.WalkLaws.{next-split}
 
@@ -138,8 +138,8 @@ numbered-placed m = places-from no_threads (numbered_records m) ∙ numbered-sam
 -- Each thread that is named is set.
 reference-set : (before : List Rec) (threads : Threads) (earlier : List Subrecord) (r : Reference) → HasThreads threads earlier → ReferenceHolds before earlier r → IsSet threads r
 reference-set before threads earlier r h holds = record {
-  frame = subst (λ o. IsSome o) (sym (threads_kept.frame threads earlier r h)) holds.frame_set;
-  target = subst (λ o. IsSome o) (sym (threads_kept.target threads earlier r h)) holds.target_set;
+  frame = frame-there threads earlier r h holds.frame_set;
+  target = target-there threads earlier r h holds.target_set;
 }
 
 subrecord-set : (before : List Rec) (threads : Threads) (earlier : List Subrecord) (s : Subrecord) → HasThreads threads earlier → SubrecordHolds before earlier s → SubrecordIsSet threads s

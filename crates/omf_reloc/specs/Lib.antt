@@ -2,7 +2,6 @@ pub mod Plain
 pub mod Additions
 pub mod Offsets
 pub mod Placed
-pub mod Methods
 pub mod Seen
 pub mod Reach
 pub mod Image

@@ -1,7 +1,11 @@
 -- Whether a placement has the places that a reference names, and the types of the records that references stand in.
 use Rattle.std.specs.Prelude.{◌≡◌, ℕ, length, Bool, true, if◌then◌else◌}
 use Rattle.omf_check.specs.Tables.{is_defined}
-use Rattle.omf_check.specs.Threads.{FrameMethod, F0, F1, F2, F4, F5, TargetMethod, T0, T1, T2, PlainReference}
+use Rattle.omf_check.specs.Threads.{PlainReference}
+use Rattle.omf_check.specs.declared.method.FrameMethod.{FrameMethod}
+use Rattle.omf_check.specs.declared.method.FrameMethod.TheVariants.{Segment as F0, Group as F1, External as F2, Location as F4, Target as F5}
+use Rattle.omf_check.specs.declared.method.TargetMethod.{TargetMethod}
+use Rattle.omf_check.specs.declared.method.TargetMethod.TheVariants.{Segment as T0, Group as T1, External as T2}
 use Rattle.omf_placement.specs.Placement.{Places}
 
 -- The target's entry is there.

@@ -7,7 +7,9 @@ use Rattle.omf_image.specs.Joined.{runs_of}
 use Rattle.omf_frame.specs.declared.fault.Place.{Place}
 use Rattle.omf_records.specs.Values.{Rec}
 use Rattle.omf_check.specs.Listed.{placed_from}
-use Rattle.omf_check.specs.Threads.{FrameMethod, TargetMethod, PlainReference}
+use Rattle.omf_check.specs.Threads.{PlainReference}
+use Rattle.omf_check.specs.declared.method.FrameMethod.{FrameMethod}
+use Rattle.omf_check.specs.declared.method.TargetMethod.{TargetMethod}
 use Rattle.omf_placement.specs.declared.frame.Frame.{Frame}
 use Rattle.omf_reloc.specs.declared.fault.ReachFault.{ReachFault}
 use Rattle.omf_derive.specs.declared.fault.DeriveFault.{DeriveFault}

@@ -9,7 +9,9 @@ use Rattle.omf_image.specs.Overlay.{Laid, AreLaidOver}
 use Rattle.omf_check.specs.Judging.{frame_cell, target_cell}
 use Rattle.omf_check.specs.Kept.{set_threads}
 use Rattle.omf_check.specs.Tables.{is_defined}
-use Rattle.omf_check.specs.Threads.{F5, T0, frame_from, target_from, PlainReference}
+use Rattle.omf_check.specs.Threads.{PlainReference}
+use Rattle.omf_check.specs.declared.method.FrameMethod.TheVariants.{Target as F5}
+use Rattle.omf_check.specs.declared.method.TargetMethod.TheVariants.{Segment as T0}
 use Rattle.omf_check.specs.declared.threads.Threads.{Threads}
 use Rattle.omf_reloc.specs.Image.{added}
 use Rattle.omf_reloc.specs.Offsets.{outcome_at, start_offset}
@@ -20,8 +22,8 @@ use Rattle.omf_reloc.specs.Plain.{Piece, Kept, Fixed, End, PlainFixup}
 -- A reference without threads, by the threads in force.
 abbrev pub plain_by : Threads → Reference → PlainReference
 plain_by threads r = record {
-  frame = unwrap_or (option_map frame_from (frame_cell threads r)) F5;
-  target = unwrap_or (option_map target_from (target_cell threads r)) (T0 0);
+  frame = unwrap_or (frame_cell threads r) F5;
+  target = unwrap_or (target_cell threads r) (T0 0);
   displacement = unwrap_or r.displacement 0;
 }
 

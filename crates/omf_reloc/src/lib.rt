@@ -27,10 +27,11 @@ pub mod rows;
 mod starting;
 
 pub use fault::{Cause, Kind, ReachFault};
+pub use omf_check::{FrameMethod, TargetMethod};
 pub use omf_derive::{DeriveFault, Given, derive};
 pub use omf_placement::{Draft, Frame, Placement, TextFault, parse_placement, real_group};
 pub use pieces::{Piece, Pieces, end_byte, pieces_of};
-pub use plain::{FrameMethod, PlainFixup, PlainReference, TargetMethod, plain_reference};
+pub use plain::{PlainFixup, PlainReference, plain_reference};
 pub use reaching::reach;
 pub use relocating::relocate;
 pub use starting::start;

@@ -6,14 +6,14 @@ ghost use Rattle.omf_frame.specs.Bytes.{difference};
 ghost use Rattle.omf_records.specs.Location.{offset_bits, self_relative_bits};
 ghost use Rattle.omf_records.specs.Values.{location_offset};
 ghost use Rattle.omf_check.specs.Tables.{is_defined};
-ghost use Rattle.omf_reloc.specs.Methods.{target_seen};
 ghost use Rattle.omf_reloc.specs.Offsets.{offsets, in_bits, is_near, in_frame, from_location, outcome_at, start_offset};
 ghost use Rattle.omf_reloc.specs.Placed.{HasTarget, HasPlaces, fixupp_type, modend_type, number_bits};
 ghost use Rattle.omf_placement.specs.Placement.{placed, frame_by, target_frame, target_address};
 
 use crate::addition::Additions;
 use crate::fault::Cause;
-use crate::plain::{FrameMethod, PlainFixup, PlainReference, TargetMethod};
+use crate::plain::{PlainFixup, PlainReference};
+use omf_check::{FrameMethod, TargetMethod};
 use omf_frame::Index;
 use omf_placement::{Frame, Placement};
 use omf_records::{is_segment_relative, location_offset, location_type};
@@ -37,8 +37,8 @@ impl Model for Offsets {
 
 /// The address of a target: of a group, the base of its frame.
 fn target_address(placement: &Placement, target: &TargetMethod) -> u32
-    requires { HasTarget placement.now (target_seen target.now) }
-    ensures { result ≡ target_address placement.now (target_seen target.now) }
+    requires { HasTarget placement.now target.now }
+    ensures { result ≡ target_address placement.now target.now }
 {
     match target {
         TargetMethod::Segment(Index(index)) => placement.segment_at(usize::from(*index)).address,
@@ -49,8 +49,8 @@ fn target_address(placement: &Placement, target: &TargetMethod) -> u32
 
 /// The frame of a target.
 fn target_frame(placement: &Placement, target: &TargetMethod) -> Frame
-    requires { HasTarget placement.now (target_seen target.now) }
-    ensures { result ≡ target_frame placement.now (target_seen target.now) }
+    requires { HasTarget placement.now target.now }
+    ensures { result ≡ target_frame placement.now target.now }
 {
     match target {
         TargetMethod::Segment(Index(index)) => placement.segment_at(usize::from(*index)).frame,
