@@ -16,3 +16,5 @@ pub mod StreamLaws
 pub mod WritingLaws
 pub mod TakingLaws
 pub mod FormLaws
+pub mod DataLaws
+pub mod DirectLaws

@@ -13,6 +13,8 @@ use Rattle.omf_records.specs.Each.{with_first}
 use Rattle.omf_records.specs.Reading.{typed, read_body}
 use Rattle.omf_records.specs.RecordReaders.{contents_whole}
 use Rattle.omf_records.specs.Unread.{fixups_read}
+use Rattle.omf_records.specs.Laws.{TypedHaveValues}
+use Rattle.omf_records.specs.Valued.{IsSubrecordValue, HaveReferenceValues}
 use Rattle.omf_records.specs.Values.{At, Rec, Contents, Names, Fixups, ModEnd, Reference, Subrecord, Thread, Fixup}
 use Rattle.omf_check.specs.Kept.{no_threads, set_thread, set_threads}
 use Rattle.omf_check.specs.Listed.{IsReadable, StartsWithRecord}
@@ -89,6 +91,11 @@ pub fixups-set : (threads : Threads) (r : Result (List (At Subrecord)) Fault) (b
 fixups-set threads (Ok subs) body e ok set = set (Fixups subs) e
 fixups-set threads (Err f) body e ok set = let q : false ≡ true = subst (λ (b : Result Contents Fault). IsOk b) e ok in absurd cc
 
+pub fixups-values : (kind : ℕ) (r : Result (List (At Subrecord)) Fault) (body : Result Contents Fault) → body ≡ fixups_read r → IsOk body
+    → ((c : Contents) → body ≡ Ok c → HaveReferenceValues kind c) → IsOkAnd r (All (λ s. IsSubrecordValue kind s.item))
+fixups-values kind (Ok subs) body e ok values = (values (Fixups subs) e).each
+fixups-values kind (Err f) body e ok values = let q : false ≡ true = subst (λ (b : Result Contents Fault). IsOk b) e ok in absurd cc
+
 pub end_set : (threads : Threads) (byte : ℕ) (start : Option Reference) → ContentsAreSet threads (ModEnd byte start) → IfSome start (IsSet threads)
 end_set threads byte None h = tt
 end_set threads byte (Some r) h = h
@@ -126,15 +133,22 @@ pub record IsTaken (kind : ℕ) (threads : Threads) (out : List ℕ) (group : Op
   pub read : now ≡ Ok left
   pub set : set_threads now_threads left ≡ set_threads threads whole
   pub are_set : SubrecordsAreSet now_threads left
+  pub values : All (λ s. IsSubrecordValue kind s.item) left
   pub put : (rest : List Piece) → now_out ++ bytes_left now_group (subrecord_pieces now_threads kind left ++ rest) ≡ out ++ bytes_left group (subrecord_pieces threads kind whole ++ rest)
 
 module _ (kind : ℕ) (threads : Threads) (out : List ℕ) (group : Option Held) (whole : List (At Subrecord)) where
-  pub take-first : (now : Result (List (At Subrecord)) Fault) → now ≡ Ok whole → SubrecordsAreSet threads whole → IsTaken kind threads out group whole threads out group now
-  take-first now e h = record { left = whole; read = e; set = refl; are_set = h; put = λ rest. refl }
+  pub take-first : (now : Result (List (At Subrecord)) Fault) → now ≡ Ok whole → SubrecordsAreSet threads whole → All (λ s. IsSubrecordValue kind s.item) whole → IsTaken kind threads out group whole threads out group now
+  take-first now e h v = record { left = whole; read = e; set = refl; are_set = h; values = v; put = λ rest. refl }
 
   module _ (now_threads : Threads) (now_out : List ℕ) (now_group : Option Held) (now : Result (List (At Subrecord)) Fault) (h : IsTaken kind threads out group whole now_threads now_out now_group now) where
     first-set : (s : At Subrecord) (more : List (At Subrecord)) → h.left ≡ s ∷ more → SubrecordIsSet now_threads s.item × SubrecordsAreSet (set_thread now_threads s.item) more
     first-set s more e = subst (SubrecordsAreSet now_threads) e h.are_set
+
+    first-values : (s : At Subrecord) (more : List (At Subrecord)) → h.left ≡ s ∷ more → All (λ s. IsSubrecordValue kind s.item) (s ∷ more)
+    first-values s more e = subst (All (λ s. IsSubrecordValue kind s.item)) e h.values
+
+    pub take-value : (s : At Subrecord) (then : Result (List (At Subrecord)) Fault) → now ≡ with_first s then → IsSubrecordValue kind s.item
+    take-value s then e = let parts = first-left s then h.left (sym h.read ∙ e) in All-head (λ s. IsSubrecordValue kind s.item) s parts.0 (first-values s parts.0 parts.2)
 
     pub take-set : (s : At Subrecord) (then : Result (List (At Subrecord)) Fault) → now ≡ with_first s then → SubrecordIsSet now_threads s.item
     take-set s then e = let parts = first-left s then h.left (sym h.read ∙ e) in (first-set s parts.0 parts.2).0
@@ -150,6 +164,7 @@ module _ (kind : ℕ) (threads : Threads) (out : List ℕ) (group : Option Held)
           read = parts.1;
           set = ap (λ (x : Threads). set_threads x more) t ∙ sym (ap (set_threads now_threads) parts.2) ∙ h.set;
           are_set = subst (λ (x : Threads). SubrecordsAreSet x more) (sym t) (first-set s more parts.2).1;
+          values = All-tail (λ s. IsSubrecordValue kind s.item) s more (first-values s more parts.2);
           put = λ rest.
               p (subrecord_pieces new_threads kind more ++ rest)
               ∙ ap (λ (x : Threads). now_out ++ bytes_left now_group (subrecord_piece now_threads kind s.item ++ (subrecord_pieces x kind more ++ rest))) t
@@ -287,6 +302,12 @@ module _ (m : List Rec) (out : List ℕ) (group : Option Held) (threads : Thread
           let q : ◌≡◌ {A = Result Contents Fault} (Ok c) (Ok d) = sym left-read ∙ e in
           let same : c ≡ d = cc in
           subst (ContentsAreSet threads) same set-here.0
+
+      pub left-values : TypedHaveValues → (d : Contents) → read_body kind body ≡ Ok d → HaveReferenceValues kind d
+      left-values law d e =
+          let q : ◌≡◌ {A = Result Contents Fault} (Ok c) (Ok d) = sym left-read ∙ e in
+          let same : c ≡ d = cc in
+          subst (λ (x : ℕ). HaveReferenceValues x d) (sym kind-is) (subst (λ (x : Contents). HaveReferenceValues r.kind x) same (law (typed r) r.body first-readable.typed))
 
       pub left-short : (d : Contents) → read_body kind body ≡ Ok d → All CanPut (contents_pieces threads kind d)
       left-short d e =

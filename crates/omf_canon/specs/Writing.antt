@@ -1,6 +1,6 @@
 -- What a walk over a module's records writes, step by step, with at most one open FIXUPP. Private functions speak in these words; public ones
 -- say what the canonical bytes are by their definition.
-use Rattle.std.specs.Prelude.{◌≡◌, ℕ, ◌+◌, ◌≤◌, ⊤, List, [], ◌∷◌, ◌++◌, length, Bool, ◌&&◌, ◌==◌, nat_le, Option, Some, None, option_map, if◌then◌else◌}
+use Rattle.std.specs.Prelude.{◌≡◌, ℕ, ◌+◌, ◌≤◌, ⊤, List, [], ◌∷◌, ◌++◌, length, Bool, false, not, ◌&&◌, ◌||◌, ◌==◌, nat_le, Option, Some, None, option_map, if◌then◌else◌}
 use Rattle.omf_frame.specs.Framing.{raw_bytes, raw_of}
 use Rattle.omf_records.specs.Shortest.{contents_bytes}
 use Rattle.omf_records.specs.Values.{At, Rec, alone, Contents, Fixups, ModEnd, Subrecord, Thread, Fixup}
@@ -85,3 +85,12 @@ record_pieces threads (r ∷ rs) = contents_pieces threads r.kind r.contents ++ 
 -- These pieces were written, from bytes and an open FIXUPP to others: with any pieces behind them both come to the same bytes.
 abbrev pub ArePut : List Piece → List ℕ → Option Held → List ℕ → Option Held → Type 0
 ArePut ps out group new_out new_group = (rest : List Piece) → new_out ++ bytes_left new_group rest ≡ out ++ bytes_left group (ps ++ rest)
+
+-- The types of LEDATA and LIDATA.
+abbrev pub is_data : ℕ → Bool
+is_data kind = (kind == 0xA0) || ((kind == 0xA1) || ((kind == 0xA2) || (kind == 0xA3)))
+
+-- Contents begin with an index in its shortest spelling, and have a byte behind its first.
+abbrev pub begins_short : List ℕ → Bool
+begins_short (a ∷ b ∷ rest) = not (a == 128) || nat_le 128 b
+begins_short _ = false

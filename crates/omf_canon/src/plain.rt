@@ -5,7 +5,7 @@ ghost use Rattle.omf_records.specs.Values.{Fixup, nowhere};
 ghost use Rattle.omf_reloc.specs.Pieces.{IsSet};
 ghost use Rattle.omf_reloc.specs.Walking.{plain_by, plain_fixup_by};
 ghost use Rattle.omf_canon.specs.PlainBytes.{start_bytes};
-ghost use Rattle.omf_canon.specs.Unthreaded.{frame_code, target_code, frame_index, target_index, fix_byte, unthreaded, unthreaded_fixup};
+ghost use Rattle.omf_canon.specs.Unthreaded.{frame_code, target_code, frame_index, target_index, fix_byte, unthreaded, unthreaded_fixup, is_direct};
 
 use omf_check::Threads;
 use omf_frame::Index;
@@ -114,6 +114,19 @@ pub(crate) fn unthreaded_fixup(threads: &Threads, location: u16, reference: &Ref
 {
     let plain = plain_reference(threads, reference);
     unthreaded(&plain, plain.displacement == 0)
+}
+
+/// A reference is written already as one that names no thread: it names none, and has no displacement of 0.
+#[inline(always)]
+pub(crate) fn is_direct(reference: &Reference) -> bool
+    ensures { result ≡ is_direct reference.now }
+{
+    let fix = reference.fix.item;
+    let is_zero = match reference.displacement {
+        Some(displacement) => displacement == 0,
+        None => false,
+    };
+    fix / 128 % 2 != 1 && fix / 8 % 2 != 1 && !is_zero
 }
 
 /// Appends the start of a MODEND of a type, if there is one: it is never short.

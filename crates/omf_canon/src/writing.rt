@@ -1,6 +1,6 @@
 //! The canonical bytes of a module.
 
-ghost use Rattle.std.specs.Prelude.{All, ◌≡◌, ◌≤◌, ◌++◌, [], ◌∷◌, None, Some, Ok, OnOk, IfOk, IsOk, IsOkAnd, IfSome, IsTrue, length, option_map, if◌then◌else◌};
+ghost use Rattle.std.specs.Prelude.{All, ◌≡◌, ◌≤◌, ◌++◌, [], ◌∷◌, None, Some, Ok, OnOk, IfOk, IsOk, IsOkAnd, IfSome, IsTrue, true, length, option_map, if◌then◌else◌};
 ghost use Rattle.omf_check.specs.Judging.{IsNoFixupp};
 ghost use Rattle.omf_check.specs.Kept.{no_threads, set_thread, set_threads};
 ghost use Rattle.omf_check.specs.Listed.{StartsWithRecord};
@@ -10,6 +10,7 @@ ghost use Rattle.omf_frame.specs.Framing.{IsRecord, front_record, present, after
 ghost use Rattle.omf_records.specs.Reading.{read_body};
 ghost use Rattle.omf_records.specs.Seen.{rec_seen, kind_seen, contents_seen};
 ghost use Rattle.omf_records.specs.Shortest.{subrecord_bytes};
+ghost use Rattle.omf_records.specs.Valued.{IsSubrecordValue, HaveReferenceValues};
 ghost use Rattle.omf_records.specs.Values.{alone, Fixup};
 ghost use Rattle.omf_reloc.specs.Pieces.{IsSet, SubrecordIsSet, SubrecordsAreSet, ContentsAreSet};
 ghost use Rattle.omf_reloc.specs.Plain.{Kept, End, end_byte};
@@ -18,13 +19,14 @@ ghost use Rattle.omf_canon.specs.Canonical.{canonical, canonical_raws};
 ghost use Rattle.omf_canon.specs.Skeleton.{skeleton};
 ghost use Rattle.omf_canon.specs.Form.{IsFormOf};
 ghost use Rattle.omf_canon.specs.PlainBytes.{start_bytes};
-ghost use Rattle.omf_canon.specs.Writing.{Held, held, record_bytes, closed, has_room, held_with, closed_by, piece_puts, CanPut, subrecord_piece, subrecord_pieces, contents_pieces, ArePut};
+ghost use Rattle.omf_canon.specs.Writing.{Held, held, record_bytes, closed, has_room, held_with, closed_by, piece_puts, CanPut, subrecord_piece, subrecord_pieces, contents_pieces, ArePut, is_data, begins_short};
 
 use crate::laws;
-use crate::plain::{put_start, unthreaded_fixup};
+use crate::plain::{is_direct, put_start, unthreaded_fixup};
 use omf_check::laws::modules_hold;
 use omf_check::{Checked, Threads};
 use omf_frame::{RawRecord, checksum};
+use omf_records::laws::typed_have_values;
 use omf_records::{
     FIXUP_LIMIT, Part, Rec, Reference, Subrecord, Unread, put_fixup, put_rec, unread_fixups,
     view_known,
@@ -36,13 +38,35 @@ use std::marker::Model;
 /// Type byte, two bytes of length and the checksum leave so many bytes for the contents of a canonical FIXUPP.
 const BODY_LIMIT: usize = 1020;
 
+/// These are types of LEDATA and LIDATA.
+#[inline(always)]
+fn is_data(kind: u8) -> bool
+    ensures { result ≡ is_data kind }
+{
+    kind == 0xA0 || kind == 0xA1 || kind == 0xA2 || kind == 0xA3
+}
+
+/// Contents begin with an index in its shortest spelling, and have a byte behind its first.
+#[inline(always)]
+fn begins_short(body: &[u8]) -> bool
+    ensures { result ≡ begins_short body.now }
+{
+    match body {
+        [first, second, ..] => *first != 128 || *second >= 128,
+        _ => false,
+    }
+}
+
 /// A record with its checksum byte.
 fn put_record(out: &mut Vec<u8>, kind: u8, body: &[u8]) -> Result<(), AllocError>
     requires { length body.now ≤ 65534 }
     ensures { OnOk result (out.new.items ≡ out.old.items ++ record_bytes kind body.now) }
 {
     let [low, high] = ((body.len() + 1) as u16).to_le_bytes();
-    out.extend_from_slice(&[kind, low, high])?;
+    out.reserve(body.len() + 4)?;
+    out.push_reserved(kind);
+    out.push_reserved(low);
+    out.push_reserved(high);
     out.extend_from_slice(body)?;
     Ok(out.push(checksum(kind, body))?)
 }
@@ -183,7 +207,8 @@ impl Walk {
         kind: u8,
         subrecord: &Subrecord<'_>,
     ) -> Result<(), AllocError>
-        requires { SubrecordIsSet self.old.threads subrecord.now }
+        requires set { SubrecordIsSet self.old.threads subrecord.now }
+        requires value { IsSubrecordValue kind subrecord.now }
         ensures put { OnOk result (ArePut (subrecord_piece self.old.threads kind subrecord.now) self.old.out.items self.old.group self.new.out.items self.new.group) }
         ensures threads { OnOk result (self.new.threads ≡ set_thread self.old.threads subrecord.now) }
     {
@@ -196,6 +221,9 @@ impl Walk {
                 location,
                 reference,
             } => {
+                if is_direct(reference) {
+                    return self.take_fixup(alloc, kind, *location, reference);
+                }
                 let plain = unthreaded_fixup(&self.threads, *location, reference);
                 self.take_fixup(alloc, kind, *location, &plain)
             }
@@ -209,7 +237,8 @@ impl Walk {
         kind: u8,
         subrecords: Unread<Subrecord<'_>>,
     ) -> Result<(), AllocError>
-        requires { IsOkAnd subrecords.items (SubrecordsAreSet self.old.threads) }
+        requires set { IsOkAnd subrecords.items (SubrecordsAreSet self.old.threads) }
+        requires values { IsOkAnd subrecords.items (All (λ s. IsSubrecordValue kind s.item)) }
         ensures put { (subs : _) → subrecords.entry.items ≡ Ok subs → OnOk result (ArePut (subrecord_pieces self.old.threads kind subs) self.old.out.items self.old.group self.new.out.items self.new.group) }
         ensures threads { (subs : _) → subrecords.entry.items ≡ Ok subs → OnOk result (self.new.threads ≡ set_threads self.old.threads subs) }
     {
@@ -273,18 +302,33 @@ impl Walk {
         }
     }
 
+    /// Writes an LEDATA or an LIDATA of which the index is in its shortest spelling: its contents are written as they were read.
+    fn copy(&mut self, kind: u8, body: &[u8]) -> Result<(), AllocError>
+        requires data { is_data kind ≡ true }
+        requires begins { begins_short body.now ≡ true }
+        requires short { length body.now ≤ 65534 }
+        ensures put { (c : _) → read_body kind body.entry.now ≡ Ok c → OnOk result (ArePut (contents_pieces self.old.threads kind c) self.old.out.items self.old.group self.new.out.items self.new.group) }
+        ensures threads { (c : _) → read_body kind body.entry.now ≡ Ok c → self.new.threads ≡ threads_after self.old.threads c }
+    {
+        write(&mut self.out, &mut self.group, kind, body)
+    }
+
     /// Takes the next record, which is well spelled.
     fn take(&mut self, alloc: Global, raw: RawRecord<'_>) -> Result<(), AllocError>
         requires taken { IsTrue (is_taken raw.kind) }
         requires body { length raw.body.now ≤ 65534 }
         requires read { IsOk (read_body raw.kind raw.body.now) }
         requires set { (c : _) → read_body raw.kind raw.body.now ≡ Ok c → ContentsAreSet self.old.threads c }
+        requires values { (c : _) → read_body raw.kind raw.body.now ≡ Ok c → HaveReferenceValues raw.kind c }
         requires short { (c : _) → read_body raw.kind raw.body.now ≡ Ok c → All CanPut (contents_pieces self.old.threads raw.kind c) }
         ensures put { (c : _) → read_body raw.entry.kind raw.entry.body.now ≡ Ok c → OnOk result (ArePut (contents_pieces self.old.threads raw.entry.kind c) self.old.out.items self.old.group self.new.out.items self.new.group) }
         ensures threads { (c : _) → read_body raw.entry.kind raw.entry.body.now ≡ Ok c → OnOk result (self.new.threads ≡ threads_after self.old.threads c) }
     {
         if let Some(subrecords) = unread_fixups(&raw) {
             return self.take_fixups(alloc, raw.kind, subrecords);
+        }
+        if is_data(raw.kind) && begins_short(raw.body) {
+            return self.copy(raw.kind, raw.body);
         }
         self.take_other(alloc, &view_known(raw))
     }
@@ -346,6 +390,7 @@ fn written(alloc: Global, module: &Checked, capacity: usize) -> Result<Vec<u8>, 
     ensures { IfOk result (λ v. v.items ≡ canonical (recs (records_in «module».now.bytes))) }
 {
     modules_hold();
+    typed_have_values();
     let mut walk = Walk::new(alloc, capacity)?;
     let mut left = module.bytes();
     'records: while !left.is_empty() {

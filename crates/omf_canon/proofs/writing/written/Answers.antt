@@ -5,7 +5,7 @@ use Rattle.omf_image.specs.Limits.{profile_limits}
 use Rattle.omf_check.specs.Module.{records_in}
 use Rattle.omf_check.specs.WellFormed.{recs}
 use Rattle.omf_check.proofs.ListedLaws.{front_taken, front_short, not_empty}
-use Rattle.omf_canon.proofs.TakingLaws.{IsLeft, left-first, left-last, left-starts, left-less, left-read, left-ok, left-set, left-short, left-next}
+use Rattle.omf_canon.proofs.TakingLaws.{IsLeft, left-first, left-last, left-starts, left-less, left-read, left-ok, left-set, left-short, left-values, left-next}
 use Rattle.omf_canon.proofs.WritingLaws.{write-last}
 use Rattle.omf_canon.proofs.writing.written.Goals as goal
 
@@ -54,6 +54,14 @@ take-requires-clause-set c d e =
     let raw = c.split_record.result.0 in
     left-set (recs (records_in c.args.module.now.bytes)) w.out.items w.group w.threads left c.records.invariant (not_empty left c.is_empty.result c.is_empty.ensures c.records-test.true)
     raw.kind raw.body.now c.split_record.ensures.kind c.split_record.ensures.body d e
+
+pub take-requires-clause-values : goal.take-requires-clause-values
+take-requires-clause-values c d e =
+    let w = c.records.walk in
+    let left = c.records.left.now in
+    let raw = c.split_record.result.0 in
+    left-values (recs (records_in c.args.module.now.bytes)) w.out.items w.group w.threads left c.records.invariant (not_empty left c.is_empty.result c.is_empty.ensures c.records-test.true)
+    raw.kind raw.body.now c.split_record.ensures.kind c.split_record.ensures.body c.typed_have_values.ensures d e
 
 pub take-requires-clause-short : goal.take-requires-clause-short
 take-requires-clause-short c d e =

@@ -1,12 +1,13 @@
 use Rattle.std.proofs.Common.{ap, subst, sym, ◌∙◌, List, Result, Ok}
-use Rattle.std.specs.Prelude.{IsOkAnd}
+use Rattle.std.specs.Prelude.{All, IsOkAnd}
 use Rattle.omf_frame.specs.Fault.{Fault}
 use Rattle.omf_records.specs.Unread.{NextGives}
+use Rattle.omf_records.specs.Valued.{IsSubrecordValue}
 use Rattle.omf_records.specs.Values.{At, Subrecord}
 use Rattle.omf_check.specs.Kept.{set_thread}
 use Rattle.omf_reloc.specs.Pieces.{SubrecordIsSet, SubrecordsAreSet}
 use Rattle.omf_canon.specs.Writing.{subrecord_piece, ArePut}
-use Rattle.omf_canon.proofs.TakingLaws.{ok-and, take-first, take-set, take-next, take-last-set, take-last-put, take-never}
+use Rattle.omf_canon.proofs.TakingLaws.{ok-and, take-first, take-set, take-value, take-next, take-last-set, take-last-put, take-never}
 use Rattle.omf_canon.proofs.writing.Walk.take_fixups.Goals as goal
 
 pub returns-in-Ok-None-clause-put : goal.returns-in-Ok-None-clause-put
@@ -24,7 +25,7 @@ returns-in-Ok-None-clause-threads c subs e =
 pub unreachable-requires : goal.unreachable-requires
 unreachable-requires c =
     let l = c.walk in
-    let whole = ok-and c.args.subrecords.items (SubrecordsAreSet c.args.self.now.threads) c.requires in
+    let whole = ok-and c.args.subrecords.items (SubrecordsAreSet c.args.self.now.threads) c.requires.set in
     take-never c.args.kind c.args.self.now.threads c.args.self.now.out.items c.args.self.now.group whole.0 l.self.threads l.self.out.items l.self.group l.subrecords.items (l.invariant whole.0 whole.1)
     _ c.in-Err.ensures.0
 
@@ -32,14 +33,24 @@ pub walk-init : goal.walk-init
 walk-init c whole e =
     let w = c.args.self.now in
     take-first c.args.kind w.threads w.out.items w.group whole c.args.subrecords.items e
-    (subst (λ (r : Result (List (At Subrecord)) Fault). IsOkAnd r (SubrecordsAreSet w.threads)) e c.requires)
+    (subst (λ (r : Result (List (At Subrecord)) Fault). IsOkAnd r (SubrecordsAreSet w.threads)) e c.requires.set)
+    (subst (λ (r : Result (List (At Subrecord)) Fault). IsOkAnd r (All (λ s. IsSubrecordValue c.args.kind s.item))) e c.requires.values)
 
-pub take_subrecord-requires : goal.take_subrecord-requires
-take_subrecord-requires c =
+pub take_subrecord-requires-clause-set : goal.take_subrecord-requires-clause-set
+take_subrecord-requires-clause-set c =
     let l = c.walk in
-    let whole = ok-and c.args.subrecords.items (SubrecordsAreSet c.args.self.now.threads) c.requires in
+    let whole = ok-and c.args.subrecords.items (SubrecordsAreSet c.args.self.now.threads) c.requires.set in
     subst (λ s. SubrecordIsSet l.self.threads s.item) (sym c.subrecord.view_is)
     (take-set c.args.kind c.args.self.now.threads c.args.self.now.out.items c.args.self.now.group whole.0 l.self.threads l.self.out.items l.self.group l.subrecords.items (l.invariant whole.0 whole.1)
+    c.in-Ok-Some.subrecord c.read_next.new.self.items
+    (subst (λ o. NextGives l.subrecords (Ok o) c.read_next.new.self) c.in-Ok-Some.field-0-is c.in-Ok-Some.ensures).0)
+
+pub take_subrecord-requires-clause-value : goal.take_subrecord-requires-clause-value
+take_subrecord-requires-clause-value c =
+    let l = c.walk in
+    let whole = ok-and c.args.subrecords.items (SubrecordsAreSet c.args.self.now.threads) c.requires.set in
+    subst (λ s. IsSubrecordValue c.args.kind s.item) (sym c.subrecord.view_is)
+    (take-value c.args.kind c.args.self.now.threads c.args.self.now.out.items c.args.self.now.group whole.0 l.self.threads l.self.out.items l.self.group l.subrecords.items (l.invariant whole.0 whole.1)
     c.in-Ok-Some.subrecord c.read_next.new.self.items
     (subst (λ o. NextGives l.subrecords (Ok o) c.read_next.new.self) c.in-Ok-Some.field-0-is c.in-Ok-Some.ensures).0)
 

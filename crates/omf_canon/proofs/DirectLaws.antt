@@ -1,0 +1,171 @@
+-- A reference that names no thread and has no displacement of 0 has the bytes that it would have without threads.
+use Rattle.std.proofs.Common.{◌≡◌, ℕ, zero, suc, ◌+◌, ◌*◌, ◌/◌, ◌%◌, ◌^◌, ◌<◌, ◌≤◌, ◌⊎◌, inl, inr, List, [], ◌∷◌, ◌++◌, Bool, true, false, cond, Option, Some, None, refl, sym, ◌∙◌, ap, ap₂, subst, arith, Result}
+use Rattle.std.specs.Prelude.{◌==◌, ◌&&◌, ◌||◌, not, nat_lt, option_map, unwrap_or, OnOk, ⊤}
+use Rattle.std.proofs.lemmas.Bool.{cond-false, or_cases, eqb-true, eqb-false, ltb-true, lt-ltb, le-ltb, cases_Bool}
+use Rattle.byteorder.specs.Endian.{little_bytes}
+use Rattle.omf_frame.specs.Bytes.{bits, has_bit}
+use Rattle.omf_frame.specs.declared.fault.Reason.{Reason}
+use Rattle.omf_frame.specs.declared.fault.Reason.TheVariants as reason
+use Rattle.omf_records.specs.Values.{At, Reference, Subrecord, Fixup, nowhere, width, frame_by_thread, frame_bits, target_by_thread, target_bits, has_no_displacement, has_frame_datum, has_target_datum}
+use Rattle.omf_records.specs.Entries.{unless, is_frame_method}
+use Rattle.omf_records.specs.Shortest.{option_bytes, datum_bytes, subrecord_bytes}
+use Rattle.omf_records.specs.Valued.{IsThere, IsIndexValue, IsReferenceValue, IsSubrecordValue}
+use Rattle.omf_check.specs.Threads.{FrameMethod, F5, TargetMethod, T0, setting, frame_from, target_from}
+use Rattle.omf_check.specs.declared.threads.Threads.{Threads}
+use Rattle.omf_check.specs.Judging.{frame_cell, target_cell}
+use Rattle.omf_reloc.specs.Plain.{Fixed}
+use Rattle.omf_reloc.specs.Walking.{plain_fixup_by}
+use Rattle.omf_canon.specs.PlainBytes.{fixup_bytes}
+use Rattle.omf_canon.specs.Unthreaded.{frame_code, frame_index, target_code, target_index, fix_byte, is_zero, is_direct}
+use Rattle.omf_canon.specs.Writing.{Held, closed_by, held_with, subrecord_piece, ArePut}
+use Rattle.omf_canon.proofs.TakingLaws.{put-one, on-both}
+
+-- ---- methods that have numbers
+
+no-reason : (b c : Bool) → unless b reason.FrameMethod ++ unless c reason.TargetMethod ≡ [] → (b ≡ true) × (c ≡ true)
+no-reason true true e = (refl, refl)
+no-reason true false e = absurd cc
+no-reason false c e = absurd cc
+
+small-cases : (m : ℕ) → m < 3 → (m ≡ 0) ⊎ ((m ≡ 1) ⊎ (m ≡ 2))
+small-cases zero h = inl refl
+small-cases (suc zero) h = inr (inl refl)
+small-cases (suc (suc zero)) h = inr (inr refl)
+small-cases (suc (suc (suc m))) h = absurd (omega (arith, h))
+
+frame-cases : (m : ℕ) → is_frame_method m ≡ true → ((m ≡ 0) ⊎ ((m ≡ 1) ⊎ (m ≡ 2))) ⊎ ((m ≡ 4) ⊎ (m ≡ 5))
+frame-cases m e =
+    elim (or_cases (nat_lt m 3 || (m == 4)) (m == 5) e) [
+      | inl r ↦ elim (or_cases (nat_lt m 3) (m == 4) r) [ inl q ↦ inl (small-cases m (ltb-true m 3 q)) | inr q ↦ inr (inl (eqb-true m 4 q)) ]
+      | inr q ↦ inr (inr (eqb-true m 5 q))
+    ]
+
+abbrev Frame : Option (At ℕ) → ℕ → Type 0
+Frame o m = IsThere IsIndexValue (nat_lt m 3) o → (frame_code (frame_from (setting m o)) ≡ m) × (option_bytes datum_bytes (frame_index (frame_from (setting m o))) ≡ option_bytes datum_bytes o)
+
+frame-0 : (o : Option (At ℕ)) → Frame o 0
+frame-0 (Some a) h = (refl, refl)
+frame-0 None h = absurd h
+
+frame-1 : (o : Option (At ℕ)) → Frame o 1
+frame-1 (Some a) h = (refl, refl)
+frame-1 None h = absurd h
+
+frame-2 : (o : Option (At ℕ)) → Frame o 2
+frame-2 (Some a) h = (refl, refl)
+frame-2 None h = absurd h
+
+frame-4 : (o : Option (At ℕ)) → Frame o 4
+frame-4 (Some a) h = absurd h
+frame-4 None h = (refl, refl)
+
+frame-5 : (o : Option (At ℕ)) → Frame o 5
+frame-5 (Some a) h = absurd h
+frame-5 None h = (refl, refl)
+
+same-frame : (m : ℕ) (o : Option (At ℕ)) → is_frame_method m ≡ true → Frame o m
+same-frame m o e =
+    elim (frame-cases m e) [
+      | inl (inl q) ↦ subst (Frame o) (sym q) (frame-0 o)
+      | inl (inr (inl q)) ↦ subst (Frame o) (sym q) (frame-1 o)
+      | inl (inr (inr q)) ↦ subst (Frame o) (sym q) (frame-2 o)
+      | inr (inl q) ↦ subst (Frame o) (sym q) (frame-4 o)
+      | inr (inr q) ↦ subst (Frame o) (sym q) (frame-5 o)
+    ]
+
+abbrev Target : Option (At ℕ) → ℕ → Type 0
+Target o m = IsThere IsIndexValue (nat_lt m 3) o → (target_code (target_from (setting m o)) ≡ m) × (option_bytes datum_bytes (target_index (target_from (setting m o))) ≡ option_bytes datum_bytes o)
+
+target-0 : (o : Option (At ℕ)) → Target o 0
+target-0 (Some a) h = (refl, refl)
+target-0 None h = absurd h
+
+target-1 : (o : Option (At ℕ)) → Target o 1
+target-1 (Some a) h = (refl, refl)
+target-1 None h = absurd h
+
+target-2 : (o : Option (At ℕ)) → Target o 2
+target-2 (Some a) h = (refl, refl)
+target-2 None h = absurd h
+
+same-target : (m : ℕ) (o : Option (At ℕ)) → nat_lt m 3 ≡ true → Target o m
+same-target m o e =
+    elim (small-cases m (ltb-true m 3 e)) [
+      | inl q ↦ subst (Target o) (sym q) (target-0 o)
+      | inr (inl q) ↦ subst (Target o) (sym q) (target-1 o)
+      | inr (inr q) ↦ subst (Target o) (sym q) (target-2 o)
+    ]
+
+-- ---- the displacement
+
+-- A displacement that is not 0 is there exactly where no bit says that none is.
+same-displacement : (P : ℕ → Type 0) (f : ℕ → List ℕ) (o : Option ℕ) (none : Bool) → IsThere P (not none) o → is_zero o ≡ false
+    → ((unwrap_or o 0 == 0) ≡ none) × (option_bytes f (cond (unwrap_or o 0 == 0) None (Some (unwrap_or o 0))) ≡ option_bytes f o)
+same-displacement P f None true h z = (refl, refl)
+same-displacement P f None false h z = absurd h
+same-displacement P f (Some d) true h z = absurd h
+same-displacement P f (Some d) false h z = (z, ap (λ b. option_bytes f (cond b None (Some d))) z)
+
+-- ---- the fix data byte
+
+clear : (n k : ℕ) → has_bit n k ≡ false → bits n k 1 ≡ 1 → ⊥
+clear n k e s = absurd (let q : has_bit n k ≡ true = ap (λ m. m == 1) s in cc)
+
+same-byte : (n : ℕ) → n < 256 → frame_by_thread n ≡ false → target_by_thread n ≡ false → 16 * frame_bits n + target_bits n + cond (has_no_displacement n) 4 0 ≡ n
+same-byte n h f t =
+    elim (cases_Bool (has_no_displacement n)) [
+      | inl p ↦ ap (λ b. 16 * frame_bits n + target_bits n + cond b 4 0) p ∙ set n h (eqb-false (bits n 7 1) 1 f) (eqb-false (bits n 3 1) 1 t) (eqb-true (bits n 2 1) 1 p)
+      | inr p ↦ ap (λ b. 16 * frame_bits n + target_bits n + cond b 4 0) p ∙ unset n h (eqb-false (bits n 7 1) 1 f) (eqb-false (bits n 3 1) 1 t) (eqb-false (bits n 2 1) 1 p)
+    ]
+  where
+    set : (n : ℕ) → n < 256 → (bits n 7 1 ≡ 1 → ⊥) → (bits n 3 1 ≡ 1 → ⊥) → bits n 2 1 ≡ 1 → 16 * frame_bits n + target_bits n + 4 ≡ n
+    set n h a b c = omega (arith, h, a, b, c)
+
+    unset : (n : ℕ) → n < 256 → (bits n 7 1 ≡ 1 → ⊥) → (bits n 3 1 ≡ 1 → ⊥) → (bits n 2 1 ≡ 1 → ⊥) → 16 * frame_bits n + target_bits n + 0 ≡ n
+    unset n h a b c = omega (arith, h, a, b, c)
+
+-- ---- the whole
+
+three : (a b c : Bool) → (not a && (not b && not c)) ≡ true → (a ≡ false) × (b ≡ false) × (c ≡ false)
+three true b c e = absurd cc
+three false true c e = absurd cc
+three false false true e = absurd cc
+three false false false e = (refl, refl, refl)
+
+pub direct-bytes : (threads : Threads) (kind locat : ℕ) (r : Reference) → IsReferenceValue kind r → is_direct r ≡ true → subrecord_bytes kind (Fixup locat r) ≡ fixup_bytes kind (plain_fixup_by threads locat r)
+direct-bytes threads kind locat r v e =
+    let n = r.fix.item in
+    let q = three (frame_by_thread n) (target_by_thread n) (is_zero r.displacement) e in
+    let methods = no-reason (frame_by_thread n || is_frame_method (frame_bits n)) (target_by_thread n || nat_lt (target_bits n) 3) v.methods in
+    let F = subst (λ b. (b || is_frame_method (frame_bits n)) ≡ true) q.0 methods.0 in
+    let T = subst (λ b. (b || nat_lt (target_bits n) 3) ≡ true) q.1 methods.1 in
+    let frame = frame_from (setting (frame_bits n) r.frame) in
+    let target = target_from (setting (target_bits n) r.target) in
+    let d = unwrap_or r.displacement 0 in
+    let a = same-frame (frame_bits n) r.frame F (subst (λ b. IsThere IsIndexValue (not b && nat_lt (frame_bits n) 3) r.frame) q.0 v.frame) in
+    let b = same-target (target_bits n) r.target T (subst (λ b. IsThere IsIndexValue (not b && nat_lt (target_bits n) 3) r.target) q.1 v.target) in
+    let c = same-displacement (λ x. x < 256 ^ width kind) (little_bytes (width kind)) r.displacement (has_no_displacement n) v.displacement q.2 in
+    let frame_is : unwrap_or (option_map frame_from (frame_cell threads r)) F5 ≡ frame =
+    ap (λ s. unwrap_or (option_map frame_from s) F5) (cond-false (frame_by_thread n) _ _ q.0) in
+    let target_is : unwrap_or (option_map target_from (target_cell threads r)) (T0 0) ≡ target =
+    ap (λ s. unwrap_or (option_map target_from s) (T0 0)) (cond-false (target_by_thread n) _ _ q.1) in
+    let bytes : FrameMethod → TargetMethod → List ℕ =
+    λ f t. locat / 256 ∷ locat % 256 ∷ fix_byte (d == 0) f t ∷ (option_bytes datum_bytes (frame_index f) ++ (option_bytes datum_bytes (target_index t) ++ option_bytes (little_bytes (width kind)) (cond (d == 0) None (Some d)))) in
+    let byte : fix_byte (d == 0) frame target ≡ n =
+    ap₂ (λ x y. 16 * x + y + cond (d == 0) 4 0) a.0 b.0 ∙ ap (λ s. 16 * frame_bits n + target_bits n + cond s 4 0) c.0 ∙ same-byte n v.fix q.0 q.1 in
+    let rest : option_bytes datum_bytes (frame_index frame) ++ (option_bytes datum_bytes (target_index target) ++ option_bytes (little_bytes (width kind)) (cond (d == 0) None (Some d)))
+    ≡ option_bytes datum_bytes r.frame ++ (option_bytes datum_bytes r.target ++ option_bytes (little_bytes (width kind)) r.displacement) =
+    ap₂ (λ (x y : List ℕ). x ++ y) a.1 (ap₂ (λ (x y : List ℕ). x ++ y) b.1 c.1) in
+    sym (ap₂ bytes frame_is target_is ∙ ap₂ (λ (x : ℕ) (y : List ℕ). locat / 256 ∷ locat % 256 ∷ x ∷ y) byte rest)
+
+-- So it puts its own bytes.
+pub direct-put : {E : Type 0} (threads : Threads) (kind locat : ℕ) (r : Reference) (s : Subrecord) → s ≡ Fixup locat r → IsSubrecordValue kind s → is_direct r ≡ true
+    → (out new : List ℕ) (group then : Option Held) (res : Result ⊤ E)
+    → OnOk res (new ≡ out ++ closed_by kind (subrecord_bytes kind (Fixup locat r)) group) → OnOk res (then ≡ held_with kind (subrecord_bytes kind (Fixup locat r)) group)
+    → OnOk res (ArePut (subrecord_piece threads kind s) out group new then)
+direct-put threads kind locat r s is v e out new group then res o g =
+    let f = plain_fixup_by threads locat r in
+    let value = subst (IsSubrecordValue kind) is v in
+    let b = direct-bytes threads kind locat r value.reference e in
+    subst (λ x. OnOk res (ArePut (subrecord_piece threads kind x) out group new then)) (sym is)
+    (on-both res o g (λ p q. put-one (Fixed kind (f ∷ [])) out new group then (p ∙ ap (λ (x : List ℕ). out ++ closed_by kind x group) b) (q ∙ ap (λ (x : List ℕ). held_with kind x group) b)))
