@@ -1,6 +1,6 @@
 -- What lies where after linking: a line for each segment of several modules at their placements, then for each of their publics, then for each of their
 -- externals (this profile's rule). Modules are counted from 1, and so are the segments and the externals of each.
-use Rattle.std.specs.Prelude.{ℕ, List, [], ◌∷◌, ◌++◌, flat_map, Bool, false, Option, option_map, unwrap_or, codes, decimal}
+use Rattle.std.specs.Prelude.{ℕ, List, [], ◌∷◌, ◌++◌, flat_map, false, Option, option_map, unwrap_or, codes, decimal}
 use Rattle.std.specs.List.{enumerate_from}
 use Rattle.omf_check.specs.Tables.{names, segments, externals, entry}
 use Rattle.omf_check.specs.declared.segment.SegInfo.{SegInfo}

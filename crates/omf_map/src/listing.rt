@@ -7,7 +7,7 @@ ghost use Rattle.omf_check.specs.Module.{records_in};
 ghost use Rattle.omf_check.specs.WellFormed.{recs};
 ghost use Rattle.omf_derive.specs.Derive.{record_publics, segment_base};
 ghost use Rattle.omf_derive.specs.PublicTable.{placed_modules};
-ghost use Rattle.omf_map.specs.MapText.{address_at, external_line, external_lines, map_text, public_line, public_lines, segment_line, segment_lines};
+ghost use Rattle.omf_map.specs.MapText.{address_at, external_lines, map_text, public_line, public_lines, segment_line, segment_lines};
 ghost use Rattle.omf_map.specs.Steps.{item_line, part_lines};
 
 use crate::printing::{print_external, print_public, print_segment};
