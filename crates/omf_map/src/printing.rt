@@ -1,0 +1,156 @@
+//! The lines of a map.
+
+ghost use Rattle.std.specs.Prelude.{◌≡◌, ◌++◌, ◌∷◌, [], OnOk, string_bytes, codes, decimal, unwrap_or, option_map};
+ghost use Rattle.omf_cmd.specs.Printed.{hex, line, is_plain, escaped, quoted};
+ghost use Rattle.omf_map.specs.MapText.{address_or_dash};
+
+use omf_frame::Name;
+use std::alloc::AllocError;
+use std::fmt::Write;
+
+/// A number in decimal, behind a space.
+fn print_number(text: &mut String, number: usize) -> Result<(), AllocError>
+    ensures { OnOk result (string_bytes text.new ≡ string_bytes text.old ++ 32 ∷ decimal number) }
+{
+    write!(text, " {number}")
+}
+
+/// A number in eight hexadecimal digits or more, behind a space.
+fn print_digits(text: &mut String, number: u64) -> Result<(), AllocError>
+    ensures { OnOk result (string_bytes text.new ≡ string_bytes text.old ++ 32 ∷ hex 8 number) }
+{
+    write!(text, " {number:08X}")
+}
+
+/// An address in eight hexadecimal digits, or a dash for none, behind a space.
+fn print_address(text: &mut String, address: Option<u32>) -> Result<(), AllocError>
+    ensures { OnOk result (string_bytes text.new ≡ string_bytes text.old ++ 32 ∷ address_or_dash address) }
+{
+    match address {
+        Some(address) => print_digits(text, u64::from(address)),
+        None => text.push_str(" -"),
+    }
+}
+
+/// A word, the number of a module, an index in it and an address.
+fn print_entry(
+    text: &mut String,
+    word: &str,
+    number: usize,
+    index: u16,
+    address: Option<u32>,
+) -> Result<(), AllocError>
+    ensures { OnOk result (string_bytes text.new ≡ string_bytes text.old ++ word.now ++ 32 ∷ decimal number ++ 32 ∷ decimal index ++ 32 ∷ address_or_dash address) }
+{
+    text.push_str(word)?;
+    print_number(text, number)?;
+    print_number(text, usize::from(index))?;
+    print_address(text, address)
+}
+
+/// A byte from 20H to 7EH but the quote and the backslash.
+fn is_plain(byte: u8) -> bool
+    ensures { result ≡ is_plain byte }
+{
+    byte >= 0x20 && byte <= 0x7E && byte != b'"' && byte != b'\\'
+}
+
+/// A byte as `\x` and two hexadecimal digits.
+fn print_byte(text: &mut String, byte: u8) -> Result<(), AllocError>
+    ensures { OnOk result (string_bytes text.new ≡ string_bytes text.old ++ 92 ∷ 120 ∷ hex 2 byte) }
+{
+    write!(text, "\\x{byte:02X}")
+}
+
+/// A byte of a name.
+fn print_escaped(text: &mut String, byte: u8) -> Result<(), AllocError>
+    ensures { OnOk result (string_bytes text.new ≡ string_bytes text.old ++ escaped byte) }
+{
+    if is_plain(byte) {
+        text.push(char::from(byte))
+    } else {
+        print_byte(text, byte)
+    }
+}
+
+/// A name in double quotes, behind a space.
+fn print_quoted(text: &mut String, name: &[u8]) -> Result<(), AllocError>
+    ensures { OnOk result (string_bytes text.new ≡ string_bytes text.old ++ 32 ∷ quoted name.now) }
+{
+    text.push_str(" \"")?;
+    for byte in name {
+        print_escaped(text, *byte)?;
+    }
+    text.push_str("\"")
+}
+
+/// A name in double quotes, or a dash for none, behind a space.
+fn print_name(text: &mut String, name: Option<Name<'_>>) -> Result<(), AllocError>
+    ensures { OnOk result (string_bytes text.new ≡ string_bytes text.old ++ 32 ∷ unwrap_or (option_map quoted name.entry) (codes "-")) }
+{
+    match name {
+        Some(name) => print_quoted(text, name.0),
+        None => text.push_str(" -"),
+    }
+}
+
+/// The names of a segment and of its class, and the end of the line.
+fn print_names(
+    text: &mut String,
+    name: Option<Name<'_>>,
+    class: Option<Name<'_>>,
+) -> Result<(), AllocError>
+    ensures { OnOk result (string_bytes text.new ≡ string_bytes text.old ++ 32 ∷ unwrap_or (option_map quoted name.entry) (codes "-") ++ 32 ∷ unwrap_or (option_map quoted class.entry) (codes "-") ++ 10 ∷ []) }
+{
+    print_name(text, name)?;
+    print_name(text, class)?;
+    text.push_str("\n")
+}
+
+/// A segment: the number of its module, its index, its address, its length, its name and that of its class.
+pub fn print_segment(
+    text: &mut String,
+    number: usize,
+    index: u16,
+    address: Option<u32>,
+    length: u64,
+    name: Option<Name<'_>>,
+    class: Option<Name<'_>>,
+) -> Result<(), AllocError>
+    ensures { OnOk result (string_bytes text.new ≡ string_bytes text.old ++ line (codes "segment" ∷ decimal number ∷ decimal index ∷ address_or_dash address ∷ hex 8 length ∷ unwrap_or (option_map quoted name.entry) (codes "-") ∷ unwrap_or (option_map quoted class.entry) (codes "-") ∷ [])) }
+{
+    print_entry(text, "segment", number, index, address)?;
+    print_digits(text, length)?;
+    print_names(text, name, class)
+}
+
+/// A public: the number of its module, its address and its name.
+pub fn print_public(
+    text: &mut String,
+    number: usize,
+    address: u64,
+    name: &[u8],
+) -> Result<(), AllocError>
+    ensures { OnOk result (string_bytes text.new ≡ string_bytes text.old ++ line (codes "public" ∷ decimal number ∷ hex 8 address ∷ quoted name.now ∷ [])) }
+{
+    text.push_str("public")?;
+    print_number(text, number)?;
+    print_digits(text, address)?;
+    print_quoted(text, name)?;
+    text.push_str("\n")
+}
+
+/// An external: the number of its module, its index, its address and its name.
+pub fn print_external(
+    text: &mut String,
+    number: usize,
+    index: u16,
+    address: Option<u32>,
+    name: &[u8],
+) -> Result<(), AllocError>
+    ensures { OnOk result (string_bytes text.new ≡ string_bytes text.old ++ line (codes "external" ∷ decimal number ∷ decimal index ∷ address_or_dash address ∷ quoted name.now ∷ [])) }
+{
+    print_entry(text, "external", number, index, address)?;
+    print_quoted(text, name)?;
+    text.push_str("\n")
+}
