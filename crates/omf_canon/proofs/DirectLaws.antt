@@ -10,7 +10,11 @@ use Rattle.omf_records.specs.Values.{At, Reference, Subrecord, Fixup, nowhere, w
 use Rattle.omf_records.specs.Entries.{unless, is_frame_method}
 use Rattle.omf_records.specs.Shortest.{option_bytes, datum_bytes, subrecord_bytes}
 use Rattle.omf_records.specs.Valued.{IsThere, IsIndexValue, IsReferenceValue, IsSubrecordValue}
-use Rattle.omf_check.specs.Threads.{FrameMethod, F5, TargetMethod, T0, setting, frame_from, target_from}
+use Rattle.omf_check.specs.Threads.{setting, frame_from, target_from}
+use Rattle.omf_check.specs.declared.method.FrameMethod.{FrameMethod}
+use Rattle.omf_check.specs.declared.method.FrameMethod.TheVariants.{Target as F5}
+use Rattle.omf_check.specs.declared.method.TargetMethod.{TargetMethod}
+use Rattle.omf_check.specs.declared.method.TargetMethod.TheVariants.{Segment as T0}
 use Rattle.omf_check.specs.declared.threads.Threads.{Threads}
 use Rattle.omf_check.specs.Judging.{frame_cell, target_cell}
 use Rattle.omf_reloc.specs.Plain.{Fixed}
@@ -145,10 +149,10 @@ direct-bytes threads kind locat r v e =
     let a = same-frame (frame_bits n) r.frame F (subst (λ b. IsThere IsIndexValue (not b && nat_lt (frame_bits n) 3) r.frame) q.0 v.frame) in
     let b = same-target (target_bits n) r.target T (subst (λ b. IsThere IsIndexValue (not b && nat_lt (target_bits n) 3) r.target) q.1 v.target) in
     let c = same-displacement (λ x. x < 256 ^ width kind) (little_bytes (width kind)) r.displacement (has_no_displacement n) v.displacement q.2 in
-    let frame_is : unwrap_or (option_map frame_from (frame_cell threads r)) F5 ≡ frame =
-    ap (λ s. unwrap_or (option_map frame_from s) F5) (cond-false (frame_by_thread n) _ _ q.0) in
-    let target_is : unwrap_or (option_map target_from (target_cell threads r)) (T0 0) ≡ target =
-    ap (λ s. unwrap_or (option_map target_from s) (T0 0)) (cond-false (target_by_thread n) _ _ q.1) in
+    let frame_is : unwrap_or (frame_cell threads r) F5 ≡ frame =
+    ap (λ s. unwrap_or s F5) (cond-false (frame_by_thread n) _ _ q.0) in
+    let target_is : unwrap_or (target_cell threads r) (T0 0) ≡ target =
+    ap (λ s. unwrap_or s (T0 0)) (cond-false (target_by_thread n) _ _ q.1) in
     let bytes : FrameMethod → TargetMethod → List ℕ =
     λ f t. locat / 256 ∷ locat % 256 ∷ fix_byte (d == 0) f t ∷ (option_bytes datum_bytes (frame_index f) ++ (option_bytes datum_bytes (target_index t) ++ option_bytes (little_bytes (width kind)) (cond (d == 0) None (Some d)))) in
     let byte : fix_byte (d == 0) frame target ≡ n =
