@@ -1,12 +1,11 @@
 -- A reference that names no thread and has no displacement of 0 has the bytes that it would have without threads.
-use Rattle.std.proofs.Common.{◌≡◌, ℕ, zero, suc, ◌+◌, ◌*◌, ◌/◌, ◌%◌, ◌^◌, ◌<◌, ◌≤◌, ◌⊎◌, inl, inr, List, [], ◌∷◌, ◌++◌, Bool, true, false, cond, Option, Some, None, refl, sym, ◌∙◌, ap, ap₂, subst, arith, Result}
-use Rattle.std.specs.Prelude.{◌==◌, ◌&&◌, ◌||◌, not, nat_lt, option_map, unwrap_or, OnOk, ⊤}
-use Rattle.std.proofs.lemmas.Bool.{cond-false, or_cases, eqb-true, eqb-false, ltb-true, lt-ltb, le-ltb, cases_Bool}
+use Rattle.std.proofs.Common.{◌≡◌, ℕ, zero, suc, ◌+◌, ◌*◌, ◌/◌, ◌%◌, ◌^◌, ◌<◌, ◌⊎◌, inl, inr, List, [], ◌∷◌, ◌++◌, Bool, true, false, cond, Option, Some, None, refl, sym, ◌∙◌, ap, ap₂, subst, arith, Result}
+use Rattle.std.specs.Prelude.{◌==◌, ◌&&◌, ◌||◌, not, nat_lt, unwrap_or, OnOk, ⊤}
+use Rattle.std.proofs.lemmas.Bool.{cond-false, or_cases, eqb-true, eqb-false, ltb-true, cases_Bool}
 use Rattle.byteorder.specs.Endian.{little_bytes}
 use Rattle.omf_frame.specs.Bytes.{bits, has_bit}
-use Rattle.omf_frame.specs.declared.fault.Reason.{Reason}
 use Rattle.omf_frame.specs.declared.fault.Reason.TheVariants as reason
-use Rattle.omf_records.specs.Values.{At, Reference, Subrecord, Fixup, nowhere, width, frame_by_thread, frame_bits, target_by_thread, target_bits, has_no_displacement, has_frame_datum, has_target_datum}
+use Rattle.omf_records.specs.Values.{At, Reference, Subrecord, Fixup, width, frame_by_thread, frame_bits, target_by_thread, target_bits, has_no_displacement}
 use Rattle.omf_records.specs.Entries.{unless, is_frame_method}
 use Rattle.omf_records.specs.Shortest.{option_bytes, datum_bytes, subrecord_bytes}
 use Rattle.omf_records.specs.Valued.{IsThere, IsIndexValue, IsReferenceValue, IsSubrecordValue}

@@ -1,7 +1,6 @@
 -- The records of a module are walked over one after another: what each puts, and what is left.
-use Rattle.std.proofs.Common.{◌≡◌, ℕ, ◌+◌, ◌<◌, ◌≤◌, List, [], ◌∷◌, ◌++◌, length, refl, sym, ◌∙◌, ap, ap₂, subst, Bool, true, false, Some, None, arith, append_assoc, length-append, Result, Ok, Err, Vec, Global}
-use Rattle.std.specs.Prelude.{IfOk, IsOk, IsOkAnd, OnOk, IfSome, map, flat_map, All, Option, IsTrue, ⊤}
-use Rattle.std.proofs.lemmas.Grind.{flat_map-append}
+use Rattle.std.proofs.Common.{◌≡◌, ℕ, ◌+◌, ◌<◌, List, [], ◌∷◌, ◌++◌, length, refl, sym, ◌∙◌, ap, ap₂, subst, true, false, Some, None, arith, append_assoc, length-append, Result, Ok, Err}
+use Rattle.std.specs.Prelude.{IsOk, IsOkAnd, OnOk, IfSome, map, flat_map, All, Option, ⊤}
 use Rattle.std.proofs.lemmas.List.{map-append}
 use Rattle.std.proofs.lemmas.List.Elements.{All-nil, All-cons, All-head, All-tail, filter_map-append}
 use Rattle.omf_frame.specs.Fault.{Fault}
@@ -12,6 +11,7 @@ use Rattle.omf_image.specs.declared.limits.Limits.{Limits}
 use Rattle.omf_records.specs.Each.{with_first}
 use Rattle.omf_records.specs.Reading.{typed, read_body}
 use Rattle.omf_records.specs.RecordReaders.{contents_whole}
+use Rattle.omf_records.specs.Shortest.{subrecord_bytes}
 use Rattle.omf_records.specs.Unread.{fixups_read}
 use Rattle.omf_records.specs.Laws.{TypedHaveValues}
 use Rattle.omf_records.specs.Valued.{IsSubrecordValue, HaveReferenceValues}
@@ -27,10 +27,11 @@ use Rattle.omf_reloc.proofs.PieceLaws.{pieces-listed, numbered_records, numbered
 use Rattle.omf_reloc.specs.Pieces.{single_pieces, subrecord_steps, contents_steps, steps_from, given, IsSet, SubrecordIsSet, SubrecordsAreSet, ContentsAreSet, RecordsAreSet}
 use Rattle.omf_reloc.specs.Plain.{Piece, Fixed}
 use Rattle.omf_reloc.specs.Walking.{plain_fixup_by, threads_after}
-use Rattle.omf_canon.specs.Canonical.{canonical_raws, canonical}
+use Rattle.omf_canon.specs.Canonical.{canonical_raws}
 use Rattle.omf_canon.specs.Skeleton.{skeleton}
-use Rattle.omf_canon.specs.Writing.{Held, closed, piece_puts, piece_held, CanPut, bytes_left, subrecord_piece, subrecord_pieces, contents_pieces, record_pieces, ArePut}
-use Rattle.omf_canon.proofs.WritingLaws.{IsWritten, write-first, write-last}
+use Rattle.omf_canon.specs.Unthreaded.{unthreaded_fixup}
+use Rattle.omf_canon.specs.Writing.{Held, closed_by, held_with, piece_puts, piece_held, CanPut, bytes_left, subrecord_piece, subrecord_pieces, contents_pieces, record_pieces, ArePut}
+use Rattle.omf_canon.proofs.WritingLaws.{IsWritten, write-first}
 
 -- ---- the pieces that records give are the module's
 
@@ -115,6 +116,15 @@ put-one p out new group then o g rest = ap₂ (λ (x : List ℕ) (y : Option Hel
 pub on-both : {A E P Q R : Type 0} (r : Result A E) → OnOk r P → OnOk r Q → (P → Q → R) → OnOk r R
 on-both (Ok x) p q f = f p q
 on-both (Err e) p q f = tt
+
+-- a fixup, written as one that names no thread
+pub fixup-put : {A E : Type 0} (threads : Threads) (kind locat : ℕ) (r : Reference) (s x : Subrecord) → s ≡ Fixup locat r → x ≡ unthreaded_fixup (plain_fixup_by threads locat r)
+    → (out new : List ℕ) (group then : Option Held) (answer : Result A E) → OnOk answer (new ≡ out ++ closed_by kind (subrecord_bytes kind x) group)
+    → OnOk answer (then ≡ held_with kind (subrecord_bytes kind x) group) → OnOk answer (ArePut (subrecord_piece threads kind s) out group new then)
+fixup-put threads kind locat r s x e u out new group then answer o g =
+    on-both answer o g (λ wrote joined. subst (λ (t : Subrecord). ArePut (subrecord_piece threads kind t) out group new then) (sym e)
+    (put-one (Fixed kind (plain_fixup_by threads locat r ∷ [])) out new group then
+    (wrote ∙ ap (λ (t : Subrecord). out ++ closed_by kind (subrecord_bytes kind t) group) u) (joined ∙ ap (λ (t : Subrecord). held_with kind (subrecord_bytes kind t) group) u)))
 
 pub on-ok : {A E P R : Type 0} (r : Result A E) → OnOk r P → (P → R) → OnOk r R
 on-ok (Ok x) p f = f p

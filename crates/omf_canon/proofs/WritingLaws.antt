@@ -14,7 +14,7 @@ use Rattle.omf_canon.specs.Cut.{body_limit, fixups_size}
 use Rattle.omf_canon.specs.PlainBytes.{fixup_bytes}
 use Rattle.omf_canon.specs.Skeleton.{skeleton}
 use Rattle.omf_canon.specs.Streaming.{group_raw, Open, close, open_with, closed_by, open_after, closed_all, streamed}
-use Rattle.omf_canon.specs.Writing.{Held, held, record_bytes, closed, has_room, held_with, piece_puts, piece_held, CanPut, bytes_left}
+use Rattle.omf_canon.specs.Writing.{Held, held, record_bytes, closed, has_room, held_with, CanPut, bytes_left}
 use Rattle.omf_canon.specs.Writing.{closed_by as closes}
 use Rattle.omf_canon.proofs.CutLaws.{length-group}
 use Rattle.omf_canon.proofs.StreamLaws.{streamed-canonical}
