@@ -33,6 +33,7 @@ awk -v work="$work" '
 lacks_tool() {
     grep -q 'nasm\|/tmp/lamp\.obj' <<< "$1" && ! command -v nasm > /dev/null && return
     grep -q 'omf-place' <<< "$1" && ! command -v omf-place > /dev/null && return
+    grep -q 'omf-link' <<< "$1" && ! command -v omf-link > /dev/null && return
     grep -q '^xxd' <<< "$1" && ! command -v xxd > /dev/null
 }
 

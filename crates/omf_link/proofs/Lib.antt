@@ -1,2 +1,5 @@
 pub mod TextLaws
 pub mod LinkedLaws
+pub mod LineLaws
+pub mod RunLaws
+pub mod ParsedLaws

@@ -2,6 +2,10 @@
 use Rattle.std.specs.Prelude.{ℕ, List, Option}
 use Rattle.omf_image.specs.Joined.{runs_of}
 use Rattle.omf_image.specs.Overlay.{Laid, byte_at}
+use Rattle.omf_linking.specs.declared.fault.LinkFault.{LinkFault}
+use Rattle.omf_memory.specs.declared.stretch.Owner.{Owner}
+use Rattle.omf_placement.specs.Entries.{in_words}
+use Rattle.omf_link.specs.Faults.{link_words}
 use Rattle.omf_link.specs.MemoryText.{image_text, memory_text}
 
 -- bytes at an address
@@ -15,3 +19,11 @@ text_of laid = memory_text (byte_at laid 0) (runs_of laid 0)
 -- and with a start
 abbrev pub started_text : List Laid → Option (ℕ × ℕ) → List ℕ
 started_text laid start = image_text (byte_at laid 0) (runs_of laid 0) start
+
+-- the line of a fault and the name that it tells
+abbrev pub line_of : LinkFault → List ℕ → List ℕ
+line_of f name = in_words (link_words f name)
+
+-- a segment of a module
+abbrev pub segment_of : ℕ → ℕ → Owner
+segment_of j i = record { «module» = j; segment = i }

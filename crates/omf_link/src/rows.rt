@@ -1,7 +1,16 @@
 //! Worked examples, each evaluated by the check.
 
 ghost use Rattle.std.specs.Prelude.{◌≡◌, ◌++◌, [], ◌∷◌, codes, None, replicate, Some};
-ghost use Rattle.omf_link.specs.Rows.{bytes_at, started_text, text_of};
+ghost use Rattle.clap.specs.Words.{Text};
+ghost use Rattle.omf_frame.specs.declared.fault.Reason.TheVariants as reason;
+ghost use Rattle.omf_check.specs.Rows.{place};
+ghost use Rattle.omf_derive.specs.declared.fault.DeriveFault.TheVariants as derive;
+ghost use Rattle.omf_reloc.specs.declared.fault.Kind.TheVariants as kind;
+ghost use Rattle.omf_reloc.specs.declared.fault.ReachFault.TheVariants as reach;
+ghost use Rattle.omf_linking.specs.declared.fault.LinkFault.TheVariants as link;
+ghost use Rattle.omf_link.specs.Rows.{bytes_at, line_of, segment_of, started_text, text_of};
+ghost use Rattle.omf_link.specs.Words.{asks};
+ghost use Rattle.omf_link.specs.declared.words.Task.TheVariants.{Image};
 
 /// Two bytes at 7C00H are a line; so is one at the last address. A run of seventeen bytes is two lines.
 pub fn texts_of_memories()
@@ -14,4 +23,27 @@ pub fn texts_of_memories()
 pub fn texts_with_a_start()
     ensures start { started_text (bytes_at 0x7C00 (0xF4 ∷ []) ∷ []) (Some (0x7C0, 0x1F)) ≡ codes "00007C00: F4\nSTART 07C0:0000001F\n" }
     ensures none { started_text (bytes_at 0x7C00 (0xF4 ∷ []) ∷ []) None ≡ codes "00007C00: F4\n" }
+{}
+
+/// The line of each fault: modules are counted from 1.
+pub fn fault_lines()
+    ensures memory { line_of link.Memory [] ≡ codes "memory" }
+    ensures read { line_of link.Read [] ≡ codes "read" }
+    ensures refused { line_of (link.Refused 1 reason.Cut (place 4 34 2)) [] ≡ codes "module 2 refused 2 Cut record 4 at 34 within 2" }
+    ensures text { line_of (link.Line 3) [] ≡ codes "placement line 3" }
+    ensures undefined { line_of (link.External (derive.Undefined 0 2)) (codes "_main") ≡ codes "module 1 external 2 Undefined \"_main\"" }
+    ensures twice { line_of (link.External (derive.Twice 2 1)) (0x22 ∷ 0xFF ∷ []) ≡ codes "module 3 external 1 Twice \"\\x22\\xFF\"" }
+    ensures high { line_of (link.External (derive.TooHigh 0 1)) [] ≡ codes "module 1 external 1 TooHigh \"\"" }
+    ensures reach { line_of (link.Reach 2 (reach.Missing kind.Segment 1)) [] ≡ codes "module 3 reach 1 Missing segment 1" }
+    ensures starts { line_of (link.Starts 0 2) [] ≡ codes "starts module 1 module 3" }
+    ensures beyond { line_of (link.Beyond (segment_of 1 3)) [] ≡ codes "beyond module 2 segment 3" }
+    ensures overlap { line_of (link.Overlap 0x10020 (segment_of 0 2) (segment_of 2 1)) [] ≡ codes "overlap 00010020 module 1 segment 2 module 3 segment 1" }
+{}
+
+/// What words ask for: a subcommand behind the program's own name, alone.
+pub fn words_asked()
+    ensures image { (program : Text) → asks (program ∷ codes "image" ∷ []) ≡ Some Image }
+    ensures none { (program : Text) → asks (program ∷ []) ≡ None }
+    ensures other { (program : Text) → asks (program ∷ codes "list" ∷ []) ≡ None }
+    ensures more { (program : Text) → asks (program ∷ codes "image" ∷ codes "image" ∷ []) ≡ None }
 {}

@@ -32,7 +32,7 @@ front_grown p input ms now rest left m n h a e =
 -- a module that is refused behind others
 pub refused_behind : (p : Profile) (input : List ℕ) (ms : List Module) (rest : List ℕ) (number : ℕ) (f : LinkFault) → IsFront p input ms rest → length ms ≡ number → IsModuleAt p number rest (Err f) → AreModules p input (Err f)
 refused_behind p input ms rest number fault.Memory h c r = tt
-refused_behind p input ms rest number fault.Read h c r = tt
+refused_behind p input ms rest number fault.Read h c r = absurd r
 refused_behind p input ms rest number (fault.Refused k why at) h c r = record { modules = ms; rest = rest; front = h; counted = c ∙ sym r.0; refused = r.1 }
 refused_behind p input ms rest number (fault.Line n) h c r = absurd r
 refused_behind p input ms rest number (fault.External f) h c r = absurd r

@@ -1,5 +1,7 @@
 -- The modules of an input, one behind another, and the text behind them (this profile's rule).
-use Rattle.std.specs.Prelude.{◌≡◌, ⊤, ℕ, List, [], ◌∷◌, length, Bool, false, ◌||◌, ◌==◌, Result, Ok, Err}
+use Rattle.std.specs.Prelude.{◌≡◌, ◌≤◌, ⊤, ℕ, List, [], ◌∷◌, length, Bool, false, ◌||◌, ◌==◌, Option, Result, Ok, Err}
+use Rattle.std.specs.Io.KnownBytes.{Consumes}
+use Rattle.omf_frame.specs.Device.{Device, GivesUp, HasFailed}
 use Rattle.omf_frame.specs.declared.fault.Place.{Place}
 use Rattle.omf_frame.specs.declared.fault.Reason.{Reason}
 use Rattle.omf_image.specs.Limits.{profile_limits}
@@ -9,6 +11,17 @@ use Rattle.omf_check.specs.WellFormed.{IsAccepted}
 use Rattle.omf_check.specs.declared.profile.Profile.{Profile}
 use Rattle.omf_linking.specs.declared.fault.LinkFault.{LinkFault}
 use Rattle.omf_linking.specs.declared.fault.LinkFault.TheVariants as fault
+
+-- A part of an input was read, which may be all of it or nothing.
+abbrev pub IsPartRead : Option (List ℕ) → Option (List ℕ) → Type 0
+IsPartRead old new = (read : List ℕ) × Consumes old new read
+
+-- Why an input is not read to its end: `Read` where the reader failed, by its one break or a thousand interruptions; want of memory where it did not break.
+abbrev pub IsReadCause : {A : Type 0} → Device → Device → Result A LinkFault → Type 0
+IsReadCause old new (Ok bytes) = (new.breaks ≡ old.breaks) × (old.failures ≤ new.failures)
+IsReadCause old new (Err fault.Memory) = (new.breaks ≡ old.breaks) × (old.failures ≤ new.failures)
+IsReadCause old new (Err fault.Read) = HasFailed old.failures new.failures × GivesUp old new
+IsReadCause old new (Err _) = ⊥
 
 -- Where the next byte is the type of a THEADR or LHEADR (TIS OMF 1.1), another module begins.
 abbrev pub begins_module : List ℕ → Bool
@@ -23,7 +36,6 @@ BeginsWith profile input m = (a : IsAccepted profile profile_limits input (recor
 abbrev pub IsModuleAt : Profile → ℕ → List ℕ → Result Module LinkFault → Type 0
 IsModuleAt profile number input (Ok m) = BeginsWith profile input m
 IsModuleAt profile number input (Err fault.Memory) = ⊤
-IsModuleAt profile number input (Err fault.Read) = ⊤
 IsModuleAt profile number input (Err (fault.Refused k why at)) = (k ≡ number) × IsRefused profile profile_limits input why at
 IsModuleAt profile number input (Err _) = ⊥
 
@@ -45,6 +57,5 @@ pub record IsRefusedBehind (profile : Profile) (input : List ℕ) (count : ℕ) 
 abbrev pub AreModules : Profile → List ℕ → Result (List Module × List ℕ) LinkFault → Type 0
 AreModules profile input (Ok r) = IsFront profile input r.0 r.1 × (begins_module r.1 ≡ false)
 AreModules profile input (Err fault.Memory) = ⊤
-AreModules profile input (Err fault.Read) = ⊤
 AreModules profile input (Err (fault.Refused k why at)) = IsRefusedBehind profile input k why at
 AreModules profile input (Err _) = ⊥

@@ -2,6 +2,7 @@
 //! that they lay together.
 #![tactic(auto)]
 
+mod bytes;
 mod entry;
 mod fault;
 mod memory;

@@ -1,13 +1,14 @@
 //! The modules and the text of an input.
 
-ghost use Rattle.std.specs.Prelude.{◌≡◌, ◌<◌, ◌^◌, IfOk, length};
+ghost use Rattle.std.specs.Prelude.{◌≡◌, ◌<◌, ◌^◌, IfErr, IfOk, length};
 ghost use Rattle.std.specs.Io.KnownBytes.{Consumes, IsAtEnd};
 ghost use Rattle.omf_records.specs.Seen.{map_ok};
-ghost use Rattle.omf_linking.specs.Reading.{AreModules, IsModuleAt, begins_module};
+ghost use Rattle.omf_linking.specs.Reading.{AreModules, IsModuleAt, IsPartRead, IsReadCause, begins_module};
 
+use crate::bytes::Bytes;
 use crate::fault::LinkFault;
 use omf_check::{CheckFault, Checked, Profile, check};
-use omf_frame::{Reading, Source, pull_piece};
+use omf_frame::{Source, pull_piece};
 use std::alloc::Global;
 
 /// How many bytes are asked for at once.
@@ -17,10 +18,13 @@ const PIECE: usize = 65_536;
 ///
 /// # Errors
 ///
-/// `Read` where the reader failed, or was interrupted 1,000 times running. `Memory` where a growth was refused.
+/// `Read` where the reader failed, or was interrupted 1,000 times running. `Memory` where a growth was refused, and the reader did not
+/// fail. A part of the input was read then.
 pub fn read_all<S: Source>(alloc: Global, source: &mut S) -> Result<Vec<u8>, LinkFault>
     ensures read { IfOk result (λ bytes. Consumes (S.seen source.old).bytes (S.seen source.new).bytes bytes.items) }
     ensures end { IfOk result (λ bytes. IsAtEnd (S.seen source.new).bytes) }
+    ensures part { IfErr result (λ fault. IsPartRead (S.seen source.old).bytes (S.seen source.new).bytes) }
+    ensures cause { IsReadCause (S.seen source.old) (S.seen source.new) result }
 {
     let mut buffer = [0; PIECE];
     let mut bytes = Vec::new(alloc);
@@ -49,10 +53,10 @@ fn module_at(
 ) -> Result<Checked, LinkFault>
     ensures { IsModuleAt profile number bytes.now result }
 {
-    match check(alloc, &mut Reading::new(bytes), profile) {
+    match check(alloc, &mut Bytes::new(bytes), profile) {
         Ok(module) => Ok(module),
         Err(CheckFault::Memory) => Err(LinkFault::Memory),
-        Err(CheckFault::Read) => Err(LinkFault::Read),
+        Err(CheckFault::Read) => unreachable!(),
         Err(CheckFault::Refused { reason, place }) => {
             let module = number;
             Err(LinkFault::Refused {

@@ -1,8 +1,9 @@
 //! Modules of an input with a text behind them, linked to one memory; values worked out by hand.
 
 use omf_check::Profile;
+use omf_frame::faulty::{Script, Then};
 use omf_image::{Image, Run};
-use omf_linking::{LinkFault, link, memory_image, modules_in, relocate_all, start_of};
+use omf_linking::{LinkFault, link, memory_image, modules_in, read_all, relocate_all, start_of};
 use omf_memory::Owner;
 use std::alloc::Global;
 use std::test::Fail;
@@ -160,5 +161,53 @@ fn two_starts_are_told(rt: HostRuntime) -> Result<(), Fail> {
             second: 2
         })
     );
+    Ok(())
+}
+
+/// Whether all that is left of a source is read, and is these bytes.
+fn reads(alloc: Global, source: &mut Script<'_>, expected: &[u8]) -> bool {
+    match read_all(alloc, source) {
+        Ok(bytes) => bytes.as_slice() == expected,
+        Err(_) => false,
+    }
+}
+
+#[test]
+fn all_of_an_input_is_read(rt: HostRuntime) -> Result<(), Fail> {
+    let alloc = rt.alloc();
+    let bytes: &[u8] = &FRONT;
+    assert!(rt; reads(alloc, &mut Script::new(bytes, Then::Ends), bytes));
+    assert!(rt;
+        reads(
+            alloc,
+            &mut Script::new(bytes, Then::Ends).in_pieces(5),
+            bytes
+        )
+    );
+    assert!(rt;
+        reads(
+            alloc,
+            &mut Script::new(bytes, Then::Ends).interrupted(2),
+            bytes
+        )
+    );
+    assert!(rt; reads(alloc, &mut Script::new(&[], Then::Ends), &[]));
+    let long = vec![in alloc; 0xA5; 70_000]?;
+    assert!(rt; reads(alloc, &mut Script::new(&long, Then::Ends), &long));
+    Ok(())
+}
+
+#[test]
+fn a_reader_that_fails_is_told(rt: HostRuntime) -> Result<(), Fail> {
+    let alloc = rt.alloc();
+    let fails = read_all(alloc, &mut Script::new(&[], Then::Fails));
+    assert!(rt; fails.err() == Some(LinkFault::Read));
+    let fails = read_all(alloc, &mut Script::new(&FRONT, Then::Fails).in_pieces(5));
+    assert!(rt; fails.err() == Some(LinkFault::Read));
+    let patient = read_all(
+        alloc,
+        &mut Script::new(&FRONT, Then::Ends).interrupted(1000),
+    );
+    assert!(rt; patient.err() == Some(LinkFault::Read));
     Ok(())
 }

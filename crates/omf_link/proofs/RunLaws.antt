@@ -1,0 +1,162 @@
+-- What a run answers, from what its parts answer.
+use Rattle.std.proofs.Common.{◌≡◌, ◌⊎◌, ℕ, List, [], ◌∷◌, Result, Ok, Err, Vec, Global, refl, sym, ap, subst, ◌∙◌, ◌++◌, inl, inr}
+use Rattle.std.specs.Io.KnownBytes.{Consumes, IsAtEnd}
+use Rattle.std.specs.Prelude.{Option, Some, None, IfSome, filter_map, option_map, slice_get, zip}
+use Rattle.std.proofs.KnownBytes.{Consumes-whole}
+use Rattle.std.specs.List.{cons_option, enumerate_from}
+use Rattle.omf_frame.specs.Device.{Device}
+use Rattle.omf_check.specs.Module.{Module}
+use Rattle.omf_derive.specs.Derive.{PlacedModule, derived}
+use Rattle.omf_derive.specs.declared.fault.DeriveFault.{DeriveFault}
+use Rattle.omf_derive.specs.declared.fault.DeriveFault.TheVariants as derive
+use Rattle.omf_placement.specs.Placement.{Places}
+use Rattle.omf_records.specs.Values.{Rec}
+use Rattle.omf_reloc.specs.Reach.{reach_fault}
+use Rattle.omf_reloc.specs.declared.fault.ReachFault.{ReachFault}
+use Rattle.omf_linking.specs.Faults.{of_derive}
+use Rattle.omf_linking.specs.Parts.{Part, parsed_parts}
+use Rattle.omf_linking.specs.Placing.{by_parts, derived_or, found, given_of, linked, places_of, typed_modules}
+use Rattle.omf_linking.specs.Reading.{AreModules, IsPartRead, IsReadCause}
+use Rattle.omf_linking.specs.Relocated.{far_module}
+use Rattle.omf_linking.specs.Starts.{main_starts, one_start}
+use Rattle.omf_linking.specs.declared.fault.LinkFault.{LinkFault}
+use Rattle.omf_linking.specs.declared.fault.LinkFault.TheVariants as link
+use Rattle.omf_cmd.specs.Runs.{HasGivenUp, IsUnbroken, IsWritten}
+use Rattle.omf_cmd.specs.declared.fault.RunFault.{RunFault}
+use Rattle.omf_link.specs.Faults.{IsNamed, IsUnnamed, TellsAs, TellsFault, as_run, fault_line, name_of}
+use Rattle.omf_link.specs.Imaged.{AreImaged, IsImaged}
+use Rattle.omf_link.specs.Linked.{any, IsFirstFault, IsLinked, start_of}
+use Rattle.omf_link.specs.Runs.{Images, IsImageCause, IsPrinted, IsWhole}
+use Rattle.omf_link.specs.declared.fault.ImageFault.{ImageFault}
+use Rattle.omf_link.specs.declared.fault.ImageFault.TheVariants as fault
+
+-- a text is written, or a part of it
+pub written : (old new : Device) (text : List ℕ) (r : Result (Unit {0}) ImageFault) → IsPrinted old new (Ok text) r → IsWritten old new text
+written old new text (Ok done) p = inl p
+written old new text (Err e) p = inr (p.1, p.2)
+
+-- a fault that `omf` does not know is told by its line
+pub line_told : (old new : Device) (f : ImageFault) (text : List ℕ) → as_run f ≡ None → text ≡ fault_line f ++ 10 ∷ [] → IsWritten old new text → TellsFault old new f
+line_told old new f text none is w = subst (λ (o : Option RunFault). TellsAs o old new f) (sym none) (inl (subst (IsWritten old new) is w))
+
+-- ---- a fault with its name
+
+pub with_name : (ms : List (List Rec)) (text : List ℕ) (f : LinkFault) (e : ImageFault) → IsLinked ms text (Err f) → IsNamed ms f e → AreImaged ms text (Err e)
+with_name ms text f (fault.Link g name) h (inl same) = inl (subst (λ (x : LinkFault). IsFirstFault ms text x) (sym same.0) h, same.1 ∙ ap (name_of ms) (sym same.0))
+with_name ms text f (fault.Link g name) h (inr memory) = inr memory
+with_name ms text f fault.Write h n = absurd n
+
+pub no_module : (input : List ℕ) (f : LinkFault) (e : ImageFault) → AreModules any input (Err f) → IsUnnamed f e → IsImaged input (Err e)
+no_module input f (fault.Link g name) h n = inl (subst (λ (x : LinkFault). AreModules any input (Err x)) (sym n.0) h, n.1)
+no_module input f fault.Write h n = absurd n
+
+-- ---- no reader has a part in what is answered for bytes
+
+not_derived : (f : DeriveFault) → of_derive f ≡ link.Read → ⊥
+not_derived derive.Memory e = absurd cc
+not_derived (derive.Undefined j i) e = absurd cc
+not_derived (derive.Twice j i) e = absurd cc
+not_derived (derive.TooHigh j i) e = absurd cc
+
+not_found : (r : Result (List Places) DeriveFault) → derived_or r ≡ Err link.Read → ⊥
+not_found (Ok pls) e = absurd cc
+not_found (Err f) e = let same : of_derive f ≡ link.Read = cc in not_derived f same
+
+not_placed : (ms : List (List Rec)) (ps : List Part) (r : Result (List Places) ℕ) → found ms ps r ≡ Err link.Read → ⊥
+not_placed ms ps (Ok pls) e = not_found (derived (zip ms pls) (given_of ps)) e
+not_placed ms ps (Err n) e = absurd cc
+
+not_parsed : (ms : List (List Rec)) (r : Result (List Part) ℕ) → by_parts ms r ≡ Err link.Read → ⊥
+not_parsed ms (Ok ps) e = not_placed ms ps (places_of ms ps) e
+not_parsed ms (Err n) e = absurd cc
+
+far_first : (j : ℕ) (o : Option ReachFault) (fs : List LinkFault) → (slice_get fs 0 ≡ Some link.Read → ⊥) → slice_get (cons_option (option_map (λ f. link.Reach j f) o) fs) 0 ≡ Some link.Read → ⊥
+far_first j None fs h e = h e
+far_first j (Some f) fs h e = absurd cc
+
+not_far : (ms : List (ℕ × PlacedModule)) → slice_get (filter_map far_module ms) 0 ≡ Some link.Read → ⊥
+not_far [] e = absurd cc
+not_far (m ∷ ms) e = far_first m.0 (reach_fault m.1.1 m.1.0) (filter_map far_module ms) (not_far ms) e
+
+not_started : (ss : List (ℕ × (ℕ × ℕ))) → one_start ss ≡ Err link.Read → ⊥
+not_started [] e = absurd cc
+not_started (s ∷ []) e = absurd cc
+not_started (s ∷ t ∷ more) e = absurd cc
+
+not_first : (ms : List (List Rec)) (text : List ℕ) → IsFirstFault ms text link.Read → ⊥
+not_first ms text (inl h) = not_parsed ms (parsed_parts text) h
+not_first ms text (inr (inl h)) = not_far (enumerate_from 0 (zip ms h.0)) h.2
+not_first ms text (inr (inr (inl h))) = h.1
+not_first ms text (inr (inr (inr h))) = not_started (main_starts (zip ms h.0.relocated)) h.2
+
+not_told : (ms : List (List Rec)) (text : List ℕ) (f : LinkFault) (name : List ℕ) → f ≡ link.Read → (IsFirstFault ms text f × (name ≡ name_of ms f)) ⊎ ((f ≡ link.Memory) × (name ≡ [])) → ⊥
+not_told ms text f name e (inl h) = not_first ms text (subst (λ (x : LinkFault). IsFirstFault ms text x) e h.0)
+not_told ms text f name e (inr h) = let is = h.0 in absurd cc
+
+-- ---- an input that is read
+
+module _ (old new : Device) where
+  -- whole
+  pub whole_cause : (input : List ℕ) (r : Result (List ℕ) ImageFault) → IsUnbroken old new → IsImaged input r → IsImageCause old new r
+  whole_cause input (Ok shown) h i = h
+  whole_cause input (Err (fault.Link link.Memory name)) h i = h
+  whole_cause input (Err (fault.Link link.Read name)) h (inl n) = absurd n.0
+  whole_cause input (Err (fault.Link link.Read name)) h (inr a) = absurd (not_told (typed_modules a.modules) a.text link.Read name.items refl a.imaged)
+  whole_cause input (Err (fault.Link (link.Refused j why at) name)) h i = h
+  whole_cause input (Err (fault.Link (link.Line n) name)) h i = h
+  whole_cause input (Err (fault.Link (link.External f) name)) h i = h
+  whole_cause input (Err (fault.Link (link.Reach j f) name)) h i = h
+  whole_cause input (Err (fault.Link (link.Starts j k) name)) h i = h
+  whole_cause input (Err (fault.Link (link.Beyond o) name)) h i = h
+  whole_cause input (Err (fault.Link (link.Overlap a s t) name)) h i = h
+  whole_cause input (Err fault.Write) h (inl n) = absurd n
+  whole_cause input (Err fault.Write) h (inr a) = absurd a.imaged
+
+  -- in part
+  told_cause : (A : Type 0) (f : LinkFault) (name : Vec ℕ Global) → IsReadCause {A = A} old new (Err f) → IsImageCause old new (Err (fault.Link f name))
+  told_cause A link.Memory name h = h
+  told_cause A link.Read name h = h
+  told_cause A (link.Refused j why at) name h = absurd h
+  told_cause A (link.Line k) name h = absurd h
+  told_cause A (link.External d) name h = absurd h
+  told_cause A (link.Reach j d) name h = absurd h
+  told_cause A (link.Starts j k) name h = absurd h
+  told_cause A (link.Beyond o) name h = absurd h
+  told_cause A (link.Overlap a s t) name h = absurd h
+
+  pub part_cause : (A : Type 0) (f : LinkFault) (e : ImageFault) → IsReadCause {A = A} old new (Err f) → IsUnnamed f e → IsImageCause old new (Err e)
+  part_cause A f (fault.Link g name) c n = subst (λ (x : LinkFault). IsImageCause old new (Err (fault.Link x name))) (sym n.0) (told_cause A f name c)
+  part_cause A f fault.Write c n = absurd n
+
+read_whole : (input : List ℕ) (old new : Option (List ℕ)) (r : Result (List ℕ) ImageFault) → Consumes old new input → IsImaged input r → Images input old new r
+read_whole input old new (Ok shown) c i = (c, i)
+read_whole input old new (Err (fault.Link link.Memory name)) c i = (input, c)
+read_whole input old new (Err (fault.Link link.Read name)) c i = (input, c)
+read_whole input old new (Err (fault.Link (link.Refused j why at) name)) c i = (c, i)
+read_whole input old new (Err (fault.Link (link.Line n) name)) c i = (c, i)
+read_whole input old new (Err (fault.Link (link.External f) name)) c i = (c, i)
+read_whole input old new (Err (fault.Link (link.Reach j f) name)) c i = (c, i)
+read_whole input old new (Err (fault.Link (link.Starts j k) name)) c i = (c, i)
+read_whole input old new (Err (fault.Link (link.Beyond o) name)) c i = (c, i)
+read_whole input old new (Err (fault.Link (link.Overlap a s t) name)) c i = (c, i)
+read_whole input old new (Err fault.Write) c i = (c, i)
+
+pub all_read : (old new : Option (List ℕ)) (bytes input : List ℕ) (r : Result (List ℕ) ImageFault) → old ≡ Some input → Consumes old new bytes → IsAtEnd new → IsImaged bytes r → Images input old new r
+all_read old new bytes input r told c end i =
+    let h : IfSome old (λ xs. Images xs old new r) = Consumes-whole old new bytes (λ xs. Images xs old new r) c end (read_whole bytes old new r c i) in
+    subst (λ (o : Option (List ℕ)). IfSome o (λ xs. Images xs old new r)) told h
+
+part_of : (A : Type 0) (input : List ℕ) (before after : Device) (old new : Option (List ℕ)) (f : LinkFault) (name : Vec ℕ Global) → IsReadCause {A = A} before after (Err f) → IsPartRead old new → Images input old new (Err (fault.Link f name))
+part_of A input before after old new link.Memory name h p = p
+part_of A input before after old new link.Read name h p = p
+part_of A input before after old new (link.Refused j why at) name h p = absurd h
+part_of A input before after old new (link.Line k) name h p = absurd h
+part_of A input before after old new (link.External d) name h p = absurd h
+part_of A input before after old new (link.Reach j d) name h p = absurd h
+part_of A input before after old new (link.Starts j k) name h p = absurd h
+part_of A input before after old new (link.Beyond o) name h p = absurd h
+part_of A input before after old new (link.Overlap a s t) name h p = absurd h
+
+pub part_read : (A : Type 0) (input : List ℕ) (before after : Device) (old new : Option (List ℕ)) (f : LinkFault) (e : ImageFault) → IsReadCause {A = A} before after (Err f) → IsPartRead old new → IsUnnamed f e → Images input old new (Err e)
+part_read A input before after old new f (fault.Link g name) h p n = subst (λ (x : LinkFault). Images input old new (Err (fault.Link x name))) (sym n.0) (part_of A input before after old new f name h p)
+part_read A input before after old new f fault.Write h p n = absurd n

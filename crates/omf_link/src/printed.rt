@@ -1,0 +1,192 @@
+//! The line that a fault is printed as.
+
+ghost use Rattle.std.specs.Prelude.{◌≡◌, ◌++◌, ◌∷◌, [], IfOk, OnOk, string_bytes};
+ghost use Rattle.omf_cmd.specs.FaultLine.{fault_words as run_words};
+ghost use Rattle.omf_cmd.specs.Printed.{escaped, hex, is_plain, quoted};
+ghost use Rattle.omf_placement.specs.Entries.{in_words};
+ghost use Rattle.omf_link.specs.Faults.{derive_words, external_words, fault_line, link_words, module_words};
+ghost use Rattle.omf_linking.specs.declared.fault.LinkFault.TheVariants.{Beyond, Overlap, Starts};
+
+use crate::fault::ImageFault;
+use omf_cmd::RunFault;
+use omf_linking::LinkFault;
+use omf_memory::Owner;
+use omf_reloc::DeriveFault;
+use std::alloc::{AllocError, Global};
+use std::fmt::Write;
+
+/// A byte from 20H to 7EH but the quote and the backslash.
+fn is_plain(byte: u8) -> bool
+    ensures { result ≡ is_plain byte }
+{
+    byte >= 0x20 && byte <= 0x7E && byte != b'"' && byte != b'\\'
+}
+
+/// A byte as `\x` and two hexadecimal digits.
+fn print_digits(text: &mut String, byte: u8) -> Result<(), AllocError>
+    ensures { OnOk result (string_bytes text.new ≡ string_bytes text.old ++ 92 ∷ 120 ∷ hex 2 byte) }
+{
+    write!(text, "\\x{byte:02X}")
+}
+
+/// A byte of a name.
+fn print_escaped(text: &mut String, byte: u8) -> Result<(), AllocError>
+    ensures { OnOk result (string_bytes text.new ≡ string_bytes text.old ++ escaped byte) }
+{
+    if is_plain(byte) {
+        text.push(char::from(byte))
+    } else {
+        print_digits(text, byte)
+    }
+}
+
+/// A name in double quotes.
+fn print_quoted(text: &mut String, name: &[u8]) -> Result<(), AllocError>
+    ensures { OnOk result (string_bytes text.new ≡ string_bytes text.old ++ quoted name.now) }
+{
+    text.push_str("\"")?;
+    for byte in name {
+        print_escaped(text, *byte)?;
+    }
+    text.push_str("\"")
+}
+
+/// A name in double quotes.
+fn quoted_text(alloc: Global, name: &[u8]) -> Result<String, AllocError>
+    ensures { IfOk result (λ text. string_bytes text ≡ quoted name.now) }
+{
+    let mut text = String::new(alloc);
+    print_quoted(&mut text, name)?;
+    Ok(text)
+}
+
+/// An address in eight hexadecimal digits.
+fn print_address(text: &mut String, address: u32) -> Result<(), AllocError>
+    ensures { OnOk result (string_bytes text.new ≡ string_bytes text.old ++ hex 8 address) }
+{
+    write!(text, "{address:08X}")
+}
+
+/// An address in eight hexadecimal digits.
+fn address_text(alloc: Global, address: u32) -> Result<String, AllocError>
+    ensures { IfOk result (λ text. string_bytes text ≡ hex 8 address) }
+{
+    let mut text = String::new(alloc);
+    print_address(&mut text, address)?;
+    Ok(text)
+}
+
+/// The line of a fault of a module, behind the module.
+fn module_line(alloc: Global, module: u32, fault: &RunFault) -> Result<String, AllocError>
+    ensures { IfOk result (λ line. string_bytes line ≡ in_words (module_words «module» ++ run_words fault.now)) }
+{
+    let number = u64::from(module) + 1;
+    let line = omf_cmd::fault_line(alloc, fault)?;
+    format!(in alloc; "module {number} {line}")
+}
+
+/// The line of an external that finds no place.
+fn external_line(
+    alloc: Global,
+    module: u32,
+    external: u16,
+    why: &str,
+    name: &[u8],
+) -> Result<String, AllocError>
+    ensures { IfOk result (λ line. string_bytes line ≡ in_words (external_words «module» external why.now name.now)) }
+{
+    let number = u64::from(module) + 1;
+    let name = quoted_text(alloc, name)?;
+    format!(in alloc; "module {number} external {external} {why} {name}")
+}
+
+/// The line of a fault of an external of this name.
+fn derive_line(alloc: Global, fault: DeriveFault, name: &[u8]) -> Result<String, AllocError>
+    ensures { IfOk result (λ line. string_bytes line ≡ in_words (derive_words fault name.now)) }
+{
+    match fault {
+        DeriveFault::Memory => omf_cmd::fault_line(alloc, &RunFault::Memory),
+        DeriveFault::Undefined { module, external } => {
+            external_line(alloc, module, external, "Undefined", name)
+        }
+        DeriveFault::Twice { module, external } => {
+            external_line(alloc, module, external, "Twice", name)
+        }
+        DeriveFault::TooHigh { module, external } => {
+            external_line(alloc, module, external, "TooHigh", name)
+        }
+    }
+}
+
+/// The line of two modules that name a start.
+fn starts_line(alloc: Global, first: u32, second: u32) -> Result<String, AllocError>
+    ensures { IfOk result (λ line. string_bytes line ≡ in_words (link_words (Starts first second) [])) }
+{
+    let first = u64::from(first) + 1;
+    let second = u64::from(second) + 1;
+    format!(in alloc; "starts module {first} module {second}")
+}
+
+/// The line of a segment with a byte beyond the last address.
+fn beyond_line(alloc: Global, owner: Owner) -> Result<String, AllocError>
+    ensures { IfOk result (λ line. string_bytes line ≡ in_words (link_words (Beyond owner) [])) }
+{
+    let number = u64::from(owner.module) + 1;
+    let segment = owner.segment;
+    format!(in alloc; "beyond module {number} segment {segment}")
+}
+
+/// The line of two segments that have a byte at one address.
+fn overlap_line(
+    alloc: Global,
+    address: u32,
+    first: Owner,
+    second: Owner,
+) -> Result<String, AllocError>
+    ensures { IfOk result (λ line. string_bytes line ≡ in_words (link_words (Overlap address first second) [])) }
+{
+    let address = address_text(alloc, address)?;
+    let before = u64::from(first.module) + 1;
+    let segment = first.segment;
+    let after = u64::from(second.module) + 1;
+    let other = second.segment;
+    format!(in alloc;
+        "overlap {address} module {before} segment {segment} module {after} segment {other}"
+    )
+}
+
+/// The line of modules that are not linked: why, and the name of the external that it tells of.
+fn link_line(alloc: Global, fault: LinkFault, name: &[u8]) -> Result<String, AllocError>
+    ensures { IfOk result (λ line. string_bytes line ≡ in_words (link_words fault name.now)) }
+{
+    match fault {
+        LinkFault::Memory => omf_cmd::fault_line(alloc, &RunFault::Memory),
+        LinkFault::Read => omf_cmd::fault_line(alloc, &RunFault::Read),
+        LinkFault::Refused {
+            module,
+            reason,
+            place,
+        } => module_line(alloc, module, &RunFault::Refused { reason, place }),
+        LinkFault::Line(number) => omf_cmd::fault_line(alloc, &RunFault::Line(number)),
+        LinkFault::External(fault) => derive_line(alloc, fault, name),
+        LinkFault::Reach { module, fault } => module_line(alloc, module, &RunFault::Reach(fault)),
+        LinkFault::Starts { first, second } => starts_line(alloc, first, second),
+        LinkFault::Beyond(owner) => beyond_line(alloc, owner),
+        LinkFault::Overlap {
+            address,
+            first,
+            second,
+        } => overlap_line(alloc, address, first, second),
+    }
+}
+
+/// The line that a fault is printed as, without a line feed. Modules, externals, segments and lines are counted from 1, in decimal; an
+/// address has eight hexadecimal digits.
+pub fn fault_line(alloc: Global, fault: &ImageFault) -> Result<String, AllocError>
+    ensures { IfOk result (λ line. string_bytes line ≡ fault_line fault.now) }
+{
+    match fault {
+        ImageFault::Link { fault, name } => link_line(alloc, *fault, name),
+        ImageFault::Write => omf_cmd::fault_line(alloc, &RunFault::Write),
+    }
+}

@@ -1,0 +1,115 @@
+//! The program over its words, a reader and a writer.
+
+ghost use Rattle.std.specs.Prelude.{◌≡◌, ◌⊎◌, ◌≤◌, ◌++◌, ◌∷◌, [], IfOk, map, string_bytes, Some, None};
+ghost use Rattle.clap.specs.Words.{fault_of, subcommand_of};
+ghost use Rattle.omf_cmd.specs.Reports.{IsOutOfMemory};
+ghost use Rattle.omf_cmd.specs.Runs.{IsWritten};
+ghost use Rattle.omf_link.specs.Faults.{TellsFault, as_run, fault_line, status_of, usage};
+ghost use Rattle.omf_link.specs.Runs.{IsAnswer, IsMisuse};
+ghost use Rattle.omf_link.specs.Words.{asks, link_app};
+ghost use Rattle.omf_link.specs.declared.words.Task.{Task as Asked};
+
+use crate::fault::ImageFault;
+use crate::output::tell;
+use crate::printed::fault_line;
+use crate::running::run_image;
+use crate::words::{Task, task_of};
+use omf_cmd::RunFault;
+use omf_frame::{Sink, Source};
+use omf_linking::LinkFault;
+use std::alloc::{AllocError, Global};
+
+/// What is printed where the words are not understood.
+const USAGE: &[u8] = b"usage: omf-link image\n";
+
+/// The fault of `omf` that this one is told as.
+fn as_run(fault: &ImageFault) -> Option<RunFault>
+    ensures { result ≡ as_run fault.now }
+{
+    match fault {
+        ImageFault::Write => Some(RunFault::Write),
+        ImageFault::Link { fault, .. } => match *fault {
+            LinkFault::Memory => Some(RunFault::Memory),
+            LinkFault::Read => Some(RunFault::Read),
+            LinkFault::Line(number) => Some(RunFault::Line(number)),
+            LinkFault::Refused { .. } => None,
+            LinkFault::External(_) => None,
+            LinkFault::Reach { .. } => None,
+            LinkFault::Starts { .. } => None,
+            LinkFault::Beyond(_) => None,
+            LinkFault::Overlap { .. } => None,
+        },
+    }
+}
+
+/// A fault's line and a line feed.
+fn line_text(alloc: Global, fault: &ImageFault) -> Result<String, AllocError>
+    ensures { IfOk result (λ text. string_bytes text ≡ fault_line fault.now ++ 10 ∷ []) }
+{
+    let mut text = fault_line(alloc, fault)?;
+    text.push_str("\n")?;
+    Ok(text)
+}
+
+/// Prints a fault's line, and answers its exit status: 1 where the input or its text is refused, 3 for want of memory and failing
+/// devices. Nothing is printed where the writer has failed already, nor where a line that tells numbers finds no memory; a failure to
+/// print is passed over.
+fn fail<K: Sink>(alloc: Global, fault: &ImageFault, writer: &mut K) -> u8
+    ensures status { result ≡ status_of fault.now }
+    ensures prints { TellsFault (K.seen writer.old) (K.seen writer.new) fault.now }
+{
+    match as_run(fault) {
+        Some(fault) => omf_cmd::fail(alloc, &fault, writer),
+        None => {
+            if let Ok(text) = line_text(alloc, fault) {
+                tell(writer, text.as_bytes());
+            }
+            1
+        }
+    }
+}
+
+/// Prints how the program is called. A failure to print is passed over.
+fn print_usage<K: Sink>(writer: &mut K)
+    ensures { IsWritten (K.seen writer.old) (K.seen writer.new) usage }
+{
+    tell(writer, USAGE);
+}
+
+/// Writes the text of the image, or the line of a fault. It answers the exit status.
+fn run_to_end<S: Source, K: Sink>(alloc: Global, reader: &mut S, writer: &mut K) -> u8
+    ensures known { result ≤ 3 }
+    ensures answer { IsAnswer (S.seen reader.old) (S.seen reader.new) (K.seen writer.old) (K.seen writer.new) result }
+{
+    match run_image(alloc, reader, writer) {
+        Ok(()) => 0,
+        Err(fault) => fail(alloc, &fault, writer),
+    }
+}
+
+/// Does what the words ask for: writes the text of the image, or a fault's line, or how the program is called. It answers the exit
+/// status: 0 done, 1 the input or its text is refused, 2 the words are not understood, 3 no memory, or the reader or the writer failed.
+/// It does not flush.
+pub fn main_with<S: Source, K: Sink>(
+    alloc: Global,
+    words: &[String],
+    reader: &mut S,
+    writer: &mut K,
+) -> u8
+    ensures known { result ≤ 3 }
+    // Where the words ask for the image, the program ran, and the status and what was written tell its answer; or memory ran out before.
+    ensures answer { (asked : Asked) → asks (map string_bytes words.now) ≡ Some asked → IsAnswer (S.seen reader.old) (S.seen reader.new) (K.seen writer.old) (K.seen writer.new) result ⊎ IsOutOfMemory (S.seen reader.old) (S.seen reader.new) (K.seen writer.old) (K.seen writer.new) result }
+    // Where the words name no subcommand, the program says how it is called.
+    ensures nothing { subcommand_of link_app (map string_bytes words.now) ≡ None → IsMisuse (S.seen reader.old) (S.seen reader.new) (K.seen writer.old) (K.seen writer.new) result }
+    // Where clap refuses the words, the program says how it is called.
+    ensures misuse { (fault_of link_app (map string_bytes words.now) ≡ [] → ⊥) → IsMisuse (S.seen reader.old) (S.seen reader.new) (K.seen writer.old) (K.seen writer.new) result }
+{
+    match task_of(alloc, words) {
+        Ok(Some(Task::Image)) => run_to_end(alloc, reader, writer),
+        Ok(None) => {
+            print_usage(writer);
+            2
+        }
+        Err(AllocError) => omf_cmd::fail(alloc, &RunFault::Memory, writer),
+    }
+}
