@@ -5,6 +5,7 @@ pub mod Placed
 pub mod Methods
 pub mod Seen
 pub mod Reach
+pub mod Reached
 pub mod Image
 pub mod Walking
 pub mod Pieces
