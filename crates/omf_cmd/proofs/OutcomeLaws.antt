@@ -21,12 +21,15 @@ use Rattle.omf_placement.specs.Placement.{Places}
 use Rattle.omf_placement.specs.PlacementText.{parsed}
 use Rattle.omf_reloc.specs.Plain.{pieces}
 use Rattle.omf_reloc.specs.Reach.{reach_fault}
+use Rattle.omf_reloc.specs.Reached.{IsRelocateFault}
+use Rattle.omf_reloc.specs.declared.fault.RelocateFault.{RelocateFault}
+use Rattle.omf_reloc.specs.declared.fault.RelocateFault.TheVariants as relocate
 use Rattle.omf_placement.specs.declared.fault.TextFault.{TextFault}
 use Rattle.omf_placement.specs.declared.fault.TextFault.TheVariants as text_fault
 use Rattle.omf_cmd.specs.HowFar.{IsReadPast, IsReadWithin}
 use Rattle.omf_cmd.specs.Outcome.{of_placement, placement_of, reloc_outcome, text_limit, unless_far}
 use Rattle.omf_cmd.specs.Relocated.{image_text}
-use Rattle.omf_cmd.specs.Relocating.{HasOutcome, IsAnswered, IsPlaced, IsShortText, IsShown, IsTextFault, IsWholeText, of_text}
+use Rattle.omf_cmd.specs.Relocating.{HasOutcome, IsAnswered, IsPlaced, IsShortText, IsShown, IsTextFault, IsWholeText, of_relocate, of_text}
 use Rattle.omf_cmd.specs.Reports.{of_check}
 use Rattle.omf_cmd.specs.declared.fault.RunFault.{RunFault}
 use Rattle.omf_cmd.specs.declared.fault.RunFault.TheVariants as fault
@@ -52,6 +55,11 @@ relocated_text m pl image count begin shown reaches over counted begun printed =
     (sym (printed ∙ overlay_text (laid profile_limits pl (pieces m)) image count begin over
     ∙ ap (λ (n : ℕ). image_text n (byte_at (laid profile_limits pl (pieces m))) (runs_of (laid profile_limits pl (pieces m))) begin) counted
     ∙ ap (λ (s : Option (ℕ × ℕ)). image_text (length (segments m)) (byte_at (laid profile_limits pl (pieces m))) (runs_of (laid profile_limits pl (pieces m))) s) begun))
+
+-- where there is none, that is what is shown
+pub not_relocated : (m : List Rec) (pl : Places) (e : RelocateFault) → IsRelocateFault pl m e → IsShown profile_limits m pl (Err (of_relocate e))
+not_relocated m pl (relocate.Reach f) h = h
+not_relocated m pl relocate.Memory h = h
 
 -- ---- an input
 

@@ -14,6 +14,8 @@ use Rattle.omf_placement.specs.declared.fault.TextFault.TheVariants as text
 use Rattle.omf_placement.specs.Placement.{Places}
 use Rattle.omf_placement.specs.PlacementText.{parsed}
 use Rattle.omf_reloc.specs.Reach.{reach_fault}
+use Rattle.omf_reloc.specs.declared.fault.RelocateFault.{RelocateFault}
+use Rattle.omf_reloc.specs.declared.fault.RelocateFault.TheVariants as relocate
 use Rattle.omf_cmd.specs.HowFar.{IsReadFor}
 use Rattle.omf_cmd.specs.Outcome.{placement_of, reloc_outcome, text_limit, unless_far}
 use Rattle.omf_cmd.specs.Runs.{PrintsInPieces}
@@ -89,6 +91,11 @@ IsRelocation profile reader reader' writer writer' ran =
 abbrev pub of_text : TextFault → RunFault
 of_text text.Memory = fault.Memory
 of_text (text.Line n) = fault.Line n
+
+-- What the faults of relocation are to a run.
+abbrev pub of_relocate : RelocateFault → RunFault
+of_relocate (relocate.Reach f) = fault.Reach f
+of_relocate relocate.Memory = fault.Memory
 
 -- What a text gives a module: exactly the placement, or the line at fault; want of memory only where each of its lines is an entry or
 -- empty.

@@ -13,7 +13,7 @@ use crate::input::{TEXT_LIMIT, read_text};
 use omf_check::{Checked, Profile, check};
 use omf_frame::{Sink, Source};
 use omf_image::Image;
-use omf_reloc::{Placement, TextFault, parse_placement, reach, relocate, start};
+use omf_reloc::{Placement, TextFault, parse_placement, reach_and_relocate, start};
 use std::alloc::Global;
 use std::marker::Model;
 
@@ -125,8 +125,7 @@ fn placed(alloc: Global, checked: &Checked, text: &[u8]) -> Result<Placement, Te
 fn listing_of(alloc: Global, checked: &Checked, placement: &Placement) -> Result<Listing, RunFault>
     ensures { IsShown profile_limits (recs (records_in checked.now.bytes)) placement.now result }
 {
-    reach(checked, placement)?;
-    let image = relocate(alloc, checked, placement)?;
+    let image = reach_and_relocate(alloc, checked, placement)?;
     let start = start(checked, placement);
     let segments = checked.segments();
     Ok(Listing {

@@ -13,7 +13,7 @@ use Rattle.omf_reloc.specs.declared.fault.ReachFault.TheVariants as fault
 use Rattle.omf_reloc.specs.Plain.{Piece}
 use Rattle.omf_placement.specs.Placement.{Places}
 use Rattle.omf_reloc.specs.declared.fault.Kind.TheVariants as kinds
-use Rattle.omf_reloc.specs.Reach.{missing, extra, misplaced, far_faults, reach_fault, Reaches}
+use Rattle.omf_reloc.specs.Reach.{missing, extra, misplaced, misfits, far_faults, reach_fault, Reaches}
 use Rattle.omf_reloc.specs.ReachSteps.{HasEntries, miscounts, misplaced_from, far_at, place_behind, piece_cause, pieces_far, CanJudge, CanJudgeAll}
 use Rattle.omf_derive.proofs.NamedLaws.{entry-suc}
 use Rattle.omf_reloc.proofs.ReachLaws.{same-count, nil-left, nil-right, first-none, reach-decided}
@@ -122,3 +122,29 @@ module _ (pl : Places) (m : List Rec) where
 
   pub reached-none : reach_fault pl m ≡ None → (true ≡ true) ↔ (reach_fault pl m ≡ None)
   reached-none h = (λ e. h, λ e. refl)
+
+  -- What does not fit: the counts come before the absolute segments.
+  pub counts_there : None ≡ slice_get counts 0 → length pl.segments ≡ length (segments m)
+  counts_there h = (entries-there h).segments
+
+  pub counts_fault : (x : ReachFault) → Some x ≡ slice_get counts 0 → Some x ≡ slice_get (misfits pl m) 0
+  counts_fault x h = first-front counts moved x h
+
+  pub absolutes_fault : (o : Option ReachFault) → None ≡ slice_get counts 0 → o ≡ slice_get moved 0 → o ≡ slice_get (misfits pl m) 0
+  absolutes_fault o h k = first-later counts moved o h k
+
+  -- What does not fit comes before what does not reach.
+  pub far-behind : (o : Option ReachFault) → None ≡ slice_get (misfits pl m) 0 → o ≡ slice_get (far_faults pl m) 0 → reach_fault pl m ≡ o
+  far-behind o h f = sym (first-later (counts ++ moved) (far_faults pl m) o h f)
+
+  pub fitting-entries : None ≡ slice_get (misfits pl m) 0 → HasEntries pl m
+  fitting-entries h = entries-there (sym (ap (λ l. slice_get l 0) (nil-left counts moved (first-none (counts ++ moved) (sym h)))))
+
+  -- Where a placement reaches, its lists are as long as the tables, and no reference is too far.
+  pub reached-entries : Reaches pl m → HasEntries pl m
+  reached-entries r = record { segments = r.fits.segment_count; groups = r.fits.group_count; externals = r.fits.external_count }
+
+  pub reached-not-far : (x : ReachFault) → Reaches pl m → slice_get (far_faults pl m) 0 ≡ Some x → ⊥
+  reached-not-far x r h =
+      let none = nil-right (counts ++ moved) (far_faults pl m) (first-none (counts ++ moved ++ far_faults pl m) ((reach-decided pl m).decided.1 r)) in
+      none-some x (sym (ap (λ l. slice_get l 0) none) ∙ h)

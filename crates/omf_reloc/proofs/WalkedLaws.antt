@@ -1,9 +1,9 @@
 -- What is known while a module's pieces are walked over: the image holds what the data records that are closed lay, and the others are still to be laid.
 use Rattle.std.proofs.Common.{◌≡◌, ℕ, ◌+◌, ◌≤◌, List, [], ◌∷◌, ◌++◌, append_assoc, length, refl, sym, ap, subst, ◌∙◌, arith}
-use Rattle.std.specs.Prelude.{All, map, Option, Some, None, option_map, option_to_list, IfSome, IsOk}
+use Rattle.std.specs.Prelude.{All, map, Option, Some, None, option_map, option_to_list, IfSome}
 use Rattle.std.proofs.lemmas.Grind.{fold-append}
 use Rattle.std.proofs.lemmas.List.{append-nil, map-append}
-use Rattle.std.proofs.lemmas.List.Elements.{All-nil, All-cons, All-head, All-append}
+use Rattle.std.proofs.lemmas.List.Elements.{All-nil, All-cons, All-append}
 use Rattle.std.proofs.lemmas.Option.{none-some}
 use Rattle.omf_records.specs.Reading.{typed}
 use Rattle.omf_records.specs.Values.{Rec, Contents, Names, Plain, Iterated, DataItem, location_offset}
@@ -20,16 +20,13 @@ use Rattle.omf_reloc.specs.Offsets.{outcome}
 use Rattle.omf_reloc.specs.Pieces.{single_pieces}
 use Rattle.omf_placement.specs.Placement.{Places}
 use Rattle.omf_reloc.specs.Plain.{Piece, Kept, Fixed, End, PlainFixup, pieces, fixups_of_data}
-use Rattle.omf_reloc.specs.Reach.{Reaches}
-use Rattle.omf_reloc.specs.Walking.{with_fixup, Walk, closed, opened, IsNext, HasOffsets, CanAdd, CanTake, CanWalk}
-use Rattle.omf_reloc.proofs.AddedLaws.{IsFine}
-use Rattle.omf_reloc.proofs.GatherLaws.{Gathered, Once, Repeated, more, tagged, closed_by, with_open, open-none, open-more, gathered, laid_of, laid-gathered, Reach, reach-gathered}
+use Rattle.omf_reloc.specs.ReachSteps.{data_place, place_behind}
+use Rattle.omf_reloc.specs.Walking.{with_fixup, Walk, closed, opened_by, opened, IsNext, HasOffsets, CanAdd, CanTake, CanWalk, open_place}
+use Rattle.omf_reloc.proofs.GatherLaws.{Gathered, Once, Repeated, more, tagged, closed_by, with_open, open-none, open-more, gathered, laid_of, laid-gathered}
 use Rattle.omf_reloc.proofs.HoldLaws.{KeptHolds, PlainFixupHolds, PieceHolds, PiecesHold, data_after, pieces-hold}
-use Rattle.omf_reloc.proofs.FoundLaws.{Covers, frame-there, target-there}
-use Rattle.omf_reloc.proofs.JudgeLaws.{segment-there}
 use Rattle.omf_reloc.proofs.PatchLaws.{stays_inside}
-use Rattle.omf_reloc.proofs.SingleLaws.{causes-same, laid-same}
-use Rattle.omf_reloc.proofs.WalkLaws.{all-left, all-right, Lies, length-short}
+use Rattle.omf_reloc.proofs.SingleLaws.{laid-same}
+use Rattle.omf_reloc.proofs.WalkLaws.{Lies, length-short}
 
 -- A walk begins with its own image.
 pub first-walk : (image : List Laid) (w : Walk) → w ≡ record { image = image; open_data = None } → w ≡ record { image = w.image; open_data = None }
@@ -76,24 +73,6 @@ along-all : (o : Option Gathered) (ps : List Piece) → with_open o ps ≡ along
 along-all o [] = append-nil (option_to_list (option_map (more []) o)) ∙ open-none o
 along-all o (p ∷ ps) = along-step p o ps ∙ ap (λ t. closed_at p o ++ t) (along-all (opened_at p o) ps)
 
--- What is open reaches where all that it is to be reaches.
-fixups-more : (pl : Places) (fs : List (ℕ × PlainFixup)) (g : Gathered) → Reach pl (more fs g) → Reach pl g
-fixups-more pl fs (Once d gs) h = all-left (λ f. IsOk (outcome pl d f)) gs fs h
-fixups-more pl fs (Repeated kind d gs) h = all-left (λ f. IsOk (outcome pl d f)) gs fs h
-
-reach-kept : (pl : Places) (g : Gathered) (kind : ℕ) (c : Contents) (ps : List Piece) → ((x : Gathered) → All (Reach pl) (along (Some x) ps) → Reach pl x)
-    → All (Reach pl) (closed_by c (Some g) ++ along (opened_contents kind c (Some g)) ps) → Reach pl g
-reach-kept pl g kind (Plain d) ps again h = All-head (Reach pl) g (along (Some (Once d [])) ps) h
-reach-kept pl g kind (Iterated d) ps again h = All-head (Reach pl) g (along (Some (Repeated kind d [])) ps) h
-reach-kept pl g kind (Names items) ps again h = again g h
-reach-kept pl g kind _ ps again h = again g h
-
-reach-open : (pl : Places) (g : Gathered) (ps : List Piece) → All (Reach pl) (along (Some g) ps) → Reach pl g
-reach-open pl g [] h = All-head (Reach pl) g [] h
-reach-open pl g (Kept r ∷ ps) h = reach-kept pl g r.kind r.contents ps (λ x k. reach-open pl x ps k) h
-reach-open pl g (Fixed kind fs ∷ ps) h = fixups-more pl (tagged kind fs) g (reach-open pl (more (tagged kind fs) g) ps h)
-reach-open pl g (End kind byte s ∷ ps) h = reach-open pl g ps h
-
 abbrev laid_now : Places → Gathered → Laid
 laid_now pl g = laid_of profile_limits pl g
 
@@ -107,13 +86,12 @@ pub record IsWalked (start : List Laid) (pl : Places) (m : List Rec) (w : Walk) 
   pub done : List Gathered
   pub open_one : Option Gathered
   pub all : laid profile_limits pl (pieces m) ≡ map (laid_now pl) (done ++ along open_one ps)
-  pub reaches : All (Reach pl) (along open_one ps)
   pub image : AreLaidOver start (map (laid_now pl) done) w.image
   pub open_data : w.open_data ≡ option_map (laid_now pl) open_one
   pub tells : Tells open_one last_one
   pub lies : IfSome open_one (Lies m)
 
-module _ (start : List Laid) (pl : Places) (m : List Rec) (holds : ModuleHolds profile_limits m) (reaches : Reaches pl m) where
+module _ (start : List Laid) (pl : Places) (m : List Rec) (holds : ModuleHolds profile_limits m) where
   singles-along : gathered (single_pieces m) ≡ along None (single_pieces m)
   singles-along = along-all None (single_pieces m)
 
@@ -125,7 +103,6 @@ module _ (start : List Laid) (pl : Places) (m : List Rec) (holds : ModuleHolds p
         done = [];
         open_one = None;
         all = sym (laid-same profile_limits pl (pieces m)) ∙ laid-gathered profile_limits pl (single_pieces m) ∙ ap (map (laid_now pl)) singles-along;
-        reaches = subst (All (Reach pl)) singles-along (reach-gathered pl (single_pieces m) (subst (All IsFine) (sym (causes-same pl (pieces m))) reaches.each));
         image = refl;
         open_data = refl;
         tells = λ d q. absurd (none-some (Plain d) q);
@@ -148,28 +125,10 @@ module _ (start : List Laid) (pl : Places) (m : List Rec) (holds : ModuleHolds p
   pub has-offsets : (w : Walk) (ps : List Piece) → IsWalked start pl m w ps → IfSome w.open_data HasOffsets
   has-offsets w ps h = subst (λ o. IfSome o HasOffsets) (sym h.open_data) (offsets-of h.open_one h.lies)
 
-  covered : Covers pl m
-  covered = record {
-    segments = subst (λ n. length (segments m) ≤ n) (sym reaches.fits.segment_count) (omega arith);
-    groups = subst (λ n. length (groups m) ≤ n) (sym reaches.fits.group_count) (omega arith);
-    externals = subst (λ n. length (externals m) ≤ n) (sym reaches.fits.external_count) (omega arith);
-  }
-
   -- A fixup can be added to the LEDATA before it, and what is open then has it behind those that it had.
   module _ (kind : ℕ) (f : PlainFixup) (d : DataItem) (fs : List (ℕ × PlainFixup)) (lies : Lies m (Once d fs)) (low : location_end (kind, f) ≤ length d.bytes) where
-    can-add : (h : PlainFixupHolds m (Some (Plain d)) f) → IsOk (outcome pl d (kind, f)) → CanAdd pl kind f (laid_now pl (Once d fs))
-    can-add h ok =
-        let size = (stays_inside pl d fs lies.1).size in
-        let there = segment-there pl m covered d.segment.item lies.0.segment_defined in
-        record {
-          segment = there;
-          places = record {
-            frame = frame-there pl m covered d.segment.item f.reference.frame h.reference.frame (λ x. there);
-            target = target-there pl m covered f.reference.target h.reference.target;
-          };
-          reaches = ok;
-          inside = omega (arith, size, low);
-        }
+    can-add : CanAdd f (laid_now pl (Once d fs))
+    can-add = let size = (stays_inside pl d fs lies.1).size in omega (arith, size, low)
 
     added-same : with_fixup pl kind f (laid_now pl (Once d fs)) ≡ laid_now pl (Once d (fs ++ (kind, f) ∷ []))
     added-same =
@@ -185,33 +144,27 @@ module _ (start : List Laid) (pl : Places) (m : List Rec) (holds : ModuleHolds p
 
   -- What is open before and after a fixup.
   record IsFixed (kind : ℕ) (f : PlainFixup) (o : Option Gathered) : Type 0 where
-    can : IfSome (option_map (laid_now pl) o) (CanAdd pl kind f)
+    can : IfSome (option_map (laid_now pl) o) (CanAdd f)
     same : option_map (with_fixup pl kind f) (option_map (laid_now pl) o) ≡ option_map (laid_now pl) (option_map (more (tagged kind (f ∷ []))) o)
     lie : IfSome (option_map (more (tagged kind (f ∷ []))) o) (Lies m)
 
-  fixed-once : (kind : ℕ) (f : PlainFixup) (d : DataItem) (fs : List (ℕ × PlainFixup)) (ps : List Piece) → PlainFixupHolds m (Some (Plain d)) f → location_end (kind, f) ≤ length d.bytes
-      → Lies m (Once d fs) → All (Reach pl) (along (Some (Once d (fs ++ (kind, f) ∷ []))) ps) → IsFixed kind f (Some (Once d fs))
-  fixed-once kind f d fs ps h low lies r =
-      let adds = all-right (λ g. IsOk (outcome pl d g)) fs ((kind, f) ∷ []) (reach-open pl (Once d (fs ++ (kind, f) ∷ [])) ps r) in
-      record {
-        can = can-add kind f d fs lies low h (All-head (λ g. IsOk (outcome pl d g)) (kind, f) [] adds);
-        same = ap Some (added-same kind f d fs lies low);
-        lie = lies-more kind f d fs lies low;
-      }
+  fixed-once : (kind : ℕ) (f : PlainFixup) (d : DataItem) (fs : List (ℕ × PlainFixup)) → location_end (kind, f) ≤ length d.bytes → Lies m (Once d fs) → IsFixed kind f (Some (Once d fs))
+  fixed-once kind f d fs low lies = record {
+    can = can-add kind f d fs lies low;
+    same = ap Some (added-same kind f d fs lies low);
+    lie = lies-more kind f d fs lies low;
+  }
 
-  fixed-by : (kind : ℕ) (f : PlainFixup) (l : Option Contents) (o : Option Gathered) (ps : List Piece) → PlainFixupHolds m l f → Tells o l → IfSome o (Lies m)
-      → All (Reach pl) (along (option_map (more (tagged kind (f ∷ []))) o) ps) → IsFixed kind f o
-  fixed-by kind f l o ps h tells lies r =
+  fixed-by : (kind : ℕ) (f : PlainFixup) (l : Option Contents) (o : Option Gathered) → PlainFixupHolds m l f → Tells o l → IfSome o (Lies m) → IsFixed kind f o
+  fixed-by kind f l o h tells lies =
       let d = h.data_record in
       let t = tells d h.is_last in
       let low = h.inside in
-      subst (IsFixed kind f) (sym t.1)
-      (fixed-once kind f d t.0 ps (subst (λ x. PlainFixupHolds m x f) h.is_last h) (omega (arith, low)) (subst (λ x. IfSome x (Lies m)) t.1 lies)
-      (subst (λ x. All (Reach pl) (along (option_map (more (tagged kind (f ∷ []))) x) ps)) t.1 r))
+      subst (IsFixed kind f) (sym t.1) (fixed-once kind f d t.0 (omega (arith, low)) (subst (λ x. IfSome x (Lies m)) t.1 lies))
 
   -- One piece more.
   record IsStep (p : Piece) (o : Option Gathered) (l : Option Contents) : Type 0 where
-    can : CanTake pl p (option_map (laid_now pl) o)
+    can : CanTake p (option_map (laid_now pl) o)
     close : closed p (option_map (laid_now pl) o) ≡ map (laid_now pl) (closed_at p o)
     open_up : opened pl p (option_map (laid_now pl) o) ≡ option_map (laid_now pl) (opened_at p o)
     tell : Tells (opened_at p o) (data_after p l)
@@ -242,26 +195,22 @@ module _ (start : List Laid) (pl : Places) (m : List Rec) (holds : ModuleHolds p
   step-kept r (Names items) o l h tells lies = record { can = tt; close = refl; open_up = refl; tell = tells; lie = lies }
   step-kept r _ o l h tells lies = record { can = tt; close = refl; open_up = refl; tell = tells; lie = lies }
 
-  step : (p : Piece) (o : Option Gathered) (l : Option Contents) (ps : List Piece) → PieceHolds profile_limits m l p ps → Tells o l → IfSome o (Lies m) → All (Reach pl) (along (opened_at p o) ps)
-      → IsStep p o l
-  step (Kept r) o l ps h tells lies reach = step-kept r r.contents o l h tells lies
-  step (Fixed kind []) o l ps h tells lies reach = absurd h
-  step (Fixed kind (f ∷ [])) o l ps h tells lies reach =
-      let x = fixed-by kind f l o ps h tells lies reach in
+  step : (p : Piece) (o : Option Gathered) (l : Option Contents) (ps : List Piece) → PieceHolds profile_limits m l p ps → Tells o l → IfSome o (Lies m) → IsStep p o l
+  step (Kept r) o l ps h tells lies = step-kept r r.contents o l h tells lies
+  step (Fixed kind []) o l ps h tells lies = absurd h
+  step (Fixed kind (f ∷ [])) o l ps h tells lies =
+      let x = fixed-by kind f l o h tells lies in
       record { can = x.can; close = refl; open_up = x.same; tell = tells-more (tagged kind (f ∷ [])) o l tells; lie = x.lie }
-  step (Fixed kind (f ∷ g ∷ fs)) o l ps h tells lies reach = absurd h
-  step (End kind byte s) o l ps h tells lies reach = record { can = tt; close = refl; open_up = refl; tell = tells; lie = lies }
+  step (Fixed kind (f ∷ g ∷ fs)) o l ps h tells lies = absurd h
+  step (End kind byte s) o l ps h tells lies = record { can = tt; close = refl; open_up = refl; tell = tells; lie = lies }
 
   module _ (w : Walk) (p : Piece) (ps : List Piece) (h : IsWalked start pl m w (p ∷ ps)) where
-    reach-next : All (Reach pl) (along (opened_at p h.open_one) ps)
-    reach-next = all-right (Reach pl) (closed_at p h.open_one) (along (opened_at p h.open_one) ps) h.reaches
-
     here : IsStep p h.open_one h.last_one
-    here = step p h.open_one h.last_one ps h.hold.0 h.tells h.lies reach-next
+    here = step p h.open_one h.last_one ps h.hold.0 h.tells h.lies
 
     -- Each piece can be walked over.
-    pub can-walk : CanWalk pl p w
-    can-walk = record { offsets = has-offsets w (p ∷ ps) h; piece = subst (CanTake pl p) (sym h.open_data) here.can }
+    pub can-walk : CanWalk p w
+    can-walk = record { offsets = has-offsets w (p ∷ ps) h; piece = subst (CanTake p) (sym h.open_data) here.can }
 
     -- And so it goes on.
     pub walk-next : (new : Walk) → IsNext pl p w new → IsWalked start pl m new ps
@@ -271,7 +220,6 @@ module _ (start : List Laid) (pl : Places) (m : List Rec) (holds : ModuleHolds p
       done = h.done ++ closed_at p h.open_one;
       open_one = opened_at p h.open_one;
       all = h.all ∙ ap (map (laid_now pl)) (sym (append_assoc h.done (closed_at p h.open_one) (along (opened_at p h.open_one) ps)));
-      reaches = reach-next;
       image = subst (λ ls. AreLaidOver start ls new.image) (sym (map-append (laid_now pl) h.done (closed_at p h.open_one)))
           (laid-on start w.image new.image (map (laid_now pl) h.done) (map (laid_now pl) (closed_at p h.open_one)) h.image
           (subst (λ ls. AreLaidOver w.image ls new.image) (ap (closed p) h.open_data ∙ here.close) n.image));
@@ -286,6 +234,23 @@ module _ (start : List Laid) (pl : Places) (m : List Rec) (holds : ModuleHolds p
       let closing : option_to_list w.open_data ≡ map (laid_now pl) (option_to_list h.open_one) = ap option_to_list h.open_data ∙ list-of h.open_one in
       subst (λ ls. AreLaidOver start ls image) (sym (map-append (laid_now pl) h.done (option_to_list h.open_one)) ∙ sym h.all)
       (laid-on start w.image image (map (laid_now pl) h.done) (map (laid_now pl) (option_to_list h.open_one)) h.image (subst (λ ls. AreLaidOver w.image ls image) closing last))
+
+-- Where the data record that is open lies is the same for whoever judges the next piece.
+place-kept : (kind : ℕ) (c : Contents) (l : Option Laid) → open_place (opened_by kind c l) ≡ data_place c (open_place l)
+place-kept kind (Plain d) l = refl
+place-kept kind (Iterated d) l = refl
+place-kept kind (Names items) l = refl
+place-kept kind _ l = refl
+
+place-fixed : (pl : Places) (kind : ℕ) (f : PlainFixup) (l : Option Laid) → open_place (option_map (with_fixup pl kind f) l) ≡ open_place l
+place-fixed pl kind f None = refl
+place-fixed pl kind f (Some l) = refl
+
+pub place-opened : (pl : Places) (p : Piece) (l : Option Laid) → open_place (opened pl p l) ≡ place_behind p (open_place l)
+place-opened pl (Kept r) l = place-kept r.kind r.contents l
+place-opened pl (Fixed kind []) l = refl
+place-opened pl (Fixed kind (f ∷ fs)) l = place-fixed pl kind f l
+place-opened pl (End kind byte s) l = refl
 
 -- The records of a checked module, without their places.
 pub records-listed : (number start : ℕ) (rs : List Raw) → map (λ x. x.1) (placed_from number start rs) ≡ recs rs

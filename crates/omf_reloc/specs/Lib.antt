@@ -4,6 +4,7 @@ pub mod Offsets
 pub mod Placed
 pub mod Seen
 pub mod Reach
+pub mod Reached
 pub mod Image
 pub mod Walking
 pub mod Pieces

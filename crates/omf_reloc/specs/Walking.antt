@@ -1,6 +1,6 @@
 -- References by the threads in force; and what each step of a walk over a module's pieces makes of the image and of the data record that is open. Private
 -- functions speak in these words; public ones say what the image is by its definition.
-use Rattle.std.specs.Prelude.{◌≡◌, ◌≤◌, ◌+◌, ◌^◌, ⊤, ℕ, List, [], ◌∷◌, length, true, Option, Some, option_map, option_to_list, unwrap_or, IfSome, IsOk}
+use Rattle.std.specs.Prelude.{◌≡◌, ◌≤◌, ◌+◌, ◌^◌, ⊤, ℕ, List, [], ◌∷◌, length, Option, Some, option_map, option_to_list, unwrap_or, IfSome, IsOk}
 use Rattle.omf_records.specs.Location.{location_size}
 use Rattle.omf_records.specs.Values.{Rec, Contents, Plain, Iterated, Fixups, Reference, width, location_type, location_offset}
 use Rattle.omf_image.specs.Expanding.{expanded, expanded_length}
@@ -8,7 +8,6 @@ use Rattle.omf_image.specs.Limits.{profile_limits}
 use Rattle.omf_image.specs.Overlay.{Laid, AreLaidOver}
 use Rattle.omf_check.specs.Judging.{frame_cell, target_cell}
 use Rattle.omf_check.specs.Kept.{set_threads}
-use Rattle.omf_check.specs.Tables.{is_defined}
 use Rattle.omf_check.specs.Threads.{PlainReference}
 use Rattle.omf_check.specs.declared.method.FrameMethod.TheVariants.{Target as F5}
 use Rattle.omf_check.specs.declared.method.TargetMethod.TheVariants.{Segment as T0}
@@ -44,12 +43,16 @@ threads_through threads (r ∷ rs) = threads_through (threads_after threads r.co
 abbrev pub with_fixup : Places → ℕ → PlainFixup → Laid → Laid
 with_fixup pl kind f l = record l { bytes = added (location_offset f.locat) (outcome_at pl l.segment l.offset (kind, f)) l.bytes }
 
--- A fixup can be added: the placement has the places that it needs, it reaches, and its location lies inside the data.
-pub record CanAdd (pl : Places) (kind : ℕ) (f : PlainFixup) (l : Laid) : Type 0 where
-  pub segment : is_defined (length pl.segments) l.segment ≡ true
-  pub places : HasPlaces pl l.segment f.reference
-  pub reaches : IsOk (outcome_at pl l.segment l.offset (kind, f))
-  pub inside : location_offset f.locat + location_size (location_type f.locat) ≤ length l.bytes
+-- A fixup can be added: its location lies inside the data.
+abbrev pub CanAdd : PlainFixup → Laid → Type 0
+CanAdd f l = location_offset f.locat + location_size (location_type f.locat) ≤ length l.bytes
+
+-- Where the data record that is open lies: its segment, and its offset there.
+abbrev pub laid_place : Laid → ℕ × ℕ
+laid_place l = (l.segment, l.offset)
+
+abbrev pub open_place : Option Laid → Option (ℕ × ℕ)
+open_place l = option_map laid_place l
 
 -- The image so far, and the data record that is open.
 pub record Walk : Type 0 where
@@ -96,15 +99,15 @@ abbrev pub CanExpand : ℕ → Contents → Type 0
 CanExpand kind (Iterated d) = Expands kind d.bytes
 CanExpand kind _ = ⊤
 
-abbrev pub CanTake : Places → Piece → Option Laid → Type 0
-CanTake pl (Kept r) l = CanExpand r.kind r.contents
-CanTake pl (Fixed kind []) l = ⊤
-CanTake pl (Fixed kind (f ∷ fixups)) l = IfSome l (CanAdd pl kind f)
-CanTake pl (End kind byte start) l = ⊤
+abbrev pub CanTake : Piece → Option Laid → Type 0
+CanTake (Kept r) l = CanExpand r.kind r.contents
+CanTake (Fixed kind []) l = ⊤
+CanTake (Fixed kind (f ∷ fixups)) l = IfSome l (CanAdd f)
+CanTake (End kind byte start) l = ⊤
 
-pub record CanWalk (pl : Places) (p : Piece) (w : Walk) : Type 0 where
+pub record CanWalk (p : Piece) (w : Walk) : Type 0 where
   pub offsets : IfSome w.open_data HasOffsets
-  pub piece : CanTake pl p w.open_data
+  pub piece : CanTake p w.open_data
 
 -- A start can be given: the placement has the places that it needs, and it reaches.
 pub record HasStart (pl : Places) (kind : ℕ) (r : PlainReference) : Type 0 where

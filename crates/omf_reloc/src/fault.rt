@@ -50,3 +50,14 @@ pub enum ReachFault {
         cause: Cause,
     },
 }
+
+/// Why a placement gives a module no image.
+#[derive(Clone, Copy, Debug, PartialEq, Eq, Error)]
+pub enum RelocateFault {
+    /// 1: the placement does not reach.
+    #[error("the placement does not reach")]
+    Reach(ReachFault),
+    /// 2: it reaches, and a growth was refused.
+    #[error("memory ran out")]
+    Memory,
+}

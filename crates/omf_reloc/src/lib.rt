@@ -10,7 +10,7 @@
 //! // image.run_bytes(1, 0) are the bytes of its first covered interval
 //! ```
 //!
-//! `relocate` and `start` ask that `reach` answered Ok for the same module and placement.
+//! `relocate` and `start` ask that `reach` answered Ok for the same module and placement. `reach_and_relocate` does both in one walk.
 #![tactic(auto)]
 
 mod addition;
@@ -21,17 +21,19 @@ mod measuring;
 mod offset;
 mod pieces;
 mod plain;
+mod reached;
 mod reaching;
 mod relocating;
 pub mod rows;
 mod starting;
 
-pub use fault::{Cause, Kind, ReachFault};
+pub use fault::{Cause, Kind, ReachFault, RelocateFault};
 pub use omf_check::{FrameMethod, TargetMethod};
 pub use omf_derive::{DeriveFault, Given, derive};
 pub use omf_placement::{Draft, Frame, Placement, TextFault, parse_placement, real_group};
 pub use pieces::{Piece, Pieces, end_byte, pieces_of};
 pub use plain::{PlainFixup, PlainReference, plain_reference};
+pub use reached::reach_and_relocate;
 pub use reaching::reach;
 pub use relocating::relocate;
 pub use starting::start;

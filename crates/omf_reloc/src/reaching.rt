@@ -5,7 +5,7 @@ ghost use Rattle.omf_check.specs.Module.{records_in};
 ghost use Rattle.omf_check.specs.Tables.{segments, is_defined};
 ghost use Rattle.omf_check.specs.WellFormed.{recs};
 ghost use Rattle.omf_reloc.specs.PieceSeen.{piece_seen};
-ghost use Rattle.omf_reloc.specs.Reach.{missing, extra, misplaced, far_faults, reach_fault, Reaches};
+ghost use Rattle.omf_reloc.specs.Reach.{missing, extra, misplaced, misfits, far_faults, reach_fault, Reaches};
 ghost use Rattle.omf_reloc.specs.ReachSteps.{HasEntries, miscounts, misplaced_from, place_behind, piece_cause, CanJudge};
 
 use crate::fault::{Cause, Kind, ReachFault};
@@ -86,6 +86,17 @@ fn absolute_fault(module: &Checked, placement: &Placement) -> Option<ReachFault>
         }
     }
     None
+}
+
+/// The first reason why a placement does not fit a module, if it does not.
+#[tactic(auto, using(crate::proofs::ReachedLaws::counts_there, crate::proofs::ReachedLaws::counts_fault, crate::proofs::ReachedLaws::absolutes_fault))]
+pub(crate) fn misfit(module: &Checked, placement: &Placement) -> Option<ReachFault>
+    ensures { result ≡ slice_get (misfits placement.now (recs (records_in «module».now.bytes))) 0 }
+{
+    if let Some(fault) = count_fault(module, placement) {
+        return Some(fault);
+    }
+    absolute_fault(module, placement)
 }
 
 /// Why a piece does not reach. The last data record before it lies at an offset of a segment.

@@ -1,6 +1,6 @@
 //! The image that a placement gives a module.
 
-ghost use Rattle.std.specs.Prelude.{◌≡◌, ◌↔◌, ℕ, [], IfSome, OnOk, IfOk, None, Some, Option, slice_get, option_map, option_to_list};
+ghost use Rattle.std.specs.Prelude.{◌≡◌, ◌↔◌, ℕ, [], ◌∷◌, true, length, IfSome, OnOk, IfOk, IfErr, None, Some, Option, slice_get, option_map, option_to_list};
 ghost use Rattle.omf_records.specs.Seen.{odd_if, kind_seen, contents_seen};
 ghost use Rattle.omf_records.specs.Values.{width, contents_alone};
 ghost use Rattle.omf_image.specs.Expanding.{expanded};
@@ -9,17 +9,22 @@ ghost use Rattle.omf_image.specs.Joined.{runs_of};
 ghost use Rattle.omf_image.specs.Overlay.{AreLaidOver, IsRunAt, byte_at};
 ghost use Rattle.omf_image.specs.declared.run.Run.{Run};
 ghost use Rattle.omf_check.specs.Module.{records_in};
+ghost use Rattle.omf_check.specs.Sound.{ModuleHolds};
+ghost use Rattle.omf_check.specs.Tables.{is_defined};
 ghost use Rattle.omf_check.specs.WellFormed.{recs};
 ghost use Rattle.omf_reloc.specs.Image.{laid, image};
 ghost use Rattle.omf_reloc.specs.Laws.{AllLieInside};
+ghost use Rattle.omf_reloc.specs.Offsets.{cause_of, outcome_at};
 ghost use Rattle.omf_reloc.specs.PieceSeen.{piece_seen};
-ghost use Rattle.omf_reloc.specs.Placed.{fixupp_type};
-ghost use Rattle.omf_reloc.specs.Plain.{pieces};
-ghost use Rattle.omf_reloc.specs.Reach.{Reaches};
-ghost use Rattle.omf_reloc.specs.Walking.{with_fixup, closed_by, opened_by, CanAdd, Expands, CanExpand, HasOffsets, IsNext, CanWalk};
+ghost use Rattle.omf_reloc.specs.Placed.{HasPlaces, fixupp_type};
+ghost use Rattle.omf_reloc.specs.Plain.{Fixed, pieces};
+ghost use Rattle.omf_reloc.specs.Reach.{Reaches, far_faults};
+ghost use Rattle.omf_reloc.specs.ReachSteps.{CanJudge, HasEntries, piece_cause};
+ghost use Rattle.omf_reloc.specs.Walking.{with_fixup, closed_by, opened_by, CanAdd, Expands, CanExpand, HasOffsets, IsNext, CanWalk, open_place};
 
+use crate::fault::{Cause, ReachFault};
 use crate::measuring::extents;
-use crate::offset::outcome;
+use crate::offset::{outcome, start_offset};
 use crate::pieces::{Piece, pieces_of};
 use crate::plain::PlainFixup;
 use omf_check::Checked;
@@ -58,17 +63,21 @@ impl Open {
         }
     }
 
-    /// Adds what a fixup of a FIXUPP, wide or not, adds at its location.
-    fn add(&mut self, placement: &Placement, is_wide: bool, fixup: &PlainFixup)
-        requires { CanAdd placement.now (fixupp_type is_wide) fixup.now self.old }
-        ensures { self.new ≡ with_fixup placement.now (fixupp_type is_wide) fixup.now self.old }
+    /// Adds what a fixup of a FIXUPP, wide or not, adds at its location. Where it does not reach nothing is added: why it does not.
+    fn add(&mut self, placement: &Placement, is_wide: bool, fixup: &PlainFixup) -> Option<Cause>
+        requires segment { is_defined (length placement.now.segments) self.old.segment ≡ true }
+        requires places { HasPlaces placement.now self.old.segment fixup.now.reference }
+        requires inside { CanAdd fixup.now self.old }
+        ensures data { self.new ≡ with_fixup placement.now (fixupp_type is_wide) fixup.now self.old }
+        ensures cause { result ≡ cause_of (outcome_at placement.now self.old.segment self.old.offset (fixupp_type is_wide, fixup.now)) }
     {
         match outcome(placement, self.segment, self.offset, is_wide, fixup) {
             Ok(additions) => {
                 let position = usize::from(location_offset(fixup.location));
                 additions.add_to(&mut self.bytes, position);
+                None
             }
-            Err(_) => unreachable!(),
+            Err(cause) => Some(cause),
         }
     }
 }
@@ -138,14 +147,17 @@ impl Walk {
         self.open_data = Some(next);
     }
 
-    /// Adds what a fixup of a FIXUPP, wide or not, adds to the data record that is open.
-    fn fix(&mut self, placement: &Placement, is_wide: bool, fixup: &PlainFixup)
-        requires { IfSome self.old.open_data (CanAdd placement.now (fixupp_type is_wide) fixup.now) }
+    /// Adds what a fixup of a FIXUPP, wide or not, adds to the data record that is open; or why it does not reach.
+    fn fix(&mut self, placement: &Placement, is_wide: bool, fixup: &PlainFixup) -> Option<Cause>
+        requires judge { CanJudge placement.now (open_place self.old.open_data) (Fixed (fixupp_type is_wide) (fixup.now ∷ [])) }
+        requires add { IfSome self.old.open_data (CanAdd fixup.now) }
         ensures image { self.new.image ≡ self.old.image }
         ensures open_data { self.new.open_data ≡ option_map (with_fixup placement.now (fixupp_type is_wide) fixup.now) self.old.open_data }
+        ensures cause { result ≡ piece_cause placement.now (open_place self.old.open_data) (Fixed (fixupp_type is_wide) (fixup.now ∷ [])) }
     {
-        if let Some(data) = &mut self.open_data {
-            data.add(placement, is_wide, fixup);
+        match &mut self.open_data {
+            Some(data) => data.add(placement, is_wide, fixup),
+            None => None,
         }
     }
 
@@ -181,23 +193,30 @@ impl Walk {
         }
     }
 
-    /// Walks over the next piece.
+    /// Walks over the next piece: why it does not reach, if it does not.
     fn take(
         &mut self,
         alloc: Global,
         placement: &Placement,
         piece: &Piece<'_>,
-    ) -> Result<(), AllocError>
-        requires { CanWalk placement.now (piece_seen piece.now) self.old }
-        ensures { OnOk result (IsNext placement.now (piece_seen piece.now) self.old self.new) }
+    ) -> Result<Option<Cause>, AllocError>
+        requires walk { CanWalk (piece_seen piece.now) self.old }
+        requires judge { CanJudge placement.now (open_place self.old.open_data) (piece_seen piece.now) }
+        ensures next { OnOk result (IsNext placement.now (piece_seen piece.now) self.old self.new) }
+        ensures cause { IfOk result (λ cause. cause ≡ piece_cause placement.now (open_place self.old.open_data) (piece_seen piece.now)) }
     {
         match piece {
-            Piece::Kept(rec) => self.take_record(alloc, rec),
-            Piece::Fixed { wide, fixup } => {
-                self.fix(placement, *wide, fixup);
-                Ok(())
+            Piece::Kept(rec) => {
+                self.take_record(alloc, rec)?;
+                Ok(None)
             }
-            Piece::End { .. } => Ok(()),
+            Piece::Fixed { wide, fixup } => Ok(self.fix(placement, *wide, fixup)),
+            Piece::End {
+                wide,
+                start: Some(reference),
+                ..
+            } => Ok(start_offset(placement, *wide, reference).err()),
+            Piece::End { start: None, .. } => Ok(None),
         }
     }
 
@@ -212,9 +231,38 @@ impl Walk {
     }
 }
 
+/// The image that a placement gives a module, or the first reference that does not reach, in the order of the file. The places of all
+/// data records are covered first, so that no run grows or moves while they are laid.
+pub(crate) fn walked(
+    alloc: Global,
+    module: &Checked,
+    placement: &Placement,
+) -> Result<Result<Image, ReachFault>, AllocError>
+    requires { HasEntries placement.now (recs (records_in «module».now.bytes)) }
+    ensures laid { IfOk result (λ r. IfOk r (λ i. AreLaidOver [] (laid profile_limits placement.now (pieces (recs (records_in «module».now.bytes)))) i)) }
+    ensures reaches { IfOk result (λ r. IfOk r (λ i. slice_get (far_faults placement.now (recs (records_in «module».now.bytes))) 0 ≡ None)) }
+    ensures far { IfOk result (λ r. IfErr r (λ f. slice_get (far_faults placement.now (recs (records_in «module».now.bytes))) 0 ≡ Some f)) }
+    ensures holds { ModuleHolds profile_limits (recs (records_in «module».now.bytes)) }
+{
+    let zeros = painted(alloc, extents(alloc, module)?)?;
+    let mut walk = Walk::new(zeros);
+    for (place, piece) in pieces_of(module) {
+        if let Some(cause) = walk.take(alloc, placement, &piece)? {
+            let number = place.number;
+            let within = place.within;
+            return Ok(Err(ReachFault::TooFar {
+                number,
+                within,
+                cause,
+            }));
+        }
+    }
+    Ok(Ok(walk.finish()?))
+}
+
 /// The image that a placement gives a module: what each LEDATA gives, with what its fixups add, and what the blocks of each LIDATA
 /// stand for. Where data records overlap the last one stands. Every byte lies in its segment, and every byte that a fixup changes in the
-/// data of its LEDATA. The places of all data records are covered first, so that no run grows or moves while they are laid.
+/// data of its LEDATA.
 ///
 /// # Errors
 ///
@@ -227,10 +275,8 @@ pub fn relocate(alloc: Global, module: &Checked, placement: &Placement) -> Resul
         ↔ (run ≡ slice_get (runs_of (laid profile_limits placement.now (pieces (recs (records_in «module».now.bytes)))) segment) k)) }
     ensures inside { AllLieInside placement.now (recs (records_in «module».now.bytes)) }
 {
-    let zeros = painted(alloc, extents(alloc, module)?)?;
-    let mut walk = Walk::new(zeros);
-    for (_place, piece) in pieces_of(module) {
-        walk.take(alloc, placement, &piece)?;
+    match walked(alloc, module, placement)? {
+        Ok(image) => Ok(image),
+        Err(_) => unreachable!(),
     }
-    walk.finish()
 }

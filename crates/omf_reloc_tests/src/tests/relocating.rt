@@ -3,7 +3,10 @@
 use omf_check::{Checked, Profile, check};
 use omf_frame::Reading;
 use omf_image::{Image, Run};
-use omf_reloc::{Frame, Placement, reach, relocate, start};
+use omf_reloc::{
+    Cause, Frame, Kind, Placement, ReachFault, RelocateFault, reach, reach_and_relocate, relocate,
+    start,
+};
 use std::alloc::{AllocError, Global};
 use std::test::Fail;
 
@@ -122,6 +125,24 @@ fn adds_an_offset(rt: HostRuntime) -> Result<(), Fail> {
         )?,
         Some(None)
     );
+    Ok(())
+}
+
+#[test]
+fn reaches_and_relocates_in_one_walk(rt: HostRuntime) -> Result<(), Fail> {
+    let a = rt.alloc();
+    let module = module(a, &[&HEADER, &NAMES, &SEGMENT, &DATA, &FIXUP, &END])?;
+    let image = reach_and_relocate(a, &module, &at(a, 0x10020)?).ok();
+    assert!(rt; is_image(image, &[0xB8, 0x20, 0x00, 0x90]));
+    let too_far = ReachFault::TooFar {
+        number: 4,
+        within: 3,
+        cause: Cause::Target,
+    };
+    let far = reach_and_relocate(a, &module, &segments(a, &[(0x20020, 0, 0)])?).err();
+    assert!(rt; far == Some(RelocateFault::Reach(too_far)));
+    let none = reach_and_relocate(a, &module, &Placement::new(a)).err();
+    assert!(rt; none == Some(RelocateFault::Reach(ReachFault::Missing(Kind::Segment, 1))));
     Ok(())
 }
 

@@ -1,0 +1,97 @@
+use Rattle.std.proofs.Common.{◌∙◌, ap, sym, subst, [], List, None}
+use Rattle.std.specs.Prelude.{All, map, slice_get}
+use Rattle.omf_frame.specs.declared.fault.Place.{Place}
+use Rattle.omf_image.specs.Overlay.{AreLaidOver}
+use Rattle.omf_image.specs.Limits.{profile_limits}
+use Rattle.omf_image.specs.Painting.{all_zeros, Fits}
+use Rattle.omf_check.specs.Module.{records_in}
+use Rattle.omf_check.specs.WellFormed.{recs}
+use Rattle.omf_reloc.specs.PieceSeen.{piece_seen}
+use Rattle.omf_reloc.specs.Plain.{Piece}
+use Rattle.omf_reloc.specs.Reach.{far_faults}
+use Rattle.omf_reloc.specs.ReachSteps.{CanJudgeAll, pieces_far}
+use Rattle.omf_reloc.specs.Walking.{Walk, open_place}
+use Rattle.omf_reloc.proofs.FarLaws.{without_places, far-walked}
+use Rattle.omf_reloc.proofs.JudgeLaws.{judged-all}
+use Rattle.omf_reloc.proofs.MeasureLaws.{all-fit, zeros-lost}
+use Rattle.omf_reloc.proofs.ReachedLaws.{can-here, can-rest, pieces-go}
+use Rattle.omf_reloc.proofs.WalkedLaws.{IsWalked, first-walk, walk-first, can-walk, walk-next, walk-last, has-offsets, place-opened}
+use Rattle.omf_reloc.proofs.relocating.walked.Goals as goal
+
+pub painted-requires : goal.painted-requires
+painted-requires c =
+    subst (All Fits) (sym c.in_ok-extents.ensures.listed) (all-fit c.args.placement.now (recs (records_in c.args.module.now.bytes)) c.extents.ensures.holds)
+
+pub loop-place-init : goal.loop-place-init
+loop-place-init c =
+    let pl = c.args.placement.now in
+    let m = recs (records_in c.args.module.now.bytes) in
+    let p = c.pieces_of-place-items in
+    let items = c.into_iter-place-iterator.ensures.into_iter_gives in
+    let none = ap (λ (v : Walk). open_place v.open_data) c.new-walk.ensures in
+    record {
+      walked = walk-first c.new-walk.result.image pl m p.ensures.holds c.new-walk.result (without_places c.into_iter-place-iterator.result)
+          (first-walk _ c.new-walk.result c.new-walk.ensures) (ap without_places items ∙ p.ensures.listed);
+      can = subst (λ o. CanJudgeAll pl o (without_places c.into_iter-place-iterator.result)) (sym none)
+          (subst (CanJudgeAll pl None) (sym (ap without_places items ∙ p.ensures.listed)) (judged-all pl profile_limits m p.ensures.holds c.requires));
+      same = ap (λ o. slice_get (pieces_far pl o c.into_iter-place-iterator.result) 0) none ∙ ap (λ xs. slice_get (pieces_far pl None xs) 0) items
+          ∙ ap (λ fs. slice_get fs 0) (sym (far-walked pl profile_limits m p.ensures.holds p.result p.ensures.listed p.ensures.places));
+    }
+
+pub take-requires-clause-walk : goal.take-requires-clause-walk
+take-requires-clause-walk c =
+    let pl = c.args.placement.now in
+    let m = recs (records_in c.args.module.now.bytes) in
+    let w = c.loop-place.walk in
+    can-walk c.new-walk.result.image pl m c.pieces_of-place-items.ensures.holds w (piece_seen c.in-Some.piece) (without_places c.next.new.self)
+    (subst (λ xs. IsWalked c.new-walk.result.image pl m w (without_places xs)) c.in-Some.ensures.steps c.loop-place.invariant.walked)
+
+pub loop-place-preserved-in_default : goal.loop-place-preserved-in_default
+loop-place-preserved-in_default c =
+    let pl = c.args.placement.now in
+    let m = recs (records_in c.args.module.now.bytes) in
+    let w = c.loop-place.walk in
+    let p = piece_seen c.in-Some.piece in
+    let n = c.in_ok-cause.ensures.next in
+    let x : Place × Piece = (c.in-Some.place, p) in
+    let moved = ap open_place n.open_data ∙ place-opened pl p w.open_data in
+    record {
+      walked = walk-next c.new-walk.result.image pl m c.pieces_of-place-items.ensures.holds w p (without_places c.next.new.self)
+          (subst (λ xs. IsWalked c.new-walk.result.image pl m w (without_places xs)) c.in-Some.ensures.steps c.loop-place.invariant.walked) c.take.new.self n;
+      can = can-rest pl (open_place w.open_data) c.loop-place.place-iterator c.next.new.self x c.in-Some.ensures.steps (open_place c.take.new.self.open_data) moved c.loop-place.invariant.can;
+      same = pieces-go pl (open_place w.open_data) c.loop-place.place-iterator c.next.new.self x c.in-Some.ensures.steps (slice_get (far_faults pl m) 0) c.in_ok-cause.field-0 c.in_ok-cause.ensures.cause
+          c.loop-place.invariant.same c.in_default.is (open_place c.take.new.self.open_data) moved;
+    }
+
+pub loop-place-preserved : goal.loop-place-preserved
+loop-place-preserved c =
+    let pl = c.args.placement.now in
+    let m = recs (records_in c.args.module.now.bytes) in
+    let w = c.loop-place.walk in
+    let p = piece_seen c.in-Some.piece in
+    let n = c.in_ok-cause.ensures.next in
+    let x : Place × Piece = (c.in-Some.place, p) in
+    let moved = ap open_place n.open_data ∙ place-opened pl p w.open_data in
+    record {
+      walked = walk-next c.new-walk.result.image pl m c.pieces_of-place-items.ensures.holds w p (without_places c.next.new.self)
+          (subst (λ xs. IsWalked c.new-walk.result.image pl m w (without_places xs)) c.in-Some.ensures.steps c.loop-place.invariant.walked) c.take.new.self n;
+      can = can-rest pl (open_place w.open_data) c.loop-place.place-iterator c.next.new.self x c.in-Some.ensures.steps (open_place c.take.new.self.open_data) moved c.loop-place.invariant.can;
+      same = pieces-go pl (open_place w.open_data) c.loop-place.place-iterator c.next.new.self x c.in-Some.ensures.steps (slice_get (far_faults pl m) 0) c.in_ok-cause.field-0 c.in_ok-cause.ensures.cause
+          c.loop-place.invariant.same c.in_default.is (open_place c.take.new.self.open_data) moved;
+    }
+
+pub finish-requires : goal.finish-requires
+finish-requires c =
+    has-offsets c.new-walk.result.image c.args.placement.now (recs (records_in c.args.module.now.bytes)) c.pieces_of-place-items.ensures.holds c.loop-place.walk
+    (without_places c.loop-place.place-iterator) c.loop-place.invariant.walked
+
+pub returns-clause-laid : goal.returns-clause-laid
+returns-clause-laid c =
+    let pl = c.args.placement.now in
+    let m = recs (records_in c.args.module.now.bytes) in
+    let w = c.loop-place.walk in
+    let start = c.new-walk.result.image in
+    let ended = subst (λ xs. IsWalked start pl m w (without_places xs)) c.in-None.ensures.steps.0 c.loop-place.invariant.walked in
+    let zeros = subst (AreLaidOver [] (all_zeros c.in_ok-extents.field-0.items)) (sym (ap (λ (v : Walk). v.image) c.new-walk.ensures)) c.in_ok-zeros.ensures in
+    zeros-lost pl m c.extents.ensures.holds c.in_ok-extents.field-0.items start c.in_ok-finish.field-0 c.in_ok-extents.ensures.listed zeros
+    (walk-last start pl m c.pieces_of-place-items.ensures.holds w c.in_ok-finish.field-0 ended c.in_ok-finish.ensures)

@@ -1,0 +1,11 @@
+-- Why a placement gives a module no image: it does not reach, and this is the first reason why; or it reaches, and there is no memory.
+use Rattle.std.specs.Prelude.{◌≡◌, List, Some, None}
+use Rattle.omf_records.specs.Values.{Rec}
+use Rattle.omf_placement.specs.Placement.{Places}
+use Rattle.omf_reloc.specs.Reach.{reach_fault}
+use Rattle.omf_reloc.specs.declared.fault.RelocateFault.{RelocateFault}
+use Rattle.omf_reloc.specs.declared.fault.RelocateFault.TheVariants as fault
+
+abbrev pub IsRelocateFault : Places → List Rec → RelocateFault → Type 0
+IsRelocateFault pl m (fault.Reach f) = reach_fault pl m ≡ Some f
+IsRelocateFault pl m fault.Memory = reach_fault pl m ≡ None

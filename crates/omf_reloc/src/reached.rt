@@ -1,0 +1,55 @@
+//! The image of a module at a placement of which it is not known that it reaches.
+
+ghost use Rattle.std.specs.Prelude.{◌≡◌, [], None, IfOk, IfErr};
+ghost use Rattle.omf_image.specs.Limits.{profile_limits};
+ghost use Rattle.omf_image.specs.Overlay.{AreLaidOver};
+ghost use Rattle.omf_check.specs.Module.{records_in};
+ghost use Rattle.omf_check.specs.WellFormed.{recs};
+ghost use Rattle.omf_reloc.specs.Image.{laid};
+ghost use Rattle.omf_reloc.specs.Plain.{pieces};
+ghost use Rattle.omf_reloc.specs.Reach.{Reaches, reach_fault};
+ghost use Rattle.omf_reloc.specs.Reached.{IsRelocateFault};
+
+use crate::fault::RelocateFault;
+use crate::reaching::{misfit, reach};
+use crate::relocating::walked;
+use omf_check::Checked;
+use omf_image::Image;
+use omf_placement::Placement;
+use std::alloc::Global;
+
+/// Why there is no image where memory ran out: the placement does not reach, or else that.
+fn without_memory(module: &Checked, placement: &Placement) -> RelocateFault
+    ensures { IsRelocateFault placement.now (recs (records_in «module».now.bytes)) result }
+{
+    match reach(module, placement) {
+        Ok(()) => RelocateFault::Memory,
+        Err(fault) => RelocateFault::Reach(fault),
+    }
+}
+
+/// What `relocate` gives where `reach` answers Ok, and else what `reach` answers: each reference is judged once, in the walk that adds
+/// what it adds.
+///
+/// # Errors
+///
+/// `Reach` where the placement does not reach, whatever memory there is; else `Memory` where a growth is refused.
+pub fn reach_and_relocate(
+    alloc: Global,
+    module: &Checked,
+    placement: &Placement,
+) -> Result<Image, RelocateFault>
+    ensures reaches { IfOk result (λ i. Reaches placement.now (recs (records_in «module».now.bytes))) }
+    ensures ok { IfOk result (λ i. reach_fault placement.now (recs (records_in «module».now.bytes)) ≡ None) }
+    ensures laid { IfOk result (λ i. AreLaidOver [] (laid profile_limits placement.now (pieces (recs (records_in «module».now.bytes)))) i) }
+    ensures err { IfErr result (IsRelocateFault placement.now (recs (records_in «module».now.bytes))) }
+{
+    if let Some(fault) = misfit(module, placement) {
+        return Err(RelocateFault::Reach(fault));
+    }
+    match walked(alloc, module, placement) {
+        Ok(Ok(image)) => Ok(image),
+        Ok(Err(fault)) => Err(RelocateFault::Reach(fault)),
+        Err(_) => Err(without_memory(module, placement)),
+    }
+}
