@@ -1,9 +1,10 @@
 //! Records of whole modules, in pieces; faults; spellings; a record written.
 
+use faulty::pull_pieces;
 use omf_frame::faulty::{Script, Then};
 use omf_frame::{
     Buffered, CommunalLength, Field, FrameFault, Framer, Index, Le16, Le32, Name, Place, Reading,
-    Reason, Source, Writing, checksum, pull_piece, write_record,
+    Reason, Source, Writing, checksum, write_record,
 };
 use std::alloc::{AllocError, Global};
 use std::io;
@@ -81,32 +82,47 @@ fn frames_single_bytes(rt: HostRuntime) -> Result<(), Fail> {
     Ok(())
 }
 
+/// How many bytes a framer takes of a piece, and whether a whole record stands then.
+fn takes(framer: &mut Framer, piece: &[u8]) -> Result<(usize, bool), FrameFault> {
+    let fed = framer.feed(piece)?;
+    Ok((fed.taken, fed.whole))
+}
+
+/// How many bytes it wants where these are ahead, or where nothing is known of them.
+fn wants(framer: &Framer, ahead: Option<&[u8]>) -> usize {
+    match ahead {
+        Some(ahead) => framer.want_with(ahead),
+        None => framer.want(),
+    }
+}
+
 #[test]
 fn frames_whole_inputs(rt: HostRuntime) -> Result<(), Fail> {
     let mut framer = Framer::new(rt.alloc());
     let mut records = Vec::new(rt.alloc());
     let mut rest = MODULE.as_slice();
-    for _ in 0..6 {
-        let fed = framer.feed(rest)?;
-        assert_eq!(rt; fed.whole, true);
-        rest = rest.split_at(fed.taken).1;
-        assert_eq!(rt; framer.want(), 0);
-        assert_eq!(rt; framer.feed(rest)?.taken, 0, "while a record stands");
+    for length in [6, 7, 10, 11, 9, 5] {
+        assert_eq!(rt; takes(&mut framer, rest)?, (length, true));
+        rest = rest.get(length..).unwrap_or(&[]);
+        assert_eq!(rt; wants(&framer, None), 0);
+        assert_eq!(rt; takes(&mut framer, rest)?.0, 0, "while a record stands");
         pass(&mut framer, &mut records)?;
     }
     assert_eq!(rt; records.as_slice(), RECORDS.as_slice());
     assert_eq!(rt; framer.ended(), true);
-    assert_eq!(rt; framer.want(), 0);
-    let fed = framer.feed(&[0xDE, 0xAD])?;
-    assert_eq!(rt; fed.taken, 0, "after the end");
-    assert_eq!(rt; fed.whole, false);
+    assert_eq!(rt; wants(&framer, None), 0);
+    assert_eq!(rt;
+        takes(&mut framer, &[0xDE, 0xAD])?,
+        (0, false),
+        "after the end"
+    );
     Ok(())
 }
 
 #[test]
 fn wants_what_is_missing(rt: HostRuntime) -> Result<(), Fail> {
     let mut framer = Framer::new(rt.alloc());
-    assert_eq!(rt; framer.want(), 1);
+    assert_eq!(rt; wants(&framer, None), 1);
     for (byte, want) in [
         (0x80, 2),
         (0x03, 1),
@@ -115,9 +131,8 @@ fn wants_what_is_missing(rt: HostRuntime) -> Result<(), Fail> {
         (0x41, 1),
         (0x3B, 0),
     ] {
-        let fed = framer.feed(&[byte])?;
-        assert_eq!(rt; fed.taken, 1);
-        assert_eq!(rt; framer.want(), want, "after {byte}");
+        assert_eq!(rt; takes(&mut framer, &[byte])?.0, 1);
+        assert_eq!(rt; wants(&framer, None), want, "after {byte}");
     }
     Ok(())
 }
@@ -195,56 +210,78 @@ fn refuses_faults_of_framing(rt: HostRuntime) -> Result<(), Fail> {
     Ok(())
 }
 
+/// What the end of the input is then.
+fn stopped(framer: &Framer) -> Option<FrameFault> {
+    if framer.raw().is_some() {
+        return None;
+    }
+    framer.stop().err()
+}
+
 #[test]
 fn keeps_a_fault(rt: HostRuntime) -> Result<(), Fail> {
     let mut framer = Framer::new(rt.alloc());
     let fault = refused(Reason::UnknownType, 1, 6, 0);
-    let fed = framer.feed(&HEADER)?;
-    assert_eq!(rt; fed.whole, true);
+    assert_eq!(rt; takes(&mut framer, &HEADER)?, (6, true));
     pass(&mut framer, &mut Vec::new(rt.alloc()))?;
-    assert_eq!(rt; framer.feed(&[0x01]).err(), fault);
-    assert_eq!(rt; framer.feed(&HEADER).err(), fault);
-    assert_eq!(rt; framer.want(), 0);
+    for piece in [[0x01].as_slice(), HEADER.as_slice()] {
+        assert_eq!(rt; takes(&mut framer, piece).err(), fault);
+    }
+    assert_eq!(rt; wants(&framer, None), 0);
     assert_eq!(rt; framer.raw().is_none(), true);
     assert_eq!(rt; framer.ended(), false);
-    assert_eq!(rt; framer.stop().err(), fault);
+    assert_eq!(rt; stopped(&framer), fault);
     Ok(())
 }
 
 #[test]
 fn does_not_keep_the_end_of_input(rt: HostRuntime) -> Result<(), Fail> {
     let mut framer = Framer::new(rt.alloc());
-    assert_eq!(rt; framer.stop().err(), refused(Reason::NoEnd, 0, 0, 0));
-    let fed = framer.feed(&HEADER)?;
-    assert_eq!(rt; fed.taken, 6);
+    assert_eq!(rt; stopped(&framer), refused(Reason::NoEnd, 0, 0, 0));
+    assert_eq!(rt; takes(&mut framer, &HEADER)?.0, 6);
     Ok(())
 }
 
+/// The shortest spelling of a value.
+fn shortest<'a, T: Field<'a>>(alloc: Global, value: &T) -> Result<Vec<u8>, AllocError> {
+    let mut out = Vec::new(alloc);
+    value.put(&mut out)?;
+    Ok(out)
+}
+
 #[test]
-fn puts_the_shortest_spelling(rt: HostRuntime) -> Result<(), Fail> {
+fn puts_the_shortest_index(rt: HostRuntime) -> Result<(), Fail> {
     for (value, bytes) in [
         (127, [0x7F].as_slice()),
         (128, [0x80, 0x80].as_slice()),
         (300, [0x81, 0x2C].as_slice()),
     ] {
-        let mut out = Vec::new(rt.alloc());
-        Index(value).put(&mut out)?;
-        assert_eq!(rt; out.as_slice(), bytes);
+        assert_eq!(rt; shortest(rt.alloc(), &Index(value))?.as_slice(), bytes);
     }
+    Ok(())
+}
+
+#[test]
+fn puts_the_shortest_communal_length(rt: HostRuntime) -> Result<(), Fail> {
     for (value, bytes) in [
         (128, [0x80].as_slice()),
         (129, [0x81, 0x81, 0x00].as_slice()),
         (65_536, [0x84, 0x00, 0x00, 0x01].as_slice()),
         (16_777_216, [0x88, 0x00, 0x00, 0x00, 0x01].as_slice()),
     ] {
-        let mut out = Vec::new(rt.alloc());
-        CommunalLength(value).put(&mut out)?;
-        assert_eq!(rt; out.as_slice(), bytes);
+        assert_eq!(rt;
+            shortest(rt.alloc(), &CommunalLength(value))?.as_slice(),
+            bytes
+        );
     }
-    let mut out = Vec::new(rt.alloc());
-    Le16(0x1234).put(&mut out)?;
-    Le32(0x1234_5678).put(&mut out)?;
-    Name(b"FLAT".as_slice()).put(&mut out)?;
+    Ok(())
+}
+
+#[test]
+fn puts_numbers_and_names(rt: HostRuntime) -> Result<(), Fail> {
+    let mut out = shortest(rt.alloc(), &Le16(0x1234))?;
+    out.extend_from_slice(&shortest(rt.alloc(), &Le32(0x1234_5678))?)?;
+    out.extend_from_slice(&shortest(rt.alloc(), &Name(b"FLAT".as_slice()))?)?;
     let bytes = [
         0x34, 0x12, 0x78, 0x56, 0x34, 0x12, 4, 0x46, 0x4C, 0x41, 0x54,
     ];
@@ -252,31 +289,57 @@ fn puts_the_shortest_spelling(rt: HostRuntime) -> Result<(), Fail> {
     Ok(())
 }
 
+/// The value that is spelled at a position of these bytes, and the position after it.
+fn read<'a, T: Field<'a>>(bytes: &'a [u8], position: usize) -> Option<(T, usize)> {
+    if position > bytes.len() {
+        return None;
+    }
+    T::read_at(bytes, position)
+}
+
 #[test]
-fn reads_spellings(rt: HostRuntime) -> Result<(), Fail> {
+fn reads_indices(rt: HostRuntime) -> Result<(), Fail> {
     let long = [0x81, 0x2C, 0x05];
-    assert_eq!(rt; Index::read_at(&long, 0), Some((Index(300), 2)));
-    assert_eq!(rt; Index::read_at(&long, 2), Some((Index(5), 3)));
-    assert_eq!(rt; Index::read_at(&long, 3), None);
-    assert_eq!(rt; Index::read_at(&[0x80], 0), None);
-    assert_eq!(rt; Index::read_at(&[0x80, 0x01], 0), Some((Index(1), 2)));
-    assert_eq!(rt;
-        CommunalLength::read_at(&[0x80, 0x01], 0),
-        Some((CommunalLength(128), 1))
-    );
-    assert_eq!(rt;
-        CommunalLength::read_at(&[0x81, 0x80, 0x00], 0),
-        Some((CommunalLength(128), 3))
-    );
-    assert_eq!(rt; CommunalLength::read_at(&[0x82, 0x01, 0x02], 0), None);
-    assert_eq!(rt; CommunalLength::read_at(&[0x81, 0x00], 0), None);
-    assert_eq!(rt; Le16::read_at(&[0x34, 0x12], 0), Some((Le16(0x1234), 2)));
-    assert_eq!(rt; Le32::read_at(&[0x34, 0x12], 0), None);
-    assert_eq!(rt;
-        Name::read_at(&[0x01, 0x54], 0).map(|(name, end)| (name.0.len(), end)),
-        Some((1, 2))
-    );
-    assert_eq!(rt; Name::read_at(&[0x05, 0x41], 0).is_none(), true);
+    for (bytes, position, found) in [
+        (long.as_slice(), 0, Some((Index(300), 2))),
+        (long.as_slice(), 2, Some((Index(5), 3))),
+        (long.as_slice(), 3, None),
+        ([0x80].as_slice(), 0, None),
+        ([0x80, 0x01].as_slice(), 0, Some((Index(1), 2))),
+    ] {
+        assert_eq!(rt; read(bytes, position), found);
+    }
+    Ok(())
+}
+
+#[test]
+fn reads_communal_lengths(rt: HostRuntime) -> Result<(), Fail> {
+    for (bytes, found) in [
+        ([0x80, 0x01].as_slice(), Some((CommunalLength(128), 1))),
+        (
+            [0x81, 0x80, 0x00].as_slice(),
+            Some((CommunalLength(128), 3)),
+        ),
+        ([0x82, 0x01, 0x02].as_slice(), None),
+        ([0x81, 0x00].as_slice(), None),
+    ] {
+        assert_eq!(rt; read(bytes, 0), found);
+    }
+    Ok(())
+}
+
+/// The length of the name that is spelled at the front, and the position after it.
+fn read_name(bytes: &[u8]) -> Option<(usize, usize)> {
+    let (name, end) = read::<Name<'_>>(bytes, 0)?;
+    Some((name.0.len(), end))
+}
+
+#[test]
+fn reads_numbers_and_names(rt: HostRuntime) -> Result<(), Fail> {
+    assert_eq!(rt; read(&[0x34, 0x12], 0), Some((Le16(0x1234), 2)));
+    assert_eq!(rt; read::<Le32>(&[0x34, 0x12], 0), None);
+    assert_eq!(rt; read_name(&[0x01, 0x54]), Some((1, 2)));
+    assert_eq!(rt; read_name(&[0x05, 0x41]), None);
     Ok(())
 }
 
@@ -335,6 +398,13 @@ pub(crate) fn failure<T: Drop>(answer: Result<T, io::Error>) -> Option<ErrorKind
     }
 }
 
+/// Whether the writing of the header's record to this writer ends with that failure, or none, and with these bytes taken.
+fn is_written(slow: Slow, failed: Option<ErrorKind>, written: &[u8]) -> bool {
+    let mut slow = slow;
+    let answer = write_record(&mut Writing::new(&mut slow), 0x80, &[0x01, 0x41]);
+    failure(answer) == failed && slow.bytes.as_slice() == written
+}
+
 #[test]
 fn writes_to_slow_and_failing_writers(rt: HostRuntime) -> Result<(), Fail> {
     for (room, interruptions, fails, kind, written) in [
@@ -345,16 +415,14 @@ fn writes_to_slow_and_failing_writers(rt: HostRuntime) -> Result<(), Fail> {
         (4, 0, false, Some(ErrorKind::WriteZero), 4),
         (0, 0, false, Some(ErrorKind::WriteZero), 0),
     ] {
-        let mut slow = Slow {
+        let slow = Slow {
             bytes: Vec::new(rt.alloc()),
             room,
             interruptions,
             left: interruptions,
             fails,
         };
-        let answer = write_record(&mut Writing::new(&mut slow), 0x80, &[0x01, 0x41]);
-        assert_eq!(rt; failure(answer), kind);
-        assert_eq!(rt; slow.bytes.as_slice(), &HEADER[..written]);
+        assert!(rt; is_written(slow, kind, &HEADER[..written]), "room {room}");
     }
     Ok(())
 }
@@ -385,23 +453,27 @@ fn shows_what_a_buffer_holds(rt: HostRuntime) -> Result<(), Fail> {
 #[test]
 fn wants_the_record_that_is_ahead(rt: HostRuntime) -> Result<(), Fail> {
     let mut framer = Framer::new(rt.alloc());
-    assert_eq!(rt; framer.want_with(&[]), 1);
-    assert_eq!(rt; framer.want_with(&HEADER), 6);
-    assert_eq!(rt; framer.want_with(&HEADER[..2]), 3);
-    assert_eq!(rt; framer.want_with(&[0xC2, 0x04, 0x00]), 1);
-    framer.feed(&HEADER[..1])?;
-    assert_eq!(rt; framer.want_with(&HEADER[1..]), 2);
+    for (ahead, want) in [
+        ([].as_slice(), 1),
+        (HEADER.as_slice(), 6),
+        (HEADER.split_at(2).0, 3),
+        ([0xC2, 0x04, 0x00].as_slice(), 1),
+    ] {
+        assert_eq!(rt; wants(&framer, Some(ahead)), want);
+    }
+    assert_eq!(rt; takes(&mut framer, HEADER.split_at(1).0)?.0, 1);
+    assert_eq!(rt; wants(&framer, Some(HEADER.split_at(1).1)), 2);
     Ok(())
 }
 
 #[test]
 fn pulls_a_piece_past_interruptions(rt: HostRuntime) -> Result<(), Fail> {
-    let mut buf = [0; 4];
-    let mut source = Script::new(HEADER.as_slice(), Then::Ends).interrupted(999);
-    assert_eq!(rt; pull_piece(&mut source, &mut buf)?, 4);
-    assert_eq!(rt; buf.as_slice(), &HEADER[..4]);
-    let mut source = Script::new(HEADER.as_slice(), Then::Ends).interrupted(1000);
-    let answer = pull_piece(&mut source, &mut buf);
-    assert_eq!(rt; failure(answer), Some(ErrorKind::Interrupted));
+    for (interruptions, answer) in [
+        (999, Ok(HEADER.split_at(4).0)),
+        (1000, Err(ErrorKind::Interrupted)),
+    ] {
+        let mut script = Script::new(HEADER.as_slice(), Then::Ends).interrupted(interruptions);
+        pull_pieces(&rt, &mut script, &[answer])?;
+    }
     Ok(())
 }

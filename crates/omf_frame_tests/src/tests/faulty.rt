@@ -3,12 +3,21 @@
 use super::failure;
 use omf_frame::faulty::{Full, Script, Taker, Then};
 use omf_frame::{Sink, Source, pull_piece, push_all, write_record};
+use std::io;
 use std::io::ErrorKind;
 use std::process::Abort;
 use std::test::Fail;
 
 /// A header's record, with its checksum byte.
 const HEADER: [u8; 6] = [0x80, 0x03, 0x00, 0x01, 0x41, 0x3B];
+
+/// Whether what was answered is that: of bytes those at the front of the buffer, of a failure its kind.
+fn is_that(answer: io::Result<usize>, buf: &[u8], expected: Result<&[u8], ErrorKind>) -> bool {
+    match answer {
+        Ok(count) => expected.is_ok() && buf.get(..count) == expected.ok(),
+        Err(error) => expected.err() == Some(error.kind()),
+    }
+}
 
 /// What some pulls into a buffer of `room` bytes must answer, one after another.
 fn pulls(
@@ -21,15 +30,37 @@ fn pulls(
     if room == 0 || room > 8 {
         return Ok(());
     }
-    for answer in answers {
-        let pulled = script.pull(&mut buf[..room]);
-        match (pulled, *answer) {
-            (Ok(count), Ok(bytes)) => assert_eq!(rt; buf.get(..count), Some(bytes)),
-            (Err(error), Err(kind)) => assert_eq!(rt; error.kind(), kind),
-            (pulled, _) => assert_eq!(rt; pulled.is_ok(), answer.is_ok()),
-        }
+    for expected in answers {
+        let answer = script.pull(&mut buf[..room]);
+        assert!(rt; is_that(answer, &buf, *expected));
     }
     Ok(())
+}
+
+/// What some calls of `pull_piece` with room for four bytes must answer, one after another.
+pub(crate) fn pull_pieces(
+    rt: &impl Abort,
+    script: &mut Script<'_>,
+    answers: &[Result<&[u8], ErrorKind>],
+) -> Result<(), Fail> {
+    let mut buf = [0; 4];
+    for expected in answers {
+        let answer = pull_piece(script, &mut buf);
+        assert!(rt; is_that(answer, &buf, *expected));
+    }
+    Ok(())
+}
+
+/// Whether the writing of the header's record to this taker ends with that failure, or none, and with these bytes taken.
+fn is_written(taker: Taker, failed: Option<ErrorKind>, written: &[u8]) -> bool {
+    let mut taker = taker;
+    let answer = write_record(&mut taker, 0x80, &[0x01, 0x41]);
+    failure(answer) == failed && taker.bytes() == written
+}
+
+/// The kind of the failure to push the bytes, where they were not taken.
+fn not_pushed(taker: &mut Taker, bytes: &[u8]) -> Option<ErrorKind> {
+    failure(push_all(taker, bytes))
 }
 
 #[test]
@@ -90,15 +121,26 @@ fn is_interrupted_before_each_answer(rt: HostRuntime) -> Result<(), Fail> {
     pulls(&rt, &mut script, 8, &answers)
 }
 
+/// How many bytes are taken of a push, or the kind of its failure.
+fn pushed(taker: &mut Taker, bytes: &[u8]) -> Result<usize, ErrorKind> {
+    match taker.push(bytes) {
+        Ok(count) => Ok(count),
+        Err(error) => Err(error.kind()),
+    }
+}
+
 #[test]
 fn takes_pieces_up_to_its_room(rt: HostRuntime) -> Result<(), Fail> {
     let mut taker = Taker::new(rt.alloc(), 5, Full::Fails)?.in_pieces(3);
-    assert_eq!(rt; taker.push(&[])?, 0);
-    assert_eq!(rt; taker.push(&HEADER)?, 3);
-    assert_eq!(rt; taker.push(&HEADER[3..])?, 2);
-    let refused = taker.push(&HEADER[5..]);
-    assert_eq!(rt; failure(refused), Some(ErrorKind::Other));
-    assert_eq!(rt; taker.push(&[])?, 0);
+    for (from, answer) in [
+        (6, Ok(0)),
+        (0, Ok(3)),
+        (3, Ok(2)),
+        (5, Err(ErrorKind::Other)),
+        (6, Ok(0)),
+    ] {
+        assert_eq!(rt; pushed(&mut taker, HEADER.split_at(from).1), answer);
+    }
     assert_eq!(rt; taker.bytes(), &HEADER[..5]);
     Ok(())
 }
@@ -113,12 +155,9 @@ fn records_are_written_until_the_room_is_used_up(rt: HostRuntime) -> Result<(), 
         (5, Full::TakesNone, 0, Some(ErrorKind::WriteZero), 5),
         (0, Full::TakesNone, 0, Some(ErrorKind::WriteZero), 0),
     ] {
-        let mut taker = Taker::new(rt.alloc(), room, full)?
-            .in_pieces(2)
-            .interrupted(interruptions);
-        let answer = write_record(&mut taker, 0x80, &[0x01, 0x41]);
-        assert_eq!(rt; failure(answer), kind, "room {room}");
-        assert_eq!(rt; taker.bytes(), &HEADER[..written]);
+        let taker = Taker::new(rt.alloc(), room, full)?.in_pieces(2);
+        let taker = taker.interrupted(interruptions);
+        assert!(rt; is_written(taker, kind, &HEADER[..written]), "room {room}");
     }
     Ok(())
 }
@@ -149,37 +188,39 @@ fn fails_once_and_goes_on(rt: HostRuntime) -> Result<(), Fail> {
 
 #[test]
 fn a_failure_is_answered_at_once(rt: HostRuntime) -> Result<(), Fail> {
-    let mut buf = [0; 4];
     let mut script = Script::new(&HEADER, Then::Ends)
         .interrupted(2)
         .failing_once(1);
-    assert_eq!(rt; pull_piece(&mut script, &mut buf)?, 4);
-    let failed = pull_piece(&mut script, &mut buf);
-    assert_eq!(rt; failure(failed), Some(ErrorKind::Other));
-    assert_eq!(rt; pull_piece(&mut script, &mut buf)?, 2);
-    assert_eq!(rt; &buf[..2], &HEADER[4..]);
-    Ok(())
+    let answers = [Ok(&HEADER[..4]), Err(ErrorKind::Other), Ok(&HEADER[4..])];
+    pull_pieces(&rt, &mut script, &answers)
 }
 
 #[test]
 fn a_push_that_fails_ends_the_writing(rt: HostRuntime) -> Result<(), Fail> {
-    for (after, written) in [(0, 0), (1, 2), (2, 3), (3, 5), (4, 6)] {
-        let mut taker = Taker::new(rt.alloc(), 6, Full::Fails)?
-            .in_pieces(2)
-            .interrupted(3)
-            .failing_once(after);
-        let answer = write_record(&mut taker, 0x80, &[0x01, 0x41]);
-        let kind = failure(answer);
-        let failed = (after < 4).then_some(ErrorKind::Other);
-        assert_eq!(rt; kind, failed, "after {after}");
-        assert_eq!(rt; taker.bytes(), &HEADER[..written]);
+    for (after, failed, written) in [
+        (0, Some(ErrorKind::Other), 0),
+        (1, Some(ErrorKind::Other), 2),
+        (2, Some(ErrorKind::Other), 3),
+        (3, Some(ErrorKind::Other), 5),
+        (4, None, 6),
+    ] {
+        let taker = Taker::new(rt.alloc(), 6, Full::Fails)?.in_pieces(2);
+        let taker = taker.interrupted(3).failing_once(after);
+        assert!(rt;
+            is_written(taker, failed, &HEADER[..written]),
+            "after {after}"
+        );
     }
+    Ok(())
+}
+
+#[test]
+fn a_push_goes_on_after_a_failure(rt: HostRuntime) -> Result<(), Fail> {
     let mut taker = Taker::new(rt.alloc(), 6, Full::Fails)?
         .in_pieces(4)
         .failing_once(1);
-    let failed = push_all(&mut taker, &HEADER);
-    assert_eq!(rt; failure(failed), Some(ErrorKind::Other));
-    push_all(&mut taker, &HEADER[4..])?;
+    assert_eq!(rt; not_pushed(&mut taker, &HEADER), Some(ErrorKind::Other));
+    assert_eq!(rt; not_pushed(&mut taker, &HEADER[4..]), None);
     assert_eq!(rt; taker.bytes(), HEADER.as_slice());
     Ok(())
 }

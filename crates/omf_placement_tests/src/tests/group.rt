@@ -42,11 +42,6 @@ fn frame(base: u32, selector: u16) -> Frame {
     Frame { base, selector }
 }
 
-fn at(address: u32, base: u32, selector: u16) -> Placed {
-    let frame = frame(base, selector);
-    Placed { address, frame }
-}
-
 fn checked(alloc: Global, records: &[&[u8]]) -> Result<Checked, CheckFault> {
     let mut bytes = Vec::new(alloc);
     for record in records {
@@ -144,147 +139,384 @@ fn gives(
     Ok(has(&placement, segments, groups, externals))
 }
 
+/// A text, and the segments, groups and externals of the placement that it gives a module.
+struct Given {
+    text: &'static [u8],
+    segments: &'static [Placed],
+    groups: &'static [Frame],
+    externals: &'static [Placed],
+}
+
+/// The first of these texts that gives a module another placement.
+fn first_wrong(
+    alloc: Global,
+    module: &Checked,
+    cases: &[Given],
+) -> Result<Option<&'static [u8]>, TextFault> {
+    for case in cases {
+        let (segments, groups, externals) = (case.segments, case.groups, case.externals);
+        if !gives(alloc, module, case.text, segments, groups, externals)? {
+            return Ok(Some(case.text));
+        }
+    }
+    Ok(None)
+}
+
+/// A segment at 10020, in a frame of base 10000, and in its own of real mode.
+const LOW: Placed = Placed {
+    address: 0x10020,
+    frame: Frame {
+        base: 0x10000,
+        selector: 0x1000,
+    },
+};
+
+const REAL: Placed = Placed {
+    address: 0x10020,
+    frame: Frame {
+        base: 0x10020,
+        selector: 0x1002,
+    },
+};
+
+const BEGINNINGS: [Given; 5] = [
+    Given {
+        text: b"S 10020 10000 1000\nG 10010 1001",
+        segments: &[LOW],
+        groups: &[Frame {
+            base: 0x10010,
+            selector: 0x1001,
+        }],
+        externals: &[],
+    },
+    Given {
+        text: b"S 10020 10000 1000\nG real",
+        segments: &[LOW],
+        groups: &[Frame {
+            base: 0x10000,
+            selector: 0x1000,
+        }],
+        externals: &[],
+    },
+    Given {
+        text: b"S 10020 real\nG real",
+        segments: &[REAL],
+        groups: &[Frame {
+            base: 0x10020,
+            selector: 0x1002,
+        }],
+        externals: &[],
+    },
+    Given {
+        text: b"G real\nS 10020 real",
+        segments: &[REAL],
+        groups: &[Frame {
+            base: 0x10020,
+            selector: 0x1002,
+        }],
+        externals: &[],
+    },
+    Given {
+        text: b"\r\n  G real  ; of its members\r\nS 10020 real\n",
+        segments: &[REAL],
+        groups: &[Frame {
+            base: 0x10020,
+            selector: 0x1002,
+        }],
+        externals: &[],
+    },
+];
+
 #[test]
 fn a_group_begins_where_its_segment_does(rt: HostRuntime) -> Result<(), Fail> {
-    let a = rt.alloc();
-    let module = started(a)?;
-    let low = at(0x10020, 0x10000, 0x1000);
-    let real = at(0x10020, 0x10020, 0x1002);
-    for (text, segment, group) in [
-        (
-            b"S 10020 10000 1000\nG 10010 1001".as_slice(),
-            low,
-            frame(0x10010, 0x1001),
-        ),
-        (b"S 10020 10000 1000\nG real", low, low.frame),
-        (b"S 10020 real\nG real", real, real.frame),
-        (b"G real\nS 10020 real", real, real.frame),
-        (
-            b"\r\n  G real  ; of its members\r\nS 10020 real\n",
-            real,
-            real.frame,
-        ),
-    ] {
-        assert!(rt; gives(a, &module, text, &[segment], &[group], &[])?);
-    }
+    let module = started(rt.alloc())?;
+    assert_eq!(rt; first_wrong(rt.alloc(), &module, &BEGINNINGS)?, None);
     Ok(())
 }
 
+const STAYING: [Given; 5] = [
+    Given {
+        text: b"",
+        segments: &[],
+        groups: &[],
+        externals: &[],
+    },
+    Given {
+        text: b"S 10020 real ; x",
+        segments: &[REAL],
+        groups: &[],
+        externals: &[],
+    },
+    Given {
+        text: b"S 10020 10000 1000\nG 0 0",
+        segments: &[LOW],
+        groups: &[Frame {
+            base: 0,
+            selector: 0,
+        }],
+        externals: &[],
+    },
+    Given {
+        text: b"S 401000 0 1B\nG 0 23",
+        segments: &[Placed {
+            address: 0x40_1000,
+            frame: Frame {
+                base: 0,
+                selector: 0x1B,
+            },
+        }],
+        groups: &[Frame {
+            base: 0,
+            selector: 0x23,
+        }],
+        externals: &[],
+    },
+    Given {
+        text: b"E 100A1 10000 1000\nG 0 23\nS 10020 real\nG 10010 5\nE 1 0 0\nS 10020 10000 1000",
+        segments: &[REAL, LOW],
+        groups: &[
+            Frame {
+                base: 0,
+                selector: 0x23,
+            },
+            Frame {
+                base: 0x10010,
+                selector: 5,
+            },
+        ],
+        externals: &[
+            Placed {
+                address: 0x100A1,
+                frame: Frame {
+                    base: 0x10000,
+                    selector: 0x1000,
+                },
+            },
+            Placed {
+                address: 1,
+                frame: Frame {
+                    base: 0,
+                    selector: 0,
+                },
+            },
+        ],
+    },
+];
+
 #[test]
 fn what_is_given_stays(rt: HostRuntime) -> Result<(), Fail> {
-    let a = rt.alloc();
-    let module = first_module(a)?;
-    let low = at(0x10020, 0x10000, 0x1000);
-    let real = at(0x10020, 0x10020, 0x1002);
-    let far = at(0x100A1, 0x10000, 0x1000);
-    assert!(rt; gives(a, &module, b"", &[], &[], &[])?);
-    assert!(rt; gives(a, &module, b"S 10020 real ; x", &[real], &[], &[])?);
-    assert!(rt;
-        gives(
-            a,
-            &module,
-            b"S 10020 10000 1000\nG 0 0",
-            &[low],
-            &[frame(0, 0)],
-            &[]
-        )?
-    );
-    assert!(rt;
-        gives(
-            a,
-            &module,
-            b"S 401000 0 1B\nG 0 23",
-            &[at(0x40_1000, 0, 0x1B)],
-            &[frame(0, 0x23)],
-            &[]
-        )?
-    );
-    let text = b"E 100A1 10000 1000\nG 0 23\nS 10020 real\nG 10010 5\nE 1 0 0\nS 10020 10000 1000";
-    assert!(rt;
-        gives(
-            a,
-            &module,
-            text,
-            &[real, low],
-            &[frame(0, 0x23), frame(0x10010, 5)],
-            &[far, at(1, 0, 0)]
-        )?
-    );
+    let module = first_module(rt.alloc())?;
+    assert_eq!(rt; first_wrong(rt.alloc(), &module, &STAYING)?, None);
     Ok(())
 }
+
+/// A segment above that, and one at its address in another frame.
+const HIGH: Placed = Placed {
+    address: 0x10050,
+    frame: Frame {
+        base: 0,
+        selector: 0,
+    },
+};
+
+const TIED: Placed = Placed {
+    address: 0x10020,
+    frame: Frame {
+        base: 0,
+        selector: 0,
+    },
+};
+
+/// What the group of both segments is given, and the one that lists them the other way round.
+const LOWEST: [Given; 4] = [
+    Given {
+        text: b"S 10020 10000 1000\nS 10050 0 0\nG real",
+        segments: &[LOW, HIGH],
+        groups: &[Frame {
+            base: 0x10000,
+            selector: 0x1000,
+        }],
+        externals: &[],
+    },
+    Given {
+        text: b"S 10050 0 0\nG real\nS 10020 10000 1000",
+        segments: &[HIGH, LOW],
+        groups: &[Frame {
+            base: 0x10000,
+            selector: 0x1000,
+        }],
+        externals: &[],
+    },
+    Given {
+        text: b"G real\nS 10020 10000 1000\nS 10020 0 0",
+        segments: &[LOW, TIED],
+        groups: &[Frame {
+            base: 0x10000,
+            selector: 0x1000,
+        }],
+        externals: &[],
+    },
+    Given {
+        text: b"S FFFFFFFF 1 1\nS FFFFFFFE 2 2\nG real",
+        segments: &[
+            Placed {
+                address: 0xFFFF_FFFF,
+                frame: Frame {
+                    base: 1,
+                    selector: 1,
+                },
+            },
+            Placed {
+                address: 0xFFFF_FFFE,
+                frame: Frame {
+                    base: 2,
+                    selector: 2,
+                },
+            },
+        ],
+        groups: &[Frame {
+            base: 2,
+            selector: 2,
+        }],
+        externals: &[],
+    },
+];
+
+const LOWEST_TURNED: [Given; 4] = [
+    Given {
+        text: b"S 10020 10000 1000\nS 10050 0 0\nG real",
+        segments: &[LOW, HIGH],
+        groups: &[Frame {
+            base: 0x10000,
+            selector: 0x1000,
+        }],
+        externals: &[],
+    },
+    Given {
+        text: b"S 10050 0 0\nG real\nS 10020 10000 1000",
+        segments: &[HIGH, LOW],
+        groups: &[Frame {
+            base: 0x10000,
+            selector: 0x1000,
+        }],
+        externals: &[],
+    },
+    Given {
+        text: b"G real\nS 10020 10000 1000\nS 10020 0 0",
+        segments: &[LOW, TIED],
+        groups: &[Frame {
+            base: 0,
+            selector: 0,
+        }],
+        externals: &[],
+    },
+    Given {
+        text: b"S FFFFFFFF 1 1\nS FFFFFFFE 2 2\nG real",
+        segments: &[
+            Placed {
+                address: 0xFFFF_FFFF,
+                frame: Frame {
+                    base: 1,
+                    selector: 1,
+                },
+            },
+            Placed {
+                address: 0xFFFF_FFFE,
+                frame: Frame {
+                    base: 2,
+                    selector: 2,
+                },
+            },
+        ],
+        groups: &[Frame {
+            base: 2,
+            selector: 2,
+        }],
+        externals: &[],
+    },
+];
 
 #[test]
 fn the_lowest_member_counts(rt: HostRuntime) -> Result<(), Fail> {
     let a = rt.alloc();
-    let both = grouped(a, &[&BOTH])?;
-    let turned = grouped(a, &[&BOTH_TURNED])?;
-    let low = at(0x10020, 0x10000, 0x1000);
-    let high = at(0x10050, 0, 0);
-    let tied = at(0x10020, 0, 0);
-    for (text, first, second, group, group_turned) in [
-        (
-            b"S 10020 10000 1000\nS 10050 0 0\nG real".as_slice(),
-            low,
-            high,
-            low.frame,
-            low.frame,
-        ),
-        (
-            b"S 10050 0 0\nG real\nS 10020 10000 1000",
-            high,
-            low,
-            low.frame,
-            low.frame,
-        ),
-        (
-            b"G real\nS 10020 10000 1000\nS 10020 0 0",
-            low,
-            tied,
-            low.frame,
-            tied.frame,
-        ),
-        (
-            b"S FFFFFFFF 1 1\nS FFFFFFFE 2 2\nG real",
-            at(0xFFFF_FFFF, 1, 1),
-            at(0xFFFF_FFFE, 2, 2),
-            frame(2, 2),
-            frame(2, 2),
-        ),
-    ] {
-        assert!(rt; gives(a, &both, text, &[first, second], &[group], &[])?);
-        assert!(rt; gives(a, &turned, text, &[first, second], &[group_turned], &[])?);
-    }
+    assert_eq!(rt; first_wrong(a, &grouped(a, &[&BOTH])?, &LOWEST)?, None);
+    assert_eq!(rt;
+        first_wrong(a, &grouped(a, &[&BOTH_TURNED])?, &LOWEST_TURNED)?,
+        None
+    );
     Ok(())
 }
 
+const COUNTED: [Given; 2] = [
+    Given {
+        text: b"S 20 20 2\nG 0 0\nG real\nS 30 30 3\nG real",
+        segments: &[
+            Placed {
+                address: 0x20,
+                frame: Frame {
+                    base: 0x20,
+                    selector: 2,
+                },
+            },
+            Placed {
+                address: 0x30,
+                frame: Frame {
+                    base: 0x30,
+                    selector: 3,
+                },
+            },
+        ],
+        groups: &[
+            Frame {
+                base: 0,
+                selector: 0,
+            },
+            Frame {
+                base: 0x30,
+                selector: 3,
+            },
+            Frame {
+                base: 0x20,
+                selector: 2,
+            },
+        ],
+        externals: &[],
+    },
+    Given {
+        text: b"G real\nG 0 0\nG 0 0\nG 1 1\nS 20 20 2",
+        segments: &[Placed {
+            address: 0x20,
+            frame: Frame {
+                base: 0x20,
+                selector: 2,
+            },
+        }],
+        groups: &[
+            Frame {
+                base: 0x20,
+                selector: 2,
+            },
+            Frame {
+                base: 0,
+                selector: 0,
+            },
+            Frame {
+                base: 0,
+                selector: 0,
+            },
+            Frame {
+                base: 1,
+                selector: 1,
+            },
+        ],
+        externals: &[],
+    },
+];
+
 #[test]
 fn all_group_lines_are_counted(rt: HostRuntime) -> Result<(), Fail> {
-    let a = rt.alloc();
-    let module = grouped(a, &[&GROUP, &SECOND, &BOTH])?;
-    let one = at(0x20, 0x20, 2);
-    let other = at(0x30, 0x30, 3);
-    let text = b"S 20 20 2\nG 0 0\nG real\nS 30 30 3\nG real";
-    assert!(rt;
-        gives(
-            a,
-            &module,
-            text,
-            &[one, other],
-            &[frame(0, 0), other.frame, one.frame],
-            &[]
-        )?
-    );
-    let text = b"G real\nG 0 0\nG 0 0\nG 1 1\nS 20 20 2";
-    assert!(rt;
-        gives(
-            a,
-            &module,
-            text,
-            &[one],
-            &[one.frame, frame(0, 0), frame(0, 0), frame(1, 1)],
-            &[]
-        )?
-    );
+    let module = grouped(rt.alloc(), &[&GROUP, &SECOND, &BOTH])?;
+    assert_eq!(rt; first_wrong(rt.alloc(), &module, &COUNTED)?, None);
     Ok(())
 }
 
@@ -331,27 +563,46 @@ fn the_count_of_group_lines_does_not_wrap(rt: HostRuntime) -> Result<(), Fail> {
     Ok(())
 }
 
+/// A placement of one segment.
+fn one_placed(alloc: Global) -> Result<Placement, AllocError> {
+    let mut placement = Placement::new(alloc);
+    placement.push_segment(0x10020, frame(0x10000, 0x1000))?;
+    Ok(placement)
+}
+
+/// That segment, a group, an external, and two segments more.
+fn three_placed(alloc: Global) -> Result<Placement, AllocError> {
+    let mut placement = one_placed(alloc)?;
+    placement.push_group(frame(1, 1))?;
+    placement.push_external(0, frame(2, 2))?;
+    placement.push_segment(0x10020, frame(0x10010, 0x1001))?;
+    placement.push_segment(0, frame(3, 3))?;
+    Ok(placement)
+}
+
+/// The frame that the members give a group.
+fn frame_of(module: &Checked, placement: &Placement, group: u16) -> Option<Frame> {
+    real_group(module, placement, group)
+}
+
 #[test]
 fn a_placement_gives_a_group_its_frame(rt: HostRuntime) -> Result<(), Fail> {
     let a = rt.alloc();
     let module = grouped(a, &[&GROUP, &SECOND, &BOTH, &BOTH_TURNED, &EMPTY])?;
-    let mut placement = Placement::new(a);
+    let empty = Placement::new(a);
     for i in [0, 1, 2, 3, 4, 5, 6, 65_535] {
-        assert_eq!(rt; real_group(&module, &placement, i), None);
+        assert_eq!(rt; frame_of(&module, &empty, i), None);
     }
-    placement.push_segment(0x10020, frame(0x10000, 0x1000))?;
+    let one = one_placed(a)?;
     for (i, found) in [
         (1, Some(frame(0x10000, 0x1000))),
         (2, None),
         (3, None),
         (4, None),
     ] {
-        assert_eq!(rt; real_group(&module, &placement, i), found);
+        assert_eq!(rt; frame_of(&module, &one, i), found);
     }
-    placement.push_group(frame(1, 1))?;
-    placement.push_external(0, frame(2, 2))?;
-    placement.push_segment(0x10020, frame(0x10010, 0x1001))?;
-    placement.push_segment(0, frame(3, 3))?;
+    let three = three_placed(a)?;
     for (i, found) in [
         (0, None),
         (1, Some(frame(0x10000, 0x1000))),
@@ -362,7 +613,7 @@ fn a_placement_gives_a_group_its_frame(rt: HostRuntime) -> Result<(), Fail> {
         (6, None),
         (65_535, None),
     ] {
-        assert_eq!(rt; real_group(&module, &placement, i), found);
+        assert_eq!(rt; frame_of(&module, &three, i), found);
     }
     Ok(())
 }

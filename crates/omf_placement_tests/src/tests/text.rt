@@ -1,6 +1,7 @@
 //! Each form of a line, and what is no line.
 
 use omf_placement::{Frame, Placed, TextFault, parse_placement};
+use std::alloc::Global;
 use std::test::Fail;
 
 fn frame(base: u32, selector: u16) -> Frame {
@@ -10,6 +11,23 @@ fn frame(base: u32, selector: u16) -> Frame {
 fn at(address: u32, base: u32, selector: u16) -> Placed {
     let frame = frame(base, selector);
     Placed { address, frame }
+}
+
+/// Whether a text has these entries and no other.
+fn has(
+    alloc: Global,
+    text: &[u8],
+    segments: &[Placed],
+    groups: &[(u64, Option<Frame>)],
+    externals: &[Placed],
+) -> Result<bool, TextFault> {
+    let draft = parse_placement(alloc, text)?;
+    Ok(draft.segments() == segments && draft.groups() == groups && draft.externals() == externals)
+}
+
+/// The line of a text that is at fault.
+fn faulty_line(alloc: Global, text: &[u8]) -> Option<TextFault> {
+    parse_placement(alloc, text).err()
 }
 
 #[test]
@@ -42,10 +60,7 @@ fn reads_segments(rt: HostRuntime) -> Result<(), Fail> {
             at(0xABCD_EF09, 0x1234_5678, 0x9ABC),
         ),
     ] {
-        let draft = parse_placement(rt.alloc(), text)?;
-        assert_eq!(rt; draft.segments(), [placed].as_slice());
-        assert_eq!(rt; draft.groups().len(), 0);
-        assert_eq!(rt; draft.externals().len(), 0);
+        assert!(rt; has(rt.alloc(), text, &[placed], &[], &[])?);
     }
     Ok(())
 }
@@ -54,17 +69,14 @@ fn reads_segments(rt: HostRuntime) -> Result<(), Fail> {
 fn reads_groups_and_externals(rt: HostRuntime) -> Result<(), Fail> {
     let text =
         b"E 100A1 10000 1000\nS 401000 0 1B\n\nG 0 23\r\nS 20 10 1\n G real ; members\nG 10010 1001";
-    let draft = parse_placement(rt.alloc(), text.as_slice())?;
     let segments = [at(0x40_1000, 0, 0x1B), at(0x20, 0x10, 1)];
-    assert_eq!(rt; draft.segments(), segments.as_slice());
     let groups = [
         (4, Some(frame(0, 0x23))),
         (6, None),
         (7, Some(frame(0x10010, 0x1001))),
     ];
-    assert_eq!(rt; draft.groups(), groups.as_slice());
     let externals = [at(0x100A1, 0x10000, 0x1000)];
-    assert_eq!(rt; draft.externals(), externals.as_slice());
+    assert!(rt; has(rt.alloc(), text.as_slice(), &segments, &groups, &externals)?);
     Ok(())
 }
 
@@ -77,10 +89,7 @@ fn empty_lines_say_nothing(rt: HostRuntime) -> Result<(), Fail> {
         b"   \n \r\n;".as_slice(),
         b";x\r\r\n  ;\0\t\xFF\n".as_slice(),
     ] {
-        let draft = parse_placement(rt.alloc(), text)?;
-        assert_eq!(rt; draft.segments().len(), 0);
-        assert_eq!(rt; draft.groups().len(), 0);
-        assert_eq!(rt; draft.externals().len(), 0);
+        assert!(rt; has(rt.alloc(), text, &[], &[], &[])?);
     }
     Ok(())
 }
@@ -140,8 +149,7 @@ fn refuses_what_is_no_entry(rt: HostRuntime) -> Result<(), Fail> {
         b"SS 1 0 0".as_slice(),
         b"X 1 0 0".as_slice(),
     ] {
-        let fault = parse_placement(rt.alloc(), text).err();
-        assert_eq!(rt; fault, Some(TextFault::Line(1)));
+        assert_eq!(rt; faulty_line(rt.alloc(), text), Some(TextFault::Line(1)));
     }
     Ok(())
 }
@@ -155,8 +163,7 @@ fn names_the_first_line_at_fault(rt: HostRuntime) -> Result<(), Fail> {
         (b"G real\r\n;\r\nS 1 0 0\r\r\n".as_slice(), 3),
         (b"\n\n\n\n\n\n\n\n\n\n\nG".as_slice(), 12),
     ] {
-        let fault = parse_placement(rt.alloc(), text).err();
-        assert_eq!(rt; fault, Some(TextFault::Line(line)));
+        assert_eq!(rt; faulty_line(rt.alloc(), text), Some(TextFault::Line(line)));
     }
     Ok(())
 }
