@@ -1,9 +1,10 @@
 //! The order and the places of the segments of modules that were checked; values worked out by hand.
 
-use omf_arrange::{Combination, Lying, arrange, order_of};
+use omf_arrange::{Combination, Lying, arrange, order_of, place_segments};
 use omf_check::{CheckFault, Checked, Profile, check};
 use omf_frame::Reading;
 use omf_layout::{Frames, LayoutFault, Options};
+use omf_placement::Placement;
 use std::alloc::{AllocGlobal, Global};
 use std::process::Abort;
 use std::test::Fail;
@@ -278,5 +279,162 @@ fn a_portion_says_how_it_lies(rt: HostRuntime) -> Result<(), Fail> {
     for (i, combination) in expected.iter().enumerate() {
         assert!(&rt; lying.get(i).map(|lying| lying.0.lies()) == Some(*combination));
     }
+    Ok(())
+}
+
+/// A group of a module: the index of its name and that of its one member, or 0 for none.
+type Group = (u8, u8);
+
+fn add_group(bytes: &mut Vec<u8>, group: Group) -> Result<(), CheckFault> {
+    let (name, member) = group;
+    if member == 0 {
+        bytes.extend_from_slice(&[0x9A, 0x02, 0x00, name, 0x00])?;
+    } else {
+        bytes.extend_from_slice(&[0x9A, 0x04, 0x00, name, 0xFF, member, 0x00])?;
+    }
+    Ok(())
+}
+
+fn grouped(alloc: Global, segments: &[Segment], groups: &[Group]) -> Result<Checked, CheckFault> {
+    let mut bytes = Vec::new(alloc);
+    bytes.extend_from_slice(&FRONT)?;
+    for segment in segments {
+        add_segment(&mut bytes, *segment)?;
+    }
+    for group in groups {
+        add_group(&mut bytes, *group)?;
+    }
+    bytes.extend_from_slice(&END)?;
+    let any = Profile {
+        refuse_vendor_comments: false,
+    };
+    let mut reader = Reading::new(bytes.as_slice());
+    check(alloc, &mut reader, any)
+}
+
+/// Two modules. The first has of one name and class a public segment of 5 bytes and a common one of 3, and by another name an absolute one;
+/// the second a common one of 2 bytes at a paragraph, a public one of 4 at a word, and a private one of another class. A group of the name
+/// B is in both, with the second's public segment and the first's common one; one of the name C has no member.
+fn two_modules(alloc: Global) -> Result<Vec<Checked>, Fail> {
+    let mut modules = Vec::new(alloc);
+    modules.push(grouped(
+        alloc,
+        &[(0x28, 5, 2, 2), (0x38, 3, 2, 2), (ABSOLUTE, 4, 3, 2)],
+        &[(3, 2)],
+    )?)?;
+    modules.push(grouped(
+        alloc,
+        &[(0x78, 2, 2, 2), (0x48, 4, 2, 2), (0x20, 1, 2, 4)],
+        &[(4, 0), (3, 2)],
+    )?)?;
+    Ok(modules)
+}
+
+/// An address, and the base and the selector of its frame.
+type Spot = (u32, u32, u16);
+
+/// Whether the segments and the groups of a module have these places.
+fn has_places(placement: &Placement, segments: &[Spot], groups: &[(u32, u16)]) -> bool {
+    let mut same = placement.segment_count() == segments.len()
+        && placement.group_count() == groups.len()
+        && placement.external_count() == 0;
+    for (before, spot) in segments.iter().enumerate() {
+        let placed = placement.segment(before + 1);
+        let place = placed.map(|(address, frame)| (address, frame.base, frame.selector));
+        same = same && place == Some(*spot);
+    }
+    for (before, frame) in groups.iter().enumerate() {
+        let given = placement.group(before + 1);
+        same = same && given.map(|frame| (frame.base, frame.selector)) == Some(*frame);
+    }
+    same
+}
+
+#[test]
+fn two_modules_are_placed_in_real_frames(rt: HostRuntime) -> Result<(), Fail> {
+    let a = rt.alloc();
+    let modules = two_modules(a)?;
+    assert!(&rt; modules.len() < 1 << 32);
+    let options = Options {
+        base: 0x10008,
+        frames: Frames::Real,
+    };
+    let (placements, free) = place_segments(a, &modules, options)?;
+    assert!(&rt; placements.len() == 2);
+    assert!(&rt;
+        has_places(
+            &placements[0],
+            &[
+                (0x10008, 0x10000, 0x1000),
+                (0x10020, 0x10020, 0x1002),
+                (0xB8000, 0xB8000, 0xB800),
+            ],
+            &[(0x10000, 0x1000)]
+        )
+    );
+    assert!(&rt;
+        has_places(
+            &placements[1],
+            &[
+                (0x10020, 0x10020, 0x1002),
+                (0x1000E, 0x10000, 0x1000),
+                (0x10023, 0x10020, 0x1002),
+            ],
+            &[(0, 0), (0x10000, 0x1000)]
+        )
+    );
+    assert!(&rt; free == 0x10024);
+    Ok(())
+}
+
+#[test]
+fn two_modules_are_placed_in_a_flat_frame(rt: HostRuntime) -> Result<(), Fail> {
+    let a = rt.alloc();
+    let modules = two_modules(a)?;
+    assert!(&rt; modules.len() < 1 << 32);
+    let options = Options {
+        base: 0x401001,
+        frames: FLAT,
+    };
+    let (placements, free) = place_segments(a, &modules, options)?;
+    assert!(&rt; placements.len() == 2);
+    assert!(&rt;
+        has_places(
+            &placements[0],
+            &[
+                (0x401001, 0, 8),
+                (0x401010, 0, 8),
+                (0xB8000, 0xB8000, 0xB800)
+            ],
+            &[(0, 8)]
+        )
+    );
+    assert!(&rt;
+        has_places(
+            &placements[1],
+            &[(0x401010, 0, 8), (0x401006, 0, 8), (0x401013, 0, 8)],
+            &[(0, 8), (0, 8)]
+        )
+    );
+    assert!(&rt; free == 0x401014);
+    Ok(())
+}
+
+#[test]
+fn places_end_at_the_last_address(rt: HostRuntime) -> Result<(), Fail> {
+    let a = rt.alloc();
+    let modules = modules_of(a, &[&[(0x38, 12, 2, 2)], &[(0x38, 17, 2, 2)]])?;
+    assert!(&rt; modules.len() < 1 << 32);
+    let real = Options {
+        base: 0xFFFF0,
+        frames: Frames::Real,
+    };
+    assert!(&rt; matches!(place_segments(a, &modules, real), Err(LayoutFault::NoRoom)));
+    let flat = Options {
+        base: 0xFFFF0,
+        frames: FLAT,
+    };
+    let (_placements, free) = place_segments(a, &modules, flat)?;
+    assert!(&rt; free == 0x100001);
     Ok(())
 }

@@ -7,5 +7,6 @@ pub mod ApartLaws
 pub mod Printed
 pub mod DigitLaws
 pub mod SaidLaws
+pub mod TextLaws
 pub mod LineLaws
 pub mod ReadLaws

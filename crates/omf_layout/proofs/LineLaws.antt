@@ -20,22 +20,23 @@ use Rattle.omf_layout.specs.Quoted.{number, hex, is_plain, escaped, quoted, name
 use Rattle.omf_layout.specs.Reading.{IsShortFrame, IsShortPlace, unless_by_members, frame_given}
 use Rattle.omf_layout.specs.Wants.{bytes_aligned}
 use Rattle.omf_layout.proofs.DigitLaws.{is_mark, eight-digits, four-digits, marks-number, marks-decimal}
+use Rattle.omf_layout.proofs.TextLaws.{IsLineOf}
 use Rattle.omf_layout.proofs.SaidLaws.{Passes, both-pass, pass-more, is_printed, mark-printed, IsWord, IsTight, tight-word, tight-two, is-said}
 
 -- Comments have printed bytes alone: each of their words has.
-abbrev ArePrinted : List (List ℕ) → Type 0
+abbrev pub ArePrinted : List (List ℕ) → Type 0
 ArePrinted [] = Unit {0}
 ArePrinted (w ∷ ws) = Passes is_printed w × ArePrinted ws
 
-printed-words : (ws : List (List ℕ)) → ArePrinted ws → Passes is_printed (in_words ws)
+pub printed-words : (ws : List (List ℕ)) → ArePrinted ws → Passes is_printed (in_words ws)
 printed-words [] h = refl
 printed-words (w ∷ []) h = h.0
 printed-words (w ∷ v ∷ ws) h = both-pass is_printed w (32 ∷ in_words (v ∷ ws)) h.0 (printed-words (v ∷ ws) h.1)
 
-marks-printed : (cs : List ℕ) → Passes is_mark cs → Passes is_printed cs
+pub marks-printed : (cs : List ℕ) → Passes is_mark cs → Passes is_printed cs
 marks-printed cs h = pass-more is_mark is_printed mark-printed cs h
 
-printed-decimal : (n : ℕ) → Passes is_printed (decimal n)
+pub printed-decimal : (n : ℕ) → Passes is_printed (decimal n)
 printed-decimal n = marks-printed (decimal n) (marks-decimal n)
 
 zeros : (k : ℕ) → Passes is_printed (replicate k 48)
@@ -51,7 +52,7 @@ printed-name : (cs : List ℕ) → Passes is_printed (flat_map escaped cs)
 printed-name [] = refl
 printed-name (c ∷ cs) = both-pass is_printed (escaped c) (flat_map escaped cs) (printed-escaped c) (printed-name cs)
 
-printed-quoted : (cs : List ℕ) → Passes is_printed (quoted cs)
+pub printed-quoted : (cs : List ℕ) → Passes is_printed (quoted cs)
 printed-quoted cs = both-pass is_printed (34 ∷ flat_map escaped cs) (34 ∷ []) (printed-name cs) refl
 
 printed-named : (table : List (List ℕ)) (i : ℕ) → Passes is_printed (named table i)
@@ -64,16 +65,16 @@ printed-alignment : (absolute : Option (ℕ × ℕ)) (a : Alignment) → Passes 
 printed-alignment None a = both-pass is_printed (codes "align ") (decimal (bytes_aligned a)) refl (printed-decimal (bytes_aligned a))
 printed-alignment (Some p) a = refl
 
-printed-room : (room : Option ℕ) → Passes is_printed (room_text room)
+pub printed-room : (room : Option ℕ) → Passes is_printed (room_text room)
 printed-room None = refl
 printed-room (Some size) = both-pass is_printed (codes "communal length ") (decimal size) refl (printed-decimal size)
 
--- A line of an entry: its bytes before the line feed are read so.
-pub record IsLine (text : List ℕ) (e : Entry) : Type 0 where
-  pub body : List ℕ
-  pub is : text ≡ body ++ 10 ∷ []
-  pub unbroken : Passes is_printed body
-  pub says : entry_said (said body) ≡ Some e
+-- A line of a placement text.
+abbrev pub entry_read : List ℕ → Option Entry
+entry_read text = entry_said (said text)
+
+abbrev pub IsLine : List ℕ → Entry → Type 0
+IsLine text e = IsLineOf entry_read text e
 
 line-of : (text : List ℕ) (comment : List (List ℕ)) (e : Entry) → IsTight text → Spells text e → ArePrinted comment → IsLine (line text comment) e
 line-of text comment e tight spells printed = record {

@@ -1,10 +1,9 @@
 -- A draft is a placement text, which gives its module the places of the layout.
 use Rattle.std.proofs.Common.{◌≡◌, ℕ, zero, suc, ◌+◌, ◌≤◌, true, false, List, [], ◌∷◌, ◌++◌, length, refl, sym, ap, ap₂, subst, ◌∙◌, append_assoc, append-nil, arith, eqb}
 use Rattle.std.specs.Prelude.{flat_map, filter_map, map, All, Option, Some, None, Ok, unwrap_or, ◌==◌}
-use Rattle.std.specs.List.{cons_option, enumerate_from, slice_split, list_all, zip, range_with_len}
-use Rattle.std.proofs.lemmas.Bool.{ne_eqb, leb-true, and_parts}
+use Rattle.std.specs.List.{cons_option, enumerate_from, zip, range_with_len}
+use Rattle.std.proofs.lemmas.List.{length-map}
 use Rattle.std.proofs.lemmas.List.Elements.{All-nil, All-cons, All-head, All-tail, All-same, filter_map-append}
-use Rattle.std.proofs.lemmas.List.Splits.{slice_split_at}
 use Rattle.omf_records.specs.Values.{Rec, GroupItem}
 use Rattle.omf_check.specs.Tables.{segments, groups, externals}
 use Rattle.omf_check.specs.declared.segment.SegInfo.{SegInfo}
@@ -23,44 +22,27 @@ use Rattle.omf_layout.specs.Layout.{group_frame, group_frames, LaidOut, layout_o
 use Rattle.omf_layout.specs.Laws.{DraftsAreRead}
 use Rattle.omf_layout.specs.Reading.{IsShortFrame, IsShortPlace, AreShort, unless_by_members, frame_given, draft_entries, IsReadBack}
 use Rattle.omf_layout.proofs.FitLaws.{groups-given, segment-count, group-count, external-count, alignment-count, room-count}
-use Rattle.omf_layout.proofs.LineLaws.{IsLine, segment-is-line, group-is-line, external-is-line}
-use Rattle.omf_layout.proofs.SaidLaws.{Passes, is_printed}
+use Rattle.omf_layout.proofs.LineLaws.{entry_read, IsLine, segment-is-line, group-is-line, external-is-line}
+use Rattle.omf_layout.proofs.TextLaws.{parts_of, told_from, each-line}
 
 -- ---- lines, one after another
-
-no-feed : (cs : List ℕ) → Passes is_printed cs → All (λ c. eqb c 10 ≡ false) cs
-no-feed [] h = All-nil (λ c. eqb c 10 ≡ false)
-no-feed (c ∷ cs) h =
-    let k = and_parts (is_printed c) (list_all is_printed cs) h in
-    let low = leb-true 32 c k.0 in
-    All-cons (λ d. eqb d 10 ≡ false) c cs (ne_eqb c 10 (λ e. absurd (omega arith))) (no-feed cs k.1)
-
-abbrev parts_of : List ℕ → List (List ℕ)
-parts_of text = slice_split (λ c. c == 10) text
-
-one-line : (text rest : List ℕ) (e : Entry) (n : ℕ) → IsLine text e → entries_from n (parts_of (text ++ rest)) ≡ (n, Some e) ∷ entries_from (n + 1) (parts_of rest)
-one-line text rest e n h =
-    ap (λ t. entries_from n (parts_of (t ++ rest))) h.is
-    ∙ ap (λ t. entries_from n (parts_of t)) (append_assoc h.body (10 ∷ []) rest)
-    ∙ ap (entries_from n) (slice_split_at (λ c. eqb c 10) h.body 10 rest (no-feed h.body h.unbroken) refl)
-    ∙ ap (λ o. (n, o) ∷ entries_from (n + 1) (parts_of rest)) h.says
 
 -- The entries of so many lines.
 abbrev lines_of : {A : Type 0} → (A → Entry) → ℕ → List A → List (ℕ × Option Entry)
 lines_of entry n xs = map (λ l. (l.0, Some (entry l.1))) (enumerate_from n xs)
 
+told-lines : {A : Type 0} (entry : A → Entry) (n : ℕ) (xs : List A) → told_from n (map entry xs) ≡ lines_of entry n xs
+told-lines entry n [] = refl
+told-lines entry n (x ∷ xs) = ap (λ l. (n, Some (entry x)) ∷ l) (told-lines entry (n + 1) xs)
+
 lines-read : {A : Type 0} (f : A → List ℕ) (entry : A → Entry) (xs : List A) (n : ℕ) (rest : List ℕ) → All (λ x. IsLine (f x) (entry x)) xs
     → entries_from n (parts_of (flat_map f xs ++ rest)) ≡ lines_of entry n xs ++ entries_from (n + length xs) (parts_of rest)
-lines-read f entry [] n rest h = let none : n ≡ n + 0 = omega arith in ap (λ k. entries_from k (parts_of rest)) none
-lines-read f entry (x ∷ xs) n rest h =
-    let next : n + 1 + length xs ≡ n + suc (length xs) = omega arith in
-    ap (λ t. entries_from n (parts_of t)) (append_assoc (f x) (flat_map f xs) rest)
-    ∙ one-line (f x) (flat_map f xs ++ rest) (entry x) n (All-head (λ y. IsLine (f y) (entry y)) x xs h)
-    ∙ ap (λ l. (n, Some (entry x)) ∷ l) (lines-read f entry xs (n + 1) rest (All-tail (λ y. IsLine (f y) (entry y)) x xs h)
-    ∙ ap (λ k. lines_of entry (n + 1) xs ++ entries_from k (parts_of rest)) next)
+lines-read f entry xs n rest h =
+    each-line entry_read f entry xs h n rest
+    ∙ ap₂ (λ es k. es ++ entries_from k (parts_of rest)) (told-lines entry n xs) (ap (λ k. n + k) (length-map xs entry))
 
 -- Each line of a table's entries is a line of an entry.
-all-lines : {A B : Type 0} (P : B → Type 0) (Q : ℕ × (A × B) → Type 0) → ((s : ℕ × (A × B)) → P s.1.1 → Q s) → (j : ℕ) (xs : List A) (ys : List B) → All P ys → All Q (enumerate_from j (zip xs ys))
+pub all-lines : {A B : Type 0} (P : B → Type 0) (Q : ℕ × (A × B) → Type 0) → ((s : ℕ × (A × B)) → P s.1.1 → Q s) → (j : ℕ) (xs : List A) (ys : List B) → All P ys → All Q (enumerate_from j (zip xs ys))
 all-lines P Q f j [] ys h = All-nil Q
 all-lines P Q f j (x ∷ xs) [] h = All-nil Q
 all-lines P Q f j (x ∷ xs) (y ∷ ys) h = All-cons Q (j, (x, y)) (enumerate_from (j + 1) (zip xs ys)) (f (j, (x, y)) (All-head P y ys h)) (all-lines P Q f (j + 1) xs ys (All-tail P y ys h))

@@ -5,7 +5,7 @@ ghost use Rattle.std.specs.List.{enumerate_from, zip};
 ghost use Rattle.omf_records.specs.Seen.{contents_seen};
 ghost use Rattle.omf_records.specs.Values.{Group, GroupItem};
 ghost use Rattle.omf_check.specs.Module.{records_in};
-ghost use Rattle.omf_check.specs.Tables.{names, segments, groups, externals};
+ghost use Rattle.omf_check.specs.Tables.{names, segments, groups, externals, entry};
 ghost use Rattle.omf_check.specs.WellFormed.{recs};
 ghost use Rattle.omf_placement.specs.Entries.{in_words};
 ghost use Rattle.omf_layout.specs.Draft.{segment_comment, segment_line, group_line, group_entry, external_line, draft_text};
@@ -76,27 +76,41 @@ fn print_segment(
     print_segment_comment(text, module, index, segment, alignment)
 }
 
-/// A line for each segment.
-fn print_segments(
+/// A segment's alignment, by its index from 1.
+fn alignment_of(alignments: &[Alignment], index: u16) -> Option<Alignment>
+    ensures { result ≡ entry alignments.now index }
+{
+    alignments.get(usize::from(index).checked_sub(1)?).copied()
+}
+
+/// Adds a line for each segment of a module, whose alignments these are, where a placement has it, with a comment that says its index, its
+/// name and its class, its alignment and its length.
+///
+/// # Errors
+///
+/// A growth was refused.
+pub fn print_segments(
     text: &mut String,
     module: &Checked,
     frames: Frames,
-    layout: &Layout,
+    alignments: &[Alignment],
+    placement: &Placement,
 ) -> Result<(), AllocError>
-    requires aligned { length layout.now.alignments ≡ length (segments (recs (records_in «module».now.bytes))) }
-    requires placed { length layout.now.places.segments ≡ length (segments (recs (records_in «module».now.bytes))) }
-    ensures short { OnOk result (All IsShortPlace layout.now.places.segments) }
-    ensures lines { OnOk result (string_bytes text.new ≡ string_bytes text.old ++ flat_map (segment_line frames (recs (records_in «module».now.bytes))) (enumerate_from 1 (zip (zip (segments (recs (records_in «module».now.bytes))) layout.now.alignments) layout.now.places.segments))) }
+    requires aligned { length alignments.now ≡ length (segments (recs (records_in «module».now.bytes))) }
+    requires placed { length placement.now.segments ≡ length (segments (recs (records_in «module».now.bytes))) }
+    // The numbers of all are short enough for a placement text.
+    ensures short { OnOk result (All IsShortPlace placement.now.segments) }
+    ensures lines { OnOk result (string_bytes text.new ≡ string_bytes text.old ++ flat_map (segment_line frames (recs (records_in «module».now.bytes))) (enumerate_from 1 (zip (zip (segments (recs (records_in «module».now.bytes))) alignments.now) placement.now.segments))) }
 {
     for before in 0..module.segments() {
         let index = before + 1;
         let Some(segment) = module.segment(index) else {
             unreachable!()
         };
-        let Some(alignment) = layout.alignment(index) else {
+        let Some(alignment) = alignment_of(alignments, index) else {
             unreachable!()
         };
-        let Some(place) = layout.placement().segment(usize::from(index)) else {
+        let Some(place) = placement.segment(usize::from(index)) else {
             unreachable!()
         };
         print_segment(text, module, frames, index, segment, alignment, place)?;
@@ -164,23 +178,28 @@ fn print_group(
     print_group_comment(text, module, index, group_name(group))
 }
 
-/// A line for each group.
-fn print_groups(
+/// Adds a line for each group of a module with the frame that a placement gives it, and a comment that says its index and its name. In
+/// real mode a group that has a member is left to be found by its lowest one; else each has its own frame.
+///
+/// # Errors
+///
+/// A growth was refused.
+pub fn print_groups(
     text: &mut String,
     module: &Checked,
     frames: Frames,
-    layout: &Layout,
+    placement: &Placement,
 ) -> Result<(), AllocError>
-    requires { length layout.now.places.groups ≡ length (groups (recs (records_in «module».now.bytes))) }
-    ensures short { OnOk result (All IsShortFrame layout.now.places.groups) }
-    ensures lines { OnOk result (string_bytes text.new ≡ string_bytes text.old ++ flat_map (group_line frames (recs (records_in «module».now.bytes)) layout.now.places.segments) (enumerate_from 1 (zip (groups (recs (records_in «module».now.bytes))) layout.now.places.groups))) }
+    requires { length placement.now.groups ≡ length (groups (recs (records_in «module».now.bytes))) }
+    // The numbers of all are short enough for a placement text.
+    ensures short { OnOk result (All IsShortFrame placement.now.groups) }
+    ensures lines { OnOk result (string_bytes text.new ≡ string_bytes text.old ++ flat_map (group_line frames (recs (records_in «module».now.bytes)) placement.now.segments) (enumerate_from 1 (zip (groups (recs (records_in «module».now.bytes))) placement.now.groups))) }
 {
     for before in 0..module.groups() {
         let index = before + 1;
         let Some(group) = module.group(index) else {
             unreachable!()
         };
-        let placement = layout.placement();
         let Some(frame) = placement.group(usize::from(index)) else {
             unreachable!()
         };
@@ -247,8 +266,15 @@ pub fn draft_text(
     ensures fits { OnOk result (FitsModule (recs (records_in «module».now.bytes)) layout.now) }
 {
     let mut text = String::new(alloc);
-    print_segments(&mut text, module, options.frames, layout)?;
-    print_groups(&mut text, module, options.frames, layout)?;
+    let placement = layout.placement();
+    print_segments(
+        &mut text,
+        module,
+        options.frames,
+        layout.alignments(),
+        placement,
+    )?;
+    print_groups(&mut text, module, options.frames, placement)?;
     print_externals(&mut text, module, layout)?;
     Ok(text)
 }

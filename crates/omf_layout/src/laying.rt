@@ -46,6 +46,13 @@ impl Layout {
         &self.placement
     }
 
+    /// The alignments of the module's segments in their order.
+    pub fn alignments(&self) -> &[Alignment]
+        ensures { result.now ≡ self.now.alignments }
+    {
+        &self.alignments
+    }
+
     /// The alignment of a segment, by its index from 1; `None` outside the table.
     pub fn alignment(&self, i: u16) -> Option<Alignment>
         ensures { result ≡ entry self.now.alignments i }

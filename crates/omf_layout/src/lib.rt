@@ -8,14 +8,14 @@ mod fault;
 pub mod laws;
 mod laying;
 mod options;
-mod printing;
+pub mod printing;
 pub mod room;
 pub mod rows;
 pub mod spot;
 pub mod wants;
 
 pub use alignment::Alignment;
-pub use draft::draft_text;
+pub use draft::{draft_text, print_groups, print_segments};
 pub use fault::LayoutFault;
 pub use laying::{Layout, layout_of};
 pub use options::{Frames, Options};

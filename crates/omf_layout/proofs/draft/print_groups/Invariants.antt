@@ -10,4 +10,4 @@ use Rattle.omf_layout.proofs.draft.print_groups.Given as goal
 
 -- the lines so far, and that their numbers are short
 abbrev pub invariant-loop-before : goal.invariant-loop-before
-invariant-loop-before l = let m = recs (records_in l.«module».bytes) in record { lines : ArePrinted (group_line l.frames m l.layout.places.segments) (zip (groups m) l.layout.places.groups) l.before (string_bytes l.fn.text) (string_bytes l.text); short : HoldsTo IsShortFrame l.layout.places.groups l.before }
+invariant-loop-before l = let m = recs (records_in l.«module».bytes) in record { lines : ArePrinted (group_line l.frames m l.placement.segments) (zip (groups m) l.placement.groups) l.before (string_bytes l.fn.text) (string_bytes l.text); short : HoldsTo IsShortFrame l.placement.groups l.before }

@@ -10,33 +10,35 @@ use Rattle.omf_layout.proofs.Printed.{more-printed, all-printed, none-so-far, mo
 use Rattle.omf_layout.proofs.draft.print_segments.Goals as goal
 
 pub loop-before-init : goal.loop-before-init
-loop-before-init c = record { lines = record { whole = refl }; short = none-so-far IsShortPlace c.args.layout.now.places.segments }
+loop-before-init c = record { lines = record { whole = refl }; short = none-so-far IsShortPlace c.args.placement.now.segments }
 
 pub loop-before-preserved : goal.loop-before-preserved
 loop-before-preserved c =
     let m = recs (records_in c.args.«module».now.bytes) in
-    let l = c.args.layout.now in
+    let pl = c.args.placement.now in
+    let xs = c.args.alignments.now in
     let j = c.loop-before.before in
     let told : entry (segments m) (j + 1) ≡ Some c.in-Some.segment = search rules in
-    let aligned : entry l.alignments (j + 1) ≡ Some c.in-Some-alignment.alignment = search rules in
-    let placed : option_map (λ p. (p.address, p.frame)) (entry l.places.segments (j + 1)) ≡ Some c.in-Some-segment.place = search rules in
-    let here = place-of l.places.segments (j + 1) c.in-Some-segment.place placed in
+    let aligned : entry xs (j + 1) ≡ Some c.in-Some-alignment_of.alignment = search rules in
+    let placed : option_map (λ p. (p.address, p.frame)) (entry pl.segments (j + 1)) ≡ Some c.in-Some-segment.place = search rules in
+    let here = place-of pl.segments (j + 1) c.in-Some-segment.place placed in
     let short : IsShortPlace (record { address = c.in-Some-segment.place.0; frame = c.in-Some-segment.place.1 }) = search rules in
     record {
-      lines = more-printed (segment_line c.args.frames m) (zip (zip (segments m) l.alignments) l.places.segments) j _ _ _ _ c.loop-before.invariant.lines
-          (entry-zip (zip (segments m) l.alignments) l.places.segments j _ _ (entry-zip (segments m) l.alignments j _ _ told aligned) here)
+      lines = more-printed (segment_line c.args.frames m) (zip (zip (segments m) xs) pl.segments) j _ _ _ _ c.loop-before.invariant.lines
+          (entry-zip (zip (segments m) xs) pl.segments j _ _ (entry-zip (segments m) xs j _ _ told aligned) here)
           c.in_ok-print_segment.ensures.line;
-      short = more-hold IsShortPlace l.places.segments j _ c.loop-before.invariant.short here short;
+      short = more-hold IsShortPlace pl.segments j _ c.loop-before.invariant.short here short;
     }
 
 pub returns-clause-short : goal.returns-clause-short
 returns-clause-short c =
-    all-hold IsShortPlace c.args.layout.now.places.segments c.loop-before.before
+    all-hold IsShortPlace c.args.placement.now.segments c.loop-before.before
     (omega (arith, c.loop-before-test.false, c.segments-before-end.ensures.count, c.requires.placed)) c.loop-before.invariant.short
 
 pub returns-clause-lines : goal.returns-clause-lines
 returns-clause-lines c =
     let m = recs (records_in c.args.«module».now.bytes) in
-    let l = c.args.layout.now in
-    all-printed (segment_line c.args.frames m) (zip (zip (segments m) l.alignments) l.places.segments) c.loop-before.before _ _
-    (omega (arith, c.loop-before-test.false, c.segments-before-end.ensures.count, zip-short (zip (segments m) l.alignments) l.places.segments, zip-short (segments m) l.alignments)) c.loop-before.invariant.lines
+    let pl = c.args.placement.now in
+    let xs = c.args.alignments.now in
+    all-printed (segment_line c.args.frames m) (zip (zip (segments m) xs) pl.segments) c.loop-before.before _ _
+    (omega (arith, c.loop-before-test.false, c.segments-before-end.ensures.count, zip-short (zip (segments m) xs) pl.segments, zip-short (segments m) xs)) c.loop-before.invariant.lines

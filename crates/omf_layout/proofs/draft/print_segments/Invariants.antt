@@ -10,4 +10,4 @@ use Rattle.omf_layout.proofs.draft.print_segments.Given as goal
 
 -- the lines so far, and that their numbers are short
 abbrev pub invariant-loop-before : goal.invariant-loop-before
-invariant-loop-before l = let m = recs (records_in l.«module».bytes) in record { lines : ArePrinted (segment_line l.frames m) (zip (zip (segments m) l.layout.alignments) l.layout.places.segments) l.before (string_bytes l.fn.text) (string_bytes l.text); short : HoldsTo IsShortPlace l.layout.places.segments l.before }
+invariant-loop-before l = let m = recs (records_in l.«module».bytes) in record { lines : ArePrinted (segment_line l.frames m) (zip (zip (segments m) l.alignments) l.placement.segments) l.before (string_bytes l.fn.text) (string_bytes l.text); short : HoldsTo IsShortPlace l.placement.segments l.before }

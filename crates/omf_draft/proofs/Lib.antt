@@ -1,0 +1,4 @@
+pub mod NameLaws
+pub mod EntryLaws
+pub mod DraftLaws
+pub mod PlacesLaws

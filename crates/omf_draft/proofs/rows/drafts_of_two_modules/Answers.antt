@@ -1,0 +1,15 @@
+use Rattle.std.specs.Prelude.{refl}
+use Rattle.std.specs.Fmt.{digits}
+use Rattle.omf_draft.proofs.rows.drafts_of_two_modules.Goals as goal
+
+pub returns-clause-flat : goal.returns-clause-flat
+unfolding digits
+returns-clause-flat c = refl
+
+pub returns-clause-real : goal.returns-clause-real
+unfolding digits
+returns-clause-real c = refl
+
+pub returns-clause-none : goal.returns-clause-none
+unfolding digits
+returns-clause-none c = refl

@@ -1,0 +1,14 @@
+-- Laws over drafts, each the contract of a function of the same name.
+use Rattle.std.specs.Prelude.{◌≡◌, ◌<◌, List, length, All, Some}
+use Rattle.omf_records.specs.Values.{Rec}
+use Rattle.omf_placement.specs.Placement.{Places}
+use Rattle.omf_layout.specs.Layout.{Laid}
+use Rattle.omf_layout.specs.Reading.{AreShort}
+use Rattle.omf_layout.specs.declared.options.Options.{Options}
+use Rattle.omf_arrange.specs.Placing.{placed}
+use Rattle.omf_draft.specs.Reading.{IsReadBack}
+use Rattle.omf_draft.specs.Text.{link_text}
+
+-- The draft of one module or more gives each of them, when it is read, the places that they have, where the numbers of these are short enough for a text.
+abbrev pub DraftsAreRead : Type 0
+DraftsAreRead = (o : Options) (ms : List (List Rec)) (l : Laid (List Places)) → placed o ms ≡ Some l → 0 < length ms → All AreShort l.what → IsReadBack ms l.what (link_text o.frames ms l.what)

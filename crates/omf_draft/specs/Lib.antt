@@ -1,0 +1,5 @@
+pub mod Names
+pub mod Text
+pub mod Reading
+pub mod Laws
+pub mod Rows

@@ -1,0 +1,45 @@
+-- The names that publics define, and where an external looks for its own (TIS OMF 1.1, "PUBDEF", "LPUBDEF").
+use Rattle.std.specs.Prelude.{◌≡◌, ℕ, List, [], ◌∷◌, ◌++◌, map, flat_map, Bool, true, false, ◌||◌, bytes_eq, is_some, if◌then◌else◌}
+use Rattle.std.specs.BTreeMap.{BTreeMap, get_by}
+use Rattle.std.specs.Cmp.Lexicographic.{slice_cmp}
+use Rattle.std.specs.Ordering.{nat_cmp}
+use denote.Ref.{Bor}
+use Rattle.omf_frame.specs.Types.{is_local}
+use Rattle.omf_records.specs.Values.{At, Rec, Contents, Publics, PublicItem}
+
+-- The names that a record defines.
+abbrev pub names_of : List (At PublicItem) → List (List ℕ)
+names_of items = map (λ q. q.item.name) items
+
+abbrev pub names_in : Contents → List (List ℕ)
+names_in (Publics p) = names_of p.items
+names_in _ = []
+
+-- The local ones, which an LPUBDEF defines, or the others, which a PUBDEF does.
+abbrev pub names_asked : Bool → ℕ → Contents → List (List ℕ)
+names_asked true kind c = if is_local kind then names_in c else []
+names_asked false kind c = if is_local kind then [] else names_in c
+
+-- Those of a module, and those of all modules.
+abbrev pub public_names : Bool → List Rec → List (List ℕ)
+public_names local m = flat_map (λ r. names_asked local r.kind r.contents) m
+
+abbrev pub all_names : List (List Rec) → List (List ℕ)
+all_names ms = flat_map (public_names false) ms
+
+-- Where an external of a module looks: a local one among the local publics of its module, any other among the publics of all modules.
+abbrev pub seen_names : List (List Rec) → List Rec → Bool → List (List ℕ)
+seen_names ms m local = if local then public_names true m else all_names ms
+
+-- A name is one of some.
+abbrev pub has_name : List (List ℕ) → List ℕ → Bool
+has_name [] name = false
+has_name (x ∷ xs) name = bytes_eq x name || has_name xs name
+
+-- A table has these names.
+abbrev pub IsNameTable : BTreeMap (Bor (List ℕ)) (Unit {0}) → List (List ℕ) → Type 0
+IsNameTable m names = (name : List ℕ) → is_some (get_by (λ k. slice_cmp nat_cmp name k.now) m) ≡ has_name names name
+
+-- A table has these names more than another.
+abbrev pub HasMore : BTreeMap (Bor (List ℕ)) (Unit {0}) → BTreeMap (Bor (List ℕ)) (Unit {0}) → List (List ℕ) → Type 0
+HasMore m n more = (names : List (List ℕ)) → IsNameTable m names → IsNameTable n (names ++ more)

@@ -1,0 +1,75 @@
+//! The draft of a link's text.
+
+ghost use Rattle.std.specs.Prelude.{◌≡◌, ◌++◌, ◌<◌, ◌^◌, [], All, List, ℕ, OnOk, IfOk, length, string_bytes, zip, Some, slice_get};
+ghost use Rattle.std.specs.List.{AllZip};
+ghost use Rattle.omf_records.specs.Seen.{map_ok};
+ghost use Rattle.omf_records.specs.Values.{Rec as Typed};
+ghost use Rattle.omf_placement.specs.Placement.{Places};
+ghost use Rattle.omf_layout.specs.Layout.{IsAnswer, Laid};
+ghost use Rattle.omf_layout.specs.Reading.{AreShort};
+ghost use Rattle.omf_arrange.specs.Placing.{placed};
+ghost use Rattle.omf_arrange.specs.Portions.{typed_modules};
+ghost use Rattle.omf_draft.specs.Reading.{HasEntries, IsReadBack};
+ghost use Rattle.omf_draft.specs.Text.{border, drafted, link_text, module_text};
+
+use crate::names::NameTable;
+use crate::part::print_part;
+use omf_arrange::place_segments;
+use omf_check::Checked;
+use omf_layout::{Frames, LayoutFault, Options};
+use omf_placement::Placement;
+use std::alloc::{AllocError, Global};
+
+/// The line in front of the part of a module of this number, from 0.
+fn print_border(text: &mut String, number: usize) -> Result<(), AllocError>
+    ensures { OnOk result (string_bytes text.new ≡ string_bytes text.old ++ border number) }
+{
+    if number == 0 {
+        return Ok(());
+    }
+    text.push_str("M\n")
+}
+
+/// The text of modules that lie so.
+fn text_of(
+    alloc: Global,
+    modules: &[Checked],
+    frames: Frames,
+    placements: &[Placement],
+) -> Result<String, AllocError>
+    requires { AllZip HasEntries (typed_modules modules.now) placements.now }
+    ensures text { IfOk result (λ text. string_bytes text ≡ link_text frames (typed_modules modules.now) placements.now) }
+    ensures short { IfOk result (λ text. All AreShort placements.now) }
+{
+    let all = NameTable::of(alloc, modules)?;
+    let mut text = String::new(alloc);
+    for (number, module) in modules.iter().enumerate() {
+        print_border(&mut text, number)?;
+        print_part(alloc, &mut text, module, frames, &placements[number], &all)?;
+    }
+    Ok(text)
+}
+
+/// A first text for a link: a part for each module, with a line `M` in front of each but the first. A part has a comment that names the
+/// module; a line for each segment and each group at the place that `place_segments` gives it, with the comments of `omf_layout`'s drafts;
+/// and for each external that sees no public of its name an `X` line that is still a comment, where its place is to be filled in, with its
+/// name and what it asks for. A local external sees the local publics of its module, any other the publics of all modules. Indices in `X`
+/// lines are hexadecimal, numbers in comments decimal.
+///
+/// # Errors
+///
+/// `NoRoom` where a segment does not lie below the last address; `Memory` where a growth was refused.
+pub fn link_draft(
+    alloc: Global,
+    modules: &[Checked],
+    options: Options,
+) -> Result<String, LayoutFault>
+    requires { length modules.now < 2 ^ 32 }
+    ensures text { IsAnswer (drafted options (typed_modules modules.now)) (map_ok string_bytes result) }
+    // Read again it gives each of the modules, if there are any, the places of `place_segments`.
+    ensures read { IfOk result (λ text. (l : Laid (List Places)) → placed options (typed_modules modules.now) ≡ Some l → 0 < length modules.now → IsReadBack (typed_modules modules.now) l.what (string_bytes text)) }
+{
+    let (placements, _free) = place_segments(alloc, modules, options)?;
+    let text = text_of(alloc, modules, options.frames, &placements)?;
+    Ok(text)
+}

@@ -1,0 +1,188 @@
+//! The part of a module.
+
+ghost use Rattle.std.specs.Prelude.{◌≡◌, ◌++◌, ◌∷◌, [], All, Bool, List, ℕ, OnOk, IfOk, codes, decimal, flat_map, length, string_bytes, true, false, zip};
+ghost use Rattle.std.specs.List.{enumerate_from};
+ghost use Rattle.omf_records.specs.Seen.{contents_seen};
+ghost use Rattle.omf_check.specs.Module.{records_in};
+ghost use Rattle.omf_check.specs.Tables.{entry, externals, groups, segments};
+ghost use Rattle.omf_check.specs.WellFormed.{recs};
+ghost use Rattle.omf_derive.specs.Derive.{named_externals};
+ghost use Rattle.omf_layout.specs.Quoted.{quoted};
+ghost use Rattle.omf_layout.specs.Reading.{IsShortFrame, IsShortPlace};
+ghost use Rattle.omf_layout.specs.Wants.{rooms};
+ghost use Rattle.omf_draft.specs.Names.{IsNameTable, has_name, public_names};
+ghost use Rattle.omf_draft.specs.Text.{external_text, group_lines, header_name, module_name, name_line, part_text, segment_lines, wanted_entry, wanted_line, wanted_lines};
+
+use crate::names::NameTable;
+use omf_check::Checked;
+use omf_frame::Name;
+use omf_layout::printing::{print_index, print_quoted, print_room};
+use omf_layout::wants::{alignments_of, rooms_of};
+use omf_layout::{Frames, print_groups, print_segments};
+use omf_placement::Placement;
+use omf_records::Rec;
+use std::alloc::{AllocError, Global};
+use std::fmt::Write;
+
+/// The name of a THEADR or an LHEADR in double quotes.
+fn print_header(text: &mut String, rec: &Rec<'_>) -> Result<(), AllocError>
+    ensures { OnOk result (string_bytes text.new ≡ string_bytes text.old ++ quoted (header_name (contents_seen rec.now))) }
+{
+    match rec {
+        Rec::Header { name, .. } => print_quoted(text, name.0),
+        _ => print_quoted(text, &[]),
+    }
+}
+
+/// The name of a module in double quotes.
+fn print_module_name(text: &mut String, module: &Checked) -> Result<(), AllocError>
+    ensures { OnOk result (string_bytes text.new ≡ string_bytes text.old ++ quoted (module_name (recs (records_in «module».now.bytes)))) }
+{
+    match module.records().next() {
+        Some((_, rec)) => print_header(text, &rec),
+        None => print_quoted(text, &[]),
+    }
+}
+
+/// The comment that names a module.
+fn print_name_line(text: &mut String, module: &Checked) -> Result<(), AllocError>
+    ensures { OnOk result (string_bytes text.new ≡ string_bytes text.old ++ name_line (recs (records_in «module».now.bytes))) }
+{
+    text.push_str("; module ")?;
+    print_module_name(text, module)?;
+    text.push_str("\n")
+}
+
+/// A line for each segment.
+fn print_segment_lines(
+    alloc: Global,
+    text: &mut String,
+    module: &Checked,
+    frames: Frames,
+    placement: &Placement,
+) -> Result<(), AllocError>
+    requires { length placement.now.segments ≡ length (segments (recs (records_in «module».now.bytes))) }
+    ensures short { OnOk result (All IsShortPlace placement.now.segments) }
+    ensures lines { OnOk result (string_bytes text.new ≡ string_bytes text.old ++ segment_lines frames (recs (records_in «module».now.bytes)) placement.now.segments) }
+{
+    let alignments = alignments_of(alloc, module)?;
+    print_segments(text, module, frames, &alignments, placement)
+}
+
+/// A line for each group. All have their own frames: in a flat frame none is left to be found by its members.
+fn print_group_lines(
+    text: &mut String,
+    module: &Checked,
+    placement: &Placement,
+) -> Result<(), AllocError>
+    requires { length placement.now.groups ≡ length (groups (recs (records_in «module».now.bytes))) }
+    ensures short { OnOk result (All IsShortFrame placement.now.groups) }
+    ensures lines { OnOk result (string_bytes text.new ≡ string_bytes text.old ++ group_lines (recs (records_in «module».now.bytes)) placement.now.groups) }
+{
+    let given = Frames::Flat { selector: 0 };
+    print_groups(text, module, given, placement)
+}
+
+/// The entry of an external that is to be filled in.
+fn print_wanted_entry(text: &mut String, index: u16) -> Result<(), AllocError>
+    ensures { OnOk result (string_bytes text.new ≡ string_bytes text.old ++ wanted_entry index) }
+{
+    write!(text, "; X {index:X} address frame selector")
+}
+
+/// The line of an external that is to be filled in.
+fn print_wanted(
+    text: &mut String,
+    index: u16,
+    name: Name<'_>,
+    room: Option<u64>,
+) -> Result<(), AllocError>
+    ensures { OnOk result (string_bytes text.new ≡ string_bytes text.old ++ wanted_line index name.entry room) }
+{
+    print_wanted_entry(text, index)?;
+    print_index(text, index)?;
+    print_quoted(text, name.0)?;
+    print_room(text, room)
+}
+
+/// Whether an external of this name, which is local or not, sees a public of it: among the publics of all modules, or if it is local
+/// among its module's own local ones.
+fn is_public<'a>(all: &NameTable<'a>, own: &NameTable<'a>, name: &'a [u8], local: bool) -> bool
+    ensures { (among : Bool → List (List ℕ)) → IsNameTable all.now.names (among false) → IsNameTable own.now.names (among true) → result ≡ has_name (among local) name.now }
+{
+    if local { own.has(name) } else { all.has(name) }
+}
+
+/// The line of an external that sees no public of its name.
+fn print_external<'a>(
+    text: &mut String,
+    all: &NameTable<'a>,
+    own: &NameTable<'a>,
+    index: u16,
+    name: Name<'a>,
+    local: bool,
+    room: Option<u64>,
+) -> Result<(), AllocError>
+    ensures { (among : Bool → List (List ℕ)) → IsNameTable all.now.names (among false) → IsNameTable own.now.names (among true) → OnOk result (string_bytes text.new ≡ string_bytes text.old ++ external_text among (index, ((name.entry, local), room))) }
+{
+    if is_public(all, own, name.0, local) {
+        return Ok(());
+    }
+    print_wanted(text, index, name, room)
+}
+
+/// What an external asks for, by its index from 1.
+fn room_of(rooms: &[Option<u64>], index: u16) -> Option<Option<u64>>
+    ensures { result ≡ entry rooms.now index }
+{
+    rooms.get(usize::from(index).checked_sub(1)?).copied()
+}
+
+/// A line for each external that sees no public of its name; what the externals ask for is given.
+fn print_wanted_lines<'a>(
+    text: &mut String,
+    module: &'a Checked,
+    all: &NameTable<'a>,
+    own: &NameTable<'a>,
+    asked: &[Option<u64>],
+) -> Result<(), AllocError>
+    requires asked { asked.now ≡ rooms (recs (records_in «module».now.bytes)) }
+    requires as_many { length asked.now ≡ length (externals (recs (records_in «module».now.bytes))) }
+    ensures { (among : Bool → List (List ℕ)) → IsNameTable all.now.names (among false) → IsNameTable own.now.names (among true) → OnOk result (string_bytes text.new ≡ string_bytes text.old ++ wanted_lines among (recs (records_in «module».entry.now.bytes))) }
+{
+    for before in 0..module.externals() {
+        let index = before + 1;
+        let Some(name) = module.external(index) else {
+            unreachable!()
+        };
+        let Some(room) = room_of(asked, index) else {
+            unreachable!()
+        };
+        let local = module.local(index).unwrap_or(false);
+        print_external(text, all, own, index, name, local, room)?;
+    }
+    Ok(())
+}
+
+/// Adds the part of a module, which lies so, beside modules whose publics have these names.
+pub fn print_part<'a>(
+    alloc: Global,
+    text: &mut String,
+    module: &'a Checked,
+    frames: Frames,
+    placement: &Placement,
+    all: &NameTable<'a>,
+) -> Result<(), AllocError>
+    requires segments { length placement.now.segments ≡ length (segments (recs (records_in «module».now.bytes))) }
+    requires groups { length placement.now.groups ≡ length (groups (recs (records_in «module».now.bytes))) }
+    ensures segments { OnOk result (All IsShortPlace placement.now.segments) }
+    ensures groups { OnOk result (All IsShortFrame placement.now.groups) }
+    ensures text { (among : Bool → List (List ℕ)) → IsNameTable all.now.names (among false) → among true ≡ public_names true (recs (records_in «module».entry.now.bytes)) → OnOk result (string_bytes text.new ≡ string_bytes text.old ++ part_text frames among (recs (records_in «module».entry.now.bytes)) placement.now) }
+{
+    let rooms = rooms_of(alloc, module)?;
+    let own = NameTable::of_locals(alloc, module)?;
+    print_name_line(text, module)?;
+    print_segment_lines(alloc, text, module, frames, placement)?;
+    print_group_lines(text, module, placement)?;
+    print_wanted_lines(text, module, all, &own, &rooms)
+}
