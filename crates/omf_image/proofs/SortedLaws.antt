@@ -40,25 +40,20 @@ sorted_within from (c ∷ cs) (suc k) d (at, some, fits, others) lt =
     let more = sorted_within (ends c + 1) cs k d others less in
     (omega (arith, at, more), omega (arith, at, more))
 
+-- what lies between the beginning of a run and the place behind its end does not fall from one run to the next
+rise_of : (of : Covered → ℕ) → ((c : Covered) → of c ≤ ends c + 1) → ((from : ℕ) (cs : List Covered) (k : ℕ) (d : Covered) → AreSorted from (laid_runs cs) → k < length cs → from ≤ of (get_or cs k d))
+    → (from : ℕ) (cs : List Covered) → AreSorted from (laid_runs cs) → IsNonDecreasingBy of cs
+rise_of of low more from [] h i j d le lt = absurd (omega (arith, lt))
+rise_of of low more from (c ∷ cs) (at, some, fits, others) zero zero d le lt = omega arith
+rise_of of low more from (c ∷ cs) (at, some, fits, others) zero (suc j) d le lt = omega (arith, low c, more (ends c + 1) cs j d others (omega (arith, lt)))
+rise_of of low more from (c ∷ cs) (at, some, fits, others) (suc i) zero d le lt = absurd (omega (arith, le))
+rise_of of low more from (c ∷ cs) (at, some, fits, others) (suc i) (suc j) d le lt = rise_of of low more (ends c + 1) cs others i j d (omega (arith, le)) (omega (arith, lt))
+
 pub ends_rise : (from : ℕ) (cs : List Covered) → AreSorted from (laid_runs cs) → IsNonDecreasingBy ends cs
-ends_rise from [] h i j d le lt = absurd (omega (arith, lt))
-ends_rise from (c ∷ cs) (at, some, fits, others) zero zero d le lt = omega arith
-ends_rise from (c ∷ cs) (at, some, fits, others) zero (suc j) d le lt =
-    let less : j < length cs = omega (arith, lt) in
-    let more = sorted_within (ends c + 1) cs j d others less in
-    omega (arith, more)
-ends_rise from (c ∷ cs) (at, some, fits, others) (suc i) zero d le lt = absurd (omega (arith, le))
-ends_rise from (c ∷ cs) (at, some, fits, others) (suc i) (suc j) d le lt = ends_rise (ends c + 1) cs others i j d (omega (arith, le)) (omega (arith, lt))
+ends_rise = rise_of ends (λ c. omega arith) (λ from cs k d h lt. (sorted_within from cs k d h lt).1)
 
 pub begins_rise : (from : ℕ) (cs : List Covered) → AreSorted from (laid_runs cs) → IsNonDecreasingBy begins cs
-begins_rise from [] h i j d le lt = absurd (omega (arith, lt))
-begins_rise from (c ∷ cs) (at, some, fits, others) zero zero d le lt = omega arith
-begins_rise from (c ∷ cs) (at, some, fits, others) zero (suc j) d le lt =
-    let less : j < length cs = omega (arith, lt) in
-    let more = sorted_within (ends c + 1) cs j d others less in
-    omega (arith, more)
-begins_rise from (c ∷ cs) (at, some, fits, others) (suc i) zero d le lt = absurd (omega (arith, le))
-begins_rise from (c ∷ cs) (at, some, fits, others) (suc i) (suc j) d le lt = begins_rise (ends c + 1) cs others i j d (omega (arith, le)) (omega (arith, lt))
+begins_rise = rise_of begins (λ c. omega arith) (λ from cs k d h lt. (sorted_within from cs k d h lt).0)
 
 not_less : (a b : ℕ) → nat_lt a b ≡ false → b ≤ a
 not_less a b e = elim (leb_tells (suc a) b) [ inl t ↦ absurd (let same = t.0 in cc) | inr t ↦ omega (arith, t.1) ]

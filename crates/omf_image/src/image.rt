@@ -2,7 +2,7 @@
 
 ghost use Rattle.std.specs.Prelude.{◌≡◌, ℕ, ◌+◌, ◌-◌, ◌^◌, ◌<◌, ◌≤◌, List, [], ◌∷◌, ◌++◌, length, take, drop, vec_len, slice_get, IfSome, OnOk, OnErr};
 ghost use Rattle.std.specs.Option.{option_copied, option_map};
-ghost use Rattle.omf_image.specs.Overlay.{byte_of, byte_at, IsRunAt, AreBytesAt, IsLaidOver};
+ghost use Rattle.omf_image.specs.Overlay.{byte_of, byte_at, IsRunAt, IsRunShown, AreBytesAt, IsLaidOver};
 ghost use Rattle.omf_image.specs.Sorted.{laid_run, laid_runs, span, in_segment, line_place, low, high, AreSorted, EndBefore, EndFrom, BeginBy, BeginAfter, Touches, extended, over, over_all};
 
 use crate::Run;
@@ -237,6 +237,15 @@ impl Image {
         ensures { AreBytesAt (byte_at self.now segment) k (option_copied result) }
     {
         Some(find_run(&self.runs, segment, k)?.bytes.as_slice())
+    }
+
+    /// The first offset and the bytes of the maximal covered interval of a segment with a number, from 0 in rising order; None beyond the last.
+    pub fn run_with_bytes(&self, segment: u16, k: usize) -> Option<(u32, &[u8])>
+        ensures { IsRunShown (byte_at self.now segment) k (option_map (λ run. (run.0, run.1.now)) result) }
+    {
+        let run = self.run_at(segment, k)?;
+        let bytes = self.run_bytes(segment, k)?;
+        Some((run.first, bytes))
     }
 
     /// Lays bytes at an offset of a segment, over what was there.
