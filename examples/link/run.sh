@@ -1,0 +1,38 @@
+#!/usr/bin/env bash
+# Links the three modules of a boot sector's program at the places of program.link, makes the sector, boots it in an emulator, and compares
+# what it says with said.txt. OMF_LINK names the program.
+#
+# Debian's packages: nasm (to assemble the sources anew and compare), srecord, qemu-system-x86.
+set -euo pipefail
+cd "$(dirname "$0")"
+link=${OMF_LINK:-omf-link}
+
+for tool in "$link" srec_cat qemu-system-i386; do
+    command -v "$tool" > /dev/null || { echo "skipped: $tool is not installed"; exit 0; }
+done
+work=$(mktemp -d)
+trap 'rm -rf "$work"' EXIT
+
+if command -v nasm > /dev/null; then
+    for module in start say mark; do
+        nasm -f obj $module.asm -o "$work/$module.obj"
+        if cmp -s $module.obj "$work/$module.obj"; then
+            echo "$module.obj is what nasm makes of $module.asm"
+        else
+            echo "$module.obj differs from what this nasm makes of $module.asm"
+        fi
+    done
+fi
+
+cat start.obj say.obj mark.obj program.link | "$link" image > "$work/shown"
+cat "$work/shown"
+# srec_cat reads the lines as they are, but for the start. The sector begins at 7C00H and has 512 bytes; those that no line covers are 0.
+sed '/^START/d' "$work/shown" | srec_cat - -hex-dump -offset -0x7C00 -fill 0 0 512 -o "$work/sector.img" -binary
+
+# The sector ends the emulator by port F4H, which makes the status odd.
+timeout 60 qemu-system-i386 -display none -monitor none -serial "file:$work/said" -device isa-debug-exit,iobase=0xf4,iosize=1 \
+    -drive "format=raw,file=$work/sector.img" || test $? -ne 124
+cmp "$work/said" said.txt
+echo "it ran, and said:"
+tr -d '\r' < "$work/said"
+echo
