@@ -8,15 +8,14 @@ use Rattle.std.proofs.Math.Nat.{eq-or-lt_of_le}
 use Rattle.std.proofs.lemmas.List.{append-nil, drop_all, drop_min, drop_more, length-take, length-drop, take_min}
 use Rattle.std.proofs.lemmas.Option.{slice_get_within, get_or_from_slice_get}
 use Rattle.omf_image.specs.Joined.{runs_of}
-use Rattle.omf_image.specs.Overlay.{Laid, byte_at, AreBytesOver, AreLaidOver, AreRuns, IsRunShown}
+use Rattle.omf_image.specs.Overlay.{Laid, byte_at, IsRunAt, AreBytesAt, AreBytesOf, AreBytesOver, AreLaidOver, AreRising, AreRuns}
 use Rattle.omf_image.specs.declared.run.Run.{Run}
-use Rattle.omf_image.proofs.RunLaws.{joined_are_runs, runs_unique}
-
+use Rattle.omf_image.proofs.RunLaws.{joined_are_runs, runs_unique, same_run}
+use Rattle.omf_image.proofs.SortedLaws.{some_is}
 use Rattle.omf_image.proofs.TurnLaws.{images_are}
 use Rattle.std.proofs.Math.Path.{fun_ext}
 use Rattle.omf_cmd.specs.Relocated.{bytes_line, run_lines, image_text}
-use Rattle.omf_image.proofs.ShownLaws.{run_next}
-use Rattle.omf_cmd.specs.RunLines.{place_text, byte_text, line_text, lines_of}
+use Rattle.omf_cmd.specs.RunLines.{place_text, byte_text, line_text, lines_of, IsRunOf}
 
 -- ---- ranges
 
@@ -141,14 +140,69 @@ run_lines_are segment byte first bytes over =
 
 -- ---- runs
 
+-- each run begins further on than the one before it
+rising_by : (r : Run) (runs : List Run) (k : ℕ) (s : Run) → AreRising (r ∷ runs) → slice_get (r ∷ runs) k ≡ Some s → r.first + k ≤ s.first
+rising_by r runs zero s rises e = let same : r ≡ s = cc in let firsts : r.first ≡ s.first = ap (λ (t : Run). t.first) same in omega arith
+rising_by r [] (suc k) s rises e = absurd cc
+rising_by r (t ∷ runs) (suc k) s rises e = let next = rising_by t runs k s rises.1 e in let lt = rises.0 in omega (arith, next, lt)
+
+pub begins_from : (runs : List Run) (k : ℕ) (s : Run) → AreRising runs → slice_get runs k ≡ Some s → k ≤ s.first
+begins_from [] k s rises e = absurd cc
+begins_from (r ∷ runs) k s rises e = let by = rising_by r runs k s rises e in omega (arith, by)
+
+-- the run of a number is that of the joined runs
+pub run_is : (laid : List Laid) (segment k : ℕ) (run : Option Run) → IsRunAt (byte_at laid segment) k run → run ≡ slice_get (runs_of laid segment) k
+run_is laid segment k run at = at.2 ∙ ap (λ (rs : List Run). slice_get rs k) (runs_unique (byte_at laid segment) at.0 (runs_of laid segment) at.1 (joined_are_runs laid segment))
+
+no_run_of : (byte : ℕ → Option ℕ) (run : Option Run) → AreBytesOf byte run None → run ≡ None
+no_run_of byte None of = refl
+no_run_of byte (Some run) of = absurd (cc (of.1))
+
+-- where there are no bytes there is no run
+pub no_run : (laid : List Laid) (segment k : ℕ) → AreBytesAt (byte_at laid segment) k None → slice_get (runs_of laid segment) k ≡ None
+no_run laid segment k bytes = sym (run_is laid segment k bytes.0 bytes.1) ∙ no_run_of (byte_at laid segment) bytes.0 bytes.2
+
+-- a run with its bytes
+pub shown_run : (laid : List Laid) (segment k : ℕ) (run : Run) (bytes : List ℕ) → IsRunAt (byte_at laid segment) k (Some run) → AreBytesAt (byte_at laid segment) k (Some bytes) → run.first + run.len ≤ 2 ^ 32
+    → IsRunOf (byte_at laid segment) (slice_get (runs_of laid segment) k) run.first bytes
+shown_run laid segment k run bytes at given fits =
+    let here : Some run ≡ slice_get (runs_of laid segment) k = run_is laid segment k (Some run) at in
+    let same : given.0 ≡ Some run = run_is laid segment k given.0 given.1 ∙ sym here in
+    let of : AreBytesOf (byte_at laid segment) (Some run) (Some bytes) = subst (λ (o : Option Run). AreBytesOf (byte_at laid segment) o (Some bytes)) same given.2 in
+    let over : AreBytesOver (byte_at laid segment) run bytes = subst (λ (bs : List ℕ). AreBytesOver (byte_at laid segment) run bs) (sym (some_is bytes of.0 of.1)) of.2 in
+    let long : length bytes ≡ run.len = over.long in
+    let is : run ≡ record { first = run.first; len = length bytes } = same_run run (record { first = run.first; len = length bytes }) refl (sym long) in
+    record { is = sym here ∙ ap (λ (r : Run). Some r) is; bytes_over = subst (λ (r : Run). AreBytesOver (byte_at laid segment) r bytes) is over; within = omega arith }
+
+past : (runs : List Run) (k : ℕ) → slice_get runs k ≡ None → length runs ≤ k
+past [] k none = omega arith
+past (r ∷ runs) zero none = absurd cc
+past (r ∷ runs) (suc k) none = let next = past runs k none in omega (arith, next)
+
 -- a run, and those after it
-pub run_and_others : (laid : List Laid) (segment k first : ℕ) (bytes old : List ℕ) → IsRunShown (byte_at laid segment) k (Some (first, bytes))
+pub run_and_others : (laid : List Laid) (segment k first : ℕ) (bytes old : List ℕ) → IsRunOf (byte_at laid segment) (slice_get (runs_of laid segment) k) first bytes
     → (old ++ lines_of segment first bytes) ++ flat_map (run_lines segment (byte_at laid segment)) (drop (k + 1) (runs_of laid segment)) ≡ old ++ flat_map (run_lines segment (byte_at laid segment)) (drop k (runs_of laid segment))
 run_and_others laid segment k first bytes old run =
+    let runs : List Run = runs_of laid segment in
     let shown : Run → List ℕ = run_lines segment (byte_at laid segment) in
-    let others : List ℕ = flat_map shown (drop (k + 1) (runs_of laid segment)) in
-    append_assoc old (lines_of segment first bytes) others ∙ ap (λ (t : List ℕ). old ++ (t ++ others)) (sym (run_lines_are segment (byte_at laid segment) first bytes run.1))
-    ∙ ap (λ (t : List Run). old ++ flat_map shown t) (sym (run_next laid segment k first bytes run))
+    let r : Run = record { first = first; len = length bytes } in
+    let within : k < length runs = slice_get_within runs k r run.is in
+    let others : List ℕ = flat_map shown (drop (k + 1) runs) in
+    let left : drop k runs ≡ r ∷ drop (k + 1) runs = drop_more runs k r within ∙ ap (λ (t : Run). t ∷ drop (k + 1) runs) (get_or_from_slice_get runs k r r run.is) in
+    append_assoc old (lines_of segment first bytes) others ∙ ap (λ (t : List ℕ). old ++ (t ++ others)) (sym (run_lines_are segment (byte_at laid segment) first bytes run.bytes_over))
+    ∙ ap (λ (t : List Run). old ++ flat_map shown t) (sym left)
+
+-- a run's number is below the number of runs, and no larger than a segment has places
+pub number_bounds : (laid : List Laid) (segment k first : ℕ) (bytes : List ℕ) → IsRunOf (byte_at laid segment) (slice_get (runs_of laid segment) k) first bytes → (k < length (runs_of laid segment)) × (k ≤ 2 ^ 32)
+number_bounds laid segment k first bytes run =
+    let r : Run = record { first = first; len = length bytes } in
+    let from : k ≤ first = begins_from (runs_of laid segment) k r (joined_are_runs laid segment).rising run.is in
+    let within : first + length bytes ≤ 2 ^ 32 = run.within in
+    (slice_get_within (runs_of laid segment) k r run.is, omega arith)
+
+-- without a run of that number none is left
+pub no_others : (laid : List Laid) (segment k : ℕ) → slice_get (runs_of laid segment) k ≡ None → drop k (runs_of laid segment) ≡ []
+no_others laid segment k none = drop_all k (runs_of laid segment) (past (runs_of laid segment) k none)
 
 -- a segment, and those after it
 pub segment_and_others : (shown : ℕ → List ℕ) (before segments : ℕ) (old : List ℕ) → before < segments

@@ -1,6 +1,7 @@
 -- The bytes of a run, in lines, as the printing goes over them.
 use Rattle.std.specs.Prelude.{◌≡◌, ℕ, ◌+◌, ◌*◌, ◌/◌, ◌^◌, ◌≤◌, List, [], ◌∷◌, ◌++◌, length, flat_map, take, drop, Option, Some, None, slice_get}
 use Rattle.std.specs.List.{range_with_len}
+use Rattle.omf_image.specs.Overlay.{AreBytesOver}
 use Rattle.omf_image.specs.declared.run.Run.{Run}
 use Rattle.omf_cmd.specs.Printed.{hex}
 use Rattle.omf_cmd.specs.Relocated.{run_lines}
@@ -24,3 +25,13 @@ lines_of segment first bytes = flat_map (λ k. line_text segment (first + 16 * k
 -- so many segments in the order of their indices, each with its runs
 abbrev pub segments_text : ℕ → (ℕ → ℕ → Option ℕ) → (ℕ → List Run) → List ℕ
 segments_text count byte runs = flat_map (λ segment. flat_map (run_lines segment (byte segment)) (runs segment)) (range_with_len 1 count)
+
+-- the run of a number, which ends inside its segment, by its first offset and its bytes; none where there is no such run
+pub record IsRunOf (byte : ℕ → Option ℕ) (run : Option Run) (first : ℕ) (bytes : List ℕ) : Type 0 where
+  pub is : run ≡ Some (record { first = first; len = length bytes })
+  pub bytes_over : AreBytesOver byte (record { first = first; len = length bytes }) bytes
+  pub within : first + length bytes ≤ 2 ^ 32
+
+abbrev pub IsRunShown : (ℕ → Option ℕ) → List Run → ℕ → Option (ℕ × List ℕ) → Type 0
+IsRunShown byte runs k None = slice_get runs k ≡ None
+IsRunShown byte runs k (Some shown) = IsRunOf byte (slice_get runs k) shown.0 shown.1

@@ -4,7 +4,7 @@ ghost use Rattle.std.specs.Prelude.{◌≡◌, ◌+◌, ◌^◌, ◌≤◌, ◌+
 ghost use Rattle.omf_image.specs.Joined.{runs_of};
 ghost use Rattle.omf_image.specs.Overlay.{byte_at};
 ghost use Rattle.omf_cmd.specs.Relocated.{run_lines, start_line, image_text};
-ghost use Rattle.omf_cmd.specs.RunLines.{place_text, byte_text, line_text, lines_of, segments_text};
+ghost use Rattle.omf_cmd.specs.RunLines.{place_text, byte_text, line_text, lines_of, segments_text, IsRunShown};
 ghost use Rattle.omf_cmd.specs.Runs.{Passes, PrintsInPieces, IsPrintCause};
 
 use crate::digits::{eight_digits, four_digits, write_bytes};
@@ -72,6 +72,15 @@ fn print_run<K: Sink>(
     Ok(())
 }
 
+/// The first offset and the bytes of the run of a segment with a number, from 0; None beyond the last.
+fn numbered_run(image: &Image, segment: u16, k: usize) -> Option<(u32, &[u8])>
+    ensures { IsRunShown (byte_at image.now segment) (runs_of image.now segment) k (option_map (λ run. (run.0, run.1.now)) result) }
+{
+    let run = image.run_at(segment, k)?;
+    let bytes = image.run_bytes(segment, k)?;
+    Some((run.first, bytes))
+}
+
 /// The runs of a segment, in rising order.
 fn print_runs<K: Sink>(
     writer: &mut K,
@@ -83,7 +92,7 @@ fn print_runs<K: Sink>(
     ensures cause { IsPrintCause (K.seen writer.old) (K.seen writer.new) result }
 {
     let mut k = 0;
-    while let Some((first, bytes)) = image.run_with_bytes(segment, k) {
+    while let Some((first, bytes)) = numbered_run(image, segment, k) {
         print_run(writer, text, segment, first, bytes)?;
         k += 1;
     }
