@@ -1,21 +1,19 @@
 -- How the lines of a run are cut, and where runs stand.
-use Rattle.std.proofs.Common.{◌≡◌, ℕ, ◌+◌, ◌-◌, ◌*◌, ◌/◌, ◌^◌, ◌<◌, ◌≤◌, List, [], ◌∷◌, ◌++◌, length, take, drop, min, zero, suc, ◌⊎◌, inl, inr, refl, sym, ap, ap₂, subst, ◌∙◌, arith, append_assoc, zero-add, add-zero, Some, None}
+use Rattle.std.proofs.Common.{◌≡◌, ℕ, ◌+◌, ◌-◌, ◌*◌, ◌/◌, ◌<◌, List, [], ◌∷◌, ◌++◌, length, take, drop, min, zero, suc, ◌⊎◌, inl, inr, refl, sym, ap, ap₂, subst, ◌∙◌, arith, append_assoc, zero-add, add-zero, Some}
 use Rattle.std.specs.Prelude.{flat_map, Option, slice_get}
 use Rattle.std.specs.Option.{option_to_list}
 use Rattle.std.specs.List.{range_with_len}
 use Rattle.std.proofs.Math.Seq.{drop-nil}
 use Rattle.std.proofs.Math.Nat.{eq-or-lt_of_le}
-use Rattle.std.proofs.lemmas.List.{append-nil, drop_all, drop_min, drop_more, length-take, length-drop, take_min}
-use Rattle.std.proofs.lemmas.Option.{slice_get_within, get_or_from_slice_get}
+use Rattle.std.proofs.lemmas.List.{append-nil, drop_min, length-take, length-drop, take_min}
 use Rattle.omf_image.specs.Joined.{runs_of}
 use Rattle.omf_image.specs.Overlay.{Laid, byte_at, AreBytesOver, AreLaidOver, AreRuns, IsRunShown}
 use Rattle.omf_image.specs.declared.run.Run.{Run}
 use Rattle.omf_image.proofs.RunLaws.{joined_are_runs, runs_unique}
-
+use Rattle.omf_image.proofs.ShownLaws.{run_next}
 use Rattle.omf_image.proofs.TurnLaws.{images_are}
 use Rattle.std.proofs.Math.Path.{fun_ext}
 use Rattle.omf_cmd.specs.Relocated.{bytes_line, run_lines, image_text}
-use Rattle.omf_image.proofs.ShownLaws.{run_next}
 use Rattle.omf_cmd.specs.RunLines.{place_text, byte_text, line_text, lines_of}
 
 -- ---- ranges

@@ -1,5 +1,5 @@
 -- The bytes of a run, in lines, as the printing goes over them.
-use Rattle.std.specs.Prelude.{◌≡◌, ℕ, ◌+◌, ◌*◌, ◌/◌, ◌^◌, ◌≤◌, List, [], ◌∷◌, ◌++◌, length, flat_map, take, drop, Option, Some, None, slice_get}
+use Rattle.std.specs.Prelude.{ℕ, ◌+◌, ◌*◌, ◌/◌, List, [], ◌∷◌, ◌++◌, length, flat_map, take, drop, Option}
 use Rattle.std.specs.List.{range_with_len}
 use Rattle.omf_image.specs.declared.run.Run.{Run}
 use Rattle.omf_cmd.specs.Printed.{hex}
