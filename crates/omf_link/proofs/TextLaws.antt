@@ -3,12 +3,11 @@ use Rattle.std.proofs.Common.{◌≡◌, ℕ, suc, ◌+◌, ◌-◌, ◌^◌, �
 use Rattle.std.specs.Prelude.{flat_map, replicate, slice_get, option_to_list, Option, Some}
 use Rattle.std.specs.Fmt.{padded_integral, char_count, format_spec}
 use Rattle.std.specs.List.{enumerate_from, range_with_len}
-use Rattle.std.proofs.lemmas.List.{drop_more}
-use Rattle.std.proofs.lemmas.Option.{slice_get_within, get_or_from_slice_get}
-use Rattle.omf_cmd.specs.RunLines.{byte_text, IsRunOf}
+use Rattle.omf_cmd.specs.RunLines.{byte_text}
 use Rattle.omf_image.specs.Joined.{runs_of}
-use Rattle.omf_image.specs.Overlay.{Laid, byte_at, AreBytesOver}
+use Rattle.omf_image.specs.Overlay.{Laid, byte_at, AreBytesOver, IsRunShown}
 use Rattle.omf_image.specs.declared.run.Run.{Run}
+use Rattle.omf_image.proofs.ShownLaws.{run_next}
 use Rattle.omf_link.specs.MemoryText.{line_begin, line_end, run_text, numbered_text, shown_bytes}
 
 -- a number with leading zeros up to a width
@@ -37,14 +36,10 @@ pub run_shown : (byte : ℕ → Option ℕ) (first : ℕ) (bytes : List ℕ) →
 run_shown byte first bytes over = shown_from byte first (length bytes) 0 bytes (λ i lt. let e : i ≡ 0 + i = omega arith in subst (λ (x : ℕ). byte (first + x) ≡ slice_get bytes i) e (over.each i lt))
 
 -- a run, and those after it
-pub run_and_others : (laid : List Laid) (k first : ℕ) (bytes old new all : List ℕ) → IsRunOf (byte_at laid 0) (slice_get (runs_of laid 0) k) first bytes → new ≡ old ++ shown_bytes first bytes
+pub run_and_others : (laid : List Laid) (k first : ℕ) (bytes old new all : List ℕ) → IsRunShown (byte_at laid 0) k (Some (first, bytes)) → new ≡ old ++ shown_bytes first bytes
     → old ++ flat_map (run_text (byte_at laid 0)) (drop k (runs_of laid 0)) ≡ all → new ++ flat_map (run_text (byte_at laid 0)) (drop (k + 1) (runs_of laid 0)) ≡ all
 run_and_others laid k first bytes old new all run n h =
-    let runs : List Run = runs_of laid 0 in
     let shown : Run → List ℕ = run_text (byte_at laid 0) in
-    let r : Run = record { first = first; len = length bytes } in
-    let within : k < length runs = slice_get_within runs k r run.is in
-    let others : List ℕ = flat_map shown (drop (k + 1) runs) in
-    let left : drop k runs ≡ r ∷ drop (k + 1) runs = drop_more runs k r within ∙ ap (λ (t : Run). t ∷ drop (k + 1) runs) (get_or_from_slice_get runs k r r run.is) in
+    let others : List ℕ = flat_map shown (drop (k + 1) (runs_of laid 0)) in
     ap (λ (t : List ℕ). t ++ others) n ∙ append_assoc old (shown_bytes first bytes) others
-    ∙ ap (λ (t : List ℕ). old ++ (t ++ others)) (sym (run_shown (byte_at laid 0) first bytes run.bytes_over)) ∙ ap (λ (t : List Run). old ++ flat_map shown t) (sym left) ∙ h
+    ∙ ap (λ (t : List ℕ). old ++ (t ++ others)) (sym (run_shown (byte_at laid 0) first bytes run.1)) ∙ ap (λ (t : List Run). old ++ flat_map shown t) (sym (run_next laid 0 k first bytes run)) ∙ h

@@ -1,9 +1,9 @@
 //! The text of the bytes of a memory.
 
-ghost use Rattle.std.specs.Prelude.{◌≡◌, ◌+◌, ◌<◌, ◌≤◌, ◌^◌, ◌++◌, ◌∷◌, [], IfOk, OnOk, length, option_map, string_bytes};
+ghost use Rattle.std.specs.Prelude.{◌≡◌, ◌+◌, ◌<◌, ◌≤◌, ◌^◌, ◌++◌, ◌∷◌, [], IfOk, OnOk, length, string_bytes};
 ghost use Rattle.omf_cmd.specs.Printed.{hex};
 ghost use Rattle.omf_cmd.specs.Relocated.{start_line};
-ghost use Rattle.omf_cmd.specs.RunLines.{IsRunShown, byte_text};
+ghost use Rattle.omf_cmd.specs.RunLines.{byte_text};
 ghost use Rattle.omf_image.specs.Joined.{runs_of};
 ghost use Rattle.omf_image.specs.Overlay.{byte_at};
 ghost use Rattle.omf_link.specs.MemoryText.{image_text, line_begin, line_end, memory_text, numbered_text, shown_bytes};
@@ -77,15 +77,6 @@ fn print_run(text: &mut String, first: u32, bytes: &[u8]) -> Result<(), AllocErr
     Ok(())
 }
 
-/// The first address and the bytes of the run with a number, from 0; None beyond the last.
-fn numbered_run(memory: &Image, k: usize) -> Option<(u32, &[u8])>
-    ensures { IsRunShown (byte_at memory.now 0) (runs_of memory.now 0) k (option_map (λ run. (run.0, run.1.now)) result) }
-{
-    let run = memory.run_at(0, k)?;
-    let bytes = memory.run_bytes(0, k)?;
-    Some((run.first, bytes))
-}
-
 /// The text of the bytes of a memory, which is segment 0 of an image: the runs of bytes in rising order, each in lines of 16 bytes and what
 /// is left. A line is the address of its first byte in eight hexadecimal digits, a colon, and each byte in two behind a space.
 ///
@@ -97,7 +88,7 @@ pub fn memory_text(alloc: Global, memory: &Image) -> Result<String, AllocError>
 {
     let mut text = String::new(alloc);
     let mut k = 0;
-    while let Some((first, bytes)) = numbered_run(memory, k) {
+    while let Some((first, bytes)) = memory.run_with_bytes(0, k) {
         print_run(&mut text, first, bytes)?;
         k += 1;
     }
