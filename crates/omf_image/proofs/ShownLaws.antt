@@ -1,13 +1,12 @@
--- The run of a number and its bytes, as those that are computed.
-use Rattle.std.proofs.Common.{◌≡◌, ℕ, zero, suc, ◌+◌, ◌^◌, ◌<◌, ◌≤◌, List, [], ◌∷◌, length, drop, Option, Some, None, refl, sym, ap, subst, ◌∙◌, arith}
+-- The run of a number, as that which is computed.
+use Rattle.std.proofs.Common.{◌≡◌, ℕ, zero, suc, ◌+◌, ◌^◌, ◌<◌, ◌≤◌, List, [], ◌∷◌, length, drop, Option, Some, None, sym, ap, ◌∙◌, arith}
 use Rattle.std.specs.Prelude.{Contains, slice_get}
 use Rattle.std.proofs.lemmas.List.{drop_all, drop_more}
 use Rattle.std.proofs.lemmas.Option.{slice_get_within, get_or_from_slice_get}
 use Rattle.omf_image.specs.declared.run.Run.{Run}
 use Rattle.omf_image.specs.Joined.{runs_of}
-use Rattle.omf_image.specs.Overlay.{Laid, byte_at, AreBytesAt, AreBytesOf, AreBytesOver, AreRising, IsRunAt, IsRunShown, spanned}
-use Rattle.omf_image.proofs.RunLaws.{joined_are_runs, runs_unique, same_run}
-use Rattle.omf_image.proofs.SortedLaws.{some_is}
+use Rattle.omf_image.specs.Overlay.{Laid, byte_at, AreRising, IsRunAt, IsRunShown, spanned}
+use Rattle.omf_image.proofs.RunLaws.{joined_are_runs, runs_unique}
 
 -- the run of a number is that of the joined runs
 pub run_is : (laid : List Laid) (segment k : ℕ) (run : Option Run) → IsRunAt (byte_at laid segment) k run → run ≡ slice_get (runs_of laid segment) k
@@ -15,26 +14,6 @@ run_is laid segment k run at = at.2 ∙ ap (λ (rs : List Run). slice_get rs k) 
 
 pub none_at : (laid : List Laid) (segment k : ℕ) → IsRunAt (byte_at laid segment) k None → slice_get (runs_of laid segment) k ≡ None
 none_at laid segment k at = sym (run_is laid segment k None at)
-
-no_run_of : (byte : ℕ → Option ℕ) (run : Option Run) → AreBytesOf byte run None → run ≡ None
-no_run_of byte None of = refl
-no_run_of byte (Some run) of = absurd (cc (of.1))
-
--- where there are no bytes there is no run
-pub no_run : (byte : ℕ → Option ℕ) (k : ℕ) → AreBytesAt byte k None → IsRunShown byte k None
-no_run byte k bytes = subst (IsRunAt byte k) (no_run_of byte bytes.0 bytes.2) bytes.1
-
--- a run with its bytes
-pub shown_run : (laid : List Laid) (segment k : ℕ) (run : Run) (bytes : List ℕ) → IsRunAt (byte_at laid segment) k (Some run) → AreBytesAt (byte_at laid segment) k (Some bytes) → run.first + run.len ≤ 2 ^ 32
-    → IsRunShown (byte_at laid segment) k (Some (run.first, bytes))
-shown_run laid segment k run bytes at given fits =
-    let here : Some run ≡ slice_get (runs_of laid segment) k = run_is laid segment k (Some run) at in
-    let same : given.0 ≡ Some run = run_is laid segment k given.0 given.1 ∙ sym here in
-    let of : AreBytesOf (byte_at laid segment) (Some run) (Some bytes) = subst (λ (o : Option Run). AreBytesOf (byte_at laid segment) o (Some bytes)) same given.2 in
-    let over : AreBytesOver (byte_at laid segment) run bytes = subst (λ (bs : List ℕ). AreBytesOver (byte_at laid segment) run bs) (sym (some_is bytes of.0 of.1)) of.2 in
-    let long : length bytes ≡ run.len = over.long in
-    let is : run ≡ spanned run.first bytes = same_run run (spanned run.first bytes) refl (sym long) in
-    (subst (λ (r : Run). IsRunAt (byte_at laid segment) k (Some r)) is at, subst (λ (r : Run). AreBytesOver (byte_at laid segment) r bytes) is over, omega arith)
 
 -- ---- how many runs there are
 

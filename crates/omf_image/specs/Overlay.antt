@@ -55,10 +55,11 @@ AreBytesOf byte (Some run) result = (bytes : List ℕ) × (result ≡ Some bytes
 abbrev pub AreBytesAt : (ℕ → Option ℕ) → ℕ → Option (List ℕ) → Type 0
 AreBytesAt byte k result = (run : Option Run) × IsRunAt byte k run × AreBytesOf byte run result
 
--- The first place and the bytes of the k-th of the maximal covered intervals, or none beyond the last. The interval ends with the segment's places or before.
+-- The interval that bytes cover from a place on.
 abbrev pub spanned : ℕ → List ℕ → Run
 spanned first bytes = record { first = first; len = length bytes }
 
+-- The first place and the bytes of the k-th of the maximal covered intervals, or none beyond the last. The interval ends with the segment's places or before.
 abbrev pub IsRunShown : (ℕ → Option ℕ) → ℕ → Option (ℕ × List ℕ) → Type 0
 IsRunShown byte k None = IsRunAt byte k None
 IsRunShown byte k (Some shown) = IsRunAt byte k (Some (spanned shown.0 shown.1)) × AreBytesOver byte (spanned shown.0 shown.1) shown.1 × (shown.0 + length shown.1 ≤ 2 ^ 32)
