@@ -92,10 +92,8 @@ fn unthreaded(plain: &PlainReference, is_short: bool) -> Reference
     ensures { result ≡ unthreaded is_short plain.now }
 {
     Reference {
-        fix: At {
-            within: 0,
-            item: fix_byte(plain.frame, plain.target, is_short),
-        },
+        fix: fix_byte(plain.frame, plain.target, is_short),
+        fix_within: 0,
         frame: frame_index(plain.frame),
         target: target_index(plain.target),
         displacement: if is_short {
@@ -121,7 +119,7 @@ pub(crate) fn unthreaded_fixup(threads: &Threads, location: u16, reference: &Ref
 pub(crate) fn is_direct(reference: &Reference) -> bool
     ensures { result ≡ is_direct reference.now }
 {
-    let fix = reference.fix.item;
+    let fix = reference.fix;
     let is_zero = match reference.displacement {
         Some(displacement) => displacement == 0,
         None => false,

@@ -132,7 +132,7 @@ fn judged_at(reference: &Reference, datum: &Option<At<Index>>) -> u32
 {
     match datum {
         Some(index) => index.within,
-        None => reference.fix.within,
+        None => reference.fix_within,
     }
 }
 
@@ -506,7 +506,7 @@ impl Tables {
         let is_location = matches!(self.threads.frame(reference), Some(FrameMethod::Location));
         lesser(
             self.reference_fault(&self.threads, reference),
-            fault_unless(!is_location, reference.fix.within, Reason::StartFrame),
+            fault_unless(!is_location, reference.fix_within, Reason::StartFrame),
         )
     }
 

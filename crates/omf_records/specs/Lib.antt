@@ -14,6 +14,7 @@ pub mod Records
 pub mod EntryReaders
 pub mod RecordReaders
 pub mod Reading
+pub mod Place
 pub mod Gives
 pub mod Parts
 pub mod Seen

@@ -80,7 +80,7 @@ impl Reference {
     pub fn frame_thread(&self) -> Option<u8>
         ensures { result ≡ (if frame_by_thread self.now.fix.item then Some (frame_thread self.now.fix.item) else None) }
     {
-        let fix = self.fix.item;
+        let fix = self.fix;
         if fix / 128 % 2 == 1 {
             Some(fix / 16 % 4)
         } else {
@@ -93,7 +93,7 @@ impl Reference {
     pub fn frame_method(&self) -> u8
         ensures { result ≡ frame_bits self.now.fix.item }
     {
-        self.fix.item / 16 % 8
+        self.fix / 16 % 8
     }
 
     /// The number of the thread that gives the target, if one does.
@@ -101,7 +101,7 @@ impl Reference {
     pub fn target_thread(&self) -> Option<u8>
         ensures { result ≡ (if target_by_thread self.now.fix.item then Some (target_bits self.now.fix.item) else None) }
     {
-        let fix = self.fix.item;
+        let fix = self.fix;
         if fix / 8 % 2 == 1 {
             Some(fix % 4)
         } else {
@@ -114,7 +114,7 @@ impl Reference {
     pub fn target_method(&self) -> u8
         ensures { result ≡ target_bits self.now.fix.item }
     {
-        self.fix.item % 4
+        self.fix % 4
     }
 }
 

@@ -3,6 +3,7 @@ ghost use Rattle.std.specs.Prelude.{◌≡◌, ◌++◌, OnOk, OnErr};
 ghost use Rattle.omf_records.specs.Begins.{Begins};
 ghost use Rattle.omf_records.specs.Shortest.{size_bytes};
 ghost use Rattle.omf_records.specs.Gives.{Gives};
+ghost use Rattle.omf_records.specs.Place.{place_of};
 ghost use Rattle.omf_records.specs.EntryReaders.{component_reader, data_type_reader, size_reader};
 ghost use Rattle.omf_records.specs.Sizes.{size_seen, GivesSize};
 
@@ -59,7 +60,7 @@ impl<'a> Model for Member<'a> {
 /// The byte FFH before each member.
 #[inline(always)]
 fn component<'a>(here: Here<'a>) -> Result<(u8, Here<'a>), LayoutFault>
-    ensures { Gives here.entry.wide result (component_reader.read here.entry.within here.entry.bytes.now) }
+    ensures { Gives here.entry.wide result (component_reader.read (place_of here.entry) here.entry.bytes.now) }
 {
     let (component, after) = byte(here)?;
     if component != 0xFF {
@@ -222,7 +223,7 @@ impl<'a> Model for Communal<'a> {
 
 /// The data type: 61H far, 62H near.
 fn data_type<'a>(here: Here<'a>) -> Result<(u8, Here<'a>), LayoutFault>
-    ensures { Gives here.entry.wide result (data_type_reader.read here.entry.within here.entry.bytes.now) }
+    ensures { Gives here.entry.wide result (data_type_reader.read (place_of here.entry) here.entry.bytes.now) }
 {
     let (data_type, after) = byte(here)?;
     if data_type != 0x61 && data_type != 0x62 {
@@ -232,7 +233,7 @@ fn data_type<'a>(here: Here<'a>) -> Result<(u8, Here<'a>), LayoutFault>
 }
 
 fn communal_size<'a>(here: Here<'a>) -> Result<(CommunalSize, Here<'a>), LayoutFault>
-    ensures { GivesSize here.entry.wide result (size_reader.read here.entry.within here.entry.bytes.now) }
+    ensures { GivesSize here.entry.wide result (size_reader.read (place_of here.entry) here.entry.bytes.now) }
 {
     let (data_type, here) = data_type(here)?;
     if data_type == 0x62 {

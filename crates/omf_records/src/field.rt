@@ -1,6 +1,7 @@
 //! Fields at a place of a record's contents.
 ghost use Rattle.std.specs.Prelude.{◌≡◌, ℕ, ◌+◌, ◌-◌, ◌*◌, ◌<◌, ◌≤◌, length, drop, take, List, cond};
 ghost use Rattle.omf_records.specs.Gives.{Gives, GivesField};
+ghost use Rattle.omf_records.specs.Place.{place_of};
 ghost use Rattle.omf_records.specs.FieldReaders.{name_read, index_read, byte_read, le_read, length_read};
 ghost use Rattle.omf_records.specs.FieldReaders.{number_reader};
 ghost use Rattle.omf_records.specs.Layout.{length_reason};
@@ -13,7 +14,7 @@ use omf_frame::{CommunalLength, Field, Index, Le16, Le32, Name, Reason};
 /// A field, and what comes after it.
 #[inline(always)]
 fn field<'a, F: Field<'a>>(here: Here<'a>) -> Result<(F, Here<'a>), LayoutFault>
-    ensures { GivesField F.spells here.entry.wide here.entry.within here.entry.bytes.now result }
+    ensures { GivesField F.spells here.entry.wide (place_of here.entry) here.entry.bytes.now result }
 {
     match F::read_at(here.bytes(), 0) {
         Some((value, len)) => Ok((value, here.pass(len))),
@@ -23,14 +24,14 @@ fn field<'a, F: Field<'a>>(here: Here<'a>) -> Result<(F, Here<'a>), LayoutFault>
 
 #[inline(always)]
 pub(crate) fn name<'a>(here: Here<'a>) -> Result<(Name<'a>, Here<'a>), LayoutFault>
-    ensures { Gives here.entry.wide result (name_read here.entry.within here.entry.bytes.now) }
+    ensures { Gives here.entry.wide result (name_read (place_of here.entry) here.entry.bytes.now) }
 {
     field::<Name<'a>>(here)
 }
 
 #[inline(always)]
 pub(crate) fn index<'a>(here: Here<'a>) -> Result<(Index, Here<'a>), LayoutFault>
-    ensures { Gives here.entry.wide result (index_read here.entry.within here.entry.bytes.now) }
+    ensures { Gives here.entry.wide result (index_read (place_of here.entry) here.entry.bytes.now) }
 {
     field::<Index>(here)
 }
@@ -38,7 +39,7 @@ pub(crate) fn index<'a>(here: Here<'a>) -> Result<(Index, Here<'a>), LayoutFault
 /// A number of two bytes.
 #[inline(always)]
 pub(crate) fn le16<'a>(here: Here<'a>) -> Result<(u16, Here<'a>), LayoutFault>
-    ensures { Gives here.entry.wide result (le_read 2 here.entry.within here.entry.bytes.now) }
+    ensures { Gives here.entry.wide result (le_read 2 (place_of here.entry) here.entry.bytes.now) }
 {
     match field::<Le16>(here) {
         Ok((Le16(value), after)) => Ok((value, after)),
@@ -49,7 +50,7 @@ pub(crate) fn le16<'a>(here: Here<'a>) -> Result<(u16, Here<'a>), LayoutFault>
 /// A number of four bytes.
 #[inline(always)]
 fn le32<'a>(here: Here<'a>) -> Result<(u32, Here<'a>), LayoutFault>
-    ensures { Gives here.entry.wide result (le_read 4 here.entry.within here.entry.bytes.now) }
+    ensures { Gives here.entry.wide result (le_read 4 (place_of here.entry) here.entry.bytes.now) }
 {
     match field::<Le32>(here) {
         Ok((Le32(value), after)) => Ok((value, after)),
@@ -60,7 +61,7 @@ fn le32<'a>(here: Here<'a>) -> Result<(u32, Here<'a>), LayoutFault>
 /// A number of the record's width: 32 bits, or 16.
 #[inline(always)]
 pub(crate) fn number<'a>(here: Here<'a>) -> Result<(u32, Here<'a>), LayoutFault>
-    ensures { Gives here.entry.wide result ((number_reader here.entry.wide).read here.entry.within here.entry.bytes.now) }
+    ensures { Gives here.entry.wide result ((number_reader here.entry.wide).read (place_of here.entry) here.entry.bytes.now) }
 {
     if here.is_wide() {
         return le32(here);
@@ -80,7 +81,7 @@ fn length_fault(bytes: &[u8]) -> Reason
 }
 
 pub(crate) fn communal_length<'a>(here: Here<'a>) -> Result<(u32, Here<'a>), LayoutFault>
-    ensures { Gives here.entry.wide result (length_read here.entry.within here.entry.bytes.now) }
+    ensures { Gives here.entry.wide result (length_read (place_of here.entry) here.entry.bytes.now) }
 {
     match field::<CommunalLength>(here) {
         Ok((CommunalLength(length), after)) => Ok((length, after)),
@@ -91,7 +92,7 @@ pub(crate) fn communal_length<'a>(here: Here<'a>) -> Result<(u32, Here<'a>), Lay
 /// An index, with its place.
 #[inline(always)]
 pub(crate) fn index_here<'a>(here: Here<'a>) -> Result<(At<Index>, Here<'a>), LayoutFault>
-    ensures { Gives here.entry.wide result (index_at.read here.entry.within here.entry.bytes.now) }
+    ensures { Gives here.entry.wide result (index_at.read (place_of here.entry) here.entry.bytes.now) }
 {
     let (item, after) = index(here)?;
     let within = here.within();
@@ -100,7 +101,7 @@ pub(crate) fn index_here<'a>(here: Here<'a>) -> Result<(At<Index>, Here<'a>), La
 
 /// A number of the record's width, with its place.
 pub(crate) fn number_here<'a>(here: Here<'a>) -> Result<(At<u32>, Here<'a>), LayoutFault>
-    ensures { Gives here.entry.wide result ((number_at here.entry.wide).read here.entry.within here.entry.bytes.now) }
+    ensures { Gives here.entry.wide result ((number_at here.entry.wide).read (place_of here.entry) here.entry.bytes.now) }
 {
     let (item, after) = number(here)?;
     let within = here.within();
@@ -110,7 +111,7 @@ pub(crate) fn number_here<'a>(here: Here<'a>) -> Result<(At<u32>, Here<'a>), Lay
 /// One byte.
 #[inline(always)]
 pub(crate) fn byte<'a>(here: Here<'a>) -> Result<(u8, Here<'a>), LayoutFault>
-    ensures { Gives here.entry.wide result (byte_read here.entry.within here.entry.bytes.now) }
+    ensures { Gives here.entry.wide result (byte_read (place_of here.entry) here.entry.bytes.now) }
 {
     match here.bytes() {
         [first, ..] => Ok((*first, here.pass(1))),

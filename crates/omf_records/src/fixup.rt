@@ -58,7 +58,7 @@ fn push_reference(out: &mut Vec<u8>, kind: u8, reference: &Reference)
     requires { vec_len out.old + 9 ≤ vec_capacity out.old }
     ensures { out.new.items ≡ out.old.items ++ reference_bytes kind reference.now }
 {
-    out.push_reserved(reference.fix.item);
+    out.push_reserved(reference.fix);
     push_index(out, &reference.frame);
     push_index(out, &reference.target);
     push_displacement(out, kind, &reference.displacement);

@@ -28,7 +28,9 @@ pub trait Cursor: Copy + Drop {
 }
 
 impl<'a> Cursor for Here<'a> {
-    ghost place = { λ h. h.within };
+    ghost use Rattle.omf_records.specs.Place.{place_of};
+
+    ghost place = { λ h. place_of h };
 
     ghost rest = { λ h. h.bytes.now };
 

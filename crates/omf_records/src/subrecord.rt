@@ -3,6 +3,7 @@ ghost use Rattle.std.specs.Prelude.{◌≡◌, ◌<◌, not, List, Option, IfOk}
 ghost use Rattle.omf_records.specs.Values.{is_location, may_be_self_relative, thread_method, frame_by_thread, frame_bits, target_by_thread, target_bits, has_frame_datum, has_target_datum, has_no_displacement};
 ghost use Rattle.omf_records.specs.Parts.{first_reason};
 ghost use Rattle.omf_records.specs.Gives.{Gives};
+ghost use Rattle.omf_records.specs.Place.{place_of};
 ghost use Rattle.omf_records.specs.Entries.{is_frame_method, wrong_methods, wrong_thread, wrong_location};
 ghost use Rattle.omf_records.specs.EntryReaders.{fix_reader, datum_reader, displacement_reader, reference_reader, thread_reader, fixup_reader};
 
@@ -21,7 +22,9 @@ use std::marker::{Model, PhantomData};
 /// the index of an explicit frame F0, F1 or F2, the index of an explicit target, the displacement if bit P is 0.
 #[derive(Drop)]
 pub struct Reference {
-    pub fix: At<u8>,
+    pub fix: u8,
+    /// The offset in the record of the fix data byte (the record's type byte is at 0).
+    pub fix_within: u32,
     pub frame: Option<At<Index>>,
     pub target: Option<At<Index>>,
     pub displacement: Option<u32>,
@@ -32,7 +35,7 @@ impl Model for Reference {
 
     ghost Value = { Said };
 
-    ghost view = { λ r. record { fix = r.fix; frame = r.frame; target = r.target; displacement = r.displacement } };
+    ghost view = { λ r. record { fix = record { within = r.fix_within; item = r.fix }; frame = r.frame; target = r.target; displacement = r.displacement } };
 }
 
 /// A THREAD by its first byte, or a FIXUP by its first two, the high byte first.
@@ -114,7 +117,7 @@ fn location_fault(location: u16) -> Option<Reason>
 /// The fix data byte.
 #[inline(always)]
 fn fix<'a>(here: Here<'a>) -> Result<(At<u8>, Here<'a>), LayoutFault>
-    ensures read { Gives here.entry.wide result (fix_reader.read here.entry.within here.entry.bytes.now) }
+    ensures read { Gives here.entry.wide result (fix_reader.read (place_of here.entry) here.entry.bytes.now) }
     ensures target { IfOk result (λ x. has_target_datum x.0.item ≡ not (target_by_thread x.0.item)) }
 {
     let (fix, after) = byte(here)?;
@@ -152,7 +155,7 @@ fn has_displacement(fix: u8) -> bool
 /// An index that stands there only if `is_there`.
 #[inline(always)]
 fn datum<'a>(here: Here<'a>, is_there: bool) -> Result<(Option<At<Index>>, Here<'a>), LayoutFault>
-    ensures { Gives here.entry.wide result ((datum_reader is_there).read here.entry.within here.entry.bytes.now) }
+    ensures { Gives here.entry.wide result ((datum_reader is_there).read (place_of here.entry) here.entry.bytes.now) }
 {
     if !is_there {
         return Ok((None, here));
@@ -164,7 +167,7 @@ fn datum<'a>(here: Here<'a>, is_there: bool) -> Result<(Option<At<Index>>, Here<
 
 #[inline(always)]
 fn displacement<'a>(here: Here<'a>, is_there: bool) -> Result<(Option<u32>, Here<'a>), LayoutFault>
-    ensures { Gives here.entry.wide result ((displacement_reader here.entry.wide is_there).read here.entry.within here.entry.bytes.now) }
+    ensures { Gives here.entry.wide result ((displacement_reader here.entry.wide is_there).read (place_of here.entry) here.entry.bytes.now) }
 {
     if !is_there {
         return Ok((None, here));
@@ -175,7 +178,7 @@ fn displacement<'a>(here: Here<'a>, is_there: bool) -> Result<(Option<u32>, Here
 
 #[inline(always)]
 pub(crate) fn read_reference<'a>(here: Here<'a>) -> Result<(Reference, Here<'a>), LayoutFault>
-    ensures { Gives here.entry.wide result ((reference_reader here.entry.wide).read here.entry.within here.entry.bytes.now) }
+    ensures { Gives here.entry.wide result ((reference_reader here.entry.wide).read (place_of here.entry) here.entry.bytes.now) }
 {
     let (fix, here) = fix(here)?;
     let (frame, here) = datum(here, has_frame_datum(fix.item))?;
@@ -183,7 +186,8 @@ pub(crate) fn read_reference<'a>(here: Here<'a>) -> Result<(Reference, Here<'a>)
     let (displacement, here) = displacement(here, has_displacement(fix.item))?;
     Ok((
         Reference {
-            fix,
+            fix: fix.item,
+            fix_within: fix.within,
             frame,
             target,
             displacement,
@@ -195,7 +199,7 @@ pub(crate) fn read_reference<'a>(here: Here<'a>) -> Result<(Reference, Here<'a>)
 /// What comes after the first byte of a THREAD.
 #[inline(always)]
 fn thread<'a>(here: Here<'a>, first: u8) -> Result<(Subrecord<'a>, Here<'a>), LayoutFault>
-    ensures { Gives here.entry.wide result ((thread_reader first).read here.entry.within here.entry.bytes.now) }
+    ensures { Gives here.entry.wide result ((thread_reader first).read (place_of here.entry) here.entry.bytes.now) }
 {
     let (index, here) = datum(here, thread_method(first) < 3)?;
     let part = Part::Thread { first, index };
@@ -206,7 +210,7 @@ fn thread<'a>(here: Here<'a>, first: u8) -> Result<(Subrecord<'a>, Here<'a>), La
 /// What comes after the first two bytes of a FIXUP.
 #[inline(always)]
 fn fixup<'a>(here: Here<'a>, location: u16) -> Result<(Subrecord<'a>, Here<'a>), LayoutFault>
-    ensures { Gives here.entry.wide result ((fixup_reader here.entry.wide location).read here.entry.within here.entry.bytes.now) }
+    ensures { Gives here.entry.wide result ((fixup_reader here.entry.wide location).read (place_of here.entry) here.entry.bytes.now) }
 {
     let (reference, here) = read_reference(here)?;
     let part = Part::Fixup {

@@ -1,6 +1,7 @@
 //! A record's contents as a typed record. What repeats in it is not read where it is known to be well spelled.
 ghost use Rattle.std.specs.Prelude.{◌≡◌, ◌==◌, ℕ, ◌≤◌, length, IfOk, Bool, cond, if◌then◌else◌};
 ghost use Rattle.omf_records.specs.Gives.{Gives};
+ghost use Rattle.omf_records.specs.Place.{place_of};
 ghost use Rattle.omf_records.specs.Reads.{each};
 ghost use Rattle.omf_records.specs.Unread.{IsKnown};
 ghost use Rattle.omf_records.specs.EntryReaders.{public_reader};
@@ -19,7 +20,7 @@ use omf_frame::{Index, Reason};
 
 /// THEADR, LHEADR.
 pub(crate) fn header_at<'a>(kind: u8, here: Here<'a>) -> Result<Rec<'a>, LayoutFault>
-    ensures contents { map_ok contents_seen result ≡ header_whole.read here.entry.within here.entry.bytes.now }
+    ensures contents { map_ok contents_seen result ≡ header_whole.read (place_of here.entry) here.entry.bytes.now }
     ensures kind { IfOk result (λ r. kind_seen r ≡ kind) }
 {
     let (name, here) = name(here)?;
@@ -29,7 +30,7 @@ pub(crate) fn header_at<'a>(kind: u8, here: Here<'a>) -> Result<Rec<'a>, LayoutF
 
 /// COMENT.
 pub(crate) fn comment_at<'a>(here: Here<'a>) -> Result<Rec<'a>, LayoutFault>
-    ensures contents { map_ok contents_seen result ≡ comment_whole.read here.entry.within here.entry.bytes.now }
+    ensures contents { map_ok contents_seen result ≡ comment_whole.read (place_of here.entry) here.entry.bytes.now }
     ensures kind { IfOk result (λ r. kind_seen r ≡ 0x88) }
 {
     let (type_byte, here) = byte(here)?;
@@ -44,8 +45,8 @@ pub(crate) fn comment_at<'a>(here: Here<'a>) -> Result<Rec<'a>, LayoutFault>
 
 /// LNAMES.
 pub(crate) fn names_at<'a>(here: Here<'a>, known: bool) -> Result<Rec<'a>, LayoutFault>
-    requires { IsKnown known (names_whole.read here.within here.bytes.now) }
-    ensures contents { map_ok contents_seen result ≡ names_whole.read here.entry.within here.entry.bytes.now }
+    requires { IsKnown known (names_whole.read (place_of here) here.bytes.now) }
+    ensures contents { map_ok contents_seen result ≡ names_whole.read (place_of here.entry) here.entry.bytes.now }
     ensures kind { IfOk result (λ r. kind_seen r ≡ 0x96) }
 {
     Ok(Rec::Names(Items::all(here, known)?))
@@ -53,8 +54,8 @@ pub(crate) fn names_at<'a>(here: Here<'a>, known: bool) -> Result<Rec<'a>, Layou
 
 /// LLNAMES.
 pub(crate) fn local_names_at<'a>(here: Here<'a>, known: bool) -> Result<Rec<'a>, LayoutFault>
-    requires { IsKnown known (names_whole.read here.within here.bytes.now) }
-    ensures contents { map_ok contents_seen result ≡ names_whole.read here.entry.within here.entry.bytes.now }
+    requires { IsKnown known (names_whole.read (place_of here) here.bytes.now) }
+    ensures contents { map_ok contents_seen result ≡ names_whole.read (place_of here.entry) here.entry.bytes.now }
     ensures kind { IfOk result (λ r. kind_seen r ≡ 0xCA) }
 {
     Ok(Rec::LocalNames(Items::all(here, known)?))
@@ -62,7 +63,7 @@ pub(crate) fn local_names_at<'a>(here: Here<'a>, known: bool) -> Result<Rec<'a>,
 
 /// SEGDEF's attribute byte.
 fn attribute<'a>(here: Here<'a>) -> Result<(u8, Here<'a>), LayoutFault>
-    ensures { Gives here.entry.wide result (attribute_reader.read here.entry.within here.entry.bytes.now) }
+    ensures { Gives here.entry.wide result (attribute_reader.read (place_of here.entry) here.entry.bytes.now) }
 {
     let (attribute, after) = byte(here)?;
     if attribute / 32 > 5 {
@@ -73,7 +74,7 @@ fn attribute<'a>(here: Here<'a>) -> Result<(u8, Here<'a>), LayoutFault>
 
 /// The frame number and offset of an absolute segment.
 fn absolute<'a>(here: Here<'a>, attribute: u8) -> Result<(Option<(u16, u8)>, Here<'a>), LayoutFault>
-    ensures { Gives here.entry.wide result ((absolute_reader attribute).read here.entry.within here.entry.bytes.now) }
+    ensures { Gives here.entry.wide result ((absolute_reader attribute).read (place_of here.entry) here.entry.bytes.now) }
 {
     if attribute / 32 != 0 {
         return Ok((None, here));
@@ -85,7 +86,7 @@ fn absolute<'a>(here: Here<'a>, attribute: u8) -> Result<(Option<(u16, u8)>, Her
 
 /// SEGDEF's length field.
 fn size<'a>(here: Here<'a>, attribute: u8) -> Result<(u32, Here<'a>), LayoutFault>
-    ensures { Gives here.entry.wide result ((size_reader here.entry.wide attribute).read here.entry.within here.entry.bytes.now) }
+    ensures { Gives here.entry.wide result ((size_reader here.entry.wide attribute).read (place_of here.entry) here.entry.bytes.now) }
 {
     let (size, after) = number(here)?;
     if attribute / 2 % 2 == 1 && size != 0 {
@@ -96,7 +97,7 @@ fn size<'a>(here: Here<'a>, attribute: u8) -> Result<(u32, Here<'a>), LayoutFaul
 
 /// SEGDEF.
 pub(crate) fn segment_at<'a>(here: Here<'a>) -> Result<Rec<'a>, LayoutFault>
-    ensures contents { map_ok contents_seen result ≡ (segment_whole here.entry.wide).read here.entry.within here.entry.bytes.now }
+    ensures contents { map_ok contents_seen result ≡ (segment_whole here.entry.wide).read (place_of here.entry) here.entry.bytes.now }
     ensures kind { IfOk result (λ r. kind_seen r ≡ odd_if here.entry.wide 0x98) }
 {
     let wide = here.is_wide();
@@ -120,8 +121,8 @@ pub(crate) fn segment_at<'a>(here: Here<'a>) -> Result<Rec<'a>, LayoutFault>
 
 /// GRPDEF.
 pub(crate) fn group_at<'a>(here: Here<'a>, known: bool) -> Result<Rec<'a>, LayoutFault>
-    requires { IsKnown known (group_whole.read here.within here.bytes.now) }
-    ensures contents { map_ok contents_seen result ≡ group_whole.read here.entry.within here.entry.bytes.now }
+    requires { IsKnown known (group_whole.read (place_of here) here.bytes.now) }
+    ensures contents { map_ok contents_seen result ≡ group_whole.read (place_of here.entry) here.entry.bytes.now }
     ensures kind { IfOk result (λ r. kind_seen r ≡ 0x9A) }
 {
     let (name, here) = index_here(here)?;
@@ -131,8 +132,8 @@ pub(crate) fn group_at<'a>(here: Here<'a>, known: bool) -> Result<Rec<'a>, Layou
 
 /// EXTDEF.
 pub(crate) fn externs_at<'a>(here: Here<'a>, known: bool) -> Result<Rec<'a>, LayoutFault>
-    requires { IsKnown known (externs_whole.read here.within here.bytes.now) }
-    ensures contents { map_ok contents_seen result ≡ externs_whole.read here.entry.within here.entry.bytes.now }
+    requires { IsKnown known (externs_whole.read (place_of here) here.bytes.now) }
+    ensures contents { map_ok contents_seen result ≡ externs_whole.read (place_of here.entry) here.entry.bytes.now }
     ensures kind { IfOk result (λ r. kind_seen r ≡ 0x8C) }
 {
     Ok(Rec::Externs(Items::all(here, known)?))
@@ -140,8 +141,8 @@ pub(crate) fn externs_at<'a>(here: Here<'a>, known: bool) -> Result<Rec<'a>, Lay
 
 /// LEXTDEF.
 pub(crate) fn local_externs_at<'a>(here: Here<'a>, known: bool) -> Result<Rec<'a>, LayoutFault>
-    requires { IsKnown known (externs_whole.read here.within here.bytes.now) }
-    ensures contents { map_ok contents_seen result ≡ externs_whole.read here.entry.within here.entry.bytes.now }
+    requires { IsKnown known (externs_whole.read (place_of here) here.bytes.now) }
+    ensures contents { map_ok contents_seen result ≡ externs_whole.read (place_of here.entry) here.entry.bytes.now }
     ensures kind { IfOk result (λ r. kind_seen r ≡ odd_if here.entry.wide 0xB4) }
 {
     let odd = here.is_wide();
@@ -154,7 +155,7 @@ fn base_frame<'a>(
     here: Here<'a>,
     segment: &At<Index>,
 ) -> Result<(Option<u16>, Here<'a>), LayoutFault>
-    ensures { Gives here.entry.wide result ((base_reader (segment.now.item == 0)).read here.entry.within here.entry.bytes.now) }
+    ensures { Gives here.entry.wide result ((base_reader (segment.now.item == 0)).read (place_of here.entry) here.entry.bytes.now) }
 {
     if segment.item.0 != 0 {
         return Ok((None, here));
@@ -170,8 +171,8 @@ fn public_names<'a>(
     known: bool,
 ) -> Result<Items<Public<'a>>, LayoutFault>
     requires width { here.wide ≡ wide }
-    requires spelled { IsKnown known (each (public_reader wide).read here.within here.bytes.now) }
-    ensures { result ≡ each (public_reader wide).read here.entry.within here.entry.bytes.now }
+    requires spelled { IsKnown known (each (public_reader wide).read (place_of here) here.bytes.now) }
+    ensures { result ≡ each (public_reader wide).read (place_of here.entry) here.entry.bytes.now }
 {
     Items::all(here, known)
 }
@@ -182,8 +183,8 @@ pub(crate) fn publics_at<'a>(
     here: Here<'a>,
     known: bool,
 ) -> Result<Rec<'a>, LayoutFault>
-    requires { IsKnown known ((publics_whole here.wide).read here.within here.bytes.now) }
-    ensures contents { map_ok contents_seen result ≡ (publics_whole here.entry.wide).read here.entry.within here.entry.bytes.now }
+    requires { IsKnown known ((publics_whole here.wide).read (place_of here) here.bytes.now) }
+    ensures contents { map_ok contents_seen result ≡ (publics_whole here.entry.wide).read (place_of here.entry) here.entry.bytes.now }
     ensures kind { IfOk result (λ r. kind_seen r ≡ odd_if here.entry.wide (if is_local then 0xB6 else 0x90)) }
 {
     let wide = here.is_wide();
@@ -211,8 +212,8 @@ pub(crate) fn publics_at<'a>(
 
 /// COMDEF.
 pub(crate) fn communals_at<'a>(here: Here<'a>, known: bool) -> Result<Rec<'a>, LayoutFault>
-    requires { IsKnown known (communals_whole.read here.within here.bytes.now) }
-    ensures contents { map_ok contents_seen result ≡ communals_whole.read here.entry.within here.entry.bytes.now }
+    requires { IsKnown known (communals_whole.read (place_of here) here.bytes.now) }
+    ensures contents { map_ok contents_seen result ≡ communals_whole.read (place_of here.entry) here.entry.bytes.now }
     ensures kind { IfOk result (λ r. kind_seen r ≡ 0xB0) }
 {
     Ok(Rec::Communals(Items::all(here, known)?))
@@ -220,8 +221,8 @@ pub(crate) fn communals_at<'a>(here: Here<'a>, known: bool) -> Result<Rec<'a>, L
 
 /// LCOMDEF.
 pub(crate) fn local_communals_at<'a>(here: Here<'a>, known: bool) -> Result<Rec<'a>, LayoutFault>
-    requires { IsKnown known (communals_whole.read here.within here.bytes.now) }
-    ensures contents { map_ok contents_seen result ≡ communals_whole.read here.entry.within here.entry.bytes.now }
+    requires { IsKnown known (communals_whole.read (place_of here) here.bytes.now) }
+    ensures contents { map_ok contents_seen result ≡ communals_whole.read (place_of here.entry) here.entry.bytes.now }
     ensures kind { IfOk result (λ r. kind_seen r ≡ 0xB8) }
 {
     Ok(Rec::LocalCommunals(Items::all(here, known)?))
@@ -229,7 +230,7 @@ pub(crate) fn local_communals_at<'a>(here: Here<'a>, known: bool) -> Result<Rec<
 
 /// LEDATA.
 pub(crate) fn plain_at<'a>(here: Here<'a>) -> Result<Rec<'a>, LayoutFault>
-    ensures contents { map_ok contents_seen result ≡ (plain_whole here.entry.wide).read here.entry.within here.entry.bytes.now }
+    ensures contents { map_ok contents_seen result ≡ (plain_whole here.entry.wide).read (place_of here.entry) here.entry.bytes.now }
     ensures kind { IfOk result (λ r. kind_seen r ≡ odd_if here.entry.wide 0xA0) }
 {
     let wide = here.is_wide();
@@ -246,7 +247,7 @@ pub(crate) fn plain_at<'a>(here: Here<'a>) -> Result<Rec<'a>, LayoutFault>
 
 /// LIDATA.
 pub(crate) fn iterated_at<'a>(here: Here<'a>) -> Result<Rec<'a>, LayoutFault>
-    ensures contents { map_ok contents_seen result ≡ (iterated_whole here.entry.wide).read here.entry.within here.entry.bytes.now }
+    ensures contents { map_ok contents_seen result ≡ (iterated_whole here.entry.wide).read (place_of here.entry) here.entry.bytes.now }
     ensures kind { IfOk result (λ r. kind_seen r ≡ odd_if here.entry.wide 0xA2) }
 {
     let wide = here.is_wide();
@@ -262,8 +263,8 @@ pub(crate) fn iterated_at<'a>(here: Here<'a>) -> Result<Rec<'a>, LayoutFault>
 
 /// FIXUPP.
 pub(crate) fn fixups_at<'a>(here: Here<'a>, known: bool) -> Result<Rec<'a>, LayoutFault>
-    requires { IsKnown known ((fixups_whole here.wide).read here.within here.bytes.now) }
-    ensures contents { map_ok contents_seen result ≡ (fixups_whole here.entry.wide).read here.entry.within here.entry.bytes.now }
+    requires { IsKnown known ((fixups_whole here.wide).read (place_of here) here.bytes.now) }
+    ensures contents { map_ok contents_seen result ≡ (fixups_whole here.entry.wide).read (place_of here.entry) here.entry.bytes.now }
     ensures kind { IfOk result (λ r. kind_seen r ≡ odd_if here.entry.wide 0x9C) }
 {
     let wide = here.is_wide();
@@ -273,7 +274,7 @@ pub(crate) fn fixups_at<'a>(here: Here<'a>, known: bool) -> Result<Rec<'a>, Layo
 
 /// MODEND's start, which stands there only if bit 6 of the type byte is set.
 fn start<'a>(here: Here<'a>, type_byte: u8) -> Result<(Option<Reference>, Here<'a>), LayoutFault>
-    ensures { Gives here.entry.wide result ((start_reader here.entry.wide type_byte).read here.entry.within here.entry.bytes.now) }
+    ensures { Gives here.entry.wide result ((start_reader here.entry.wide type_byte).read (place_of here.entry) here.entry.bytes.now) }
 {
     if type_byte / 64 % 2 == 0 {
         return Ok((None, here));
@@ -284,7 +285,7 @@ fn start<'a>(here: Here<'a>, type_byte: u8) -> Result<(Option<Reference>, Here<'
 
 /// MODEND.
 pub(crate) fn mod_end_at<'a>(here: Here<'a>) -> Result<Rec<'a>, LayoutFault>
-    ensures contents { map_ok contents_seen result ≡ (mod_end_whole here.entry.wide).read here.entry.within here.entry.bytes.now }
+    ensures contents { map_ok contents_seen result ≡ (mod_end_whole here.entry.wide).read (place_of here.entry) here.entry.bytes.now }
     ensures kind { IfOk result (λ r. kind_seen r ≡ odd_if here.entry.wide 0x8A) }
 {
     let wide = here.is_wide();

@@ -113,7 +113,7 @@ fn end_piece<'a>(
             },
         ),
         Some(reference) => {
-            let within = reference.fix.within;
+            let within = reference.fix_within;
             let start = Some(plain_reference(threads, reference));
             (
                 Place { within, ..at },
