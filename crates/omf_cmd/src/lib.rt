@@ -13,6 +13,7 @@
 
 mod digits;
 mod fault;
+mod host;
 mod image_text;
 mod input;
 pub mod laws;
@@ -27,6 +28,7 @@ mod running;
 mod words;
 
 pub use fault::RunFault;
+pub use host::words_of;
 pub use image_text::print_image;
 pub use printed::fault_line;
 pub use program::{fail, main_with};
