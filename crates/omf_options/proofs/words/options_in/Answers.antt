@@ -3,8 +3,8 @@ use Rattle.std.specs.Prelude.{option_and_then}
 use Rattle.clap.proofs.WalkLemmas.{first_value-rows, one_text-rows}
 use Rattle.clap.specs.Words.{found_of}
 use Rattle.omf_cmd.proofs.Parsed.{flag_value}
-use Rattle.omf_place.specs.Words.{base_id, base_named, flat_id, frames_named, real_id}
-use Rattle.omf_place.proofs.words.named_by.Goals as goal
+use Rattle.omf_options.specs.Words.{base_id, base_named, flat_id, frames_named, real_id}
+use Rattle.omf_options.proofs.words.options_in.Goals as goal
 
 pub returns : goal.returns
 returns c real set =
