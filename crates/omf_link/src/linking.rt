@@ -1,13 +1,15 @@
-//! The text of the image of several modules.
+//! The text of the image of several modules, and their map.
 
 ghost use Rattle.std.specs.Prelude.{◌≡◌, ◌<◌, ◌^◌, length, string_bytes};
 ghost use Rattle.omf_records.specs.Seen.{map_ok};
 ghost use Rattle.omf_linking.specs.Placing.{typed_modules};
 ghost use Rattle.omf_link.specs.Linked.{IsLinked, IsLinkedText};
+ghost use Rattle.omf_link.specs.Mapped.{IsMapped};
 
 use crate::printing::image_text;
 use omf_check::{Checked, Profile};
 use omf_linking::{LinkFault, link, memory_image, modules_in, relocate_all, start_of};
+use omf_map::map_text;
 use std::alloc::Global;
 
 /// The text of the image of modules, at the placements that a text gives them: the bytes of the memory that they lay together, and their
@@ -27,6 +29,20 @@ pub fn modules_text(alloc: Global, modules: &[Checked], text: &[u8]) -> Result<S
     let memory = memory_image(alloc, modules, &placements, &relocated)?;
     let start = start_of(modules, &relocated)?;
     let shown = image_text(alloc, &memory, start)?;
+    Ok(shown)
+}
+
+/// The map of modules at the placements that a text gives them, whether these reach or not.
+///
+/// # Errors
+///
+/// `Line` and `External` where the text gives no placements, as `link` has it. `Memory` where a growth was refused.
+pub fn modules_map(alloc: Global, modules: &[Checked], text: &[u8]) -> Result<String, LinkFault>
+    requires { length modules.now < 2 ^ 32 }
+    ensures { IsMapped (typed_modules modules.now) text.now (map_ok (λ shown. string_bytes shown) result) }
+{
+    let placements = link(alloc, modules, text)?;
+    let shown = map_text(alloc, modules, &placements)?;
     Ok(shown)
 }
 
