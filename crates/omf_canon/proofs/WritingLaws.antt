@@ -1,11 +1,14 @@
 -- What a walk over a module's pieces writes is the canonical bytes.
 use Rattle.std.proofs.Common.{◌≡◌, ℕ, ◌+◌, ◌≤◌, List, [], ◌∷◌, ◌++◌, length, refl, sym, ◌∙◌, ap, ap₂, subst, Bool, true, false, Some, None, arith, append_assoc, append-nil, length-append, Result, Ok, Err, Vec, Global}
 use Rattle.std.specs.Prelude.{IfOk, flat_map, All, Option, ◌==◌, ◌&&◌, nat_le}
-use Rattle.std.proofs.lemmas.Bool.{cond-true, cond-false, eqb-true}
+use Rattle.std.proofs.lemmas.Bool.{cond-true, cond-false, eqb-true, eq-eqb, le-leb}
 use Rattle.std.proofs.lemmas.Grind.{flat_map-append}
 use Rattle.std.proofs.lemmas.List.Elements.{All-nil, All-cons, All-head, All-tail}
 use Rattle.omf_frame.specs.Framing.{Raw, raw_bytes, raw_of, IsRecord}
-use Rattle.omf_records.specs.Values.{Rec}
+use Rattle.omf_records.specs.Direct.{PutsNext}
+use Rattle.omf_records.specs.Shortest.{subrecord_bytes}
+use Rattle.omf_records.specs.Unread.{Pending}
+use Rattle.omf_records.specs.Values.{Rec, Subrecord}
 use Rattle.omf_reloc.proofs.SingleLaws.{singles}
 use Rattle.omf_reloc.specs.Pieces.{one_by_one, single_pieces}
 use Rattle.omf_reloc.specs.Plain.{Piece, Kept, Fixed, End, PlainFixup, pieces}
@@ -14,7 +17,7 @@ use Rattle.omf_canon.specs.Cut.{body_limit, fixups_size}
 use Rattle.omf_canon.specs.PlainBytes.{fixup_bytes}
 use Rattle.omf_canon.specs.Skeleton.{skeleton}
 use Rattle.omf_canon.specs.Streaming.{group_raw, Open, close, open_with, closed_by, open_after, closed_all, streamed}
-use Rattle.omf_canon.specs.Writing.{Held, held, record_bytes, closed, has_room, held_with, CanPut, bytes_left}
+use Rattle.omf_canon.specs.Writing.{Held, held, record_bytes, closed, has_room, held_with, CanPut, bytes_left, IsJoined}
 use Rattle.omf_canon.specs.Writing.{closed_by as closes}
 use Rattle.omf_canon.proofs.CutLaws.{length-group}
 use Rattle.omf_canon.proofs.StreamLaws.{streamed-canonical}
@@ -164,3 +167,22 @@ pub write-last : {E : Type 0} (m : List Rec) (out : List ℕ) (g : Option Held) 
     → IfOk r (λ v. v.items ≡ out ++ closed g) → IfOk r (λ v. v.items ≡ canonical m)
 write-last m out g h (Ok v) e = e ∙ h.same
 write-last m out g h (Err x) e = tt
+
+-- ---- a fixup that is put into the open FIXUPP
+
+both : (a b : Bool) → a ≡ true → b ≡ true → (a && b) ≡ true
+both true b e f = f
+both false b e f = absurd cc
+
+pub joins : (kind : ℕ) (h n : Held) (old new : Pending Subrecord) → PutsNext kind old new h.body n.body → h.kind ≡ kind → n.kind ≡ h.kind → length n.body ≤ 1020 → IsJoined kind (Some h) (Some n) old new
+joins kind h n old new p k s l =
+    let bytes = subrecord_bytes kind p.next.item in
+    let fits : length h.body + length bytes ≤ 1020 = omega (arith, l, ap (λ (b : List ℕ). length b) p.put, length-append h.body bytes) in
+    let room : has_room kind bytes h ≡ true = both (h.kind == kind) (nat_le (length h.body + length bytes) body_limit) (eq-eqb h.kind kind k) (le-leb (length h.body + length bytes) body_limit fits) in
+    record {
+      next = p.next;
+      gives = p.gives;
+      direct = p.direct;
+      closes = cond-true (has_room kind bytes h) _ _ room;
+      holds = ap (λ (x : Held). Some x) (ap₂ held s p.put) ∙ sym (cond-true (has_room kind bytes h) _ _ room);
+    }

@@ -18,7 +18,7 @@ pub const FIXUP_LIMIT: usize = 11;
 
 /// Appends an index, if there is one. There is room for it.
 #[inline(always)]
-fn push_index(out: &mut Vec<u8>, index: &Option<At<Index>>)
+pub(crate) fn push_index(out: &mut Vec<u8>, index: &Option<At<Index>>)
     requires { vec_len out.old + 2 ≤ vec_capacity out.old }
     ensures items { out.new.items ≡ out.old.items ++ option_bytes datum_bytes index.now }
     ensures len { vec_len out.new ≤ vec_len out.old + 2 }
@@ -37,9 +37,10 @@ fn push_index(out: &mut Vec<u8>, index: &Option<At<Index>>)
 
 /// Appends a displacement in a record of a type, if there is one. There is room for it.
 #[inline(always)]
-fn push_displacement(out: &mut Vec<u8>, kind: u8, displacement: &Option<u32>)
+pub(crate) fn push_displacement(out: &mut Vec<u8>, kind: u8, displacement: &Option<u32>)
     requires { vec_len out.old + 4 ≤ vec_capacity out.old }
-    ensures { out.new.items ≡ out.old.items ++ option_bytes (little_bytes (width kind)) displacement.now }
+    ensures items { out.new.items ≡ out.old.items ++ option_bytes (little_bytes (width kind)) displacement.now }
+    ensures len { vec_len out.new ≤ vec_len out.old + 4 }
 {
     if let Some(displacement) = displacement {
         let [lowest, second, third, highest] = (*displacement).to_le_bytes();

@@ -12,7 +12,7 @@ use std::marker::Model;
 /// fault among them, and how many bytes they have.
 #[derive(Drop)]
 pub struct Unread<T: Item> {
-    from: T::From,
+    pub(crate) from: T::From,
 }
 
 impl<T: Item> Model for Unread<T> {
