@@ -18,3 +18,12 @@ copy_datum-framed-requires-clause-read c =
     (subst (λ (b : List ℕ). c.fix-item.result ≡ get_or b 2 c.fix-item.result) c.bytes.ensures c.fix-item.is) in
     subst (λ b. IsOk ((datum_reader b).read p.within p.bytes.now)) (sym c.has_frame_datum.ensures)
     (frame-can h.wide h.within h.bytes.now c.high-item.result c.low-item.result c.fix-item.result begun c.requires.read p.within p.bytes.now c.pass.ensures.within c.pass.ensures.bytes)
+
+pub copy_index-aimed-requires-clause-read : goal.copy_index-aimed-requires-clause-read
+copy_index-aimed-requires-clause-read c = ?
+
+pub copy_displacement-requires-clause-read : goal.copy_displacement-requires-clause-read
+copy_displacement-requires-clause-read c = ?
+
+pub returns-in-len3-up-clause-copied : goal.returns-in-len3-up-clause-copied
+returns-in-len3-up-clause-copied c = ?
