@@ -98,4 +98,5 @@ def main():
         (folder / f"{name}.place").write_text(placement(segments))
 
 
-main()
+if __name__ == "__main__":
+    main()
