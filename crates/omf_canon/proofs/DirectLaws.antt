@@ -1,13 +1,15 @@
 -- A reference that names no thread and has no displacement of 0 has the bytes that it would have without threads.
-use Rattle.std.proofs.Common.{◌≡◌, ℕ, zero, suc, ◌+◌, ◌*◌, ◌/◌, ◌%◌, ◌^◌, ◌<◌, ◌⊎◌, inl, inr, List, [], ◌∷◌, ◌++◌, Bool, true, false, cond, Option, Some, None, refl, sym, ◌∙◌, ap, ap₂, subst, arith, Result}
+use Rattle.std.proofs.Common.{◌≡◌, ℕ, zero, suc, ◌+◌, ◌*◌, ◌/◌, ◌%◌, ◌^◌, ◌<◌, ◌⊎◌, inl, inr, List, [], ◌∷◌, ◌++◌, Bool, true, false, cond, Option, Some, None, refl, sym, ◌∙◌, ap, ap₂, subst, arith, append-nil, Result}
 use Rattle.std.specs.Prelude.{◌==◌, ◌&&◌, ◌||◌, not, nat_lt, unwrap_or, OnOk, ⊤}
 use Rattle.std.proofs.lemmas.Bool.{cond-false, or_cases, eqb-true, eqb-false, ltb-true, cases_Bool}
 use Rattle.byteorder.specs.Endian.{little_bytes}
 use Rattle.omf_frame.specs.Bytes.{bits, has_bit}
-use Rattle.omf_frame.specs.declared.fault.Reason.TheVariants as reason
-use Rattle.omf_records.specs.Values.{At, Reference, Subrecord, Fixup, width, frame_by_thread, frame_bits, target_by_thread, target_bits, has_no_displacement}
-use Rattle.omf_records.specs.Entries.{unless, is_frame_method}
+use Rattle.omf_records.specs.Direct.{is_zero, is_direct, IsDirect}
+use Rattle.omf_records.specs.Unread.{Pending}
+use Rattle.omf_records.specs.Values.{At, Reference, Subrecord, Thread, Fixup, width, frame_by_thread, frame_bits, target_by_thread, target_bits, has_no_displacement}
+use Rattle.omf_records.specs.Entries.{is_frame_method}
 use Rattle.omf_records.specs.Shortest.{option_bytes, datum_bytes, subrecord_bytes}
+use Rattle.omf_records.proofs.DirectLaws.{no-reason}
 use Rattle.omf_records.specs.Valued.{IsThere, IsIndexValue, IsReferenceValue, IsSubrecordValue}
 use Rattle.omf_check.specs.Threads.{setting, frame_from, target_from}
 use Rattle.omf_check.specs.declared.method.FrameMethod.{FrameMethod}
@@ -16,19 +18,15 @@ use Rattle.omf_check.specs.declared.method.TargetMethod.{TargetMethod}
 use Rattle.omf_check.specs.declared.method.TargetMethod.TheVariants.{Segment as T0}
 use Rattle.omf_check.specs.declared.threads.Threads.{Threads}
 use Rattle.omf_check.specs.Judging.{frame_cell, target_cell}
+use Rattle.omf_check.specs.Kept.{set_thread}
 use Rattle.omf_reloc.specs.Plain.{Fixed}
 use Rattle.omf_reloc.specs.Walking.{plain_fixup_by}
 use Rattle.omf_canon.specs.PlainBytes.{fixup_bytes}
-use Rattle.omf_canon.specs.Unthreaded.{frame_code, frame_index, target_code, target_index, fix_byte, is_zero, is_direct}
-use Rattle.omf_canon.specs.Writing.{Held, closed_by, held_with, subrecord_piece, ArePut}
-use Rattle.omf_canon.proofs.TakingLaws.{put-one, on-both}
+use Rattle.omf_canon.specs.Unthreaded.{frame_code, frame_index, target_code, target_index, fix_byte}
+use Rattle.omf_canon.specs.Writing.{Held, closed_by, held_with, subrecord_piece, ArePut, IsJoined}
+use Rattle.omf_canon.proofs.TakingLaws.{put-one, on-both, IsTaken, take-value, take-next}
 
 -- ---- methods that have numbers
-
-no-reason : (b c : Bool) → unless b reason.FrameMethod ++ unless c reason.TargetMethod ≡ [] → (b ≡ true) × (c ≡ true)
-no-reason true true e = (refl, refl)
-no-reason true false e = absurd cc
-no-reason false c e = absurd cc
 
 small-cases : (m : ℕ) → m < 3 → (m ≡ 0) ⊎ ((m ≡ 1) ⊎ (m ≡ 2))
 small-cases zero h = inl refl
@@ -172,3 +170,34 @@ direct-put threads kind locat r s is v e out new group then res o g =
     let b = direct-bytes threads kind locat r value.reference e in
     subst (λ x. OnOk res (ArePut (subrecord_piece threads kind x) out group new then)) (sym is)
     (on-both res o g (λ p q. put-one (Fixed kind (f ∷ [])) out new group then (p ∙ ap (λ (x : List ℕ). out ++ closed_by kind x group) b) (q ∙ ap (λ (x : List ℕ). held_with kind x group) b)))
+
+-- ---- one that joins the open FIXUPP
+
+joined-put : (threads : Threads) (kind : ℕ) (s : Subrecord) → IsSubrecordValue kind s → IsDirect s → (out : List ℕ) (group then : Option Held)
+    → closed_by kind (subrecord_bytes kind s) group ≡ [] → then ≡ held_with kind (subrecord_bytes kind s) group → ArePut (subrecord_piece threads kind s) out group out then
+joined-put threads kind (Thread byte datum) v is out group then c h = absurd is
+joined-put threads kind (Fixup locat r) v is out group then c h =
+    let f = plain_fixup_by threads locat r in
+    let b = direct-bytes threads kind locat r v.reference is in
+    put-one (Fixed kind (f ∷ [])) out out group then
+    (sym (ap (λ (x : List ℕ). out ++ x) (sym (ap (λ (x : List ℕ). closed_by kind x group) b) ∙ c) ∙ append-nil out))
+    (h ∙ ap (λ (x : List ℕ). held_with kind x group) b)
+
+sets-none : (threads : Threads) (s : Subrecord) → IsDirect s → set_thread threads s ≡ threads
+sets-none threads (Thread byte datum) is = absurd is
+sets-none threads (Fixup locat r) is = refl
+
+module _ (kind : ℕ) (threads : Threads) (out : List ℕ) (group : Option Held) (whole : List (At Subrecord)) (now_threads : Threads) (now_out : List ℕ) (now_group : Option Held) (old : Pending Subrecord) (h : IsTaken kind threads out group whole now_threads now_out now_group old.items) where
+  pub take-joined : (new : Pending Subrecord) (new_threads : Threads) (new_out : List ℕ) (new_group : Option Held)
+      → IsJoined kind now_group new_group old new → new_out ≡ now_out → new_threads ≡ now_threads → IsTaken kind threads out group whole new_threads new_out new_group new.items
+  take-joined new new_threads new_out new_group j o t =
+      let value = take-value kind threads out group whole now_threads now_out now_group old.items h j.next new.items j.gives.0 in
+      let put = joined-put now_threads kind j.next.item value j.direct now_out now_group new_group j.closes j.holds in
+      take-next kind threads out group whole now_threads now_out now_group old.items h j.next new.items j.gives.0 new_threads new_out new_group
+      (t ∙ sym (sets-none now_threads j.next.item j.direct))
+      (subst (λ (x : List ℕ). ArePut (subrecord_piece now_threads kind j.next.item) now_out now_group x new_group) (sym o) put)
+
+  -- where nothing joined, all is as it was
+  pub take-kept : (new : Pending Subrecord) (new_threads : Threads) (new_out : List ℕ) (new_group : Option Held)
+      → new ≡ old → new_group ≡ now_group → new_out ≡ now_out → new_threads ≡ now_threads → IsTaken kind threads out group whole new_threads new_out new_group new.items
+  take-kept new new_threads new_out new_group n g o t = rw (n, g, o, t) h

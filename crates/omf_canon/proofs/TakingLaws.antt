@@ -183,6 +183,9 @@ module _ (kind : ℕ) (threads : Threads) (out : List ℕ) (group : Option Held)
               ∙ h.put rest;
         }
 
+    pub take-readable : IsOk now
+    take-readable = subst IsOk (sym h.read) refl
+
     none-left : now ≡ Ok [] → h.left ≡ []
     none-left e = let q : ◌≡◌ {A = Result (List (At Subrecord)) Fault} (Ok h.left) (Ok []) = sym h.read ∙ e in cc
 

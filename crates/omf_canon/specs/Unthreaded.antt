@@ -1,6 +1,6 @@
 -- A plain reference as a reference of a record that names no thread (TIS OMF 1.1, "FIXUPP"): its methods and its indices stand in it.
-use Rattle.std.specs.Prelude.{ℕ, ◌+◌, ◌*◌, Bool, false, not, ◌&&◌, Option, Some, None, ◌==◌, if◌then◌else◌}
-use Rattle.omf_records.specs.Values.{At, Reference, Subrecord, Fixup, nowhere, frame_by_thread, target_by_thread}
+use Rattle.std.specs.Prelude.{ℕ, ◌+◌, ◌*◌, Bool, Option, Some, None, ◌==◌, if◌then◌else◌}
+use Rattle.omf_records.specs.Values.{At, Reference, Subrecord, Fixup, nowhere}
 use Rattle.omf_check.specs.Threads.{PlainReference}
 use Rattle.omf_check.specs.declared.method.FrameMethod.{FrameMethod}
 use Rattle.omf_check.specs.declared.method.FrameMethod.TheVariants.{Segment as F0, Group as F1, External as F2, Location as F4, Target as F5}
@@ -50,11 +50,3 @@ unthreaded short r = record {
 -- A fixup is short exactly where its displacement is 0 (this profile's rule).
 abbrev pub unthreaded_fixup : PlainFixup → Subrecord
 unthreaded_fixup f = Fixup f.locat (unthreaded (f.reference.displacement == 0) f.reference)
-
--- A reference that names no thread and has no displacement of 0 is written already as one without threads.
-abbrev pub is_zero : Option ℕ → Bool
-is_zero None = false
-is_zero (Some d) = d == 0
-
-abbrev pub is_direct : Reference → Bool
-is_direct r = not (frame_by_thread r.fix.item) && (not (target_by_thread r.fix.item) && not (is_zero r.displacement))

@@ -1,8 +1,10 @@
 -- What a walk over a module's records writes, step by step, with at most one open FIXUPP. Private functions speak in these words; public ones
 -- say what the canonical bytes are by their definition.
-use Rattle.std.specs.Prelude.{◌≡◌, ℕ, ◌+◌, ◌≤◌, ⊤, List, [], ◌∷◌, ◌++◌, length, Bool, false, not, ◌&&◌, ◌||◌, ◌==◌, nat_le, Option, Some, None, option_map, if◌then◌else◌}
+use Rattle.std.specs.Prelude.{◌≡◌, ℕ, ◌+◌, ◌≤◌, ⊤, List, [], ◌∷◌, ◌++◌, length, Bool, false, not, ◌&&◌, ◌||◌, ◌==◌, nat_le, Option, Some, None, option_map, Ok, if◌then◌else◌}
 use Rattle.omf_frame.specs.Framing.{raw_bytes, raw_of}
-use Rattle.omf_records.specs.Shortest.{contents_bytes}
+use Rattle.omf_records.specs.Direct.{IsDirect}
+use Rattle.omf_records.specs.Shortest.{contents_bytes, subrecord_bytes}
+use Rattle.omf_records.specs.Unread.{Pending, NextGives}
 use Rattle.omf_records.specs.Values.{At, Rec, alone, Contents, Fixups, ModEnd, Subrecord, Thread, Fixup}
 use Rattle.omf_check.specs.Kept.{set_thread}
 use Rattle.omf_check.specs.declared.threads.Threads.{Threads}
@@ -85,6 +87,14 @@ record_pieces threads (r ∷ rs) = contents_pieces threads r.kind r.contents ++ 
 -- These pieces were written, from bytes and an open FIXUPP to others: with any pieces behind them both come to the same bytes.
 abbrev pub ArePut : List Piece → List ℕ → Option Held → List ℕ → Option Held → Type 0
 ArePut ps out group new_out new_group = (rest : List Piece) → new_out ++ bytes_left new_group rest ≡ out ++ bytes_left group (ps ++ rest)
+
+-- The next of some subrecords names no thread and has no displacement of 0, and was passed: its bytes joined the open FIXUPP.
+pub record IsJoined (kind : ℕ) (group grown : Option Held) (old new : Pending Subrecord) : Type 0 where
+  pub next : At Subrecord
+  pub gives : NextGives old (Ok (Some next)) new
+  pub direct : IsDirect next.item
+  pub closes : closed_by kind (subrecord_bytes kind next.item) group ≡ []
+  pub holds : grown ≡ held_with kind (subrecord_bytes kind next.item) group
 
 -- The types of LEDATA and LIDATA.
 abbrev pub is_data : ℕ → Bool

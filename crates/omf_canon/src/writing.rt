@@ -1,6 +1,6 @@
 //! The canonical bytes of a module.
 
-ghost use Rattle.std.specs.Prelude.{All, ◌≡◌, ◌≤◌, ◌++◌, [], ◌∷◌, None, Some, Ok, OnOk, IfOk, IsOk, IsOkAnd, IfSome, IsTrue, true, length, option_map, if◌then◌else◌};
+ghost use Rattle.std.specs.Prelude.{All, ◌≡◌, ◌≤◌, ◌++◌, [], ◌∷◌, None, Some, Ok, OnOk, IfOk, IsOk, IsOkAnd, IfSome, IsTrue, true, false, length, option_map, if◌then◌else◌};
 ghost use Rattle.omf_check.specs.Judging.{IsNoFixupp};
 ghost use Rattle.omf_check.specs.Kept.{no_threads, set_thread, set_threads};
 ghost use Rattle.omf_check.specs.Listed.{StartsWithRecord};
@@ -19,7 +19,7 @@ ghost use Rattle.omf_canon.specs.Canonical.{canonical, canonical_raws};
 ghost use Rattle.omf_canon.specs.Skeleton.{skeleton};
 ghost use Rattle.omf_canon.specs.Form.{IsFormOf};
 ghost use Rattle.omf_canon.specs.PlainBytes.{start_bytes};
-ghost use Rattle.omf_canon.specs.Writing.{Held, held, record_bytes, closed, has_room, held_with, closed_by, piece_puts, CanPut, subrecord_piece, subrecord_pieces, contents_pieces, ArePut, is_data, begins_short};
+ghost use Rattle.omf_canon.specs.Writing.{Held, held, record_bytes, closed, has_room, held_with, closed_by, piece_puts, CanPut, subrecord_piece, subrecord_pieces, contents_pieces, ArePut, IsJoined, is_data, begins_short};
 
 use crate::laws;
 use crate::plain::{is_direct, put_start, unthreaded_fixup};
@@ -120,6 +120,21 @@ impl Group {
         }
         self.body.truncate(len);
         Ok(false)
+    }
+
+    /// Takes the subrecord that comes next in a FIXUPP of a type and says so, if that is a fixup which names no thread and has no
+    /// displacement of 0, and this FIXUPP has its type and room for any fixup; else all stays as it was.
+    #[inline(always)]
+    fn join_direct(&mut self, kind: u8, subrecords: &mut Unread<Subrecord<'_>>) -> bool
+        requires { IsOk subrecords.old.items }
+        ensures joined { result ≡ true → IsJoined kind (Some self.old) (Some self.new) subrecords.old subrecords.new }
+        ensures group { result ≡ false → self.new ≡ self.old }
+        ensures left { result ≡ false → subrecords.new ≡ subrecords.old }
+    {
+        if self.kind != kind || self.body.len() > BODY_LIMIT - FIXUP_LIMIT {
+            return false;
+        }
+        subrecords.put_direct(kind, &mut self.body)
     }
 }
 
@@ -230,6 +245,23 @@ impl Walk {
         }
     }
 
+    /// Takes the subrecord that comes next in a FIXUPP of a type and says so, if that is a fixup which names no thread and has no
+    /// displacement of 0, and the open FIXUPP has its type and room for any fixup; else all stays as it was.
+    #[inline(always)]
+    fn join_direct(&mut self, kind: u8, subrecords: &mut Unread<Subrecord<'_>>) -> bool
+        requires { IsOk subrecords.old.items }
+        ensures joined { result ≡ true → IsJoined kind self.old.group self.new.group subrecords.old subrecords.new }
+        ensures group { result ≡ false → self.new.group ≡ self.old.group }
+        ensures left { result ≡ false → subrecords.new ≡ subrecords.old }
+        ensures out { self.new.out.items ≡ self.old.out.items }
+        ensures threads { self.new.threads ≡ self.old.threads }
+    {
+        match &mut self.group {
+            Some(group) => group.join_direct(kind, subrecords),
+            None => false,
+        }
+    }
+
     /// Takes the subrecords of a FIXUPP of a type, which are well spelled.
     fn take_fixups(
         &mut self,
@@ -244,6 +276,9 @@ impl Walk {
     {
         let mut subrecords = subrecords;
         'walk: loop {
+            if self.join_direct(kind, &mut subrecords) {
+                continue;
+            }
             let subrecord = match subrecords.read_next() {
                 Ok(Some(subrecord)) => subrecord,
                 Ok(None) => return Ok(()),

@@ -5,3 +5,4 @@ pub mod Shorter
 pub mod Recast
 pub mod ShortestLaws
 pub mod ValueLaws
+pub mod DirectLaws

@@ -24,3 +24,4 @@ pub mod Laws
 pub mod LawProofs
 pub mod Rows
 pub mod Unread
+pub mod Direct

@@ -1,5 +1,5 @@
 //! The bytes of fixups and of references, for which room is taken once (TIS OMF 1.1, "FIXUPP").
-ghost use Rattle.std.specs.Prelude.{◌≡◌, ◌++◌, ◌+◌, ◌≤◌, OnOk, OnErr, vec_len, vec_capacity};
+ghost use Rattle.std.specs.Prelude.{◌≡◌, ◌++◌, ◌+◌, ◌≤◌, OnOk, OnErr, length, vec_len, vec_capacity};
 ghost use Rattle.byteorder.specs.Endian.{little_bytes};
 ghost use Rattle.omf_records.specs.Begins.{Begins};
 ghost use Rattle.omf_records.specs.Shortest.{option_bytes, datum_bytes, reference_bytes, subrecord_bytes};
@@ -16,9 +16,23 @@ const REFERENCE_LIMIT: usize = 9;
 /// A fixup has at most so many bytes: two of its location, and its reference.
 pub const FIXUP_LIMIT: usize = 11;
 
+/// Appends bytes. There is room for them.
+#[inline(always)]
+pub(crate) fn push_bytes(out: &mut Vec<u8>, bytes: &[u8])
+    requires { vec_len out.old + length bytes.now ≤ vec_capacity out.old }
+    ensures items { out.new.items ≡ out.old.items ++ bytes.now }
+    ensures len { vec_len out.new ≡ vec_len out.old + length bytes.now }
+    ensures capacity { vec_capacity out.old ≤ vec_capacity out.new }
+{
+    match out.extend_from_slice(bytes) {
+        Ok(()) => {}
+        Err(_) => unreachable!(),
+    }
+}
+
 /// Appends an index, if there is one. There is room for it.
 #[inline(always)]
-fn push_index(out: &mut Vec<u8>, index: &Option<At<Index>>)
+pub(crate) fn push_index(out: &mut Vec<u8>, index: &Option<At<Index>>)
     requires { vec_len out.old + 2 ≤ vec_capacity out.old }
     ensures items { out.new.items ≡ out.old.items ++ option_bytes datum_bytes index.now }
     ensures len { vec_len out.new ≤ vec_len out.old + 2 }
@@ -37,17 +51,17 @@ fn push_index(out: &mut Vec<u8>, index: &Option<At<Index>>)
 
 /// Appends a displacement in a record of a type, if there is one. There is room for it.
 #[inline(always)]
-fn push_displacement(out: &mut Vec<u8>, kind: u8, displacement: &Option<u32>)
+pub(crate) fn push_displacement(out: &mut Vec<u8>, kind: u8, displacement: &Option<u32>)
     requires { vec_len out.old + 4 ≤ vec_capacity out.old }
-    ensures { out.new.items ≡ out.old.items ++ option_bytes (little_bytes (width kind)) displacement.now }
+    ensures items { out.new.items ≡ out.old.items ++ option_bytes (little_bytes (width kind)) displacement.now }
+    ensures len { vec_len out.new ≤ vec_len out.old + 4 }
 {
     if let Some(displacement) = displacement {
         let [lowest, second, third, highest] = (*displacement).to_le_bytes();
-        out.push_reserved(lowest);
-        out.push_reserved(second);
         if kind % 2 == 1 {
-            out.push_reserved(third);
-            out.push_reserved(highest);
+            push_bytes(out, &[lowest, second, third, highest]);
+        } else {
+            push_bytes(out, &[lowest, second]);
         }
     }
 }

@@ -23,6 +23,7 @@
 
 mod at;
 mod bits;
+mod direct;
 mod dispatch;
 pub mod edges;
 mod entry;

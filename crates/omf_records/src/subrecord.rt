@@ -129,7 +129,7 @@ fn fix<'a>(here: Here<'a>) -> Result<(At<u8>, Here<'a>), LayoutFault>
 }
 
 /// An index follows for the frame.
-fn has_frame_datum(fix: u8) -> bool
+pub(crate) fn has_frame_datum(fix: u8) -> bool
     ensures { result ≡ has_frame_datum fix }
 {
     fix / 128 == 0 && fix / 16 % 8 < 3
@@ -143,7 +143,7 @@ fn has_target_datum(fix: u8) -> bool
     fix / 8 % 2 == 0
 }
 
-fn has_displacement(fix: u8) -> bool
+pub(crate) fn has_displacement(fix: u8) -> bool
     ensures { result ≡ not (has_no_displacement fix) }
 {
     fix / 4 % 2 == 0
@@ -151,7 +151,10 @@ fn has_displacement(fix: u8) -> bool
 
 /// An index that stands there only if `is_there`.
 #[inline(always)]
-fn datum<'a>(here: Here<'a>, is_there: bool) -> Result<(Option<At<Index>>, Here<'a>), LayoutFault>
+pub(crate) fn datum<'a>(
+    here: Here<'a>,
+    is_there: bool,
+) -> Result<(Option<At<Index>>, Here<'a>), LayoutFault>
     ensures { Gives here.entry.wide result ((datum_reader is_there).read here.entry.within here.entry.bytes.now) }
 {
     if !is_there {

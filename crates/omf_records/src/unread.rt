@@ -27,10 +27,21 @@ impl<T: Item> Model for Unread<T> {
 
 impl<T: Item> Unread<T> {
     /// All of the bytes, as items.
+    #[inline(always)]
     pub(crate) fn new(from: T::From) -> Unread<T>
-        ensures { result.items ≡ each (T.reader (T.From.wide from)).read (T.From.place from) (T.From.rest from) }
+        ensures items { result.items ≡ each (T.reader (T.From.wide from)).read (T.From.place from) (T.From.rest from) }
+        ensures size { result.size ≡ length (T.From.rest from) }
     {
         Unread { from }
+    }
+
+    /// Where the item stands that is to be read next.
+    #[inline(always)]
+    pub(crate) fn place(&self) -> T::From
+        ensures items { self.now.items ≡ each (T.reader (T.From.wide result)).read (T.From.place result) (T.From.rest result) }
+        ensures size { self.now.size ≡ length (T.From.rest result) }
+    {
+        self.from
     }
 
     /// The same items, from the one on that is to be read next.

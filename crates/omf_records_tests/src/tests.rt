@@ -413,6 +413,51 @@ fn reads_subrecords_to_the_end(rt: HostRuntime) -> Result<(), Fail> {
     Ok(())
 }
 
+/// The bytes of the first subrecord of a FIXUPP, if they are put without its value.
+fn put_direct(alloc: Global, kind: u8, body: &[u8]) -> Result<Option<Vec<u8>>, Fail>
+    requires taken { IsTrue (is_taken kind) }
+    requires short { length body.now ≤ 65534 }
+{
+    let _well_spelled = view(raw(kind, body))?;
+    let Some(mut subrecords) = unread_fixups(&raw(kind, body)) else {
+        return Ok(None);
+    };
+    let mut out = Vec::with_capacity(alloc, FIXUP_LIMIT)?;
+    if subrecords.put_direct(kind, &mut out) {
+        return Ok(Some(out));
+    }
+    Ok(None)
+}
+
+#[test]
+fn puts_fixups_without_their_values(rt: HostRuntime) -> Result<(), Fail> {
+    let alloc = rt.alloc();
+    // A long index, and a displacement of two bytes.
+    let short = put_direct(alloc, 0x9C, &[0xC4, 0x02, 0x50, 0x80, 0x05, 0x34, 0x12])?;
+    assert_eq!(rt;
+        short.as_deref(),
+        Some([0xC4, 0x02, 0x50, 0x05, 0x34, 0x12].as_slice())
+    );
+    // Two indices, and a displacement of four bytes.
+    let wide = [0xE4, 0x00, 0x20, 0x02, 0x81, 0x2C, 0x78, 0x56, 0x34, 0x12];
+    assert_eq!(rt;
+        put_direct(alloc, 0x9D, &wide)?.as_deref(),
+        Some(wide.as_slice())
+    );
+    Ok(())
+}
+
+#[test]
+fn puts_no_other_subrecord_without_its_value(rt: HostRuntime) -> Result<(), Fail> {
+    let alloc = rt.alloc();
+    // A displacement of 0, a target of a thread, a frame of a thread, and a THREAD.
+    assert!(rt; put_direct(alloc, 0x9C, &[0xC4, 0x02, 0x50, 0x05, 0x00, 0x00])?.is_none());
+    assert!(rt; put_direct(alloc, 0x9C, &[0xC4, 0x02, 0x5C])?.is_none());
+    assert!(rt; put_direct(alloc, 0x9C, &[0xC4, 0x02, 0x84, 0x05])?.is_none());
+    assert!(rt; put_direct(alloc, 0x9C, &[0x00, 0x01])?.is_none());
+    Ok(())
+}
+
 #[test]
 fn shows_names_with_their_places(rt: HostRuntime) -> Result<(), Fail> {
     let rec = view(raw(0x96, &[0x01, 0x54, 0x00, 0x02, 0x41, 0x42]))?;

@@ -1,0 +1,159 @@
+//! FIXUPs that name no thread and have no displacement of 0, put from their bytes without their values (TIS OMF 1.1, "FIXUPP").
+ghost use Rattle.std.specs.Prelude.{◌≡◌, ◌+◌, ◌≤◌, ⊤, true, false, length, vec_len, vec_capacity, IfSome, IsOk};
+ghost use Rattle.byteorder.specs.Endian.{little_bytes};
+ghost use Rattle.omf_records.specs.Begins.{Begins};
+ghost use Rattle.omf_records.specs.Direct.{begins_direct, Copies, IsNonzero, IsDirect, PutsNext};
+ghost use Rattle.omf_records.specs.EntryReaders.{datum_reader, displacement_reader, subrecord_reader};
+ghost use Rattle.omf_records.specs.Reads.{each};
+ghost use Rattle.omf_records.specs.Shortest.{option_bytes, datum_bytes, subrecord_bytes};
+ghost use Rattle.omf_records.specs.Values.{is_wide, width};
+
+use crate::field::number;
+use crate::fixup::{FIXUP_LIMIT, push_bytes, push_displacement, push_index};
+use crate::here::Here;
+use crate::subrecord::{Subrecord, datum, has_displacement, has_frame_datum};
+use crate::unread::Unread;
+
+/// Bytes begin with the first two of a FIXUP, and with a fix data byte that names no thread.
+#[inline(always)]
+fn begins_direct(bytes: &[u8]) -> bool
+    ensures { result ≡ begins_direct bytes.now }
+{
+    match bytes {
+        [high, _, fix, ..] => *high >= 128 && fix / 128 % 2 != 1 && fix / 8 % 2 != 1,
+        _ => false,
+    }
+}
+
+/// Puts the index that stands here. There is room for it.
+#[inline(always)]
+fn copy_index<'a>(here: Here<'a>, out: &mut Vec<u8>) -> Here<'a>
+    requires room { vec_len out.old + 2 ≤ vec_capacity out.old }
+    requires read { IsOk ((datum_reader true).read here.within here.bytes.now) }
+    ensures copied { Copies (λ d. ⊤) (option_bytes datum_bytes) here.entry.wide ((datum_reader true).read here.entry.within here.entry.bytes.now) out.old.items out.new.items result }
+    ensures len { vec_len out.new ≤ vec_len out.old + 2 }
+    ensures capacity { vec_capacity out.new ≡ vec_capacity out.old }
+{
+    match datum(here, true) {
+        Ok((index, after)) => {
+            push_index(out, &index);
+            after
+        }
+        Err(_) => unreachable!(),
+    }
+}
+
+/// Puts the index that stands here, if there is one. There is room for it.
+#[inline(always)]
+fn copy_datum<'a>(here: Here<'a>, is_there: bool, out: &mut Vec<u8>) -> Here<'a>
+    requires room { vec_len out.old + 2 ≤ vec_capacity out.old }
+    requires read { IsOk ((datum_reader is_there).read here.within here.bytes.now) }
+    ensures copied { Copies (λ d. ⊤) (option_bytes datum_bytes) here.entry.wide ((datum_reader is_there).read here.entry.within here.entry.bytes.now) out.old.items out.new.items result }
+    ensures len { vec_len out.new ≤ vec_len out.old + 2 }
+    ensures capacity { vec_capacity out.new ≡ vec_capacity out.old }
+{
+    if is_there {
+        copy_index(here, out)
+    } else {
+        here
+    }
+}
+
+/// Puts the displacement that stands here in a record of a type, if there is one, unless it is 0. There is room for it.
+#[inline(always)]
+#[tactic(auto, using(crate::specs::Begins::begins_itself, crate::specs::Begins::begins_more))]
+fn copy_displacement<'a>(
+    here: Here<'a>,
+    is_there: bool,
+    kind: u8,
+    out: &mut Vec<u8>,
+) -> Option<Here<'a>>
+    requires room { vec_len out.old + 4 ≤ vec_capacity out.old }
+    requires width { here.wide ≡ is_wide kind }
+    requires read { IsOk ((displacement_reader here.wide is_there).read here.within here.bytes.now) }
+    ensures copied { IfSome result (Copies IsNonzero (option_bytes (little_bytes (width kind))) here.entry.wide ((displacement_reader here.entry.wide is_there).read here.entry.within here.entry.bytes.now) out.old.items out.new.items) }
+    ensures grows { Begins out.old.items out.new.items }
+    ensures len { vec_len out.new ≤ vec_len out.old + 4 }
+{
+    if !is_there {
+        return Some(here);
+    }
+    match number(here) {
+        Ok((0, _)) => None,
+        Ok((value, after)) => {
+            push_displacement(out, kind, &Some(value));
+            Some(after)
+        }
+        Err(_) => unreachable!(),
+    }
+}
+
+/// Puts the FIXUP that stands here and names no thread, unless its displacement is 0. There is room for it.
+#[inline(always)]
+fn copy_direct<'a>(here: Here<'a>, kind: u8, out: &mut Vec<u8>) -> Option<Here<'a>>
+    requires begins { begins_direct here.bytes.now ≡ true }
+    requires room { vec_len out.old + 11 ≤ vec_capacity out.old }
+    requires width { here.wide ≡ is_wide kind }
+    requires read { IsOk (each (subrecord_reader here.wide).read here.within here.bytes.now) }
+    ensures copied { IfSome result (Copies IsDirect (subrecord_bytes kind) here.entry.wide ((subrecord_reader here.entry.wide).read here.entry.within here.entry.bytes.now) out.old.items out.new.items) }
+    ensures grows { Begins out.old.items out.new.items }
+    ensures len { vec_len out.new ≤ vec_len out.old + 11 }
+{
+    match here.bytes() {
+        [high, low, fix, ..] => {
+            push_bytes(out, &[*high, *low, *fix]);
+            let framed = copy_datum(here.pass(3), has_frame_datum(*fix), out);
+            let aimed = copy_index(framed, out);
+            copy_displacement(aimed, has_displacement(*fix), kind, out)
+        }
+        _ => None,
+    }
+}
+
+/// Puts the FIXUP that stands here, if it names no thread and has no displacement of 0. There is room for it.
+#[inline(always)]
+#[tactic(auto, using(crate::specs::Begins::begins_itself))]
+fn copy_fixup<'a>(here: Here<'a>, kind: u8, out: &mut Vec<u8>) -> Option<Here<'a>>
+    requires room { vec_len out.old + 11 ≤ vec_capacity out.old }
+    requires width { here.wide ≡ is_wide kind }
+    requires read { IsOk (each (subrecord_reader here.wide).read here.within here.bytes.now) }
+    ensures copied { IfSome result (Copies IsDirect (subrecord_bytes kind) here.entry.wide ((subrecord_reader here.entry.wide).read here.entry.within here.entry.bytes.now) out.old.items out.new.items) }
+    ensures grows { Begins out.old.items out.new.items }
+    ensures len { vec_len out.new ≤ vec_len out.old + 11 }
+{
+    if begins_direct(here.bytes()) {
+        copy_direct(here, kind, out)
+    } else {
+        None
+    }
+}
+
+impl<'a> Unread<Subrecord<'a>> {
+    /// Appends the shortest bytes of the subrecord that is to be read next, in a record of the type `kind`, passes it and says so, if it is
+    /// a FIXUP that names no thread and has no displacement of 0, and there is room for `FIXUP_LIMIT` bytes. Else all stays as it was.
+    #[inline(always)]
+    #[tactic(auto, using(crate::specs::Begins::begins_front))]
+    pub fn put_direct(&mut self, kind: u8, out: &mut Vec<u8>) -> bool
+        requires { IsOk self.old.items }
+        ensures put { result ≡ true → PutsNext kind self.old self.new out.old.items out.new.items }
+        ensures items { result ≡ false → self.new ≡ self.old }
+        ensures bytes { result ≡ false → out.new.items ≡ out.old.items }
+        ensures short { length out.new.items ≤ length out.old.items + 11 }
+    {
+        let len = out.len();
+        let here = self.place();
+        if out.capacity() - len < FIXUP_LIMIT || here.is_wide() != (kind % 2 == 1) {
+            return false;
+        }
+        match copy_fixup(here, kind, out) {
+            Some(after) => {
+                *self = Unread::new(after);
+                true
+            }
+            None => {
+                out.truncate(len);
+                false
+            }
+        }
+    }
+}
