@@ -54,9 +54,17 @@ fn module(alloc: Global, records: &[&[u8]]) -> Result<Vec<u8>, AllocError> {
     Ok(bytes)
 }
 
+/// The bytes of a module that was checked.
+fn bytes_of(checked: &Checked) -> &[u8] {
+    checked.bytes()
+}
+
 /// How long the module is that is accepted.
 fn length_of(checked: Result<Checked, CheckFault>) -> Answer {
-    Ok(checked?.bytes().len())
+    match checked {
+        Ok(checked) => Ok(bytes_of(&checked).len()),
+        Err(fault) => Err(fault),
+    }
 }
 
 /// By a reader.
@@ -76,11 +84,33 @@ fn in_pieces(alloc: Global, bytes: &[u8], size: usize, profile: Profile) -> Answ
             if rest.is_empty() {
                 break;
             }
-            let fed = session.feed(rest)?;
-            rest = rest.split_at(fed.taken).1;
+            rest = fed_rest(&mut session, rest)?;
         }
     }
-    length_of(session.finish())
+    finished(session)
+}
+
+/// What a session leaves of a piece.
+fn fed_rest<'a>(session: &mut Session, piece: &'a [u8]) -> Result<&'a [u8], CheckFault> {
+    match session.feed(piece) {
+        Ok(fed) => Ok(piece.split_at(fed.taken).1),
+        Err(fault) => Err(fault),
+    }
+}
+
+/// The module that a session has taken.
+fn closed(session: Session) -> Result<Checked, CheckFault> {
+    session.finish()
+}
+
+/// What a session answers at the end.
+fn finished(session: Session) -> Answer {
+    length_of(closed(session))
+}
+
+/// How many bytes a session wants, and whether it has passed the end.
+fn state_of(session: &Session) -> (usize, bool) {
+    (session.want(), session.ended())
 }
 
 /// The one answer of a reader and of pieces of 1, 2, 5 and 7 bytes; `None` where they differ.
@@ -97,6 +127,33 @@ fn answer_under(
         }
     }
     Ok(Some(whole))
+}
+
+/// The module of these records, checked.
+fn checked_of(alloc: Global, records: &[&[u8]]) -> Result<Checked, CheckFault> {
+    let bytes = module(alloc, records)?;
+    check(alloc, &mut Reading::new(bytes.as_slice()), ANY)
+}
+
+/// A session that takes any comment.
+fn opened(alloc: Global) -> Session {
+    Session::new(alloc, ANY)
+}
+
+/// How many bytes a session takes of a piece, and whether it has taken a whole record.
+fn taken(session: &mut Session, piece: &[u8]) -> Result<(usize, bool), CheckFault> {
+    match session.feed(piece) {
+        Ok(fed) => Ok((fed.taken, fed.whole)),
+        Err(fault) => Err(fault),
+    }
+}
+
+/// How many bytes a session takes of a piece.
+fn takes(session: &mut Session, piece: &[u8]) -> Answer {
+    match taken(session, piece) {
+        Ok((taken, _whole)) => Ok(taken),
+        Err(fault) => Err(fault),
+    }
 }
 
 /// What a module is answered: that it is taken, with its length, or the reason against it, the number and the start of the record at
@@ -165,29 +222,19 @@ fn limits_names(rt: HostRuntime) -> Result<(), Fail> {
     Ok(())
 }
 
-/// The first module, checked.
-fn first_module(alloc: Global) -> Result<Checked, CheckFault> {
-    let bytes = module(alloc, &[&HEADER, &NAMES, &SEGMENT, &DATA, &FIXUP, &END])?;
-    check(alloc, &mut Reading::new(bytes.as_slice()), ANY)
-}
+/// The records of the first module.
+const FIRST: [&[u8]; 6] = [&HEADER, &NAMES, &SEGMENT, &DATA, &FIXUP, &END];
 
-#[test]
-fn shows_tables(rt: HostRuntime) -> Result<(), Fail> {
-    let checked = first_module(rt.alloc())?;
-    let segment = SegInfo {
-        length: 4,
-        absolute: None,
-        name: 2,
-        class: 1,
-    };
-    assert_eq!(rt; checked.segment(1), Some(segment));
-    assert_eq!(rt; checked.segment(2), None);
-    assert_eq!(rt; text_of(checked.name(2)), Some(b"T".as_slice()));
-    assert_eq!(rt; checked.name(3).is_none(), true);
-    assert_eq!(rt; checked.group(1).is_none(), true);
-    assert_eq!(rt; checked.external(1).is_none(), true);
-    assert_eq!(rt; checked.end().kind(), 0x8A);
-    Ok(())
+/// Its one segment.
+const FIRST_SEGMENT: SegInfo = SegInfo {
+    length: 4,
+    absolute: None,
+    name: 2,
+    class: 1,
+};
+
+fn segment_of(checked: &Checked, index: u16) -> Option<SegInfo> {
+    checked.segment(index)
 }
 
 /// The bytes of a name.
@@ -198,98 +245,177 @@ fn text_of(name: Option<Name<'_>>) -> Option<&[u8]> {
     }
 }
 
-/// The place of the next record.
-fn next_place(records: &mut Records<'_>) -> Option<Place> {
-    match records.next() {
-        Some((place, _rec)) => Some(place),
+fn name_of(checked: &Checked, index: u16) -> Option<&[u8]> {
+    text_of(checked.name(index))
+}
+
+fn external_of(checked: &Checked, index: u16) -> Option<&[u8]> {
+    text_of(checked.external(index))
+}
+
+/// The name of a group, and whether it has a member.
+fn group_of(checked: &Checked, index: u16) -> Option<(u16, bool)> {
+    match checked.group(index) {
+        Some(group) => shape_of(&group),
         None => None,
     }
 }
 
+/// The same of its record.
+fn shape_of(rec: &Rec<'_>) -> Option<(u16, bool)> {
+    match rec {
+        Rec::Group { name, members } => Some((name.item.0, members.iter().next().is_some())),
+        _ => None,
+    }
+}
+
+/// Whether there is a group.
+fn has_group(checked: &Checked, index: u16) -> bool {
+    checked.group(index).is_some()
+}
+
+/// The type byte of the last record.
+fn end_kind(checked: &Checked) -> u8 {
+    checked.end().kind()
+}
+
+fn profile_of(checked: &Checked) -> Profile {
+    checked.profile()
+}
+
+/// How many names and segments there are.
+fn front_counts(checked: &Checked) -> (u16, u16) {
+    (checked.names(), checked.segments())
+}
+
+/// How many groups and externals there are.
+fn back_counts(checked: &Checked) -> (u16, u16) {
+    (checked.groups(), checked.externals())
+}
+
+/// The first of these that does not hold.
+fn first_false(facts: &[(&'static str, bool)]) -> Option<&'static str> {
+    for (name, holds) in facts {
+        if !*holds {
+            return Some(*name);
+        }
+    }
+    None
+}
+
+/// What is wrong in the tables of the first module.
+fn wrong_in_tables(checked: &Checked) -> Option<&'static str> {
+    first_false(&[
+        ("segment 1", segment_of(checked, 1) == Some(FIRST_SEGMENT)),
+        ("segment 2", segment_of(checked, 2) == None),
+        ("name 2", name_of(checked, 2) == Some(b"T".as_slice())),
+        ("name 3", name_of(checked, 3) == None),
+        ("group 1", !has_group(checked, 1)),
+        ("external 1", external_of(checked, 1) == None),
+        ("the end", end_kind(checked) == 0x8A),
+    ])
+}
+
+#[test]
+fn shows_tables(rt: HostRuntime) -> Result<(), Fail> {
+    let checked = checked_of(rt.alloc(), &FIRST)?;
+    assert_eq!(rt; wrong_in_tables(&checked), None);
+    Ok(())
+}
+
+/// The place of the next record: its number, its start, and the offset in it.
+fn next_place(records: &mut Records<'_>) -> Option<(u32, u64, u32)> {
+    match records.next() {
+        Some((place, _rec)) => Some((place.number, place.start, place.within)),
+        None => None,
+    }
+}
+
+fn records_of(checked: &Checked) -> Records<'_> {
+    checked.records()
+}
+
+/// Whether these are the records' numbers and starts, and there are no more.
+fn lie_at(records: Records<'_>, places: &[(u32, u64)]) -> bool {
+    let mut records = records;
+    for (number, start) in places {
+        if next_place(&mut records) != Some((*number, *start, 0)) {
+            return false;
+        }
+    }
+    next_place(&mut records) == None
+}
+
 #[test]
 fn shows_records(rt: HostRuntime) -> Result<(), Fail> {
-    let checked = first_module(rt.alloc())?;
-    let mut records = checked.records();
-    for (number, start) in [(0, 0), (1, 6), (2, 13), (3, 23), (4, 34), (5, 43)] {
-        let place = Place {
-            number,
-            start,
-            within: 0,
-        };
-        assert_eq!(rt; next_place(&mut records), Some(place));
-    }
-    assert_eq!(rt; next_place(&mut records), None);
+    let checked = checked_of(rt.alloc(), &FIRST)?;
+    let places = [(0, 0), (1, 6), (2, 13), (3, 23), (4, 34), (5, 43)];
+    assert!(rt; lie_at(records_of(&checked), &places));
     Ok(())
 }
 
 /// The module that a session takes byte by byte.
 fn by_bytes(alloc: Global, bytes: &[u8]) -> Result<Checked, CheckFault> {
-    let mut session = Session::new(alloc, ANY);
+    let mut session = opened(alloc);
     for byte in bytes.chunks(1) {
-        session.feed(byte)?;
+        takes(&mut session, byte)?;
     }
-    session.finish()
+    closed(session)
+}
+
+/// What is wrong in the first module, which has these bytes.
+fn wrong_in_first(checked: &Checked, bytes: &[u8]) -> Option<&'static str> {
+    first_false(&[
+        ("bytes", bytes_of(checked) == bytes),
+        ("profile", profile_of(checked) == ANY),
+        ("names and segments", front_counts(checked) == (2, 1)),
+        ("groups and externals", back_counts(checked) == (0, 0)),
+        ("segment 1", segment_of(checked, 1) == Some(FIRST_SEGMENT)),
+        ("name 2", name_of(checked, 2) == Some(b"T".as_slice())),
+    ])
 }
 
 #[test]
 fn shows_the_same_of_bytes(rt: HostRuntime) -> Result<(), Fail> {
-    let bytes = module(
-        rt.alloc(),
-        &[&HEADER, &NAMES, &SEGMENT, &DATA, &FIXUP, &END],
-    )?;
+    let bytes = module(rt.alloc(), &FIRST)?;
     let checked = by_bytes(rt.alloc(), &bytes)?;
-    let segment = SegInfo {
-        length: 4,
-        absolute: None,
-        name: 2,
-        class: 1,
-    };
-    assert_eq!(rt; checked.bytes(), bytes.as_slice());
-    assert_eq!(rt; checked.profile(), ANY);
-    assert_eq!(rt; checked.names(), 2);
-    assert_eq!(rt; checked.segments(), 1);
-    assert_eq!(rt; checked.groups(), 0);
-    assert_eq!(rt; checked.externals(), 0);
-    assert_eq!(rt; checked.segment(1), Some(segment));
-    match checked.name(2) {
-        Some(name) => assert_eq!(rt; name.0, b"T".as_slice()),
-        None => assert!(rt; false),
-    }
+    assert_eq!(rt; wrong_in_first(&checked, &bytes), None);
     Ok(())
 }
 
-#[test]
-fn shows_a_group_and_an_external(rt: HostRuntime) -> Result<(), Fail> {
-    let absolute = [
-        0x98, 0x0A, 0x00, 0x08, 0x00, 0xB8, 0x00, 0x04, 0x00, 0x02, 0x01, 0x01, 0x96,
-    ];
-    let group = [0x9A, 0x04, 0x00, 0x02, 0xFF, 0x01, 0x60];
-    let external = [0x8C, 0x04, 0x00, 0x01, 0x58, 0x00, 0x17];
-    let bytes = module(
-        rt.alloc(),
-        &[&HEADER, &NAMES, &absolute, &group, &external, &END],
-    )?;
-    let mut reader = Reading::new(bytes.as_slice());
-    let checked = check(rt.alloc(), &mut reader, ANY)?;
+// A segment of 4 bytes at the frame number B800H, a group of it, and an external X.
+const ABSOLUTE: [u8; 13] = [
+    0x98, 0x0A, 0x00, 0x08, 0x00, 0xB8, 0x00, 0x04, 0x00, 0x02, 0x01, 0x01, 0x96,
+];
+
+const GROUP: [u8; 7] = [0x9A, 0x04, 0x00, 0x02, 0xFF, 0x01, 0x60];
+
+const EXTERNAL: [u8; 7] = [0x8C, 0x04, 0x00, 0x01, 0x58, 0x00, 0x17];
+
+/// What is wrong in a module of an absolute segment, a group and an external.
+fn wrong_in_absolute(checked: &Checked) -> Option<&'static str> {
     let segment = SegInfo {
         length: 4,
         absolute: Some((0xB800, 0)),
         name: 2,
         class: 1,
     };
-    assert_eq!(rt; checked.segment(1), Some(segment));
-    match checked.external(1) {
-        Some(name) => assert_eq!(rt; name.0, b"X".as_slice()),
-        None => assert!(rt; false),
-    }
-    match &checked.group(1) {
-        Some(Rec::Group { name, members }) => {
-            assert_eq!(rt; name.item.0, 2);
-            assert_eq!(rt; members.iter().next().is_some(), true);
-        }
-        _ => assert!(rt; false),
-    }
-    assert_eq!(rt; checked.group(2).is_none(), true);
-    assert_eq!(rt; checked.external(2).is_none(), true);
+    first_false(&[
+        ("segment 1", segment_of(checked, 1) == Some(segment)),
+        (
+            "external 1",
+            external_of(checked, 1) == Some(b"X".as_slice()),
+        ),
+        ("group 1", group_of(checked, 1) == Some((2, true))),
+        ("group 2", !has_group(checked, 2)),
+        ("external 2", external_of(checked, 2) == None),
+    ])
+}
+
+#[test]
+fn shows_a_group_and_an_external(rt: HostRuntime) -> Result<(), Fail> {
+    let records: [&[u8]; 6] = [&HEADER, &NAMES, &ABSOLUTE, &GROUP, &EXTERNAL, &END];
+    let checked = checked_of(rt.alloc(), &records)?;
+    assert_eq!(rt; wrong_in_absolute(&checked), None);
     Ok(())
 }

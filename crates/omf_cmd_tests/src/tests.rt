@@ -14,7 +14,6 @@ use omf_cmd::{RunFault, fault_line, run_reloc};
 use omf_frame::{Place, Reading, Reason, Writing};
 use omf_reloc::{Cause, Kind, ReachFault};
 use std::alloc::{AllocError, Global};
-use std::process::Abort;
 use std::test::Fail;
 
 const HEADER: &[u8] = &[0x80, 0x03, 0x00, 0x01, 0x41, 0x3B];
@@ -60,12 +59,15 @@ fn run(alloc: Global, pieces: &[&[u8]]) -> Result<Outcome, AllocError> {
     Ok(Outcome { answer, text })
 }
 
-/// The run writes this listing.
-fn lists(rt: &(impl Abort + AllocGlobal), pieces: &[&[u8]], text: &[u8]) -> Result<(), AllocError> {
-    let run = run(rt.alloc(), pieces)?;
-    assert_eq!(rt; run.answer, Ok(()));
-    assert_eq!(rt; run.text.as_slice(), text);
-    Ok(())
+/// Whether a run answers this, and writes this.
+fn is_outcome(run: &Outcome, answer: Result<(), RunFault>, text: &[u8]) -> bool {
+    run.answer == answer && run.text.as_slice() == text
+}
+
+/// Whether the run writes this listing.
+fn lists(alloc: Global, pieces: &[&[u8]], text: &[u8]) -> Result<bool, AllocError> {
+    let run = run(alloc, pieces)?;
+    Ok(is_outcome(&run, Ok(()), text))
 }
 
 fn refused(reason: Reason, number: u32, start: u64, within: u32) -> RunFault {
@@ -128,11 +130,22 @@ const LINES: [(RunFault, &str); 11] = [
     ),
 ];
 
+/// The first of these lines that a fault is not printed as.
+fn first_other(
+    alloc: Global,
+    lines: &[(RunFault, &'static str)],
+) -> Result<Option<&'static str>, AllocError> {
+    for (fault, line) in lines {
+        let text = fault_line(alloc, fault)?;
+        if text.as_str() != *line {
+            return Ok(Some(*line));
+        }
+    }
+    Ok(None)
+}
+
 #[test]
 fn prints_faults(rt: HostRuntime) -> Result<(), Fail> {
-    for (fault, line) in &LINES {
-        let text = fault_line(rt.alloc(), fault)?;
-        assert_eq!(rt; text.as_str(), *line);
-    }
+    assert_eq!(rt; first_other(rt.alloc(), &LINES)?, None);
     Ok(())
 }

@@ -2,11 +2,11 @@
 
 use super::Verdict::{Fault, Taken};
 use super::{
-    ANY, Answer, DATA, END, HEADER, Line, NAMES, SEGMENT, Verdict, answer_under, first_wrong,
-    module,
+    ANY, Answer, DATA, END, HEADER, Line, NAMES, SEGMENT, Verdict, answer_under, back_counts,
+    checked_of, external_of, first_false, first_wrong,
 };
-use omf_check::check;
-use omf_frame::{Reading, Reason};
+use omf_check::Checked;
+use omf_frame::Reason;
 use std::alloc::{AllocError, Global};
 use std::test::Fail;
 
@@ -192,35 +192,40 @@ fn counts_local_entries_to_the_limit(rt: HostRuntime) -> Result<(), Fail> {
     Ok(())
 }
 
+fn local_of(checked: &Checked, index: u16) -> Option<bool> {
+    checked.local(index)
+}
+
 #[test]
 fn shows_which_externals_are_local(rt: HostRuntime) -> Result<(), Fail> {
-    let external = [0x8C, 0x04, 0x00, 0x01, 0x41, 0x00, 0x00];
-    let communal = [0xB0, 0x06, 0x00, 0x01, 0x42, 0x00, 0x62, 0x01, 0x00];
-    let bytes = module(
-        rt.alloc(),
-        &[
-            &HEADER,
-            &external,
-            &LOCAL_EXTERNAL,
-            &communal,
-            &LOCAL_COMMUNAL,
-            &SECOND_TYPE,
-            &END,
-        ],
-    )?;
-    let mut reader = Reading::new(bytes.as_slice());
-    let checked = check(rt.alloc(), &mut reader, ANY)?;
-    assert_eq!(rt; checked.externals(), 5);
-    assert_eq!(rt; checked.local(0), None);
-    assert_eq!(rt; checked.local(1), Some(false));
-    assert_eq!(rt; checked.local(2), Some(true));
-    assert_eq!(rt; checked.local(3), Some(false));
-    assert_eq!(rt; checked.local(4), Some(true));
-    assert_eq!(rt; checked.local(5), Some(true));
-    assert_eq!(rt; checked.local(6), None);
-    match checked.external(4) {
-        Some(name) => assert_eq!(rt; name.0, b"X".as_slice()),
-        None => assert!(rt; false),
-    }
+    let records: [&[u8]; 7] = [
+        &HEADER,
+        &[0x8C, 0x04, 0x00, 0x01, 0x41, 0x00, 0x00],
+        &LOCAL_EXTERNAL,
+        &[0xB0, 0x06, 0x00, 0x01, 0x42, 0x00, 0x62, 0x01, 0x00],
+        &LOCAL_COMMUNAL,
+        &SECOND_TYPE,
+        &END,
+    ];
+    let checked = checked_of(rt.alloc(), &records)?;
+    assert_eq!(rt; wrong_in_locals(&checked), None);
     Ok(())
+}
+
+/// What is wrong in a module of five externals, of which the second, the fourth and the fifth are local.
+fn wrong_in_locals(checked: &Checked) -> Option<&'static str> {
+    first_false(&[
+        ("groups and externals", back_counts(checked) == (0, 5)),
+        ("local 0", local_of(checked, 0) == None),
+        ("local 1", local_of(checked, 1) == Some(false)),
+        ("local 2", local_of(checked, 2) == Some(true)),
+        ("local 3", local_of(checked, 3) == Some(false)),
+        ("local 4", local_of(checked, 4) == Some(true)),
+        ("local 5", local_of(checked, 5) == Some(true)),
+        ("local 6", local_of(checked, 6) == None),
+        (
+            "external 4",
+            external_of(checked, 4) == Some(b"X".as_slice()),
+        ),
+    ])
 }

@@ -3,8 +3,7 @@
 
 ghost use Rattle.std.specs.Prelude.{◌<◌};
 
-use super::pieces::takes;
-use super::{ANY, Answer, by_check, length_of, refused};
+use super::{ANY, Answer, by_check, fed_rest, finished, opened, refused, state_of, takes};
 use omf_check::{CheckFault, Session};
 use omf_frame::Reason;
 use std::alloc::Global;
@@ -21,23 +20,21 @@ const MODULE: [u8; 62] = [
 /// Whether the session answers that fault from then on, and takes nothing.
 fn keeps(session: Session, fault: CheckFault) -> bool {
     let mut session = session;
-    let again = session.feed(&MODULE).err();
-    let wants = session.want();
-    let ended = session.ended();
-    let end = session.finish().err();
-    again == Some(fault) && wants == 0 && !ended && end == Some(fault)
+    takes(&mut session, &MODULE) == Err(fault)
+        && state_of(&session) == (0, false)
+        && finished(session) == Err(fault)
 }
 
 /// The answer to the module in pieces of one size; `None` where a fault is not kept.
 fn lasting_answer(alloc: Global, size: usize) -> Option<Answer>
     requires { 0 < size }
 {
-    let mut session = Session::new(alloc, ANY);
+    let mut session = opened(alloc);
     for piece in MODULE.chunks(size) {
         let mut rest = piece;
         for _ in 0..8 {
-            match session.feed(rest) {
-                Ok(fed) => rest = rest.split_at(fed.taken).1,
+            match fed_rest(&mut session, rest) {
+                Ok(behind) => rest = behind,
                 Err(fault) => {
                     return if keeps(session, fault) {
                         Some(Err(fault))
@@ -48,7 +45,7 @@ fn lasting_answer(alloc: Global, size: usize) -> Option<Answer>
             }
         }
     }
-    Some(length_of(session.finish()))
+    Some(finished(session))
 }
 
 /// Whether it is the module, or that a growth was refused.
@@ -73,14 +70,9 @@ fn a_refused_growth_ends_a_check(rt: HostRuntime) -> Result<(), Fail> {
 
 #[test]
 fn a_type_is_refused_without_memory(rt: HostRuntime) -> Result<(), Fail> {
-    assert_eq!(rt;
-        by_check(rt.alloc(), &[0xC2], ANY),
-        refused(Reason::UnsupportedType, 0, 0, 0)
-    );
-    let mut session = Session::new(rt.alloc(), ANY);
-    assert_eq!(rt;
-        takes(&mut session, &[0xC2]),
-        refused(Reason::UnsupportedType, 0, 0, 0)
-    );
+    let unsupported = refused(Reason::UnsupportedType, 0, 0, 0);
+    assert_eq!(rt; by_check(rt.alloc(), &[0xC2], ANY), unsupported);
+    let mut session = opened(rt.alloc());
+    assert_eq!(rt; takes(&mut session, &[0xC2]), unsupported);
     Ok(())
 }

@@ -2,9 +2,10 @@
 
 use super::Verdict::{Fault, Taken};
 use super::{
-    ANY, Answer, DATA, END, FIXUP, HEADER, NAMES, SEGMENT, Verdict, length_of, module, refused,
+    ANY, Answer, DATA, END, FIRST, FIXUP, HEADER, NAMES, SEGMENT, Verdict, bytes_of, length_of,
+    module, refused,
 };
-use omf_check::{CheckFault, check};
+use omf_check::{CheckFault, Checked, check};
 use omf_frame::faulty::{Script, Then};
 use omf_frame::{Buffered, Reading, Reason, Source};
 use std::alloc::Global;
@@ -12,31 +13,32 @@ use std::io;
 use std::io::BufReader;
 use std::test::Fail;
 
+/// The two bytes behind a module.
+const BEHIND: [u8; 2] = [0xDE, 0xAD];
+
+/// The first two bytes that a source gives after a check, and how many it gives at once.
+fn unread<S: Source>(source: &mut S) -> Result<(usize, [u8; 2]), Fail> {
+    let mut rest = [0; 4];
+    let count = source.pull(&mut rest)?;
+    let [first, second, _third, _fourth] = rest;
+    Ok((count, [first, second]))
+}
+
 #[test]
 fn leaves_what_follows_unread(rt: HostRuntime) -> Result<(), Fail> {
-    let bytes = module(
-        rt.alloc(),
-        &[
-            &HEADER,
-            &NAMES,
-            &SEGMENT,
-            &DATA,
-            &FIXUP,
-            &END,
-            &[0xDE, 0xAD],
-        ],
-    )?;
+    let records: [&[u8]; 7] = [&HEADER, &NAMES, &SEGMENT, &DATA, &FIXUP, &END, &BEHIND];
+    let bytes = module(rt.alloc(), &records)?;
+    let expected = module(rt.alloc(), &FIRST)?;
     let mut reader = Reading::new(bytes.as_slice());
-    let checked = check(rt.alloc(), &mut reader, ANY)?;
-    let expected = module(
-        rt.alloc(),
-        &[&HEADER, &NAMES, &SEGMENT, &DATA, &FIXUP, &END],
-    )?;
-    assert_eq!(rt; checked.bytes(), expected.as_slice());
-    let mut rest = [0; 4];
-    assert_eq!(rt; reader.pull(&mut rest)?, 2);
-    assert_eq!(rt; &rest[..2], [0xDE, 0xAD].as_slice());
+    let checked = read_by_any(rt.alloc(), &mut reader)?;
+    assert!(rt; bytes_of(&checked) == expected.as_slice());
+    assert!(rt; unread(&mut reader)? == (2, BEHIND));
     Ok(())
+}
+
+/// The module that a source gives.
+fn read_by_any<S: Source + Drop>(alloc: Global, source: &mut S) -> Result<Checked, CheckFault> {
+    check(alloc, source, ANY)
 }
 
 /// What a check over a source of so many bytes answers, and how many of them it read.
@@ -46,16 +48,22 @@ fn read_by<S: Source + Drop>(
     given: usize,
 ) -> Result<(Answer, usize), Fail> {
     let mut reader = source;
-    let answer = length_of(check(alloc, &mut reader, ANY));
-    let mut read = given;
+    let answer = length_of(read_by_any(alloc, &mut reader));
+    let left = left_of(&mut reader, given)?;
+    Ok((answer, given.saturating_sub(left)))
+}
+
+/// How many bytes a source has left, which gave so many at most.
+fn left_of<S: Source>(source: &mut S, given: usize) -> Result<usize, Fail> {
+    let mut left = 0usize;
     let mut rest = [0];
     for _ in 0..given {
-        if reader.pull(&mut rest)? == 0 {
+        if source.pull(&mut rest)? == 0 {
             break;
         }
-        read = read.saturating_sub(1);
+        left = left.saturating_add(1);
     }
-    Ok((answer, read))
+    Ok(left)
 }
 
 /// The same of these records.
@@ -202,25 +210,36 @@ const EXTENTS: [Extent; 14] = [
     },
 ];
 
+/// The first of these that has another answer, or of which more or fewer bytes are read.
+fn first_other(alloc: Global, extents: &[Extent]) -> Result<Option<&'static str>, Fail> {
+    for extent in extents {
+        let found = read_of(alloc, extent.records)?;
+        if found != (extent.verdict.answer(), extent.read) {
+            return Ok(Some(extent.name));
+        }
+    }
+    Ok(None)
+}
+
 #[test]
 fn reads_as_far_as_decides(rt: HostRuntime) -> Result<(), Fail> {
-    for extent in &EXTENTS {
-        let (answer, read) = read_of(rt.alloc(), extent.records)?;
-        assert_eq!(rt; answer, extent.verdict.answer(), "{}", extent.name);
-        assert_eq!(rt; read, extent.read, "{}", extent.name);
-    }
+    assert_eq!(rt; first_other(rt.alloc(), &EXTENTS)?, None);
     Ok(())
+}
+
+/// The first of these that is read otherwise through a buffer.
+fn first_unlike(alloc: Global, extents: &[Extent]) -> Result<Option<&'static str>, Fail> {
+    for extent in extents {
+        if !is_buffered_alike(alloc, extent.records)? {
+            return Ok(Some(extent.name));
+        }
+    }
+    Ok(None)
 }
 
 #[test]
 fn reads_as_far_through_a_buffer(rt: HostRuntime) -> Result<(), Fail> {
-    for extent in &EXTENTS {
-        assert!(rt;
-            is_buffered_alike(rt.alloc(), extent.records)?,
-            "{}",
-            extent.name
-        );
-    }
+    assert_eq!(rt; first_unlike(rt.alloc(), &EXTENTS)?, None);
     let unknown: [&[u8]; 4] = [&HEADER, &[0x00], &END, &END];
     assert!(rt; is_buffered_alike(rt.alloc(), &unknown)?);
     Ok(())
@@ -229,61 +248,68 @@ fn reads_as_far_through_a_buffer(rt: HostRuntime) -> Result<(), Fail> {
 /// What a check answers over a reader that behaves as the script says.
 fn by_script(alloc: Global, script: Script<'_>) -> Answer {
     let mut reader = script;
-    let checked = check(alloc, &mut reader, ANY)?;
-    Ok(checked.bytes().len())
+    length_of(read_by_any(alloc, &mut reader))
+}
+
+/// The answer over a reader that fails or goes on behind so many bytes.
+fn answer_before(alloc: Global, bytes: &[u8], count: usize, then: Then) -> Answer {
+    by_script(
+        alloc,
+        Script::new(bytes.get(..count).unwrap_or(bytes), then),
+    )
+}
+
+/// Whether a reader that fails behind each front of these bytes is named.
+fn is_named(alloc: Global, bytes: &[u8]) -> bool {
+    for count in 0..bytes.len() {
+        if answer_before(alloc, bytes, count, Then::Fails) != Err(CheckFault::Read) {
+            return false;
+        }
+    }
+    true
 }
 
 #[test]
 fn names_a_failing_reader(rt: HostRuntime) -> Result<(), Fail> {
-    let a = rt.alloc();
-    let bytes = module(a, &[&HEADER, &NAMES, &SEGMENT, &DATA, &FIXUP, &END])?;
-    for count in 0..bytes.len() {
-        let front = bytes.as_slice().split_at(count).0;
-        assert_eq!(rt;
-            by_script(a, Script::new(front, Then::Fails)),
-            Err(CheckFault::Read)
-        );
+    let bytes = module(rt.alloc(), &FIRST)?;
+    assert!(rt; is_named(rt.alloc(), &bytes));
+    for then in [Then::Fails, Then::Repeats(0x20)] {
+        assert!(rt; answer_before(rt.alloc(), &bytes, bytes.len(), then) == Ok(48));
     }
-    assert_eq!(rt; by_script(a, Script::new(&bytes, Then::Fails)), Ok(48));
-    assert_eq!(rt;
-        by_script(a, Script::new(&bytes, Then::Repeats(0x20))),
-        Ok(48)
-    );
     Ok(())
+}
+
+/// The answer over a reader that fails once, after so many answers.
+fn answer_failing_once(alloc: Global, bytes: &[u8], answers: u64, interrupted: u64) -> Answer {
+    let script = Script::new(bytes, Then::Ends).interrupted(interrupted);
+    by_script(alloc, script.failing_once(answers))
 }
 
 #[test]
 fn a_failure_of_the_reader_is_answered_at_once(rt: HostRuntime) -> Result<(), Fail> {
     let a = rt.alloc();
-    let bytes = module(a, &[&HEADER, &NAMES, &SEGMENT, &DATA, &FIXUP, &END])?;
+    let bytes = module(a, &FIRST)?;
     // Of each of its six records it reads the type byte, the length and the rest.
     for answers in 0..18 {
-        let script = Script::new(&bytes, Then::Ends).interrupted(2);
-        assert_eq!(rt;
-            by_script(a, script.failing_once(answers)),
-            Err(CheckFault::Read),
-            "{answers}"
-        );
+        let answer = answer_failing_once(a, &bytes, answers, 2);
+        assert_eq!(rt; answer, Err(CheckFault::Read), "{answers}");
     }
-    assert_eq!(rt;
-        by_script(a, Script::new(&bytes, Then::Ends).failing_once(18)),
-        Ok(48)
-    );
+    assert_eq!(rt; answer_failing_once(a, &bytes, 18, 0), Ok(48));
     Ok(())
+}
+
+/// The answer over a reader that is so often interrupted before each answer.
+fn answer_interrupted(alloc: Global, bytes: &[u8], times: u64) -> Answer {
+    by_script(alloc, Script::new(bytes, Then::Ends).interrupted(times))
 }
 
 #[test]
 fn goes_on_after_interruptions(rt: HostRuntime) -> Result<(), Fail> {
     let a = rt.alloc();
-    let bytes = module(a, &[&HEADER, &NAMES, &SEGMENT, &DATA, &FIXUP, &END])?;
-    assert_eq!(rt;
-        by_script(a, Script::new(&bytes, Then::Ends).interrupted(999)),
-        Ok(48)
-    );
-    assert_eq!(rt;
-        by_script(a, Script::new(&bytes, Then::Ends).interrupted(1000)),
-        Err(CheckFault::Read)
-    );
+    let bytes = module(a, &FIRST)?;
+    for (times, answer) in [(999, Ok(48)), (1000, Err(CheckFault::Read))] {
+        assert_eq!(rt; answer_interrupted(a, &bytes, times), answer);
+    }
     Ok(())
 }
 
@@ -315,7 +341,7 @@ impl Source for Endless {
 #[test]
 fn stops_in_an_endless_input(rt: HostRuntime) -> Result<(), Fail> {
     let mut reader = Endless { given: 0 };
-    let answer = length_of(check(rt.alloc(), &mut reader, ANY));
+    let answer = length_of(read_by_any(rt.alloc(), &mut reader));
     assert_eq!(rt; answer, refused(Reason::TooMany, 1_048_576, 4_194_306, 0));
     assert_eq!(rt; reader.given, 4_194_310);
     Ok(())

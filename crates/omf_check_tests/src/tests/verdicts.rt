@@ -1,7 +1,7 @@
 //! Verdicts on modules, each a line with its name.
 
 use super::Verdict::{Fault, Taken};
-use super::{ANY, DATA, END, FIXUP, HEADER, Line, NAMES, SEGMENT, first_wrong};
+use super::{ABSOLUTE, ANY, DATA, END, FIXUP, GROUP, HEADER, Line, NAMES, SEGMENT, first_wrong};
 use omf_check::Profile;
 use omf_frame::Reason;
 use std::test::Fail;
@@ -334,11 +334,6 @@ const SEGMENT_OF_12: [u8; 10] = [0x98, 0x07, 0x00, 0x28, 0x0C, 0x00, 0x02, 0x01,
 
 const BIG_SEGMENT: [u8; 10] = [0x98, 0x07, 0x00, 0x2A, 0x00, 0x00, 0x02, 0x01, 0x01, 0x33];
 
-// A segment of 4 bytes at the frame number B800H.
-const ABSOLUTE: [u8; 13] = [
-    0x98, 0x0A, 0x00, 0x08, 0x00, 0xB8, 0x00, 0x04, 0x00, 0x02, 0x01, 0x01, 0x96,
-];
-
 // Three times two blocks, of which the first is AA twice.
 const NESTED: [u8; 24] = [
     0xA2, 0x15, 0x00, 0x01, 0x00, 0x00, 0x03, 0x00, 0x02, 0x00, 0x02, 0x00, 0x00, 0x00, 0x01, 0xAA,
@@ -452,9 +447,7 @@ fn judges_data(rt: HostRuntime) -> Result<(), Fail> {
     Ok(())
 }
 
-// A group of the segment, and a thread of its frame.
-const GROUP: [u8; 7] = [0x9A, 0x04, 0x00, 0x02, 0xFF, 0x01, 0x60];
-
+// A thread of the group's frame.
 const GROUP_THREAD: [u8; 6] = [0x9C, 0x03, 0x00, 0x46, 0x01, 0x1A];
 
 // A comment of another dialect, and one of a class that is left to vendors.

@@ -1,17 +1,14 @@
 //! What the program prints, and which status it ends with.
 
+use super::reports::{FIRST, has_taken, joined};
 use super::{DATA, END, FIXUP, HEADER, NAMES, PLACED, SEGMENT};
 use omf_cmd::main_with;
 use omf_frame::faulty::{Full, Script, Taker, Then};
-use omf_frame::{Reading, Source, Writing};
+use omf_frame::{Reading, Sink, Source, Writing};
 use std::alloc::{AllocError, Global};
-use std::process::Abort;
 use std::test::Fail;
 
 const USAGE: &[u8] = b"usage: omf list|check|reloc|canon [--refuse-vendor-comments]\n";
-
-/// A module of six records.
-const FIRST: [&[u8]; 6] = [HEADER, NAMES, SEGMENT, DATA, FIXUP, END];
 
 fn texts(alloc: Global, words: &[&str]) -> Result<Vec<String>, AllocError> {
     let mut texts = Vec::new(alloc);
@@ -21,120 +18,166 @@ fn texts(alloc: Global, words: &[&str]) -> Result<Vec<String>, AllocError> {
     Ok(texts)
 }
 
-/// The program ends with this status, and prints this.
+/// The status that the program ends with on these words.
+fn status_of<S: Source, K: Sink>(
+    alloc: Global,
+    words: &[&str],
+    reader: &mut S,
+    writer: &mut K,
+) -> Result<u8, AllocError> {
+    let words = texts(alloc, words)?;
+    Ok(main_with(alloc, &words, reader, writer))
+}
+
+/// Whether the program ends with this status, and prints this.
 fn ends<S: Source>(
-    rt: &(impl Abort + AllocGlobal),
+    alloc: Global,
     words: &[&str],
     reader: &mut S,
     status: u8,
     text: &[u8],
-) -> Result<(), AllocError> {
-    let words = texts(rt.alloc(), words)?;
-    let mut printed = Vec::new(rt.alloc());
+) -> Result<bool, AllocError> {
+    let mut printed = Vec::new(alloc);
     let mut writer = Writing::new(&mut printed);
-    let ended = main_with(rt.alloc(), &words, reader, &mut writer);
-    assert_eq!(rt; ended, status);
-    assert_eq!(rt; printed.as_slice(), text);
-    Ok(())
+    let ended = status_of(alloc, words, reader, &mut writer)?;
+    Ok(ended == status && printed.as_slice() == text)
 }
 
 /// The same, on these pieces of input.
 fn ends_on(
-    rt: &(impl Abort + AllocGlobal),
+    alloc: Global,
     words: &[&str],
     pieces: &[&[u8]],
     status: u8,
     text: &[u8],
-) -> Result<(), AllocError> {
-    let mut input = Vec::new(rt.alloc());
-    for piece in pieces {
-        input.extend_from_slice(*piece)?;
-    }
+) -> Result<bool, AllocError> {
+    let input = joined(alloc, pieces)?;
     let mut reader = Reading::new(input.as_slice());
-    ends(rt, words, &mut reader, status, text)
+    ends(alloc, words, &mut reader, status, text)
 }
+
+/// The words behind the program's name, the pieces of input, the status, and what is printed.
+struct Case {
+    words: &'static [&'static str],
+    pieces: &'static [&'static [u8]],
+    status: u8,
+    text: &'static [u8],
+}
+
+/// The first of these cases, by its number from 0, in which the program does something else.
+fn first_wrong(alloc: Global, cases: &[Case]) -> Result<Option<usize>, AllocError> {
+    for (at, case) in cases.iter().enumerate() {
+        if !ends_on(alloc, case.words, case.pieces, case.status, case.text)? {
+            return Ok(Some(at));
+        }
+    }
+    Ok(None)
+}
+
+const JOBS: [Case; 3] = [
+    Case {
+        words: &["omf", "check"],
+        pieces: &FIRST,
+        status: 0,
+        text: b"OK 6 records, 48 bytes\n",
+    },
+    Case {
+        words: &["omf", "list"],
+        pieces: &[HEADER, END],
+        status: 0,
+        text: b"R 0 00000000 80 2 THEADR\nR 1 00000006 8A 1 MODEND\n",
+    },
+    Case {
+        words: &["omf", "reloc"],
+        pieces: &[HEADER, NAMES, SEGMENT, DATA, FIXUP, END, PLACED],
+        status: 0,
+        text: b"0001:00000000 B8 20 00 90\n",
+    },
+];
+
+/// The data with an index of two bytes.
+const LONG_INDEX: &[u8] = &[
+    0xA0, 0x09, 0x00, 0x80, 0x01, 0x00, 0x00, 0xB8, 0x00, 0x00, 0x90, 0x8E,
+];
 
 #[test]
 fn does_its_jobs(rt: HostRuntime) -> Result<(), Fail> {
-    let [header, names, segment, data, fixup, end] = FIRST;
-    ends_on(
-        &rt,
-        &["omf", "check"],
-        &FIRST,
-        0,
-        b"OK 6 records, 48 bytes\n",
-    )?;
-    ends_on(
-        &rt,
-        &["omf", "list"],
-        &[header, end],
-        0,
-        b"R 0 00000000 80 2 THEADR\nR 1 00000006 8A 1 MODEND\n",
-    )?;
-    ends_on(
-        &rt,
-        &["omf", "reloc"],
-        &[header, names, segment, data, fixup, end, PLACED],
-        0,
-        b"0001:00000000 B8 20 00 90\n",
-    )?;
-    let long_index: &[u8] = &[
-        0xA0, 0x09, 0x00, 0x80, 0x01, 0x00, 0x00, 0xB8, 0x00, 0x00, 0x90, 0x8E,
-    ];
-    let mut canonical = Vec::new(rt.alloc());
-    for piece in FIRST {
-        canonical.extend_from_slice(piece)?;
-    }
-    ends_on(
-        &rt,
-        &["omf", "canon"],
-        &[header, names, segment, long_index, fixup, end],
-        0,
-        &canonical,
-    )?;
+    assert_eq!(rt; first_wrong(rt.alloc(), &JOBS)?, None);
+    let pieces = [HEADER, NAMES, SEGMENT, LONG_INDEX, FIXUP, END];
+    let canonical = joined(rt.alloc(), &FIRST)?;
+    assert!(rt; ends_on(rt.alloc(), &["omf", "canon"], &pieces, 0, &canonical)?);
     Ok(())
 }
 
+const NO_END: &[u8] = b"refused 1 NoEnd record 0 at 0 within 0\n";
+
+const COMMENT: &[u8] = &[0x88, 0x03, 0x00, 0x00, 0xE9, 0x8C];
+
+const VENDOR: &[u8] = b"refused 32 VendorComment record 1 at 6 within 4\n";
+
+const REFUSED: [Case; 8] = [
+    Case {
+        words: &["omf", "check"],
+        pieces: &[],
+        status: 1,
+        text: NO_END,
+    },
+    Case {
+        words: &["omf", "list"],
+        pieces: &[],
+        status: 1,
+        text: NO_END,
+    },
+    Case {
+        words: &["omf", "reloc"],
+        pieces: &[],
+        status: 1,
+        text: NO_END,
+    },
+    Case {
+        words: &["omf", "canon"],
+        pieces: &[],
+        status: 1,
+        text: NO_END,
+    },
+    Case {
+        words: &["omf", "check", "--refuse-vendor-comments"],
+        pieces: &[HEADER, COMMENT, END],
+        status: 1,
+        text: VENDOR,
+    },
+    Case {
+        words: &["omf", "canon", "--refuse-vendor-comments"],
+        pieces: &[HEADER, COMMENT, END],
+        status: 1,
+        text: VENDOR,
+    },
+    Case {
+        words: &["omf", "reloc"],
+        pieces: &FIRST,
+        status: 1,
+        text: b"reach 1 Missing segment 1\n",
+    },
+    Case {
+        words: &["omf", "reloc"],
+        pieces: &[HEADER, NAMES, SEGMENT, DATA, FIXUP, END, b"\nS"],
+        status: 1,
+        text: b"placement line 2\n",
+    },
+];
+
 #[test]
 fn prints_what_it_is_refused_for(rt: HostRuntime) -> Result<(), Fail> {
-    let empty = b"refused 1 NoEnd record 0 at 0 within 0\n";
-    ends_on(&rt, &["omf", "check"], &[], 1, empty)?;
-    ends_on(&rt, &["omf", "list"], &[], 1, empty)?;
-    ends_on(&rt, &["omf", "reloc"], &[], 1, empty)?;
-    ends_on(&rt, &["omf", "canon"], &[], 1, empty)?;
-    let comment: &[u8] = &[0x88, 0x03, 0x00, 0x00, 0xE9, 0x8C];
-    let vendor = b"refused 32 VendorComment record 1 at 6 within 4\n";
-    let flagged = ["omf", "check", "--refuse-vendor-comments"];
-    ends_on(&rt, &flagged, &[HEADER, comment, END], 1, vendor)?;
-    let flagged = ["omf", "canon", "--refuse-vendor-comments"];
-    ends_on(&rt, &flagged, &[HEADER, comment, END], 1, vendor)?;
-    ends_on(
-        &rt,
-        &["omf", "reloc"],
-        &FIRST,
-        1,
-        b"reach 1 Missing segment 1\n",
-    )?;
-    let [header, names, segment, data, fixup, end] = FIRST;
-    ends_on(
-        &rt,
-        &["omf", "reloc"],
-        &[header, names, segment, data, fixup, end, b"\nS"],
-        1,
-        b"placement line 2\n",
-    )?;
+    assert_eq!(rt; first_wrong(rt.alloc(), &REFUSED)?, None);
     Ok(())
 }
 
 #[test]
 fn prints_that_a_text_is_too_long(rt: HostRuntime) -> Result<(), Fail> {
-    let mut input = Vec::new(rt.alloc());
-    for piece in FIRST {
-        input.extend_from_slice(piece)?;
-    }
+    let input = joined(rt.alloc(), &FIRST)?;
     let mut reader = Script::new(&input, Then::Repeats(b' '));
     let long = b"placement too long\n";
-    ends(&rt, &["omf", "reloc"], &mut reader, 1, long)?;
+    assert!(rt; ends(rt.alloc(), &["omf", "reloc"], &mut reader, 1, long)?);
     Ok(())
 }
 
@@ -148,29 +191,31 @@ fn prints_how_it_is_called(rt: HostRuntime) -> Result<(), Fail> {
         &["omf", "check", "check"],
     ];
     for words in none {
-        ends_on(&rt, words, &FIRST, 2, USAGE)?;
+        assert!(rt; ends_on(rt.alloc(), words, &FIRST, 2, USAGE)?);
     }
     Ok(())
+}
+
+/// Whether the program on the first module ends with this status, over a writer with so much room, and leaves this there.
+fn ends_over(
+    alloc: Global,
+    words: &[&str],
+    (room, full): (usize, Full),
+    status: u8,
+    text: &[u8],
+) -> Result<bool, AllocError> {
+    let input = joined(alloc, &FIRST)?;
+    let mut reader = Script::new(&input, Then::Ends);
+    let mut writer = Taker::new(alloc, room, full)?;
+    let ended = status_of(alloc, words, &mut reader, &mut writer)?;
+    Ok(ended == status && has_taken(&writer, text))
 }
 
 #[test]
 fn ends_where_a_device_fails(rt: HostRuntime) -> Result<(), Fail> {
     let mut reader = Script::new(&[], Then::Fails);
-    ends(&rt, &["omf", "check"], &mut reader, 3, b"read\n")?;
-    let mut input = Vec::new(rt.alloc());
-    for piece in FIRST {
-        input.extend_from_slice(piece)?;
-    }
-    let words = texts(rt.alloc(), &["omf", "check"])?;
-    let mut reader = Script::new(&input, Then::Ends);
-    let mut writer = Taker::new(rt.alloc(), 4, Full::Fails)?;
-    let ended = main_with(rt.alloc(), &words, &mut reader, &mut writer);
-    assert_eq!(rt; ended, 3);
-    assert_eq!(rt; writer.bytes(), b"OK 6".as_slice());
-    let words = texts(rt.alloc(), &["omf"])?;
-    let mut reader = Script::new(&input, Then::Ends);
-    let mut writer = Taker::new(rt.alloc(), 0, Full::TakesNone)?;
-    let ended = main_with(rt.alloc(), &words, &mut reader, &mut writer);
-    assert_eq!(rt; ended, 2);
+    assert!(rt; ends(rt.alloc(), &["omf", "check"], &mut reader, 3, b"read\n")?);
+    assert!(rt; ends_over(rt.alloc(), &["omf", "check"], (4, Full::Fails), 3, b"OK 6")?);
+    assert!(rt; ends_over(rt.alloc(), &["omf"], (0, Full::TakesNone), 2, b"")?);
     Ok(())
 }

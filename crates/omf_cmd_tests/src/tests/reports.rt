@@ -1,12 +1,11 @@
 //! What `check` and `list` print of whole modules, and what `canon` has in common with them. Numbers in modules are hexadecimal.
 
-use super::{BIG_SEGMENT, DATA, END, FIXUP, HEADER, NAMES, Outcome, SEGMENT, refused};
+use super::{BIG_SEGMENT, DATA, END, FIXUP, HEADER, NAMES, Outcome, SEGMENT, is_outcome, refused};
 use omf_check::Profile;
 use omf_cmd::{Job, RunFault, run_canon, run_check, run_list, run_reloc};
 use omf_frame::faulty::{Full, Script, Taker, Then};
 use omf_frame::{Reading, Reason, Sink, Source, Writing};
 use std::alloc::{AllocError, Global};
-use std::process::Abort;
 use std::test::Fail;
 
 pub const ANY: Profile = Profile {
@@ -60,39 +59,79 @@ fn run(alloc: Global, job: Job, profile: Profile, pieces: &[&[u8]]) -> Result<Ou
     Ok(Outcome { answer, text })
 }
 
-/// The job prints this of the module.
-pub fn prints(
-    rt: &(impl Abort + AllocGlobal),
-    job: Job,
-    pieces: &[&[u8]],
-    text: &[u8],
-) -> Result<(), AllocError> {
-    let run = run(rt.alloc(), job, ANY, pieces)?;
-    assert_eq!(rt; run.answer, Ok(()));
-    assert_eq!(rt; run.text.as_slice(), text);
-    Ok(())
+/// Whether the job prints this of the module.
+pub fn prints(alloc: Global, job: Job, pieces: &[&[u8]], text: &[u8]) -> Result<bool, AllocError> {
+    let run = run(alloc, job, ANY, pieces)?;
+    Ok(is_outcome(&run, Ok(()), text))
 }
 
-/// Each job answers this fault, and prints nothing.
+/// Whether each job answers this fault, and prints nothing.
 pub fn refuses(
-    rt: &(impl Abort + AllocGlobal),
+    alloc: Global,
     profile: Profile,
     pieces: &[&[u8]],
     fault: RunFault,
-) -> Result<(), AllocError> {
+) -> Result<bool, AllocError> {
     for job in [Job::Check, Job::List, Job::Canon] {
-        let run = run(rt.alloc(), job, profile, pieces)?;
-        assert_eq!(rt; run.answer, Err(fault));
-        assert_eq!(rt; run.text.len(), 0);
+        let run = run(alloc, job, profile, pieces)?;
+        if !is_outcome(&run, Err(fault), &[]) {
+            return Ok(false);
+        }
     }
-    Ok(())
+    Ok(true)
+}
+
+/// A module that is refused: the reason, the record's number and start, and the place in it.
+pub struct Refusal {
+    pub name: &'static str,
+    pub profile: Profile,
+    pub pieces: &'static [&'static [u8]],
+    pub fault: (Reason, u32, u64, u32),
+}
+
+/// The first of these that is not refused so.
+pub fn first_taken(
+    alloc: Global,
+    refusals: &[Refusal],
+) -> Result<Option<&'static str>, AllocError> {
+    for refusal in refusals {
+        let (reason, number, start, within) = refusal.fault;
+        let fault = refused(reason, number, start, within);
+        if !refuses(alloc, refusal.profile, refusal.pieces, fault)? {
+            return Ok(Some(refusal.name));
+        }
+    }
+    Ok(None)
 }
 
 #[test]
 fn counts_and_lists_records(rt: HostRuntime) -> Result<(), Fail> {
-    prints(&rt, Job::Check, &FIRST, CHECKED)?;
-    prints(&rt, Job::List, &FIRST, LISTED)?;
+    assert!(rt; prints(rt.alloc(), Job::Check, &FIRST, CHECKED)?);
+    assert!(rt; prints(rt.alloc(), Job::List, &FIRST, LISTED)?);
     Ok(())
+}
+
+/// A job's run over a source.
+fn run_over<S: Source>(alloc: Global, job: Job, reader: &mut S) -> Outcome {
+    let mut text = Vec::new(alloc);
+    let mut writer = Writing::new(&mut text);
+    let answer = run_job(alloc, job, ANY, reader, &mut writer);
+    Outcome { answer, text }
+}
+
+/// The first two bytes that a source gives, and how many it gives at once.
+fn unread<S: Source>(source: &mut S) -> Result<(usize, [u8; 2]), Fail> {
+    let mut rest = [0; 4];
+    let count = source.pull(&mut rest)?;
+    let [first, second, _third, _fourth] = rest;
+    Ok((count, [first, second]))
+}
+
+/// Whether a job prints this of the first module, and leaves two bytes behind it.
+fn leaves_unread(alloc: Global, input: &[u8], job: Job, expected: &[u8]) -> Result<bool, Fail> {
+    let mut reader = Reading::new(input);
+    let run = run_over(alloc, job, &mut reader);
+    Ok(is_outcome(&run, Ok(()), expected) && unread(&mut reader)? == (2, [0xDE, 0xAD]))
 }
 
 #[test]
@@ -104,34 +143,80 @@ fn leaves_what_follows_unread(rt: HostRuntime) -> Result<(), Fail> {
         (Job::List, LISTED),
         (Job::Canon, &first),
     ] {
-        let mut reader = Reading::new(input.as_slice());
-        let mut text = Vec::new(rt.alloc());
-        let mut writer = Writing::new(&mut text);
-        let answer = run_job(rt.alloc(), job, ANY, &mut reader, &mut writer);
-        assert_eq!(rt; answer, Ok(()));
-        assert_eq!(rt; text.as_slice(), expected);
-        let mut rest = [0; 4];
-        assert_eq!(rt; reader.pull(&mut rest)?, 2);
-        assert_eq!(rt; &rest[..2], [0xDE, 0xAD].as_slice());
+        assert!(rt; leaves_unread(rt.alloc(), &input, job, expected)?);
     }
     Ok(())
 }
 
+const REFUSALS: [Refusal; 9] = [
+    Refusal {
+        name: "no bytes",
+        profile: ANY,
+        pieces: &[],
+        fault: (Reason::NoEnd, 0, 0, 0),
+    },
+    Refusal {
+        name: "a record that is cut",
+        profile: ANY,
+        pieces: &[HEADER, NAMES, SEGMENT, DATA, &[0x9C, 0x06]],
+        fault: (Reason::Cut, 4, 34, 2),
+    },
+    Refusal {
+        name: "no end",
+        profile: ANY,
+        pieces: &[HEADER, NAMES, SEGMENT, DATA, FIXUP],
+        fault: (Reason::NoEnd, 5, 43, 0),
+    },
+    Refusal {
+        name: "a wrong checksum",
+        profile: ANY,
+        pieces: &[
+            HEADER,
+            NAMES,
+            SEGMENT,
+            &[
+                0xA0, 0x08, 0x00, 0x01, 0x00, 0x00, 0xB8, 0x00, 0x00, 0x90, 0x10,
+            ],
+            FIXUP,
+            END,
+        ],
+        fault: (Reason::Checksum, 3, 23, 10),
+    },
+    Refusal {
+        name: "a type that is not taken",
+        profile: ANY,
+        pieces: &[HEADER, &[0xC2]],
+        fault: (Reason::UnsupportedType, 1, 6, 0),
+    },
+    Refusal {
+        name: "a library",
+        profile: ANY,
+        pieces: &[&[0xF0]],
+        fault: (Reason::UnsupportedType, 0, 0, 0),
+    },
+    Refusal {
+        name: "a type that there is not",
+        profile: ANY,
+        pieces: &[&[0x00]],
+        fault: (Reason::UnknownType, 0, 0, 0),
+    },
+    Refusal {
+        name: "no header",
+        profile: ANY,
+        pieces: &[END],
+        fault: (Reason::NoHeader, 0, 0, 0),
+    },
+    Refusal {
+        name: "a comment of a vendor",
+        profile: NO_VENDORS,
+        pieces: &[HEADER, &[0x88, 0x03, 0x00, 0x00, 0xE9, 0x8C], END],
+        fault: (Reason::VendorComment, 1, 6, 4),
+    },
+];
+
 #[test]
-fn names_an_early_end(rt: HostRuntime) -> Result<(), Fail> {
-    refuses(&rt, ANY, &[], refused(Reason::NoEnd, 0, 0, 0))?;
-    refuses(
-        &rt,
-        ANY,
-        &[HEADER, NAMES, SEGMENT, DATA, &[0x9C, 0x06]],
-        refused(Reason::Cut, 4, 34, 2),
-    )?;
-    refuses(
-        &rt,
-        ANY,
-        &[HEADER, NAMES, SEGMENT, DATA, FIXUP],
-        refused(Reason::NoEnd, 5, 43, 0),
-    )?;
+fn names_the_first_fault(rt: HostRuntime) -> Result<(), Fail> {
+    assert_eq!(rt; first_taken(rt.alloc(), &REFUSALS)?, None);
     Ok(())
 }
 
@@ -142,36 +227,8 @@ fn judges_checksums(rt: HostRuntime) -> Result<(), Fail> {
     ];
     let end: &[u8] = &[0x8A, 0x02, 0x00, 0x00, 0x00];
     let zeros = [HEADER, NAMES, SEGMENT, data, FIXUP, end];
-    prints(&rt, Job::Check, &zeros, CHECKED)?;
-    prints(&rt, Job::List, &zeros, LISTED)?;
-    let wrong: &[u8] = &[
-        0xA0, 0x08, 0x00, 0x01, 0x00, 0x00, 0xB8, 0x00, 0x00, 0x90, 0x10,
-    ];
-    refuses(
-        &rt,
-        ANY,
-        &[HEADER, NAMES, SEGMENT, wrong, FIXUP, END],
-        refused(Reason::Checksum, 3, 23, 10),
-    )?;
-    Ok(())
-}
-
-#[test]
-fn judges_types(rt: HostRuntime) -> Result<(), Fail> {
-    refuses(
-        &rt,
-        ANY,
-        &[HEADER, &[0xC2]],
-        refused(Reason::UnsupportedType, 1, 6, 0),
-    )?;
-    refuses(
-        &rt,
-        ANY,
-        &[&[0xF0]],
-        refused(Reason::UnsupportedType, 0, 0, 0),
-    )?;
-    refuses(&rt, ANY, &[&[0x00]], refused(Reason::UnknownType, 0, 0, 0))?;
-    refuses(&rt, ANY, &[END], refused(Reason::NoHeader, 0, 0, 0))?;
+    assert!(rt; prints(rt.alloc(), Job::Check, &zeros, CHECKED)?);
+    assert!(rt; prints(rt.alloc(), Job::List, &zeros, LISTED)?);
     Ok(())
 }
 
@@ -179,19 +236,15 @@ fn judges_types(rt: HostRuntime) -> Result<(), Fail> {
 fn follows_the_profile(rt: HostRuntime) -> Result<(), Fail> {
     let comment: &[u8] = &[0x88, 0x03, 0x00, 0x00, 0xE9, 0x8C];
     let pieces = [HEADER, comment, END];
-    prints(&rt, Job::Check, &pieces, b"OK 3 records, 17 bytes\n")?;
-    prints(
-        &rt,
-        Job::List,
-        &pieces,
-        b"R 0 00000000 80 2 THEADR\nR 1 00000006 88 2 COMENT\nR 2 0000000C 8A 1 MODEND\n",
-    )?;
-    refuses(
-        &rt,
-        NO_VENDORS,
-        &pieces,
-        refused(Reason::VendorComment, 1, 6, 4),
-    )?;
+    assert!(rt; prints(rt.alloc(), Job::Check, &pieces, b"OK 3 records, 17 bytes\n")?);
+    assert!(rt;
+        prints(
+            rt.alloc(),
+            Job::List,
+            &pieces,
+            b"R 0 00000000 80 2 THEADR\nR 1 00000006 88 2 COMENT\nR 2 0000000C 8A 1 MODEND\n",
+        )?
+    );
     Ok(())
 }
 
@@ -208,14 +261,16 @@ fn lists_tables_in_their_order(rt: HostRuntime) -> Result<(), Fail> {
     let constant: &[u8] = &[
         0x90, 0x0A, 0x00, 0x00, 0x00, 0x00, 0xB8, 0x01, 0x58, 0x02, 0x00, 0x00, 0x53,
     ];
-    prints(
-        &rt,
-        Job::List,
-        &[
-            HEADER, NAMES, SEGMENT, group, external, communal, public, constant, END,
-        ],
-        b"R 0 00000000 80 2 THEADR\nR 1 00000006 96 3 LNAMES\nR 2 0000000D 98 6 SEGDEF\nR 3 00000017 9A 3 GRPDEF\nR 4 0000001E 8C 3 EXTDEF\nR 5 00000025 B0 7 COMDEF\nR 6 00000030 90 7 PUBDEF\nR 7 0000003B 90 9 PUBDEF\nR 8 00000048 8A 1 MODEND\nS 1 4 \"T\"\nG 1 \"T\"\nE 1 \"X\"\nE 2 \"X\"\nP 1 1 00000002 \"X\"\nP - - 00000002 \"X\"\n",
-    )?;
+    assert!(rt;
+        prints(
+            rt.alloc(),
+            Job::List,
+            &[
+                HEADER, NAMES, SEGMENT, group, external, communal, public, constant, END,
+            ],
+            b"R 0 00000000 80 2 THEADR\nR 1 00000006 96 3 LNAMES\nR 2 0000000D 98 6 SEGDEF\nR 3 00000017 9A 3 GRPDEF\nR 4 0000001E 8C 3 EXTDEF\nR 5 00000025 B0 7 COMDEF\nR 6 00000030 90 7 PUBDEF\nR 7 0000003B 90 9 PUBDEF\nR 8 00000048 8A 1 MODEND\nS 1 4 \"T\"\nG 1 \"T\"\nE 1 \"X\"\nE 2 \"X\"\nP 1 1 00000002 \"X\"\nP - - 00000002 \"X\"\n",
+        )?
+    );
     Ok(())
 }
 
@@ -223,12 +278,14 @@ fn lists_tables_in_their_order(rt: HostRuntime) -> Result<(), Fail> {
 fn lists_local_records(rt: HostRuntime) -> Result<(), Fail> {
     let name: &[u8] = &[0xCA, 0x03, 0x00, 0x01, 0x55, 0xDD];
     let segment: &[u8] = &[0x98, 0x07, 0x00, 0x28, 0x04, 0x00, 0x01, 0x00, 0x00, 0x34];
-    prints(
-        &rt,
-        Job::List,
-        &[HEADER, name, segment, END],
-        b"R 0 00000000 80 2 THEADR\nR 1 00000006 CA 2 LLNAMES\nR 2 0000000C 98 6 SEGDEF\nR 3 00000016 8A 1 MODEND\nS 1 4 \"U\"\n",
-    )?;
+    assert!(rt;
+        prints(
+            rt.alloc(),
+            Job::List,
+            &[HEADER, name, segment, END],
+            b"R 0 00000000 80 2 THEADR\nR 1 00000006 CA 2 LLNAMES\nR 2 0000000C 98 6 SEGDEF\nR 3 00000016 8A 1 MODEND\nS 1 4 \"U\"\n",
+        )?
+    );
     let external: &[u8] = &[0xB4, 0x04, 0x00, 0x01, 0x58, 0x00, 0xEF];
     let second: &[u8] = &[0xB5, 0x04, 0x00, 0x01, 0x59, 0x00, 0x00];
     let communal: &[u8] = &[
@@ -240,14 +297,16 @@ fn lists_local_records(rt: HostRuntime) -> Result<(), Fail> {
     let wide: &[u8] = &[
         0xB7, 0x0A, 0x00, 0x00, 0x01, 0x01, 0x51, 0x00, 0x00, 0x01, 0x00, 0x00, 0x00,
     ];
-    prints(
-        &rt,
-        Job::List,
-        &[
-            HEADER, NAMES, SEGMENT, external, second, communal, public, wide, END,
-        ],
-        b"R 0 00000000 80 2 THEADR\nR 1 00000006 96 3 LNAMES\nR 2 0000000D 98 6 SEGDEF\nR 3 00000017 B4 3 LEXTDEF\nR 4 0000001E B5 3 LEXTDEF\nR 5 00000025 B8 7 LCOMDEF\nR 6 00000030 B6 7 LPUBDEF\nR 7 0000003B B7 9 LPUBDEF\nR 8 00000048 8A 1 MODEND\nS 1 4 \"T\"\nE 1 \"X\"\nE 2 \"Y\"\nE 3 \"X\"\nP - 1 00000002 \"P\"\nP - 1 00010000 \"Q\"\n",
-    )?;
+    assert!(rt;
+        prints(
+            rt.alloc(),
+            Job::List,
+            &[
+                HEADER, NAMES, SEGMENT, external, second, communal, public, wide, END,
+            ],
+            b"R 0 00000000 80 2 THEADR\nR 1 00000006 96 3 LNAMES\nR 2 0000000D 98 6 SEGDEF\nR 3 00000017 B4 3 LEXTDEF\nR 4 0000001E B5 3 LEXTDEF\nR 5 00000025 B8 7 LCOMDEF\nR 6 00000030 B6 7 LPUBDEF\nR 7 0000003B B7 9 LPUBDEF\nR 8 00000048 8A 1 MODEND\nS 1 4 \"T\"\nE 1 \"X\"\nE 2 \"Y\"\nE 3 \"X\"\nP - 1 00000002 \"P\"\nP - 1 00010000 \"Q\"\n",
+        )?
+    );
     Ok(())
 }
 
@@ -256,12 +315,14 @@ fn lists_a_public_name(rt: HostRuntime) -> Result<(), Fail> {
     let public: &[u8] = &[
         0x90, 0x08, 0x00, 0x00, 0x01, 0x01, 0x58, 0x02, 0x00, 0x00, 0x0C,
     ];
-    prints(
-        &rt,
-        Job::List,
-        &[HEADER, NAMES, SEGMENT, public, END],
-        b"R 0 00000000 80 2 THEADR\nR 1 00000006 96 3 LNAMES\nR 2 0000000D 98 6 SEGDEF\nR 3 00000017 90 7 PUBDEF\nR 4 00000022 8A 1 MODEND\nS 1 4 \"T\"\nP - 1 00000002 \"X\"\n",
-    )?;
+    assert!(rt;
+        prints(
+            rt.alloc(),
+            Job::List,
+            &[HEADER, NAMES, SEGMENT, public, END],
+            b"R 0 00000000 80 2 THEADR\nR 1 00000006 96 3 LNAMES\nR 2 0000000D 98 6 SEGDEF\nR 3 00000017 90 7 PUBDEF\nR 4 00000022 8A 1 MODEND\nS 1 4 \"T\"\nP - 1 00000002 \"X\"\n",
+        )?
+    );
     Ok(())
 }
 
@@ -272,12 +333,14 @@ fn writes_names_in_plain_bytes(rt: HostRuntime) -> Result<(), Fail> {
     ];
     let unnamed: &[u8] = &[0x98, 0x07, 0x00, 0x28, 0x04, 0x00, 0x00, 0x01, 0x01, 0x00];
     let empty: &[u8] = &[0x98, 0x07, 0x00, 0x28, 0x04, 0x00, 0x01, 0x01, 0x01, 0x00];
-    prints(
-        &rt,
-        Job::List,
-        &[HEADER, names, SEGMENT, unnamed, empty, END],
-        b"R 0 00000000 80 2 THEADR\nR 1 00000006 96 9 LNAMES\nR 2 00000013 98 6 SEGDEF\nR 3 0000001D 98 6 SEGDEF\nR 4 00000027 98 6 SEGDEF\nR 5 00000031 8A 1 MODEND\nS 1 4 \" \\x22\\x5C\\x1F~\\x7F\\xFF\"\nS 2 4 -\nS 3 4 \"\"\n",
-    )?;
+    assert!(rt;
+        prints(
+            rt.alloc(),
+            Job::List,
+            &[HEADER, names, SEGMENT, unnamed, empty, END],
+            b"R 0 00000000 80 2 THEADR\nR 1 00000006 96 9 LNAMES\nR 2 00000013 98 6 SEGDEF\nR 3 0000001D 98 6 SEGDEF\nR 4 00000027 98 6 SEGDEF\nR 5 00000031 8A 1 MODEND\nS 1 4 \" \\x22\\x5C\\x1F~\\x7F\\xFF\"\nS 2 4 -\nS 3 4 \"\"\n",
+        )?
+    );
     Ok(())
 }
 
@@ -286,13 +349,28 @@ fn writes_lengths_in_decimal(rt: HostRuntime) -> Result<(), Fail> {
     let wide: &[u8] = &[
         0x99, 0x09, 0x00, 0x2A, 0x00, 0x00, 0x00, 0x00, 0x02, 0x01, 0x01, 0x00,
     ];
-    prints(
-        &rt,
-        Job::List,
-        &[HEADER, NAMES, BIG_SEGMENT, wide, END],
-        b"R 0 00000000 80 2 THEADR\nR 1 00000006 96 3 LNAMES\nR 2 0000000D 98 6 SEGDEF\nR 3 00000017 99 8 SEGDEF\nR 4 00000023 8A 1 MODEND\nS 1 65536 \"T\"\nS 2 4294967296 \"T\"\n",
-    )?;
+    assert!(rt;
+        prints(
+            rt.alloc(),
+            Job::List,
+            &[HEADER, NAMES, BIG_SEGMENT, wide, END],
+            b"R 0 00000000 80 2 THEADR\nR 1 00000006 96 3 LNAMES\nR 2 0000000D 98 6 SEGDEF\nR 3 00000017 99 8 SEGDEF\nR 4 00000023 8A 1 MODEND\nS 1 65536 \"T\"\nS 2 4294967296 \"T\"\n",
+        )?
+    );
     Ok(())
+}
+
+/// Whether a job over a reader that fails behind so many bytes answers this, and prints this.
+pub fn is_before_failure(
+    alloc: Global,
+    job: Job,
+    bytes: &[u8],
+    answer: Result<(), RunFault>,
+    text: &[u8],
+) -> bool {
+    let mut reader = Script::new(bytes, Then::Fails);
+    let run = run_over(alloc, job, &mut reader);
+    is_outcome(&run, answer, text)
 }
 
 #[test]
@@ -300,52 +378,55 @@ fn names_a_failing_reader(rt: HostRuntime) -> Result<(), Fail> {
     let input = joined(rt.alloc(), &FIRST)?;
     for count in [0, 30, 47] {
         let front = input.as_slice().split_at(input.len().min(count)).0;
-        let mut reader = Script::new(front, Then::Fails);
-        let mut text = Vec::new(rt.alloc());
-        let mut writer = Writing::new(&mut text);
-        let answer = run_list(rt.alloc(), ANY, &mut reader, &mut writer);
-        assert_eq!(rt; answer, Err(RunFault::Read));
-        assert_eq!(rt; text.len(), 0);
+        assert!(rt; is_before_failure(rt.alloc(), Job::List, front, Err(RunFault::Read), &[]));
     }
-    let mut reader = Script::new(&input, Then::Fails);
-    let mut text = Vec::new(rt.alloc());
-    let mut writer = Writing::new(&mut text);
-    let answer = run_check(rt.alloc(), ANY, &mut reader, &mut writer);
-    assert_eq!(rt; answer, Ok(()));
-    assert_eq!(rt; text.as_slice(), CHECKED);
+    assert!(rt; is_before_failure(rt.alloc(), Job::Check, &input, Ok(()), CHECKED));
     Ok(())
 }
 
-/// A job's run on the first module, with a writer that takes so many bytes.
+/// What a job on the first module answers over a writer.
+pub fn answer_to(
+    alloc: Global,
+    job: Job,
+    writer: &mut Taker,
+) -> Result<Result<(), RunFault>, AllocError> {
+    let input = joined(alloc, &FIRST)?;
+    let mut reader = Script::new(&input, Then::Ends);
+    Ok(run_job(alloc, job, ANY, &mut reader, writer))
+}
+
+/// Whether a job's run on the first module, with a writer that takes so many bytes, leaves the front of this text there.
 pub fn writes_front(
-    rt: &(impl Abort + AllocGlobal),
+    alloc: Global,
     job: Job,
     room: usize,
     full: Full,
     text: &[u8],
-) -> Result<(), AllocError> {
-    let input = joined(rt.alloc(), &FIRST)?;
-    let mut reader = Script::new(&input, Then::Ends);
-    let mut writer = Taker::new(rt.alloc(), room, full)?;
-    let answer = run_job(rt.alloc(), job, ANY, &mut reader, &mut writer);
+) -> Result<bool, AllocError> {
+    let mut writer = Taker::new(alloc, room, full)?;
+    let answer = answer_to(alloc, job, &mut writer)?;
     let expected = if room < text.len() {
         Err(RunFault::Write)
     } else {
         Ok(())
     };
-    assert_eq!(rt; answer, expected);
-    assert_eq!(rt; writer.bytes(), text.split_at(room.min(text.len())).0);
-    Ok(())
+    Ok(answer == expected && has_taken(&writer, text.split_at(room.min(text.len())).0))
+}
+
+/// Whether a writer took these bytes.
+pub fn has_taken(writer: &Taker, bytes: &[u8]) -> bool {
+    writer.bytes() == bytes
 }
 
 #[test]
 fn leaves_the_front_where_the_writer_fails(rt: HostRuntime) -> Result<(), Fail> {
     for room in 0..24 {
-        writes_front(&rt, Job::Check, room, Full::Fails, CHECKED)?;
-        writes_front(&rt, Job::Check, room, Full::TakesNone, CHECKED)?;
+        for full in [Full::Fails, Full::TakesNone] {
+            assert!(rt; writes_front(rt.alloc(), Job::Check, room, full, CHECKED)?);
+        }
     }
     for room in [0, 1, 160, 161, 1000] {
-        writes_front(&rt, Job::List, room, Full::Fails, LISTED)?;
+        assert!(rt; writes_front(rt.alloc(), Job::List, room, Full::Fails, LISTED)?);
     }
     Ok(())
 }
@@ -373,6 +454,6 @@ fn lists_records_of_other_types(rt: HostRuntime) -> Result<(), Fail> {
     ];
     let text =
         b"R 0 00000000 82 2 LHEADR\nR 1 00000006 96 3 LNAMES\nR 2 0000000D 98 6 SEGDEF\nR 3 00000017 9A 3 GRPDEF\nR 4 0000001E 8C 2 EXTDEF\nR 5 00000024 91 9 PUBDEF\nR 6 00000031 8E 0 TYPDEF\nR 7 00000035 94 0 LINNUM\nR 8 00000039 95 0 LINNUM\nR 9 0000003D C4 0 LINSYM\nR 10 00000041 C5 0 LINSYM\nR 11 00000045 C6 0 ALIAS\nR 12 00000049 CC 0 VERNUM\nR 13 0000004D A2 3 LIDATA\nR 14 00000054 8A 1 MODEND\nS 1 4 \"T\"\nG 1 -\nE 1 \"\"\nP 1 1 12345678 \"X\"\n";
-    prints(&rt, Job::List, &records, text)?;
+    assert!(rt; prints(rt.alloc(), Job::List, &records, text)?);
     Ok(())
 }

@@ -2,7 +2,6 @@
 
 use omf_cmd::{Job, command};
 use std::alloc::{AllocError, Global};
-use std::process::Abort;
 use std::test::Fail;
 
 /// What these words ask for: a job, and whether comments of vendors are refused.
@@ -19,23 +18,46 @@ fn asked(alloc: Global, words: &[&str]) -> Result<Option<(Job, bool)>, AllocErro
 
 const FLAG: &str = "--refuse-vendor-comments";
 
-/// The words of a subcommand, and some around them that are not understood.
-fn understands(rt: &(impl Abort + AllocGlobal), name: &str, job: Job) -> Result<(), AllocError> {
-    assert_eq!(rt; asked(rt.alloc(), &["omf", name])?, Some((job, false)));
-    assert_eq!(rt; asked(rt.alloc(), &["omf", name, FLAG])?, Some((job, true)));
-    assert_eq!(rt; asked(rt.alloc(), &["omf", name, FLAG, FLAG])?, None);
-    assert_eq!(rt; asked(rt.alloc(), &["omf", FLAG, name])?, None);
-    assert_eq!(rt; asked(rt.alloc(), &["omf", name, name])?, None);
-    assert_eq!(rt; asked(rt.alloc(), &["omf", name, "--help"])?, None);
-    Ok(())
+/// Whether these words ask for this.
+fn asks(alloc: Global, words: &[&str], wanted: Option<(Job, bool)>) -> Result<bool, AllocError> {
+    Ok(asked(alloc, words)? == wanted)
+}
+
+/// Whether the words of a subcommand are understood.
+fn is_understood(alloc: Global, name: &str, job: Job) -> Result<bool, AllocError> {
+    Ok(
+        asks(alloc, &["omf", name], Some((job, false)))?
+            && asks(alloc, &["omf", name, FLAG], Some((job, true)))?,
+    )
+}
+
+/// Whether some words around a subcommand are not understood.
+fn is_nothing_else(alloc: Global, name: &str) -> Result<bool, AllocError> {
+    let none: [&[&str]; 4] = [
+        &["omf", name, FLAG, FLAG],
+        &["omf", FLAG, name],
+        &["omf", name, name],
+        &["omf", name, "--help"],
+    ];
+    for words in none {
+        if !asks(alloc, words, None)? {
+            return Ok(false);
+        }
+    }
+    Ok(true)
 }
 
 #[test]
 fn understands_subcommands(rt: HostRuntime) -> Result<(), Fail> {
-    understands(&rt, "list", Job::List)?;
-    understands(&rt, "check", Job::Check)?;
-    understands(&rt, "reloc", Job::Reloc)?;
-    understands(&rt, "canon", Job::Canon)?;
+    for (name, job) in [
+        ("list", Job::List),
+        ("check", Job::Check),
+        ("reloc", Job::Reloc),
+        ("canon", Job::Canon),
+    ] {
+        assert!(rt; is_understood(rt.alloc(), name, job)?);
+        assert!(rt; is_nothing_else(rt.alloc(), name)?);
+    }
     Ok(())
 }
 
@@ -52,7 +74,7 @@ fn understands_nothing_else(rt: HostRuntime) -> Result<(), Fail> {
         &["omf", "help"],
     ];
     for words in none {
-        assert_eq!(rt; asked(rt.alloc(), words)?, None);
+        assert!(rt; asks(rt.alloc(), words, None)?);
     }
     Ok(())
 }

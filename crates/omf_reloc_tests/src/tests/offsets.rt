@@ -1,8 +1,9 @@
 //! What one fixup adds, how far it reaches, and starts: each in a module of one segment, one group and one external.
 
-use omf_check::{CheckFault, Checked, Profile, check};
-use omf_frame::Reading;
-use omf_reloc::{Cause, Frame, Placement, ReachFault, reach, relocate, start};
+use super::{checked, image_of, start_of};
+use omf_check::Checked;
+use omf_image::Image;
+use omf_reloc::{Cause, Frame, Placement, ReachFault};
 use std::alloc::{AllocError, Global};
 use std::test::Fail;
 
@@ -94,13 +95,6 @@ fn push_record(bytes: &mut Vec<u8>, kind: u8, contents: &[u8]) -> Result<(), All
     Ok(())
 }
 
-fn checked(alloc: Global, bytes: &[u8]) -> Result<Checked, CheckFault> {
-    let any = Profile {
-        refuse_vendor_comments: false,
-    };
-    check(alloc, &mut Reading::new(bytes), any)
-}
-
 /// Four bytes of data at the front of the segment, and one fixup of them, in a FIXUPP of 32 bits or else of 16.
 #[derive(Clone, Copy)]
 struct Fixing {
@@ -110,14 +104,24 @@ struct Fixing {
     reference: Reference,
 }
 
-fn fixed_module(alloc: Global, fixing: &Fixing) -> Result<Checked, Fail> {
-    let mut bytes = Vec::new(alloc);
-    bytes.extend_from_slice(&FRONT)?;
-    let [first, second, third, fourth] = fixing.data;
-    push_record(&mut bytes, 0xA0, &[1, 0, 0, first, second, third, fourth])?;
+/// The contents of its FIXUPP.
+fn fixup_of(alloc: Global, fixing: &Fixing) -> Result<Vec<u8>, AllocError> {
     let mut fixup = Vec::new(alloc);
     fixup.extend_from_slice(&fixing.location.to_be_bytes())?;
     push_reference(&mut fixup, fixing.is_wide, fixing.reference)?;
+    Ok(fixup)
+}
+
+/// Appends the LEDATA.
+fn push_data(bytes: &mut Vec<u8>, data: [u8; 4]) -> Result<(), AllocError> {
+    let [first, second, third, fourth] = data;
+    push_record(bytes, 0xA0, &[1, 0, 0, first, second, third, fourth])
+}
+
+fn fixed_module(alloc: Global, fixing: &Fixing) -> Result<Checked, Fail> {
+    let mut bytes = Vec::from_slice(alloc, &FRONT)?;
+    push_data(&mut bytes, fixing.data)?;
+    let fixup = fixup_of(alloc, fixing)?;
     push_record(&mut bytes, if fixing.is_wide { 0x9D } else { 0x9C }, &fixup)?;
     bytes.extend_from_slice(&END)?;
     Ok(checked(alloc, &bytes)?)
@@ -132,6 +136,10 @@ fn too_far(number: u32, within: u32, cause: Cause) -> ReachFault {
     }
 }
 
+fn has_bytes(image: &Image, bytes: [u8; 4]) -> bool {
+    image.run_bytes(1, 0) == Some(bytes.as_slice())
+}
+
 /// Whether the fixup makes these bytes of its data, or does not reach for this cause.
 fn makes(
     alloc: Global,
@@ -141,14 +149,11 @@ fn makes(
 ) -> Result<bool, Fail> {
     let module = fixed_module(alloc, fixing)?;
     let placement = placement(alloc, places)?;
-    match reach(&module, &placement) {
-        Ok(()) => {
-            let image = relocate(alloc, &module, &placement)?;
-            Ok(match sum {
-                Ok(bytes) => image.run_bytes(1, 0) == Some(bytes.as_slice()),
-                Err(_) => false,
-            })
-        }
+    match image_of(alloc, &module, &placement)? {
+        Ok(image) => Ok(match sum {
+            Ok(bytes) => has_bytes(&image, bytes),
+            Err(_) => false,
+        }),
         Err(fault) => Ok(match sum {
             Ok(_) => false,
             Err(cause) => fault == too_far(6, 3, cause),
@@ -367,13 +372,17 @@ fn frames_of_methods(rt: HostRuntime) -> Result<(), Fail> {
     Ok(())
 }
 
+/// The contents of a MODEND that names a start.
+fn end_of(alloc: Global, is_wide: bool, reference: Reference) -> Result<Vec<u8>, AllocError> {
+    let mut end = Vec::from_slice(alloc, &[0xC1])?;
+    push_reference(&mut end, is_wide, reference)?;
+    Ok(end)
+}
+
 /// A module whose MODEND, of 32 bits or else of 16, names a start.
 fn started_module(alloc: Global, is_wide: bool, reference: Reference) -> Result<Checked, Fail> {
-    let mut bytes = Vec::new(alloc);
-    bytes.extend_from_slice(&FRONT)?;
-    let mut end = Vec::new(alloc);
-    end.push(0xC1)?;
-    push_reference(&mut end, is_wide, reference)?;
+    let mut bytes = Vec::from_slice(alloc, &FRONT)?;
+    let end = end_of(alloc, is_wide, reference)?;
     push_record(&mut bytes, if is_wide { 0x8B } else { 0x8A }, &end)?;
     Ok(checked(alloc, &bytes)?)
 }
@@ -386,16 +395,11 @@ fn starts_at(
     offset: Result<u32, Cause>,
 ) -> Result<bool, Fail> {
     let placement = placement(alloc, places)?;
-    Ok(match reach(module, &placement) {
-        Ok(()) => match offset {
-            Ok(offset) => start(module, &placement) == Some((places.group.selector, offset)),
-            Err(_) => false,
-        },
-        Err(fault) => match offset {
-            Ok(_) => false,
-            Err(cause) => fault == too_far(5, 4, cause),
-        },
-    })
+    let wanted = match offset {
+        Ok(offset) => Ok(Some((places.group.selector, offset))),
+        Err(cause) => Err(too_far(5, 4, cause)),
+    };
+    Ok(start_of(module, &placement) == wanted)
 }
 
 #[test]

@@ -1,9 +1,10 @@
 //! The pieces of a module that sets threads.
 
-use omf_check::{Checked, Profile, check};
-use omf_frame::{Index, Reading};
+use super::checked;
+use omf_check::Checked;
+use omf_frame::{Index, Place};
 use omf_reloc::{Piece, TargetMethod, pieces_of};
-use std::alloc::Global;
+use std::alloc::{AllocError, Global};
 use std::test::Fail;
 
 /// A header, a name and two segments.
@@ -31,11 +32,7 @@ fn module(alloc: Global) -> Result<Checked, Fail> {
     bytes.extend_from_slice(&TABLES)?;
     bytes.extend_from_slice(&FIRST)?;
     bytes.extend_from_slice(&SECOND)?;
-    let profile = Profile {
-        refuse_vendor_comments: false,
-    };
-    let mut reader = Reading::new(bytes.as_slice());
-    Ok(check(alloc, &mut reader, profile)?)
+    Ok(checked(alloc, &bytes)?)
 }
 
 /// The segment that a target names; 0 where it is none.
@@ -46,36 +43,61 @@ fn segment_of(target: &TargetMethod) -> u16 {
     }
 }
 
+/// The number of a record, the place in it, a fixup's location, and the segment of its target.
+type Fixed = (u32, u32, u16, u16);
+
+/// Appends what is asked of a piece that is a fixup.
+fn push_fixup(fixups: &mut Vec<Fixed>, place: Place, piece: &Piece<'_>) -> Result<(), AllocError> {
+    if let Piece::Fixed { fixup, .. } = piece {
+        let segment = segment_of(&fixup.reference.target);
+        fixups.push((place.number, place.within, fixup.location, segment))?;
+    }
+    Ok(())
+}
+
+fn fixups_of(alloc: Global, module: &Checked) -> Result<Vec<Fixed>, AllocError> {
+    let mut fixups = Vec::new(alloc);
+    for (place, piece) in pieces_of(module) {
+        push_fixup(&mut fixups, place, &piece)?;
+    }
+    Ok(fixups)
+}
+
 #[test]
 fn resolves_threads(rt: HostRuntime) -> Result<(), Fail> {
     let module = module(rt.alloc())?;
-    let mut fixups = Vec::new(rt.alloc());
-    for (place, piece) in pieces_of(&module) {
-        if let Piece::Fixed { fixup, .. } = &piece {
-            let segment = segment_of(&fixup.reference.target);
-            fixups.push((place.number, place.within, fixup.location, segment))?;
-        }
-    }
     assert_eq!(rt;
-        fixups.as_slice(),
+        fixups_of(rt.alloc(), &module)?.as_slice(),
         [(5, 6, 0xC400, 1), (6, 3, 0xC402, 2), (8, 3, 0xC400, 2)].as_slice()
     );
     Ok(())
 }
 
+/// The type byte of a record that is kept, and that of the end.
+fn kind_of(piece: &Piece<'_>) -> Option<u8> {
+    match piece {
+        Piece::Kept(rec) => Some(rec.kind()),
+        Piece::Fixed { .. } => None,
+        Piece::End { .. } => Some(0x8A),
+    }
+}
+
+/// The numbers and the type bytes of the records that are kept, and of the end.
+fn kinds_of(alloc: Global, module: &Checked) -> Result<Vec<(u32, u8)>, AllocError> {
+    let mut kinds = Vec::new(alloc);
+    for (place, piece) in pieces_of(module) {
+        if let Some(kind) = kind_of(&piece) {
+            kinds.push((place.number, kind))?;
+        }
+    }
+    Ok(kinds)
+}
+
 #[test]
 fn gives_other_records_and_the_end(rt: HostRuntime) -> Result<(), Fail> {
     let module = module(rt.alloc())?;
-    let mut numbers = Vec::new(rt.alloc());
-    for (place, piece) in pieces_of(&module) {
-        match &piece {
-            Piece::Kept(rec) => numbers.push((place.number, rec.kind()))?,
-            Piece::Fixed { .. } => {}
-            Piece::End { .. } => numbers.push((place.number, 0x8A))?,
-        }
-    }
     assert_eq!(rt;
-        numbers.as_slice(),
+        kinds_of(rt.alloc(), &module)?.as_slice(),
         [
             (0, 0x80),
             (1, 0x96),

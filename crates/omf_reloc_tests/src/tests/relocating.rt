@@ -1,13 +1,9 @@
 //! Images and starts of modules at placements, each a case with its name.
 
-use omf_check::{Checked, Profile, check};
-use omf_frame::Reading;
+use super::{Place, image_of, module_of, placement_of, start_of};
 use omf_image::{Image, Run};
-use omf_reloc::{
-    Cause, Frame, Kind, Placement, ReachFault, RelocateFault, reach, reach_and_relocate, relocate,
-    start,
-};
-use std::alloc::{AllocError, Global};
+use omf_reloc::{Cause, Kind, ReachFault, RelocateFault, reach_and_relocate};
+use std::alloc::Global;
 use std::test::Fail;
 
 // A header, a name T, a segment T of 4 bytes, its data, a fixup of its bytes 1 and 2, and the end.
@@ -29,22 +25,6 @@ const FIXUP_BACK: [u8; 11] = [
 ];
 
 const END: [u8; 5] = [0x8A, 0x02, 0x00, 0x00, 0x74];
-
-/// The module that these records are.
-fn module(alloc: Global, records: &[&[u8]]) -> Result<Checked, Fail> {
-    let mut bytes = Vec::new(alloc);
-    for record in records {
-        bytes.extend_from_slice(record)?;
-    }
-    let profile = Profile {
-        refuse_vendor_comments: false,
-    };
-    let mut reader = Reading::new(bytes.as_slice());
-    Ok(check(alloc, &mut reader, profile)?)
-}
-
-/// An address, the base of its frame, and the frame's selector.
-type Place = (u32, u32, u16);
 
 /// The one segment at 10020H, in a frame of base 10000H.
 const LOW: Place = (0x10020, 0x10000, 0x1000);
@@ -68,33 +48,23 @@ struct Case {
     start: Option<(u16, u32)>,
 }
 
-fn frame(base: u32, selector: u16) -> Frame {
-    Frame { base, selector }
+/// The first run of a segment, and whether there is a second.
+fn runs_of(image: &Image, segment: u16) -> (Option<Run>, bool) {
+    (image.run_at(segment, 0), image.run_at(segment, 1).is_some())
 }
 
-fn placement(alloc: Global, case: &Case) -> Result<Placement, AllocError> {
-    let mut placement = Placement::new(alloc);
-    for (address, base, selector) in case.segments {
-        placement.push_segment(*address, frame(*base, *selector))?;
-    }
-    for (base, selector) in case.groups {
-        placement.push_group(frame(*base, *selector))?;
-    }
-    for (address, base, selector) in case.externals {
-        placement.push_external(*address, frame(*base, *selector))?;
-    }
-    Ok(placement)
+fn has_bytes(image: &Image, segment: u16, bytes: &[u8]) -> bool {
+    image.run_bytes(segment, 0) == Some(bytes)
 }
 
 /// What an image covers of a segment is one run, which begins at this offset and has these bytes, or nothing where there are none.
 fn covers(image: &Image, segment: u16, first: u32, bytes: &[u8]) -> bool {
     let len = bytes.len() as u64;
+    let (run, has_second) = runs_of(image, segment);
     if len == 0 {
-        return image.run_at(segment, 0).is_none();
+        return run.is_none();
     }
-    image.run_at(segment, 0) == Some(Run { first, len })
-        && image.run_bytes(segment, 0) == Some(bytes)
-        && image.run_at(segment, 1).is_none()
+    run == Some(Run { first, len }) && has_bytes(image, segment, bytes) && !has_second
 }
 
 /// All that an image covers is this, from segment 1 on.
@@ -111,14 +81,16 @@ fn is_image(image: &Image, laid: &[Laid]) -> bool {
 
 /// Whether the image and the start of a case are what it says, or its placement does not reach, where it says so.
 fn holds(alloc: Global, case: &Case) -> Result<bool, Fail> {
-    let module = module(alloc, case.records)?;
-    let placement = placement(alloc, case)?;
-    if reach(&module, &placement).is_err() {
-        return Ok(!case.reaches);
+    let module = module_of(alloc, case.records)?;
+    let placement = placement_of(alloc, case.segments, case.groups, case.externals)?;
+    match image_of(alloc, &module, &placement)? {
+        Ok(image) => Ok(
+            case.reaches
+                && is_image(&image, case.laid)
+                && start_of(&module, &placement) == Ok(case.start),
+        ),
+        Err(_) => Ok(!case.reaches),
     }
-    let image = relocate(alloc, &module, &placement)?;
-    let start = start(&module, &placement);
-    Ok(case.reaches && is_image(&image, case.laid) && start == case.start)
 }
 
 /// The first of these cases that does not hold.
@@ -265,22 +237,24 @@ const OFFSETS: [Case; 9] = [
     },
 ];
 
-/// The fault of `reach_and_relocate` for the module with one fixup, its segment at this place.
-fn fault_at(alloc: Global, segments: &'static [Place]) -> Result<Option<RelocateFault>, Fail> {
-    let module = module(alloc, &[&HEADER, &NAMES, &SEGMENT, &DATA, &FIXUP, &END])?;
-    let mut placement = Placement::new(alloc);
-    for (address, base, selector) in segments {
-        placement.push_segment(*address, frame(*base, *selector))?;
-    }
-    Ok(reach_and_relocate(alloc, &module, &placement).err())
+/// What `reach_and_relocate` answers for the module with one fixup, its segment at this place.
+fn laid_at(alloc: Global, segments: &[Place]) -> Result<Result<Image, RelocateFault>, Fail> {
+    let module = module_of(alloc, &[&HEADER, &NAMES, &SEGMENT, &DATA, &FIXUP, &END])?;
+    let placement = placement_of(alloc, segments, &[], &[])?;
+    Ok(reach_and_relocate(alloc, &module, &placement))
 }
 
-/// Whether `reach_and_relocate` gives the bytes of the module with one fixup, its segment at 10020H.
+/// The fault of it.
+fn fault_at(alloc: Global, segments: &[Place]) -> Result<Option<RelocateFault>, Fail> {
+    match laid_at(alloc, segments)? {
+        Ok(_) => Ok(None),
+        Err(fault) => Ok(Some(fault)),
+    }
+}
+
+/// Whether it gives the bytes of the module, its segment at 10020H.
 fn lays_in_one_walk(alloc: Global) -> Result<bool, Fail> {
-    let module = module(alloc, &[&HEADER, &NAMES, &SEGMENT, &DATA, &FIXUP, &END])?;
-    let mut placement = Placement::new(alloc);
-    placement.push_segment(0x10020, frame(0x10000, 0x1000))?;
-    match reach_and_relocate(alloc, &module, &placement) {
+    match laid_at(alloc, &[LOW])? {
         Ok(image) => Ok(covers(&image, 1, 0, &[0xB8, 0x20, 0x00, 0x90])),
         Err(_) => Ok(false),
     }

@@ -2,7 +2,7 @@
 
 use super::calls::{Call, Tried, hold, refused_if, right_if};
 use super::rows::{Row, rows};
-use omf_image::{Image, Limits, Run, expand, expanded_len};
+use omf_image::{Image, Limits, expand, expanded_len};
 use omf_records::Blocks;
 use omf_reloc::{reach, relocate, start};
 use std::alloc::{AllocError, Global};
@@ -72,34 +72,45 @@ fn piece(alloc: Global, byte: u8) -> Result<Vec<u8>, AllocError> {
     Ok(bytes)
 }
 
+/// A run of segment 1, by its first offset and its length, and how many bytes it has.
+fn run_of(image: &Image, k: usize) -> Option<(u32, u64, usize)> {
+    match (image.run_at(1, k), image.run_bytes(1, k)) {
+        (Some(run), Some(bytes)) => Some((run.first, run.len, bytes.len())),
+        _ => None,
+    }
+}
+
+fn has_run_at(image: &Image, segment: u16, k: usize) -> bool {
+    image.run_at(segment, k).is_some()
+}
+
+/// A byte of segment 1.
+fn byte_of(image: &Image, offset: u32) -> Option<u8> {
+    image.get(1, offset)
+}
+
 /// Whether the image has this run, and the bytes at its two ends.
 fn has_run(image: &Image, k: usize, first: u32, len: u32, bytes: [u8; 2]) -> bool {
-    let run = Run {
-        first,
-        len: u64::from(len),
-    };
-    image.run_at(1, k) == Some(run)
-        && image
-            .run_bytes(1, k)
-            .is_some_and(|all| all.len() == len as usize)
-        && image.get(1, first) == Some(bytes[0])
-        && image.get(1, first.saturating_add(len).saturating_sub(1)) == Some(bytes[1])
+    let last = first.saturating_add(len).saturating_sub(1);
+    run_of(image, k) == Some((first, u64::from(len), len as usize))
+        && byte_of(image, first) == Some(bytes[0])
+        && byte_of(image, last) == Some(bytes[1])
 }
 
 /// Whether the image is as it was before the first, the second and the third piece, or behind them.
 fn is_laid(image: &Image, pieces: u32) -> bool {
     match pieces {
-        0 => image.run_at(1, 0).is_none(),
-        1 => has_run(image, 0, 0, PIECE, [0xAA, 0xAA]) && image.run_at(1, 1).is_none(),
+        0 => !has_run_at(image, 1, 0),
+        1 => has_run(image, 0, 0, PIECE, [0xAA, 0xAA]) && !has_run_at(image, 1, 1),
         2 => {
             has_run(image, 0, 0, PIECE, [0xAA, 0xAA])
                 && has_run(image, 1, 2 * PIECE, PIECE, [0xCC, 0xCC])
-                && image.run_at(1, 2).is_none()
+                && !has_run_at(image, 1, 2)
         }
         _ => {
             has_run(image, 0, 0, 3 * PIECE, [0xAA, 0xCC])
-                && image.get(1, PIECE) == Some(0xBB)
-                && image.run_at(1, 1).is_none()
+                && byte_of(image, PIECE) == Some(0xBB)
+                && !has_run_at(image, 1, 1)
         }
     }
 }
@@ -153,12 +164,12 @@ impl Call for Following {
     fn run(&self, alloc: Global) -> Tried {
         let mut image = Image::new(alloc);
         if lay_byte(alloc, &mut image, 4, 0xAA).is_err() {
-            return refused_if(image.run_at(1, 0).is_none());
+            return refused_if(!has_run_at(&image, 1, 0));
         }
         if lay_byte(alloc, &mut image, 5, 0xBB).is_err() {
-            return refused_if(has_run(&image, 0, 4, 1, [0xAA; 2]) && image.run_at(1, 1).is_none());
+            return refused_if(has_run(&image, 0, 4, 1, [0xAA; 2]) && !has_run_at(&image, 1, 1));
         }
-        right_if(has_run(&image, 0, 4, 2, [0xAA, 0xBB]) && image.run_at(1, 1).is_none())
+        right_if(has_run(&image, 0, 4, 2, [0xAA, 0xBB]) && !has_run_at(&image, 1, 1))
     }
 }
 
@@ -176,17 +187,20 @@ struct Relocating<'a> {
 /// How many segments are looked at: more than any module of the trials has.
 const SEGMENTS: u16 = 4;
 
+/// Whether the first run of a segment is these bytes, from its first byte on.
+fn begins_with(image: &Image, segment: u16, bytes: &[u8]) -> bool {
+    image.run_bytes(segment, 0) == Some(bytes) && image.get(segment, 0) == bytes.first().copied()
+}
+
 /// Whether the segments have these bytes from their first on, and no others.
 fn has_images(image: &Image, images: &[Vec<u8>]) -> bool {
     for at in 0..SEGMENTS {
         let segment = at + 1;
         let is_same = match images.get(usize::from(at)) {
             Some(bytes) => {
-                image.run_bytes(segment, 0) == Some(bytes.as_slice())
-                    && image.get(segment, 0) == bytes.first().copied()
-                    && image.run_at(segment, 1).is_none()
+                begins_with(image, segment, bytes.as_slice()) && !has_run_at(image, segment, 1)
             }
-            None => image.run_at(segment, 0).is_none(),
+            None => !has_run_at(image, segment, 0),
         };
         if !is_same {
             return false;

@@ -49,12 +49,20 @@ fn least_room<C: Call>(
     Ok(None)
 }
 
+/// The first of these calls that does not give its answer.
+fn first_wrong<C: Call>(alloc: Global, calls: &[C]) -> Option<usize> {
+    for (at, call) in calls.iter().enumerate() {
+        if call.run(alloc) != Tried::Right {
+            return Some(at);
+        }
+    }
+    None
+}
+
 /// Every call gives its answer with ample memory. With none it meets a refused growth, and so with 16 bytes more, and so on, until it
 /// gives its answer. With ample memory it gives it again.
 pub fn hold<C: Call>(rt: &(impl Abort + AllocGlobal), calls: &[C]) -> Result<(), Fail> {
-    for (at, call) in calls.iter().enumerate() {
-        assert!(rt; call.run(rt.alloc()) == Tried::Right, "call {at}, before");
-    }
+    assert_eq!(rt; first_wrong(rt.alloc(), calls), None);
     let mut scarce = Scarce::new(rt.alloc(), calls.len())?;
     for (at, call) in calls.iter().enumerate() {
         scarce.next_room()?;
@@ -62,8 +70,6 @@ pub fn hold<C: Call>(rt: &(impl Abort + AllocGlobal), calls: &[C]) -> Result<(),
         assert!(rt; least.is_some_and(|step| step > 0), "call {at}: {least:?}");
     }
     drop(scarce);
-    for (at, call) in calls.iter().enumerate() {
-        assert!(rt; call.run(rt.alloc()) == Tried::Right, "call {at}, after");
-    }
+    assert_eq!(rt; first_wrong(rt.alloc(), calls), None);
     Ok(())
 }

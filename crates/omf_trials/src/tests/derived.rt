@@ -5,7 +5,7 @@ use super::rows::bytes_of;
 use super::samples::{END, HEADER, NAMES, SEGMENT, module_of};
 use omf_check::Checked;
 use omf_reloc::{DeriveFault, Frame, Given, Placement, derive};
-use std::alloc::Global;
+use std::alloc::{AllocError, Global};
 use std::test::Fail;
 
 /// A word that is to hold the offset of the external X.
@@ -62,12 +62,30 @@ const FRAME_MAKER: [&str; 5] = [
 /// Where external 1 of the first module lies, or why it lies nowhere.
 type Place = Result<(u32, Frame), DeriveFault>;
 
-/// Modules with the places of their segments, entries that are given, and what is derived.
+/// A module by its records, the place of its segment, by its address and its frame's base and selector, and the frames of its groups.
+type Lying = (
+    &'static [&'static str],
+    (u32, u32, u16),
+    &'static [(u32, u16)],
+);
+
+/// Modules that lie somewhere, entries that are given, and what is derived.
+struct Case {
+    modules: &'static [Lying],
+    given: &'static [Given],
+    wanted: Place,
+}
+
+const LOW: (u32, u32, u16) = (0x10020, 0x10000, 0x1000);
+
+const HIGH: (u32, u32, u16) = (0x20040, 0x20000, 0x2000);
+
+/// The modules of a case, and their places.
 #[derive(Drop)]
 struct Deriving {
     modules: Vec<Checked>,
     places: Vec<Placement>,
-    given: Vec<Given>,
+    given: &'static [Given],
     wanted: Place,
 }
 
@@ -75,40 +93,68 @@ fn frame(base: u32, selector: u16) -> Frame {
     Frame { base, selector }
 }
 
-impl Deriving {
-    /// One module, with its segment at 10020.
-    fn of(alloc: Global, records: &[&str], wanted: Place) -> Result<Self, Fail> {
-        let mut deriving = Deriving {
-            modules: Vec::new(alloc),
-            places: Vec::new(alloc),
-            given: Vec::new(alloc),
-            wanted,
-        };
-        deriving.add(alloc, records, 0x10020, frame(0x10000, 0x1000))?;
-        Ok(deriving)
-    }
-
-    /// A further module, and the place of its segment.
-    fn add(
-        &mut self,
-        alloc: Global,
-        records: &[&str],
-        address: u32,
-        frame: Frame,
-    ) -> Result<(), Fail> {
+fn checked(alloc: Global, modules: &[Lying]) -> Result<Vec<Checked>, Fail> {
+    let mut all = Vec::new(alloc);
+    for (records, _segment, _groups) in modules {
         let bytes = bytes_of(alloc, records)?;
-        let mut place = Placement::new(alloc);
-        place.push_segment(address, frame)?;
-        self.modules.push(module_of(alloc, &bytes)?)?;
-        self.places.push(place)?;
-        Ok(())
+        all.push(module_of(alloc, &bytes)?)?;
     }
+    Ok(all)
+}
 
-    /// A further module, with its segment at 20040.
-    fn and(self, alloc: Global, records: &[&str]) -> Result<Self, Fail> {
-        let mut deriving = self;
-        deriving.add(alloc, records, 0x20040, frame(0x20000, 0x2000))?;
-        Ok(deriving)
+fn push_groups(place: &mut Placement, groups: &[(u32, u16)]) -> Result<(), AllocError> {
+    for (base, selector) in groups {
+        place.push_group(frame(*base, *selector))?;
+    }
+    Ok(())
+}
+
+fn place_of(
+    alloc: Global,
+    segment: (u32, u32, u16),
+    groups: &[(u32, u16)],
+) -> Result<Placement, AllocError> {
+    let (address, base, selector) = segment;
+    let mut place = Placement::new(alloc);
+    place.push_segment(address, frame(base, selector))?;
+    push_groups(&mut place, groups)?;
+    Ok(place)
+}
+
+fn places_of(alloc: Global, modules: &[Lying]) -> Result<Vec<Placement>, Fail> {
+    let mut places = Vec::new(alloc);
+    for (_records, segment, groups) in modules {
+        places.push(place_of(alloc, *segment, groups)?)?;
+    }
+    Ok(places)
+}
+
+impl Deriving {
+    fn of(alloc: Global, case: &Case) -> Result<Self, Fail> {
+        let modules = checked(alloc, case.modules)?;
+        let places = places_of(alloc, case.modules)?;
+        Ok(Deriving {
+            modules,
+            places,
+            given: case.given,
+            wanted: case.wanted,
+        })
+    }
+}
+
+/// Where external 1 of the first module lies.
+fn first_external(placements: &[Placement]) -> Option<(u32, Frame)> {
+    match placements.first() {
+        Some(placement) => placement.external(1),
+        None => None,
+    }
+}
+
+/// Whether these are as many placements, and the first is what is wanted.
+fn is_derived(placements: &[Placement], count: usize, wanted: Place) -> bool {
+    match wanted {
+        Ok(place) => placements.len() == count && first_external(placements) == Some(place),
+        Err(_) => false,
     }
 }
 
@@ -118,13 +164,8 @@ impl Call for Deriving {
         if self.places.len() != count || count > 8 {
             return Tried::Wrong;
         }
-        match derive(alloc, &self.modules, &self.places, &self.given) {
-            Ok(placements) => {
-                let found = placements
-                    .first()
-                    .and_then(|placement| placement.external(1));
-                right_if(placements.len() == count && found.map(Ok) == Some(self.wanted))
-            }
+        match derive(alloc, &self.modules, &self.places, self.given) {
+            Ok(placements) => right_if(is_derived(&placements, count, self.wanted)),
             Err(DeriveFault::Memory) => refused_if(true),
             Err(fault) => right_if(self.wanted == Err(fault)),
         }
@@ -147,59 +188,121 @@ const TOO_HIGH: Place = Err(DeriveFault::TooHigh {
 });
 
 /// Modules whose external is defined once, by a segment, by a group and by a frame's number, or by its own module.
-fn defined(alloc: Global) -> Result<Vec<Deriving>, Fail> {
-    let mut calls = Vec::new(alloc);
-    let by_segment = Ok((0x20042, frame(0x20000, 0x2000)));
-    calls.push(Deriving::of(alloc, &USER, by_segment)?.and(alloc, &MAKER)?)?;
-    let by_group = Ok((0x20042, frame(0x20010, 0x2001)));
-    let mut grouped = Deriving::of(alloc, &USER, by_group)?.and(alloc, &GROUP_MAKER)?;
-    if let Some(place) = grouped.places.last_mut() {
-        place.push_group(frame(0x20010, 0x2001))?;
-    }
-    calls.push(grouped)?;
-    let by_number = Ok((0xB8002, frame(0xB8000, 0xB800)));
-    calls.push(Deriving::of(alloc, &USER, by_number)?.and(alloc, &FRAME_MAKER)?)?;
-    let by_own = Ok((0x10023, frame(0x10000, 0x1000)));
-    calls.push(Deriving::of(alloc, &OWN_USER, by_own)?.and(alloc, &MAKER)?)?;
-    Ok(calls)
-}
+const DEFINED: [Case; 4] = [
+    Case {
+        modules: &[(&USER, LOW, &[]), (&MAKER, HIGH, &[])],
+        given: &[],
+        wanted: Ok((
+            0x20042,
+            Frame {
+                base: 0x20000,
+                selector: 0x2000,
+            },
+        )),
+    },
+    Case {
+        modules: &[
+            (&USER, LOW, &[]),
+            (&GROUP_MAKER, HIGH, &[(0x20010, 0x2001)]),
+        ],
+        given: &[],
+        wanted: Ok((
+            0x20042,
+            Frame {
+                base: 0x20010,
+                selector: 0x2001,
+            },
+        )),
+    },
+    Case {
+        modules: &[(&USER, LOW, &[]), (&FRAME_MAKER, HIGH, &[])],
+        given: &[],
+        wanted: Ok((
+            0xB8002,
+            Frame {
+                base: 0xB8000,
+                selector: 0xB800,
+            },
+        )),
+    },
+    Case {
+        modules: &[(&OWN_USER, LOW, &[]), (&MAKER, HIGH, &[])],
+        given: &[],
+        wanted: Ok((
+            0x10023,
+            Frame {
+                base: 0x10000,
+                selector: 0x1000,
+            },
+        )),
+    },
+];
 
-/// Modules whose external is given, or defined twice, too high or not at all.
-fn given_or_at_fault(alloc: Global) -> Result<Vec<Deriving>, Fail> {
+/// Modules whose external is defined not at all, twice or too high, or given.
+const GIVEN_OR_AT_FAULT: [Case; 4] = [
+    Case {
+        modules: &[(&LOCAL_USER, LOW, &[]), (&MAKER, HIGH, &[])],
+        given: &[],
+        wanted: UNDEFINED,
+    },
+    Case {
+        modules: &[(&USER, LOW, &[]), (&MAKER, HIGH, &[]), (&MAKER, HIGH, &[])],
+        given: &[],
+        wanted: TWICE,
+    },
+    Case {
+        modules: &[
+            (&USER, LOW, &[]),
+            (&MAKER, (0xFFFF_FFFF, 0xFFFF_0000, 1), &[]),
+        ],
+        given: &[],
+        wanted: TOO_HIGH,
+    },
+    Case {
+        modules: &[(&USER, LOW, &[]), (&MAKER, HIGH, &[]), (&MAKER, HIGH, &[])],
+        given: &[Given {
+            module: 0,
+            external: 1,
+            address: 0x30000,
+            frame: Frame {
+                base: 0x30000,
+                selector: 0x3000,
+            },
+        }],
+        wanted: Ok((
+            0x30000,
+            Frame {
+                base: 0x30000,
+                selector: 0x3000,
+            },
+        )),
+    },
+];
+
+/// A module without any public.
+const ALONE: Case = Case {
+    modules: &[(&USER, LOW, &[])],
+    given: &[],
+    wanted: UNDEFINED,
+};
+
+fn derivings(alloc: Global, cases: &[Case]) -> Result<Vec<Deriving>, Fail> {
     let mut calls = Vec::new(alloc);
-    calls.push(Deriving::of(alloc, &LOCAL_USER, UNDEFINED)?.and(alloc, &MAKER)?)?;
-    calls.push(
-        Deriving::of(alloc, &USER, TWICE)?
-            .and(alloc, &MAKER)?
-            .and(alloc, &MAKER)?,
-    )?;
-    let mut high = Deriving::of(alloc, &USER, TOO_HIGH)?;
-    high.add(alloc, &MAKER, 0xFFFF_FFFF, frame(0xFFFF_0000, 1))?;
-    calls.push(high)?;
-    let (address, frame) = (0x30000, frame(0x30000, 0x3000));
-    let by_hand = Ok((address, frame));
-    let mut given = Deriving::of(alloc, &USER, by_hand)?
-        .and(alloc, &MAKER)?
-        .and(alloc, &MAKER)?;
-    given.given.push(Given {
-        module: 0,
-        external: 1,
-        address,
-        frame,
-    })?;
-    calls.push(given)?;
+    for case in cases {
+        calls.push(Deriving::of(alloc, case)?)?;
+    }
     Ok(calls)
 }
 
 #[test]
 fn derive_where_memory_ends(rt: HostRuntime) -> Result<(), Fail> {
-    hold(&rt, &defined(rt.alloc())?)
+    hold(&rt, &derivings(rt.alloc(), &DEFINED)?)
 }
 
 /// A module without any public takes no memory, and is not among them.
 #[test]
 fn derive_at_fault_where_memory_ends(rt: HostRuntime) -> Result<(), Fail> {
-    let alone = Deriving::of(rt.alloc(), &USER, UNDEFINED)?;
+    let alone = Deriving::of(rt.alloc(), &ALONE)?;
     assert!(rt; alone.run(rt.alloc()) == Tried::Right);
-    hold(&rt, &given_or_at_fault(rt.alloc())?)
+    hold(&rt, &derivings(rt.alloc(), &GIVEN_OR_AT_FAULT)?)
 }

@@ -3,7 +3,8 @@
 use super::calls::{Call, Tried, hold, refused_if, right_if};
 use super::rows::{Row, rows};
 use super::samples::ANY;
-use omf_check::{CheckFault, Session, check};
+use super::verdicts::bytes_of;
+use omf_check::{CheckFault, Checked, Session, check};
 use omf_frame::{FrameFault, Framer, Reading};
 use std::alloc::Global;
 use std::test::Fail;
@@ -19,7 +20,7 @@ impl<'a> Call for ByReader<'a> {
         let bytes = self.row.sample.bytes.as_slice();
         let mut reader = Reading::new(bytes);
         match check(alloc, &mut reader, ANY) {
-            Ok(module) => right_if(module.bytes() == bytes),
+            Ok(module) => right_if(bytes_of(&module) == bytes),
             Err(fault) => refused_if(fault == CheckFault::Memory),
         }
     }
@@ -42,14 +43,38 @@ struct InPieces<'a> {
     size: usize,
 }
 
+/// How many bytes a session takes of a piece.
+fn fed(session: &mut Session, piece: &[u8]) -> Result<usize, CheckFault> {
+    match session.feed(piece) {
+        Ok(fed) => Ok(fed.taken),
+        Err(fault) => Err(fault),
+    }
+}
+
+/// How many bytes a session wants, and whether it has passed the end.
+fn state_of(session: &Session) -> (usize, bool) {
+    (session.want(), session.ended())
+}
+
+/// The module that a session has taken.
+fn closed(session: Session) -> Result<Checked, CheckFault> {
+    session.finish()
+}
+
 /// Whether a session that met a refused growth answers Memory from then on, and takes nothing.
 fn keeps_memory(session: Session, bytes: &[u8]) -> bool {
     let mut session = session;
-    let again = session.feed(bytes).err();
-    let wants = session.want();
-    let ended = session.ended();
-    let end = session.finish().err();
-    again == Some(CheckFault::Memory) && wants == 0 && !ended && end == Some(CheckFault::Memory)
+    fed(&mut session, bytes).err() == Some(CheckFault::Memory)
+        && state_of(&session) == (0, false)
+        && closed(session).err() == Some(CheckFault::Memory)
+}
+
+/// Whether a verdict is a module of these bytes.
+fn is_module(verdict: Result<Checked, CheckFault>, bytes: &[u8]) -> bool {
+    match verdict {
+        Ok(module) => bytes_of(&module) == bytes,
+        Err(_) => false,
+    }
 }
 
 impl<'a> Call for InPieces<'a> {
@@ -59,14 +84,14 @@ impl<'a> Call for InPieces<'a> {
         let mut rest = bytes;
         for _ in 0..100 {
             let piece = rest.split_at(self.size.min(rest.len())).0;
-            match session.feed(piece) {
-                Ok(fed) => rest = rest.split_at(fed.taken.min(rest.len())).1,
+            match fed(&mut session, piece) {
+                Ok(taken) => rest = rest.split_at(taken.min(rest.len())).1,
                 Err(fault) => {
                     return refused_if(fault == CheckFault::Memory && keeps_memory(session, bytes));
                 }
             }
         }
-        right_if(session.finish().is_ok_and(|module| module.bytes() == bytes))
+        right_if(is_module(closed(session), bytes))
     }
 }
 
@@ -88,25 +113,43 @@ struct Framed<'a> {
     row: &'a Row,
 }
 
+/// Whether a framer takes a whole record, and how many bytes of the piece.
+fn framer_fed(framer: &mut Framer, piece: &[u8]) -> Result<(bool, usize), FrameFault> {
+    match framer.feed(piece) {
+        Ok(fed) => Ok((fed.whole, fed.taken)),
+        Err(fault) => Err(fault),
+    }
+}
+
+/// How many bytes a framer wants, and whether it has passed the end.
+fn framer_state(framer: &Framer) -> (usize, bool) {
+    (framer.want(), framer.ended())
+}
+
+/// Whether a framer shows no record, and ends with this fault.
+fn ends_with(framer: &Framer, fault: FrameFault) -> bool {
+    if framer.raw().is_some() {
+        return false;
+    }
+    framer.stop().err() == Some(fault)
+}
+
+/// Whether a framer that met this fault answers it from then on, and takes nothing.
+fn keeps_fault(framer: Framer, bytes: &[u8], fault: FrameFault) -> bool {
+    let mut framer = framer;
+    framer_fed(&mut framer, bytes).err() == Some(fault)
+        && framer_state(&framer) == (0, false)
+        && ends_with(&framer, fault)
+}
+
 impl<'a> Call for Framed<'a> {
     fn run(&self, alloc: Global) -> Tried {
         let bytes = self.row.sample.bytes.as_slice();
         let mut framer = Framer::new(alloc);
-        match framer.feed(bytes) {
-            Ok(fed) => right_if(fed.whole && fed.taken == 6 && framer.want() == 0),
+        match framer_fed(&mut framer, bytes) {
+            Ok(fed) => right_if(fed == (true, 6) && framer_state(&framer).0 == 0),
             Err(fault) => {
-                let again = framer.feed(bytes).err();
-                if framer.raw().is_some() {
-                    return Tried::Wrong;
-                }
-                let end = framer.stop().err();
-                refused_if(
-                    fault == FrameFault::Memory
-                        && again == Some(fault)
-                        && framer.want() == 0
-                        && !framer.ended()
-                        && end == Some(fault),
-                )
+                refused_if(fault == FrameFault::Memory && keeps_fault(framer, bytes, fault))
             }
         }
     }

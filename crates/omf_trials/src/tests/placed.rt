@@ -9,13 +9,21 @@ use std::test::Fail;
 /// How many entries of a kind are compared: more than any placement here has.
 const MOST: usize = 4;
 
+/// What there is of each kind at an index.
+type Entries = (Option<(u32, Frame)>, Option<Frame>, Option<(u32, Frame)>);
+
+fn entries_at(placement: &Placement, i: usize) -> Entries {
+    (
+        placement.segment(i),
+        placement.group(i),
+        placement.external(i),
+    )
+}
+
 /// Whether two placements have the same entries.
 fn are_same(placement: &Placement, other: &Placement) -> bool {
     for i in 0..MOST {
-        if placement.segment(i) != other.segment(i)
-            || placement.group(i) != other.group(i)
-            || placement.external(i) != other.external(i)
-        {
+        if entries_at(placement, i) != entries_at(other, i) {
             return false;
         }
     }
@@ -66,28 +74,49 @@ struct Pushing<'a> {
     row: &'a Row,
 }
 
-/// How many entries of each kind are there, and the last of each.
-type Ends = (
-    [bool; 3],
-    Option<(u32, Frame)>,
-    Option<Frame>,
-    Option<(u32, Frame)>,
-);
+/// Whether there is more of each kind behind an index, and what there is at it.
+fn ends_at(placement: &Placement, i: usize) -> ([bool; 3], Entries) {
+    let (segment, group, external) = entries_at(placement, i.saturating_add(1));
+    let more = [segment.is_some(), group.is_some(), external.is_some()];
+    (more, entries_at(placement, i))
+}
 
-/// What there is at an index of each kind, and whether there is more.
-fn ends_at(placement: &Placement, i: usize) -> Ends {
-    let next = i.saturating_add(1);
-    let more = [
-        placement.segment(next).is_some(),
-        placement.group(next).is_some(),
-        placement.external(next).is_some(),
-    ];
-    (
-        more,
-        placement.segment(i),
-        placement.group(i),
-        placement.external(i),
-    )
+/// Pushes what there is at an index of each kind, in the order of the kinds. It tells whether what was there stays, where a growth is
+/// refused.
+fn push_entries(placement: &mut Placement, i: usize, entries: Entries) -> Result<(), bool> {
+    let (segment, group, external) = entries;
+    if let Some((address, frame)) = segment {
+        let before = ends_at(placement, i);
+        if placement.push_segment(address, frame).is_err() {
+            return Err(ends_at(placement, i) == before);
+        }
+    }
+    push_group(placement, i, group)?;
+    push_external(placement, i, external)
+}
+
+fn push_group(placement: &mut Placement, i: usize, group: Option<Frame>) -> Result<(), bool> {
+    if let Some(frame) = group {
+        let before = ends_at(placement, i);
+        if placement.push_group(frame).is_err() {
+            return Err(ends_at(placement, i) == before);
+        }
+    }
+    Ok(())
+}
+
+fn push_external(
+    placement: &mut Placement,
+    i: usize,
+    external: Option<(u32, Frame)>,
+) -> Result<(), bool> {
+    if let Some((address, frame)) = external {
+        let before = ends_at(placement, i);
+        if placement.push_external(address, frame).is_err() {
+            return Err(ends_at(placement, i) == before);
+        }
+    }
+    Ok(())
 }
 
 impl<'a> Call for Pushing<'a> {
@@ -95,23 +124,8 @@ impl<'a> Call for Pushing<'a> {
         let wanted = &self.row.sample.placement;
         let mut placement = Placement::new(alloc);
         for i in 1..MOST {
-            if let Some((address, frame)) = wanted.segment(i) {
-                let before = ends_at(&placement, i);
-                if placement.push_segment(address, frame).is_err() {
-                    return refused_if(ends_at(&placement, i) == before);
-                }
-            }
-            if let Some(frame) = wanted.group(i) {
-                let before = ends_at(&placement, i);
-                if placement.push_group(frame).is_err() {
-                    return refused_if(ends_at(&placement, i) == before);
-                }
-            }
-            if let Some((address, frame)) = wanted.external(i) {
-                let before = ends_at(&placement, i);
-                if placement.push_external(address, frame).is_err() {
-                    return refused_if(ends_at(&placement, i) == before);
-                }
+            if let Err(stays) = push_entries(&mut placement, i, entries_at(wanted, i)) {
+                return refused_if(stays);
             }
         }
         right_if(are_same(&placement, wanted))

@@ -1,12 +1,11 @@
 //! What an accepted module is held to: its canonical bytes are accepted and are their own, and mean the same.
 
-use super::samples::module_of;
-use super::verdicts::{agree, by_check, by_session, is_memory};
+use super::verdicts::{agree, by_check, by_session, bytes_of, is_memory};
 use omf_canon::canon;
 use omf_check::Checked;
-use omf_image::Image;
+use omf_image::{Image, Run};
 use omf_reloc::{Placement, ReachFault, reach, relocate, start};
-use std::alloc::Global;
+use std::alloc::{AllocError, Global};
 use std::test::Fail;
 
 /// What does not hold.
@@ -52,21 +51,53 @@ fn are_alike(fault: ReachFault, other: ReachFault) -> bool {
 /// More runs than any module of the trials covers in a segment.
 const MOST_RUNS: usize = 16;
 
+/// A run of a segment, and its bytes.
+fn run_of(image: &Image, segment: u16, k: usize) -> (Option<Run>, Option<&[u8]>) {
+    (image.run_at(segment, k), image.run_bytes(segment, k))
+}
+
+/// Whether an image has such a run of a segment.
+fn has_run(image: &Image, segment: u16, k: usize) -> bool {
+    image.run_at(segment, k).is_some()
+}
+
 /// Whether two images cover the same of a segment, in fewer runs than `MOST_RUNS`.
 fn cover_alike(image: &Image, other: &Image, segment: u16) -> bool {
     for k in 0..MOST_RUNS {
-        if image.run_at(segment, k) != other.run_at(segment, k)
-            || image.run_bytes(segment, k) != other.run_bytes(segment, k)
-        {
+        if run_of(image, segment, k) != run_of(other, segment, k) {
             return false;
         }
     }
-    image.run_at(segment, MOST_RUNS).is_none() && other.run_at(segment, MOST_RUNS).is_none()
+    !has_run(image, segment, MOST_RUNS) && !has_run(other, segment, MOST_RUNS)
 }
 
 /// Whether two images are the same in the segments of a module, and in the one beyond.
 fn are_same(image: &Image, other: &Image, segments: u16) -> bool {
-    (0..=segments.saturating_add(1)).all(|segment| cover_alike(image, other, segment))
+    for segment in 0..=segments.saturating_add(1) {
+        if !cover_alike(image, other, segment) {
+            return false;
+        }
+    }
+    true
+}
+
+/// The image and the start of a module that a placement reaches, or why it does not.
+fn placed(
+    alloc: Global,
+    module: &Checked,
+    placement: &Placement,
+) -> Result<Result<(Image, Option<(u16, u32)>), ReachFault>, AllocError> {
+    match reach(module, placement) {
+        Ok(()) => Ok(Ok((
+            relocate(alloc, module, placement)?,
+            start(module, placement),
+        ))),
+        Err(fault) => Ok(Err(fault)),
+    }
+}
+
+fn segments_of(module: &Checked) -> u16 {
+    module.segments()
 }
 
 /// Two modules that are to mean the same, at one placement.
@@ -76,33 +107,43 @@ fn compare(
     other: &Checked,
     placement: &Placement,
 ) -> Result<Result<Outcome, Broken>, Fail> {
-    match reach(module, placement) {
-        Ok(()) => {
-            if reach(other, placement).is_err() {
-                return Ok(Err(Broken::Reach));
+    let first = placed(alloc, module, placement)?;
+    let second = placed(alloc, other, placement)?;
+    Ok(match first {
+        Ok((image, start)) => match second {
+            Ok((again, other_start)) => {
+                if start != other_start {
+                    Err(Broken::Start)
+                } else if are_same(&image, &again, segments_of(module)) {
+                    Ok(Outcome::Relocated)
+                } else {
+                    Err(Broken::Image)
+                }
             }
-            if start(module, placement) != start(other, placement) {
-                return Ok(Err(Broken::Start));
-            }
-            let image = relocate(alloc, module, placement)?;
-            let again = relocate(alloc, other, placement)?;
-            Ok(if are_same(&image, &again, module.segments()) {
-                Ok(Outcome::Relocated)
-            } else {
-                Err(Broken::Image)
-            })
-        }
-        Err(fault) => Ok(match reach(other, placement) {
-            Ok(()) => Err(Broken::Reach),
-            Err(second) => {
-                if are_alike(fault, second) {
+            Err(_) => Err(Broken::Reach),
+        },
+        Err(fault) => match second {
+            Ok(_) => Err(Broken::Reach),
+            Err(other) => {
+                if are_alike(fault, other) {
                     Ok(Outcome::Unplaced)
                 } else {
                     Err(Broken::Reach)
                 }
             }
-        }),
-    }
+        },
+    })
+}
+
+/// The canonical bytes of a module.
+fn form_of(alloc: Global, module: &Checked) -> Result<Vec<u8>, AllocError> {
+    canon(alloc, module)
+}
+
+/// Whether canonical bytes are those of the module that they are, and that module's bytes.
+fn is_fixed(alloc: Global, formed: &Checked, form: &[u8]) -> Result<bool, AllocError> {
+    let again = form_of(alloc, formed)?;
+    Ok(again.as_slice() == form && bytes_of(formed) == form)
 }
 
 /// An accepted module and its canonical bytes.
@@ -111,7 +152,7 @@ fn canonical(
     module: &Checked,
     placement: &Placement,
 ) -> Result<Result<Outcome, Broken>, Fail> {
-    let form = canon(alloc, module)?;
+    let form = form_of(alloc, module)?;
     let verdict = by_check(alloc, &form);
     if !agree(&verdict, &by_session(alloc, &form)) {
         return Ok(Err(Broken::Agreement));
@@ -119,8 +160,7 @@ fn canonical(
     let Ok(formed) = verdict else {
         return Ok(Err(Broken::Accepted));
     };
-    let again = canon(alloc, &formed)?;
-    if again.as_slice() != form.as_slice() || formed.bytes() != form.as_slice() {
+    if !is_fixed(alloc, &formed, &form)? {
         return Ok(Err(Broken::Fixed));
     }
     compare(alloc, module, &formed, placement)

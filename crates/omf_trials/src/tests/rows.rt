@@ -148,13 +148,16 @@ S 1 4 \"T\"
 S 2 2 \"T\"
 ";
 
-/// What is printed of a module.
-#[derive(Clone, Copy)]
-struct Texts {
+/// The records of a module, its placement, what is printed of it, its canonical records, the bytes of its segments, and its start.
+struct Plan {
+    records: &'static [&'static str],
     placement: &'static str,
     check: &'static str,
     list: &'static str,
     reloc: &'static str,
+    canonical: &'static [&'static str],
+    images: &'static [&'static str],
+    start: Option<(u16, u32)>,
 }
 
 /// A module, and what the calls are to answer of it.
@@ -185,177 +188,131 @@ pub fn bytes_of(alloc: Global, records: &[&str]) -> Result<Vec<u8>, AllocError> 
     Ok(bytes)
 }
 
-fn make_row(
-    alloc: Global,
-    records: &[&str],
-    texts: Texts,
-    canonical: &[&str],
-    images: &[&str],
-    start: Option<(u16, u32)>,
-) -> Result<Row, Fail> {
-    let sample = make_sample(alloc, texts.check, records, texts.placement)?;
-    let module = module_of(alloc, &sample.bytes)?;
+fn images_of(alloc: Global, images: &[&str]) -> Result<Vec<Vec<u8>>, AllocError> {
     let mut segments = Vec::new(alloc);
     for image in images {
         segments.push(bytes_of(alloc, &[*image])?)?;
     }
+    Ok(segments)
+}
+
+fn make_row(alloc: Global, plan: &Plan) -> Result<Row, Fail> {
+    let sample = make_sample(alloc, plan.check, plan.records, plan.placement)?;
+    let module = module_of(alloc, &sample.bytes)?;
+    let canonical = bytes_of(alloc, plan.canonical)?;
+    let images = images_of(alloc, plan.images)?;
     Ok(Row {
         sample,
         module,
-        text: texts.placement,
-        canonical: bytes_of(alloc, canonical)?,
-        images: segments,
-        start,
-        check: texts.check,
-        list: texts.list,
-        reloc: texts.reloc,
+        text: plan.placement,
+        canonical,
+        images,
+        start: plan.start,
+        check: plan.check,
+        list: plan.list,
+        reloc: plan.reloc,
     })
 }
 
-fn offset_row(alloc: Global) -> Result<Row, Fail> {
-    let texts = Texts {
+/// The last but one is a start in real mode, where the group's frame is that of its member.
+const PLANS: [Plan; 9] = [
+    Plan {
+        records: &OFFSET,
         placement: "S 10020 10000 1000",
         check: "OK 6 records, 48 bytes\n",
         list: OFFSET_LIST,
         reloc: "0001:00000000 B8 20 00 90\n",
-    };
-    make_row(alloc, &OFFSET, texts, &OFFSET, &["B8 20 00 90"], None)
-}
-
-fn threads_row(alloc: Global) -> Result<Row, Fail> {
-    let texts = Texts {
+        canonical: &OFFSET,
+        images: &["B8 20 00 90"],
+        start: None,
+    },
+    Plan {
+        records: &THREADS,
         placement: "S 20 10 1\nS 50 40 4",
         check: "OK 10 records, 84 bytes\n",
         list: THREADS_LIST,
         reloc: "0001:00000000 10 00 40 00\n0002:00000000 10 00\n",
-    };
-    make_row(
-        alloc,
-        &THREADS,
-        texts,
-        &THREADS_WRITTEN_OUT,
-        &["10 00 40 00", "10 00"],
-        None,
-    )
-}
-
-fn near_row(alloc: Global) -> Result<Row, Fail> {
-    let texts = Texts {
+        canonical: &THREADS_WRITTEN_OUT,
+        images: &["10 00 40 00", "10 00"],
+        start: None,
+    },
+    Plan {
+        records: &NEAR,
         placement: "S 10020 10000 1000",
         check: "OK 6 records, 48 bytes\n",
         list: OFFSET_LIST,
         reloc: "0001:00000000 E8 FD FF 90\n",
-    };
-    make_row(alloc, &NEAR, texts, &NEAR, &["E8 FD FF 90"], None)
-}
-
-fn short_row(alloc: Global) -> Result<Row, Fail> {
-    let texts = Texts {
+        canonical: &NEAR,
+        images: &["E8 FD FF 90"],
+        start: None,
+    },
+    Plan {
+        records: &SHORT,
         placement: "S 10020 10000 1000\nE 100A1 10000 1000",
         check: "OK 7 records, 55 bytes\n",
         list: SHORT_LIST,
         reloc: "0001:00000000 EB 7F 00 90\n",
-    };
-    make_row(alloc, &SHORT, texts, &SHORT, &["EB 7F 00 90"], None)
-}
-
-fn flat_row(alloc: Global) -> Result<Row, Fail> {
-    let texts = Texts {
+        canonical: &SHORT,
+        images: &["EB 7F 00 90"],
+        start: None,
+    },
+    Plan {
+        records: &FLAT,
         placement: "S 401000 0 1B\nG 0 23",
         check: "OK 7 records, 77 bytes\n",
         list: FLAT_LIST,
         reloc: "0001:00000000 00 10 40 00 23 00 04 10 40 00\n",
-    };
-    make_row(
-        alloc,
-        &FLAT,
-        texts,
-        &FLAT,
-        &["00 10 40 00 23 00 04 10 40 00"],
-        None,
-    )
-}
-
-fn repeats_row(alloc: Global) -> Result<Row, Fail> {
-    let texts = Texts {
+        canonical: &FLAT,
+        images: &["00 10 40 00 23 00 04 10 40 00"],
+        start: None,
+    },
+    Plan {
+        records: &REPEATS,
         placement: "S 10020 10000 1000",
         check: "OK 5 records, 52 bytes\n",
         list: REPEATS_LIST,
         reloc: "0001:00000000 AA AA BB CC AA AA BB CC AA AA BB CC\n",
-    };
-    make_row(
-        alloc,
-        &REPEATS,
-        texts,
-        &REPEATS,
-        &["AA AA BB CC AA AA BB CC AA AA BB CC"],
-        None,
-    )
-}
-
-fn start_row(alloc: Global) -> Result<Row, Fail> {
-    let texts = Texts {
+        canonical: &REPEATS,
+        images: &["AA AA BB CC AA AA BB CC AA AA BB CC"],
+        start: None,
+    },
+    Plan {
+        records: &START,
         placement: "S 10020 10000 1000\nG 10010 1001",
         check: "OK 6 records, 45 bytes\n",
         list: START_LIST,
         reloc: "START 1001:00000012\n",
-    };
-    make_row(
-        alloc,
-        &START,
-        texts,
-        &START_WRITTEN_OUT,
-        &[],
-        Some((0x1001, 0x12)),
-    )
-}
-
-/// The same in real mode, where the group's frame is that of its member.
-fn real_row(alloc: Global) -> Result<Row, Fail> {
-    let texts = Texts {
+        canonical: &START_WRITTEN_OUT,
+        images: &[],
+        start: Some((0x1001, 0x12)),
+    },
+    Plan {
+        records: &START,
         placement: "S 10020 real\nG real",
         check: "OK 6 records, 45 bytes\n",
         list: START_LIST,
         reloc: "START 1002:00000002\n",
-    };
-    make_row(
-        alloc,
-        &START,
-        texts,
-        &START_WRITTEN_OUT,
-        &[],
-        Some((0x1002, 0x2)),
-    )
-}
-
-fn local_row(alloc: Global) -> Result<Row, Fail> {
-    let texts = Texts {
+        canonical: &START_WRITTEN_OUT,
+        images: &[],
+        start: Some((0x1002, 0x2)),
+    },
+    Plan {
+        records: &LOCAL,
         placement: LOCAL_PLACES,
         check: "OK 11 records, 96 bytes\n",
         list: LOCAL_LIST,
         reloc: "0001:00000000 EB 7F 00 90\n",
-    };
-    make_row(
-        alloc,
-        &LOCAL,
-        texts,
-        &LOCAL_SHORTENED,
-        &["EB 7F 00 90"],
-        None,
-    )
-}
+        canonical: &LOCAL_SHORTENED,
+        images: &["EB 7F 00 90"],
+        start: None,
+    },
+];
 
 /// All of them.
 pub fn rows(alloc: Global) -> Result<Vec<Row>, Fail> {
     let mut all = Vec::new(alloc);
-    all.push(offset_row(alloc)?)?;
-    all.push(threads_row(alloc)?)?;
-    all.push(near_row(alloc)?)?;
-    all.push(short_row(alloc)?)?;
-    all.push(flat_row(alloc)?)?;
-    all.push(repeats_row(alloc)?)?;
-    all.push(start_row(alloc)?)?;
-    all.push(real_row(alloc)?)?;
-    all.push(local_row(alloc)?)?;
+    for plan in &PLANS {
+        all.push(make_row(alloc, plan)?)?;
+    }
     Ok(all)
 }

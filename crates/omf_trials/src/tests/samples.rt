@@ -128,8 +128,7 @@ pub fn make_sample(
     for record in records {
         lengths.push(push_record(&mut bytes, *record)?)?;
     }
-    let module = module_of(alloc, &bytes)?;
-    let placement = parse_placement(alloc, placement.as_bytes())?.resolve(alloc, &module)?;
+    let placement = placement_of(alloc, &bytes, placement)?;
     Ok(Sample {
         name,
         bytes,
@@ -138,21 +137,37 @@ pub fn make_sample(
     })
 }
 
+/// The placement of the module that these bytes are, by its text.
+fn placement_of(alloc: Global, bytes: &[u8], text: &str) -> Result<Placement, Fail> {
+    let module = module_of(alloc, bytes)?;
+    let draft = parse_placement(alloc, text.as_bytes())?;
+    Ok(draft.resolve(alloc, &module)?)
+}
+
 /// The module that these bytes are.
 pub fn module_of(alloc: Global, bytes: &[u8]) -> Result<Checked, Fail> {
     let mut reader = Reading::new(bytes);
     Ok(check(alloc, &mut reader, ANY)?)
 }
 
+/// The name of a module, its records, and the text of its placement.
+type Plan = (&'static str, &'static [&'static str], &'static str);
+
+const PLANS: [Plan; 6] = [
+    ("an offset", &OFFSET, "S 10020 10000 1000"),
+    ("threads", &THREADS, "S 20 10 1\nS 50 40 4"),
+    ("a flat group", &FLAT, "S 401000 0 1B\nG 0 23"),
+    ("repeats", &REPEATS, "S 10020 10000 1000"),
+    ("a start", &START, "S 10020 10000 1000\nG 10010 1001"),
+    ("local records", &LOCAL, LOCAL_PLACES),
+];
+
 /// All modules of the trials.
 pub fn samples(alloc: Global) -> Result<Vec<Sample>, Fail> {
     let mut all = Vec::new(alloc);
-    all.push(make_sample(alloc, "an offset", &OFFSET, "S 10020 10000 1000")?)?;
-    all.push(make_sample(alloc, "threads", &THREADS, "S 20 10 1\nS 50 40 4")?)?;
-    all.push(make_sample(alloc, "a flat group", &FLAT, "S 401000 0 1B\nG 0 23")?)?;
-    all.push(make_sample(alloc, "repeats", &REPEATS, "S 10020 10000 1000")?)?;
-    all.push(make_sample(alloc, "a start", &START, "S 10020 10000 1000\nG 10010 1001")?)?;
-    all.push(make_sample(alloc, "local records", &LOCAL, LOCAL_PLACES)?)?;
+    for (name, records, placement) in PLANS {
+        all.push(make_sample(alloc, name, records, placement)?)?;
+    }
     Ok(all)
 }
 

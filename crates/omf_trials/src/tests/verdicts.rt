@@ -16,16 +16,37 @@ pub fn by_check(alloc: Global, bytes: &[u8]) -> Verdict {
     check(alloc, &mut reader, ANY)
 }
 
+/// How many bytes a session takes of a piece.
+fn fed(session: &mut Session, piece: &[u8]) -> Result<usize, CheckFault> {
+    match session.feed(piece) {
+        Ok(fed) => Ok(fed.taken),
+        Err(fault) => Err(fault),
+    }
+}
+
+/// What a session leaves of a piece.
+fn fed_rest<'a>(session: &mut Session, piece: &'a [u8]) -> Result<&'a [u8], CheckFault> {
+    match session.feed(piece) {
+        Ok(fed) => Ok(piece.split_at(fed.taken).1),
+        Err(fault) => Err(fault),
+    }
+}
+
+/// The module that a session has taken.
+fn closed(session: Session) -> Verdict {
+    session.finish()
+}
+
 /// By a session that is fed one byte at a time. A fault is what it answers last, after it was fed once more.
 pub fn by_session(alloc: Global, bytes: &[u8]) -> Verdict {
     let mut session = Session::new(alloc, ANY);
     for byte in bytes {
-        if session.feed(&[*byte]).is_err() {
-            session.feed(bytes)?;
-            return session.finish();
+        if fed(&mut session, &[*byte]).is_err() {
+            fed(&mut session, bytes)?;
+            return closed(session);
         }
     }
-    session.finish()
+    closed(session)
 }
 
 /// By a session that is fed pieces of one size.
@@ -36,7 +57,7 @@ pub fn by_pieces(alloc: Global, bytes: &[u8], size: usize) -> Verdict
     for piece in bytes.chunks(size) {
         feed_all(&mut session, piece)?;
     }
-    session.finish()
+    closed(session)
 }
 
 /// Feeds a piece, which no more than three records end in.
@@ -46,23 +67,38 @@ fn feed_all(session: &mut Session, piece: &[u8]) -> Result<(), CheckFault> {
         if rest.is_empty() {
             break;
         }
-        let fed = session.feed(rest)?;
-        rest = rest.split_at(fed.taken).1;
+        rest = fed_rest(session, rest)?;
     }
     Ok(())
+}
+
+/// The bytes of a module.
+pub fn bytes_of(module: &Checked) -> &[u8] {
+    module.bytes()
+}
+
+/// How many names and segments a module has.
+fn front_counts(module: &Checked) -> (u16, u16) {
+    (module.names(), module.segments())
+}
+
+/// How many groups and externals a module has.
+fn back_counts(module: &Checked) -> (u16, u16) {
+    (module.groups(), module.externals())
+}
+
+/// Whether two modules are the same, with tables of the same lengths.
+fn are_same(module: &Checked, other: &Checked) -> bool {
+    bytes_of(module) == bytes_of(other)
+        && front_counts(module) == front_counts(other)
+        && back_counts(module) == back_counts(other)
 }
 
 /// Whether they are of one fault, or of the same module with tables of the same lengths.
 pub fn agree(first: &Verdict, second: &Verdict) -> bool {
     match first {
         Ok(module) => match second {
-            Ok(other) => {
-                module.bytes() == other.bytes()
-                    && module.names() == other.names()
-                    && module.segments() == other.segments()
-                    && module.groups() == other.groups()
-                    && module.externals() == other.externals()
-            }
+            Ok(other) => are_same(module, other),
             Err(_) => false,
         },
         Err(fault) => match second {
