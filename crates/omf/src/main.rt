@@ -1,24 +1,13 @@
 //! `omf`: checks, relocates and rewrites object modules.
 #![tactic(auto)]
 
-use omf_cmd::{RunFault, fail, main_with};
+use omf_cmd::{RunFault, fail, main_with, words_of};
 use omf_frame::{Buffered, Sink, Writing};
-use std::alloc::AllocError;
-use std::env;
-use std::io::{BufReader, ErrorKind, Write};
+use std::io::{BufReader, Write};
 use std::process::ExitCode;
 
 /// How many bytes of the standard input are read at once.
 const PIECE: usize = 65_536;
-
-/// The program's words; none where one of them is not text.
-fn words_of(rt: &HostRuntime) -> Result<Vec<String>, AllocError> {
-    match env::args(rt) {
-        Ok(words) => words.collect(rt.alloc()),
-        Err(error) if error.kind() == ErrorKind::OutOfMemory => Err(AllocError),
-        Err(_) => Ok(Vec::new(rt.alloc())),
-    }
-}
 
 /// The status of the program's run on the standard input.
 fn run_input<K: Sink>(rt: &HostRuntime, writer: &mut K) -> u8 {

@@ -1,21 +1,20 @@
 -- How the lines of a run are cut, and where runs stand.
-use Rattle.std.proofs.Common.{◌≡◌, ℕ, ◌+◌, ◌-◌, ◌*◌, ◌/◌, ◌^◌, ◌<◌, ◌≤◌, List, [], ◌∷◌, ◌++◌, length, take, drop, min, zero, suc, ◌⊎◌, inl, inr, refl, sym, ap, ap₂, subst, ◌∙◌, arith, append_assoc, zero-add, add-zero, Some, None}
+use Rattle.std.proofs.Common.{◌≡◌, ℕ, ◌+◌, ◌-◌, ◌*◌, ◌/◌, ◌<◌, List, [], ◌∷◌, ◌++◌, length, take, drop, min, zero, suc, ◌⊎◌, inl, inr, refl, sym, ap, ap₂, subst, ◌∙◌, arith, append_assoc, zero-add, add-zero, Some}
 use Rattle.std.specs.Prelude.{flat_map, Option, slice_get}
 use Rattle.std.specs.Option.{option_to_list}
 use Rattle.std.specs.List.{range_with_len}
 use Rattle.std.proofs.Math.Seq.{drop-nil}
 use Rattle.std.proofs.Math.Nat.{eq-or-lt_of_le}
-use Rattle.std.proofs.lemmas.List.{append-nil, drop_all, drop_min, drop_more, length-take, length-drop, take_min}
-use Rattle.std.proofs.lemmas.Option.{slice_get_within, get_or_from_slice_get}
+use Rattle.std.proofs.lemmas.List.{append-nil, drop_min, length-take, length-drop, take_min}
 use Rattle.omf_image.specs.Joined.{runs_of}
-use Rattle.omf_image.specs.Overlay.{Laid, byte_at, IsRunAt, AreBytesAt, AreBytesOf, AreBytesOver, AreLaidOver, AreRising, AreRuns}
+use Rattle.omf_image.specs.Overlay.{Laid, byte_at, AreBytesOver, AreLaidOver, AreRuns, IsRunShown}
 use Rattle.omf_image.specs.declared.run.Run.{Run}
-use Rattle.omf_image.proofs.RunLaws.{joined_are_runs, runs_unique, same_run}
-use Rattle.omf_image.proofs.SortedLaws.{some_is}
+use Rattle.omf_image.proofs.RunLaws.{joined_are_runs, runs_unique}
+use Rattle.omf_image.proofs.ShownLaws.{run_next}
 use Rattle.omf_image.proofs.TurnLaws.{images_are}
 use Rattle.std.proofs.Math.Path.{fun_ext}
 use Rattle.omf_cmd.specs.Relocated.{bytes_line, run_lines, image_text}
-use Rattle.omf_cmd.specs.RunLines.{place_text, byte_text, line_text, lines_of, IsRunOf}
+use Rattle.omf_cmd.specs.RunLines.{byte_text, line_text, lines_of}
 
 -- ---- ranges
 
@@ -57,56 +56,56 @@ drop_drop (suc n) m (b ∷ bs) =
 -- ---- lines
 
 -- no bytes give no line
-pub no_lines : (segment first : ℕ) (bytes : List ℕ) → length bytes ≡ 0 → lines_of segment first bytes ≡ []
-no_lines segment first bytes e =
+pub no_lines : (place : ℕ → List ℕ) (first : ℕ) (bytes : List ℕ) → length bytes ≡ 0 → lines_of place first bytes ≡ []
+no_lines place first bytes e =
     let none : (length bytes + 15) / 16 ≡ 0 = omega arith in
     rw none refl
 
-abbrev nth_line : ℕ → ℕ → List ℕ → ℕ → List ℕ
-nth_line segment first bytes k = line_text segment (first + 16 * k) (take 16 (drop (16 * k) bytes))
+abbrev nth_line : (ℕ → List ℕ) → ℕ → List ℕ → ℕ → List ℕ
+nth_line place first bytes k = line_text place (first + 16 * k) (take 16 (drop (16 * k) bytes))
 
-later_line : (segment first : ℕ) (bytes : List ℕ) (k : ℕ) → nth_line segment first bytes (k + 1) ≡ nth_line segment (first + 16) (drop 16 bytes) k
-later_line segment first bytes k =
-    let place : first + 16 * (k + 1) ≡ first + 16 + 16 * k = omega arith in
+later_line : (place : ℕ → List ℕ) (first : ℕ) (bytes : List ℕ) (k : ℕ) → nth_line place first bytes (k + 1) ≡ nth_line place (first + 16) (drop 16 bytes) k
+later_line place first bytes k =
+    let stands : first + 16 * (k + 1) ≡ first + 16 + 16 * k = omega arith in
     let at : 16 * (k + 1) ≡ 16 + 16 * k = omega arith in
-    ap₂ (λ (x : ℕ) (bs : List ℕ). line_text segment x (take 16 bs)) place (ap (λ (n : ℕ). drop n bytes) at ∙ sym (drop_drop 16 (16 * k) bytes))
+    ap₂ (λ (x : ℕ) (bs : List ℕ). line_text place x (take 16 bs)) stands (ap (λ (n : ℕ). drop n bytes) at ∙ sym (drop_drop 16 (16 * k) bytes))
 
 -- the first line, and then those of what is left
-pub next_line : (segment first : ℕ) (bytes : List ℕ) → 0 < length bytes → lines_of segment first bytes ≡ line_text segment first (take 16 bytes) ++ lines_of segment (first + 16) (drop 16 bytes)
-next_line segment first bytes some =
+pub next_line : (place : ℕ → List ℕ) (first : ℕ) (bytes : List ℕ) → 0 < length bytes → lines_of place first bytes ≡ line_text place first (take 16 bytes) ++ lines_of place (first + 16) (drop 16 bytes)
+next_line place first bytes some =
     let left = length-drop 16 bytes in
     let count : (length bytes + 15) / 16 ≡ suc ((length (drop 16 bytes) + 15) / 16) = omega arith in
     let n : ℕ = (length (drop 16 bytes) + 15) / 16 in
-    let front : nth_line segment first bytes 0 ≡ line_text segment first (take 16 bytes) = ap (λ (x : ℕ). line_text segment x (take 16 bytes)) (add-zero first) in
-    let others : flat_map (nth_line segment first bytes) (range_with_len (0 + 1) n) ≡ lines_of segment (first + 16) (drop 16 bytes) =
-    range_shifted (nth_line segment first bytes) 0 n
-    ∙ range_same (λ k. nth_line segment first bytes (k + 1)) (nth_line segment (first + 16) (drop 16 bytes)) 0 n (λ k _. later_line segment first bytes (0 + k)) in
-    ap (λ (m : ℕ). flat_map (nth_line segment first bytes) (range_with_len 0 m)) count ∙ ap₂ (λ (s t : List ℕ). s ++ t) front others
+    let front : nth_line place first bytes 0 ≡ line_text place first (take 16 bytes) = ap (λ (x : ℕ). line_text place x (take 16 bytes)) (add-zero first) in
+    let others : flat_map (nth_line place first bytes) (range_with_len (0 + 1) n) ≡ lines_of place (first + 16) (drop 16 bytes) =
+    range_shifted (nth_line place first bytes) 0 n
+    ∙ range_same (λ k. nth_line place first bytes (k + 1)) (nth_line place (first + 16) (drop 16 bytes)) 0 n (λ k _. later_line place first bytes (0 + k)) in
+    ap (λ (m : ℕ). flat_map (nth_line place first bytes) (range_with_len 0 m)) count ∙ ap₂ (λ (s t : List ℕ). s ++ t) front others
 
 -- without bytes it does not matter where the lines would begin
-same_lines : (segment first offset : ℕ) (bytes : List ℕ) → (first ≡ offset) ⊎ (length bytes ≡ 0) → lines_of segment first bytes ≡ lines_of segment offset bytes
-same_lines segment first offset bytes (inl e) = ap (λ (x : ℕ). lines_of segment x bytes) e
-same_lines segment first offset bytes (inr none) = no_lines segment first bytes none ∙ sym (no_lines segment offset bytes none)
+same_lines : (place : ℕ → List ℕ) (first offset : ℕ) (bytes : List ℕ) → (first ≡ offset) ⊎ (length bytes ≡ 0) → lines_of place first bytes ≡ lines_of place offset bytes
+same_lines place first offset bytes (inl e) = ap (λ (x : ℕ). lines_of place x bytes) e
+same_lines place first offset bytes (inr none) = no_lines place first bytes none ∙ sym (no_lines place offset bytes none)
 
 full_or_last : (n size left : ℕ) → n ≡ min 16 size → left ≡ size - 16 → (offset : ℕ) → (n ≡ 16) ⊎ (n < 16) → (offset + n ≡ offset + 16) ⊎ (left ≡ 0)
 full_or_last n size left is rest offset (inl full) = inl (ap (λ (k : ℕ). offset + k) full)
 full_or_last n size left is rest offset (inr last) = inr (omega arith)
 
 -- a line was printed, and the lines of what is left are still to come
-pub line_printed : (segment offset n : ℕ) (rest front back old mid whole : List ℕ) → 0 < length rest → n ≡ min (length rest) 16 → front ≡ take n rest → back ≡ drop n rest
-    → mid ≡ old ++ line_text segment offset front → old ++ lines_of segment offset rest ≡ whole → mid ++ lines_of segment (offset + length front) back ≡ whole
-line_printed segment offset n rest front back old mid whole some size fronts backs printed before =
+pub line_printed : (place : ℕ → List ℕ) (offset n : ℕ) (rest front back old mid whole : List ℕ) → 0 < length rest → n ≡ min (length rest) 16 → front ≡ take n rest → back ≡ drop n rest
+    → mid ≡ old ++ line_text place offset front → old ++ lines_of place offset rest ≡ whole → mid ++ lines_of place (offset + length front) back ≡ whole
+line_printed place offset n rest front back old mid whole some size fronts backs printed before =
     let least : n ≡ min 16 (length rest) = omega arith in
     let front_is : front ≡ take 16 rest = fronts ∙ ap (λ (k : ℕ). take k rest) least ∙ take_min 16 rest in
     let back_is : back ≡ drop 16 rest = backs ∙ ap (λ (k : ℕ). drop k rest) least ∙ drop_min 16 rest in
     let long : length front ≡ min 16 (length rest) = ap length front_is ∙ length-take 16 rest in
     let left : length back ≡ length rest - 16 = ap length back_is ∙ length-drop 16 rest in
     let at : (length front ≡ 16) ⊎ (length front < 16) = eq-or-lt_of_le (omega arith) in
-    let others : lines_of segment (offset + length front) back ≡ lines_of segment (offset + 16) (drop 16 rest) =
-    same_lines segment (offset + length front) (offset + 16) back (full_or_last (length front) (length rest) (length back) long left offset at) ∙ ap (lines_of segment (offset + 16)) back_is in
-    ap₂ (λ (s t : List ℕ). s ++ t) (printed ∙ ap (λ (t : List ℕ). old ++ line_text segment offset t) front_is) others
-    ∙ append_assoc old (line_text segment offset (take 16 rest)) (lines_of segment (offset + 16) (drop 16 rest))
-    ∙ ap (λ (t : List ℕ). old ++ t) (sym (next_line segment offset rest some)) ∙ before
+    let others : lines_of place (offset + length front) back ≡ lines_of place (offset + 16) (drop 16 rest) =
+    same_lines place (offset + length front) (offset + 16) back (full_or_last (length front) (length rest) (length back) long left offset at) ∙ ap (lines_of place (offset + 16)) back_is in
+    ap₂ (λ (s t : List ℕ). s ++ t) (printed ∙ ap (λ (t : List ℕ). old ++ line_text place offset t) front_is) others
+    ∙ append_assoc old (line_text place offset (take 16 rest)) (lines_of place (offset + 16) (drop 16 rest))
+    ∙ ap (λ (t : List ℕ). old ++ t) (sym (next_line place offset rest some)) ∙ before
 
 -- the text of the bytes over an interval
 bytes_shown : (byte : ℕ → Option ℕ) (first : ℕ) (bytes : List ℕ) → ((i : ℕ) → i < length bytes → byte (first + i) ≡ slice_get bytes i)
@@ -119,90 +118,35 @@ bytes_shown byte first (b ∷ bytes) each =
     ∙ ap (λ (t : List ℕ). flat_map byte_text (b ∷ []) ++ t) (bytes_shown byte (first + 1) bytes next)
     ∙ ap (λ (t : List ℕ). t ++ flat_map byte_text bytes) (append-nil (byte_text b))
 
-line_is : (segment : ℕ) (byte : ℕ → Option ℕ) (first : ℕ) (bytes : List ℕ) → AreBytesOver byte (record { first = first; len = length bytes }) bytes
-    → (k : ℕ) → bytes_line segment byte (first + 16 * k) (min 16 (length bytes - 16 * k)) ≡ nth_line segment first bytes k
-line_is segment byte first bytes over k =
+line_is : (place : ℕ → List ℕ) (byte : ℕ → Option ℕ) (first : ℕ) (bytes : List ℕ) → AreBytesOver byte (record { first = first; len = length bytes }) bytes
+    → (k : ℕ) → bytes_line place byte (first + 16 * k) (min 16 (length bytes - 16 * k)) ≡ nth_line place first bytes k
+line_is place byte first bytes over k =
     let shown : List ℕ = take 16 (drop (16 * k) bytes) in
     let left : length (drop (16 * k) bytes) ≡ length bytes - 16 * k = length-drop (16 * k) bytes in
     let size : length shown ≡ min 16 (length bytes - 16 * k) = length-take 16 (drop (16 * k) bytes) ∙ ap (min 16) left in
     let each : (i : ℕ) → i < length shown → byte (first + 16 * k + i) ≡ slice_get shown i = λ i lt.
-    let place : first + (16 * k + i) ≡ first + 16 * k + i = omega arith in
+    let stands : first + (16 * k + i) ≡ first + 16 * k + i = omega arith in
     let inside : 16 * k + i < length bytes = omega arith in
-    ap byte (sym place) ∙ over.each (16 * k + i) inside ∙ sym (get_drop (16 * k) i bytes) ∙ sym (get_take 16 i (drop (16 * k) bytes) (omega arith)) in
-    ap (λ (n : ℕ). bytes_line segment byte (first + 16 * k) n) (sym size)
-    ∙ ap (λ (t : List ℕ). place_text segment (first + 16 * k) ++ t ++ 10 ∷ []) (bytes_shown byte (first + 16 * k) shown each)
+    ap byte (sym stands) ∙ over.each (16 * k + i) inside ∙ sym (get_drop (16 * k) i bytes) ∙ sym (get_take 16 i (drop (16 * k) bytes) (omega arith)) in
+    ap (λ (n : ℕ). bytes_line place byte (first + 16 * k) n) (sym size)
+    ∙ ap (λ (t : List ℕ). place (first + 16 * k) ++ t ++ 10 ∷ []) (bytes_shown byte (first + 16 * k) shown each)
 
 -- the lines of a run are those of its bytes
-pub run_lines_are : (segment : ℕ) (byte : ℕ → Option ℕ) (first : ℕ) (bytes : List ℕ) → AreBytesOver byte (record { first = first; len = length bytes }) bytes
-    → run_lines segment byte (record { first = first; len = length bytes }) ≡ lines_of segment first bytes
-run_lines_are segment byte first bytes over =
-    range_same (λ k. bytes_line segment byte (first + 16 * k) (min 16 (length bytes - 16 * k))) (nth_line segment first bytes) 0 ((length bytes + 15) / 16) (λ k _. line_is segment byte first bytes over (0 + k))
+pub run_lines_are : (place : ℕ → List ℕ) (byte : ℕ → Option ℕ) (first : ℕ) (bytes : List ℕ) → AreBytesOver byte (record { first = first; len = length bytes }) bytes
+    → run_lines place byte (record { first = first; len = length bytes }) ≡ lines_of place first bytes
+run_lines_are place byte first bytes over =
+    range_same (λ k. bytes_line place byte (first + 16 * k) (min 16 (length bytes - 16 * k))) (nth_line place first bytes) 0 ((length bytes + 15) / 16) (λ k _. line_is place byte first bytes over (0 + k))
 
 -- ---- runs
 
--- each run begins further on than the one before it
-rising_by : (r : Run) (runs : List Run) (k : ℕ) (s : Run) → AreRising (r ∷ runs) → slice_get (r ∷ runs) k ≡ Some s → r.first + k ≤ s.first
-rising_by r runs zero s rises e = let same : r ≡ s = cc in let firsts : r.first ≡ s.first = ap (λ (t : Run). t.first) same in omega arith
-rising_by r [] (suc k) s rises e = absurd cc
-rising_by r (t ∷ runs) (suc k) s rises e = let next = rising_by t runs k s rises.1 e in let lt = rises.0 in omega (arith, next, lt)
-
-pub begins_from : (runs : List Run) (k : ℕ) (s : Run) → AreRising runs → slice_get runs k ≡ Some s → k ≤ s.first
-begins_from [] k s rises e = absurd cc
-begins_from (r ∷ runs) k s rises e = let by = rising_by r runs k s rises e in omega (arith, by)
-
--- the run of a number is that of the joined runs
-pub run_is : (laid : List Laid) (segment k : ℕ) (run : Option Run) → IsRunAt (byte_at laid segment) k run → run ≡ slice_get (runs_of laid segment) k
-run_is laid segment k run at = at.2 ∙ ap (λ (rs : List Run). slice_get rs k) (runs_unique (byte_at laid segment) at.0 (runs_of laid segment) at.1 (joined_are_runs laid segment))
-
-no_run_of : (byte : ℕ → Option ℕ) (run : Option Run) → AreBytesOf byte run None → run ≡ None
-no_run_of byte None of = refl
-no_run_of byte (Some run) of = absurd (cc (of.1))
-
--- where there are no bytes there is no run
-pub no_run : (laid : List Laid) (segment k : ℕ) → AreBytesAt (byte_at laid segment) k None → slice_get (runs_of laid segment) k ≡ None
-no_run laid segment k bytes = sym (run_is laid segment k bytes.0 bytes.1) ∙ no_run_of (byte_at laid segment) bytes.0 bytes.2
-
--- a run with its bytes
-pub shown_run : (laid : List Laid) (segment k : ℕ) (run : Run) (bytes : List ℕ) → IsRunAt (byte_at laid segment) k (Some run) → AreBytesAt (byte_at laid segment) k (Some bytes) → run.first + run.len ≤ 2 ^ 32
-    → IsRunOf (byte_at laid segment) (slice_get (runs_of laid segment) k) run.first bytes
-shown_run laid segment k run bytes at given fits =
-    let here : Some run ≡ slice_get (runs_of laid segment) k = run_is laid segment k (Some run) at in
-    let same : given.0 ≡ Some run = run_is laid segment k given.0 given.1 ∙ sym here in
-    let of : AreBytesOf (byte_at laid segment) (Some run) (Some bytes) = subst (λ (o : Option Run). AreBytesOf (byte_at laid segment) o (Some bytes)) same given.2 in
-    let over : AreBytesOver (byte_at laid segment) run bytes = subst (λ (bs : List ℕ). AreBytesOver (byte_at laid segment) run bs) (sym (some_is bytes of.0 of.1)) of.2 in
-    let long : length bytes ≡ run.len = over.long in
-    let is : run ≡ record { first = run.first; len = length bytes } = same_run run (record { first = run.first; len = length bytes }) refl (sym long) in
-    record { is = sym here ∙ ap (λ (r : Run). Some r) is; bytes_over = subst (λ (r : Run). AreBytesOver (byte_at laid segment) r bytes) is over; within = omega arith }
-
-past : (runs : List Run) (k : ℕ) → slice_get runs k ≡ None → length runs ≤ k
-past [] k none = omega arith
-past (r ∷ runs) zero none = absurd cc
-past (r ∷ runs) (suc k) none = let next = past runs k none in omega (arith, next)
-
 -- a run, and those after it
-pub run_and_others : (laid : List Laid) (segment k first : ℕ) (bytes old : List ℕ) → IsRunOf (byte_at laid segment) (slice_get (runs_of laid segment) k) first bytes
-    → (old ++ lines_of segment first bytes) ++ flat_map (run_lines segment (byte_at laid segment)) (drop (k + 1) (runs_of laid segment)) ≡ old ++ flat_map (run_lines segment (byte_at laid segment)) (drop k (runs_of laid segment))
-run_and_others laid segment k first bytes old run =
-    let runs : List Run = runs_of laid segment in
-    let shown : Run → List ℕ = run_lines segment (byte_at laid segment) in
-    let r : Run = record { first = first; len = length bytes } in
-    let within : k < length runs = slice_get_within runs k r run.is in
-    let others : List ℕ = flat_map shown (drop (k + 1) runs) in
-    let left : drop k runs ≡ r ∷ drop (k + 1) runs = drop_more runs k r within ∙ ap (λ (t : Run). t ∷ drop (k + 1) runs) (get_or_from_slice_get runs k r r run.is) in
-    append_assoc old (lines_of segment first bytes) others ∙ ap (λ (t : List ℕ). old ++ (t ++ others)) (sym (run_lines_are segment (byte_at laid segment) first bytes run.bytes_over))
-    ∙ ap (λ (t : List Run). old ++ flat_map shown t) (sym left)
-
--- a run's number is below the number of runs, and no larger than a segment has places
-pub number_bounds : (laid : List Laid) (segment k first : ℕ) (bytes : List ℕ) → IsRunOf (byte_at laid segment) (slice_get (runs_of laid segment) k) first bytes → (k < length (runs_of laid segment)) × (k ≤ 2 ^ 32)
-number_bounds laid segment k first bytes run =
-    let r : Run = record { first = first; len = length bytes } in
-    let from : k ≤ first = begins_from (runs_of laid segment) k r (joined_are_runs laid segment).rising run.is in
-    let within : first + length bytes ≤ 2 ^ 32 = run.within in
-    (slice_get_within (runs_of laid segment) k r run.is, omega arith)
-
--- without a run of that number none is left
-pub no_others : (laid : List Laid) (segment k : ℕ) → slice_get (runs_of laid segment) k ≡ None → drop k (runs_of laid segment) ≡ []
-no_others laid segment k none = drop_all k (runs_of laid segment) (past (runs_of laid segment) k none)
+pub run_and_others : (laid : List Laid) (place : ℕ → List ℕ) (segment k first : ℕ) (bytes old : List ℕ) → IsRunShown (byte_at laid segment) k (Some (first, bytes))
+    → (old ++ lines_of place first bytes) ++ flat_map (run_lines place (byte_at laid segment)) (drop (k + 1) (runs_of laid segment)) ≡ old ++ flat_map (run_lines place (byte_at laid segment)) (drop k (runs_of laid segment))
+run_and_others laid place segment k first bytes old run =
+    let shown : Run → List ℕ = run_lines place (byte_at laid segment) in
+    let others : List ℕ = flat_map shown (drop (k + 1) (runs_of laid segment)) in
+    append_assoc old (lines_of place first bytes) others ∙ ap (λ (t : List ℕ). old ++ (t ++ others)) (sym (run_lines_are place (byte_at laid segment) first bytes run.1))
+    ∙ ap (λ (t : List Run). old ++ flat_map shown t) (sym (run_next laid segment k first bytes run))
 
 -- a segment, and those after it
 pub segment_and_others : (shown : ℕ → List ℕ) (before segments : ℕ) (old : List ℕ) → before < segments

@@ -11,13 +11,17 @@ use Rattle.omf_placement.specs.Placement.{Places}
 use Rattle.omf_reloc.specs.Plain.{pieces}
 use Rattle.omf_cmd.specs.Printed.{hex}
 
--- The bytes of a segment over an interval: four hexadecimal digits of the segment, eight of the first offset, two of each byte.
-abbrev pub bytes_line : ℕ → (ℕ → Option ℕ) → ℕ → ℕ → List ℕ
-bytes_line segment byte first len = hex 4 segment ++ 58 ∷ hex 8 first ++ flat_map (λ x. flat_map (λ b. 32 ∷ hex 2 b) (option_to_list (byte x))) (range_with_len first len) ++ 10 ∷ []
+-- A segment and an offset in it: four hexadecimal digits, a colon, and eight.
+abbrev pub place_text : ℕ → ℕ → List ℕ
+place_text segment offset = hex 4 segment ++ 58 ∷ hex 8 offset
+
+-- The bytes over an interval: where the first of them stands, and each in two digits behind a space.
+abbrev pub bytes_line : (ℕ → List ℕ) → (ℕ → Option ℕ) → ℕ → ℕ → List ℕ
+bytes_line place byte first len = place first ++ flat_map (λ x. flat_map (λ b. 32 ∷ hex 2 b) (option_to_list (byte x))) (range_with_len first len) ++ 10 ∷ []
 
 -- A run, in lines of 16 bytes from its first byte on; the last line has what is left.
-abbrev pub run_lines : ℕ → (ℕ → Option ℕ) → Run → List ℕ
-run_lines segment byte r = flat_map (λ k. bytes_line segment byte (r.first + 16 * k) (min 16 (r.len - 16 * k))) (range_with_len 0 ((r.len + 15) / 16))
+abbrev pub run_lines : (ℕ → List ℕ) → (ℕ → Option ℕ) → Run → List ℕ
+run_lines place byte r = flat_map (λ k. bytes_line place byte (r.first + 16 * k) (min 16 (r.len - 16 * k))) (range_with_len 0 ((r.len + 15) / 16))
 
 -- The start: four digits of the selector, eight of the offset.
 abbrev pub start_line : Option (ℕ × ℕ) → List ℕ
@@ -26,7 +30,7 @@ start_line (Some s) = codes "START " ++ hex 4 s.0 ++ 58 ∷ hex 8 s.1 ++ 10 ∷ 
 
 -- So many segments in the order of their indices, each with its runs; last the start.
 abbrev pub image_text : ℕ → (ℕ → ℕ → Option ℕ) → (ℕ → List Run) → Option (ℕ × ℕ) → List ℕ
-image_text count byte runs s = flat_map (λ segment. flat_map (run_lines segment (byte segment)) (runs segment)) (range_with_len 1 count) ++ start_line s
+image_text count byte runs s = flat_map (λ segment. flat_map (run_lines (place_text segment) (byte segment)) (runs segment)) (range_with_len 1 count) ++ start_line s
 
 -- What `reloc` prints of a module at a placement that reaches.
 abbrev pub reloc_text : Limits → Places → List Rec → List ℕ

@@ -1,37 +1,22 @@
 -- The bytes of a run, in lines, as the printing goes over them.
-use Rattle.std.specs.Prelude.{◌≡◌, ℕ, ◌+◌, ◌*◌, ◌/◌, ◌^◌, ◌≤◌, List, [], ◌∷◌, ◌++◌, length, flat_map, take, drop, Option, Some, None, slice_get}
+use Rattle.std.specs.Prelude.{ℕ, ◌+◌, ◌*◌, ◌/◌, List, [], ◌∷◌, ◌++◌, length, flat_map, take, drop, Option}
 use Rattle.std.specs.List.{range_with_len}
-use Rattle.omf_image.specs.Overlay.{AreBytesOver}
 use Rattle.omf_image.specs.declared.run.Run.{Run}
 use Rattle.omf_cmd.specs.Printed.{hex}
-use Rattle.omf_cmd.specs.Relocated.{run_lines}
-
--- four digits of segment, a colon, eight of offset
-abbrev pub place_text : ℕ → ℕ → List ℕ
-place_text segment offset = hex 4 segment ++ 58 ∷ hex 8 offset
+use Rattle.omf_cmd.specs.Relocated.{place_text, run_lines}
 
 -- a space and two digits
 abbrev pub byte_text : ℕ → List ℕ
 byte_text b = 32 ∷ hex 2 b
 
 -- the place, each byte, and a line feed
-abbrev pub line_text : ℕ → ℕ → List ℕ → List ℕ
-line_text segment offset bytes = place_text segment offset ++ flat_map byte_text bytes ++ 10 ∷ []
+abbrev pub line_text : (ℕ → List ℕ) → ℕ → List ℕ → List ℕ
+line_text place offset bytes = place offset ++ flat_map byte_text bytes ++ 10 ∷ []
 
 -- lines of 16 bytes from the first on; the last line has what is left
-abbrev pub lines_of : ℕ → ℕ → List ℕ → List ℕ
-lines_of segment first bytes = flat_map (λ k. line_text segment (first + 16 * k) (take 16 (drop (16 * k) bytes))) (range_with_len 0 ((length bytes + 15) / 16))
+abbrev pub lines_of : (ℕ → List ℕ) → ℕ → List ℕ → List ℕ
+lines_of place first bytes = flat_map (λ k. line_text place (first + 16 * k) (take 16 (drop (16 * k) bytes))) (range_with_len 0 ((length bytes + 15) / 16))
 
 -- so many segments in the order of their indices, each with its runs
 abbrev pub segments_text : ℕ → (ℕ → ℕ → Option ℕ) → (ℕ → List Run) → List ℕ
-segments_text count byte runs = flat_map (λ segment. flat_map (run_lines segment (byte segment)) (runs segment)) (range_with_len 1 count)
-
--- the run of a number, which ends inside its segment, by its first offset and its bytes; none where there is no such run
-pub record IsRunOf (byte : ℕ → Option ℕ) (run : Option Run) (first : ℕ) (bytes : List ℕ) : Type 0 where
-  pub is : run ≡ Some (record { first = first; len = length bytes })
-  pub bytes_over : AreBytesOver byte (record { first = first; len = length bytes }) bytes
-  pub within : first + length bytes ≤ 2 ^ 32
-
-abbrev pub IsRunShown : (ℕ → Option ℕ) → List Run → ℕ → Option (ℕ × List ℕ) → Type 0
-IsRunShown byte runs k None = slice_get runs k ≡ None
-IsRunShown byte runs k (Some shown) = IsRunOf byte (slice_get runs k) shown.0 shown.1
+segments_text count byte runs = flat_map (λ segment. flat_map (run_lines (place_text segment) (byte segment)) (runs segment)) (range_with_len 1 count)

@@ -3,8 +3,8 @@
 ghost use Rattle.std.specs.Prelude.{◌≡◌, ◌+◌, ◌^◌, ◌≤◌, ◌++◌, flat_map, length, option_map, OnOk};
 ghost use Rattle.omf_image.specs.Joined.{runs_of};
 ghost use Rattle.omf_image.specs.Overlay.{byte_at};
-ghost use Rattle.omf_cmd.specs.Relocated.{run_lines, start_line, image_text};
-ghost use Rattle.omf_cmd.specs.RunLines.{place_text, byte_text, line_text, lines_of, segments_text, IsRunShown};
+ghost use Rattle.omf_cmd.specs.Relocated.{place_text, run_lines, start_line, image_text};
+ghost use Rattle.omf_cmd.specs.RunLines.{byte_text, line_text, lines_of, segments_text};
 ghost use Rattle.omf_cmd.specs.Runs.{Passes, PrintsInPieces, IsPrintCause};
 
 use crate::digits::{eight_digits, four_digits, write_bytes};
@@ -26,8 +26,12 @@ fn print_place(text: &mut Vec<u8>, segment: u16, offset: u32) -> Result<(), Allo
     text.extend_from_slice(&eight_digits(offset))
 }
 
-/// The bytes of a line, each behind a space.
-fn print_bytes(text: &mut Vec<u8>, bytes: &[u8]) -> Result<(), AllocError>
+/// Appends the bytes of a line, each in two hexadecimal digits behind a space: at most 16.
+///
+/// # Errors
+///
+/// `AllocError` where the growth is refused.
+pub fn print_bytes(text: &mut Vec<u8>, bytes: &[u8]) -> Result<(), AllocError>
     requires { length bytes.now ≤ 16 }
     ensures { OnOk result (text.new.items ≡ text.old.items ++ flat_map byte_text bytes.now) }
 {
@@ -40,7 +44,7 @@ fn print_bytes(text: &mut Vec<u8>, bytes: &[u8]) -> Result<(), AllocError>
 /// A line: the place of its first byte, and its bytes.
 fn print_line(text: &mut Vec<u8>, segment: u16, offset: u32, bytes: &[u8]) -> Result<(), AllocError>
     requires { length bytes.now ≤ 16 }
-    ensures { OnOk result (text.new.items ≡ text.old.items ++ line_text segment offset bytes.now) }
+    ensures { OnOk result (text.new.items ≡ text.old.items ++ line_text (place_text segment) offset bytes.now) }
 {
     print_place(text, segment, offset)?;
     print_bytes(text, bytes)?;
@@ -57,7 +61,7 @@ fn print_run<K: Sink>(
     bytes: &[u8],
 ) -> Result<(), RunFault>
     requires { first + length bytes.now ≤ 2 ^ 32 }
-    ensures passes { Passes (K.seen writer.old).bytes (K.seen writer.new).bytes result (text.old.items ++ lines_of segment first bytes.now) (text.new.items) }
+    ensures passes { Passes (K.seen writer.old).bytes (K.seen writer.new).bytes result (text.old.items ++ lines_of (place_text segment) first bytes.now) (text.new.items) }
     ensures cause { IsPrintCause (K.seen writer.old) (K.seen writer.new) result }
 {
     let mut offset = u64::from(first);
@@ -72,15 +76,6 @@ fn print_run<K: Sink>(
     Ok(())
 }
 
-/// The first offset and the bytes of the run of a segment with a number, from 0; None beyond the last.
-fn numbered_run(image: &Image, segment: u16, k: usize) -> Option<(u32, &[u8])>
-    ensures { IsRunShown (byte_at image.now segment) (runs_of image.now segment) k (option_map (λ run. (run.0, run.1.now)) result) }
-{
-    let run = image.run_at(segment, k)?;
-    let bytes = image.run_bytes(segment, k)?;
-    Some((run.first, bytes))
-}
-
 /// The runs of a segment, in rising order.
 fn print_runs<K: Sink>(
     writer: &mut K,
@@ -88,19 +83,23 @@ fn print_runs<K: Sink>(
     image: &Image,
     segment: u16,
 ) -> Result<(), RunFault>
-    ensures passes { Passes (K.seen writer.old).bytes (K.seen writer.new).bytes result (text.old.items ++ flat_map (run_lines segment (byte_at image.now segment)) (runs_of image.now segment)) (text.new.items) }
+    ensures passes { Passes (K.seen writer.old).bytes (K.seen writer.new).bytes result (text.old.items ++ flat_map (run_lines (place_text segment) (byte_at image.now segment)) (runs_of image.now segment)) (text.new.items) }
     ensures cause { IsPrintCause (K.seen writer.old) (K.seen writer.new) result }
 {
     let mut k = 0;
-    while let Some((first, bytes)) = numbered_run(image, segment, k) {
+    while let Some((first, bytes)) = image.run_with_bytes(segment, k) {
         print_run(writer, text, segment, first, bytes)?;
         k += 1;
     }
     Ok(())
 }
 
-/// The start: its selector and its offset. Nothing where there is none.
-fn print_start(text: &mut Vec<u8>, start: Option<(u16, u32)>) -> Result<(), AllocError>
+/// Appends the line of a start: its selector in four hexadecimal digits and its offset in eight. Nothing where there is none.
+///
+/// # Errors
+///
+/// `AllocError` where a growth is refused.
+pub fn print_start(text: &mut Vec<u8>, start: Option<(u16, u32)>) -> Result<(), AllocError>
     ensures { OnOk result (text.new.items ≡ text.old.items ++ start_line start) }
 {
     let Some((selector, offset)) = start else {

@@ -13,6 +13,7 @@
 
 mod digits;
 mod fault;
+mod host;
 mod image_text;
 mod input;
 pub mod laws;
@@ -26,8 +27,10 @@ pub mod rows;
 mod running;
 mod words;
 
+pub use digits::eight_digits;
 pub use fault::RunFault;
-pub use image_text::print_image;
+pub use host::words_of;
+pub use image_text::{print_bytes, print_image, print_start};
 pub use printed::fault_line;
 pub use program::{fail, main_with};
 pub use relocation::{Listing, run_reloc};

@@ -4,5 +4,5 @@ pub mod DeriveLaws
 pub mod TakenLaws
 pub mod DerivedLaws
 pub mod TableLaws
-pub mod GivenLaws
+pub mod PairTableLaws
 pub mod LinkageLaws

@@ -3,6 +3,7 @@ pub mod LengthLaws
 pub mod LimitLaws
 pub mod LastLaws
 pub mod RunLaws
+pub mod ShownLaws
 pub mod LengthSteps
 pub mod Counting
 pub mod ReadingSteps

@@ -337,9 +337,13 @@ fold_of segment laid (l ∷ more) runs h =
 none_of : (segment : ℕ) → AreOf segment [] []
 none_of segment = record { apart = tt; covered = λ x c. absurd c; covers = λ x s. absurd cc }
 
+-- The runs that are computed cover what the pieces cover.
+pub runs_cover : (segment : ℕ) (laid : List Laid) → AreOf segment laid (runs_of laid segment)
+runs_cover segment laid = fold_of segment [] laid [] (none_of segment)
+
 -- The runs that are computed are all the maximal covered intervals.
 pub joined_are_runs : (laid : List Laid) (segment : ℕ) → AreRuns (byte_at laid segment) (runs_of laid segment)
-joined_are_runs laid segment = let h = fold_of segment [] laid [] (none_of segment) in runs_of_apart (byte_at laid segment) (runs_of laid segment) h.apart h.covered h.covers
+joined_are_runs laid segment = let h = runs_cover segment laid in runs_of_apart (byte_at laid segment) (runs_of laid segment) h.apart h.covered h.covers
 
 -- ---- there is one list of runs
 

@@ -4,9 +4,9 @@ use Rattle.std.specs.Prelude.{IsSome, slice_get, filter_map, nat_lt, nat_le, ◌
 use Rattle.std.specs.List.{last_or, cons_option}
 use Rattle.std.specs.List.Sorted.{IsNonDecreasingBy}
 use Rattle.std.specs.Option.{option_or, option_map}
-use Rattle.std.proofs.lemmas.Bool.{eqb-true, eq-eqb, leb-true, le-leb}
+use Rattle.std.proofs.lemmas.Bool.{eqb-true, eq-eqb, leb-true, le-leb, le-ltb, lt-leb, lt-ltb}
 use Rattle.std.proofs.lemmas.Bool.Decides.{leb_tells}
-use Rattle.std.proofs.lemmas.List.{drop-map}
+use Rattle.std.proofs.lemmas.List.{drop-map, get_or_default}
 use Rattle.std.proofs.lemmas.Option.{slice_get-map, slice_get_past, slice_get-get_or}
 use Rattle.omf_frame.specs.Bytes.{last}
 use Rattle.omf_image.specs.declared.image.Covered.{Covered}
@@ -40,25 +40,20 @@ sorted_within from (c ∷ cs) (suc k) d (at, some, fits, others) lt =
     let more = sorted_within (ends c + 1) cs k d others less in
     (omega (arith, at, more), omega (arith, at, more))
 
+-- what lies between the beginning of a run and the place behind its end does not fall from one run to the next
+rise_of : (of : Covered → ℕ) → ((c : Covered) → of c ≤ ends c + 1) → ((from : ℕ) (cs : List Covered) (k : ℕ) (d : Covered) → AreSorted from (laid_runs cs) → k < length cs → from ≤ of (get_or cs k d))
+    → (from : ℕ) (cs : List Covered) → AreSorted from (laid_runs cs) → IsNonDecreasingBy of cs
+rise_of of low more from [] h i j d le lt = absurd (omega (arith, lt))
+rise_of of low more from (c ∷ cs) (at, some, fits, others) zero zero d le lt = omega arith
+rise_of of low more from (c ∷ cs) (at, some, fits, others) zero (suc j) d le lt = omega (arith, low c, more (ends c + 1) cs j d others (omega (arith, lt)))
+rise_of of low more from (c ∷ cs) (at, some, fits, others) (suc i) zero d le lt = absurd (omega (arith, le))
+rise_of of low more from (c ∷ cs) (at, some, fits, others) (suc i) (suc j) d le lt = rise_of of low more (ends c + 1) cs others i j d (omega (arith, le)) (omega (arith, lt))
+
 pub ends_rise : (from : ℕ) (cs : List Covered) → AreSorted from (laid_runs cs) → IsNonDecreasingBy ends cs
-ends_rise from [] h i j d le lt = absurd (omega (arith, lt))
-ends_rise from (c ∷ cs) (at, some, fits, others) zero zero d le lt = omega arith
-ends_rise from (c ∷ cs) (at, some, fits, others) zero (suc j) d le lt =
-    let less : j < length cs = omega (arith, lt) in
-    let more = sorted_within (ends c + 1) cs j d others less in
-    omega (arith, more)
-ends_rise from (c ∷ cs) (at, some, fits, others) (suc i) zero d le lt = absurd (omega (arith, le))
-ends_rise from (c ∷ cs) (at, some, fits, others) (suc i) (suc j) d le lt = ends_rise (ends c + 1) cs others i j d (omega (arith, le)) (omega (arith, lt))
+ends_rise = rise_of ends (λ c. omega arith) (λ from cs k d h lt. (sorted_within from cs k d h lt).1)
 
 pub begins_rise : (from : ℕ) (cs : List Covered) → AreSorted from (laid_runs cs) → IsNonDecreasingBy begins cs
-begins_rise from [] h i j d le lt = absurd (omega (arith, lt))
-begins_rise from (c ∷ cs) (at, some, fits, others) zero zero d le lt = omega arith
-begins_rise from (c ∷ cs) (at, some, fits, others) zero (suc j) d le lt =
-    let less : j < length cs = omega (arith, lt) in
-    let more = sorted_within (ends c + 1) cs j d others less in
-    omega (arith, more)
-begins_rise from (c ∷ cs) (at, some, fits, others) (suc i) zero d le lt = absurd (omega (arith, le))
-begins_rise from (c ∷ cs) (at, some, fits, others) (suc i) (suc j) d le lt = begins_rise (ends c + 1) cs others i j d (omega (arith, le)) (omega (arith, lt))
+begins_rise = rise_of begins (λ c. omega arith) (λ from cs k d h lt. (sorted_within from cs k d h lt).0)
 
 not_less : (a b : ℕ) → nat_lt a b ≡ false → b ≤ a
 not_less a b e = elim (leb_tells (suc a) b) [ inl t ↦ absurd (let same = t.0 in cc) | inr t ↦ omega (arith, t.1) ]
@@ -87,6 +82,42 @@ begin_after at zero [] h = tt
 begin_after at zero (c ∷ cs) h = (not_le (begins c) at (h zero c (omega arith) (omega arith)), begin_after at zero cs (λ k d le lt. h (suc k) d (omega arith) (omega (arith, lt))))
 begin_after at (suc i) [] h = tt
 begin_after at (suc i) (c ∷ cs) h = begin_after at i cs (λ k d le lt. h (suc k) d (omega (arith, le)) (omega (arith, lt)))
+
+pub not_none : (n : ℕ) → ((n ≡ 0) → ⊥) → n - 1 + 1 ≡ n
+not_none zero h = absurd (h refl)
+not_none (suc n) h = omega arith
+
+-- one run tells of those before it and behind it
+module _ (at k : ℕ) (cs : List Covered) (h : AreSorted 0 (laid_runs cs)) where
+  module _ (c : Covered) (lt : k < length cs) (is : c ≡ get_or cs k c) where
+    here : (d : Covered) → get_or cs k d ≡ c
+    here d = get_or_default cs k d c lt ∙ sym is
+
+    pub run_from : at ≤ ends c → EndFrom at (drop k (laid_runs cs))
+    run_from le = end_from at k cs (λ j d i within.
+        let rise = ends_rise 0 cs h k j d i within in
+        le-ltb (ends (get_or cs j d)) at (omega (arith, le, rise, ap ends (here d))))
+
+    pub run_before : ends c < at → EndBefore at (take (k + 1) (laid_runs cs))
+    run_before less = end_before at (k + 1) cs (λ j d i.
+        let rise = ends_rise 0 cs h j k d (omega (arith, i)) lt in
+        lt-ltb (ends (get_or cs j d)) at (omega (arith, less, rise, ap ends (here d))))
+
+    pub run_after : at < begins c → BeginAfter at (drop k (laid_runs cs))
+    run_after less = begin_after at k cs (λ j d i within.
+        let rise = begins_rise 0 cs h k j d i within in
+        lt-leb (begins (get_or cs j d)) at (omega (arith, less, rise, ap begins (here d))))
+
+    pub run_by : begins c ≤ at → BeginBy at (take (k + 1) (laid_runs cs))
+    run_by le = begin_by at (k + 1) cs (λ j d i.
+        let rise = begins_rise 0 cs h j k d (omega (arith, i)) lt in
+        le-leb (begins (get_or cs j d)) at (omega (arith, le, rise, ap begins (here d))))
+
+  pub none_from : length cs ≤ k → EndFrom at (drop k (laid_runs cs))
+  none_from le = end_from at k cs (λ j d i within. absurd (omega (arith, le, i, within)))
+
+  pub none_after : length cs ≤ k → BeginAfter at (drop k (laid_runs cs))
+  none_after le = begin_after at k cs (λ j d i within. absurd (omega (arith, le, i, within)))
 
 -- ---- the byte at a place
 

@@ -1,5 +1,5 @@
 -- An image in which the last piece laid wins, and its covered intervals (this profile's rule where data records overlap).
-use Rattle.std.specs.Prelude.{◌≡◌, ℕ, ◌+◌, ◌-◌, ◌<◌, ◌≤◌, List, [], ◌∷◌, length, filter_map, ◌&&◌, ◌==◌, nat_le, Option, None, Some, IsSome, IsNone, slice_get, Contains, if◌then◌else◌}
+use Rattle.std.specs.Prelude.{◌≡◌, ℕ, ◌+◌, ◌-◌, ◌^◌, ◌<◌, ◌≤◌, List, [], ◌∷◌, length, filter_map, ◌&&◌, ◌==◌, nat_le, Option, None, Some, IsSome, IsNone, slice_get, Contains, if◌then◌else◌}
 use Rattle.std.specs.Option.{option_or}
 use Rattle.omf_frame.specs.Bytes.{last}
 use Rattle.omf_image.specs.declared.run.Run.{Run}
@@ -54,6 +54,15 @@ AreBytesOf byte (Some run) result = (bytes : List ℕ) × (result ≡ Some bytes
 -- The bytes over the k-th of the maximal covered intervals, or none beyond the last.
 abbrev pub AreBytesAt : (ℕ → Option ℕ) → ℕ → Option (List ℕ) → Type 0
 AreBytesAt byte k result = (run : Option Run) × IsRunAt byte k run × AreBytesOf byte run result
+
+-- The interval that bytes cover from a place on.
+abbrev pub spanned : ℕ → List ℕ → Run
+spanned first bytes = record { first = first; len = length bytes }
+
+-- The first place and the bytes of the k-th of the maximal covered intervals, or none beyond the last. The interval ends with the segment's places or before.
+abbrev pub IsRunShown : (ℕ → Option ℕ) → ℕ → Option (ℕ × List ℕ) → Type 0
+IsRunShown byte k None = IsRunAt byte k None
+IsRunShown byte k (Some shown) = IsRunAt byte k (Some (spanned shown.0 shown.1)) × AreBytesOver byte (spanned shown.0 shown.1) shown.1 × (shown.0 + length shown.1 ≤ 2 ^ 32)
 
 -- A piece was laid over what was there: it gives the bytes that it covers, and all others stay.
 abbrev pub IsLaidOver : List Laid → Laid → List Laid → Type 0

@@ -1,8 +1,8 @@
 //! An image in which the last piece laid wins.
 
-ghost use Rattle.std.specs.Prelude.{◌≡◌, ℕ, ◌+◌, ◌-◌, ◌^◌, ◌<◌, ◌≤◌, List, [], ◌∷◌, ◌++◌, length, take, drop, vec_len, slice_get, IfSome, OnOk, OnErr};
+ghost use Rattle.std.specs.Prelude.{◌≡◌, true, false, ℕ, ◌+◌, ◌-◌, ◌^◌, ◌<◌, ◌≤◌, List, [], ◌∷◌, ◌++◌, length, take, drop, vec_len, slice_get, IfSome, OnOk, OnErr};
 ghost use Rattle.std.specs.Option.{option_copied, option_map};
-ghost use Rattle.omf_image.specs.Overlay.{byte_of, byte_at, IsRunAt, AreBytesAt, IsLaidOver};
+ghost use Rattle.omf_image.specs.Overlay.{byte_of, byte_at, IsRunAt, IsRunShown, AreBytesAt, IsLaidOver};
 ghost use Rattle.omf_image.specs.Sorted.{laid_run, laid_runs, span, in_segment, line_place, low, high, AreSorted, EndBefore, EndFrom, BeginBy, BeginAfter, Touches, extended, over, over_all};
 
 use crate::Run;
@@ -128,6 +128,39 @@ fn overwrite(bytes: &mut Vec<u8>, at: usize, new: &[u8]) -> Result<(), AllocErro
     Ok(())
 }
 
+/// Whether so many runs, counted from the first, are there and end before a place of the line.
+fn end_before(runs: &[Covered], count: usize, at: u64) -> bool
+    requires { AreSorted 0 (laid_runs runs.now) }
+    ensures { result ≡ true → (count ≤ length runs.now) × EndBefore at (take count (laid_runs runs.now)) }
+{
+    if count == 0 {
+        return true;
+    }
+    match runs.get(count - 1) {
+        Some(run) => run.high() < at,
+        None => false,
+    }
+}
+
+/// Whether the runs behind so many end at a place of the line or behind it.
+fn end_from(runs: &[Covered], count: usize, at: u64) -> bool
+    requires { AreSorted 0 (laid_runs runs.now) }
+    ensures { result ≡ true → EndFrom at (drop count (laid_runs runs.now)) }
+{
+    match runs.get(count) {
+        Some(run) => at <= run.high(),
+        None => true,
+    }
+}
+
+/// Whether so many runs end before a place of the line, and no further ones.
+fn ends_before(runs: &[Covered], count: usize, at: u64) -> bool
+    requires { AreSorted 0 (laid_runs runs.now) }
+    ensures { result ≡ true → (count ≤ length runs.now) × EndBefore at (take count (laid_runs runs.now)) × EndFrom at (drop count (laid_runs runs.now)) }
+{
+    end_before(runs, count, at) && end_from(runs, count, at)
+}
+
 /// How many runs end before a place of the line.
 fn ending_before(runs: &[Covered], at: u64) -> usize
     requires { AreSorted 0 (laid_runs runs.now) }
@@ -138,13 +171,52 @@ fn ending_before(runs: &[Covered], at: u64) -> usize
     runs.partition_point(|run| run.high() < at)
 }
 
-/// How many runs begin up to a place of the line.
+/// How many runs end before a place of the line. They are not searched for where they are `near`, or one more or less.
+fn ending_near(runs: &[Covered], near: usize, at: u64) -> usize
+    requires { AreSorted 0 (laid_runs runs.now) }
+    ensures within { result ≤ length runs.now }
+    ensures before { EndBefore at (take result (laid_runs runs.now)) }
+    ensures others { EndFrom at (drop result (laid_runs runs.now)) }
+{
+    if ends_before(runs, near, at) {
+        return near;
+    }
+    let more = near.saturating_add(1);
+    if ends_before(runs, more, at) {
+        return more;
+    }
+    let less = near.saturating_sub(1);
+    if ends_before(runs, less, at) {
+        return less;
+    }
+    ending_before(runs, at)
+}
+
+/// Whether the runs behind so many begin behind a place of the line.
+fn begin_after(runs: &[Covered], count: usize, at: u64) -> bool
+    requires { AreSorted 0 (laid_runs runs.now) }
+    ensures after { result ≡ true → BeginAfter at (drop count (laid_runs runs.now)) }
+    ensures by { result ≡ false → (count < length runs.now) × BeginBy at (take (count + 1) (laid_runs runs.now)) }
+{
+    match runs.get(count) {
+        Some(run) => at < run.low(),
+        None => true,
+    }
+}
+
+/// How many runs begin up to a place of the line. They are not searched for where there are none or one.
 fn beginning_by(runs: &[Covered], at: u64) -> usize
     requires { AreSorted 0 (laid_runs runs.now) }
     ensures within { result ≤ length runs.now }
     ensures before { BeginBy at (take result (laid_runs runs.now)) }
     ensures others { BeginAfter at (drop result (laid_runs runs.now)) }
 {
+    if begin_after(runs, 0, at) {
+        return 0;
+    }
+    if begin_after(runs, 1, at) {
+        return 1;
+    }
     runs.partition_point(|run| run.low() <= at)
 }
 
@@ -153,7 +225,7 @@ fn find_run(runs: &[Covered], segment: u16, k: usize) -> Option<&Covered>
     requires { AreSorted 0 (laid_runs runs.now) }
     ensures { option_map laid_run (option_copied result) ≡ slice_get (in_segment segment (laid_runs runs.now)) k }
 {
-    let start = ending_before(runs, place_of(segment, 0));
+    let start = ending_near(runs, 0, place_of(segment, 0));
     let run = runs.split_at(start).1.get(k)?;
     if run.segment == segment {
         Some(run)
@@ -192,6 +264,8 @@ fn join_runs(
 #[derive(Drop)]
 pub struct Image {
     runs: Vec<Covered>,
+    /// How many runs ended before the last piece.
+    near: usize,
 }
 
 impl Model for Image {
@@ -213,6 +287,7 @@ impl Image {
     {
         Image {
             runs: Vec::new(alloc),
+            near: 0,
         }
     }
 
@@ -239,6 +314,14 @@ impl Image {
         Some(find_run(&self.runs, segment, k)?.bytes.as_slice())
     }
 
+    /// The first offset and the bytes of the maximal covered interval of a segment with a number, from 0 in rising order; None beyond the last.
+    pub fn run_with_bytes(&self, segment: u16, k: usize) -> Option<(u32, &[u8])>
+        ensures { IsRunShown (byte_at self.now segment) k (option_map (λ run. (run.0, run.1.now)) result) }
+    {
+        let run = find_run(&self.runs, segment, k)?;
+        Some((run.first, run.bytes.as_slice()))
+    }
+
     /// Lays bytes at an offset of a segment, over what was there.
     ///
     /// Where they lie in one run they are only written. A piece that touches no run, or joins some, moves the runs behind it, and one that
@@ -261,7 +344,8 @@ impl Image {
             first: offset,
             bytes,
         };
-        let start = ending_before(&self.runs, piece.low());
+        let start = ending_near(&self.runs, self.near, piece.low());
+        self.near = start;
         let count = beginning_by(self.runs.split_at(start).1, piece.high());
         if count > 0 {
             return join_runs(&mut self.runs, start, count, piece);

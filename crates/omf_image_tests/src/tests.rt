@@ -309,7 +309,7 @@ fn last_byte(pieces: &[Piece], segment: u16, offset: u32) -> Option<u8> {
     found
 }
 
-/// Whether the image has a run with its bytes.
+/// Whether the image has a run with its bytes, and shows both in one call.
 fn has_run(image: &Image, pieces: &[Piece], segment: u16, k: usize, first: u32, end: u32) -> bool {
     let len = end.saturating_sub(first);
     let Some(bytes) = image.run_bytes(segment, k) else {
@@ -328,6 +328,7 @@ fn has_run(image: &Image, pieces: &[Piece], segment: u16, k: usize, first: u32, 
         len: u64::from(len),
     };
     image.run_at(segment, k) == Some(run)
+        && image.run_with_bytes(segment, k) == Some((first, bytes))
 }
 
 /// Whether the image has the bytes and the runs of the pieces, up to an offset.
@@ -356,7 +357,10 @@ fn agrees(image: &Image, pieces: &[Piece], segment: u16, end: u32) -> bool {
             }
         }
     }
-    first.is_none() && image.run_at(segment, k).is_none() && image.run_bytes(segment, k).is_none()
+    first.is_none()
+        && image.run_at(segment, k).is_none()
+        && image.run_bytes(segment, k).is_none()
+        && image.run_with_bytes(segment, k).is_none()
 }
 
 #[test]

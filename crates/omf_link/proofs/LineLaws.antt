@@ -1,6 +1,5 @@
 -- Lines of faults.
-use Rattle.std.proofs.Common.{◌≡◌, ℕ, List, [], ◌∷◌, ◌++◌, refl}
-use Rattle.omf_reloc.specs.declared.fault.ReachFault.TheVariants as reach
+use Rattle.std.proofs.Common.{◌≡◌, ℕ, List, ◌∷◌, ◌++◌, refl}
 use Rattle.omf_placement.specs.Entries.{in_words}
 use Rattle.omf_cmd.specs.FaultLine.{fault_line, fault_words}
 use Rattle.omf_cmd.specs.declared.fault.RunFault.{RunFault}

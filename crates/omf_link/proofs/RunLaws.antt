@@ -1,34 +1,38 @@
 -- What a run answers, from what its parts answer.
-use Rattle.std.proofs.Common.{◌≡◌, ◌⊎◌, ℕ, List, [], ◌∷◌, Result, Ok, Err, Vec, Global, refl, sym, ap, subst, ◌∙◌, ◌++◌, inl, inr}
+use Rattle.std.proofs.Common.{◌≡◌, ℕ, List, [], ◌∷◌, Result, Ok, Err, Vec, Global, sym, ap, subst, ◌∙◌, ◌++◌, inl, inr}
 use Rattle.std.specs.Io.KnownBytes.{Consumes, IsAtEnd}
-use Rattle.std.specs.Prelude.{Option, Some, None, IfSome, filter_map, option_map, slice_get, zip}
+use Rattle.std.specs.Prelude.{⊤, Option, Some, None, IfSome, filter_map, option_map, slice_get, zip}
 use Rattle.std.proofs.KnownBytes.{Consumes-whole}
 use Rattle.std.specs.List.{cons_option, enumerate_from}
 use Rattle.omf_frame.specs.Device.{Device}
-use Rattle.omf_check.specs.Module.{Module}
 use Rattle.omf_derive.specs.Derive.{PlacedModule, derived}
 use Rattle.omf_derive.specs.declared.fault.DeriveFault.{DeriveFault}
 use Rattle.omf_derive.specs.declared.fault.DeriveFault.TheVariants as derive
+use Rattle.omf_layout.specs.declared.options.Options.{Options}
 use Rattle.omf_placement.specs.Placement.{Places}
 use Rattle.omf_records.specs.Values.{Rec}
 use Rattle.omf_reloc.specs.Reach.{reach_fault}
 use Rattle.omf_reloc.specs.declared.fault.ReachFault.{ReachFault}
 use Rattle.omf_linking.specs.Faults.{of_derive}
 use Rattle.omf_linking.specs.Parts.{Part, parsed_parts}
-use Rattle.omf_linking.specs.Placing.{by_parts, derived_or, found, given_of, linked, places_of, typed_modules}
+use Rattle.omf_linking.specs.Placing.{by_parts, derived_or, found, given_of, places_of, typed_modules}
 use Rattle.omf_linking.specs.Reading.{AreModules, IsPartRead, IsReadCause}
 use Rattle.omf_linking.specs.Relocated.{far_module}
 use Rattle.omf_linking.specs.Starts.{main_starts, one_start}
 use Rattle.omf_linking.specs.declared.fault.LinkFault.{LinkFault}
 use Rattle.omf_linking.specs.declared.fault.LinkFault.TheVariants as link
-use Rattle.omf_cmd.specs.Runs.{HasGivenUp, IsUnbroken, IsWritten}
+use Rattle.omf_cmd.specs.Runs.{IsUnbroken, IsWritten}
 use Rattle.omf_cmd.specs.declared.fault.RunFault.{RunFault}
 use Rattle.omf_link.specs.Faults.{IsNamed, IsUnnamed, TellsAs, TellsFault, as_run, fault_line, name_of}
-use Rattle.omf_link.specs.Imaged.{AreImaged, IsImaged}
-use Rattle.omf_link.specs.Linked.{any, IsFirstFault, IsLinked, start_of}
-use Rattle.omf_link.specs.Runs.{Images, IsImageCause, IsPrinted, IsWhole}
+use Rattle.omf_link.specs.Drafted.{IsDrafted}
+use Rattle.omf_link.specs.Linked.{any, IsFirstFault, IsLinked}
+use Rattle.omf_link.specs.Mapped.{IsMapped}
+use Rattle.omf_link.specs.Runs.{IsPrinted, IsShowCause, Shows}
+use Rattle.omf_link.specs.Shown.{AreShown, AreShownIn, IsNamedAs, IsNoModule, IsShownOf}
 use Rattle.omf_link.specs.declared.fault.ImageFault.{ImageFault}
 use Rattle.omf_link.specs.declared.fault.ImageFault.TheVariants as fault
+use Rattle.omf_link.specs.declared.words.Task.{Task}
+use Rattle.omf_link.specs.declared.words.Task.TheVariants as task
 
 -- a text is written, or a part of it
 pub written : (old new : Device) (text : List ℕ) (r : Result (Unit {0}) ImageFault) → IsPrinted old new (Ok text) r → IsWritten old new text
@@ -41,14 +45,34 @@ line_told old new f text none is w = subst (λ (o : Option RunFault). TellsAs o 
 
 -- ---- a fault with its name
 
-pub with_name : (ms : List (List Rec)) (text : List ℕ) (f : LinkFault) (e : ImageFault) → IsLinked ms text (Err f) → IsNamed ms f e → AreImaged ms text (Err e)
-with_name ms text f (fault.Link g name) h (inl same) = inl (subst (λ (x : LinkFault). IsFirstFault ms text x) (sym same.0) h, same.1 ∙ ap (name_of ms) (sym same.0))
-with_name ms text f (fault.Link g name) h (inr memory) = inr memory
-with_name ms text f fault.Write h n = absurd n
+pub with_name : (Is : Result (List ℕ) LinkFault → Type 0) (ms : List (List Rec)) (f : LinkFault) (e : ImageFault) → Is (Err f) → IsNamed ms f e → IsNamedAs Is ms (Err e)
+with_name Is ms f (fault.Link g name) h (inl same) = inl (subst (λ (x : LinkFault). Is (Err x)) (sym same.0) h, same.1 ∙ ap (name_of ms) (sym same.0))
+with_name Is ms f (fault.Link g name) h (inr memory) = inr memory
+with_name Is ms f fault.NoRoom h n = absurd n
+with_name Is ms f fault.Write h n = absurd n
 
-pub no_module : (input : List ℕ) (f : LinkFault) (e : ImageFault) → AreModules any input (Err f) → IsUnnamed f e → IsImaged input (Err e)
-no_module input f (fault.Link g name) h n = inl (subst (λ (x : LinkFault). AreModules any input (Err x)) (sym n.0) h, n.1)
-no_module input f fault.Write h n = absurd n
+pub no_module : (t : Task) (input : List ℕ) (f : LinkFault) (e : ImageFault) → AreModules any input (Err f) → IsUnnamed f e → IsShownOf t input (Err e)
+no_module t input f (fault.Link g name) h n = inl (subst (λ (x : LinkFault). AreModules any input (Err x)) (sym n.0) h, n.1)
+no_module t input f fault.NoRoom h n = absurd n
+no_module t input f fault.Write h n = absurd n
+
+-- want of memory for a draft
+pub no_memory : (o : Options) (ms : List (List Rec)) (e : ImageFault) → IsUnnamed link.Memory e → IsDrafted o ms (Err e)
+no_memory o ms (fault.Link link.Memory name) n = n.1
+no_memory o ms (fault.Link link.Read name) n = let is = n.0 in absurd cc
+no_memory o ms (fault.Link (link.Refused j why at) name) n = let is = n.0 in absurd cc
+no_memory o ms (fault.Link (link.Line k) name) n = let is = n.0 in absurd cc
+no_memory o ms (fault.Link (link.External f) name) n = let is = n.0 in absurd cc
+no_memory o ms (fault.Link (link.Reach j f) name) n = let is = n.0 in absurd cc
+no_memory o ms (fault.Link (link.Starts j k) name) n = let is = n.0 in absurd cc
+no_memory o ms (fault.Link (link.Beyond w) name) n = let is = n.0 in absurd cc
+no_memory o ms (fault.Link (link.Overlap a s t) name) n = let is = n.0 in absurd cc
+no_memory o ms fault.NoRoom n = absurd n
+no_memory o ms fault.Write n = absurd n
+
+-- what is answered for modules is answered for their input
+pub in_input : (t : Task) (input : List ℕ) (r : Result (List ℕ) ImageFault) → AreShownIn t input r → IsShownOf t input r
+in_input t input r h = inr h
 
 -- ---- no reader has a part in what is answered for bytes
 
@@ -89,31 +113,87 @@ not_first ms text (inr (inl h)) = not_far (enumerate_from 0 (zip ms h.0)) h.2
 not_first ms text (inr (inr (inl h))) = h.1
 not_first ms text (inr (inr (inr h))) = not_started (main_starts (zip ms h.0.relocated)) h.2
 
-not_told : (ms : List (List Rec)) (text : List ℕ) (f : LinkFault) (name : List ℕ) → f ≡ link.Read → (IsFirstFault ms text f × (name ≡ name_of ms f)) ⊎ ((f ≡ link.Memory) × (name ≡ [])) → ⊥
-not_told ms text f name e (inl h) = not_first ms text (subst (λ (x : LinkFault). IsFirstFault ms text x) e h.0)
-not_told ms text f name e (inr h) = let is = h.0 in absurd cc
+-- so what is answered names no device
+abbrev pub IsNoDevice : Result (List ℕ) ImageFault → Type 0
+IsNoDevice (Err (fault.Link link.Read name)) = ⊥
+IsNoDevice (Err fault.Write) = ⊥
+IsNoDevice _ = ⊤
+
+not_told : (Is : Result (List ℕ) LinkFault → Type 0) (ms : List (List Rec)) (r : Result (List ℕ) ImageFault) → (Is (Err link.Read) → ⊥) → IsNamedAs Is ms r → IsNoDevice r
+not_told Is ms (Ok shown) not h = tt
+not_told Is ms (Err (fault.Link link.Memory name)) not h = tt
+not_told Is ms (Err (fault.Link link.Read name)) not (inl h) = not h.0
+not_told Is ms (Err (fault.Link link.Read name)) not (inr h) = let is = h.0 in absurd cc
+not_told Is ms (Err (fault.Link (link.Refused j why at) name)) not h = tt
+not_told Is ms (Err (fault.Link (link.Line n) name)) not h = tt
+not_told Is ms (Err (fault.Link (link.External f) name)) not h = tt
+not_told Is ms (Err (fault.Link (link.Reach j f) name)) not h = tt
+not_told Is ms (Err (fault.Link (link.Starts j k) name)) not h = tt
+not_told Is ms (Err (fault.Link (link.Beyond o) name)) not h = tt
+not_told Is ms (Err (fault.Link (link.Overlap a s t) name)) not h = tt
+not_told Is ms (Err fault.NoRoom) not h = tt
+not_told Is ms (Err fault.Write) not h = h
+
+not_drafted : (o : Options) (ms : List (List Rec)) (r : Result (List ℕ) ImageFault) → IsDrafted o ms r → IsNoDevice r
+not_drafted o ms (Ok shown) h = tt
+not_drafted o ms (Err (fault.Link link.Memory name)) h = tt
+not_drafted o ms (Err (fault.Link link.Read name)) h = h
+not_drafted o ms (Err (fault.Link (link.Refused j why at) name)) h = tt
+not_drafted o ms (Err (fault.Link (link.Line n) name)) h = tt
+not_drafted o ms (Err (fault.Link (link.External f) name)) h = tt
+not_drafted o ms (Err (fault.Link (link.Reach j f) name)) h = tt
+not_drafted o ms (Err (fault.Link (link.Starts j k) name)) h = tt
+not_drafted o ms (Err (fault.Link (link.Beyond w) name)) h = tt
+not_drafted o ms (Err (fault.Link (link.Overlap a s t) name)) h = tt
+not_drafted o ms (Err fault.NoRoom) h = tt
+not_drafted o ms (Err fault.Write) h = h
+
+not_shown : (t : Task) (ms : List (List Rec)) (text : List ℕ) (r : Result (List ℕ) ImageFault) → AreShown t ms text r → IsNoDevice r
+not_shown task.Image ms text r h = not_told (IsLinked ms text) ms r (not_first ms text) h
+not_shown task.Map ms text r h = not_told (IsMapped ms text) ms r (not_parsed ms (parsed_parts text)) h
+not_shown (task.Draft o) ms text r h = not_drafted o ms r h
+
+not_refused : (input : List ℕ) (r : Result (List ℕ) ImageFault) → IsNoModule input r → IsNoDevice r
+not_refused input (Ok shown) h = tt
+not_refused input (Err (fault.Link link.Memory name)) h = tt
+not_refused input (Err (fault.Link link.Read name)) h = h.0
+not_refused input (Err (fault.Link (link.Refused j why at) name)) h = tt
+not_refused input (Err (fault.Link (link.Line n) name)) h = tt
+not_refused input (Err (fault.Link (link.External f) name)) h = tt
+not_refused input (Err (fault.Link (link.Reach j f) name)) h = tt
+not_refused input (Err (fault.Link (link.Starts j k) name)) h = tt
+not_refused input (Err (fault.Link (link.Beyond o) name)) h = tt
+not_refused input (Err (fault.Link (link.Overlap a s t) name)) h = tt
+not_refused input (Err fault.NoRoom) h = tt
+not_refused input (Err fault.Write) h = h
+
+no_device : (t : Task) (input : List ℕ) (r : Result (List ℕ) ImageFault) → IsShownOf t input r → IsNoDevice r
+no_device t input r (inl h) = not_refused input r h
+no_device t input r (inr h) = not_shown t (typed_modules h.modules) h.text r h.shown
 
 -- ---- an input that is read
 
 module _ (old new : Device) where
   -- whole
-  pub whole_cause : (input : List ℕ) (r : Result (List ℕ) ImageFault) → IsUnbroken old new → IsImaged input r → IsImageCause old new r
-  whole_cause input (Ok shown) h i = h
-  whole_cause input (Err (fault.Link link.Memory name)) h i = h
-  whole_cause input (Err (fault.Link link.Read name)) h (inl n) = absurd n.0
-  whole_cause input (Err (fault.Link link.Read name)) h (inr a) = absurd (not_told (typed_modules a.modules) a.text link.Read name.items refl a.imaged)
-  whole_cause input (Err (fault.Link (link.Refused j why at) name)) h i = h
-  whole_cause input (Err (fault.Link (link.Line n) name)) h i = h
-  whole_cause input (Err (fault.Link (link.External f) name)) h i = h
-  whole_cause input (Err (fault.Link (link.Reach j f) name)) h i = h
-  whole_cause input (Err (fault.Link (link.Starts j k) name)) h i = h
-  whole_cause input (Err (fault.Link (link.Beyond o) name)) h i = h
-  whole_cause input (Err (fault.Link (link.Overlap a s t) name)) h i = h
-  whole_cause input (Err fault.Write) h (inl n) = absurd n
-  whole_cause input (Err fault.Write) h (inr a) = absurd a.imaged
+  unbroken : (r : Result (List ℕ) ImageFault) → IsUnbroken old new → IsNoDevice r → IsShowCause old new r
+  unbroken (Ok shown) h n = h
+  unbroken (Err (fault.Link link.Memory name)) h n = h
+  unbroken (Err (fault.Link link.Read name)) h n = absurd n
+  unbroken (Err (fault.Link (link.Refused j why at) name)) h n = h
+  unbroken (Err (fault.Link (link.Line k) name)) h n = h
+  unbroken (Err (fault.Link (link.External f) name)) h n = h
+  unbroken (Err (fault.Link (link.Reach j f) name)) h n = h
+  unbroken (Err (fault.Link (link.Starts j k) name)) h n = h
+  unbroken (Err (fault.Link (link.Beyond o) name)) h n = h
+  unbroken (Err (fault.Link (link.Overlap a s t) name)) h n = h
+  unbroken (Err fault.NoRoom) h n = h
+  unbroken (Err fault.Write) h n = n
+
+  pub whole_cause : (t : Task) (input : List ℕ) (r : Result (List ℕ) ImageFault) → IsUnbroken old new → IsShownOf t input r → IsShowCause old new r
+  whole_cause t input r h i = unbroken r h (no_device t input r i)
 
   -- in part
-  told_cause : (A : Type 0) (f : LinkFault) (name : Vec ℕ Global) → IsReadCause {A = A} old new (Err f) → IsImageCause old new (Err (fault.Link f name))
+  told_cause : (A : Type 0) (f : LinkFault) (name : Vec ℕ Global) → IsReadCause {A = A} old new (Err f) → IsShowCause old new (Err (fault.Link f name))
   told_cause A link.Memory name h = h
   told_cause A link.Read name h = h
   told_cause A (link.Refused j why at) name h = absurd h
@@ -124,39 +204,44 @@ module _ (old new : Device) where
   told_cause A (link.Beyond o) name h = absurd h
   told_cause A (link.Overlap a s t) name h = absurd h
 
-  pub part_cause : (A : Type 0) (f : LinkFault) (e : ImageFault) → IsReadCause {A = A} old new (Err f) → IsUnnamed f e → IsImageCause old new (Err e)
-  part_cause A f (fault.Link g name) c n = subst (λ (x : LinkFault). IsImageCause old new (Err (fault.Link x name))) (sym n.0) (told_cause A f name c)
+  pub part_cause : (A : Type 0) (f : LinkFault) (e : ImageFault) → IsReadCause {A = A} old new (Err f) → IsUnnamed f e → IsShowCause old new (Err e)
+  part_cause A f (fault.Link g name) c n = subst (λ (x : LinkFault). IsShowCause old new (Err (fault.Link x name))) (sym n.0) (told_cause A f name c)
+  part_cause A f fault.NoRoom c n = absurd n
   part_cause A f fault.Write c n = absurd n
 
-read_whole : (input : List ℕ) (old new : Option (List ℕ)) (r : Result (List ℕ) ImageFault) → Consumes old new input → IsImaged input r → Images input old new r
-read_whole input old new (Ok shown) c i = (c, i)
-read_whole input old new (Err (fault.Link link.Memory name)) c i = (input, c)
-read_whole input old new (Err (fault.Link link.Read name)) c i = (input, c)
-read_whole input old new (Err (fault.Link (link.Refused j why at) name)) c i = (c, i)
-read_whole input old new (Err (fault.Link (link.Line n) name)) c i = (c, i)
-read_whole input old new (Err (fault.Link (link.External f) name)) c i = (c, i)
-read_whole input old new (Err (fault.Link (link.Reach j f) name)) c i = (c, i)
-read_whole input old new (Err (fault.Link (link.Starts j k) name)) c i = (c, i)
-read_whole input old new (Err (fault.Link (link.Beyond o) name)) c i = (c, i)
-read_whole input old new (Err (fault.Link (link.Overlap a s t) name)) c i = (c, i)
-read_whole input old new (Err fault.Write) c i = (c, i)
+read_whole : (t : Task) (input : List ℕ) (old new : Option (List ℕ)) (r : Result (List ℕ) ImageFault) → Consumes old new input → IsShownOf t input r → Shows t input old new r
+read_whole t input old new (Ok shown) c i = (c, i)
+read_whole t input old new (Err (fault.Link link.Memory name)) c i = (input, c)
+read_whole t input old new (Err (fault.Link link.Read name)) c i = (input, c)
+read_whole t input old new (Err (fault.Link (link.Refused j why at) name)) c i = (c, i)
+read_whole t input old new (Err (fault.Link (link.Line n) name)) c i = (c, i)
+read_whole t input old new (Err (fault.Link (link.External f) name)) c i = (c, i)
+read_whole t input old new (Err (fault.Link (link.Reach j f) name)) c i = (c, i)
+read_whole t input old new (Err (fault.Link (link.Starts j k) name)) c i = (c, i)
+read_whole t input old new (Err (fault.Link (link.Beyond o) name)) c i = (c, i)
+read_whole t input old new (Err (fault.Link (link.Overlap a s s') name)) c i = (c, i)
+read_whole t input old new (Err fault.NoRoom) c i = (c, i)
+read_whole t input old new (Err fault.Write) c i = (c, i)
 
-pub all_read : (old new : Option (List ℕ)) (bytes input : List ℕ) (r : Result (List ℕ) ImageFault) → old ≡ Some input → Consumes old new bytes → IsAtEnd new → IsImaged bytes r → Images input old new r
-all_read old new bytes input r told c end i =
-    let h : IfSome old (λ xs. Images xs old new r) = Consumes-whole old new bytes (λ xs. Images xs old new r) c end (read_whole bytes old new r c i) in
-    subst (λ (o : Option (List ℕ)). IfSome o (λ xs. Images xs old new r)) told h
+pub all_read : (t : Task) (old new : Option (List ℕ)) (bytes input : List ℕ) (r : Result (List ℕ) ImageFault) → old ≡ Some input → Consumes old new bytes → IsAtEnd new → IsShownOf t bytes r → Shows t input old new r
+all_read t old new bytes input r told c end i =
+    let h : IfSome old (λ xs. Shows t xs old new r) = Consumes-whole old new bytes (λ xs. Shows t xs old new r) c end (read_whole t bytes old new r c i) in
+    subst (λ (o : Option (List ℕ)). IfSome o (λ xs. Shows t xs old new r)) told h
 
-part_of : (A : Type 0) (input : List ℕ) (before after : Device) (old new : Option (List ℕ)) (f : LinkFault) (name : Vec ℕ Global) → IsReadCause {A = A} before after (Err f) → IsPartRead old new → Images input old new (Err (fault.Link f name))
-part_of A input before after old new link.Memory name h p = p
-part_of A input before after old new link.Read name h p = p
-part_of A input before after old new (link.Refused j why at) name h p = absurd h
-part_of A input before after old new (link.Line k) name h p = absurd h
-part_of A input before after old new (link.External d) name h p = absurd h
-part_of A input before after old new (link.Reach j d) name h p = absurd h
-part_of A input before after old new (link.Starts j k) name h p = absurd h
-part_of A input before after old new (link.Beyond o) name h p = absurd h
-part_of A input before after old new (link.Overlap a s t) name h p = absurd h
+part_of : (t : Task) (A : Type 0) (input : List ℕ) (before after : Device) (old new : Option (List ℕ)) (f : LinkFault) (name : Vec ℕ Global) → IsReadCause {A = A} before after (Err f) → IsPartRead old new
+    → Shows t input old new (Err (fault.Link f name))
+part_of t A input before after old new link.Memory name h p = p
+part_of t A input before after old new link.Read name h p = p
+part_of t A input before after old new (link.Refused j why at) name h p = absurd h
+part_of t A input before after old new (link.Line k) name h p = absurd h
+part_of t A input before after old new (link.External d) name h p = absurd h
+part_of t A input before after old new (link.Reach j d) name h p = absurd h
+part_of t A input before after old new (link.Starts j k) name h p = absurd h
+part_of t A input before after old new (link.Beyond o) name h p = absurd h
+part_of t A input before after old new (link.Overlap a s s') name h p = absurd h
 
-pub part_read : (A : Type 0) (input : List ℕ) (before after : Device) (old new : Option (List ℕ)) (f : LinkFault) (e : ImageFault) → IsReadCause {A = A} before after (Err f) → IsPartRead old new → IsUnnamed f e → Images input old new (Err e)
-part_read A input before after old new f (fault.Link g name) h p n = subst (λ (x : LinkFault). Images input old new (Err (fault.Link x name))) (sym n.0) (part_of A input before after old new f name h p)
-part_read A input before after old new f fault.Write h p n = absurd n
+pub part_read : (t : Task) (A : Type 0) (input : List ℕ) (before after : Device) (old new : Option (List ℕ)) (f : LinkFault) (e : ImageFault) → IsReadCause {A = A} before after (Err f) → IsPartRead old new → IsUnnamed f e
+    → Shows t input old new (Err e)
+part_read t A input before after old new f (fault.Link g name) h p n = subst (λ (x : LinkFault). Shows t input old new (Err (fault.Link x name))) (sym n.0) (part_of t A input before after old new f name h p)
+part_read t A input before after old new f fault.NoRoom h p n = absurd n
+part_read t A input before after old new f fault.Write h p n = absurd n

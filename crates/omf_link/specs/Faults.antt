@@ -32,14 +32,14 @@ name_of ms (link.External (derive.Twice j i)) = external_name ms j i
 name_of ms (link.External (derive.TooHigh j i)) = external_name ms j i
 name_of ms _ = []
 
--- A fault without a name; and one with the name of its external, or want of memory for that.
+-- A fault of modules without a name; and one with the name of its external, or want of memory for that.
 abbrev pub IsUnnamed : LinkFault → ImageFault → Type 0
 IsUnnamed f (fault.Link g name) = (g ≡ f) × (name.items ≡ [])
-IsUnnamed f fault.Write = ⊥
+IsUnnamed f _ = ⊥
 
 abbrev pub IsNamed : List (List Rec) → LinkFault → ImageFault → Type 0
 IsNamed ms f (fault.Link g name) = ((g ≡ f) × (name.items ≡ name_of ms f)) ⊎ ((g ≡ link.Memory) × (name.items ≡ []))
-IsNamed ms f fault.Write = ⊥
+IsNamed ms f _ = ⊥
 
 -- ---- the line
 
@@ -72,8 +72,13 @@ link_words (link.Starts j k) name = codes "starts" ∷ module_words j ++ module_
 link_words (link.Beyond o) name = codes "beyond" ∷ owner_words o
 link_words (link.Overlap a s t) name = codes "overlap" ∷ hex 8 a ∷ owner_words s ++ owner_words t
 
+-- So is a draft without room, as `omf-place` tells it.
+abbrev pub no_room : List ℕ
+no_room = codes "no room below the last address"
+
 abbrev pub fault_words : ImageFault → List (List ℕ)
 fault_words (fault.Link f name) = link_words f name.items
+fault_words fault.NoRoom = no_room ∷ []
 fault_words fault.Write = run_words run.Write
 
 -- The line, without its line feed.
@@ -88,9 +93,10 @@ as_run (fault.Link link.Memory name) = Some run.Memory
 as_run (fault.Link link.Read name) = Some run.Read
 as_run (fault.Link (link.Line n) name) = Some (run.Line n)
 as_run (fault.Link _ name) = None
+as_run fault.NoRoom = None
 as_run fault.Write = Some run.Write
 
--- The status of a fault: that of `omf`, or 1 where the input or its text is refused.
+-- The status of a fault: that of `omf`, or 1 where the input or its text is refused, or has no room.
 abbrev pub status_as : Option RunFault → ℕ
 status_as (Some f) = run_status f
 status_as None = 1
@@ -108,4 +114,4 @@ TellsFault old new f = TellsAs (as_run f) old new f
 
 -- What is printed where the words are not understood.
 abbrev pub usage : List ℕ
-usage = codes "usage: omf-link image" ++ 10 ∷ []
+usage = codes "usage: omf-link image | map | draft [--base ADDRESS] [--real | --flat SELECTOR]" ++ 10 ∷ []

@@ -1,7 +1,9 @@
 pub mod MemoryText
 pub mod Linked
+pub mod Mapped
+pub mod Drafted
 pub mod Faults
-pub mod Imaged
+pub mod Shown
 pub mod Runs
 pub mod Words
 pub mod Rows

@@ -7,24 +7,25 @@ use Rattle.omf_linking.specs.declared.fault.LinkFault.TheVariants as link
 use Rattle.omf_cmd.specs.Reports.{IsOutOfMemory}
 use Rattle.omf_cmd.specs.Runs.{HasGivenUp, IsPart, IsUnbroken, IsWritten}
 use Rattle.omf_link.specs.Faults.{status_of, TellsFault, usage}
-use Rattle.omf_link.specs.Imaged.{IsImaged}
+use Rattle.omf_link.specs.Shown.{IsShownOf}
 use Rattle.omf_link.specs.declared.fault.ImageFault.{ImageFault}
 use Rattle.omf_link.specs.declared.fault.ImageFault.TheVariants as fault
+use Rattle.omf_link.specs.declared.words.Task.{Task}
 
--- What is answered for an input, and how far it is read for that: to its end. Where memory ran out or the reader failed, a part of it was read.
-abbrev pub IsWhole : List ℕ → Option (List ℕ) → Option (List ℕ) → Result (List ℕ) ImageFault → Type 0
-IsWhole input old new r = Consumes old new input × IsImaged input r
+-- What a task answers for an input, and how far it is read for that: to its end. Where memory ran out or the reader failed, a part of it was read.
+abbrev pub IsWhole : Task → List ℕ → Option (List ℕ) → Option (List ℕ) → Result (List ℕ) ImageFault → Type 0
+IsWhole t input old new r = Consumes old new input × IsShownOf t input r
 
-abbrev pub Images : List ℕ → Option (List ℕ) → Option (List ℕ) → Result (List ℕ) ImageFault → Type 0
-Images input old new (Err (fault.Link link.Memory name)) = IsPartRead old new
-Images input old new (Err (fault.Link link.Read name)) = IsPartRead old new
-Images input old new r = IsWhole input old new r
+abbrev pub Shows : Task → List ℕ → Option (List ℕ) → Option (List ℕ) → Result (List ℕ) ImageFault → Type 0
+Shows t input old new (Err (fault.Link link.Memory name)) = IsPartRead old new
+Shows t input old new (Err (fault.Link link.Read name)) = IsPartRead old new
+Shows t input old new r = IsWhole t input old new r
 
 -- The reader is named where it failed, and else did not break.
-abbrev pub IsImageCause : Device → Device → Result (List ℕ) ImageFault → Type 0
-IsImageCause old new (Err (fault.Link link.Read name)) = HasGivenUp old new
-IsImageCause old new (Err fault.Write) = ⊥
-IsImageCause old new r = IsUnbroken old new
+abbrev pub IsShowCause : Device → Device → Result (List ℕ) ImageFault → Type 0
+IsShowCause old new (Err (fault.Link link.Read name)) = HasGivenUp old new
+IsShowCause old new (Err fault.Write) = ⊥
+IsShowCause old new r = IsUnbroken old new
 
 -- What is written of what was answered: the whole text, or a part of it from the front where the writer failed; nothing of a fault.
 abbrev pub IsPrinted : Device → Device → Result (List ℕ) ImageFault → Result (Unit {0}) ImageFault → Type 0
@@ -32,23 +33,23 @@ IsPrinted old new (Ok text) (Ok done) = IsUnbroken old new × Appends old.bytes 
 IsPrinted old new (Ok text) (Err e) = (e ≡ fault.Write) × HasGivenUp old new × IsPart old.bytes new.bytes text
 IsPrinted old new (Err f) ran = (ran ≡ Err f) × (new ≡ old)
 
--- A run: what it answered for its input, and what it wrote of that.
-pub record IsRun (reader reader' writer writer' : Device) (ran : Result (Unit {0}) ImageFault) : Type 0 where
-  pub imaged : Result (List ℕ) ImageFault
-  pub cause : IsImageCause reader reader' imaged
-  pub images : (input : List ℕ) → reader.bytes ≡ Some input → Images input reader.bytes reader'.bytes imaged
-  pub printed : IsPrinted writer writer' imaged ran
+-- A run at a task: what it answered for its input, and what it wrote of that.
+pub record IsRun (t : Task) (reader reader' writer writer' : Device) (ran : Result (Unit {0}) ImageFault) : Type 0 where
+  pub shown : Result (List ℕ) ImageFault
+  pub cause : IsShowCause reader reader' shown
+  pub shows : (input : List ℕ) → reader.bytes ≡ Some input → Shows t input reader.bytes reader'.bytes shown
+  pub printed : IsPrinted writer writer' shown ran
 
 -- How the program ends after a run: the status is that of the answer, and a fault's line is written.
 abbrev pub IsEnded : Device → Device → Result (Unit {0}) ImageFault → ℕ → Type 0
 IsEnded old new (Ok done) status = (status ≡ 0) × (new ≡ old)
 IsEnded old new (Err f) status = (status ≡ status_of f) × TellsFault old new f
 
--- The program's answer to words that ask for the image: it ran, and ended.
-pub record IsAnswer (reader reader' writer writer' : Device) (status : ℕ) : Type 0 where
+-- The program's answer to words that ask for a task: it ran, and ended.
+pub record IsAnswer (t : Task) (reader reader' writer writer' : Device) (status : ℕ) : Type 0 where
   pub ran : Result (Unit {0}) ImageFault
   pub between : Device
-  pub run : IsRun reader reader' writer between ran
+  pub run : IsRun t reader reader' writer between ran
   pub ended : IsEnded between writer' ran status
 
 -- Its answer to words that are not understood: how it is called, unless the writer failed; or memory ran out. Nothing is read.

@@ -14,6 +14,9 @@ pub enum ImageFault {
         /// The name of the external that finds no place; empty where the fault is another.
         name: Vec<u8>,
     },
+    /// A segment has no room below the last address, where a draft is asked for.
+    #[error("the modules have no room below the last address")]
+    NoRoom,
     /// The writer failed, or took nothing.
     #[error("the output could not be written")]
     Write,

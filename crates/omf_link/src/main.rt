@@ -1,4 +1,4 @@
-//! `omf-link`: the memory of several modules as text.
+//! `omf-link`: the memory of several modules as text, their map, and a draft of a text that says where they lie.
 #![tactic(auto)]
 
 mod fault;
@@ -13,30 +13,19 @@ mod running;
 mod words;
 
 pub use fault::ImageFault;
-pub use linking::{linked_text, modules_text};
-use omf_cmd::{RunFault, fail};
+pub use linking::{linked_text, modules_map, modules_text};
+use omf_cmd::{RunFault, fail, words_of};
 use omf_frame::{Buffered, Sink, Writing};
 pub use printed::fault_line;
 pub use printing::{image_text, memory_text};
 pub use program::main_with;
-pub use running::{run_image, shown_text};
-use std::alloc::AllocError;
-use std::env;
-use std::io::{BufReader, ErrorKind, Write};
+pub use running::{run_draft, run_image, run_map, run_task, shown_text};
+use std::io::{BufReader, Write};
 use std::process::ExitCode;
 pub use words::{Task, task_of};
 
 /// How many bytes of the standard input are read at once.
 const PIECE: usize = 65_536;
-
-/// The program's words; none where one of them is not text.
-fn words_of(rt: &HostRuntime) -> Result<Vec<String>, AllocError> {
-    match env::args(rt) {
-        Ok(words) => words.collect(rt.alloc()),
-        Err(error) if error.kind() == ErrorKind::OutOfMemory => Err(AllocError),
-        Err(_) => Ok(Vec::new(rt.alloc())),
-    }
-}
 
 /// The status of the program's run on the standard input.
 fn run_input<K: Sink>(rt: &HostRuntime, writer: &mut K) -> u8 {

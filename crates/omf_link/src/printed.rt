@@ -1,55 +1,20 @@
 //! The line that a fault is printed as.
 
-ghost use Rattle.std.specs.Prelude.{◌≡◌, ◌++◌, ◌∷◌, [], IfOk, OnOk, string_bytes};
+ghost use Rattle.std.specs.Prelude.{◌≡◌, ◌++◌, [], IfOk, OnOk, string_bytes};
 ghost use Rattle.omf_cmd.specs.FaultLine.{fault_words as run_words};
-ghost use Rattle.omf_cmd.specs.Printed.{escaped, hex, is_plain, quoted};
+ghost use Rattle.omf_cmd.specs.Printed.{hex, quoted};
 ghost use Rattle.omf_placement.specs.Entries.{in_words};
 ghost use Rattle.omf_link.specs.Faults.{derive_words, external_words, fault_line, link_words, module_words};
 ghost use Rattle.omf_linking.specs.declared.fault.LinkFault.TheVariants.{Beyond, Overlap, Starts};
 
 use crate::fault::ImageFault;
 use omf_cmd::RunFault;
+use omf_layout::printing::print_quoted;
 use omf_linking::LinkFault;
 use omf_memory::Owner;
 use omf_reloc::DeriveFault;
 use std::alloc::{AllocError, Global};
 use std::fmt::Write;
-
-/// A byte from 20H to 7EH but the quote and the backslash.
-fn is_plain(byte: u8) -> bool
-    ensures { result ≡ is_plain byte }
-{
-    byte >= 0x20 && byte <= 0x7E && byte != b'"' && byte != b'\\'
-}
-
-/// A byte as `\x` and two hexadecimal digits.
-fn print_digits(text: &mut String, byte: u8) -> Result<(), AllocError>
-    ensures { OnOk result (string_bytes text.new ≡ string_bytes text.old ++ 92 ∷ 120 ∷ hex 2 byte) }
-{
-    write!(text, "\\x{byte:02X}")
-}
-
-/// A byte of a name.
-fn print_escaped(text: &mut String, byte: u8) -> Result<(), AllocError>
-    ensures { OnOk result (string_bytes text.new ≡ string_bytes text.old ++ escaped byte) }
-{
-    if is_plain(byte) {
-        text.push(char::from(byte))
-    } else {
-        print_digits(text, byte)
-    }
-}
-
-/// A name in double quotes.
-fn print_quoted(text: &mut String, name: &[u8]) -> Result<(), AllocError>
-    ensures { OnOk result (string_bytes text.new ≡ string_bytes text.old ++ quoted name.now) }
-{
-    text.push_str("\"")?;
-    for byte in name {
-        print_escaped(text, *byte)?;
-    }
-    text.push_str("\"")
-}
 
 /// A name in double quotes.
 fn quoted_text(alloc: Global, name: &[u8]) -> Result<String, AllocError>
@@ -187,6 +152,7 @@ pub fn fault_line(alloc: Global, fault: &ImageFault) -> Result<String, AllocErro
 {
     match fault {
         ImageFault::Link { fault, name } => link_line(alloc, *fault, name),
+        ImageFault::NoRoom => String::from_str(alloc, "no room below the last address"),
         ImageFault::Write => omf_cmd::fault_line(alloc, &RunFault::Write),
     }
 }

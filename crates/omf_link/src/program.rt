@@ -6,13 +6,13 @@ ghost use Rattle.omf_cmd.specs.Reports.{IsOutOfMemory};
 ghost use Rattle.omf_cmd.specs.Runs.{IsWritten};
 ghost use Rattle.omf_link.specs.Faults.{TellsFault, as_run, fault_line, status_of, usage};
 ghost use Rattle.omf_link.specs.Runs.{IsAnswer, IsMisuse};
-ghost use Rattle.omf_link.specs.Words.{asks, link_app};
+ghost use Rattle.omf_link.specs.Words.{IsAsked, link_app};
 ghost use Rattle.omf_link.specs.declared.words.Task.{Task as Asked};
 
 use crate::fault::ImageFault;
 use crate::output::tell;
 use crate::printed::fault_line;
-use crate::running::run_image;
+use crate::running::run_task;
 use crate::words::{Task, task_of};
 use omf_cmd::RunFault;
 use omf_frame::{Sink, Source};
@@ -20,7 +20,8 @@ use omf_linking::LinkFault;
 use std::alloc::{AllocError, Global};
 
 /// What is printed where the words are not understood.
-const USAGE: &[u8] = b"usage: omf-link image\n";
+const USAGE: &[u8] =
+    b"usage: omf-link image | map | draft [--base ADDRESS] [--real | --flat SELECTOR]\n";
 
 /// The fault of `omf` that this one is told as.
 fn as_run(fault: &ImageFault) -> Option<RunFault>
@@ -28,6 +29,7 @@ fn as_run(fault: &ImageFault) -> Option<RunFault>
 {
     match fault {
         ImageFault::Write => Some(RunFault::Write),
+        ImageFault::NoRoom => None,
         ImageFault::Link { fault, .. } => match *fault {
             LinkFault::Memory => Some(RunFault::Memory),
             LinkFault::Read => Some(RunFault::Read),
@@ -51,9 +53,9 @@ fn line_text(alloc: Global, fault: &ImageFault) -> Result<String, AllocError>
     Ok(text)
 }
 
-/// Prints a fault's line, and answers its exit status: 1 where the input or its text is refused, 3 for want of memory and failing
-/// devices. Nothing is printed where the writer has failed already, nor where a line that tells numbers finds no memory; a failure to
-/// print is passed over.
+/// Prints a fault's line, and answers its exit status: 1 where the input or its text is refused or has no room, 3 for want of memory and
+/// failing devices. Nothing is printed where the writer has failed already, nor where a line finds no memory; a failure to print is passed
+/// over.
 fn fail<K: Sink>(alloc: Global, fault: &ImageFault, writer: &mut K) -> u8
     ensures status { result ≡ status_of fault.now }
     ensures prints { TellsFault (K.seen writer.old) (K.seen writer.new) fault.now }
@@ -76,20 +78,20 @@ fn print_usage<K: Sink>(writer: &mut K)
     tell(writer, USAGE);
 }
 
-/// Writes the text of the image, or the line of a fault. It answers the exit status.
-fn run_to_end<S: Source, K: Sink>(alloc: Global, reader: &mut S, writer: &mut K) -> u8
+/// Does a task, and prints its fault's line where it has one. It answers the exit status.
+fn run_to_end<S: Source, K: Sink>(alloc: Global, task: Task, reader: &mut S, writer: &mut K) -> u8
     ensures known { result ≤ 3 }
-    ensures answer { IsAnswer (S.seen reader.old) (S.seen reader.new) (K.seen writer.old) (K.seen writer.new) result }
+    ensures answer { IsAnswer task (S.seen reader.old) (S.seen reader.new) (K.seen writer.old) (K.seen writer.new) result }
 {
-    match run_image(alloc, reader, writer) {
+    match run_task(alloc, task, reader, writer) {
         Ok(()) => 0,
         Err(fault) => fail(alloc, &fault, writer),
     }
 }
 
-/// Does what the words ask for: writes the text of the image, or a fault's line, or how the program is called. It answers the exit
-/// status: 0 done, 1 the input or its text is refused, 2 the words are not understood, 3 no memory, or the reader or the writer failed.
-/// It does not flush.
+/// Does what the words ask for: writes the text of their task, or a fault's line, or how the program is called. It answers the exit
+/// status: 0 done, 1 the input or its text is refused or has no room, 2 the words are not understood, 3 no memory, or the reader or the
+/// writer failed. It does not flush.
 pub fn main_with<S: Source, K: Sink>(
     alloc: Global,
     words: &[String],
@@ -97,15 +99,15 @@ pub fn main_with<S: Source, K: Sink>(
     writer: &mut K,
 ) -> u8
     ensures known { result ≤ 3 }
-    // Where the words ask for the image, the program ran, and the status and what was written tell its answer; or memory ran out before.
-    ensures answer { (asked : Asked) → asks (map string_bytes words.now) ≡ Some asked → IsAnswer (S.seen reader.old) (S.seen reader.new) (K.seen writer.old) (K.seen writer.new) result ⊎ IsOutOfMemory (S.seen reader.old) (S.seen reader.new) (K.seen writer.old) (K.seen writer.new) result }
+    // Where the words ask for a task, it was done, and the status and what was written tell its answer; or memory ran out before.
+    ensures answer { (asked : Asked) → IsAsked (map string_bytes words.now) asked → IsAnswer asked (S.seen reader.old) (S.seen reader.new) (K.seen writer.old) (K.seen writer.new) result ⊎ IsOutOfMemory (S.seen reader.old) (S.seen reader.new) (K.seen writer.old) (K.seen writer.new) result }
     // Where the words name no subcommand, the program says how it is called.
     ensures nothing { subcommand_of link_app (map string_bytes words.now) ≡ None → IsMisuse (S.seen reader.old) (S.seen reader.new) (K.seen writer.old) (K.seen writer.new) result }
     // Where clap refuses the words, the program says how it is called.
     ensures misuse { (fault_of link_app (map string_bytes words.now) ≡ [] → ⊥) → IsMisuse (S.seen reader.old) (S.seen reader.new) (K.seen writer.old) (K.seen writer.new) result }
 {
     match task_of(alloc, words) {
-        Ok(Some(Task::Image)) => run_to_end(alloc, reader, writer),
+        Ok(Some(task)) => run_to_end(alloc, task, reader, writer),
         Ok(None) => {
             print_usage(writer);
             2

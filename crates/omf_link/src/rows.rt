@@ -1,16 +1,17 @@
 //! Worked examples, each evaluated by the check.
 
 ghost use Rattle.std.specs.Prelude.{◌≡◌, ◌++◌, [], ◌∷◌, codes, None, replicate, Some};
-ghost use Rattle.clap.specs.Words.{Text};
+ghost use Rattle.clap.specs.Words.{Text, fault_of, subcommand_of};
 ghost use Rattle.omf_frame.specs.declared.fault.Reason.TheVariants as reason;
 ghost use Rattle.omf_check.specs.Rows.{place};
 ghost use Rattle.omf_derive.specs.declared.fault.DeriveFault.TheVariants as derive;
 ghost use Rattle.omf_reloc.specs.declared.fault.Kind.TheVariants as kind;
 ghost use Rattle.omf_reloc.specs.declared.fault.ReachFault.TheVariants as reach;
+ghost use Rattle.omf_layout.specs.declared.options.Frames.TheVariants.{Real, Flat};
 ghost use Rattle.omf_linking.specs.declared.fault.LinkFault.TheVariants as link;
 ghost use Rattle.omf_link.specs.Rows.{bytes_at, line_of, segment_of, started_text, text_of};
-ghost use Rattle.omf_link.specs.Words.{asks};
-ghost use Rattle.omf_link.specs.declared.words.Task.TheVariants.{Image};
+ghost use Rattle.omf_link.specs.Words.{IsAsked, link_app};
+ghost use Rattle.omf_link.specs.declared.words.Task.TheVariants.{Image, Map, Draft};
 
 /// Two bytes at 7C00H are a line; so is one at the last address. A run of seventeen bytes is two lines.
 pub fn texts_of_memories()
@@ -40,10 +41,19 @@ pub fn fault_lines()
     ensures overlap { line_of (link.Overlap 0x10020 (segment_of 0 2) (segment_of 2 1)) [] ≡ codes "overlap 00010020 module 1 segment 2 module 3 segment 1" }
 {}
 
-/// What words ask for: a subcommand behind the program's own name, alone.
+/// What words ask for: a subcommand behind the program's own name, alone; and `draft` with options.
 pub fn words_asked()
-    ensures image { (program : Text) → asks (program ∷ codes "image" ∷ []) ≡ Some Image }
-    ensures none { (program : Text) → asks (program ∷ []) ≡ None }
-    ensures other { (program : Text) → asks (program ∷ codes "list" ∷ []) ≡ None }
-    ensures more { (program : Text) → asks (program ∷ codes "image" ∷ codes "image" ∷ []) ≡ None }
+    ensures image { (program : Text) → IsAsked (program ∷ codes "image" ∷ []) Image }
+    ensures map { (program : Text) → IsAsked (program ∷ codes "map" ∷ []) Map }
+    ensures draft { (program : Text) → IsAsked (program ∷ codes "draft" ∷ []) (Draft (record { base = 0x10000; frames = Flat 0 })) }
+    ensures real { (program : Text) → IsAsked (program ∷ codes "draft" ∷ codes "--base" ∷ codes "7C00" ∷ codes "--real" ∷ []) (Draft (record { base = 0x7C00; frames = Real })) }
+    ensures flat { (program : Text) → IsAsked (program ∷ codes "draft" ∷ codes "--flat=1b" ∷ []) (Draft (record { base = 0x10000; frames = Flat 0x1B })) }
+{}
+
+/// Words that name no subcommand, and words that clap refuses: another subcommand, two of them, an option of another subcommand.
+pub fn words_not_understood()
+    ensures none { (program : Text) → subcommand_of link_app (program ∷ []) ≡ None }
+    ensures other { (program : Text) → fault_of link_app (program ∷ codes "list" ∷ []) ≡ [] → ⊥ }
+    ensures two { (program : Text) → fault_of link_app (program ∷ codes "image" ∷ codes "map" ∷ []) ≡ [] → ⊥ }
+    ensures option { (program : Text) → fault_of link_app (program ∷ codes "map" ∷ codes "--real" ∷ []) ≡ [] → ⊥ }
 {}

@@ -19,7 +19,7 @@ fn runs_are_lines_of_sixteen_bytes(rt: HostRuntime) -> Result<(), Fail> {
     let expected = "00007C00: 90 90 90 90 90 90 90 90 90 90 90 90 90 90 90 90\n\
                     00007C10: 90 90\n\
                     FFFFFFFE: 55 AA\n";
-    assert!(rt; text.as_bytes() == expected.as_bytes());
+    assert!(rt; text.as_slice() == expected.as_bytes());
     Ok(())
 }
 
@@ -27,7 +27,7 @@ fn runs_are_lines_of_sixteen_bytes(rt: HostRuntime) -> Result<(), Fail> {
 fn no_bytes_are_no_text(rt: HostRuntime) -> Result<(), Fail> {
     let alloc = rt.alloc();
     let text = memory_text(alloc, &Image::new(alloc))?;
-    assert!(rt; text.as_bytes() == b"".as_slice());
+    assert!(rt; text.as_slice() == b"".as_slice());
     Ok(())
 }
 
@@ -37,7 +37,7 @@ fn the_start_stands_last(rt: HostRuntime) -> Result<(), Fail> {
     let mut memory = Image::new(alloc);
     memory.lay(0, 0x7C00, vec![in alloc; 0xF4]?)?;
     let text = image_text(alloc, &memory, Some((0x7C0, 0x1F)))?;
-    assert!(rt; text.as_bytes() == b"00007C00: F4\nSTART 07C0:0000001F\n".as_slice());
+    assert!(rt; text.as_slice() == b"00007C00: F4\nSTART 07C0:0000001F\n".as_slice());
     Ok(())
 }
 
@@ -71,7 +71,8 @@ const END: &[u8] = &[0x8A, 0x02, 0x00, 0x00, 0x74];
 
 const MAIN: &[u8] = &[0x8A, 0x06, 0x00, 0xC1, 0x50, 0x01, 0x01, 0x00, 0x00];
 
-const USAGE: &str = "usage: omf-link image\n";
+const USAGE: &str =
+    "usage: omf-link image | map | draft [--base ADDRESS] [--real | --flat SELECTOR]\n";
 
 /// The parts of an input, one behind another, and a text behind them.
 fn input_of(alloc: Global, parts: &[&[u8]], text: &str) -> Result<Vec<u8>, AllocError> {
@@ -222,15 +223,90 @@ fn tells_segments_and_starts_at_fault(rt: HostRuntime) -> Result<(), Fail> {
 }
 
 #[test]
+fn maps_modules(rt: HostRuntime) -> Result<(), Fail> {
+    let modules = [
+        FRONT, EXTERNAL, PUBLIC, FIXUP, END, FRONT, PRIVATE, DEFINED, END,
+    ];
+    let text = "S 10000 10000 1000\nM\nS 10010 10000 1000\n";
+    let input = input_of(rt.alloc(), &modules, text)?;
+    let map = "segment 1 1 00010000 00000002 \"T\" \"\"\n\
+               segment 2 1 00010010 00000002 \"T\" \"\"\n\
+               public 2 00010011 \"X\"\n\
+               external 1 1 00010011 \"X\"\n";
+    ends(&rt, &["map"], &input, 0, map)?;
+    let undefined = "module 1 external 1 Undefined \"X\"\n";
+    let input = input_of(rt.alloc(), &[FRONT, EXTERNAL, END], "")?;
+    ends(&rt, &["map"], &input, 1, undefined)?;
+    Ok(())
+}
+
+#[test]
+fn maps_modules_that_do_not_reach(rt: HostRuntime) -> Result<(), Fail> {
+    let input = input_of(rt.alloc(), &[FRONT, PUBLIC, END], "")?;
+    let map = "segment 1 1 - 00000002 \"T\" \"\"\n";
+    ends(&rt, &["map"], &input, 0, map)?;
+    Ok(())
+}
+
+#[test]
+fn a_draft_is_read_as_the_text_of_its_modules(rt: HostRuntime) -> Result<(), Fail> {
+    let modules = [
+        FRONT, EXTERNAL, PUBLIC, FIXUP, END, FRONT, PUBLIC, DEFINED, MAIN,
+    ];
+    let draft = "; module \"A\"\n\
+                 S 7C00 real ; 1 \"T\" class \"\" align 1 length 2\n\
+                 M\n\
+                 ; module \"A\"\n\
+                 S 7C02 real ; 1 \"T\" class \"\" align 1 length 2\n";
+    let input = input_of(rt.alloc(), &modules, "")?;
+    let words = ["draft", "--base", "7C00", "--real"];
+    ends(&rt, &words, &input, 0, draft)?;
+    let image = "00007C00: CF DD CC DD\nSTART 07C0:00000003\n";
+    shows(&rt, &modules, draft, image)?;
+    Ok(())
+}
+
+#[test]
+fn a_draft_makes_nothing_of_the_text(rt: HostRuntime) -> Result<(), Fail> {
+    let modules = [FRONT, PUBLIC, END, FRONT, EXTERNAL, PRIVATE, END];
+    let draft = "; module \"A\"\n\
+                 S 10000 0 0 ; 1 \"T\" class \"\" align 1 length 2\n\
+                 M\n\
+                 ; module \"A\"\n\
+                 S 10002 0 0 ; 1 \"T\" class \"\" align 1 length 2\n\
+                 ; X 1 address frame selector ; 1 \"X\" to be filled in\n";
+    let input = input_of(rt.alloc(), &modules, "Q\n")?;
+    ends(&rt, &["draft"], &input, 0, draft)?;
+    Ok(())
+}
+
+#[test]
+fn tells_that_a_draft_has_no_room(rt: HostRuntime) -> Result<(), Fail> {
+    let input = input_of(rt.alloc(), &[FRONT, PUBLIC, END], "")?;
+    let room = "no room below the last address\n";
+    ends(&rt, &["draft", "--base=FFFFFFFF"], &input, 1, room)?;
+    let unknown = "module 1 refused 1 NoEnd record 0 at 0 within 0\n";
+    ends(&rt, &["draft"], &[], 1, unknown)?;
+    Ok(())
+}
+
+#[test]
 fn prints_how_it_is_called(rt: HostRuntime) -> Result<(), Fail> {
     let input = input_of(rt.alloc(), &[FRONT, END], "")?;
-    let none: [&[&str]; 6] = [
+    let none: [&[&str]; 13] = [
         &[],
         &["--help"],
         &["images"],
         &["image", "x.obj"],
         &["image", "image"],
+        &["image", "map"],
         &["--image"],
+        &["map", "--real"],
+        &["draft", "x.obj"],
+        &["draft", "--base"],
+        &["draft", "--base", "7G00"],
+        &["draft", "--real", "--flat", "8"],
+        &["--real", "draft"],
     ];
     for words in none {
         ends(&rt, words, &input, 2, USAGE)?;

@@ -1,25 +1,34 @@
 //! The words that the program is called with.
 
-ghost use Rattle.std.specs.Prelude.{◌≡◌, ◌⊎◌, ℕ, List, [], map, option_map, string_bytes, IfOk, Some, None};
-ghost use Rattle.clap.specs.Words.{app_of, fault_of, subcommand_of, subcommand_rows_of};
-ghost use Rattle.omf_link.specs.Words.{asks, link_app, task_named};
+ghost use Rattle.std.specs.Prelude.{◌≡◌, ◌⊎◌, List, [], codes, map, string_bytes, IfOk, Some, None, true, false};
+ghost use Rattle.std.specs.Str.{bytes_eq};
+ghost use Rattle.clap.specs.Words.{Row, Text, app_of, fault_of, found_of, rows_of, subcommand_of, subcommand_rows_of};
+ghost use Rattle.omf_layout.specs.declared.options.Options.{Options as At};
+ghost use Rattle.omf_options.specs.Words.{AreNamed};
+ghost use Rattle.omf_link.specs.Words.{IsAsked, IsTask, link_app};
 ghost use Rattle.omf_link.specs.declared.words.Task.{Task as Asked};
+ghost use Rattle.omf_link.specs.declared.words.Task.TheVariants.{Image, Map, Draft};
 
 use clap::error::ErrorKind;
 use clap::{ArgMatches, Command};
+use omf_layout::Options;
+use omf_options::{options_in, with_options};
 use std::alloc::{AllocError, Global};
 
 /// What the program is asked to do.
 #[derive(Clone, Copy, Debug, PartialEq, Eq)]
 pub enum Task {
-    /// Write the text of the image.
+    /// Write the text of the image of the modules at the placements that the text gives them.
     Image,
+    /// Write the map of the modules at these placements.
+    Map,
+    /// Write a draft of a text for the modules.
+    Draft(Options),
 }
 
-/// The task that the words name. None where they name none, or are not understood.
+/// The task that the words name: a subcommand, and behind `draft` its options. None where they name none, or are not understood.
 pub fn task_of(alloc: Global, words: &[String]) -> Result<Option<Task>, AllocError>
-    // Behind the program's own name a subcommand is understood.
-    ensures asks { (asked : Asked) → asks (map string_bytes words.now) ≡ Some asked → IfOk result (λ found. found ≡ Some asked) }
+    ensures asks { (asked : Asked) → IsAsked (map string_bytes words.now) asked → IfOk result (λ found. found ≡ Some asked) }
     // Where the words name no subcommand, none is answered.
     ensures none { subcommand_of link_app (map string_bytes words.now) ≡ None → IfOk result (λ found. found ≡ None) }
     // A task is answered only where clap's definition has no fault of these words.
@@ -33,20 +42,37 @@ pub fn task_of(alloc: Global, words: &[String]) -> Result<Option<Task>, AllocErr
     }
 }
 
-/// The program's words: its subcommands.
+/// The program's words: its subcommands, and the options of the last.
 fn program<'a>(alloc: Global) -> Result<Command<'a>, AllocError>
     ensures { IfOk result (λ c. app_of c ≡ link_app) }
 {
     let image = Command::new(alloc, "image");
-    Command::new(alloc, "omf-link").subcommand(image)
+    let map = Command::new(alloc, "map");
+    let draft = with_options(alloc, Command::new(alloc, "draft"))?;
+    Command::new(alloc, "omf-link")
+        .subcommand(image)?
+        .subcommand(map)?
+        .subcommand(draft)
 }
 
-/// The task of a subcommand.
-fn task_named(name: &str) -> Option<Task>
-    ensures { result ≡ task_named name.now }
+/// The draft at the options that were parsed behind its subcommand.
+fn draft_named(inner: &ArgMatches<'_>) -> Option<Task>
+    ensures { (o : At) → AreNamed (rows_of (found_of inner.now)) o → result ≡ Some (Draft o) }
+{
+    let options = options_in(inner)?;
+    Some(Task::Draft(options))
+}
+
+/// The task of a subcommand and of what was parsed behind it.
+fn task_named(name: &str, inner: &ArgMatches<'_>) -> Option<Task>
+    ensures image { bytes_eq name.now (codes "image") ≡ true → result ≡ Some Image }
+    ensures map { bytes_eq name.now (codes "image") ≡ false → bytes_eq name.now (codes "map") ≡ true → result ≡ Some Map }
+    ensures draft { (o : At) → bytes_eq name.now (codes "image") ≡ false → bytes_eq name.now (codes "map") ≡ false → bytes_eq name.now (codes "draft") ≡ true → AreNamed (rows_of (found_of inner.now)) o → result ≡ Some (Draft o) }
 {
     match name {
         "image" => Some(Task::Image),
+        "map" => Some(Task::Map),
+        "draft" => draft_named(inner),
         _ => None,
     }
 }
@@ -54,8 +80,8 @@ fn task_named(name: &str) -> Option<Task>
 /// The task of the subcommand that was parsed.
 fn named_by(matches: &ArgMatches<'_>) -> Option<Task>
     ensures none { subcommand_rows_of matches.now ≡ None → result ≡ None }
-    ensures some { (name : List ℕ) → option_map (λ p. p.0) (subcommand_rows_of matches.now) ≡ Some name → result ≡ task_named name }
+    ensures some { (name : Text) (rows : List Row) (asked : Asked) → subcommand_rows_of matches.now ≡ Some (name, rows) → IsTask name rows asked → result ≡ Some asked }
 {
-    let (name, _inner) = matches.subcommand()?;
-    task_named(name)
+    let (name, inner) = matches.subcommand()?;
+    task_named(name, inner)
 }

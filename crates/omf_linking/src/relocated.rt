@@ -14,7 +14,7 @@ use omf_check::Checked;
 use omf_image::Image;
 use omf_placement::Placement;
 use omf_records::Rec;
-use omf_reloc::{reach, relocate, start};
+use omf_reloc::{RelocateFault, reach_and_relocate, start};
 use std::alloc::Global;
 
 /// A module at its placement: its image, and its start, if it names one.
@@ -40,14 +40,14 @@ impl Relocated {
     ) -> Result<Relocated, LinkFault>
         ensures { IsRelocation number (recs (records_in «module».now.bytes), placement.now) result }
     {
-        match reach(module, placement) {
-            Ok(()) => {}
-            Err(fault) => {
+        let image = match reach_and_relocate(alloc, module, placement) {
+            Ok(image) => image,
+            Err(RelocateFault::Memory) => return Err(LinkFault::Memory),
+            Err(RelocateFault::Reach(fault)) => {
                 let module = number;
                 return Err(LinkFault::Reach { module, fault });
             }
-        }
-        let image = relocate(alloc, module, placement)?;
+        };
         let start = start(module, placement);
         Ok(Relocated { image, start })
     }

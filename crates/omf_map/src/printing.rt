@@ -1,10 +1,11 @@
 //! The lines of a map.
 
 ghost use Rattle.std.specs.Prelude.{◌≡◌, ◌++◌, ◌∷◌, [], OnOk, string_bytes, codes, decimal, unwrap_or, option_map};
-ghost use Rattle.omf_cmd.specs.Printed.{hex, line, is_plain, escaped, quoted};
+ghost use Rattle.omf_cmd.specs.Printed.{hex, line, quoted};
 ghost use Rattle.omf_map.specs.MapText.{address_or_dash};
 
 use omf_frame::Name;
+use omf_layout::printing;
 use std::alloc::AllocError;
 use std::fmt::Write;
 
@@ -48,40 +49,12 @@ fn print_entry(
     print_address(text, address)
 }
 
-/// A byte from 20H to 7EH but the quote and the backslash.
-fn is_plain(byte: u8) -> bool
-    ensures { result ≡ is_plain byte }
-{
-    byte >= 0x20 && byte <= 0x7E && byte != b'"' && byte != b'\\'
-}
-
-/// A byte as `\x` and two hexadecimal digits.
-fn print_byte(text: &mut String, byte: u8) -> Result<(), AllocError>
-    ensures { OnOk result (string_bytes text.new ≡ string_bytes text.old ++ 92 ∷ 120 ∷ hex 2 byte) }
-{
-    write!(text, "\\x{byte:02X}")
-}
-
-/// A byte of a name.
-fn print_escaped(text: &mut String, byte: u8) -> Result<(), AllocError>
-    ensures { OnOk result (string_bytes text.new ≡ string_bytes text.old ++ escaped byte) }
-{
-    if is_plain(byte) {
-        text.push(char::from(byte))
-    } else {
-        print_byte(text, byte)
-    }
-}
-
 /// A name in double quotes, behind a space.
 fn print_quoted(text: &mut String, name: &[u8]) -> Result<(), AllocError>
     ensures { OnOk result (string_bytes text.new ≡ string_bytes text.old ++ 32 ∷ quoted name.now) }
 {
-    text.push_str(" \"")?;
-    for byte in name {
-        print_escaped(text, *byte)?;
-    }
-    text.push_str("\"")
+    text.push_str(" ")?;
+    printing::print_quoted(text, name)
 }
 
 /// A name in double quotes, or a dash for none, behind a space.

@@ -1,86 +1,20 @@
 -- The runs of a segment, one after another, as stretches.
-use Rattle.std.proofs.Common.{◌≡◌, ◌⊎◌, inl, inr, ℕ, zero, suc, ◌+◌, ◌-◌, ◌^◌, ◌<◌, ◌≤◌, true, false, List, [], ◌∷◌, ◌++◌, length, drop, map, Option, Some, None, nat_le, nat_lt, refl, sym, ap, subst, ◌∙◌, ap₂, arith, append_assoc, append-nil, if◌then◌else◌}
-use Rattle.std.specs.Prelude.{Contains, Err, IsSome, IsNone, filter_map, option_map, slice_get}
+use Rattle.std.proofs.Common.{◌≡◌, ◌⊎◌, inl, inr, ℕ, suc, ◌+◌, ◌-◌, ◌^◌, ◌<◌, ◌≤◌, true, false, List, [], ◌∷◌, ◌++◌, length, map, Option, Some, None, nat_le, nat_lt, refl, sym, ap, subst, ◌∙◌, ap₂, arith, append_assoc, append-nil, if◌then◌else◌}
+use Rattle.std.specs.Prelude.{Err, IsSome, IsNone, filter_map, option_map, slice_get}
 use Rattle.std.specs.List.{cons_option}
 use Rattle.std.proofs.lemmas.Bool.Decides.{leb_tells}
-use Rattle.std.proofs.lemmas.List.{drop_all, drop_more, map-append}
+use Rattle.std.proofs.lemmas.List.{map-append}
 use Rattle.std.proofs.lemmas.List.Elements.{filter_map-append}
-use Rattle.std.proofs.lemmas.Option.{slice_get_within, get_or_from_slice_get}
 use Rattle.omf_image.specs.declared.run.Run.{Run}
-use Rattle.omf_image.specs.Overlay.{Laid, byte_at, AreBytesAt, AreBytesOf, AreBytesOver, AreRising, IsRunAt}
-use Rattle.omf_image.specs.Joined.{runs_of}
-use Rattle.omf_image.proofs.RunLaws.{joined_are_runs, runs_unique, same_run, some_or_none, some_within, within_some}
-use Rattle.omf_image.proofs.SortedLaws.{some_is}
+use Rattle.omf_image.specs.Overlay.{AreBytesOver}
+use Rattle.omf_image.proofs.RunLaws.{some_or_none, some_within, within_some}
 use Rattle.omf_memory.specs.declared.stretch.Stretch.{Stretch}
 use Rattle.omf_memory.specs.Memory.{Piece, piece, pieces, Lies, Share, share_of, shares}
 use Rattle.omf_memory.specs.declared.fault.MemoryFault.{MemoryFault}
 use Rattle.omf_memory.specs.declared.fault.MemoryFault.TheVariants as fault
-use Rattle.omf_memory.specs.Runs.{IsRunOf, IsStretchAt, IsAdded, run_piece, HasMore}
+use Rattle.omf_memory.specs.Runs.{IsStretchAt, IsAdded, run_piece, HasMore}
 use Rattle.omf_memory.specs.Segments.{SegmentAt, share_in, IsWithin, IsBeyond}
 use Rattle.omf_memory.proofs.CoverLaws.{AreAll}
-
--- ---- the run of a number
-
-run_is : (laid : List Laid) (segment k : ℕ) (run : Option Run) → IsRunAt (byte_at laid segment) k run → run ≡ slice_get (runs_of laid segment) k
-run_is laid segment k run at = at.2 ∙ ap (λ (rs : List Run). slice_get rs k) (runs_unique (byte_at laid segment) at.0 (runs_of laid segment) at.1 (joined_are_runs laid segment))
-
-pub none_at : (laid : List Laid) (segment k : ℕ) → IsRunAt (byte_at laid segment) k None → slice_get (runs_of laid segment) k ≡ None
-none_at laid segment k at = sym (run_is laid segment k None at)
-
-no_run_of : (byte : ℕ → Option ℕ) (run : Option Run) → AreBytesOf byte run None → run ≡ None
-no_run_of byte None of = refl
-no_run_of byte (Some run) of = absurd (cc (of.1))
-
-pub no_bytes_at : (laid : List Laid) (segment k : ℕ) → AreBytesAt (byte_at laid segment) k None → slice_get (runs_of laid segment) k ≡ None
-no_bytes_at laid segment k bytes = sym (run_is laid segment k bytes.0 bytes.1) ∙ no_run_of (byte_at laid segment) bytes.0 bytes.2
-
-pub shown_run : (laid : List Laid) (segment k : ℕ) (run : Run) (bytes : List ℕ) → IsRunAt (byte_at laid segment) k (Some run) → AreBytesAt (byte_at laid segment) k (Some bytes) → run.first + run.len ≤ 2 ^ 32
-    → IsRunOf (byte_at laid segment) (slice_get (runs_of laid segment) k) run.first bytes
-shown_run laid segment k run bytes at given fits =
-    let here : Some run ≡ slice_get (runs_of laid segment) k = run_is laid segment k (Some run) at in
-    let same : given.0 ≡ Some run = run_is laid segment k given.0 given.1 ∙ sym here in
-    let of : AreBytesOf (byte_at laid segment) (Some run) (Some bytes) = subst (λ (o : Option Run). AreBytesOf (byte_at laid segment) o (Some bytes)) same given.2 in
-    let over : AreBytesOver (byte_at laid segment) run bytes = subst (λ (bs : List ℕ). AreBytesOver (byte_at laid segment) run bs) (sym (some_is bytes of.0 of.1)) of.2 in
-    let is : run ≡ record { first = run.first; len = length bytes } = same_run run (record { first = run.first; len = length bytes }) refl (sym over.long) in
-    record { is = sym here ∙ ap (λ (r : Run). Some r) is; bytes_over = subst (λ (r : Run). AreBytesOver (byte_at laid segment) r bytes) is over; within = omega (arith, over.long, fits) }
-
--- ---- how many runs there are
-
-rising_by : (r : Run) (runs : List Run) (k : ℕ) (s : Run) → AreRising (r ∷ runs) → slice_get (r ∷ runs) k ≡ Some s → r.first + k ≤ s.first
-rising_by r runs zero s rises e = let same : r ≡ s = cc in let firsts : r.first ≡ s.first = ap (λ (t : Run). t.first) same in omega arith
-rising_by r [] (suc k) s rises e = absurd cc
-rising_by r (t ∷ runs) (suc k) s rises e = let next = rising_by t runs k s rises.1 e in let lt = rises.0 in omega (arith, next, lt)
-
-begins_from : (runs : List Run) (k : ℕ) (s : Run) → AreRising runs → slice_get runs k ≡ Some s → k ≤ s.first
-begins_from [] k s rises e = absurd cc
-begins_from (r ∷ runs) k s rises e = let by = rising_by r runs k s rises e in omega (arith, by)
-
-past : (runs : List Run) (k : ℕ) → slice_get runs k ≡ None → length runs ≤ k
-past [] k none = omega arith
-past (r ∷ runs) zero none = absurd cc
-past (r ∷ runs) (suc k) none = let next = past runs k none in omega (arith, next)
-
-module _ (laid : List Laid) (segment k first : ℕ) (bytes : List ℕ) (run : IsRunOf (byte_at laid segment) (slice_get (runs_of laid segment) k) first bytes) where
-  abbrev runs : List Run
-  runs = runs_of laid segment
-
-  abbrev r : Run
-  r = record { first = first; len = length bytes }
-
-  pub number_low : k < length runs
-  number_low = slice_get_within runs k r run.is
-
-  pub number_fits : k ≤ 2 ^ 32
-  number_fits = omega (arith, begins_from runs k r (joined_are_runs laid segment).rising run.is, run.within)
-
-  pub some_bytes : 0 < length bytes
-  some_bytes = let c : Contains runs r = (k, number_low, get_or_from_slice_get runs k r r run.is) in ((joined_are_runs laid segment).each r c).nonempty
-
-  pub run_next : drop k runs ≡ r ∷ drop (k + 1) runs
-  run_next = drop_more runs k r number_low ∙ ap (λ (t : Run). t ∷ drop (k + 1) runs) (get_or_from_slice_get runs k r r run.is)
-
-pub none_left : (runs : List Run) (k : ℕ) → slice_get runs k ≡ None → drop k runs ≡ []
-none_left runs k none = drop_all k runs (past runs k none)
 
 -- ---- what a segment and a piece have at an address
 

@@ -1,22 +1,10 @@
 -- Runs of a segment as stretches (the steps of the code).
-use Rattle.std.specs.Prelude.{◌≡◌, ⊤, Result, Ok, Err, ℕ, ◌+◌, ◌<◌, ◌≤◌, ◌^◌, List, [], ◌∷◌, ◌++◌, All, length, Option, Some, None, slice_get}
-use Rattle.omf_image.specs.Overlay.{AreBytesOver}
-use Rattle.omf_image.specs.declared.run.Run.{Run}
+use Rattle.std.specs.Prelude.{◌≡◌, ⊤, Result, Ok, Err, ℕ, ◌+◌, ◌<◌, ◌^◌, List, [], ◌∷◌, ◌++◌, All, length}
 use Rattle.omf_memory.specs.declared.fault.MemoryFault.{MemoryFault}
 use Rattle.omf_memory.specs.declared.fault.MemoryFault.TheVariants as fault
 use Rattle.omf_memory.specs.declared.stretch.Stretch.{Stretch}
 use Rattle.omf_memory.specs.Memory.{Piece, piece, pieces, Lies, shares}
 use Rattle.omf_memory.specs.Segments.{SegmentAt, segment_shares, IsWithin, IsBeyond, IsFirstBeyond}
-
--- the run of a number, which ends inside its segment, by its first offset and its bytes; none where there is no such run
-pub record IsRunOf (byte : ℕ → Option ℕ) (run : Option Run) (first : ℕ) (bytes : List ℕ) : Type 0 where
-  pub is : run ≡ Some (record { first = first; len = length bytes })
-  pub bytes_over : AreBytesOver byte (record { first = first; len = length bytes }) bytes
-  pub within : first + length bytes ≤ 2 ^ 32
-
-abbrev pub IsRunShown : (ℕ → Option ℕ) → List Run → ℕ → Option (ℕ × List ℕ) → Type 0
-IsRunShown byte runs k None = slice_get runs k ≡ None
-IsRunShown byte runs k (Some shown) = IsRunOf byte (slice_get runs k) shown.0 shown.1
 
 -- bytes of a segment from an offset on as a stretch, or they reach beyond the last address
 abbrev pub run_piece : SegmentAt → ℕ → List ℕ → Piece

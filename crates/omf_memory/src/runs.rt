@@ -5,7 +5,7 @@ ghost use Rattle.omf_records.specs.Seen.{map_ok};
 ghost use Rattle.omf_image.specs.Joined.{runs_of};
 ghost use Rattle.omf_image.specs.Overlay.{byte_at};
 ghost use Rattle.omf_memory.specs.Memory.{Lies};
-ghost use Rattle.omf_memory.specs.Runs.{AreStretches, HasMore, IsAdded, IsRunShown, IsStretchAt};
+ghost use Rattle.omf_memory.specs.Runs.{AreStretches, HasMore, IsAdded, IsStretchAt};
 ghost use Rattle.omf_memory.specs.Segments.{IsMemoryOf, segment_at, segments_at};
 
 use crate::fault::MemoryFault;
@@ -17,15 +17,6 @@ use std::alloc::Global;
 
 /// How many addresses there are.
 const ADDRESSES: u64 = 4_294_967_296;
-
-/// The first offset and the bytes of the run of a segment with a number, from 0; None beyond the last.
-fn numbered_run(image: &Image, segment: u16, k: usize) -> Option<(u32, &[u8])>
-    ensures { IsRunShown (byte_at image.now segment) (runs_of image.now segment) k (option_map (λ run. (run.0, run.1.now)) result) }
-{
-    let run = image.run_at(segment, k)?;
-    let bytes = image.run_bytes(segment, k)?;
-    Some((run.first, bytes))
-}
 
 /// The bytes of a segment from an offset on, at their address.
 fn stretch_at<'a>(
@@ -60,7 +51,7 @@ fn add_runs<'a>(
     ensures within { IsAdded (segment_at segment.now) result }
 {
     let mut k = 0;
-    while let Some((first, bytes)) = numbered_run(segment.image, segment.owner.segment, k) {
+    while let Some((first, bytes)) = segment.image.run_with_bytes(segment.owner.segment, k) {
         stretches.push(stretch_at(segment, first, bytes)?)?;
         k += 1;
     }

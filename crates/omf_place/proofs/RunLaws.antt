@@ -1,5 +1,5 @@
 -- What a run answers, from what its parts answer.
-use Rattle.std.proofs.Common.{◌≡◌, ℕ, List, Result, Ok, Err, inl, inr}
+use Rattle.std.proofs.Common.{ℕ, List, Result, Ok, Err, inl, inr}
 use Rattle.std.specs.Prelude.{Option}
 use Rattle.omf_frame.specs.Device.{Device}
 use Rattle.omf_frame.specs.Framing.{Raw}

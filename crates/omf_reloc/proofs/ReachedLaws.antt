@@ -101,15 +101,6 @@ module _ (pl : Places) (m : List Rec) where
         externals = same-count kinds.External kinds.External ne ge (nil-right (a ++ b) c h3) (nil-right (a ++ b ++ c ++ d ++ e) f h6);
       }
 
-  pub count-first : (x : ReachFault) → Some x ≡ slice_get counts 0 → reach_fault pl m ≡ Some x
-  count-first x c = sym (first-front (counts ++ moved) (far_faults pl m) x (first-front counts moved x c))
-
-  pub absolute-first : (x : ReachFault) → None ≡ slice_get counts 0 → Some x ≡ slice_get moved 0 → reach_fault pl m ≡ Some x
-  absolute-first x c a = sym (first-front (counts ++ moved) (far_faults pl m) x (first-later counts moved (Some x) c a))
-
-  pub far-first : (o : Option ReachFault) → None ≡ slice_get counts 0 → None ≡ slice_get moved 0 → o ≡ slice_get (far_faults pl m) 0 → reach_fault pl m ≡ o
-  far-first o c a f = sym (first-later (counts ++ moved) (far_faults pl m) o (first-later counts moved None c a) f)
-
   -- An answer of Ok or Err is right.
   pub refused : (x : ReachFault) → reach_fault pl m ≡ Some x → (false ≡ true) ↔ Reaches pl m
   refused x h = (λ e. absurd (false≢true e), λ r. absurd (none-some x (sym ((reach-decided pl m).decided.1 r) ∙ h)))
@@ -134,6 +125,9 @@ module _ (pl : Places) (m : List Rec) where
   absolutes_fault o h k = first-later counts moved o h k
 
   -- What does not fit comes before what does not reach.
+  pub misfit-first : (x : ReachFault) → Some x ≡ slice_get (misfits pl m) 0 → reach_fault pl m ≡ Some x
+  misfit-first x h = sym (first-front (counts ++ moved) (far_faults pl m) x h)
+
   pub far-behind : (o : Option ReachFault) → None ≡ slice_get (misfits pl m) 0 → o ≡ slice_get (far_faults pl m) 0 → reach_fault pl m ≡ o
   far-behind o h f = sym (first-later (counts ++ moved) (far_faults pl m) o h f)
 

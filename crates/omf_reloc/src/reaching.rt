@@ -175,10 +175,7 @@ pub fn reach(module: &Checked, placement: &Placement) -> Result<(), ReachFault>
     ensures ok { IsOk result ↔ (reach_fault placement.now (recs (records_in «module».now.bytes)) ≡ None) }
     ensures err { IfErr result (λ f. reach_fault placement.now (recs (records_in «module».now.bytes)) ≡ Some f) }
 {
-    if let Some(fault) = count_fault(module, placement) {
-        return Err(fault);
-    }
-    if let Some(fault) = absolute_fault(module, placement) {
+    if let Some(fault) = misfit(module, placement) {
         return Err(fault);
     }
     match far_fault(module, placement) {

@@ -3,20 +3,20 @@ use Rattle.std.specs.Prelude.{flat_map}
 use Rattle.std.proofs.lemmas.Result.{err_from_is_err_and}
 use Rattle.omf_image.specs.Joined.{runs_of}
 use Rattle.omf_image.specs.Overlay.{byte_at}
-use Rattle.omf_cmd.specs.Relocated.{run_lines}
+use Rattle.omf_cmd.specs.Relocated.{place_text, run_lines}
 use Rattle.omf_cmd.proofs.Pieces.{cause_later, stopped_by, unbroken_on, went_on}
 use Rattle.omf_cmd.proofs.RunLines.{segment_and_others}
 use Rattle.omf_cmd.proofs.image_text.print_segments.Goals as goal
 
 pub returns-in_err-print_runs-clause-passes : goal.returns-in_err-print_runs-clause-passes
 returns-in_err-print_runs-clause-passes g c =
-    let shown : ℕ → List ℕ = λ s. flat_map (run_lines s (byte_at c.args.image.now s)) (runs_of c.args.image.now s) in
+    let shown : ℕ → List ℕ = λ s. flat_map (run_lines (place_text s) (byte_at c.args.image.now s)) (runs_of c.args.image.now s) in
     let due = segment_and_others shown c.loop-before.before c.args.segments (c.loop-before.text.items) (omega arith) in
     stopped_by _ _ _ _ _ _ _ _ c.from_residual.result c.from_residual.ensures.0 c.loop-before.invariant.written due c.in_err-print_runs.ensures.passes
 
 pub loop-before-preserved : goal.loop-before-preserved
 loop-before-preserved g c =
-    let shown : ℕ → List ℕ = λ s. flat_map (run_lines s (byte_at c.args.image.now s)) (runs_of c.args.image.now s) in
+    let shown : ℕ → List ℕ = λ s. flat_map (run_lines (place_text s) (byte_at c.args.image.now s)) (runs_of c.args.image.now s) in
     let due = segment_and_others shown c.loop-before.before c.args.segments (c.loop-before.text.items) (omega arith) in
     record {
       written = went_on _ _ _ _ _ _ _ _ c.loop-before.invariant.written due c.in_ok-print_runs.ensures.passes;

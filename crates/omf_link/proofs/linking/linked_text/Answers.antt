@@ -1,4 +1,4 @@
-use Rattle.std.proofs.Common.{List, subst, string_bytes}
+use Rattle.std.proofs.Common.{List, subst, Global, Vec, ℕ}
 use Rattle.omf_check.specs.Module.{Module}
 use Rattle.omf_records.specs.Seen.{map_ok}
 use Rattle.omf_linking.specs.Placing.{typed_modules}
@@ -8,7 +8,7 @@ use Rattle.omf_link.proofs.linking.linked_text.Goals as goal
 
 pub returns : goal.returns
 returns c =
-    let shown = map_ok (λ t. string_bytes t) c.modules_text.result in
+    let shown = map_ok (λ (t : Vec ℕ Global). t.items) c.modules_text.result in
     linked_in c.args.input.now shown (record {
       modules = c.in_ok-modules.modules.items;
       text = c.in_ok-modules.text.now;

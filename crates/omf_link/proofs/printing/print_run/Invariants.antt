@@ -1,8 +1,14 @@
-use Rattle.std.proofs.Common.{◌++◌, drop, length, string_bytes}
-use Rattle.omf_link.specs.MemoryText.{shown_bytes}
-use Rattle.omf_link.proofs.TextLaws.{ArePrinted}
+use Rattle.std.proofs.Common.{◌≡◌, ◌+◌, ◌++◌, length}
+use Rattle.omf_cmd.specs.RunLines.{lines_of}
+use Rattle.omf_link.specs.MemoryText.{address_text}
 use Rattle.omf_link.proofs.printing.print_run.Given as goal
 
--- the bytes so far were printed
-abbrev pub invariant-loop-number : goal.invariant-loop-number
-invariant-loop-number l = ArePrinted l.first (length l.bytes) (string_bytes l.text) l.number (drop l.number l.bytes) (string_bytes l.initial.text ++ shown_bytes l.first l.bytes)
+-- the lines so far were printed
+abbrev pub invariant-loop-rest : goal.invariant-loop-rest
+invariant-loop-rest l = record {
+  printed : l.text.items ++ lines_of address_text l.address l.rest ≡ l.initial.text.items ++ lines_of address_text l.first l.bytes;
+  ends : l.address + length l.rest ≡ l.first + length l.bytes;
+}
+
+abbrev pub decreases-loop-rest : goal.decreases-loop-rest
+decreases-loop-rest l = length l.rest

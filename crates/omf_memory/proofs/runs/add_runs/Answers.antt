@@ -3,7 +3,8 @@ use Rattle.omf_image.specs.Joined.{runs_of}
 use Rattle.omf_memory.specs.Runs.{IsAdded}
 use Rattle.omf_memory.specs.Segments.{segment_at}
 use Rattle.omf_memory.proofs.CoverLaws.{runs_are_all}
-use Rattle.omf_memory.proofs.RunSteps.{number_low, number_fits, some_bytes, run_next, none_left, no_runs_yet, one_run, all_within, all_more, told_beyond}
+use Rattle.omf_image.proofs.ShownLaws.{number_low, number_fits, some_bytes, run_next, none_left}
+use Rattle.omf_memory.proofs.RunSteps.{no_runs_yet, one_run, all_within, all_more, told_beyond}
 use Rattle.omf_memory.proofs.runs.add_runs.Goals as goal
 
 pub loop-first-init : goal.loop-first-init
@@ -27,7 +28,7 @@ returns-in_err-stretch_at-clause-within c =
     let f = c.in_err-stretch_at.field-0.0 in
     let some = some_bytes s.image.now s.owner.segment c.loop-first.k c.in-Some.first c.in-Some.bytes.now c.in-Some.ensures in
     let same : c.from_residual.result ≡ Err f = search rules in
-    subst (IsAdded (segment_at s)) (sym same) (told_beyond (segment_at s) c.in-Some.first c.in-Some.bytes.now f c.in-Some.ensures.bytes_over some c.in_err-stretch_at.ensures)
+    subst (IsAdded (segment_at s)) (sym same) (told_beyond (segment_at s) c.in-Some.first c.in-Some.bytes.now f c.in-Some.ensures.1 some c.in_err-stretch_at.ensures)
 
 pub overflow_add-k : goal.overflow_add-k
 overflow_add-k c =
@@ -53,17 +54,17 @@ loop-first-preserved c =
       within = omega (arith, low);
       lies = search rules;
       added = one_run c.args.stretches.now.items c.loop-first.stretches.items c.push.new.self.items (segment_at s) (drop k runs) _ c.in-Some.first c.in-Some.bytes.now c.in_ok-stretch_at.field-0
-          next c.in-Some.ensures.bytes_over c.in_ok-push.ensures.items c.in_ok-stretch_at.ensures c.loop-first.invariant.added;
+          next c.in-Some.ensures.1 c.in_ok-push.ensures.items c.in_ok-stretch_at.ensures c.loop-first.invariant.added;
     }
 
 pub returns-clause-shares : goal.returns-clause-shares
 returns-clause-shares c =
     let s = c.args.segment.now in
     let runs = runs_of s.image.now s.owner.segment in
-    all_more c.args.stretches.now.items c.loop-first.stretches.items (segment_at s) (drop c.loop-first.k runs) (none_left runs c.loop-first.k c.in_default.ensures) c.loop-first.invariant.added
+    all_more c.args.stretches.now.items c.loop-first.stretches.items (segment_at s) (drop c.loop-first.k runs) (none_left s.image.now s.owner.segment c.loop-first.k c.in_default.ensures) c.loop-first.invariant.added
 
 pub returns-clause-within : goal.returns-clause-within
 returns-clause-within c =
     let s = c.args.segment.now in
     let runs = runs_of s.image.now s.owner.segment in
-    all_within c.args.stretches.now.items c.loop-first.stretches.items (segment_at s) (drop c.loop-first.k runs) (none_left runs c.loop-first.k c.in_default.ensures) c.loop-first.invariant.added
+    all_within c.args.stretches.now.items c.loop-first.stretches.items (segment_at s) (drop c.loop-first.k runs) (none_left s.image.now s.owner.segment c.loop-first.k c.in_default.ensures) c.loop-first.invariant.added

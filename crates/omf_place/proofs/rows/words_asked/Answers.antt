@@ -4,12 +4,12 @@ use Rattle.omf_place.proofs.rows.words_asked.Goals as goal
 
 pub returns-clause-none : goal.returns-clause-none
 unfolding clap_on_literals
-returns-clause-none c program = record { real = false; sound = refl; set = refl; named = refl }
+returns-clause-none c program = record { sound = refl; named = record { real = false; set = refl; named = refl } }
 
 pub returns-clause-real : goal.returns-clause-real
 unfolding clap_on_literals
-returns-clause-real c program = record { real = true; sound = refl; set = refl; named = refl }
+returns-clause-real c program = record { sound = refl; named = record { real = true; set = refl; named = refl } }
 
 pub returns-clause-flat : goal.returns-clause-flat
 unfolding clap_on_literals
-returns-clause-flat c program = record { real = false; sound = refl; set = refl; named = refl }
+returns-clause-flat c program = record { sound = refl; named = record { real = false; set = refl; named = refl } }

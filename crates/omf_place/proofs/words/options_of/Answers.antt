@@ -1,7 +1,8 @@
-use Rattle.std.proofs.Common.{◌≡◌, ap, sym, ◌∙◌, map, string_bytes, inr, Some}
+use Rattle.std.proofs.Common.{◌≡◌, ap, sym, ◌∙◌, map, string_bytes, inr}
 use Rattle.clap.specs.Words.{App, fault_of, first_of, found_of, is_simple_and_free, is_simple, kind_of, matches_of, one_of, rows_of}
 use Rattle.omf_cmd.proofs.Parsed.{only_memory}
-use Rattle.omf_place.specs.Words.{base_id, flat_id, options_named, place_app, real_id}
+use Rattle.omf_options.specs.Words.{base_id, flat_id, options_named, real_id}
+use Rattle.omf_place.specs.Words.{place_app}
 use Rattle.omf_place.proofs.ParsedLaws.{is-free, is-simple}
 use Rattle.omf_place.proofs.words.options_of.Goals as goal
 
@@ -10,8 +11,9 @@ returns-in-Ok-clause-asks c asked a =
     let words = map string_bytes c.args.words.now in
     let h = c.in-Ok.ensures.matches (ap is_simple c.in_ok-place.ensures ∙ is-simple) in
     let rows : rows_of (found_of c.in-Ok.matches) ≡ matches_of place_app words = h.0 ∙ ap (λ (b : App). matches_of b words) c.in_ok-place.ensures in
-    c.named_by.ensures a.real (ap (one_of real_id) rows ∙ a.set)
-    ∙ ap (λ rs. options_named (first_of base_id rs) a.real (first_of flat_id rs)) rows ∙ a.named
+    let n = a.named in
+    c.options_in.ensures n.real (ap (one_of real_id) rows ∙ n.set)
+    ∙ ap (λ rs. options_named (first_of base_id rs) n.real (first_of flat_id rs)) rows ∙ n.named
 
 pub returns-in-Err-2-clause-asks : goal.returns-in-Err-2-clause-asks
 returns-in-Err-2-clause-asks c asked a =

@@ -1,10 +1,7 @@
-use Rattle.std.proofs.Common.{rules, ap₂, ◌∙◌}
-use Rattle.clap.specs.Words.{with_rule}
+use Rattle.std.proofs.Common.{ap, ◌∙◌}
 use Rattle.omf_cmd.proofs.Parsed.{ok_also}
+use Rattle.omf_options.specs.Words.{with_options}
 use Rattle.omf_place.proofs.words.program.Goals as goal
 
 pub returns : goal.returns
-returns c =
-    let first = c.in_ok-arg.ensures.shape (search rules) ∙ ap₂ with_rule c.new.ensures.app c.valued.ensures.rule in
-    let second = c.in_ok-arg-2.ensures.shape (search rules) ∙ ap₂ with_rule first c.real.ensures.rule in
-    ok_also c.arg-3.result (λ place adds. adds.shape (search rules) ∙ ap₂ with_rule second c.valued-2.ensures.rule) c.arg-3.ensures
+returns c = ok_also c.with_options.result (λ place is. is ∙ ap with_options c.new.ensures.app) c.with_options.ensures

@@ -2,7 +2,8 @@ use Rattle.std.proofs.Common.{◌≡◌, ◌∙◌, ◌+◌, ◌∷◌, ◌++◌
 use Rattle.std.proofs.lemmas.List.{take_more}
 use Rattle.omf_derive.specs.declared.given.Given.{Given}
 use Rattle.omf_derive.specs.GivenTable.{IsGivenTable}
-use Rattle.omf_derive.proofs.GivenLaws.{given-again, given-first, looked-none, looked-some}
+use Rattle.omf_derive.specs.Derive.{place_in}
+use Rattle.omf_derive.proofs.PairTableLaws.{again, first, looked-none, looked-some}
 use Rattle.omf_derive.proofs.given.GivenTable.of.Goals as goal
 use Rattle.omf_derive.proofs.given.GivenTable.of.Goals.{then-is_none+in_ok-insert, else-is_none}
 
@@ -17,9 +18,9 @@ loop-entry-preserved c =
     subst (IsGivenTable c.if-is_none.by_external) (sym more) (elim c.if-is_none.branch [
       | then-is_none+in_ok-insert w ↦
           subst (λ n. IsGivenTable n (take k xs ++ g ∷ [])) (sym w.by_external-is)
-          (given-first (take k xs) g m w.insert.new.self (sym c.get.ensures.value ∙ looked-none c.get.result c.is_none.result c.is_none.ensures w.if-is_none.true) w.in_ok-insert.ensures.updates c.loop-entry.invariant)
+          (first (λ x. (x.module, x.external)) place_in (take k xs) g m w.insert.new.self (sym c.get.ensures.value ∙ looked-none c.get.result c.is_none.result c.is_none.ensures w.if-is_none.true) w.in_ok-insert.ensures.updates c.loop-entry.invariant)
       | else-is_none w ↦
           let s = looked-some c.get.result c.is_none.result c.is_none.ensures w.if-is_none.false in
           subst (λ n. IsGivenTable n (take k xs ++ g ∷ [])) (sym w.by_external-is)
-          (given-again (take k xs) g m s.0 (sym c.get.ensures.value ∙ s.1) c.loop-entry.invariant)
+          (again (λ x. (x.module, x.external)) place_in (take k xs) g m s.0 (sym c.get.ensures.value ∙ s.1) c.loop-entry.invariant)
     ])

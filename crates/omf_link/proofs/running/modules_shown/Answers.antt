@@ -1,6 +1,0 @@
-use Rattle.omf_linking.specs.Placing.{typed_modules}
-use Rattle.omf_link.proofs.RunLaws.{with_name}
-use Rattle.omf_link.proofs.running.modules_shown.Goals as goal
-
-pub returns-in-Err : goal.returns-in-Err
-returns-in-Err c = with_name (typed_modules c.args.modules.now) c.args.text.now c.in-Err.fault c.named.result c.in-Err.ensures c.named.ensures
