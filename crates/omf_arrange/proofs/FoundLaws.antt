@@ -1,6 +1,6 @@
 -- Each segment is found among those that are laid.
-use Rattle.std.proofs.Common.{◌≡◌, ℕ, zero, suc, ◌+◌, ◌-◌, ◌<◌, ◌≤◌, List, [], ◌∷◌, ◌++◌, length, Bool, true, false, refl, sym, ap, ap₂, ◌∙◌, subst, inl, inr, get_or, arith}
-use Rattle.std.specs.Prelude.{map, flat_map, filter_map, find, Option, Some, None, option_map, unwrap_or, slice_get, cond, bytes_eq, ◌==◌, ◌&&◌, ⊤}
+use Rattle.std.proofs.Common.{◌≡◌, ℕ, zero, suc, ◌+◌, ◌<◌, ◌≤◌, List, [], ◌∷◌, ◌++◌, length, Bool, true, refl, sym, ap, ap₂, ◌∙◌, subst, inl, inr, get_or, arith}
+use Rattle.std.specs.Prelude.{map, flat_map, find, Some, None, option_map, unwrap_or, slice_get, bytes_eq, ◌==◌, ◌&&◌}
 use Rattle.std.specs.List.{filter, zip, enumerate_from, cons_option}
 use Rattle.std.proofs.lemmas.Bool.{cond-true, cond-false, cases_Bool, eq-eqb, eqb-true, and_parts, and_from}
 use Rattle.std.proofs.lemmas.Option.{none-some, same_Some, slice_get-get_or}
@@ -14,12 +14,12 @@ use Rattle.omf_layout.proofs.TableLaws.{entry-at}
 use Rattle.omf_arrange.specs.declared.portion.Combination.{Combination}
 use Rattle.omf_arrange.specs.declared.portion.Combination.TheVariants.{Joined, Common, Alone}
 use Rattle.omf_arrange.specs.declared.portion.Portion.{Portion}
-use Rattle.omf_arrange.specs.Gathered.{distinct, value_of, of_name, names_in, gathered}
-use Rattle.omf_arrange.specs.Laws.{count, IsLaidAt, SegmentsAreFound}
+use Rattle.omf_arrange.specs.Gathered.{distinct, of_name, names_in, gathered}
+use Rattle.omf_arrange.specs.Laws.{count, IsLaidAt, IsToldBy, SegmentsAreFound}
 use Rattle.omf_arrange.specs.Laying.{Lying, arranged}
 use Rattle.omf_arrange.specs.Order.{runs_in, runs, combined_by, in_order}
-use Rattle.omf_arrange.specs.Placing.{is_of, place_in, place_or_none}
-use Rattle.omf_arrange.specs.Portions.{Named, Classed, attributes, classed, portions_in, portions}
+use Rattle.omf_arrange.specs.Placing.{is_of}
+use Rattle.omf_arrange.specs.Portions.{Named, Classed, attributes, classed, portion, portions_in, portions}
 use Rattle.omf_arrange.proofs.ApartLaws.{Each, each-at, each-both}
 use Rattle.omf_arrange.proofs.OnceLaws.{count-both, count-seen, ordered-once}
 use Rattle.omf_arrange.proofs.OrderedLaws.{those-in-runs}
@@ -67,7 +67,7 @@ pair-at (a ∷ xs) [] k x y e g = absurd (none-some y g)
 pair-at (a ∷ xs) (b ∷ ys) zero x y e g = ap₂ (λ u v. Some (u, v)) (same_Some a x e) (same_Some b y g)
 pair-at (a ∷ xs) (b ∷ ys) (suc k) x y e g = pair-at xs ys k x y e g
 
-below-some : {A : Type 0} (xs : List A) (k : ℕ) (x : A) → slice_get xs k ≡ Some x → k < length xs
+pub below-some : {A : Type 0} (xs : List A) (k : ℕ) (x : A) → slice_get xs k ≡ Some x → k < length xs
 below-some [] k x e = absurd (none-some x e)
 below-some (y ∷ ys) zero x e = omega arith
 below-some (y ∷ ys) (suc k) x e = let low = below-some ys k x e in omega (arith, low)
@@ -132,24 +132,34 @@ module _ (P : Portion → Type 0) where
 -- Each is what its module's SEGDEF of its index says.
 module _ (ms : List (List Rec)) where
   abbrev IsOwn : Portion → Type 0
-  IsOwn p = (m : List Rec) → slice_get ms p.«module» ≡ Some m → entry (segments m) p.index ≡ Some p.segment
+  IsOwn p = (m : List Rec) → slice_get ms p.«module» ≡ Some m → IsToldBy m p
 
-  own-in : (j : ℕ) (n : List Rec) → slice_get ms j ≡ Some n → (a : ℕ) (ss : List SegInfo) (xs : List ℕ) → ((i : ℕ) → slice_get ss i ≡ entry (segments n) (a + i))
+  own-in : (j : ℕ) (n : List Rec) → slice_get ms j ≡ Some n → (a : ℕ) (ss : List SegInfo) (xs : List ℕ) → ((i : ℕ) → slice_get ss i ≡ entry (segments n) (a + i)) → ((i : ℕ) → slice_get xs i ≡ entry (attributes n) (a + i))
       → Each (λ (x : Classed Portion). IsOwn x.1.1) (map (classed n j) (enumerate_from a (zip ss xs)))
-  own-in j n e a [] xs h = tt
-  own-in j n e a (s ∷ ss) [] h = tt
-  own-in j n e a (s ∷ ss) (x ∷ xs) h =
-      let same : a + 0 ≡ a = omega arith in (
-        (λ m g. ap (λ q. entry (segments q) a) (same_Some m n (sym g ∙ e)) ∙ ap (entry (segments n)) (sym same) ∙ sym (h 0)),
-        own-in j n e (a + 1) ss xs (λ i. let next : a + suc i ≡ a + 1 + i = omega arith in h (suc i) ∙ ap (entry (segments n)) next),
+  own-in j n e a [] xs h k = tt
+  own-in j n e a (s ∷ ss) [] h k = tt
+  own-in j n e a (s ∷ ss) (x ∷ xs) h k =
+      let same : a + 0 ≡ a = omega arith in
+      let own : IsToldBy n (portion j a s x) = record {
+        attribute = x;
+        told = ap (entry (segments n)) (sym same) ∙ sym (h 0);
+        attributed = ap (entry (attributes n)) (sym same) ∙ sym (k 0);
+        whole = refl;
+      } in (
+        (λ m g. subst (λ q. IsToldBy q (portion j a s x)) (same_Some n m (sym e ∙ g)) own),
+        own-in j n e (a + 1) ss xs (λ i. let next : a + suc i ≡ a + 1 + i = omega arith in h (suc i) ∙ ap (entry (segments n)) next)
+            (λ i. let next : a + suc i ≡ a + 1 + i = omega arith in k (suc i) ∙ ap (entry (attributes n)) next),
       )
+
+  from-one : {A : Type 0} (xs : List A) (i : ℕ) → slice_get xs i ≡ entry xs (1 + i)
+  from-one xs i = let next : i + 1 ≡ 1 + i = omega arith in sym (entry-at xs i) ∙ ap (entry xs) next
 
   own-from : (k : ℕ) (ns : List (List Rec)) → ((i : ℕ) → slice_get ns i ≡ slice_get ms (k + i)) → Each (λ (x : Classed Portion). IsOwn x.1.1) (flat_map portions_in (enumerate_from k ns))
   own-from k [] h = tt
   own-from k (n ∷ ns) h =
       let same : k + 0 ≡ k = omega arith in
       each-both (λ (x : Classed Portion). IsOwn x.1.1) (portions_in (k, n)) (flat_map portions_in (enumerate_from (k + 1) ns))
-      (own-in k n (ap (slice_get ms) (sym same) ∙ sym (h 0)) 1 (segments n) (attributes n) (λ i. let next : i + 1 ≡ 1 + i = omega arith in sym (entry-at (segments n) i) ∙ ap (entry (segments n)) next))
+      (own-in k n (ap (slice_get ms) (sym same) ∙ sym (h 0)) 1 (segments n) (attributes n) (from-one (segments n)) (from-one (attributes n)))
       (own-from (k + 1) ns (λ i. let next : k + suc i ≡ k + 1 + i = omega arith in h (suc i) ∙ ap (slice_get ms) next))
 
   own-in-order : Each IsOwn (flat_map in_order (runs ms))
@@ -161,24 +171,29 @@ seen-at [] k x e = absurd (none-some x e)
 seen-at (y ∷ ys) zero x e = ap (λ z. Some z.0) (same_Some y x e)
 seen-at (y ∷ ys) (suc k) x e = seen-at ys k x e
 
+-- What is laid is what its module's SEGDEF says.
+pub own-at : (o : Options) (ms : List (List Rec)) (l : Laid (List Lying)) → arranged o ms ≡ Some l → (k : ℕ) (x : Lying) → slice_get l.what k ≡ Some x → (m : List Rec) → slice_get ms x.0.«module» ≡ Some m → IsToldBy m x.0
+own-at o ms l h k x e =
+    let ps = flat_map in_order (runs ms) in
+    each-at (IsOwn ms) ps (own-in-order ms) k x.0 (ap (λ xs. slice_get xs k) (sym (those-in-runs o.frames o.base (runs ms) l h)) ∙ seen-at l.what k x e)
+
 found-at : (o : Options) (ms : List (List Rec)) (l : Laid (List Lying)) → arranged o ms ≡ Some l → (j k : ℕ) (m : List Rec) (s : SegInfo) → slice_get ms j ≡ Some m → slice_get (segments m) k ≡ Some s → IsLaidAt l.what j (k + 1) s
 found-at o ms l h j k m s e g =
-    let ps = flat_map in_order (runs ms) in
-    let those : map (λ x. x.0) l.what ≡ ps = those-in-runs o.frames o.base (runs ms) l h in
+    let those : map (λ x. x.0) l.what ≡ flat_map in_order (runs ms) = those-in-runs o.frames o.base (runs ms) l h in
     let many = count-seen (is_this j (k + 1)) (λ (x : Lying). x.0) l.what in
     let laid = ap (count (is_this j (k + 1))) those in
     let f = found-in (is_of j (k + 1)) l.what (omega (arith, many, laid, ordered-once ms (is_this j (k + 1)), portion-there ms j k m s e g)) in
     let parts = and_parts (f.one.0.«module» == j) (f.one.0.index == k + 1) f.passes in
     let number = eqb-true f.one.0.«module» j parts.0 in
     let index = eqb-true f.one.0.index (k + 1) parts.1 in
-    let own = each-at (IsOwn ms) ps (own-in-order ms) f.position f.one.0 (ap (λ xs. slice_get xs f.position) (sym those) ∙ seen-at l.what f.position f.one f.here) in
+    let own = own-at o ms l h f.position f.one f.here m (ap (slice_get ms) number ∙ e) in
     record {
       position = f.position;
       lying = f.one;
       laid = f.here;
       number = number;
       index = index;
-      told = same_Some f.one.0.segment s (sym (own m (ap (slice_get ms) number ∙ e)) ∙ ap (entry (segments m)) index ∙ entry-at (segments m) k ∙ g);
+      told = same_Some f.one.0.segment s (sym own.told ∙ ap (entry (segments m)) index ∙ entry-at (segments m) k ∙ g);
       place = ap (λ p. unwrap_or (option_map (λ x. x.1) p) no_place) f.found;
     }
 

@@ -5,6 +5,6 @@ pub mod LayingLaws
 pub mod OrderedLaws
 pub mod ApartLaws
 pub mod OnceLaws
-pub mod PlaceLaws
 pub mod LowLaws
 pub mod FoundLaws
+pub mod FitLaws

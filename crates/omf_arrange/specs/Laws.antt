@@ -1,18 +1,23 @@
 -- Laws over the places of the segments of several modules, each the contract of a function of the same name.
-use Rattle.std.specs.Prelude.{◌≡◌, ◌⊎◌, ℕ, ◌+◌, ◌<◌, ◌≤◌, List, Some, None, slice_get, map, flat_map, length, Bool}
-use Rattle.std.specs.List.{filter}
+use Rattle.std.specs.Prelude.{◌≡◌, ◌≢◌, ◌⊎◌, ℕ, ◌+◌, ◌<◌, ◌≤◌, List, [], Some, None, Ok, slice_get, map, flat_map, length, zip, Bool}
+use Rattle.std.specs.List.{AllZip, filter}
 use Rattle.omf_records.specs.Values.{Rec}
-use Rattle.omf_placement.specs.Placement.{absolute_place}
+use Rattle.omf_derive.specs.Derivation.{IsPlaceOf}
+use Rattle.omf_derive.specs.Derive.{derived}
+use Rattle.omf_derive.specs.declared.given.Given.{Given}
+use Rattle.omf_placement.specs.Placement.{Places, absolute_place}
+use Rattle.omf_reloc.specs.Reach.{Fits, reach_fault}
+use Rattle.omf_reloc.specs.declared.fault.ReachFault.{ReachFault}
 use Rattle.omf_layout.specs.Layout.{Laid}
-use Rattle.omf_layout.specs.Laws.{IsMultiple}
+use Rattle.omf_layout.specs.Laws.{IsFar, IsMultiple}
 use Rattle.omf_layout.specs.Room.{limit}
 use Rattle.omf_layout.specs.Wants.{bytes_aligned}
 use Rattle.omf_layout.specs.declared.options.Frames.{Frames}
 use Rattle.omf_layout.specs.declared.options.Options.{Options}
 use Rattle.omf_arrange.specs.Laying.{Lying, arranged}
 use Rattle.omf_arrange.specs.Order.{order, place_of, in_order, runs}
-use Rattle.omf_arrange.specs.Placing.{place_or_none}
-use Rattle.omf_arrange.specs.Portions.{portions}
+use Rattle.omf_arrange.specs.Placing.{place_or_none, placed}
+use Rattle.omf_arrange.specs.Portions.{attributes, portion, portions}
 use Rattle.omf_check.specs.Tables.{segments, entry}
 use Rattle.omf_check.specs.declared.segment.SegInfo.{SegInfo}
 use Rattle.omf_arrange.specs.declared.portion.Portion.{Portion}
@@ -73,3 +78,56 @@ pub record IsLaidAt (ls : List Lying) (j i : ℕ) (s : SegInfo) : Type 0 where
 abbrev pub SegmentsAreFound : Type 0
 SegmentsAreFound = (o : Options) (ms : List (List Rec)) (l : Laid (List Lying)) → arranged o ms ≡ Some l
     → (j i : ℕ) (m : List Rec) (s : SegInfo) → slice_get ms j ≡ Some m → entry (segments m) i ≡ Some s → IsLaidAt l.what j i s
+
+-- The places of a module fit it but for its externals, which have none yet: an entry for each segment and each group and no other, and each absolute segment
+-- where its SEGDEF says.
+pub record FitsSoFar (m : List Rec) (pl : Places) : Type 0 where
+  pub entries : IsPlaceOf (m, pl)
+  pub no_externals : pl.externals ≡ []
+  pub absolute : (i number offset : ℕ) (s : SegInfo) → entry (segments m) i ≡ Some s → s.absolute ≡ Some (number, offset) → entry pl.segments i ≡ Some (absolute_place number offset)
+
+-- A placement fits its module, so that reach names no entry of it: what it names is a fixup or the start.
+pub record FitsModule (m : List Rec) (pl : Places) : Type 0 where
+  pub fits : Fits pl m
+  pub names_no_entry : (f : ReachFault) → reach_fault pl m ≡ Some f → IsFar f
+
+-- Places of modules fit, each its own module; and so do the placements that are derived of them, whatever places externals are given.
+pub record FitModules (ms : List (List Rec)) (pls : List Places) : Type 0 where
+  pub so_far : AllZip FitsSoFar ms pls
+  pub derivations : (given : List Given) (all : List Places) → derived (zip ms pls) given ≡ Ok all → AllZip FitsModule ms all
+
+abbrev pub PlacesFit : Type 0
+PlacesFit = (o : Options) (ms : List (List Rec)) (l : Laid (List Places)) → placed o ms ≡ Some l → FitModules ms l.what
+
+-- A segment is what the SEGDEF of its index says, in these records of its module.
+pub record IsToldBy (m : List Rec) (x : Portion) : Type 0 where
+  pub attribute : ℕ
+  pub told : entry (segments m) x.index ≡ Some x.segment
+  pub attributed : entry (attributes m) x.index ≡ Some attribute
+  pub whole : x ≡ portion x.«module» x.index x.segment attribute
+
+-- A segment of one of several modules, as its SEGDEF says, and its place among those of its module.
+pub record IsPlaced (ms : List (List Rec)) (pls : List Places) (x : Lying) : Type 0 where
+  pub own : List Rec
+  pub places : Places
+  pub own_is : slice_get ms x.0.«module» ≡ Some own
+  pub places_are : slice_get pls x.0.«module» ≡ Some places
+  pub said : IsToldBy own x.0
+  pub place : entry places.segments x.0.index ≡ Some x.1
+
+-- Segment i of module j is placed.
+pub record IsPlacedAt (ms : List (List Rec)) (pls : List Places) (j i : ℕ) : Type 0 where
+  pub lying : Lying
+  pub is : IsPlaced ms pls lying
+  pub number : lying.0.«module» ≡ j
+  pub index : lying.0.index ≡ i
+
+-- Each segment of each module is placed. By its place too one that is not absolute lies at its alignment; and of two of these, which differ in their module
+-- or their index, one ends before the other begins, unless both are common and lie at one place: no byte is in two that are not common.
+pub record PlacedLieApart (o : Options) (ms : List (List Rec)) (l : Laid (List Places)) : Type 0 where
+  pub every : (j i : ℕ) (m : List Rec) (s : SegInfo) → slice_get ms j ≡ Some m → entry (segments m) i ≡ Some s → IsPlacedAt ms l.what j i
+  pub well : (x : Lying) → IsPlaced ms l.what x → IsRelocatable x → LiesWithin o.frames o.base l.free x
+  pub apart : (x y : Lying) → IsPlaced ms l.what x → IsPlaced ms l.what y → IsRelocatable x → IsRelocatable y → place_of x.0 ≢ place_of y.0 → LieApart x y ⊎ LieApart y x
+
+abbrev pub PlacesLieApart : Type 0
+PlacesLieApart = (o : Options) (ms : List (List Rec)) (l : Laid (List Places)) → placed o ms ≡ Some l → PlacedLieApart o ms l

@@ -1,24 +1,23 @@
 -- A draft is the text of a link, whose parts give the modules their places.
-use Rattle.std.proofs.Common.{◌≡◌, ℕ, zero, suc, ◌+◌, ◌<◌, ◌≤◌, Bool, true, false, List, [], ◌∷◌, ◌++◌, length, refl, sym, ap, ap₂, subst, ◌∙◌, append_assoc, append-nil, arith, codes, eqb}
-use Rattle.std.specs.Prelude.{flat_map, filter_map, map, zip, All, Option, Some, None, Ok, ◌==◌, if◌then◌else◌}
+use Rattle.std.proofs.Common.{◌≡◌, ℕ, zero, suc, ◌+◌, ◌<◌, ◌≤◌, false, List, [], ◌∷◌, ◌++◌, length, refl, sym, ap, ap₂, subst, ◌∙◌, append_assoc, append-nil, arith, codes}
+use Rattle.std.specs.Prelude.{flat_map, filter_map, map, zip, All, Option, Some, None, Ok, if◌then◌else◌}
 use Rattle.std.specs.List.{AllZip, cons_option, enumerate_from, slice_split}
 use Rattle.std.proofs.lemmas.Bool.{ne_eqb}
 use Rattle.std.proofs.lemmas.List.{map-append}
 use Rattle.std.proofs.lemmas.List.Elements.{All-nil, All-cons, All-head, All-tail, filter_map-append}
 use Rattle.std.proofs.lemmas.List.Splits.{slice_split_at, slice_split_none}
 use Rattle.omf_records.specs.Values.{Rec}
-use Rattle.omf_derive.specs.declared.given.Given.{Given}
 use Rattle.omf_placement.specs.declared.frame.Frame.{Frame}
 use Rattle.omf_placement.specs.declared.frame.Placed.{Placed}
-use Rattle.omf_placement.specs.Entries.{Entry, Blank, SegmentEntry, GroupEntry, ExternalEntry}
+use Rattle.omf_placement.specs.Entries.{Entry, Blank, SegmentEntry, GroupEntry}
 use Rattle.omf_placement.specs.Placement.{Places}
 use Rattle.omf_placement.specs.PlacementText.{Draft, segment_entry, group_entry, external_entry, ok_or_first, resolved, resolved_group, unresolved_group}
 use Rattle.omf_layout.specs.declared.options.Frames.{Frames}
 use Rattle.omf_layout.specs.Reading.{AreShort}
-use Rattle.omf_layout.proofs.TextLaws.{IsLineOf, SpellsLines, told_from, told-append, no-lines, one-line, more-lines}
-use Rattle.omf_linking.specs.LinkEntries.{LinkEntry, NextModule, GivenExternal, OfPlacement}
-use Rattle.omf_linking.specs.Parts.{Line, GivenLine, Part, is_border, border, bad_line, placing, giving, draft_in, part_of, parts_of, link_lines, parsed_parts}
-use Rattle.omf_linking.specs.Placing.{stray, unless_stray, place_of, places_of, in_front, and_then_others, given_as, given_in, given_of}
+use Rattle.omf_layout.proofs.TextLaws.{SpellsLines, told_from, told-append, no-lines, one-line, more-lines}
+use Rattle.omf_linking.specs.LinkEntries.{LinkEntry, NextModule, OfPlacement}
+use Rattle.omf_linking.specs.Parts.{Line, Part, is_border, border, bad_line, placing, giving, draft_in, part_of, parts_of, link_lines}
+use Rattle.omf_linking.specs.Placing.{stray, unless_stray, place_of, places_of, and_then_others, given_as, given_in}
 use Rattle.omf_draft.specs.Names.{seen_names}
 use Rattle.omf_draft.specs.Reading.{HasEntries, IsReadBack}
 use Rattle.omf_draft.specs.Text.{border as border_line, part_text, module_text, link_text}

@@ -1,13 +1,12 @@
 -- What the lines of a draft say as lines of a link's text.
-use Rattle.std.proofs.Common.{◌≡◌, ℕ, zero, suc, ◌+◌, Bool, true, false, List, [], ◌∷◌, ◌++◌, length, refl, sym, ap, ap₂, subst, ◌∙◌, append_assoc, append-nil, arith, codes}
-use Rattle.std.specs.Prelude.{flat_map, map, All, Option, Some, None, option_and_then, bytes_eq, decimal, if◌then◌else◌}
+use Rattle.std.proofs.Common.{◌≡◌, ℕ, zero, suc, ◌+◌, Bool, true, false, List, [], ◌∷◌, ◌++◌, length, refl, sym, ap, subst, ◌∙◌, append_assoc, arith, codes}
+use Rattle.std.specs.Prelude.{flat_map, map, All, Option, Some, option_and_then, bytes_eq, decimal, if◌then◌else◌}
 use Rattle.std.specs.List.{enumerate_from, zip}
 use Rattle.std.proofs.lemmas.Bool.{cond_both}
 use Rattle.std.proofs.lemmas.List.{map-append}
-use Rattle.std.proofs.lemmas.List.Elements.{All-head, All-tail}
 use Rattle.std.proofs.lemmas.Option.{none-some}
 use Rattle.std.proofs.lemmas.Slice.Eq.{bytes_eq-Decides}
-use Rattle.omf_records.specs.Values.{Rec, GroupItem}
+use Rattle.omf_records.specs.Values.{Rec}
 use Rattle.omf_check.specs.Tables.{segments, groups}
 use Rattle.omf_check.specs.declared.segment.SegInfo.{SegInfo}
 use Rattle.omf_derive.specs.Derive.{named_externals}
@@ -24,12 +23,12 @@ use Rattle.omf_layout.specs.Quoted.{number, quoted}
 use Rattle.omf_layout.specs.Reading.{IsShortFrame, IsShortPlace, AreShort}
 use Rattle.omf_layout.specs.Wants.{alignments, rooms}
 use Rattle.omf_layout.proofs.DigitLaws.{marks-number}
-use Rattle.omf_layout.proofs.LineLaws.{ArePrinted, IsLine, printed-words, printed-decimal, printed-quoted, printed-room, marks-printed, segment-is-line, group-is-line}
+use Rattle.omf_layout.proofs.LineLaws.{IsLine, printed-words, printed-decimal, printed-quoted, printed-room, marks-printed, segment-is-line, group-is-line}
 use Rattle.omf_layout.proofs.ReadLaws.{all-lines}
 use Rattle.omf_layout.proofs.SaidLaws.{Passes, both-pass, is_printed}
 use Rattle.omf_layout.proofs.TableLaws.{length-alignments}
 use Rattle.omf_layout.proofs.TextLaws.{IsLineOf, SpellsLines, no-lines, one-line, more-lines, each-line}
-use Rattle.omf_linking.specs.LinkEntries.{LinkEntry, NextModule, GivenExternal, OfPlacement, of_placement, given_of_words, link_entry_of_words, link_entry_said}
+use Rattle.omf_linking.specs.LinkEntries.{LinkEntry, NextModule, OfPlacement, of_placement, given_of_words, link_entry_of_words, link_entry_said}
 use Rattle.omf_draft.specs.Names.{has_name}
 use Rattle.omf_draft.specs.Reading.{HasEntries}
 use Rattle.omf_draft.specs.Text.{module_name, name_line, segment_lines, group_line, group_lines, wanted_entry, wanted_line, external_text, wanted_lines, part_text}

@@ -1,6 +1,6 @@
 -- A table of names grows name by name.
-use Rattle.std.proofs.Common.{◌≡◌, ℕ, zero, suc, ◌+◌, ◌<◌, ◌≤◌, Bool, true, false, List, [], ◌∷◌, ◌++◌, length, drop, get_or, refl, sym, ap, ap₂, ◌∙◌, subst, inl, inr, append-nil, append_assoc, arith, Bor, nat_cmp}
-use Rattle.std.specs.Prelude.{flat_map, map, Option, Some, None, is_some, bytes_eq, ◌||◌}
+use Rattle.std.proofs.Common.{◌≡◌, ℕ, zero, suc, ◌+◌, ◌<◌, ◌≤◌, Bool, true, false, List, [], ◌∷◌, ◌++◌, length, drop, get_or, refl, sym, ap, ◌∙◌, subst, inl, inr, append-nil, append_assoc, arith, Bor, nat_cmp}
+use Rattle.std.specs.Prelude.{flat_map, Option, Some, is_some, bytes_eq, ◌||◌}
 use Rattle.std.proofs.Math.Seq.{drop-nil}
 use Rattle.std.specs.BTreeMap.{BTreeMap, get_by, is_at, UpdatesBy}
 use Rattle.std.specs.Cmp.Lexicographic.{slice_cmp}

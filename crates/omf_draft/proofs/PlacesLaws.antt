@@ -1,52 +1,59 @@
 -- The places of modules have an entry for each segment and each group.
-use Rattle.std.proofs.Common.{◌≡◌, ℕ, zero, suc, ◌+◌, ◌<◌, List, [], ◌∷◌, ◌++◌, length, get_or, refl, sym, ap, subst, ◌∙◌, append_assoc, append-nil, arith}
-use Rattle.std.specs.Prelude.{map, zip, All, Option, Some, slice_get, option_map}
-use Rattle.std.specs.List.{AllZip, enumerate_from, range_with_len}
+use Rattle.std.proofs.Common.{◌≡◌, ℕ, zero, suc, ◌+◌, ◌<◌, List, [], ◌∷◌, ◌++◌, length, get_or, sym, ap, subst, ◌∙◌, append_assoc, append-nil, arith}
+use Rattle.std.specs.Prelude.{All, Some, Result, Ok}
+use Rattle.std.specs.List.{AllZip}
 use Rattle.std.proofs.lemmas.List.{length-map}
 use Rattle.std.proofs.lemmas.List.Elements.{All-nil}
 use Rattle.std.proofs.lemmas.Slice.Zip.{AllZip-long}
 use Rattle.std.proofs.lemmas.Option.{slice_get-get_or}
 use Rattle.omf_records.specs.Values.{Rec}
 use Rattle.omf_check.specs.Module.{Module, records_in}
-use Rattle.omf_check.specs.Tables.{segments, groups, entry}
+use Rattle.omf_check.specs.Tables.{entry}
 use Rattle.omf_check.specs.WellFormed.{recs}
-use Rattle.omf_placement.specs.declared.frame.Placed.{Placed}
 use Rattle.omf_placement.specs.Placement.{Places}
-use Rattle.omf_layout.specs.declared.options.Frames.{Frames}
 use Rattle.omf_layout.specs.declared.options.Options.{Options}
 use Rattle.omf_layout.specs.Layout.{Laid}
 use Rattle.omf_layout.specs.Reading.{IsShortFrame, IsShortPlace, AreShort}
-use Rattle.omf_layout.proofs.FitLaws.{map_some}
 use Rattle.omf_layout.proofs.TableLaws.{entry-at}
-use Rattle.omf_arrange.specs.Laying.{Lying, laid, arranged}
-use Rattle.omf_arrange.specs.Placing.{segments_in, all_segments_in, lows, with_frames, all_with_frames, group_frames, frame_named, place_or_none, placed}
-use Rattle.omf_arrange.specs.Portions.{Named, typed_modules, name_at}
-use Rattle.omf_draft.specs.Laws.{DraftsAreRead}
-use Rattle.omf_draft.specs.Reading.{HasEntries, IsReadBack}
+use Rattle.omf_linking.specs.Parts.{parsed_parts}
+use Rattle.omf_linking.specs.Placing.{places_of}
+use Rattle.omf_arrange.specs.Laws.{FitsSoFar, FitModules, PlacedLieApart}
+use Rattle.omf_arrange.specs.Laying.{laid}
+use Rattle.omf_arrange.specs.Placing.{placed}
+use Rattle.omf_arrange.specs.Portions.{typed_modules}
+use Rattle.omf_arrange.proofs.FitLaws.{places-fit, places-lie-apart}
+use Rattle.omf_draft.specs.Laws.{IsDraft, DraftsAreRead, DraftsFit, DraftsLieApart}
+use Rattle.omf_draft.specs.Reading.{GivesPlaces, HasEntries}
 use Rattle.omf_draft.specs.Text.{link_text}
 use Rattle.omf_draft.proofs.DraftLaws.{link-text-read}
 
-length-range : (k n : ℕ) → length (range_with_len k n) ≡ n
-length-range k zero = refl
-length-range k (suc n) = ap suc (length-range (k + 1) n)
-
-each-has : (frames : Frames) (named : List (Named Placed)) (ls : List Lying) (k : ℕ) (ms : List (List Rec)) → AllZip HasEntries ms (map (with_frames frames named) (zip ms (map (segments_in ls) (enumerate_from k ms))))
-each-has frames named ls k [] = tt
-each-has frames named ls k (m ∷ ms) = (
-  record {
-    segments = length-map (range_with_len 1 (length (segments m))) (place_or_none ls k) ∙ length-range 1 (length (segments m));
-    groups = length-map (groups m) (λ g. frame_named frames named (name_at m g.name.item));
-    externals = refl;
-  },
-  each-has frames named ls (k + 1) ms,
-)
+each-has : (ms : List (List Rec)) (pls : List Places) → AllZip FitsSoFar ms pls → AllZip HasEntries ms pls
+each-has [] [] f = tt
+each-has [] (pl ∷ pls) f = absurd f
+each-has (m ∷ ms) [] f = absurd f
+each-has (m ∷ ms) (pl ∷ pls) f = (record { segments = f.0.entries.segments; groups = f.0.entries.groups; externals = f.0.no_externals }, each-has ms pls f.1)
 
 pub all-have : (o : Options) (ms : List (List Rec)) (l : Laid (List Places)) → placed o ms ≡ Some l → AllZip HasEntries ms l.what
-all-have o ms l h = map_some _ (arranged o ms) l h (λ x e g.
-    subst (λ (k : Laid (List Places)). AllZip HasEntries ms k.what) g (each-has o.frames (lows ms (all_segments_in x.what ms)) x.what 0 ms))
+all-have o ms l h = each-has ms l.what (places-fit o ms l h).so_far
 
 pub drafts-are-read : DraftsAreRead
 drafts-are-read o ms l h some short = link-text-read o.frames ms l.what some (all-have o ms l h) short
+
+-- What a draft's text gives the modules is what it was made of.
+same-value : {A E : Type 0} (r : Result A E) (x y : A) → r ≡ Ok x → r ≡ Ok y → x ≡ y
+same-value r x y e f = cc
+
+given-same : (o : Options) (ms : List (List Rec)) (l : Laid (List Places)) (pls : List Places) → IsDraft o ms l → GivesPlaces ms (link_text o.frames ms l.what) pls → l.what ≡ pls
+given-same o ms l pls d g =
+    let read = drafts-are-read o ms l d.is d.some d.short in
+    let parts = same-value (parsed_parts (link_text o.frames ms l.what)) read.parts g.parts read.parses g.parses in
+    same-value (places_of ms g.parts) l.what pls (sym (ap (places_of ms) parts) ∙ read.places) g.places
+
+pub drafts-fit : DraftsFit
+drafts-fit o ms l pls d g = subst (FitModules ms) (given-same o ms l pls d g) (places-fit o ms l d.is)
+
+pub drafts-lie-apart : DraftsLieApart
+drafts-lie-apart o ms l pls d g = subst (λ xs. PlacedLieApart o ms (laid xs l.free)) (given-same o ms l pls d g) (places-lie-apart o ms l d.is)
 
 -- The entries of a module.
 pub has-at : (ms : List Module) (pls : List Places) (j : ℕ) (m : Module) (pl : Places) → m ≡ get_or ms j m → pl ≡ get_or pls j pl → j < length ms → AllZip HasEntries (typed_modules ms) pls → HasEntries (recs (records_in m.bytes)) pl

@@ -19,3 +19,9 @@ pub record HasEntries (m : List Rec) (pl : Places) : Type 0 where
   pub segments : length pl.segments ≡ length (segments m)
   pub groups : length pl.groups ≡ length (groups m)
   pub externals : pl.externals ≡ []
+
+-- What a text gives modules when it is read as the text of a link, whatever it may give besides.
+pub record GivesPlaces (ms : List (List Rec)) (text : List ℕ) (pls : List Places) : Type 0 where
+  pub parts : List Part
+  pub parses : parsed_parts text ≡ Ok parts
+  pub places : places_of ms parts ≡ Ok pls

@@ -1,6 +1,6 @@
 -- A layout fits its module.
-use Rattle.std.proofs.Common.{◌≡◌, ℕ, zero, suc, ◌+◌, ◌<◌, List, [], ◌∷◌, ◌++◌, length, refl, sym, ap, ap₂, ◌∙◌, subst, arith, length-append}
-use Rattle.std.specs.Prelude.{map, filter_map, All, Option, Some, None, option_map, option_and_then, slice_get, ⊤}
+use Rattle.std.proofs.Common.{◌≡◌, ℕ, zero, suc, ◌+◌, List, [], ◌∷◌, ◌++◌, length, refl, sym, ap, ◌∙◌, subst, arith}
+use Rattle.std.specs.Prelude.{filter_map, All, Option, Some, None, option_map, slice_get}
 use Rattle.std.specs.List.{range_with_len, zip}
 use Rattle.std.proofs.lemmas.List.{length-map}
 use Rattle.std.proofs.lemmas.List.Elements.{All-nil, All-cons, All-head}
@@ -19,8 +19,8 @@ use Rattle.omf_reloc.proofs.ReachLaws.{fits-to}
 use Rattle.omf_layout.specs.declared.alignment.Alignment.{Alignment}
 use Rattle.omf_layout.specs.declared.options.Frames.{Frames}
 use Rattle.omf_layout.specs.declared.options.Options.{Options}
-use Rattle.omf_layout.specs.Layout.{Laid, and_then_more, all_laid, segment_at, segment_laid, segments_laid, group_frame, group_frames, external_laid, externals_laid, spare, behind_communals, LaidOut, laid_out, layout_of}
-use Rattle.omf_layout.specs.Laws.{IsFar, FitsModule, LayoutsFit}
+use Rattle.omf_layout.specs.Layout.{Laid, all_laid, segment_at, segment_laid, segments_laid, group_frame, group_frames, external_laid, externals_laid, spare, behind_communals, LaidOut, laid_out, layout_of}
+use Rattle.omf_layout.specs.Laws.{IsFar, LayoutsFit}
 use Rattle.omf_layout.specs.Wants.{bytes_aligned, alignments, rooms}
 use Rattle.omf_layout.proofs.TableLaws.{length-alignments, length-rooms, entry-at}
 
@@ -125,7 +125,7 @@ module _ (o : Options) (m : List Rec) (l : LaidOut) (h : layout_of o m ≡ Some 
   pub layout-fits : Fits l.places m
   layout-fits = record { segment_count = segment-count; group_count = group-count; external_count = external-count; absolute = absolute-at }
 
--- Where nothing is misplaced, the first fault is a reference's.
+-- Where a placement fits, the first fault is a reference's.
 all-far : (xs : List ((ℕ × ℕ) × Option Cause)) → All IsFar (filter_map far_fault xs)
 all-far [] = All-nil IsFar
 all-far ((p, None) ∷ xs) = all-far xs
@@ -135,9 +135,9 @@ first-far : (xs : List ReachFault) (f : ReachFault) → All IsFar xs → slice_g
 first-far [] f h e = absurd (none-some f e)
 first-far (x ∷ xs) f h e = subst IsFar (same_Some x f e) (All-head IsFar x xs h)
 
+pub no-entry-named : (m : List Rec) (pl : Places) → Fits pl m → (f : ReachFault) → reach_fault pl m ≡ Some f → IsFar f
+no-entry-named m pl fit f e = first-far (far_faults pl m) f (all-far (zip (all_reference_places m) (causes pl (pieces m))))
+    (ap (λ xs. slice_get (xs ++ far_faults pl m) 0) (sym (fits-to pl m fit)) ∙ e)
+
 pub layouts-fit : LayoutsFit
-layouts-fit o m l h = record {
-  fits = layout-fits o m l h;
-  names_no_entry = λ f e. first-far (far_faults l.places m) f (all-far (zip (all_reference_places m) (causes l.places (pieces m))))
-      (ap (λ xs. slice_get (xs ++ far_faults l.places m) 0) (sym (fits-to l.places m (layout-fits o m l h))) ∙ e);
-}
+layouts-fit o m l h = let fit = layout-fits o m l h in record { fits = fit; names_no_entry = no-entry-named m l.places fit }

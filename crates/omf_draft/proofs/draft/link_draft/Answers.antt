@@ -1,4 +1,4 @@
-use Rattle.std.proofs.Common.{◌≡◌, ◌<◌, ◌∙◌, List, length, sym, subst, arith}
+use Rattle.std.proofs.Common.{◌<◌, ◌∙◌, List, length, sym, subst, arith}
 use Rattle.std.specs.Prelude.{string_bytes}
 use Rattle.std.specs.List.{AllZip}
 use Rattle.std.proofs.lemmas.List.{length-map}
@@ -17,14 +17,14 @@ use Rattle.omf_draft.proofs.draft.link_draft.Goals as goal
 pub text_of-requires : goal.text_of-requires
 text_of-requires c =
     let ms = typed_modules c.args.modules.now in
-    subst (AllZip HasEntries ms) (sym c.deref.ensures.value) (all-have c.args.options ms (laid c.in_ok-placements.placements.items c.in_ok-placements._free) c.in_ok-placements.ensures.answer)
+    subst (AllZip HasEntries ms) (sym c.deref.ensures.value) (all-have _ ms (laid c.in_ok-placements.placements.items c.in_ok-placements._free) c.in_ok-placements.ensures.answer)
 
 pub returns-clause-read : goal.returns-clause-read
 returns-clause-read c = λ l h some.
     let ms = typed_modules c.args.modules.now in
     let pls = c.deref.result.now in
     let items = c.in_ok-placements.placements.items in
-    let has = subst (AllZip HasEntries ms) (sym c.deref.ensures.value) (all-have c.args.options ms (laid items c.in_ok-placements._free) c.in_ok-placements.ensures.answer) in
+    let has = subst (AllZip HasEntries ms) (sym c.deref.ensures.value) (all-have _ ms (laid items c.in_ok-placements._free) c.in_ok-placements.ensures.answer) in
     let many : 0 < length ms = omega (arith, some, length-map c.args.modules.now (λ (m : Module). recs (records_in m.bytes))) in
     let read : IsReadBack ms pls (string_bytes c.in_ok-text.text) = subst (IsReadBack ms pls) (sym c.in_ok-text.ensures.text) (link-text-read c.args.options.frames ms pls many has c.in_ok-text.ensures.short) in
     subst (λ (k : Laid (List Places)). IsReadBack ms k.what (string_bytes c.in_ok-text.text)) (same_Some (laid items c.in_ok-placements._free) l (sym c.in_ok-placements.ensures.answer ∙ h))

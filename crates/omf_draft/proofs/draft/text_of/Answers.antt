@@ -1,5 +1,5 @@
-use Rattle.std.proofs.Common.{◌≡◌, ◌+◌, ◌++◌, ◌∙◌, refl, ap, drop, length, arith, rules}
-use Rattle.std.specs.Prelude.{flat_map, zip}
+use Rattle.std.proofs.Common.{refl, ap, arith, rules}
+use Rattle.std.specs.Prelude.{flat_map}
 use Rattle.std.specs.List.{enumerate_from}
 use Rattle.omf_check.specs.Module.{records_in}
 use Rattle.omf_check.specs.WellFormed.{recs}

@@ -1,4 +1,4 @@
-use Rattle.std.proofs.Common.{◌≡◌, ◌+◌, ◌∙◌, refl, ap, sym, arith, rules, false}
+use Rattle.std.proofs.Common.{◌≡◌, ◌+◌, refl, arith, rules, false}
 use Rattle.std.specs.Prelude.{Some, unwrap_or, zip}
 use Rattle.omf_check.specs.Module.{records_in}
 use Rattle.omf_check.specs.Tables.{externals, locals, entry}

@@ -7,7 +7,7 @@ use Rattle.omf_arrange.specs.declared.portion.Portion.{Portion}
 use Rattle.omf_placement.specs.Placement.{no_place}
 use Rattle.omf_arrange.specs.Laying.{Lying}
 use Rattle.omf_arrange.specs.Placing.{IsPlaceTable}
-use Rattle.omf_arrange.proofs.PlaceLaws.{place-again, place-first, looked-none, looked-some}
+use Rattle.omf_derive.proofs.PairTableLaws.{again, first, looked-none, looked-some}
 use Rattle.omf_arrange.proofs.places.PlaceTable.of.Goals as goal
 use Rattle.omf_arrange.proofs.places.PlaceTable.of.Goals.{then-is_none+in_ok-insert, else-is_none}
 
@@ -23,9 +23,9 @@ loop-one-preserved c =
     subst (IsPlaceTable c.if-is_none.by_segment) (sym more) (elim c.if-is_none.branch [
       | then-is_none+in_ok-insert w ↦
           subst (λ n. IsPlaceTable n (take k xs ++ g ∷ [])) (sym w.by_segment-is)
-          (place-first (take k xs) g m w.insert.new.self (sym c.get.ensures.value ∙ looked-none c.get.result c.is_none.result c.is_none.ensures w.if-is_none.true) w.in_ok-insert.ensures.updates c.loop-one.invariant)
+          (first (λ x. (x.0.«module», x.0.index)) (λ x. x.1) (take k xs) g m w.insert.new.self (sym c.get.ensures.value ∙ looked-none c.get.result c.is_none.result c.is_none.ensures w.if-is_none.true) w.in_ok-insert.ensures.updates c.loop-one.invariant)
       | else-is_none w ↦
           let s = looked-some c.get.result c.is_none.result c.is_none.ensures w.if-is_none.false in
           subst (λ n. IsPlaceTable n (take k xs ++ g ∷ [])) (sym w.by_segment-is)
-          (place-again (take k xs) g m s.0 (sym c.get.ensures.value ∙ s.1) c.loop-one.invariant)
+          (again (λ x. (x.0.«module», x.0.index)) (λ x. x.1) (take k xs) g m s.0 (sym c.get.ensures.value ∙ s.1) c.loop-one.invariant)
     ])
