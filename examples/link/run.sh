@@ -26,6 +26,13 @@ fi
 
 cat start.obj say.obj mark.obj program.link | "$link" image > "$work/shown"
 cat "$work/shown"
+
+# The draft of their text, with the code in the frame of base 0 and the mark at the end of the sector, says the same as program.link.
+cat start.obj say.obj mark.obj | "$link" draft --base 7C00 --real > "$work/draft"
+sed 's/^S 7C00 real/S 7C00 0 0/; s/^S 7C35 7C00 7C0/S 7C35 0 0/; s/^S 7CA6 real/S 7DFE 0 0/' "$work/draft" > "$work/drafted"
+cat start.obj say.obj mark.obj "$work/drafted" | "$link" image | cmp - "$work/shown"
+echo "the draft, with three lines changed, gives the same"
+
 # srec_cat reads the lines as they are, but for the start. The sector begins at 7C00H and has 512 bytes; those that no line covers are 0.
 sed '/^START/d' "$work/shown" | srec_cat - -hex-dump -offset -0x7C00 -fill 0 0 512 -o "$work/sector.img" -binary
 
