@@ -1,15 +1,19 @@
 #!/usr/bin/env python3
-"""Counts the lines of each crate, as the table of docs/ARCHITECTURE.md has them: house.py
+"""Two tables of docs/ARCHITECTURE.md: house.py counts the lines of each crate; house.py laws has what is believed of computed words.
 
-Lines that are empty, a comment alone, or an import are not counted. Believed are the definitions in specs/ that the contracts cite, less
-the worked examples that are evaluated (Rows.antt), which stand under tests; proofs are proofs/; code is src/ with the contracts in it;
-tests are the test functions and what they stand on, and the worked examples.
+Lines that are empty, a comment alone, or an import are not counted. Believed are the definitions in specs/, less the worked examples
+that are evaluated (Rows.antt, and the modules that they are about), which stand under tests; inner are those of specs/Inner/, which
+nobody needs to believe; proofs are proofs/; code is src/ with the contracts in it; tests are the test functions and what they stand on.
+
+A file of specs/ may import a word of an Inner only below a line that names the law which ties the word to its definition:
+`-- computed: LAW.` Where one does not, house.py laws ends with status 1.
 """
 import pathlib
 import re
+import sys
 
 ROOT = pathlib.Path(__file__).resolve().parent.parent / "crates"
-KINDS = ["believed", "proofs", "code", "tests"]
+KINDS = ["believed", "inner", "proofs", "code", "tests"]
 
 
 def lines_of(path):
@@ -29,12 +33,43 @@ def lines_of(path):
 def kind_of(crate, path):
     parts = path.relative_to(crate).parts
     is_test = crate.name.endswith("_tests") or crate.name == "omf_trials"
-    if is_test or path.stem in ("tests", "rows", "Rows") or "tests" in parts:
+    if is_test or path.stem in ("tests", "rows", "Rows", "Modules") or "tests" in parts:
         return "tests"
+    if parts[:2] == ("specs", "Inner"):
+        return "inner"
     return {"specs": "believed", "proofs": "proofs", "src": "code"}.get(parts[0])
 
 
+def laws():
+    """Each computed word that a definition is given by, with the law that ties it to what is believed; whether all are tied."""
+    tied, untied = {}, []
+    for path in sorted(ROOT.glob("*/specs/*.antt")):
+        law = None
+        for line in path.read_text(encoding="utf-8").splitlines():
+            named = re.match(r"-- computed: (.*)\.$", line)
+            used = re.match(r"use Rattle\.(omf_\w+)\.specs\.Inner\.(\w+)\.\{(.*)\}", line)
+            if named:
+                law = named[1]
+            elif used:
+                user = f"`{path.parts[-3]}` {path.stem}"
+                if law is None and path.stem not in ("Rows", "Modules"):
+                    untied.append(user)
+                for word in used[3].split(", ") if law else []:
+                    tied.setdefault((used[1], used[2], word, law), []).append(user)
+            else:
+                law = None
+    print("| Word | Of | By the law | Used in |")
+    print("|---|---|---|---|")
+    for (crate, module, word, law), users in sorted(tied.items()):
+        print(f"| `{word}` | `{crate}` {module} | {law} | {', '.join(users)} |")
+    for user in untied:
+        print(f"without a law: {user}", file=sys.stderr)
+    return not untied
+
+
 def main():
+    if sys.argv[1:] == ["laws"]:
+        sys.exit(0 if laws() else 1)
     print("| Crate | " + " | ".join(KINDS) + " |")
     print("|---|" + "---|" * len(KINDS))
     sums = dict.fromkeys(KINDS, 0)

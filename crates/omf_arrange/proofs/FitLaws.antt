@@ -24,7 +24,8 @@ use Rattle.omf_arrange.specs.Laws.{FitsSoFar, FitsModule, FitModules, PlacesFit,
 use Rattle.omf_arrange.specs.Laying.{Lying, laid, arranged}
 use Rattle.omf_arrange.specs.Order.{place_of}
 use Rattle.omf_arrange.specs.Placing.{place_or_none, segments_in, all_segments_in, lows, frame_named, with_frames, all_with_frames}
-use Rattle.omf_arrange.specs.Portions.{Named, attributes, name_at, portion}
+use Rattle.omf_layout.specs.Wants.{attributes}
+use Rattle.omf_arrange.specs.Portions.{Named, name_at, portion}
 use Rattle.omf_arrange.proofs.ApartLaws.{arranged-lie-apart}
 use Rattle.omf_arrange.proofs.FoundLaws.{below-some, own-at, segments-are-found}
 

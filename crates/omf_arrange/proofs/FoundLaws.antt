@@ -10,7 +10,7 @@ use Rattle.omf_check.specs.declared.segment.SegInfo.{SegInfo}
 use Rattle.omf_placement.specs.Placement.{no_place}
 use Rattle.omf_layout.specs.Layout.{Laid}
 use Rattle.omf_layout.specs.declared.options.Options.{Options}
-use Rattle.omf_layout.proofs.TableLaws.{entry-at}
+use Rattle.omf_layout.proofs.TableLaws.{entry-at, length-attributes}
 use Rattle.omf_arrange.specs.declared.portion.Combination.{Combination}
 use Rattle.omf_arrange.specs.declared.portion.Combination.TheVariants.{Joined, Common, Alone}
 use Rattle.omf_arrange.specs.declared.portion.Portion.{Portion}
@@ -19,11 +19,11 @@ use Rattle.omf_arrange.specs.Laws.{count, IsLaidAt, IsToldBy, SegmentsAreFound}
 use Rattle.omf_arrange.specs.Laying.{Lying, arranged}
 use Rattle.omf_arrange.specs.Order.{runs_in, runs, combined_by, in_order}
 use Rattle.omf_arrange.specs.Placing.{is_of}
-use Rattle.omf_arrange.specs.Portions.{Named, Classed, attributes, classed, portion, portions_in, portions}
+use Rattle.omf_layout.specs.Wants.{attributes}
+use Rattle.omf_arrange.specs.Portions.{Named, Classed, classed, portion, portions_in, portions}
 use Rattle.omf_arrange.proofs.ApartLaws.{Each, each-at, each-both}
 use Rattle.omf_arrange.proofs.OnceLaws.{count-both, count-seen, ordered-once}
 use Rattle.omf_arrange.proofs.OrderedLaws.{those-in-runs}
-use Rattle.omf_arrange.proofs.PortionLaws.{length-attributes}
 
 -- What passes a test is found.
 record IsFound {A : Type 0} (t : A → Bool) (xs : List A) : Type 0 where

@@ -11,11 +11,11 @@ use Rattle.std.proofs.lemmas.Bool.Decides.{leb_tells}
 use Rattle.std.proofs.lemmas.Map.Text.{btree_map_updates_str}
 use Rattle.std.proofs.lemmas.Option.{none-some, same_Some}
 use Rattle.omf_records.specs.Values.{Rec, GroupItem}
-use Rattle.omf_check.specs.Module.{Module, records_in}
+use Rattle.omf_check.specs.Module.{Module, records_in, typed_modules}
 use Rattle.omf_check.specs.Tables.{groups, entry}
 use Rattle.omf_check.specs.WellFormed.{recs}
 use Rattle.omf_placement.specs.declared.frame.Placed.{Placed}
-use Rattle.omf_placement.specs.Lowest.{lower_than}
+use Rattle.omf_placement.specs.Inner.Lowest.{lower_than}
 use Rattle.omf_placement.specs.Placement.{lower, lowest}
 use Rattle.omf_placement.proofs.GroupLaws.{if_low, if_high}
 use Rattle.omf_layout.proofs.TableLaws.{entry-at}
@@ -23,7 +23,7 @@ use Rattle.omf_arrange.specs.Gathered.{of_name}
 use Rattle.std.specs.List.{enumerate_from}
 use Rattle.omf_arrange.specs.Laying.{Lying}
 use Rattle.omf_arrange.specs.Placing.{HasMore, IsLowTable, low_of, segments_in}
-use Rattle.omf_arrange.specs.Portions.{Named, typed_modules}
+use Rattle.omf_arrange.specs.Portions.{Named}
 use Rattle.omf_arrange.proofs.GatherLaws.{Name, same, back, of-this, of-other}
 
 lower-grouped : (p q r : Placed) → lower p (Some (lower q (Some r))) ≡ lower (lower p (Some q)) (Some r)
@@ -69,25 +69,6 @@ low-more m n x p q e u ls h name = elim (cases_Bool (bytes_eq x name)) [
 
 pub none-more : (m : Map) (xs : List (Named Placed)) → xs ≡ [] → HasMore m m xs
 none-more m xs e = subst (HasMore m m) (sym e) (λ ls h. subst (IsLowTable m) (sym (append-nil ls)) h)
-
--- Of all, some are in the table n and not in m, and these are still to come.
-pub record IsFilled (m n : Map) (rest all : List (Named Placed)) : Type 0 where
-  pub done : List (Named Placed)
-  pub more : HasMore m n done
-  pub whole : done ++ rest ≡ all
-
-pub fill-start : (m : Map) (rest all : List (Named Placed)) → rest ≡ all → IsFilled m m rest all
-fill-start m rest all e = record { done = []; more = λ ls h. subst (IsLowTable m) (sym (append-nil ls)) h; whole = e }
-
-pub fill-more : (m n o : Map) (xs next rest all : List (Named Placed)) → next ≡ xs ++ rest → HasMore n o xs → IsFilled m n next all → IsFilled m o rest all
-fill-more m n o xs next rest all e g f = record {
-  done = f.done ++ xs;
-  more = λ ls h. subst (IsLowTable o) (append_assoc ls f.done xs) (g (ls ++ f.done) (f.more ls h));
-  whole = append_assoc f.done xs rest ∙ ap (λ ys. f.done ++ ys) (sym e) ∙ f.whole;
-}
-
-pub fill-end : (m n : Map) (rest all : List (Named Placed)) → rest ≡ [] → IsFilled m n rest all → HasMore m n all
-fill-end m n rest all e f = subst (HasMore m n) (sym (append-nil f.done) ∙ ap (λ ys. f.done ++ ys) (sym e) ∙ f.whole) f.more
 
 -- An empty map is the table of no groups.
 pub fill-empty : (m n : Map) (all : List (Named Placed)) → m.entries ≡ [] → HasMore m n all → IsLowTable n all

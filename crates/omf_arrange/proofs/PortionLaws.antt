@@ -1,33 +1,11 @@
 -- The segments of modules, one more at a time.
-use Rattle.std.proofs.Common.{◌≡◌, ℕ, zero, suc, ◌+◌, ◌<◌, ◌≤◌, List, [], ◌∷◌, ◌++◌, length, drop, get_or, refl, sym, ap, ap₂, ◌∙◌, arith, length-append, append_assoc, append-nil}
+use Rattle.std.proofs.Common.{◌≡◌, ℕ, zero, suc, ◌+◌, ◌<◌, ◌≤◌, List, [], ◌∷◌, ◌++◌, length, drop, get_or, refl, sym, ap, ap₂, ◌∙◌, arith, append_assoc, append-nil}
 use Rattle.std.proofs.Math.Seq.{drop-nil}
 use Rattle.std.specs.Prelude.{map, Some, slice_get}
 use Rattle.std.specs.List.{zip, enumerate_from}
 use Rattle.std.proofs.lemmas.Option.{none-some, same_Some}
-use Rattle.omf_records.specs.Values.{Rec, Contents, Header, Comment, Names, Segment, Group, Externs, Publics, Communals, Plain, Iterated, Fixups, ModEnd, Carried}
-use Rattle.omf_check.specs.Module.{Module, records_in}
-use Rattle.omf_check.specs.Tables.{segments, defined_segments}
+use Rattle.omf_check.specs.Module.{Module, records_in, typed_modules}
 use Rattle.omf_check.specs.WellFormed.{recs}
-use Rattle.omf_arrange.specs.Portions.{attributes, attributes_in, typed_modules}
-
-one-attribute : (kind : ℕ) (c : Contents) → length (attributes_in c) ≡ length (defined_segments kind c)
-one-attribute kind (Segment s) = refl
-one-attribute kind (Header n) = refl
-one-attribute kind (Comment a b t) = refl
-one-attribute kind (Names ns) = refl
-one-attribute kind (Group g) = refl
-one-attribute kind (Externs es) = refl
-one-attribute kind (Publics p) = refl
-one-attribute kind (Communals cs) = refl
-one-attribute kind (Plain d) = refl
-one-attribute kind (Iterated d) = refl
-one-attribute kind (Fixups fs) = refl
-one-attribute kind (ModEnd b s) = refl
-one-attribute kind (Carried bs) = refl
-
-pub length-attributes : (m : List Rec) → length (attributes m) ≡ length (segments m)
-length-attributes [] = refl
-length-attributes (r ∷ m) = length-append (attributes_in r.contents) (attributes m) ∙ ap₂ (λ a b. a + b) (one-attribute r.kind r.contents) (length-attributes m) ∙ sym (length-append (defined_segments r.kind r.contents) (segments m))
 
 -- The next pair of two lists, with its number.
 pub next-numbered : {A B : Type 0} (k : ℕ) (xs : List A) (ys : List B) (j : ℕ) (x : A) (y : B) → slice_get xs j ≡ Some x → slice_get ys j ≡ Some y

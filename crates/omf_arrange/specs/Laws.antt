@@ -3,7 +3,8 @@ use Rattle.std.specs.Prelude.{◌≡◌, ◌≢◌, ◌⊎◌, ℕ, ◌+◌, ◌
 use Rattle.std.specs.List.{AllZip, filter}
 use Rattle.omf_records.specs.Values.{Rec}
 use Rattle.omf_derive.specs.Derivation.{IsPlaceOf}
-use Rattle.omf_derive.specs.Derive.{derived}
+-- computed: derived_is_taken of omf_derive.
+use Rattle.omf_derive.specs.Inner.Derived.{derived}
 use Rattle.omf_derive.specs.declared.given.Given.{Given}
 use Rattle.omf_placement.specs.Placement.{Places, absolute_place}
 use Rattle.omf_reloc.specs.Reach.{Fits, reach_fault}
@@ -11,13 +12,13 @@ use Rattle.omf_reloc.specs.declared.fault.ReachFault.{ReachFault}
 use Rattle.omf_layout.specs.Layout.{Laid}
 use Rattle.omf_layout.specs.Laws.{IsFar, IsMultiple}
 use Rattle.omf_layout.specs.Room.{limit}
-use Rattle.omf_layout.specs.Wants.{bytes_aligned}
+use Rattle.omf_layout.specs.Wants.{bytes_aligned, attributes}
 use Rattle.omf_layout.specs.declared.options.Frames.{Frames}
 use Rattle.omf_layout.specs.declared.options.Options.{Options}
 use Rattle.omf_arrange.specs.Laying.{Lying, arranged}
 use Rattle.omf_arrange.specs.Order.{order, place_of, in_order, runs}
-use Rattle.omf_arrange.specs.Placing.{place_or_none, placed}
-use Rattle.omf_arrange.specs.Portions.{attributes, portion, portions}
+use Rattle.omf_arrange.specs.Placing.{place_or_none, arranged_places}
+use Rattle.omf_arrange.specs.Portions.{portion, portions}
 use Rattle.omf_check.specs.Tables.{segments, entry}
 use Rattle.omf_check.specs.declared.segment.SegInfo.{SegInfo}
 use Rattle.omf_arrange.specs.declared.portion.Portion.{Portion}
@@ -97,7 +98,7 @@ pub record FitModules (ms : List (List Rec)) (pls : List Places) : Type 0 where
   pub derivations : (given : List Given) (all : List Places) → derived (zip ms pls) given ≡ Ok all → AllZip FitsModule ms all
 
 abbrev pub PlacesFit : Type 0
-PlacesFit = (o : Options) (ms : List (List Rec)) (l : Laid (List Places)) → placed o ms ≡ Some l → FitModules ms l.what
+PlacesFit = (o : Options) (ms : List (List Rec)) (l : Laid (List Places)) → arranged_places o ms ≡ Some l → FitModules ms l.what
 
 -- A segment is what the SEGDEF of its index says, in these records of its module.
 pub record IsToldBy (m : List Rec) (x : Portion) : Type 0 where
@@ -130,4 +131,4 @@ pub record PlacedLieApart (o : Options) (ms : List (List Rec)) (l : Laid (List P
   pub apart : (x y : Lying) → IsPlaced ms l.what x → IsPlaced ms l.what y → IsRelocatable x → IsRelocatable y → place_of x.0 ≢ place_of y.0 → LieApart x y ⊎ LieApart y x
 
 abbrev pub PlacesLieApart : Type 0
-PlacesLieApart = (o : Options) (ms : List (List Rec)) (l : Laid (List Places)) → placed o ms ≡ Some l → PlacedLieApart o ms l
+PlacesLieApart = (o : Options) (ms : List (List Rec)) (l : Laid (List Places)) → arranged_places o ms ≡ Some l → PlacedLieApart o ms l

@@ -65,8 +65,8 @@ abbrev pub all_with_frames : Frames → List (List Rec) → List (List Placed) �
 all_with_frames frames ms xs = map (with_frames frames (lows ms xs)) (zip ms xs)
 
 -- The places of all modules, and the first address that is free behind what is laid; none where something has no room.
-abbrev pub placed : Options → List (List Rec) → Option (Laid (List Places))
-placed o ms = option_map (λ l. laid (all_with_frames o.frames ms (all_segments_in l.what ms)) l.free) (arranged o ms)
+abbrev pub arranged_places : Options → List (List Rec) → Option (Laid (List Places))
+arranged_places o ms = option_map (λ l. laid (all_with_frames o.frames ms (all_segments_in l.what ms)) l.free) (arranged o ms)
 
 -- A table of what is laid, by module and index: it has the place of each segment.
 abbrev pub IsPlaceTable : BTreeMap (ℕ × ℕ) Placed → List Lying → Type 0

@@ -1,14 +1,12 @@
 -- The segments of several modules, and how each lies beside those of its class and name (TIS OMF 1.1, "SEGDEF").
-use Rattle.std.specs.Prelude.{ℕ, List, [], ◌∷◌, map, flat_map, unwrap_or, ◌==◌, if◌then◌else◌}
+use Rattle.std.specs.Prelude.{ℕ, List, [], map, flat_map, unwrap_or, ◌==◌, if◌then◌else◌}
 use Rattle.std.specs.List.{enumerate_from, zip}
 use denote.Ref.{Bor}
 use Rattle.omf_frame.specs.Bytes.{bits}
-use Rattle.omf_records.specs.Values.{Rec, Contents, Segment, alignment}
-use Rattle.omf_check.specs.Module.{Module, records_in}
+use Rattle.omf_records.specs.Values.{Rec, alignment}
 use Rattle.omf_check.specs.Tables.{names, segments, entry}
-use Rattle.omf_check.specs.WellFormed.{recs}
 use Rattle.omf_check.specs.declared.segment.SegInfo.{SegInfo}
-use Rattle.omf_layout.specs.Wants.{alignment_named}
+use Rattle.omf_layout.specs.Wants.{alignment_named, attributes}
 use Rattle.omf_arrange.specs.declared.portion.Combination.{Combination}
 use Rattle.omf_arrange.specs.declared.portion.Combination.TheVariants.{Joined, Common, Alone}
 use Rattle.omf_arrange.specs.declared.portion.Portion.{Portion}
@@ -22,14 +20,6 @@ combined c = if c == 2 then Joined else (if c == 4 then Joined else (if c == 5 t
 
 abbrev pub combination_named : ℕ → Combination
 combination_named attribute = combined (combination attribute)
-
--- The attributes of a module's segments, in their order.
-abbrev pub attributes_in : Contents → List ℕ
-attributes_in (Segment s) = s.attribute ∷ []
-attributes_in _ = []
-
-abbrev pub attributes : List Rec → List ℕ
-attributes m = flat_map (λ r. attributes_in r.contents) m
 
 -- The name of an index; of none, 0, the empty name.
 abbrev pub name_at : List Rec → ℕ → List ℕ
@@ -55,10 +45,6 @@ portions_in m = map (classed m.1 m.0) (enumerate_from 1 (zip (segments m.1) (att
 
 abbrev pub portions : List (List Rec) → List (Classed Portion)
 portions ms = flat_map portions_in (enumerate_from 0 ms)
-
--- The records of modules that were checked.
-abbrev pub typed_modules : List Module → List (List Rec)
-typed_modules ms = map (λ m. recs (records_in m.bytes)) ms
 
 -- A portion with its names, as the code has them.
 abbrev pub with_names : Bor (List ℕ) × (Bor (List ℕ) × Portion) → Classed Portion

@@ -7,7 +7,7 @@ use Rattle.omf_records.specs.Values.{Rec}
 use Rattle.omf_reloc.specs.Modules.{module_of}
 use Rattle.omf_arrange.specs.Laying.{arranged}
 use Rattle.omf_arrange.specs.Order.{place_of}
-use Rattle.omf_arrange.specs.Placing.{placed}
+use Rattle.omf_arrange.specs.Placing.{arranged_places}
 
 -- A module with the names "", A, B and C, which have the indices 1 to 4, of these records.
 abbrev pub of_records : List (List ℕ) → List Rec
@@ -37,7 +37,7 @@ empty_group name = 0x9A ∷ 0x02 ∷ 0x00 ∷ name ∷ 0x00 ∷ []
 
 -- Where the segments of each module lie, and the frames of its groups, from a base on; and what is free behind them.
 abbrev pub module_places : ℕ → Frames → List (List Rec) → Option (List (List Placed × List Frame) × ℕ)
-module_places base frames ms = option_map (λ l. (map (λ pl. (pl.segments, pl.groups)) l.what, l.free)) (placed (record { base = base; frames = frames }) ms)
+module_places base frames ms = option_map (λ l. (map (λ pl. (pl.segments, pl.groups)) l.what, l.free)) (arranged_places (record { base = base; frames = frames }) ms)
 
 -- A frame of a number, that begins at 16 times the number.
 abbrev pub paragraph_frame : ℕ → Frame

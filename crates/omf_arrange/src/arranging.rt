@@ -1,10 +1,10 @@
 //! The addresses and frames of the segments of several modules.
 
 ghost use Rattle.std.specs.Prelude.{◌≡◌, ◌≤◌, ◌<◌, ◌^◌, IfOk, length};
-ghost use Rattle.omf_records.specs.Seen.{map_ok};
+ghost use Rattle.omf_records.specs.Inner.Seen.{map_ok};
 ghost use Rattle.omf_layout.specs.Layout.{IsAnswer};
 ghost use Rattle.omf_arrange.specs.Laying.{arranged, laid};
-ghost use Rattle.omf_arrange.specs.Portions.{typed_modules};
+ghost use Rattle.omf_check.specs.Module.{typed_modules};
 
 use crate::laying::{Lying, lay_run};
 use crate::portion::portions_of;

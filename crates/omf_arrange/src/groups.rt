@@ -1,21 +1,17 @@
 //! The frames of the groups of several modules.
 
 ghost use Rattle.std.specs.Prelude.{◌≡◌, ◌<◌, ◌^◌, ◌∷◌, [], List, OnOk, IfOk, length, map, filter_map, option_and_then};
-ghost use Rattle.omf_check.specs.Module.{records_in};
-ghost use Rattle.omf_check.specs.Tables.{entry as entry_of};
-ghost use Rattle.omf_check.specs.WellFormed.{recs};
-ghost use Rattle.omf_placement.specs.Lowest.{lower_than};
-ghost use Rattle.omf_placement.specs.Placement.{lowest, members_placed};
-ghost use Rattle.omf_records.specs.Seen.{contents_seen};
+ghost use Rattle.omf_check.specs.Module.{recs_of, typed_modules};
+ghost use Rattle.omf_records.specs.Inner.Seen.{contents_seen};
 ghost use Rattle.omf_records.specs.Values.{Group, GroupItem};
 ghost use Rattle.omf_arrange.specs.Placing.{HasMore, IsLowTable, frame_named, group_frames, low_of, lows, lows_in};
-ghost use Rattle.omf_arrange.specs.Portions.{Named, typed_modules};
+ghost use Rattle.omf_arrange.specs.Portions.{Named};
 
 use crate::portion::name_at;
 use omf_check::Checked;
 use omf_layout::Frames;
-use omf_placement::{Frame, Placed};
-use omf_records::{Items, Member, Rec};
+use omf_placement::{Frame, Placed, lower, lowest_member};
+use omf_records::Rec;
 use std::alloc::{AllocError, Global};
 use std::collections::BTreeMap;
 
@@ -24,50 +20,6 @@ const NO_FRAME: Frame = Frame {
     base: 0,
     selector: 0,
 };
-
-/// The lower of two places, the first of them at a tie.
-fn lower(found: Option<Placed>, place: Placed) -> Placed
-    ensures { result ≡ lower_than found place }
-{
-    match found {
-        Some(lowest) if lowest.address <= place.address => lowest,
-        _ => place,
-    }
-}
-
-/// The place of a group's member.
-fn place_of(member: &Member<'_>, segments: &[Placed]) -> Option<Placed>
-    ensures { result ≡ entry_of segments.now member.now.item }
-{
-    segments
-        .get(usize::from(member.segment.item.0).checked_sub(1)?)
-        .copied()
-}
-
-/// The place of the lowest member, the first of them at a tie; none where there is no member, or one has no place.
-fn lowest_of(members: Items<Member<'_>>, segments: &[Placed]) -> Option<Placed>
-    ensures { result ≡ option_and_then lowest (members_placed segments.now members.entry) }
-{
-    let mut lowest = None;
-    for member in members {
-        match place_of(&member.item, segments) {
-            Some(place) => lowest = Some(lower(lowest, place)),
-            None => return None,
-        }
-    }
-    lowest
-}
-
-/// The place of the lowest member of a group.
-fn low_of(group: &Rec<'_>, segments: &[Placed]) -> Option<Placed>
-    requires { (g : GroupItem) × (contents_seen group.now ≡ Group g) }
-    ensures { (g : GroupItem) → contents_seen group.now ≡ Group g → result ≡ option_and_then lowest (members_placed segments.now g.members) }
-{
-    match group {
-        Rec::Group { members, .. } => lowest_of(members.iter(), segments),
-        _ => None,
-    }
-}
 
 /// The index of a group's name.
 fn group_name(group: &Rec<'_>) -> u16
@@ -104,9 +56,9 @@ impl<'a> LowTable<'a> {
         group: &Rec<'_>,
     ) -> Result<(), AllocError>
         requires { (g : GroupItem) × (contents_seen group.now ≡ Group g) }
-        ensures { (g : GroupItem) → contents_seen group.now ≡ Group g → OnOk result (HasMore self.old.by_name self.new.by_name (filter_map (low_of (recs (records_in «module».entry.now.bytes)) segments.now) (g ∷ []))) }
+        ensures { (g : GroupItem) → contents_seen group.now ≡ Group g → OnOk result (HasMore self.old.by_name self.new.by_name (filter_map (low_of (recs_of «module».entry.now.bytes) segments.now) (g ∷ []))) }
     {
-        match low_of(group, segments) {
+        match lowest_member(group, segments) {
             Some(place) => self.add(name_at(module, group_name(group)), place),
             None => Ok(()),
         }
@@ -114,7 +66,7 @@ impl<'a> LowTable<'a> {
 
     /// Adds the groups of a module whose segments lie so.
     fn add_module(&mut self, module: &'a Checked, segments: &[Placed]) -> Result<(), AllocError>
-        ensures { OnOk result (HasMore self.old.by_name self.new.by_name (lows_in (recs (records_in «module».entry.now.bytes), segments.now))) }
+        ensures { OnOk result (HasMore self.old.by_name self.new.by_name (lows_in (recs_of «module».entry.now.bytes, segments.now))) }
     {
         for before in 0..module.groups() {
             let Some(group) = module.group(before + 1) else {
@@ -163,7 +115,7 @@ impl<'a> LowTable<'a> {
         frames: Frames,
         module: &'a Checked,
     ) -> Result<Vec<Frame>, AllocError>
-        ensures { (ls : List (Named Placed)) → IsLowTable self.now.by_name ls → IfOk result (λ v. v.items ≡ group_frames frames ls (recs (records_in «module».entry.now.bytes))) }
+        ensures { (ls : List (Named Placed)) → IsLowTable self.now.by_name ls → IfOk result (λ v. v.items ≡ group_frames frames ls (recs_of «module».entry.now.bytes)) }
     {
         let mut each = Vec::new(alloc);
         for before in 0..module.groups() {

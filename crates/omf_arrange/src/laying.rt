@@ -1,7 +1,7 @@
 //! Where the segments of one class and name are laid.
 
 ghost use Rattle.std.specs.Prelude.{◌≡◌, ◌≤◌, ◌<◌, ◌+◌, ◌++◌, ◌^◌, IfOk, OnOk};
-ghost use Rattle.omf_records.specs.Seen.{map_ok};
+ghost use Rattle.omf_records.specs.Inner.Seen.{map_ok};
 ghost use Rattle.omf_layout.specs.Layout.{IsAnswer, and_then_more, all_laid};
 ghost use Rattle.omf_layout.specs.Room.{limit};
 ghost use Rattle.omf_arrange.specs.Laying.{all_at, alone_laid, common_laid, joined_in, joined_laid, laid, longest, run_laid, strictest};

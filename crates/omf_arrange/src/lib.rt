@@ -2,7 +2,6 @@
 #![tactic(auto)]
 
 mod arranging;
-mod attributes;
 mod gathering;
 mod groups;
 pub mod laws;

@@ -2,7 +2,7 @@
 
 ghost use Rattle.std.specs.Prelude.{◌≡◌, ◌++◌, ◌<◌, ◌^◌, OnOk, IfOk, length, map};
 ghost use Rattle.omf_arrange.specs.Order.{in_order, order, place_of};
-ghost use Rattle.omf_arrange.specs.Portions.{typed_modules};
+ghost use Rattle.omf_check.specs.Module.{typed_modules};
 
 use crate::portion::{Combination, Portion, portions_of};
 use crate::runs::{combined_by, runs_in};

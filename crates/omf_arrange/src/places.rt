@@ -1,11 +1,9 @@
 //! Where each segment of several modules lies.
 
 ghost use Rattle.std.specs.Prelude.{◌≡◌, ◌<◌, ◌^◌, List, IfOk, length, map};
-ghost use Rattle.omf_check.specs.Module.{records_in};
-ghost use Rattle.omf_check.specs.WellFormed.{recs};
+ghost use Rattle.omf_check.specs.Module.{recs_of, typed_modules};
 ghost use Rattle.omf_arrange.specs.Laying.{Lying};
 ghost use Rattle.omf_arrange.specs.Placing.{IsPlaceTable, all_segments_in, place_or_none, segments_in};
-ghost use Rattle.omf_arrange.specs.Portions.{typed_modules};
 
 use crate::laying::Lying;
 use omf_check::Checked;
@@ -61,7 +59,7 @@ impl PlaceTable {
         module: &Checked,
         number: u32,
     ) -> Result<Vec<Placed>, AllocError>
-        ensures { (ls : List Lying) → IsPlaceTable self.now.by_segment ls → IfOk result (λ v. v.items ≡ segments_in ls (number, recs (records_in «module».now.bytes))) }
+        ensures { (ls : List Lying) → IsPlaceTable self.now.by_segment ls → IfOk result (λ v. v.items ≡ segments_in ls (number, recs_of «module».now.bytes)) }
     {
         let mut places = Vec::new(alloc);
         for index in 1..module.segments() + 1 {

@@ -1,12 +1,13 @@
 //! The places of several modules.
 
 ghost use Rattle.std.specs.Prelude.{◌≡◌, ◌≤◌, ◌<◌, ◌^◌, List, IfOk, length, map, zip};
-ghost use Rattle.omf_records.specs.Seen.{map_ok};
+ghost use Rattle.omf_records.specs.Inner.Seen.{map_ok};
 ghost use Rattle.omf_placement.specs.declared.frame.Placed.{Placed as PlacedAt};
 ghost use Rattle.omf_layout.specs.Layout.{IsAnswer};
 ghost use Rattle.omf_arrange.specs.Laying.{laid};
-ghost use Rattle.omf_arrange.specs.Placing.{IsLowTable, placed, with_frames};
-ghost use Rattle.omf_arrange.specs.Portions.{Named, typed_modules};
+ghost use Rattle.omf_arrange.specs.Placing.{IsLowTable, arranged_places, with_frames};
+ghost use Rattle.omf_arrange.specs.Portions.{Named};
+ghost use Rattle.omf_check.specs.Module.{typed_modules};
 
 use crate::arranging::arrange;
 use crate::groups::LowTable;
@@ -52,7 +53,7 @@ pub fn place_segments(
     options: Options,
 ) -> Result<(Vec<Placement>, u64), LayoutFault>
     requires { length modules.now < 2 ^ 32 }
-    ensures answer { IsAnswer (placed options (typed_modules modules.now)) (map_ok (λ r. laid r.0.items r.1) result) }
+    ensures answer { IsAnswer (arranged_places options (typed_modules modules.now)) (map_ok (λ r. laid r.0.items r.1) result) }
     ensures low { IfOk result (λ r. r.1 ≤ 2 ^ 32) }
     ensures from { IfOk result (λ r. options.base ≤ r.1) }
 {

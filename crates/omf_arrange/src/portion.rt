@@ -1,14 +1,14 @@
 //! Segments of several modules.
 
 ghost use Rattle.std.specs.Prelude.{◌≡◌, ◌++◌, ◌<◌, ◌^◌, OnOk, IfOk, length, map, slice_get, Some};
-ghost use Rattle.omf_check.specs.Module.{records_in};
+ghost use Rattle.omf_check.specs.Module.{recs_of, typed_modules};
 ghost use Rattle.omf_check.specs.Tables.{segments};
-ghost use Rattle.omf_check.specs.WellFormed.{recs};
-ghost use Rattle.omf_arrange.specs.Portions.{attributes, combination_named, name_at, portion, portions, portions_in, typed_modules, with_names};
+ghost use Rattle.omf_layout.specs.Wants.{attributes};
+ghost use Rattle.omf_arrange.specs.Portions.{combination_named, name_at, portion, portions, portions_in, with_names};
 
-use crate::attributes::attributes_of;
 use omf_check::{Checked, SegInfo};
 use omf_layout::Alignment;
+use omf_layout::wants::attributes_of;
 use std::alloc::{AllocError, Global};
 
 /// How a segment lies beside those of its class and name (TIS OMF 1.1, "SEGDEF", C).
@@ -82,7 +82,7 @@ fn portion_of(module: u32, index: u16, segment: SegInfo, attribute: u8) -> Porti
 
 /// The name of an index; of none the empty one.
 pub fn name_at(module: &Checked, index: u16) -> &[u8]
-    ensures { result.now ≡ name_at (recs (records_in «module».now.bytes)) index }
+    ensures { result.now ≡ name_at (recs_of «module».now.bytes) index }
 {
     match module.name(index) {
         Some(name) => name.0,
@@ -108,9 +108,9 @@ fn add_portions<'a>(
     number: u32,
     each: &[u8],
 ) -> Result<(), AllocError>
-    requires all { each.now ≡ attributes (recs (records_in «module».now.bytes)) }
-    requires as_many { length each.now ≡ length (segments (recs (records_in «module».now.bytes))) }
-    ensures { OnOk result (map with_names portions.new.items ≡ map with_names portions.old.items ++ portions_in (number, recs (records_in «module».entry.now.bytes))) }
+    requires all { each.now ≡ attributes (recs_of «module».now.bytes) }
+    requires as_many { length each.now ≡ length (segments (recs_of «module».now.bytes)) }
+    ensures { OnOk result (map with_names portions.new.items ≡ map with_names portions.old.items ++ portions_in (number, recs_of «module».entry.now.bytes)) }
 {
     for before in 0..module.segments() {
         let index = before + 1;

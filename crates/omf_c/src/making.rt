@@ -2,11 +2,11 @@
 
 ghost use Rattle.std.specs.Prelude.{◌≡◌, IfOk, IfErr};
 ghost use Rattle.omf_canon.specs.Canonical.{canonical};
-ghost use Rattle.omf_check.specs.Module.{records_in};
+ghost use Rattle.omf_check.specs.Module.{recs_of, records_in};
 ghost use Rattle.omf_check.specs.WellFormed.{recs};
 ghost use Rattle.omf_cmd.specs.Listing.{list_text};
 ghost use Rattle.omf_cmd.specs.Relocating.{IsOutcome};
-ghost use Rattle.omf_records.specs.Seen.{map_ok};
+ghost use Rattle.omf_records.specs.Inner.Seen.{map_ok};
 ghost use Rattle.omf_cmd.specs.declared.fault.RunFault.TheVariants.{Memory};
 ghost use Rattle.omf_c.specs.Making.{IsModule, IsTextOf, IsPlacedText};
 
@@ -67,7 +67,7 @@ pub(crate) fn canonical(alloc: Global, profile: Profile, bytes: &[u8]) -> Result
 
 /// The listing of a module at the placement that a text gives it.
 fn relocated_module(alloc: Global, checked: &Checked, text: &[u8]) -> Result<Vec<u8>, RunFault>
-    ensures { IsOutcome (recs (records_in checked.now.bytes)) text.now (map_ok (λ v. v.items) result) }
+    ensures { IsOutcome (recs_of checked.now.bytes) text.now (map_ok (λ v. v.items) result) }
 {
     let listing = Listing::of(alloc, checked, text)?;
     let mut gathered = Gathered::new(alloc);

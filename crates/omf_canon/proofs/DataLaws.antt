@@ -6,17 +6,17 @@ use Rattle.byteorder.specs.Endian.{little_bytes, little_from}
 use Rattle.byteorder.specs.Numbers.{little_from-cons}
 use Rattle.omf_frame.specs.Bytes.{AreBytes}
 use Rattle.omf_frame.specs.Fields.{IsIndex, IsLittle, index_bytes}
-use Rattle.omf_frame.specs.FieldLaws.{little_spelled, little_fits, by_lt}
+use Rattle.omf_frame.specs.Inner.FieldLaws.{little_spelled, little_fits, by_lt}
 use Rattle.omf_records.specs.Layout.{called}
-use Rattle.omf_records.specs.Reading.{read_body}
+use Rattle.omf_records.specs.Inner.Reading.{read_body}
 use Rattle.omf_records.specs.Records.{data_item, contents}
-use Rattle.omf_records.specs.RecordReaders.{contents_whole}
+use Rattle.omf_records.specs.Inner.RecordReaders.{contents_whole}
 use Rattle.omf_records.specs.Shortest.{contents_bytes, data_bytes}
 use Rattle.omf_records.specs.Values.{Contents, DataItem, Plain, Iterated, is_wide, width, alone}
 use Rattle.omf_check.specs.declared.threads.Threads.{Threads}
 use Rattle.omf_reloc.specs.Plain.{Piece, Kept}
-use Rattle.omf_reloc.specs.Walking.{threads_after}
-use Rattle.omf_canon.specs.Writing.{Held, closed, record_bytes, contents_pieces, ArePut, is_data, begins_short}
+use Rattle.omf_reloc.specs.Inner.Walking.{threads_after}
+use Rattle.omf_canon.specs.Inner.Writing.{Held, closed, record_bytes, contents_pieces, ArePut, is_data, begins_short}
 use Rattle.omf_canon.proofs.TakingLaws.{put-one, on-both}
 
 -- ---- fields

@@ -1,11 +1,11 @@
 -- A reference that names no thread and has no displacement of 0 has the bytes that it would have without threads.
-use Rattle.std.proofs.Common.{◌≡◌, ℕ, zero, suc, ◌+◌, ◌*◌, ◌/◌, ◌%◌, ◌^◌, ◌<◌, ◌⊎◌, inl, inr, List, [], ◌∷◌, ◌++◌, Bool, true, false, cond, Option, Some, None, refl, sym, ◌∙◌, ap, ap₂, subst, arith, append-nil, Result}
+use Rattle.std.proofs.Common.{◌≡◌, ℕ, zero, suc, ◌+◌, ◌*◌, ◌/◌, ◌%◌, ◌^◌, ◌<◌, inl, inr, List, [], ◌∷◌, ◌++◌, Bool, true, false, cond, Option, Some, None, refl, sym, ◌∙◌, ap, ap₂, subst, arith, append-nil, Result}
 use Rattle.std.specs.Prelude.{◌==◌, ◌&&◌, ◌||◌, not, nat_lt, unwrap_or, OnOk, ⊤}
 use Rattle.std.proofs.lemmas.Bool.{cond-false, or_cases, eqb-true, eqb-false, ltb-true, cases_Bool}
 use Rattle.byteorder.specs.Endian.{little_bytes}
 use Rattle.omf_frame.specs.Bytes.{bits, has_bit}
-use Rattle.omf_records.specs.Direct.{is_zero, is_direct, IsDirect}
-use Rattle.omf_records.specs.Unread.{Pending}
+use Rattle.omf_records.specs.Inner.Direct.{is_zero, is_direct, IsDirect}
+use Rattle.omf_records.specs.Inner.Unread.{Pending}
 use Rattle.omf_records.specs.Values.{At, Reference, Subrecord, Thread, Fixup, width, frame_by_thread, frame_bits, target_by_thread, target_bits, has_no_displacement}
 use Rattle.omf_records.specs.Entries.{is_frame_method}
 use Rattle.omf_records.specs.Shortest.{option_bytes, datum_bytes, subrecord_bytes}
@@ -17,85 +17,51 @@ use Rattle.omf_check.specs.declared.method.FrameMethod.TheVariants.{Target as F5
 use Rattle.omf_check.specs.declared.method.TargetMethod.{TargetMethod}
 use Rattle.omf_check.specs.declared.method.TargetMethod.TheVariants.{Segment as T0}
 use Rattle.omf_check.specs.declared.threads.Threads.{Threads}
-use Rattle.omf_check.specs.Judging.{frame_cell, target_cell}
-use Rattle.omf_check.specs.Kept.{set_thread}
+use Rattle.omf_check.specs.Inner.Judging.{frame_cell, target_cell}
+use Rattle.omf_check.specs.Inner.Kept.{set_thread}
 use Rattle.omf_reloc.specs.Plain.{Fixed}
-use Rattle.omf_reloc.specs.Walking.{plain_fixup_by}
+use Rattle.omf_reloc.specs.Inner.Walking.{plain_fixup_by}
 use Rattle.omf_canon.specs.PlainBytes.{fixup_bytes}
 use Rattle.omf_canon.specs.Unthreaded.{frame_code, frame_index, target_code, target_index, fix_byte}
-use Rattle.omf_canon.specs.Writing.{Held, closed_by, held_with, subrecord_piece, ArePut, IsJoined}
+use Rattle.omf_canon.specs.Inner.Writing.{Held, closed_by, held_with, subrecord_piece, ArePut, IsJoined}
 use Rattle.omf_canon.proofs.TakingLaws.{put-one, on-both, IsTaken, take-value, take-next}
 
 -- ---- methods that have numbers
 
-small-cases : (m : ℕ) → m < 3 → (m ≡ 0) ⊎ ((m ≡ 1) ⊎ (m ≡ 2))
-small-cases zero h = inl refl
-small-cases (suc zero) h = inr (inl refl)
-small-cases (suc (suc zero)) h = inr (inr refl)
-small-cases (suc (suc (suc m))) h = absurd (omega (arith, h))
-
-frame-cases : (m : ℕ) → is_frame_method m ≡ true → ((m ≡ 0) ⊎ ((m ≡ 1) ⊎ (m ≡ 2))) ⊎ ((m ≡ 4) ⊎ (m ≡ 5))
-frame-cases m e =
-    elim (or_cases (nat_lt m 3 || (m == 4)) (m == 5) e) [
-      | inl r ↦ elim (or_cases (nat_lt m 3) (m == 4) r) [ inl q ↦ inl (small-cases m (ltb-true m 3 q)) | inr q ↦ inr (inl (eqb-true m 4 q)) ]
-      | inr q ↦ inr (inr (eqb-true m 5 q))
-    ]
-
 abbrev Frame : Option (At ℕ) → ℕ → Type 0
 Frame o m = IsThere IsIndexValue (nat_lt m 3) o → (frame_code (frame_from (setting m o)) ≡ m) × (option_bytes datum_bytes (frame_index (frame_from (setting m o))) ≡ option_bytes datum_bytes o)
 
-frame-0 : (o : Option (At ℕ)) → Frame o 0
-frame-0 (Some a) h = (refl, refl)
-frame-0 None h = absurd h
-
-frame-1 : (o : Option (At ℕ)) → Frame o 1
-frame-1 (Some a) h = (refl, refl)
-frame-1 None h = absurd h
-
-frame-2 : (o : Option (At ℕ)) → Frame o 2
-frame-2 (Some a) h = (refl, refl)
-frame-2 None h = absurd h
-
-frame-4 : (o : Option (At ℕ)) → Frame o 4
-frame-4 (Some a) h = absurd h
-frame-4 None h = (refl, refl)
-
-frame-5 : (o : Option (At ℕ)) → Frame o 5
-frame-5 (Some a) h = absurd h
-frame-5 None h = (refl, refl)
-
 same-frame : (m : ℕ) (o : Option (At ℕ)) → is_frame_method m ≡ true → Frame o m
-same-frame m o e =
-    elim (frame-cases m e) [
-      | inl (inl q) ↦ subst (Frame o) (sym q) (frame-0 o)
-      | inl (inr (inl q)) ↦ subst (Frame o) (sym q) (frame-1 o)
-      | inl (inr (inr q)) ↦ subst (Frame o) (sym q) (frame-2 o)
-      | inr (inl q) ↦ subst (Frame o) (sym q) (frame-4 o)
-      | inr (inr q) ↦ subst (Frame o) (sym q) (frame-5 o)
+same-frame zero (Some a) e h = (refl, refl)
+same-frame (suc zero) (Some a) e h = (refl, refl)
+same-frame (suc (suc zero)) (Some a) e h = (refl, refl)
+same-frame (suc (suc (suc (suc zero)))) None e h = (refl, refl)
+same-frame (suc (suc (suc (suc (suc zero))))) None e h = (refl, refl)
+same-frame zero None e h = absurd h
+same-frame (suc zero) None e h = absurd h
+same-frame (suc (suc zero)) None e h = absurd h
+same-frame (suc (suc (suc zero))) o e h = absurd cc
+same-frame (suc (suc (suc (suc zero)))) (Some a) e h = absurd h
+same-frame (suc (suc (suc (suc (suc zero))))) (Some a) e h = absurd h
+same-frame (suc (suc (suc (suc (suc (suc m)))))) o e h = absurd (past (suc (suc (suc (suc (suc (suc m)))))) (omega arith) e)
+  where
+    past : (n : ℕ) → 5 < n → is_frame_method n ≡ true → ⊥
+    past n l e = elim (or_cases (nat_lt n 3 || (n == 4)) (n == 5) e) [
+      | inl r ↦ elim (or_cases (nat_lt n 3) (n == 4) r) [ inl q ↦ omega (arith, l, ltb-true n 3 q) | inr q ↦ omega (arith, l, eqb-true n 4 q) ]
+      | inr q ↦ omega (arith, l, eqb-true n 5 q)
     ]
 
 abbrev Target : Option (At ℕ) → ℕ → Type 0
 Target o m = IsThere IsIndexValue (nat_lt m 3) o → (target_code (target_from (setting m o)) ≡ m) × (option_bytes datum_bytes (target_index (target_from (setting m o))) ≡ option_bytes datum_bytes o)
 
-target-0 : (o : Option (At ℕ)) → Target o 0
-target-0 (Some a) h = (refl, refl)
-target-0 None h = absurd h
-
-target-1 : (o : Option (At ℕ)) → Target o 1
-target-1 (Some a) h = (refl, refl)
-target-1 None h = absurd h
-
-target-2 : (o : Option (At ℕ)) → Target o 2
-target-2 (Some a) h = (refl, refl)
-target-2 None h = absurd h
-
 same-target : (m : ℕ) (o : Option (At ℕ)) → nat_lt m 3 ≡ true → Target o m
-same-target m o e =
-    elim (small-cases m (ltb-true m 3 e)) [
-      | inl q ↦ subst (Target o) (sym q) (target-0 o)
-      | inr (inl q) ↦ subst (Target o) (sym q) (target-1 o)
-      | inr (inr q) ↦ subst (Target o) (sym q) (target-2 o)
-    ]
+same-target zero (Some a) e h = (refl, refl)
+same-target (suc zero) (Some a) e h = (refl, refl)
+same-target (suc (suc zero)) (Some a) e h = (refl, refl)
+same-target zero None e h = absurd h
+same-target (suc zero) None e h = absurd h
+same-target (suc (suc zero)) None e h = absurd h
+same-target (suc (suc (suc m))) o e h = absurd (omega (arith, ltb-true (suc (suc (suc m))) 3 e))
 
 -- ---- the displacement
 
@@ -187,17 +153,17 @@ sets-none : (threads : Threads) (s : Subrecord) → IsDirect s → set_thread th
 sets-none threads (Thread byte datum) is = absurd is
 sets-none threads (Fixup locat r) is = refl
 
-module _ (kind : ℕ) (threads : Threads) (out : List ℕ) (group : Option Held) (whole : List (At Subrecord)) (now_threads : Threads) (now_out : List ℕ) (now_group : Option Held) (old : Pending Subrecord) (h : IsTaken kind threads out group whole now_threads now_out now_group old.items) where
-  pub take-joined : (new : Pending Subrecord) (new_threads : Threads) (new_out : List ℕ) (new_group : Option Held)
+module _ {kind : ℕ} {threads : Threads} {out : List ℕ} {group : Option Held} {whole : List (At Subrecord)} {now_threads : Threads} {now_out : List ℕ} {now_group : Option Held} (old : Pending Subrecord) (h : IsTaken kind threads out group whole now_threads now_out now_group old.items) where
+  pub take-joined : {new : Pending Subrecord} {new_threads : Threads} {new_out : List ℕ} {new_group : Option Held}
       → IsJoined kind now_group new_group old new → new_out ≡ now_out → new_threads ≡ now_threads → IsTaken kind threads out group whole new_threads new_out new_group new.items
-  take-joined new new_threads new_out new_group j o t =
-      let value = take-value kind threads out group whole now_threads now_out now_group old.items h j.next new.items j.gives.0 in
+  take-joined {new} {new_threads} {new_out} {new_group} j o t =
+      let value = take-value h j.next new.items j.gives.0 in
       let put = joined-put now_threads kind j.next.item value j.direct now_out now_group new_group j.closes j.holds in
-      take-next kind threads out group whole now_threads now_out now_group old.items h j.next new.items j.gives.0 new_threads new_out new_group
+      take-next h j.next new.items j.gives.0 new_threads new_out new_group
       (t ∙ sym (sets-none now_threads j.next.item j.direct))
       (subst (λ (x : List ℕ). ArePut (subrecord_piece now_threads kind j.next.item) now_out now_group x new_group) (sym o) put)
 
   -- where nothing joined, all is as it was
-  pub take-kept : (new : Pending Subrecord) (new_threads : Threads) (new_out : List ℕ) (new_group : Option Held)
+  pub take-kept : {new : Pending Subrecord} {new_threads : Threads} {new_out : List ℕ} {new_group : Option Held}
       → new ≡ old → new_group ≡ now_group → new_out ≡ now_out → new_threads ≡ now_threads → IsTaken kind threads out group whole new_threads new_out new_group new.items
-  take-kept new new_threads new_out new_group n g o t = rw (n, g, o, t) h
+  take-kept n g o t = rw (n, g, o, t) h

@@ -3,12 +3,12 @@ use Rattle.std.proofs.Common.{◌≡◌, ℕ, ◌≤◌, List, sym, ap, subst, �
 use Rattle.std.specs.Prelude.{IfOk}
 use Rattle.omf_frame.specs.Framing.{Raw}
 use Rattle.omf_image.specs.Limits.{profile_limits}
-use Rattle.omf_check.specs.Module.{records_in}
+use Rattle.omf_check.specs.Module.{records_in, recs_of}
 use Rattle.omf_check.specs.Tables.{item_count}
 use Rattle.omf_check.specs.WellFormed.{IsWellFormed, recs}
 use Rattle.omf_check.specs.declared.profile.Profile.{Profile}
 use Rattle.omf_canon.specs.Canonical.{canonical_raws, canonical}
-use Rattle.omf_canon.specs.Form.{recs_of, IsFormOf}
+use Rattle.omf_canon.specs.Form.{IsFormOf}
 use Rattle.omf_canon.specs.Laws.{CanonicalsAreWellFormed, CanonicalsAreRead, CanonicalsHold, CanonicalsAreFixed, CanonicalsDecide, CanonicalsMeanTheSame, MeanTheSame}
 use Rattle.omf_canon.specs.Skeleton.{skeleton}
 

@@ -9,7 +9,7 @@ use Rattle.omf_frame.specs.Bytes.{with_before, is_one_of}
 use Rattle.omf_frame.specs.Framing.{Raw, raw_bytes, raw_of, checksum_of, IsRecord, IsFramed, is_taken, is_header, is_end}
 use Rattle.omf_records.specs.Values.{Rec, Contents, Fixups, ModEnd, Subrecord}
 use Rattle.omf_records.specs.Laws.{AreTyped, ShortestAreTyped, ValuesAreTyped, TypedHaveValues, PlacesDoNotCount}
-use Rattle.omf_records.specs.Reading.{typed}
+use Rattle.omf_records.specs.Inner.Reading.{typed}
 use Rattle.omf_records.specs.Valued.{is_fixupp, HaveReferenceValues}
 use Rattle.omf_check.specs.Laws.{ModulesHold}
 use Rattle.omf_check.specs.Rules.{item_limit}

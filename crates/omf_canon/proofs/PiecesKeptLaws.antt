@@ -1,6 +1,6 @@
 -- The pieces of a well-formed module keep the rules, one after another; so do those of its skeleton, and those that it is cut into.
 use Rattle.std.proofs.Common.{◌≡◌, ◌≢◌, ℕ, suc, ◌+◌, ◌≤◌, List, [], ◌∷◌, ◌++◌, length, refl, sym, ◌∙◌, ap, ap₂, subst, true, Option, Some, None, length-append, append_assoc, append-nil}
-use Rattle.std.specs.Prelude.{map, flat_map, option_map, ◌==◌, ⊤}
+use Rattle.std.specs.Prelude.{◌↔◌, map, flat_map, option_map, ◌==◌, ⊤}
 use Rattle.std.specs.List.{AllByRecursion as Each, last_or}
 use Rattle.std.proofs.lemmas.Bool.{cond_both}
 use Rattle.std.proofs.lemmas.List.{map-append}
@@ -227,34 +227,22 @@ start-kept L b t byte limits kind (Some r) h = (
 )
 
 pub trees-alone : (limits : Limits) (kind : ℕ) (c d : Contents) → contents_alone c ≡ contents_alone d → HasTrees limits kind c → HasTrees limits kind d
-trees-alone limits kind c d e h = from_alone d (subst (HasTrees limits kind) e (to_alone c h))
+trees-alone limits kind c d e h = (trees d).0 (subst (HasTrees limits kind) e ((trees c).1 h))
   where
-    to_alone : (c : Contents) → HasTrees limits kind c → HasTrees limits kind (contents_alone c)
-    to_alone (Iterated x) h = h
-    to_alone (Header x) h = tt
-    to_alone (Comment x y z) h = tt
-    to_alone (Names x) h = tt
-    to_alone (Segment x) h = tt
-    to_alone (Group x) h = tt
-    to_alone (Externs x) h = tt
-    to_alone (Publics x) h = tt
-    to_alone (Communals x) h = tt
-    to_alone (Plain x) h = tt
-    to_alone (Fixups x) h = tt
-    to_alone (ModEnd x y) h = tt
-    to_alone (Carried x) h = tt
+    alike : (T : Type 0) → T ↔ T
+    alike T = (λ t. t, λ t. t)
 
-    from_alone : (c : Contents) → HasTrees limits kind (contents_alone c) → HasTrees limits kind c
-    from_alone (Iterated x) h = h
-    from_alone (Header x) h = tt
-    from_alone (Comment x y z) h = tt
-    from_alone (Names x) h = tt
-    from_alone (Segment x) h = tt
-    from_alone (Group x) h = tt
-    from_alone (Externs x) h = tt
-    from_alone (Publics x) h = tt
-    from_alone (Communals x) h = tt
-    from_alone (Plain x) h = tt
-    from_alone (Fixups x) h = tt
-    from_alone (ModEnd x y) h = tt
-    from_alone (Carried x) h = tt
+    trees : (c : Contents) → HasTrees limits kind (contents_alone c) ↔ HasTrees limits kind c
+    trees (Iterated x) = alike _
+    trees (Header x) = alike _
+    trees (Comment x y z) = alike _
+    trees (Names x) = alike _
+    trees (Segment x) = alike _
+    trees (Group x) = alike _
+    trees (Externs x) = alike _
+    trees (Publics x) = alike _
+    trees (Communals x) = alike _
+    trees (Plain x) = alike _
+    trees (Fixups x) = alike _
+    trees (ModEnd x y) = alike _
+    trees (Carried x) = alike _

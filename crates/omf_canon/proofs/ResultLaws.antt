@@ -12,7 +12,7 @@ use Rattle.omf_frame.specs.Framing.{Raw}
 use Rattle.omf_image.specs.declared.limits.Limits.{Limits}
 use Rattle.omf_records.specs.Location.{location_size}
 use Rattle.omf_records.specs.Values.{At, nowhere, Rec, Contents, Header, Comment, Names, Segment, Group, Externs, Publics, Communals, Plain, Iterated, Fixups, ModEnd, Carried, DataItem, Reference, Subrecord, Thread, Fixup, location_type, location_offset, contents_alone, subrecord_alone, reference_alone}
-use Rattle.omf_records.specs.Reading.{typed}
+use Rattle.omf_records.specs.Inner.Reading.{typed}
 use Rattle.omf_check.specs.Rules.{item_limit, room, item_places, contents_rules, rules, location_rule, frame_rules, target_rules, reference_rules, judged_at, subrecord_rules, subrecord_rules_at, start_rules, is_location_frame}
 use Rattle.omf_check.specs.Sound.{FrameIsDefined, TargetIsDefined, ContentsHold, ModuleHolds}
 use Rattle.omf_check.specs.Tables.{last_data, subrecords, item_count, items_in}

@@ -8,7 +8,7 @@ use Rattle.std.proofs.lemmas.List.Elements.{All-nil, All-cons, All-head, All-tai
 use Rattle.omf_frame.specs.Fault.{Rule, rule, AreKept}
 use Rattle.omf_frame.specs.declared.fault.Reason.TheVariants as reason
 use Rattle.omf_image.specs.Blocks.{blocks_size}
-use Rattle.omf_image.specs.Expanding.{blocks_of}
+use Rattle.omf_image.specs.Inner.Expanding.{blocks_of}
 use Rattle.omf_image.specs.declared.limits.Limits.{Limits}
 use Rattle.omf_records.specs.Values.{At, unplaced, nowhere, Rec, Contents, Header, Comment, Names, Segment, Group, Externs, Publics, Communals, Plain, Iterated, Fixups, ModEnd, Carried, DataItem, contents_alone, width}
 use Rattle.omf_check.specs.Rules.{room, table_limit, places, item_places, names_entry, names_entry_or_none, contents_rules}

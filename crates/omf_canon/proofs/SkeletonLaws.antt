@@ -4,13 +4,12 @@ use Rattle.std.specs.Prelude.{map, flat_map, Option, Some, None, cond, ◌==◌}
 use Rattle.std.proofs.lemmas.Bool.{eqb-true}
 use Rattle.std.proofs.lemmas.List.{map-append}
 use Rattle.omf_image.specs.declared.limits.Limits.{Limits}
-use Rattle.omf_frame.specs.Bytes.{up_to}
+use Rattle.omf_frame.specs.Bytes.{up_to, last}
 use Rattle.omf_records.specs.Values.{Rec, Contents, Plain, DataItem}
 use Rattle.omf_reloc.specs.Plain.{Piece, Kept, Fixed, End, PlainFixup, pieces, fixups_of_data, fixups_in, is_data, data_contents, is_data_contents}
 use Rattle.omf_placement.specs.Placement.{Places}
 use Rattle.omf_image.specs.Overlay.{byte_at}
 use Rattle.omf_reloc.specs.Image.{laid, laid_contents, image, patched, start, starts, piece_start}
-use Rattle.omf_frame.specs.Bytes.{last}
 use Rattle.omf_reloc.specs.Reach.{causes, causes_at, piece_causes}
 use Rattle.omf_reloc.specs.Offsets.{cause_of, outcome}
 use Rattle.omf_check.specs.Threads.{PlainReference}
@@ -45,18 +44,20 @@ fixups-skeleton (Fixed kind [] ∷ ps) = fixups-skeleton ps
 fixups-skeleton (Fixed kind (f ∷ fs) ∷ ps) = fixups-join_front kind (f ∷ fs) (skeleton_of ps) ∙ ap (λ t. map (λ g. (kind, g)) (f ∷ fs) ++ t) (fixups-skeleton ps)
 fixups-skeleton (End kind byte s ∷ ps) = fixups-skeleton ps
 
+-- What looks at no FIXUPP looks at none in front, whether it is joined or not.
+module _ {A : Type 0} (look : List Piece → A) (passes : (kind : ℕ) (fs : List PlainFixup) (ps : List Piece) → look (Fixed kind fs ∷ ps) ≡ look ps) where
+  passes_two : (b : Bool) (kind other : ℕ) (fs gs : List PlainFixup) (ps : List Piece)
+      → look (cond b (Fixed kind (fs ++ gs) ∷ ps) (Fixed kind fs ∷ Fixed other gs ∷ ps)) ≡ look (Fixed other gs ∷ ps)
+  passes_two false kind other fs gs ps = passes kind fs (Fixed other gs ∷ ps)
+  passes_two true kind other fs gs ps = passes kind (fs ++ gs) ps ∙ sym (passes other gs ps)
+
+  passes-join_front : (kind : ℕ) (fs : List PlainFixup) (ps : List Piece) → look (join_front (Fixed kind fs) ps) ≡ look ps
+  passes-join_front kind fs [] = passes kind fs []
+  passes-join_front kind fs (Kept r ∷ ps) = passes kind fs (Kept r ∷ ps)
+  passes-join_front kind fs (End other byte s ∷ ps) = passes kind fs (End other byte s ∷ ps)
+  passes-join_front kind fs (Fixed other gs ∷ ps) = passes_two (kind == other) kind other fs gs ps
+
 module _ (limits : Limits) (pl : Places) where
-  laid_two : (b : Bool) (kind other : ℕ) (fs gs : List PlainFixup) (ps : List Piece)
-      → laid limits pl (cond b (Fixed kind (fs ++ gs) ∷ ps) (Fixed kind fs ∷ Fixed other gs ∷ ps)) ≡ laid limits pl ps
-  laid_two false kind other fs gs ps = refl
-  laid_two true kind other fs gs ps = refl
-
-  laid-join_front : (kind : ℕ) (fs : List PlainFixup) (ps : List Piece) → laid limits pl (join_front (Fixed kind fs) ps) ≡ laid limits pl ps
-  laid-join_front kind fs [] = refl
-  laid-join_front kind fs (Kept r ∷ ps) = refl
-  laid-join_front kind fs (End other byte s ∷ ps) = refl
-  laid-join_front kind fs (Fixed other gs ∷ ps) = laid_two (kind == other) kind other fs gs ps
-
   -- what a data record lays depends on the fixups after it alone
   laid_same : (kind : ℕ) (c : Contents) (ps qs : List Piece) → fixups_of_data ps ≡ fixups_of_data qs → laid_contents limits pl kind c ps ≡ laid_contents limits pl kind c qs
   laid_same kind (Plain d) ps qs h = ap (λ fs. record { segment = d.segment.item; offset = d.offset.item; bytes = patched pl d fs } ∷ []) h
@@ -66,7 +67,7 @@ module _ (limits : Limits) (pl : Places) where
   laid-skeleton [] = refl
   laid-skeleton (Kept r ∷ ps) = ap (λ t. t ++ laid limits pl (skeleton_of ps)) (laid_same r.kind r.contents (skeleton_of ps) ps (fixups-skeleton ps)) ∙ ap (λ t. laid_contents limits pl r.kind r.contents ps ++ t) (laid-skeleton ps)
   laid-skeleton (Fixed kind [] ∷ ps) = laid-skeleton ps
-  laid-skeleton (Fixed kind (f ∷ fs) ∷ ps) = laid-join_front kind (f ∷ fs) (skeleton_of ps) ∙ laid-skeleton ps
+  laid-skeleton (Fixed kind (f ∷ fs) ∷ ps) = passes-join_front (laid limits pl) (λ k gs qs. refl) kind (f ∷ fs) (skeleton_of ps) ∙ laid-skeleton ps
   laid-skeleton (End kind byte s ∷ ps) = laid-skeleton ps
 
   -- Equal skeletons give equal images.
@@ -74,37 +75,15 @@ module _ (limits : Limits) (pl : Places) where
   image-skeleton m n h segment x = ap (λ l. byte_at l segment x) (sym (laid-skeleton (pieces m)) ∙ ap (laid limits pl) h ∙ laid-skeleton (pieces n))
 
 module _ (pl : Places) where
-  starts_two : (b : Bool) (kind other : ℕ) (fs gs : List PlainFixup) (ps : List Piece)
-      → starts pl (cond b (Fixed kind (fs ++ gs) ∷ ps) (Fixed kind fs ∷ Fixed other gs ∷ ps)) ≡ starts pl ps
-  starts_two false kind other fs gs ps = refl
-  starts_two true kind other fs gs ps = refl
-
-  starts-join_front : (kind : ℕ) (fs : List PlainFixup) (ps : List Piece) → starts pl (join_front (Fixed kind fs) ps) ≡ starts pl ps
-  starts-join_front kind fs [] = refl
-  starts-join_front kind fs (Kept r ∷ ps) = refl
-  starts-join_front kind fs (End other byte s ∷ ps) = refl
-  starts-join_front kind fs (Fixed other gs ∷ ps) = starts_two (kind == other) kind other fs gs ps
-
   starts-skeleton : (ps : List Piece) → starts pl (skeleton_of ps) ≡ starts pl ps
   starts-skeleton [] = refl
   starts-skeleton (Kept r ∷ ps) = starts-skeleton ps
   starts-skeleton (Fixed kind [] ∷ ps) = starts-skeleton ps
-  starts-skeleton (Fixed kind (f ∷ fs) ∷ ps) = starts-join_front kind (f ∷ fs) (skeleton_of ps) ∙ starts-skeleton ps
+  starts-skeleton (Fixed kind (f ∷ fs) ∷ ps) = passes-join_front (starts pl) (λ k gs qs. refl) kind (f ∷ fs) (skeleton_of ps) ∙ starts-skeleton ps
   starts-skeleton (End kind byte s ∷ ps) = ap (λ t. piece_start pl (End kind byte s) ++ t) (starts-skeleton ps)
 
   pub start-skeleton : (m n : List Rec) → skeleton m ≡ skeleton n → start pl m ≡ start pl n
   start-skeleton m n h = ap last (sym (starts-skeleton (pieces m)) ∙ ap (starts pl) h ∙ starts-skeleton (pieces n))
-
-  causes_two : (b : Bool) (kind other : ℕ) (fs gs : List PlainFixup) (ps : List Piece)
-      → causes pl (cond b (Fixed kind (fs ++ gs) ∷ ps) (Fixed kind fs ∷ Fixed other gs ∷ ps)) ≡ causes pl ps
-  causes_two false kind other fs gs ps = refl
-  causes_two true kind other fs gs ps = refl
-
-  causes-join_front : (kind : ℕ) (fs : List PlainFixup) (ps : List Piece) → causes pl (join_front (Fixed kind fs) ps) ≡ causes pl ps
-  causes-join_front kind fs [] = refl
-  causes-join_front kind fs (Kept r ∷ ps) = refl
-  causes-join_front kind fs (End other byte s ∷ ps) = refl
-  causes-join_front kind fs (Fixed other gs ∷ ps) = causes_two (kind == other) kind other fs gs ps
 
   causes_same : (d : Option DataItem) (ps qs : List Piece) → fixups_of_data ps ≡ fixups_of_data qs → causes_at pl d ps ≡ causes_at pl d qs
   causes_same None ps qs h = refl
@@ -118,7 +97,7 @@ module _ (pl : Places) where
   causes-skeleton [] = refl
   causes-skeleton (Kept r ∷ ps) = ap (λ t. t ++ causes pl (skeleton_of ps)) (causes_same (data_contents r.contents) (skeleton_of ps) ps (fixups-skeleton ps)) ∙ ap (λ t. causes_at pl (data_contents r.contents) ps ++ t) (causes-skeleton ps)
   causes-skeleton (Fixed kind [] ∷ ps) = causes-skeleton ps
-  causes-skeleton (Fixed kind (f ∷ fs) ∷ ps) = causes-join_front kind (f ∷ fs) (skeleton_of ps) ∙ causes-skeleton ps
+  causes-skeleton (Fixed kind (f ∷ fs) ∷ ps) = passes-join_front (causes pl) (λ k gs qs. refl) kind (f ∷ fs) (skeleton_of ps) ∙ causes-skeleton ps
   causes-skeleton (End kind byte s ∷ ps) = ap (λ t. t ++ causes pl (skeleton_of ps)) (end_causes kind byte s (skeleton_of ps) ps) ∙ ap (λ t. piece_causes pl (End kind byte s) ps ++ t) (causes-skeleton ps)
 
   pub cause-skeleton : (m n : List Rec) → skeleton m ≡ skeleton n → causes pl (pieces m) ≡ causes pl (pieces n)

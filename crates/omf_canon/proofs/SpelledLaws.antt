@@ -10,7 +10,7 @@ use Rattle.omf_frame.specs.Framing.{Raw, raw_of, is_end}
 use Rattle.omf_image.specs.declared.limits.Limits.{Limits}
 use Rattle.omf_records.specs.Values.{At, nowhere, Rec, Contents, Header, Comment, Names, Segment, Group, Externs, Publics, Communals, Plain, Iterated, Fixups, ModEnd, Carried, Reference, Subrecord, has_start, alone}
 use Rattle.omf_records.specs.Shortest.{reference_bytes, contents_bytes}
-use Rattle.omf_records.specs.Reading.{typed}
+use Rattle.omf_records.specs.Inner.Reading.{typed}
 use Rattle.omf_records.specs.Records.{IsTyped}
 use Rattle.omf_records.specs.Laws.{AreTyped, ShortestAreTyped, ValuesAreTyped, TypedHaveValues, PlacesDoNotCount}
 use Rattle.omf_records.specs.Valued.{IsThere, IsReferenceValue, IsSubrecordValue, is_fixupp, HaveReferenceValues}

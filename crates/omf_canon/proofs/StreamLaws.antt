@@ -7,7 +7,7 @@ use Rattle.omf_reloc.specs.Plain.{Piece, Kept, Fixed, End, PlainFixup}
 use Rattle.omf_canon.specs.Canonical.{piece_raws, canonical_raws}
 use Rattle.omf_canon.specs.Cut.{body_limit, fixups_size, cut_from}
 use Rattle.omf_canon.specs.Skeleton.{join_front, skeleton_of}
-use Rattle.omf_canon.specs.Streaming.{group_raw, Open, open_after, closed_all, streamed}
+use Rattle.omf_canon.specs.Inner.Streaming.{group_raw, Open, open_after, closed_all, streamed}
 
 same-kind : (kind : ℕ) → (kind == kind) ≡ true
 same-kind kind = eq-eqb kind kind refl

@@ -8,15 +8,15 @@ use Rattle.omf_frame.specs.Framing.{Raw, raw_bytes, IsRecord, front_record, pres
 use Rattle.omf_frame.specs.declared.fault.Place.{Place}
 use Rattle.omf_frame.proofs.FramingLaws.{present_raw, front_raw, after_raw}
 use Rattle.omf_image.specs.declared.limits.Limits.{Limits}
-use Rattle.omf_records.specs.Each.{with_first}
-use Rattle.omf_records.specs.Reading.{typed, read_body}
-use Rattle.omf_records.specs.RecordReaders.{contents_whole}
+use Rattle.omf_records.specs.Inner.Each.{with_first}
+use Rattle.omf_records.specs.Inner.Reading.{typed, read_body}
+use Rattle.omf_records.specs.Inner.RecordReaders.{contents_whole}
 use Rattle.omf_records.specs.Shortest.{subrecord_bytes}
-use Rattle.omf_records.specs.Unread.{fixups_read}
+use Rattle.omf_records.specs.Inner.Unread.{fixups_read}
 use Rattle.omf_records.specs.Laws.{TypedHaveValues}
 use Rattle.omf_records.specs.Valued.{IsSubrecordValue, HaveReferenceValues}
 use Rattle.omf_records.specs.Values.{At, Rec, Contents, Names, Fixups, ModEnd, Reference, Subrecord, Thread, Fixup}
-use Rattle.omf_check.specs.Kept.{no_threads, set_thread, set_threads}
+use Rattle.omf_check.specs.Inner.Kept.{no_threads, set_thread, set_threads}
 use Rattle.omf_check.specs.Listed.{IsReadable, StartsWithRecord}
 use Rattle.omf_check.specs.Module.{records_in}
 use Rattle.omf_check.specs.Sound.{ModuleHolds}
@@ -24,13 +24,13 @@ use Rattle.omf_check.specs.WellFormed.{IsWellFormed, recs}
 use Rattle.omf_check.specs.declared.profile.Profile.{Profile}
 use Rattle.omf_check.specs.declared.threads.Threads.{Threads}
 use Rattle.omf_reloc.proofs.PieceLaws.{pieces-listed, numbered_records, numbered-listed, records-set}
-use Rattle.omf_reloc.specs.Pieces.{single_pieces, subrecord_steps, contents_steps, steps_from, given, IsSet, SubrecordIsSet, SubrecordsAreSet, ContentsAreSet, RecordsAreSet}
+use Rattle.omf_reloc.specs.Inner.Pieces.{single_pieces, subrecord_steps, contents_steps, steps_from, given, IsSet, SubrecordIsSet, SubrecordsAreSet, ContentsAreSet, RecordsAreSet}
 use Rattle.omf_reloc.specs.Plain.{Piece, Fixed}
-use Rattle.omf_reloc.specs.Walking.{plain_fixup_by, threads_after}
+use Rattle.omf_reloc.specs.Inner.Walking.{plain_fixup_by, threads_after}
 use Rattle.omf_canon.specs.Canonical.{canonical_raws}
 use Rattle.omf_canon.specs.Skeleton.{skeleton}
 use Rattle.omf_canon.specs.Unthreaded.{unthreaded_fixup}
-use Rattle.omf_canon.specs.Writing.{Held, closed_by, held_with, piece_puts, piece_held, CanPut, bytes_left, subrecord_piece, subrecord_pieces, contents_pieces, record_pieces, ArePut}
+use Rattle.omf_canon.specs.Inner.Writing.{Held, closed_by, held_with, piece_puts, piece_held, CanPut, bytes_left, subrecord_piece, subrecord_pieces, contents_pieces, record_pieces, ArePut}
 use Rattle.omf_canon.proofs.WritingLaws.{IsWritten, write-first}
 
 -- ---- the pieces that records give are the module's
@@ -146,57 +146,58 @@ pub record IsTaken (kind : ℕ) (threads : Threads) (out : List ℕ) (group : Op
   pub values : All (λ s. IsSubrecordValue kind s.item) left
   pub put : (rest : List Piece) → now_out ++ bytes_left now_group (subrecord_pieces now_threads kind left ++ rest) ≡ out ++ bytes_left group (subrecord_pieces threads kind whole ++ rest)
 
-module _ (kind : ℕ) (threads : Threads) (out : List ℕ) (group : Option Held) (whole : List (At Subrecord)) where
-  pub take-first : (now : Result (List (At Subrecord)) Fault) → now ≡ Ok whole → SubrecordsAreSet threads whole → All (λ s. IsSubrecordValue kind s.item) whole → IsTaken kind threads out group whole threads out group now
-  take-first now e h v = record { left = whole; read = e; set = refl; are_set = h; values = v; put = λ rest. refl }
+pub take-first : (kind : ℕ) (threads : Threads) (out : List ℕ) (group : Option Held) (whole : List (At Subrecord)) (now : Result (List (At Subrecord)) Fault)
+    → now ≡ Ok whole → SubrecordsAreSet threads whole → All (λ s. IsSubrecordValue kind s.item) whole → IsTaken kind threads out group whole threads out group now
+take-first kind threads out group whole now e h v = record { left = whole; read = e; set = refl; are_set = h; values = v; put = λ rest. refl }
 
-  module _ (now_threads : Threads) (now_out : List ℕ) (now_group : Option Held) (now : Result (List (At Subrecord)) Fault) (h : IsTaken kind threads out group whole now_threads now_out now_group now) where
-    first-set : (s : At Subrecord) (more : List (At Subrecord)) → h.left ≡ s ∷ more → SubrecordIsSet now_threads s.item × SubrecordsAreSet (set_thread now_threads s.item) more
-    first-set s more e = subst (SubrecordsAreSet now_threads) e h.are_set
+module _ {kind : ℕ} {threads : Threads} {out : List ℕ} {group : Option Held} {whole : List (At Subrecord)} {now_threads : Threads} {now_out : List ℕ} {now_group : Option Held} {now : Result (List (At Subrecord)) Fault}
+    (h : IsTaken kind threads out group whole now_threads now_out now_group now) where
+  first-set : (s : At Subrecord) (more : List (At Subrecord)) → h.left ≡ s ∷ more → SubrecordIsSet now_threads s.item × SubrecordsAreSet (set_thread now_threads s.item) more
+  first-set s more e = subst (SubrecordsAreSet now_threads) e h.are_set
 
-    first-values : (s : At Subrecord) (more : List (At Subrecord)) → h.left ≡ s ∷ more → All (λ s. IsSubrecordValue kind s.item) (s ∷ more)
-    first-values s more e = subst (All (λ s. IsSubrecordValue kind s.item)) e h.values
+  first-values : (s : At Subrecord) (more : List (At Subrecord)) → h.left ≡ s ∷ more → All (λ s. IsSubrecordValue kind s.item) (s ∷ more)
+  first-values s more e = subst (All (λ s. IsSubrecordValue kind s.item)) e h.values
 
-    pub take-value : (s : At Subrecord) (then : Result (List (At Subrecord)) Fault) → now ≡ with_first s then → IsSubrecordValue kind s.item
-    take-value s then e = let parts = first-left s then h.left (sym h.read ∙ e) in All-head (λ s. IsSubrecordValue kind s.item) s parts.0 (first-values s parts.0 parts.2)
+  pub take-value : (s : At Subrecord) (then : Result (List (At Subrecord)) Fault) → now ≡ with_first s then → IsSubrecordValue kind s.item
+  take-value s then e = let parts = first-left s then h.left (sym h.read ∙ e) in All-head (λ s. IsSubrecordValue kind s.item) s parts.0 (first-values s parts.0 parts.2)
 
-    pub take-set : (s : At Subrecord) (then : Result (List (At Subrecord)) Fault) → now ≡ with_first s then → SubrecordIsSet now_threads s.item
-    take-set s then e = let parts = first-left s then h.left (sym h.read ∙ e) in (first-set s parts.0 parts.2).0
+  pub take-set : (s : At Subrecord) (then : Result (List (At Subrecord)) Fault) → now ≡ with_first s then → SubrecordIsSet now_threads s.item
+  take-set s then e = let parts = first-left s then h.left (sym h.read ∙ e) in (first-set s parts.0 parts.2).0
 
-    pub take-next : (s : At Subrecord) (then : Result (List (At Subrecord)) Fault) → now ≡ with_first s then
-        → (new_threads : Threads) (new_out : List ℕ) (new_group : Option Held) → new_threads ≡ set_thread now_threads s.item → ArePut (subrecord_piece now_threads kind s.item) now_out now_group new_out new_group
-        → IsTaken kind threads out group whole new_threads new_out new_group then
-    take-next s then e new_threads new_out new_group t p =
-        let parts = first-left s then h.left (sym h.read ∙ e) in
-        let more = parts.0 in
-        record {
-          left = more;
-          read = parts.1;
-          set = ap (λ (x : Threads). set_threads x more) t ∙ sym (ap (set_threads now_threads) parts.2) ∙ h.set;
-          are_set = subst (λ (x : Threads). SubrecordsAreSet x more) (sym t) (first-set s more parts.2).1;
-          values = All-tail (λ s. IsSubrecordValue kind s.item) s more (first-values s more parts.2);
-          put = λ rest.
-              p (subrecord_pieces new_threads kind more ++ rest)
-              ∙ ap (λ (x : Threads). now_out ++ bytes_left now_group (subrecord_piece now_threads kind s.item ++ (subrecord_pieces x kind more ++ rest))) t
-              ∙ ap (λ (ps : List Piece). now_out ++ bytes_left now_group ps) (sym (append_assoc (subrecord_piece now_threads kind s.item) (subrecord_pieces (set_thread now_threads s.item) kind more) rest))
-              ∙ sym (ap (λ (xs : List (At Subrecord)). now_out ++ bytes_left now_group (subrecord_pieces now_threads kind xs ++ rest)) parts.2)
-              ∙ h.put rest;
-        }
+  pub take-next : (s : At Subrecord) (then : Result (List (At Subrecord)) Fault) → now ≡ with_first s then
+      → (new_threads : Threads) (new_out : List ℕ) (new_group : Option Held) → new_threads ≡ set_thread now_threads s.item → ArePut (subrecord_piece now_threads kind s.item) now_out now_group new_out new_group
+      → IsTaken kind threads out group whole new_threads new_out new_group then
+  take-next s then e new_threads new_out new_group t p =
+      let parts = first-left s then h.left (sym h.read ∙ e) in
+      let more = parts.0 in
+      record {
+        left = more;
+        read = parts.1;
+        set = ap (λ (x : Threads). set_threads x more) t ∙ sym (ap (set_threads now_threads) parts.2) ∙ h.set;
+        are_set = subst (λ (x : Threads). SubrecordsAreSet x more) (sym t) (first-set s more parts.2).1;
+        values = All-tail (λ s. IsSubrecordValue kind s.item) s more (first-values s more parts.2);
+        put = λ rest.
+            p (subrecord_pieces new_threads kind more ++ rest)
+            ∙ ap (λ (x : Threads). now_out ++ bytes_left now_group (subrecord_piece now_threads kind s.item ++ (subrecord_pieces x kind more ++ rest))) t
+            ∙ ap (λ (ps : List Piece). now_out ++ bytes_left now_group ps) (sym (append_assoc (subrecord_piece now_threads kind s.item) (subrecord_pieces (set_thread now_threads s.item) kind more) rest))
+            ∙ sym (ap (λ (xs : List (At Subrecord)). now_out ++ bytes_left now_group (subrecord_pieces now_threads kind xs ++ rest)) parts.2)
+            ∙ h.put rest;
+      }
 
-    pub take-readable : IsOk now
-    take-readable = subst IsOk (sym h.read) refl
+  pub take-readable : IsOk now
+  take-readable = subst IsOk (sym h.read) refl
 
-    none-left : now ≡ Ok [] → h.left ≡ []
-    none-left e = let q : ◌≡◌ {A = Result (List (At Subrecord)) Fault} (Ok h.left) (Ok []) = sym h.read ∙ e in cc
+  none-left : now ≡ Ok [] → h.left ≡ []
+  none-left e = let q : ◌≡◌ {A = Result (List (At Subrecord)) Fault} (Ok h.left) (Ok []) = sym h.read ∙ e in cc
 
-    pub take-last-set : now ≡ Ok [] → now_threads ≡ set_threads threads whole
-    take-last-set e = sym (ap (set_threads now_threads) (none-left e)) ∙ h.set
+  pub take-last-set : now ≡ Ok [] → now_threads ≡ set_threads threads whole
+  take-last-set e = sym (ap (set_threads now_threads) (none-left e)) ∙ h.set
 
-    pub take-last-put : now ≡ Ok [] → ArePut (subrecord_pieces threads kind whole) out group now_out now_group
-    take-last-put e rest = sym (ap (λ (xs : List (At Subrecord)). now_out ++ bytes_left now_group (subrecord_pieces now_threads kind xs ++ rest)) (none-left e)) ∙ h.put rest
+  pub take-last-put : now ≡ Ok [] → ArePut (subrecord_pieces threads kind whole) out group now_out now_group
+  take-last-put e rest = sym (ap (λ (xs : List (At Subrecord)). now_out ++ bytes_left now_group (subrecord_pieces now_threads kind xs ++ rest)) (none-left e)) ∙ h.put rest
 
-    pub take-never : (f : Fault) → now ≡ Err f → ⊥
-    take-never f e = let q : ◌≡◌ {A = Result (List (At Subrecord)) Fault} (Ok h.left) (Err f) = sym h.read ∙ e in cc
+  pub take-never : (f : Fault) → now ≡ Err f → ⊥
+  take-never f e = let q : ◌≡◌ {A = Result (List (At Subrecord)) Fault} (Ok h.left) (Err f) = sym h.read ∙ e in cc
 
 -- What a FIXUPP's contents are, that are read.
 pub fixups-are : (r : Result (List (At Subrecord)) Fault) (c : Contents) → fixups_read r ≡ Ok c → (subs : List (At Subrecord)) × (r ≡ Ok subs) × (c ≡ Fixups subs)

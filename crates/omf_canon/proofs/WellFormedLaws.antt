@@ -8,7 +8,7 @@ use Rattle.omf_frame.specs.Fault.{AreKept}
 use Rattle.omf_frame.specs.Framing.{Raw}
 use Rattle.omf_image.specs.declared.limits.Limits.{Limits}
 use Rattle.omf_records.specs.Values.{At, nowhere, Rec, Contents, Fixups, ModEnd, Subrecord, contents_alone, subrecord_alone}
-use Rattle.omf_records.specs.Reading.{typed}
+use Rattle.omf_records.specs.Inner.Reading.{typed}
 use Rattle.omf_check.specs.Rules.{item_limit, room, item_places, contents_rules, rules}
 use Rattle.omf_check.specs.Tables.{item_count, items_in}
 use Rattle.omf_check.specs.WellFormed.{HasTrees, recs}

@@ -7,15 +7,15 @@ use Rattle.std.proofs.lemmas.List.Elements.{All-nil, All-cons, All-head, All-tai
 use Rattle.omf_frame.specs.Framing.{Raw, raw_bytes, raw_of, IsRecord}
 use Rattle.omf_records.specs.Values.{Rec}
 use Rattle.omf_reloc.proofs.SingleLaws.{singles}
-use Rattle.omf_reloc.specs.Pieces.{one_by_one, single_pieces}
+use Rattle.omf_reloc.specs.Inner.Pieces.{one_by_one, single_pieces}
 use Rattle.omf_reloc.specs.Plain.{Piece, Kept, Fixed, End, PlainFixup, pieces}
 use Rattle.omf_canon.specs.Canonical.{canonical_raws, canonical}
 use Rattle.omf_canon.specs.Cut.{body_limit, fixups_size}
 use Rattle.omf_canon.specs.PlainBytes.{fixup_bytes}
 use Rattle.omf_canon.specs.Skeleton.{skeleton}
-use Rattle.omf_canon.specs.Streaming.{group_raw, Open, close, open_with, closed_by, open_after, closed_all, streamed}
-use Rattle.omf_canon.specs.Writing.{Held, held, record_bytes, closed, has_room, held_with, CanPut, bytes_left}
-use Rattle.omf_canon.specs.Writing.{closed_by as closes}
+use Rattle.omf_canon.specs.Inner.Streaming.{group_raw, Open, close, open_with, closed_by, open_after, closed_all, streamed}
+use Rattle.omf_canon.specs.Inner.Writing.{Held, held, record_bytes, closed, has_room, held_with, CanPut, bytes_left}
+use Rattle.omf_canon.specs.Inner.Writing.{closed_by as closes}
 use Rattle.omf_canon.proofs.CutLaws.{length-group}
 use Rattle.omf_canon.proofs.StreamLaws.{streamed-canonical}
 

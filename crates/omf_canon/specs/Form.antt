@@ -1,10 +1,9 @@
 -- What canonical bytes are to the module that they are made of.
 use Rattle.std.specs.Prelude.{◌≡◌, ◌↔◌, ℕ, ◌≤◌, List}
 use Rattle.omf_frame.specs.Framing.{Raw}
-use Rattle.omf_records.specs.Values.{Rec}
 use Rattle.omf_image.specs.Limits.{profile_limits}
 use Rattle.omf_image.specs.declared.limits.Limits.{Limits}
-use Rattle.omf_check.specs.Module.{records_in}
+use Rattle.omf_check.specs.Module.{recs_of, records_in}
 use Rattle.omf_check.specs.Tables.{item_count}
 use Rattle.omf_check.specs.WellFormed.{IsWellFormed, recs}
 use Rattle.omf_check.specs.declared.profile.Profile.{Profile}
@@ -12,10 +11,6 @@ use Rattle.omf_placement.specs.Placement.{Places}
 use Rattle.omf_canon.specs.Canonical.{canonical}
 use Rattle.omf_canon.specs.Laws.{MeanTheSame}
 use Rattle.omf_canon.specs.Skeleton.{skeleton}
-
--- The typed records of bytes.
-abbrev pub recs_of : List ℕ → List Rec
-recs_of bytes = recs (records_in bytes)
 
 -- They are well formed under its profile, have no more items and its skeleton, and are their own canonical bytes. Any module has them exactly where it has the skeleton.
 -- At every placement they mean the same.

@@ -4,7 +4,8 @@ use Rattle.omf_frame.specs.Framing.{Raw, raw_bytes}
 use Rattle.omf_image.specs.declared.limits.Limits.{Limits}
 use Rattle.omf_records.specs.Values.{Rec, Subrecord}
 use Rattle.omf_check.specs.Threads.{PlainReference, plain}
-use Rattle.omf_records.specs.Reading.{typed}
+-- computed: readings_meet_layouts and contents_are_typed_once of omf_records.
+use Rattle.omf_records.specs.Inner.Reading.{typed}
 use Rattle.omf_records.specs.Records.{IsTyped}
 use Rattle.omf_check.specs.Tables.{item_count}
 use Rattle.omf_check.specs.WellFormed.{IsWellFormed, recs}
@@ -18,7 +19,8 @@ use Rattle.omf_reloc.specs.Reach.{causes, reach_fault}
 use Rattle.omf_reloc.specs.Image.{image, start}
 use Rattle.omf_canon.specs.Canonical.{piece_raws, canonical_raws, canonical}
 use Rattle.omf_canon.specs.Cut.{IsGreedyCut, cut}
-use Rattle.omf_canon.specs.Streaming.{streamed}
+-- computed: walks_are_canonical of omf_canon.
+use Rattle.omf_canon.specs.Inner.Streaming.{streamed}
 use Rattle.omf_canon.specs.Unthreaded.{unthreaded}
 use Rattle.omf_canon.specs.Joined.{IsJoined, parts, cut_pieces, piece_items}
 use Rattle.omf_canon.specs.Skeleton.{skeleton_of, skeleton}

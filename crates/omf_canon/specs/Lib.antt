@@ -3,9 +3,8 @@ pub mod Unthreaded
 pub mod PlainBytes
 pub mod Cut
 pub mod Canonical
-pub mod Streaming
-pub mod Writing
 pub mod Joined
 pub mod Laws
 pub mod Form
 pub mod Output
+pub mod Inner

@@ -2,8 +2,7 @@
 
 ghost use Rattle.std.specs.Prelude.{◌≡◌, ◌≤◌, IfOk, IfErr};
 ghost use Rattle.omf_frame.specs.Device.{Writes};
-ghost use Rattle.omf_check.specs.Module.{records_in};
-ghost use Rattle.omf_check.specs.WellFormed.{recs};
+ghost use Rattle.omf_check.specs.Module.{recs_of};
 ghost use Rattle.omf_canon.specs.Canonical.{canonical};
 ghost use Rattle.omf_canon.specs.Output.{IsCanonFault};
 
@@ -20,7 +19,7 @@ use std::alloc::Global;
 /// `Memory` where a growth was refused: nothing is written. `Write` where the writer failed, at once, took none of some bytes, or was
 /// interrupted 1,000 times running: what it took is a beginning of the canonical bytes.
 pub fn canon_to<S: Sink>(alloc: Global, module: &Checked, writer: &mut S) -> Result<(), CanonFault>
-    ensures bytes { Writes (S.seen writer.old).bytes (S.seen writer.new).bytes result (canonical (recs (records_in «module».now.bytes))) }
+    ensures bytes { Writes (S.seen writer.old).bytes (S.seen writer.new).bytes result (canonical (recs_of «module».now.bytes)) }
     ensures cause { IfErr result (IsCanonFault (S.seen writer.old) (S.seen writer.new)) }
     ensures grows { (S.seen writer.old).failures ≤ (S.seen writer.new).failures }
     ensures unbroken { IfOk result (λ done. (S.seen writer.new).breaks ≡ (S.seen writer.old).breaks) }

@@ -1,10 +1,10 @@
 //! Fixups and starts without threads (TIS OMF 1.1, "FIXUPP", frame and target methods), and their bytes.
 
 ghost use Rattle.std.specs.Prelude.{◌≡◌, ◌++◌, OnOk, IfSome, option_map};
-ghost use Rattle.omf_records.specs.Direct.{is_direct};
+ghost use Rattle.omf_records.specs.Inner.Direct.{is_direct};
 ghost use Rattle.omf_records.specs.Values.{Fixup, nowhere};
-ghost use Rattle.omf_reloc.specs.Pieces.{IsSet};
-ghost use Rattle.omf_reloc.specs.Walking.{plain_by, plain_fixup_by};
+ghost use Rattle.omf_reloc.specs.Inner.Pieces.{IsSet};
+ghost use Rattle.omf_reloc.specs.Inner.Walking.{plain_by, plain_fixup_by};
 ghost use Rattle.omf_canon.specs.PlainBytes.{start_bytes};
 ghost use Rattle.omf_canon.specs.Unthreaded.{frame_code, target_code, frame_index, target_index, fix_byte, unthreaded, unthreaded_fixup};
 

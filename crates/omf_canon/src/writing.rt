@@ -1,30 +1,28 @@
 //! The canonical bytes of a module.
 
 ghost use Rattle.std.specs.Prelude.{All, ◌≡◌, ◌≤◌, ◌++◌, [], ◌∷◌, None, Some, Ok, OnOk, IfOk, IsOk, IsOkAnd, IfSome, IsTrue, true, false, length, option_map, if◌then◌else◌};
-ghost use Rattle.omf_check.specs.Judging.{IsNoFixupp};
-ghost use Rattle.omf_check.specs.Kept.{no_threads, set_thread, set_threads};
-ghost use Rattle.omf_check.specs.Listed.{StartsWithRecord};
-ghost use Rattle.omf_check.specs.Module.{records_in};
-ghost use Rattle.omf_check.specs.WellFormed.{recs};
-ghost use Rattle.omf_frame.specs.Framing.{IsRecord, front_record, present, after_front, is_taken};
-ghost use Rattle.omf_records.specs.Reading.{read_body};
-ghost use Rattle.omf_records.specs.Seen.{rec_seen, kind_seen, contents_seen};
+ghost use Rattle.omf_check.specs.Inner.Judging.{IsNoFixupp};
+ghost use Rattle.omf_check.specs.Inner.Kept.{no_threads, set_thread, set_threads};
+ghost use Rattle.omf_check.specs.Module.{recs_of};
+ghost use Rattle.omf_frame.specs.Framing.{IsRecord, is_taken};
+ghost use Rattle.omf_records.specs.Inner.Reading.{read_body};
+ghost use Rattle.omf_records.specs.Inner.Seen.{rec_seen, kind_seen, contents_seen};
 ghost use Rattle.omf_records.specs.Shortest.{subrecord_bytes};
 ghost use Rattle.omf_records.specs.Valued.{IsSubrecordValue, HaveReferenceValues};
 ghost use Rattle.omf_records.specs.Values.{alone, Fixup};
-ghost use Rattle.omf_reloc.specs.Pieces.{IsSet, SubrecordIsSet, SubrecordsAreSet, ContentsAreSet};
+ghost use Rattle.omf_reloc.specs.Inner.Pieces.{IsSet, SubrecordIsSet, SubrecordsAreSet, ContentsAreSet};
 ghost use Rattle.omf_reloc.specs.Plain.{Kept, End, end_byte};
-ghost use Rattle.omf_reloc.specs.Walking.{plain_by, threads_after};
+ghost use Rattle.omf_reloc.specs.Inner.Walking.{plain_by, threads_after};
 ghost use Rattle.omf_canon.specs.Canonical.{canonical, canonical_raws};
 ghost use Rattle.omf_canon.specs.Skeleton.{skeleton};
 ghost use Rattle.omf_canon.specs.Form.{IsFormOf};
 ghost use Rattle.omf_canon.specs.PlainBytes.{start_bytes};
-ghost use Rattle.omf_canon.specs.Writing.{Held, held, record_bytes, closed, has_room, held_with, closed_by, piece_puts, CanPut, subrecord_piece, subrecord_pieces, contents_pieces, ArePut, IsJoined, is_data, begins_short};
+ghost use Rattle.omf_canon.specs.Inner.Writing.{Held, held, record_bytes, closed, has_room, held_with, closed_by, piece_puts, CanPut, subrecord_piece, subrecord_pieces, contents_pieces, ArePut, IsJoined, is_data, begins_short};
 
 use crate::laws;
 use crate::plain::{is_direct, put_start, unthreaded_fixup};
 use omf_check::laws::modules_hold;
-use omf_check::{Checked, Threads};
+use omf_check::{Checked, Threads, split_record};
 use omf_frame::{RawRecord, checksum};
 use omf_records::laws::typed_have_values;
 use omf_records::{
@@ -80,7 +78,7 @@ struct Group {
 
 impl Model for Group {
     ghost use Rattle.std.specs.Prelude.{All, ◌≤◌, length};
-    ghost use Rattle.omf_canon.specs.Writing.{Held};
+    ghost use Rattle.omf_canon.specs.Inner.Writing.{Held};
 
     ghost Value = { Held };
 
@@ -396,33 +394,10 @@ fn end_contents(
     Ok(body)
 }
 
-/// The record that the bytes begin with, and the bytes after it.
-fn split_record<'a>(bytes: &'a [u8]) -> (RawRecord<'a>, &'a [u8])
-    requires { StartsWithRecord bytes.now }
-    ensures kind { result.0.kind ≡ (front_record (present bytes.entry.now)).kind }
-    ensures body { result.0.body.now ≡ (front_record (present bytes.entry.now)).body }
-    ensures rest { result.1.now ≡ after_front bytes.entry.now }
-{
-    match bytes {
-        [kind, low, high, rest @ ..] => {
-            let size = usize::from(*low) + 256 * usize::from(*high);
-            let (contents, after) = rest.split_at(size);
-            let raw = RawRecord {
-                kind: *kind,
-                body: &contents[..size - 1],
-                number: 0,
-                start: 0,
-            };
-            (raw, after)
-        }
-        _ => unreachable!(),
-    }
-}
-
 /// What one walk over a module's records writes: its canonical bytes, with room for so many from the start.
 fn written(alloc: Global, module: &Checked, capacity: usize) -> Result<Vec<u8>, AllocError>
-    requires { All IsRecord (canonical_raws (skeleton (recs (records_in «module».now.bytes)))) }
-    ensures { IfOk result (λ v. v.items ≡ canonical (recs (records_in «module».now.bytes))) }
+    requires { All IsRecord (canonical_raws (skeleton (recs_of «module».now.bytes))) }
+    ensures { IfOk result (λ v. v.items ≡ canonical (recs_of «module».now.bytes)) }
 {
     modules_hold();
     typed_have_values();
@@ -444,7 +419,7 @@ fn written(alloc: Global, module: &Checked, capacity: usize) -> Result<Vec<u8>, 
 ///
 /// `AllocError` where a growth is refused.
 pub fn canon(alloc: Global, module: &Checked) -> Result<Vec<u8>, AllocError>
-    ensures bytes { IfOk result (λ v. v.items ≡ canonical (recs (records_in «module».now.bytes))) }
+    ensures bytes { IfOk result (λ v. v.items ≡ canonical (recs_of «module».now.bytes)) }
     ensures form { IfOk result (λ v. IsFormOf «module».now.profile «module».now.bytes v.items) }
 {
     laws::canonicals_are_well_formed();

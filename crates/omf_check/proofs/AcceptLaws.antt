@@ -9,10 +9,10 @@ use Rattle.omf_frame.specs.declared.fault.Place.{Place}
 use Rattle.omf_frame.specs.Fault.{Fault, IsLeast, first_step}
 use Rattle.omf_frame.specs.Framing.{Raw, raw_bytes, IsRecord, IsFramed, is_taken, is_header, is_end, present}
 use Rattle.omf_records.specs.Records.{IsTyped}
-use Rattle.omf_records.specs.Reading.{typed}
+use Rattle.omf_records.specs.Inner.Reading.{typed}
 use Rattle.omf_check.specs.Refusal.{steps, is_empty, IsRefused}
 use Rattle.omf_check.specs.WellFormed.{IsWellFormed, IsAccepted, HasTrees}
-use Rattle.omf_records.specs.LawProofs.{are_typed}
+use Rattle.omf_records.specs.Inner.LawProofs.{are_typed}
 use Rattle.omf_check.proofs.TreeLaws.{no_block_fault}
 use Rattle.omf_frame.proofs.FaultLaws.{untrue, all_cons}
 use Rattle.omf_check.proofs.UniqueLaws.{AreSound, all_first, all_rest, same_front, no_fault_here, sound_rest}

@@ -7,14 +7,14 @@ use Rattle.omf_frame.specs.Framer.{Held, passed, stands, FailsAs, IsCause}
 use Rattle.omf_frame.specs.Framer.{next_bytes as next_of, Takes as FramerTakes}
 use Rattle.omf_frame.specs.declared.fault.FrameFault.{FrameFault}
 use Rattle.omf_frame.specs.declared.fault.FrameFault.TheVariants as frame
-use Rattle.omf_records.specs.Steps.{AreBytes-take}
+use Rattle.omf_records.specs.Inner.Steps.{AreBytes-take}
 use Rattle.omf_image.specs.Limits.{profile_limits}
 use Rattle.omf_check.specs.declared.fault.CheckFault.{CheckFault}
 use Rattle.omf_check.specs.declared.fault.CheckFault.TheVariants as check
 use Rattle.omf_check.specs.declared.profile.Profile.{Profile}
-use Rattle.omf_check.specs.Judging.{raw_fault, rec_of}
-use Rattle.omf_check.specs.Kept.{Kept, IsBounded, with_record}
-use Rattle.omf_check.specs.Session.{IsPassing, Fails, framing_fault, IsStopped}
+use Rattle.omf_check.specs.Inner.Judging.{raw_fault, rec_of}
+use Rattle.omf_check.specs.Inner.Kept.{Kept, IsBounded, with_record}
+use Rattle.omf_check.specs.Inner.Passing.{IsPassing, Fails, framing_fault, IsStopped}
 use Rattle.omf_check.proofs.Moving.{more_goes_on, passes, passed_sound, start_bound, number_bound}
 use Rattle.omf_check.proofs.Refusing.{framer_here, record_here, lacks_first, lacks_part, whole_longer}
 

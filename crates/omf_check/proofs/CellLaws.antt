@@ -6,7 +6,7 @@ use Rattle.std.proofs.lemmas.List.{append-nil}
 use Rattle.omf_records.specs.Values.{Subrecord, thread_number}
 use Rattle.omf_image.proofs.LastLaws.{last_filter_map}
 use Rattle.omf_check.specs.Threads.{setting_of, thread}
-use Rattle.omf_check.specs.Cells.{Cells, no_cells, set_cell, cells_after}
+use Rattle.omf_check.specs.Inner.Cells.{Cells, no_cells, set_cell, cells_after}
 
 -- A thread after one more subrecord.
 pub thread-append : (is_frame : Bool) (k : ℕ) (earlier : List Subrecord) (s : Subrecord) → thread is_frame k (earlier ++ s ∷ []) ≡ option_or (setting_of is_frame k s) (thread is_frame k earlier)

@@ -3,8 +3,8 @@ use Rattle.std.proofs.Common.{◌≡◌, ℕ, ◌+◌, List, [], ◌∷◌, ◌+
 use Rattle.std.specs.Prelude.{Option}
 use Rattle.omf_frame.specs.Fault.{Fault}
 use Rattle.omf_records.specs.Values.{At, Subrecord}
-use Rattle.omf_check.specs.Kept.{Kept, set_thread, set_threads, starts}
-use Rattle.omf_check.specs.Judging.{lesser, subrecord_fault, subrecords_fault}
+use Rattle.omf_check.specs.Inner.Kept.{Kept, set_thread, set_threads, starts}
+use Rattle.omf_check.specs.Inner.Judging.{lesser, subrecord_fault, subrecords_fault}
 use Rattle.omf_check.specs.declared.threads.Threads.{Threads}
 use Rattle.omf_check.proofs.Lesser.{lesser_more}
 

@@ -11,7 +11,7 @@ use Rattle.omf_frame.specs.declared.fault.Reason.{Reason}
 use Rattle.omf_frame.specs.declared.fault.Reason.TheVariants as reason
 use Rattle.omf_records.specs.Values.{At, Rec, Contents, Header, Comment, Names, Segment, Group, Externs, Publics, Communals, Plain, Iterated, Fixups, ModEnd, Carried, DataItem, Subrecord, Thread, Fixup, Reference, width}
 use Rattle.omf_image.specs.Blocks.{blocks_size}
-use Rattle.omf_image.specs.Expanding.{blocks_of}
+use Rattle.omf_image.specs.Inner.Expanding.{blocks_of}
 use Rattle.omf_image.specs.declared.limits.Limits.{Limits}
 use Rattle.omf_check.specs.declared.profile.Profile.{Profile}
 use Rattle.omf_check.specs.declared.threads.Threads.{Threads}
@@ -19,8 +19,8 @@ use Rattle.omf_check.specs.declared.segment.SegInfo.{SegInfo}
 use Rattle.omf_check.specs.Tables.{names, segments, groups, externals, item_count, subrecords, last_data, is_defined, is_none_or_defined}
 use Rattle.omf_check.specs.Threads.{FrameMethod, F0, F1, F2, F4, F5, TargetMethod, T0, T1, T2, frame_of, target_of}
 use Rattle.omf_check.specs.Rules.{table_limit, item_limit, room, places, item_places, names_entry, names_entry_or_none, data_rules, frame_rules, target_rules, judged_at, reference_rules, location_rule, subrecord_rules, subrecord_rules_at, is_location_frame, start_rules, contents_rules, rules}
-use Rattle.omf_check.specs.Kept.{Kept, Tells, HasThreads, set_thread, last_kept}
-use Rattle.omf_check.specs.Judging.{fault_unless, lesser, room_fault, optional_fault, kept_length, data_fault, frame_fault, target_fault, frame_cell, reference_fault, location_fault, subrecord_fault, subrecords_fault, start_fault, members_fault, contents_fault}
+use Rattle.omf_check.specs.Inner.Kept.{Kept, Tells, HasThreads, set_thread, last_kept}
+use Rattle.omf_check.specs.Inner.Judging.{fault_unless, lesser, room_fault, optional_fault, kept_length, data_fault, frame_fault, target_fault, frame_cell, reference_fault, location_fault, subrecord_fault, subrecords_fault, start_fault, members_fault, contents_fault}
 use Rattle.omf_check.proofs.Lesser.{fault_of, fault_append, fault_one, fault_cons}
 use Rattle.omf_check.proofs.KeptLaws.{threads_more}
 use Rattle.omf_check.proofs.ThreadLaws.{frame_kept, target_kept}

@@ -6,7 +6,7 @@ use Rattle.std.proofs.lemmas.List.{append-nil, length-append, map-append, drop_a
 use Rattle.omf_frame.specs.Bytes.{AreBytes}
 use Rattle.omf_frame.specs.Fault.{Fault, IsLeast, least, least_or, first_step}
 use Rattle.omf_frame.specs.Framing.{Raw, raw_bytes, present, front_record, stated_length, is_end_of_input, lasting, frame_steps, frame_fault, standing_fault}
-use Rattle.omf_frame.specs.Judging.{found, type_fault, whole_fault}
+use Rattle.omf_frame.specs.Inner.Judging.{found, type_fault, whole_fault}
 use Rattle.omf_frame.specs.declared.fault.Place.{Place}
 use Rattle.omf_frame.specs.declared.fault.Reason.{Reason}
 use Rattle.omf_frame.specs.declared.fault.Reason.TheVariants as reason
@@ -15,12 +15,12 @@ use Rattle.omf_frame.proofs.Growing.{type_same}
 use Rattle.omf_frame.proofs.Judged.{standing_is}
 use Rattle.omf_frame.proofs.Standing.{present_twice, lasting_some}
 use Rattle.omf_frame.proofs.StepLaws.{clean_steps, framed_of}
-use Rattle.omf_records.specs.Reading.{typed}
-use Rattle.omf_records.specs.Steps.{AreBytes-front, AreBytes-back}
+use Rattle.omf_records.specs.Inner.Reading.{typed}
+use Rattle.omf_records.specs.Inner.Steps.{AreBytes-front, AreBytes-back}
 use Rattle.omf_image.specs.declared.limits.Limits.{Limits}
 use Rattle.omf_check.specs.declared.profile.Profile.{Profile}
-use Rattle.omf_check.specs.Judging.{raw_fault}
-use Rattle.omf_check.specs.Kept.{Kept, Tells, nothing_kept, with_record}
+use Rattle.omf_check.specs.Inner.Judging.{raw_fault}
+use Rattle.omf_check.specs.Inner.Kept.{Kept, Tells, nothing_kept, with_record}
 use Rattle.omf_check.specs.Laws.{NoneShorter}
 use Rattle.omf_check.specs.Refusal.{IsRefused, AreSoundSoFar, EndsWhereJudged, faults_after, record_steps, is_empty}
 use Rattle.omf_check.specs.WellFormed.{IsAccepted, recs}

@@ -13,7 +13,7 @@ use Rattle.omf_records.specs.Values.{At, Rec, Contents, Names, Segment, Group, E
 use Rattle.omf_frame.specs.Types.{is_local}
 use Rattle.omf_check.specs.Tables.{names, groups, externals, item_count, items_in, subrecords, subrecords_in, data_in, defined_names, defined_segments, defined_groups, defined_externals, locals}
 use Rattle.omf_check.specs.Threads.{Setting, setting, setting_of, same, frame_from, target_from, thread}
-use Rattle.omf_check.specs.Kept.{Kept, Tells, HasThreads, kept_frame, kept_target, set_thread, set_threads, no_threads, nothing_kept, with_contents, with_record, starts, last_kept}
+use Rattle.omf_check.specs.Inner.Kept.{Kept, Tells, HasThreads, kept_frame, kept_target, set_thread, set_threads, no_threads, nothing_kept, with_contents, with_record, starts, last_kept}
 use Rattle.omf_check.specs.declared.threads.Threads.{Threads}
 use Rattle.omf_check.proofs.CellLaws.{thread-append, few_numbers}
 

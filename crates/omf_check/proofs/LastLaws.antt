@@ -3,7 +3,7 @@ use Rattle.std.proofs.Common.{◌≡◌, ℕ, ◌+◌, ◌-◌, ◌<◌, List, [
 use Rattle.omf_frame.specs.Bytes.{last}
 use Rattle.omf_frame.specs.Framing.{front_record, present, after_front}
 use Rattle.omf_image.specs.declared.limits.Limits.{Limits}
-use Rattle.omf_records.specs.Reading.{typed}
+use Rattle.omf_records.specs.Inner.Reading.{typed}
 use Rattle.omf_records.specs.Values.{Rec}
 use Rattle.omf_check.specs.Listed.{StartsWithRecord, AreListed}
 use Rattle.omf_check.specs.Module.{records_in}

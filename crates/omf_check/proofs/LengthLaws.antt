@@ -5,9 +5,9 @@ use Rattle.std.proofs.lemmas.Bool.Decides.{eqb_tells}
 use Rattle.omf_frame.specs.declared.fault.Reason.{Reason}
 use Rattle.omf_records.specs.Values.{At}
 use Rattle.omf_check.specs.Tables.{is_defined}
-use Rattle.omf_check.specs.Kept.{Kept}
-use Rattle.omf_check.specs.Judging.{fault_unless, index_fault, frame_fault}
-use Rattle.omf_check.specs.TableLengths.{table_lengths}
+use Rattle.omf_check.specs.Inner.Kept.{Kept}
+use Rattle.omf_check.specs.Inner.Judging.{fault_unless, index_fault, frame_fault}
+use Rattle.omf_check.specs.Inner.TableLengths.{table_lengths}
 use Rattle.omf_check.specs.Threads.{F0, F1, F2, F4, F5, T0, T1, T2, setting, frame_from, target_from}
 
 holds_alone : (b : Bool) (at : ℕ) (r : Reason) → b ≡ is_none (fault_unless b at r)

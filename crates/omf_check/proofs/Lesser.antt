@@ -6,7 +6,7 @@ use Rattle.omf_frame.specs.declared.fault.Reason.{Reason}
 use Rattle.omf_frame.specs.declared.fault.Reason.TheVariants as reason
 use Rattle.omf_frame.specs.Fault.{Fault, is_before, least, least_or, broken, Rule, rule}
 use Rattle.omf_frame.proofs.FaultLaws.{key, key_before, before_key}
-use Rattle.omf_check.specs.Judging.{lesser, fault_unless, room_fault}
+use Rattle.omf_check.specs.Inner.Judging.{lesser, fault_unless, room_fault}
 
 bool_cases : (b : Bool) → (b ≡ true) ⊎ (b ≡ false)
 bool_cases true = inl refl

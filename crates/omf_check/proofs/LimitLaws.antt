@@ -2,12 +2,12 @@
 use Rattle.std.proofs.Common.{◌≡◌, ℕ, ◌≤◌, List, ◌++◌, refl, sym, ◌∙◌, ap, subst}
 use Rattle.omf_frame.specs.Fault.{AreKept}
 use Rattle.omf_frame.specs.Framing.{Raw}
-use Rattle.omf_records.specs.Reading.{typed}
+use Rattle.omf_records.specs.Inner.Reading.{typed}
 use Rattle.omf_records.specs.Values.{Rec, Contents, Header, Iterated, width}
 use Rattle.omf_image.proofs.LimitLaws.{blocks_grow}
-use Rattle.omf_image.specs.BlockReaders.{blocks_whole}
+use Rattle.omf_image.specs.Inner.BlockReaders.{blocks_whole}
 use Rattle.omf_image.specs.Blocks.{blocks_size}
-use Rattle.omf_image.specs.Expanding.{blocks_or_none}
+use Rattle.omf_image.specs.Inner.Expanding.{blocks_or_none}
 use Rattle.omf_image.specs.declared.limits.Limits.{Limits}
 use Rattle.omf_check.specs.Rules.{contents_rules, data_rules, room, item_limit, item_places}
 use Rattle.omf_check.specs.Tables.{item_count}

@@ -5,14 +5,15 @@ use Rattle.omf_frame.specs.Framing.{Raw, raw_bytes, IsRecord, is_taken, front_re
 use Rattle.omf_frame.specs.Fault.{Fault}
 use Rattle.omf_frame.specs.declared.fault.Place.{Place}
 use Rattle.omf_frame.proofs.FramingLaws.{present_raw, front_raw, after_raw}
-use Rattle.omf_records.specs.Reading.{typed, read_body}
-use Rattle.omf_records.specs.RecordReaders.{contents_whole}
+use Rattle.omf_records.specs.Inner.Reading.{typed, read_body}
+use Rattle.omf_records.specs.Inner.RecordReaders.{contents_whole}
 use Rattle.omf_records.specs.Values.{Rec, Contents}
 use Rattle.omf_image.specs.Limits.{profile_limits}
 use Rattle.omf_check.specs.declared.profile.Profile.{Profile}
-use Rattle.omf_check.specs.Kept.{Kept}
+use Rattle.omf_check.specs.Inner.Kept.{Kept}
 use Rattle.omf_check.specs.Listed.{placed_from, IsReadable, StartsWithRecord, AreListed}
-use Rattle.omf_check.specs.Module.{records_in, IsChecked}
+use Rattle.omf_check.specs.Module.{records_in}
+use Rattle.omf_check.specs.Inner.Parts.{IsChecked}
 use Rattle.omf_check.specs.WellFormed.{IsWellFormed}
 use Rattle.omf_check.proofs.Moving.{item_more, records_size}
 use Rattle.omf_check.proofs.SessionLaws.{split_all}

@@ -11,19 +11,19 @@ use Rattle.omf_frame.specs.Framing.{Raw, raw_bytes, IsRecord, is_end, is_whole, 
 use Rattle.omf_frame.specs.Framer.{Held, at_start, passed, stands}
 use Rattle.omf_frame.specs.Framer.{next_bytes as next_of, Takes as FramerTakes}
 use Rattle.omf_frame.proofs.StepLaws.{least_none, clean_steps}
-use Rattle.omf_records.specs.Reading.{typed}
+use Rattle.omf_records.specs.Inner.Reading.{typed}
 use Rattle.omf_records.specs.Values.{Contents, Fixups, Names}
 use Rattle.omf_image.specs.Limits.{profile_limits}
 use Rattle.omf_check.specs.declared.profile.Profile.{Profile}
-use Rattle.omf_check.specs.Judging.{raw_fault, rec_of}
-use Rattle.omf_check.specs.Kept.{Kept, Tells, IsBounded, nothing_kept, with_record}
+use Rattle.omf_check.specs.Inner.Judging.{raw_fault, rec_of}
+use Rattle.omf_check.specs.Inner.Kept.{Kept, Tells, IsBounded, nothing_kept, with_record}
 use Rattle.omf_check.specs.Refusal.{AreSoundSoFar, place_after, steps, record_steps, is_empty}
 use Rattle.omf_check.specs.Tables.{item_count, items_in}
 use Rattle.omf_check.specs.WellFormed.{recs, IsWellFormed}
-use Rattle.omf_check.specs.Session.{IsPassing}
+use Rattle.omf_check.specs.Inner.Passing.{IsPassing}
 use Rattle.omf_check.specs.Listed.{IsReadable}
-use Rattle.omf_records.specs.LawProofs.{decided}
-use Rattle.omf_check.specs.Points.{PointsTo}
+use Rattle.omf_records.specs.Inner.LawProofs.{decided}
+use Rattle.omf_check.specs.Inner.Points.{PointsTo}
 use Rattle.omf_check.proofs.AcceptLaws.{all_middle}
 use Rattle.omf_check.proofs.PointLaws.{points_on}
 use Rattle.omf_check.proofs.StepLaws.{sound_of}

@@ -1,18 +1,18 @@
 -- A name is read where it stands.
-use Rattle.std.proofs.Common.{◌≡◌, ℕ, zero, suc, ◌-◌, ◌≤◌, Bool, true, false, List, [], ◌∷◌, ◌++◌, refl, sym, ◌∙◌, ap, arith, length, take, drop, length-append}
-use Rattle.std.specs.Prelude.{Some, None, slice_get, cond, nat_le}
+use Rattle.std.proofs.Common.{◌≡◌, ℕ, ◌-◌, ◌≤◌, Bool, true, false, List, ◌∷◌, ◌++◌, refl, sym, ◌∙◌, ap, subst, arith, length, take, drop, length-append}
+use Rattle.std.specs.Prelude.{Option, Some, None, IfSome, slice_get, cond, nat_le}
 use Rattle.std.proofs.lemmas.List.{length-take, take-append-drop}
 use Rattle.std.proofs.Math.Seq.{drop-append_seam}
 use Rattle.omf_frame.proofs.FramingLaws.{present_raw, front_raw}
 use Rattle.omf_frame.specs.Framing.{raw_bytes, front_record, present}
-use Rattle.omf_records.specs.Reading.{typed}
+use Rattle.omf_records.specs.Inner.Reading.{typed}
 use Rattle.omf_records.specs.Values.{Group, GroupItem}
 use Rattle.omf_frame.specs.Fields.{IsName, IsSpelledAt}
-use Rattle.omf_frame.specs.FieldLaws.{name_free}
-use Rattle.omf_check.specs.Points.{NameAt, NamesAt, HasName, GroupAt, GroupsAt}
+use Rattle.omf_frame.specs.Inner.FieldLaws.{name_free}
+use Rattle.omf_check.specs.Inner.Points.{NameAt, HasName, GroupAt, AllAt, IsItemAt}
 use Rattle.omf_check.specs.Listed.{StartsWithRecord}
 use Rattle.omf_check.specs.Tables.{entry}
-use Rattle.omf_check.proofs.PointLaws.{name_of, group_of, no_group}
+use Rattle.omf_check.proofs.PointLaws.{item_at}
 
 behind : (bytes : List ℕ) (p : ℕ) (n : List ℕ) (h : NameAt bytes p n) → drop p bytes ≡ (length n ∷ n) ++ h.rest
 behind bytes p n h = ap (λ k. drop k bytes) h.place ∙ ap (drop (length h.front)) h.spelled ∙ drop-append_seam h.front ((length n ∷ n) ++ h.rest)
@@ -32,40 +32,52 @@ spelled_name bytes p to n (le, low, (short, e)) = record {
 pub one_name : (bytes : List ℕ) (p : ℕ) (n m : List ℕ) → NameAt bytes p n → NameAt bytes p m → n ≡ m
 one_name bytes p n m h k = (name_free n m (length n ∷ n) (length m ∷ m) h.rest k.rest (h.short, refl) (k.short, refl) (sym (behind bytes p n h) ∙ behind bytes p m k)).1
 
-by_index : (b : Bool) (bytes ps : List ℕ) (ns : List (List ℕ)) (i p : ℕ) → NamesAt bytes ps ns → cond b (slice_get ps i) None ≡ Some p → (n : List ℕ) × (cond b (slice_get ns i) None ≡ Some n) × NameAt bytes p n
-by_index true bytes ps ns i p h e = name_of bytes ps ns i p h e
-by_index false bytes ps ns i p h e = absurd cc
+-- The entry of an index from 1.
+pub entry_at : {A : Type 0} (P : ℕ → A → Type 0) (ps : List ℕ) (xs : List A) (i : ℕ) → AllAt P ps xs → IsItemAt P (entry ps i) (entry xs i)
+entry_at P ps xs i h = by (nat_le 1 i)
+  where
+    by : (b : Bool) → IsItemAt P (cond b (slice_get ps (i - 1)) None) (cond b (slice_get xs (i - 1)) None)
+    by true = item_at P ps xs (i - 1) h
+    by false = tt
 
-pub entry_name : (bytes ps : List ℕ) (ns : List (List ℕ)) (i p : ℕ) → NamesAt bytes ps ns → entry ps i ≡ Some p → (n : List ℕ) × (entry ns i ≡ Some n) × NameAt bytes p n
-entry_name bytes ps ns i p h e = by_index (nat_le 1 i) bytes ps ns (i - 1) p h e
+pub found_at : {A : Type 0} (P : ℕ → A → Type 0) (ps : List ℕ) (xs : List A) (i p : ℕ) → AllAt P ps xs → entry ps i ≡ Some p → (x : A) × (entry xs i ≡ Some x) × P p x
+found_at {A} P ps xs i p h e = by (entry xs i) refl (subst (λ o. IsItemAt P o (entry xs i)) e (entry_at P ps xs i h))
+  where
+    by : (found : Option A) → entry xs i ≡ found → IsItemAt P (Some p) found → (x : A) × (entry xs i ≡ Some x) × P p x
+    by (Some x) f k = (x, f, k)
+    by None f k = absurd k
 
-none_of : (bytes ps : List ℕ) (ns : List (List ℕ)) (i : ℕ) → NamesAt bytes ps ns → slice_get ps i ≡ None → slice_get ns i ≡ None
-none_of bytes [] [] i h e = refl
-none_of bytes [] (n ∷ ns) i h e = absurd h
-none_of bytes (p ∷ ps) [] i h e = absurd h
-none_of bytes (p ∷ ps) (n ∷ ns) zero h e = absurd cc
-none_of bytes (p ∷ ps) (n ∷ ns) (suc i) h e = none_of bytes ps ns i h.1 e
+pub none_at : {A : Type 0} (P : ℕ → A → Type 0) (ps : List ℕ) (xs : List A) (i : ℕ) → AllAt P ps xs → entry ps i ≡ None → entry xs i ≡ None
+none_at {A} P ps xs i h e = by (entry xs i) (subst (λ o. IsItemAt P o (entry xs i)) e (entry_at P ps xs i h))
+  where
+    by : (found : Option A) → IsItemAt P None found → found ≡ None
+    by (Some x) k = absurd k
+    by None k = refl
 
-none_by : (b : Bool) (bytes ps : List ℕ) (ns : List (List ℕ)) (i : ℕ) → NamesAt bytes ps ns → cond b (slice_get ps i) None ≡ None → cond b (slice_get ns i) None ≡ None
-none_by true bytes ps ns i h e = none_of bytes ps ns i h e
-none_by false bytes ps ns i h e = refl
+some_at : {A : Type 0} (P : ℕ → A → Type 0) (place : Option ℕ) (found : Option A) → IsItemAt P place found → IfSome place (λ p. (x : A) × P p x)
+some_at P (Some p) (Some x) h = (x, h)
+some_at P None None h = tt
+some_at P (Some p) None h = absurd h
+some_at P None (Some x) h = absurd h
 
-pub entry_none : (bytes ps : List ℕ) (ns : List (List ℕ)) (i : ℕ) → NamesAt bytes ps ns → entry ps i ≡ None → entry ns i ≡ None
-entry_none bytes ps ns i h e = none_by (nat_le 1 i) bytes ps ns (i - 1) h e
+one_at : (bytes : List ℕ) (place : Option ℕ) (found other : Option (List ℕ)) → IsItemAt (NameAt bytes) place found → IsItemAt (NameAt bytes) place other → found ≡ other
+one_at bytes (Some p) (Some n) (Some m) h k = ap (λ (x : List ℕ). Some x) (one_name bytes p n m h k)
+one_at bytes None None None h k = refl
+one_at bytes (Some p) None other h k = absurd h
+one_at bytes None (Some n) other h k = absurd h
+one_at bytes (Some p) (Some n) None h k = absurd k
+one_at bytes None None (Some m) h k = absurd k
 
-group_index : (b : Bool) (bytes ps : List ℕ) (gs : List GroupItem) (i p : ℕ) → GroupsAt bytes ps gs → cond b (slice_get ps i) None ≡ Some p → (g : GroupItem) × (cond b (slice_get gs i) None ≡ Some g) × GroupAt bytes p g
-group_index true bytes ps gs i p h e = group_of bytes ps gs i p h e
-group_index false bytes ps gs i p h e = absurd cc
+-- The name of an index, in bytes that are those of the module.
+module _ (whole ps : List ℕ) (ns : List (List ℕ)) (i : ℕ) (h : AllAt (NameAt whole) ps ns) (bytes : List ℕ) (same : bytes ≡ whole) (place : Option ℕ) (is : place ≡ entry ps i) where
+  there : IsItemAt (NameAt bytes) place (entry ns i)
+  there = subst (λ b. IsItemAt (NameAt b) place (entry ns i)) (sym same) (subst (λ o. IsItemAt (NameAt whole) o (entry ns i)) (sym is) (entry_at (NameAt whole) ps ns i h))
 
-pub entry_group : (bytes ps : List ℕ) (gs : List GroupItem) (i p : ℕ) → GroupsAt bytes ps gs → entry ps i ≡ Some p → (g : GroupItem) × (entry gs i ≡ Some g) × GroupAt bytes p g
-entry_group bytes ps gs i p h e = group_index (nat_le 1 i) bytes ps gs (i - 1) p h e
+  pub has_name : IfSome place (HasName bytes)
+  has_name = some_at (NameAt bytes) place (entry ns i) there
 
-group_none : (b : Bool) (bytes ps : List ℕ) (gs : List GroupItem) (i : ℕ) → GroupsAt bytes ps gs → cond b (slice_get ps i) None ≡ None → cond b (slice_get gs i) None ≡ None
-group_none true bytes ps gs i h e = no_group bytes ps gs i h e
-group_none false bytes ps gs i h e = refl
-
-pub entry_no_group : (bytes ps : List ℕ) (gs : List GroupItem) (i : ℕ) → GroupsAt bytes ps gs → entry ps i ≡ None → entry gs i ≡ None
-entry_no_group bytes ps gs i h e = group_none (nat_le 1 i) bytes ps gs (i - 1) h e
+  pub is_name : (found : Option (List ℕ)) → IsItemAt (NameAt bytes) place found → found ≡ entry ns i
+  is_name found f = one_at bytes place found (entry ns i) f there
 
 group_behind : (bytes : List ℕ) (p : ℕ) (g : GroupItem) (h : GroupAt bytes p g) → drop p bytes ≡ raw_bytes h.one ++ h.rest
 group_behind bytes p g h = ap (λ k. drop k bytes) h.place ∙ ap (drop (length h.front)) h.spelled ∙ drop-append_seam h.front (raw_bytes h.one ++ h.rest)

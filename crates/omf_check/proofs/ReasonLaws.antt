@@ -8,22 +8,22 @@ use Rattle.omf_frame.specs.Framing.{is_header, is_end}
 use Rattle.omf_frame.specs.declared.fault.Reason.{Reason}
 use Rattle.omf_frame.specs.declared.fault.Reason.TheVariants as reason
 use Rattle.omf_records.specs.Entries.{unless, wrong_component, member, external, public_item, wrong_data_type, far_size, communal_size, communal, wrong_methods, is_frame_method, reference, wrong_thread, thread, wrong_location, fixup, wrong_head, subrecord}
-use Rattle.omf_records.specs.Layout.{Layout, ◌>>=◌, give, ends, rest, many, times, field, field_or, name, index, byte, le, number_of, begins_length, length_reason, communal_length, head, IsIn, checked, placed, called, choose, either, when}
-use Rattle.omf_records.specs.Reading.{read_body}
-use Rattle.omf_records.specs.RecordReaders.{contents_whole}
+use Rattle.omf_records.specs.Layout.{Layout, ◌>>=◌, give, ends, rest, many, times, field, field_or, name, index, byte, le, number_of, begins_length, length_reason, communal_length, head, IsIn, checked, with_place, called, choose, either, when}
+use Rattle.omf_records.specs.Inner.Reading.{read_body}
+use Rattle.omf_records.specs.Inner.RecordReaders.{contents_whole}
 use Rattle.omf_records.specs.Records.{header, comment, names, wrong_alignment, wrong_size, absolute, segment, group, externs, publics, communals, data_item, fixups, mod_end, carried, contents}
 use Rattle.omf_records.specs.Values.{At, Contents, Comment, Names, Segment, Group, Externs, Publics, Communals, Plain, Iterated, Fixups, ModEnd, Header, Near, Subrecord, Thread, Fixup, Reference, thread_is_frame, thread_method, is_segment_relative, location_type, frame_by_thread, frame_bits, target_by_thread, target_bits, is_location, may_be_self_relative, is_wide, alignment, is_big, has_start, has_frame_datum, has_target_datum, has_no_displacement, width}
 use Rattle.omf_image.specs.Blocks.{Blocks, too_deep, block, blocks, Repeat, Nest, gathered, blocks_size}
-use Rattle.omf_image.specs.BlockReaders.{blocks_whole}
-use Rattle.omf_image.specs.Expanding.{read_blocks, blocks_of, faults_of, length_or, expanded_length}
+use Rattle.omf_image.specs.Inner.BlockReaders.{blocks_whole}
+use Rattle.omf_image.specs.Inner.Expanding.{read_blocks, blocks_of, faults_of, length_or, expanded_length}
 use Rattle.omf_image.specs.declared.limits.Limits.{Limits}
 use Rattle.omf_check.specs.declared.last_data.LastData.{LastData}
 use Rattle.omf_check.specs.declared.last_data.LastData.TheVariants as last
 use Rattle.omf_check.specs.declared.profile.Profile.{Profile}
 use Rattle.omf_check.specs.declared.threads.Threads.{Threads}
-use Rattle.omf_check.specs.Judging.{placed as placed_at}
-use Rattle.omf_check.specs.Judging.{fault_unless, lesser, room_fault, entry_fault, members_fault, index_fault, frame_fault, target_fault, frame_cell, target_cell, reference_fault, location_fault, subrecord_fault, subrecords_fault, start_fault, contents_fault, data_size, judged_by_size, raw_fault, read_fault}
-use Rattle.omf_check.specs.Kept.{Kept, set_thread}
+use Rattle.omf_check.specs.Inner.Judging.{fault_moved as placed_at}
+use Rattle.omf_check.specs.Inner.Judging.{fault_unless, lesser, room_fault, entry_fault, members_fault, index_fault, frame_fault, target_fault, frame_cell, target_cell, reference_fault, location_fault, subrecord_fault, subrecords_fault, start_fault, contents_fault, data_size, judged_by_size, raw_fault, read_fault}
+use Rattle.omf_check.specs.Inner.Kept.{Kept, set_thread}
 use Rattle.omf_check.specs.Rules.{table_limit, item_limit, places, item_places}
 use Rattle.omf_check.specs.Threads.{FrameMethod, F0, F1, F2, F4, F5, TargetMethod, T0, T1, T2}
 use Rattle.omf_check.proofs.ShortLaws.{HasBytes, spelled_bytes}
@@ -92,7 +92,7 @@ unfolding Inner AllInner
 checked_inner p refused h k at bytes e (inl q) = h at bytes e q
 checked_inner p refused h k at bytes e (inr (front, back, x, parts, sp, w, i)) = k x e.reason i
 
-placed_inner : {A : Type 0} (p : Layout A) → Inner p → Inner (placed p)
+placed_inner : {A : Type 0} (p : Layout A) → Inner p → Inner (with_place p)
 unfolding Inner
 placed_inner p h = h
 
@@ -129,7 +129,7 @@ byte_inner = short_inner _
 le_inner : (k : ℕ) → Inner (le k)
 le_inner k = short_inner _
 
-index_at_inner : Inner (placed index)
+index_at_inner : Inner (with_place index)
 index_at_inner = placed_inner index index_inner
 
 length_inner : (bytes : List ℕ) → IsInner (length_reason bytes)
@@ -171,8 +171,8 @@ methods_inner fix =
 reference_inner : (wide : Bool) → Inner (reference wide)
 reference_inner wide =
     then_inner _ _ (placed_inner _ (checked_inner byte wrong_methods byte_inner methods_inner)) (λ f.
-    then_inner _ _ (when_inner (has_frame_datum f.item) (placed index) index_at_inner) (λ d.
-    then_inner _ _ (when_inner (has_target_datum f.item) (placed index) index_at_inner) (λ t.
+    then_inner _ _ (when_inner (has_frame_datum f.item) (with_place index) index_at_inner) (λ d.
+    then_inner _ _ (when_inner (has_target_datum f.item) (with_place index) index_at_inner) (λ t.
     then_inner _ _ (when_inner (not (has_no_displacement f.item)) (number_of wide) (le_inner _)) (λ u. give_inner _))))
 
 thread_reasons : (b : ℕ) → AllInner (wrong_thread b)
@@ -188,7 +188,7 @@ location_reasons l =
 subrecord_inner : (wide : Bool) → Inner (subrecord wide)
 subrecord_inner wide =
     then_inner _ _ (checked_inner head wrong_head (short_inner _) (λ h. if_inner (nat_lt h 128) _ _ (thread_reasons h) (location_reasons h)))
-    (λ h. choose_inner (nat_lt h 128) (thread h) (fixup wide h) (called_inner _ (Thread h) (when_inner (nat_lt (thread_method h) 3) (placed index) index_at_inner))
+    (λ h. choose_inner (nat_lt h 128) (thread h) (fixup wide h) (called_inner _ (Thread h) (when_inner (nat_lt (thread_method h) 3) (with_place index) index_at_inner))
     (called_inner (reference wide) (Fixup h) (reference_inner wide)))
 
 -- Contents.

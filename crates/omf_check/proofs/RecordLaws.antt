@@ -7,21 +7,21 @@ use Rattle.omf_frame.specs.Fault.{Fault, Rule, rule, broken, least, first_step}
 use Rattle.omf_frame.specs.Framing.{Raw}
 use Rattle.omf_frame.specs.declared.fault.Reason.TheVariants as reason
 use Rattle.omf_records.specs.Values.{At, Rec, Contents, Names, Segment, Group, Externs, Communals, Plain, Iterated, Fixups, width}
-use Rattle.omf_records.specs.declared.record.Rec.{Rec as Told}
-use Rattle.omf_records.specs.declared.record.Rec.TheVariants as told
-use Rattle.omf_records.specs.Seen.{contents_seen, kind_seen, odd_if}
-use Rattle.omf_records.specs.Unread.{is_fixupp}
-use Rattle.omf_records.specs.Reading.{read_body, fault_list, contents_or}
+use Rattle.omf_records.specs.declared.record.Rec.{Rec as CodeRec}
+use Rattle.omf_records.specs.declared.record.Rec.TheVariants as code
+use Rattle.omf_records.specs.Inner.Seen.{contents_seen, kind_seen, odd_if}
+use Rattle.omf_records.specs.Inner.Unread.{is_fixupp}
+use Rattle.omf_records.specs.Inner.Reading.{read_body, fault_list, contents_or}
 use Rattle.omf_image.specs.Blocks.{Blocks, blocks_size}
-use Rattle.omf_image.specs.Expanding.{read_blocks, blocks_of, faults_of, length_or}
+use Rattle.omf_image.specs.Inner.Expanding.{read_blocks, blocks_of, faults_of, length_or}
 use Rattle.omf_image.specs.declared.limits.Limits.{Limits}
 use Rattle.omf_check.specs.declared.profile.Profile.{Profile}
 use Rattle.omf_check.specs.Tables.{items_in}
 use Rattle.omf_check.specs.Rules.{rules, item_limit, table_limit, item_places, places}
 use Rattle.omf_check.specs.WellFormed.{recs}
 use Rattle.omf_check.specs.Refusal.{moved, short_or_deep, too_long, record_steps}
-use Rattle.omf_check.specs.Kept.{Kept, Tells, IsBounded, with_record, with_contents, starts}
-use Rattle.omf_check.specs.Judging.{fault_unless, lesser, room_fault, contents_fault, placed, data_size, judged_by_size, record_fault, raw_fault, read_fault, IsNoFixupp}
+use Rattle.omf_check.specs.Inner.Kept.{Kept, Tells, IsBounded, with_record, with_contents, starts}
+use Rattle.omf_check.specs.Inner.Judging.{fault_unless, lesser, room_fault, contents_fault, fault_moved, data_size, judged_by_size, record_fault, raw_fault, read_fault, IsNoFixupp}
 use Rattle.omf_check.proofs.Lesser.{fault_of}
 use Rattle.omf_check.proofs.JudgeLaws.{rules_law}
 
@@ -32,7 +32,7 @@ one_step (f ∷ fs) = refl
 -- blocks: their fault or their size
 by_blocks : (profile : Profile) (kept : Kept) (c : Contents) (rs : List Rule) (r : Result Blocks Fault) (b : Bool) (at n : ℕ)
     → fault_of rs ≡ lesser (room_fault (item_limit - kept.items) (item_places c)) (contents_fault profile kept n c)
-    → judged_by_size profile kept c (placed at (length_or n (least (first_step (faults_of r ∷ broken (rule b 0 reason.DataTooLong ∷ []) ∷ [])))))
+    → judged_by_size profile kept c (fault_moved at (length_or n (least (first_step (faults_of r ∷ broken (rule b 0 reason.DataTooLong ∷ []) ∷ [])))))
     ≡ least (first_step (([] ++ moved at (faults_of r)) ∷ moved at (broken (rule b 0 reason.DataTooLong ∷ [])) ∷ broken rs ∷ []))
 by_blocks profile kept c rs (Err e) b at n h = refl
 by_blocks profile kept c rs (Ok trees) false at n h = refl
@@ -99,13 +99,13 @@ item_lengths (Names items) = refl
 item_lengths _ = refl
 
 -- A record that is no FIXUPP is one item, at its start.
-pub not_fixupp : (r : Told) → is_fixupp (kind_seen r) ≡ false → IsNoFixupp (contents_seen r)
-not_fixupp (told.Fixups wide subs) h = absurd (by wide h)
+pub not_fixupp : (r : CodeRec) → is_fixupp (kind_seen r) ≡ false → IsNoFixupp (contents_seen r)
+not_fixupp (code.Fixups wide subs) h = absurd (by wide h)
   where
     by : (wide : Bool) → is_fixupp (odd_if wide 0x9C) ≡ false → ⊥
     by true h = cc
     by false h = cc
-not_fixupp (told.Names items) h = tt
+not_fixupp (code.Names items) h = tt
 not_fixupp _ h = tt
 
 one_item : (c : Contents) → IsNoFixupp c → items_in c ≡ 1
@@ -135,49 +135,16 @@ module _ (profile : Profile) (limits : Limits) (kept : Kept) (bounded : IsBounde
       let low : suc (length old) ≤ 32767 = leb-true (suc (length old)) 32767 (unless_holds (nat_lt (length old) table_limit) _ both.0) in
       omega (arith, low, length-append old (x ∷ []))
 
+  bounds : (k : Kept) → length k.names ≤ 32767 → length k.segments ≤ 32767 → length k.groups ≤ 32767 → length k.externals ≤ 32767 → k.items ≤ 1048576 → IsBounded k
+  bounds k names segments groups externals items = record { names = names; segments = segments; groups = groups; externals = externals; items = items }
+
   more_bounded : (at kind size n : ℕ) (c : Contents) → n ≤ 1048576 → contents_fault profile kept size c ≡ None → IsBounded (with_contents (record kept { items = n }) at kind c)
-  more_bounded at kind size n (Names items) le h = record {
-    names = starts_fit kept.names at items bounded.names h;
-    segments = bounded.segments;
-    groups = bounded.groups;
-    externals = bounded.externals;
-    items = le;
-  }
-  more_bounded at kind size n (Segment s) le h = record {
-    names = bounded.names;
-    segments = one_fits kept.segments _ _ h;
-    groups = bounded.groups;
-    externals = bounded.externals;
-    items = le;
-  }
-  more_bounded at kind size n (Group g) le h = record {
-    names = bounded.names;
-    segments = bounded.segments;
-    groups = one_fits kept.groups at _ h;
-    externals = bounded.externals;
-    items = le;
-  }
-  more_bounded at kind size n (Externs items) le h = record {
-    names = bounded.names;
-    segments = bounded.segments;
-    groups = bounded.groups;
-    externals = starts_fit kept.externals at items bounded.externals h;
-    items = le;
-  }
-  more_bounded at kind size n (Communals items) le h = record {
-    names = bounded.names;
-    segments = bounded.segments;
-    groups = bounded.groups;
-    externals = starts_fit kept.externals at items bounded.externals h;
-    items = le;
-  }
-  more_bounded at kind size n _ le h = record {
-    names = bounded.names;
-    segments = bounded.segments;
-    groups = bounded.groups;
-    externals = bounded.externals;
-    items = le;
-  }
+  more_bounded at kind size n (Names items) le h = bounds _ (starts_fit kept.names at items bounded.names h) bounded.segments bounded.groups bounded.externals le
+  more_bounded at kind size n (Segment s) le h = bounds _ bounded.names (one_fits kept.segments _ _ h) bounded.groups bounded.externals le
+  more_bounded at kind size n (Group g) le h = bounds _ bounded.names bounded.segments (one_fits kept.groups at _ h) bounded.externals le
+  more_bounded at kind size n (Externs items) le h = bounds _ bounded.names bounded.segments bounded.groups (starts_fit kept.externals at items bounded.externals h) le
+  more_bounded at kind size n (Communals items) le h = bounds _ bounded.names bounded.segments bounded.groups (starts_fit kept.externals at items bounded.externals h) le
+  more_bounded at kind size n _ le h = bounds _ bounded.names bounded.segments bounded.groups bounded.externals le
 
   by_data : (at : ℕ) (r : Rec) (s : Result ℕ Fault) → judged_by_size profile kept r.contents s ≡ None → (kept.items + items_in r.contents ≤ 1048576) × IsBounded (with_record kept at r)
   by_data at r (Ok size) h =

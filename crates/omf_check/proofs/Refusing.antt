@@ -6,10 +6,10 @@ use Rattle.std.proofs.lemmas.Bool.{leb-true, leb-false, eqb-true}
 use Rattle.std.proofs.lemmas.List.{length-append, length-take, drop_at}
 use Rattle.omf_frame.specs.Bytes.{AreBytes}
 use Rattle.omf_frame.specs.Fault.{Fault, least, first_step}
-use Rattle.omf_frame.specs.Framing.{Raw, raw_bytes, is_taken, is_unsupported, is_header, is_whole, present, front_record, stated_length, type_faults, frame_steps, frame_fault, standing_fault, lasting}
+use Rattle.omf_frame.specs.Framing.{Raw, raw_bytes, is_taken, is_unsupported, is_header, is_whole, present, front_record, stated_length, type_faults, frame_steps, frame_fault, standing_fault, lasting, record_len}
 use Rattle.omf_frame.specs.Framer.{Held, refused}
 use Rattle.omf_frame.specs.Framer.{next_bytes as next_of}
-use Rattle.omf_frame.specs.Judging.{record_len, found, type_fault, whole_fault}
+use Rattle.omf_frame.specs.Inner.Judging.{found, type_fault, whole_fault}
 use Rattle.omf_frame.specs.declared.fault.FrameFault.TheVariants as frame
 use Rattle.omf_frame.specs.declared.fault.Place.{Place}
 use Rattle.omf_frame.specs.declared.fault.Reason.{Reason}
@@ -19,14 +19,15 @@ use Rattle.omf_frame.proofs.Judged.{standing_is, sound_type}
 use Rattle.omf_frame.proofs.FaultLaws.{untrue}
 use Rattle.omf_frame.proofs.Standing.{present_twice}
 use Rattle.omf_frame.proofs.StepLaws.{known_supported}
-use Rattle.omf_records.specs.Steps.{AreBytes-back, AreBytes-take}
+use Rattle.omf_records.specs.Inner.Steps.{AreBytes-back, AreBytes-take}
 use Rattle.omf_image.specs.Limits.{profile_limits}
 use Rattle.omf_check.specs.declared.fault.CheckFault.TheVariants as check
 use Rattle.omf_check.specs.declared.profile.Profile.{Profile}
-use Rattle.omf_check.specs.Judging.{raw_fault}
-use Rattle.omf_check.specs.Kept.{Kept}
+use Rattle.omf_check.specs.Inner.Judging.{raw_fault}
+use Rattle.omf_check.specs.Inner.Kept.{Kept}
 use Rattle.omf_check.specs.Refusal.{EndsWhereJudged}
-use Rattle.omf_check.specs.Session.{IsPassing, RefusesHere, LacksMemory, here, refused_at}
+use Rattle.omf_check.specs.Session.{RefusesHere, LacksMemory}
+use Rattle.omf_check.specs.Inner.Passing.{IsPassing, here, refused_at}
 use Rattle.omf_check.proofs.Passing.{framing_refuses, record_refuses, part_sound}
 use Rattle.omf_check.proofs.ReasonLaws.{IsInner, FaultInner, inner_of, raw_inner}
 

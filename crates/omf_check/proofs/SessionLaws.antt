@@ -2,8 +2,7 @@
 use Rattle.std.proofs.Common.{◌≡◌, ◌≢◌, ℕ, zero, suc, ◌+◌, ◌<◌, ◌≤◌, Bool, true, false, List, [], ◌∷◌, ◌++◌, Result, Ok, Err, refl, sym, ◌∙◌, ap, subst, arith, length, min, length-append}
 use Rattle.std.specs.Prelude.{All, flat_map, ◌==◌, not, ◌&&◌, ◌||◌, Option, Some, None, is_some, cond}
 use Rattle.omf_frame.specs.Fault.{Fault}
-use Rattle.omf_frame.specs.Framing.{Raw, raw_bytes, IsRecord, IsFramed, is_nonempty, wanted, frame_fault, front_record, after_front}
-use Rattle.omf_frame.specs.Judging.{record_len}
+use Rattle.omf_frame.specs.Framing.{Raw, raw_bytes, IsRecord, IsFramed, is_nonempty, wanted, frame_fault, front_record, after_front, record_len}
 use Rattle.omf_frame.specs.Framer.{Held, at_start, begins_record, stop_of, refused}
 use Rattle.omf_frame.specs.Framer.{want_of as framer_want, want_with as framer_want_with}
 use Rattle.omf_frame.specs.declared.fault.FrameFault.{FrameFault}
@@ -13,11 +12,13 @@ use Rattle.omf_image.specs.Limits.{profile_limits}
 use Rattle.omf_check.specs.declared.fault.CheckFault.{CheckFault}
 use Rattle.omf_check.specs.declared.fault.CheckFault.TheVariants as check
 use Rattle.omf_check.specs.declared.profile.Profile.{Profile}
-use Rattle.omf_check.specs.Kept.{Kept, Tells, nothing_kept}
-use Rattle.omf_check.specs.Module.{records_from, records_in, IsChecked}
-use Rattle.omf_check.specs.Points.{PointsTo}
+use Rattle.omf_check.specs.Inner.Kept.{Kept, Tells, nothing_kept}
+use Rattle.omf_check.specs.Module.{records_from, records_in}
+use Rattle.omf_check.specs.Inner.Parts.{IsChecked}
+use Rattle.omf_check.specs.Inner.Points.{PointsTo}
 use Rattle.omf_check.specs.WellFormed.{IsWellFormed, recs}
-use Rattle.omf_check.specs.Session.{Seen, IsOpen, IsPassing, IsState, Moves, Takes, IsCause, framing_fault, IsEndFault, want_with}
+use Rattle.omf_check.specs.Session.{Seen, IsOpen, Takes, IsCause, IsEndFault, want_with}
+use Rattle.omf_check.specs.Inner.Passing.{IsPassing, IsState, Moves, framing_fault}
 use Rattle.omf_check.proofs.Moving.{taken_bound, started}
 use Rattle.omf_check.proofs.Passing.{open_here, stopped, early}
 

@@ -11,7 +11,7 @@ use Rattle.omf_check.specs.declared.profile.Profile.{Profile}
 use Rattle.omf_check.specs.Refusal.{IsRefused, AreSoundSoFar}
 use Rattle.omf_check.specs.WellFormed.{IsWellFormed, IsAccepted}
 use Rattle.omf_check.specs.Laws.{SaysSound, IsUnrefused}
-use Rattle.omf_check.specs.Verdict.{Verdict, Accepted, Refused, Unknown, verdict}
+use Rattle.omf_check.specs.Inner.Verdict.{Verdict, Accepted, Refused, Unknown, verdict}
 use Rattle.omf_check.proofs.AcceptLaws.{never_both, accepted_once}
 use Rattle.omf_check.proofs.UniqueLaws.{refused_once}
 use Rattle.omf_check.proofs.VerdictLaws.{either, verdict_accepts, verdict_refuses}

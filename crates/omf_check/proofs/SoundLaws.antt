@@ -4,23 +4,23 @@ use Rattle.std.specs.Prelude.{Option, Some, None, option_map, unwrap_or, All, Is
 use Rattle.std.proofs.lemmas.Bool.{leb-true, le-leb, eqb-true, true≢false}
 use Rattle.std.proofs.lemmas.List.{append-nil, map-append}
 use Rattle.omf_frame.proofs.FaultLaws.{untrue, all_cons}
-use Rattle.omf_frame.specs.Bytes.{with_before, is_one_of}
+use Rattle.omf_frame.specs.Bytes.{with_before}
 use Rattle.omf_frame.specs.Fault.{Fault, Rule, rule, broken, AreKept, least, first_step}
 use Rattle.omf_frame.specs.declared.fault.Reason.TheVariants as reason
 use Rattle.omf_frame.specs.Fields.{IsLittle}
-use Rattle.omf_frame.specs.FieldLaws.{little_fits}
-use Rattle.omf_frame.specs.Types.{coment, extdef, pubdef, lnames, segdef, grpdef, fixupp, ledata, lidata, comdef, lextdef, lpubdef, lcomdef, llnames}
-use Rattle.omf_frame.specs.Framing.{Raw, IsRecord, is_header, is_end}
+use Rattle.omf_frame.specs.Inner.FieldLaws.{little_fits}
+use Rattle.omf_frame.specs.Framing.{Raw, IsRecord, is_end}
 use Rattle.omf_image.proofs.BlocksLaws.{length-blocks_bytes}
 use Rattle.omf_image.specs.Blocks.{Blocks, blocks_size, AreBlocks}
-use Rattle.omf_image.specs.BlockReaders.{blocks_whole}
-use Rattle.omf_image.specs.Expanding.{blocks_of, blocks_or_none, expanded_length, faults_of, length_or}
+use Rattle.omf_image.specs.Inner.BlockReaders.{blocks_whole}
+use Rattle.omf_image.specs.Inner.Expanding.{blocks_of, blocks_or_none, expanded_length, faults_of, length_or}
 use Rattle.omf_image.specs.declared.limits.Limits.{Limits}
-use Rattle.omf_records.specs.Layout.{Layout, called, either, when, le}
+use Rattle.omf_records.specs.Layout.{when, le}
 use Rattle.omf_records.specs.Location.{location_size}
-use Rattle.omf_records.specs.Reading.{typed}
-use Rattle.omf_records.specs.Records.{contents, header, comment, names, segment, group, externs, publics, communals, data_item, fixups, mod_end, carried, IsTyped}
-use Rattle.omf_records.specs.Values.{At, Rec, Contents, Names, Plain, Iterated, Fixups, ModEnd, DataItem, Subrecord, Thread, Fixup, Reference, width, is_wide, location_type, location_offset, Segment, SegmentItem, Publics, PublicItems, is_big}
+use Rattle.omf_records.specs.Inner.Reading.{typed}
+use Rattle.omf_records.specs.Records.{contents, data_item, mod_end, IsTyped}
+use Rattle.omf_records.specs.Values.{At, Rec, Contents, Header, Names, Plain, Iterated, Fixups, ModEnd, DataItem, Subrecord, Thread, Fixup, Reference, width, is_wide, location_type, location_offset, Segment, SegmentItem, Publics, PublicItems, is_big}
+use Rattle.omf_records.proofs.LaidOut.{IsLaidOut, laid-out}
 use Rattle.omf_check.specs.Rules.{contents_rules, room, item_limit, item_places, data_rules, names_entry, names_entry_or_none, frame_rules, target_rules, reference_rules, judged_at, location_rule, subrecord_rules, start_rules, is_location_frame, length_of_segment}
 use Rattle.omf_check.specs.Sound.{FrameIsDefined, TargetIsDefined, ReferenceHolds, FixupHolds, SubrecordHolds, SubrecordsHold, StartHolds, DataHolds, BlocksHold, PublicsHold, ContentsHold, is_module_end, ModuleHolds}
 use Rattle.omf_check.specs.Tables.{segments, groups, item_count, subrecords, last_data, segment_length}
@@ -162,7 +162,7 @@ blocks_hold limits before kind d short (trees, t) h = record {
 }
 
 -- What contents say of their record: data have no more bytes than it has, a segment's length has 32 bits at most, publics have the number of a base frame
--- exactly where they name no segment, and a MODEND is one exactly by its type.
+-- exactly where they name no segment.
 abbrev IsBrief : ℕ → Contents → Type 0
 IsBrief n (Segment s) = s.size < 2 ^ 32
 IsBrief n (Publics p) = is_some p.frame ≡ (p.segment.item == 0)
@@ -170,56 +170,13 @@ IsBrief n (Plain d) = length d.bytes ≤ n
 IsBrief n (Iterated d) = length d.bytes ≤ n
 IsBrief n _ = ⊤
 
-pub record Says (n : ℕ) (end : Bool) (c : Contents) : Type 0 where
-  pub brief : IsBrief n c
-  pub kind : is_module_end c ≡ end
-
-abbrev AreSaid : Bool → Layout Contents → Type 0
-AreSaid end p = (at : ℕ) (bytes : List ℕ) (c : Contents) → p.Spells at bytes c → Says (length bytes) end c
-
-said_as : (n : ℕ) (end : Bool) (c d : Contents) → c ≡ d → Says n end d → Says n end c
-said_as n end c d e h = subst (Says n end) (sym e) h
-
-said_either : (b end : Bool) (p q : Layout Contents) → AreSaid end p → AreSaid end q → AreSaid end (either b p q)
-said_either true end p q h k = h
-said_either false end p q h k = k
-
-other : (n : ℕ) (c d : Contents) → c ≡ d → IsBrief n d → is_module_end d ≡ false → Says n false c
-other n c d e b h = said_as n false c d e (record { brief = b; kind = h })
-
-said_header : AreSaid false header
-said_header at bytes c (f, b, x, p, s, (none, e)) = other _ c _ e tt refl
-
-said_comment : AreSaid false comment
-said_comment at bytes c (f, b, x, p, s, (g, d, y, q, t, (z, u, e))) = other _ c _ e tt refl
-
-said_names : AreSaid false names
-said_names at bytes c (x, s, e) = other _ c _ e tt refl
-
 size_fits : (wide : Bool) (n : ℕ) (bytes : List ℕ) → IsLittle (cond wide 4 2) n bytes → n < 2 ^ 32
 size_fits true n bytes h = little_fits 4 n bytes h
 size_fits false n bytes h = let low : n < 256 ^ 2 = little_fits 2 n bytes h in omega (arith, low)
 
-said_segment : (wide : Bool) → AreSaid false (segment wide)
-said_segment wide at bytes c (f1, b1, x1, p1, s1, (f2, b2, x2, p2, s2, (f3, b3, x3, p3, s3, (f4, b4, x4, p4, s4, (f5, b5, x5, p5, s5, (f6, b6, x6, p6, s6, (none, e))))))) =
-    other (length bytes) c _ e (size_fits wide x3 f3 s3.0) refl
-
-said_group : AreSaid false group
-said_group at bytes c (f, b, x, p, s, (y, t, e)) = other _ c _ e tt refl
-
-said_externs : AreSaid false externs
-said_externs at bytes c (x, s, e) = other _ c _ e tt refl
-
 number_stands : (b : Bool) (at : ℕ) (bytes : List ℕ) (o : Option ℕ) → (when b (le 2)).Spells at bytes o → is_some o ≡ b
 number_stands true at bytes o (n, s, e) = ap is_some e
 number_stands false at bytes o (none, e) = ap is_some e
-
-said_publics : (wide : Bool) → AreSaid false (publics wide)
-said_publics wide at bytes c (f1, b1, x1, p1, s1, (f2, b2, x2, p2, s2, (f3, b3, x3, p3, s3, (y, t, e)))) =
-    other (length bytes) c _ e (number_stands (x2.item == 0) (at + length f1 + length f2) f3 x3 s3) refl
-
-said_communals : AreSaid false communals
-said_communals at bytes c (x, s, e) = other _ c _ e tt refl
 
 short_item : (wide : Bool) (at : ℕ) (bytes : List ℕ) (d : DataItem) → (data_item wide).Spells at bytes d → length d.bytes ≤ length bytes
 short_item wide at bytes d (f1, b1, x1, p1, s1, (f2, b2, x2, p2, s2, (x, same, is))) =
@@ -228,53 +185,35 @@ short_item wide at bytes d (f1, b1, x1, p1, s1, (f2, b2, x2, p2, s2, (x, same, i
     let rest : length d.bytes ≡ length b2 = ap (λ z. length z.bytes) is ∙ ap length same in
     omega (arith, rest, second, first)
 
-said_plain : (wide : Bool) → AreSaid false (called (data_item wide) Plain)
-said_plain wide at bytes c (d, s, e) = other (length bytes) c (Plain d) e (short_item wide at bytes d s) refl
+are_brief : (kind at : ℕ) (bytes : List ℕ) (c : Contents) → IsLaidOut kind at bytes c → IsBrief (length bytes) c
+are_brief kind at bytes (Segment s) (f1, b1, x1, p1, s1, (f2, b2, x2, p2, s2, (f3, b3, x3, p3, s3, (f4, b4, x4, p4, s4, (f5, b5, x5, p5, s5, (f6, b6, x6, p6, s6, (none, e))))))) =
+    subst (IsBrief (length bytes)) (sym e) (size_fits (is_wide kind) x3 f3 s3.0)
+are_brief kind at bytes (Publics p) (f1, b1, x1, p1, s1, (f2, b2, x2, p2, s2, (f3, b3, x3, p3, s3, (y, t, e)))) =
+    subst (IsBrief (length bytes)) (sym e) (number_stands (x2.item == 0) (at + length f1 + length f2) f3 x3 s3)
+are_brief kind at bytes (Plain d) h = short_item (is_wide kind) at bytes d h
+are_brief kind at bytes (Iterated d) h = short_item (is_wide kind) at bytes d h
+are_brief kind at bytes (Header name) h = tt
+are_brief kind at bytes _ h = tt
 
-said_iterated : (wide : Bool) → AreSaid false (called (data_item wide) Iterated)
-said_iterated wide at bytes c (d, s, e) = other (length bytes) c (Iterated d) e (short_item wide at bytes d s) refl
+-- A MODEND is one exactly by its type.
+laid_no_end : (kind at : ℕ) (bytes : List ℕ) (c : Contents) → is_end kind ≡ false → IsLaidOut kind at bytes c → is_module_end c ≡ false
+laid_no_end kind at bytes (ModEnd byte start) none (is, s) = absurd (true≢false (sym is ∙ none))
+laid_no_end kind at bytes (Header name) none h = refl
+laid_no_end kind at bytes _ none h = refl
 
-said_fixups : (wide : Bool) → AreSaid false (fixups wide)
-said_fixups wide at bytes c (x, s, e) = other _ c _ e tt refl
+is_no_end : (r : Raw) → is_end r.kind ≡ false → IsTyped (typed r) r.body → is_module_end (typed r).contents ≡ false
+is_no_end r none s = laid_no_end r.kind 3 r.body (typed r).contents none (laid-out r.kind 3 r.body (typed r).contents s)
 
-said_carried : AreSaid false carried
-said_carried at bytes c (x, s, e) = other _ c _ e tt refl
+of_end : (wide : Bool) (body : List ℕ) (c : Contents) → (mod_end wide).Spells 3 body c → is_module_end c ≡ true
+of_end wide body c (f1, b1, x1, p1, s1, (f2, b2, x2, p2, s2, (none, e))) = ap is_module_end e
 
-said_end : (wide : Bool) → AreSaid true (mod_end wide)
-said_end wide at bytes c (f1, b1, x1, p1, s1, (f2, b2, x2, p2, s2, (none, e))) = said_as _ true c _ e (record { brief = tt; kind = refl })
-
--- the last two kinds, by the type
-said_last : (end wide : Bool) → AreSaid end (either end (mod_end wide) carried)
-said_last true wide = said_end wide
-said_last false wide = said_carried
-
-said_no_end : (kind : ℕ) → is_end kind ≡ false → AreSaid false (contents kind)
-said_no_end kind other_kind =
-    let wide = is_wide kind in
-    said_either (is_header kind) false header _ said_header (
-    said_either (is_one_of coment kind) false comment _ said_comment (
-    said_either (is_one_of (lnames ++ llnames) kind) false names _ said_names (
-    said_either (is_one_of segdef kind) false (segment wide) _ (said_segment wide) (
-    said_either (is_one_of grpdef kind) false group _ said_group (
-    said_either (is_one_of (extdef ++ lextdef) kind) false externs _ said_externs (
-    said_either (is_one_of (pubdef ++ lpubdef) kind) false (publics wide) _ (said_publics wide) (
-    said_either (is_one_of (comdef ++ lcomdef) kind) false communals _ said_communals (
-    said_either (is_one_of ledata kind) false (called (data_item wide) Plain) _ (said_plain wide) (
-    said_either (is_one_of lidata kind) false (called (data_item wide) Iterated) _ (said_iterated wide) (
-    said_either (is_one_of fixupp kind) false (fixups wide) _ (said_fixups wide) (
-    subst (λ b. AreSaid false (either b (mod_end wide) carried)) (sym other_kind) said_carried)))))))))))
-
-said_by_end : (kind : ℕ) → is_end kind ≡ true → AreSaid true (contents kind)
-said_by_end kind yes_end = by (0x8A == kind) (0x8B == kind) refl refl yes_end
+is_the_end : (kind : ℕ) (body : List ℕ) (c : Contents) → is_end kind ≡ true → (contents kind).Spells 3 body c → is_module_end c ≡ true
+is_the_end kind body c yes_end s = by (0x8A == kind) (0x8B == kind) refl refl yes_end
   where
-    by : (a b : Bool) → (0x8A == kind) ≡ a → (0x8B == kind) ≡ b → is_end kind ≡ true → AreSaid true (contents kind)
-    by true b e f h = subst (λ k. AreSaid true (contents k)) (eqb-true 0x8A kind e) (said_end false)
-    by false true e f h = subst (λ k. AreSaid true (contents k)) (eqb-true 0x8B kind f) (said_end true)
+    by : (a b : Bool) → (0x8A == kind) ≡ a → (0x8B == kind) ≡ b → is_end kind ≡ true → is_module_end c ≡ true
+    by true b e f h = of_end false body c (subst (λ k. (contents k).Spells 3 body c) (sym (eqb-true 0x8A kind e)) s)
+    by false true e f h = of_end true body c (subst (λ k. (contents k).Spells 3 body c) (sym (eqb-true 0x8B kind f)) s)
     by false false e f h = absurd (true≢false (sym h ∙ ap (λ x. x || ((0x8B == kind) || false)) e ∙ ap (λ x. false || (x || false)) f))
-
-said_contents : (kind : ℕ) (end : Bool) → is_end kind ≡ end → AreSaid end (contents kind)
-said_contents kind true e = said_by_end kind e
-said_contents kind false e = said_no_end kind e
 
 -- A segment has 2^32 bytes at most.
 segment_fits : (kind : ℕ) (s : SegmentItem) → s.size < 2 ^ 32 → segment_length kind s ≤ 2 ^ 32
@@ -286,17 +225,17 @@ segment_fits kind s low = by (is_big s.attribute) (is_wide kind)
     by false wide = omega (arith, low)
 
 -- What the records of a module hold.
-by_contents : (profile : Profile) (limits : Limits) (before : List Rec) (kind n : ℕ) (end : Bool) (c : Contents) → n ≤ 65534 → Says n end c → HasTrees limits kind c
+by_contents : (profile : Profile) (limits : Limits) (before : List Rec) (kind n : ℕ) (c : Contents) → n ≤ 65534 → IsBrief n c → HasTrees limits kind c
     → AreKept (contents_rules profile limits before kind c) → ContentsHold limits before kind c
-by_contents profile limits before kind n end (Plain d) short says trees h = data_holds before d (length d.bytes) (let b : length d.bytes ≤ n = says.brief in omega (arith, b, short)) h
-by_contents profile limits before kind n end (Iterated d) short says trees h = blocks_hold limits before kind d (let b : length d.bytes ≤ n = says.brief in omega (arith, b, short)) trees h
-by_contents profile limits before kind n end (Segment s) short says trees h = segment_fits kind s says.brief
-by_contents profile limits before kind n end (Publics p) short says trees h = publics_hold before p says.brief h
-by_contents profile limits before kind n end (Fixups subs) short says trees h = subrecords_hold before subs h
-by_contents profile limits before kind n end (ModEnd byte None) short says trees h = tt
-by_contents profile limits before kind n end (ModEnd byte (Some r)) short says trees h = start_holds before r h
-by_contents profile limits before kind n end (Names items) short says trees h = tt
-by_contents profile limits before kind n end _ short says trees h = tt
+by_contents profile limits before kind n (Plain d) short brief trees h = data_holds before d (length d.bytes) (omega (arith, brief, short)) h
+by_contents profile limits before kind n (Iterated d) short brief trees h = blocks_hold limits before kind d (omega (arith, brief, short)) trees h
+by_contents profile limits before kind n (Segment s) short brief trees h = segment_fits kind s brief
+by_contents profile limits before kind n (Publics p) short brief trees h = publics_hold before p brief h
+by_contents profile limits before kind n (Fixups subs) short brief trees h = subrecords_hold before subs h
+by_contents profile limits before kind n (ModEnd byte None) short brief trees h = tt
+by_contents profile limits before kind n (ModEnd byte (Some r)) short brief trees h = start_holds before r h
+by_contents profile limits before kind n (Names items) short brief trees h = tt
+by_contents profile limits before kind n _ short brief trees h = tt
 
 -- A list of typed records, split, is that of records split.
 record RecsSplit (records : List Raw) (before after : List Rec) (r : Rec) : Type 0 where
@@ -338,19 +277,20 @@ abbrev HasBlocks : Limits → Raw → Type 0
 HasBlocks limits r = HasTrees limits r.kind (typed r).contents
 
 module _ (profile : Profile) (limits : Limits) (bytes : List ℕ) (records : List Raw) (w : IsWellFormed profile limits bytes records) where
-  raw_holds : (earlier later : List Raw) (r : Raw) (end : Bool) → records ≡ earlier ++ r ∷ later → is_end r.kind ≡ end → ContentsHold limits (recs earlier) r.kind (typed r).contents
-  raw_holds earlier later r end e k =
+  raw_holds : (earlier later : List Raw) (r : Raw) → records ≡ earlier ++ r ∷ later → ContentsHold limits (recs earlier) r.kind (typed r).contents
+  raw_holds earlier later r e =
+      let c : Contents = (typed r).contents in
       let spelled : IsSpelled r = all_middle IsSpelled records earlier later r e w.spelled in
       let small : length r.body + 1 < 65536 = (all_middle IsRecord records earlier later r e w.framed.each).0 in
-      let says : Says (length r.body) end (typed r).contents = said_contents r.kind end k 3 r.body (typed r).contents spelled in
-      by_contents profile limits (recs earlier) r.kind (length r.body) end (typed r).contents (omega (arith, small)) says (all_middle (HasBlocks limits) records earlier later r e w.blocks)
-      (all_right IsKept (room item_limit (item_count (recs earlier)) (item_places (typed r).contents)) (contents_rules profile limits (recs earlier) r.kind (typed r).contents) (w.kept earlier later r e))
+      let brief : IsBrief (length r.body) c = are_brief r.kind 3 r.body c (laid-out r.kind 3 r.body c spelled) in
+      by_contents profile limits (recs earlier) r.kind (length r.body) c (omega (arith, small)) brief (all_middle (HasBlocks limits) records earlier later r e w.blocks)
+      (all_right IsKept (room item_limit (item_count (recs earlier)) (item_places c)) (contents_rules profile limits (recs earlier) r.kind c) (w.kept earlier later r e))
 
   each_holds : (before after : List Rec) (r : Rec) → recs records ≡ before ++ r ∷ after → ContentsHold limits before r.kind r.contents
   each_holds before after r e =
       let s = split_recs records before after r e in
       subst (λ bs. ContentsHold limits bs r.kind r.contents) s.same_before
-      (subst (λ x. ContentsHold limits (recs s.earlier) x.kind x.contents) s.same (raw_holds s.earlier s.later s.raw (is_end s.raw.kind) s.parts refl))
+      (subst (λ x. ContentsHold limits (recs s.earlier) x.kind x.contents) s.same (raw_holds s.earlier s.later s.raw s.parts))
 
 abbrev IsNoEnd : Rec → Type 0
 IsNoEnd r = is_module_end r.contents ≡ false
@@ -363,7 +303,7 @@ no_end_in : (front : List Raw) → All IsSpelled front → All (λ r. IsTrue (no
 no_end_in [] s h = λ k d low. absurd (omega (arith, low))
 no_end_in (x ∷ front) s h =
     let one : is_end x.kind ≡ false = not_true (is_end x.kind) (all_first (λ r. IsTrue (not (is_end r.kind))) x front h) in
-    all_cons IsNoEnd (typed x) (recs front) (said_contents x.kind false one 3 x.body (typed x).contents (all_first IsSpelled x front s)).kind
+    all_cons IsNoEnd (typed x) (recs front) (is_no_end x one (all_first IsSpelled x front s))
     (no_end_in front (all_rest IsSpelled x front s) (all_rest (λ r. IsTrue (not (is_end r.kind))) x front h))
 
 pub module_holds : (profile : Profile) (limits : Limits) (bytes : List ℕ) (records : List Raw) → IsWellFormed profile limits bytes records → ModuleHolds limits (recs records)
@@ -376,7 +316,7 @@ module_holds profile limits bytes records w =
         recs front,
         typed end,
         ap recs e ∙ map-append typed front (end ∷ []),
-        (said_contents end.kind true is 3 end.body (typed end).contents (all_middle IsSpelled records front [] end e w.spelled)).kind,
+        is_the_end end.kind end.body (typed end).contents is (all_middle IsSpelled records front [] end e w.spelled),
         no_end_in front (all_left IsSpelled front (end ∷ []) spelled) others,
       );
     }

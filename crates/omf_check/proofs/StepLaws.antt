@@ -5,7 +5,7 @@ use Rattle.omf_check.specs.declared.profile.Profile.{Profile}
 use Rattle.omf_image.specs.declared.limits.Limits.{Limits}
 use Rattle.omf_frame.specs.Fault.{Fault, first_step, AreKept}
 use Rattle.omf_frame.specs.Framing.{Raw, raw_bytes, IsRecord, is_taken, is_header, frame_steps}
-use Rattle.omf_records.specs.Reading.{typed, layout_faults}
+use Rattle.omf_records.specs.Inner.Reading.{typed, layout_faults}
 use Rattle.omf_check.specs.Rules.{rules}
 use Rattle.omf_check.specs.Refusal.{short_or_deep, too_long, record_steps, is_empty, steps}
 use Rattle.omf_check.specs.WellFormed.{recs}

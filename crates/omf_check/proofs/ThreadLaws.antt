@@ -2,8 +2,8 @@
 use Rattle.std.proofs.Common.{◌≡◌, ◌<◌, Bool, true, false, List, arith, refl, sym, cond}
 use Rattle.std.specs.Prelude.{Option, Some, option_map}
 use Rattle.omf_records.specs.Values.{Subrecord, Reference, frame_by_thread, frame_thread, frame_bits, target_by_thread, target_bits}
-use Rattle.omf_check.specs.Judging.{frame_cell, target_cell}
-use Rattle.omf_check.specs.Kept.{HasThreads}
+use Rattle.omf_check.specs.Inner.Judging.{frame_cell, target_cell}
+use Rattle.omf_check.specs.Inner.Kept.{HasThreads}
 use Rattle.omf_check.specs.Laws.{ThreadsAreKept}
 use Rattle.omf_check.specs.Threads.{setting, frame_from, target_from, thread, frame_of, target_of}
 use Rattle.omf_check.specs.declared.threads.Threads.{Threads}

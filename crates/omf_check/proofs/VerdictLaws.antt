@@ -11,13 +11,13 @@ use Rattle.omf_frame.specs.declared.fault.Place.{Place}
 use Rattle.omf_frame.specs.Fault.{Fault, IsLeast, least, least_or, first_step}
 use Rattle.omf_frame.specs.Framing.{Raw, raw_bytes, IsRecord, is_taken, is_header, is_end, present, front_record, after_front, frame_steps, HasFront}
 use Rattle.omf_records.specs.Records.{IsTyped}
-use Rattle.omf_records.specs.Reading.{typed}
+use Rattle.omf_records.specs.Inner.Reading.{typed}
 use Rattle.omf_check.specs.Refusal.{steps, record_steps, is_empty, place_after, IsRefused}
-use Rattle.omf_check.specs.Verdict.{Verdict, Accepted, Refused, Unknown, verdict, verdict_from}
+use Rattle.omf_check.specs.Inner.Verdict.{Verdict, Accepted, Refused, Unknown, verdict, verdict_from}
 use Rattle.omf_check.specs.WellFormed.{IsWellFormed, IsAccepted, HasTrees}
 use Rattle.omf_frame.specs.Bytes.{AreBytes}
-use Rattle.omf_records.specs.LawProofs.{decided}
-use Rattle.omf_records.specs.Steps.{AreBytes-front, AreBytes-back}
+use Rattle.omf_records.specs.Inner.LawProofs.{decided}
+use Rattle.omf_records.specs.Inner.Steps.{AreBytes-front, AreBytes-back}
 use Rattle.omf_check.proofs.TreeLaws.{trees_of}
 use Rattle.omf_frame.proofs.FaultLaws.{all_cons, least_is_least}
 use Rattle.omf_check.proofs.UniqueLaws.{AreSound, sound_first, sound_rest, refused_once}

@@ -6,12 +6,12 @@ use Rattle.std.specs.Result.{result_err}
 use Rattle.omf_frame.specs.Fault.{Fault}
 use Rattle.omf_frame.specs.declared.fault.Reason.TheVariants.{TooMany}
 use Rattle.omf_records.specs.Values.{At, Subrecord, Fixups}
-use Rattle.omf_records.specs.Each.{with_first, with_first_fault}
+use Rattle.omf_records.specs.Inner.Each.{with_first, with_first_fault}
 use Rattle.omf_check.specs.declared.threads.Threads.{Threads}
-use Rattle.omf_check.specs.Kept.{Kept, IsBounded, set_thread, set_threads}
+use Rattle.omf_check.specs.Inner.Kept.{Kept, IsBounded, set_thread, set_threads}
 use Rattle.omf_check.specs.Rules.{item_limit, places}
-use Rattle.omf_check.specs.Judging.{lesser, fault_unless, room_fault, subrecord_fault, subrecords_fault}
-use Rattle.omf_check.specs.Walking.{walk_fault, fixups_fault}
+use Rattle.omf_check.specs.Inner.Judging.{lesser, fault_unless, room_fault, subrecord_fault, subrecords_fault}
+use Rattle.omf_check.specs.Inner.Walking.{walk_fault, fixups_fault}
 use Rattle.omf_image.specs.declared.limits.Limits.{Limits}
 use Rattle.omf_check.specs.declared.profile.Profile.{Profile}
 use Rattle.omf_check.specs.Tables.{items_in}
@@ -121,14 +121,14 @@ second_fault a b h = lesser_is_none a b ∙ ap (λ x. is_none a && x) h ∙ neve
     never true = refl
     never false = refl
 
+some_none : (e : Fault) → ◌≡◌ {A = Option Fault} (Some e) None → ⊥
+some_none e q = cc
+
 module _ (kept : Kept) (items : ℕ) (threads : Threads) (s : At Subrecord) (now : Result (List (At Subrecord)) Fault) where
   -- a subrecord without room is a fault
   pub passes_full : (then all : Result (List (At Subrecord)) Fault) → items ≡ item_limit → now ≡ with_first s then → Passes kept items threads now all → is_none (walk_fault kept all) ≡ false
   passes_full then (Err f) full e h = refl
-  passes_full (Err g) (Ok whole) full e h = absurd (clash (sym (ap result_err e) ∙ h.walks.fault))
-    where
-      clash : Some g ≡ None → ⊥
-      clash q = cc
+  passes_full (Err g) (Ok whole) full e h = absurd (some_none g (sym (ap result_err e) ∙ h.walks.fault))
   passes_full (Ok subs) (Ok whole) full e h =
       let w = h.walks.walked (s ∷ subs) whole e refl in
       let none : item_limit - items ≡ 0 = omega (arith, full) in
@@ -140,10 +140,7 @@ module _ (kept : Kept) (items : ℕ) (threads : Threads) (s : At Subrecord) (now
   pub passes_unsound : (then all : Result (List (At Subrecord)) Fault) → is_none (subrecord_fault kept threads s.within s.item) ≡ false → now ≡ with_first s then → Passes kept items threads now all
       → is_none (walk_fault kept all) ≡ false
   passes_unsound then (Err f) unsound e h = refl
-  passes_unsound (Err g) (Ok whole) unsound e h = absurd (clash (sym (ap result_err e) ∙ h.walks.fault))
-    where
-      clash : Some g ≡ None → ⊥
-      clash q = cc
+  passes_unsound (Err g) (Ok whole) unsound e h = absurd (some_none g (sym (ap result_err e) ∙ h.walks.fault))
   passes_unsound (Ok subs) (Ok whole) unsound e h =
       let w = h.walks.walked (s ∷ subs) whole e refl in
       second_fault (room_fault (item_limit - kept.items) (places whole)) (subrecords_fault kept kept.threads whole)

@@ -8,13 +8,17 @@ use Rattle.omf_frame.specs.declared.fault.Reason.{Reason}
 use Rattle.omf_frame.specs.declared.fault.Reason.TheVariants as reason
 use Rattle.omf_image.specs.declared.limits.Limits.{Limits}
 use Rattle.omf_records.specs.Values.{At, Subrecord, Reference, thread_number}
-use Rattle.omf_check.specs.Cells.{cells_after}
-use Rattle.omf_check.specs.Judging.{frame_cell, target_cell}
-use Rattle.omf_check.specs.Kept.{HasThreads, no_threads, set_thread, set_threads}
+-- computed: cells_are_threads of omf_check.
+use Rattle.omf_check.specs.Inner.Cells.{cells_after}
+-- computed: threads_are_kept of omf_check.
+use Rattle.omf_check.specs.Inner.Judging.{frame_cell, target_cell}
+-- computed: threads_are_kept of omf_check.
+use Rattle.omf_check.specs.Inner.Kept.{HasThreads, no_threads, set_thread, set_threads}
 use Rattle.omf_check.specs.Refusal.{IsRefused, AreSoundSoFar, EndsWhereJudged}
 use Rattle.omf_check.specs.Sound.{ModuleHolds}
 use Rattle.omf_check.specs.Threads.{setting_of, thread, frame_of, target_of}
-use Rattle.omf_check.specs.Verdict.{Verdict, Accepted, Refused, Unknown, verdict}
+-- computed: verdicts_decide of omf_check.
+use Rattle.omf_check.specs.Inner.Verdict.{Verdict, Accepted, Refused, Unknown, verdict}
 use Rattle.omf_check.specs.WellFormed.{IsAccepted, IsWellFormed, recs}
 use Rattle.omf_check.specs.declared.profile.Profile.{Profile}
 use Rattle.omf_check.specs.declared.threads.Threads.{Threads}

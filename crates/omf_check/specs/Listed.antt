@@ -2,7 +2,8 @@
 use Rattle.std.specs.Prelude.{◌≡◌, ◌≤◌, ◌^◌, ℕ, ◌+◌, List, [], ◌∷◌, ◌++◌, length, flat_map, All, IsTrue}
 use Rattle.omf_frame.specs.Framing.{Raw, raw_bytes, IsRecord, is_taken}
 use Rattle.omf_frame.specs.declared.fault.Place.{Place}
-use Rattle.omf_records.specs.Reading.{typed}
+-- computed: readings_meet_layouts and contents_are_typed_once of omf_records.
+use Rattle.omf_records.specs.Inner.Reading.{typed}
 use Rattle.omf_records.specs.Records.{IsTyped}
 use Rattle.omf_records.specs.Values.{Rec}
 

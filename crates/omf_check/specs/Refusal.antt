@@ -5,9 +5,11 @@ use Rattle.omf_frame.specs.Framing.{Raw, raw_bytes, IsRecord, is_end, is_end_of_
 use Rattle.omf_frame.specs.declared.fault.Place.{Place}
 use Rattle.omf_frame.specs.declared.fault.Reason.{Reason}
 use Rattle.omf_frame.specs.declared.fault.Reason.TheVariants as reason
-use Rattle.omf_records.specs.Reading.{typed, layout_faults}
+-- computed: readings_meet_layouts and contents_are_typed_once of omf_records.
+use Rattle.omf_records.specs.Inner.Reading.{typed, layout_faults}
 use Rattle.omf_records.specs.Values.{Contents, Iterated, width}
-use Rattle.omf_image.specs.Expanding.{block_faults, length_faults}
+-- computed: blocks_are_read and lengths_are_decided of omf_image.
+use Rattle.omf_image.specs.Inner.Expanding.{block_faults, length_faults}
 use Rattle.omf_image.specs.declared.limits.Limits.{Limits}
 use Rattle.omf_check.specs.Rules.{rules}
 use Rattle.omf_check.specs.WellFormed.{IsWellFormed, recs}

@@ -7,7 +7,7 @@ use Rattle.omf_records.specs.Rows.{put_at}
 use Rattle.omf_records.specs.Values.{Rec, Names, Segment, Group, Externs}
 use Rattle.omf_image.specs.Limits.{profile_limits}
 use Rattle.omf_check.specs.Rules.{rules}
-use Rattle.omf_check.specs.Verdict.{Verdict, Accepted, Refused, Unknown, verdict}
+use Rattle.omf_check.specs.Inner.Verdict.{Verdict, Accepted, Refused, Unknown, verdict}
 use Rattle.omf_check.specs.declared.profile.Profile.{Profile}
 
 abbrev pub any : Profile

@@ -1,21 +1,13 @@
 -- What is seen of a session, and what its calls do.
-use Rattle.std.specs.Prelude.{◌≡◌, ◌≢◌, ◌⊎◌, ◌≤◌, ◌<◌, ◌^◌, IsTrue, ℕ, slice_index, Bool, true, false, not, ◌&&◌, ◌||◌, ◌==◌, is_some, min, if◌then◌else◌, List, [], ◌∷◌, ◌++◌, length, take, drop, flat_map, All, Option, Some, None, option_map, Result, Ok, Err}
-use Rattle.omf_frame.specs.Bytes.{AreBytes}
-use Rattle.omf_frame.specs.Fault.{Fault}
-use Rattle.omf_frame.specs.Framer.{Held, begins_record}
-use Rattle.omf_frame.specs.Framer.{next_bytes as next_of, want_of as framer_want}
-use Rattle.omf_frame.specs.declared.fault.FrameFault.{FrameFault}
-use Rattle.omf_frame.specs.declared.fault.FrameFault.TheVariants as frame
-use Rattle.omf_frame.specs.Framing.{Raw, raw_bytes, IsRecord, is_end, is_end_of_input, is_nonempty, is_taken, is_whole, present, wanted, standing_fault}
-use Rattle.omf_frame.specs.Judging.{record_len}
+use Rattle.std.specs.Prelude.{◌≡◌, ◌≢◌, ◌⊎◌, ◌≤◌, ◌<◌, ◌^◌, IsTrue, ℕ, slice_index, Bool, true, false, not, ◌&&◌, ◌||◌, is_some, min, if◌then◌else◌, List, [], ◌++◌, length, take, drop, Option, Some, None, Result, Ok, Err}
+use Rattle.omf_frame.specs.Framer.{begins_record}
+use Rattle.omf_frame.specs.Framing.{Raw, is_end_of_input, is_nonempty, is_taken, is_whole, present, wanted, record_len}
 use Rattle.omf_frame.specs.declared.fault.Place.{Place}
 use Rattle.omf_frame.specs.declared.fault.Reason.{Reason}
 use Rattle.omf_image.specs.Limits.{profile_limits}
-use Rattle.omf_check.specs.Kept.{Kept, Tells, IsBounded}
 use Rattle.omf_check.specs.Module.{Module}
-use Rattle.omf_check.specs.Points.{PointsTo}
-use Rattle.omf_check.specs.Refusal.{IsRefused, faults_after, EndsWhereJudged, AreSoundSoFar}
-use Rattle.omf_check.specs.WellFormed.{IsWellFormed, IsAccepted, recs}
+use Rattle.omf_check.specs.Refusal.{IsRefused, EndsWhereJudged, AreSoundSoFar}
+use Rattle.omf_check.specs.WellFormed.{IsWellFormed, IsAccepted}
 use Rattle.omf_check.specs.declared.fault.CheckFault.{CheckFault}
 use Rattle.omf_check.specs.declared.fault.CheckFault.TheVariants.{Memory, Read, Refused}
 use Rattle.omf_check.specs.declared.profile.Profile.{Profile}
@@ -105,62 +97,6 @@ pub record FailsAs (old : Seen) (piece : List ℕ) (fault : CheckFault) (new : S
   pub not_ended : old.ended ≡ false
   pub new_is : new ≡ record old { at_hand = []; fault = Some fault }
   pub cause : (old.fault ≡ Some fault) ⊎ ((old.fault ≡ None) × IsCause old piece fault)
-
--- What a record of a number and a start is refused for.
-abbrev pub refused_at : ℕ → ℕ → Fault → CheckFault
-refused_at number start f = Refused f.reason (record { number = number; start = start; within = f.within })
-
--- Why a record, whose least fault this is, is not passed.
-abbrev pub IsStopped : Option Fault → ℕ → ℕ → CheckFault → Type 0
-IsStopped found number start Memory = found ≡ None
-IsStopped found number start Read = ⊥
-IsStopped found number start (Refused why at) = option_map (refused_at number start) found ≡ Some (Refused why at)
-
--- The records passed so far, and the bytes at hand.
-pub record IsPassing (profile : Profile) (held : Held) (taken : List ℕ) (kept : Kept) : Type 0 where
-  pub before : List Raw
-  pub spelled : taken ≡ flat_map raw_bytes before ++ held.bytes
-  pub records : All IsRecord before
-  pub small : AreBytes taken
-  pub sound : (earlier later : List Raw) (r : Raw) → before ≡ earlier ++ r ∷ later → faults_after profile profile_limits earlier (raw_bytes r) ≡ []
-  pub number : held.number ≡ length before
-  pub start : held.start ≡ length (flat_map raw_bytes before)
-  pub no_fault : held.fault ≡ None
-  pub partial : is_whole held.bytes ≡ false
-  pub standing : standing_fault (held.number == 0) held.bytes ≡ None
-  pub running : held.ended ≡ false → All (λ r. IsTrue (not (is_end r.kind))) before
-  pub at_end : held.ended ≡ true → (held.bytes ≡ []) × IsWellFormed profile profile_limits taken before
-  pub tells : Tells kept (recs before)
-  pub points : PointsTo (flat_map raw_bytes before) kept (recs before)
-  pub bounded : IsBounded kept
-  pub short : length held.bytes ≤ 65538
-
--- What is true of every session, by its parts.
-abbrev pub IsState : Profile → Held → List ℕ → Kept → Option CheckFault → Type 0
-IsState profile held taken kept None = IsPassing profile held taken kept
-IsState profile held taken kept (Some fault) = (held.ended ≡ false) × (fault ≢ Read)
-
--- A step of a session, by its framer and the bytes taken: it takes what the record at hand still lacks, or the whole piece, and
--- passes a record that is whole then.
-pub record Moves (old : Held) (bytes piece : List ℕ) (count : ℕ) (whole : Bool) (new : Held) (now : List ℕ) : Type 0 where
-  pub bound : count ≤ length piece
-  pub all_wanted : min (framer_want old) (length piece) ≤ count
-  pub grown : next_of old piece ≡ old.bytes ++ take count piece
-  pub taken : now ≡ bytes ++ take count piece
-  pub at_hand : new.bytes ≡ (if whole then [] else next_of old piece)
-  pub whole_is : whole ≡ is_whole (next_of old piece)
-
--- Why a step fails, as a feed does.
-abbrev pub here : Profile → Held → List ℕ → Seen
-here profile held taken = record { profile = profile; taken = taken; at_hand = held.bytes; ended = held.ended; fault = None }
-
-abbrev pub Fails : Profile → Held → List ℕ → List ℕ → CheckFault → Type 0
-Fails profile held taken piece fault = IsCause (here profile held taken) piece fault
-
--- What a framer's fault is to a session.
-abbrev pub framing_fault : FrameFault → CheckFault
-framing_fault frame.Memory = Memory
-framing_fault (frame.Refused why at) = Refused why at
 
 -- What the end of the input means: a kept fault; or after a MODEND the module that the bytes taken are; or their refusal.
 abbrev pub IsEndFault : Seen → CheckFault → Type 0

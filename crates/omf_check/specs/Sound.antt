@@ -2,7 +2,8 @@
 use Rattle.std.specs.Prelude.{◌≡◌, ◌≢◌, ◌≤◌, ℕ, ◌+◌, ◌^◌, List, [], ◌∷◌, ◌++◌, length, map, All, Bool, true, false, ◌==◌, Some, None, is_some, IsSome, IsOk, ⊤}
 use Rattle.omf_records.specs.Location.{location_size}
 use Rattle.omf_records.specs.Values.{At, Rec, Contents, Segment, Publics, PublicItems, Plain, Iterated, Fixups, ModEnd, DataItem, Subrecord, Thread, Fixup, Reference, width, location_type, location_offset}
-use Rattle.omf_image.specs.Expanding.{expanded, expanded_length}
+-- computed: blocks_are_read and lengths_are_decided of omf_image.
+use Rattle.omf_image.specs.Inner.Expanding.{expanded, expanded_length}
 use Rattle.omf_image.specs.declared.limits.Limits.{Limits}
 use Rattle.omf_check.specs.Rules.{length_of_segment}
 use Rattle.omf_check.specs.Tables.{segments, groups, externals, is_defined, is_none_or_defined, subrecords, last_data, segment_length}

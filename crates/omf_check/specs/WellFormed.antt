@@ -2,7 +2,8 @@
 use Rattle.std.specs.Prelude.{◌≡◌, ℕ, List, ◌∷◌, ◌++◌, map, All, ⊤}
 use Rattle.omf_frame.specs.Fault.{AreKept}
 use Rattle.omf_frame.specs.Framing.{Raw, IsFramed}
-use Rattle.omf_records.specs.Reading.{typed}
+-- computed: readings_meet_layouts and contents_are_typed_once of omf_records.
+use Rattle.omf_records.specs.Inner.Reading.{typed}
 use Rattle.omf_records.specs.Records.{IsTyped}
 use Rattle.omf_records.specs.Values.{Rec, Contents, Iterated, width}
 use Rattle.omf_image.specs.Blocks.{Blocks, AreBlocks}

@@ -1,18 +1,19 @@
 //! A module that was checked.
 
-ghost use Rattle.std.specs.Prelude.{◌≡◌, ◌≤◌, Some, length, drop, option_map};
+ghost use Rattle.std.specs.Prelude.{◌≡◌, ◌≤◌, Some, IfSome, length, drop, option_map};
 ghost use Rattle.omf_frame.specs.Bytes.{last};
 ghost use Rattle.omf_image.specs.Limits.{profile_limits};
-ghost use Rattle.omf_check.specs.Module.{records_in, IsChecked};
+ghost use Rattle.omf_check.specs.Module.{recs_of, records_in};
+ghost use Rattle.omf_check.specs.Inner.Parts.{IsChecked};
 ghost use Rattle.omf_check.specs.Listed.{placed_from};
 ghost use Rattle.omf_check.specs.Sound.{ModuleHolds};
-ghost use Rattle.omf_check.specs.Points.{NameAt, HasName, HasGroup};
+ghost use Rattle.omf_check.specs.Inner.Points.{NameAt, HasName, HasGroup, IsItemAt};
 ghost use Rattle.omf_frame.specs.Framing.{front_record, present};
-ghost use Rattle.omf_records.specs.Reading.{typed};
-ghost use Rattle.omf_records.specs.Seen.{contents_seen, rec_seen};
+ghost use Rattle.omf_records.specs.Inner.Reading.{typed};
+ghost use Rattle.omf_records.specs.Inner.Seen.{contents_seen, rec_seen};
 ghost use Rattle.omf_records.specs.Values.{Group};
 ghost use Rattle.omf_check.specs.Tables.{names, segments, groups, externals, locals, entry};
-ghost use Rattle.omf_check.specs.WellFormed.{recs, IsWellFormed};
+ghost use Rattle.omf_check.specs.WellFormed.{IsWellFormed};
 
 use crate::profile::Profile;
 use crate::records::{Records, first_record, last_record};
@@ -33,7 +34,8 @@ pub struct Checked {
 }
 
 impl Model for Checked {
-    ghost use Rattle.omf_check.specs.Module.{Module, IsChecked};
+    ghost use Rattle.omf_check.specs.Module.{Module};
+    ghost use Rattle.omf_check.specs.Inner.Parts.{IsChecked};
 
     ghost Value = { Module };
 
@@ -50,6 +52,17 @@ fn name_at(bytes: &[u8], place: u64) -> Name<'_>
     match Name::read_at(bytes, place as usize) {
         Some((name, _)) => name,
         None => unreachable!(),
+    }
+}
+
+/// The name that stands at a place, where there is one.
+fn name_if(bytes: &[u8], place: Option<u64>) -> Option<Name<'_>>
+    requires { IfSome place (HasName bytes.now) }
+    ensures { IsItemAt (NameAt bytes.now) place result }
+{
+    match place {
+        Some(place) => Some(name_at(bytes, place)),
+        None => None,
     }
 }
 
@@ -93,7 +106,7 @@ impl Checked {
 
     /// How many names its LNAMES and LLNAMES define.
     pub fn names(&self) -> u16
-        ensures count { result ≡ length (names (recs (records_in self.now.bytes))) }
+        ensures count { result ≡ length (names (recs_of self.now.bytes)) }
         ensures bounded { result ≤ 32767 }
     {
         self.tables.name_count()
@@ -101,7 +114,7 @@ impl Checked {
 
     /// How many segments it has.
     pub fn segments(&self) -> u16
-        ensures count { result ≡ length (segments (recs (records_in self.now.bytes))) }
+        ensures count { result ≡ length (segments (recs_of self.now.bytes)) }
         ensures bounded { result ≤ 32767 }
     {
         self.tables.segment_count()
@@ -109,7 +122,7 @@ impl Checked {
 
     /// How many groups it has.
     pub fn groups(&self) -> u16
-        ensures count { result ≡ length (groups (recs (records_in self.now.bytes))) }
+        ensures count { result ≡ length (groups (recs_of self.now.bytes)) }
         ensures bounded { result ≤ 32767 }
     {
         self.tables.group_count()
@@ -117,7 +130,7 @@ impl Checked {
 
     /// How many external names it has; those of EXTDEFs, COMDEFs, LEXTDEFs and LCOMDEFs share one table.
     pub fn externals(&self) -> u16
-        ensures count { result ≡ length (externals (recs (records_in self.now.bytes))) }
+        ensures count { result ≡ length (externals (recs_of self.now.bytes)) }
         ensures bounded { result ≤ 32767 }
     {
         self.tables.external_count()
@@ -125,7 +138,7 @@ impl Checked {
 
     /// What a segment's SEGDEF says of it, by its index from 1; `None` outside the table.
     pub fn segment(&self, i: u16) -> Option<SegInfo>
-        ensures { result ≡ entry (segments (recs (records_in self.now.bytes))) i }
+        ensures { result ≡ entry (segments (recs_of self.now.bytes)) i }
     {
         self.tables.segment(i)
     }
@@ -141,50 +154,44 @@ impl Checked {
     /// that is missing, and a MODEND is the last of them alone.
     pub fn records(&self) -> Records<'_>
         ensures listed { result ≡ placed_from 0 0 (records_in self.now.bytes) }
-        ensures holds { ModuleHolds profile_limits (recs (records_in self.now.bytes)) }
+        ensures holds { ModuleHolds profile_limits (recs_of self.now.bytes) }
     {
         Records::new(&self.bytes)
     }
 
     /// The record that it ends with: its MODEND. It is found by the lengths of the records before it, which are not read again.
     pub fn end(&self) -> Rec<'_>
-        ensures last { Some (rec_seen result) ≡ last (recs (records_in self.now.bytes)) }
-        ensures holds { ModuleHolds profile_limits (recs (records_in self.now.bytes)) }
+        ensures last { Some (rec_seen result) ≡ last (recs_of self.now.bytes) }
+        ensures holds { ModuleHolds profile_limits (recs_of self.now.bytes) }
     {
         last_record(&self.bytes)
     }
 
     /// A name, by its index from 1; `None` outside the table.
     pub fn name(&self, i: u16) -> Option<Name<'_>>
-        ensures { result ≡ entry (names (recs (records_in self.now.bytes))) i }
+        ensures { result ≡ entry (names (recs_of self.now.bytes)) i }
     {
-        match self.tables.name_place(i) {
-            Some(place) => Some(name_at(&self.bytes, place)),
-            None => None,
-        }
+        name_if(&self.bytes, self.tables.name_place(i))
     }
 
     /// An external name, by its index from 1; `None` outside the table.
     pub fn external(&self, i: u16) -> Option<Name<'_>>
-        ensures { result ≡ entry (externals (recs (records_in self.now.bytes))) i }
+        ensures { result ≡ entry (externals (recs_of self.now.bytes)) i }
     {
-        match self.tables.external_place(i) {
-            Some(place) => Some(name_at(&self.bytes, place)),
-            None => None,
-        }
+        name_if(&self.bytes, self.tables.external_place(i))
     }
 
     /// Whether an external is local, by its index from 1: that of a LEXTDEF or an LCOMDEF is, that of an EXTDEF or a COMDEF is not. `None`
     /// outside the table.
     pub fn local(&self, i: u16) -> Option<bool>
-        ensures { result ≡ entry (locals (recs (records_in self.now.bytes))) i }
+        ensures { result ≡ entry (locals (recs_of self.now.bytes)) i }
     {
         self.tables.is_local(i)
     }
 
     /// The typed record of a group's GRPDEF, by the group's index from 1; `None` outside the table.
     pub fn group(&self, i: u16) -> Option<Rec<'_>>
-        ensures { option_map contents_seen result ≡ option_map Group (entry (groups (recs (records_in self.now.bytes))) i) }
+        ensures { option_map contents_seen result ≡ option_map Group (entry (groups (recs_of self.now.bytes)) i) }
     {
         match self.tables.group_place(i) {
             Some(place) => Some(group_at(&self.bytes, place)),

@@ -13,7 +13,7 @@ ghost use Rattle.omf_check.specs.Refusal.{AreSoundSoFar, EndsWhereJudged};
 ghost use Rattle.omf_check.specs.Rows.{any, no_vendors, verdict_of, module_in, place, H, N, S, L, M, first_module, wrong_checksum, with_fixup, repeated, comment, segment_named, group_named, two_externals, named_in, meaning_after};
 ghost use Rattle.omf_check.specs.Rules.{room, item_limit, item_places};
 ghost use Rattle.omf_check.specs.Tables.{items_in, locals};
-ghost use Rattle.omf_check.specs.Verdict.{Refused, verdict};
+ghost use Rattle.omf_check.specs.Inner.Verdict.{Refused, verdict};
 
 /// The steps of framing: the type before the end of the input, that before the checksum, and that before the header.
 pub fn framing_steps()

@@ -37,7 +37,7 @@ pub use checking::check;
 pub use fault::CheckFault;
 pub use method::{FrameMethod, TargetMethod};
 pub use profile::Profile;
-pub use records::Records;
+pub use records::{Records, split_record};
 pub use segment::SegInfo;
 pub use session::Session;
 pub use threads::Threads;

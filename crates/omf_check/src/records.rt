@@ -3,18 +3,17 @@
 ghost use Rattle.std.specs.Prelude.{◌≡◌, ◌<◌, Some, length};
 ghost use Rattle.omf_frame.specs.Bytes.{last};
 ghost use Rattle.omf_frame.specs.Framing.{front_record, present, after_front};
-ghost use Rattle.omf_records.specs.Reading.{typed};
-ghost use Rattle.omf_records.specs.Seen.{rec_seen};
+ghost use Rattle.omf_records.specs.Inner.Reading.{typed};
+ghost use Rattle.omf_records.specs.Inner.Seen.{rec_seen};
 ghost use Rattle.omf_check.specs.Listed.{StartsWithRecord, AreListed, placed_from};
-ghost use Rattle.omf_check.specs.Module.{records_in};
-ghost use Rattle.omf_check.specs.WellFormed.{recs};
+ghost use Rattle.omf_check.specs.Module.{recs_of, records_in};
 
 use omf_frame::{Place, RawRecord};
 use omf_records::{Rec, view_known};
 use std::marker::Model;
 
 /// The record that the bytes begin with, and the bytes after it.
-fn split_record<'a>(bytes: &'a [u8]) -> (RawRecord<'a>, &'a [u8])
+pub fn split_record<'a>(bytes: &'a [u8]) -> (RawRecord<'a>, &'a [u8])
     requires { StartsWithRecord bytes.now }
     ensures kind { result.0.kind ≡ (front_record (present bytes.entry.now)).kind }
     ensures body { result.0.body.now ≡ (front_record (present bytes.entry.now)).body }
@@ -50,7 +49,7 @@ pub(crate) fn first_record<'a>(bytes: &'a [u8]) -> (Rec<'a>, &'a [u8])
 pub(crate) fn last_record<'a>(bytes: &'a [u8]) -> Rec<'a>
     requires listed { AreListed bytes.now 0 0 }
     requires filled { 0 < length bytes.now }
-    ensures { Some (rec_seen result) ≡ last (recs (records_in bytes.entry.now)) }
+    ensures { Some (rec_seen result) ≡ last (recs_of bytes.entry.now) }
 {
     let mut left = bytes;
     loop {
@@ -73,12 +72,12 @@ pub struct Records<'a> {
 
 impl<'a> Model for Records<'a> {
     ghost use Rattle.std.specs.Prelude.{List};
-    ghost use Rattle.omf_frame.specs.declared.fault.Place.{Place as Placed};
+    ghost use Rattle.omf_frame.specs.declared.fault.Place.{Place as PlaceModel};
     ghost use Rattle.omf_records.specs.Values.{Rec as Typed};
     ghost use Rattle.omf_check.specs.Listed.{AreListed, placed_from};
     ghost use Rattle.omf_check.specs.Module.{records_in};
 
-    ghost Value = { List (Placed × Typed) };
+    ghost Value = { List (PlaceModel × Typed) };
 
     ghost view = { λ r. placed_from r.number r.start (records_in r.bytes.now) };
 
@@ -101,7 +100,7 @@ impl<'a> Records<'a> {
 
 impl<'a> Iterator for Records<'a> {
     ghost use Rattle.std.specs.Iterator.{YieldsFirstBy, item_count};
-    ghost use Rattle.omf_records.specs.Seen.{rec_seen as seen};
+    ghost use Rattle.omf_records.specs.Inner.Seen.{rec_seen as seen};
 
     type Item = (Place, Rec<'a>);
 

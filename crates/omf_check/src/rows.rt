@@ -3,7 +3,7 @@
 ghost use Rattle.std.specs.Prelude.{◌≡◌, ℕ, [], ◌∷◌, ◌++◌, Some, None, take, replicate};
 ghost use Rattle.omf_frame.specs.declared.fault.Reason.TheVariants as reason;
 ghost use Rattle.omf_image.specs.Limits.{profile_limits};
-ghost use Rattle.omf_check.specs.Verdict.{Refused, verdict};
+ghost use Rattle.omf_check.specs.Inner.Verdict.{Refused, verdict};
 ghost use Rattle.omf_check.specs.Rows.{any, no_vendors, verdict_of, module_in, place, H, N, S, L, F, M, first_module, without_checksums, wrong_checksum, long_index, threads, defined_thread, undefined_thread, flat, repeated, nested_blocks, blocks_of_nothing, too_many_bytes, most_bytes, with_fixup, big, started, absolute, thread_ahead, comment, communal, public, nameless, many_bytes, local_jump, local_name, local_communal};
 
 /// Six records, and what follows them is not read.

@@ -2,7 +2,7 @@
 
 ghost use Rattle.std.specs.Prelude.{◌≡◌, ℕ};
 ghost use Rattle.omf_frame.specs.Fault.{is_before};
-ghost use Rattle.omf_check.specs.Judging.{fault_unless, lesser, room_fault, entry_fault, optional_fault, members_fault, comment_fault};
+ghost use Rattle.omf_check.specs.Inner.Judging.{fault_unless, lesser, room_fault, entry_fault, optional_fault, members_fault, comment_fault};
 ghost use Rattle.omf_check.specs.Rules.{places};
 ghost use Rattle.omf_check.specs.Tables.{is_defined};
 ghost use Rattle.omf_frame.specs.declared.fault.Reason.TheVariants.{UndefinedSegment};

@@ -1,7 +1,8 @@
 //! The checker, fed in pieces.
 
 ghost use Rattle.std.specs.Prelude.{◌≡◌, None, IfOk, IfErr, OnOk, OnErr, false};
-ghost use Rattle.omf_check.specs.Session.{at_start, want_of, want_with, IsOpen, Takes, FailsAs, IsPassing, Moves, Fails, Finishes, framing_fault};
+ghost use Rattle.omf_check.specs.Session.{at_start, want_of, want_with, IsOpen, Takes, FailsAs, Finishes};
+ghost use Rattle.omf_check.specs.Inner.Passing.{IsPassing, Moves, Fails, framing_fault};
 
 use crate::checked::Checked;
 use crate::fault::CheckFault;
@@ -24,7 +25,8 @@ pub struct Session {
 
 impl Model for Session {
     ghost use Rattle.std.specs.Prelude.{is_some, [], false, ◌&&◌, not, if◌then◌else◌};
-    ghost use Rattle.omf_check.specs.Session.{Seen, IsState};
+    ghost use Rattle.omf_check.specs.Session.{Seen};
+    ghost use Rattle.omf_check.specs.Inner.Passing.{IsState};
 
     ghost Value = { Seen };
 

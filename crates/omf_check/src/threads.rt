@@ -1,8 +1,8 @@
 //! The threads in force (TIS OMF 1.1, "FIXUPP", THREAD).
 
 ghost use Rattle.std.specs.Prelude.{◌≡◌, ◌<◌};
-ghost use Rattle.omf_check.specs.Kept.{kept_frame, kept_target, set_thread, set_threads, no_threads};
-ghost use Rattle.omf_check.specs.Judging.{frame_cell, target_cell};
+ghost use Rattle.omf_check.specs.Inner.Kept.{kept_frame, kept_target, set_thread, set_threads, no_threads};
+ghost use Rattle.omf_check.specs.Inner.Judging.{frame_cell, target_cell};
 
 use crate::method::{FrameMethod, TargetMethod};
 use omf_records::{

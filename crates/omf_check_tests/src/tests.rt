@@ -316,10 +316,15 @@ fn wrong_in_tables(checked: &Checked) -> Option<&'static str> {
     ])
 }
 
+/// What is wrong in them once the module is checked.
+fn wrong_in_first_tables(alloc: Global) -> Result<Option<&'static str>, CheckFault> {
+    let checked = checked_of(alloc, &FIRST)?;
+    Ok(wrong_in_tables(&checked))
+}
+
 #[test]
 fn shows_tables(rt: HostRuntime) -> Result<(), Fail> {
-    let checked = checked_of(rt.alloc(), &FIRST)?;
-    assert_eq!(rt; wrong_in_tables(&checked), None);
+    assert_eq!(rt; wrong_in_first_tables(rt.alloc())?, None);
     Ok(())
 }
 
@@ -346,11 +351,16 @@ fn lie_at(records: Records<'_>, places: &[(u32, u64)]) -> bool {
     next_place(&mut records) == None
 }
 
+/// Whether the records of the first module are these.
+fn first_lie_at(alloc: Global, places: &[(u32, u64)]) -> Result<bool, CheckFault> {
+    let checked = checked_of(alloc, &FIRST)?;
+    Ok(lie_at(records_of(&checked), places))
+}
+
 #[test]
 fn shows_records(rt: HostRuntime) -> Result<(), Fail> {
-    let checked = checked_of(rt.alloc(), &FIRST)?;
     let places = [(0, 0), (1, 6), (2, 13), (3, 23), (4, 34), (5, 43)];
-    assert!(rt; lie_at(records_of(&checked), &places));
+    assert!(rt; first_lie_at(rt.alloc(), &places)?);
     Ok(())
 }
 
@@ -375,11 +385,16 @@ fn wrong_in_first(checked: &Checked, bytes: &[u8]) -> Option<&'static str> {
     ])
 }
 
+/// What is wrong in it when a session takes it byte by byte.
+fn wrong_by_bytes(alloc: Global, bytes: &[u8]) -> Result<Option<&'static str>, CheckFault> {
+    let checked = by_bytes(alloc, bytes)?;
+    Ok(wrong_in_first(&checked, bytes))
+}
+
 #[test]
 fn shows_the_same_of_bytes(rt: HostRuntime) -> Result<(), Fail> {
     let bytes = module(rt.alloc(), &FIRST)?;
-    let checked = by_bytes(rt.alloc(), &bytes)?;
-    assert_eq!(rt; wrong_in_first(&checked, &bytes), None);
+    assert_eq!(rt; wrong_by_bytes(rt.alloc(), &bytes)?, None);
     Ok(())
 }
 
@@ -412,10 +427,16 @@ fn wrong_in_absolute(checked: &Checked) -> Option<&'static str> {
     ])
 }
 
+const WITH_ABSOLUTE: [&[u8]; 6] = [&HEADER, &NAMES, &ABSOLUTE, &GROUP, &EXTERNAL, &END];
+
+/// What is wrong in it once it is checked.
+fn wrong_with_absolute(alloc: Global) -> Result<Option<&'static str>, CheckFault> {
+    let checked = checked_of(alloc, &WITH_ABSOLUTE)?;
+    Ok(wrong_in_absolute(&checked))
+}
+
 #[test]
 fn shows_a_group_and_an_external(rt: HostRuntime) -> Result<(), Fail> {
-    let records: [&[u8]; 6] = [&HEADER, &NAMES, &ABSOLUTE, &GROUP, &EXTERNAL, &END];
-    let checked = checked_of(rt.alloc(), &records)?;
-    assert_eq!(rt; wrong_in_absolute(&checked), None);
+    assert_eq!(rt; wrong_with_absolute(rt.alloc())?, None);
     Ok(())
 }

@@ -1,10 +1,10 @@
 -- Hexadecimal digits of numbers, and the text of bytes as it is written over a slice.
-use Rattle.std.proofs.Common.{◌≡◌, ℕ, zero, suc, ◌+◌, ◌-◌, ◌*◌, ◌/◌, ◌%◌, ◌^◌, ◌<◌, ◌≤◌, Bool, true, false, T, ◌&&◌, cond, eqb, List, [], ◌∷◌, ◌++◌, length, take, drop, get_or, slice_index, slice_set, refl, sym, ap, ◌∙◌, arith, inl, inr, eq-zero-or-pos, eqb→eq, eq-eqb, ne_eqb, append_assoc}
+use Rattle.std.proofs.Common.{◌≡◌, ℕ, zero, suc, ◌+◌, ◌-◌, ◌*◌, ◌/◌, ◌%◌, ◌^◌, ◌<◌, ◌≤◌, Bool, true, false, cond, eqb, List, [], ◌∷◌, ◌++◌, length, take, drop, slice_index, slice_set, refl, sym, ap, ◌∙◌, arith, inl, inr, eq-zero-or-pos, eq-eqb, ne_eqb, append_assoc}
 use Rattle.std.proofs.lemmas.List.{append-nil, drop_all, drop_more, take_all, take_more_set, length-set}
 use Rattle.std.specs.Fmt.{digits, digits_onto, digit_glyph}
 use Rattle.std.specs.Prelude.{replicate, flat_map}
-use Rattle.omf_cmd.specs.Printed.{hex}
-use Rattle.omf_cmd.specs.RunLines.{byte_text}
+use Rattle.omf_placement.specs.Quoted.{hex}
+use Rattle.omf_cmd.specs.Inner.RunLines.{byte_text}
 
 -- ---- a number of few enough digits, with zeros before them
 

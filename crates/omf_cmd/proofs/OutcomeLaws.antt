@@ -6,7 +6,7 @@ use Rattle.std.proofs.KnownBytes.{Consumes-trans}
 use Rattle.std.proofs.lemmas.Bool.{le-ltb, lt-ltb}
 use Rattle.std.proofs.lemmas.List.{append-nil, length-append}
 use Rattle.omf_records.specs.Values.{Rec}
-use Rattle.omf_image.specs.Joined.{runs_of}
+use Rattle.omf_image.specs.Inner.Joined.{runs_of}
 use Rattle.omf_image.specs.Limits.{profile_limits}
 use Rattle.omf_image.specs.Overlay.{Laid, AreLaidOver, byte_at}
 use Rattle.omf_check.specs.Checking.{Decides, IsCheckFault}

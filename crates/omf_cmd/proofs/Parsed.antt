@@ -1,15 +1,13 @@
 -- What clap answers on the words of the program.
-use Rattle.std.proofs.Common.{◌≡◌, ℕ, List, [], ◌∷◌, Bool, Option, Some, None, refl, sym, ap, subst, codes, true, false, cond, option_map, inl, inr}
+use Rattle.std.proofs.Common.{◌≡◌, ℕ, List, [], ◌∷◌, Bool, Option, Some, None, refl, sym, ap, subst, ◌∙◌, codes, true, false, cond, option_map}
 use Rattle.std.specs.Prelude.{option_and_then, Result, Ok, Err, IfOk}
 use Rattle.std.specs.Str.{bytes_eq}
 use Rattle.std.proofs.lemmas.Slice.Eq.{bytes_eq-Decides}
-use Rattle.clap.specs.Words.{Text, Row, is_simple, is_simple_and_free, one_of, subcommand_of, takes}
-use Rattle.clap.specs.Words.{HasKind, Kinds, kind_of}
-use Rattle.clap.specs.declared.error.Error.{Error}
-use Rattle.clap.specs.declared.error.kind.ErrorKind.TheVariants as kind
+use Rattle.clap.specs.Words.{App, Text, Row, fault_of, is_simple_and_free, one_of, subcommand_of}
+use Rattle.clap.specs.declared.parser.matches.ArgMatches.{ArgMatches}
 use Rattle.clap.proofs.OnLiterals.{clap_on_literals}
-use Rattle.omf_cmd.specs.Parsed.{omf_app, flag_id, flag_text, IsParsed}
-use Rattle.omf_cmd.specs.Words.{asks, flag, job_named, profile_of}
+use Rattle.omf_cmd.specs.Inner.Parsed.{omf_app, flag_id, IsParse, IsParsed}
+use Rattle.omf_cmd.specs.Words.{flag_text, asks, flag, job_named, profile_of}
 use Rattle.omf_cmd.specs.declared.words.Job.{Job}
 use Rattle.omf_cmd.specs.declared.words.Job.TheVariants as job
 use Rattle.omf_check.specs.declared.profile.Profile.{Profile}
@@ -35,18 +33,14 @@ asked_of j refuses = Some (j, profile_of refuses)
 pub same_job : (named other : Option Job) (j k : Job) (set refuses : Bool) → named ≡ Some j → named ≡ other → other ≡ Some k → set ≡ refuses → asked_of j set ≡ asked_of k refuses
 same_job named other j k set refuses a b c d = let e : j ≡ k = cc in rw (e, d) refl
 
-pub is_simple_omf : is_simple omf_app ≡ true
-unfolding clap_on_literals
-is_simple_omf = refl
-
 pub is_free_omf : is_simple_and_free omf_app ≡ true
 unfolding clap_on_literals
 is_free_omf = refl
 
 -- a subcommand alone, and with the flag, as clap answers it
 pub record IsUnderstood (name : Text) : Type 0 where
-  pub alone : (program : Text) → IsParsed (subcommand_of omf_app (program ∷ name ∷ [])) name false × (takes omf_app (program ∷ name ∷ []) ≡ true)
-  pub flagged : (program : Text) → IsParsed (subcommand_of omf_app (program ∷ name ∷ flag ∷ [])) name true × (takes omf_app (program ∷ name ∷ flag ∷ []) ≡ true)
+  pub alone : (program : Text) → IsParsed (subcommand_of omf_app (program ∷ name ∷ [])) name false × (fault_of omf_app (program ∷ name ∷ []) ≡ [])
+  pub flagged : (program : Text) → IsParsed (subcommand_of omf_app (program ∷ name ∷ flag ∷ [])) name true × (fault_of omf_app (program ∷ name ∷ flag ∷ []) ≡ [])
 
 list_is : IsUnderstood (codes "list")
 unfolding clap_on_literals
@@ -91,19 +85,19 @@ pub record Answers (words : List Text) (asked : Job × Profile) : Type 0 where
   pub parse : IsParsed (subcommand_of omf_app words) name refuses
   pub named : job_named name ≡ Some job
   pub is : asked_of job refuses ≡ Some asked
-  pub taken : takes omf_app words ≡ true
+  pub sound : fault_of omf_app words ≡ []
 
 answers_alone : (program name : Text) (asked : Job × Profile) → option_map (λ j. (j, profile_of false)) (job_named name) ≡ Some asked → Answers (program ∷ name ∷ []) asked
 answers_alone program name asked e =
     let m = map_some (job_named name) false asked e in
     let p = (understood name m.0 m.1).alone program in
-    record { name = name; job = m.0; refuses = false; parse = p.0; named = m.1; is = m.2; taken = p.1 }
+    record { name = name; job = m.0; refuses = false; parse = p.0; named = m.1; is = m.2; sound = p.1 }
 
 answers_flagged : (program name : Text) (asked : Job × Profile) → option_map (λ j. (j, profile_of true)) (job_named name) ≡ Some asked → Answers (program ∷ name ∷ flag ∷ []) asked
 answers_flagged program name asked e =
     let m = map_some (job_named name) true asked e in
     let p = (understood name m.0 m.1).flagged program in
-    record { name = name; job = m.0; refuses = true; parse = p.0; named = m.1; is = m.2; taken = p.1 }
+    record { name = name; job = m.0; refuses = true; parse = p.0; named = m.1; is = m.2; sound = p.1 }
 
 answers_third : (program name f : Text) (asked : Job × Profile) (b : Bool) → (b ≡ true → f ≡ flag) → cond b (option_map (λ j. (j, profile_of true)) (job_named name)) None ≡ Some asked → Answers (program ∷ name ∷ f ∷ []) asked
 answers_third program name f asked true is e = subst (λ (w : Text). Answers (program ∷ name ∷ w ∷ []) asked) (sym (is refl)) (answers_flagged program name asked e)
@@ -118,11 +112,9 @@ answers (program ∷ name ∷ f ∷ g ∷ words) asked e = absurd cc
 
 -- ---- the program's command
 
--- where there is no fault of the words, only memory fails
-pub only_memory : (kinds : Kinds) (e : Error) → kinds ≡ [] → HasKind kinds e → kind_of e ≡ kind.OutOfMemory
-only_memory [] e none (inl h) = h
-only_memory [] e none (inr h) = absurd h
-only_memory (k ∷ ks) e none h = absurd cc
+-- what a command makes of words, where its definition is known
+pub parse_of : (app own : App) (words : List Text) (found other : Option ArgMatches) → own ≡ app → is_simple_and_free app ≡ true → (is_simple_and_free own ≡ true → IsParse own words found) → found ≡ other → IsParse app words other
+parse_of app own words found other e free told is = subst (IsParse app words) is (subst (λ (a : App). IsParse a words found) e (told (ap is_simple_and_free e ∙ free)))
 
 -- of an answer that is there, more is known
 pub ok_also : {X E : Type 0} (r : Result X E) {P Q : X → Type 0} → ((x : X) → P x → Q x) → IfOk r P → IfOk r Q

@@ -4,12 +4,13 @@ use Rattle.std.proofs.KnownBytes.{Appends-nil, Appends-trans, Keeps-refl}
 use Rattle.std.proofs.lemmas.List.{append-nil}
 use Rattle.std.specs.Io.KnownBytes.{Appends}
 use Rattle.std.specs.Prelude.{Option, IfErr}
-use Rattle.std.specs.Result.{IsErr}
+use Rattle.std.specs.Result.{IsErr, IsErrAnd}
 use Rattle.omf_frame.specs.Device.{Device}
 use Rattle.omf_frame.proofs.Tries.{failed_later, gives_up_later}
 use Rattle.omf_check.specs.declared.profile.Profile.{Profile}
 use Rattle.omf_cmd.specs.Relocating.{IsAnswered, Relocates}
-use Rattle.omf_cmd.specs.Runs.{HasGivenUp, IsPart, IsPrintCause, IsUnbroken, IsWrittenUpTo, Passes, Prints, PrintsInPieces}
+use Rattle.omf_cmd.specs.Runs.{HasGivenUp, IsPart, IsPrintCause, IsUnbroken, Prints, PrintsInPieces}
+use Rattle.omf_cmd.specs.Inner.Printing.{IsWrittenUpTo, Passes}
 use Rattle.omf_cmd.specs.declared.fault.RunFault.{RunFault}
 use Rattle.omf_cmd.specs.declared.fault.RunFault.TheVariants as fault
 
@@ -66,6 +67,19 @@ cause_later old mid new (Err (fault.Reach r)) h c = absurd c
 pub stopped_by : (old mid new : Option (List ℕ)) (text rest due more left : List ℕ) (r : Result (Unit {0}) RunFault) → IsErr r → IsWrittenUpTo old mid text rest → due ++ more ≡ rest → IsPart mid new due → Passes old new r text left
 stopped_by old mid new text rest due more left (Ok done) is h e p = absurd (cc is)
 stopped_by old mid new text rest due more left (Err x) is h e p = stopped old mid new text due more (subst (IsWrittenUpTo old mid text) (sym e) h) p
+
+-- what a fault leaves of a text: a part of it is written, and the writer is named where it failed
+pub record IsLeft (old new : Device) (r : Result (Unit {0}) RunFault) (text left : List ℕ) : Type 0 where
+  pub passes : Passes old.bytes new.bytes r text left
+  pub cause : IsPrintCause old new r
+
+pub left_by : (old mid new : Device) (text rest due more left : List ℕ) (r : Result (Unit {0}) RunFault) (e : RunFault) → IsErrAnd r (λ x. x ≡ e) → IsWrittenUpTo old.bytes mid.bytes text rest → IsUnbroken old mid → due ++ more ≡ rest
+    → IsPart mid.bytes new.bytes due → IsPrintCause mid new (Err e) → IsLeft old new r text left
+left_by old mid new text rest due more left (Ok done) e is h u d p c = absurd is
+left_by old mid new text rest due more left (Err x) e is h u d p c = record {
+  passes = stopped old.bytes mid.bytes new.bytes text due more (subst (IsWrittenUpTo old.bytes mid.bytes text) (sym d) h) p;
+  cause = cause_later old mid new (Err x) u (subst (λ (y : RunFault). IsPrintCause mid new (Err y)) (sym is) c);
+}
 
 -- what was due went on, and more is still to come
 pub went_on : (old mid new : Option (List ℕ)) (text rest due more left : List ℕ) → IsWrittenUpTo old mid text rest → due ++ more ≡ rest → IsWrittenUpTo mid new due left → IsWrittenUpTo old new text (left ++ more)

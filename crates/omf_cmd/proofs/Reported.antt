@@ -11,16 +11,18 @@ use Rattle.std.specs.Prelude.{flat_map, All, Result, Option, Some, None, option_
 use Rattle.omf_frame.specs.Bytes.{with_before}
 use Rattle.omf_frame.specs.Framing.{Raw, raw_bytes, IsRecord, IsFramed}
 use Rattle.omf_frame.specs.declared.fault.Place.{Place}
-use Rattle.omf_records.specs.Reading.{typed}
+use Rattle.omf_records.specs.Inner.Reading.{typed}
 use Rattle.omf_records.specs.Values.{Rec, Contents, Group, GroupItem}
 use Rattle.omf_check.specs.Listed.{placed_from}
 use Rattle.omf_check.specs.Tables.{entry}
 use Rattle.omf_check.specs.WellFormed.{recs}
 use Rattle.omf_cmd.specs.Listing.{record_line}
 use Rattle.omf_frame.specs.Types.{type_name}
-use Rattle.omf_cmd.specs.Printed.{hex, line}
-use Rattle.omf_cmd.specs.Runs.{IsPart, IsWrittenUpTo, Passes}
-use Rattle.omf_cmd.specs.Standing.{StandsAt}
+use Rattle.omf_cmd.specs.Printed.{line}
+use Rattle.omf_placement.specs.Quoted.{hex}
+use Rattle.omf_cmd.specs.Runs.{IsPart}
+use Rattle.omf_cmd.specs.Inner.Printing.{IsWrittenUpTo, Passes}
+use Rattle.omf_cmd.specs.Inner.Standing.{StandsAt}
 use Rattle.omf_cmd.specs.declared.fault.RunFault.{RunFault}
 use Rattle.omf_cmd.proofs.Pieces.{none_written, stopped_by, went_on}
 

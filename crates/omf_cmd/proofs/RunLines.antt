@@ -6,7 +6,7 @@ use Rattle.std.specs.List.{range_with_len}
 use Rattle.std.proofs.Math.Seq.{drop-nil}
 use Rattle.std.proofs.Math.Nat.{eq-or-lt_of_le}
 use Rattle.std.proofs.lemmas.List.{append-nil, drop_min, length-take, length-drop, take_min}
-use Rattle.omf_image.specs.Joined.{runs_of}
+use Rattle.omf_image.specs.Inner.Joined.{runs_of}
 use Rattle.omf_image.specs.Overlay.{Laid, byte_at, AreBytesOver, AreLaidOver, AreRuns, IsRunShown}
 use Rattle.omf_image.specs.declared.run.Run.{Run}
 use Rattle.omf_image.proofs.RunLaws.{joined_are_runs, runs_unique}
@@ -14,7 +14,7 @@ use Rattle.omf_image.proofs.ShownLaws.{run_next}
 use Rattle.omf_image.proofs.TurnLaws.{images_are}
 use Rattle.std.proofs.Math.Path.{fun_ext}
 use Rattle.omf_cmd.specs.Relocated.{bytes_line, run_lines, image_text}
-use Rattle.omf_cmd.specs.RunLines.{byte_text, line_text, lines_of}
+use Rattle.omf_cmd.specs.Inner.RunLines.{byte_text, line_text, lines_of}
 
 -- ---- ranges
 

@@ -7,9 +7,7 @@ pub mod Runs
 pub mod Words
 pub mod Outcome
 pub mod HowFar
-pub mod Parsed
-pub mod RunLines
 pub mod Relocating
 pub mod Laws
 pub mod Reports
-pub mod Standing
+pub mod Inner

@@ -9,7 +9,8 @@ use Rattle.omf_check.specs.Tables.{names, segments, groups, externals}
 use Rattle.omf_check.specs.declared.segment.SegInfo.{SegInfo}
 use Rattle.omf_check.specs.WellFormed.{recs}
 use Rattle.omf_canon.specs.Canonical.{canonical}
-use Rattle.omf_cmd.specs.Printed.{hex, line, quoted, named, index_or_dash}
+use Rattle.omf_cmd.specs.Printed.{line, index_or_dash}
+use Rattle.omf_placement.specs.Quoted.{hex, quoted, named}
 
 -- R: number, start, type, contents length (without the checksum byte), name. The start has at least eight hexadecimal digits, the type two.
 abbrev pub record_line : List Raw → Raw → List ℕ

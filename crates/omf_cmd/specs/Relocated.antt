@@ -1,7 +1,8 @@
 -- What `reloc` prints of an image and a start (this profile's rule).
 use Rattle.std.specs.Prelude.{ℕ, ◌+◌, ◌-◌, ◌*◌, ◌/◌, List, [], ◌∷◌, ◌++◌, length, flat_map, min, Option, Some, None, option_to_list, codes}
 use Rattle.std.specs.List.{range_with_len}
-use Rattle.omf_image.specs.Joined.{runs_of}
+-- computed: runs_are_maximal of omf_image.
+use Rattle.omf_image.specs.Inner.Joined.{runs_of}
 use Rattle.omf_image.specs.declared.limits.Limits.{Limits}
 use Rattle.omf_image.specs.declared.run.Run.{Run}
 use Rattle.omf_records.specs.Values.{Rec}
@@ -9,7 +10,7 @@ use Rattle.omf_check.specs.Tables.{segments}
 use Rattle.omf_reloc.specs.Image.{image, laid, start}
 use Rattle.omf_placement.specs.Placement.{Places}
 use Rattle.omf_reloc.specs.Plain.{pieces}
-use Rattle.omf_cmd.specs.Printed.{hex}
+use Rattle.omf_placement.specs.Quoted.{hex}
 
 -- A segment and an offset in it: four hexadecimal digits, a colon, and eight.
 abbrev pub place_text : ℕ → ℕ → List ℕ

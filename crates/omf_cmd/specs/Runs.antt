@@ -46,17 +46,6 @@ Prints old new (Err e) text = Keeps old new
 abbrev pub IsWritten : Device → Device → List ℕ → Type 0
 IsWritten old new text = (IsUnbroken old new × Appends old.bytes new.bytes text) ⊎ (HasGivenUp old new × IsPart old.bytes new.bytes text)
 
--- a front of the text was written, and the rest of it is left
-pub record IsWrittenUpTo (old new : Option (List ℕ)) (text left : List ℕ) : Type 0 where
-  pub front : List ℕ
-  pub whole : text ≡ front ++ left
-  pub written : Appends old new front
-
--- what the writer got of a text that is printed in pieces: all but what is still kept of it, or at a fault a part of it from the front
-abbrev pub Passes : Option (List ℕ) → Option (List ℕ) → Result (Unit {0}) RunFault → List ℕ → List ℕ → Type 0
-Passes old new (Ok done) text kept = IsWrittenUpTo old new text kept
-Passes old new (Err e) text kept = IsPart old new text
-
 -- what the writer got of a text that was printed in pieces: the whole text, a part of it from the front where the writer failed or memory
 -- ran out, and nothing at any other fault
 abbrev pub PrintsInPieces : Option (List ℕ) → Option (List ℕ) → Result (Unit {0}) RunFault → List ℕ → Type 0

@@ -6,6 +6,7 @@ use Rattle.omf_cmd.specs.declared.fault.RunFault.{RunFault}
 use Rattle.omf_cmd.specs.declared.fault.RunFault.TheVariants as fault
 use Rattle.omf_cmd.specs.declared.words.Job.{Job}
 use Rattle.omf_cmd.specs.declared.words.Job.TheVariants as job
+use Rattle.clap.specs.Words.{Text}
 
 -- The subcommands, and the flag that may follow one.
 abbrev pub subcommands : List (List ℕ × Job)
@@ -36,3 +37,8 @@ status_of _ = 1
 -- What is printed where the words are not understood.
 abbrev pub usage : List ℕ
 usage = codes "usage: omf list|check|reloc|canon [--refuse-vendor-comments]" ++ 10 ∷ []
+
+-- the value of the flag, as text
+abbrev pub flag_text : Bool → Text
+flag_text true = codes "true"
+flag_text false = codes "false"

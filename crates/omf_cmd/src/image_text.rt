@@ -1,11 +1,12 @@
 //! The text of an image and a start: lines of up to 16 bytes for each run of covered bytes.
 
 ghost use Rattle.std.specs.Prelude.{◌≡◌, ◌+◌, ◌^◌, ◌≤◌, ◌++◌, flat_map, length, option_map, OnOk};
-ghost use Rattle.omf_image.specs.Joined.{runs_of};
+ghost use Rattle.omf_image.specs.Inner.Joined.{runs_of};
 ghost use Rattle.omf_image.specs.Overlay.{byte_at};
 ghost use Rattle.omf_cmd.specs.Relocated.{place_text, run_lines, start_line, image_text};
-ghost use Rattle.omf_cmd.specs.RunLines.{byte_text, line_text, lines_of, segments_text};
-ghost use Rattle.omf_cmd.specs.Runs.{Passes, PrintsInPieces, IsPrintCause};
+ghost use Rattle.omf_cmd.specs.Inner.RunLines.{byte_text, line_text, lines_of, segments_text};
+ghost use Rattle.omf_cmd.specs.Runs.{PrintsInPieces, IsPrintCause};
+ghost use Rattle.omf_cmd.specs.Inner.Printing.{Passes};
 
 use crate::digits::{eight_digits, four_digits, write_bytes};
 use crate::fault::RunFault;

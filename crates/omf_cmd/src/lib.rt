@@ -29,11 +29,11 @@ mod words;
 
 pub use digits::eight_digits;
 pub use fault::RunFault;
-pub use host::words_of;
+pub use host::{ended, words_and_input};
 pub use image_text::{print_bytes, print_image, print_start};
 pub use printed::fault_line;
 pub use program::{fail, main_with};
 pub use relocation::{Listing, run_reloc};
 pub use report::print_list;
 pub use running::{run_canon, run_check, run_list};
-pub use words::{Job, command};
+pub use words::{Job, command, read_words};

@@ -1,7 +1,8 @@
 //! The output.
 
 ghost use Rattle.std.specs.Prelude.{◌≡◌, IfErr};
-ghost use Rattle.omf_cmd.specs.Runs.{Prints, Passes, IsPrintCause};
+ghost use Rattle.omf_cmd.specs.Runs.{Prints, IsPrintCause};
+ghost use Rattle.omf_cmd.specs.Inner.Printing.{Passes};
 ghost use Rattle.omf_cmd.specs.declared.fault.RunFault.TheVariants.{Write};
 
 use crate::fault::RunFault;

@@ -1,7 +1,8 @@
 //! The lines of `list` and `check`.
 
 ghost use Rattle.std.specs.Prelude.{◌≡◌, ◌++◌, ◌∷◌, [], OnOk, string_bytes, codes, decimal, unwrap_or, option_map};
-ghost use Rattle.omf_cmd.specs.Printed.{hex, line, is_plain, escaped, quoted, index_or_dash};
+ghost use Rattle.omf_cmd.specs.Printed.{line, index_or_dash};
+ghost use Rattle.omf_placement.specs.Quoted.{hex, is_plain, escaped, quoted};
 ghost use Rattle.omf_frame.specs.Types.{type_name};
 
 use crate::digits::{eight_digits, two_digits};

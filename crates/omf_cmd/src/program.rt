@@ -2,7 +2,7 @@
 
 ghost use Rattle.std.specs.Prelude.{◌≡◌, ◌⊎◌, ◌≤◌, ◌++◌, ◌∷◌, [], map, string_bytes, IfOk, IfSome, IsTrue, OnOk, Some, None};
 ghost use Rattle.clap.specs.Words.{fault_of, subcommand_of};
-ghost use Rattle.omf_cmd.specs.Parsed.{omf_app};
+ghost use Rattle.omf_cmd.specs.Inner.Parsed.{omf_app};
 ghost use Rattle.omf_check.specs.declared.profile.Profile.{Profile};
 ghost use Rattle.omf_cmd.specs.FaultLine.{fault_line, fault_text, takes_memory};
 ghost use Rattle.omf_cmd.specs.Reports.{IsRun, IsAnswer, IsMisuse, IsOutOfMemory, Tells};

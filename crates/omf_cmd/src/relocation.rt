@@ -2,8 +2,7 @@
 
 ghost use Rattle.std.specs.Prelude.{◌≡◌, ℕ, List, Some};
 ghost use Rattle.omf_image.specs.Limits.{profile_limits};
-ghost use Rattle.omf_check.specs.Module.{records_in};
-ghost use Rattle.omf_check.specs.WellFormed.{recs};
+ghost use Rattle.omf_check.specs.Module.{recs_of};
 ghost use Rattle.omf_cmd.specs.Relocating.{IsAnswered, IsOutcome, IsPlaced, IsRelocation, IsShown};
 ghost use Rattle.omf_cmd.specs.Runs.{IsCausedBy, IsPrintCause, IsReadCause, PrintsInPieces};
 
@@ -27,7 +26,7 @@ pub struct Listing {
 
 impl Model for Listing {
     ghost use Rattle.std.specs.Prelude.{ℕ, List};
-    ghost use Rattle.omf_image.specs.Joined.{runs_of};
+    ghost use Rattle.omf_image.specs.Inner.Joined.{runs_of};
     ghost use Rattle.omf_image.specs.Overlay.{byte_at};
     ghost use Rattle.omf_cmd.specs.Relocated.{image_text};
 
@@ -44,7 +43,7 @@ impl Listing {
     /// The first of: `TooLong` where the text has more than 4,194,304 bytes; `Line` for a line that is no entry, or a group whose frame is
     /// not found; `Reach` where the placement does not reach. `Memory` where a growth was refused.
     pub fn of(alloc: Global, checked: &Checked, text: &[u8]) -> Result<Listing, RunFault>
-        ensures { IsOutcome (recs (records_in checked.now.bytes)) text.now result }
+        ensures { IsOutcome (recs_of checked.now.bytes) text.now result }
     {
         if text.len() > TEXT_LIMIT {
             return Err(RunFault::TooLong);
@@ -59,7 +58,7 @@ impl Listing {
     ///
     /// `Reach` where the placement does not reach, `Memory` where a growth was refused.
     pub fn at(alloc: Global, checked: &Checked, placement: &Placement) -> Result<Listing, RunFault>
-        ensures { IsShown profile_limits (recs (records_in checked.now.bytes)) placement.now result }
+        ensures { IsShown profile_limits (recs_of checked.now.bytes) placement.now result }
     {
         listing_of(alloc, checked, placement)
     }
@@ -115,7 +114,7 @@ fn listed<S: Source>(alloc: Global, profile: Profile, reader: &mut S) -> Result<
 
 /// The placement that a text gives a module.
 fn placed(alloc: Global, checked: &Checked, text: &[u8]) -> Result<Placement, TextFault>
-    ensures { IsPlaced (recs (records_in checked.now.bytes)) text.now result }
+    ensures { IsPlaced (recs_of checked.now.bytes) text.now result }
 {
     let draft = parse_placement(alloc, text)?;
     draft.resolve(alloc, checked)
@@ -123,7 +122,7 @@ fn placed(alloc: Global, checked: &Checked, text: &[u8]) -> Result<Placement, Te
 
 /// What is to be printed of a module at a placement. Where it does not reach, that is the answer, whatever memory there is.
 fn listing_of(alloc: Global, checked: &Checked, placement: &Placement) -> Result<Listing, RunFault>
-    ensures { IsShown profile_limits (recs (records_in checked.now.bytes)) placement.now result }
+    ensures { IsShown profile_limits (recs_of checked.now.bytes) placement.now result }
 {
     let image = reach_and_relocate(alloc, checked, placement)?;
     let start = start(checked, placement);

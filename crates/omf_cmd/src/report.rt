@@ -3,15 +3,16 @@
 ghost use Rattle.std.specs.Prelude.{◌≡◌, ◌++◌, ◌∷◌, [], OnOk, IfOk, string_bytes, codes, decimal, flat_map, length};
 ghost use Rattle.omf_frame.specs.Bytes.{with_before};
 ghost use Rattle.omf_frame.specs.Framing.{Raw};
-ghost use Rattle.omf_records.specs.Seen.{contents_seen};
+ghost use Rattle.omf_records.specs.Inner.Seen.{contents_seen};
 ghost use Rattle.omf_records.specs.Values.{Group, GroupItem};
-ghost use Rattle.omf_check.specs.Module.{records_in};
+ghost use Rattle.omf_check.specs.Module.{recs_of, records_in};
 ghost use Rattle.omf_check.specs.Tables.{names};
-ghost use Rattle.omf_check.specs.WellFormed.{recs};
 ghost use Rattle.omf_cmd.specs.Listing.{record_line, segment_lines, group_lines, external_lines, public_lines, list_text, check_text};
-ghost use Rattle.omf_cmd.specs.Printed.{hex, line, quoted, named, index_or_dash};
-ghost use Rattle.omf_cmd.specs.Runs.{Passes, PrintsInPieces, IsPrintCause};
-ghost use Rattle.omf_cmd.specs.Standing.{StandsAt, HasRecord};
+ghost use Rattle.omf_cmd.specs.Printed.{line, index_or_dash};
+ghost use Rattle.omf_placement.specs.Quoted.{hex, quoted, named};
+ghost use Rattle.omf_cmd.specs.Runs.{PrintsInPieces, IsPrintCause};
+ghost use Rattle.omf_cmd.specs.Inner.Printing.{Passes};
+ghost use Rattle.omf_cmd.specs.Inner.Standing.{StandsAt, HasRecord};
 
 use crate::fault::RunFault;
 use crate::output::{write_all, write_piece};
@@ -59,7 +60,7 @@ fn print_segments<K: Sink>(
     text: &mut Vec<u8>,
     checked: &Checked,
 ) -> Result<(), RunFault>
-    ensures passes { Passes (K.seen writer.old).bytes (K.seen writer.new).bytes result (text.old.items ++ segment_lines (recs (records_in checked.now.bytes))) (text.new.items) }
+    ensures passes { Passes (K.seen writer.old).bytes (K.seen writer.new).bytes result (text.old.items ++ segment_lines (recs_of checked.now.bytes)) (text.new.items) }
     ensures cause { IsPrintCause (K.seen writer.old) (K.seen writer.new) result }
 {
     for before in 0..checked.segments() {
@@ -81,7 +82,7 @@ fn print_group_of(
     group: &Rec<'_>,
 ) -> Result<(), AllocError>
     requires { (g : GroupItem) × (contents_seen group.now ≡ Group g) }
-    ensures { (g : GroupItem) → contents_seen group.now ≡ Group g → OnOk result (text.new.items ≡ text.old.items ++ line (codes "G" ∷ decimal index ∷ named (names (recs (records_in checked.now.bytes))) g.name.item ∷ [])) }
+    ensures { (g : GroupItem) → contents_seen group.now ≡ Group g → OnOk result (text.new.items ≡ text.old.items ++ line (codes "G" ∷ decimal index ∷ named (names (recs_of checked.now.bytes)) g.name.item ∷ [])) }
 {
     match group {
         Rec::Group { name, .. } => print_group(text, index, checked.name(name.item.0)),
@@ -95,7 +96,7 @@ fn print_groups<K: Sink>(
     text: &mut Vec<u8>,
     checked: &Checked,
 ) -> Result<(), RunFault>
-    ensures passes { Passes (K.seen writer.old).bytes (K.seen writer.new).bytes result (text.old.items ++ group_lines (recs (records_in checked.now.bytes))) (text.new.items) }
+    ensures passes { Passes (K.seen writer.old).bytes (K.seen writer.new).bytes result (text.old.items ++ group_lines (recs_of checked.now.bytes)) (text.new.items) }
     ensures cause { IsPrintCause (K.seen writer.old) (K.seen writer.new) result }
 {
     for before in 0..checked.groups() {
@@ -115,7 +116,7 @@ fn print_externals<K: Sink>(
     text: &mut Vec<u8>,
     checked: &Checked,
 ) -> Result<(), RunFault>
-    ensures passes { Passes (K.seen writer.old).bytes (K.seen writer.new).bytes result (text.old.items ++ external_lines (recs (records_in checked.now.bytes))) (text.new.items) }
+    ensures passes { Passes (K.seen writer.old).bytes (K.seen writer.new).bytes result (text.old.items ++ external_lines (recs_of checked.now.bytes)) (text.new.items) }
     ensures cause { IsPrintCause (K.seen writer.old) (K.seen writer.new) result }
 {
     for before in 0..checked.externals() {
@@ -192,7 +193,7 @@ fn print_publics<K: Sink>(
     text: &mut Vec<u8>,
     checked: &Checked,
 ) -> Result<(), RunFault>
-    ensures passes { Passes (K.seen writer.old).bytes (K.seen writer.new).bytes result (text.old.items ++ flat_map (λ r. public_lines r.contents) (recs (records_in checked.now.bytes))) (text.new.items) }
+    ensures passes { Passes (K.seen writer.old).bytes (K.seen writer.new).bytes result (text.old.items ++ flat_map (λ r. public_lines r.contents) (recs_of checked.now.bytes)) (text.new.items) }
     ensures cause { IsPrintCause (K.seen writer.old) (K.seen writer.new) result }
 {
     for (_place, rec) in checked.records() {

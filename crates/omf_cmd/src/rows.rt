@@ -12,7 +12,7 @@ ghost use Rattle.omf_reloc.specs.Rows.{at, frame, places, only, low};
 ghost use Rattle.omf_cmd.specs.declared.fault.RunFault.TheVariants as fault;
 ghost use Rattle.omf_cmd.specs.FaultLine.{fault_line};
 ghost use Rattle.omf_cmd.specs.Listing.{list_text, check_text};
-ghost use Rattle.omf_cmd.specs.Printed.{quoted};
+ghost use Rattle.omf_placement.specs.Quoted.{quoted};
 ghost use Rattle.omf_cmd.specs.Relocated.{image_text, reloc_text};
 ghost use Rattle.omf_cmd.specs.Rows.{lines, relocating, prints, not_reached, low_line};
 

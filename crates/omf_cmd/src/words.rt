@@ -1,9 +1,9 @@
 //! The words that the program is called with.
 
-ghost use Rattle.std.specs.Prelude.{◌≡◌, ◌⊎◌, ℕ, List, [], map, string_bytes, IfOk, Bool, false, Some, None};
+ghost use Rattle.std.specs.Prelude.{◌≡◌, ◌⊎◌, ℕ, List, [], map, string_bytes, IfOk, Bool, true, false, Some, None};
 ghost use Rattle.omf_cmd.specs.Words.{asks, job_named, profile_of};
-ghost use Rattle.clap.specs.Words.{app_of, fault_of, rule_of, subcommand_of, subcommand_rows_of};
-ghost use Rattle.omf_cmd.specs.Parsed.{flag_rule, omf_app, IsParsed};
+ghost use Rattle.clap.specs.Words.{app_of, fault_of, is_simple_and_free, rule_of, subcommand_of, subcommand_rows_of};
+ghost use Rattle.omf_cmd.specs.Inner.Parsed.{flag_rule, omf_app, IsParse, IsParsed};
 
 use clap::error::ErrorKind;
 use clap::{Arg, ArgAction, ArgMatches, Command};
@@ -35,8 +35,23 @@ pub fn command(alloc: Global, words: &[String]) -> Result<Option<(Job, Profile)>
     ensures refused { IfOk result (λ found. (found ≡ None) ⊎ (fault_of omf_app (map string_bytes words.now) ≡ [])) }
 {
     let omf = program(alloc)?;
-    match omf.try_get_matches_from(words) {
-        Ok(matches) => Ok(named_by(&matches)),
+    let found = read_words(omf, words)?;
+    match found {
+        Some(matches) => Ok(named_by(&matches)),
+        None => Ok(None),
+    }
+}
+
+/// What a command makes of words. None where it does not understand them.
+pub fn read_words<'a>(
+    command: Command<'a>,
+    words: &'a [String],
+) -> Result<Option<ArgMatches<'a>>, AllocError>
+    // Where no argument has a rule on another, this is what clap's definition makes of the words, and none exactly where that finds a fault.
+    ensures { is_simple_and_free (app_of command.entry) ≡ true → IfOk result (IsParse (app_of command.entry) (map string_bytes words.now)) }
+{
+    match command.try_get_matches_from(words) {
+        Ok(matches) => Ok(Some(matches)),
         Err(error) if error.kind() == ErrorKind::OutOfMemory => Err(AllocError),
         Err(_) => Ok(None),
     }

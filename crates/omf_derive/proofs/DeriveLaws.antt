@@ -8,7 +8,8 @@ use Rattle.std.proofs.lemmas.List.FromFn.{length-enumerate_from}
 use Rattle.omf_check.specs.Tables.{externals}
 use Rattle.omf_derive.specs.declared.fault.DeriveFault.{DeriveFault}
 use Rattle.omf_derive.specs.declared.given.Given.{Given}
-use Rattle.omf_derive.specs.Derive.{PlacedModule, seen_publics, named_externals, external_place, external_places, ok_of, err_of, derive_faults, with_externals, unless_fault, derived}
+use Rattle.omf_derive.specs.Derive.{PlacedModule, seen_publics, named_externals}
+use Rattle.omf_derive.specs.Inner.Derived.{external_place, external_places, ok_of, err_of, derive_faults, with_externals, unless_fault, derived}
 use Rattle.omf_derive.specs.Derivation.{KeepsPlace}
 use Rattle.omf_placement.specs.declared.frame.Placed.{Placed}
 use Rattle.omf_placement.specs.Placement.{Places}

@@ -6,7 +6,8 @@ use Rattle.std.proofs.lemmas.List.Elements.{All-nil, All-cons, All-head, All-tai
 use Rattle.omf_derive.specs.declared.fault.DeriveFault.{DeriveFault}
 use Rattle.omf_derive.specs.declared.given.Given.{Given}
 use Rattle.omf_derive.specs.Derivation.{External, Takes, Fails, numbered, IsPlacement, AreDerived, AllTake, IsFirstIn, IsFirstAmong, IsFirstFault, DerivedIsTaken}
-use Rattle.omf_derive.specs.Derive.{PlacedModule, PlacedPublic, seen_publics, external_place, external_places, ok_of, err_of, with_externals, unless_fault, derived}
+use Rattle.omf_derive.specs.Derive.{PlacedModule, PlacedPublic, seen_publics}
+use Rattle.omf_derive.specs.Inner.Derived.{external_place, external_places, ok_of, err_of, with_externals, unless_fault, derived}
 use Rattle.omf_placement.specs.declared.frame.Placed.{Placed}
 use Rattle.omf_placement.specs.Placement.{Places}
 use Rattle.omf_derive.proofs.TakenLaws.{take-to, fail-to, taken-cases}

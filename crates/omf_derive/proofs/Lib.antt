@@ -3,6 +3,7 @@ pub mod BaseLaws
 pub mod DeriveLaws
 pub mod TakenLaws
 pub mod DerivedLaws
+pub mod Filling
 pub mod TableLaws
 pub mod PairTableLaws
 pub mod LinkageLaws

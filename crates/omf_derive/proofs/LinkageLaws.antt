@@ -10,8 +10,9 @@ use Rattle.omf_records.specs.Values.{Rec}
 use Rattle.omf_derive.specs.declared.fault.DeriveFault.{DeriveFault}
 use Rattle.omf_derive.specs.declared.fault.DeriveFault.TheVariants as fault
 use Rattle.omf_derive.specs.declared.given.Given.{Given}
-use Rattle.omf_derive.specs.Derive.{PlacedModule, PlacedPublic, seen_publics, named_externals, external_place, external_places, ok_of, err_of, with_externals, unless_fault, derived}
-use Rattle.omf_derive.specs.Deriving.{IsDerived, IsFound, IsFirstErr}
+use Rattle.omf_derive.specs.Derive.{PlacedModule, PlacedPublic, seen_publics, named_externals}
+use Rattle.omf_derive.specs.Inner.Derived.{external_place, external_places, ok_of, err_of, with_externals, unless_fault, derived}
+use Rattle.omf_derive.specs.Inner.Deriving.{IsDerived, IsFound, IsFirstErr}
 use Rattle.omf_placement.specs.declared.frame.Placed.{Placed}
 use Rattle.omf_placement.specs.Placement.{Places}
 use Rattle.omf_derive.proofs.NamedLaws.{entry-suc, named-count}

@@ -1,5 +1,5 @@
 -- A table of publics grows public by public.
-use Rattle.std.proofs.Common.{◌≡◌, ℕ, zero, suc, ◌+◌, ◌<◌, ◌≤◌, List, [], ◌∷◌, ◌++◌, length, drop, get_or, refl, sym, ap, ap₂, ◌∙◌, subst, inl, inr, append-nil, append_assoc, arith, Bor, nat_cmp}
+use Rattle.std.proofs.Common.{◌≡◌, ℕ, zero, suc, ◌+◌, ◌<◌, ◌≤◌, List, [], ◌∷◌, ◌++◌, length, drop, get_or, refl, sym, ap, ap₂, ◌∙◌, subst, inl, inr, append-nil, arith, Bor, nat_cmp}
 use Rattle.std.specs.Prelude.{◌≢◌, flat_map, filter_map, Option, Some, None, bytes_eq, cond, Bool}
 use Rattle.std.proofs.Math.Seq.{drop-nil}
 use Rattle.std.specs.BTreeMap.{BTreeMap, get_by, is_at, UpdatesBy}
@@ -13,17 +13,18 @@ use Rattle.std.proofs.lemmas.Map.Text.{btree_map_updates_str}
 use Rattle.std.proofs.lemmas.Slice.Eq.{bytes_eq-Decides}
 use Rattle.omf_frame.specs.Framing.{Raw, raw_bytes}
 use Rattle.omf_frame.specs.declared.fault.Place.{Place}
-use Rattle.omf_records.specs.Reading.{typed}
+use Rattle.omf_records.specs.Inner.Reading.{typed}
 use Rattle.omf_records.specs.Values.{Rec}
 use Rattle.omf_check.specs.Listed.{placed_from}
 use Rattle.omf_check.specs.Module.{Module, records_in}
 use Rattle.omf_check.specs.WellFormed.{recs}
 use Rattle.omf_placement.specs.declared.frame.Frame.{Frame}
 use Rattle.omf_derive.specs.declared.publics.Found.{Found}
-use Rattle.omf_derive.specs.Derive.{PlacedPublic, public_at, record_publics, publics, of_name}
+use Rattle.omf_derive.specs.Derive.{PlacedPublic, public_at, record_publics, publics}
+use Rattle.omf_derive.specs.Inner.Derived.{of_name}
 use Rattle.omf_placement.specs.declared.frame.Placed.{Placed}
 use Rattle.omf_placement.specs.Placement.{Places}
-use Rattle.omf_derive.specs.PublicTable.{summed, found_after, IsTable, HasMore, placed_modules}
+use Rattle.omf_derive.specs.Inner.PublicTable.{summed, found_after, IsTable, HasMore, placed_modules}
 
 summed-more : (ps : List Placed) (p : Placed) → summed (ps ++ p ∷ []) ≡ Some (found_after p (summed ps))
 summed-more [] p = refl
@@ -62,27 +63,8 @@ module _ (m n : Map) (p : PlacedPublic) (f : Found) (e : f ≡ found_after p.pla
           ∙ ap summed (sym (filter_map-append (of_name name) among (p ∷ [])))
     ]
 
--- Of the publics `all`, some are in the table n and not in m, and these are still to come.
-pub record IsFilled (m n : Map) (rest all : List PlacedPublic) : Type 0 where
-  pub done : List PlacedPublic
-  pub more : HasMore m n done
-  pub whole : done ++ rest ≡ all
-
-pub fill-start : (m : Map) (rest all : List PlacedPublic) → rest ≡ all → IsFilled m m rest all
-fill-start m rest all e = record { done = []; more = λ among h. subst (IsTable m) (sym (append-nil among)) h; whole = e }
-
-pub fill-more : (m n o : Map) (xs next rest all : List PlacedPublic) → next ≡ xs ++ rest → HasMore n o xs → IsFilled m n next all → IsFilled m o rest all
-fill-more m n o xs next rest all e g f = record {
-  done = f.done ++ xs;
-  more = λ among h. subst (IsTable o) (append_assoc among f.done xs) (g (among ++ f.done) (f.more among h));
-  whole = append_assoc f.done xs rest ∙ ap (λ ys. f.done ++ ys) (sym e) ∙ f.whole;
-}
-
 pub same-public : (m n : Map) (name other : List ℕ) (address place : ℕ) (frame : Frame) → name ≡ other → address ≡ place → HasMore m n (public_at name address frame ∷ []) → HasMore m n (public_at other place frame ∷ [])
 same-public m n name other address place frame a b h = subst (λ p. HasMore m n (p ∷ [])) (ap₂ (λ x y. public_at x y frame) a b) h
-
-pub fill-end : (m n : Map) (rest all : List PlacedPublic) → rest ≡ [] → IsFilled m n rest all → HasMore m n all
-fill-end m n rest all e f = subst (HasMore m n) (sym (append-nil f.done) ∙ ap (λ ys. f.done ++ ys) (sym e) ∙ f.whole) f.more
 
 -- An empty map is the table of no publics.
 pub fill-empty : (m n : Map) (all : List PlacedPublic) → m.entries ≡ [] → HasMore m n all → IsTable n all

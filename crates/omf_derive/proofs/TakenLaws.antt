@@ -13,7 +13,8 @@ use Rattle.omf_derive.specs.declared.fault.DeriveFault.{DeriveFault}
 use Rattle.omf_derive.specs.declared.fault.DeriveFault.TheVariants as fault
 use Rattle.omf_derive.specs.declared.given.Given.{Given}
 use Rattle.omf_derive.specs.Derivation.{IsFor, IsNotGiven, IsFirstGiven, IsUnnamed, IsOnly, AreSeveral, Takes, Fails}
-use Rattle.omf_derive.specs.Derive.{PlacedPublic, place_in, given_place, of_name, one_public, given_or, external_place}
+use Rattle.omf_derive.specs.Derive.{PlacedPublic, place_in}
+use Rattle.omf_derive.specs.Inner.Derived.{given_place, of_name, one_public, given_or, external_place}
 use Rattle.omf_placement.specs.declared.frame.Placed.{Placed}
 
 -- The entries for an external.

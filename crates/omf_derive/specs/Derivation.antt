@@ -1,4 +1,4 @@
--- Which place each external takes, and which external is the first at fault, in words. A law ties this to what is computed (Derive).
+-- Which place each external takes, and which external is the first at fault, in words. A law ties this to what is computed (Inner/Derived).
 use Rattle.std.specs.Prelude.{◌≡◌, ◌≢◌, ◌⊎◌, ◌↔◌, ℕ, ◌<◌, ◌≤◌, ◌^◌, All, List, ◌∷◌, ◌++◌, length, Bool, Some, Ok, Err}
 use Rattle.std.specs.List.{AllZip, enumerate_from}
 use Rattle.omf_records.specs.Values.{Rec, Publics, PublicItems}
@@ -8,7 +8,9 @@ use Rattle.omf_check.specs.Tables.{segments, groups, externals, entry}
 use Rattle.omf_derive.specs.declared.fault.DeriveFault.{DeriveFault}
 use Rattle.omf_derive.specs.declared.fault.DeriveFault.TheVariants as fault
 use Rattle.omf_derive.specs.declared.given.Given.{Given}
-use Rattle.omf_derive.specs.Derive.{PlacedModule, PlacedPublic, paragraph, base_of, seen_publics, named_externals, place_in, derived}
+use Rattle.omf_derive.specs.Derive.{PlacedModule, PlacedPublic, paragraph, base_of, seen_publics, named_externals, place_in}
+-- computed: derived_is_taken of omf_derive.
+use Rattle.omf_derive.specs.Inner.Derived.{derived}
 use Rattle.omf_placement.specs.declared.frame.Frame.{Frame}
 use Rattle.omf_placement.specs.declared.frame.Placed.{Placed}
 use Rattle.omf_placement.specs.Placement.{Places}

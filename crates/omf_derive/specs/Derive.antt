@@ -1,11 +1,8 @@
--- Placements of several modules, in which each external has the place of the public of its name (this profile's rule; TIS OMF 1.1, "PUBDEF").
-use Rattle.std.specs.Prelude.{ℕ, ◌+◌, ◌*◌, ◌^◌, List, [], ◌∷◌, map, flat_map, filter_map, find, zip, Bool, true, false, Option, Some, None, unwrap_or, option_map, Result, Ok, Err, bytes_eq, ◌==◌, ◌&&◌, nat_lt, if◌then◌else◌}
-use Rattle.std.specs.List.{enumerate_from}
+-- The publics of modules that are placed, and among which of them an external looks for its name (this profile's rule; TIS OMF 1.1, "PUBDEF").
+use Rattle.std.specs.Prelude.{ℕ, ◌+◌, ◌*◌, List, [], map, flat_map, zip, Bool, true, false, Option, unwrap_or, ◌==◌, if◌then◌else◌}
 use Rattle.omf_records.specs.Values.{At, Rec, Contents, Publics, PublicItem}
 use Rattle.omf_frame.specs.Types.{is_local}
 use Rattle.omf_check.specs.Tables.{externals, locals}
-use Rattle.omf_derive.specs.declared.fault.DeriveFault.{DeriveFault}
-use Rattle.omf_derive.specs.declared.fault.DeriveFault.TheVariants as fault
 use Rattle.omf_placement.specs.declared.frame.Frame.{Frame}
 use Rattle.omf_derive.specs.declared.given.Given.{Given}
 use Rattle.omf_placement.specs.declared.frame.Placed.{Placed}
@@ -71,52 +68,3 @@ named_externals m = zip (externals m) (locals m)
 -- The first given entry of an external. It counts whatever publics there are.
 abbrev pub place_in : Given → Placed
 place_in g = record { address = g.address; frame = g.frame }
-
-abbrev pub given_place : List Given → ℕ → ℕ → Option Placed
-given_place given j i = option_map place_in (find (λ g. (g.module == j) && (g.external == i)) given)
-
--- The places of the publics of a name.
-abbrev pub of_name : List ℕ → PlacedPublic → Option Placed
-of_name name p = if bytes_eq name p.name then Some p.place else None
-
--- There is one, and its address is below 2^32; else the fault of external i of module j.
-abbrev pub one_public : ℕ → ℕ → List Placed → Result Placed DeriveFault
-one_public j i [] = Err (fault.Undefined j i)
-one_public j i (p ∷ []) = if nat_lt p.address (2 ^ 32) then Ok p else Err (fault.TooHigh j i)
-one_public j i (p ∷ q ∷ ps) = Err (fault.Twice j i)
-
-abbrev pub given_or : Option Placed → Result Placed DeriveFault → Result Placed DeriveFault
-given_or (Some p) r = Ok p
-given_or None r = r
-
--- The place of external i of module j, which has this name.
-abbrev pub external_place : List PlacedPublic → List Given → ℕ → ℕ → List ℕ → Result Placed DeriveFault
-external_place among given j i name = given_or (given_place given j i) (one_public j i (filter_map (of_name name) among))
-
--- The place or the fault of each external of module j, in order.
-abbrev pub external_places : (Bool → List PlacedPublic) → List Given → ℕ → List Rec → List (Result Placed DeriveFault)
-external_places among given j m = map (λ e. external_place (among e.1.1) given j e.0 e.1.0) (enumerate_from 1 (named_externals m))
-
-abbrev pub ok_of : Result Placed DeriveFault → Option Placed
-ok_of (Ok p) = Some p
-ok_of (Err e) = None
-
-abbrev pub err_of : Result Placed DeriveFault → Option DeriveFault
-err_of (Ok p) = None
-err_of (Err e) = Some e
-
--- Every fault, by module and then by external.
-abbrev pub derive_faults : List PlacedModule → List Given → List DeriveFault
-derive_faults ms given = flat_map (λ m. filter_map err_of (external_places (seen_publics ms m.1) given m.0 m.1.0)) (enumerate_from 0 ms)
-
--- The placement of a module: the segments and groups of its place, and its externals.
-abbrev pub with_externals : List PlacedModule → List Given → ℕ × PlacedModule → Places
-with_externals ms given m = record m.1.1 { externals = filter_map ok_of (external_places (seen_publics ms m.1) given m.0 m.1.0) }
-
--- The placements where there is no fault, else the first.
-abbrev pub unless_fault : {A : Type 0} → List DeriveFault → A → Result A DeriveFault
-unless_fault [] a = Ok a
-unless_fault (e ∷ es) a = Err e
-
-abbrev pub derived : List PlacedModule → List Given → Result (List Places) DeriveFault
-derived ms given = unless_fault (derive_faults ms given) (map (with_externals ms given) (enumerate_from 0 ms))

@@ -1,5 +1,3 @@
 pub mod Derive
 pub mod Derivation
-pub mod PublicTable
-pub mod Deriving
-pub mod GivenTable
+pub mod Inner

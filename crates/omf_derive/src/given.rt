@@ -1,8 +1,8 @@
 //! Externals that are placed by hand.
 
 ghost use Rattle.std.specs.Prelude.{◌≡◌, IfOk, List};
-ghost use Rattle.omf_derive.specs.Derive.{given_place};
-ghost use Rattle.omf_derive.specs.GivenTable.{IsGivenTable};
+ghost use Rattle.omf_derive.specs.Inner.Derived.{given_place};
+ghost use Rattle.omf_derive.specs.Inner.GivenTable.{IsGivenTable};
 
 use omf_placement::{Frame, Placed};
 use std::alloc::{AllocError, Global};

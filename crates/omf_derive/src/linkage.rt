@@ -1,14 +1,14 @@
 //! Placements of several modules, in which each external has the place of the public of its name.
 
 ghost use Rattle.std.specs.Prelude.{◌≡◌, ◌<◌, ◌^◌, length, List, Bool, true, false};
-ghost use Rattle.omf_records.specs.Seen.{map_ok};
-ghost use Rattle.omf_check.specs.Module.{records_in};
-ghost use Rattle.omf_check.specs.WellFormed.{recs};
+ghost use Rattle.omf_records.specs.Inner.Seen.{map_ok};
+ghost use Rattle.omf_check.specs.Module.{recs_of};
 ghost use Rattle.omf_derive.specs.declared.given.Given.{Given as Entry};
-ghost use Rattle.omf_derive.specs.Derive.{PlacedPublic, external_place, external_places, derived};
-ghost use Rattle.omf_derive.specs.GivenTable.{IsGivenTable};
-ghost use Rattle.omf_derive.specs.Deriving.{IsDerived, IsFound};
-ghost use Rattle.omf_derive.specs.PublicTable.{IsTable, placed_modules};
+ghost use Rattle.omf_derive.specs.Derive.{PlacedPublic};
+ghost use Rattle.omf_derive.specs.Inner.Derived.{external_place, external_places, derived};
+ghost use Rattle.omf_derive.specs.Inner.GivenTable.{IsGivenTable};
+ghost use Rattle.omf_derive.specs.Inner.Deriving.{IsDerived, IsFound};
+ghost use Rattle.omf_derive.specs.Inner.PublicTable.{IsTable, placed_modules};
 
 use crate::fault::DeriveFault;
 use crate::given::{Given, GivenTable};
@@ -62,7 +62,7 @@ fn external_places<'a>(
     module: &'a Checked,
     number: u32,
 ) -> Result<Vec<Placed>, DeriveFault>
-    ensures { (among : Bool → List PlacedPublic) (entries : List Entry) → IsTable all.now.by_name (among false) → IsTable own.now.by_name (among true) → IsGivenTable given.now.by_external entries → IsFound (external_places among entries number (recs (records_in «module».entry.now.bytes))) (map_ok (λ v. v.items) result) }
+    ensures { (among : Bool → List PlacedPublic) (entries : List Entry) → IsTable all.now.by_name (among false) → IsTable own.now.by_name (among true) → IsGivenTable given.now.by_external entries → IsFound (external_places among entries number (recs_of «module».entry.now.bytes)) (map_ok (λ v. v.items) result) }
 {
     let mut places = Vec::new(alloc);
     for i in 1..module.externals() + 1 {

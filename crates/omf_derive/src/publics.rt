@@ -1,17 +1,18 @@
 //! The publics of several modules, by name.
 
 ghost use Rattle.std.specs.Prelude.{◌≡◌, ◌+◌, [], ◌∷◌, length, OnOk, IfOk, List, filter_map, true, false};
-ghost use Rattle.omf_check.specs.Module.{records_in};
-ghost use Rattle.omf_check.specs.WellFormed.{recs};
+ghost use Rattle.omf_check.specs.Module.{recs_of};
 ghost use Rattle.omf_frame.specs.Types.{is_local};
-ghost use Rattle.omf_records.specs.Seen.{contents_seen, kind_seen};
+ghost use Rattle.omf_records.specs.Inner.Seen.{contents_seen, kind_seen};
 ghost use Rattle.omf_records.specs.Values.{Contents};
 ghost use Rattle.omf_placement.specs.Placement.{Places};
-ghost use Rattle.omf_derive.specs.Derive.{PlacedPublic, paragraph, base_of, public_at, publics_at, of_name, one_public, placed_publics, record_publics, publics, all_publics};
-ghost use Rattle.omf_derive.specs.PublicTable.{IsTable, HasMore, found_after, placed_modules};
+ghost use Rattle.omf_derive.specs.Derive.{PlacedPublic, paragraph, base_of, public_at, publics_at, placed_publics, record_publics, publics, all_publics};
+ghost use Rattle.omf_derive.specs.Inner.Derived.{of_name, one_public};
+ghost use Rattle.omf_derive.specs.Inner.PublicTable.{IsTable, HasMore, found_after, placed_modules};
 
 use crate::fault::DeriveFault;
 use omf_check::Checked;
+use omf_frame::Index;
 use omf_placement::{Frame, Placed, Placement};
 use omf_records::{Items, Public, Rec};
 use std::alloc::{AllocError, Global};
@@ -59,21 +60,21 @@ fn paragraph(number: u16) -> Placed
 }
 
 /// Where the base of a PUBDEF lies that names a group and a segment by their indices, and where that is 0 a frame by its number.
-fn base_of(placement: &Placement, group: usize, segment: usize, number: Option<u16>) -> Placed
+fn base_of(placement: &Placement, group: Index, segment: Index, number: Option<u16>) -> Placed
     ensures { result ≡ base_of placement.now group segment number }
 {
-    let base = if segment == 0 {
+    let base = if segment.0 == 0 {
         paragraph(number.unwrap_or(0))
     } else {
-        match placement.segment(segment) {
+        match placement.segment(usize::from(segment.0)) {
             Some((address, frame)) => Placed { address, frame },
             None => NO_PLACE,
         }
     };
-    let frame = if group == 0 {
+    let frame = if group.0 == 0 {
         base.frame
     } else {
-        placement.group(group).unwrap_or(NO_FRAME)
+        placement.group(usize::from(group.0)).unwrap_or(NO_FRAME)
     };
     Placed {
         address: base.address,
@@ -155,22 +156,20 @@ impl<'a> PublicTable<'a> {
                 frame,
                 publics,
                 ..
-            } => {
-                let group = usize::from(group.item.0);
-                let segment = usize::from(segment.item.0);
-                self.add_items(publics.iter(), base_of(placement, group, segment, *frame))
-            }
+            } => self.add_items(
+                publics.iter(),
+                base_of(placement, group.item, segment.item, *frame),
+            ),
             Rec::LocalPublics {
                 group,
                 segment,
                 frame,
                 publics,
                 ..
-            } => {
-                let group = usize::from(group.item.0);
-                let segment = usize::from(segment.item.0);
-                self.add_items(publics.iter(), base_of(placement, group, segment, *frame))
-            }
+            } => self.add_items(
+                publics.iter(),
+                base_of(placement, group.item, segment.item, *frame),
+            ),
             _ => Ok(()),
         }
     }
@@ -198,7 +197,7 @@ impl<'a> PublicTable<'a> {
         module: &'a Checked,
         placement: &Placement,
     ) -> Result<(), AllocError>
-        ensures { OnOk result (HasMore self.old.by_name self.new.by_name (publics local (recs (records_in «module».entry.now.bytes), placement.now))) }
+        ensures { OnOk result (HasMore self.old.by_name self.new.by_name (publics local (recs_of «module».entry.now.bytes, placement.now))) }
     {
         for (_, rec) in module.records() {
             self.add_asked(local, &rec, placement)?;
@@ -212,7 +211,7 @@ impl<'a> PublicTable<'a> {
         module: &'a Checked,
         placement: &Placement,
     ) -> Result<PublicTable<'a>, AllocError>
-        ensures { IfOk result (λ t. IsTable t.by_name (publics true (recs (records_in «module».entry.now.bytes), placement.now))) }
+        ensures { IfOk result (λ t. IsTable t.by_name (publics true (recs_of «module».entry.now.bytes, placement.now))) }
     {
         let mut table = PublicTable {
             by_name: BTreeMap::new(alloc),

@@ -13,13 +13,13 @@ use Rattle.omf_derive.specs.Derive.{named_externals}
 use Rattle.omf_placement.specs.declared.frame.Frame.{Frame}
 use Rattle.omf_placement.specs.declared.frame.Placed.{Placed}
 use Rattle.omf_placement.specs.Entries.{Entry, Blank, SegmentEntry, GroupEntry, said, in_words}
-use Rattle.omf_placement.specs.EntryReading.{entry_said, entry_of_words, words_of}
+use Rattle.omf_placement.specs.Inner.EntryReading.{entry_said, entry_of_words, words_of}
 use Rattle.omf_placement.specs.Placement.{Places}
 use Rattle.omf_layout.specs.declared.alignment.Alignment.{Alignment}
 use Rattle.omf_layout.specs.declared.options.Frames.{Frames}
 use Rattle.omf_layout.specs.declared.options.Frames.TheVariants.{Flat}
 use Rattle.omf_layout.specs.Draft.{segment_line, room_text}
-use Rattle.omf_layout.specs.Quoted.{number, quoted}
+use Rattle.omf_placement.specs.Quoted.{number, quoted}
 use Rattle.omf_layout.specs.Reading.{IsShortFrame, IsShortPlace, AreShort}
 use Rattle.omf_layout.specs.Wants.{alignments, rooms}
 use Rattle.omf_layout.proofs.DigitLaws.{marks-number}

@@ -1,5 +1,5 @@
 -- A table of names grows name by name.
-use Rattle.std.proofs.Common.{◌≡◌, ℕ, zero, suc, ◌+◌, ◌<◌, ◌≤◌, Bool, true, false, List, [], ◌∷◌, ◌++◌, length, drop, get_or, refl, sym, ap, ◌∙◌, subst, inl, inr, append-nil, append_assoc, arith, Bor, nat_cmp}
+use Rattle.std.proofs.Common.{◌≡◌, ℕ, zero, suc, ◌+◌, ◌<◌, ◌≤◌, Bool, true, false, List, [], ◌∷◌, ◌++◌, length, drop, get_or, refl, sym, ap, ◌∙◌, subst, inl, inr, append-nil, arith, Bor, nat_cmp}
 use Rattle.std.specs.Prelude.{flat_map, Option, Some, is_some, bytes_eq, ◌||◌}
 use Rattle.std.proofs.Math.Seq.{drop-nil}
 use Rattle.std.specs.BTreeMap.{BTreeMap, get_by, is_at, UpdatesBy}
@@ -9,12 +9,11 @@ use Rattle.std.proofs.lemmas.Bool.{cond-true, cond-false, cases_Bool}
 use Rattle.std.proofs.lemmas.Map.Text.{btree_map_updates_str}
 use Rattle.omf_frame.specs.Framing.{Raw, raw_bytes}
 use Rattle.omf_frame.specs.declared.fault.Place.{Place}
-use Rattle.omf_records.specs.Reading.{typed}
+use Rattle.omf_records.specs.Inner.Reading.{typed}
 use Rattle.omf_records.specs.Values.{Rec}
 use Rattle.omf_check.specs.Listed.{placed_from}
-use Rattle.omf_check.specs.Module.{Module, records_in}
+use Rattle.omf_check.specs.Module.{Module, records_in, typed_modules}
 use Rattle.omf_check.specs.WellFormed.{recs}
-use Rattle.omf_arrange.specs.Portions.{typed_modules}
 use Rattle.omf_draft.specs.Text.{header_name, module_name}
 use Rattle.omf_draft.specs.Names.{names_asked, public_names, has_name, IsNameTable, HasMore}
 
@@ -50,25 +49,6 @@ table-more m n x v u names h name = elim (cases_Bool (bytes_eq x name)) [
       ap is_some (btree_map_updates_str x m n (Some v) u name ∙ cond-false (bytes_eq x name) (Some v) (found_at m name) b)
       ∙ h name ∙ sym (or-false (has_name names name)) ∙ ap (λ t. has_name names name || (t || false)) (sym b) ∙ sym (has-more names (x ∷ []) name)
 ]
-
--- Of the names `all`, some are in the table n and not in m, and these are still to come.
-pub record IsFilled (m n : Map) (rest all : List (List ℕ)) : Type 0 where
-  pub done : List (List ℕ)
-  pub more : HasMore m n done
-  pub whole : done ++ rest ≡ all
-
-pub fill-start : (m : Map) (rest all : List (List ℕ)) → rest ≡ all → IsFilled m m rest all
-fill-start m rest all e = record { done = []; more = λ names h. subst (IsNameTable m) (sym (append-nil names)) h; whole = e }
-
-pub fill-more : (m n o : Map) (xs next rest all : List (List ℕ)) → next ≡ xs ++ rest → HasMore n o xs → IsFilled m n next all → IsFilled m o rest all
-fill-more m n o xs next rest all e g f = record {
-  done = f.done ++ xs;
-  more = λ names h. subst (IsNameTable o) (append_assoc names f.done xs) (g (names ++ f.done) (f.more names h));
-  whole = append_assoc f.done xs rest ∙ ap (λ ys. f.done ++ ys) (sym e) ∙ f.whole;
-}
-
-pub fill-end : (m n : Map) (rest all : List (List ℕ)) → rest ≡ [] → IsFilled m n rest all → HasMore m n all
-fill-end m n rest all e f = subst (HasMore m n) (sym (append-nil f.done) ∙ ap (λ ys. f.done ++ ys) (sym e) ∙ f.whole) f.more
 
 -- An empty map is the table of no names.
 pub fill-empty : (m n : Map) (all : List (List ℕ)) → m.entries ≡ [] → HasMore m n all → IsNameTable n all

@@ -7,7 +7,7 @@ use Rattle.std.proofs.lemmas.List.Elements.{All-nil}
 use Rattle.std.proofs.lemmas.Slice.Zip.{AllZip-long}
 use Rattle.std.proofs.lemmas.Option.{slice_get-get_or}
 use Rattle.omf_records.specs.Values.{Rec}
-use Rattle.omf_check.specs.Module.{Module, records_in}
+use Rattle.omf_check.specs.Module.{Module, records_in, typed_modules}
 use Rattle.omf_check.specs.Tables.{entry}
 use Rattle.omf_check.specs.WellFormed.{recs}
 use Rattle.omf_placement.specs.Placement.{Places}
@@ -19,8 +19,7 @@ use Rattle.omf_linking.specs.Parts.{parsed_parts}
 use Rattle.omf_linking.specs.Placing.{places_of}
 use Rattle.omf_arrange.specs.Laws.{FitsSoFar, FitModules, PlacedLieApart}
 use Rattle.omf_arrange.specs.Laying.{laid}
-use Rattle.omf_arrange.specs.Placing.{placed}
-use Rattle.omf_arrange.specs.Portions.{typed_modules}
+use Rattle.omf_arrange.specs.Placing.{arranged_places}
 use Rattle.omf_arrange.proofs.FitLaws.{places-fit, places-lie-apart}
 use Rattle.omf_draft.specs.Laws.{IsDraft, DraftsAreRead, DraftsFit, DraftsLieApart}
 use Rattle.omf_draft.specs.Reading.{GivesPlaces, HasEntries}
@@ -33,7 +32,7 @@ each-has [] (pl ∷ pls) f = absurd f
 each-has (m ∷ ms) [] f = absurd f
 each-has (m ∷ ms) (pl ∷ pls) f = (record { segments = f.0.entries.segments; groups = f.0.entries.groups; externals = f.0.no_externals }, each-has ms pls f.1)
 
-pub all-have : (o : Options) (ms : List (List Rec)) (l : Laid (List Places)) → placed o ms ≡ Some l → AllZip HasEntries ms l.what
+pub all-have : (o : Options) (ms : List (List Rec)) (l : Laid (List Places)) → arranged_places o ms ≡ Some l → AllZip HasEntries ms l.what
 all-have o ms l h = each-has ms l.what (places-fit o ms l h).so_far
 
 pub drafts-are-read : DraftsAreRead

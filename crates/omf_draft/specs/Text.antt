@@ -10,9 +10,9 @@ use Rattle.omf_placement.specs.Placement.{Places}
 use Rattle.omf_layout.specs.declared.options.Frames.{Frames}
 use Rattle.omf_layout.specs.declared.options.Options.{Options}
 use Rattle.omf_layout.specs.Draft.{line, segment_line, frame_entry, room_text}
-use Rattle.omf_layout.specs.Quoted.{number, quoted, named}
+use Rattle.omf_placement.specs.Quoted.{number, quoted, named}
 use Rattle.omf_layout.specs.Wants.{alignments, rooms}
-use Rattle.omf_arrange.specs.Placing.{placed}
+use Rattle.omf_arrange.specs.Placing.{arranged_places}
 use Rattle.omf_draft.specs.Names.{has_name, seen_names}
 
 -- The name of a module: that of its first record, a THEADR or an LHEADR. It stands in a comment.
@@ -68,4 +68,4 @@ link_text frames ms pls = flat_map (module_text frames ms) (enumerate_from 0 (zi
 
 -- The draft of modules; none where something has no room.
 abbrev pub drafted : Options → List (List Rec) → Option (List ℕ)
-drafted o ms = option_map (λ l. link_text o.frames ms l.what) (placed o ms)
+drafted o ms = option_map (λ l. link_text o.frames ms l.what) (arranged_places o ms)

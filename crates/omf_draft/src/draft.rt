@@ -2,13 +2,13 @@
 
 ghost use Rattle.std.specs.Prelude.{◌≡◌, ◌++◌, ◌<◌, ◌^◌, [], All, List, ℕ, OnOk, IfOk, length, string_bytes, zip, Some, slice_get};
 ghost use Rattle.std.specs.List.{AllZip};
-ghost use Rattle.omf_records.specs.Seen.{map_ok};
+ghost use Rattle.omf_records.specs.Inner.Seen.{map_ok};
 ghost use Rattle.omf_records.specs.Values.{Rec as Typed};
 ghost use Rattle.omf_placement.specs.Placement.{Places};
 ghost use Rattle.omf_layout.specs.Layout.{IsAnswer, Laid};
 ghost use Rattle.omf_layout.specs.Reading.{AreShort};
-ghost use Rattle.omf_arrange.specs.Placing.{placed};
-ghost use Rattle.omf_arrange.specs.Portions.{typed_modules};
+ghost use Rattle.omf_arrange.specs.Placing.{arranged_places};
+ghost use Rattle.omf_check.specs.Module.{typed_modules};
 ghost use Rattle.omf_draft.specs.Reading.{HasEntries, IsReadBack};
 ghost use Rattle.omf_draft.specs.Text.{border, drafted, link_text, module_text};
 
@@ -67,7 +67,7 @@ pub fn link_draft(
     requires { length modules.now < 2 ^ 32 }
     ensures text { IsAnswer (drafted options (typed_modules modules.now)) (map_ok string_bytes result) }
     // Read again it gives each of the modules, if there are any, the places of `place_segments`.
-    ensures read { IfOk result (λ text. (l : Laid (List Places)) → placed options (typed_modules modules.now) ≡ Some l → 0 < length modules.now → IsReadBack (typed_modules modules.now) l.what (string_bytes text)) }
+    ensures read { IfOk result (λ text. (l : Laid (List Places)) → arranged_places options (typed_modules modules.now) ≡ Some l → 0 < length modules.now → IsReadBack (typed_modules modules.now) l.what (string_bytes text)) }
 {
     let (placements, _free) = place_segments(alloc, modules, options)?;
     let text = text_of(alloc, modules, options.frames, &placements)?;

@@ -1,12 +1,10 @@
 //! The names that the publics of several modules define.
 
 ghost use Rattle.std.specs.Prelude.{◌≡◌, ◌<◌, [], ◌∷◌, OnOk, IfOk, List, ℕ, length, true, false};
-ghost use Rattle.omf_check.specs.Module.{records_in};
-ghost use Rattle.omf_check.specs.WellFormed.{recs};
+ghost use Rattle.omf_check.specs.Module.{recs_of, typed_modules};
 ghost use Rattle.omf_frame.specs.Types.{is_local};
-ghost use Rattle.omf_records.specs.Seen.{contents_seen, kind_seen};
+ghost use Rattle.omf_records.specs.Inner.Seen.{contents_seen, kind_seen};
 ghost use Rattle.omf_records.specs.Values.{Contents};
-ghost use Rattle.omf_arrange.specs.Portions.{typed_modules};
 ghost use Rattle.omf_draft.specs.Names.{HasMore, IsNameTable, all_names, has_name, names_asked, names_in, names_of, public_names};
 
 use omf_check::Checked;
@@ -89,7 +87,7 @@ impl<'a> NameTable<'a> {
 
     /// Adds the names of a module's local publics, or of the others.
     fn add_module(&mut self, local: bool, module: &'a Checked) -> Result<(), AllocError>
-        ensures { OnOk result (HasMore self.old.names self.new.names (public_names local (recs (records_in «module».entry.now.bytes)))) }
+        ensures { OnOk result (HasMore self.old.names self.new.names (public_names local (recs_of «module».entry.now.bytes))) }
     {
         for (_, rec) in module.records() {
             self.add_asked(local, &rec)?;
@@ -99,7 +97,7 @@ impl<'a> NameTable<'a> {
 
     /// The names of the local publics of a module.
     pub fn of_locals(alloc: Global, module: &'a Checked) -> Result<NameTable<'a>, AllocError>
-        ensures { IfOk result (λ t. IsNameTable t.names (public_names true (recs (records_in «module».entry.now.bytes)))) }
+        ensures { IfOk result (λ t. IsNameTable t.names (public_names true (recs_of «module».entry.now.bytes))) }
     {
         let mut table = NameTable {
             names: BTreeMap::new(alloc),

@@ -2,12 +2,11 @@
 
 ghost use Rattle.std.specs.Prelude.{◌≡◌, ◌++◌, ◌∷◌, [], All, Bool, List, ℕ, OnOk, IfOk, codes, decimal, flat_map, length, string_bytes, true, false, zip};
 ghost use Rattle.std.specs.List.{enumerate_from};
-ghost use Rattle.omf_records.specs.Seen.{contents_seen};
-ghost use Rattle.omf_check.specs.Module.{records_in};
+ghost use Rattle.omf_records.specs.Inner.Seen.{contents_seen};
+ghost use Rattle.omf_check.specs.Module.{recs_of};
 ghost use Rattle.omf_check.specs.Tables.{entry, externals, groups, segments};
-ghost use Rattle.omf_check.specs.WellFormed.{recs};
 ghost use Rattle.omf_derive.specs.Derive.{named_externals};
-ghost use Rattle.omf_layout.specs.Quoted.{quoted};
+ghost use Rattle.omf_placement.specs.Quoted.{quoted};
 ghost use Rattle.omf_layout.specs.Reading.{IsShortFrame, IsShortPlace};
 ghost use Rattle.omf_layout.specs.Wants.{rooms};
 ghost use Rattle.omf_draft.specs.Names.{IsNameTable, has_name, public_names};
@@ -36,7 +35,7 @@ fn print_header(text: &mut String, rec: &Rec<'_>) -> Result<(), AllocError>
 
 /// The name of a module in double quotes.
 fn print_module_name(text: &mut String, module: &Checked) -> Result<(), AllocError>
-    ensures { OnOk result (string_bytes text.new ≡ string_bytes text.old ++ quoted (module_name (recs (records_in «module».now.bytes)))) }
+    ensures { OnOk result (string_bytes text.new ≡ string_bytes text.old ++ quoted (module_name (recs_of «module».now.bytes))) }
 {
     match module.records().next() {
         Some((_, rec)) => print_header(text, &rec),
@@ -46,7 +45,7 @@ fn print_module_name(text: &mut String, module: &Checked) -> Result<(), AllocErr
 
 /// The comment that names a module.
 fn print_name_line(text: &mut String, module: &Checked) -> Result<(), AllocError>
-    ensures { OnOk result (string_bytes text.new ≡ string_bytes text.old ++ name_line (recs (records_in «module».now.bytes))) }
+    ensures { OnOk result (string_bytes text.new ≡ string_bytes text.old ++ name_line (recs_of «module».now.bytes)) }
 {
     text.push_str("; module ")?;
     print_module_name(text, module)?;
@@ -61,9 +60,9 @@ fn print_segment_lines(
     frames: Frames,
     placement: &Placement,
 ) -> Result<(), AllocError>
-    requires { length placement.now.segments ≡ length (segments (recs (records_in «module».now.bytes))) }
+    requires { length placement.now.segments ≡ length (segments (recs_of «module».now.bytes)) }
     ensures short { OnOk result (All IsShortPlace placement.now.segments) }
-    ensures lines { OnOk result (string_bytes text.new ≡ string_bytes text.old ++ segment_lines frames (recs (records_in «module».now.bytes)) placement.now.segments) }
+    ensures lines { OnOk result (string_bytes text.new ≡ string_bytes text.old ++ segment_lines frames (recs_of «module».now.bytes) placement.now.segments) }
 {
     let alignments = alignments_of(alloc, module)?;
     print_segments(text, module, frames, &alignments, placement)
@@ -75,9 +74,9 @@ fn print_group_lines(
     module: &Checked,
     placement: &Placement,
 ) -> Result<(), AllocError>
-    requires { length placement.now.groups ≡ length (groups (recs (records_in «module».now.bytes))) }
+    requires { length placement.now.groups ≡ length (groups (recs_of «module».now.bytes)) }
     ensures short { OnOk result (All IsShortFrame placement.now.groups) }
-    ensures lines { OnOk result (string_bytes text.new ≡ string_bytes text.old ++ group_lines (recs (records_in «module».now.bytes)) placement.now.groups) }
+    ensures lines { OnOk result (string_bytes text.new ≡ string_bytes text.old ++ group_lines (recs_of «module».now.bytes) placement.now.groups) }
 {
     let given = Frames::Flat { selector: 0 };
     print_groups(text, module, given, placement)
@@ -146,9 +145,9 @@ fn print_wanted_lines<'a>(
     own: &NameTable<'a>,
     asked: &[Option<u64>],
 ) -> Result<(), AllocError>
-    requires asked { asked.now ≡ rooms (recs (records_in «module».now.bytes)) }
-    requires as_many { length asked.now ≡ length (externals (recs (records_in «module».now.bytes))) }
-    ensures { (among : Bool → List (List ℕ)) → IsNameTable all.now.names (among false) → IsNameTable own.now.names (among true) → OnOk result (string_bytes text.new ≡ string_bytes text.old ++ wanted_lines among (recs (records_in «module».entry.now.bytes))) }
+    requires asked { asked.now ≡ rooms (recs_of «module».now.bytes) }
+    requires as_many { length asked.now ≡ length (externals (recs_of «module».now.bytes)) }
+    ensures { (among : Bool → List (List ℕ)) → IsNameTable all.now.names (among false) → IsNameTable own.now.names (among true) → OnOk result (string_bytes text.new ≡ string_bytes text.old ++ wanted_lines among (recs_of «module».entry.now.bytes)) }
 {
     for before in 0..module.externals() {
         let index = before + 1;
@@ -173,11 +172,11 @@ pub fn print_part<'a>(
     placement: &Placement,
     all: &NameTable<'a>,
 ) -> Result<(), AllocError>
-    requires segments { length placement.now.segments ≡ length (segments (recs (records_in «module».now.bytes))) }
-    requires groups { length placement.now.groups ≡ length (groups (recs (records_in «module».now.bytes))) }
+    requires segments { length placement.now.segments ≡ length (segments (recs_of «module».now.bytes)) }
+    requires groups { length placement.now.groups ≡ length (groups (recs_of «module».now.bytes)) }
     ensures segments { OnOk result (All IsShortPlace placement.now.segments) }
     ensures groups { OnOk result (All IsShortFrame placement.now.groups) }
-    ensures text { (among : Bool → List (List ℕ)) → IsNameTable all.now.names (among false) → among true ≡ public_names true (recs (records_in «module».entry.now.bytes)) → OnOk result (string_bytes text.new ≡ string_bytes text.old ++ part_text frames among (recs (records_in «module».entry.now.bytes)) placement.now) }
+    ensures text { (among : Bool → List (List ℕ)) → IsNameTable all.now.names (among false) → among true ≡ public_names true (recs_of «module».entry.now.bytes) → OnOk result (string_bytes text.new ≡ string_bytes text.old ++ part_text frames among (recs_of «module».entry.now.bytes) placement.now) }
 {
     let rooms = rooms_of(alloc, module)?;
     let own = NameTable::of_locals(alloc, module)?;

@@ -3,7 +3,7 @@ use Rattle.std.proofs.Common.{◌≡◌, inl, inr, ℕ, zero, suc, ◌+◌, ◌-
 use Rattle.std.proofs.Math.Nat.{pow-le-pow_right}
 use Rattle.byteorder.specs.Endian.{little_number}
 use Rattle.byteorder.specs.Numbers.{little_from-lt}
-use Rattle.omf_frame.specs.FieldLaws.{are_bytes_none, are_bytes_cons}
+use Rattle.omf_frame.specs.Inner.FieldLaws.{are_bytes_none, are_bytes_cons}
 use Rattle.omf_frame.specs.Bytes.{AreBytes}
 use Rattle.omf_frame.specs.Fields.{IsCommunalLength, IsLittle, IsUnspelled}
 

@@ -8,7 +8,7 @@ use Rattle.omf_frame.specs.declared.faulty.Then.TheVariants.{Ends, Fails, Repeat
 use Rattle.std.specs.declared.io.ErrorKind.{ErrorKind}
 use Rattle.std.specs.declared.io.ErrorKind.TheVariants.{Interrupted, Other}
 use Rattle.omf_frame.specs.Device.{one_more, counted, is_interruption}
-use Rattle.omf_frame.specs.Faulty.{Taking, Answer, Interrupts, Refuses, told, kind_once, kind_due, next_due, next_failing, unless_failing, taken, passed_on, is_push_failure, is_push_break, after_push}
+use Rattle.omf_frame.specs.Inner.Faulty.{Taking, Answer, Interrupts, Refuses, told, kind_once, kind_due, next_due, next_failing, unless_failing, taken, passed_on, is_push_failure, is_push_break, after_push}
 
 -- bytes that are given from the front are consumed
 pub gives_front : (after : Then) (bytes rest front : List ℕ) (count : ℕ) → bytes ≡ front ++ rest → 0 < count → Consumes (told after bytes) (told after rest) front × (count ≡ 0 → IsAtEnd (told after rest))

@@ -2,8 +2,8 @@
 use Rattle.std.proofs.Common.{◌≡◌, ℕ, suc, ◌+◌, ◌-◌, ◌*◌, ◌≤◌, ◌<◌, get_or, min, None, List, [], ◌∷◌, ◌++◌, length, take, refl, sym, ap, ◌∙◌, arith}
 use Rattle.std.proofs.Math.Seq.{take-append-add}
 use Rattle.std.proofs.lemmas.List.{take_min, length-take}
-use Rattle.omf_frame.specs.Framing.{present}
-use Rattle.omf_frame.specs.Judging.{record_len, type_fault}
+use Rattle.omf_frame.specs.Framing.{present, record_len}
+use Rattle.omf_frame.specs.Inner.Judging.{type_fault}
 
 -- what is there of a record is as much as its length says
 pub present_is : (bytes : List ℕ) → take (record_len bytes) bytes ≡ present bytes

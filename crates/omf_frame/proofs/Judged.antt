@@ -6,7 +6,7 @@ use Rattle.omf_frame.specs.declared.fault.Reason.{Reason}
 use Rattle.omf_frame.specs.declared.fault.Reason.TheVariants as reason
 use Rattle.omf_frame.specs.Fault.{Fault, rule, broken, least, first_step}
 use Rattle.omf_frame.specs.Framing.{is_taken, is_unsupported, is_header, type_faults, lasting, standing_fault}
-use Rattle.omf_frame.specs.Judging.{found, type_fault, whole_fault, fault_of}
+use Rattle.omf_frame.specs.Inner.Judging.{found, type_fault, whole_fault, fault_of}
 
 -- the steps, over the outcomes of the tests
 abbrev steps : Bool → Bool → Bool → Bool → Bool → Bool → Bool → ℕ → ℕ → List (List Fault)

@@ -3,8 +3,7 @@ use Rattle.std.proofs.Common.{◌≡◌, ◌⊎◌, inl, inr, ℕ, suc, ◌+◌,
 use Rattle.std.specs.Prelude.{◌==◌, nat_le, slice_index}
 use borrow.Author.Tests.{eqb-true, eqb-false, leb-true}
 use Rattle.omf_frame.specs.Bytes.{AreBytes}
-use Rattle.omf_frame.specs.Framing.{IsRecord, raw_bytes, front_record, is_whole, is_taken, is_unsupported, is_header, frame_fault, standing_fault}
-use Rattle.omf_frame.specs.Judging.{record_len}
+use Rattle.omf_frame.specs.Framing.{IsRecord, raw_bytes, front_record, is_whole, is_taken, is_unsupported, is_header, frame_fault, standing_fault, record_len}
 use Rattle.omf_frame.proofs.Judged.{all_hold}
 use Rattle.omf_frame.proofs.FramingLaws.{raw_front, body_length}
 

@@ -3,8 +3,7 @@ use Rattle.std.proofs.Common.{◌≡◌, ℕ, ◌+◌, ◌-◌, ◌≤◌, Bool,
 use Rattle.std.specs.Prelude.{◌==◌}
 use Rattle.std.proofs.lemmas.List.{length-append}
 use Rattle.omf_frame.specs.declared.fault.FrameFault.{FrameFault}
-use Rattle.omf_frame.specs.Framing.{present, is_whole, wanted, standing_fault}
-use Rattle.omf_frame.specs.Judging.{record_len}
+use Rattle.omf_frame.specs.Framing.{present, is_whole, wanted, standing_fault, record_len}
 use Rattle.omf_frame.specs.Framer.{Held, Takes, want_of, next_bytes}
 use Rattle.omf_frame.proofs.Growing.{length_present}
 

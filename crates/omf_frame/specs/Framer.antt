@@ -1,10 +1,9 @@
 -- What is seen of a framer, and what its calls do.
-use Rattle.std.specs.Prelude.{◌≡◌, ◌⊎◌, ◌≤◌, ◌<◌, ℕ, ◌+◌, ◌*◌, Bool, true, false, not, ◌&&◌, ◌||◌, ◌==◌, is_some, is_none, min, if◌then◌else◌, List, [], ◌∷◌, ◌++◌, length, take, slice_index, Option, Some, None, option_map, Result, Ok, Err}
+use Rattle.std.specs.Prelude.{◌≡◌, ◌⊎◌, ◌≤◌, ◌<◌, ℕ, ◌+◌, Bool, false, not, ◌&&◌, ◌||◌, ◌==◌, is_some, is_none, min, if◌then◌else◌, List, [], ◌∷◌, ◌++◌, length, take, slice_index, Option, Some, None, option_map, Result, Ok, Err}
 use Rattle.omf_frame.specs.declared.fault.FrameFault.{FrameFault}
 use Rattle.omf_frame.specs.declared.fault.FrameFault.TheVariants.{Memory, Refused}
 use Rattle.omf_frame.specs.Fault.{Fault}
-use Rattle.omf_frame.specs.Framing.{present, is_whole, is_taken, wanted, is_end, type_faults, frame_fault, standing_fault}
-use Rattle.omf_frame.specs.Judging.{record_len}
+use Rattle.omf_frame.specs.Framing.{present, is_whole, is_taken, wanted, is_end, type_faults, frame_fault, standing_fault, record_len}
 
 -- The bytes taken of the record at hand, its number and start, whether a MODEND was passed, and a kept fault.
 pub record Held : Type 0 where
@@ -58,10 +57,6 @@ pub record Takes (old : Held) (piece : List ℕ) (taken : ℕ) (whole : Bool) (n
   pub whole_is : whole ≡ stands new
   pub sound : standing_fault (old.number == 0) (next_bytes old piece) ≡ None
 
--- The most bytes of a record: its type, its length, and what two length bytes can say.
-abbrev pub longest_record : ℕ
-longest_record = 65538
-
 -- Why a feed fails: a growth was refused, which only the first byte of the first record needs, and that type byte has no fault; or
 -- the fault that now stands.
 abbrev pub IsCause : Held → List ℕ → FrameFault → Type 0
@@ -96,14 +91,3 @@ stop_of held = at_fault held.fault
     at_fault : Option FrameFault → Result (Unit {0}) FrameFault
     at_fault (Some fault) = Err fault
     at_fault None = if held.ended then Ok tt else at_hand (frame_fault (held.number == 0) held.bytes)
-
--- What is true of every framer whose buffer has room for so many bytes: it has no room for every record only where it has taken no
--- byte yet, or was refused its first.
-pub record IsState (room : ℕ) (held : Held) : Type 0 where
-  pub roomy : room < longest_record → (held.number ≡ 0) × (held.bytes ≡ [])
-  pub bounded : held.start ≤ held.number * 65538
-  pub short : length held.bytes ≤ record_len held.bytes
-  pub small : length held.bytes ≤ 65538
-  pub sound : standing_fault (held.number == 0) held.bytes ≡ None
-  pub at_end : held.ended ≡ true → (held.bytes ≡ []) × (held.fault ≡ None)
-  pub at_fault : is_some held.fault ≡ true → held.bytes ≡ []

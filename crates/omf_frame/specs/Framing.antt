@@ -130,3 +130,10 @@ pub record HasFront (bytes : List ℕ) : Type 0 where
   pub whole : raw_bytes (front_record (present bytes)) ≡ present bytes
   pub parts : bytes ≡ present bytes ++ after_front bytes
   pub shorter : length (after_front bytes) < length bytes
+
+-- how many bytes the record has, as far as its length bytes are there
+abbrev pub record_len : List ℕ → ℕ
+record_len [] = 3
+record_len (t ∷ []) = 3
+record_len (t ∷ lo ∷ []) = 3
+record_len (t ∷ lo ∷ hi ∷ rest) = 3 + (lo + 256 * hi)

@@ -3,9 +3,7 @@ pub mod Fault
 pub mod Types
 pub mod Framing
 pub mod Fields
-pub mod FieldLaws
 pub mod Device
-pub mod Faulty
-pub mod Judging
 pub mod Framer
 pub mod Runs
+pub mod Inner

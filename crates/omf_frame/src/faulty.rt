@@ -43,7 +43,7 @@ pub struct Script<'a> {
 
 impl<'a> Model for Script<'a> {
     ghost use Rattle.std.specs.Prelude.{◌<◌};
-    ghost use Rattle.omf_frame.specs.Faulty.{Scripted};
+    ghost use Rattle.omf_frame.specs.Inner.Faulty.{Scripted};
 
     ghost Value = { Scripted };
 
@@ -53,7 +53,7 @@ impl<'a> Model for Script<'a> {
 }
 
 impl<'a> Script<'a> {
-    ghost use Rattle.omf_frame.specs.Faulty.{Scripted, told};
+    ghost use Rattle.omf_frame.specs.Inner.Faulty.{Scripted, told};
 
     /// Gives the bytes, as many at a time as are wanted, and then does what `then` says. No call is interrupted.
     pub fn new(bytes: &'a [u8], then: Then) -> Self
@@ -101,7 +101,7 @@ impl<'a> Script<'a> {
     }
 }
 
-ghost use Rattle.omf_frame.specs.Faulty.{kind_due, next_due, next_failing};
+ghost use Rattle.omf_frame.specs.Inner.Faulty.{kind_due, next_due, next_failing};
 
 /// The failure that a call is to answer by its turn, if any: an interruption while some are due, or the one failure.
 fn failure_due(interruptions: u64, due: &mut u64, fails_in: &mut Option<u64>) -> Option<ErrorKind>
@@ -151,7 +151,7 @@ fn fill_front(byte: u8, buf: &mut [u8], most: usize)
 }
 
 impl<'a> Source for Script<'a> {
-    ghost use Rattle.omf_frame.specs.Faulty.{told, pulled, after_pull, script_seen, IsPulled};
+    ghost use Rattle.omf_frame.specs.Inner.Faulty.{told, pulled, after_pull, script_seen, IsPulled};
 
     ghost seen = { script_seen };
 
@@ -199,7 +199,7 @@ pub struct Taker {
 
 impl Model for Taker {
     ghost use Rattle.std.specs.Prelude.{◌<◌, ◌≤◌, ◌+◌, vec_len, vec_capacity};
-    ghost use Rattle.omf_frame.specs.Faulty.{Taking};
+    ghost use Rattle.omf_frame.specs.Inner.Faulty.{Taking};
 
     ghost Value = { Taking };
 
@@ -209,7 +209,7 @@ impl Model for Taker {
 }
 
 impl Taker {
-    ghost use Rattle.omf_frame.specs.Faulty.{Taking};
+    ghost use Rattle.omf_frame.specs.Inner.Faulty.{Taking};
 
     /// Takes `room` bytes, as many at a time as come, and then does what `full` says. No call is interrupted. The room is set aside
     /// here, so that no push is refused for want of memory.
@@ -267,7 +267,7 @@ impl Taker {
 }
 
 impl Sink for Taker {
-    ghost use Rattle.omf_frame.specs.Faulty.{pushed, after_push, taker_seen, IsPushed};
+    ghost use Rattle.omf_frame.specs.Inner.Faulty.{pushed, after_push, taker_seen, IsPushed};
 
     ghost seen = { taker_seen };
 

@@ -2,7 +2,7 @@
 
 ghost use Rattle.std.specs.Prelude.{◌≡◌, ◌≤◌, ◌<◌, ◌++◌, ◌∷◌, ℕ, List, drop, length, IfSome, IfNone, OnOk, OnErr};
 ghost use Rattle.omf_frame.specs.Fields.{IsSpelledAt, IsUnspelled, IsPrefixFree, IsShortest, IsLittle, IsIndex, index_bytes, IsName, name_bytes, IsCommunalLength, communal_length_bytes};
-ghost use Rattle.omf_frame.specs.FieldLaws.{little_free, little_spelled, little_shortest, index_free, index_shortest, name_free, name_shortest, communal_free, communal_shortest};
+ghost use Rattle.omf_frame.specs.Inner.FieldLaws.{little_free, little_spelled, little_shortest, index_free, index_shortest, name_free, name_shortest, communal_free, communal_shortest};
 ghost use Rattle.byteorder.specs.Endian.{little_bytes};
 ghost use Rattle.std.proofs.Common.{ap};
 
@@ -55,7 +55,7 @@ impl<'a> Field<'a> for Le16 {
         Some((Le16(LittleEndian::read_u16(&src[pos..end])), end))
     }
 
-    #[tactic(auto, using(crate::specs::FieldLaws::little_spelled))]
+    #[tactic(auto, using(crate::specs::Inner::FieldLaws::little_spelled))]
     fn put(&self, out: &mut Vec<u8>) -> Result<(), AllocError> {
         let Le16(value) = *self;
         let mut bytes = [0; 2];
@@ -85,7 +85,7 @@ impl<'a> Field<'a> for Le32 {
         Some((Le32(LittleEndian::read_u32(&src[pos..end])), end))
     }
 
-    #[tactic(auto, using(crate::specs::FieldLaws::little_spelled))]
+    #[tactic(auto, using(crate::specs::Inner::FieldLaws::little_spelled))]
     fn put(&self, out: &mut Vec<u8>) -> Result<(), AllocError> {
         let Le32(value) = *self;
         let mut bytes = [0; 4];
@@ -131,7 +131,7 @@ impl<'a> Field<'a> for Index {
         }
     }
 
-    #[tactic(auto, using(crate::specs::FieldLaws::index_spelled))]
+    #[tactic(auto, using(crate::specs::Inner::FieldLaws::index_spelled))]
     fn put(&self, out: &mut Vec<u8>) -> Result<(), AllocError> {
         let value = self.0;
         if value < 128 {
@@ -231,7 +231,7 @@ impl<'a> Field<'a> for CommunalLength {
         Some((CommunalLength(value), end))
     }
 
-    #[tactic(auto, using(crate::specs::FieldLaws::communal_spelled))]
+    #[tactic(auto, using(crate::specs::Inner::FieldLaws::communal_spelled))]
     fn put(&self, out: &mut Vec<u8>) -> Result<(), AllocError> {
         let CommunalLength(value) = *self;
         let mut bytes = [0; 5];

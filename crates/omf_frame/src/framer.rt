@@ -1,9 +1,10 @@
 //! One record after another, from bytes in any pieces.
 
 ghost use Rattle.std.specs.Prelude.{◌≡◌, ◌≤◌, ◌<◌, ◌+◌, ◌-◌, ◌^◌, ◌++◌, ◌==◌, ◌||◌, [], true, false, None, IsTrue, length, take, slice_index, IfOk, IfErr, OnOk, OnErr, IfSome, OnSome, ℕ, List, is_some, vec_capacity};
-ghost use Rattle.omf_frame.specs.Framing.{Raw, IsRecord, raw_bytes, present, front_record, frame_fault, standing_fault, is_whole, is_taken, is_end};
-ghost use Rattle.omf_frame.specs.Judging.{record_len, type_fault};
-ghost use Rattle.omf_frame.specs.Framer.{Held, at_start, open_at, next_bytes, stands, want_of, Takes, IsCause, FailsAs, passed, stop_of, longest_record, want_with};
+ghost use Rattle.omf_frame.specs.Framing.{Raw, IsRecord, raw_bytes, present, front_record, frame_fault, standing_fault, is_whole, is_taken, is_end, record_len};
+ghost use Rattle.omf_frame.specs.Inner.Judging.{type_fault};
+ghost use Rattle.omf_frame.specs.Framer.{Held, at_start, open_at, next_bytes, stands, want_of, Takes, IsCause, FailsAs, passed, stop_of, want_with};
+ghost use Rattle.omf_frame.specs.Inner.Standing.{longest_record};
 
 use crate::fault::{FrameFault, Place, Reason};
 use crate::framing::{is_whole, len_of, record_len, type_fault, whole_fault};
@@ -44,7 +45,8 @@ pub struct Framer {
 
 impl Model for Framer {
     ghost use Rattle.std.specs.Prelude.{vec_capacity};
-    ghost use Rattle.omf_frame.specs.Framer.{Held, IsState};
+    ghost use Rattle.omf_frame.specs.Framer.{Held};
+    ghost use Rattle.omf_frame.specs.Inner.Standing.{IsState};
 
     ghost Value = { Held };
 

@@ -1,8 +1,8 @@
 //! The first record in some bytes, and its fault of framing.
 
 ghost use Rattle.std.specs.Prelude.{◌≡◌, ◌≤◌, ◌+◌, ◌*◌, length};
-ghost use Rattle.omf_frame.specs.Framing.{is_whole};
-ghost use Rattle.omf_frame.specs.Judging.{record_len, type_fault, whole_fault};
+ghost use Rattle.omf_frame.specs.Framing.{is_whole, record_len};
+ghost use Rattle.omf_frame.specs.Inner.Judging.{type_fault, whole_fault};
 
 use crate::fault::Reason;
 use crate::kinds::{is_header, is_taken, is_unsupported};
@@ -46,7 +46,7 @@ pub fn is_whole(bytes: &[u8]) -> bool
 }
 
 /// The fault of the type byte, with its offset.
-#[tactic(auto, unfolding(crate::specs::Judging::type_fault))]
+#[tactic(auto, unfolding(crate::specs::Inner::Judging::type_fault))]
 pub fn type_fault(bytes: &[u8]) -> Option<(Reason, u32)>
     ensures { result ≡ type_fault bytes.now }
 {
@@ -59,7 +59,7 @@ pub fn type_fault(bytes: &[u8]) -> Option<(Reason, u32)>
 }
 
 /// The fault of a whole record whose type is good, with its offset.
-#[tactic(auto, unfolding(crate::specs::Judging::whole_fault))]
+#[tactic(auto, unfolding(crate::specs::Inner::Judging::whole_fault))]
 pub fn whole_fault(is_first: bool, bytes: &[u8]) -> Option<(Reason, u32)>
     ensures { result ≡ whole_fault is_first bytes.now }
 {

@@ -74,14 +74,6 @@ fn refused(reason: Reason, number: u32, start: u64, within: u32) -> Option<Frame
     Some(FrameFault::Refused(reason, place))
 }
 
-#[test]
-fn frames_single_bytes(rt: HostRuntime) -> Result<(), Fail> {
-    let (records, end) = read_singly(rt.alloc(), &MODULE)?;
-    assert_eq!(rt; records.as_slice(), RECORDS.as_slice());
-    assert_eq!(rt; end.err(), None);
-    Ok(())
-}
-
 /// How many bytes a framer takes of a piece, and whether a whole record stands then.
 fn takes(framer: &mut Framer, piece: &[u8]) -> Result<(usize, bool), FrameFault> {
     let fed = framer.feed(piece)?;
@@ -96,26 +88,33 @@ fn wants(framer: &Framer, ahead: Option<&[u8]>) -> usize {
     }
 }
 
+/// Whether the framer takes so many bytes of a piece for a whole record, and then, while that stands, wants none and takes none.
+fn stands_after(framer: &mut Framer, piece: &[u8], length: usize) -> Result<bool, FrameFault> {
+    if takes(framer, piece)? != (length, true) || wants(framer, None) != 0 {
+        return Ok(false);
+    }
+    let rest = piece.get(length..).unwrap_or(&[]);
+    Ok(takes(framer, rest)?.0 == 0)
+}
+
+/// Whether the framer is at the end of a module: it wants none and takes none.
+fn is_at_the_end(framer: &mut Framer) -> Result<bool, FrameFault> {
+    if !framer.ended() || wants(framer, None) != 0 {
+        return Ok(false);
+    }
+    Ok(takes(framer, &[0xDE, 0xAD])? == (0, false))
+}
+
 #[test]
 fn frames_whole_inputs(rt: HostRuntime) -> Result<(), Fail> {
     let mut framer = Framer::new(rt.alloc());
     let mut records = Vec::new(rt.alloc());
-    let mut rest = MODULE.as_slice();
-    for length in [6, 7, 10, 11, 9, 5] {
-        assert_eq!(rt; takes(&mut framer, rest)?, (length, true));
-        rest = rest.get(length..).unwrap_or(&[]);
-        assert_eq!(rt; wants(&framer, None), 0);
-        assert_eq!(rt; takes(&mut framer, rest)?.0, 0, "while a record stands");
+    for (start, length) in [(0, 6), (6, 7), (13, 10), (23, 11), (34, 9), (43, 5)] {
+        assert!(rt; stands_after(&mut framer, MODULE.split_at(start).1, length)?);
         pass(&mut framer, &mut records)?;
     }
     assert_eq!(rt; records.as_slice(), RECORDS.as_slice());
-    assert_eq!(rt; framer.ended(), true);
-    assert_eq!(rt; wants(&framer, None), 0);
-    assert_eq!(rt;
-        takes(&mut framer, &[0xDE, 0xAD])?,
-        (0, false),
-        "after the end"
-    );
+    assert!(rt; is_at_the_end(&mut framer)?);
     Ok(())
 }
 
@@ -144,69 +143,93 @@ fn finds_the_end_of_input(rt: HostRuntime) -> Result<(), Fail> {
         (36, refused(Reason::Cut, 4, 34, 2)),
         (43, refused(Reason::NoEnd, 5, 43, 0)),
     ] {
-        let (_, end) = read_singly(rt.alloc(), &MODULE[..count])?;
-        assert_eq!(rt; end.err(), fault, "after {count} bytes");
+        let front = MODULE.split_at(count).0;
+        assert_eq!(rt; fault_of(rt.alloc(), front)?, fault, "after {count} bytes");
     }
+    Ok(())
+}
+
+/// The module with this byte at each of these places.
+fn changed(places: &[usize], byte: u8) -> [u8; 48] {
+    let mut bytes = MODULE;
+    for place in places {
+        if let Some(old) = bytes.get_mut(*place) {
+            *old = byte;
+        }
+    }
+    bytes
+}
+
+/// Whether bytes that are fed one by one give the records of the module, and no fault.
+fn has_its_records(alloc: Global, bytes: &[u8]) -> Result<bool, Fail> {
+    let (records, end) = read_singly(alloc, bytes)?;
+    Ok(records.as_slice() == RECORDS.as_slice() && end.is_ok())
+}
+
+#[test]
+fn frames_single_bytes(rt: HostRuntime) -> Result<(), Fail> {
+    assert!(rt; has_its_records(rt.alloc(), &MODULE)?);
     Ok(())
 }
 
 #[test]
 fn takes_any_sum_with_a_checksum_of_zero(rt: HostRuntime) -> Result<(), Fail> {
-    let mut bytes = MODULE;
-    for last in [5, 12, 22, 33, 42, 47] {
-        bytes[last] = 0;
-    }
-    let (records, end) = read_singly(rt.alloc(), &bytes)?;
-    assert_eq!(rt; records.as_slice(), RECORDS.as_slice());
-    assert_eq!(rt; end.err(), None);
+    let bytes = changed(&[5, 12, 22, 33, 42, 47], 0);
+    assert!(rt; has_its_records(rt.alloc(), &bytes)?);
     Ok(())
 }
 
+/// Why bytes are refused: the reason, the record's number and start, and the place in it.
+type Refusal = (Reason, u32, u64, u32);
+
+/// The fault of bytes that are fed one by one.
+fn fault_of(alloc: Global, bytes: &[u8]) -> Result<Option<FrameFault>, Fail> {
+    let (_, end) = read_singly(alloc, bytes)?;
+    Ok(end.err())
+}
+
+/// The first of these, by its number from 0, that is not refused so.
+fn first_taken(alloc: Global, refusals: &[(&[u8], Refusal)]) -> Result<Option<usize>, Fail> {
+    for (at, (bytes, (reason, number, start, within))) in refusals.iter().enumerate() {
+        if fault_of(alloc, *bytes)? != refused(*reason, *number, *start, *within) {
+            return Ok(Some(at));
+        }
+    }
+    Ok(None)
+}
+
+const REFUSALS: [(&[u8], Refusal); 10] = [
+    (
+        &[0x80, 3, 0, 1, 0x41, 0x3B, 0xC2],
+        (Reason::UnsupportedType, 1, 6, 0),
+    ),
+    (
+        &[0x80, 3, 0, 1, 0x41, 0x3B, 0xBC],
+        (Reason::UnsupportedType, 1, 6, 0),
+    ),
+    (
+        &[0x80, 3, 0, 1, 0x41, 0x3B, 0xB9],
+        (Reason::UnknownType, 1, 6, 0),
+    ),
+    (&[0xF0], (Reason::UnsupportedType, 0, 0, 0)),
+    // A local record alone is no header; a module may have it behind one.
+    (&[0xCA, 1, 0, 0], (Reason::NoHeader, 0, 0, 0)),
+    (&[0x00], (Reason::UnknownType, 0, 0, 0)),
+    (&[0x8A, 2, 0, 0, 0x74], (Reason::NoHeader, 0, 0, 0)),
+    (
+        &[0x80, 3, 0, 1, 0x41, 0x3B, 0x96, 0, 0],
+        (Reason::EmptyRecord, 1, 6, 1),
+    ),
+    (&[0x96, 0, 0], (Reason::EmptyRecord, 0, 0, 1)),
+    (&[0x96, 2, 0, 0, 1], (Reason::Checksum, 0, 0, 4)),
+];
+
 #[test]
 fn refuses_faults_of_framing(rt: HostRuntime) -> Result<(), Fail> {
-    let mut wrong_sum = MODULE;
-    wrong_sum[33] = 0x10;
-    for (bytes, fault) in [
-        (wrong_sum.as_slice(), refused(Reason::Checksum, 3, 23, 10)),
-        (
-            [0x80, 3, 0, 1, 0x41, 0x3B, 0xC2].as_slice(),
-            refused(Reason::UnsupportedType, 1, 6, 0),
-        ),
-        (
-            [0x80, 3, 0, 1, 0x41, 0x3B, 0xBC].as_slice(),
-            refused(Reason::UnsupportedType, 1, 6, 0),
-        ),
-        (
-            [0x80, 3, 0, 1, 0x41, 0x3B, 0xB9].as_slice(),
-            refused(Reason::UnknownType, 1, 6, 0),
-        ),
-        ([0xF0].as_slice(), refused(Reason::UnsupportedType, 0, 0, 0)),
-        // A local record alone is no header; a module may have it behind one.
-        (
-            [0xCA, 1, 0, 0].as_slice(),
-            refused(Reason::NoHeader, 0, 0, 0),
-        ),
-        ([0x00].as_slice(), refused(Reason::UnknownType, 0, 0, 0)),
-        (
-            [0x8A, 2, 0, 0, 0x74].as_slice(),
-            refused(Reason::NoHeader, 0, 0, 0),
-        ),
-        (
-            [0x80, 3, 0, 1, 0x41, 0x3B, 0x96, 0, 0].as_slice(),
-            refused(Reason::EmptyRecord, 1, 6, 1),
-        ),
-        (
-            [0x96, 0, 0].as_slice(),
-            refused(Reason::EmptyRecord, 0, 0, 1),
-        ),
-        (
-            [0x96, 2, 0, 0, 1].as_slice(),
-            refused(Reason::Checksum, 0, 0, 4),
-        ),
-    ] {
-        let (_, end) = read_singly(rt.alloc(), bytes)?;
-        assert_eq!(rt; end.err(), fault);
-    }
+    assert_eq!(rt; first_taken(rt.alloc(), &REFUSALS)?, None);
+    let wrong_sum = changed(&[33], 0x10);
+    let fault = refused(Reason::Checksum, 3, 23, 10);
+    assert_eq!(rt; fault_of(rt.alloc(), &wrong_sum)?, fault);
     Ok(())
 }
 
@@ -218,19 +241,33 @@ fn stopped(framer: &Framer) -> Option<FrameFault> {
     framer.stop().err()
 }
 
+/// Whether the framer keeps a fault: no record stands, it wants none, and the end of the input is that fault.
+fn keeps(framer: &Framer, fault: Option<FrameFault>) -> bool {
+    framer.raw().is_none()
+        && !framer.ended()
+        && wants(framer, None) == 0
+        && stopped(framer) == fault
+}
+
+/// Whether the framer takes a header, and then nothing of two pieces for this fault.
+fn refuses_after_header(
+    alloc: Global,
+    framer: &mut Framer,
+    fault: Option<FrameFault>,
+) -> Result<bool, Fail> {
+    if takes(framer, &HEADER)? != (6, true) {
+        return Ok(false);
+    }
+    pass(framer, &mut Vec::new(alloc))?;
+    Ok(takes(framer, &[0x01]).err() == fault && takes(framer, &HEADER).err() == fault)
+}
+
 #[test]
 fn keeps_a_fault(rt: HostRuntime) -> Result<(), Fail> {
     let mut framer = Framer::new(rt.alloc());
     let fault = refused(Reason::UnknownType, 1, 6, 0);
-    assert_eq!(rt; takes(&mut framer, &HEADER)?, (6, true));
-    pass(&mut framer, &mut Vec::new(rt.alloc()))?;
-    for piece in [[0x01].as_slice(), HEADER.as_slice()] {
-        assert_eq!(rt; takes(&mut framer, piece).err(), fault);
-    }
-    assert_eq!(rt; wants(&framer, None), 0);
-    assert_eq!(rt; framer.raw().is_none(), true);
-    assert_eq!(rt; framer.ended(), false);
-    assert_eq!(rt; stopped(&framer), fault);
+    assert!(rt; refuses_after_header(rt.alloc(), &mut framer, fault)?);
+    assert!(rt; keeps(&framer, fault));
     Ok(())
 }
 
@@ -438,15 +475,26 @@ fn pulls_what_a_reader_gives(rt: HostRuntime) -> Result<(), Fail> {
     Ok(())
 }
 
+/// Whether a source shows these bytes of what it still has.
+fn shows<S: Source>(source: &S, ahead: &[u8]) -> bool {
+    source.ahead() == ahead
+}
+
+/// How many bytes a source gives to a buffer of one byte.
+fn pull_one<S: Source>(source: &mut S) -> io::Result<usize> {
+    source.pull(&mut [0; 1])
+}
+
+/// Whether a source shows nothing, and these bytes once a byte of it is pulled.
+fn shows_after_one<S: Source>(source: &mut S, ahead: &[u8]) -> io::Result<bool> {
+    Ok(shows(source, &[]) && pull_one(source)? == 1 && shows(source, ahead))
+}
+
 #[test]
 fn shows_what_a_buffer_holds(rt: HostRuntime) -> Result<(), Fail> {
     let input = BufReader::with_capacity(rt.alloc(), 4, HEADER.as_slice())?;
-    let mut source = Buffered::new(input);
-    assert_eq!(rt; source.ahead(), [].as_slice());
-    let mut buf = [0; 1];
-    assert_eq!(rt; source.pull(&mut buf)?, 1);
-    assert_eq!(rt; source.ahead(), &HEADER[1..4]);
-    assert_eq!(rt; Reading::new(HEADER.as_slice()).ahead(), [].as_slice());
+    assert!(rt; shows_after_one(&mut Buffered::new(input), &HEADER[1..4])?);
+    assert!(rt; shows(&Reading::new(HEADER.as_slice()), &[]));
     Ok(())
 }
 

@@ -6,12 +6,13 @@ use Rattle.std.proofs.lemmas.List.{append-nil, take_at, drop_at, drop-append-le}
 use Rattle.std.proofs.Math.Nat.{mul-le-mul_right}
 use Rattle.omf_frame.specs.Fault.{Fault}
 use Rattle.omf_frame.specs.declared.fault.Reason.TheVariants as reason
-use Rattle.omf_records.specs.FieldReaders.{le_read, name_read}
+use Rattle.omf_records.specs.Inner.FieldReaders.{le_read}
 use Rattle.omf_records.specs.Layout.{fault}
-use Rattle.omf_records.specs.Reads.{After, after, Reading, and_then}
+use Rattle.omf_records.specs.Inner.Reads.{After, after, Reading, and_then}
 use Rattle.omf_image.specs.Blocks.{repeated}
-use Rattle.omf_image.specs.Copying.{bytes_times, bytes_contents, bytes_block, wanted, IsMoved}
+use Rattle.omf_image.specs.Inner.Copying.{bytes_times, bytes_contents, bytes_block, wanted, IsMoved}
 use Rattle.omf_image.proofs.BlocksLaws.{length-repeated}
+use Rattle.omf_image.proofs.FoldSteps.{lower, one_more}
 
 -- ---- what a block that is spelled has
 
@@ -27,10 +28,6 @@ module _ (width levels at : ℕ) (bytes : List ℕ) (ok : IsOk (bytes_block widt
 
   pub block_some : levels ≡ 0 → ⊥
   block_some e = never_deep levels e ok
-
-  lower : (l : ℕ) → (l ≡ 0 → ⊥) → l ≡ suc (l - 1)
-  lower zero e = absurd (e refl)
-  lower (suc l) e = omega arith
 
   pub block_levels : 0 < levels
   block_levels = let e = lower levels block_some in omega (arith, e)
@@ -58,11 +55,6 @@ module _ (width levels at : ℕ) (bytes : List ℕ) (ok : IsOk (bytes_block widt
           let q : IsOk (contents_ok (after n k kr)) = subst (λ r. IsOk (and_then r contents_ok)) (sym g) rest_ok in
           let a = ok_first (bytes_contents (bytes_block width (levels - 1)) n k kr) (λ x. Ok (after (repeated count x.value) x.within x.rest)) q in
           subst (λ r. IsOk r) (sym a.1) refl
-
-      -- the block's bytes, from those of its contents
-      pub block_is : (x : List ℕ) (e : ℕ) (er : List ℕ) → Ok (after x e er) ≡ bytes_contents (bytes_block width (levels - 1)) n k kr
-          → Ok (after (repeated count x) e er) ≡ bytes_block width levels at bytes
-      block_is x e er q = sym (ap (λ l. bytes_block width l at bytes) (lower levels block_some) ∙ rw (sym h, sym g, sym q) refl)
 
 -- ---- bytes that are repeated
 
@@ -134,29 +126,12 @@ wanted_more false x y = refl
 
 -- ---- the contents of a block
 
-pub times_contents : (block : Reading (List ℕ)) (n : ℕ) → (n ≡ 0 → ⊥) → bytes_contents block n ≡ bytes_times block n []
-times_contents block zero some = absurd (some refl)
-times_contents block (suc n) some = refl
-
-pub data_contents : (block : Reading (List ℕ)) (n : ℕ) → n ≡ 0 → bytes_contents block n ≡ name_read
-data_contents block n e = rw e refl
-
 module _ (block : Reading (List ℕ)) (n i at : ℕ) (front bytes : List ℕ) (low : i < n) where
-  one_more : n - i ≡ suc (n - (i + 1))
-  one_more = omega arith
-
   pub times_ok : IsOk (bytes_times block (n - i) front at bytes) → IsOk (block at bytes)
   times_ok h =
-      let k : IsOk (bytes_times block (suc (n - (i + 1))) front at bytes) = subst (λ m. IsOk (bytes_times block m front at bytes)) one_more h in
+      let k : IsOk (bytes_times block (suc (n - (i + 1))) front at bytes) = subst (λ m. IsOk (bytes_times block m front at bytes)) (one_more n i low) h in
       let a = ok_first (block at bytes) (λ a. bytes_times block (n - (i + 1)) (front ++ a.value) a.within a.rest) k in
       subst (λ r. IsOk r) (sym a.1) refl
-
-  pub times_step : (x : List ℕ) (next : ℕ) (rest : List ℕ) → Ok (after x next rest) ≡ block at bytes
-      → bytes_times block (n - (i + 1)) (front ++ x) next rest ≡ bytes_times block (n - i) front at bytes
-  times_step x next rest e = sym (ap (λ k. bytes_times block k front at bytes) one_more ∙ rw (sym e) refl)
-
-pub times_end : (block : Reading (List ℕ)) (n i at : ℕ) (front bytes : List ℕ) → n ≤ i → Ok (after front at bytes) ≡ bytes_times block (n - i) front at bytes
-times_end block n i at front bytes le = let none : n - i ≡ 0 = omega arith in sym (ap (λ k. bytes_times block k front at bytes) none)
 
 -- what was written once and then repeated
 pub written_again : (n : ℕ) (x : List ℕ) → (n ≡ 0 → ⊥) → x ++ repeated (n - 1) x ≡ repeated n x

@@ -6,10 +6,10 @@ use Rattle.std.proofs.lemmas.List.Folds.{drop_split}
 use Rattle.omf_frame.specs.Bytes.{AreBytes}
 use Rattle.omf_frame.specs.Fields.{IsSpelledAt, IsUnspelled}
 use Rattle.omf_frame.specs.declared.fault.Reason.TheVariants as reason
-use Rattle.omf_records.specs.FieldReaders.{FieldOk, FieldAgain, FieldRefused, short}
+use Rattle.omf_records.specs.Inner.FieldReaders.{FieldOk, FieldAgain, FieldRefused, short}
 use Rattle.omf_records.specs.Layout.{fault}
-use Rattle.omf_records.specs.Reads.{after, Reading}
-use Rattle.omf_records.specs.Steps.{AreBytes-rest}
+use Rattle.omf_records.specs.Inner.Reads.{after, Reading}
+use Rattle.omf_records.specs.Inner.Steps.{AreBytes-rest}
 use Rattle.omf_records.proofs.FieldGives.{not_found}
 
 module _ {A : Type 0} (P : A → List ℕ → Type 0) (read : Reading A) where

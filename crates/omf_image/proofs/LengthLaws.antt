@@ -4,16 +4,15 @@ use Rattle.std.specs.Prelude.{◌↔◌, IsTrue, nat_le}
 use Rattle.std.proofs.lemmas.Bool.{le-leb}
 use Rattle.std.proofs.lemmas.Bool.Decides.{leb_tells}
 use Rattle.omf_frame.proofs.FaultLaws.{least_unique, all_cons}
-use Rattle.omf_records.specs.Steps.{before_itself}
+use Rattle.omf_records.specs.Inner.Steps.{before_itself}
 use Rattle.omf_frame.specs.Bytes.{AreBytes}
 use Rattle.omf_frame.specs.Fault.{Fault, is_before, rule, broken, first_step, least}
 use Rattle.omf_frame.specs.declared.fault.Reason.TheVariants as reason
-use Rattle.omf_records.specs.Layout.{fault}
-use Rattle.omf_records.specs.Reads.{Meets}
-use Rattle.omf_records.specs.Meets.{whole_meets}
+use Rattle.omf_records.specs.Layout.{fault, Meets}
+use Rattle.omf_records.specs.Inner.Meets.{whole_meets}
 use Rattle.omf_image.specs.Blocks.{Blocks, blocks, blocks_size, AreBlocks, IsFirstFault}
-use Rattle.omf_image.specs.BlockReaders.{blocks_whole}
-use Rattle.omf_image.specs.Expanding.{read_blocks, blocks_or_none, faults_of, length_or, expanded_length}
+use Rattle.omf_image.specs.Inner.BlockReaders.{blocks_whole}
+use Rattle.omf_image.specs.Inner.Expanding.{read_blocks, blocks_or_none, faults_of, length_or, expanded_length}
 use Rattle.omf_image.specs.declared.limits.Limits.{Limits}
 
 pub blocks_read : (width levels : ℕ) (bytes : List ℕ) → AreBytes bytes → Meets (blocks width levels) 0 bytes (read_blocks width levels bytes)

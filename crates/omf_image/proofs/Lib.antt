@@ -4,7 +4,8 @@ pub mod LimitLaws
 pub mod LastLaws
 pub mod RunLaws
 pub mod ShownLaws
-pub mod LengthSteps
+pub mod FoldSteps
+pub mod FoldLaws
 pub mod Counting
 pub mod ReadingSteps
 pub mod Expansion

@@ -10,7 +10,7 @@ use Rattle.std.proofs.lemmas.Bool.Decides.{leb_tells}
 use Rattle.std.proofs.lemmas.List.{append-nil, length-take, take_all, drop_all, take-append-le, drop-drop, take-append-drop, drop_at, take_at, drop-map, take-map, drop_more, take_more_set, drop-set-lt, map-append, map-set, get_or-map, set-get_or}
 use Rattle.omf_image.specs.declared.image.Covered.{Covered}
 use Rattle.omf_image.specs.Overlay.{Laid, byte_of, byte_at}
-use Rattle.omf_image.specs.Sorted.{laid_run, laid_runs, line_place, low, high, AreSorted, EndBefore, EndFrom, BeginBy, BeginAfter, Touches, extended, over, over_all}
+use Rattle.omf_image.specs.Inner.Sorted.{laid_run, laid_runs, line_place, low, high, AreSorted, EndBefore, EndFrom, BeginBy, BeginAfter, Touches, IsTouched, extended, over, over_all}
 use Rattle.omf_image.proofs.RunLaws.{within_some, byte_some}
 use Rattle.omf_image.proofs.SortedLaws.{some_is, sorted_from, sorted_drop, byte_first, byte_append, covered_place, none_low, no_byte, option_or-none, option_or-some, option_or-assoc}
 
@@ -380,20 +380,12 @@ module _ (cs rest : List Covered) (start count : ℕ) (p : Laid) (is : rest ≡ 
       (subst (λ z. BeginAfter (high p) (drop count z)) same_rest after)
       ∙ ap (λ z. option_or (byte_of segment x p) (byte_at z segment x)) all_back
 
--- what laying a piece over some of the runs gives
-pub record IsLaying (cs : List Covered) (start count : ℕ) (p : Laid) : Type 0 where
-  pub touches : Touches p (take count (drop start (laid_runs cs)))
-  pub sorted : AreSorted 0 (take start (laid_runs cs) ++ over_all p (take count (drop start (laid_runs cs))) ∷ drop count (drop start (laid_runs cs)))
-  pub bytes : (segment x : ℕ) → byte_at (take start (laid_runs cs) ++ over_all p (take count (drop start (laid_runs cs))) ∷ drop count (drop start (laid_runs cs))) segment x
-      ≡ option_or (byte_of segment x p) (byte_at (laid_runs cs) segment x)
-
-pub laying : (cs xs ys rest : List Covered) (start count at to : ℕ) (p : Laid) → xs ≡ cs → ys ≡ cs → rest ≡ drop start ys → at ≡ low p → to ≡ high p → AreSorted 0 (laid_runs cs)
-    → 0 < length p.bytes → p.offset + length p.bytes ≤ 4294967296 → EndBefore at (take start (laid_runs xs)) → EndFrom at (drop start (laid_runs xs))
-    → BeginBy to (take count (laid_runs rest)) → BeginAfter to (drop count (laid_runs rest)) → IsLaying cs start count p
-laying cs xs ys rest start count at to p ex ey er ea et h some fits before from by after =
-    let is : rest ≡ drop start cs = er ∙ ap (λ z. drop start z) ey in
-    let before' : EndBefore (low p) (take start (laid_runs cs)) = subst (λ n. EndBefore n (take start (laid_runs cs))) ea (subst (λ z. EndBefore at (take start (laid_runs z))) ex before) in
-    let from' : EndFrom (low p) (drop start (laid_runs cs)) = subst (λ n. EndFrom n (drop start (laid_runs cs))) ea (subst (λ z. EndFrom at (drop start (laid_runs z))) ex from) in
+pub laying : (cs rest : List Covered) (start count at to : ℕ) (p : Laid) → rest ≡ drop start cs → at ≡ low p → to ≡ high p → AreSorted 0 (laid_runs cs)
+    → 0 < length p.bytes → p.offset + length p.bytes ≤ 4294967296 → EndBefore at (take start (laid_runs cs)) → EndFrom at (drop start (laid_runs cs))
+    → BeginBy to (take count (laid_runs rest)) → BeginAfter to (drop count (laid_runs rest)) → IsTouched (laid_runs cs) p start count
+laying cs rest start count at to p is ea et h some fits before from by after =
+    let before' : EndBefore (low p) (take start (laid_runs cs)) = subst (λ n. EndBefore n (take start (laid_runs cs))) ea before in
+    let from' : EndFrom (low p) (drop start (laid_runs cs)) = subst (λ n. EndFrom n (drop start (laid_runs cs))) ea from in
     let by' : BeginBy (high p) (take count (laid_runs rest)) = subst (λ n. BeginBy n (take count (laid_runs rest))) et by in
     let after' : BeginAfter (high p) (drop count (laid_runs rest)) = subst (λ n. BeginAfter n (drop count (laid_runs rest))) et after in
     record {

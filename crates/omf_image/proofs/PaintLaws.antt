@@ -7,7 +7,7 @@ use Rattle.std.proofs.lemmas.List.Sorted.{Contains-permutation, IsPermutation-sy
 use Rattle.std.specs.Option.{option_or}
 use Rattle.omf_image.specs.declared.painting.Extent.{Extent}
 use Rattle.omf_image.specs.Overlay.{Laid, byte_of, byte_at, IsLaidOver, AreLaidOver}
-use Rattle.omf_image.specs.Joined.{runs_of}
+use Rattle.omf_image.specs.Inner.Joined.{runs_of}
 use Rattle.omf_image.specs.Painting.{extent, zeros, all_zeros}
 use Rattle.omf_image.specs.Laws.{CoveredPiecesAreLost, SamePlacesAreLost}
 use Rattle.omf_image.proofs.RunLaws.{contains_first, contains_more, contains_here, contains_none, byte_some, some_byte, byte_at-append, joined_are_runs, runs_unique}

@@ -3,7 +3,7 @@ use Rattle.std.proofs.Common.{◌≡◌, ℕ, suc, Bool, true, false, Result, Ok
 use Rattle.std.specs.Prelude.{◌==◌}
 use Rattle.std.proofs.lemmas.Bool.{eqb-true}
 use Rattle.omf_frame.specs.Fault.{Fault}
-use Rattle.omf_records.specs.Reads.{and_then}
+use Rattle.omf_records.specs.Inner.Reads.{and_then}
 
 pub then_same : {A B : Type 0} (r : Result A Fault) (f g : A → Result B Fault) → ((a : A) → f a ≡ g a) → and_then r f ≡ and_then r g
 then_same (Ok a) f g h = h a

@@ -8,8 +8,8 @@ use Rattle.std.proofs.lemmas.Bool.Decides.{leb_tells}
 use Rattle.std.proofs.lemmas.List.{append-nil}
 use Rattle.omf_image.specs.declared.run.Run.{Run}
 use Rattle.omf_image.specs.Overlay.{Laid, byte_of, byte_at, IsRun, AreRising, AreRuns}
-use Rattle.omf_image.specs.Joined.{run_end, hull, join_run, join_laid, runs_of}
-use Rattle.omf_image.specs.Sorted.{span}
+use Rattle.omf_image.specs.Inner.Joined.{run_end, hull, join_run, join_laid, runs_of}
+use Rattle.omf_image.specs.Inner.Sorted.{span}
 use Rattle.omf_image.proofs.LastLaws.{last_filter_map}
 
 pub some_within : {A : Type 0} (xs : List A) (i : ℕ) → IsSome (slice_get xs i) → i < length xs

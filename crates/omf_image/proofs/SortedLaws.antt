@@ -11,8 +11,8 @@ use Rattle.std.proofs.lemmas.Option.{slice_get-map, slice_get_past, slice_get-ge
 use Rattle.omf_frame.specs.Bytes.{last}
 use Rattle.omf_image.specs.declared.image.Covered.{Covered}
 use Rattle.omf_image.specs.Overlay.{Laid, byte_of, byte_at, AreRuns, AreBytesOver, IsRunAt, AreBytesAt}
-use Rattle.omf_image.specs.Joined.{run_end}
-use Rattle.omf_image.specs.Sorted.{laid_run, laid_runs, span, in_segment, line_place, low, high, AreSorted, EndBefore, EndFrom, BeginBy, BeginAfter}
+use Rattle.omf_image.specs.Inner.Joined.{run_end}
+use Rattle.omf_image.specs.Inner.Sorted.{laid_run, laid_runs, span, in_segment, line_place, low, high, AreSorted, EndBefore, EndFrom, BeginBy, BeginAfter}
 use Rattle.omf_image.proofs.RunLaws.{within_some, byte_some, some_byte, Covers, AreApart, runs_of_apart}
 
 pub sorted_from : (from more : ℕ) (ls : List Laid) → from ≤ more → AreSorted more ls → AreSorted from ls

@@ -5,7 +5,7 @@ use Rattle.std.specs.Option.{option_or}
 use Rattle.std.proofs.lemmas.List.{append-nil}
 use Rattle.omf_image.specs.declared.run.Run.{Run}
 use Rattle.omf_image.specs.Overlay.{Laid, byte_of, byte_at, IsRun, AreRuns, IsRunAt, AreLaidOver}
-use Rattle.omf_image.specs.Joined.{runs_of}
+use Rattle.omf_image.specs.Inner.Joined.{runs_of}
 use Rattle.omf_image.specs.Laws.{ImagesAreOverlays, NoBytesCoverNothing}
 use Rattle.omf_image.proofs.RunLaws.{byte_at-append, byte_some, joined_are_runs, runs_unique}
 use Rattle.omf_image.proofs.SortedLaws.{no_byte}

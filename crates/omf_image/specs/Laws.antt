@@ -3,10 +3,12 @@ use Rattle.std.specs.Prelude.{◌≡◌, ◌↔◌, ◌≤◌, ℕ, List, [], �
 use Rattle.std.specs.Option.{option_or}
 use Rattle.omf_frame.specs.Bytes.{AreBytes}
 use Rattle.omf_frame.specs.Fault.{Fault}
-use Rattle.omf_records.specs.Reads.{Meets}
+use Rattle.omf_records.specs.Layout.{Meets}
 use Rattle.omf_image.specs.Blocks.{Blocks, blocks, blocks_bytes, blocks_size, AreBlocks, IsFirstFault}
-use Rattle.omf_image.specs.Expanding.{read_blocks, expanded_length}
-use Rattle.omf_image.specs.Joined.{runs_of}
+-- computed: blocks_are_read and lengths_are_decided of omf_image.
+use Rattle.omf_image.specs.Inner.Expanding.{read_blocks, expanded_length}
+-- computed: runs_are_maximal of omf_image.
+use Rattle.omf_image.specs.Inner.Joined.{runs_of}
 use Rattle.omf_image.specs.Overlay.{Laid, byte_of, byte_at, AreRuns, IsRunAt, AreLaidOver}
 use Rattle.omf_image.specs.Painting.{extent}
 use Rattle.omf_image.specs.declared.run.Run.{Run}

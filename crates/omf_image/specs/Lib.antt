@@ -1,13 +1,8 @@
 pub mod Limits
 pub mod Parts
 pub mod Overlay
-pub mod Joined
-pub mod Sorted
 pub mod Blocks
-pub mod BlockReaders
-pub mod Lengths
-pub mod Copying
-pub mod Expanding
 pub mod Painting
 pub mod Rows
 pub mod Laws
+pub mod Inner

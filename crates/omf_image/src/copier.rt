@@ -4,7 +4,7 @@
 ghost use Rattle.std.specs.Prelude.{◌≡◌, ◌≤◌, ◌<◌, ◌+◌, ◌-◌, ◌^◌, [], drop, length, vec_len, slice_range, IfNone, IfSome, OnOk};
 ghost use Rattle.omf_frame.specs.Bytes.{AreBytes};
 ghost use Rattle.omf_frame.specs.Fields.{IsSpelledAt, IsUnspelled};
-ghost use Rattle.omf_image.specs.Copying.{IsMoved};
+ghost use Rattle.omf_image.specs.Inner.Copying.{IsMoved};
 
 use omf_frame::Field;
 use omf_records::Blocks;

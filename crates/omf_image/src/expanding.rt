@@ -1,11 +1,11 @@
 //! The bytes that blocks stand for.
 
 ghost use Rattle.std.specs.Prelude.{◌≡◌, ◌≤◌, ◌+◌, ◌-◌, [], length, drop, vec_len, OnOk, IfOk, IsOk};
-ghost use Rattle.omf_records.specs.FieldReaders.{le_read, name_read};
+ghost use Rattle.omf_records.specs.Inner.FieldReaders.{le_read, name_read};
 ghost use Rattle.omf_image.specs.Blocks.{count_size, repeated};
-ghost use Rattle.omf_image.specs.Expanding.{expanded_length, expanded};
-ghost use Rattle.omf_image.specs.Lengths.{capped};
-ghost use Rattle.omf_image.specs.Copying.{IsMoved, IsRead, IsPassed, bytes_block, bytes_contents, bytes_all};
+ghost use Rattle.omf_image.specs.Inner.Expanding.{expanded_length, expanded};
+ghost use Rattle.omf_image.specs.Inner.Lengths.{capped};
+ghost use Rattle.omf_image.specs.Inner.Copying.{IsMoved, IsRead, IsPassed, bytes_block, bytes_contents, bytes_all};
 
 use crate::copier::{BlockBytes, Copier};
 use crate::limits::Limits;

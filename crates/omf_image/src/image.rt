@@ -3,7 +3,7 @@
 ghost use Rattle.std.specs.Prelude.{◌≡◌, true, false, ℕ, ◌+◌, ◌-◌, ◌^◌, ◌<◌, ◌≤◌, List, [], ◌∷◌, ◌++◌, length, take, drop, vec_len, slice_get, IfSome, OnOk, OnErr};
 ghost use Rattle.std.specs.Option.{option_copied, option_map};
 ghost use Rattle.omf_image.specs.Overlay.{byte_of, byte_at, IsRunAt, IsRunShown, AreBytesAt, IsLaidOver};
-ghost use Rattle.omf_image.specs.Sorted.{laid_run, laid_runs, span, in_segment, line_place, low, high, AreSorted, EndBefore, EndFrom, BeginBy, BeginAfter, Touches, extended, over, over_all};
+ghost use Rattle.omf_image.specs.Inner.Sorted.{laid_run, laid_runs, span, in_segment, line_place, low, high, AreSorted, EndBefore, EndFrom, BeginBy, BeginAfter, Touches, IsTouched, joined, extended, over, over_all};
 
 use crate::Run;
 use std::alloc::{AllocError, Global};
@@ -234,6 +234,20 @@ fn find_run(runs: &[Covered], segment: u16, k: usize) -> Option<&Covered>
     }
 }
 
+/// The runs that a piece touches: which is the first of them, from 0, and how many they are. They are not searched for where the first is
+/// `near`, or one more or less.
+fn touched(runs: &[Covered], near: usize, piece: &Covered) -> (usize, usize)
+    requires sorted { AreSorted 0 (laid_runs runs.now) }
+    requires some { 0 < vec_len piece.now.bytes }
+    requires fits { piece.now.first + vec_len piece.now.bytes ≤ 2 ^ 32 }
+    ensures within { result.0 + result.1 ≤ length runs.now }
+    ensures touched { IsTouched (laid_runs runs.now) (laid_run piece.now) result.0 result.1 }
+{
+    let start = ending_near(runs, near, piece.low());
+    let count = beginning_by(runs.split_at(start).1, piece.high());
+    (start, count)
+}
+
 /// Lays a piece over the runs that it touches, and makes them one run.
 fn join_runs(
     runs: &mut Vec<Covered>,
@@ -246,7 +260,7 @@ fn join_runs(
     requires sorted { AreSorted 0 (laid_runs runs.old.items) }
     requires touching { Touches (laid_run piece) (take count (drop start (laid_runs runs.old.items))) }
     requires fits { piece.first + vec_len piece.bytes ≤ 2 ^ 32 }
-    ensures joined { OnOk result (laid_runs runs.new.items ≡ take start (laid_runs runs.old.items) ++ over_all (laid_run piece) (take count (drop start (laid_runs runs.old.items))) ∷ drop count (drop start (laid_runs runs.old.items))) }
+    ensures joined { OnOk result (laid_runs runs.new.items ≡ joined (laid_runs runs.old.items) (laid_run piece) start count) }
     ensures unchanged { OnErr result (laid_runs runs.new.items ≡ laid_runs runs.old.items) }
 {
     piece.extend_to(&runs[start + 1..start + count])?;
@@ -270,7 +284,7 @@ pub struct Image {
 
 impl Model for Image {
     ghost use Rattle.omf_image.specs.Overlay.{Laid};
-    ghost use Rattle.omf_image.specs.Sorted.{laid_runs, AreSorted};
+    ghost use Rattle.omf_image.specs.Inner.Sorted.{laid_runs, AreSorted};
     ghost use Rattle.std.specs.Prelude.{List};
 
     ghost Value = { List Laid };
@@ -344,9 +358,8 @@ impl Image {
             first: offset,
             bytes,
         };
-        let start = ending_near(&self.runs, self.near, piece.low());
+        let (start, count) = touched(&self.runs, self.near, &piece);
         self.near = start;
-        let count = beginning_by(self.runs.split_at(start).1, piece.high());
         if count > 0 {
             return join_runs(&mut self.runs, start, count, piece);
         }

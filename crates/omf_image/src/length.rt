@@ -1,10 +1,10 @@
 //! How many bytes blocks stand for.
 
 ghost use Rattle.std.specs.Prelude.{◌≡◌, ◌+◌, ◌<◌, ◌≤◌, length, drop, IfOk, IfErr};
-ghost use Rattle.omf_records.specs.FieldReaders.{le_read};
+ghost use Rattle.omf_records.specs.Inner.FieldReaders.{le_read};
 ghost use Rattle.omf_image.specs.Blocks.{count_size};
-ghost use Rattle.omf_image.specs.Lengths.{read_to, len_data, len_contents, len_block, len_all};
-ghost use Rattle.omf_image.specs.Expanding.{expanded_length};
+ghost use Rattle.omf_image.specs.Inner.Lengths.{read_to, len_data, len_contents, len_block, len_all};
+ghost use Rattle.omf_image.specs.Inner.Expanding.{expanded_length};
 
 use crate::limits::Limits;
 use omf_frame::{Field, Le16, Le32, Name, Reason};

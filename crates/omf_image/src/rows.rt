@@ -5,9 +5,9 @@ ghost use Rattle.std.specs.List.{repeat, range_with_len};
 ghost use Rattle.omf_frame.specs.declared.fault.Reason.TheVariants as reason;
 ghost use Rattle.omf_image.specs.Limits.{profile_limits};
 ghost use Rattle.omf_records.specs.Layout.{fault};
-ghost use Rattle.omf_image.specs.Expanding.{expanded_length, expanded};
+ghost use Rattle.omf_image.specs.Inner.Expanding.{expanded_length, expanded};
 ghost use Rattle.omf_image.specs.Overlay.{byte_at};
-ghost use Rattle.omf_image.specs.Joined.{runs_of};
+ghost use Rattle.omf_image.specs.Inner.Joined.{runs_of};
 ghost use Rattle.omf_image.specs.Rows.{innermost, lay, five, six, run};
 
 /// A block that is repeated 0 times stands for no bytes.

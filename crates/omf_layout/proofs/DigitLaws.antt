@@ -5,7 +5,7 @@ use Rattle.std.specs.List.{list_all}
 use Rattle.std.proofs.lemmas.Bool.{le-leb, lt-leb, ltb-true, ltb-false, leb-true, eqb-true, eqb-false, ne_eqb, and_from, and_parts, not_from_false, cond_both}
 use Rattle.std.proofs.lemmas.Fmt.{digits_is_IsNumeral}
 use Rattle.omf_placement.specs.Entries.{IsHexadecimal}
-use Rattle.omf_layout.specs.Quoted.{number}
+use Rattle.omf_placement.specs.Quoted.{number}
 
 -- A byte of a word: no space, no control byte, no semicolon.
 abbrev pub is_mark : ℕ → Bool

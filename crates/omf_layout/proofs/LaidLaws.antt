@@ -3,7 +3,7 @@ use Rattle.std.proofs.Common.{◌≡◌, ℕ, List, [], ◌∷◌, ◌++◌, ref
 use Rattle.std.specs.Prelude.{Option, Some, None, option_map, option_and_then}
 use Rattle.omf_placement.specs.Placement.{Places}
 use Rattle.omf_layout.specs.Layout.{Laid, and_then_more, all_laid}
-use Rattle.omf_layout.specs.Spots.{segments_alone}
+use Rattle.omf_layout.specs.Inner.Spots.{segments_alone}
 
 module _ {A B : Type 0} (lay : ℕ → A → Option (Laid B)) where
   more-more : (before next : List B) (rest : Option (Laid (List B))) → and_then_more before (and_then_more next rest) ≡ and_then_more (before ++ next) rest

@@ -9,14 +9,14 @@ use Rattle.omf_check.specs.declared.segment.SegInfo.{SegInfo}
 use Rattle.omf_placement.specs.declared.frame.Frame.{Frame}
 use Rattle.omf_placement.specs.declared.frame.Placed.{Placed}
 use Rattle.omf_placement.specs.Entries.{Entry, SegmentEntry, GroupEntry, ExternalEntry, IsHexadecimal, SpellsPlaced, SpellsFrame, Spells, in_words, said}
-use Rattle.omf_placement.specs.EntryReading.{entry_said}
+use Rattle.omf_placement.specs.Inner.EntryReading.{entry_said}
 use Rattle.omf_placement.specs.Placement.{real_frame, real_group}
 use Rattle.omf_placement.proofs.EntryLaws.{entry-to}
 use Rattle.omf_layout.specs.declared.alignment.Alignment.{Alignment}
 use Rattle.omf_layout.specs.declared.options.Frames.{Frames}
 use Rattle.omf_layout.specs.declared.options.Frames.TheVariants.{Real, Flat}
 use Rattle.omf_layout.specs.Draft.{line, placed_entry, is_same_frame, segment_entry, alignment_text, segment_comment, segment_line, frame_entry, frame_or_real, group_entry, group_line, room_text, external_line}
-use Rattle.omf_layout.specs.Quoted.{number, hex, is_plain, escaped, quoted, named}
+use Rattle.omf_placement.specs.Quoted.{number, hex, is_plain, escaped, quoted, named}
 use Rattle.omf_layout.specs.Reading.{IsShortFrame, IsShortPlace, unless_by_members, frame_given}
 use Rattle.omf_layout.specs.Wants.{bytes_aligned}
 use Rattle.omf_layout.proofs.DigitLaws.{is_mark, eight-digits, four-digits, marks-number, marks-decimal}

@@ -1,33 +1,36 @@
--- Alignments and rooms are as many as the tables have segments and externals.
+-- Attributes, alignments and rooms are as many as the tables have segments and externals.
 use Rattle.std.proofs.Common.{◌≡◌, ℕ, zero, suc, ◌+◌, ◌<◌, List, [], ◌∷◌, ◌++◌, length, drop, refl, sym, ap, ap₂, ◌∙◌, arith, length-append, append_assoc, ◌≤◌, ◌-◌}
 use Rattle.std.proofs.Math.Seq.{drop-nil}
-use Rattle.std.specs.Prelude.{map, flat_map, Option, Some, None, slice_get, cond}
+use Rattle.std.specs.Prelude.{map, Some, None, slice_get, cond}
 use Rattle.std.specs.List.{zip, range_with_len}
 use Rattle.std.proofs.lemmas.Bool.{le-leb}
 use Rattle.std.proofs.lemmas.List.{length-map}
 use Rattle.std.proofs.lemmas.Option.{none-some, same_Some}
-use Rattle.omf_records.specs.Values.{Rec, Contents, Header, Comment, Names, Segment, Group, Externs, Publics, Communals, Plain, Iterated, Fixups, ModEnd, Carried}
+use Rattle.omf_records.specs.Values.{Rec, Contents, Header, Comment, Names, Segment, Group, Externs, Publics, Communals, Plain, Iterated, Fixups, ModEnd, Carried, alignment}
 use Rattle.omf_check.specs.Tables.{segments, externals, entry, defined_segments, defined_externals}
-use Rattle.omf_layout.specs.Wants.{alignments, alignments_in, rooms, rooms_in, room_of}
+use Rattle.omf_layout.specs.Wants.{alignment_named, attributes, attributes_in, alignments, rooms, rooms_in, room_of}
 
-one-alignment : (kind : ℕ) (c : Contents) → length (alignments_in c) ≡ length (defined_segments kind c)
-one-alignment kind (Segment s) = refl
-one-alignment kind (Header n) = refl
-one-alignment kind (Comment a b t) = refl
-one-alignment kind (Names ns) = refl
-one-alignment kind (Group g) = refl
-one-alignment kind (Externs es) = refl
-one-alignment kind (Publics p) = refl
-one-alignment kind (Communals cs) = refl
-one-alignment kind (Plain d) = refl
-one-alignment kind (Iterated d) = refl
-one-alignment kind (Fixups fs) = refl
-one-alignment kind (ModEnd b s) = refl
-one-alignment kind (Carried bs) = refl
+one-attribute : (kind : ℕ) (c : Contents) → length (attributes_in c) ≡ length (defined_segments kind c)
+one-attribute kind (Segment s) = refl
+one-attribute kind (Header n) = refl
+one-attribute kind (Comment a b t) = refl
+one-attribute kind (Names ns) = refl
+one-attribute kind (Group g) = refl
+one-attribute kind (Externs es) = refl
+one-attribute kind (Publics p) = refl
+one-attribute kind (Communals cs) = refl
+one-attribute kind (Plain d) = refl
+one-attribute kind (Iterated d) = refl
+one-attribute kind (Fixups fs) = refl
+one-attribute kind (ModEnd b s) = refl
+one-attribute kind (Carried bs) = refl
+
+pub length-attributes : (m : List Rec) → length (attributes m) ≡ length (segments m)
+length-attributes [] = refl
+length-attributes (r ∷ m) = length-append (attributes_in r.contents) (attributes m) ∙ ap₂ (λ a b. a + b) (one-attribute r.kind r.contents) (length-attributes m) ∙ sym (length-append (defined_segments r.kind r.contents) (segments m))
 
 pub length-alignments : (m : List Rec) → length (alignments m) ≡ length (segments m)
-length-alignments [] = refl
-length-alignments (r ∷ m) = length-append (alignments_in r.contents) (alignments m) ∙ ap₂ (λ a b. a + b) (one-alignment r.kind r.contents) (length-alignments m) ∙ sym (length-append (defined_segments r.kind r.contents) (segments m))
+length-alignments m = length-map (attributes m) (λ a. alignment_named (alignment a)) ∙ length-attributes m
 
 some-rooms : (c : Contents) → length (rooms_in c) ≡ length (defined_externals c)
 some-rooms (Externs es) = length-map es (λ e. None) ∙ sym (length-map es (λ e. e.item.name))

@@ -14,7 +14,7 @@ use Rattle.omf_layout.specs.declared.options.Frames.{Frames}
 use Rattle.omf_layout.specs.declared.options.Frames.TheVariants.{Real, Flat}
 use Rattle.omf_layout.specs.declared.options.Options.{Options}
 use Rattle.omf_layout.specs.Layout.{LaidOut}
-use Rattle.omf_layout.specs.Quoted.{number, quoted, named}
+use Rattle.omf_placement.specs.Quoted.{number, quoted, named}
 use Rattle.omf_layout.specs.Wants.{bytes_aligned}
 
 -- An entry, and its comment behind a semicolon.

@@ -1,9 +1,8 @@
 pub mod Wants
 pub mod Room
 pub mod Layout
-pub mod Spots
-pub mod Quoted
 pub mod Draft
 pub mod Reading
 pub mod Rows
 pub mod Laws
+pub mod Inner

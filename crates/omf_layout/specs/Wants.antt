@@ -18,13 +18,16 @@ bytes_aligned Page = 256
 bytes_aligned Dword = 4
 bytes_aligned LargePage = 4096
 
--- The alignments of the segments, in their order.
-abbrev pub alignments_in : Contents → List Alignment
-alignments_in (Segment s) = alignment_named (alignment s.attribute) ∷ []
-alignments_in _ = []
+-- The attributes of the segments, in their order, and the alignments that they name.
+abbrev pub attributes_in : Contents → List ℕ
+attributes_in (Segment s) = s.attribute ∷ []
+attributes_in _ = []
+
+abbrev pub attributes : List Rec → List ℕ
+attributes m = flat_map (λ r. attributes_in r.contents) m
 
 abbrev pub alignments : List Rec → List Alignment
-alignments m = flat_map (λ r. alignments_in r.contents) m
+alignments m = map (λ a. alignment_named (alignment a)) (attributes m)
 
 -- How many bytes a communal asks for: near its length, far a number of elements of a size.
 abbrev pub room_of : CommunalSize → ℕ

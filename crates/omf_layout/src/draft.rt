@@ -2,16 +2,15 @@
 
 ghost use Rattle.std.specs.Prelude.{◌≡◌, ◌++◌, ◌∷◌, [], OnOk, IfOk, string_bytes, flat_map, length, Some, codes, decimal, All};
 ghost use Rattle.std.specs.List.{enumerate_from, zip};
-ghost use Rattle.omf_records.specs.Seen.{contents_seen};
+ghost use Rattle.omf_records.specs.Inner.Seen.{contents_seen};
 ghost use Rattle.omf_records.specs.Values.{Group, GroupItem};
-ghost use Rattle.omf_check.specs.Module.{records_in};
+ghost use Rattle.omf_check.specs.Module.{recs_of};
 ghost use Rattle.omf_check.specs.Tables.{names, segments, groups, externals, entry};
-ghost use Rattle.omf_check.specs.WellFormed.{recs};
 ghost use Rattle.omf_placement.specs.Entries.{in_words};
 ghost use Rattle.omf_layout.specs.Draft.{segment_comment, segment_line, group_line, group_entry, external_line, draft_text};
 ghost use Rattle.omf_layout.specs.Laws.{FitsModule};
 ghost use Rattle.omf_layout.specs.Layout.{layout_of};
-ghost use Rattle.omf_layout.specs.Quoted.{named};
+ghost use Rattle.omf_placement.specs.Quoted.{named};
 ghost use Rattle.omf_layout.specs.Reading.{IsShortFrame, IsShortPlace, IsReadBack};
 
 use crate::alignment::Alignment;
@@ -29,14 +28,14 @@ use std::alloc::{AllocError, Global};
 
 /// The name of an index in a module, in double quotes, or a dash for 0.
 fn print_named(text: &mut String, module: &Checked, index: u16) -> Result<(), AllocError>
-    ensures { OnOk result (string_bytes text.new ≡ string_bytes text.old ++ named (names (recs (records_in «module».now.bytes))) index) }
+    ensures { OnOk result (string_bytes text.new ≡ string_bytes text.old ++ named (names (recs_of «module».now.bytes)) index) }
 {
     print_name(text, module.name(index))
 }
 
 /// The names of a segment and of its class.
 fn print_names(text: &mut String, module: &Checked, segment: SegInfo) -> Result<(), AllocError>
-    ensures { OnOk result (string_bytes text.new ≡ string_bytes text.old ++ named (names (recs (records_in «module».now.bytes))) segment.name ++ codes " class " ++ named (names (recs (records_in «module».now.bytes))) segment.class) }
+    ensures { OnOk result (string_bytes text.new ≡ string_bytes text.old ++ named (names (recs_of «module».now.bytes)) segment.name ++ codes " class " ++ named (names (recs_of «module».now.bytes)) segment.class) }
 {
     print_named(text, module, segment.name)?;
     text.push_str(" class ")?;
@@ -51,7 +50,7 @@ fn print_segment_comment(
     segment: SegInfo,
     alignment: Alignment,
 ) -> Result<(), AllocError>
-    ensures { OnOk result (string_bytes text.new ≡ string_bytes text.old ++ codes " ; " ++ in_words (segment_comment (recs (records_in «module».now.bytes)) index segment alignment) ++ 10 ∷ []) }
+    ensures { OnOk result (string_bytes text.new ≡ string_bytes text.old ++ codes " ; " ++ in_words (segment_comment (recs_of «module».now.bytes) index segment alignment) ++ 10 ∷ []) }
 {
     print_index(text, index)?;
     print_names(text, module, segment)?;
@@ -69,7 +68,7 @@ fn print_segment(
     place: (u32, Frame),
 ) -> Result<(), AllocError>
     ensures short { IsShortPlace (record { address = place.0; frame = place.1 }) }
-    ensures line { OnOk result (string_bytes text.new ≡ string_bytes text.old ++ segment_line frames (recs (records_in «module».now.bytes)) (index, ((segment, alignment), record { address = place.0; frame = place.1 }))) }
+    ensures line { OnOk result (string_bytes text.new ≡ string_bytes text.old ++ segment_line frames (recs_of «module».now.bytes) (index, ((segment, alignment), record { address = place.0; frame = place.1 }))) }
 {
     let (address, frame) = place;
     print_segment_entry(text, frames, address, frame)?;
@@ -96,11 +95,11 @@ pub fn print_segments(
     alignments: &[Alignment],
     placement: &Placement,
 ) -> Result<(), AllocError>
-    requires aligned { length alignments.now ≡ length (segments (recs (records_in «module».now.bytes))) }
-    requires placed { length placement.now.segments ≡ length (segments (recs (records_in «module».now.bytes))) }
+    requires aligned { length alignments.now ≡ length (segments (recs_of «module».now.bytes)) }
+    requires placed { length placement.now.segments ≡ length (segments (recs_of «module».now.bytes)) }
     // The numbers of all are short enough for a placement text.
     ensures short { OnOk result (All IsShortPlace placement.now.segments) }
-    ensures lines { OnOk result (string_bytes text.new ≡ string_bytes text.old ++ flat_map (segment_line frames (recs (records_in «module».now.bytes))) (enumerate_from 1 (zip (zip (segments (recs (records_in «module».now.bytes))) alignments.now) placement.now.segments))) }
+    ensures lines { OnOk result (string_bytes text.new ≡ string_bytes text.old ++ flat_map (segment_line frames (recs_of «module».now.bytes)) (enumerate_from 1 (zip (zip (segments (recs_of «module».now.bytes)) alignments.now) placement.now.segments))) }
 {
     for before in 0..module.segments() {
         let index = before + 1;
@@ -127,7 +126,7 @@ fn print_group_place(
     k: u16,
     frame: Frame,
 ) -> Result<(), AllocError>
-    ensures { OnOk result (string_bytes text.new ≡ string_bytes text.old ++ group_entry frames (recs (records_in «module».now.bytes)) placement.now.segments k frame) }
+    ensures { OnOk result (string_bytes text.new ≡ string_bytes text.old ++ group_entry frames (recs_of «module».now.bytes) placement.now.segments k frame) }
 {
     match frames {
         Frames::Real => print_group_entry(text, real_group(module, placement, k), frame),
@@ -142,7 +141,7 @@ fn print_group_comment(
     index: u16,
     name: u16,
 ) -> Result<(), AllocError>
-    ensures { OnOk result (string_bytes text.new ≡ string_bytes text.old ++ codes " ; " ++ in_words (decimal index ∷ named (names (recs (records_in «module».now.bytes))) name ∷ []) ++ 10 ∷ []) }
+    ensures { OnOk result (string_bytes text.new ≡ string_bytes text.old ++ codes " ; " ++ in_words (decimal index ∷ named (names (recs_of «module».now.bytes)) name ∷ []) ++ 10 ∷ []) }
 {
     print_index(text, index)?;
     print_named(text, module, name)?;
@@ -172,7 +171,7 @@ fn print_group(
 ) -> Result<(), AllocError>
     requires { (g : GroupItem) × (contents_seen group.now ≡ Group g) }
     ensures short { IsShortFrame frame }
-    ensures line { (g : GroupItem) → contents_seen group.now ≡ Group g → OnOk result (string_bytes text.new ≡ string_bytes text.old ++ group_line frames (recs (records_in «module».now.bytes)) placement.now.segments (index, (g, frame))) }
+    ensures line { (g : GroupItem) → contents_seen group.now ≡ Group g → OnOk result (string_bytes text.new ≡ string_bytes text.old ++ group_line frames (recs_of «module».now.bytes) placement.now.segments (index, (g, frame))) }
 {
     print_group_place(text, module, frames, placement, index, frame)?;
     print_group_comment(text, module, index, group_name(group))
@@ -190,10 +189,10 @@ pub fn print_groups(
     frames: Frames,
     placement: &Placement,
 ) -> Result<(), AllocError>
-    requires { length placement.now.groups ≡ length (groups (recs (records_in «module».now.bytes))) }
+    requires { length placement.now.groups ≡ length (groups (recs_of «module».now.bytes)) }
     // The numbers of all are short enough for a placement text.
     ensures short { OnOk result (All IsShortFrame placement.now.groups) }
-    ensures lines { OnOk result (string_bytes text.new ≡ string_bytes text.old ++ flat_map (group_line frames (recs (records_in «module».now.bytes)) placement.now.segments) (enumerate_from 1 (zip (groups (recs (records_in «module».now.bytes))) placement.now.groups))) }
+    ensures lines { OnOk result (string_bytes text.new ≡ string_bytes text.old ++ flat_map (group_line frames (recs_of «module».now.bytes) placement.now.segments) (enumerate_from 1 (zip (groups (recs_of «module».now.bytes)) placement.now.groups))) }
 {
     for before in 0..module.groups() {
         let index = before + 1;
@@ -228,10 +227,10 @@ fn print_external(
 
 /// A line for each external.
 fn print_externals(text: &mut String, module: &Checked, layout: &Layout) -> Result<(), AllocError>
-    requires roomed { length layout.now.rooms ≡ length (externals (recs (records_in «module».now.bytes))) }
-    requires placed { length layout.now.places.externals ≡ length (externals (recs (records_in «module».now.bytes))) }
+    requires roomed { length layout.now.rooms ≡ length (externals (recs_of «module».now.bytes)) }
+    requires placed { length layout.now.places.externals ≡ length (externals (recs_of «module».now.bytes)) }
     ensures short { OnOk result (All IsShortPlace layout.now.places.externals) }
-    ensures lines { OnOk result (string_bytes text.new ≡ string_bytes text.old ++ flat_map external_line (enumerate_from 1 (zip (zip (externals (recs (records_in «module».now.bytes))) layout.now.rooms) layout.now.places.externals))) }
+    ensures lines { OnOk result (string_bytes text.new ≡ string_bytes text.old ++ flat_map external_line (enumerate_from 1 (zip (zip (externals (recs_of «module».now.bytes)) layout.now.rooms) layout.now.places.externals))) }
 {
     for before in 0..module.externals() {
         let index = before + 1;
@@ -258,12 +257,12 @@ pub fn draft_text(
     options: Options,
     layout: &Layout,
 ) -> Result<String, AllocError>
-    requires { layout_of options (recs (records_in «module».now.bytes)) ≡ Some layout.now }
-    ensures text { IfOk result (λ text. string_bytes text ≡ draft_text options.frames (recs (records_in «module».now.bytes)) layout.now) }
+    requires { layout_of options (recs_of «module».now.bytes) ≡ Some layout.now }
+    ensures text { IfOk result (λ text. string_bytes text ≡ draft_text options.frames (recs_of «module».now.bytes) layout.now) }
     // It is a placement text of the layout's entries, and gives the module the layout's places.
-    ensures read { IfOk result (λ text. IsReadBack options.frames (recs (records_in «module».now.bytes)) layout.now.places (string_bytes text)) }
+    ensures read { IfOk result (λ text. IsReadBack options.frames (recs_of «module».now.bytes) layout.now.places (string_bytes text)) }
     // At that placement no entry is missing, none is one too many, and each absolute segment lies where it says.
-    ensures fits { OnOk result (FitsModule (recs (records_in «module».now.bytes)) layout.now) }
+    ensures fits { OnOk result (FitsModule (recs_of «module».now.bytes) layout.now) }
 {
     let mut text = String::new(alloc);
     let placement = layout.placement();

@@ -1,12 +1,11 @@
 //! Layouts of a module.
 
 ghost use Rattle.std.specs.Prelude.{◌≡◌, ◌≤◌, ◌^◌, [], IfOk, OnOk, IfSome, length, option_map, slice_get, Some, ◌<◌};
-ghost use Rattle.omf_records.specs.Seen.{map_ok};
-ghost use Rattle.omf_check.specs.Module.{records_in};
+ghost use Rattle.omf_records.specs.Inner.Seen.{map_ok};
+ghost use Rattle.omf_check.specs.Module.{recs_of};
 ghost use Rattle.omf_check.specs.Tables.{segments};
-ghost use Rattle.omf_check.specs.WellFormed.{recs};
 ghost use Rattle.omf_layout.specs.Layout.{IsAnswer, segments_laid, group_frame, group_frames, behind_communals, externals_laid, layout_of};
-ghost use Rattle.omf_layout.specs.Spots.{segments_alone, externals_in};
+ghost use Rattle.omf_layout.specs.Inner.Spots.{segments_alone, externals_in};
 ghost use Rattle.omf_layout.specs.Wants.{alignments};
 
 use crate::alignment::Alignment;
@@ -97,9 +96,9 @@ fn lay_segments(
     each: &[Alignment],
     options: Options,
 ) -> Result<(Placement, u64), LayoutFault>
-    requires all { each.now ≡ alignments (recs (records_in «module».now.bytes)) }
-    requires as_many { length each.now ≡ length (segments (recs (records_in «module».now.bytes))) }
-    ensures answer { IsAnswer (option_map segments_alone (segments_laid options (recs (records_in «module».now.bytes)))) result }
+    requires all { each.now ≡ alignments (recs_of «module».now.bytes) }
+    requires as_many { length each.now ≡ length (segments (recs_of «module».now.bytes)) }
+    ensures answer { IsAnswer (option_map segments_alone (segments_laid options (recs_of «module».now.bytes))) result }
     ensures low { IfOk result (λ p. p.1 ≤ 2 ^ 32) }
     ensures from { IfOk result (λ p. options.base ≤ p.1) }
 {
@@ -121,7 +120,7 @@ fn lay_segments(
 
 /// The frame of a group, by its index from 1.
 fn group_frame(module: &Checked, placement: &Placement, frames: Frames, k: u16) -> Frame
-    ensures { result ≡ group_frame frames (recs (records_in «module».now.bytes)) placement.now.segments k }
+    ensures { result ≡ group_frame frames (recs_of «module».now.bytes) placement.now.segments k }
 {
     match frames {
         Frames::Real => real_group(module, placement, k).unwrap_or(NO_FRAME),
@@ -132,7 +131,7 @@ fn group_frame(module: &Checked, placement: &Placement, frames: Frames, k: u16) 
 /// Gives the groups their frames.
 fn lay_groups(placement: &mut Placement, module: &Checked, frames: Frames) -> Result<(), AllocError>
     requires { placement.old.groups ≡ [] }
-    ensures { OnOk result (placement.new ≡ record placement.old { groups = group_frames frames (recs (records_in «module».now.bytes)) placement.old.segments }) }
+    ensures { OnOk result (placement.new ≡ record placement.old { groups = group_frames frames (recs_of «module».now.bytes) placement.old.segments }) }
 {
     for k in 1..module.groups() + 1 {
         let frame = group_frame(module, placement, frames, k);
@@ -195,7 +194,7 @@ fn lay_externals(
 ///
 /// `NoRoom` where a segment, a communal or another external does not lie below the last address; `Memory` where a growth was refused.
 pub fn layout_of(alloc: Global, module: &Checked, options: Options) -> Result<Layout, LayoutFault>
-    ensures { IsAnswer (layout_of options (recs (records_in «module».now.bytes))) result }
+    ensures { IsAnswer (layout_of options (recs_of «module».now.bytes)) result }
 {
     let alignments = alignments_of(alloc, module)?;
     let rooms = rooms_of(alloc, module)?;

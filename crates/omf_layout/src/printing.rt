@@ -3,7 +3,7 @@
 ghost use Rattle.std.specs.Prelude.{◌≡◌, ◌++◌, ◌∷◌, [], OnOk, string_bytes, codes, decimal, unwrap_or, option_map, Some, ◌<◌};
 ghost use Rattle.omf_placement.specs.Placement.{real_frame};
 ghost use Rattle.omf_layout.specs.Draft.{placed_entry, is_same_frame, segment_entry, frame_entry, frame_or_real, alignment_text, room_text};
-ghost use Rattle.omf_layout.specs.Quoted.{number, hex, is_plain, escaped, quoted};
+ghost use Rattle.omf_placement.specs.Quoted.{number, hex, is_plain, escaped, quoted};
 
 use crate::alignment::Alignment;
 use crate::options::Frames;

@@ -3,7 +3,7 @@
 ghost use Rattle.std.specs.Prelude.{◌≡◌, ◌++◌, [], ◌∷◌, codes, Some, None};
 ghost use Rattle.omf_check.specs.Rows.{first_module};
 ghost use Rattle.omf_records.specs.Values.{Near, Far};
-ghost use Rattle.omf_layout.specs.Quoted.{quoted};
+ghost use Rattle.omf_placement.specs.Quoted.{quoted};
 ghost use Rattle.omf_layout.specs.Room.{address_from, anchor, frame_at, next_multiple};
 ghost use Rattle.omf_layout.specs.Rows.{aligned, lines, drafted, between, segment, absolute, group, empty_group, external, communal};
 ghost use Rattle.omf_layout.specs.Wants.{room_of};

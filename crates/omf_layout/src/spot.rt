@@ -2,7 +2,7 @@
 
 ghost use Rattle.std.specs.Prelude.{◌≡◌, ◌≤◌, ◌^◌, IfSome, option_map};
 ghost use Rattle.omf_layout.specs.Layout.{segment_laid, external_at, external_laid};
-ghost use Rattle.omf_layout.specs.Spots.{spot_laid};
+ghost use Rattle.omf_layout.specs.Inner.Spots.{spot_laid};
 ghost use Rattle.omf_placement.specs.Placement.{absolute_place};
 ghost use Rattle.omf_layout.specs.Wants.{bytes_aligned};
 

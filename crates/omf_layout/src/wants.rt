@@ -1,42 +1,60 @@
 //! What the segments and the externals of a module ask for.
 
-ghost use Rattle.std.specs.Prelude.{◌≡◌, ◌++◌, OnOk, IfOk, length};
-ghost use Rattle.omf_records.specs.Seen.{contents_seen};
-ghost use Rattle.omf_records.specs.Sizes.{size_seen};
-ghost use Rattle.omf_records.specs.Values.{Externs, Communals};
-ghost use Rattle.omf_check.specs.Module.{records_in};
+ghost use Rattle.std.specs.Prelude.{◌≡◌, ◌++◌, OnOk, IfOk, length, map};
+ghost use Rattle.omf_records.specs.Inner.Seen.{contents_seen};
+ghost use Rattle.omf_records.specs.Inner.Sizes.{size_seen};
+ghost use Rattle.omf_records.specs.Values.{Externs, Communals, alignment};
+ghost use Rattle.omf_check.specs.Module.{recs_of};
 ghost use Rattle.omf_check.specs.Tables.{segments};
-ghost use Rattle.omf_check.specs.WellFormed.{recs};
-ghost use Rattle.omf_layout.specs.Wants.{alignments, alignments_in, rooms, rooms_in, room_of};
+ghost use Rattle.omf_layout.specs.Wants.{alignment_named, alignments, attributes, attributes_in, rooms, rooms_in, room_of};
 
 use crate::alignment::Alignment;
 use omf_check::Checked;
 use omf_records::{Communal, CommunalSize, Extern, Items, Rec};
 use std::alloc::{AllocError, Global};
 
-/// Adds the alignment of a record's segment.
-fn add_alignment(alignments: &mut Vec<Alignment>, rec: &Rec<'_>) -> Result<(), AllocError>
-    ensures { OnOk result (alignments.new.items ≡ alignments.old.items ++ alignments_in (contents_seen rec.now)) }
+/// Adds the attribute of a record's segment.
+fn add_attribute(attributes: &mut Vec<u8>, rec: &Rec<'_>) -> Result<(), AllocError>
+    ensures { OnOk result (attributes.new.items ≡ attributes.old.items ++ attributes_in (contents_seen rec.now)) }
 {
     match rec {
         Rec::Segment { segment, .. } => {
-            alignments.push(Alignment::named_by(segment.attribute))?;
+            attributes.push(segment.attribute)?;
             Ok(())
         }
         _ => Ok(()),
     }
 }
 
-/// The alignments of a module's segments in their order.
-pub fn alignments_of(alloc: Global, module: &Checked) -> Result<Vec<Alignment>, AllocError>
-    ensures all { IfOk result (λ v. v.items ≡ alignments (recs (records_in «module».now.bytes))) }
-    ensures each { IfOk result (λ v. length v.items ≡ length (segments (recs (records_in «module».now.bytes)))) }
+/// The attributes of a module's segments in their order.
+pub fn attributes_of(alloc: Global, module: &Checked) -> Result<Vec<u8>, AllocError>
+    ensures all { IfOk result (λ v. v.items ≡ attributes (recs_of «module».now.bytes)) }
+    ensures each { IfOk result (λ v. length v.items ≡ length (segments (recs_of «module».now.bytes))) }
+{
+    let mut attributes = Vec::new(alloc);
+    for (_, rec) in module.records() {
+        add_attribute(&mut attributes, &rec)?;
+    }
+    Ok(attributes)
+}
+
+/// The alignments that attributes name.
+fn named_by(alloc: Global, attributes: &[u8]) -> Result<Vec<Alignment>, AllocError>
+    ensures { IfOk result (λ v. v.items ≡ map (λ a. alignment_named (alignment a)) attributes.now) }
 {
     let mut alignments = Vec::new(alloc);
-    for (_, rec) in module.records() {
-        add_alignment(&mut alignments, &rec)?;
+    for attribute in attributes {
+        alignments.push(Alignment::named_by(*attribute))?;
     }
     Ok(alignments)
+}
+
+/// The alignments of a module's segments in their order.
+pub fn alignments_of(alloc: Global, module: &Checked) -> Result<Vec<Alignment>, AllocError>
+    ensures all { IfOk result (λ v. v.items ≡ alignments (recs_of «module».now.bytes)) }
+    ensures each { IfOk result (λ v. length v.items ≡ length (segments (recs_of «module».now.bytes))) }
+{
+    named_by(alloc, &attributes_of(alloc, module)?)
 }
 
 /// How many bytes a communal asks for.
@@ -84,7 +102,7 @@ fn add_rooms(rooms: &mut Vec<Option<u64>>, rec: &Rec<'_>) -> Result<(), AllocErr
 
 /// The bytes that each of a module's externals asks for, in their order; none of an external that is no communal.
 pub fn rooms_of(alloc: Global, module: &Checked) -> Result<Vec<Option<u64>>, AllocError>
-    ensures { IfOk result (λ v. v.items ≡ rooms (recs (records_in «module».now.bytes))) }
+    ensures { IfOk result (λ v. v.items ≡ rooms (recs_of «module».now.bytes)) }
 {
     let mut rooms = Vec::new(alloc);
     for (_, rec) in module.records() {

@@ -2,7 +2,7 @@
 use Rattle.std.proofs.Common.{◌≡◌, ℕ, List, sym, subst, inl, inr}
 use Rattle.std.specs.Prelude.{Option, Result, Ok, Err, zip}
 use Rattle.std.specs.List.{AllZip}
-use Rattle.omf_image.specs.Joined.{runs_of}
+use Rattle.omf_image.specs.Inner.Joined.{runs_of}
 use Rattle.omf_image.specs.Overlay.{Laid, byte_at}
 use Rattle.omf_placement.specs.Placement.{Places}
 use Rattle.omf_records.specs.Values.{Rec}

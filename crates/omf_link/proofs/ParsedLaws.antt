@@ -1,18 +1,15 @@
 -- What clap answers on the words of the program.
-use Rattle.std.proofs.Common.{◌≡◌, List, [], ◌∷◌, Option, Some, true, false, refl, ap, codes}
+use Rattle.std.proofs.Common.{◌≡◌, List, [], ◌∷◌, Option, Some, None, option_map, true, false, refl, sym, ap, ◌∙◌, codes}
+use Rattle.std.specs.Prelude.{IfSome}
 use Rattle.std.specs.Str.{bytes_eq}
-use Rattle.clap.specs.Words.{Kinds, Row, Text, is_simple, is_simple_and_free}
+use Rattle.clap.specs.Words.{Kinds, Row, Text, fault_of, is_simple_and_free, subcommand_of}
 use Rattle.clap.specs.declared.error.kind.ErrorKind.{ErrorKind}
 use Rattle.clap.proofs.OnLiterals.{clap_on_literals}
 use Rattle.omf_layout.specs.declared.options.Options.{Options}
-use Rattle.omf_options.specs.Words.{AreNamed}
-use Rattle.omf_link.specs.Words.{IsTask, link_app}
+use Rattle.omf_options.specs.Words.{AreNamed, NameOnly}
+use Rattle.omf_link.specs.Words.{IsNamedIn, IsOnlyAsked, IsTask, NamesBy, link_app}
 use Rattle.omf_link.specs.declared.words.Task.{Task}
 use Rattle.omf_link.specs.declared.words.Task.TheVariants as task
-
-pub is-simple : is_simple link_app ≡ true
-unfolding clap_on_literals
-is-simple = refl
 
 pub is-free : is_simple_and_free link_app ≡ true
 unfolding clap_on_literals
@@ -30,3 +27,18 @@ task_is name rows task.Image r is image map draft = image (ap (λ n. bytes_eq n 
 task_is name rows task.Map r is image map draft = map (ap (λ n. bytes_eq n (codes "image")) is) (ap (λ n. bytes_eq n (codes "map")) is)
 task_is name rows (task.Draft o) r is image map draft =
     draft o (ap (λ n. bytes_eq n (codes "image")) is.0) (ap (λ n. bytes_eq n (codes "map")) is.0) (ap (λ n. bytes_eq n (codes "draft")) is.0) is.1
+
+-- a task that is answered to what was parsed is named there
+pub only_named : (parse : Option (Text × List Row)) (name : Text) (rows : List Row) (r : Option Task) → Some name ≡ option_map (λ p. p.0) parse → Some rows ≡ option_map (λ p. p.1) parse → IfSome r (NamesBy NameOnly name rows)
+    → IfSome r (IsNamedIn NameOnly parse)
+only_named parse name rows None named behind h = tt
+only_named None name rows (Some t) named behind h = absurd cc
+only_named (Some p) name rows (Some t) named behind h =
+    let first : name ≡ p.0 = cc in
+    let second : rows ≡ p.1 = cc in
+    (name, rows, rw (first, second) refl, h)
+
+-- of words without a fault the words ask for it
+pub only_asked : (words : List Text) (parse : Option (Text × List Row)) (found : Option Task) → fault_of link_app words ≡ [] → parse ≡ subcommand_of link_app words → IfSome found (IsNamedIn NameOnly parse) → IfSome found (IsOnlyAsked words)
+only_asked words parse None sound e h = tt
+only_asked words parse (Some t) sound e h = record { name = h.0; rows = h.1; sound = sound; parsed = sym e ∙ h.2; names = h.3 }

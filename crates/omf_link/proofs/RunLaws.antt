@@ -5,7 +5,8 @@ use Rattle.std.specs.Prelude.{⊤, Option, Some, None, IfSome, filter_map, optio
 use Rattle.std.proofs.KnownBytes.{Consumes-whole}
 use Rattle.std.specs.List.{cons_option, enumerate_from}
 use Rattle.omf_frame.specs.Device.{Device}
-use Rattle.omf_derive.specs.Derive.{PlacedModule, derived}
+use Rattle.omf_derive.specs.Derive.{PlacedModule}
+use Rattle.omf_derive.specs.Inner.Derived.{derived}
 use Rattle.omf_derive.specs.declared.fault.DeriveFault.{DeriveFault}
 use Rattle.omf_derive.specs.declared.fault.DeriveFault.TheVariants as derive
 use Rattle.omf_layout.specs.declared.options.Options.{Options}
@@ -15,7 +16,8 @@ use Rattle.omf_reloc.specs.Reach.{reach_fault}
 use Rattle.omf_reloc.specs.declared.fault.ReachFault.{ReachFault}
 use Rattle.omf_linking.specs.Faults.{of_derive}
 use Rattle.omf_linking.specs.Parts.{Part, parsed_parts}
-use Rattle.omf_linking.specs.Placing.{by_parts, derived_or, found, given_of, places_of, typed_modules}
+use Rattle.omf_linking.specs.Placing.{by_parts, derived_or, found, given_of, places_of}
+use Rattle.omf_check.specs.Module.{typed_modules}
 use Rattle.omf_linking.specs.Reading.{AreModules, IsPartRead, IsReadCause}
 use Rattle.omf_linking.specs.Relocated.{far_module}
 use Rattle.omf_linking.specs.Starts.{main_starts, one_start}

@@ -4,7 +4,7 @@ use Rattle.omf_records.specs.Values.{Rec}
 use Rattle.omf_placement.specs.Placement.{Places}
 use Rattle.omf_layout.specs.Layout.{Laid}
 use Rattle.omf_layout.specs.declared.options.Options.{Options}
-use Rattle.omf_arrange.specs.Placing.{placed}
+use Rattle.omf_arrange.specs.Placing.{arranged_places}
 use Rattle.omf_draft.specs.Reading.{IsReadBack}
 use Rattle.omf_draft.specs.Text.{drafted}
 use Rattle.omf_linking.specs.declared.fault.LinkFault.TheVariants as link
@@ -14,7 +14,7 @@ use Rattle.omf_link.specs.declared.fault.ImageFault.TheVariants as fault
 -- A text is the draft of modules at some options: that of the definition, which gives the modules, if there are any, the places of their segments and groups when it is read.
 pub record IsDraft (o : Options) (ms : List (List Rec)) (text : List ℕ) : Type 0 where
   pub text_is : drafted o ms ≡ Some text
-  pub read : (l : Laid (List Places)) → placed o ms ≡ Some l → 0 < length ms → IsReadBack ms l.what text
+  pub read : (l : Laid (List Places)) → arranged_places o ms ≡ Some l → 0 < length ms → IsReadBack ms l.what text
 
 -- What is answered for modules: that; or something has no room. Want of memory may come in either case.
 abbrev pub IsDrafted : Options → List (List Rec) → Result (List ℕ) ImageFault → Type 0

@@ -10,7 +10,7 @@ use Rattle.omf_records.specs.Values.{Rec}
 use Rattle.omf_linking.specs.declared.fault.LinkFault.{LinkFault}
 use Rattle.omf_linking.specs.declared.fault.LinkFault.TheVariants as link
 use Rattle.omf_cmd.specs.FaultLine.{fault_words as run_words}
-use Rattle.omf_cmd.specs.Printed.{hex, quoted}
+use Rattle.omf_placement.specs.Quoted.{hex, quoted}
 use Rattle.omf_cmd.specs.Reports.{Tells}
 use Rattle.omf_cmd.specs.Runs.{IsWritten}
 use Rattle.omf_cmd.specs.Words.{status_of as run_status}

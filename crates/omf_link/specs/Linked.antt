@@ -1,15 +1,16 @@
 -- The text of the image of several modules, or why there is none (this profile's rule).
 use Rattle.std.specs.Prelude.{◌≡◌, ◌⊎◌, ℕ, List, zip, false, Option, Result, Ok, Err}
 use Rattle.std.specs.List.{AllZip}
-use Rattle.omf_check.specs.Module.{Module}
+use Rattle.omf_check.specs.Module.{Module, typed_modules}
 use Rattle.omf_check.specs.declared.profile.Profile.{Profile}
-use Rattle.omf_image.specs.Joined.{runs_of}
+-- computed: runs_are_maximal of omf_image.
+use Rattle.omf_image.specs.Inner.Joined.{runs_of}
 use Rattle.omf_image.specs.Overlay.{Laid, byte_at}
 use Rattle.omf_memory.specs.Segments.{SegmentAt, AreLaid}
 use Rattle.omf_placement.specs.Placement.{Places}
 use Rattle.omf_records.specs.Values.{Rec}
 use Rattle.omf_linking.specs.LinkedMemory.{IsLinkedMemory}
-use Rattle.omf_linking.specs.Placing.{IsOutcome, linked, typed_modules}
+use Rattle.omf_linking.specs.Placing.{IsOutcome, linked}
 use Rattle.omf_linking.specs.Reading.{AreModules}
 use Rattle.omf_linking.specs.Relocated.{AreRelocated, IsRelocated}
 use Rattle.omf_linking.specs.Segments.{all_segments, with_own_images}

@@ -1,7 +1,7 @@
 -- The text of the bytes of a memory (this profile's rule).
 use Rattle.std.specs.Prelude.{ℕ, List, [], ◌∷◌, ◌++◌, flat_map, Option}
 use Rattle.omf_image.specs.declared.run.Run.{Run}
-use Rattle.omf_cmd.specs.Printed.{hex}
+use Rattle.omf_placement.specs.Quoted.{hex}
 use Rattle.omf_cmd.specs.Relocated.{run_lines, start_line}
 
 -- An address: eight hexadecimal digits, and a colon.

@@ -1,6 +1,6 @@
 -- Words of the worked examples.
 use Rattle.std.specs.Prelude.{ℕ, List, Option}
-use Rattle.omf_image.specs.Joined.{runs_of}
+use Rattle.omf_image.specs.Inner.Joined.{runs_of}
 use Rattle.omf_image.specs.Overlay.{Laid, byte_at}
 use Rattle.omf_linking.specs.declared.fault.LinkFault.{LinkFault}
 use Rattle.omf_memory.specs.declared.stretch.Owner.{Owner}

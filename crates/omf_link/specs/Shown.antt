@@ -1,8 +1,7 @@
 -- The text that a task prints of an input, or the first fault, with the name of the external that it tells of.
 use Rattle.std.specs.Prelude.{◌≡◌, ◌⊎◌, ℕ, List, [], Result, Ok, Err}
-use Rattle.omf_check.specs.Module.{Module}
+use Rattle.omf_check.specs.Module.{Module, typed_modules}
 use Rattle.omf_records.specs.Values.{Rec}
-use Rattle.omf_linking.specs.Placing.{typed_modules}
 use Rattle.omf_linking.specs.Reading.{AreModules}
 use Rattle.omf_linking.specs.declared.fault.LinkFault.{LinkFault}
 use Rattle.omf_linking.specs.declared.fault.LinkFault.TheVariants as link

@@ -1,8 +1,8 @@
 //! The text of the image of several modules, and their map.
 
 ghost use Rattle.std.specs.Prelude.{◌≡◌, ◌<◌, ◌^◌, length, string_bytes};
-ghost use Rattle.omf_records.specs.Seen.{map_ok};
-ghost use Rattle.omf_linking.specs.Placing.{typed_modules};
+ghost use Rattle.omf_records.specs.Inner.Seen.{map_ok};
+ghost use Rattle.omf_check.specs.Module.{typed_modules};
 ghost use Rattle.omf_link.specs.Linked.{IsLinked, IsLinkedText};
 ghost use Rattle.omf_link.specs.Mapped.{IsMapped};
 

@@ -1,7 +1,7 @@
 //! A fault with the name of its external.
 
 ghost use Rattle.std.specs.Prelude.{◌≡◌, ◌∷◌, []};
-ghost use Rattle.omf_linking.specs.Placing.{typed_modules};
+ghost use Rattle.omf_check.specs.Module.{typed_modules};
 ghost use Rattle.omf_link.specs.Faults.{IsNamed, IsUnnamed, external_name, name_of};
 
 use crate::fault::ImageFault;

@@ -2,7 +2,7 @@
 
 ghost use Rattle.std.specs.Prelude.{◌≡◌, ◌++◌, [], IfOk, OnOk, string_bytes};
 ghost use Rattle.omf_cmd.specs.FaultLine.{fault_words as run_words};
-ghost use Rattle.omf_cmd.specs.Printed.{hex, quoted};
+ghost use Rattle.omf_placement.specs.Quoted.{hex, quoted};
 ghost use Rattle.omf_placement.specs.Entries.{in_words};
 ghost use Rattle.omf_link.specs.Faults.{derive_words, external_words, fault_line, link_words, module_words};
 ghost use Rattle.omf_linking.specs.declared.fault.LinkFault.TheVariants.{Beyond, Overlap, Starts};

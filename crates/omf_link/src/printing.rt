@@ -1,8 +1,8 @@
 //! The text of the bytes of a memory.
 
 ghost use Rattle.std.specs.Prelude.{◌≡◌, ◌+◌, ◌≤◌, ◌^◌, ◌++◌, IfOk, OnOk, length};
-ghost use Rattle.omf_cmd.specs.RunLines.{line_text, lines_of};
-ghost use Rattle.omf_image.specs.Joined.{runs_of};
+ghost use Rattle.omf_cmd.specs.Inner.RunLines.{line_text, lines_of};
+ghost use Rattle.omf_image.specs.Inner.Joined.{runs_of};
 ghost use Rattle.omf_image.specs.Overlay.{byte_at};
 ghost use Rattle.omf_link.specs.MemoryText.{address_text, image_text, memory_text};
 

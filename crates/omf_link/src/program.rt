@@ -6,7 +6,7 @@ ghost use Rattle.omf_cmd.specs.Reports.{IsOutOfMemory};
 ghost use Rattle.omf_cmd.specs.Runs.{IsWritten};
 ghost use Rattle.omf_link.specs.Faults.{TellsFault, as_run, fault_line, status_of, usage};
 ghost use Rattle.omf_link.specs.Runs.{IsAnswer, IsMisuse};
-ghost use Rattle.omf_link.specs.Words.{IsAsked, link_app};
+ghost use Rattle.omf_link.specs.Words.{IsAsked, IsOnlyAsked, link_app};
 ghost use Rattle.omf_link.specs.declared.words.Task.{Task as Asked};
 
 use crate::fault::ImageFault;
@@ -101,6 +101,8 @@ pub fn main_with<S: Source, K: Sink>(
     ensures known { result ≤ 3 }
     // Where the words ask for a task, it was done, and the status and what was written tell its answer; or memory ran out before.
     ensures answer { (asked : Asked) → IsAsked (map string_bytes words.now) asked → IsAnswer asked (S.seen reader.old) (S.seen reader.new) (K.seen writer.old) (K.seen writer.new) result ⊎ IsOutOfMemory (S.seen reader.old) (S.seen reader.new) (K.seen writer.old) (K.seen writer.new) result }
+    // Where the words ask for nothing, as where a value behind `draft` is no hexadecimal number, the program says how it is called.
+    ensures unasked { ((asked : Asked) → IsOnlyAsked (map string_bytes words.now) asked → ⊥) → IsMisuse (S.seen reader.old) (S.seen reader.new) (K.seen writer.old) (K.seen writer.new) result }
     // Where the words name no subcommand, the program says how it is called.
     ensures nothing { subcommand_of link_app (map string_bytes words.now) ≡ None → IsMisuse (S.seen reader.old) (S.seen reader.new) (K.seen writer.old) (K.seen writer.new) result }
     // Where clap refuses the words, the program says how it is called.

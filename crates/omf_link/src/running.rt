@@ -1,8 +1,8 @@
 //! The program's run, from a reader to a writer.
 
 ghost use Rattle.std.specs.Prelude.{◌≡◌, ◌<◌, ◌^◌, ℕ, List, Some, length};
-ghost use Rattle.omf_records.specs.Seen.{map_ok};
-ghost use Rattle.omf_linking.specs.Placing.{typed_modules};
+ghost use Rattle.omf_records.specs.Inner.Seen.{map_ok};
+ghost use Rattle.omf_check.specs.Module.{typed_modules};
 ghost use Rattle.omf_link.specs.Drafted.{IsDrafted};
 ghost use Rattle.omf_link.specs.Linked.{IsLinked};
 ghost use Rattle.omf_link.specs.Mapped.{IsMapped};

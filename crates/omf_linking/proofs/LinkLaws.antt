@@ -4,10 +4,10 @@ use Rattle.std.specs.Prelude.{Ok, Err, Result, map}
 use Rattle.std.specs.List.{enumerate_from}
 use Rattle.std.proofs.lemmas.List.{length-map}
 use Rattle.std.proofs.lemmas.List.FromFn.{length-enumerate_from}
-use Rattle.omf_check.specs.Module.{Module}
-use Rattle.omf_derive.specs.Derive.{derived, derive_faults, unless_fault, with_externals}
-use Rattle.omf_derive.specs.Deriving.{IsDerived}
-use Rattle.omf_derive.specs.PublicTable.{placed_modules}
+use Rattle.omf_check.specs.Module.{Module, typed_modules}
+use Rattle.omf_derive.specs.Inner.Derived.{derived, derive_faults, unless_fault, with_externals}
+use Rattle.omf_derive.specs.Inner.Deriving.{IsDerived}
+use Rattle.omf_derive.specs.Inner.PublicTable.{placed_modules}
 use Rattle.omf_derive.specs.declared.fault.DeriveFault.{DeriveFault}
 use Rattle.omf_derive.specs.declared.fault.DeriveFault.TheVariants as derive
 use Rattle.omf_derive.specs.declared.given.Given.{Given}
@@ -17,7 +17,7 @@ use Rattle.omf_placement.specs.declared.fault.TextFault.TheVariants as text
 use Rattle.omf_records.specs.Values.{Rec}
 use Rattle.omf_linking.specs.Faults.{of_text, of_derive}
 use Rattle.omf_linking.specs.Parts.{Part, IsAnswer, parsed_parts}
-use Rattle.omf_linking.specs.Placing.{IsOutcome, given_of, linked, by_parts, found, derived_or, places_of, typed_modules}
+use Rattle.omf_linking.specs.Placing.{IsOutcome, given_of, linked, by_parts, found, derived_or, places_of}
 
 pub parts_fail : (ms : List (List Rec)) (given : List ℕ) (f : TextFault) → IsAnswer (parsed_parts given) (Err f) → IsOutcome (linked ms given) (Err (of_text f))
 parts_fail ms given text.Memory h = tt

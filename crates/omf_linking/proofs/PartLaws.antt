@@ -5,12 +5,12 @@ use Rattle.std.specs.Prelude.{map, filter_map, is_some, true, Option, Some, None
 use Rattle.std.specs.List.{enumerate_from, slice_split, zip, onto_first}
 use Rattle.std.proofs.lemmas.List.Splits.{length-slice_split}
 use Rattle.omf_placement.specs.Entries.{Blank, SegmentEntry, GroupEntry, ExternalEntry, said}
-use Rattle.omf_placement.specs.EntryReading.{words_of}
-use Rattle.omf_placement.specs.Parsing.{parts_after}
+use Rattle.omf_placement.specs.Inner.EntryReading.{words_of}
+use Rattle.omf_placement.specs.Inner.Parsing.{parts_after}
 use Rattle.omf_placement.specs.PlacementText.{Draft, segment_entry, group_entry, external_entry}
 use Rattle.omf_linking.specs.LinkEntries.{LinkEntry, NextModule, GivenExternal, OfPlacement, link_entry_said, given_of_words}
 use Rattle.omf_linking.specs.Parts.{Line, Part, is_border, border, bad_line, placing, giving, draft_in, part_of, parts_of, link_lines, parsed_parts}
-use Rattle.omf_linking.specs.Parsing.{empty_part, with_line}
+use Rattle.omf_linking.specs.Inner.Parsing.{empty_part, with_line}
 
 -- five words behind an X or more give nothing
 many_words : (i x y z : List ℕ) (more : List (List ℕ)) (n : ℕ) → length more ≡ n + 1 → given_of_words (i ∷ x ∷ y ∷ z ∷ more) ≡ None

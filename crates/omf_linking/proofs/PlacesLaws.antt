@@ -3,14 +3,14 @@ use Rattle.std.proofs.Common.{◌≡◌, ℕ, suc, ◌+◌, ◌<◌, ◌≤◌, 
 use Rattle.std.specs.Prelude.{flat_map, option_to_list, Option, Some, None, MatchOption, Result, Ok, Err}
 use Rattle.std.specs.List.{enumerate_from}
 use Rattle.std.proofs.lemmas.List.{drop_all}
-use Rattle.omf_check.specs.Module.{Module, records_in}
+use Rattle.omf_check.specs.Module.{Module, records_in, typed_modules}
 use Rattle.omf_check.specs.WellFormed.{recs}
 use Rattle.omf_derive.specs.declared.given.Given.{Given}
 use Rattle.omf_placement.specs.Placement.{Places}
 use Rattle.omf_records.specs.Values.{Rec}
 use Rattle.omf_linking.specs.Parts.{Part}
-use Rattle.omf_linking.specs.Parsing.{place_by, given_by}
-use Rattle.omf_linking.specs.Placing.{places_of, place_of, no_places, in_front, and_then_others, given_in, given_of, typed_modules}
+use Rattle.omf_linking.specs.Inner.Parsing.{place_by, given_by}
+use Rattle.omf_linking.specs.Placing.{places_of, place_of, no_places, in_front, and_then_others, given_in, given_of}
 
 -- places in front of others
 abbrev pub behind : List Places → Result (List Places) ℕ → Result (List Places) ℕ

@@ -7,14 +7,14 @@ use Rattle.std.specs.Prelude.{flat_map, Result, Err}
 use Rattle.std.specs.List.{AllZip, enumerate_from}
 use Rattle.omf_frame.specs.Framing.{Raw, raw_bytes}
 use Rattle.omf_frame.specs.declared.fault.Place.{Place}
-use Rattle.omf_records.specs.Reading.{typed}
+use Rattle.omf_records.specs.Inner.Reading.{typed}
 use Rattle.omf_records.specs.Values.{Rec, Contents, Header, Comment, Names, Segment, Group, Externs, Publics, Communals, Plain, Iterated, Fixups, ModEnd, Carried}
 use Rattle.omf_check.specs.Listed.{placed_from}
 use Rattle.omf_check.specs.Module.{Module, records_in}
 use Rattle.omf_check.specs.Tables.{segments, defined_segments}
 use Rattle.omf_check.specs.WellFormed.{recs}
 use Rattle.omf_derive.specs.Derive.{PlacedModule}
-use Rattle.omf_derive.specs.PublicTable.{placed_modules}
+use Rattle.omf_derive.specs.Inner.PublicTable.{placed_modules}
 use Rattle.omf_memory.specs.declared.segment.PlacedSegment.{PlacedSegment}
 use Rattle.omf_image.specs.Overlay.{Laid}
 use Rattle.omf_memory.specs.declared.fault.MemoryFault.{MemoryFault}

@@ -2,10 +2,10 @@ pub mod LinkEntries
 pub mod Parts
 pub mod Faults
 pub mod Placing
-pub mod Parsing
 pub mod Reading
 pub mod Relocated
 pub mod Segments
 pub mod LinkedMemory
 pub mod Starts
 pub mod Rows
+pub mod Inner

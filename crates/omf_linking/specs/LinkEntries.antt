@@ -1,11 +1,9 @@
 -- What a line of a link's text says (this profile's rule): what it says of a segment or a group in a placement text; the place of an external that is given by
 -- hand; or that the part of the next module begins.
 use Rattle.std.specs.Prelude.{ℕ, List, [], ◌∷◌, Option, Some, None, option_map, option_and_then, codes, if◌then◌else◌, bytes_eq}
-use Rattle.omf_linking.specs.declared.entry.LinkEntry.TheVariants as code
-use Rattle.omf_linking.specs.declared.entry.LinkEntry as written
 use Rattle.omf_placement.specs.Entries.{Entry, ExternalEntry}
-use Rattle.omf_placement.specs.EntryReading.{hexadecimal, placed_of, entry_of_words, words_of}
-use Rattle.omf_placement.specs.Parsing.{seen as entry_seen}
+-- computed: entries_are_read, places_are_read and numbers_are_read of omf_placement.
+use Rattle.omf_placement.specs.Inner.EntryReading.{hexadecimal, placed_of, entry_of_words, words_of}
 use Rattle.omf_placement.specs.declared.frame.Placed.{Placed}
 
 pub data LinkEntry : Type 0 where
@@ -30,9 +28,3 @@ link_entry_of_words (w ∷ ws) = if bytes_eq w (codes "X") then given_of_words w
 -- What is said, as an entry: `M` alone begins the part of the next module.
 abbrev pub link_entry_said : List ℕ → Option LinkEntry
 link_entry_said text = if bytes_eq text (codes "M") then Some NextModule else link_entry_of_words (words_of text)
-
--- an entry of the code
-abbrev pub seen : written.LinkEntry → LinkEntry
-seen code.Next = NextModule
-seen (code.Given i p) = GivenExternal i p
-seen (code.Of e) = OfPlacement (entry_seen e)

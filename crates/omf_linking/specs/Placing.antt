@@ -2,10 +2,9 @@
 use Rattle.std.specs.Prelude.{◌≡◌, ⊤, ℕ, List, [], ◌∷◌, length, map, flat_map, filter_map, zip, Option, Some, None, Result, Ok, Err, if◌then◌else◌}
 use Rattle.std.specs.List.{enumerate_from}
 use Rattle.omf_records.specs.Values.{Rec}
-use Rattle.omf_check.specs.Module.{Module, records_in}
 use Rattle.omf_check.specs.Tables.{externals, is_defined}
-use Rattle.omf_check.specs.WellFormed.{recs}
-use Rattle.omf_derive.specs.Derive.{derived}
+-- computed: derived_is_taken of omf_derive.
+use Rattle.omf_derive.specs.Inner.Derived.{derived}
 use Rattle.omf_derive.specs.declared.fault.DeriveFault.{DeriveFault}
 use Rattle.omf_derive.specs.declared.given.Given.{Given}
 use Rattle.omf_placement.specs.Placement.{Places}
@@ -77,7 +76,3 @@ abbrev pub IsOutcome : {A : Type 0} → Result A LinkFault → Result A LinkFaul
 IsOutcome r (Ok a) = r ≡ Ok a
 IsOutcome r (Err fault.Memory) = ⊤
 IsOutcome r (Err f) = r ≡ Err f
-
--- The typed records of modules.
-abbrev pub typed_modules : List Module → List (List Rec)
-typed_modules ms = map (λ m. recs (records_in m.bytes)) ms

@@ -1,9 +1,10 @@
 //! What the lines of a link's text say (this profile's rule).
 
 ghost use Rattle.std.specs.Prelude.{◌≡◌, [], ◌∷◌, option_map};
-ghost use Rattle.omf_placement.specs.EntryReading.{words_of};
-ghost use Rattle.omf_placement.specs.Parsing.{seen as entry_seen};
-ghost use Rattle.omf_linking.specs.LinkEntries.{given_of_words, link_entry_said, of_placement, seen};
+ghost use Rattle.omf_placement.specs.Inner.EntryReading.{words_of};
+ghost use Rattle.omf_placement.specs.Inner.Parsing.{seen as entry_seen};
+ghost use Rattle.omf_linking.specs.LinkEntries.{given_of_words, link_entry_said, of_placement};
+ghost use Rattle.omf_linking.specs.Inner.Parsing.{seen};
 
 use omf_placement::cut::cut;
 use omf_placement::{Entry, Placed, entry_of, hexadecimal, placed_of};

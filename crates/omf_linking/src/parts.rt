@@ -1,14 +1,12 @@
 //! The text of a link, in parts.
 
 ghost use Rattle.std.specs.Prelude.{◌≡◌, ◌++◌, OnOk, filter_map};
-ghost use Rattle.omf_records.specs.Seen.{map_ok};
-ghost use Rattle.omf_check.specs.Module.{records_in};
+ghost use Rattle.omf_records.specs.Inner.Seen.{map_ok};
+ghost use Rattle.omf_check.specs.Module.{recs_of};
 ghost use Rattle.omf_check.specs.Tables.{is_defined};
-ghost use Rattle.omf_check.specs.WellFormed.{recs};
 ghost use Rattle.omf_placement.specs.PlacementText.{resolved};
-ghost use Rattle.omf_linking.specs.LinkEntries.{seen};
+ghost use Rattle.omf_linking.specs.Inner.Parsing.{seen, IsStray, empty_part, with_line};
 ghost use Rattle.omf_linking.specs.Parts.{IsAnswer, parsed_parts};
-ghost use Rattle.omf_linking.specs.Parsing.{IsStray, empty_part, with_line};
 ghost use Rattle.omf_linking.specs.Placing.{given_in, stray};
 
 use crate::entry::{LinkEntry, link_entry_of};
@@ -72,7 +70,7 @@ impl Part {
         number: u32,
         given: &mut Vec<Given>,
     ) -> Result<(), TextFault>
-        ensures line { IsStray (filter_map (stray (recs (records_in «module».now.bytes))) self.now.given) result }
+        ensures line { IsStray (filter_map (stray (recs_of «module».now.bytes)) self.now.given) result }
         ensures given { OnOk result (given.new.items ≡ given.old.items ++ given_in (number, self.now)) }
     {
         for entry in &self.given {
@@ -96,7 +94,7 @@ impl Part {
     ///
     /// `Line` for the first `G real` whose frame is not found. `Memory` where a growth was refused.
     pub(crate) fn resolve(self, alloc: Global, module: &Checked) -> Result<Placement, TextFault>
-        ensures { IsAnswer (resolved (recs (records_in «module».now.bytes)) self.draft) result }
+        ensures { IsAnswer (resolved (recs_of «module».now.bytes) self.draft) result }
     {
         let Part { draft, .. } = self;
         draft.resolve(alloc, module)

@@ -1,12 +1,11 @@
 //! The placements of several modules.
 
 ghost use Rattle.std.specs.Prelude.{◌≡◌, ◌++◌, ◌<◌, ◌^◌, [], OnOk, IfOk, length};
-ghost use Rattle.omf_check.specs.Module.{records_in};
-ghost use Rattle.omf_check.specs.WellFormed.{recs};
-ghost use Rattle.omf_records.specs.Seen.{map_ok};
+ghost use Rattle.omf_check.specs.Module.{recs_of, typed_modules};
+ghost use Rattle.omf_records.specs.Inner.Seen.{map_ok};
 ghost use Rattle.omf_linking.specs.Parts.{IsAnswer};
-ghost use Rattle.omf_linking.specs.Parsing.{given_by, place_by};
-ghost use Rattle.omf_linking.specs.Placing.{IsOutcome, given_in, given_of, linked, place_of, places_of, typed_modules};
+ghost use Rattle.omf_linking.specs.Inner.Parsing.{given_by, place_by};
+ghost use Rattle.omf_linking.specs.Placing.{IsOutcome, given_in, given_of, linked, place_of, places_of};
 
 use crate::fault::LinkFault;
 use crate::parts::{Part, parse_parts};
@@ -23,7 +22,7 @@ fn place_of(
     part: Part,
     given: &mut Vec<Given>,
 ) -> Result<Placement, TextFault>
-    ensures place { IsAnswer (place_of (recs (records_in «module».now.bytes)) part) result }
+    ensures place { IsAnswer (place_of (recs_of «module».now.bytes) part) result }
     ensures given { OnOk result (given.new.items ≡ given.old.items ++ given_in (number, part)) }
 {
     part.give(module, number, given)?;
@@ -38,7 +37,7 @@ fn next_place(
     part: Option<Part>,
     given: &mut Vec<Given>,
 ) -> Result<Placement, TextFault>
-    ensures place { IsAnswer (place_by (recs (records_in «module».now.bytes)) part) result }
+    ensures place { IsAnswer (place_by (recs_of «module».now.bytes) part) result }
     ensures given { OnOk result (given.new.items ≡ given.old.items ++ given_by number part) }
 {
     match part {

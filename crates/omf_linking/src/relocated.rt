@@ -1,11 +1,9 @@
 //! Modules at their placements.
 
 ghost use Rattle.std.specs.Prelude.{◌≡◌, ◌<◌, ◌^◌, IfOk, length, zip};
-ghost use Rattle.omf_check.specs.Module.{records_in};
-ghost use Rattle.omf_check.specs.WellFormed.{recs};
-ghost use Rattle.omf_derive.specs.PublicTable.{placed_modules};
-ghost use Rattle.omf_records.specs.Seen.{map_ok};
-ghost use Rattle.omf_linking.specs.Placing.{typed_modules};
+ghost use Rattle.omf_check.specs.Module.{recs_of, typed_modules};
+ghost use Rattle.omf_derive.specs.Inner.PublicTable.{placed_modules};
+ghost use Rattle.omf_records.specs.Inner.Seen.{map_ok};
 ghost use Rattle.omf_linking.specs.Relocated.{AreRelocated, IsRelocation};
 ghost use Rattle.omf_linking.specs.Starts.{is_main, main_start, main_starts, one_start};
 
@@ -38,7 +36,7 @@ impl Relocated {
         module: &Checked,
         placement: &Placement,
     ) -> Result<Relocated, LinkFault>
-        ensures { IsRelocation number (recs (records_in «module».now.bytes), placement.now) result }
+        ensures { IsRelocation number (recs_of «module».now.bytes, placement.now) result }
     {
         let image = match reach_and_relocate(alloc, module, placement) {
             Ok(image) => image,
@@ -55,7 +53,7 @@ impl Relocated {
 
 /// Whether a module is a main one (TIS OMF 1.1, "MODEND", bit 7 of its type byte).
 fn is_main(module: &Checked) -> bool
-    ensures { result ≡ is_main (recs (records_in «module».now.bytes)) }
+    ensures { result ≡ is_main (recs_of «module».now.bytes) }
 {
     let end = module.end();
     match &end {
@@ -66,7 +64,7 @@ fn is_main(module: &Checked) -> bool
 
 /// The start of a module, if it is a main one that names one.
 fn main_start(module: &Checked, relocated: &Relocated) -> Option<(u16, u32)>
-    ensures { result ≡ main_start (recs (records_in «module».now.bytes), relocated.now) }
+    ensures { result ≡ main_start (recs_of «module».now.bytes, relocated.now) }
 {
     if is_main(module) {
         relocated.start

@@ -1,11 +1,10 @@
 //! The segments of modules at their placements.
 
 ghost use Rattle.std.specs.Prelude.{◌≡◌, ◌++◌, ◌<◌, ◌^◌, IfOk, OnOk, length};
-ghost use Rattle.omf_records.specs.Seen.{contents_seen};
-ghost use Rattle.omf_check.specs.Module.{records_in};
+ghost use Rattle.omf_records.specs.Inner.Seen.{contents_seen};
+ghost use Rattle.omf_check.specs.Module.{recs_of};
 ghost use Rattle.omf_check.specs.Tables.{segments};
-ghost use Rattle.omf_check.specs.WellFormed.{recs};
-ghost use Rattle.omf_derive.specs.PublicTable.{placed_modules};
+ghost use Rattle.omf_derive.specs.Inner.PublicTable.{placed_modules};
 ghost use Rattle.omf_memory.specs.Segments.{segment_at, segments_at};
 ghost use Rattle.omf_placement.specs.Placement.{placed};
 ghost use Rattle.omf_linking.specs.Segments.{all_segments, commons, commons_in, image_bytes, is_common, module_segment, module_segments, with_images};
@@ -39,8 +38,8 @@ fn add_common(commons: &mut Vec<bool>, rec: &Rec<'_>) -> Result<(), AllocError>
 
 /// Whether each of a module's segments is common, in their order.
 fn commons_of(alloc: Global, module: &Checked) -> Result<Vec<bool>, AllocError>
-    ensures all { IfOk result (λ v. v.items ≡ commons (recs (records_in «module».now.bytes))) }
-    ensures each { IfOk result (λ v. length v.items ≡ length (segments (recs (records_in «module».now.bytes)))) }
+    ensures all { IfOk result (λ v. v.items ≡ commons (recs_of «module».now.bytes)) }
+    ensures each { IfOk result (λ v. length v.items ≡ length (segments (recs_of «module».now.bytes))) }
 {
     let mut commons = Vec::new(alloc);
     for (_, rec) in module.records() {
@@ -88,7 +87,7 @@ fn add_module<'a>(
     placement: &Placement,
     relocated: &'a Relocated,
 ) -> Result<(), AllocError>
-    ensures { OnOk result (segments_at segments.new.items ≡ segments_at segments.old.items ++ module_segments (number, ((recs (records_in «module».now.bytes), placement.now), image_bytes relocated.now))) }
+    ensures { OnOk result (segments_at segments.new.items ≡ segments_at segments.old.items ++ module_segments (number, ((recs_of «module».now.bytes, placement.now), image_bytes relocated.now))) }
 {
     let commons = commons_of(alloc, module)?;
     for before in 0..module.segments() {

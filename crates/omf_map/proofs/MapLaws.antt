@@ -5,17 +5,17 @@ use Rattle.std.specs.List.{enumerate_from}
 use Rattle.std.proofs.Math.Seq.{drop-cons}
 use Rattle.std.proofs.lemmas.List.{append-nil, drop_all}
 use Rattle.std.proofs.lemmas.Option.{slice_get_within, get_or_from_slice_get}
-use Rattle.omf_records.specs.Seen.{contents_seen, kind_seen}
+use Rattle.omf_records.specs.Inner.Seen.{contents_seen, kind_seen}
 use Rattle.omf_records.specs.Values.{At, PublicItem}
-use Rattle.omf_records.specs.declared.record.Rec.{Rec as Told}
-use Rattle.omf_records.specs.declared.record.Rec.TheVariants as told
+use Rattle.omf_records.specs.declared.record.Rec.{Rec as CodeRec}
+use Rattle.omf_records.specs.declared.record.Rec.TheVariants as code
 use Rattle.omf_check.specs.Tables.{entry}
 use Rattle.omf_derive.specs.Derive.{base_of, segment_base, publics_at, record_publics}
 use Rattle.omf_derive.proofs.NamedLaws.{entry-suc}
 use Rattle.omf_placement.specs.declared.frame.Placed.{Placed}
 use Rattle.omf_placement.specs.Placement.{Places}
 use Rattle.omf_map.specs.MapText.{public_line}
-use Rattle.omf_map.specs.Steps.{item_line}
+use Rattle.omf_map.specs.Inner.Steps.{item_line}
 
 pub record ArePrinted {A : Type 0} (f : ℕ × A → List ℕ) (xs : List A) (i : ℕ) (old now : List ℕ) : Type 0 where
   pub whole : now ++ flat_map f (enumerate_from (i + 1) (drop i xs)) ≡ old ++ flat_map f (enumerate_from 1 xs)
@@ -54,10 +54,10 @@ items_printed number base [] = refl
 items_printed number base (q ∷ items) = ap (λ t. item_line number base.address q ++ t) (items_printed number base items)
 
 -- those of a PUBDEF are not local
-abbrev pub shown_of : ℕ → Places → Told → List ℕ
+abbrev pub shown_of : ℕ → Places → CodeRec → List ℕ
 shown_of number pl r = flat_map (public_line number) (record_publics false pl (kind_seen r) (contents_seen r))
 
 pub pubdef_printed : (number : ℕ) (pl : Places) (wide : Bool) (group segment : At ℕ) (frame : Option ℕ) (items : List (At PublicItem))
-    → flat_map (item_line number (segment_base pl segment.item frame).address) items ≡ shown_of number pl (told.Publics wide group segment frame items)
+    → flat_map (item_line number (segment_base pl segment.item frame).address) items ≡ shown_of number pl (code.Publics wide group segment frame items)
 pubdef_printed number pl true group segment frame items = items_printed number (base_of pl group.item segment.item frame) items
 pubdef_printed number pl false group segment frame items = items_printed number (base_of pl group.item segment.item frame) items

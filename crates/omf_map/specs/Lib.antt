@@ -1,3 +1,3 @@
 pub mod MapText
-pub mod Steps
 pub mod Rows
+pub mod Inner

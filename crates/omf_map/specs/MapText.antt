@@ -6,7 +6,8 @@ use Rattle.omf_check.specs.Tables.{names, segments, externals, entry}
 use Rattle.omf_check.specs.declared.segment.SegInfo.{SegInfo}
 use Rattle.omf_derive.specs.Derive.{PlacedModule, PlacedPublic, publics}
 use Rattle.omf_placement.specs.declared.frame.Placed.{Placed}
-use Rattle.omf_cmd.specs.Printed.{hex, line, named, quoted}
+use Rattle.omf_cmd.specs.Printed.{line}
+use Rattle.omf_placement.specs.Quoted.{hex, named, quoted}
 
 -- The address of the entry of an index, if there is one; in hexadecimal, or a dash for none.
 abbrev pub address_at : List Placed → ℕ → Option ℕ

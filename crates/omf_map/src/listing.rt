@@ -2,13 +2,12 @@
 
 ghost use Rattle.std.specs.Prelude.{◌≡◌, ◌++◌, IfOk, OnOk, length, flat_map, string_bytes, false};
 ghost use Rattle.std.specs.List.{enumerate_from};
-ghost use Rattle.omf_records.specs.Seen.{contents_seen, kind_seen};
-ghost use Rattle.omf_check.specs.Module.{records_in};
-ghost use Rattle.omf_check.specs.WellFormed.{recs};
+ghost use Rattle.omf_records.specs.Inner.Seen.{contents_seen, kind_seen};
+ghost use Rattle.omf_check.specs.Module.{recs_of};
 ghost use Rattle.omf_derive.specs.Derive.{record_publics, segment_base};
-ghost use Rattle.omf_derive.specs.PublicTable.{placed_modules};
+ghost use Rattle.omf_derive.specs.Inner.PublicTable.{placed_modules};
 ghost use Rattle.omf_map.specs.MapText.{address_at, external_lines, map_text, public_line, public_lines, segment_line, segment_lines};
-ghost use Rattle.omf_map.specs.Steps.{item_line, part_lines};
+ghost use Rattle.omf_map.specs.Inner.Steps.{item_line, part_lines};
 
 use crate::printing::{print_external, print_public, print_segment};
 use omf_check::{Checked, SegInfo};
@@ -56,7 +55,7 @@ fn print_segment_of(
     placement: &Placement,
     segment: SegInfo,
 ) -> Result<(), AllocError>
-    ensures { OnOk result (string_bytes text.new ≡ string_bytes text.old ++ segment_line number (recs (records_in «module».now.bytes), placement.now) (index, segment)) }
+    ensures { OnOk result (string_bytes text.new ≡ string_bytes text.old ++ segment_line number (recs_of «module».now.bytes, placement.now) (index, segment)) }
 {
     let address = segment_address(placement, index);
     let name = module.name(segment.name);
@@ -71,7 +70,7 @@ fn print_segments(
     module: &Checked,
     placement: &Placement,
 ) -> Result<(), AllocError>
-    ensures { OnOk result (string_bytes text.new ≡ string_bytes text.old ++ segment_lines (number, (recs (records_in «module».now.bytes), placement.now))) }
+    ensures { OnOk result (string_bytes text.new ≡ string_bytes text.old ++ segment_lines (number, (recs_of «module».now.bytes, placement.now))) }
 {
     for before in 0..module.segments() {
         let index = before + 1;
@@ -155,7 +154,7 @@ fn print_publics(
     module: &Checked,
     placement: &Placement,
 ) -> Result<(), AllocError>
-    ensures { OnOk result (string_bytes text.new ≡ string_bytes text.old ++ public_lines (number, (recs (records_in «module».now.bytes), placement.now))) }
+    ensures { OnOk result (string_bytes text.new ≡ string_bytes text.old ++ public_lines (number, (recs_of «module».now.bytes, placement.now))) }
 {
     for (_, rec) in module.records() {
         print_record(text, number, placement, &rec)?;
@@ -170,7 +169,7 @@ fn print_externals(
     module: &Checked,
     placement: &Placement,
 ) -> Result<(), AllocError>
-    ensures { OnOk result (string_bytes text.new ≡ string_bytes text.old ++ external_lines (number, (recs (records_in «module».now.bytes), placement.now))) }
+    ensures { OnOk result (string_bytes text.new ≡ string_bytes text.old ++ external_lines (number, (recs_of «module».now.bytes, placement.now))) }
 {
     for before in 0..module.externals() {
         let index = before + 1;
@@ -191,7 +190,7 @@ fn print_module(
     module: &Checked,
     placement: &Placement,
 ) -> Result<(), AllocError>
-    ensures { OnOk result (string_bytes text.new ≡ string_bytes text.old ++ part_lines part (number, (recs (records_in «module».now.bytes), placement.now))) }
+    ensures { OnOk result (string_bytes text.new ≡ string_bytes text.old ++ part_lines part (number, (recs_of «module».now.bytes, placement.now))) }
 {
     match part {
         Part::Segments => print_segments(text, number, module, placement),

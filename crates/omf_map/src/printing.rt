@@ -1,7 +1,8 @@
 //! The lines of a map.
 
 ghost use Rattle.std.specs.Prelude.{◌≡◌, ◌++◌, ◌∷◌, [], OnOk, string_bytes, codes, decimal, unwrap_or, option_map};
-ghost use Rattle.omf_cmd.specs.Printed.{hex, line, quoted};
+ghost use Rattle.omf_cmd.specs.Printed.{line};
+ghost use Rattle.omf_placement.specs.Quoted.{hex, quoted};
 ghost use Rattle.omf_map.specs.MapText.{address_or_dash};
 
 use omf_frame::Name;

@@ -3,7 +3,7 @@ use Rattle.std.proofs.Common.{inl, inr, ℕ, suc, ◌<◌, ◌≤◌, List, [], 
 use Rattle.std.specs.Prelude.{IsSome, IsNone}
 use Rattle.omf_image.specs.declared.run.Run.{Run}
 use Rattle.omf_image.specs.Overlay.{Laid, byte_at}
-use Rattle.omf_image.specs.Joined.{run_end, runs_of}
+use Rattle.omf_image.specs.Inner.Joined.{run_end, runs_of}
 use Rattle.omf_image.proofs.RunLaws.{AreApart, Covers, apart_from, runs_cover, some_or_none}
 
 -- ---- no byte lies between runs

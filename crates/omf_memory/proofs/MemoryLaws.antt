@@ -16,7 +16,7 @@ use Rattle.omf_image.proofs.TurnLaws.{images_are}
 use Rattle.omf_memory.specs.declared.stretch.Owner.{Owner}
 use Rattle.omf_memory.specs.declared.stretch.Stretch.{Stretch}
 use Rattle.omf_memory.specs.Memory.{piece, pieces, Lies, Share, share_of, shares, memory_byte, IsMemory, IsFirstOverlap}
-use Rattle.omf_memory.specs.Laying.{laid_piece, laid_pieces, extent_in, extents_in, overlap_with, excluded}
+use Rattle.omf_memory.specs.Inner.Laying.{laid_piece, laid_pieces, extent_in, extents_in, overlap_with, excluded}
 
 -- ---- what one stretch has at an address
 

@@ -12,7 +12,7 @@ use Rattle.omf_memory.specs.declared.stretch.Stretch.{Stretch}
 use Rattle.omf_memory.specs.Memory.{Piece, piece, pieces, Lies, Share, share_of, shares}
 use Rattle.omf_memory.specs.declared.fault.MemoryFault.{MemoryFault}
 use Rattle.omf_memory.specs.declared.fault.MemoryFault.TheVariants as fault
-use Rattle.omf_memory.specs.Runs.{IsStretchAt, IsAdded, run_piece, HasMore}
+use Rattle.omf_memory.specs.Inner.Runs.{IsStretchAt, IsAdded, run_piece, HasMore}
 use Rattle.omf_memory.specs.Segments.{SegmentAt, share_in, IsWithin, IsBeyond}
 use Rattle.omf_memory.proofs.CoverLaws.{AreAll}
 

@@ -10,7 +10,7 @@ use Rattle.omf_memory.specs.declared.segment.PlacedSegment.{PlacedSegment}
 use Rattle.omf_memory.specs.declared.stretch.Owner.{Owner}
 use Rattle.omf_memory.specs.declared.stretch.Stretch.{Stretch}
 use Rattle.omf_memory.specs.Memory.{Share, pieces, shares}
-use Rattle.omf_memory.specs.Runs.{HasMore, IsAdded, AreStretches}
+use Rattle.omf_memory.specs.Inner.Runs.{HasMore, IsAdded, AreStretches}
 use Rattle.omf_memory.specs.Segments.{SegmentAt, segment_at, segments_at, share_in, segment_shares, IsWithin, IsBeyond, IsFirstBeyond}
 
 all_more : {A : Type 0} (P : A → Type 0) (xs : List A) (x : A) → All P xs → P x → All P (xs ++ x ∷ [])

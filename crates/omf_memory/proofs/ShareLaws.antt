@@ -8,7 +8,7 @@ use Rattle.std.proofs.lemmas.Option.{slice_get_cases}
 use Rattle.omf_memory.specs.declared.stretch.Owner.{Owner}
 use Rattle.omf_memory.specs.declared.stretch.Stretch.{Stretch}
 use Rattle.omf_memory.specs.Memory.{Piece, piece, pieces, Lies, Share, share_of, shares, overlap, excludes, IsFirstOverlap}
-use Rattle.omf_memory.specs.Sweeping.{interval, intervals}
+use Rattle.omf_memory.specs.Inner.Sweeping.{interval, intervals}
 use Rattle.omf_memory.specs.declared.sweep.Interval.{Interval}
 use Rattle.omf_memory.proofs.SweepLaws.{within, own, own_at, all_at, Clash, NoClash, IsFirst}
 

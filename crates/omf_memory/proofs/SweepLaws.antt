@@ -6,7 +6,7 @@ use Rattle.std.specs.List.Sorted.{IsPermutation, IsNonDecreasingBy}
 use Rattle.std.proofs.lemmas.List.Sums.{sum_by-cons}
 use Rattle.std.proofs.lemmas.List.Sorted.{sum_by-IsPermutation}
 use Rattle.std.proofs.lemmas.List.Elements.{All-head, All-tail}
-use Rattle.omf_memory.specs.Sweeping.{swept}
+use Rattle.omf_memory.specs.Inner.Sweeping.{swept}
 use Rattle.omf_memory.specs.declared.sweep.Interval.{Interval}
 
 -- whether an interval has an address, as a number; and the same of one that is not common

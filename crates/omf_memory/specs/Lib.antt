@@ -1,6 +1,4 @@
 pub mod Memory
-pub mod Sweeping
-pub mod Laying
 pub mod Segments
-pub mod Runs
 pub mod Rows
+pub mod Inner

@@ -3,7 +3,7 @@
 ghost use Rattle.std.specs.Prelude.{◌≡◌, [], All, IfOk, is_some};
 ghost use Rattle.omf_image.specs.Overlay.{AreLaidOver};
 ghost use Rattle.omf_memory.specs.Memory.{piece, pieces, Lies, share_of, shares, overlap, IsMemory};
-ghost use Rattle.omf_memory.specs.Laying.{excluded, extents_in, laid_pieces};
+ghost use Rattle.omf_memory.specs.Inner.Laying.{excluded, extents_in, laid_pieces};
 
 use crate::fault::MemoryFault;
 use crate::stretch::{Owner, Stretch};

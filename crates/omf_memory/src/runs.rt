@@ -1,11 +1,11 @@
 //! The memory that segments of images lay together.
 
 ghost use Rattle.std.specs.Prelude.{◌≡◌, ◌<◌, All, IfOk, OnOk, length, option_map};
-ghost use Rattle.omf_records.specs.Seen.{map_ok};
-ghost use Rattle.omf_image.specs.Joined.{runs_of};
+ghost use Rattle.omf_records.specs.Inner.Seen.{map_ok};
+ghost use Rattle.omf_image.specs.Inner.Joined.{runs_of};
 ghost use Rattle.omf_image.specs.Overlay.{byte_at};
 ghost use Rattle.omf_memory.specs.Memory.{Lies};
-ghost use Rattle.omf_memory.specs.Runs.{AreStretches, HasMore, IsAdded, IsStretchAt};
+ghost use Rattle.omf_memory.specs.Inner.Runs.{AreStretches, HasMore, IsAdded, IsStretchAt};
 ghost use Rattle.omf_memory.specs.Segments.{IsMemoryOf, segment_at, segments_at};
 
 use crate::fault::MemoryFault;

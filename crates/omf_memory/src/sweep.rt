@@ -2,7 +2,7 @@
 
 ghost use Rattle.std.specs.Prelude.{◌≡◌, ◌∷◌, [], ◌++◌, All, IfOk, OnOk};
 ghost use Rattle.omf_memory.specs.Memory.{piece, pieces, Lies, shares, IsFirstOverlap};
-ghost use Rattle.omf_memory.specs.Sweeping.{interval, intervals, swept};
+ghost use Rattle.omf_memory.specs.Inner.Sweeping.{interval, intervals, swept};
 
 use crate::stretch::Stretch;
 use std::alloc::{AllocError, Global};

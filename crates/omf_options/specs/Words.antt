@@ -2,8 +2,9 @@
 use Rattle.std.specs.Prelude.{◌≡◌, ℕ, List, Bool, true, false, Option, Some, None, option_map, option_and_then, codes}
 use Rattle.clap.specs.Words.{App, Row, Rule, Text, first_of, new_rule, one_of, with_rule}
 use Rattle.clap.specs.declared.builder.ArgAction.TheVariants.{Set, SetTrue}
-use Rattle.omf_cmd.specs.Parsed.{flag_text}
-use Rattle.omf_placement.specs.EntryReading.{hexadecimal}
+use Rattle.omf_cmd.specs.Words.{flag_text}
+-- computed: entries_are_read, places_are_read and numbers_are_read of omf_placement.
+use Rattle.omf_placement.specs.Inner.EntryReading.{hexadecimal}
 use Rattle.omf_layout.specs.declared.options.Frames.{Frames}
 use Rattle.omf_layout.specs.declared.options.Frames.TheVariants.{Real, Flat}
 use Rattle.omf_layout.specs.declared.options.Options.{Options}
@@ -47,3 +48,7 @@ pub record AreNamed (rows : List Row) (o : Options) : Type 0 where
   pub real : Bool
   pub set : one_of real_id rows ≡ Some (flag_text real)
   pub named : options_named (first_of base_id rows) real (first_of flat_id rows) ≡ Some o
+
+-- It names no other options than these, whatever it makes of the flag.
+abbrev pub NameOnly : List Row → Options → Type 0
+NameOnly rows o = (real : Bool) → one_of real_id rows ≡ Some (flag_text real) → options_named (first_of base_id rows) real (first_of flat_id rows) ≡ Some o

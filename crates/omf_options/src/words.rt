@@ -2,7 +2,7 @@
 
 ghost use Rattle.std.specs.Prelude.{◌≡◌, option_map, option_and_then, IfOk, Bool, false, Some};
 ghost use Rattle.clap.specs.Words.{app_of, first_of, found_of, one_of, rows_of, rule_of};
-ghost use Rattle.omf_cmd.specs.Parsed.{flag_text};
+ghost use Rattle.omf_cmd.specs.Words.{flag_text};
 ghost use Rattle.omf_options.specs.Words.{base_id, base_named, flag_rule, flat_id, frames_named, options_named, real_id, value_rule, with_options};
 
 use clap::{Arg, ArgAction, ArgMatches, Command};

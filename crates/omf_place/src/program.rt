@@ -5,7 +5,7 @@ ghost use Rattle.clap.specs.Words.{fault_of};
 ghost use Rattle.omf_cmd.specs.Reports.{IsOutOfMemory};
 ghost use Rattle.omf_layout.specs.declared.options.Options.{Options as Asked};
 ghost use Rattle.omf_place.specs.Runs.{IsAnswer, IsMisuse};
-ghost use Rattle.omf_place.specs.Words.{IsAsked, place_app};
+ghost use Rattle.omf_place.specs.Words.{IsAsked, IsOnlyAsked, place_app};
 
 use crate::printing::{fail, print_usage};
 use crate::running::run_place;
@@ -43,6 +43,8 @@ pub fn main_with<S: Source, K: Sink>(
     // Where the words ask for options, the program ran at these, and the status and what was written tell its answer; or memory ran out
     // before.
     ensures answer { (asked : Asked) → IsAsked (map string_bytes words.now) asked → IsAnswer asked (S.seen reader.old) (S.seen reader.new) (K.seen writer.old) (K.seen writer.new) result ⊎ IsOutOfMemory (S.seen reader.old) (S.seen reader.new) (K.seen writer.old) (K.seen writer.new) result }
+    // Where the words ask for nothing, as where a value is no hexadecimal number, the program says how it is called.
+    ensures unasked { ((asked : Asked) → IsOnlyAsked (map string_bytes words.now) asked → ⊥) → IsMisuse (S.seen reader.old) (S.seen reader.new) (K.seen writer.old) (K.seen writer.new) result }
     // Where clap refuses the words, the program says how it is called.
     ensures misuse { (fault_of place_app (map string_bytes words.now) ≡ [] → ⊥) → IsMisuse (S.seen reader.old) (S.seen reader.new) (K.seen writer.old) (K.seen writer.new) result }
 {

@@ -1,9 +1,8 @@
 //! The program's run, from a reader to a writer.
 
 ghost use Rattle.std.specs.Prelude.{◌≡◌, ℕ, List, Some, string_bytes};
-ghost use Rattle.omf_records.specs.Seen.{map_ok};
-ghost use Rattle.omf_check.specs.Module.{records_in};
-ghost use Rattle.omf_check.specs.WellFormed.{recs};
+ghost use Rattle.omf_records.specs.Inner.Seen.{map_ok};
+ghost use Rattle.omf_check.specs.Module.{recs_of};
 ghost use Rattle.omf_place.specs.Drafts.{IsDrafted};
 ghost use Rattle.omf_place.specs.Runs.{Drafts, IsDraftCause, IsRun};
 
@@ -20,7 +19,7 @@ use std::alloc::Global;
 ///
 /// `NoRoom` where the module has no layout at these options; `Run` of `Memory` where a growth was refused.
 pub fn placed_text(alloc: Global, module: &Checked, options: Options) -> Result<String, PlaceFault>
-    ensures { IsDrafted options (recs (records_in «module».now.bytes)) (map_ok (λ text. string_bytes text) result) }
+    ensures { IsDrafted options (recs_of «module».now.bytes) (map_ok (λ text. string_bytes text) result) }
 {
     let layout = layout_of(alloc, module, options)?;
     let text = draft_text(alloc, module, options, &layout)?;

@@ -1,12 +1,12 @@
 //! The words that the program is called with.
 
-ghost use Rattle.std.specs.Prelude.{◌≡◌, ◌⊎◌, [], map, string_bytes, IfOk, Some, None};
+ghost use Rattle.std.specs.Prelude.{◌≡◌, ◌⊎◌, [], map, string_bytes, IfOk, IfSome, Some, None};
 ghost use Rattle.clap.specs.Words.{app_of, fault_of};
 ghost use Rattle.omf_layout.specs.declared.options.Options.{Options as Asked};
-ghost use Rattle.omf_place.specs.Words.{IsAsked, place_app};
+ghost use Rattle.omf_place.specs.Words.{IsAsked, IsOnlyAsked, place_app};
 
 use clap::Command;
-use clap::error::ErrorKind;
+use omf_cmd::read_words;
 use omf_layout::Options;
 use omf_options::{options_in, with_options};
 use std::alloc::{AllocError, Global};
@@ -15,14 +15,16 @@ use std::alloc::{AllocError, Global};
 /// 10000H where none is given, and the frame flat with the selector 0. `None` where the words are not understood.
 pub fn options_of(alloc: Global, words: &[String]) -> Result<Option<Options>, AllocError>
     ensures asks { (asked : Asked) → IsAsked (map string_bytes words.now) asked → IfOk result (λ found. found ≡ Some asked) }
+    // Options are answered only where the words ask for these and no others.
+    ensures only { IfOk result (λ found. IfSome found (IsOnlyAsked (map string_bytes words.now))) }
     // Options are answered only where clap finds no fault of these words.
     ensures refused { IfOk result (λ found. (found ≡ None) ⊎ (fault_of place_app (map string_bytes words.now) ≡ [])) }
 {
     let place = program(alloc)?;
-    match place.try_get_matches_from(words) {
-        Ok(matches) => Ok(options_in(&matches)),
-        Err(error) if error.kind() == ErrorKind::OutOfMemory => Err(AllocError),
-        Err(_) => Ok(None),
+    let found = read_words(place, words)?;
+    match found {
+        Some(matches) => Ok(options_in(&matches)),
+        None => Ok(None),
     }
 }
 

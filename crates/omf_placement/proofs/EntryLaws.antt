@@ -12,7 +12,7 @@ use Rattle.std.proofs.lemmas.Slice.Eq.{bytes_eq-Decides}
 use Rattle.omf_placement.specs.declared.frame.Frame.{Frame}
 use Rattle.omf_placement.specs.Placement.{Placed, real_frame}
 use Rattle.omf_placement.specs.Entries.{Entry, Blank, SegmentEntry, GroupEntry, ExternalEntry, IsHexadecimal, SpellsPlaced, SpellsReal, SpellsFrame, Spells, in_words}
-use Rattle.omf_placement.specs.EntryReading.{hexadecimal, frame_of, placed_of, real_of, two_words, three_words, four_words, entry_of_words, words_of, entry_said}
+use Rattle.omf_placement.specs.Inner.EntryReading.{hexadecimal, frame_of, placed_of, real_of, two_words, three_words, four_words, entry_of_words, words_of, entry_said}
 
 -- Digits.
 digits-from : (cs : List ℕ) → list_all (λ c. is_digit c 16) cs ≡ true → AllDigits 16 cs
@@ -23,7 +23,7 @@ digits-to : (cs : List ℕ) → AllDigits 16 cs → list_all (λ c. is_digit c 1
 digits-to [] h = refl
 digits-to (c ∷ cs) h = and_from (is_digit c 16) (list_all (λ d. is_digit d 16) cs) (lt-ltb (digit_value c) 16 h.0) (digits-to cs h.1)
 
-hexadecimal-from : (most : ℕ) (cs : List ℕ) (n : ℕ) → hexadecimal most cs ≡ Some n → IsHexadecimal most cs n
+pub hexadecimal-from : (most : ℕ) (cs : List ℕ) (n : ℕ) → hexadecimal most cs ≡ Some n → IsHexadecimal most cs n
 hexadecimal-from most cs n h =
     let test = nat_lt 0 (length cs) && (nat_le (length cs) most && list_all (λ c. is_digit c 16) cs) in
     let parts = cond_some test (digits_value 16 cs) n h in
@@ -35,7 +35,7 @@ taken : {A : Type 0} (b : Bool) (x y : A) → b ≡ true → cond b x y ≡ x
 taken true x y e = refl
 taken false x y e = absurd (false≢true e)
 
-hexadecimal-to : (most : ℕ) (cs : List ℕ) (n : ℕ) → IsHexadecimal most cs n → hexadecimal most cs ≡ Some n
+pub hexadecimal-to : (most : ℕ) (cs : List ℕ) (n : ℕ) → IsHexadecimal most cs n → hexadecimal most cs ≡ Some n
 hexadecimal-to most cs n h =
     let test = nat_lt 0 (length cs) && (nat_le (length cs) most && list_all (λ c. is_digit c 16) cs) in
     taken test (Some (digits_value 16 cs)) None
@@ -66,7 +66,7 @@ frame-from : (b s : List ℕ) (f : Frame) → frame_of b s ≡ Some f → IsHexa
 frame-from b s f h = option_and_then_some _ (hexadecimal 8 b) f h (λ n e g. map_some _ (hexadecimal 4 s) f g (λ k e2 g2.
     (subst (IsHexadecimal 8 b) (ap (λ x. x.base) g2) (hexadecimal-from 8 b n e), subst (IsHexadecimal 4 s) (ap (λ x. x.selector) g2) (hexadecimal-from 4 s k e2))))
 
-placed-from : (a b s : List ℕ) (p : Placed) → placed_of a b s ≡ Some p → IsHexadecimal 8 a p.address × (IsHexadecimal 8 b p.frame.base × IsHexadecimal 4 s p.frame.selector)
+pub placed-from : (a b s : List ℕ) (p : Placed) → placed_of a b s ≡ Some p → IsHexadecimal 8 a p.address × (IsHexadecimal 8 b p.frame.base × IsHexadecimal 4 s p.frame.selector)
 placed-from a b s p h = option_and_then_some _ (hexadecimal 8 a) p h (λ n e g. map_some _ (frame_of b s) p g (λ f e2 g2. (
   subst (IsHexadecimal 8 a) (ap (λ x. x.address) g2) (hexadecimal-from 8 a n e),
   subst (λ x. IsHexadecimal 8 b x.base × IsHexadecimal 4 s x.selector) (ap (λ x. x.frame) g2) (frame-from b s f e2),
@@ -160,7 +160,7 @@ and-then f o x r e g = ap (option_and_then f) e ∙ g
 frame-to : (b s : List ℕ) (f : Frame) → IsHexadecimal 8 b f.base → IsHexadecimal 4 s f.selector → frame_of b s ≡ Some f
 frame-to b s f h k = and-then _ (hexadecimal 8 b) f.base (Some f) (hexadecimal-to 8 b f.base h) (ap (option_map (λ x. record f { selector = x })) (hexadecimal-to 4 s f.selector k))
 
-placed-to : (letter text : List ℕ) (p : Placed) (c : SpellsPlaced letter text p) → placed_of c.address c.base c.selector ≡ Some p
+pub placed-to : (letter text : List ℕ) (p : Placed) (c : SpellsPlaced letter text p) → placed_of c.address c.base c.selector ≡ Some p
 placed-to letter text p c = and-then _ (hexadecimal 8 c.address) p.address (Some p) (hexadecimal-to 8 c.address p.address c.is_address)
     (ap (option_map (λ f. record p { frame = f })) (frame-to c.base c.selector p.frame c.is_base c.is_selector))
 

@@ -6,7 +6,7 @@ use Rattle.std.proofs.lemmas.Bool.Decides.{leb_tells}
 use Rattle.omf_records.specs.Values.{At}
 use Rattle.omf_check.specs.Tables.{entry}
 use Rattle.omf_placement.specs.Placement.{Placed, lower, lowest, members_placed}
-use Rattle.omf_placement.specs.Lowest.{lower_than}
+use Rattle.omf_placement.specs.Inner.Lowest.{lower_than}
 
 -- the place found so far, or the lowest of those to come, if there is any
 abbrev lower_of : Option Placed → Option Placed → Option Placed

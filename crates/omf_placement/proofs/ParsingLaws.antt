@@ -4,9 +4,9 @@ use Rattle.std.specs.Prelude.{map, filter_map, is_some, Option, Some, None, opti
 use Rattle.std.specs.List.{enumerate_from, slice_split}
 use Rattle.std.proofs.lemmas.List.Splits.{length-slice_split}
 use Rattle.omf_placement.specs.Entries.{Entry, Blank, SegmentEntry, GroupEntry, ExternalEntry, said}
-use Rattle.omf_placement.specs.EntryReading.{entry_of_words, words_of, entry_said}
+use Rattle.omf_placement.specs.Inner.EntryReading.{entry_of_words, words_of, entry_said}
 use Rattle.omf_placement.specs.PlacementText.{Draft, line_entries, bad_lines, bad_line, segment_entry, group_entry, external_entry, parsed}
-use Rattle.omf_placement.specs.Parsing.{parts_after, with_entry}
+use Rattle.omf_placement.specs.Inner.Parsing.{parts_after, with_entry}
 
 -- five words or more are no entry
 many_words : (w x y z : List ℕ) (more : List (List ℕ)) (n : ℕ) → length more ≡ n + 1 → entry_of_words (w ∷ x ∷ y ∷ z ∷ more) ≡ None

@@ -8,7 +8,7 @@ use Rattle.omf_placement.specs.declared.frame.Frame.{Frame}
 use Rattle.omf_records.specs.Values.{Rec}
 use Rattle.omf_placement.specs.Placement.{Placed}
 use Rattle.omf_placement.specs.PlacementText.{ok_or_first, resolved_group, unresolved_group}
-use Rattle.omf_placement.specs.Parsing.{frames_from}
+use Rattle.omf_placement.specs.Inner.Parsing.{frames_from}
 
 -- The frames of group entries, of which the first is the k-th; and the lines of those that have none.
 abbrev pub frames_in : List Rec → List Placed → ℕ → List (ℕ × Option Frame) → List Frame

@@ -3,13 +3,22 @@ use Rattle.std.specs.Prelude.{◌≡◌, ◌↔◌, ℕ, ◌<◌, ◌≤◌, Lis
 use Rattle.omf_records.specs.Values.{GroupItem, Rec}
 use Rattle.omf_check.specs.Tables.{groups, entry}
 use Rattle.omf_placement.specs.declared.frame.Frame.{Frame}
-use Rattle.omf_placement.specs.Entries.{Entry, Spells}
-use Rattle.omf_placement.specs.EntryReading.{entry_said}
+use Rattle.omf_placement.specs.Entries.{Entry, IsHexadecimal, Spells}
+-- computed: entries_are_read, places_are_read and numbers_are_read of omf_placement.
+use Rattle.omf_placement.specs.Inner.EntryReading.{hexadecimal, placed_of, entry_said}
 use Rattle.omf_placement.specs.Placement.{Placed, real_group}
 
 -- The entry that is computed of what a line says is the entry that it spells.
 abbrev pub EntriesAreRead : Type 0
 EntriesAreRead = (text : List ℕ) (e : Entry) → (entry_said text ≡ Some e) ↔ Spells text e
+
+-- A number is read of digits exactly where they spell it.
+abbrev pub NumbersAreRead : Type 0
+NumbersAreRead = (most : ℕ) (cs : List ℕ) (n : ℕ) → (hexadecimal most cs ≡ Some n) ↔ IsHexadecimal most cs n
+
+-- A place is read of three words exactly where they spell its address, and the base and the selector of its frame.
+abbrev pub PlacesAreRead : Type 0
+PlacesAreRead = (a b s : List ℕ) (p : Placed) → (placed_of a b s ≡ Some p) ↔ (IsHexadecimal 8 a p.address × (IsHexadecimal 8 b p.frame.base × IsHexadecimal 4 s p.frame.selector))
 
 -- A place is the lowest of a list, and the first of those that lie lowest.
 pub record IsLowest (ps : List Placed) (p : Placed) : Type 0 where

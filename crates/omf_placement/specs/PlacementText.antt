@@ -7,7 +7,8 @@ use Rattle.omf_placement.specs.declared.frame.Frame.{Frame}
 use Rattle.omf_records.specs.Values.{Rec}
 use Rattle.omf_placement.specs.Placement.{Places, Placed, real_group}
 use Rattle.omf_placement.specs.Entries.{Entry, SegmentEntry, GroupEntry, ExternalEntry, said}
-use Rattle.omf_placement.specs.EntryReading.{entry_said}
+-- computed: entries_are_read, places_are_read and numbers_are_read of omf_placement.
+use Rattle.omf_placement.specs.Inner.EntryReading.{entry_said}
 
 -- The lines of a text, which end at a line feed or at the end of the text, each with its number from 1 and its entry, if it has one.
 abbrev pub numbered_lines : List ℕ → List (ℕ × List ℕ)

@@ -2,7 +2,7 @@
 
 ghost use Rattle.std.specs.Prelude.{◌≡◌, ◌∷◌, ◌<◌, ◌==◌, length, IfSome, option_map};
 ghost use Rattle.std.specs.List.{before_first, position_or_len, slice_split};
-ghost use Rattle.omf_placement.specs.Parsing.{parts_after};
+ghost use Rattle.omf_placement.specs.Inner.Parsing.{parts_after};
 
 /// The place of the first of a byte, or the text's length.
 fn first_of(text: &[u8], byte: u8) -> usize

@@ -2,8 +2,8 @@
 
 ghost use Rattle.std.specs.Prelude.{◌≡◌, ◌≤◌, ◌<◌, ◌^◌, reverse, IfSome, option_map};
 ghost use Rattle.omf_placement.specs.Entries.{without_return, without_spaces, said};
-ghost use Rattle.omf_placement.specs.EntryReading.{hexadecimal, frame_of, placed_of, real_of, one_word, two_words, three_words, four_words, entry_said};
-ghost use Rattle.omf_placement.specs.Parsing.{seen};
+ghost use Rattle.omf_placement.specs.Inner.EntryReading.{hexadecimal, frame_of, placed_of, real_of, one_word, two_words, three_words, four_words, entry_said};
+ghost use Rattle.omf_placement.specs.Inner.Parsing.{seen};
 
 use crate::cut::cut;
 use crate::frame::{Frame, Placed};

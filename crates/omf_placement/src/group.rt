@@ -1,11 +1,10 @@
 //! The frame that a group takes from its members (this profile's rule).
 
 ghost use Rattle.std.specs.Prelude.{◌≡◌, ℕ, option_and_then};
-ghost use Rattle.omf_check.specs.Module.{records_in};
-ghost use Rattle.omf_check.specs.WellFormed.{recs};
+ghost use Rattle.omf_check.specs.Module.{recs_of};
 ghost use Rattle.omf_placement.specs.Placement.{real_group, lowest, members_placed};
-ghost use Rattle.omf_placement.specs.Lowest.{lower_than, lowest_in};
-ghost use Rattle.omf_records.specs.Seen.{contents_seen};
+ghost use Rattle.omf_placement.specs.Inner.Lowest.{lower_than, lowest_in};
+ghost use Rattle.omf_records.specs.Inner.Seen.{contents_seen};
 ghost use Rattle.omf_check.specs.Tables.{entry as entry_of};
 
 use crate::frame::{Frame, Placed};
@@ -14,7 +13,7 @@ use omf_check::Checked;
 use omf_records::{Items, Member, Rec};
 
 /// The lower of two places, the first of them at a tie.
-fn lower(found: Option<Placed>, place: Placed) -> Placed
+pub fn lower(found: Option<Placed>, place: Placed) -> Placed
     ensures { result ≡ lower_than found place }
 {
     match found {
@@ -45,7 +44,7 @@ fn lowest_of(members: Items<Member<'_>>, segments: &[Placed]) -> Option<Placed>
 }
 
 /// The place of the lowest member of a GRPDEF; of another record none.
-fn lowest_member(rec: &Rec<'_>, segments: &[Placed]) -> Option<Placed>
+pub fn lowest_member(rec: &Rec<'_>, segments: &[Placed]) -> Option<Placed>
     ensures { result ≡ lowest_in segments.now (contents_seen rec.now) }
 {
     match rec {
@@ -56,7 +55,7 @@ fn lowest_member(rec: &Rec<'_>, segments: &[Placed]) -> Option<Placed>
 
 /// The frame that the `k`-th group takes from its members, where the segments lie like this.
 pub(crate) fn member_frame(module: &Checked, segments: &[Placed], k: usize) -> Option<Frame>
-    ensures { result ≡ real_group (recs (records_in «module».now.bytes)) segments.now k }
+    ensures { result ≡ real_group (recs_of «module».now.bytes) segments.now k }
 {
     if k > usize::from(module.groups()) {
         return None;
@@ -71,7 +70,7 @@ pub(crate) fn member_frame(module: &Checked, segments: &[Placed], k: usize) -> O
 /// placement; of several that lie lowest, of the one that the GRPDEF names first. None where there is no such group, where it has no
 /// member, or where a member has no entry in the placement.
 pub fn real_group(module: &Checked, placement: &Placement, i: u16) -> Option<Frame>
-    ensures { result ≡ real_group (recs (records_in «module».now.bytes)) placement.now.segments i }
+    ensures { result ≡ real_group (recs_of «module».now.bytes) placement.now.segments i }
 {
     member_frame(module, placement.segments(), usize::from(i))
 }

@@ -14,6 +14,6 @@ mod text;
 pub use entry::{Entry, entry_of, hexadecimal, placed_of, said_by};
 pub use fault::TextFault;
 pub use frame::{Frame, Placed};
-pub use group::real_group;
+pub use group::{lower, lowest_member, real_group};
 pub use placement::Placement;
 pub use text::{Draft, parse_placement};

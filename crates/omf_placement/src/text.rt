@@ -1,10 +1,9 @@
 //! Placement texts (this profile's rule).
 
 ghost use Rattle.std.specs.Prelude.{◌≡◌, ℕ, [], OnOk};
-ghost use Rattle.omf_records.specs.Seen.{map_ok};
-ghost use Rattle.omf_check.specs.Module.{records_in};
-ghost use Rattle.omf_check.specs.WellFormed.{recs};
-ghost use Rattle.omf_placement.specs.Parsing.{frames_from};
+ghost use Rattle.omf_records.specs.Inner.Seen.{map_ok};
+ghost use Rattle.omf_check.specs.Module.{recs_of};
+ghost use Rattle.omf_placement.specs.Inner.Parsing.{frames_from};
 ghost use Rattle.omf_placement.specs.PlacementText.{IsAnswer, parsed, resolved, resolved_group};
 
 use crate::cut::cut;
@@ -34,7 +33,7 @@ impl Model for Draft {
 }
 
 impl Draft {
-    ghost use Rattle.omf_placement.specs.Parsing.{seen, with_entry};
+    ghost use Rattle.omf_placement.specs.Inner.Parsing.{seen, with_entry};
 
     /// A draft without entries.
     pub fn new(alloc: Global) -> Self
@@ -89,7 +88,7 @@ impl Draft {
     /// where a member has no `S` line. A growth that is refused is `Memory`, which hides no such line: it is answered only where the
     /// frames of all groups are found. At an `Err` the draft is dropped.
     pub fn resolve(self, alloc: Global, module: &Checked) -> Result<Placement, TextFault>
-        ensures { IsAnswer (resolved (recs (records_in «module».now.bytes)) self) result }
+        ensures { IsAnswer (resolved (recs_of «module».now.bytes) self) result }
     {
         let Draft {
             segments,
@@ -108,7 +107,7 @@ fn group_frame(
     k: usize,
     given: Option<Frame>,
 ) -> Option<Frame>
-    ensures { (line : ℕ) → result ≡ resolved_group (recs (records_in «module».now.bytes)) segments.now (k, (line, given)) }
+    ensures { (line : ℕ) → result ≡ resolved_group (recs_of «module».now.bytes) segments.now (k, (line, given)) }
 {
     match given {
         Some(frame) => Some(frame),
@@ -124,7 +123,7 @@ fn group_frames(
     segments: &[Placed],
     groups: &[(u64, Option<Frame>)],
 ) -> Result<Vec<Frame>, TextFault>
-    ensures { IsAnswer (frames_from (recs (records_in «module».now.bytes)) segments.now 1 groups.now) (map_ok (λ v. v.items) result) }
+    ensures { IsAnswer (frames_from (recs_of «module».now.bytes) segments.now 1 groups.now) (map_ok (λ v. v.items) result) }
 {
     let mut frames = Vec::new(alloc);
     let mut is_short = false;

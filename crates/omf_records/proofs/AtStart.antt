@@ -3,8 +3,8 @@ use Rattle.std.proofs.Common.{◌≡◌, ℕ, Bool, List, Result, refl, sym, sub
 use Rattle.omf_frame.specs.Fault.{Fault}
 use Rattle.omf_records.specs.declared.here.Here.{Here}
 use Rattle.omf_records.specs.Values.{Contents}
-use Rattle.omf_records.specs.Reading.{read_body}
-use Rattle.omf_records.specs.Unread.{IsKnown}
+use Rattle.omf_records.specs.Inner.Reading.{read_body}
+use Rattle.omf_records.specs.Inner.Unread.{IsKnown}
 
 pub at_start : (read : Bool → ℕ → List ℕ → Result Contents Fault) (k : ℕ) (r : Result Contents Fault) (kind : ℕ) (w : Bool) (h : Here) (body : List ℕ)
     → h.within ≡ 3 → h.wide ≡ w → h.bytes.now ≡ body → kind ≡ k → ((bs : List ℕ) → read w 3 bs ≡ read_body k bs)

@@ -7,9 +7,9 @@ use Rattle.omf_frame.specs.Fields.{IsUnspelled}
 use Rattle.omf_frame.specs.declared.fault.Reason.{Reason}
 use Rattle.omf_records.specs.declared.here.Here.{Here}
 use Rattle.omf_records.specs.Layout.{fault}
-use Rattle.omf_records.specs.Reads.{after, Reading}
-use Rattle.omf_records.specs.FieldReaders.{FieldOk, FieldAgain, FieldRefused, field_refuses, short}
-use Rattle.omf_records.specs.Gives.{Gives, GivesField}
+use Rattle.omf_records.specs.Inner.Reads.{after, Reading}
+use Rattle.omf_records.specs.Inner.FieldReaders.{FieldOk, FieldAgain, FieldRefused, field_refuses, short}
+use Rattle.omf_records.specs.Inner.Gives.{Gives, GivesField}
 
 module _ {A : Type 0} (why : List ℕ → Reason) (P : A → List ℕ → Type 0) (read : Reading A) where
   pub found : FieldAgain why P read → (at n : ℕ) (bytes : List ℕ) (x : A) → n ≤ length bytes → P x (take n bytes) → read at bytes ≡ Ok (after x (at + n) (drop n bytes))

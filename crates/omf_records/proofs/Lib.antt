@@ -6,3 +6,4 @@ pub mod Recast
 pub mod ShortestLaws
 pub mod ValueLaws
 pub mod DirectLaws
+pub mod LaidOut

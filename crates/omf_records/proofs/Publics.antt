@@ -3,11 +3,11 @@ use Rattle.std.proofs.Common.{◌≡◌, ℕ, Bool, true, List, Option, Result, 
 use Rattle.std.specs.Prelude.{◌==◌}
 use Rattle.omf_frame.specs.Fault.{Fault}
 use Rattle.omf_records.specs.Values.{At, PublicItem, Contents, Publics}
-use Rattle.omf_records.specs.Reads.{after, and_then, each}
-use Rattle.omf_records.specs.Unread.{IsKnown}
-use Rattle.omf_records.specs.Readers.{index_at}
-use Rattle.omf_records.specs.EntryReaders.{public_reader}
-use Rattle.omf_records.specs.RecordReaders.{base_reader, publics_whole}
+use Rattle.omf_records.specs.Inner.Reads.{after, and_then, each}
+use Rattle.omf_records.specs.Inner.Unread.{IsKnown}
+use Rattle.omf_records.specs.Inner.Readers.{index_at}
+use Rattle.omf_records.specs.Inner.EntryReaders.{public_reader}
+use Rattle.omf_records.specs.Inner.RecordReaders.{base_reader, publics_whole}
 
 abbrev pub with_base : At ℕ → At ℕ → Option ℕ → Result (List (At PublicItem)) Fault → Result Contents Fault
 with_base g s f r = and_then r (λ ps. Ok (Publics (record { group = g; segment = s; frame = f; items = ps })))

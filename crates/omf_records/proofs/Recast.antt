@@ -12,7 +12,7 @@ use Rattle.omf_frame.specs.declared.fault.Reason.{Reason}
 use Rattle.omf_frame.specs.declared.fault.Reason.TheVariants as reason
 use Rattle.omf_records.specs.Values.{At, PublicItem, CommunalSize, Near, Far, DataItem, Thread, Fixup, Contents, Header, Comment, Names, Segment, Group, Externs, Publics, Communals, Plain, Iterated, Fixups, ModEnd, Carried, is_wide, width, alignment, thread_method, has_frame_datum, has_target_datum, has_no_displacement, has_start, nowhere, unplaced, reference_alone, subrecord_alone, contents_alone}
 use Rattle.omf_records.specs.Shortest.{option_bytes, datum_bytes, absolute_bytes, member_bytes, external_bytes, public_bytes, size_bytes, communal_bytes, reference_bytes, subrecord_bytes, data_bytes, contents_bytes}
-use Rattle.omf_records.specs.Layout.{Layout, many, index, name, le, number_of, placed, called, choose, when, either}
+use Rattle.omf_records.specs.Layout.{Layout, many, index, name, le, number_of, with_place, called, choose, when, either}
 use Rattle.omf_records.specs.Entries.{unless, wrong_component, member, external, public_item, wrong_data_type, near_size, far_size, communal_size, communal, reference, thread, fixup, subrecord}
 use Rattle.omf_records.specs.Records.{header, comment, names, absolute, segment, group, externs, publics, communals, data_item, fixups, mod_end, carried, contents}
 use Rattle.omf_records.proofs.Shorter.{Shorter, shorter_itself, shorter_then, shorter_last, Recasts, Plainly, itself, recast_plainly, plain_byte, plain_name, plain_index, plain_le, plain_length, recast_placed, recast_index, recast_called, recast_when, plain_when, recast_either, recast_many}
@@ -132,8 +132,8 @@ recast_reference kind at there body r (f1, b1, fix, p1, (w, (s1, none1)), (f2, b
     let T = option_bytes datum_bytes tg in
     let D = option_bytes (little_bytes (width kind)) d in
     let x = plain_byte at there f1 fix.item s1 in
-    let a = recast_when (has_frame_datum fix.item) (placed index) unplaced datum_bytes recast_index (at + length f1) (there + length B) f2 fr s2 in
-    let b = recast_when (has_target_datum fix.item) (placed index) unplaced datum_bytes recast_index (at + length f1 + length f2) (there + length B + length F) f3 tg s3 in
+    let a = recast_when (has_frame_datum fix.item) (with_place index) unplaced datum_bytes recast_index (at + length f1) (there + length B) f2 fr s2 in
+    let b = recast_when (has_target_datum fix.item) (with_place index) unplaced datum_bytes recast_index (at + length f1 + length f2) (there + length B + length F) f3 tg s3 in
     let c = plain_when (not (has_no_displacement fix.item)) (number_of (is_wide kind)) (little_bytes (width kind)) (plain_le (width kind)) (at + length f1 + length f2 + length f3) (there + length B + length F + length T) f4 d s4 in
     rw is (record {
       value = record { fix = record { within = there; item = fix.item }; frame = a.value; target = b.value; displacement = d };
@@ -146,7 +146,7 @@ pub recast_subrecord : (kind : ℕ) → Recasts (subrecord (is_wide kind)) subre
 recast_subrecord kind at there body s (f1, b1, h, p1, (inl (low, is1), none), s2) =
     let t : nat_lt h 128 ≡ true = lt-ltb h 128 low in
     let u = subst (λ (b : Bool). cond b ((thread h).Spells (at + length f1) b1 s) ((fixup (is_wide kind) h).Spells (at + length f1) b1 s)) t s2 in
-    let q = recast_when (nat_lt (thread_method h) 3) (placed index) unplaced datum_bytes recast_index (at + length f1) (there + 1) b1 u.0 u.1 in
+    let q = recast_when (nat_lt (thread_method h) 3) (with_place index) unplaced datum_bytes recast_index (at + length f1) (there + 1) b1 u.0 u.1 in
     let rest = subst (λ (b : Bool). cond b ((thread h).Spells (there + 1) (option_bytes datum_bytes u.0) (Thread h q.value)) ((fixup (is_wide kind) h).Spells (there + 1) (option_bytes datum_bytes u.0) (Thread h q.value))) (sym t) (q.value, q.spelled, refl) in
     rw u.2 (record {
       value = Thread h q.value;

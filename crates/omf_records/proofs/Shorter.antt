@@ -5,12 +5,12 @@ use Rattle.std.proofs.lemmas.List.{length-append, append-nil}
 use Rattle.byteorder.specs.Endian.{little_bytes}
 use Rattle.omf_frame.specs.Bytes.{AreBytes}
 use Rattle.omf_frame.specs.Fields.{IsIndex, IsCommunalLength, index_bytes, name_bytes, communal_length_bytes}
-use Rattle.omf_frame.specs.FieldLaws.{index_shortest, little_shortest, communal_shortest, are_bytes_cons}
+use Rattle.omf_frame.specs.Inner.FieldLaws.{index_shortest, little_shortest, communal_shortest, are_bytes_cons}
 use Rattle.omf_frame.specs.declared.fault.Reason.{Reason}
 use Rattle.omf_records.specs.Values.{At, nowhere, unplaced}
 use Rattle.omf_records.specs.Shortest.{option_bytes, datum_bytes}
-use Rattle.omf_records.specs.Layout.{Layout, many, index, name, byte, le, communal_length, checked, placed, called, when, either}
-use Rattle.omf_records.specs.Steps.{AreBytes-back, AreBytes-front, AreBytes-none}
+use Rattle.omf_records.specs.Layout.{Layout, many, index, name, byte, le, communal_length, checked, with_place, called, when, either}
+use Rattle.omf_records.specs.Inner.Steps.{AreBytes-back, AreBytes-front, AreBytes-none}
 
 -- not longer, and made of bytes if the other is
 pub record Shorter (body bytes : List ℕ) : Type 0 where
@@ -93,12 +93,12 @@ plain_length at there body x h = let s = communal_shortest x body h in (s.0, rec
 pub plain_checked : {A : Type 0} (p : Layout A) (refused : A → List Reason) (short : A → List ℕ) → Plainly p short → Plainly (checked p refused) short
 plain_checked p refused short h at there body x (sp, none) = let q = h at there body x sp in ((q.0, none), q.1)
 
-pub recast_placed : {A : Type 0} (p : Layout A) (short : A → List ℕ) → Plainly p short → Recasts (placed p) unplaced (λ a. short a.item)
+pub recast_placed : {A : Type 0} (p : Layout A) (short : A → List ℕ) → Plainly p short → Recasts (with_place p) unplaced (λ a. short a.item)
 recast_placed p short h at there body x (w, sp) =
     let q = h at there body x.item sp in
     record { value = record { within = there; item = x.item }; spelled = (refl, q.0); same = refl; shorter = q.1 }
 
-pub recast_index : Recasts (placed index) unplaced datum_bytes
+pub recast_index : Recasts (with_place index) unplaced datum_bytes
 recast_index = recast_placed index index_bytes plain_index
 
 pub recast_called : {A B : Type 0} (p : Layout A) (f : A → B) (alone : A → A) (aloneB : B → B) (short : A → List ℕ) (shortB : B → List ℕ)

@@ -6,20 +6,20 @@ use Rattle.std.proofs.lemmas.List.{append-nil}
 use Rattle.std.proofs.lemmas.List.Elements.{All-nil, All-cons, All-head, All-tail}
 use Rattle.byteorder.specs.Endian.{little_bytes}
 use Rattle.omf_frame.specs.Bytes.{AreBytes, is_one_of}
-use Rattle.omf_frame.specs.Types.{coment, extdef, pubdef, lnames, segdef, grpdef, ledata, lidata, comdef, lextdef, lpubdef, lcomdef, llnames}
-use Rattle.omf_frame.specs.Framing.{is_header, is_end}
+use Rattle.omf_frame.specs.Framing.{is_end}
 use Rattle.omf_frame.specs.Fields.{IsIndex, index_bytes}
-use Rattle.omf_frame.specs.FieldLaws.{little_spelled, little_fits, index_spelled, are_bytes_cons}
+use Rattle.omf_frame.specs.Inner.FieldLaws.{little_spelled, little_fits, index_spelled, are_bytes_cons}
 use Rattle.omf_records.specs.Values.{At, nowhere, unplaced, Rec, Contents, Header, Comment, Names, Segment, Group, Externs, Publics, Communals, Plain, Iterated, Fixups, ModEnd, Carried, Reference, Subrecord, Thread, Fixup, is_wide, width, thread_method, has_frame_datum, has_target_datum, has_no_displacement, has_start, reference_alone, subrecord_alone, alone}
 use Rattle.omf_records.specs.Shortest.{option_bytes, datum_bytes, reference_bytes, subrecord_bytes, contents_bytes}
-use Rattle.omf_records.specs.Layout.{Layout, many, index, number_of, placed, called, when, either}
+use Rattle.omf_records.specs.Layout.{Layout, many, index, number_of, with_place, when}
 use Rattle.omf_records.specs.Entries.{reference, thread, fixup, subrecord}
-use Rattle.omf_records.specs.Records.{header, comment, names, segment, group, externs, publics, communals, data_item, fixups, mod_end, carried, contents, IsTyped}
-use Rattle.omf_records.specs.Steps.{AreBytes-none}
+use Rattle.omf_records.specs.Records.{fixups, mod_end, contents, IsTyped}
+use Rattle.omf_records.specs.Inner.Steps.{AreBytes-none}
 use Rattle.omf_records.specs.Laws.{ValuesAreTyped, TypedHaveValues}
 use Rattle.omf_records.specs.Valued.{IsThere, IsIndexValue, IsReferenceValue, IsSubrecordValue, is_fixupp, AreReferenceValues, HaveReferenceValues}
 use Rattle.omf_records.proofs.Shorter.{are_bytes_append, index_fits}
 use Rattle.omf_records.proofs.Recast.{alone_same}
+use Rattle.omf_records.proofs.LaidOut.{IsLaidOut, laid-out}
 
 -- ---- from values
 
@@ -30,7 +30,7 @@ record Made {A : Type 0} (p : Layout A) (alone : A → A) (bytes : List ℕ) (at
   same : alone value ≡ alone x
   fits : AreBytes bytes
 
-made-index : (at : ℕ) (x : At ℕ) → IsIndexValue x → Made (placed index) unplaced (datum_bytes x) at x
+made-index : (at : ℕ) (x : At ℕ) → IsIndexValue x → Made (with_place index) unplaced (datum_bytes x) at x
 made-index at x h =
     let s = index_spelled x.item h in
     record { value = record { within = at; item = x.item }; spelled = (refl, s); same = refl; fits = index_fits x.item (index_bytes x.item) s }
@@ -58,8 +58,8 @@ made-reference kind at r h =
     let F = option_bytes datum_bytes r.frame in
     let T = option_bytes datum_bytes r.target in
     let D = option_bytes (little_bytes (width kind)) r.displacement in
-    let a = made-when (has_frame_datum r.fix.item) (placed index) unplaced datum_bytes IsIndexValue made-index (at + length B) r.frame h.frame in
-    let b = made-when (has_target_datum r.fix.item) (placed index) unplaced datum_bytes IsIndexValue made-index (at + length B + length F) r.target h.target in
+    let a = made-when (has_frame_datum r.fix.item) (with_place index) unplaced datum_bytes IsIndexValue made-index (at + length B) r.frame h.frame in
+    let b = made-when (has_target_datum r.fix.item) (with_place index) unplaced datum_bytes IsIndexValue made-index (at + length B + length F) r.target h.target in
     let c = made-number kind (not (has_no_displacement r.fix.item)) (at + length B + length F + length T) r.displacement h.displacement in
     record {
       value = record { fix = record { within = at; item = r.fix.item }; frame = a.value; target = b.value; displacement = r.displacement };
@@ -71,7 +71,7 @@ made-reference kind at r h =
 made-subrecord : (kind at : ℕ) (s : Subrecord) → IsSubrecordValue kind s → Made (subrecord (is_wide kind)) subrecord_alone (subrecord_bytes kind s) at s
 made-subrecord kind at (Thread h datum) v =
     let t : nat_lt h 128 ≡ true = lt-ltb h 128 v.low in
-    let q = made-when (nat_lt (thread_method h) 3) (placed index) unplaced datum_bytes IsIndexValue made-index (at + 1) datum v.index in
+    let q = made-when (nat_lt (thread_method h) 3) (with_place index) unplaced datum_bytes IsIndexValue made-index (at + 1) datum v.index in
     let D = option_bytes datum_bytes datum in
     let more = subst (λ (b : Bool). cond b ((thread h).Spells (at + 1) D (Thread h q.value)) ((fixup (is_wide kind) h).Spells (at + 1) D (Thread h q.value))) (sym t) (q.value, q.spelled, refl) in
     record {
@@ -174,7 +174,7 @@ index_value n (a ∷ []) h = omega (arith, h.0, h.1)
 index_value n (a ∷ b ∷ []) h = omega (arith, h.0, h.1, h.2, h.3)
 index_value n (a ∷ b ∷ c ∷ more) h = absurd h
 
-value-index : (at : ℕ) (body : List ℕ) (x : At ℕ) → (placed index).Spells at body x → IsIndexValue x
+value-index : (at : ℕ) (body : List ℕ) (x : At ℕ) → (with_place index).Spells at body x → IsIndexValue x
 value-index at body x h = index_value x.item body h.1
 
 value-when : {A : Type 0} (b : Bool) (p : Layout A) (P : A → Type 0) → ((at : ℕ) (body : List ℕ) (x : A) → p.Spells at body x → P x)
@@ -187,8 +187,8 @@ value-reference kind at body r (f1, b1, fix, p1, (w, (s1, none1)), (f2, b2, fr, 
     subst (IsReferenceValue kind) (sym is) (record {
       fix = s1.0;
       methods = none1;
-      frame = value-when (has_frame_datum fix.item) (placed index) IsIndexValue value-index (at + length f1) f2 fr s2;
-      target = value-when (has_target_datum fix.item) (placed index) IsIndexValue value-index (at + length f1 + length f2) f3 tg s3;
+      frame = value-when (has_frame_datum fix.item) (with_place index) IsIndexValue value-index (at + length f1) f2 fr s2;
+      target = value-when (has_target_datum fix.item) (with_place index) IsIndexValue value-index (at + length f1 + length f2) f3 tg s3;
       displacement = value-when (not (has_no_displacement fix.item)) (number_of (is_wide kind)) (λ d. d < 256 ^ width kind) (λ at body d sp. little_fits (width kind) d body sp) (at + length f1 + length f2 + length f3) f4 d s4;
     })
 
@@ -196,7 +196,7 @@ value-subrecord : (kind at : ℕ) (body : List ℕ) (s : Subrecord) → (subreco
 value-subrecord kind at body s (f1, b1, h, p1, (inl (low, is1), none), s2) =
     let t : nat_lt h 128 ≡ true = lt-ltb h 128 low in
     let u = subst (λ (b : Bool). cond b ((thread h).Spells (at + length f1) b1 s) ((fixup (is_wide kind) h).Spells (at + length f1) b1 s)) t s2 in
-    subst (IsSubrecordValue kind) (sym u.2) (record { low = low; head = none; index = value-when (nat_lt (thread_method h) 3) (placed index) IsIndexValue value-index (at + length f1) b1 u.0 u.1 })
+    subst (IsSubrecordValue kind) (sym u.2) (record { low = low; head = none; index = value-when (nat_lt (thread_method h) 3) (with_place index) IsIndexValue value-index (at + length f1) b1 u.0 u.1 })
 value-subrecord kind at body s (f1, b1, h, p1, (inr (high, low, is1), none), s2) =
     let t : nat_lt h 128 ≡ false = le-ltb h 128 (omega arith) in
     let u = subst (λ (b : Bool). cond b ((thread h).Spells (at + length f1) b1 s) ((fixup (is_wide kind) h).Spells (at + length f1) b1 s)) t s2 in
@@ -207,69 +207,13 @@ value-many : {A : Type 0} (p : Layout A) (P : A → Type 0) → ((at : ℕ) (bod
 value-many p P f at body [] h = All-nil (λ x. P x.item)
 value-many p P f at body (x ∷ xs) (front, back, parts, w, sp, more) = All-cons (λ x. P x.item) x xs (f at front x.item sp) (value-many p P f (at + length front) back xs more)
 
--- each layout, in turn
-abbrev Values : ℕ → Layout Contents → Type 0
-Values kind p = (at : ℕ) (body : List ℕ) (c : Contents) → p.Spells at body c → HaveReferenceValues kind c
-
-values-header : (kind : ℕ) → Values kind header
-values-header kind at body c (f1, b1, n, p1, s1, (none, is)) = subst (HaveReferenceValues kind) (sym is) tt
-
-values-comment : (kind : ℕ) → Values kind comment
-values-comment kind at body c (f1, b1, t, p1, s1, (f2, b2, k, p2, s2, (x, sp, is))) = subst (HaveReferenceValues kind) (sym is) tt
-
-values-names : (kind : ℕ) → Values kind names
-values-names kind at body c (x, sp, is) = subst (HaveReferenceValues kind) (sym is) tt
-
-values-segment : (kind : ℕ) → Values kind (segment (is_wide kind))
-values-segment kind at body c (f1, b1, a, p1, s1, (f2, b2, ab, p2, s2, (f3, b3, z, p3, s3, (f4, b4, n, p4, s4, (f5, b5, k, p5, s5, (f6, b6, o, p6, s6, (none, is))))))) = subst (HaveReferenceValues kind) (sym is) tt
-
-values-group : (kind : ℕ) → Values kind group
-values-group kind at body c (f1, b1, n, p1, s1, (ms, sm, is)) = subst (HaveReferenceValues kind) (sym is) tt
-
-values-externs : (kind : ℕ) → Values kind externs
-values-externs kind at body c (x, sp, is) = subst (HaveReferenceValues kind) (sym is) tt
-
-values-publics : (kind : ℕ) → Values kind (publics (is_wide kind))
-values-publics kind at body c (f1, b1, g, p1, s1, (f2, b2, s, p2, s2, (f3, b3, f, p3, s3, (ps, sp, is)))) = subst (HaveReferenceValues kind) (sym is) tt
-
-values-communals : (kind : ℕ) → Values kind communals
-values-communals kind at body c (x, sp, is) = subst (HaveReferenceValues kind) (sym is) tt
-
-values-plain : (kind : ℕ) → Values kind (called (data_item (is_wide kind)) Plain)
-values-plain kind at body c (x, sp, is) = subst (HaveReferenceValues kind) (sym is) tt
-
-values-iterated : (kind : ℕ) → Values kind (called (data_item (is_wide kind)) Iterated)
-values-iterated kind at body c (x, sp, is) = subst (HaveReferenceValues kind) (sym is) tt
-
-values-carried : (kind : ℕ) → Values kind carried
-values-carried kind at body c (x, sp, is) = subst (HaveReferenceValues kind) (sym is) tt
-
-values-either : (kind : ℕ) (b : Bool) (p q : Layout Contents) → (b ≡ true → Values kind p) → Values kind q → Values kind (either b p q)
-values-either kind true p q h k = h refl
-values-either kind false p q h k = k
-
-values-fixups : (kind : ℕ) → is_fixupp kind ≡ true → Values kind (fixups (is_wide kind))
-values-fixups kind e at body c (xs, sp, is) = subst (HaveReferenceValues kind) (sym is)
-    (record { taken = e; each = value-many (subrecord (is_wide kind)) (IsSubrecordValue kind) (value-subrecord kind) at body xs sp })
-
-values-end : (kind : ℕ) → is_end kind ≡ true → Values kind (mod_end (is_wide kind))
-values-end kind e at body c (f1, b1, t, p1, s1, (f2, b2, r, p2, s2, (none, is))) = subst (HaveReferenceValues kind) (sym is)
+-- each kind of contents, in turn
+laid-values : (kind at : ℕ) (body : List ℕ) (c : Contents) → IsLaidOut kind at body c → HaveReferenceValues kind c
+laid-values kind at body (Fixups subs) (e, sp) = record { taken = e; each = value-many (subrecord (is_wide kind)) (IsSubrecordValue kind) (value-subrecord kind) at body subs sp }
+laid-values kind at body (ModEnd byte start) (e, (f1, b1, t, p1, s1, (f2, b2, r, p2, s2, (none, is)))) = subst (HaveReferenceValues kind) (sym is)
     (record { taken = e; fits = s1.0; reference = value-when (has_start t) (reference (is_wide kind)) (IsReferenceValue kind) (value-reference kind) (at + length f1) f2 r s2 })
-
-values-contents : (kind : ℕ) → Values kind (contents kind)
-values-contents kind =
-    values-either kind (is_header kind) _ _ (λ e. values-header kind) (
-    values-either kind (is_one_of coment kind) _ _ (λ e. values-comment kind) (
-    values-either kind (is_one_of (lnames ++ llnames) kind) _ _ (λ e. values-names kind) (
-    values-either kind (is_one_of segdef kind) _ _ (λ e. values-segment kind) (
-    values-either kind (is_one_of grpdef kind) _ _ (λ e. values-group kind) (
-    values-either kind (is_one_of (extdef ++ lextdef) kind) _ _ (λ e. values-externs kind) (
-    values-either kind (is_one_of (pubdef ++ lpubdef) kind) _ _ (λ e. values-publics kind) (
-    values-either kind (is_one_of (comdef ++ lcomdef) kind) _ _ (λ e. values-communals kind) (
-    values-either kind (is_one_of ledata kind) _ _ (λ e. values-plain kind) (
-    values-either kind (is_one_of lidata kind) _ _ (λ e. values-iterated kind) (
-    values-either kind (is_fixupp kind) _ _ (values-fixups kind) (
-    values-either kind (is_end kind) _ _ (values-end kind) (values-carried kind))))))))))))
+laid-values kind at body (Header name) h = tt
+laid-values kind at body _ h = tt
 
 pub typed-values : TypedHaveValues
-typed-values r body t = values-contents r.kind 3 body r.contents t
+typed-values r body t = laid-values r.kind 3 body r.contents (laid-out r.kind 3 body r.contents t)

@@ -5,7 +5,7 @@ use Rattle.omf_frame.specs.Bytes.{is_one_of}
 use Rattle.omf_frame.specs.declared.fault.Reason.{Reason}
 use Rattle.omf_frame.specs.declared.fault.Reason.TheVariants as reason
 use Rattle.omf_records.specs.Values.{At, ExternalItem, PublicItem, CommunalSize, Near, Far, CommunalItem, Reference, Subrecord, Thread, Fixup, thread_is_frame, thread_method, is_segment_relative, location_type, frame_by_thread, frame_bits, target_by_thread, target_bits, has_no_displacement, has_frame_datum, has_target_datum, is_location, may_be_self_relative}
-use Rattle.omf_records.specs.Layout.{Layout, ◌>>=◌, give, name, index, byte, number_of, communal_length, head, checked, placed, called, choose, when}
+use Rattle.omf_records.specs.Layout.{Layout, ◌>>=◌, give, name, index, byte, number_of, communal_length, head, checked, with_place, called, choose, when}
 
 -- the reason, unless the test holds
 abbrev pub unless : Bool → Reason → List Reason
@@ -18,7 +18,7 @@ wrong_component c = unless (c == 0xFF) reason.GroupComponent
 abbrev pub member : Layout (At ℕ)
 member = do
   component ← checked byte wrong_component
-  placed index
+  with_place index
 
 -- EXTDEF: a name and a type index.
 abbrev pub external : Layout ExternalItem
@@ -72,9 +72,9 @@ wrong_methods fix = unless (frame_by_thread fix || is_frame_method (frame_bits f
 
 abbrev pub reference : Bool → Layout Reference
 reference wide = do
-  fix ← placed (checked byte wrong_methods)
-  frame ← when (has_frame_datum fix.item) (placed index)
-  target ← when (has_target_datum fix.item) (placed index)
+  fix ← with_place (checked byte wrong_methods)
+  frame ← when (has_frame_datum fix.item) (with_place index)
+  target ← when (has_target_datum fix.item) (with_place index)
   displacement ← when (not (has_no_displacement fix.item)) (number_of wide)
   give (record { fix = fix; frame = frame; target = target; displacement = displacement })
 
@@ -84,7 +84,7 @@ wrong_thread b = if thread_is_frame b then unless (is_frame_method (thread_metho
     else unless (nat_lt (thread_method b) 3) reason.TargetMethod
 
 abbrev pub thread : ℕ → Layout Subrecord
-thread b = called (when (nat_lt (thread_method b) 3) (placed index)) (Thread b)
+thread b = called (when (nat_lt (thread_method b) 3) (with_place index)) (Thread b)
 
 -- A FIXUP: two bytes, high byte first, of which bit 15 is set, and a reference. The location type is one of the table, and one
 -- that may be self-relative where bit M is 0.

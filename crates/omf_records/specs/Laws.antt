@@ -5,10 +5,11 @@ use Rattle.omf_frame.specs.Fault.{Fault, is_before}
 use Rattle.omf_frame.specs.Framing.{Raw}
 use Rattle.omf_records.specs.Values.{Rec, Contents, contents_alone, alone}
 use Rattle.omf_records.specs.Shortest.{contents_bytes}
-use Rattle.omf_records.specs.Reads.{Meets, Behind}
+use Rattle.omf_records.specs.Layout.{Meets, Behind}
 use Rattle.omf_records.specs.Records.{contents, IsTyped}
 use Rattle.omf_records.specs.Valued.{AreReferenceValues, HaveReferenceValues}
-use Rattle.omf_records.specs.Reading.{read_body, layout_faults, typed}
+-- computed: readings_meet_layouts and contents_are_typed_once of omf_records.
+use Rattle.omf_records.specs.Inner.Reading.{read_body, layout_faults, typed}
 
 -- Two typed records of one type with the same contents are equal.
 abbrev pub AreUnique : Type 0

@@ -16,16 +16,16 @@
 --   rest               all bytes that are left                     rest_whole
 --   many p             p again and again to the end, with places   each_whole
 --   times n p          n of p                                      times_reader
---   placed p           p with its place                            placed_reader
+--   with_place p           p with its place                            placed_reader
 --   checked p refused  p, some values of which are refused         checked_reader
 --   called p f         p, its value by another name                called_reader, called_whole
 --   choose b p q       p if b, else q                              choose_reader, choose_whole
 --   either b p q       the same, where b is a literal              either_whole
 --   when b p           p if b, else nothing                        when_reader
 --   byte, le k, number_of wide, index, name, communal_length, head byte_reader, le_reader, number_reader, ..
-use Rattle.std.specs.Prelude.{◌≡◌, ℕ, zero, suc, ◌+◌, ◌/◌, ◌%◌, ◌<◌, ◌≤◌, ◌⊎◌, ◌≢◌, ◌||◌, Bool, true, false, cond, nat_le, if◌then◌else◌, Option, Some, None, List, [], ◌∷◌, ◌++◌, length}
+use Rattle.std.specs.Prelude.{◌≡◌, ℕ, zero, suc, ◌+◌, ◌/◌, ◌%◌, ◌<◌, ◌≤◌, ◌⊎◌, ◌≢◌, ◌||◌, Bool, true, false, cond, nat_le, if◌then◌else◌, Option, Some, None, List, [], ◌∷◌, ◌++◌, length, Result, Ok, IsTrue, IfOk, IfErr}
 use Rattle.omf_frame.specs.Bytes.{is_one_of}
-use Rattle.omf_frame.specs.Fault.{Fault}
+use Rattle.omf_frame.specs.Fault.{Fault, is_before}
 use Rattle.omf_frame.specs.Fields.{IsIndex, IsName, IsLittle, IsCommunalLength}
 use Rattle.omf_frame.specs.declared.fault.Reason.{Reason}
 use Rattle.omf_frame.specs.declared.fault.Reason.TheVariants as reason
@@ -137,8 +137,8 @@ checked {A} p refused = record {
 }
 
 -- a field and its place
-abbrev pub placed : {A : Type 0} → Layout A → Layout (At A)
-placed {A} p = record {
+abbrev pub with_place : {A : Type 0} → Layout A → Layout (At A)
+with_place {A} p = record {
   Spells = λ at bytes x. (x.within ≡ at) × p.Spells at bytes x.item;
   Faults = p.Faults;
 }
@@ -165,3 +165,17 @@ either false p q = q
 -- a layout that stands there only if b
 abbrev pub when : {A : Type 0} → Bool → Layout A → Layout (Option A)
 when b p = choose b (called p (λ x. Some x)) (give None)
+
+-- no fault stands in front of the place
+abbrev pub Behind : {A : Type 0} → Layout A → Type 0
+Behind p = (at : ℕ) (bytes : List ℕ) (e : Fault) → p.Faults at bytes e → at ≤ e.within
+
+-- What was answered is the one value that the bytes spell, or their first fault.
+pub record Meets {A : Type 0} (p : Layout A) (at : ℕ) (bytes : List ℕ) (r : Result A Fault) : Type 0 where
+  -- a value that is given is spelled
+  pub spelled : IfOk r (p.Spells at bytes)
+  -- a value that is spelled is given
+  pub given : (x : A) → p.Spells at bytes x → r ≡ Ok x
+  -- a fault that is given is there, and no other comes before it
+  pub faulty : IfErr r (p.Faults at bytes)
+  pub first : IfErr r (λ e. (f : Fault) → p.Faults at bytes f → IsTrue (is_before e f))

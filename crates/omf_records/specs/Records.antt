@@ -6,7 +6,7 @@ use Rattle.omf_frame.specs.Framing.{is_header, is_end}
 use Rattle.omf_frame.specs.declared.fault.Reason.{Reason}
 use Rattle.omf_frame.specs.declared.fault.Reason.TheVariants as reason
 use Rattle.omf_records.specs.Values.{DataItem, Contents, Header, Comment, Names, Segment, Group, Externs, Publics, Communals, Plain, Iterated, Fixups, ModEnd, Carried, Rec, is_wide, alignment, is_big, has_start}
-use Rattle.omf_records.specs.Layout.{Layout, ◌>>=◌, give, ends, rest, many, name, index, byte, le, number_of, checked, placed, called, when, either}
+use Rattle.omf_records.specs.Layout.{Layout, ◌>>=◌, give, ends, rest, many, name, index, byte, le, number_of, checked, with_place, called, when, either}
 use Rattle.omf_records.specs.Entries.{unless, member, external, public_item, communal, reference, subrecord}
 
 -- THEADR, LHEADR: a name.
@@ -45,15 +45,15 @@ segment wide = do
   attribute ← checked byte wrong_alignment
   at ← when (alignment attribute == 0) absolute
   size ← checked (number_of wide) (wrong_size attribute)
-  text ← placed index
-  class ← placed index
+  text ← with_place index
+  class ← with_place index
   overlay ← index
   ends (Segment (record { attribute = attribute; absolute = at; size = size; name = text; class = class; overlay = overlay }))
 
 -- GRPDEF: the index of its name, and members to the end.
 abbrev pub group : Layout Contents
 group = do
-  text ← placed index
+  text ← with_place index
   called (many member) (λ ms. Group (record { name = text; members = ms }))
 
 -- EXTDEF, LEXTDEF: external names to the end.
@@ -63,8 +63,8 @@ externs = called (many external) Externs
 -- PUBDEF, LPUBDEF: group index, segment index, the frame number of the base where the segment index is 0, and public names to the end.
 abbrev pub publics : Bool → Layout Contents
 publics wide = do
-  group ← placed index
-  segment ← placed index
+  group ← with_place index
+  segment ← with_place index
   frame ← when (segment.item == 0) (le 2)
   called (many (public_item wide)) (λ ps. Publics (record { group = group; segment = segment; frame = frame; items = ps }))
 
@@ -75,8 +75,8 @@ communals = called (many communal) Communals
 -- LEDATA, LIDATA: segment index, offset, and data or blocks to the end.
 abbrev pub data_item : Bool → Layout DataItem
 data_item wide = do
-  segment ← placed index
-  offset ← placed (number_of wide)
+  segment ← with_place index
+  offset ← with_place (number_of wide)
   called rest (λ bytes. record { segment = segment; offset = offset; bytes = bytes })
 
 -- FIXUPP: subrecords to the end.

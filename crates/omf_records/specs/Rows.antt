@@ -5,7 +5,7 @@ use Rattle.omf_frame.specs.declared.fault.Reason.TheVariants as reason
 use Rattle.omf_records.specs.Values.{At, Reference, Contents, Near, Far, Thread, Fixup, Header, Comment, Names, Segment, Group, Externs, Publics, Communals, Plain, Iterated, Fixups, ModEnd, Carried}
 use Rattle.omf_records.specs.Layout.{fault}
 use Rattle.omf_records.specs.Shortest.{contents_bytes}
-use Rattle.omf_records.specs.Reading.{read_body}
+use Rattle.omf_records.specs.Inner.Reading.{read_body}
 
 abbrev pub Gives : ℕ → List ℕ → Contents → Type 0
 Gives kind body c = read_body kind body ≡ Ok c

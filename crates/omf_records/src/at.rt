@@ -29,9 +29,9 @@ pub struct At<T> {
 }
 
 impl<T> Model for At<T> {
-    ghost use Rattle.omf_records.specs.Values.{At as Placed};
+    ghost use Rattle.omf_records.specs.Values.{At as AtModel};
 
-    ghost Value = { Placed T };
+    ghost Value = { AtModel T };
 
     ghost view = { λ a. record { within = a.within; item = a.item } };
 

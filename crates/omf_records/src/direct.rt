@@ -1,10 +1,10 @@
 //! FIXUPs that name no thread and have no displacement of 0, put from their bytes without their values (TIS OMF 1.1, "FIXUPP").
 ghost use Rattle.std.specs.Prelude.{◌≡◌, ◌+◌, ◌≤◌, ⊤, true, false, length, vec_len, vec_capacity, IfSome, IsOk};
 ghost use Rattle.byteorder.specs.Endian.{little_bytes};
-ghost use Rattle.omf_records.specs.Begins.{Begins};
-ghost use Rattle.omf_records.specs.Direct.{begins_direct, Copies, IsNonzero, IsDirect, PutsNext};
-ghost use Rattle.omf_records.specs.EntryReaders.{datum_reader, displacement_reader, subrecord_reader};
-ghost use Rattle.omf_records.specs.Reads.{each};
+ghost use Rattle.omf_records.specs.Inner.Begins.{Begins};
+ghost use Rattle.omf_records.specs.Inner.Direct.{begins_direct, Copies, IsNonzero, IsDirect, PutsNext};
+ghost use Rattle.omf_records.specs.Inner.EntryReaders.{datum_reader, displacement_reader, subrecord_reader};
+ghost use Rattle.omf_records.specs.Inner.Reads.{each};
 ghost use Rattle.omf_records.specs.Shortest.{option_bytes, datum_bytes, subrecord_bytes};
 ghost use Rattle.omf_records.specs.Values.{is_wide, width};
 
@@ -61,7 +61,7 @@ fn copy_datum<'a>(here: Here<'a>, is_there: bool, out: &mut Vec<u8>) -> Here<'a>
 
 /// Puts the displacement that stands here in a record of a type, if there is one, unless it is 0. There is room for it.
 #[inline(always)]
-#[tactic(auto, using(crate::specs::Begins::begins_itself, crate::specs::Begins::begins_more))]
+#[tactic(auto, using(crate::specs::Inner::Begins::begins_itself, crate::specs::Inner::Begins::begins_more))]
 fn copy_displacement<'a>(
     here: Here<'a>,
     is_there: bool,
@@ -112,7 +112,7 @@ fn copy_direct<'a>(here: Here<'a>, kind: u8, out: &mut Vec<u8>) -> Option<Here<'
 
 /// Puts the FIXUP that stands here, if it names no thread and has no displacement of 0. There is room for it.
 #[inline(always)]
-#[tactic(auto, using(crate::specs::Begins::begins_itself))]
+#[tactic(auto, using(crate::specs::Inner::Begins::begins_itself))]
 fn copy_fixup<'a>(here: Here<'a>, kind: u8, out: &mut Vec<u8>) -> Option<Here<'a>>
     requires room { vec_len out.old + 11 ≤ vec_capacity out.old }
     requires width { here.wide ≡ is_wide kind }
@@ -132,7 +132,7 @@ impl<'a> Unread<Subrecord<'a>> {
     /// Appends the shortest bytes of the subrecord that is to be read next, in a record of the type `kind`, passes it and says so, if it is
     /// a FIXUP that names no thread and has no displacement of 0, and there is room for `FIXUP_LIMIT` bytes. Else all stays as it was.
     #[inline(always)]
-    #[tactic(auto, using(crate::specs::Begins::begins_front))]
+    #[tactic(auto, using(crate::specs::Inner::Begins::begins_front))]
     pub fn put_direct(&mut self, kind: u8, out: &mut Vec<u8>) -> bool
         requires { IsOk self.old.items }
         ensures put { result ≡ true → PutsNext kind self.old self.new out.old.items out.new.items }

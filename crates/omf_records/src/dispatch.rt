@@ -3,11 +3,11 @@ ghost use Rattle.std.specs.Prelude.{◌≡◌, ◌≤◌, length, IfOk, IfSome, 
 ghost use Rattle.omf_frame.specs.Bytes.{is_one_of};
 ghost use Rattle.omf_frame.specs.Framing.{is_taken};
 ghost use Rattle.omf_frame.specs.Types.{local_types, carried, types_of};
-ghost use Rattle.omf_records.specs.Seen.{contents_seen, kind_seen, map_ok};
-ghost use Rattle.omf_records.specs.Reading.{read_body};
-ghost use Rattle.omf_records.specs.Reads.{Meets};
+ghost use Rattle.omf_records.specs.Inner.Seen.{contents_seen, kind_seen, map_ok};
+ghost use Rattle.omf_records.specs.Inner.Reading.{read_body};
+ghost use Rattle.omf_records.specs.Layout.{Meets};
 ghost use Rattle.omf_records.specs.Records.{contents};
-ghost use Rattle.omf_records.specs.Unread.{IsKnown, fixups_read, is_fixupp};
+ghost use Rattle.omf_records.specs.Inner.Unread.{IsKnown, fixups_read, is_fixupp};
 
 use crate::at::LayoutFault;
 use crate::here::Here;

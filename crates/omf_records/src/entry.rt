@@ -1,10 +1,10 @@
 //! What records repeat: names, members, external, public and communal names.
 ghost use Rattle.std.specs.Prelude.{◌≡◌, ◌++◌, OnOk, OnErr};
-ghost use Rattle.omf_records.specs.Begins.{Begins};
+ghost use Rattle.omf_records.specs.Inner.Begins.{Begins};
 ghost use Rattle.omf_records.specs.Shortest.{size_bytes};
-ghost use Rattle.omf_records.specs.Gives.{Gives};
-ghost use Rattle.omf_records.specs.EntryReaders.{component_reader, data_type_reader, size_reader};
-ghost use Rattle.omf_records.specs.Sizes.{size_seen, GivesSize};
+ghost use Rattle.omf_records.specs.Inner.Gives.{Gives};
+ghost use Rattle.omf_records.specs.Inner.EntryReaders.{component_reader, data_type_reader, size_reader};
+ghost use Rattle.omf_records.specs.Inner.Sizes.{size_seen, GivesSize};
 
 use crate::at::{At, LayoutFault};
 use crate::field::{byte, communal_length, index, index_here, name, number};
@@ -18,7 +18,7 @@ use std::marker::{Model, PhantomData};
 impl<'a> Item for Name<'a> {
     ghost use Rattle.omf_frame.specs.Fields.{name_bytes};
     ghost use Rattle.omf_records.specs.Layout.{name};
-    ghost use Rattle.omf_records.specs.FieldReaders.{name_reader, name_shrinks};
+    ghost use Rattle.omf_records.specs.Inner.FieldReaders.{name_reader, name_shrinks};
 
     type From = Here<'a>;
 
@@ -49,9 +49,9 @@ pub struct Member<'a> {
 
 impl<'a> Model for Member<'a> {
     ghost use Rattle.std.specs.Prelude.{ℕ};
-    ghost use Rattle.omf_records.specs.Values.{At as Placed};
+    ghost use Rattle.omf_records.specs.Values.{At as AtModel};
 
-    ghost Value = { Placed ℕ };
+    ghost Value = { AtModel ℕ };
 
     ghost view = { λ m. m.segment };
 }
@@ -71,7 +71,7 @@ fn component<'a>(here: Here<'a>) -> Result<(u8, Here<'a>), LayoutFault>
 impl<'a> Item for Member<'a> {
     ghost use Rattle.omf_records.specs.Shortest.{member_bytes};
     ghost use Rattle.omf_records.specs.Entries.{member};
-    ghost use Rattle.omf_records.specs.EntryReaders.{member_reader, member_shrinks};
+    ghost use Rattle.omf_records.specs.Inner.EntryReaders.{member_reader, member_shrinks};
 
     type From = Here<'a>;
 
@@ -91,7 +91,7 @@ impl<'a> Item for Member<'a> {
 
     ghost shortest = { λ k m. member_bytes m };
 
-    #[tactic(auto, using(crate::specs::Begins::begins_then))]
+    #[tactic(auto, using(crate::specs::Inner::Begins::begins_then))]
     fn put(&self, _kind: u8, out: &mut Vec<u8>) -> Result<(), AllocError> {
         put_byte(out, 0xFF)?;
         put_datum(out, &self.segment)
@@ -116,7 +116,7 @@ impl<'a> Model for Extern<'a> {
 impl<'a> Item for Extern<'a> {
     ghost use Rattle.omf_records.specs.Shortest.{external_bytes};
     ghost use Rattle.omf_records.specs.Entries.{external};
-    ghost use Rattle.omf_records.specs.EntryReaders.{external_reader, external_shrinks};
+    ghost use Rattle.omf_records.specs.Inner.EntryReaders.{external_reader, external_shrinks};
 
     type From = Here<'a>;
 
@@ -135,7 +135,7 @@ impl<'a> Item for Extern<'a> {
 
     ghost shortest = { λ k e. external_bytes e };
 
-    #[tactic(auto, using(crate::specs::Begins::begins_then))]
+    #[tactic(auto, using(crate::specs::Inner::Begins::begins_then))]
     fn put(&self, _kind: u8, out: &mut Vec<u8>) -> Result<(), AllocError> {
         put_field(out, &self.name)?;
         put_field(out, &self.type_index)
@@ -161,7 +161,7 @@ impl<'a> Model for Public<'a> {
 impl<'a> Item for Public<'a> {
     ghost use Rattle.omf_records.specs.Shortest.{public_bytes};
     ghost use Rattle.omf_records.specs.Entries.{public_item};
-    ghost use Rattle.omf_records.specs.EntryReaders.{public_reader, public_shrinks};
+    ghost use Rattle.omf_records.specs.Inner.EntryReaders.{public_reader, public_shrinks};
 
     type From = Here<'a>;
 
@@ -188,7 +188,7 @@ impl<'a> Item for Public<'a> {
 
     ghost shortest = { public_bytes };
 
-    #[tactic(auto, using(crate::specs::Begins::begins_then))]
+    #[tactic(auto, using(crate::specs::Inner::Begins::begins_then))]
     fn put(&self, kind: u8, out: &mut Vec<u8>) -> Result<(), AllocError> {
         put_field(out, &self.name)?;
         put_number(out, kind, self.offset)?;
@@ -213,7 +213,7 @@ pub struct Communal<'a> {
 
 impl<'a> Model for Communal<'a> {
     ghost use Rattle.omf_records.specs.Values.{CommunalItem};
-    ghost use Rattle.omf_records.specs.Sizes.{size_seen};
+    ghost use Rattle.omf_records.specs.Inner.Sizes.{size_seen};
 
     ghost Value = { CommunalItem };
 
@@ -244,7 +244,7 @@ fn communal_size<'a>(here: Here<'a>) -> Result<(CommunalSize, Here<'a>), LayoutF
     Ok((CommunalSize::Far { count, size }, here))
 }
 
-#[tactic(auto, using(crate::specs::Begins::begins_then))]
+#[tactic(auto, using(crate::specs::Inner::Begins::begins_then))]
 fn put_size(out: &mut Vec<u8>, size: CommunalSize) -> Result<(), AllocError>
     ensures put { OnOk result (out.new.items ≡ out.old.items ++ size_bytes (size_seen size)) }
     ensures grows { Begins out.old.items out.new.items }
@@ -265,7 +265,7 @@ fn put_size(out: &mut Vec<u8>, size: CommunalSize) -> Result<(), AllocError>
 impl<'a> Item for Communal<'a> {
     ghost use Rattle.omf_records.specs.Shortest.{communal_bytes};
     ghost use Rattle.omf_records.specs.Entries.{communal};
-    ghost use Rattle.omf_records.specs.EntryReaders.{communal_reader, communal_shrinks};
+    ghost use Rattle.omf_records.specs.Inner.EntryReaders.{communal_reader, communal_shrinks};
 
     type From = Here<'a>;
 
@@ -291,7 +291,7 @@ impl<'a> Item for Communal<'a> {
 
     ghost shortest = { λ k c. communal_bytes c };
 
-    #[tactic(auto, using(crate::specs::Begins::begins_then))]
+    #[tactic(auto, using(crate::specs::Inner::Begins::begins_then))]
     fn put(&self, _kind: u8, out: &mut Vec<u8>) -> Result<(), AllocError> {
         put_field(out, &self.name)?;
         put_field(out, &self.type_index)?;

@@ -1,10 +1,9 @@
 //! Fields at a place of a record's contents.
 ghost use Rattle.std.specs.Prelude.{◌≡◌, ℕ, ◌+◌, ◌-◌, ◌*◌, ◌<◌, ◌≤◌, length, drop, take, List, cond};
-ghost use Rattle.omf_records.specs.Gives.{Gives, GivesField};
-ghost use Rattle.omf_records.specs.FieldReaders.{name_read, index_read, byte_read, le_read, length_read};
-ghost use Rattle.omf_records.specs.FieldReaders.{number_reader};
+ghost use Rattle.omf_records.specs.Inner.Gives.{Gives, GivesField};
+ghost use Rattle.omf_records.specs.Inner.FieldReaders.{name_read, index_read, byte_read, le_read, length_read, number_reader};
 ghost use Rattle.omf_records.specs.Layout.{length_reason};
-ghost use Rattle.omf_records.specs.Readers.{index_at, number_at};
+ghost use Rattle.omf_records.specs.Inner.Readers.{index_at, number_at};
 
 use crate::at::{At, LayoutFault};
 use crate::here::Here;

@@ -1,7 +1,7 @@
 //! The bytes of fixups and of references, for which room is taken once (TIS OMF 1.1, "FIXUPP").
 ghost use Rattle.std.specs.Prelude.{◌≡◌, ◌++◌, ◌+◌, ◌≤◌, OnOk, OnErr, length, vec_len, vec_capacity};
 ghost use Rattle.byteorder.specs.Endian.{little_bytes};
-ghost use Rattle.omf_records.specs.Begins.{Begins};
+ghost use Rattle.omf_records.specs.Inner.Begins.{Begins};
 ghost use Rattle.omf_records.specs.Shortest.{option_bytes, datum_bytes, reference_bytes, subrecord_bytes};
 ghost use Rattle.omf_records.specs.Values.{Fixup, width};
 
@@ -94,7 +94,7 @@ fn push_fixup(out: &mut Vec<u8>, kind: u8, location: u16, reference: &Reference)
 /// # Errors
 ///
 /// `AllocError` where a growth is refused: nothing is appended then.
-#[tactic(auto, using(crate::specs::Begins::begins_itself, crate::specs::Begins::begins_more))]
+#[tactic(auto, using(crate::specs::Inner::Begins::begins_itself, crate::specs::Inner::Begins::begins_more))]
 pub fn put_reference(out: &mut Vec<u8>, kind: u8, reference: &Reference) -> Result<(), AllocError>
     ensures put { OnOk result (out.new.items ≡ out.old.items ++ reference_bytes kind reference.now) }
     ensures err { OnErr result (out.new.items ≡ out.old.items) }
@@ -111,7 +111,7 @@ pub fn put_reference(out: &mut Vec<u8>, kind: u8, reference: &Reference) -> Resu
 ///
 /// `AllocError` where a growth is refused: nothing is appended then.
 #[inline(always)]
-#[tactic(auto, using(crate::specs::Begins::begins_itself, crate::specs::Begins::begins_more))]
+#[tactic(auto, using(crate::specs::Inner::Begins::begins_itself, crate::specs::Inner::Begins::begins_more))]
 pub fn put_fixup(
     out: &mut Vec<u8>,
     kind: u8,

@@ -21,7 +21,7 @@ impl<'a> Here<'a> {
     ghost use Rattle.std.specs.Prelude.{◌≡◌, ℕ, ◌+◌, ◌≤◌, length, drop};
     ghost use Rattle.omf_frame.specs.declared.fault.Reason.TheVariants.{Short};
     ghost use Rattle.omf_records.specs.Layout.{fault};
-    ghost use Rattle.omf_records.specs.Readers.{ends_read};
+    ghost use Rattle.omf_records.specs.Inner.Readers.{ends_read};
 
     /// The start of a record's contents, at offset 3.
     #[inline(always)]

@@ -1,9 +1,9 @@
 //! Items one after another, to the end of a record's contents.
 ghost use Rattle.std.specs.Prelude.{◌≡◌, ℕ, ◌+◌, ◌-◌, ◌*◌, ◌<◌, ◌≤◌, ◌↔◌, ◌++◌, IsTrue, OnOk, OnErr, flat_map, length, drop, take, List, [], Bool};
 ghost use Rattle.std.specs.Iterator.{YieldsFirst, item_count};
-ghost use Rattle.omf_records.specs.Begins.{Begins};
+ghost use Rattle.omf_records.specs.Inner.Begins.{Begins};
 ghost use Rattle.omf_records.specs.Layout.{Layout};
-ghost use Rattle.omf_records.specs.Reads.{GivesFrom, Reader, Shrinks, each};
+ghost use Rattle.omf_records.specs.Inner.Reads.{GivesFrom, Reader, Shrinks, each};
 
 use crate::at::{At, LayoutFault};
 use crate::here::Here;
@@ -78,10 +78,10 @@ pub struct Items<T: Item> {
 
 impl<T: Item> Model for Items<T> {
     ghost use Rattle.std.specs.Prelude.{◌≡◌, List, is_ok, true};
-    ghost use Rattle.omf_records.specs.Values.{At as Placed};
-    ghost use Rattle.omf_records.specs.Reads.{each, or_none};
+    ghost use Rattle.omf_records.specs.Values.{At as AtModel};
+    ghost use Rattle.omf_records.specs.Inner.Reads.{each, or_none};
 
-    ghost Value = { List (Placed T) };
+    ghost Value = { List (AtModel T) };
 
     ghost view = { λ s. or_none (each (T.reader (T.From.wide s.from)).read (T.From.place s.from) (T.From.rest s.from)) };
 
@@ -90,8 +90,8 @@ impl<T: Item> Model for Items<T> {
 
 impl<T: Item> Items<T> {
     ghost use Rattle.std.specs.Prelude.{◌≡◌, is_ok, true, Ok};
-    ghost use Rattle.omf_records.specs.Reads.{each};
-    ghost use Rattle.omf_records.specs.Unread.{IsKnown};
+    ghost use Rattle.omf_records.specs.Inner.Reads.{each};
+    ghost use Rattle.omf_records.specs.Inner.Unread.{IsKnown};
 
     /// All of the bytes, as items.
     pub(crate) fn new(from: T::From) -> Result<Items<T>, LayoutFault>
@@ -160,7 +160,7 @@ impl<T: Item> Iterator for Items<T> {
 }
 
 /// Appends the shortest spellings of items, in a record of the type `kind`.
-#[tactic(auto, using(crate::specs::Begins::begins_then, crate::specs::Begins::begins_itself))]
+#[tactic(auto, using(crate::specs::Inner::Begins::begins_then, crate::specs::Inner::Begins::begins_itself))]
 pub(crate) fn put_items<T: Item>(
     out: &mut Vec<u8>,
     kind: u8,

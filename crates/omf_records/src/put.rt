@@ -1,7 +1,7 @@
 //! Fields at the end of a vector, in their shortest spellings.
 ghost use Rattle.std.specs.Prelude.{◌≡◌, ◌++◌, ◌∷◌, [], OnOk, OnErr, Option};
 ghost use Rattle.byteorder.specs.Endian.{little_bytes};
-ghost use Rattle.omf_records.specs.Begins.{Begins};
+ghost use Rattle.omf_records.specs.Inner.Begins.{Begins};
 ghost use Rattle.omf_records.specs.Shortest.{datum_bytes, option_bytes};
 ghost use Rattle.omf_records.specs.Values.{width};
 
@@ -10,7 +10,7 @@ use omf_frame::{Field, Index, Le16, Le32};
 use std::alloc::AllocError;
 
 /// A field in its shortest spelling.
-#[tactic(auto, using(crate::specs::Begins::begins_itself, crate::specs::Begins::begins_more))]
+#[tactic(auto, using(crate::specs::Inner::Begins::begins_itself, crate::specs::Inner::Begins::begins_more))]
 pub(crate) fn put_field<'a, F: Field<'a>>(out: &mut Vec<u8>, field: &F) -> Result<(), AllocError>
     ensures put { OnOk result (out.new.items ≡ out.old.items ++ F.shortest field.now) }
     ensures grows { Begins out.old.items out.new.items }
@@ -18,7 +18,7 @@ pub(crate) fn put_field<'a, F: Field<'a>>(out: &mut Vec<u8>, field: &F) -> Resul
     field.put(out)
 }
 
-#[tactic(auto, using(crate::specs::Begins::begins_itself, crate::specs::Begins::begins_more))]
+#[tactic(auto, using(crate::specs::Inner::Begins::begins_itself, crate::specs::Inner::Begins::begins_more))]
 pub(crate) fn put_bytes(out: &mut Vec<u8>, bytes: &[u8]) -> Result<(), AllocError>
     ensures put { OnOk result (out.new.items ≡ out.old.items ++ bytes.now) }
     ensures grows { Begins out.old.items out.new.items }
@@ -53,7 +53,7 @@ pub(crate) fn put_datum(out: &mut Vec<u8>, datum: &At<Index>) -> Result<(), Allo
 }
 
 /// The same, if it is there.
-#[tactic(auto, using(crate::specs::Begins::begins_itself))]
+#[tactic(auto, using(crate::specs::Inner::Begins::begins_itself))]
 pub(crate) fn put_datum_if(out: &mut Vec<u8>, datum: &Option<At<Index>>) -> Result<(), AllocError>
     ensures put { OnOk result (out.new.items ≡ out.old.items ++ option_bytes datum_bytes datum.now) }
     ensures grows { Begins out.old.items out.new.items }

@@ -125,7 +125,7 @@ pub enum Rec<'a> {
 
 impl<'a> Rec<'a> {
     ghost use Rattle.std.specs.Prelude.{◌≡◌};
-    ghost use Rattle.omf_records.specs.Seen.{kind_seen};
+    ghost use Rattle.omf_records.specs.Inner.Seen.{kind_seen};
 
     /// The record's type byte.
     pub fn kind(&self) -> u8

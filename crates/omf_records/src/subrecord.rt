@@ -1,10 +1,10 @@
 //! Subrecords of a FIXUPP, and the reference that a FIXUP and MODEND's start share.
 ghost use Rattle.std.specs.Prelude.{◌≡◌, ◌<◌, not, List, Option, IfOk};
 ghost use Rattle.omf_records.specs.Values.{is_location, may_be_self_relative, thread_method, frame_by_thread, frame_bits, target_by_thread, target_bits, has_frame_datum, has_target_datum, has_no_displacement};
-ghost use Rattle.omf_records.specs.Parts.{first_reason};
-ghost use Rattle.omf_records.specs.Gives.{Gives};
+ghost use Rattle.omf_records.specs.Inner.Parts.{first_reason};
+ghost use Rattle.omf_records.specs.Inner.Gives.{Gives};
 ghost use Rattle.omf_records.specs.Entries.{is_frame_method, wrong_methods, wrong_thread, wrong_location};
-ghost use Rattle.omf_records.specs.EntryReaders.{fix_reader, datum_reader, displacement_reader, reference_reader, thread_reader, fixup_reader};
+ghost use Rattle.omf_records.specs.Inner.EntryReaders.{fix_reader, datum_reader, displacement_reader, reference_reader, thread_reader, fixup_reader};
 
 use crate::at::{At, LayoutFault};
 use crate::bits::{is_frame_thread, is_segment_relative, location_type, thread_method};
@@ -28,9 +28,9 @@ pub struct Reference {
 }
 
 impl Model for Reference {
-    ghost use Rattle.omf_records.specs.Values.{Reference as Said};
+    ghost use Rattle.omf_records.specs.Values.{Reference as ReferenceModel};
 
-    ghost Value = { Said };
+    ghost Value = { ReferenceModel };
 
     ghost view = { λ r. record { fix = r.fix; frame = r.frame; target = r.target; displacement = r.displacement } };
 }
@@ -50,10 +50,10 @@ pub struct Subrecord<'a> {
 }
 
 impl<'a> Model for Subrecord<'a> {
-    ghost use Rattle.omf_records.specs.Values.{Subrecord as Said};
-    ghost use Rattle.omf_records.specs.Parts.{part_seen};
+    ghost use Rattle.omf_records.specs.Values.{Subrecord as SubrecordModel};
+    ghost use Rattle.omf_records.specs.Inner.Parts.{part_seen};
 
-    ghost Value = { Said };
+    ghost Value = { SubrecordModel };
 
     ghost view = { λ s. part_seen s.part };
 }
@@ -223,7 +223,7 @@ fn fixup<'a>(here: Here<'a>, location: u16) -> Result<(Subrecord<'a>, Here<'a>),
 impl<'a> Item for Subrecord<'a> {
     ghost use Rattle.omf_records.specs.Shortest.{subrecord_bytes};
     ghost use Rattle.omf_records.specs.Entries.{subrecord};
-    ghost use Rattle.omf_records.specs.EntryReaders.{subrecord_reader, subrecord_shrinks};
+    ghost use Rattle.omf_records.specs.Inner.EntryReaders.{subrecord_reader, subrecord_shrinks};
 
     type From = Here<'a>;
 
@@ -253,7 +253,7 @@ impl<'a> Item for Subrecord<'a> {
 
     ghost shortest = { subrecord_bytes };
 
-    #[tactic(auto, using(crate::specs::Begins::begins_then))]
+    #[tactic(auto, using(crate::specs::Inner::Begins::begins_then))]
     fn put(&self, kind: u8, out: &mut Vec<u8>) -> Result<(), AllocError> {
         match &self.part {
             Part::Thread { first, index } => {

@@ -1,8 +1,8 @@
 //! Items whose spelling is judged as they are read.
 ghost use Rattle.std.specs.Prelude.{◌≡◌, ◌<◌, ◌≤◌, Ok, [], true, false, length};
 ghost use Rattle.std.specs.Prelude.{is_ok};
-ghost use Rattle.omf_records.specs.Reads.{each};
-ghost use Rattle.omf_records.specs.Unread.{NextGives};
+ghost use Rattle.omf_records.specs.Inner.Reads.{each};
+ghost use Rattle.omf_records.specs.Inner.Unread.{NextGives};
 
 use crate::at::{At, LayoutFault};
 use crate::item::{Cursor, Item, Items};
@@ -17,8 +17,8 @@ pub struct Unread<T: Item> {
 
 impl<T: Item> Model for Unread<T> {
     ghost use Rattle.std.specs.Prelude.{length};
-    ghost use Rattle.omf_records.specs.Reads.{each};
-    ghost use Rattle.omf_records.specs.Unread.{Pending};
+    ghost use Rattle.omf_records.specs.Inner.Reads.{each};
+    ghost use Rattle.omf_records.specs.Inner.Unread.{Pending};
 
     ghost Value = { Pending T };
 

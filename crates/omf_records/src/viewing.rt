@@ -1,12 +1,12 @@
 //! A record's contents as a typed record. What repeats in it is not read where it is known to be well spelled.
 ghost use Rattle.std.specs.Prelude.{◌≡◌, ◌==◌, ℕ, ◌≤◌, length, IfOk, Bool, cond, if◌then◌else◌};
-ghost use Rattle.omf_records.specs.Gives.{Gives};
-ghost use Rattle.omf_records.specs.Reads.{each};
-ghost use Rattle.omf_records.specs.Unread.{IsKnown};
-ghost use Rattle.omf_records.specs.EntryReaders.{public_reader};
-ghost use Rattle.omf_records.specs.Seen.{contents_seen, kind_seen, odd_if, map_ok};
+ghost use Rattle.omf_records.specs.Inner.Gives.{Gives};
+ghost use Rattle.omf_records.specs.Inner.Reads.{each};
+ghost use Rattle.omf_records.specs.Inner.Unread.{IsKnown};
+ghost use Rattle.omf_records.specs.Inner.EntryReaders.{public_reader};
+ghost use Rattle.omf_records.specs.Inner.Seen.{contents_seen, kind_seen, odd_if, map_ok};
 ghost use Rattle.omf_records.specs.Values.{alignment, has_start};
-ghost use Rattle.omf_records.specs.RecordReaders.{header_whole, comment_whole, names_whole, attribute_reader, absolute_reader, size_reader, segment_whole, group_whole, externs_whole, base_reader, publics_whole, communals_whole, plain_whole, iterated_whole, fixups_whole, start_reader, mod_end_whole, carried_whole};
+ghost use Rattle.omf_records.specs.Inner.RecordReaders.{header_whole, comment_whole, names_whole, attribute_reader, absolute_reader, size_reader, segment_whole, group_whole, externs_whole, base_reader, publics_whole, communals_whole, plain_whole, iterated_whole, fixups_whole, start_reader, mod_end_whole, carried_whole};
 
 use crate::at::{At, LayoutFault};
 use crate::entry::Public;

@@ -2,8 +2,8 @@
 ghost use Rattle.std.specs.Prelude.{◌≡◌, ◌++◌, ◌∷◌, [], OnOk, OnErr, flat_map};
 ghost use Rattle.byteorder.specs.Endian.{little_bytes};
 ghost use Rattle.omf_frame.specs.Fields.{index_bytes};
-ghost use Rattle.omf_records.specs.Begins.{Begins};
-ghost use Rattle.omf_records.specs.Seen.{contents_seen, kind_seen};
+ghost use Rattle.omf_records.specs.Inner.Begins.{Begins};
+ghost use Rattle.omf_records.specs.Inner.Seen.{contents_seen, kind_seen};
 ghost use Rattle.omf_records.specs.Shortest.{contents_bytes, segment_bytes, reference_bytes, datum_bytes, option_bytes, absolute_bytes, member_bytes, public_bytes};
 ghost use Rattle.omf_records.specs.Values.{width};
 
@@ -18,7 +18,7 @@ use omf_frame::{Index, Le16};
 use std::alloc::AllocError;
 
 /// The frame number and offset of an absolute segment.
-#[tactic(auto, using(crate::specs::Begins::begins_then, crate::specs::Begins::begins_itself))]
+#[tactic(auto, using(crate::specs::Inner::Begins::begins_then, crate::specs::Inner::Begins::begins_itself))]
 fn put_absolute(out: &mut Vec<u8>, absolute: Option<(u16, u8)>) -> Result<(), AllocError>
     ensures put { OnOk result (out.new.items ≡ out.old.items ++ option_bytes absolute_bytes absolute) }
     ensures grows { Begins out.old.items out.new.items }
@@ -33,7 +33,7 @@ fn put_absolute(out: &mut Vec<u8>, absolute: Option<(u16, u8)>) -> Result<(), Al
 }
 
 /// The three indices of a SEGDEF.
-#[tactic(auto, using(crate::specs::Begins::begins_then))]
+#[tactic(auto, using(crate::specs::Inner::Begins::begins_then))]
 fn put_indices(out: &mut Vec<u8>, segment: &Segment) -> Result<(), AllocError>
     ensures put { OnOk result (out.new.items ≡ out.old.items ++ (datum_bytes segment.now.name ++ (datum_bytes segment.now.class ++ index_bytes segment.now.overlay))) }
     ensures grows { Begins out.old.items out.new.items }
@@ -44,7 +44,7 @@ fn put_indices(out: &mut Vec<u8>, segment: &Segment) -> Result<(), AllocError>
 }
 
 /// The length of a SEGDEF, and what follows it.
-#[tactic(auto, using(crate::specs::Begins::begins_then))]
+#[tactic(auto, using(crate::specs::Inner::Begins::begins_then))]
 fn put_size(out: &mut Vec<u8>, kind: u8, segment: &Segment) -> Result<(), AllocError>
     ensures put { OnOk result (out.new.items ≡ out.old.items ++ (little_bytes (width kind) segment.now.size ++ (datum_bytes segment.now.name ++ (datum_bytes segment.now.class ++ index_bytes segment.now.overlay)))) }
     ensures grows { Begins out.old.items out.new.items }
@@ -53,7 +53,7 @@ fn put_size(out: &mut Vec<u8>, kind: u8, segment: &Segment) -> Result<(), AllocE
     put_indices(out, segment)
 }
 
-#[tactic(auto, using(crate::specs::Begins::begins_then))]
+#[tactic(auto, using(crate::specs::Inner::Begins::begins_then))]
 fn put_segment(out: &mut Vec<u8>, kind: u8, segment: &Segment) -> Result<(), AllocError>
     ensures put { OnOk result (out.new.items ≡ out.old.items ++ segment_bytes kind segment.now) }
     ensures grows { Begins out.old.items out.new.items }
@@ -64,7 +64,7 @@ fn put_segment(out: &mut Vec<u8>, kind: u8, segment: &Segment) -> Result<(), All
 }
 
 /// The base frame's number of a PUBDEF, if there is one.
-#[tactic(auto, using(crate::specs::Begins::begins_itself))]
+#[tactic(auto, using(crate::specs::Inner::Begins::begins_itself))]
 fn put_frame(out: &mut Vec<u8>, frame: Option<u16>) -> Result<(), AllocError>
     ensures put { OnOk result (out.new.items ≡ out.old.items ++ option_bytes (little_bytes 2) frame) }
     ensures grows { Begins out.old.items out.new.items }
@@ -76,7 +76,7 @@ fn put_frame(out: &mut Vec<u8>, frame: Option<u16>) -> Result<(), AllocError>
 }
 
 /// Data or blocks, behind their segment and offset.
-#[tactic(auto, using(crate::specs::Begins::begins_then))]
+#[tactic(auto, using(crate::specs::Inner::Begins::begins_then))]
 fn put_data(
     out: &mut Vec<u8>,
     kind: u8,
@@ -93,7 +93,7 @@ fn put_data(
 }
 
 /// The type byte of a MODEND, and its start if there is one.
-#[tactic(auto, using(crate::specs::Begins::begins_then))]
+#[tactic(auto, using(crate::specs::Inner::Begins::begins_then))]
 fn put_end(
     out: &mut Vec<u8>,
     kind: u8,
@@ -111,7 +111,7 @@ fn put_end(
 }
 
 /// The type byte, class byte and text of a COMENT.
-#[tactic(auto, using(crate::specs::Begins::begins_then))]
+#[tactic(auto, using(crate::specs::Inner::Begins::begins_then))]
 fn put_comment(out: &mut Vec<u8>, type_byte: u8, class: u8, text: &[u8]) -> Result<(), AllocError>
     ensures put { OnOk result (out.new.items ≡ out.old.items ++ type_byte ∷ class ∷ text.now) }
     ensures grows { Begins out.old.items out.new.items }
@@ -121,7 +121,7 @@ fn put_comment(out: &mut Vec<u8>, type_byte: u8, class: u8, text: &[u8]) -> Resu
 }
 
 /// The group and segment indices of a PUBDEF's base, its frame, and the public names.
-#[tactic(auto, using(crate::specs::Begins::begins_then))]
+#[tactic(auto, using(crate::specs::Inner::Begins::begins_then))]
 fn put_publics<'a>(
     out: &mut Vec<u8>,
     kind: u8,
@@ -140,7 +140,7 @@ fn put_publics<'a>(
 }
 
 /// The index of a name, and items.
-#[tactic(auto, using(crate::specs::Begins::begins_then))]
+#[tactic(auto, using(crate::specs::Inner::Begins::begins_then))]
 fn put_group<'a>(
     out: &mut Vec<u8>,
     kind: u8,
@@ -154,7 +154,7 @@ fn put_group<'a>(
     put_items(out, kind, members)
 }
 
-#[tactic(auto, using(crate::specs::Begins::begins_then))]
+#[tactic(auto, using(crate::specs::Inner::Begins::begins_then))]
 fn put_contents(out: &mut Vec<u8>, rec: &Rec<'_>) -> Result<(), AllocError>
     ensures put { OnOk result (out.new.items ≡ out.old.items ++ contents_bytes (kind_seen rec.now) (contents_seen rec.now)) }
     ensures grows { Begins out.old.items out.new.items }
@@ -167,18 +167,31 @@ fn put_contents(out: &mut Vec<u8>, rec: &Rec<'_>) -> Result<(), AllocError>
             class,
             text,
         } => put_comment(out, *type_byte, *class, text),
-        Rec::Names(names) => put_items(out, kind, names.iter()),
+        Rec::Names(names) | Rec::LocalNames(names) => put_items(out, kind, names.iter()),
         Rec::Segment { segment, .. } => put_segment(out, kind, segment),
         Rec::Group { name, members } => put_group(out, kind, name, members.iter()),
-        Rec::Externs(externs) => put_items(out, kind, externs.iter()),
+        Rec::Externs(externs) | Rec::LocalExterns { externs, .. } => {
+            put_items(out, kind, externs.iter())
+        }
         Rec::Publics {
             group,
             segment,
             frame,
             publics,
             ..
+        }
+        | Rec::LocalPublics {
+            group,
+            segment,
+            frame,
+            publics,
+            ..
         } => put_publics(out, kind, group, segment, *frame, publics.iter()),
-        Rec::Communals(communals) => put_items(out, kind, communals.iter()),
+        Rec::Communals(communals) | Rec::LocalCommunals(communals) => put_items(
+            out,
+            kind,
+            communals.iter(),
+        ),
         Rec::Plain {
             segment,
             offset,
@@ -196,23 +209,13 @@ fn put_contents(out: &mut Vec<u8>, rec: &Rec<'_>) -> Result<(), AllocError>
             start,
             ..
         } => put_end(out, kind, *type_byte, start),
-        Rec::LocalNames(names) => put_items(out, kind, names.iter()),
-        Rec::LocalExterns { externs, .. } => put_items(out, kind, externs.iter()),
-        Rec::LocalPublics {
-            group,
-            segment,
-            frame,
-            publics,
-            ..
-        } => put_publics(out, kind, group, segment, *frame, publics.iter()),
-        Rec::LocalCommunals(communals) => put_items(out, kind, communals.iter()),
         Rec::Carried { contents, .. } => put_bytes(out, contents),
     }
 }
 
 /// Appends the contents of a typed record in shortest spellings: each index and communal length in its shortest
 /// one. Numbers of a narrow record keep their low 16 bits. An `Err` changes nothing.
-#[tactic(auto, using(crate::specs::Begins::begins_front))]
+#[tactic(auto, using(crate::specs::Inner::Begins::begins_front))]
 pub fn put_rec(out: &mut Vec<u8>, rec: &Rec<'_>) -> Result<(), AllocError>
     ensures ok { OnOk result (out.new.items ≡ out.old.items ++ contents_bytes (kind_seen rec.now) (contents_seen rec.now)) }
     ensures err { OnErr result (out.new.items ≡ out.old.items) }

@@ -4,7 +4,7 @@ ghost use Rattle.omf_frame.specs.Framing.{is_taken};
 
 use omf_frame::{Index, RawRecord, Reason};
 use omf_records::*;
-use std::alloc::Global;
+use std::alloc::{AllocError, Global};
 use std::test::Fail;
 
 fn raw<'a>(kind: u8, body: &'a [u8]) -> RawRecord<'a>
@@ -192,23 +192,42 @@ fn local_kind(rec: &Rec<'_>) -> Option<(u8, u32)> {
     }
 }
 
+/// The same of the record that the contents spell.
+fn local_of(kind: u8, body: &[u8]) -> Result<Option<(u8, u32)>, Fail>
+    requires taken { IsTrue (is_taken kind) }
+    requires short { length body.now ≤ 65534 }
+{
+    let rec = view(raw(kind, body))?;
+    Ok(local_kind(&rec))
+}
+
 #[test]
-fn shows_local_records(rt: HostRuntime) -> Result<(), Fail> {
+fn shows_local_externals(rt: HostRuntime) -> Result<(), Fail> {
     let externs = [0x01, 0x58, 0x00, 0x01, 0x59, 0x80, 0x00];
-    assert_eq!(rt; local_kind(&view(raw(0xB4, &externs))?), Some((0xB4, 2)));
-    assert_eq!(rt; local_kind(&view(raw(0xB5, &externs))?), Some((0xB5, 2)));
-    assert_eq!(rt; local_kind(&view(raw(0x8C, &externs))?), None);
+    assert!(rt; local_of(0xB4, &externs)? == Some((0xB4, 2)));
+    assert!(rt; local_of(0xB5, &externs)? == Some((0xB5, 2)));
+    assert!(rt; local_of(0x8C, &externs)? == None);
+    Ok(())
+}
+
+#[test]
+fn shows_local_publics(rt: HostRuntime) -> Result<(), Fail> {
     let publics = [0x00, 0x02, 0x01, 0x50, 0x00, 0x00, 0x00];
-    assert_eq!(rt; local_kind(&view(raw(0xB6, &publics))?), Some((0xB6, 1)));
-    assert_eq!(rt; local_kind(&view(raw(0x90, &publics))?), None);
+    assert!(rt; local_of(0xB6, &publics)? == Some((0xB6, 1)));
+    assert!(rt; local_of(0x90, &publics)? == None);
     let wide = [0x00, 0x02, 0x01, 0x50, 0x00, 0x00, 0x00, 0x01, 0x07];
-    assert_eq!(rt; local_kind(&view(raw(0xB7, &wide))?), Some((0xB7, 1)));
+    assert!(rt; local_of(0xB7, &wide)? == Some((0xB7, 1)));
+    Ok(())
+}
+
+#[test]
+fn shows_local_communals_and_names(rt: HostRuntime) -> Result<(), Fail> {
     let communals = [0x01, 0x58, 0x00, 0x62, 0x81, 0x80, 0x00];
-    assert_eq!(rt; local_kind(&view(raw(0xB8, &communals))?), Some((0xB8, 1)));
-    assert_eq!(rt; local_kind(&view(raw(0xB0, &communals))?), None);
+    assert!(rt; local_of(0xB8, &communals)? == Some((0xB8, 1)));
+    assert!(rt; local_of(0xB0, &communals)? == None);
     let names = [0x01, 0x55, 0x00, 0x02, 0x41, 0x42];
-    assert_eq!(rt; local_kind(&view(raw(0xCA, &names))?), Some((0xCA, 3)));
-    assert_eq!(rt; local_kind(&view(raw(0x96, &names))?), None);
+    assert!(rt; local_of(0xCA, &names)? == Some((0xCA, 3)));
+    assert!(rt; local_of(0x96, &names)? == None);
     Ok(())
 }
 
@@ -314,24 +333,26 @@ fn puts_shorter_spellings(rt: HostRuntime) -> Result<(), Fail> {
     Ok(())
 }
 
+/// Whether a record is a SEGDEF of 16 bits of four bytes at the frame number B800H, with names 2 and 1 and no overlay of its own.
+fn is_the_segment(rec: &Rec<'_>) -> bool {
+    match rec {
+        Rec::Segment { wide, segment } => {
+            !*wide
+                && segment.attribute == 0x08
+                && segment.size == 4
+                && segment.absolute == Some((0xB800, 0))
+                && (segment.name.within, segment.name.item.0) == (9, 2)
+                && (segment.class.within, segment.class.item.0) == (10, 1)
+                && segment.overlay.0 == 1
+        }
+        _ => false,
+    }
+}
+
 #[test]
 fn shows_a_segment(rt: HostRuntime) -> Result<(), Fail> {
     let body = [0x08, 0x00, 0xB8, 0x00, 0x04, 0x00, 0x02, 0x01, 0x01];
-    let rec = view(raw(0x98, &body))?;
-    match &rec {
-        Rec::Segment { wide, segment } => {
-            assert_eq!(rt; *wide, false);
-            assert_eq!(rt; segment.attribute, 0x08);
-            assert_eq!(rt; segment.size, 4);
-            assert_eq!(rt; segment.absolute, Some((0xB800, 0)));
-            assert_eq!(rt; segment.name.within, 9);
-            assert_eq!(rt; segment.name.item.0, 2);
-            assert_eq!(rt; segment.class.within, 10);
-            assert_eq!(rt; segment.class.item.0, 1);
-            assert_eq!(rt; segment.overlay.0, 1);
-        }
-        _ => panic!(rt; "a SEGDEF"),
-    }
+    assert!(rt; is_the_segment(&view(raw(0x98, &body))?));
     Ok(())
 }
 
@@ -353,23 +374,23 @@ fn index_or_0(index: &Option<At<Index>>) -> u16 {
     }
 }
 
+/// The subrecords of a FIXUPP.
+fn subrecords_of(alloc: Global, rec: &Rec<'_>) -> Result<Vec<(u32, u16, u16)>, AllocError> {
+    let mut seen = Vec::new(alloc);
+    if let Rec::Fixups { subrecords, .. } = rec {
+        for subrecord in subrecords.iter() {
+            seen.push(summary(&subrecord))?;
+        }
+    }
+    Ok(seen)
+}
+
 #[test]
 fn shows_subrecords_with_their_places(rt: HostRuntime) -> Result<(), Fail> {
     let body = [0x00, 0x01, 0xC4, 0x02, 0x44, 0x81, 0x2C, 0x50];
-    let rec = view(raw(0x9C, &body))?;
-    let mut seen = Vec::new(rt.alloc());
-    match &rec {
-        Rec::Fixups { subrecords, .. } => {
-            for subrecord in subrecords.iter() {
-                seen.push(summary(&subrecord))?;
-            }
-        }
-        _ => panic!(rt; "a FIXUPP"),
-    }
-    assert_eq!(rt;
-        seen.as_slice(),
-        [(3, 0x00, 1), (5, 0xC402, 300), (10, 0x50, 0)].as_slice()
-    );
+    let seen = subrecords_of(rt.alloc(), &view(raw(0x9C, &body))?)?;
+    let places = [(3, 0x00, 1), (5, 0xC402, 300), (10, 0x50, 0)];
+    assert!(rt; seen.as_slice() == places.as_slice());
     Ok(())
 }
 
@@ -458,20 +479,40 @@ fn puts_no_other_subrecord_without_its_value(rt: HostRuntime) -> Result<(), Fail
     Ok(())
 }
 
+/// The places and lengths of the names of an LNAMES.
+fn names_of(alloc: Global, rec: &Rec<'_>) -> Result<Vec<(u32, usize)>, AllocError> {
+    let mut lengths = Vec::new(alloc);
+    if let Rec::Names(names) = rec {
+        for name in names.iter() {
+            lengths.push((name.within, name.item.0.len()))?;
+        }
+    }
+    Ok(lengths)
+}
+
 #[test]
 fn shows_names_with_their_places(rt: HostRuntime) -> Result<(), Fail> {
-    let rec = view(raw(0x96, &[0x01, 0x54, 0x00, 0x02, 0x41, 0x42]))?;
-    let mut lengths = Vec::new(rt.alloc());
-    match &rec {
-        Rec::Names(names) => {
-            for name in names.iter() {
-                lengths.push((name.within, name.item.0.len()))?;
-            }
-        }
-        _ => panic!(rt; "an LNAMES"),
-    }
-    assert_eq!(rt; lengths.as_slice(), [(3, 1), (5, 0), (6, 2)].as_slice());
+    let body = [0x01, 0x54, 0x00, 0x02, 0x41, 0x42];
+    let lengths = names_of(rt.alloc(), &view(raw(0x96, &body))?)?;
+    assert!(rt; lengths.as_slice() == [(3, 1), (5, 0), (6, 2)].as_slice());
     Ok(())
+}
+
+/// Whether a record is an LIDATA of 32 bits for offset 2 of segment 1, with these blocks.
+fn has_blocks(rec: &Rec<'_>, bytes: &[u8]) -> bool {
+    match rec {
+        Rec::Iterated {
+            segment,
+            offset,
+            blocks,
+        } => {
+            (segment.within, segment.item.0) == (3, 1)
+                && (offset.within, offset.item) == (4, 2)
+                && blocks.wide
+                && blocks.bytes == bytes
+        }
+        _ => false,
+    }
 }
 
 #[test]
@@ -480,25 +521,19 @@ fn shows_blocks(rt: HostRuntime) -> Result<(), Fail> {
         0x01, 0x02, 0x00, 0x00, 0x00, 0x03, 0x00, 0x00, 0x00, 0x00, 0x00,
     ];
     let rec = view(raw(0xA3, &body))?;
-    match &rec {
-        Rec::Iterated {
-            segment,
-            offset,
-            blocks,
-        } => {
-            assert_eq!(rt; segment.within, 3);
-            assert_eq!(rt; segment.item.0, 1);
-            assert_eq!(rt; offset.within, 4);
-            assert_eq!(rt; offset.item, 2);
-            assert_eq!(rt; blocks.wide, true);
-            assert_eq!(rt;
-                blocks.bytes,
-                [0x03, 0x00, 0x00, 0x00, 0x00, 0x00].as_slice()
-            );
-        }
-        _ => panic!(rt; "an LIDATA"),
-    }
+    assert!(rt; has_blocks(&rec, &[0x03, 0x00, 0x00, 0x00, 0x00, 0x00]));
     Ok(())
+}
+
+/// The places and sizes of the communals of a COMDEF.
+fn sizes_of(alloc: Global, rec: &Rec<'_>) -> Result<Vec<(u32, CommunalSize)>, AllocError> {
+    let mut sizes = Vec::new(alloc);
+    if let Rec::Communals(communals) = rec {
+        for communal in communals.iter() {
+            sizes.push((communal.within, communal.item.size))?;
+        }
+    }
+    Ok(sizes)
 }
 
 #[test]
@@ -506,39 +541,37 @@ fn shows_communals(rt: HostRuntime) -> Result<(), Fail> {
     let body = [
         0x01, 0x58, 0x00, 0x62, 0x81, 0x80, 0x00, 0x00, 0x07, 0x61, 0x03, 0x05,
     ];
-    let rec = view(raw(0xB0, &body))?;
-    let mut sizes = Vec::new(rt.alloc());
-    match &rec {
-        Rec::Communals(communals) => {
-            for communal in communals.iter() {
-                sizes.push((communal.within, communal.item.size))?;
-            }
-        }
-        _ => panic!(rt; "a COMDEF"),
-    }
+    let sizes = sizes_of(rt.alloc(), &view(raw(0xB0, &body))?)?;
     let far = CommunalSize::Far { count: 3, size: 5 };
-    assert_eq!(rt;
-        sizes.as_slice(),
-        [(3, CommunalSize::Near(128)), (10, far)].as_slice()
-    );
+    let places = [(3, CommunalSize::Near(128)), (10, far)];
+    assert!(rt; sizes.as_slice() == places.as_slice());
+    Ok(())
+}
+
+/// Whether a record is a MODEND with a start by frame thread 2 and target method 0, at offset 2.
+fn has_start(rec: &Rec<'_>) -> bool {
+    match rec {
+        Rec::ModEnd {
+            start: Some(start),
+            ..
+        } => {
+            start.frame_thread() == Some(2)
+                && start.target_thread() == None
+                && start.target_method() == 0
+                && start.displacement == Some(2)
+        }
+        _ => false,
+    }
+}
+
+#[test]
+fn shows_a_start(rt: HostRuntime) -> Result<(), Fail> {
+    assert!(rt; has_start(&view(raw(0x8A, &[0xC1, 0xA0, 0x01, 0x02, 0x00]))?));
     Ok(())
 }
 
 #[test]
 fn reads_bits(rt: HostRuntime) -> Result<(), Fail> {
-    let rec = view(raw(0x8A, &[0xC1, 0xA0, 0x01, 0x02, 0x00]))?;
-    match &rec {
-        Rec::ModEnd {
-            start: Some(start),
-            ..
-        } => {
-            assert_eq!(rt; start.frame_thread(), Some(2));
-            assert_eq!(rt; start.target_thread(), None);
-            assert_eq!(rt; start.target_method(), 0);
-            assert_eq!(rt; start.displacement, Some(2));
-        }
-        _ => panic!(rt; "a MODEND with a start"),
-    }
     assert_eq!(rt; (location_type(0xE406), location_offset(0xE406)), (9, 6));
     assert_eq!(rt; (is_segment_relative(0xE406), location_size(9)), (true, 4));
     assert_eq!(rt;

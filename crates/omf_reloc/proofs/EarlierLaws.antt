@@ -6,8 +6,8 @@ use Rattle.std.proofs.lemmas.List.{append-nil}
 use Rattle.std.proofs.lemmas.List.Elements.{All-head, All-tail}
 use Rattle.omf_image.specs.declared.limits.Limits.{Limits}
 use Rattle.omf_records.specs.Values.{At, Rec, Contents, Names, Fixups, Subrecord, Reference}
-use Rattle.omf_check.specs.Judging.{frame_cell, target_cell}
-use Rattle.omf_check.specs.Kept.{HasThreads}
+use Rattle.omf_check.specs.Inner.Judging.{frame_cell, target_cell}
+use Rattle.omf_check.specs.Inner.Kept.{HasThreads}
 use Rattle.omf_check.specs.Sound.{SubrecordHolds, is_module_end, ModuleHolds}
 use Rattle.omf_check.specs.Tables.{subrecords, subrecords_in}
 use Rattle.omf_check.specs.Threads.{frame_from, target_from, frame_setting, target_setting, plain, PlainReference}
@@ -15,7 +15,7 @@ use Rattle.omf_check.specs.declared.method.FrameMethod.TheVariants.{Target as F5
 use Rattle.omf_check.specs.declared.method.TargetMethod.TheVariants.{Segment as T0}
 use Rattle.omf_check.specs.declared.threads.Threads.{Threads}
 use Rattle.omf_check.proofs.ThreadLaws.{threads_kept}
-use Rattle.omf_reloc.specs.Walking.{plain_by, threads_after}
+use Rattle.omf_reloc.specs.Inner.Walking.{plain_by, threads_after}
 use Rattle.omf_reloc.proofs.GatherLaws.{subrecords-more}
 
 -- The threads in force make the same plain reference as a search backwards.

@@ -7,14 +7,14 @@ use Rattle.std.proofs.lemmas.List.Elements.{All-head, All-tail}
 use Rattle.std.proofs.lemmas.Option.{same_Some}
 use Rattle.omf_frame.specs.Bytes.{last}
 use Rattle.omf_image.specs.Limits.{profile_limits}
-use Rattle.omf_records.specs.Seen.{kind_seen, contents_seen, rec_seen}
-use Rattle.omf_records.specs.declared.record.Rec.{Rec as Told}
-use Rattle.omf_records.specs.declared.record.Rec.TheVariants as told
+use Rattle.omf_records.specs.Inner.Seen.{kind_seen, contents_seen, rec_seen}
+use Rattle.omf_records.specs.declared.record.Rec.{Rec as CodeRec}
+use Rattle.omf_records.specs.declared.record.Rec.TheVariants as code
 use Rattle.omf_records.specs.declared.subrecord.Reference.{Reference as Named}
 use Rattle.omf_records.specs.Values.{Rec, Contents, Names, Fixups, ModEnd, Subrecord, Reference}
 use Rattle.omf_check.proofs.ThreadLaws.{threads_kept}
-use Rattle.omf_check.specs.Judging.{frame_cell, target_cell}
-use Rattle.omf_check.specs.Kept.{HasThreads, no_threads}
+use Rattle.omf_check.specs.Inner.Judging.{frame_cell, target_cell}
+use Rattle.omf_check.specs.Inner.Kept.{HasThreads, no_threads}
 use Rattle.omf_check.specs.Sound.{is_module_end, ModuleHolds}
 use Rattle.omf_check.specs.Tables.{subrecords}
 use Rattle.omf_check.specs.Threads.{PlainReference, plain}
@@ -24,11 +24,11 @@ use Rattle.omf_check.specs.declared.threads.Threads.{Threads}
 use Rattle.omf_reloc.specs.Image.{start, starts, start_at, piece_start}
 use Rattle.omf_reloc.specs.Laws.{ReferenceIsFound}
 use Rattle.omf_reloc.specs.Offsets.{start_offset}
-use Rattle.omf_reloc.specs.Placed.{modend_type}
+use Rattle.omf_reloc.specs.Inner.Widths.{modend_type}
 use Rattle.omf_placement.specs.Placement.{Places}
 use Rattle.omf_reloc.specs.Plain.{Piece, end_byte, piece_of, pieces}
 use Rattle.omf_reloc.specs.Reach.{Reaches}
-use Rattle.omf_reloc.specs.Walking.{plain_by, threads_after, threads_through, HasStart}
+use Rattle.omf_reloc.specs.Inner.Walking.{plain_by, threads_after, threads_through, HasStart}
 use Rattle.omf_reloc.proofs.AddedLaws.{all-added}
 use Rattle.omf_reloc.proofs.EarlierLaws.{plain-by, threads-more, frame-there, target-there}
 use Rattle.omf_reloc.proofs.FoundLaws.{all-found}
@@ -86,18 +86,18 @@ module _ (m : List Rec) (holds : ModuleHolds profile_limits m) (r : Rec) (is : S
       ap (λ ps. last (starts pl ps)) last-piece ∙ ap last (starts-behind pl [] before (piece_of (subrecords before) r.kind r.contents) others)
 
 -- The last record as it is seen.
-pub seen-end : (m : List Rec) (r : Told) (wide : Bool) (byte : ℕ) (s : Option Named) (named : Option Reference) → r ≡ told.ModEnd wide byte s → s ≡ named → Some (rec_seen r) ≡ last m
+pub seen-end : (m : List Rec) (r : CodeRec) (wide : Bool) (byte : ℕ) (s : Option Named) (named : Option Reference) → r ≡ code.ModEnd wide byte s → s ≡ named → Some (rec_seen r) ≡ last m
     → Some (record { kind = modend_type wide; contents = ModEnd byte named }) ≡ last m
-seen-end m r wide byte s named e f l = ap (λ x. Some (rec_seen (told.ModEnd wide byte x))) (sym f) ∙ ap (λ x. Some (rec_seen x)) (sym e) ∙ l
+seen-end m r wide byte s named e f l = ap (λ x. Some (rec_seen (code.ModEnd wide byte x))) (sym f) ∙ ap (λ x. Some (rec_seen x)) (sym e) ∙ l
 
-no-end : (r : Told) → ((wide : Bool) (byte : ℕ) (s : Option Named) → r ≡ told.ModEnd wide byte s → ⊥) → is_module_end (contents_seen r) ≡ false
-no-end (told.ModEnd wide byte s) h = absurd (h wide byte s refl)
-no-end (told.Names items) h = refl
+no-end : (r : CodeRec) → ((wide : Bool) (byte : ℕ) (s : Option Named) → r ≡ code.ModEnd wide byte s → ⊥) → is_module_end (contents_seen r) ≡ false
+no-end (code.ModEnd wide byte s) h = absurd (h wide byte s refl)
+no-end (code.Names items) h = refl
 no-end _ h = refl
 
 -- It names no start.
 module _ (pl : Places) (m : List Rec) (holds : ModuleHolds profile_limits m) where
-  pub none-here : (r : Told) → Some (rec_seen r) ≡ last m → ((wide : Bool) (byte : ℕ) (s : Option Named) → r ≡ told.ModEnd wide byte s → ⊥) → None ≡ start pl m
+  pub none-here : (r : CodeRec) → Some (rec_seen r) ≡ last m → ((wide : Bool) (byte : ℕ) (s : Option Named) → r ≡ code.ModEnd wide byte s → ⊥) → None ≡ start pl m
   none-here r is h = sym (start-is m holds (rec_seen r) is pl ∙ ap (λ xs. last (xs ++ [])) (no-start pl (subrecords (front m holds (rec_seen r) is)) (kind_seen r) (contents_seen r) (no-end r h)))
 
   pub none-named : (kind byte : ℕ) → Some (record { kind = kind; contents = ModEnd byte None }) ≡ last m → None ≡ start pl m

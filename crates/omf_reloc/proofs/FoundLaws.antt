@@ -17,10 +17,9 @@ use Rattle.omf_check.specs.declared.method.TargetMethod.{TargetMethod}
 use Rattle.omf_check.specs.declared.method.TargetMethod.TheVariants.{Segment as T0, Group as T1, External as T2}
 use Rattle.omf_derive.proofs.BaseLaws.{longer}
 use Rattle.omf_reloc.specs.Laws.{ReferenceIsFound, AllAreFound}
-use Rattle.omf_reloc.specs.Placed.{HasFrame, HasTarget}
+use Rattle.omf_reloc.specs.Placed.{HasFrame, HasTarget, HasEntries}
 use Rattle.omf_placement.specs.Placement.{Places}
 use Rattle.omf_reloc.specs.Plain.{data_contents}
-use Rattle.omf_reloc.specs.ReachSteps.{HasEntries}
 
 -- The placement has an entry for each of the tables after these records.
 pub record Covers (pl : Places) (before : List Rec) : Type 0 where

@@ -5,7 +5,7 @@ use Rattle.std.proofs.lemmas.List.{append-nil, map-append}
 use Rattle.std.proofs.lemmas.List.Elements.{All-nil, All-cons, All-append}
 use Rattle.std.proofs.lemmas.Grind.{flat_map-append}
 use Rattle.omf_frame.specs.Bytes.{with_before, with_after}
-use Rattle.omf_image.specs.Expanding.{expanded}
+use Rattle.omf_image.specs.Inner.Expanding.{expanded}
 use Rattle.omf_image.specs.Overlay.{Laid}
 use Rattle.omf_image.specs.declared.limits.Limits.{Limits}
 use Rattle.omf_records.specs.Values.{Rec, Contents, Plain, Iterated, Fixups, ModEnd, DataItem, Subrecord, unplaced, width}

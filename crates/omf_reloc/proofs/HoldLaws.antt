@@ -4,7 +4,7 @@ use Rattle.std.proofs.Common.{◌≡◌, ◌≢◌, ℕ, ◌+◌, ◌≤◌, Lis
 use Rattle.std.specs.Prelude.{flat_map, Option, Some, None, option_map, IsOk, ⊤}
 use Rattle.std.proofs.lemmas.List.{append-nil}
 use Rattle.omf_frame.specs.Bytes.{last}
-use Rattle.omf_image.specs.Expanding.{expanded, expanded_length}
+use Rattle.omf_image.specs.Inner.Expanding.{expanded, expanded_length}
 use Rattle.omf_image.specs.declared.limits.Limits.{Limits}
 use Rattle.omf_records.specs.Location.{location_size}
 use Rattle.omf_records.specs.Values.{At, Rec, Contents, contents_alone, Names, Plain, Iterated, Fixups, ModEnd, DataItem, Subrecord, Thread, Fixup, Reference, width, location_type, location_offset}
@@ -15,7 +15,7 @@ use Rattle.omf_check.specs.declared.method.FrameMethod.{FrameMethod}
 use Rattle.omf_check.specs.declared.method.FrameMethod.TheVariants.{Segment as F0, Group as F1, External as F2, Location as F4, Target as F5}
 use Rattle.omf_check.specs.declared.method.TargetMethod.{TargetMethod}
 use Rattle.omf_check.specs.declared.method.TargetMethod.TheVariants.{Segment as T0, Group as T1, External as T2}
-use Rattle.omf_reloc.specs.Pieces.{one_by_one, single_pieces}
+use Rattle.omf_reloc.specs.Inner.Pieces.{one_by_one, single_pieces}
 use Rattle.omf_reloc.specs.Plain.{Piece, Kept, Fixed, End, PlainFixup, piece_of, plain_fixups}
 use Rattle.omf_reloc.proofs.EarlierLaws.{HoldFrom, hold-first, hold-rest, ends-here}
 use Rattle.omf_reloc.proofs.GatherLaws.{pieces_from, bare}

@@ -5,10 +5,11 @@ use Rattle.omf_image.specs.declared.limits.Limits.{Limits}
 use Rattle.omf_records.specs.Values.{Rec, Contents, Names, Plain, Iterated}
 use Rattle.omf_check.specs.Sound.{ModuleHolds}
 use Rattle.omf_check.specs.Tables.{segments, groups, externals, is_defined}
-use Rattle.omf_reloc.specs.Pieces.{single_pieces}
+use Rattle.omf_reloc.specs.Inner.Pieces.{single_pieces}
 use Rattle.omf_placement.specs.Placement.{Places}
 use Rattle.omf_reloc.specs.Plain.{Piece, Kept, Fixed, End}
-use Rattle.omf_reloc.specs.ReachSteps.{HasEntries, data_place, place_behind, CanJudge, CanJudgeAll}
+use Rattle.omf_reloc.specs.Inner.ReachSteps.{data_place, place_behind, CanJudge, CanJudgeAll}
+use Rattle.omf_reloc.specs.Placed.{HasEntries}
 use Rattle.omf_reloc.proofs.FoundLaws.{Covers, defined-more, frame-there, target-there}
 use Rattle.omf_reloc.proofs.FarLaws.{place_of, place-after, no-data}
 use Rattle.omf_reloc.proofs.HoldLaws.{KeptHolds, PieceHolds, PiecesHold, data_after, pieces-hold}

@@ -5,9 +5,9 @@ use Rattle.std.proofs.lemmas.List.{append-nil, map-append, length-replicate}
 use Rattle.std.proofs.lemmas.List.Elements.{All-nil, All-cons, All-head, All-tail}
 use Rattle.omf_frame.specs.Fault.{Fault}
 use Rattle.omf_records.specs.Values.{Rec, Contents, Names, Plain, Iterated, Fixups, Subrecord, width}
-use Rattle.omf_records.specs.Seen.{odd_if}
+use Rattle.omf_records.specs.Inner.Seen.{odd_if}
 use Rattle.omf_image.specs.Blocks.{blocks_size, count_size}
-use Rattle.omf_image.specs.Expanding.{length_or, blocks_of, expanded, expanded_length}
+use Rattle.omf_image.specs.Inner.Expanding.{length_or, blocks_of, expanded, expanded_length}
 use Rattle.omf_image.specs.Limits.{profile_limits}
 use Rattle.omf_image.specs.Overlay.{Laid, AreLaidOver}
 use Rattle.omf_image.specs.Painting.{extent, all_zeros, Fits}
@@ -19,7 +19,7 @@ use Rattle.omf_check.specs.Sound.{ContentsHold, ModuleHolds}
 use Rattle.omf_check.specs.Tables.{subrecords_in}
 use Rattle.omf_reloc.specs.Image.{laid}
 use Rattle.omf_reloc.specs.Laws.{LiesInSegment}
-use Rattle.omf_reloc.specs.Measuring.{measured, measured_contents, HasMeasure, CanMeasure}
+use Rattle.omf_reloc.specs.Inner.Measuring.{measured, measured_contents, HasMeasure, CanMeasure}
 use Rattle.omf_placement.specs.Placement.{Places}
 use Rattle.omf_reloc.specs.Plain.{pieces, plain_fixups}
 use Rattle.omf_reloc.proofs.GatherLaws.{Gathered, Once, Repeated, more, tagged, closed_by, opened_by, gathered, gathered_from, gathered-all, laid_of, laid-gathered}

@@ -10,7 +10,7 @@ use Rattle.omf_records.specs.Values.{width_bits, location_type, location_offset,
 use Rattle.omf_records.specs.Location.{offset_bits, self_relative_bits}
 use Rattle.omf_check.specs.Threads.{PlainReference}
 use Rattle.omf_reloc.specs.Plain.{PlainFixup}
-use Rattle.omf_reloc.specs.Placed.{fixupp_type, modend_type, number_bits}
+use Rattle.omf_reloc.specs.Inner.Widths.{fixupp_type, modend_type, number_bits}
 use Rattle.omf_placement.specs.Placement.{Places, placed, target_address, frame_by}
 use Rattle.omf_reloc.specs.Offsets.{offsets, first_or, in_bits, in_frame, from_location, outcome_at, start_offset}
 

@@ -1,8 +1,8 @@
 -- What fixups add stays inside their locations.
-use Rattle.std.proofs.Common.{◌≡◌, ◌⊎◌, ℕ, zero, suc, ◌+◌, ◌-◌, ◌<◌, ◌≤◌, List, [], ◌∷◌, ◌++◌, refl, sym, ◌∙◌, ap, subst, inl, inr, ⊎_elim, Bool, true, false, cond, length, take, drop, arith, length-append, length-take, length-drop, get_or-take, get_or-drop, mod-lt}
+use Rattle.std.proofs.Common.{◌≡◌, ◌⊎◌, ℕ, ◌+◌, ◌-◌, ◌<◌, ◌≤◌, List, [], ◌∷◌, ◌++◌, refl, sym, ◌∙◌, ap, subst, inl, inr, ⊎_elim, Bool, true, false, cond, length, take, drop, arith, length-append, length-take, length-drop, get_or-take, get_or-drop, mod-lt}
 use Rattle.std.specs.Prelude.{slice_index, All, Result, Ok, Err, Option, Some, None, ◌==◌, ◌/◌, nat_le, filter, fold}
 use Rattle.std.specs.List.{list_all}
-use Rattle.std.proofs.lemmas.Bool.{leb-true, and_parts}
+use Rattle.std.proofs.lemmas.Bool.{leb-true, and_parts, agree_below_at}
 use Rattle.std.proofs.lemmas.List.{get_or-append_right}
 use Rattle.std.proofs.lemmas.List.Elements.{All-nil, All-cons, All-head, All-tail}
 use Rattle.std.proofs.Math.ListN.{get_or-append}
@@ -88,42 +88,10 @@ index-add_parts size pos (p ∷ ps) bytes x f h away =
 
 -- What a fixup adds stays inside the size of its location.
 fits-additions : (t o s : ℕ) → t < 16 → fits (location_size t) (additions t o s) ≡ true
-fits-additions zero o s l = refl
-fits-additions (suc zero) o s l = refl
-fits-additions (suc (suc zero)) o s l = refl
-fits-additions (suc (suc (suc zero))) o s l = refl
-fits-additions (suc (suc (suc (suc zero)))) o s l = refl
-fits-additions (suc (suc (suc (suc (suc zero))))) o s l = refl
-fits-additions (suc (suc (suc (suc (suc (suc zero)))))) o s l = refl
-fits-additions (suc (suc (suc (suc (suc (suc (suc zero))))))) o s l = refl
-fits-additions (suc (suc (suc (suc (suc (suc (suc (suc zero)))))))) o s l = refl
-fits-additions (suc (suc (suc (suc (suc (suc (suc (suc (suc zero))))))))) o s l = refl
-fits-additions (suc (suc (suc (suc (suc (suc (suc (suc (suc (suc zero)))))))))) o s l = refl
-fits-additions (suc (suc (suc (suc (suc (suc (suc (suc (suc (suc (suc zero))))))))))) o s l = refl
-fits-additions (suc (suc (suc (suc (suc (suc (suc (suc (suc (suc (suc (suc zero)))))))))))) o s l = refl
-fits-additions (suc (suc (suc (suc (suc (suc (suc (suc (suc (suc (suc (suc (suc zero))))))))))))) o s l = refl
-fits-additions (suc (suc (suc (suc (suc (suc (suc (suc (suc (suc (suc (suc (suc (suc zero)))))))))))))) o s l = refl
-fits-additions (suc (suc (suc (suc (suc (suc (suc (suc (suc (suc (suc (suc (suc (suc (suc zero))))))))))))))) o s l = refl
-fits-additions (suc (suc (suc (suc (suc (suc (suc (suc (suc (suc (suc (suc (suc (suc (suc (suc t)))))))))))))))) o s l = absurd (omega (arith, l))
+fits-additions t o s = agree_below_at (λ n. fits (location_size n) (additions n o s)) (λ _. true) 16 t refl
 
 fits-self_relative : (t o l : ℕ) → t < 16 → fits (location_size t) (self_relative_additions t o l) ≡ true
-fits-self_relative zero o l h = refl
-fits-self_relative (suc zero) o l h = refl
-fits-self_relative (suc (suc zero)) o l h = refl
-fits-self_relative (suc (suc (suc zero))) o l h = refl
-fits-self_relative (suc (suc (suc (suc zero)))) o l h = refl
-fits-self_relative (suc (suc (suc (suc (suc zero))))) o l h = refl
-fits-self_relative (suc (suc (suc (suc (suc (suc zero)))))) o l h = refl
-fits-self_relative (suc (suc (suc (suc (suc (suc (suc zero))))))) o l h = refl
-fits-self_relative (suc (suc (suc (suc (suc (suc (suc (suc zero)))))))) o l h = refl
-fits-self_relative (suc (suc (suc (suc (suc (suc (suc (suc (suc zero))))))))) o l h = refl
-fits-self_relative (suc (suc (suc (suc (suc (suc (suc (suc (suc (suc zero)))))))))) o l h = refl
-fits-self_relative (suc (suc (suc (suc (suc (suc (suc (suc (suc (suc (suc zero))))))))))) o l h = refl
-fits-self_relative (suc (suc (suc (suc (suc (suc (suc (suc (suc (suc (suc (suc zero)))))))))))) o l h = refl
-fits-self_relative (suc (suc (suc (suc (suc (suc (suc (suc (suc (suc (suc (suc (suc zero))))))))))))) o l h = refl
-fits-self_relative (suc (suc (suc (suc (suc (suc (suc (suc (suc (suc (suc (suc (suc (suc zero)))))))))))))) o l h = refl
-fits-self_relative (suc (suc (suc (suc (suc (suc (suc (suc (suc (suc (suc (suc (suc (suc (suc zero))))))))))))))) o l h = refl
-fits-self_relative (suc (suc (suc (suc (suc (suc (suc (suc (suc (suc (suc (suc (suc (suc (suc (suc t)))))))))))))))) o l h = absurd (omega (arith, h))
+fits-self_relative t o l = agree_below_at (λ n. fits (location_size n) (self_relative_additions n o l)) (λ _. true) 16 t refl
 
 abbrev Fit : ℕ → Result (List Addition) Cause → Type 0
 Fit t (Ok parts) = fits (location_size t) parts ≡ true

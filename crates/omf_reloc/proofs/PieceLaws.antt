@@ -8,19 +8,19 @@ use Rattle.std.proofs.lemmas.List.Elements.{filter_map-append}
 use Rattle.omf_frame.specs.Framing.{Raw, raw_bytes}
 use Rattle.omf_frame.specs.declared.fault.Place.{Place}
 use Rattle.omf_image.specs.declared.limits.Limits.{Limits}
-use Rattle.omf_records.specs.Reading.{typed}
+use Rattle.omf_records.specs.Inner.Reading.{typed}
 use Rattle.omf_records.specs.Values.{At, Rec, Contents, Names, Fixups, ModEnd, Subrecord, Thread, Fixup, Reference}
 use Rattle.omf_check.proofs.ThreadLaws.{threads_kept}
-use Rattle.omf_check.specs.Kept.{HasThreads, no_threads, set_thread}
+use Rattle.omf_check.specs.Inner.Kept.{HasThreads, no_threads, set_thread}
 use Rattle.omf_check.specs.Listed.{placed_from}
 use Rattle.omf_check.specs.Sound.{ReferenceHolds, SubrecordHolds, ContentsHold, ModuleHolds}
 use Rattle.omf_check.specs.Tables.{subrecords}
 use Rattle.omf_check.specs.WellFormed.{recs}
 use Rattle.omf_check.specs.declared.threads.Threads.{Threads}
-use Rattle.omf_reloc.specs.Pieces.{one_by_one, single_pieces, references_at, reference_places, subrecord_steps, contents_steps, steps_from, given, placed_pieces, IsSet, SubrecordIsSet, SubrecordsAreSet, ContentsAreSet, RecordsAreSet}
+use Rattle.omf_reloc.specs.Inner.Pieces.{one_by_one, single_pieces, references_at, reference_places, subrecord_steps, contents_steps, steps_from, given, placed_pieces, IsSet, SubrecordIsSet, SubrecordsAreSet, ContentsAreSet, RecordsAreSet}
 use Rattle.omf_reloc.specs.Plain.{Piece, Fixed, End, PlainFixup, piece_of, end_byte, plain_fixups}
 use Rattle.omf_reloc.specs.Reach.{fixup_place, reference_places as stood, all_reference_places}
-use Rattle.omf_reloc.specs.Walking.{threads_after}
+use Rattle.omf_reloc.specs.Inner.Walking.{threads_after}
 use Rattle.omf_reloc.proofs.EarlierLaws.{plain-by, threads-more, HoldFrom, hold-first, hold-rest, frame-there, target-there}
 use Rattle.omf_reloc.proofs.GatherLaws.{pieces_from}
 use Rattle.omf_reloc.proofs.WalkLaws.{next-split}

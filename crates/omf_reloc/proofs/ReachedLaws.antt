@@ -14,7 +14,8 @@ use Rattle.omf_reloc.specs.Plain.{Piece}
 use Rattle.omf_placement.specs.Placement.{Places}
 use Rattle.omf_reloc.specs.declared.fault.Kind.TheVariants as kinds
 use Rattle.omf_reloc.specs.Reach.{missing, extra, misplaced, misfits, far_faults, reach_fault, Reaches}
-use Rattle.omf_reloc.specs.ReachSteps.{HasEntries, miscounts, misplaced_from, far_at, place_behind, piece_cause, pieces_far, CanJudge, CanJudgeAll}
+use Rattle.omf_reloc.specs.Inner.ReachSteps.{miscounts, misplaced_from, far_at, place_behind, piece_cause, pieces_far, CanJudge, CanJudgeAll}
+use Rattle.omf_reloc.specs.Placed.{HasEntries}
 use Rattle.omf_derive.proofs.NamedLaws.{entry-suc}
 use Rattle.omf_reloc.proofs.ReachLaws.{same-count, nil-left, nil-right, first-none, reach-decided}
 use Rattle.omf_reloc.proofs.FarLaws.{without_places}

@@ -7,7 +7,7 @@ use Rattle.omf_image.specs.declared.limits.Limits.{Limits}
 use Rattle.omf_records.specs.Values.{Contents, Plain, Iterated, DataItem}
 use Rattle.omf_reloc.specs.Image.{laid, laid_contents, patched}
 use Rattle.omf_reloc.specs.Offsets.{outcome, cause_of}
-use Rattle.omf_reloc.specs.Pieces.{one_by_one}
+use Rattle.omf_reloc.specs.Inner.Pieces.{one_by_one}
 use Rattle.omf_placement.specs.Placement.{Places}
 use Rattle.omf_reloc.specs.Plain.{Piece, Kept, Fixed, End, PlainFixup, data_contents, is_data, is_data_contents, fixups_in, fixups_of_data}
 use Rattle.omf_reloc.specs.Reach.{causes, causes_at, piece_causes}

@@ -8,7 +8,7 @@ use Rattle.std.proofs.lemmas.List.Elements.{All-nil, All-cons, All-head, All-tai
 use Rattle.std.proofs.lemmas.Grind.{flat_map-append}
 use Rattle.omf_frame.specs.Bytes.{last}
 use Rattle.omf_records.specs.Values.{At, Rec, Contents, Segment, Names, Plain, Iterated, Fixups, DataItem, Subrecord, Thread, Fixup, width}
-use Rattle.omf_image.specs.Expanding.{expanded}
+use Rattle.omf_image.specs.Inner.Expanding.{expanded}
 use Rattle.omf_image.specs.Limits.{profile_limits}
 use Rattle.omf_check.specs.Rules.{length_of_segment}
 use Rattle.omf_check.specs.Sound.{SubrecordHolds, SubrecordsHold, DataHolds, ContentsHold, ModuleHolds}

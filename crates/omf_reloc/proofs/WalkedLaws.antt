@@ -1,27 +1,32 @@
 -- What is known while a module's pieces are walked over: the image holds what the data records that are closed lay, and the others are still to be laid.
 use Rattle.std.proofs.Common.{◌≡◌, ℕ, ◌+◌, ◌≤◌, List, [], ◌∷◌, ◌++◌, append_assoc, length, refl, sym, ap, subst, ◌∙◌, arith}
-use Rattle.std.specs.Prelude.{All, map, Option, Some, None, option_map, option_to_list, IfSome}
+use Rattle.std.specs.Prelude.{All, map, slice_get, Option, Some, None, option_map, option_to_list, IfSome}
 use Rattle.std.proofs.lemmas.Grind.{fold-append}
 use Rattle.std.proofs.lemmas.List.{append-nil, map-append}
 use Rattle.std.proofs.lemmas.List.Elements.{All-nil, All-cons, All-append}
 use Rattle.std.proofs.lemmas.Option.{none-some}
-use Rattle.omf_records.specs.Reading.{typed}
+use Rattle.omf_records.specs.Inner.Reading.{typed}
 use Rattle.omf_records.specs.Values.{Rec, Contents, Names, Plain, Iterated, DataItem, location_offset}
 use Rattle.omf_frame.specs.Framing.{Raw, raw_bytes}
+use Rattle.omf_frame.specs.declared.fault.Place.{Place}
 use Rattle.omf_image.specs.Limits.{profile_limits}
 use Rattle.omf_image.specs.Overlay.{Laid, AreLaidOver}
 use Rattle.omf_check.specs.Listed.{placed_from}
 use Rattle.omf_check.specs.Sound.{ModuleHolds}
 use Rattle.omf_check.specs.Tables.{segments, groups, externals}
 use Rattle.omf_check.specs.WellFormed.{recs}
+use Rattle.omf_reloc.specs.declared.fault.Cause.{Cause}
 use Rattle.omf_reloc.specs.Image.{added, laid}
 use Rattle.omf_reloc.specs.Laws.{location_end}
 use Rattle.omf_reloc.specs.Offsets.{outcome}
-use Rattle.omf_reloc.specs.Pieces.{single_pieces}
+use Rattle.omf_reloc.specs.Inner.Pieces.{single_pieces}
 use Rattle.omf_placement.specs.Placement.{Places}
 use Rattle.omf_reloc.specs.Plain.{Piece, Kept, Fixed, End, PlainFixup, pieces, fixups_of_data}
-use Rattle.omf_reloc.specs.ReachSteps.{data_place, place_behind}
-use Rattle.omf_reloc.specs.Walking.{with_fixup, Walk, closed, opened_by, opened, IsNext, HasOffsets, CanAdd, CanTake, CanWalk, open_place}
+use Rattle.omf_reloc.specs.Reach.{far_faults}
+use Rattle.omf_reloc.specs.Inner.ReachSteps.{CanJudgeAll, data_place, piece_cause, pieces_far, place_behind}
+use Rattle.omf_reloc.specs.Inner.Walking.{with_fixup, Walk, closed, opened_by, opened, IsNext, HasOffsets, CanAdd, CanTake, CanWalk, open_place}
+use Rattle.omf_reloc.proofs.FarLaws.{without_places}
+use Rattle.omf_reloc.proofs.ReachedLaws.{can-rest, pieces-go}
 use Rattle.omf_reloc.proofs.GatherLaws.{Gathered, Once, Repeated, more, tagged, closed_by, with_open, open-none, open-more, gathered, laid_of, laid-gathered}
 use Rattle.omf_reloc.proofs.HoldLaws.{KeptHolds, PlainFixupHolds, PieceHolds, PiecesHold, data_after, pieces-hold}
 use Rattle.omf_reloc.proofs.PatchLaws.{stays_inside}
@@ -251,6 +256,23 @@ place-opened pl (Kept r) l = place-kept r.kind r.contents l
 place-opened pl (Fixed kind []) l = refl
 place-opened pl (Fixed kind (f ∷ fs)) l = place-fixed pl kind f l
 place-opened pl (End kind byte s) l = refl
+
+-- What is known while a module is walked over and the first reference that does not reach is looked for: the first fault of the pieces to come is the first of all.
+pub record IsGoing (start : List Laid) (pl : Places) (m : List Rec) (w : Walk) (left : List (Place × Piece)) : Type 0 where
+  pub walked : IsWalked start pl m w (without_places left)
+  pub can : CanJudgeAll pl (open_place w.open_data) (without_places left)
+  pub same : slice_get (pieces_far pl (open_place w.open_data) left) 0 ≡ slice_get (far_faults pl m) 0
+
+pub go-on : {start : List Laid} {pl : Places} {m : List Rec} {w new : Walk} {left rest : List (Place × Piece)} {cause : Option Cause} (x : Place × Piece) → ModuleHolds profile_limits m → left ≡ x ∷ rest
+    → IsNext pl x.1 w new → cause ≡ piece_cause pl (open_place w.open_data) x.1 → cause ≡ None → IsGoing start pl m w left → IsGoing start pl m new rest
+go-on {start} {pl} {m} {w} {new} {left} {rest} {cause} x holds e n found none g =
+    let place = open_place w.open_data in
+    let moved : open_place new.open_data ≡ place_behind x.1 place = ap open_place n.open_data ∙ place-opened pl x.1 w.open_data in
+    record {
+      walked = walk-next start pl m holds w x.1 (without_places rest) (subst (λ xs. IsWalked start pl m w (without_places xs)) e g.walked) new n;
+      can = can-rest pl place left rest x e (open_place new.open_data) moved g.can;
+      same = pieces-go pl place left rest x e (slice_get (far_faults pl m) 0) cause found g.same none (open_place new.open_data) moved;
+    }
 
 -- The records of a checked module, without their places.
 pub records-listed : (number start : ℕ) (rs : List Raw) → map (λ x. x.1) (placed_from number start rs) ≡ recs rs

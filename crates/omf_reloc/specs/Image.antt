@@ -4,7 +4,8 @@ use Rattle.omf_image.specs.declared.limits.Limits.{Limits}
 use Rattle.omf_reloc.specs.declared.fault.Cause.{Cause}
 use Rattle.omf_frame.specs.Bytes.{with_after, last}
 use Rattle.omf_records.specs.Values.{Rec, Contents, Plain, Iterated, DataItem, width, location_offset}
-use Rattle.omf_image.specs.Expanding.{expanded}
+-- computed: blocks_are_read and lengths_are_decided of omf_image.
+use Rattle.omf_image.specs.Inner.Expanding.{expanded}
 use Rattle.omf_image.specs.Parts.{Addition, add_parts}
 use Rattle.omf_image.specs.Overlay.{Laid, byte_at}
 use Rattle.omf_check.specs.Threads.{PlainReference}

@@ -14,14 +14,18 @@ use Rattle.omf_check.specs.Threads.{PlainReference, frame_setting, target_settin
 use Rattle.omf_derive.specs.Derivation.{IsPlaceOf}
 use Rattle.omf_reloc.specs.declared.fault.Kind.{Kind}
 use Rattle.omf_reloc.specs.declared.fault.ReachFault.TheVariants as reach
-use Rattle.omf_derive.specs.Derive.{PlacedModule, derived}
+use Rattle.omf_derive.specs.Derive.{PlacedModule}
+-- computed: derived_is_taken of omf_derive.
+use Rattle.omf_derive.specs.Inner.Derived.{derived}
 use Rattle.omf_derive.specs.declared.given.Given.{Given}
 use Rattle.omf_reloc.specs.Plain.{Piece, Kept, End, PlainFixup, pieces, data_contents, fixups_of_data}
-use Rattle.omf_reloc.specs.Pieces.{single_pieces, reference_places}
-use Rattle.omf_reloc.specs.Placed.{HasPlaces}
+-- computed: faults_are_walked of omf_reloc.
+use Rattle.omf_reloc.specs.Inner.Pieces.{single_pieces, reference_places}
+use Rattle.omf_reloc.specs.Placed.{HasPlaces, HasEntries}
 use Rattle.omf_placement.specs.Placement.{Places}
 use Rattle.omf_reloc.specs.Reach.{causes, all_reference_places, far_faults, reach_fault, Reaches}
-use Rattle.omf_reloc.specs.ReachSteps.{HasEntries, pieces_far}
+-- computed: faults_are_walked of omf_reloc.
+use Rattle.omf_reloc.specs.Inner.ReachSteps.{pieces_far}
 use Rattle.omf_reloc.specs.Offsets.{outcome, start_offset}
 use Rattle.omf_reloc.specs.Image.{laid, patched}
 

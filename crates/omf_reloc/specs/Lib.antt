@@ -2,15 +2,10 @@ pub mod Plain
 pub mod Additions
 pub mod Offsets
 pub mod Placed
-pub mod Seen
 pub mod Reach
 pub mod Reached
 pub mod Image
-pub mod Walking
-pub mod Pieces
-pub mod PieceSeen
-pub mod Measuring
-pub mod ReachSteps
 pub mod Modules
 pub mod Rows
 pub mod Laws
+pub mod Inner

@@ -3,7 +3,7 @@ use Rattle.std.specs.Prelude.{ℕ, List, [], ◌∷◌, ◌++◌, Some, None}
 use Rattle.std.specs.List.{repeat}
 use Rattle.omf_frame.specs.Framing.{Raw}
 use Rattle.omf_records.specs.Values.{Rec, Plain, Fixups, Fixup}
-use Rattle.omf_check.specs.Verdict.{Verdict, Accepted, Refused, Unknown}
+use Rattle.omf_check.specs.Inner.Verdict.{Verdict, Accepted, Refused, Unknown}
 use Rattle.omf_check.specs.WellFormed.{recs}
 use Rattle.omf_check.specs.Rows.{verdict_of, H, N, S, L, F, M, with_fixup, threads, defined_thread, repeated, nested_blocks, big, started, thread_ahead}
 

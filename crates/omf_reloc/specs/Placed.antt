@@ -1,12 +1,13 @@
 -- Whether a placement has the places that a reference names, and the types of the records that references stand in.
-use Rattle.std.specs.Prelude.{◌≡◌, ℕ, length, Bool, true, if◌then◌else◌}
-use Rattle.omf_check.specs.Tables.{is_defined}
+use Rattle.std.specs.Prelude.{◌≡◌, ℕ, length, true, List}
+use Rattle.omf_check.specs.Tables.{is_defined, segments, groups, externals}
 use Rattle.omf_check.specs.Threads.{PlainReference}
 use Rattle.omf_check.specs.declared.method.FrameMethod.{FrameMethod}
 use Rattle.omf_check.specs.declared.method.FrameMethod.TheVariants.{Segment as F0, Group as F1, External as F2, Location as F4, Target as F5}
 use Rattle.omf_check.specs.declared.method.TargetMethod.{TargetMethod}
 use Rattle.omf_check.specs.declared.method.TargetMethod.TheVariants.{Segment as T0, Group as T1, External as T2}
 use Rattle.omf_placement.specs.Placement.{Places}
+use Rattle.omf_records.specs.Values.{Rec}
 
 -- The target's entry is there.
 abbrev pub HasTarget : Places → TargetMethod → Type 0
@@ -27,13 +28,8 @@ pub record HasPlaces (pl : Places) (location : ℕ) (r : PlainReference) : Type 
   pub frame : HasFrame pl location r.frame
   pub target : HasTarget pl r.target
 
--- The type of a FIXUPP, and of a MODEND, by whether it is the wide one.
-abbrev pub fixupp_type : Bool → ℕ
-fixupp_type is_wide = if is_wide then 0x9D else 0x9C
-
-abbrev pub modend_type : Bool → ℕ
-modend_type is_wide = if is_wide then 0x8B else 0x8A
-
--- The bits of an offset or a displacement, by whether it is a wide one.
-abbrev pub number_bits : Bool → ℕ
-number_bits is_wide = if is_wide then 32 else 16
+-- The placement's lists are as long as the module's tables.
+pub record HasEntries (pl : Places) (m : List Rec) : Type 0 where
+  pub segments : length pl.segments ≡ length (segments m)
+  pub groups : length pl.groups ≡ length (groups m)
+  pub externals : length pl.externals ≡ length (externals m)

@@ -3,7 +3,7 @@ use Rattle.std.specs.Prelude.{ℕ, List, [], ◌∷◌, map, flat_map, Option, S
 use Rattle.std.specs.List.{range_with_len}
 use Rattle.omf_image.specs.declared.run.Run.{Run}
 use Rattle.omf_image.specs.Limits.{profile_limits}
-use Rattle.omf_image.specs.Joined.{runs_of}
+use Rattle.omf_image.specs.Inner.Joined.{runs_of}
 use Rattle.omf_frame.specs.declared.fault.Place.{Place}
 use Rattle.omf_records.specs.Values.{Rec}
 use Rattle.omf_check.specs.Listed.{placed_from}
@@ -14,14 +14,15 @@ use Rattle.omf_placement.specs.declared.frame.Frame.{Frame}
 use Rattle.omf_reloc.specs.declared.fault.ReachFault.{ReachFault}
 use Rattle.omf_derive.specs.declared.fault.DeriveFault.{DeriveFault}
 use Rattle.omf_derive.specs.declared.given.Given.{Given}
-use Rattle.omf_reloc.specs.Pieces.{references_at, placed_pieces}
+use Rattle.omf_reloc.specs.Inner.Pieces.{references_at, placed_pieces}
 use Rattle.omf_reloc.specs.Plain.{Piece, Fixed, pieces}
 use Rattle.omf_placement.specs.declared.frame.Placed.{Placed}
 use Rattle.omf_placement.specs.Placement.{Places}
 use Rattle.omf_reloc.specs.Reach.{reach_fault}
 use Rattle.omf_reloc.specs.Image.{image, laid, start}
 use Rattle.omf_placement.specs.PlacementText.{Draft, parsed, resolved}
-use Rattle.omf_derive.specs.Derive.{PlacedModule, derived}
+use Rattle.omf_derive.specs.Derive.{PlacedModule}
+use Rattle.omf_derive.specs.Inner.Derived.{derived}
 use Rattle.omf_reloc.specs.Modules.{raws_of, module_of}
 
 abbrev pub frame : ℕ → ℕ → Frame

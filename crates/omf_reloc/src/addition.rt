@@ -36,11 +36,11 @@ pub(crate) struct Additions {
 
 impl Model for Additions {
     ghost use Rattle.std.specs.Prelude.{List};
-    ghost use Rattle.omf_image.specs.Parts.{Addition as Said};
+    ghost use Rattle.omf_image.specs.Parts.{Addition as AdditionModel};
 
-    ghost Value = { List Said };
+    ghost Value = { List AdditionModel };
 
-    ghost use Rattle.omf_reloc.specs.Seen.{all_added};
+    ghost use Rattle.omf_reloc.specs.Inner.Seen.{all_added};
 
     ghost view = { λ a. all_added a.first a.second };
 }

@@ -1,15 +1,14 @@
 //! Where the data records of a module lie.
 
 ghost use Rattle.std.specs.Prelude.{◌≡◌, ◌++◌, length, flat_map, IfOk, OnOk, option_to_list};
-ghost use Rattle.omf_records.specs.Seen.{odd_if, rec_seen};
+ghost use Rattle.omf_records.specs.Inner.Seen.{odd_if, rec_seen};
 ghost use Rattle.omf_records.specs.Values.{width};
-ghost use Rattle.omf_image.specs.Expanding.{expanded};
+ghost use Rattle.omf_image.specs.Inner.Expanding.{expanded};
 ghost use Rattle.omf_image.specs.Limits.{profile_limits};
-ghost use Rattle.omf_check.specs.Module.{records_in};
+ghost use Rattle.omf_check.specs.Module.{recs_of};
 ghost use Rattle.omf_check.specs.Sound.{ModuleHolds};
-ghost use Rattle.omf_check.specs.WellFormed.{recs};
-ghost use Rattle.omf_reloc.specs.Measuring.{measured, CanMeasure};
-ghost use Rattle.omf_reloc.specs.Walking.{Expands};
+ghost use Rattle.omf_reloc.specs.Inner.Measuring.{measured, CanMeasure};
+ghost use Rattle.omf_reloc.specs.Inner.Walking.{Expands};
 
 use omf_check::Checked;
 use omf_frame::Index;
@@ -76,8 +75,8 @@ fn push_measured(extents: &mut Vec<Extent>, rec: &Rec<'_>) -> Result<(), AllocEr
 
 /// Where the data records of a module lie, in file order.
 pub(crate) fn extents(alloc: Global, module: &Checked) -> Result<Vec<Extent>, AllocError>
-    ensures listed { IfOk result (λ v. v.items ≡ flat_map measured (recs (records_in «module».now.bytes))) }
-    ensures holds { ModuleHolds profile_limits (recs (records_in «module».now.bytes)) }
+    ensures listed { IfOk result (λ v. v.items ≡ flat_map measured (recs_of «module».now.bytes)) }
+    ensures holds { ModuleHolds profile_limits (recs_of «module».now.bytes) }
 {
     let mut extents = Vec::new(alloc);
     for (_place, rec) in module.records() {

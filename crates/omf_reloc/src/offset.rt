@@ -7,7 +7,8 @@ ghost use Rattle.omf_records.specs.Location.{offset_bits, self_relative_bits};
 ghost use Rattle.omf_records.specs.Values.{location_offset};
 ghost use Rattle.omf_check.specs.Tables.{is_defined};
 ghost use Rattle.omf_reloc.specs.Offsets.{offsets, in_bits, is_near, in_frame, from_location, outcome_at, start_offset};
-ghost use Rattle.omf_reloc.specs.Placed.{HasTarget, HasPlaces, fixupp_type, modend_type, number_bits};
+ghost use Rattle.omf_reloc.specs.Placed.{HasTarget, HasPlaces};
+ghost use Rattle.omf_reloc.specs.Inner.Widths.{fixupp_type, modend_type, number_bits};
 ghost use Rattle.omf_placement.specs.Placement.{placed, frame_by, target_frame, target_address};
 
 use crate::addition::Additions;

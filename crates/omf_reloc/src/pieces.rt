@@ -2,17 +2,16 @@
 
 ghost use Rattle.std.specs.Prelude.{◌≡◌, ◌∷◌, map, None, option_map};
 ghost use Rattle.omf_image.specs.Limits.{profile_limits};
-ghost use Rattle.omf_check.specs.Kept.{no_threads};
+ghost use Rattle.omf_check.specs.Inner.Kept.{no_threads};
 ghost use Rattle.omf_check.specs.Listed.{placed_from};
-ghost use Rattle.omf_check.specs.Module.{records_in};
+ghost use Rattle.omf_check.specs.Module.{recs_of, records_in};
 ghost use Rattle.omf_check.specs.Sound.{ModuleHolds};
-ghost use Rattle.omf_check.specs.WellFormed.{recs};
-ghost use Rattle.omf_reloc.specs.PieceSeen.{step_seen, placed_seen};
-ghost use Rattle.omf_reloc.specs.Pieces.{subrecord_step, contents_steps, open_steps, steps_from, threads_behind, end_at, single_pieces, reference_places, placed_pieces, SubrecordIsSet, ContentsAreSet, OpenIsSet, RecordsAreSet};
-ghost use Rattle.omf_reloc.specs.Placed.{fixupp_type, modend_type};
+ghost use Rattle.omf_reloc.specs.Inner.PieceSeen.{step_seen, placed_seen};
+ghost use Rattle.omf_reloc.specs.Inner.Pieces.{subrecord_step, contents_steps, open_steps, steps_from, threads_behind, end_at, single_pieces, reference_places, placed_pieces, SubrecordIsSet, ContentsAreSet, OpenIsSet, RecordsAreSet};
+ghost use Rattle.omf_reloc.specs.Inner.Widths.{fixupp_type, modend_type};
 ghost use Rattle.omf_reloc.specs.Plain.{End, end_byte};
-ghost use Rattle.omf_reloc.specs.Walking.{plain_by, threads_after};
-ghost use Rattle.omf_records.specs.Seen.{contents_seen, kind_seen};
+ghost use Rattle.omf_reloc.specs.Inner.Walking.{plain_by, threads_after};
+ghost use Rattle.omf_records.specs.Inner.Seen.{contents_seen, kind_seen};
 ghost use Rattle.omf_records.specs.Values.{ModEnd};
 ghost use Rattle.omf_reloc.specs.Reach.{all_reference_places};
 
@@ -49,10 +48,10 @@ struct OpenFixups<'a> {
 }
 
 impl<'a> Model for OpenFixups<'a> {
-    ghost use Rattle.omf_reloc.specs.Placed.{fixupp_type};
-    ghost use Rattle.omf_reloc.specs.Pieces.{OpenFixups as Said};
+    ghost use Rattle.omf_reloc.specs.Inner.Widths.{fixupp_type};
+    ghost use Rattle.omf_reloc.specs.Inner.Pieces.{OpenFixups as OpenFixupsModel};
 
-    ghost Value = { Said };
+    ghost Value = { OpenFixupsModel };
 
     ghost view = { λ o. record { place = o.place; kind = fixupp_type o.wide; left = o.left } };
 }
@@ -139,11 +138,11 @@ struct Steps<'a> {
 
 impl<'a> Model for Steps<'a> {
     ghost use Rattle.std.specs.Prelude.{List, Option};
-    ghost use Rattle.omf_frame.specs.declared.fault.Place.{Place as Placed};
+    ghost use Rattle.omf_frame.specs.declared.fault.Place.{Place as PlaceModel};
     ghost use Rattle.omf_reloc.specs.Plain.{Piece as Plain};
-    ghost use Rattle.omf_reloc.specs.Pieces.{steps_left, AreSet};
+    ghost use Rattle.omf_reloc.specs.Inner.Pieces.{steps_left, AreSet};
 
-    ghost Value = { List (Option (Placed × Plain)) };
+    ghost Value = { List (Option (PlaceModel × Plain)) };
 
     ghost view = { λ s. steps_left s.threads s.fixups s.records };
 
@@ -195,7 +194,7 @@ impl<'a> Steps<'a> {
 
 impl<'a> Iterator for Steps<'a> {
     ghost use Rattle.std.specs.Iterator.{YieldsFirstBy, item_count};
-    ghost use Rattle.omf_reloc.specs.PieceSeen.{step_seen};
+    ghost use Rattle.omf_reloc.specs.Inner.PieceSeen.{step_seen};
 
     type Item = Option<(Place, Piece<'a>)>;
 
@@ -228,18 +227,18 @@ pub struct Pieces<'a> {
 
 impl<'a> Model for Pieces<'a> {
     ghost use Rattle.std.specs.Prelude.{List};
-    ghost use Rattle.omf_frame.specs.declared.fault.Place.{Place as Placed};
+    ghost use Rattle.omf_frame.specs.declared.fault.Place.{Place as PlaceModel};
     ghost use Rattle.omf_reloc.specs.Plain.{Piece as Plain};
-    ghost use Rattle.omf_reloc.specs.Pieces.{given};
+    ghost use Rattle.omf_reloc.specs.Inner.Pieces.{given};
 
-    ghost Value = { List (Placed × Plain) };
+    ghost Value = { List (PlaceModel × Plain) };
 
     ghost view = { λ p. given p.steps };
 }
 
 impl<'a> Iterator for Pieces<'a> {
     ghost use Rattle.std.specs.Iterator.{YieldsFirstBy, item_count};
-    ghost use Rattle.omf_reloc.specs.PieceSeen.{placed_seen};
+    ghost use Rattle.omf_reloc.specs.Inner.PieceSeen.{placed_seen};
 
     type Item = (Place, Piece<'a>);
 
@@ -260,9 +259,9 @@ impl<'a> Iterator for Pieces<'a> {
 /// The pieces of a module, in the order of the file.
 pub fn pieces_of(module: &Checked) -> Pieces<'_>
     ensures walked { result ≡ placed_pieces (placed_from 0 0 (records_in «module».now.bytes)) }
-    ensures listed { map (λ p. p.1) result ≡ single_pieces (recs (records_in «module».now.bytes)) }
-    ensures places { reference_places result ≡ all_reference_places (recs (records_in «module».now.bytes)) }
-    ensures holds { ModuleHolds profile_limits (recs (records_in «module».now.bytes)) }
+    ensures listed { map (λ p. p.1) result ≡ single_pieces (recs_of «module».now.bytes) }
+    ensures places { reference_places result ≡ all_reference_places (recs_of «module».now.bytes) }
+    ensures holds { ModuleHolds profile_limits (recs_of «module».now.bytes) }
 {
     Pieces {
         steps: Steps::new(module.records()),

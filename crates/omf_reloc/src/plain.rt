@@ -1,8 +1,8 @@
 //! References without threads (TIS OMF 1.1, "FIXUPP", frame and target methods).
 
 ghost use Rattle.std.specs.Prelude.{◌≡◌, IsSome};
-ghost use Rattle.omf_check.specs.Judging.{frame_cell, target_cell};
-ghost use Rattle.omf_reloc.specs.Walking.{plain_by};
+ghost use Rattle.omf_check.specs.Inner.Judging.{frame_cell, target_cell};
+ghost use Rattle.omf_reloc.specs.Inner.Walking.{plain_by};
 
 use omf_check::{FrameMethod, TargetMethod, Threads};
 use omf_records::Reference;
@@ -18,9 +18,9 @@ pub struct PlainReference {
 }
 
 impl Model for PlainReference {
-    ghost use Rattle.omf_check.specs.Threads.{PlainReference as Said};
+    ghost use Rattle.omf_check.specs.Threads.{PlainReference as PlainReferenceModel};
 
-    ghost Value = { Said };
+    ghost Value = { PlainReferenceModel };
 
     ghost view = { λ r. record { frame = r.frame; target = r.target; displacement = r.displacement } };
 }
@@ -33,9 +33,9 @@ pub struct PlainFixup {
 }
 
 impl Model for PlainFixup {
-    ghost use Rattle.omf_reloc.specs.Plain.{PlainFixup as Said};
+    ghost use Rattle.omf_reloc.specs.Plain.{PlainFixup as PlainFixupModel};
 
-    ghost Value = { Said };
+    ghost Value = { PlainFixupModel };
 
     ghost view = { λ f. record { locat = f.location; reference = f.reference } };
 }

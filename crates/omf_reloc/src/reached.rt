@@ -3,8 +3,7 @@
 ghost use Rattle.std.specs.Prelude.{◌≡◌, [], None, IfOk, IfErr};
 ghost use Rattle.omf_image.specs.Limits.{profile_limits};
 ghost use Rattle.omf_image.specs.Overlay.{AreLaidOver};
-ghost use Rattle.omf_check.specs.Module.{records_in};
-ghost use Rattle.omf_check.specs.WellFormed.{recs};
+ghost use Rattle.omf_check.specs.Module.{recs_of};
 ghost use Rattle.omf_reloc.specs.Image.{laid};
 ghost use Rattle.omf_reloc.specs.Plain.{pieces};
 ghost use Rattle.omf_reloc.specs.Reach.{Reaches, reach_fault};
@@ -20,7 +19,7 @@ use std::alloc::Global;
 
 /// Why there is no image where memory ran out: the placement does not reach, or else that.
 fn without_memory(module: &Checked, placement: &Placement) -> RelocateFault
-    ensures { IsRelocateFault placement.now (recs (records_in «module».now.bytes)) result }
+    ensures { IsRelocateFault placement.now (recs_of «module».now.bytes) result }
 {
     match reach(module, placement) {
         Ok(()) => RelocateFault::Memory,
@@ -39,10 +38,10 @@ pub fn reach_and_relocate(
     module: &Checked,
     placement: &Placement,
 ) -> Result<Image, RelocateFault>
-    ensures reaches { IfOk result (λ i. Reaches placement.now (recs (records_in «module».now.bytes))) }
-    ensures ok { IfOk result (λ i. reach_fault placement.now (recs (records_in «module».now.bytes)) ≡ None) }
-    ensures laid { IfOk result (λ i. AreLaidOver [] (laid profile_limits placement.now (pieces (recs (records_in «module».now.bytes)))) i) }
-    ensures err { IfErr result (IsRelocateFault placement.now (recs (records_in «module».now.bytes))) }
+    ensures reaches { IfOk result (λ i. Reaches placement.now (recs_of «module».now.bytes)) }
+    ensures ok { IfOk result (λ i. reach_fault placement.now (recs_of «module».now.bytes) ≡ None) }
+    ensures laid { IfOk result (λ i. AreLaidOver [] (laid profile_limits placement.now (pieces (recs_of «module».now.bytes))) i) }
+    ensures err { IfErr result (IsRelocateFault placement.now (recs_of «module».now.bytes)) }
 {
     if let Some(fault) = misfit(module, placement) {
         return Err(RelocateFault::Reach(fault));

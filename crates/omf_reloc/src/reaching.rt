@@ -1,12 +1,12 @@
 //! Whether a placement reaches: it fits the module, and every fixup and the start reach.
 
 ghost use Rattle.std.specs.Prelude.{◌≡◌, ◌≤◌, length, slice_get, ◌↔◌, true, None, Some, IsOk, IfErr};
-ghost use Rattle.omf_check.specs.Module.{records_in};
+ghost use Rattle.omf_check.specs.Module.{recs_of};
 ghost use Rattle.omf_check.specs.Tables.{segments, is_defined};
-ghost use Rattle.omf_check.specs.WellFormed.{recs};
-ghost use Rattle.omf_reloc.specs.PieceSeen.{piece_seen};
+ghost use Rattle.omf_reloc.specs.Inner.PieceSeen.{piece_seen};
 ghost use Rattle.omf_reloc.specs.Reach.{missing, extra, misplaced, misfits, far_faults, reach_fault, Reaches};
-ghost use Rattle.omf_reloc.specs.ReachSteps.{HasEntries, miscounts, misplaced_from, place_behind, piece_cause, CanJudge};
+ghost use Rattle.omf_reloc.specs.Inner.ReachSteps.{miscounts, misplaced_from, place_behind, piece_cause, CanJudge};
+ghost use Rattle.omf_reloc.specs.Placed.{HasEntries};
 
 use crate::fault::{Cause, Kind, ReachFault};
 use crate::offset::{outcome, start_offset};
@@ -40,7 +40,7 @@ fn extra(kind: Kind, entries: u16, given: usize) -> Option<ReachFault>
 
 /// The first entry that is missing, or else the first one too many: segments first, then groups, then externals.
 fn count_fault(module: &Checked, placement: &Placement) -> Option<ReachFault>
-    ensures { result ≡ slice_get (miscounts placement.now (recs (records_in «module».now.bytes))) 0 }
+    ensures { result ≡ slice_get (miscounts placement.now (recs_of «module».now.bytes)) 0 }
 {
     let segments = placement.segment_count();
     let groups = placement.group_count();
@@ -73,8 +73,8 @@ fn misplaced(placement: &Placement, index: u16, absolute: Option<(u16, u8)>) -> 
 
 /// The first absolute segment that is placed elsewhere than its SEGDEF says.
 fn absolute_fault(module: &Checked, placement: &Placement) -> Option<ReachFault>
-    requires { length placement.now.segments ≡ length (segments (recs (records_in «module».now.bytes))) }
-    ensures { result ≡ slice_get (misplaced_from placement.now 1 (segments (recs (records_in «module».now.bytes)))) 0 }
+    requires { length placement.now.segments ≡ length (segments (recs_of «module».now.bytes)) }
+    ensures { result ≡ slice_get (misplaced_from placement.now 1 (segments (recs_of «module».now.bytes))) 0 }
 {
     for index in 1..module.segments() + 1 {
         let fault = match module.segment(index) {
@@ -91,7 +91,7 @@ fn absolute_fault(module: &Checked, placement: &Placement) -> Option<ReachFault>
 /// The first reason why a placement does not fit a module, if it does not.
 #[tactic(auto, using(crate::proofs::ReachedLaws::counts_there, crate::proofs::ReachedLaws::counts_fault, crate::proofs::ReachedLaws::absolutes_fault))]
 pub(crate) fn misfit(module: &Checked, placement: &Placement) -> Option<ReachFault>
-    ensures { result ≡ slice_get (misfits placement.now (recs (records_in «module».now.bytes))) 0 }
+    ensures { result ≡ slice_get (misfits placement.now (recs_of «module».now.bytes)) 0 }
 {
     if let Some(fault) = count_fault(module, placement) {
         return Some(fault);
@@ -143,8 +143,8 @@ fn data_after(piece: &Piece<'_>, last: Option<(u16, u32)>) -> Option<(u16, u32)>
 
 /// The first reference of a module that does not reach, in the order of the file.
 fn far_fault(module: &Checked, placement: &Placement) -> Option<ReachFault>
-    requires { HasEntries placement.now (recs (records_in «module».now.bytes)) }
-    ensures { result ≡ slice_get (far_faults placement.now (recs (records_in «module».now.bytes))) 0 }
+    requires { HasEntries placement.now (recs_of «module».now.bytes) }
+    ensures { result ≡ slice_get (far_faults placement.now (recs_of «module».now.bytes)) 0 }
 {
     let mut last = None;
     for (place, piece) in pieces_of(module) {
@@ -171,9 +171,9 @@ fn far_fault(module: &Checked, placement: &Placement) -> Option<ReachFault>
 /// first, then of groups, then of externals; then the absolute segment of the lowest index that is placed elsewhere; then the first
 /// reference that does not reach, in the order of the file, the start last.
 pub fn reach(module: &Checked, placement: &Placement) -> Result<(), ReachFault>
-    ensures reaches { IsOk result ↔ Reaches placement.now (recs (records_in «module».now.bytes)) }
-    ensures ok { IsOk result ↔ (reach_fault placement.now (recs (records_in «module».now.bytes)) ≡ None) }
-    ensures err { IfErr result (λ f. reach_fault placement.now (recs (records_in «module».now.bytes)) ≡ Some f) }
+    ensures reaches { IsOk result ↔ Reaches placement.now (recs_of «module».now.bytes) }
+    ensures ok { IsOk result ↔ (reach_fault placement.now (recs_of «module».now.bytes) ≡ None) }
+    ensures err { IfErr result (λ f. reach_fault placement.now (recs_of «module».now.bytes) ≡ Some f) }
 {
     if let Some(fault) = misfit(module, placement) {
         return Err(fault);

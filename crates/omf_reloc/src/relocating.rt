@@ -1,26 +1,26 @@
 //! The image that a placement gives a module.
 
 ghost use Rattle.std.specs.Prelude.{◌≡◌, ◌↔◌, ℕ, [], ◌∷◌, true, length, IfSome, OnOk, IfOk, IfErr, None, Some, Option, slice_get, option_map, option_to_list};
-ghost use Rattle.omf_records.specs.Seen.{odd_if, kind_seen, contents_seen};
+ghost use Rattle.omf_records.specs.Inner.Seen.{odd_if, kind_seen, contents_seen};
 ghost use Rattle.omf_records.specs.Values.{width, contents_alone};
-ghost use Rattle.omf_image.specs.Expanding.{expanded};
+ghost use Rattle.omf_image.specs.Inner.Expanding.{expanded};
 ghost use Rattle.omf_image.specs.Limits.{profile_limits};
-ghost use Rattle.omf_image.specs.Joined.{runs_of};
+ghost use Rattle.omf_image.specs.Inner.Joined.{runs_of};
 ghost use Rattle.omf_image.specs.Overlay.{AreLaidOver, IsRunAt, byte_at};
 ghost use Rattle.omf_image.specs.declared.run.Run.{Run};
-ghost use Rattle.omf_check.specs.Module.{records_in};
+ghost use Rattle.omf_check.specs.Module.{recs_of};
 ghost use Rattle.omf_check.specs.Sound.{ModuleHolds};
 ghost use Rattle.omf_check.specs.Tables.{is_defined};
-ghost use Rattle.omf_check.specs.WellFormed.{recs};
 ghost use Rattle.omf_reloc.specs.Image.{laid, image};
 ghost use Rattle.omf_reloc.specs.Laws.{AllLieInside};
 ghost use Rattle.omf_reloc.specs.Offsets.{cause_of, outcome_at};
-ghost use Rattle.omf_reloc.specs.PieceSeen.{piece_seen};
-ghost use Rattle.omf_reloc.specs.Placed.{HasPlaces, fixupp_type};
+ghost use Rattle.omf_reloc.specs.Inner.PieceSeen.{piece_seen};
+ghost use Rattle.omf_reloc.specs.Placed.{HasPlaces, HasEntries};
+ghost use Rattle.omf_reloc.specs.Inner.Widths.{fixupp_type};
 ghost use Rattle.omf_reloc.specs.Plain.{Fixed, pieces};
 ghost use Rattle.omf_reloc.specs.Reach.{Reaches, far_faults};
-ghost use Rattle.omf_reloc.specs.ReachSteps.{CanJudge, HasEntries, piece_cause};
-ghost use Rattle.omf_reloc.specs.Walking.{with_fixup, closed_by, opened_by, CanAdd, Expands, CanExpand, HasOffsets, IsNext, CanWalk, open_place};
+ghost use Rattle.omf_reloc.specs.Inner.ReachSteps.{CanJudge, piece_cause};
+ghost use Rattle.omf_reloc.specs.Inner.Walking.{with_fixup, closed_by, opened_by, CanAdd, Expands, CanExpand, HasOffsets, IsNext, CanWalk, open_place};
 
 use crate::fault::{Cause, ReachFault};
 use crate::measuring::extents;
@@ -92,7 +92,7 @@ struct Walk {
 }
 
 impl Model for Walk {
-    ghost use Rattle.omf_reloc.specs.Walking.{Walk as Walked};
+    ghost use Rattle.omf_reloc.specs.Inner.Walking.{Walk as Walked};
 
     ghost Value = { Walked };
 
@@ -238,11 +238,11 @@ pub(crate) fn walked(
     module: &Checked,
     placement: &Placement,
 ) -> Result<Result<Image, ReachFault>, AllocError>
-    requires { HasEntries placement.now (recs (records_in «module».now.bytes)) }
-    ensures laid { IfOk result (λ r. IfOk r (λ i. AreLaidOver [] (laid profile_limits placement.now (pieces (recs (records_in «module».now.bytes)))) i)) }
-    ensures reaches { IfOk result (λ r. IfOk r (λ i. slice_get (far_faults placement.now (recs (records_in «module».now.bytes))) 0 ≡ None)) }
-    ensures far { IfOk result (λ r. IfErr r (λ f. slice_get (far_faults placement.now (recs (records_in «module».now.bytes))) 0 ≡ Some f)) }
-    ensures holds { ModuleHolds profile_limits (recs (records_in «module».now.bytes)) }
+    requires { HasEntries placement.now (recs_of «module».now.bytes) }
+    ensures laid { IfOk result (λ r. IfOk r (λ i. AreLaidOver [] (laid profile_limits placement.now (pieces (recs_of «module».now.bytes))) i)) }
+    ensures reaches { IfOk result (λ r. IfOk r (λ i. slice_get (far_faults placement.now (recs_of «module».now.bytes)) 0 ≡ None)) }
+    ensures far { IfOk result (λ r. IfErr r (λ f. slice_get (far_faults placement.now (recs_of «module».now.bytes)) 0 ≡ Some f)) }
+    ensures holds { ModuleHolds profile_limits (recs_of «module».now.bytes) }
 {
     let zeros = painted(alloc, extents(alloc, module)?)?;
     let mut walk = Walk::new(zeros);
@@ -268,12 +268,12 @@ pub(crate) fn walked(
 ///
 /// `AllocError` where a growth is refused.
 pub fn relocate(alloc: Global, module: &Checked, placement: &Placement) -> Result<Image, AllocError>
-    requires { Reaches placement.now (recs (records_in «module».now.bytes)) }
-    ensures laid { IfOk result (λ i. AreLaidOver [] (laid profile_limits placement.now (pieces (recs (records_in «module».now.bytes)))) i) }
-    ensures bytes { IfOk result (λ i. (segment x : ℕ) → byte_at i segment x ≡ image profile_limits placement.now (recs (records_in «module».now.bytes)) segment x) }
+    requires { Reaches placement.now (recs_of «module».now.bytes) }
+    ensures laid { IfOk result (λ i. AreLaidOver [] (laid profile_limits placement.now (pieces (recs_of «module».now.bytes))) i) }
+    ensures bytes { IfOk result (λ i. (segment x : ℕ) → byte_at i segment x ≡ image profile_limits placement.now (recs_of «module».now.bytes) segment x) }
     ensures runs { IfOk result (λ i. (segment k : ℕ) (run : Option Run) → IsRunAt (byte_at i segment) k run
-        ↔ (run ≡ slice_get (runs_of (laid profile_limits placement.now (pieces (recs (records_in «module».now.bytes)))) segment) k)) }
-    ensures inside { AllLieInside placement.now (recs (records_in «module».now.bytes)) }
+        ↔ (run ≡ slice_get (runs_of (laid profile_limits placement.now (pieces (recs_of «module».now.bytes))) segment) k)) }
+    ensures inside { AllLieInside placement.now (recs_of «module».now.bytes) }
 {
     match walked(alloc, module, placement)? {
         Ok(image) => Ok(image),

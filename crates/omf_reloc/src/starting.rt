@@ -1,16 +1,15 @@
 //! The start address that a placement gives a module.
 
 ghost use Rattle.std.specs.Prelude.{◌≡◌, [], ◌∷◌};
-ghost use Rattle.omf_records.specs.Seen.{contents_seen};
-ghost use Rattle.omf_check.specs.Judging.{frame_cell, target_cell};
-ghost use Rattle.omf_check.specs.Kept.{no_threads};
-ghost use Rattle.omf_check.specs.Module.{records_in};
-ghost use Rattle.omf_check.specs.WellFormed.{recs};
+ghost use Rattle.omf_records.specs.Inner.Seen.{contents_seen};
+ghost use Rattle.omf_check.specs.Inner.Judging.{frame_cell, target_cell};
+ghost use Rattle.omf_check.specs.Inner.Kept.{no_threads};
+ghost use Rattle.omf_check.specs.Module.{recs_of};
 ghost use Rattle.omf_reloc.specs.Image.{start, start_at};
 ghost use Rattle.omf_reloc.specs.Offsets.{start_offset};
-ghost use Rattle.omf_reloc.specs.Placed.{modend_type};
+ghost use Rattle.omf_reloc.specs.Inner.Widths.{modend_type};
 ghost use Rattle.omf_reloc.specs.Reach.{Reaches};
-ghost use Rattle.omf_reloc.specs.Walking.{threads_after, threads_through, HasStart};
+ghost use Rattle.omf_reloc.specs.Inner.Walking.{threads_after, threads_through, HasStart};
 
 use crate::offset::{frame_of, start_offset};
 use crate::plain::{PlainReference, plain_reference};
@@ -41,7 +40,7 @@ fn set_threads(threads: &mut Threads, rec: &Rec<'_>)
 
 /// The threads in force at the end of a module.
 fn threads_at_end(module: &Checked) -> Threads
-    ensures { result ≡ threads_through no_threads (recs (records_in «module».now.bytes)) }
+    ensures { result ≡ threads_through no_threads (recs_of «module».now.bytes) }
 {
     let mut threads = Threads::new();
     for (_place, rec) in module.records() {
@@ -52,8 +51,8 @@ fn threads_at_end(module: &Checked) -> Threads
 
 /// Threads by which a reference of a module's end is what it is by those in force there. Where it names none, none is looked for.
 fn threads_of(module: &Checked, reference: &Reference) -> Threads
-    ensures frame { frame_cell result reference.now ≡ frame_cell (threads_through no_threads (recs (records_in «module».now.bytes))) reference.now }
-    ensures target { target_cell result reference.now ≡ target_cell (threads_through no_threads (recs (records_in «module».now.bytes))) reference.now }
+    ensures frame { frame_cell result reference.now ≡ frame_cell (threads_through no_threads (recs_of «module».now.bytes)) reference.now }
+    ensures target { target_cell result reference.now ≡ target_cell (threads_through no_threads (recs_of «module».now.bytes)) reference.now }
 {
     if reference.frame_thread().is_some() || reference.target_thread().is_some() {
         threads_at_end(module)
@@ -65,8 +64,8 @@ fn threads_of(module: &Checked, reference: &Reference) -> Threads
 /// The start address that a placement gives a module: the selector of the frame that its MODEND names, and the offset in that frame.
 /// None where the MODEND names no start. The records before it are read for their threads alone, and only where it names one.
 pub fn start(module: &Checked, placement: &Placement) -> Option<(u16, u32)>
-    requires { Reaches placement.now (recs (records_in «module».now.bytes)) }
-    ensures { result ≡ start placement.now (recs (records_in «module».now.bytes)) }
+    requires { Reaches placement.now (recs_of «module».now.bytes) }
+    ensures { result ≡ start placement.now (recs_of «module».now.bytes) }
 {
     let end = module.end();
     let Rec::ModEnd { wide, start, .. } = &end else {

@@ -1,4 +1,4 @@
-//! `pieces` has a module's pieces, `reaching` what reaches, `offsets` how far each fixup reaches and what it adds, `relocating` images,
+//! `modules` has the modules of several tests. `pieces` has a module's pieces, `reaching` what reaches, `offsets` how far each fixup reaches and what it adds, `relocating` images,
 //! and `derived` placements of several modules.
 
 use omf_check::{CheckFault, Checked, Profile, check};
@@ -8,6 +8,7 @@ use omf_reloc::{Frame, Placement, ReachFault, reach, relocate, start};
 use std::alloc::{AllocError, Global};
 
 mod derived;
+mod modules;
 mod offsets;
 mod pieces;
 mod reaching;
@@ -65,13 +66,11 @@ fn push_externals(placement: &mut Placement, externals: &[Place]) -> Result<(), 
     Ok(())
 }
 
-/// The placement of these segments, groups and externals.
-fn placement_of(
-    alloc: Global,
-    segments: &[Place],
-    groups: &[(u32, u16)],
-    externals: &[Place],
-) -> Result<Placement, AllocError> {
+/// The places of segments, the bases and selectors of groups, and the places of externals.
+type Placed<'a> = (&'a [Place], &'a [(u32, u16)], &'a [Place]);
+
+fn placement_of(alloc: Global, placed: Placed<'_>) -> Result<Placement, AllocError> {
+    let (segments, groups, externals) = placed;
     let mut placement = Placement::new(alloc);
     push_segments(&mut placement, segments)?;
     push_groups(&mut placement, groups)?;

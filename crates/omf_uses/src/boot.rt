@@ -1,8 +1,7 @@
 //! A module is relocated by a placement that is built in code.
 
 ghost use Rattle.std.specs.Prelude.{◌≡◌, IfOk};
-ghost use Rattle.omf_check.specs.Module.{records_in};
-ghost use Rattle.omf_check.specs.WellFormed.{recs};
+ghost use Rattle.omf_check.specs.Module.{recs_of};
 ghost use Rattle.omf_uses.specs.Uses.{boot_place, IsBootImage};
 
 use omf_check::Checked;
@@ -30,7 +29,7 @@ fn boot_place(alloc: Global) -> Result<Placement, AllocError>
 ///
 /// `Reach` where it is another kind of module, or a reference does not reach. `Memory` where a growth was refused.
 pub fn boot_image(alloc: Global, module: &Checked) -> Result<Image, RunFault>
-    ensures { IsBootImage (recs (records_in «module».now.bytes)) result }
+    ensures { IsBootImage (recs_of «module».now.bytes) result }
 {
     let placement = boot_place(alloc)?;
     reach(module, &placement)?;

@@ -1,10 +1,10 @@
 //! A linker's symbol stage.
 
 ghost use Rattle.std.specs.Prelude.{[]};
-ghost use Rattle.omf_records.specs.Seen.{map_ok};
-ghost use Rattle.omf_derive.specs.Derive.{derived};
-ghost use Rattle.omf_derive.specs.Deriving.{IsDerived};
-ghost use Rattle.omf_derive.specs.PublicTable.{placed_modules};
+ghost use Rattle.omf_records.specs.Inner.Seen.{map_ok};
+ghost use Rattle.omf_derive.specs.Inner.Derived.{derived};
+ghost use Rattle.omf_derive.specs.Inner.Deriving.{IsDerived};
+ghost use Rattle.omf_derive.specs.Inner.PublicTable.{placed_modules};
 
 use omf_check::Checked;
 use omf_reloc::{DeriveFault, Placement, derive};

@@ -2,8 +2,7 @@
 
 ghost use Rattle.std.specs.Prelude.{◌≡◌, IfOk};
 ghost use Rattle.omf_canon.specs.Canonical.{canonical};
-ghost use Rattle.omf_check.specs.Module.{records_in};
-ghost use Rattle.omf_check.specs.WellFormed.{recs};
+ghost use Rattle.omf_check.specs.Module.{recs_of};
 ghost use Rattle.sha2.specs.Sha256.{sha256};
 
 use omf_canon::canon;
@@ -14,7 +13,7 @@ use std::alloc::{AllocError, Global};
 /// The SHA-256 of a module's canonical bytes. Modules that differ in spellings, checksums, threads or the cuts of their FIXUPPs alone have
 /// one key.
 pub fn key(alloc: Global, module: &Checked) -> Result<[u8; 32], AllocError>
-    ensures { IfOk result (λ key. key ≡ sha256 (canonical (recs (records_in «module».now.bytes)))) }
+    ensures { IfOk result (λ key. key ≡ sha256 (canonical (recs_of «module».now.bytes))) }
 {
     let bytes = canon(alloc, module)?;
     let mut hasher = Sha256::new();

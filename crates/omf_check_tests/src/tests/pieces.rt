@@ -21,13 +21,21 @@ fn keeps_answer(session: &mut Session, pieces: &[&[u8]], answer: Answer) -> bool
     true
 }
 
+/// A session that was fed these pieces.
+fn fed(alloc: Global, pieces: &[&[u8]]) -> Result<Session, CheckFault> {
+    let mut session = opened(alloc);
+    for piece in pieces {
+        let _ = taken(&mut session, piece)?;
+    }
+    Ok(session)
+}
+
 #[test]
 fn a_fault_is_kept(rt: HostRuntime) -> Result<(), Fail> {
     let unsupported = refused(Reason::UnsupportedType, 1, 6, 0);
-    let mut session = opened(rt.alloc());
-    let _ = taken(&mut session, &HEADER)?;
+    let mut session = fed(rt.alloc(), &[&HEADER])?;
     assert!(rt; keeps_answer(&mut session, &[&[0xC2], &END, &[]], unsupported));
-    assert_eq!(rt; finished(session), unsupported);
+    assert!(rt; finished(session) == unsupported);
     Ok(())
 }
 
@@ -48,13 +56,19 @@ fn takes_records(session: &mut Session, bytes: &[u8], lengths: &[usize]) -> bool
     state_of(session) == (0, true) && taken(session, rest) == Ok((0, false))
 }
 
+/// What is wrong in the module that a session has in the end.
+fn wrong_in_session(session: Session, whole: &[u8]) -> Result<Option<&'static str>, CheckFault> {
+    let checked = closed(session)?;
+    Ok(wrong_in_first(&checked, whole))
+}
+
 #[test]
 fn takes_one_record_at_most(rt: HostRuntime) -> Result<(), Fail> {
     let whole = module(rt.alloc(), &FIRST)?;
     let bytes = module(rt.alloc(), &[whole.as_slice(), &[0xDE, 0xAD]])?;
     let mut session = opened(rt.alloc());
     assert!(rt; takes_records(&mut session, &bytes, &[6, 7, 10, 11, 9, 5]));
-    assert_eq!(rt; wrong_in_first(&closed(session)?, &whole), None);
+    assert_eq!(rt; wrong_in_session(session, &whole)?, None);
     Ok(())
 }
 
@@ -67,16 +81,19 @@ fn wanted_and_taken(
     (wanted, taken(session, piece))
 }
 
+/// Whether a session wants and takes four bytes of these, and then answers this to those behind them.
+fn refuses_behind(session: &mut Session, bytes: &[u8], answer: Answer) -> bool {
+    wanted_and_taken(session, bytes) == (4, Ok((4, true)))
+        && state_of(session) == (1, false)
+        && takes(session, behind(bytes, 4)) == answer
+}
+
 #[test]
 fn judges_the_record_at_hand_alone(rt: HostRuntime) -> Result<(), Fail> {
     let rest = [0x00, 0x01, 0x54, 0x11, 0xC2, 0x8A, 0x02, 0x00, 0x00, 0x74];
-    let mut session = opened(rt.alloc());
-    let _ = taken(&mut session, &HEADER)?;
-    let _ = taken(&mut session, &NAMES[..3])?;
-    assert!(rt; wanted_and_taken(&mut session, &rest) == (4, Ok((4, true))));
     let unsupported = refused(Reason::UnsupportedType, 2, 13, 0);
-    assert_eq!(rt; state_of(&session), (1, false));
-    assert_eq!(rt; takes(&mut session, &rest[4..]), unsupported);
+    let mut session = fed(rt.alloc(), &[&HEADER, NAMES.split_at(3).0])?;
+    assert!(rt; refuses_behind(&mut session, &rest, unsupported));
     Ok(())
 }
 
@@ -90,59 +107,56 @@ fn empty_fixups(alloc: Global, count: u32) -> Result<Vec<u8>, AllocError> {
     Ok(bytes)
 }
 
-/// The answers in pieces of one size: to as many items as there may be, and to one more.
-fn at_the_limit(alloc: Global, size: usize) -> Result<(Answer, Answer), AllocError>
+/// Whether as many items as there may be are answered with their module, and one more is refused.
+fn are_limited(most: Answer, over: Answer) -> bool {
+    most == Ok(4_194_307) && over == refused(Reason::TooMany, 1_048_576, 4_194_306, 0)
+}
+
+/// Whether they are, in pieces of one size.
+fn is_limited(alloc: Global, size: usize) -> Result<bool, AllocError>
     requires { 0 < size }
 {
     let most = empty_fixups(alloc, 1_048_574)?;
     let over = empty_fixups(alloc, 1_048_575)?;
-    Ok((
+    Ok(are_limited(
         in_pieces(alloc, &most, size, ANY),
         in_pieces(alloc, &over, size, ANY),
     ))
 }
 
-/// What they are.
-fn taken_and_refused() -> (Answer, Answer) {
-    (
-        Ok(4_194_307),
-        refused(Reason::TooMany, 1_048_576, 4_194_306, 0),
-    )
-}
-
 #[test]
 fn limits_items_by_1(rt: HostRuntime) -> Result<(), Fail> {
-    assert_eq!(rt; at_the_limit(rt.alloc(), 1)?, taken_and_refused());
+    assert!(rt; is_limited(rt.alloc(), 1)?);
     Ok(())
 }
 
 #[test]
 fn limits_items_by_2(rt: HostRuntime) -> Result<(), Fail> {
-    assert_eq!(rt; at_the_limit(rt.alloc(), 2)?, taken_and_refused());
+    assert!(rt; is_limited(rt.alloc(), 2)?);
     Ok(())
 }
 
 #[test]
 fn limits_items_by_5(rt: HostRuntime) -> Result<(), Fail> {
-    assert_eq!(rt; at_the_limit(rt.alloc(), 5)?, taken_and_refused());
+    assert!(rt; is_limited(rt.alloc(), 5)?);
     Ok(())
 }
 
 #[test]
 fn limits_items_by_7(rt: HostRuntime) -> Result<(), Fail> {
-    assert_eq!(rt; at_the_limit(rt.alloc(), 7)?, taken_and_refused());
+    assert!(rt; is_limited(rt.alloc(), 7)?);
     Ok(())
 }
 
-/// The answers of a reader: to as many items as there may be, and to one more.
-fn read_at_the_limit(alloc: Global) -> Result<(Answer, Answer), AllocError> {
+/// Whether they are, of a reader.
+fn is_reader_limited(alloc: Global) -> Result<bool, AllocError> {
     let most = empty_fixups(alloc, 1_048_574)?;
     let over = empty_fixups(alloc, 1_048_575)?;
-    Ok((by_check(alloc, &most, ANY), by_check(alloc, &over, ANY)))
+    Ok(are_limited(by_check(alloc, &most, ANY), by_check(alloc, &over, ANY)))
 }
 
 #[test]
 fn limits_items_of_a_reader(rt: HostRuntime) -> Result<(), Fail> {
-    assert_eq!(rt; read_at_the_limit(rt.alloc())?, taken_and_refused());
+    assert!(rt; is_reader_limited(rt.alloc())?);
     Ok(())
 }

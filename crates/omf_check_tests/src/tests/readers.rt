@@ -29,11 +29,15 @@ fn leaves_what_follows_unread(rt: HostRuntime) -> Result<(), Fail> {
     let records: [&[u8]; 7] = [&HEADER, &NAMES, &SEGMENT, &DATA, &FIXUP, &END, &BEHIND];
     let bytes = module(rt.alloc(), &records)?;
     let expected = module(rt.alloc(), &FIRST)?;
-    let mut reader = Reading::new(bytes.as_slice());
-    let checked = read_by_any(rt.alloc(), &mut reader)?;
-    assert!(rt; bytes_of(&checked) == expected.as_slice());
-    assert!(rt; unread(&mut reader)? == (2, BEHIND));
+    assert!(rt; leaves_two_behind(rt.alloc(), &bytes, &expected)?);
     Ok(())
+}
+
+/// Whether a reader of these bytes gives the module that is expected, and has the two bytes behind it left.
+fn leaves_two_behind(alloc: Global, bytes: &[u8], expected: &[u8]) -> Result<bool, Fail> {
+    let mut reader = Reading::new(bytes);
+    let checked = read_by_any(alloc, &mut reader)?;
+    Ok(bytes_of(&checked) == expected && unread(&mut reader)? == (2, BEHIND))
 }
 
 /// The module that a source gives.
@@ -285,16 +289,21 @@ fn answer_failing_once(alloc: Global, bytes: &[u8], answers: u64, interrupted: u
     by_script(alloc, script.failing_once(answers))
 }
 
+/// Whether each failure is answered on the way: of each of six records the type byte, the length and the rest are read.
+fn is_answered_at_once(alloc: Global, bytes: &[u8]) -> bool {
+    for answers in 0..18 {
+        if answer_failing_once(alloc, bytes, answers, 2) != Err(CheckFault::Read) {
+            return false;
+        }
+    }
+    true
+}
+
 #[test]
 fn a_failure_of_the_reader_is_answered_at_once(rt: HostRuntime) -> Result<(), Fail> {
-    let a = rt.alloc();
-    let bytes = module(a, &FIRST)?;
-    // Of each of its six records it reads the type byte, the length and the rest.
-    for answers in 0..18 {
-        let answer = answer_failing_once(a, &bytes, answers, 2);
-        assert_eq!(rt; answer, Err(CheckFault::Read), "{answers}");
-    }
-    assert_eq!(rt; answer_failing_once(a, &bytes, 18, 0), Ok(48));
+    let bytes = module(rt.alloc(), &FIRST)?;
+    assert!(rt; is_answered_at_once(rt.alloc(), &bytes));
+    assert!(rt; answer_failing_once(rt.alloc(), &bytes, 18, 0) == Ok(48));
     Ok(())
 }
 
@@ -305,11 +314,9 @@ fn answer_interrupted(alloc: Global, bytes: &[u8], times: u64) -> Answer {
 
 #[test]
 fn goes_on_after_interruptions(rt: HostRuntime) -> Result<(), Fail> {
-    let a = rt.alloc();
-    let bytes = module(a, &FIRST)?;
-    for (times, answer) in [(999, Ok(48)), (1000, Err(CheckFault::Read))] {
-        assert_eq!(rt; answer_interrupted(a, &bytes, times), answer);
-    }
+    let bytes = module(rt.alloc(), &FIRST)?;
+    assert!(rt; answer_interrupted(rt.alloc(), &bytes, 999) == Ok(48));
+    assert!(rt; answer_interrupted(rt.alloc(), &bytes, 1000) == Err(CheckFault::Read));
     Ok(())
 }
 

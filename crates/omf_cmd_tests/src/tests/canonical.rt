@@ -1,7 +1,7 @@
 //! Canonical bytes of whole modules. Numbers in modules are hexadecimal.
 
 use super::reports::{
-    ANY, FIRST, NO_VENDORS, Refusal, answer_to, first_taken, is_before_failure, joined, prints,
+    ANY, COMMENTED, FIRST, Refusal, answer_to, first_taken, is_before_failure, joined, prints,
     writes_front,
 };
 use super::{DATA, END, FIXUP, HEADER, NAMES, PLACED, SEGMENT, lists};
@@ -42,8 +42,6 @@ fn first_other(alloc: Global, forms: &[Form]) -> Result<Option<&'static str>, Al
     }
     Ok(None)
 }
-
-const COMMENTED: [&[u8]; 3] = [HEADER, &[0x88, 0x03, 0x00, 0x00, 0xE9, 0x8C], END];
 
 const RECORDS: [Form; 5] = [
     Form {
@@ -175,22 +173,8 @@ fn resolves_threads(rt: HostRuntime) -> Result<(), Fail> {
     Ok(())
 }
 
-const REFUSALS: [Refusal; 4] = [
-    Refusal {
-        name: "a wrong checksum",
-        profile: ANY,
-        pieces: &[
-            HEADER,
-            NAMES,
-            SEGMENT,
-            &[
-                0xA0, 0x08, 0x00, 0x01, 0x00, 0x00, 0xB8, 0x00, 0x00, 0x90, 0x10,
-            ],
-            FIXUP,
-            END,
-        ],
-        fault: (Reason::Checksum, 3, 23, 10),
-    },
+/// More than those of `reports`, which `canon` answers too.
+const REFUSALS: [Refusal; 2] = [
     Refusal {
         name: "a thread that is not set",
         profile: ANY,
@@ -213,12 +197,6 @@ const REFUSALS: [Refusal; 4] = [
         profile: ANY,
         pieces: &[HEADER, &[0x88, 0x03, 0x00, 0x00, 0xAA, 0xCB], END],
         fault: (Reason::OtherDialect, 1, 6, 4),
-    },
-    Refusal {
-        name: "a comment of a vendor",
-        profile: NO_VENDORS,
-        pieces: &COMMENTED,
-        fault: (Reason::VendorComment, 1, 6, 4),
     },
 ];
 

@@ -3,7 +3,7 @@
 use self::Wanted::{Line, Misses, Refused, TooFar, Writes};
 use super::refused;
 use super::relocation::{
-    ANY, DATA, END, FIRST_LINE, FIXUP, HEADER, NAMES, PLACED, SEGMENT, run_on, too_far,
+    ANY, DATA, END, FIRST, FIRST_LINE, FIXUP, HEADER, NAMES, PLACED, SEGMENT, run_on, too_far,
 };
 use omf_cmd::RunFault;
 use omf_frame::Reason;
@@ -52,16 +52,21 @@ impl Wanted {
 }
 
 /// Whether a run answers and writes what is wanted.
-fn is_right(alloc: Global, case: &Case) -> Result<bool, AllocError> {
-    let run = run_on(alloc, ANY, case.records, case.text)?;
-    let (answer, text) = case.wanted.outcome();
-    Ok(run.answer == answer && run.text.as_slice() == text)
+fn is_right(
+    alloc: Global,
+    records: &[&str],
+    text: &[u8],
+    wanted: Wanted,
+) -> Result<bool, AllocError> {
+    let run = run_on(alloc, ANY, records, text)?;
+    let (answer, written) = wanted.outcome();
+    Ok(run.answer == answer && run.text.as_slice() == written)
 }
 
 /// The first of these cases in which a run does something else.
 fn first_wrong(alloc: Global, cases: &[Case]) -> Result<Option<&'static str>, AllocError> {
     for case in cases {
-        if !is_right(alloc, case)? {
+        if !is_right(alloc, case.records, case.text, case.wanted)? {
             return Ok(Some(case.name));
         }
     }
@@ -161,7 +166,7 @@ fn judges_records(rt: HostRuntime) -> Result<(), Fail> {
 const FIXUPS: [Case; 16] = [
     Case {
         name: "an offset",
-        records: &[HEADER, NAMES, SEGMENT, DATA, FIXUP, END],
+        records: &FIRST,
         text: PLACED,
         wanted: Writes(b"0001:00000000 B8 20 00 90\n"),
     },
@@ -180,13 +185,13 @@ const FIXUPS: [Case; 16] = [
     },
     Case {
         name: "an offset of FFFFH",
-        records: &[HEADER, NAMES, SEGMENT, DATA, FIXUP, END],
+        records: &FIRST,
         text: b"S 1FFFF 10000 1000",
         wanted: Writes(b"0001:00000000 B8 FF FF 90\n"),
     },
     Case {
         name: "an offset of 10000H",
-        records: &[HEADER, NAMES, SEGMENT, DATA, FIXUP, END],
+        records: &FIRST,
         text: b"S 20000 10000 1000",
         wanted: TooFar(4, 3, Cause::Target),
     },
@@ -703,115 +708,57 @@ fn prints_the_start(rt: HostRuntime) -> Result<(), Fail> {
     Ok(())
 }
 
-const TEXTS: [Case; 21] = [
-    Case {
-        name: "no entry",
-        records: &[HEADER, NAMES, SEGMENT, DATA, FIXUP, END],
-        text: b"",
-        wanted: Misses(ReachFault::Missing(Kind::Segment, 1)),
-    },
-    Case {
-        name: "two entries",
-        records: &[HEADER, NAMES, SEGMENT, DATA, FIXUP, END],
-        text: b"S 10020 10000 1000\nS 10020 10000 1000",
-        wanted: Misses(ReachFault::Extra(Kind::Segment, 2)),
-    },
-    Case {
-        name: "empty lines and comments",
-        records: &[HEADER, NAMES, SEGMENT, DATA, FIXUP, END],
-        text: b"\n; a comment\n  S 10020 10000 1000 ; x\r\n\n",
-        wanted: Writes(b"0001:00000000 B8 20 00 90\n"),
-    },
-    Case {
-        name: "two spaces between words",
-        records: &[HEADER, NAMES, SEGMENT, DATA, FIXUP, END],
-        text: b"S 10020  10000 1000",
-        wanted: Line(1),
-    },
-    Case {
-        name: "a small letter in line 2",
-        records: &[HEADER, NAMES, SEGMENT, DATA, FIXUP, END],
-        text: b"\ns 10020 10000 1000",
-        wanted: Line(2),
-    },
-    Case {
-        name: "nine digits",
-        records: &[HEADER, NAMES, SEGMENT, DATA, FIXUP, END],
-        text: b"S 000010020 10000 1000",
-        wanted: Line(1),
-    },
-    Case {
-        name: "a comment behind an entry",
-        records: &[HEADER, NAMES, SEGMENT, DATA, FIXUP, END],
-        text: b"S 10020 real ; x",
-        wanted: Writes(b"0001:00000000 B8 00 00 90\n"),
-    },
-    Case {
-        name: "an entry that ends in CR LF",
-        records: &[HEADER, NAMES, SEGMENT, DATA, FIXUP, END],
-        text: b"S 10020 10000 1000\r\n",
-        wanted: Writes(b"0001:00000000 B8 20 00 90\n"),
-    },
-    Case {
-        name: "two spaces",
-        records: &[HEADER, NAMES, SEGMENT, DATA, FIXUP, END],
-        text: b"S 10020  real",
-        wanted: Line(1),
-    },
-    Case {
-        name: "six digits",
-        records: &[HEADER, NAMES, SEGMENT, DATA, FIXUP, END],
-        text: b"\nS 100000 real",
-        wanted: Line(2),
-    },
-    Case {
-        name: "a small letter",
-        records: &[HEADER, NAMES, SEGMENT, DATA, FIXUP, END],
-        text: b"s 10020 10000 1000",
-        wanted: Line(1),
-    },
-    Case {
-        name: "REAL",
-        records: &[HEADER, NAMES, SEGMENT, DATA, FIXUP, END],
-        text: b"S 10020 REAL",
-        wanted: Line(1),
-    },
-    Case {
-        name: "two CR",
-        records: &[HEADER, NAMES, SEGMENT, DATA, FIXUP, END],
-        text: b"S 10020 10000 1000\r\r\n",
-        wanted: Line(1),
-    },
-    Case {
-        name: "a byte FF",
-        records: &[HEADER, NAMES, SEGMENT, DATA, FIXUP, END],
-        text: b"\n\n\xFF",
-        wanted: Line(3),
-    },
-    Case {
-        name: "bytes that are no text",
-        records: &[HEADER, NAMES, SEGMENT, DATA, FIXUP, END],
-        text: b"\xDE\xAD",
-        wanted: Line(1),
-    },
-    Case {
-        name: "bytes that are no text in a comment",
-        records: &[HEADER, NAMES, SEGMENT, DATA, FIXUP, END],
-        text: b"; \xDE\xAD\r\n  S 10020 10000 1000;x",
-        wanted: Writes(FIRST_LINE),
-    },
-    Case {
-        name: "an entry for no group",
-        records: &[HEADER, NAMES, SEGMENT, DATA, FIXUP, END],
-        text: b"S 10020 10000 1000\nG 0 0",
-        wanted: Misses(ReachFault::Extra(Kind::Group, 1)),
-    },
-    Case {
-        name: "a group without a segment",
-        records: &[HEADER, NAMES, SEGMENT, DATA, FIXUP, END],
-        text: b"G real",
-        wanted: Line(1),
-    },
+/// A name, a placement text behind the first module, and what a run makes of it.
+const TEXTS: [(&str, &[u8], Wanted); 18] = [
+    (
+        "no entry",
+        b"",
+        Misses(ReachFault::Missing(Kind::Segment, 1)),
+    ),
+    (
+        "two entries",
+        b"S 10020 10000 1000\nS 10020 10000 1000",
+        Misses(ReachFault::Extra(Kind::Segment, 2)),
+    ),
+    (
+        "empty lines and comments",
+        b"\n; a comment\n  S 10020 10000 1000 ; x\r\n\n",
+        Writes(b"0001:00000000 B8 20 00 90\n"),
+    ),
+    ("two spaces between words", b"S 10020  10000 1000", Line(1)),
+    ("a small letter in line 2", b"\ns 10020 10000 1000", Line(2)),
+    ("nine digits", b"S 000010020 10000 1000", Line(1)),
+    (
+        "a comment behind an entry",
+        b"S 10020 real ; x",
+        Writes(b"0001:00000000 B8 00 00 90\n"),
+    ),
+    (
+        "an entry that ends in CR LF",
+        b"S 10020 10000 1000\r\n",
+        Writes(b"0001:00000000 B8 20 00 90\n"),
+    ),
+    ("two spaces", b"S 10020  real", Line(1)),
+    ("six digits", b"\nS 100000 real", Line(2)),
+    ("a small letter", b"s 10020 10000 1000", Line(1)),
+    ("REAL", b"S 10020 REAL", Line(1)),
+    ("two CR", b"S 10020 10000 1000\r\r\n", Line(1)),
+    ("a byte FF", b"\n\n\xFF", Line(3)),
+    ("bytes that are no text", b"\xDE\xAD", Line(1)),
+    (
+        "bytes that are no text in a comment",
+        b"; \xDE\xAD\r\n  S 10020 10000 1000;x",
+        Writes(FIRST_LINE),
+    ),
+    (
+        "an entry for no group",
+        b"S 10020 10000 1000\nG 0 0",
+        Misses(ReachFault::Extra(Kind::Group, 1)),
+    ),
+    ("a group without a segment", b"G real", Line(1)),
+];
+
+const GROUPS: [Case; 3] = [
     Case {
         name: "more groups than the module has",
         records: &[
@@ -851,8 +798,27 @@ const TEXTS: [Case; 21] = [
     },
 ];
 
+/// The first of these texts of which a run makes something else.
+fn first_misread(
+    alloc: Global,
+    texts: &[(&'static str, &[u8], Wanted)],
+) -> Result<Option<&'static str>, AllocError> {
+    for (name, text, wanted) in texts {
+        if !is_right(alloc, &FIRST, *text, *wanted)? {
+            return Ok(Some(*name));
+        }
+    }
+    Ok(None)
+}
+
 #[test]
 fn reads_the_text_by_lines(rt: HostRuntime) -> Result<(), Fail> {
-    assert_eq!(rt; first_wrong(rt.alloc(), &TEXTS)?, None);
+    assert_eq!(rt; first_misread(rt.alloc(), &TEXTS)?, None);
+    Ok(())
+}
+
+#[test]
+fn counts_groups_in_the_text(rt: HostRuntime) -> Result<(), Fail> {
+    assert_eq!(rt; first_wrong(rt.alloc(), &GROUPS)?, None);
     Ok(())
 }

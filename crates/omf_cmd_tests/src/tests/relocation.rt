@@ -132,7 +132,7 @@ pub fn too_far(number: u32, within: u32, cause: Cause) -> RunFault {
 }
 
 /// The first module.
-const FIRST: [&str; 6] = [HEADER, NAMES, SEGMENT, DATA, FIXUP, END];
+pub const FIRST: [&str; 6] = [HEADER, NAMES, SEGMENT, DATA, FIXUP, END];
 
 #[test]
 fn jumps_127_bytes_forward(rt: HostRuntime) -> Result<(), Fail> {

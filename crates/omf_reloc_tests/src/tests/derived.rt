@@ -2,6 +2,7 @@
 
 ghost use Rattle.std.specs.Prelude.{◌<◌, ◌≡◌, ◌^◌, length};
 
+use super::modules::{DATA, END, EXTERNAL, GROUP, HEADER, LOW, NAMES, SEGMENT};
 use super::{Place, frame, image_of, module_of, placement_of};
 use omf_check::Checked;
 use omf_image::{Image, Run};
@@ -9,30 +10,13 @@ use omf_reloc::{DeriveFault, Frame, Given, Placement, derive};
 use std::alloc::{AllocError, Global};
 use std::test::Fail;
 
-// A header, a name T, a segment T of 4 bytes, its data, and the end.
-const HEADER: [u8; 6] = [0x80, 0x03, 0x00, 0x01, 0x41, 0x3B];
-
-const NAMES: [u8; 7] = [0x96, 0x04, 0x00, 0x00, 0x01, 0x54, 0x11];
-
-const SEGMENT: [u8; 10] = [0x98, 0x07, 0x00, 0x28, 0x04, 0x00, 0x02, 0x01, 0x01, 0x31];
-
-const DATA: [u8; 11] = [
-    0xA0, 0x08, 0x00, 0x01, 0x00, 0x00, 0xB8, 0x00, 0x00, 0x90, 0x0F,
-];
-
-const END: [u8; 5] = [0x8A, 0x02, 0x00, 0x00, 0x74];
-
-// An external X, and a fixup of the data by it.
-const EXTERNAL: [u8; 7] = [0x8C, 0x04, 0x00, 0x01, 0x58, 0x00, 0x17];
-
+// A fixup of the data by the external X.
 const FIXUP: [u8; 8] = [0x9C, 0x05, 0x00, 0xC4, 0x01, 0x56, 0x01, 0x43];
 
 // A public X at offset 2 of the segment, the same in a group of the segment, and one without a segment in the frame of number B800H.
 const PUBLIC: [u8; 11] = [
     0x90, 0x08, 0x00, 0x00, 0x01, 0x01, 0x58, 0x02, 0x00, 0x00, 0x0C,
 ];
-
-const GROUP: [u8; 7] = [0x9A, 0x04, 0x00, 0x02, 0xFF, 0x01, 0x60];
 
 const GROUP_PUBLIC: [u8; 11] = [
     0x90, 0x08, 0x00, 0x01, 0x01, 0x01, 0x58, 0x02, 0x00, 0x00, 0x0B,
@@ -64,8 +48,6 @@ const FIRST: [&[u8]; 7] = [&HEADER, &NAMES, &SEGMENT, &EXTERNAL, &DATA, &FIXUP, 
 
 const SECOND: [&[u8]; 5] = [&HEADER, &NAMES, &SEGMENT, &PUBLIC, &END];
 
-const LOW: Place = (0x10020, 0x10000, 0x1000);
-
 const HIGH: Place = (0x20040, 0x20000, 0x2000);
 
 /// What becomes of external 1 of the first module.
@@ -95,7 +77,7 @@ fn modules_of(alloc: Global, modules: &[Lying]) -> Result<Vec<Checked>, Fail> {
 fn places_of(alloc: Global, modules: &[Lying]) -> Result<Vec<Placement>, Fail> {
     let mut places = Vec::new(alloc);
     for (_records, segment, groups) in modules {
-        places.push(placement_of(alloc, &[*segment], groups, &[])?)?;
+        places.push(placement_of(alloc, (&[*segment], groups, &[]))?)?;
     }
     Ok(places)
 }
@@ -221,7 +203,7 @@ const BEYOND: Place = (0xFFFF_FFFE, 0xFFFF_0000, 1);
 const TWO_PUBLICS: [&[u8]; 6] = [&HEADER, &NAMES, &SEGMENT, &PUBLIC, &PUBLIC, &END];
 
 /// What is derived by publics of segments, and faults.
-const BY_SEGMENT: [Case; 10] = [
+static BY_SEGMENT: [Case; 10] = [
     Case {
         name: "the public",
         modules: &[(&FIRST, LOW, &[]), (&SECOND, HIGH, &[])],
@@ -341,7 +323,7 @@ const WITHOUT_LOCAL: [&[u8]; 7] = [
 ];
 
 /// Another module's local public is not seen, nor is one by an external that is not local.
-const LOCAL: [Case; 4] = [
+static LOCAL: [Case; 4] = [
     Case {
         name: "a local public",
         modules: &[(&WITH_LOCAL, LOW, &[]), (&SECOND, HIGH, &[])],
@@ -388,7 +370,7 @@ const BY_BOTH: [&[u8]; 6] = [
 ];
 
 /// Frames that are given, or come of a group or of a number.
-const FRAMED: [Case; 4] = [
+static FRAMED: [Case; 4] = [
     Case {
         name: "the first place that is given",
         modules: &[

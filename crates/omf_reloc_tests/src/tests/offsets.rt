@@ -161,179 +161,240 @@ fn makes(
     }
 }
 
+/// Where the segment and the external lie, a displacement, and the bytes that are made, or why it does not reach.
+type Row = (u32, u32, u32, Result<[u8; 4], Cause>);
+
+/// The fixup with another displacement.
+fn displaced(fixing: &Fixing, displacement: u32) -> Fixing {
+    let reference = fixing.reference;
+    Fixing {
+        data: fixing.data,
+        is_wide: fixing.is_wide,
+        location: fixing.location,
+        reference: reference_by(reference.frame, reference.target, displacement),
+    }
+}
+
+/// Whether a fixup makes what a row says.
+fn makes_row(alloc: Global, fixing: &Fixing, row: &Row) -> Result<bool, Fail> {
+    let (segment, external, displacement, sum) = *row;
+    let fixing = displaced(fixing, displacement);
+    makes(alloc, &low(segment, external), &fixing, sum)
+}
+
+/// The first of these rows, by its number from 0, in which a fixup makes something else.
+fn first_wrong(alloc: Global, fixing: &Fixing, rows: &[Row]) -> Result<Option<usize>, Fail> {
+    for (at, row) in rows.iter().enumerate() {
+        if !makes_row(alloc, fixing, row)? {
+            return Ok(Some(at));
+        }
+    }
+    Ok(None)
+}
+
+/// The segment in the frame of the segment.
+const ITSELF: Reference = Reference {
+    frame: 0,
+    target: 0,
+    displacement: 0,
+};
+
+const OFFSET: Fixing = Fixing {
+    data: [0xB8, 0, 0, 0x90],
+    is_wide: false,
+    location: 0xC401,
+    reference: ITSELF,
+};
+
+static OFFSETS: [Row; 13] = [
+    (0x10020, 0, 0, Ok([0xB8, 0x20, 0, 0x90])),
+    (0x1FFFF, 0, 0, Ok([0xB8, 0xFF, 0xFF, 0x90])),
+    (0x20000, 0, 0, Err(Cause::Target)),
+    (0xFFFF, 0, 0, Err(Cause::Target)),
+    (0xFFFF, 0, 1, Ok([0xB8, 0, 0, 0x90])),
+    (0x10020, 0, 0xFFFC, Ok([0xB8, 0x1C, 0, 0x90])),
+    (0x10002, 0, 0xFFFC, Ok([0xB8, 0xFE, 0xFF, 0x90])),
+    (0x10003, 0, 0xFFFC, Ok([0xB8, 0xFF, 0xFF, 0x90])),
+    (0x10004, 0, 0xFFFC, Ok([0xB8, 0, 0, 0x90])),
+    (0x20003, 0, 0xFFFC, Ok([0xB8, 0xFF, 0xFF, 0x90])),
+    (0x20004, 0, 0xFFFC, Err(Cause::Target)),
+    (0x18001, 0, 0x7FFF, Err(Cause::Target)),
+    (0x18001, 0, 0x8000, Ok([0xB8, 1, 0, 0x90])),
+];
+
 #[test]
 fn offset_of_16_bits(rt: HostRuntime) -> Result<(), Fail> {
-    for (segment, displacement, sum) in [
-        (0x10020, 0, Ok([0xB8, 0x20, 0, 0x90])),
-        (0x1FFFF, 0, Ok([0xB8, 0xFF, 0xFF, 0x90])),
-        (0x20000, 0, Err(Cause::Target)),
-        (0xFFFF, 0, Err(Cause::Target)),
-        (0xFFFF, 1, Ok([0xB8, 0, 0, 0x90])),
-        (0x10020, 0xFFFC, Ok([0xB8, 0x1C, 0, 0x90])),
-        (0x10002, 0xFFFC, Ok([0xB8, 0xFE, 0xFF, 0x90])),
-        (0x10003, 0xFFFC, Ok([0xB8, 0xFF, 0xFF, 0x90])),
-        (0x10004, 0xFFFC, Ok([0xB8, 0, 0, 0x90])),
-        (0x20003, 0xFFFC, Ok([0xB8, 0xFF, 0xFF, 0x90])),
-        (0x20004, 0xFFFC, Err(Cause::Target)),
-        (0x18001, 0x7FFF, Err(Cause::Target)),
-        (0x18001, 0x8000, Ok([0xB8, 1, 0, 0x90])),
-    ] {
-        let fixing = Fixing {
-            data: [0xB8, 0, 0, 0x90],
-            is_wide: false,
-            location: 0xC401,
-            reference: reference_by(0, 0, displacement),
-        };
-        assert!(rt;
-            makes(rt.alloc(), &low(segment, 0), &fixing, sum)?,
-            "at {segment:X} and {displacement:X}"
-        );
-    }
+    assert_eq!(rt; first_wrong(rt.alloc(), &OFFSET, &OFFSETS)?, None);
     Ok(())
 }
+
+/// An offset of 32 bits, by a record of 32 bits or of 16.
+fn wide_offset(is_wide: bool) -> Fixing {
+    Fixing {
+        data: [0, 0, 0, 0],
+        is_wide,
+        location: 0xE400,
+        reference: ITSELF,
+    }
+}
+
+static WIDE_OFFSETS: [Row; 7] = [
+    (0x10020, 0, 0xFFFC, Ok([0x1C, 0, 1, 0])),
+    (0x10020, 0, 0xFFFF_FFFC, Ok([0x1C, 0, 0, 0])),
+    (0x10000, 0, 0xFFFF_FFFF, Ok([0xFF, 0xFF, 0xFF, 0xFF])),
+    (0x10000, 0, 0x8000_0000, Ok([0, 0, 0, 0x80])),
+    (0xFFFF_FFFF, 0, 0xFFFF_FFFF, Ok([0xFE, 0xFF, 0xFE, 0xFF])),
+    (0xFFFF_FFFF, 0, 0x7FFF_FFFF, Err(Cause::Target)),
+    (0xFFFF, 0, 0, Err(Cause::Target)),
+];
+
+static NARROW_DISPLACEMENT: [Row; 1] = [(0x10020, 0, 0xFFFC, Ok([0x1C, 0, 1, 0]))];
 
 #[test]
 fn displacement_of_32_bits(rt: HostRuntime) -> Result<(), Fail> {
-    for (is_wide, segment, displacement, sum) in [
-        (true, 0x10020, 0xFFFC, Ok([0x1C, 0, 1, 0])),
-        (false, 0x10020, 0xFFFC, Ok([0x1C, 0, 1, 0])),
-        (true, 0x10020, 0xFFFF_FFFC, Ok([0x1C, 0, 0, 0])),
-        (true, 0x10000, 0xFFFF_FFFF, Ok([0xFF, 0xFF, 0xFF, 0xFF])),
-        (true, 0x10000, 0x8000_0000, Ok([0, 0, 0, 0x80])),
-        (true, 0xFFFF_FFFF, 0xFFFF_FFFF, Ok([0xFE, 0xFF, 0xFE, 0xFF])),
-        (true, 0xFFFF_FFFF, 0x7FFF_FFFF, Err(Cause::Target)),
-        (true, 0xFFFF, 0, Err(Cause::Target)),
-    ] {
-        let fixing = Fixing {
-            data: [0, 0, 0, 0],
-            is_wide,
-            location: 0xE400,
-            reference: reference_by(0, 0, displacement),
-        };
-        assert!(rt;
-            makes(rt.alloc(), &low(segment, 0), &fixing, sum)?,
-            "at {segment:X} and {displacement:X}"
-        );
-    }
+    let (wide, narrow) = (wide_offset(true), wide_offset(false));
+    assert_eq!(rt; first_wrong(rt.alloc(), &wide, &WIDE_OFFSETS)?, None);
+    assert_eq!(rt;
+        first_wrong(rt.alloc(), &narrow, &NARROW_DISPLACEMENT)?,
+        None
+    );
     Ok(())
 }
+
+const NEAR_CALL: Fixing = Fixing {
+    data: [0xE8, 0, 0, 0x90],
+    is_wide: false,
+    location: 0x8401,
+    reference: ITSELF,
+};
+
+static NEAR_CALLS: [Row; 5] = [
+    (0x10020, 0, 0, Ok([0xE8, 0xFD, 0xFF, 0x90])),
+    (0x1FFFE, 0, 0, Ok([0xE8, 0xFD, 0xFF, 0x90])),
+    (0x1FFFF, 0, 0, Err(Cause::Location)),
+    (0x20000, 0, 0, Err(Cause::Target)),
+    (0xFFFF, 0, 0, Err(Cause::Target)),
+];
 
 #[test]
 fn near_call(rt: HostRuntime) -> Result<(), Fail> {
-    for (segment, sum) in [
-        (0x10020, Ok([0xE8, 0xFD, 0xFF, 0x90])),
-        (0x1FFFE, Ok([0xE8, 0xFD, 0xFF, 0x90])),
-        (0x1FFFF, Err(Cause::Location)),
-        (0x20000, Err(Cause::Target)),
-        (0xFFFF, Err(Cause::Target)),
-    ] {
-        let fixing = Fixing {
-            data: [0xE8, 0, 0, 0x90],
-            is_wide: false,
-            location: 0x8401,
-            reference: reference_by(0, 0, 0),
-        };
-        assert!(rt;
-            makes(rt.alloc(), &low(segment, 0), &fixing, sum)?,
-            "at {segment:X}"
-        );
-    }
+    assert_eq!(rt; first_wrong(rt.alloc(), &NEAR_CALL, &NEAR_CALLS)?, None);
     Ok(())
 }
+
+/// To the external, in its frame.
+const WIDE_CALL: Fixing = Fixing {
+    data: [0, 0, 0, 0],
+    is_wide: true,
+    location: 0xA400,
+    reference: Reference {
+        frame: 2,
+        target: 2,
+        displacement: 0,
+    },
+};
+
+static WIDE_CALLS: [Row; 4] = [
+    (0x10020, 0x10020, 0, Ok([0xFC, 0xFF, 0xFF, 0xFF])),
+    (0x10020, 0x2_0024, 0, Ok([0, 0, 1, 0])),
+    (0xFFFF, 0x10000, 0, Err(Cause::Location)),
+    (0x10020, 0xFFFF, 0, Err(Cause::Target)),
+];
 
 #[test]
 fn near_call_of_32_bits(rt: HostRuntime) -> Result<(), Fail> {
-    for (segment, external, sum) in [
-        (0x10020, 0x10020, Ok([0xFC, 0xFF, 0xFF, 0xFF])),
-        (0x10020, 0x2_0024, Ok([0, 0, 1, 0])),
-        (0xFFFF, 0x10000, Err(Cause::Location)),
-        (0x10020, 0xFFFF, Err(Cause::Target)),
-    ] {
-        let fixing = Fixing {
-            data: [0, 0, 0, 0],
-            is_wide: true,
-            location: 0xA400,
-            reference: reference_by(2, 2, 0),
-        };
-        assert!(rt;
-            makes(rt.alloc(), &low(segment, external), &fixing, sum)?,
-            "at {segment:X} to {external:X}"
-        );
-    }
+    assert_eq!(rt; first_wrong(rt.alloc(), &WIDE_CALL, &WIDE_CALLS)?, None);
     Ok(())
 }
 
+/// To the external, in the frame of the segment.
+const SHORT_JUMP: Fixing = Fixing {
+    data: [0xEB, 0, 0, 0x90],
+    is_wide: false,
+    location: 0x8001,
+    reference: Reference {
+        frame: 0,
+        target: 2,
+        displacement: 0,
+    },
+};
+
+static SHORT_JUMPS: [Row; 9] = [
+    (0x10020, 0x100A1, 0, Ok([0xEB, 0x7F, 0, 0x90])),
+    (0x10020, 0x100A2, 0, Err(Cause::Distance)),
+    (0x10200, 0x10182, 0, Ok([0xEB, 0x80, 0, 0x90])),
+    (0x10200, 0x10181, 0, Err(Cause::Distance)),
+    (0x1FFFF, 0x20000, 0, Ok([0xEB, 0xFF, 0, 0x90])),
+    (0x10020, 0x100A2, 0xFFFF, Ok([0xEB, 0x7F, 0, 0x90])),
+    (0xFFFF, 0x10021, 0, Ok([0xEB, 0x20, 0, 0x90])),
+    (0xFFFE, 0x10021, 0, Err(Cause::Location)),
+    (0xFFFE, 0xFFFF, 0, Err(Cause::Target)),
+];
+
 #[test]
 fn short_jump(rt: HostRuntime) -> Result<(), Fail> {
-    for (segment, external, displacement, sum) in [
-        (0x10020, 0x100A1, 0, Ok([0xEB, 0x7F, 0, 0x90])),
-        (0x10020, 0x100A2, 0, Err(Cause::Distance)),
-        (0x10200, 0x10182, 0, Ok([0xEB, 0x80, 0, 0x90])),
-        (0x10200, 0x10181, 0, Err(Cause::Distance)),
-        (0x1FFFF, 0x20000, 0, Ok([0xEB, 0xFF, 0, 0x90])),
-        (0x10020, 0x100A2, 0xFFFF, Ok([0xEB, 0x7F, 0, 0x90])),
-        (0xFFFF, 0x10021, 0, Ok([0xEB, 0x20, 0, 0x90])),
-        (0xFFFE, 0x10021, 0, Err(Cause::Location)),
-        (0xFFFE, 0xFFFF, 0, Err(Cause::Target)),
-    ] {
-        let fixing = Fixing {
-            data: [0xEB, 0, 0, 0x90],
-            is_wide: false,
-            location: 0x8001,
-            reference: reference_by(0, 2, displacement),
-        };
-        assert!(rt;
-            makes(rt.alloc(), &low(segment, external), &fixing, sum)?,
-            "at {segment:X} to {external:X} and {displacement:X}"
-        );
-    }
+    assert_eq!(rt; first_wrong(rt.alloc(), &SHORT_JUMP, &SHORT_JUMPS)?, None);
     Ok(())
+}
+
+/// The data, the location, the reference by its frame, its target and its displacement, and the bytes that are made.
+type Located = ([u8; 4], u16, (u8, u8, u32), [u8; 4]);
+
+/// Whether a fixup in a FIXUPP of 16 bits makes what a row says.
+fn makes_located(alloc: Global, places: &Places, row: &Located) -> Result<bool, Fail> {
+    let (data, location, (frame, target, displacement), sum) = *row;
+    let fixing = Fixing {
+        data,
+        is_wide: false,
+        location,
+        reference: reference_by(frame, target, displacement),
+    };
+    makes(alloc, places, &fixing, Ok(sum))
+}
+
+/// The first of these rows, by its number from 0, in which a fixup makes something else.
+fn first_other(alloc: Global, places: &Places, rows: &[Located]) -> Result<Option<usize>, Fail> {
+    for (at, row) in rows.iter().enumerate() {
+        if !makes_located(alloc, places, row)? {
+            return Ok(Some(at));
+        }
+    }
+    Ok(None)
 }
 
 /// A pointer whose offset carries nothing into its selector, a low and a high byte, the group's selector, and an offset that a loader
 /// resolves, in the frame of its location.
+static LOCATIONS: [Located; 5] = [
+    ([0xE0, 0xFB, 0xFF, 0xF0], 0xCC00, (0, 0, 0), [0, 0, 0xFF, 0]),
+    ([0xF0, 0, 0, 0], 0xC000, (0, 0, 0), [0x10, 0, 0, 0]),
+    ([0xB8, 0, 0, 0x90], 0xD000, (0, 0, 0), [0xBC, 0, 0, 0x90]),
+    (
+        [0xB8, 0, 0, 0x90],
+        0xC801,
+        (5, 1, 0xFFFF),
+        [0xB8, 1, 0x10, 0x90],
+    ),
+    ([0, 0, 0, 0], 0xD402, (4, 0, 0), [0, 0, 0x20, 4]),
+];
+
 #[test]
 fn other_locations(rt: HostRuntime) -> Result<(), Fail> {
-    for (data, location, reference, sum) in [
-        (
-            [0xE0, 0xFB, 0xFF, 0xF0],
-            0xCC00,
-            reference_by(0, 0, 0),
-            [0, 0, 0xFF, 0],
-        ),
-        (
-            [0xF0, 0, 0, 0],
-            0xC000,
-            reference_by(0, 0, 0),
-            [0x10, 0, 0, 0],
-        ),
-        (
-            [0xB8, 0, 0, 0x90],
-            0xD000,
-            reference_by(0, 0, 0),
-            [0xBC, 0, 0, 0x90],
-        ),
-        (
-            [0xB8, 0, 0, 0x90],
-            0xC801,
-            reference_by(5, 1, 0xFFFF),
-            [0xB8, 1, 0x10, 0x90],
-        ),
-        ([0, 0, 0, 0], 0xD402, reference_by(4, 0, 0), [0, 0, 0x20, 4]),
-    ] {
-        let fixing = Fixing {
-            data,
-            is_wide: false,
-            location,
-            reference,
-        };
-        assert!(rt;
-            makes(rt.alloc(), &low(0x10420, 0), &fixing, Ok(sum))?,
-            "at {location:X}"
-        );
-    }
+    assert_eq!(rt;
+        first_other(rt.alloc(), &low(0x10420, 0), &LOCATIONS)?,
+        None
+    );
     Ok(())
 }
+
+static METHODS: [Located; 7] = [
+    ([0, 0, 0, 0], 0xCC00, (0, 0, 0), [0x20, 4, 0, 0x10]),
+    ([0, 0, 0, 0], 0xCC00, (1, 0, 0), [0x20, 3, 0x10, 0x10]),
+    ([0, 0, 0, 0], 0xCC00, (2, 0, 0), [0x20, 4, 0, 0x10]),
+    ([0, 0, 0, 0], 0xCC00, (4, 2, 0), [0, 5, 0, 0x10]),
+    ([0, 0, 0, 0], 0xCC00, (5, 1, 0), [0, 0, 0x10, 0x10]),
+    ([0, 0, 0, 0], 0xCC00, (5, 2, 0), [0, 5, 0, 0x10]),
+    ([0, 0, 0, 0], 0xCC00, (0, 1, 0), [0, 1, 0, 0x10]),
+];
 
 #[test]
 fn frames_of_methods(rt: HostRuntime) -> Result<(), Fail> {
@@ -349,26 +410,7 @@ fn frames_of_methods(rt: HostRuntime) -> Result<(), Fail> {
         },
         external: 0x10500,
     };
-    for (frame, target, sum) in [
-        (0, 0, [0x20, 4, 0, 0x10]),
-        (1, 0, [0x20, 3, 0x10, 0x10]),
-        (2, 0, [0x20, 4, 0, 0x10]),
-        (4, 2, [0, 5, 0, 0x10]),
-        (5, 1, [0, 0, 0x10, 0x10]),
-        (5, 2, [0, 5, 0, 0x10]),
-        (0, 1, [0, 1, 0, 0x10]),
-    ] {
-        let fixing = Fixing {
-            data: [0, 0, 0, 0],
-            is_wide: false,
-            location: 0xCC00,
-            reference: reference_by(frame, target, 0),
-        };
-        assert!(rt;
-            makes(rt.alloc(), &places, &fixing, Ok(sum))?,
-            "F{frame} and T{target}"
-        );
-    }
+    assert_eq!(rt; first_other(rt.alloc(), &places, &METHODS)?, None);
     Ok(())
 }
 
@@ -402,23 +444,39 @@ fn starts_at(
     Ok(start_of(module, &placement) == wanted)
 }
 
+/// Where the segment lies, whether the MODEND is one of 32 bits, a displacement, and the start's offset, or why it does not reach.
+type Start = (u32, bool, u32, Result<u32, Cause>);
+
+/// Whether a module starts as a row says.
+fn starts_by(alloc: Global, row: &Start) -> Result<bool, Fail> {
+    let (segment, is_wide, displacement, offset) = *row;
+    let module = started_module(alloc, is_wide, reference_by(1, 0, displacement))?;
+    starts_at(alloc, &low(segment, 0), &module, offset)
+}
+
+/// The first of these rows, by its number from 0, as which a module does not start.
+fn first_elsewhere(alloc: Global, rows: &[Start]) -> Result<Option<usize>, Fail> {
+    for (at, row) in rows.iter().enumerate() {
+        if !starts_by(alloc, row)? {
+            return Ok(Some(at));
+        }
+    }
+    Ok(None)
+}
+
+static STARTS: [Start; 8] = [
+    (0x10020, false, 2, Ok(0x12)),
+    (0x2000F, false, 0, Ok(0xFFFF)),
+    (0x20010, false, 0, Err(Cause::Target)),
+    (0x20010, false, 0xFFFF, Ok(0xFFFF)),
+    (0x20010, true, 0, Ok(0x10000)),
+    (0x20010, true, 0xFFFF, Ok(0x1FFFF)),
+    (0x1000F, true, 0, Err(Cause::Target)),
+    (0x1000F, true, 1, Ok(0)),
+];
+
 #[test]
 fn starts(rt: HostRuntime) -> Result<(), Fail> {
-    for (segment, is_wide, displacement, offset) in [
-        (0x10020, false, 2, Ok(0x12)),
-        (0x2000F, false, 0, Ok(0xFFFF)),
-        (0x20010, false, 0, Err(Cause::Target)),
-        (0x20010, false, 0xFFFF, Ok(0xFFFF)),
-        (0x20010, true, 0, Ok(0x10000)),
-        (0x20010, true, 0xFFFF, Ok(0x1FFFF)),
-        (0x1000F, true, 0, Err(Cause::Target)),
-        (0x1000F, true, 1, Ok(0)),
-    ] {
-        let module = started_module(rt.alloc(), is_wide, reference_by(1, 0, displacement))?;
-        assert!(rt;
-            starts_at(rt.alloc(), &low(segment, 0), &module, offset)?,
-            "at {segment:X} and {displacement:X}"
-        );
-    }
+    assert_eq!(rt; first_elsewhere(rt.alloc(), &STARTS)?, None);
     Ok(())
 }

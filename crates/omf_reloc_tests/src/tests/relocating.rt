@@ -1,51 +1,25 @@
 //! Images and starts of modules at placements, each a case with its name.
 
-use super::{Place, image_of, module_of, placement_of, start_of};
+use super::modules::{
+    AT_THE_END, BIG, CALL, DATA, DISPLACED, END, FIRST, FIXUP, FLAT, HEADER, JUMP, LOW, NAMES,
+    SEGMENT, STARTED, THREADED,
+};
+use super::{Place, Placed, image_of, module_of, placement_of, start_of};
 use omf_image::{Image, Run};
 use omf_reloc::{Cause, Kind, ReachFault, RelocateFault, reach_and_relocate};
 use std::alloc::Global;
 use std::test::Fail;
 
-// A header, a name T, a segment T of 4 bytes, its data, a fixup of its bytes 1 and 2, and the end.
-const HEADER: [u8; 6] = [0x80, 0x03, 0x00, 0x01, 0x41, 0x3B];
+/// The offset of the first byte of a segment's one run, and the bytes of it; no bytes, and no run.
+type Laid = (u32, &'static [u8]);
 
-const NAMES: [u8; 7] = [0x96, 0x04, 0x00, 0x00, 0x01, 0x54, 0x11];
-
-const SEGMENT: [u8; 10] = [0x98, 0x07, 0x00, 0x28, 0x04, 0x00, 0x02, 0x01, 0x01, 0x31];
-
-const DATA: [u8; 11] = [
-    0xA0, 0x08, 0x00, 0x01, 0x00, 0x00, 0xB8, 0x00, 0x00, 0x90, 0x0F,
-];
-
-const FIXUP: [u8; 9] = [0x9C, 0x06, 0x00, 0xC4, 0x01, 0x04, 0x01, 0x01, 0x93];
-
-// The fixup of FIXUP with a displacement of -4.
-const FIXUP_BACK: [u8; 11] = [
-    0x9C, 0x08, 0x00, 0xC4, 0x01, 0x00, 0x01, 0x01, 0xFC, 0xFF, 0x9A,
-];
-
-const END: [u8; 5] = [0x8A, 0x02, 0x00, 0x00, 0x74];
-
-/// The one segment at 10020H, in a frame of base 10000H.
-const LOW: Place = (0x10020, 0x10000, 0x1000);
-
-/// The bytes of a segment's one run, and the offset of the first; no bytes, and no run.
-struct Laid {
-    first: u32,
-    bytes: &'static [u8],
-}
-
-/// A module by its records, the places of its segments, the bases and selectors of its groups, and the places of its externals; whether
-/// that placement reaches, and then what is laid in the segments from the first on, all that the image has, and the start.
+/// A module by its records, and what a placement makes of it: what is laid in the segments from the first on, all that the image has, and
+/// the start; nothing where it does not reach.
 struct Case {
     name: &'static str,
     records: &'static [&'static [u8]],
-    segments: &'static [Place],
-    groups: &'static [(u32, u16)],
-    externals: &'static [Place],
-    reaches: bool,
-    laid: &'static [Laid],
-    start: Option<(u16, u32)>,
+    placed: Placed<'static>,
+    wanted: Option<(&'static [Laid], Option<(u16, u32)>)>,
 }
 
 /// The first run of a segment, and whether there is a second.
@@ -70,8 +44,8 @@ fn covers(image: &Image, segment: u16, first: u32, bytes: &[u8]) -> bool {
 /// All that an image covers is this, from segment 1 on.
 fn is_image(image: &Image, laid: &[Laid]) -> bool {
     let mut segment = 1u16;
-    for laid in laid {
-        if !covers(image, segment, laid.first, laid.bytes) {
+    for (first, bytes) in laid {
+        if !covers(image, segment, *first, *bytes) {
             return false;
         }
         segment = segment.saturating_add(1);
@@ -82,14 +56,15 @@ fn is_image(image: &Image, laid: &[Laid]) -> bool {
 /// Whether the image and the start of a case are what it says, or its placement does not reach, where it says so.
 fn holds(alloc: Global, case: &Case) -> Result<bool, Fail> {
     let module = module_of(alloc, case.records)?;
-    let placement = placement_of(alloc, case.segments, case.groups, case.externals)?;
+    let placement = placement_of(alloc, case.placed)?;
     match image_of(alloc, &module, &placement)? {
-        Ok(image) => Ok(
-            case.reaches
-                && is_image(&image, case.laid)
-                && start_of(&module, &placement) == Ok(case.start),
-        ),
-        Err(_) => Ok(!case.reaches),
+        Ok(image) => Ok(match case.wanted {
+            Some((laid, start)) => {
+                is_image(&image, laid) && start_of(&module, &placement) == Ok(start)
+            }
+            None => false,
+        }),
+        Err(_) => Ok(case.wanted.is_none()),
     }
 }
 
@@ -103,19 +78,12 @@ fn first_wrong(alloc: Global, cases: &[Case]) -> Result<Option<&'static str>, Fa
     Ok(None)
 }
 
-const OFFSETS: [Case; 9] = [
+static OFFSETS: [Case; 9] = [
     Case {
         name: "an offset",
-        records: &[&HEADER, &NAMES, &SEGMENT, &DATA, &FIXUP, &END],
-        segments: &[LOW],
-        groups: &[],
-        externals: &[],
-        reaches: true,
-        laid: &[Laid {
-            first: 0,
-            bytes: &[0xB8, 0x20, 0x00, 0x90],
-        }],
-        start: None,
+        records: &FIRST,
+        placed: (&[LOW], &[], &[]),
+        wanted: Some((&[(0, &[0xB8, 0x20, 0x00, 0x90])], None)),
     },
     Case {
         name: "later data",
@@ -129,15 +97,8 @@ const OFFSETS: [Case; 9] = [
             &[0x9C, 0x06, 0x00, 0xC4, 0x00, 0x04, 0x01, 0x01, 0x94],
             &END,
         ],
-        segments: &[LOW],
-        groups: &[],
-        externals: &[],
-        reaches: true,
-        laid: &[Laid {
-            first: 0,
-            bytes: &[0xB8, 0x25, 0x00, 0x90],
-        }],
-        start: None,
+        placed: (&[LOW], &[], &[]),
+        wanted: Some((&[(0, &[0xB8, 0x25, 0x00, 0x90])], None)),
     },
     Case {
         name: "two fixups in the order of the file",
@@ -153,94 +114,51 @@ const OFFSETS: [Case; 9] = [
             ],
             &END,
         ],
-        segments: &[LOW],
-        groups: &[],
-        externals: &[],
-        reaches: true,
-        laid: &[Laid {
-            first: 0,
-            bytes: &[0x10, 0x20, 0x00, 0x00],
-        }],
-        start: None,
+        placed: (&[LOW], &[], &[]),
+        wanted: Some((&[(0, &[0x10, 0x20, 0x00, 0x00])], None)),
     },
     Case {
         name: "no displacement at the last offset",
-        records: &[&HEADER, &NAMES, &SEGMENT, &DATA, &FIXUP, &END],
-        segments: &[(0x1FFFF, 0x10000, 0x1000)],
-        groups: &[],
-        externals: &[],
-        reaches: true,
-        laid: &[Laid {
-            first: 0,
-            bytes: &[0xB8, 0xFF, 0xFF, 0x90],
-        }],
-        start: None,
+        records: &FIRST,
+        placed: (&[(0x1FFFF, 0x10000, 0x1000)], &[], &[]),
+        wanted: Some((&[(0, &[0xB8, 0xFF, 0xFF, 0x90])], None)),
     },
     Case {
         name: "no displacement past the last offset",
-        records: &[&HEADER, &NAMES, &SEGMENT, &DATA, &FIXUP, &END],
-        segments: &[(0x20000, 0x10000, 0x1000)],
-        groups: &[],
-        externals: &[],
-        reaches: false,
-        laid: &[],
-        start: None,
+        records: &FIRST,
+        placed: (&[(0x20000, 0x10000, 0x1000)], &[], &[]),
+        wanted: None,
     },
     Case {
         name: "a displacement below 0",
-        records: &[&HEADER, &NAMES, &SEGMENT, &DATA, &FIXUP_BACK, &END],
-        segments: &[LOW],
-        groups: &[],
-        externals: &[],
-        reaches: true,
-        laid: &[Laid {
-            first: 0,
-            bytes: &[0xB8, 0x1C, 0x00, 0x90],
-        }],
-        start: None,
+        records: &DISPLACED,
+        placed: (&[LOW], &[], &[]),
+        wanted: Some((&[(0, &[0xB8, 0x1C, 0x00, 0x90])], None)),
     },
     Case {
         name: "a displacement below 0 that is read as one above",
-        records: &[&HEADER, &NAMES, &SEGMENT, &DATA, &FIXUP_BACK, &END],
-        segments: &[(0x10002, 0x10000, 0x1000)],
-        groups: &[],
-        externals: &[],
-        reaches: true,
-        laid: &[Laid {
-            first: 0,
-            bytes: &[0xB8, 0xFE, 0xFF, 0x90],
-        }],
-        start: None,
+        records: &DISPLACED,
+        placed: (&[(0x10002, 0x10000, 0x1000)], &[], &[]),
+        wanted: Some((&[(0, &[0xB8, 0xFE, 0xFF, 0x90])], None)),
     },
     Case {
         name: "a displacement below 0 from past the last offset",
-        records: &[&HEADER, &NAMES, &SEGMENT, &DATA, &FIXUP_BACK, &END],
-        segments: &[(0x20003, 0x10000, 0x1000)],
-        groups: &[],
-        externals: &[],
-        reaches: true,
-        laid: &[Laid {
-            first: 0,
-            bytes: &[0xB8, 0xFF, 0xFF, 0x90],
-        }],
-        start: None,
+        records: &DISPLACED,
+        placed: (&[(0x20003, 0x10000, 0x1000)], &[], &[]),
+        wanted: Some((&[(0, &[0xB8, 0xFF, 0xFF, 0x90])], None)),
     },
     Case {
         name: "a displacement below 0 that does not reach",
-        records: &[&HEADER, &NAMES, &SEGMENT, &DATA, &FIXUP_BACK, &END],
-        segments: &[(0x20004, 0x10000, 0x1000)],
-        groups: &[],
-        externals: &[],
-        reaches: false,
-        laid: &[],
-        start: None,
+        records: &DISPLACED,
+        placed: (&[(0x20004, 0x10000, 0x1000)], &[], &[]),
+        wanted: None,
     },
 ];
 
 /// What `reach_and_relocate` answers for the module with one fixup, its segment at this place.
 fn laid_at(alloc: Global, segments: &[Place]) -> Result<Result<Image, RelocateFault>, Fail> {
-    let module = module_of(alloc, &[&HEADER, &NAMES, &SEGMENT, &DATA, &FIXUP, &END])?;
-    let placement = placement_of(alloc, segments, &[], &[])?;
+    let module = module_of(alloc, &FIRST)?;
+    let placement = placement_of(alloc, (segments, &[], &[]))?;
     Ok(reach_and_relocate(alloc, &module, &placement))
 }
 
@@ -287,82 +205,30 @@ fn adds_offsets(rt: HostRuntime) -> Result<(), Fail> {
     Ok(())
 }
 
-const PARTS: [Case; 6] = [
+static PARTS: [Case; 6] = [
     Case {
         name: "a distance",
-        records: &[
-            &HEADER,
-            &NAMES,
-            &SEGMENT,
-            &[
-                0xA0, 0x08, 0x00, 0x01, 0x00, 0x00, 0xE8, 0x00, 0x00, 0x90, 0xDF,
-            ],
-            &[0x9C, 0x06, 0x00, 0x84, 0x01, 0x04, 0x01, 0x01, 0xD3],
-            &END,
-        ],
-        segments: &[LOW],
-        groups: &[],
-        externals: &[],
-        reaches: true,
-        laid: &[Laid {
-            first: 0,
-            bytes: &[0xE8, 0xFD, 0xFF, 0x90],
-        }],
-        start: None,
+        records: &CALL,
+        placed: (&[LOW], &[], &[]),
+        wanted: Some((&[(0, &[0xE8, 0xFD, 0xFF, 0x90])], None)),
     },
     Case {
         name: "a short distance",
-        records: &[
-            &HEADER,
-            &NAMES,
-            &SEGMENT,
-            &[0x8C, 0x04, 0x00, 0x01, 0x58, 0x00, 0x17],
-            &[
-                0xA0, 0x08, 0x00, 0x01, 0x00, 0x00, 0xEB, 0x00, 0x00, 0x90, 0xDC,
-            ],
-            &[0x9C, 0x06, 0x00, 0x80, 0x01, 0x06, 0x01, 0x01, 0xD5],
-            &END,
-        ],
-        segments: &[LOW],
-        groups: &[],
-        externals: &[(0x100A1, 0x10000, 0x1000)],
-        reaches: true,
-        laid: &[Laid {
-            first: 0,
-            bytes: &[0xEB, 0x7F, 0x00, 0x90],
-        }],
-        start: None,
+        records: &JUMP,
+        placed: (&[LOW], &[], &[(0x100A1, 0x10000, 0x1000)]),
+        wanted: Some((&[(0, &[0xEB, 0x7F, 0x00, 0x90])], None)),
     },
     Case {
         name: "flat offsets",
-        records: &[
-            &HEADER,
-            &[
-                0x96, 0x09, 0x00, 0x00, 0x01, 0x54, 0x04, 0x46, 0x4C, 0x41, 0x54, 0xE1,
-            ],
-            &[
-                0x99, 0x09, 0x00, 0xA9, 0x0A, 0x00, 0x00, 0x00, 0x02, 0x01, 0x01, 0xA7,
-            ],
-            &[0x9A, 0x02, 0x00, 0x03, 0x61],
-            &[
-                0xA1, 0x10, 0x00, 0x01, 0x00, 0x00, 0x00, 0x00, 0x00, 0x00, 0x00, 0x00, 0x00, 0x00,
-                0x00, 0x00, 0x00, 0x00, 0x4E,
-            ],
-            &[
-                0x9D, 0x0F, 0x00, 0xEC, 0x00, 0x14, 0x01, 0x01, 0xE4, 0x06, 0x10, 0x01, 0x01, 0x04,
-                0x00, 0x00, 0x00, 0x52,
-            ],
-            &END,
-        ],
-        segments: &[(0x40_1000, 0, 0x1B)],
-        groups: &[(0, 0x23)],
-        externals: &[],
-        reaches: true,
-        laid: &[Laid {
-            first: 0,
-            bytes: &[0x00, 0x10, 0x40, 0x00, 0x23, 0x00, 0x04, 0x10, 0x40, 0x00],
-        }],
-        start: None,
+        records: &FLAT,
+        placed: (&[(0x40_1000, 0, 0x1B)], &[(0, 0x23)], &[]),
+        wanted: Some((
+            &[(
+                0,
+                &[0x00, 0x10, 0x40, 0x00, 0x23, 0x00, 0x04, 0x10, 0x40, 0x00],
+            )],
+            None,
+        )),
     },
     Case {
         name: "a pointer",
@@ -374,15 +240,8 @@ const PARTS: [Case; 6] = [
             &[0x9C, 0x06, 0x00, 0xCC, 0x00, 0x04, 0x01, 0x01, 0x8C],
             &END,
         ],
-        segments: &[LOW],
-        groups: &[],
-        externals: &[],
-        reaches: true,
-        laid: &[Laid {
-            first: 0,
-            bytes: &[0xD8, 0x00, 0x00, 0xA0],
-        }],
-        start: None,
+        placed: (&[LOW], &[], &[]),
+        wanted: Some((&[(0, &[0xD8, 0x00, 0x00, 0xA0])], None)),
     },
     Case {
         name: "a high byte",
@@ -394,15 +253,8 @@ const PARTS: [Case; 6] = [
             &[0x9C, 0x06, 0x00, 0xD0, 0x00, 0x04, 0x01, 0x01, 0x88],
             &END,
         ],
-        segments: &[(0x10420, 0x10000, 0x1000)],
-        groups: &[],
-        externals: &[],
-        reaches: true,
-        laid: &[Laid {
-            first: 0,
-            bytes: &[0xBC, 0x00, 0x00, 0x90],
-        }],
-        start: None,
+        placed: (&[(0x10420, 0x10000, 0x1000)], &[], &[]),
+        wanted: Some((&[(0, &[0xBC, 0x00, 0x00, 0x90])], None)),
     },
     Case {
         name: "the selector of a group",
@@ -415,15 +267,8 @@ const PARTS: [Case; 6] = [
             &[0x9C, 0x05, 0x00, 0xC8, 0x01, 0x55, 0x01, 0x40],
             &END,
         ],
-        segments: &[LOW],
-        groups: &[(0x10010, 0x1001)],
-        externals: &[],
-        reaches: true,
-        laid: &[Laid {
-            first: 0,
-            bytes: &[0xB8, 0x01, 0x10, 0x90],
-        }],
-        start: None,
+        placed: (&[LOW], &[(0x10010, 0x1001)], &[]),
+        wanted: Some((&[(0, &[0xB8, 0x01, 0x10, 0x90])], None)),
     },
 ];
 
@@ -433,7 +278,7 @@ fn adds_to_other_parts(rt: HostRuntime) -> Result<(), Fail> {
     Ok(())
 }
 
-const DATA_LAID: [Case; 5] = [
+static DATA_LAID: [Case; 5] = [
     Case {
         name: "repeated blocks",
         records: &[
@@ -446,17 +291,16 @@ const DATA_LAID: [Case; 5] = [
             ],
             &END,
         ],
-        segments: &[LOW],
-        groups: &[],
-        externals: &[],
-        reaches: true,
-        laid: &[Laid {
-            first: 0,
-            bytes: &[
-                0xAA, 0xAA, 0xBB, 0xCC, 0xAA, 0xAA, 0xBB, 0xCC, 0xAA, 0xAA, 0xBB, 0xCC,
-            ],
-        }],
-        start: None,
+        placed: (&[LOW], &[], &[]),
+        wanted: Some((
+            &[(
+                0,
+                &[
+                    0xAA, 0xAA, 0xBB, 0xCC, 0xAA, 0xAA, 0xBB, 0xCC, 0xAA, 0xAA, 0xBB, 0xCC,
+                ],
+            )],
+            None,
+        )),
     },
     Case {
         name: "no bytes of a count of 0",
@@ -470,51 +314,20 @@ const DATA_LAID: [Case; 5] = [
             ],
             &END,
         ],
-        segments: &[LOW],
-        groups: &[],
-        externals: &[],
-        reaches: true,
-        laid: &[],
-        start: None,
+        placed: (&[LOW], &[], &[]),
+        wanted: Some((&[], None)),
     },
     Case {
         name: "a fixup of the last bytes",
-        records: &[
-            &HEADER,
-            &NAMES,
-            &SEGMENT,
-            &DATA,
-            &[0x9C, 0x06, 0x00, 0xC4, 0x02, 0x04, 0x01, 0x01, 0x92],
-            &END,
-        ],
-        segments: &[LOW],
-        groups: &[],
-        externals: &[],
-        reaches: true,
-        laid: &[Laid {
-            first: 0,
-            bytes: &[0xB8, 0x00, 0x20, 0x90],
-        }],
-        start: None,
+        records: &AT_THE_END,
+        placed: (&[LOW], &[], &[]),
+        wanted: Some((&[(0, &[0xB8, 0x00, 0x20, 0x90])], None)),
     },
     Case {
         name: "the last bytes of a segment",
-        records: &[
-            &HEADER,
-            &NAMES,
-            &[0x98, 0x07, 0x00, 0x2A, 0x00, 0x00, 0x02, 0x01, 0x01, 0x33],
-            &[0xA0, 0x06, 0x00, 0x01, 0xFE, 0xFF, 0xAB, 0xCD, 0xE4],
-            &END,
-        ],
-        segments: &[LOW],
-        groups: &[],
-        externals: &[],
-        reaches: true,
-        laid: &[Laid {
-            first: 0xFFFE,
-            bytes: &[0xAB, 0xCD],
-        }],
-        start: None,
+        records: &BIG,
+        placed: (&[LOW], &[], &[]),
+        wanted: Some((&[(0xFFFE, &[0xAB, 0xCD])], None)),
     },
     Case {
         name: "an absolute segment",
@@ -528,15 +341,8 @@ const DATA_LAID: [Case; 5] = [
             &FIXUP,
             &END,
         ],
-        segments: &[(0xB8000, 0xB8000, 0xB800)],
-        groups: &[],
-        externals: &[],
-        reaches: true,
-        laid: &[Laid {
-            first: 0,
-            bytes: &[0xB8, 0x00, 0x00, 0x90],
-        }],
-        start: None,
+        placed: (&[(0xB8000, 0xB8000, 0xB800)], &[], &[]),
+        wanted: Some((&[(0, &[0xB8, 0x00, 0x00, 0x90])], None)),
     },
 ];
 
@@ -546,40 +352,12 @@ fn lays_data(rt: HostRuntime) -> Result<(), Fail> {
     Ok(())
 }
 
-const THREADS: [Case; 2] = [
+static THREADS: [Case; 2] = [
     Case {
         name: "threads across records",
-        records: &[
-            &HEADER,
-            &NAMES,
-            &SEGMENT,
-            &[0x98, 0x07, 0x00, 0x28, 0x02, 0x00, 0x02, 0x01, 0x01, 0x33],
-            &[
-                0xA0, 0x08, 0x00, 0x01, 0x00, 0x00, 0x00, 0x00, 0x00, 0x00, 0x57,
-            ],
-            &[
-                0x9C, 0x09, 0x00, 0x50, 0x00, 0x01, 0xC4, 0x00, 0x8C, 0x00, 0x02, 0xB8,
-            ],
-            &[0x9C, 0x04, 0x00, 0xC4, 0x02, 0x8C, 0x0E],
-            &[0xA0, 0x06, 0x00, 0x02, 0x00, 0x00, 0x00, 0x00, 0x58],
-            &[0x9C, 0x04, 0x00, 0xC4, 0x00, 0x8C, 0x10],
-            &END,
-        ],
-        segments: &[(0x20, 0x10, 1), (0x50, 0x40, 4)],
-        groups: &[],
-        externals: &[],
-        reaches: true,
-        laid: &[
-            Laid {
-                first: 0,
-                bytes: &[0x10, 0x00, 0x40, 0x00],
-            },
-            Laid {
-                first: 0,
-                bytes: &[0x10, 0x00],
-            },
-        ],
-        start: None,
+        records: &THREADED,
+        placed: (&[(0x20, 0x10, 1), (0x50, 0x40, 4)], &[], &[]),
+        wanted: Some((&[(0, &[0x10, 0x00, 0x40, 0x00]), (0, &[0x10, 0x00])], None)),
     },
     Case {
         name: "a thread of a segment that is defined before its use",
@@ -593,15 +371,8 @@ const THREADS: [Case; 2] = [
             &[0x9C, 0x05, 0x00, 0xC4, 0x01, 0x0D, 0x01, 0x8C],
             &END,
         ],
-        segments: &[LOW, (0x10040, 0x10000, 0x1000)],
-        groups: &[],
-        externals: &[],
-        reaches: true,
-        laid: &[Laid {
-            first: 0,
-            bytes: &[0xB8, 0x40, 0x00, 0x90],
-        }],
-        start: None,
+        placed: (&[LOW, (0x10040, 0x10000, 0x1000)], &[], &[]),
+        wanted: Some((&[(0, &[0xB8, 0x40, 0x00, 0x90])], None)),
     },
 ];
 
@@ -611,40 +382,18 @@ fn holds_threads(rt: HostRuntime) -> Result<(), Fail> {
     Ok(())
 }
 
-const STARTS: [Case; 3] = [
+static STARTS: [Case; 3] = [
     Case {
         name: "a start in the frame of a group",
-        records: &[
-            &HEADER,
-            &NAMES,
-            &SEGMENT,
-            &[0x9A, 0x04, 0x00, 0x02, 0xFF, 0x01, 0x60],
-            &[0x9C, 0x03, 0x00, 0x46, 0x01, 0x1A],
-            &[0x8A, 0x06, 0x00, 0xC1, 0xA0, 0x01, 0x02, 0x00, 0x0C],
-        ],
-        segments: &[LOW],
-        groups: &[(0x10010, 0x1001)],
-        externals: &[],
-        reaches: true,
-        laid: &[],
-        start: Some((0x1001, 0x12)),
+        records: &STARTED,
+        placed: (&[LOW], &[(0x10010, 0x1001)], &[]),
+        wanted: Some((&[], Some((0x1001, 0x12)))),
     },
     Case {
         name: "a start in a frame that begins at its segment",
-        records: &[
-            &HEADER,
-            &NAMES,
-            &SEGMENT,
-            &[0x9A, 0x04, 0x00, 0x02, 0xFF, 0x01, 0x60],
-            &[0x9C, 0x03, 0x00, 0x46, 0x01, 0x1A],
-            &[0x8A, 0x06, 0x00, 0xC1, 0xA0, 0x01, 0x02, 0x00, 0x0C],
-        ],
-        segments: &[(0x10020, 0x10020, 0x1002)],
-        groups: &[(0x10020, 0x1002)],
-        externals: &[],
-        reaches: true,
-        laid: &[],
-        start: Some((0x1002, 2)),
+        records: &STARTED,
+        placed: (&[(0x10020, 0x10020, 0x1002)], &[(0x10020, 0x1002)], &[]),
+        wanted: Some((&[], Some((0x1002, 2)))),
     },
     Case {
         name: "a start by the last threads",
@@ -657,12 +406,8 @@ const STARTS: [Case; 3] = [
             &[0x9C, 0x03, 0x00, 0x00, 0x02, 0x5F],
             &[0x8A, 0x05, 0x00, 0xC1, 0x58, 0x03, 0x00, 0x55],
         ],
-        segments: &[LOW, (0x20040, 0x20000, 0x2000)],
-        groups: &[],
-        externals: &[],
-        reaches: true,
-        laid: &[],
-        start: Some((0x2000, 0x43)),
+        placed: (&[LOW, (0x20040, 0x20000, 0x2000)], &[], &[]),
+        wanted: Some((&[], Some((0x2000, 0x43)))),
     },
 ];
 

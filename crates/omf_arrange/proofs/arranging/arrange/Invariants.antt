@@ -2,7 +2,7 @@ use Rattle.std.proofs.Common.{◌≡◌, ◌≤◌, ◌^◌, drop}
 use Rattle.std.specs.Prelude.{map}
 use Rattle.omf_layout.specs.Layout.{and_then_more}
 use Rattle.omf_arrange.specs.Laying.{arranged, runs_laid}
-use Rattle.omf_arrange.specs.Portions.{typed_modules}
+use Rattle.omf_check.specs.Module.{typed_modules}
 use Rattle.omf_arrange.proofs.arranging.arrange.Given as goal
 
 -- the runs so far are laid, and the others are laid behind them

@@ -1,5 +1,5 @@
 use Rattle.std.proofs.Common.{◌≡◌, ap, sym, subst, ◌∙◌, rules}
-use Rattle.omf_records.specs.Seen.{map_ok}
+use Rattle.omf_records.specs.Inner.Seen.{map_ok}
 use Rattle.omf_layout.specs.Layout.{IsAnswer, and_then_more, all_laid}
 use Rattle.omf_arrange.specs.Laying.{laid, and_then_behind, joined_laid, common_laid, alone_laid, run_laid}
 use Rattle.omf_arrange.specs.Order.{combined_by}

@@ -1,7 +1,7 @@
 use Rattle.std.proofs.Common.{◌≡◌, ◌++◌, drop}
 use Rattle.std.specs.Prelude.{map, flat_map}
 use Rattle.omf_arrange.specs.Order.{in_order, order, place_of}
-use Rattle.omf_arrange.specs.Portions.{typed_modules}
+use Rattle.omf_check.specs.Module.{typed_modules}
 use Rattle.omf_arrange.proofs.order.order_of.Given as goal
 
 -- the places of the runs so far, and of those that are left

@@ -2,7 +2,7 @@ use Rattle.std.proofs.Common.{◌≡◌, ◌++◌, drop}
 use Rattle.std.specs.Prelude.{map}
 use Rattle.std.specs.List.{enumerate_from}
 use Rattle.omf_arrange.specs.Placing.{all_segments_in, segments_in}
-use Rattle.omf_arrange.specs.Portions.{typed_modules}
+use Rattle.omf_check.specs.Module.{typed_modules}
 use Rattle.omf_arrange.proofs.places.segments_of.Given as goal
 
 -- the places of the modules so far, and of those that are left

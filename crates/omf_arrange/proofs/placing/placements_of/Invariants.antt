@@ -3,7 +3,8 @@ use Rattle.std.specs.Prelude.{map, zip}
 use Rattle.std.specs.Vec.Iter.{into_iter_items}
 use Rattle.omf_placement.specs.declared.frame.Placed.{Placed}
 use Rattle.omf_arrange.specs.Placing.{IsLowTable, with_frames}
-use Rattle.omf_arrange.specs.Portions.{Named, typed_modules}
+use Rattle.omf_arrange.specs.Portions.{Named}
+use Rattle.omf_check.specs.Module.{typed_modules}
 use Rattle.omf_arrange.proofs.placing.placements_of.Given as goal
 
 -- the places so far, and those that are left

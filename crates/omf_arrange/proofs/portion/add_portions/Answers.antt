@@ -4,7 +4,8 @@ use Rattle.omf_check.specs.Module.{records_in}
 use Rattle.omf_check.specs.Tables.{segments}
 use Rattle.omf_check.specs.WellFormed.{recs}
 use Rattle.omf_layout.proofs.TableLaws.{entry-at}
-use Rattle.omf_arrange.specs.Portions.{attributes, classed, name_at, portion, with_names}
+use Rattle.omf_layout.specs.Wants.{attributes}
+use Rattle.omf_arrange.specs.Portions.{classed, name_at, portion, with_names}
 use Rattle.omf_arrange.proofs.PortionLaws.{next-numbered, none-numbered, more-mapped, all-mapped}
 use Rattle.omf_arrange.proofs.portion.add_portions.Goals as goal
 

@@ -4,7 +4,8 @@ use Rattle.std.specs.List.{zip, enumerate_from}
 use Rattle.omf_check.specs.Module.{records_in}
 use Rattle.omf_check.specs.Tables.{segments}
 use Rattle.omf_check.specs.WellFormed.{recs}
-use Rattle.omf_arrange.specs.Portions.{attributes, classed, portions_in, with_names}
+use Rattle.omf_layout.specs.Wants.{attributes}
+use Rattle.omf_arrange.specs.Portions.{classed, portions_in, with_names}
 use Rattle.omf_arrange.proofs.portion.add_portions.Given as goal
 
 -- the segments so far, and those that are left

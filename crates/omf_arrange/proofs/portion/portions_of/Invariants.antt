@@ -1,7 +1,8 @@
 use Rattle.std.proofs.Common.{◌≡◌, ◌++◌, drop}
 use Rattle.std.specs.Prelude.{map, flat_map}
 use Rattle.std.specs.List.{enumerate_from}
-use Rattle.omf_arrange.specs.Portions.{portions, portions_in, typed_modules, with_names}
+use Rattle.omf_arrange.specs.Portions.{portions, portions_in, with_names}
+use Rattle.omf_check.specs.Module.{typed_modules}
 use Rattle.omf_arrange.proofs.portion.portions_of.Given as goal
 
 -- the segments of the modules so far, and of those that are left

@@ -1,6 +1,6 @@
 use Rattle.std.proofs.Common.{◌∙◌, ap}
 use Rattle.omf_frame.specs.Framing.{front_record, present}
-use Rattle.omf_records.specs.Reading.{typed}
+use Rattle.omf_records.specs.Inner.Reading.{typed}
 use Rattle.omf_check.proofs.checked.group_at.Goals as goal
 
 pub returns : goal.returns

@@ -1,5 +1,5 @@
 use Rattle.omf_frame.specs.Framing.{front_record, present}
-use Rattle.omf_records.specs.Seen.{contents_seen, kind_seen}
+use Rattle.omf_records.specs.Inner.Seen.{contents_seen, kind_seen}
 use Rattle.omf_check.proofs.ListedLaws.{front_of, well_read, rec_is, front_taken, front_short}
 use Rattle.omf_check.proofs.records.first_record.Goals as goal
 

@@ -1,7 +1,7 @@
 use Rattle.std.proofs.Common.{length, sym, ◌∙◌}
 use Rattle.std.proofs.lemmas.Bool.{eqb-true}
 use Rattle.std.proofs.lemmas.List.{nil_from_length}
-use Rattle.omf_records.specs.Seen.{rec_seen}
+use Rattle.omf_records.specs.Inner.Seen.{rec_seen}
 use Rattle.omf_check.proofs.LastLaws.{left-first, left-starts, left-next, left-less, left-last}
 use Rattle.omf_check.proofs.ListedLaws.{not_empty}
 use Rattle.omf_check.proofs.records.last_record.Goals as goal

@@ -1,6 +1,6 @@
 use Rattle.std.proofs.Common.{◌∙◌, ap}
 use Rattle.omf_frame.specs.declared.fault.Reason.TheVariants.{UndefinedSegment}
-use Rattle.omf_check.specs.Judging.{lesser, entry_fault, members_fault}
+use Rattle.omf_check.specs.Inner.Judging.{lesser, entry_fault, members_fault}
 use Rattle.omf_check.proofs.Lesser.{lesser_more}
 use Rattle.omf_check.proofs.rule.members_fault.Goals as goal
 

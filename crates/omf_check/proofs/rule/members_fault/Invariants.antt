@@ -1,5 +1,5 @@
 use Rattle.std.proofs.Common.{◌≡◌}
-use Rattle.omf_check.specs.Judging.{lesser, members_fault}
+use Rattle.omf_check.specs.Inner.Judging.{lesser, members_fault}
 use Rattle.omf_check.proofs.rule.members_fault.Given as goal
 
 -- what is found, and the fault of those to come

@@ -1,7 +1,7 @@
 use Rattle.std.proofs.Common.{◌∙◌, ap}
 use Rattle.std.specs.Prelude.{nat_lt}
 use Rattle.omf_frame.specs.declared.fault.Reason.TheVariants.{TooMany}
-use Rattle.omf_check.specs.Judging.{fault_unless}
+use Rattle.omf_check.specs.Inner.Judging.{fault_unless}
 use Rattle.omf_check.specs.Rules.{places}
 use Rattle.omf_check.proofs.Lesser.{room_more}
 use Rattle.omf_check.proofs.rule.room_fault.Goals as goal

@@ -1,5 +1,5 @@
 use Rattle.std.proofs.Common.{◌≡◌}
-use Rattle.omf_check.specs.Judging.{lesser, room_fault}
+use Rattle.omf_check.specs.Inner.Judging.{lesser, room_fault}
 use Rattle.omf_check.specs.Rules.{places}
 use Rattle.omf_check.proofs.rule.room_fault.Given as goal
 

@@ -1,6 +1,6 @@
 use Rattle.std.proofs.Common.{sym, subst, arith}
 use Rattle.std.proofs.lemmas.Result.{err_from_is_err_and}
-use Rattle.omf_check.specs.Session.{Fails}
+use Rattle.omf_check.specs.Inner.Passing.{Fails}
 use Rattle.omf_check.proofs.Advancing.{framer_fails, take_fails, start_low, number_low, part_lacks, record_lacks, none_passed, record_passed}
 use Rattle.omf_check.proofs.session.advance.Goals as goal
 

@@ -1,7 +1,8 @@
 use Rattle.std.proofs.Common.{◌≡◌, ◌+◌, ◌++◌, length}
 use Rattle.omf_cmd.specs.Relocated.{place_text}
-use Rattle.omf_cmd.specs.RunLines.{lines_of}
-use Rattle.omf_cmd.specs.Runs.{IsUnbroken, IsWrittenUpTo}
+use Rattle.omf_cmd.specs.Inner.RunLines.{lines_of}
+use Rattle.omf_cmd.specs.Runs.{IsUnbroken}
+use Rattle.omf_cmd.specs.Inner.Printing.{IsWrittenUpTo}
 use Rattle.omf_cmd.proofs.image_text.print_run.Given as goal
 
 -- what is kept, and the lines of what is left, are still to be written

@@ -1,11 +1,12 @@
 use Rattle.std.proofs.Common.{◌+◌, ◌-◌, ◌++◌}
 use Rattle.std.specs.Prelude.{flat_map}
 use Rattle.std.specs.List.{range_with_len}
-use Rattle.omf_image.specs.Joined.{runs_of}
+use Rattle.omf_image.specs.Inner.Joined.{runs_of}
 use Rattle.omf_image.specs.Overlay.{byte_at}
 use Rattle.omf_cmd.specs.Relocated.{place_text, run_lines}
-use Rattle.omf_cmd.specs.RunLines.{segments_text}
-use Rattle.omf_cmd.specs.Runs.{IsUnbroken, IsWrittenUpTo}
+use Rattle.omf_cmd.specs.Inner.RunLines.{segments_text}
+use Rattle.omf_cmd.specs.Runs.{IsUnbroken}
+use Rattle.omf_cmd.specs.Inner.Printing.{IsWrittenUpTo}
 use Rattle.omf_cmd.proofs.image_text.print_segments.Given as goal
 
 -- what is kept, and the segments that are left, are still to be written

@@ -1,6 +1,6 @@
 use Rattle.std.proofs.Common.{◌≡◌, ◌++◌, ◌∷◌, take}
 use Rattle.std.specs.Prelude.{flat_map}
-use Rattle.omf_cmd.specs.Printed.{escaped}
+use Rattle.omf_placement.specs.Quoted.{escaped}
 use Rattle.omf_cmd.proofs.printing.print_quoted.Given as goal
 
 -- the quote and the bytes so far

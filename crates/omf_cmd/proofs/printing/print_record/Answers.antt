@@ -1,6 +1,7 @@
 use Rattle.std.proofs.Common.{◌≡◌, ◌++◌, ◌∷◌, [], List, ℕ, subst}
 use Rattle.std.specs.Prelude.{OnOk, codes, decimal}
-use Rattle.omf_cmd.specs.Printed.{hex, line}
+use Rattle.omf_cmd.specs.Printed.{line}
+use Rattle.omf_placement.specs.Quoted.{hex}
 use Rattle.omf_cmd.proofs.printing.print_record.Goals as goal
 
 pub returns : goal.returns

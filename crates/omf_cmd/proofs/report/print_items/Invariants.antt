@@ -1,7 +1,9 @@
 use Rattle.std.proofs.Common.{◌++◌, ◌∷◌, []}
 use Rattle.std.specs.Prelude.{flat_map, codes}
-use Rattle.omf_cmd.specs.Printed.{hex, line, quoted, index_or_dash}
-use Rattle.omf_cmd.specs.Runs.{IsUnbroken, IsWrittenUpTo}
+use Rattle.omf_cmd.specs.Printed.{line, index_or_dash}
+use Rattle.omf_placement.specs.Quoted.{hex, quoted}
+use Rattle.omf_cmd.specs.Runs.{IsUnbroken}
+use Rattle.omf_cmd.specs.Inner.Printing.{IsWrittenUpTo}
 use Rattle.omf_cmd.proofs.report.print_items.Given as goal
 
 -- what is kept, and the public names that are left, are still to be written

@@ -2,7 +2,8 @@ use Rattle.std.proofs.Common.{◌++◌, ap, subst, List, ℕ}
 use Rattle.std.proofs.lemmas.Result.{err_from_is_err_and}
 use Rattle.omf_check.specs.Module.{records_in}
 use Rattle.omf_cmd.specs.Listing.{list_text}
-use Rattle.omf_cmd.specs.Runs.{IsPart, IsWrittenUpTo}
+use Rattle.omf_cmd.specs.Runs.{IsPart}
+use Rattle.omf_cmd.specs.Inner.Printing.{IsWrittenUpTo}
 use Rattle.omf_cmd.proofs.Pieces.{cause_later, part_printed, rest_printed}
 use Rattle.omf_cmd.proofs.report.print_list.Goals as goal
 

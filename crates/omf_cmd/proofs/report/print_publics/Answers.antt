@@ -3,11 +3,11 @@ use Rattle.std.proofs.lemmas.List.{append-nil}
 use Rattle.std.proofs.lemmas.Result.{err_from_is_err_and}
 use Rattle.std.specs.Prelude.{flat_map, List, ℕ}
 use Rattle.omf_frame.specs.declared.fault.Place.{Place}
-use Rattle.omf_records.specs.Seen.{contents_seen}
+use Rattle.omf_records.specs.Inner.Seen.{contents_seen}
 use Rattle.omf_records.specs.Values.{Rec}
 use Rattle.omf_check.specs.Module.{records_in}
 use Rattle.omf_cmd.specs.Listing.{public_lines}
-use Rattle.omf_cmd.specs.Runs.{IsWrittenUpTo, Passes}
+use Rattle.omf_cmd.specs.Inner.Printing.{IsWrittenUpTo, Passes}
 use Rattle.omf_cmd.proofs.Pieces.{cause_later, stopped_by, unbroken_on, went_on}
 use Rattle.omf_cmd.proofs.Reported.{item_due, placed_lines}
 use Rattle.omf_cmd.proofs.report.print_publics.Goals as goal

@@ -5,7 +5,8 @@ use Rattle.omf_records.specs.Values.{Rec}
 use Rattle.omf_check.specs.Listed.{placed_from}
 use Rattle.omf_check.specs.Module.{records_in}
 use Rattle.omf_cmd.specs.Listing.{public_lines}
-use Rattle.omf_cmd.specs.Runs.{IsUnbroken, IsWrittenUpTo}
+use Rattle.omf_cmd.specs.Runs.{IsUnbroken}
+use Rattle.omf_cmd.specs.Inner.Printing.{IsWrittenUpTo}
 use Rattle.omf_cmd.proofs.report.print_publics.Given as goal
 
 -- what is kept, and the public names of the records that are left, are still to be written

@@ -1,10 +1,10 @@
 use Rattle.std.proofs.Common.{◌++◌, ap, subst, sym, ◌∙◌, Err}
 use Rattle.std.proofs.lemmas.Result.{err_from_is_err_and}
 use Rattle.omf_frame.specs.declared.fault.Place.{Place}
-use Rattle.omf_records.specs.Seen.{rec_seen}
+use Rattle.omf_records.specs.Inner.Seen.{rec_seen}
 use Rattle.omf_records.specs.Values.{Rec}
 use Rattle.omf_check.specs.Module.{records_in}
-use Rattle.omf_cmd.specs.Standing.{StandsAt}
+use Rattle.omf_cmd.specs.Inner.Standing.{StandsAt}
 use Rattle.omf_cmd.proofs.Pieces.{cause_later, halted, unbroken_on}
 use Rattle.omf_cmd.proofs.Reported.{next_of, stands, line_of, line_stopped, more_written, none_yet, all_written}
 use Rattle.omf_cmd.proofs.RunLaws.{still}

@@ -3,7 +3,8 @@ use Rattle.omf_check.specs.Module.{records_in}
 use Rattle.omf_check.specs.Tables.{segments}
 use Rattle.omf_check.specs.WellFormed.{recs}
 use Rattle.omf_cmd.specs.Listing.{segment_line}
-use Rattle.omf_cmd.specs.Runs.{IsUnbroken, IsWrittenUpTo}
+use Rattle.omf_cmd.specs.Runs.{IsUnbroken}
+use Rattle.omf_cmd.specs.Inner.Printing.{IsWrittenUpTo}
 use Rattle.omf_cmd.proofs.Reported.{lines_from}
 use Rattle.omf_cmd.proofs.report.print_segments.Given as goal
 

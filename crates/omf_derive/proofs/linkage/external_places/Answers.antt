@@ -1,10 +1,11 @@
 use Rattle.std.proofs.Common.{rules, ◌≡◌, ◌∙◌, ap, ap₂, sym, arith, false}
 use Rattle.std.specs.Prelude.{Some, Ok, Err, unwrap_or}
-use Rattle.omf_records.specs.Seen.{map_ok}
+use Rattle.omf_records.specs.Inner.Seen.{map_ok}
 use Rattle.omf_check.specs.Module.{records_in}
 use Rattle.omf_check.specs.Tables.{locals, entry}
 use Rattle.omf_check.specs.WellFormed.{recs}
-use Rattle.omf_derive.specs.Derive.{named_externals, external_place, external_places}
+use Rattle.omf_derive.specs.Derive.{named_externals}
+use Rattle.omf_derive.specs.Inner.Derived.{external_place, external_places}
 use Rattle.omf_derive.proofs.LinkageLaws.{one-placed, one-fails, all-placed, err-found}
 use Rattle.omf_derive.proofs.NamedLaws.{named-entry}
 use Rattle.omf_derive.proofs.linkage.external_places.Goals as goal

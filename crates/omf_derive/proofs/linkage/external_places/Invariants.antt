@@ -4,8 +4,8 @@ use Rattle.omf_check.specs.Tables.{externals}
 use Rattle.omf_check.specs.WellFormed.{recs}
 use Rattle.omf_derive.specs.declared.given.Given.{Given}
 use Rattle.omf_derive.specs.Derive.{PlacedPublic}
-use Rattle.omf_derive.specs.GivenTable.{IsGivenTable}
-use Rattle.omf_derive.specs.PublicTable.{IsTable}
+use Rattle.omf_derive.specs.Inner.GivenTable.{IsGivenTable}
+use Rattle.omf_derive.specs.Inner.PublicTable.{IsTable}
 use Rattle.omf_derive.proofs.LinkageLaws.{IsSoFar}
 use Rattle.omf_derive.proofs.linkage.external_places.Given as goal
 

@@ -3,12 +3,11 @@ use Rattle.std.specs.Prelude.{string_bytes}
 use Rattle.std.specs.List.{AllZip}
 use Rattle.std.proofs.lemmas.List.{length-map}
 use Rattle.std.proofs.lemmas.Option.{same_Some}
-use Rattle.omf_check.specs.Module.{Module, records_in}
+use Rattle.omf_check.specs.Module.{Module, records_in, typed_modules}
 use Rattle.omf_check.specs.WellFormed.{recs}
 use Rattle.omf_placement.specs.Placement.{Places}
 use Rattle.omf_layout.specs.Layout.{Laid}
 use Rattle.omf_arrange.specs.Laying.{laid}
-use Rattle.omf_arrange.specs.Portions.{typed_modules}
 use Rattle.omf_draft.specs.Reading.{HasEntries, IsReadBack}
 use Rattle.omf_draft.proofs.DraftLaws.{link-text-read}
 use Rattle.omf_draft.proofs.PlacesLaws.{all-have}

@@ -1,12 +1,11 @@
 use Rattle.std.proofs.Common.{refl, ap, arith, rules}
 use Rattle.std.specs.Prelude.{flat_map}
 use Rattle.std.specs.List.{enumerate_from}
-use Rattle.omf_check.specs.Module.{records_in}
+use Rattle.omf_check.specs.Module.{records_in, typed_modules}
 use Rattle.omf_check.specs.WellFormed.{recs}
 use Rattle.omf_derive.proofs.TableLaws.{next-placed, none-left}
 use Rattle.omf_layout.specs.Reading.{AreShort}
 use Rattle.omf_layout.proofs.Printed.{none-so-far, more-hold, all-hold}
-use Rattle.omf_arrange.specs.Portions.{typed_modules}
 use Rattle.omf_draft.specs.Names.{seen_names}
 use Rattle.omf_draft.specs.Text.{border, module_text, part_text}
 use Rattle.omf_draft.proofs.PlacesLaws.{all-parts, as-many, has-at, here-at, is-short, more-parts}

@@ -3,7 +3,7 @@ use Rattle.std.specs.Prelude.{string_bytes, flat_map, zip}
 use Rattle.std.specs.List.{enumerate_from}
 use Rattle.omf_layout.specs.Reading.{AreShort}
 use Rattle.omf_layout.proofs.Printed.{HoldsTo}
-use Rattle.omf_arrange.specs.Portions.{typed_modules}
+use Rattle.omf_check.specs.Module.{typed_modules}
 use Rattle.omf_draft.specs.Text.{module_text, link_text}
 use Rattle.omf_draft.proofs.draft.text_of.Given as goal
 

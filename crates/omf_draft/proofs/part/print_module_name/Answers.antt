@@ -1,7 +1,7 @@
 use Rattle.std.proofs.Common.{◌≡◌, ◌++◌, ◌∙◌, ap, sym, subst}
 use Rattle.std.specs.Prelude.{OnOk, string_bytes}
 use Rattle.omf_check.specs.Module.{records_in}
-use Rattle.omf_layout.specs.Quoted.{quoted}
+use Rattle.omf_placement.specs.Quoted.{quoted}
 use Rattle.omf_draft.proofs.NameLaws.{first-name, name_in}
 use Rattle.omf_draft.proofs.part.print_module_name.Goals as goal
 

@@ -3,7 +3,7 @@ use Rattle.std.specs.Prelude.{option_map}
 use Rattle.std.proofs.lemmas.Result.{err_from_is_err_and}
 use Rattle.omf_frame.specs.Framing.{present}
 use Rattle.omf_frame.specs.Framer.{refused, open_at}
-use Rattle.omf_frame.specs.Judging.{whole_fault, found}
+use Rattle.omf_frame.specs.Inner.Judging.{whole_fault, found}
 use Rattle.omf_frame.proofs.Judged.{sound_type, type_none, by_type, by_whole}
 use Rattle.omf_frame.proofs.framer.advance.Goals as goal
 

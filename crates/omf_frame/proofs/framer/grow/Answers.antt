@@ -1,5 +1,5 @@
 use Rattle.std.proofs.Common.{◌≡◌, ◌++◌, ◌-◌, ℕ, min, length, take, ap, ◌∙◌, arith}
-use Rattle.omf_frame.specs.Judging.{record_len}
+use Rattle.omf_frame.specs.Framing.{record_len}
 use Rattle.omf_frame.proofs.Growing.{grown}
 use Rattle.omf_frame.proofs.framer.grow.Goals as goal
 

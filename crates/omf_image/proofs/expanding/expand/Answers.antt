@@ -1,9 +1,9 @@
 use Rattle.std.proofs.Common.{◌≡◌, ◌∙◌, ◌<◌, ◌≤◌, ◌+◌, List, ℕ, Vec, Global, sym, ap, subst, length, length-append, length-drop, drop, arith, rules}
 use Rattle.std.specs.Prelude.{IsOk}
-use Rattle.omf_records.specs.Reads.{after}
+use Rattle.omf_records.specs.Inner.Reads.{after}
 use Rattle.omf_image.specs.Blocks.{count_size}
-use Rattle.omf_image.specs.Copying.{bytes_block, bytes_all}
-use Rattle.omf_image.specs.Expanding.{expanded_length, expanded}
+use Rattle.omf_image.specs.Inner.Copying.{bytes_block, bytes_all}
+use Rattle.omf_image.specs.Inner.Expanding.{expanded_length, expanded}
 use Rattle.omf_image.proofs.Expansion.{all_ok, all_are, first_ok, later, bytes_step, bytes_end}
 use Rattle.omf_image.proofs.expanding.expand.Goals as goal
 

@@ -1,7 +1,7 @@
 use Rattle.std.proofs.Common.{◌≡◌, ◌≤◌, ◌+◌, ◌-◌, [], length, drop}
 use Rattle.omf_image.specs.Blocks.{count_size}
-use Rattle.omf_image.specs.Lengths.{capped}
-use Rattle.omf_image.specs.Copying.{bytes_block, bytes_all}
+use Rattle.omf_image.specs.Inner.Lengths.{capped}
+use Rattle.omf_image.specs.Inner.Copying.{bytes_block, bytes_all}
 use Rattle.omf_image.proofs.expanding.expand.Given as goal
 
 -- the blocks that are left, after those that were written, are all the blocks

@@ -1,6 +1,6 @@
 use Rattle.std.proofs.Common.{◌≡◌, ◌<◌, ◌-◌, ◌+◌, length, take, subst, arith, rules}
 use Rattle.std.proofs.lemmas.Bool.{ltb-true}
-use Rattle.omf_image.specs.Sorted.{laid_runs, EndBefore}
+use Rattle.omf_image.specs.Inner.Sorted.{laid_runs, EndBefore}
 use Rattle.omf_image.proofs.SortedLaws.{not_none, run_before}
 use Rattle.omf_image.proofs.image.end_before.Goals as goal
 

@@ -1,7 +1,7 @@
 use Rattle.std.proofs.Common.{◌≤◌, ◌<◌, sym, ap, ◌∙◌, length, rules, Some, None, cond}
 use Rattle.std.specs.Option.{option_copied, option_map}
 use Rattle.std.proofs.lemmas.Bool.{eq-eqb}
-use Rattle.omf_image.specs.Sorted.{laid_run}
+use Rattle.omf_image.specs.Inner.Sorted.{laid_run}
 use Rattle.omf_image.proofs.SortedLaws.{run_found, run_missed, differs}
 use Rattle.omf_image.proofs.image.find_run.Goals as goal
 

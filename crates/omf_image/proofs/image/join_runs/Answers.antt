@@ -4,7 +4,7 @@ use Rattle.std.specs.Prelude.{slice_range}
 use Rattle.std.proofs.lemmas.List.{get_or_default, take-append-drop}
 use Rattle.omf_image.specs.declared.image.Covered.{Covered}
 use Rattle.omf_image.specs.Overlay.{Laid}
-use Rattle.omf_image.specs.Sorted.{laid_run, laid_runs, low, AreSorted, Touches, over_all}
+use Rattle.omf_image.specs.Inner.Sorted.{laid_run, laid_runs, low, AreSorted, Touches, over_all}
 use Rattle.omf_image.proofs.OverLaws.{rest_sorted, rest_touches, first_segment, first_from, rest_fits, joined_are, same_runs, on_err}
 use Rattle.omf_image.proofs.image.join_runs.Goals as goal
 

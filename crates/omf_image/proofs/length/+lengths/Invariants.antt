@@ -1,6 +1,6 @@
 use Rattle.std.proofs.Common.{◌≡◌, ◌≤◌, ◌+◌, ◌*◌, ◌-◌, length, drop}
 use Rattle.omf_image.specs.Blocks.{count_size}
-use Rattle.omf_image.specs.Lengths.{len_block, len_times}
+use Rattle.omf_image.specs.Inner.Lengths.{len_block, len_times}
 use Rattle.omf_image.proofs.length.+lengths.Given as goal
 
 abbrev pub decreases-contents_len : goal.decreases-contents_len

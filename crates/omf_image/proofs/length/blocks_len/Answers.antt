@@ -1,8 +1,8 @@
 use Rattle.std.proofs.Common.{◌<◌, ◌∙◌, ap, length, length-drop, drop, ℕ, arith, rules}
-use Rattle.omf_records.specs.Reads.{after}
+use Rattle.omf_records.specs.Inner.Reads.{after}
 use Rattle.omf_image.specs.Blocks.{count_size}
-use Rattle.omf_image.specs.Lengths.{len_block, len_all}
-use Rattle.omf_image.proofs.Counting.{all_step}
+use Rattle.omf_image.specs.Inner.Lengths.{len_block, len_all}
+use Rattle.omf_image.proofs.Counting.{size_step}
 use Rattle.omf_image.proofs.length.blocks_len.Goals as goal
 
 pub loop-pos-preserved : goal.loop-pos-preserved
@@ -12,7 +12,7 @@ loop-pos-preserved c =
     let left = drop c.loop-pos.pos bytes in
     let low : c.loop-pos.pos < length bytes = search rules in
     let size = length-drop c.loop-pos.pos bytes in
-    let step = all_step w c.args.levels (length bytes) c.loop-pos.total c.loop-pos.pos left (after c.in_ok-len.len c.in_ok-len.next (drop c.in_ok-len.next bytes))
+    let step = size_step w c.args.levels (length bytes) c.loop-pos.total c.loop-pos.pos left (after c.in_ok-len.len c.in_ok-len.next (drop c.in_ok-len.next bytes))
     (omega (arith, size, low)) (omega (arith, size)) c.in_ok-len.ensures.read in
     record {
       inside = search rules;

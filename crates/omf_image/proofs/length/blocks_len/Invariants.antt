@@ -1,6 +1,6 @@
 use Rattle.std.proofs.Common.{◌≡◌, ◌≤◌, ◌-◌, length, drop}
 use Rattle.omf_image.specs.Blocks.{count_size}
-use Rattle.omf_image.specs.Lengths.{len_block, len_all}
+use Rattle.omf_image.specs.Inner.Lengths.{len_block, len_all}
 use Rattle.omf_image.proofs.length.blocks_len.Given as goal
 
 -- the blocks that are left, after those that were counted, are all the blocks

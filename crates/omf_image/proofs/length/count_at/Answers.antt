@@ -1,7 +1,7 @@
 use Rattle.std.proofs.Common.{◌∙◌, sym, ap, drop, Err}
 use Rattle.omf_frame.specs.Fault.{Fault}
 use Rattle.omf_frame.specs.Fields.{IsLittle}
-use Rattle.omf_records.specs.FieldReaders.{le_read, le_ok, le_short}
+use Rattle.omf_records.specs.Inner.FieldReaders.{le_read, le_ok, le_short}
 use Rattle.omf_image.specs.Blocks.{count_size}
 use Rattle.omf_image.proofs.FieldSteps.{unread}
 use Rattle.omf_image.proofs.length.count_at.Goals as goal

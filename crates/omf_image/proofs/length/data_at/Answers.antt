@@ -1,8 +1,8 @@
 use Rattle.std.proofs.Common.{◌∙◌, sym, ap, ℕ, List, length, drop, Result, Ok, Err}
 use Rattle.omf_frame.specs.Fault.{Fault}
 use Rattle.omf_frame.specs.Fields.{IsName}
-use Rattle.omf_records.specs.FieldReaders.{name_read, name_ok, name_again, name_short}
-use Rattle.omf_records.specs.Reads.{After, after, and_then}
+use Rattle.omf_records.specs.Inner.FieldReaders.{name_read, name_ok, name_again, name_short}
+use Rattle.omf_records.specs.Inner.Reads.{After, after, and_then}
 use Rattle.omf_image.proofs.FieldSteps.{read_at, unread}
 use Rattle.omf_image.proofs.length.data_at.Goals as goal
 

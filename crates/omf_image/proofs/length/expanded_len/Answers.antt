@@ -1,7 +1,7 @@
 use Rattle.std.proofs.Common.{◌<◌, ◌≤◌, ◌^◌, ◌∙◌, ap, ℕ, Err, rules}
 use Rattle.std.proofs.lemmas.Result.{err_from_is_err_and}
 use Rattle.omf_image.specs.Blocks.{count_size}
-use Rattle.omf_image.specs.Expanding.{read_blocks}
+use Rattle.omf_image.specs.Inner.Expanding.{read_blocks}
 use Rattle.omf_image.proofs.Counting.{blocks_count, length_ok, length_over, length_err}
 use Rattle.omf_image.proofs.length.expanded_len.Goals as goal
 

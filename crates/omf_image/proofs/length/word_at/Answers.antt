@@ -1,7 +1,7 @@
 use Rattle.std.proofs.Common.{◌∙◌, sym, ap, Err}
 use Rattle.omf_frame.specs.Fault.{Fault}
 use Rattle.omf_frame.specs.Fields.{IsLittle}
-use Rattle.omf_records.specs.FieldReaders.{le_read, le_ok, le_short}
+use Rattle.omf_records.specs.Inner.FieldReaders.{le_read, le_ok, le_short}
 use Rattle.omf_image.proofs.FieldSteps.{unread}
 use Rattle.omf_image.proofs.length.word_at.Goals as goal
 

@@ -3,7 +3,7 @@ use Rattle.std.specs.Prelude.{Some, option_map, string_bytes}
 use Rattle.std.specs.List.{zip}
 use Rattle.omf_check.specs.Module.{records_in}
 use Rattle.omf_check.specs.WellFormed.{recs}
-use Rattle.omf_records.specs.Seen.{contents_seen}
+use Rattle.omf_records.specs.Inner.Seen.{contents_seen}
 use Rattle.omf_records.specs.Values.{Group}
 use Rattle.omf_check.specs.Tables.{groups, entry}
 use Rattle.omf_layout.specs.Draft.{group_line}

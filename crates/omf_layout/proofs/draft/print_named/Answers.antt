@@ -1,6 +1,6 @@
 use Rattle.std.proofs.Common.{◌≡◌, ◌++◌, subst}
 use Rattle.std.specs.Prelude.{OnOk, string_bytes, unwrap_or, option_map, codes}
-use Rattle.omf_layout.specs.Quoted.{quoted}
+use Rattle.omf_placement.specs.Quoted.{quoted}
 use Rattle.omf_layout.proofs.draft.print_named.Goals as goal
 
 pub returns : goal.returns

@@ -1,7 +1,7 @@
 use Rattle.std.proofs.Common.{◌≡◌, ◌≤◌, ◌^◌, drop}
 use Rattle.std.specs.Prelude.{option_map}
 use Rattle.omf_layout.specs.Layout.{and_then_more, all_laid, external_laid}
-use Rattle.omf_layout.specs.Spots.{spot_laid}
+use Rattle.omf_layout.specs.Inner.Spots.{spot_laid}
 use Rattle.omf_layout.proofs.laying.lay_externals.Given as goal
 
 -- the externals so far are laid, and the others are laid behind them

@@ -4,7 +4,7 @@ use Rattle.omf_check.specs.Module.{records_in}
 use Rattle.omf_check.specs.Tables.{segments}
 use Rattle.omf_check.specs.WellFormed.{recs}
 use Rattle.omf_layout.specs.Layout.{segment_laid, segments_laid}
-use Rattle.omf_layout.specs.Spots.{segments_alone, spot_laid}
+use Rattle.omf_layout.specs.Inner.Spots.{segments_alone, spot_laid}
 use Rattle.omf_layout.specs.Wants.{alignments}
 use Rattle.omf_layout.proofs.LaidLaws.{next-laid, not-laid, are-laid}
 use Rattle.omf_layout.proofs.TableLaws.{entry-at, next-pair, no-pair}

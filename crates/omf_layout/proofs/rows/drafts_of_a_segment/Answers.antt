@@ -9,7 +9,3 @@ returns-clause-flat c = refl
 pub returns-clause-real : goal.returns-clause-real
 unfolding digits
 returns-clause-real c = refl
-
-pub returns-clause-none : goal.returns-clause-none
-unfolding digits
-returns-clause-none c = refl

@@ -1,5 +1,5 @@
 use Rattle.std.proofs.Common.{◌++◌, ap, ◌∙◌}
-use Rattle.omf_records.specs.Seen.{contents_seen}
+use Rattle.omf_records.specs.Inner.Seen.{contents_seen}
 use Rattle.omf_check.specs.Module.{records_in}
 use Rattle.omf_layout.specs.Wants.{rooms_in}
 use Rattle.omf_layout.proofs.Gathered.{given_by, given-all, more-given, all-given}

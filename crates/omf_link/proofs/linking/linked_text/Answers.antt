@@ -1,7 +1,6 @@
 use Rattle.std.proofs.Common.{List, subst, Global, Vec, ℕ}
-use Rattle.omf_check.specs.Module.{Module}
-use Rattle.omf_records.specs.Seen.{map_ok}
-use Rattle.omf_linking.specs.Placing.{typed_modules}
+use Rattle.omf_check.specs.Module.{Module, typed_modules}
+use Rattle.omf_records.specs.Inner.Seen.{map_ok}
 use Rattle.omf_link.specs.Linked.{IsLinked}
 use Rattle.omf_link.proofs.LinkedLaws.{linked_in}
 use Rattle.omf_link.proofs.linking.linked_text.Goals as goal

@@ -1,7 +1,7 @@
 use Rattle.std.proofs.Common.{◌≡◌, sym, subst, rules, Global, Vec, ℕ}
 use Rattle.std.specs.Prelude.{Err}
-use Rattle.omf_records.specs.Seen.{map_ok}
-use Rattle.omf_linking.specs.Placing.{typed_modules}
+use Rattle.omf_records.specs.Inner.Seen.{map_ok}
+use Rattle.omf_check.specs.Module.{typed_modules}
 use Rattle.omf_link.specs.Linked.{IsLinked}
 use Rattle.omf_link.proofs.LinkedLaws.{not_laid, two_starts, shown}
 use Rattle.omf_link.proofs.linking.modules_text.Goals as goal

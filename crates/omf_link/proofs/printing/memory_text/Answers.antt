@@ -1,5 +1,5 @@
 use Rattle.std.proofs.Common.{ap, arith, sym, ◌+◌, ◌++◌, ◌∙◌, List, ℕ, append-nil, drop}
-use Rattle.omf_image.specs.Joined.{runs_of}
+use Rattle.omf_image.specs.Inner.Joined.{runs_of}
 use Rattle.omf_image.specs.Overlay.{byte_at}
 use Rattle.omf_image.specs.declared.run.Run.{Run}
 use Rattle.omf_image.proofs.ShownLaws.{none_left, number_fits, number_low}

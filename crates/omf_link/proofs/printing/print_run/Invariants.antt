@@ -1,5 +1,5 @@
 use Rattle.std.proofs.Common.{◌≡◌, ◌+◌, ◌++◌, length}
-use Rattle.omf_cmd.specs.RunLines.{lines_of}
+use Rattle.omf_cmd.specs.Inner.RunLines.{lines_of}
 use Rattle.omf_link.specs.MemoryText.{address_text}
 use Rattle.omf_link.proofs.printing.print_run.Given as goal
 

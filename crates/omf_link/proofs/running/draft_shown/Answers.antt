@@ -1,8 +1,7 @@
 use Rattle.std.proofs.Common.{arith}
 use Rattle.std.proofs.lemmas.List.{length-map}
-use Rattle.omf_check.specs.Module.{Module, records_in}
+use Rattle.omf_check.specs.Module.{Module, records_in, typed_modules}
 use Rattle.omf_check.specs.WellFormed.{recs}
-use Rattle.omf_linking.specs.Placing.{typed_modules}
 use Rattle.omf_link.proofs.RunLaws.{no_memory}
 use Rattle.omf_link.proofs.running.draft_shown.Goals as goal
 

@@ -1,4 +1,4 @@
-use Rattle.omf_linking.specs.Placing.{typed_modules}
+use Rattle.omf_check.specs.Module.{typed_modules}
 use Rattle.omf_link.specs.Mapped.{IsMapped}
 use Rattle.omf_link.proofs.RunLaws.{with_name}
 use Rattle.omf_link.proofs.running.map_shown.Goals as goal

@@ -1,5 +1,5 @@
 use Rattle.std.proofs.Common.{ℕ, List, Vec, Global, subst}
-use Rattle.omf_records.specs.Seen.{map_ok}
+use Rattle.omf_records.specs.Inner.Seen.{map_ok}
 use Rattle.omf_link.specs.Shown.{IsShownOf}
 use Rattle.omf_link.proofs.RunLaws.{all_read, part_cause, part_read, whole_cause}
 use Rattle.omf_link.proofs.running.read_and_shown.Goals as goal

@@ -1,7 +1,6 @@
 use Rattle.std.proofs.Common.{List, subst, Global, Vec, ℕ}
-use Rattle.omf_check.specs.Module.{Module}
-use Rattle.omf_records.specs.Seen.{map_ok}
-use Rattle.omf_linking.specs.Placing.{typed_modules}
+use Rattle.omf_check.specs.Module.{Module, typed_modules}
+use Rattle.omf_records.specs.Inner.Seen.{map_ok}
 use Rattle.omf_link.specs.Shown.{AreShown}
 use Rattle.omf_link.proofs.RunLaws.{in_input, no_module}
 use Rattle.omf_link.proofs.running.shown_text.Goals as goal

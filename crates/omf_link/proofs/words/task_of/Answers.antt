@@ -1,38 +1,22 @@
-use Rattle.std.proofs.Common.{◌≡◌, ap, sym, ◌∙◌, map, string_bytes, inr}
-use Rattle.clap.specs.Words.{App, fault_of, is_simple, is_simple_and_free, kind_of, subcommand_of, subcommand_rows_of}
-use Rattle.omf_cmd.proofs.Parsed.{only_memory}
+use Rattle.std.proofs.Common.{refl, ◌∙◌, map, string_bytes, inl, inr, Some, None}
+use Rattle.omf_cmd.proofs.Parsed.{parse_of}
 use Rattle.omf_link.specs.Words.{link_app}
-use Rattle.omf_link.proofs.ParsedLaws.{is-free, is-simple}
+use Rattle.omf_link.proofs.ParsedLaws.{is-free, only_asked}
 use Rattle.omf_link.proofs.words.task_of.Goals as goal
 
-pub returns-in-Ok-clause-asks : goal.returns-in-Ok-clause-asks
-returns-in-Ok-clause-asks c asked a =
+pub returns-in-Some : goal.returns-in-Some
+returns-in-Some c =
     let words = map string_bytes c.args.words.now in
-    let h = c.in-Ok.ensures.matches (ap is_simple c.in_ok-link.ensures ∙ is-simple) in
-    let rows : subcommand_rows_of c.in-Ok.matches ≡ subcommand_of link_app words = h.1 ∙ ap (λ (b : App). subcommand_of b words) c.in_ok-link.ensures in
-    c.named_by.ensures.some a.name a.rows asked (rows ∙ a.parsed) a.names
+    let parse = parse_of link_app _ words _ (Some c.in-Some.matches) c.in_ok-link.ensures is-free c.in_ok-found.ensures c.in-Some.is in
+    record {
+      asks = λ asked a. c.named_by.ensures.some a.name a.rows asked (parse.2 ∙ a.parsed) a.names;
+      only = only_asked words _ c.named_by.result parse.0 parse.2 c.named_by.ensures.only;
+      none = λ e. c.named_by.ensures.none (parse.2 ∙ e);
+      refused = inr parse.0;
+    }
 
-pub returns-in-Err-2-clause-asks : goal.returns-in-Err-2-clause-asks
-returns-in-Err-2-clause-asks c asked a =
+pub returns-in-None : goal.returns-in-None
+returns-in-None c =
     let words = map string_bytes c.args.words.now in
-    let free = ap is_simple_and_free c.in_ok-link.ensures ∙ is-free in
-    let out = only_memory _ c.in-Err-2.field-0 (ap (λ (b : App). fault_of b words) c.in_ok-link.ensures ∙ a.sound) (c.in-Err-2.ensures.kinds free) in
-    let is = c.in-Err.is in
-    let is_too = c.in-Err-2.is in
-    let same : c.in-Err.error ≡ c.in-Err-2.field-0 = cc in
-    let test = rw (c.kind.ensures ∙ ap kind_of same ∙ out) at c.eq.ensures in
-    let not = c.if-eq.false in
-    absurd cc
-
-pub returns-in-Ok-clause-refused : goal.returns-in-Ok-clause-refused
-returns-in-Ok-clause-refused c =
-    let words = map string_bytes c.args.words.now in
-    let free = ap is_simple_and_free c.in_ok-link.ensures ∙ is-free in
-    inr (sym (ap (λ (a : App). fault_of a words) c.in_ok-link.ensures) ∙ c.in-Ok.ensures.kinds free)
-
-pub returns-in-Ok-clause-none : goal.returns-in-Ok-clause-none
-returns-in-Ok-clause-none c e =
-    let words = map string_bytes c.args.words.now in
-    let h = c.in-Ok.ensures.matches (ap is_simple c.in_ok-link.ensures ∙ is-simple) in
-    let rows : subcommand_rows_of c.in-Ok.matches ≡ subcommand_of link_app words = h.1 ∙ ap (λ (b : App). subcommand_of b words) c.in_ok-link.ensures in
-    c.named_by.ensures.none (rows ∙ e)
+    let faulty = parse_of link_app _ words _ None c.in_ok-link.ensures is-free c.in_ok-found.ensures c.in-None.is in
+    record { asks = λ asked a. absurd (faulty a.sound); only = tt; none = λ e. refl; refused = inl refl }

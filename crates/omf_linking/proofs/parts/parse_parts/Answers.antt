@@ -1,7 +1,8 @@
 use Rattle.std.proofs.Common.{◌≡◌, ◌+◌, ◌∙◌, ap, length, refl, sym, arith}
 use Rattle.std.specs.Prelude.{option_map, Some}
 use Rattle.omf_placement.specs.Entries.{said}
-use Rattle.omf_linking.specs.LinkEntries.{link_entry_said, seen}
+use Rattle.omf_linking.specs.LinkEntries.{link_entry_said}
+use Rattle.omf_linking.specs.Inner.Parsing.{seen}
 use Rattle.omf_linking.proofs.PartLaws.{text_begins, line_read, line_sound, left_shorter}
 use Rattle.omf_linking.proofs.parts.parse_parts.Goals as goal
 

@@ -1,6 +1,6 @@
 use Rattle.std.proofs.Common.{◌+◌, ◌≤◌, length}
 use Rattle.std.specs.Prelude.{option_map}
-use Rattle.omf_placement.specs.Parsing.{parts_after}
+use Rattle.omf_placement.specs.Inner.Parsing.{parts_after}
 use Rattle.omf_linking.proofs.PartLaws.{IsRead, IsSound, lines_from, left_len}
 use Rattle.omf_linking.proofs.parts.parse_parts.Given as goal
 

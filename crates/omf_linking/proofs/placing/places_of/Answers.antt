@@ -2,9 +2,8 @@ use Rattle.std.proofs.Common.{◌≡◌, ◌+◌, ◌∷◌, ◌∙◌, [], leng
 use Rattle.std.specs.Prelude.{None, option_to_list}
 use Rattle.std.specs.Vec.Iter.{into_iter_items}
 use Rattle.std.proofs.lemmas.List.{length-append}
-use Rattle.omf_check.specs.Module.{records_in}
+use Rattle.omf_check.specs.Module.{records_in, typed_modules}
 use Rattle.omf_check.specs.WellFormed.{recs}
-use Rattle.omf_linking.specs.Placing.{typed_modules}
 use Rattle.omf_linking.proofs.PlacesLaws.{next_typed, next_placed, next_given, none_left, nothing_left}
 use Rattle.omf_linking.proofs.placing.places_of.Goals as goal
 

@@ -1,6 +1,6 @@
 use Rattle.std.proofs.Common.{◌≡◌, drop, length}
 use Rattle.std.specs.Vec.Iter.{into_iter_items, into_iter_len}
-use Rattle.omf_linking.specs.Placing.{typed_modules}
+use Rattle.omf_check.specs.Module.{typed_modules}
 use Rattle.omf_linking.proofs.PlacesLaws.{ArePlaced, AreGiven}
 use Rattle.omf_linking.proofs.placing.places_of.Given as goal
 

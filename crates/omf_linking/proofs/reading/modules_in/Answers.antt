@@ -1,7 +1,7 @@
 use Rattle.std.proofs.Common.{◌≡◌, ◌∷◌, ◌∙◌, [], length, sym, ap, subst, rules, arith}
 use Rattle.std.specs.Prelude.{Err}
 use Rattle.std.proofs.lemmas.List.{length-append}
-use Rattle.omf_records.specs.Seen.{map_ok}
+use Rattle.omf_records.specs.Inner.Seen.{map_ok}
 use Rattle.omf_linking.specs.Reading.{AreModules}
 use Rattle.omf_linking.proofs.ReadingLaws.{behind, front_grown, refused_behind}
 use Rattle.omf_linking.proofs.reading.modules_in.Goals as goal

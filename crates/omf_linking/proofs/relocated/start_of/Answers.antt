@@ -1,8 +1,7 @@
 use Rattle.std.proofs.Common.{◌≡◌, ℕ, ◌+◌, ◌∷◌, ◌++◌, drop, sym, ap, ◌∙◌}
 use Rattle.std.specs.Prelude.{Option, zip, option_to_list}
-use Rattle.omf_check.specs.Module.{records_in}
+use Rattle.omf_check.specs.Module.{records_in, typed_modules}
 use Rattle.omf_check.specs.WellFormed.{recs}
-use Rattle.omf_linking.specs.Placing.{typed_modules}
 use Rattle.omf_linking.specs.Starts.{main_starts, one_start}
 use Rattle.omf_linking.proofs.StartLaws.{Placed, starts_from, next_at, none_at, no_start, first_start, second_start, all_started}
 use Rattle.omf_linking.proofs.relocated.start_of.Goals as goal

@@ -1,6 +1,6 @@
 use Rattle.std.proofs.Common.{◌≡◌, ◌++◌}
 use Rattle.std.specs.Prelude.{zip, option_to_list}
-use Rattle.omf_linking.specs.Placing.{typed_modules}
+use Rattle.omf_check.specs.Module.{typed_modules}
 use Rattle.omf_linking.specs.Starts.{main_starts, one_start}
 use Rattle.omf_linking.proofs.StartLaws.{starts_from}
 use Rattle.omf_linking.proofs.relocated.start_of.Given as goal

@@ -1,5 +1,5 @@
 use Rattle.std.proofs.Common.{◌++◌, ap, ◌∙◌, length}
-use Rattle.omf_records.specs.Seen.{contents_seen}
+use Rattle.omf_records.specs.Inner.Seen.{contents_seen}
 use Rattle.omf_check.specs.Module.{records_in}
 use Rattle.omf_check.specs.WellFormed.{recs}
 use Rattle.omf_linking.specs.Segments.{commons, commons_in}

@@ -1,6 +1,6 @@
 use Rattle.std.proofs.Common.{ap}
 use Rattle.std.specs.Prelude.{flat_map}
-use Rattle.omf_map.specs.Steps.{item_line}
+use Rattle.omf_map.specs.Inner.Steps.{item_line}
 use Rattle.omf_map.proofs.MapLaws.{part_more, no_part_left}
 use Rattle.omf_map.proofs.listing.print_items.Goals as goal
 

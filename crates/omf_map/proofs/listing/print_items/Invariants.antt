@@ -1,6 +1,6 @@
 use Rattle.std.proofs.Common.{◌≡◌, ◌++◌}
 use Rattle.std.specs.Prelude.{flat_map, string_bytes}
-use Rattle.omf_map.specs.Steps.{item_line}
+use Rattle.omf_map.specs.Inner.Steps.{item_line}
 use Rattle.omf_map.proofs.listing.print_items.Given as goal
 
 -- the lines so far, and those of the publics that are left

@@ -4,7 +4,7 @@ use Rattle.std.proofs.lemmas.Grind.{flat_map-append}
 use Rattle.omf_check.specs.Module.{records_in}
 use Rattle.omf_derive.specs.Derive.{record_publics}
 use Rattle.omf_derive.proofs.TableLaws.{listed_publics, listed-publics}
-use Rattle.omf_records.specs.Seen.{contents_seen, kind_seen}
+use Rattle.omf_records.specs.Inner.Seen.{contents_seen, kind_seen}
 use Rattle.omf_map.specs.MapText.{public_line}
 use Rattle.omf_map.proofs.MapLaws.{part_more, no_part_left}
 use Rattle.omf_map.proofs.listing.print_publics.Goals as goal

@@ -1,7 +1,7 @@
 use Rattle.std.proofs.Common.{◌≡◌, ◌++◌, ◌∙◌, ap, rules, sym, subst}
 use Rattle.std.specs.Prelude.{OnOk, flat_map, string_bytes}
 use Rattle.omf_derive.specs.Derive.{segment_base}
-use Rattle.omf_map.specs.Steps.{item_line}
+use Rattle.omf_map.specs.Inner.Steps.{item_line}
 use Rattle.omf_map.proofs.MapLaws.{pubdef_printed, shown_of}
 use Rattle.omf_map.proofs.listing.print_record.Goals as goal
 

@@ -1,5 +1,5 @@
 use Rattle.std.proofs.Common.{◌≡◌, ◌++◌, drop}
-use Rattle.omf_memory.specs.Laying.{extents_in}
+use Rattle.omf_memory.specs.Inner.Laying.{extents_in}
 use Rattle.omf_memory.proofs.memory.extents_of.Given as goal
 
 -- the places so far, and those of the stretches that are left

@@ -1,7 +1,7 @@
 use Rattle.std.proofs.Common.{sym, subst, rules}
 use Rattle.std.specs.Prelude.{All}
 use Rattle.omf_image.specs.Painting.{all_zeros, Fits}
-use Rattle.omf_memory.specs.Laying.{extents_in}
+use Rattle.omf_memory.specs.Inner.Laying.{extents_in}
 use Rattle.omf_memory.proofs.MemoryLaws.{extents_fit, laid_next, all_laid}
 use Rattle.omf_memory.proofs.memory.laid.Goals as goal
 

@@ -1,6 +1,6 @@
 use Rattle.std.proofs.Common.{◌≡◌, drop}
 use Rattle.omf_memory.specs.Memory.{pieces, shares, overlap}
-use Rattle.omf_memory.specs.Laying.{overlap_with}
+use Rattle.omf_memory.specs.Inner.Laying.{overlap_with}
 use Rattle.omf_memory.proofs.memory.owners_at.Given as goal
 
 -- the first two of what is left, after what is known, are those of all

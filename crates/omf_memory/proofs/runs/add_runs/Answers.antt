@@ -1,6 +1,6 @@
 use Rattle.std.proofs.Common.{◌≡◌, Err, arith, drop, rules, subst, sym}
-use Rattle.omf_image.specs.Joined.{runs_of}
-use Rattle.omf_memory.specs.Runs.{IsAdded}
+use Rattle.omf_image.specs.Inner.Joined.{runs_of}
+use Rattle.omf_memory.specs.Inner.Runs.{IsAdded}
 use Rattle.omf_memory.specs.Segments.{segment_at}
 use Rattle.omf_memory.proofs.CoverLaws.{runs_are_all}
 use Rattle.omf_image.proofs.ShownLaws.{number_low, number_fits, some_bytes, run_next, none_left}

@@ -1,6 +1,6 @@
 use Rattle.std.proofs.Common.{◌≤◌, ◌-◌, length, drop}
 use Rattle.std.specs.Prelude.{All}
-use Rattle.omf_image.specs.Joined.{runs_of}
+use Rattle.omf_image.specs.Inner.Joined.{runs_of}
 use Rattle.omf_memory.specs.Memory.{Lies}
 use Rattle.omf_memory.specs.Segments.{segment_at}
 use Rattle.omf_memory.proofs.RunSteps.{SoFar}

@@ -1,7 +1,7 @@
 use Rattle.std.proofs.Common.{◌≡◌, Err, List, ap, subst, sym, rules, ◌∙◌}
 use Rattle.std.specs.Prelude.{All}
-use Rattle.omf_records.specs.Seen.{map_ok}
-use Rattle.omf_memory.specs.Runs.{AreStretches}
+use Rattle.omf_records.specs.Inner.Seen.{map_ok}
+use Rattle.omf_memory.specs.Inner.Runs.{AreStretches}
 use Rattle.omf_memory.specs.Segments.{SegmentAt, IsWithin, segments_at, segment_shares}
 use Rattle.omf_memory.proofs.SegmentLaws.{within_next, shares_next, told_first, all_taken}
 use Rattle.omf_memory.proofs.runs.stretches_of.Goals as goal

@@ -2,7 +2,7 @@ use Rattle.std.proofs.Common.{◌<◌, ◌∙◌, ap, subst, sym, rules}
 use Rattle.std.specs.List.Sorted.{IsPermutation}
 use Rattle.std.proofs.lemmas.List.Sorted.{IsNonDecreasingBy-from_sort_by_key, All-permutation}
 use Rattle.omf_memory.specs.Memory.{pieces, shares, IsFirstOverlap}
-use Rattle.omf_memory.specs.Sweeping.{intervals, swept}
+use Rattle.omf_memory.specs.Inner.Sweeping.{intervals, swept}
 use Rattle.omf_memory.specs.declared.sweep.Interval.{Interval}
 use Rattle.omf_memory.proofs.SweepLaws.{sorted_finds, sorted_rise}
 use Rattle.omf_memory.proofs.ShareLaws.{first_overlaps, long_intervals}

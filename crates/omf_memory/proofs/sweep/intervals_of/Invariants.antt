@@ -1,6 +1,6 @@
 use Rattle.std.proofs.Common.{◌≡◌, ◌++◌, drop}
 use Rattle.omf_memory.specs.Memory.{pieces}
-use Rattle.omf_memory.specs.Sweeping.{intervals}
+use Rattle.omf_memory.specs.Inner.Sweeping.{intervals}
 use Rattle.omf_memory.proofs.sweep.intervals_of.Given as goal
 
 -- the intervals so far, and those of the stretches that are left

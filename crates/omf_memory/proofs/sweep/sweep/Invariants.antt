@@ -1,5 +1,5 @@
 use Rattle.std.proofs.Common.{◌≡◌, drop}
-use Rattle.omf_memory.specs.Sweeping.{swept}
+use Rattle.omf_memory.specs.Inner.Sweeping.{swept}
 use Rattle.omf_memory.proofs.sweep.sweep.Given as goal
 
 -- the sweep over what is left has the answer of the whole

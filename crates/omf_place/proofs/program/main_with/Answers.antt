@@ -17,3 +17,8 @@ returns-in-Ok-None-clause-answer g c asked a =
     let told = c.in-Ok-None.ensures.asks asked a in
     let is = c.in-Ok-None.field-0-is in
     absurd cc
+
+pub returns-in-Ok-Some-clause-unasked : goal.returns-in-Ok-Some-clause-unasked
+returns-in-Ok-Some-clause-unasked g c none =
+    let only = rw c.in-Ok-Some.field-0-is at c.in-Ok-Some.ensures.only in
+    absurd (none c.in-Ok-Some.options only)

@@ -2,7 +2,7 @@ use Rattle.std.proofs.Common.{sym, subst}
 use Rattle.std.proofs.lemmas.Result.{err_from_is_err_and}
 use Rattle.std.specs.Io.KnownBytes.{Consumes}
 use Rattle.std.specs.Prelude.{string_bytes}
-use Rattle.omf_records.specs.Seen.{map_ok}
+use Rattle.omf_records.specs.Inner.Seen.{map_ok}
 use Rattle.omf_check.specs.Module.{records_in}
 use Rattle.omf_check.specs.WellFormed.{recs}
 use Rattle.omf_cmd.proofs.RunLaws.{check_cause}

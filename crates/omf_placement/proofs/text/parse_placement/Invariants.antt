@@ -1,6 +1,6 @@
 use Rattle.std.proofs.Common.{◌≡◌, ◌+◌, ◌≤◌, false, length}
 use Rattle.std.specs.Prelude.{option_map}
-use Rattle.omf_placement.specs.Parsing.{parts_after}
+use Rattle.omf_placement.specs.Inner.Parsing.{parts_after}
 use Rattle.omf_placement.proofs.ParsingLaws.{IsRead, IsSound, entries_from, left_len}
 use Rattle.omf_placement.proofs.text.parse_placement.Given as goal
 

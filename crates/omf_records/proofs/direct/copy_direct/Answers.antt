@@ -2,8 +2,8 @@ use Rattle.std.proofs.Common.{◌≡◌, List, ℕ, sym, subst, get_or}
 use Rattle.std.specs.Prelude.{Bool, true, IsOk, IfSome, ⊤}
 use Rattle.byteorder.specs.Endian.{little_bytes}
 use Rattle.omf_frame.specs.Bytes.{AreBytes}
-use Rattle.omf_records.specs.Direct.{begins_direct, Copies, IsNonzero}
-use Rattle.omf_records.specs.EntryReaders.{datum_reader, displacement_reader}
+use Rattle.omf_records.specs.Inner.Direct.{begins_direct, Copies, IsNonzero}
+use Rattle.omf_records.specs.Inner.EntryReaders.{datum_reader, displacement_reader}
 use Rattle.omf_records.specs.Shortest.{option_bytes, datum_bytes}
 use Rattle.omf_records.specs.Values.{width}
 use Rattle.omf_records.specs.declared.here.Here.{Here}

@@ -1,6 +1,6 @@
 use Rattle.std.proofs.Common.{true, false, refl}
-use Rattle.omf_records.specs.RecordReaders.{header_whole, comment_whole, names_whole, segment_whole, group_whole, externs_whole, publics_whole, communals_whole, plain_whole, iterated_whole, fixups_whole, mod_end_whole}
-use Rattle.omf_records.specs.Seen.{contents_seen, map_ok}
+use Rattle.omf_records.specs.Inner.RecordReaders.{header_whole, comment_whole, names_whole, segment_whole, group_whole, externs_whole, publics_whole, communals_whole, plain_whole, iterated_whole, fixups_whole, mod_end_whole}
+use Rattle.omf_records.specs.Inner.Seen.{contents_seen, map_ok}
 use Rattle.omf_records.proofs.AtStart.{at_start, known_start}
 use Rattle.omf_records.proofs.dispatch.contents_of.Goals as goal
 

@@ -1,7 +1,7 @@
 use Rattle.std.proofs.Common.{◌≡◌, ℕ, true, false, refl, subst, sym}
-use Rattle.omf_records.specs.RecordReaders.{names_whole, externs_whole, publics_whole, communals_whole}
-use Rattle.omf_records.specs.Seen.{contents_seen, map_ok}
-use Rattle.omf_records.specs.Reading.{read_body}
+use Rattle.omf_records.specs.Inner.RecordReaders.{names_whole, externs_whole, publics_whole, communals_whole}
+use Rattle.omf_records.specs.Inner.Seen.{contents_seen, map_ok}
+use Rattle.omf_records.specs.Inner.Reading.{read_body}
 use Rattle.omf_records.proofs.AtStart.{at_start, known_start}
 use Rattle.omf_records.proofs.dispatch.local_or_carried.Goals as goal
 

@@ -1,6 +1,6 @@
 use Rattle.std.proofs.Common.{true, false, refl, sym, ap}
-use Rattle.omf_records.specs.RecordReaders.{fixups_whole}
-use Rattle.omf_records.specs.Unread.{fixups_read}
+use Rattle.omf_records.specs.Inner.RecordReaders.{fixups_whole}
+use Rattle.omf_records.specs.Inner.Unread.{fixups_read}
 use Rattle.omf_records.proofs.AtStart.{at_start}
 use Rattle.omf_records.proofs.dispatch.unread_fixups.Goals as goal
 

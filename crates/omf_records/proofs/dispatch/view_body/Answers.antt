@@ -1,10 +1,10 @@
 use Rattle.std.proofs.Common.{Result, arith, sym, subst}
 use Rattle.omf_frame.specs.Fault.{Fault}
 use Rattle.omf_records.specs.Values.{Contents}
-use Rattle.omf_records.specs.Reads.{Meets}
-use Rattle.omf_records.specs.Meets.{whole_meets}
+use Rattle.omf_records.specs.Layout.{Meets}
+use Rattle.omf_records.specs.Inner.Meets.{whole_meets}
 use Rattle.omf_records.specs.Records.{contents}
-use Rattle.omf_records.specs.RecordReaders.{contents_whole}
+use Rattle.omf_records.specs.Inner.RecordReaders.{contents_whole}
 use Rattle.omf_records.proofs.dispatch.view_body.Goals as goal
 
 pub returns-clause-meets : goal.returns-clause-meets

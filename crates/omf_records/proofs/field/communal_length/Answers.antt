@@ -2,7 +2,7 @@ use Rattle.std.proofs.Common.{refl, ap, sym, ◌∙◌, Err}
 use Rattle.omf_frame.specs.Fault.{Fault}
 use Rattle.omf_frame.specs.Fields.{IsCommunalLength}
 use Rattle.omf_records.specs.Layout.{length_reason}
-use Rattle.omf_records.specs.FieldReaders.{length_read, length_ok, length_again, length_refused}
+use Rattle.omf_records.specs.Inner.FieldReaders.{length_read, length_ok, length_again, length_refused}
 use Rattle.omf_records.proofs.FieldGives.{found, not_found}
 use Rattle.omf_records.proofs.field.communal_length.Goals as goal
 

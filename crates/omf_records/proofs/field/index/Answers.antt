@@ -1,5 +1,5 @@
 use Rattle.omf_frame.specs.Fields.{IsIndex}
-use Rattle.omf_records.specs.FieldReaders.{index_read, index_ok, index_again, index_short}
+use Rattle.omf_records.specs.Inner.FieldReaders.{index_read, index_ok, index_again, index_short}
 use Rattle.omf_records.proofs.FieldGives.{field_gives}
 use Rattle.omf_records.proofs.field.index.Goals as goal
 

@@ -1,7 +1,7 @@
 use Rattle.std.proofs.Common.{ap, sym, ◌∙◌, Err}
 use Rattle.omf_frame.specs.Fault.{Fault}
 use Rattle.omf_frame.specs.Fields.{IsLittle}
-use Rattle.omf_records.specs.FieldReaders.{le_read, le_ok, le_short, short}
+use Rattle.omf_records.specs.Inner.FieldReaders.{le_read, le_ok, le_short, short}
 use Rattle.omf_records.proofs.FieldGives.{not_found}
 use Rattle.omf_records.proofs.field.le16.Goals as goal
 

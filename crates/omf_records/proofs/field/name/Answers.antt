@@ -1,5 +1,5 @@
 use Rattle.omf_frame.specs.Fields.{IsName}
-use Rattle.omf_records.specs.FieldReaders.{name_read, name_ok, name_again, name_short}
+use Rattle.omf_records.specs.Inner.FieldReaders.{name_read, name_ok, name_again, name_short}
 use Rattle.omf_records.proofs.FieldGives.{field_gives}
 use Rattle.omf_records.proofs.field.name.Goals as goal
 

@@ -1,5 +1,5 @@
 use Rattle.std.proofs.Common.{◌≡◌, ◌++◌, flat_map}
-use Rattle.omf_records.specs.Begins.{Begins}
+use Rattle.omf_records.specs.Inner.Begins.{Begins}
 use Rattle.omf_records.proofs.item.put_items.Given as goal
 
 -- what is written, and the spellings of the items that are left; what was there is kept

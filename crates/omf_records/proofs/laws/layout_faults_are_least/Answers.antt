@@ -1,4 +1,4 @@
-use Rattle.omf_records.specs.LawProofs.{least_of_faults}
+use Rattle.omf_records.specs.Inner.LawProofs.{least_of_faults}
 use Rattle.omf_records.proofs.laws.layout_faults_are_least.Goals as goal
 
 pub returns : goal.returns

@@ -1,4 +1,4 @@
-use Rattle.omf_records.specs.LawProofs.{decided}
+use Rattle.omf_records.specs.Inner.LawProofs.{decided}
 use Rattle.omf_records.proofs.laws.layouts_are_decided.Goals as goal
 
 pub returns : goal.returns

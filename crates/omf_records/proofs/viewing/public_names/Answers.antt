@@ -1,7 +1,7 @@
 use Rattle.std.proofs.Common.{◌≡◌, Bool, sym, subst}
-use Rattle.omf_records.specs.Reads.{each}
-use Rattle.omf_records.specs.Unread.{IsKnown}
-use Rattle.omf_records.specs.EntryReaders.{public_reader}
+use Rattle.omf_records.specs.Inner.Reads.{each}
+use Rattle.omf_records.specs.Inner.Unread.{IsKnown}
+use Rattle.omf_records.specs.Inner.EntryReaders.{public_reader}
 use Rattle.omf_records.proofs.viewing.public_names.Goals as goal
 
 pub all-requires : goal.all-requires

@@ -1,5 +1,5 @@
 use Rattle.std.proofs.Common.{sym, ap, ◌∙◌, is_ok}
-use Rattle.omf_records.specs.Reading.{read_body}
+use Rattle.omf_records.specs.Inner.Reading.{read_body}
 use Rattle.omf_records_tests.proofs.tests.keeps.Goals as goal
 
 pub view_known-known-requires-clause-spelled : goal.view_known-known-requires-clause-spelled

@@ -1,8 +1,8 @@
 use Rattle.std.proofs.Common.{◌≡◌, ◌∙◌, sym, ap, refl, is_ok, true, false, List, Result, Ok, Err}
 use Rattle.std.specs.Prelude.{IsOk}
 use Rattle.omf_frame.specs.Fault.{Fault}
-use Rattle.omf_records.specs.Reading.{read_body}
-use Rattle.omf_records.specs.Unread.{fixups_read}
+use Rattle.omf_records.specs.Inner.Reading.{read_body}
+use Rattle.omf_records.specs.Inner.Unread.{fixups_read}
 use Rattle.omf_records.specs.Values.{At, Subrecord}
 use Rattle.omf_records_tests.proofs.tests.put_direct.Goals as goal
 

@@ -2,11 +2,11 @@ use Rattle.std.proofs.Common.{◌++◌, ◌∙◌, ap, sym, subst, List, append_
 use Rattle.std.specs.Prelude.{All, map, flat_map}
 use Rattle.std.proofs.lemmas.List.Elements.{All-head, All-tail}
 use Rattle.omf_frame.specs.declared.fault.Place.{Place}
-use Rattle.omf_records.specs.Seen.{rec_seen}
+use Rattle.omf_records.specs.Inner.Seen.{rec_seen}
 use Rattle.omf_records.specs.Values.{Rec}
 use Rattle.omf_check.specs.Module.{records_in}
 use Rattle.omf_check.specs.WellFormed.{recs}
-use Rattle.omf_reloc.specs.Measuring.{measured, CanMeasure}
+use Rattle.omf_reloc.specs.Inner.Measuring.{measured, CanMeasure}
 use Rattle.omf_reloc.proofs.MeasureLaws.{all-measure}
 use Rattle.omf_reloc.proofs.WalkedLaws.{records-listed}
 use Rattle.omf_reloc.proofs.measuring.extents.Goals as goal

@@ -2,7 +2,7 @@ use Rattle.std.proofs.Common.{◌≡◌, ◌++◌}
 use Rattle.std.specs.Prelude.{All, map, flat_map}
 use Rattle.omf_check.specs.Module.{records_in}
 use Rattle.omf_check.specs.WellFormed.{recs}
-use Rattle.omf_reloc.specs.Measuring.{measured, CanMeasure}
+use Rattle.omf_reloc.specs.Inner.Measuring.{measured, CanMeasure}
 use Rattle.omf_reloc.proofs.measuring.extents.Given as goal
 
 -- the intervals so far, with those of the records to come, are all of them

@@ -1,7 +1,7 @@
 use Rattle.std.proofs.Common.{[], ◌∷◌, ◌∙◌, ap, sym, subst, ℕ}
-use Rattle.omf_records.specs.Seen.{kind_seen, contents_seen, rec_seen}
+use Rattle.omf_records.specs.Inner.Seen.{kind_seen, contents_seen, rec_seen}
 use Rattle.omf_image.specs.declared.painting.Extent.{Extent}
-use Rattle.omf_reloc.specs.Measuring.{measured, HasMeasure}
+use Rattle.omf_reloc.specs.Inner.Measuring.{measured, HasMeasure}
 use Rattle.omf_reloc.proofs.measuring.measure.Goals as goal
 
 pub blocks_len-requires : goal.blocks_len-requires

@@ -1,6 +1,6 @@
 use Rattle.std.proofs.Common.{sym, ◌∙◌, ap}
 use Rattle.omf_reloc.specs.Offsets.{outcome_at}
-use Rattle.omf_reloc.specs.Placed.{fixupp_type}
+use Rattle.omf_reloc.specs.Inner.Widths.{fixupp_type}
 use Rattle.omf_reloc.specs.Plain.{PlainFixup}
 use Rattle.omf_reloc.proofs.OffsetLaws.{segment_relative_outcome, self_relative_outcome}
 use Rattle.omf_reloc.proofs.offset.outcome.Goals as goal

@@ -5,7 +5,7 @@ use Rattle.omf_image.specs.Limits.{profile_limits}
 use Rattle.omf_records.specs.Values.{Rec}
 use Rattle.omf_check.specs.Module.{records_in}
 use Rattle.omf_check.specs.WellFormed.{recs}
-use Rattle.omf_reloc.specs.Pieces.{given, placed_pieces, reference_places}
+use Rattle.omf_reloc.specs.Inner.Pieces.{given, placed_pieces, reference_places}
 use Rattle.omf_reloc.proofs.PieceLaws.{pieces-listed, pieces-placed, records-set}
 use Rattle.omf_reloc.proofs.WalkedLaws.{records-listed}
 use Rattle.omf_reloc.proofs.pieces.pieces_of.Goals as goal

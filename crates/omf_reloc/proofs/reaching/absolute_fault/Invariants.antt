@@ -3,7 +3,7 @@ use Rattle.std.specs.Prelude.{slice_get}
 use Rattle.omf_check.specs.Module.{records_in}
 use Rattle.omf_check.specs.Tables.{segments}
 use Rattle.omf_check.specs.WellFormed.{recs}
-use Rattle.omf_reloc.specs.ReachSteps.{misplaced_from}
+use Rattle.omf_reloc.specs.Inner.ReachSteps.{misplaced_from}
 use Rattle.omf_reloc.proofs.reaching.absolute_fault.Given as goal
 
 -- the first fault of the segments to come is the first of all

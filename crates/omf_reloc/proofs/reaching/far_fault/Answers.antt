@@ -3,7 +3,7 @@ use Rattle.std.specs.Prelude.{slice_get}
 use Rattle.omf_image.specs.Limits.{profile_limits}
 use Rattle.omf_check.specs.Module.{records_in}
 use Rattle.omf_check.specs.WellFormed.{recs}
-use Rattle.omf_reloc.specs.ReachSteps.{CanJudgeAll, pieces_far}
+use Rattle.omf_reloc.specs.Inner.ReachSteps.{CanJudgeAll, pieces_far}
 use Rattle.omf_reloc.proofs.FarLaws.{without_places, far-walked}
 use Rattle.omf_reloc.proofs.JudgeLaws.{judged-all}
 use Rattle.omf_reloc.proofs.reaching.far_fault.Goals as goal

@@ -3,7 +3,7 @@ use Rattle.std.specs.Prelude.{map, slice_get}
 use Rattle.omf_check.specs.Module.{records_in}
 use Rattle.omf_check.specs.WellFormed.{recs}
 use Rattle.omf_reloc.specs.Reach.{far_faults}
-use Rattle.omf_reloc.specs.ReachSteps.{pieces_far, CanJudgeAll}
+use Rattle.omf_reloc.specs.Inner.ReachSteps.{pieces_far, CanJudgeAll}
 use Rattle.omf_reloc.proofs.reaching.far_fault.Given as goal
 
 -- the first fault of the pieces to come is the first of all

@@ -1,9 +1,9 @@
 use Rattle.std.proofs.Common.{◌∙◌, sym, ap, subst}
 use Rattle.std.specs.Prelude.{IsOk}
-use Rattle.omf_records.specs.Seen.{odd_if}
+use Rattle.omf_records.specs.Inner.Seen.{odd_if}
 use Rattle.omf_records.specs.Values.{width}
 use Rattle.omf_image.specs.Blocks.{count_size}
-use Rattle.omf_image.specs.Expanding.{expanded, expanded_length}
+use Rattle.omf_image.specs.Inner.Expanding.{expanded, expanded_length}
 use Rattle.omf_image.specs.Limits.{profile_limits}
 use Rattle.omf_reloc.proofs.MeasureLaws.{by-width}
 use Rattle.omf_reloc.proofs.relocating.expanded.Goals as goal

@@ -1,21 +1,18 @@
 use Rattle.std.proofs.Common.{◌∙◌, ap, sym, subst, [], List, None}
 use Rattle.std.specs.Prelude.{All, map, slice_get}
-use Rattle.omf_frame.specs.declared.fault.Place.{Place}
 use Rattle.omf_image.specs.Overlay.{AreLaidOver}
 use Rattle.omf_image.specs.Limits.{profile_limits}
 use Rattle.omf_image.specs.Painting.{all_zeros, Fits}
 use Rattle.omf_check.specs.Module.{records_in}
 use Rattle.omf_check.specs.WellFormed.{recs}
-use Rattle.omf_reloc.specs.PieceSeen.{piece_seen}
-use Rattle.omf_reloc.specs.Plain.{Piece}
-use Rattle.omf_reloc.specs.Reach.{far_faults}
-use Rattle.omf_reloc.specs.ReachSteps.{CanJudgeAll, pieces_far}
-use Rattle.omf_reloc.specs.Walking.{Walk, open_place}
+use Rattle.omf_reloc.specs.Inner.PieceSeen.{piece_seen}
+use Rattle.omf_reloc.specs.Inner.ReachSteps.{CanJudgeAll, pieces_far}
+use Rattle.omf_reloc.specs.Inner.Walking.{Walk, open_place}
 use Rattle.omf_reloc.proofs.FarLaws.{without_places, far-walked}
 use Rattle.omf_reloc.proofs.JudgeLaws.{judged-all}
 use Rattle.omf_reloc.proofs.MeasureLaws.{all-fit, zeros-lost}
-use Rattle.omf_reloc.proofs.ReachedLaws.{can-here, can-rest, pieces-go}
-use Rattle.omf_reloc.proofs.WalkedLaws.{IsWalked, first-walk, walk-first, can-walk, walk-next, walk-last, has-offsets, place-opened}
+use Rattle.omf_reloc.proofs.ReachedLaws.{can-here}
+use Rattle.omf_reloc.proofs.WalkedLaws.{IsWalked, first-walk, walk-first, can-walk, go-on, walk-last, has-offsets}
 use Rattle.omf_reloc.proofs.relocating.walked.Goals as goal
 
 pub painted-requires : goal.painted-requires
@@ -48,37 +45,11 @@ take-requires-clause-walk c =
 
 pub loop-place-preserved-in_default : goal.loop-place-preserved-in_default
 loop-place-preserved-in_default c =
-    let pl = c.args.placement.now in
-    let m = recs (records_in c.args.module.now.bytes) in
-    let w = c.loop-place.walk in
-    let p = piece_seen c.in-Some.piece in
-    let n = c.in_ok-cause.ensures.next in
-    let x : Place × Piece = (c.in-Some.place, p) in
-    let moved = ap open_place n.open_data ∙ place-opened pl p w.open_data in
-    record {
-      walked = walk-next c.new-walk.result.image pl m c.pieces_of-place-items.ensures.holds w p (without_places c.next.new.self)
-          (subst (λ xs. IsWalked c.new-walk.result.image pl m w (without_places xs)) c.in-Some.ensures.steps c.loop-place.invariant.walked) c.take.new.self n;
-      can = can-rest pl (open_place w.open_data) c.loop-place.place-iterator c.next.new.self x c.in-Some.ensures.steps (open_place c.take.new.self.open_data) moved c.loop-place.invariant.can;
-      same = pieces-go pl (open_place w.open_data) c.loop-place.place-iterator c.next.new.self x c.in-Some.ensures.steps (slice_get (far_faults pl m) 0) c.in_ok-cause.field-0 c.in_ok-cause.ensures.cause
-          c.loop-place.invariant.same c.in_default.is (open_place c.take.new.self.open_data) moved;
-    }
+    go-on (c.in-Some.place, piece_seen c.in-Some.piece) c.pieces_of-place-items.ensures.holds c.in-Some.ensures.steps c.in_ok-cause.ensures.next c.in_ok-cause.ensures.cause c.in_default.is c.loop-place.invariant
 
 pub loop-place-preserved : goal.loop-place-preserved
 loop-place-preserved c =
-    let pl = c.args.placement.now in
-    let m = recs (records_in c.args.module.now.bytes) in
-    let w = c.loop-place.walk in
-    let p = piece_seen c.in-Some.piece in
-    let n = c.in_ok-cause.ensures.next in
-    let x : Place × Piece = (c.in-Some.place, p) in
-    let moved = ap open_place n.open_data ∙ place-opened pl p w.open_data in
-    record {
-      walked = walk-next c.new-walk.result.image pl m c.pieces_of-place-items.ensures.holds w p (without_places c.next.new.self)
-          (subst (λ xs. IsWalked c.new-walk.result.image pl m w (without_places xs)) c.in-Some.ensures.steps c.loop-place.invariant.walked) c.take.new.self n;
-      can = can-rest pl (open_place w.open_data) c.loop-place.place-iterator c.next.new.self x c.in-Some.ensures.steps (open_place c.take.new.self.open_data) moved c.loop-place.invariant.can;
-      same = pieces-go pl (open_place w.open_data) c.loop-place.place-iterator c.next.new.self x c.in-Some.ensures.steps (slice_get (far_faults pl m) 0) c.in_ok-cause.field-0 c.in_ok-cause.ensures.cause
-          c.loop-place.invariant.same c.in_default.is (open_place c.take.new.self.open_data) moved;
-    }
+    go-on (c.in-Some.place, piece_seen c.in-Some.piece) c.pieces_of-place-items.ensures.holds c.in-Some.ensures.steps c.in_ok-cause.ensures.next c.in_ok-cause.ensures.cause c.in_default.is c.loop-place.invariant
 
 pub finish-requires : goal.finish-requires
 finish-requires c =

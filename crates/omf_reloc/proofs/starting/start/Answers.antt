@@ -3,8 +3,8 @@ use Rattle.omf_check.specs.Module.{records_in}
 use Rattle.omf_check.specs.WellFormed.{recs}
 use Rattle.omf_reloc.specs.Image.{start_at}
 use Rattle.omf_reloc.specs.Offsets.{start_offset}
-use Rattle.omf_reloc.specs.Placed.{modend_type}
-use Rattle.omf_reloc.specs.Walking.{HasStart}
+use Rattle.omf_reloc.specs.Inner.Widths.{modend_type}
+use Rattle.omf_reloc.specs.Inner.Walking.{HasStart}
 use Rattle.omf_reloc.proofs.EndLaws.{seen-end, none-here, none-named, frame-set, target-set, has-start, start-found}
 use Rattle.omf_reloc.proofs.starting.start.Goals as goal
 

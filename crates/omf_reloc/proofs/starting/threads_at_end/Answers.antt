@@ -2,10 +2,10 @@ use Rattle.std.proofs.Common.{◌≡◌, ◌∙◌, ap, subst, List}
 use Rattle.std.specs.Prelude.{map}
 use Rattle.omf_frame.specs.declared.fault.Place.{Place}
 use Rattle.omf_records.specs.Values.{Rec}
-use Rattle.omf_check.specs.Kept.{no_threads}
+use Rattle.omf_check.specs.Inner.Kept.{no_threads}
 use Rattle.omf_check.specs.Module.{records_in}
 use Rattle.omf_check.specs.WellFormed.{recs}
-use Rattle.omf_reloc.specs.Walking.{threads_through}
+use Rattle.omf_reloc.specs.Inner.Walking.{threads_through}
 use Rattle.omf_reloc.proofs.WalkedLaws.{records-listed}
 use Rattle.omf_reloc.proofs.starting.threads_at_end.Goals as goal
 

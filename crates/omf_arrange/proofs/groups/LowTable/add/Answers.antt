@@ -1,5 +1,5 @@
 use Rattle.std.proofs.Common.{◌∙◌, ap}
-use Rattle.omf_placement.specs.Lowest.{lower_than}
+use Rattle.omf_placement.specs.Inner.Lowest.{lower_than}
 use Rattle.omf_arrange.proofs.LowLaws.{low-more}
 use Rattle.omf_arrange.proofs.groups.LowTable.add.Goals as goal
 

@@ -3,7 +3,7 @@ use Rattle.std.specs.Prelude.{Some, option_map}
 use Rattle.omf_check.specs.Module.{records_in}
 use Rattle.omf_check.specs.Tables.{groups, entry}
 use Rattle.omf_check.specs.WellFormed.{recs}
-use Rattle.omf_records.specs.Seen.{contents_seen}
+use Rattle.omf_records.specs.Inner.Seen.{contents_seen}
 use Rattle.omf_records.specs.Values.{Group}
 use Rattle.omf_layout.proofs.Printed.{group-here}
 use Rattle.omf_arrange.specs.Placing.{frame_named}

@@ -1,9 +1,9 @@
 use Rattle.std.proofs.Common.{◌≡◌, ◌≤◌, ◌++◌, ◌∙◌, List, ℕ, length, ap, ap₂, sym, subst}
 use Rattle.std.specs.Prelude.{OnOk}
 use Rattle.omf_records.proofs.ShortestLaws.{shown}
-use Rattle.omf_records.specs.Seen.{kind_seen, contents_seen}
+use Rattle.omf_records.specs.Inner.Seen.{kind_seen, contents_seen}
 use Rattle.omf_records.specs.Shortest.{contents_bytes}
-use Rattle.omf_canon.specs.Writing.{closed, record_bytes}
+use Rattle.omf_canon.specs.Inner.Writing.{closed, record_bytes}
 use Rattle.omf_canon.proofs.writing.Walk.keep.Goals as goal
 
 pub write-requires : goal.write-requires

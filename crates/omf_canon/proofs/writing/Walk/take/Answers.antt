@@ -1,4 +1,4 @@
-use Rattle.omf_records.specs.Reading.{read_body}
+use Rattle.omf_records.specs.Inner.Reading.{read_body}
 use Rattle.omf_canon.proofs.TakingLaws.{fixups-set, fixups-values}
 use Rattle.omf_canon.proofs.writing.Walk.take.Goals as goal
 

@@ -1,12 +1,12 @@
 use Rattle.std.proofs.Common.{ap, subst, sym, ◌∙◌, List, Result, Ok}
 use Rattle.std.specs.Prelude.{All, IsOkAnd}
 use Rattle.omf_frame.specs.Fault.{Fault}
-use Rattle.omf_records.specs.Unread.{NextGives}
+use Rattle.omf_records.specs.Inner.Unread.{NextGives}
 use Rattle.omf_records.specs.Valued.{IsSubrecordValue}
 use Rattle.omf_records.specs.Values.{At, Subrecord}
-use Rattle.omf_check.specs.Kept.{set_thread}
-use Rattle.omf_reloc.specs.Pieces.{SubrecordIsSet, SubrecordsAreSet}
-use Rattle.omf_canon.specs.Writing.{subrecord_piece, ArePut}
+use Rattle.omf_check.specs.Inner.Kept.{set_thread}
+use Rattle.omf_reloc.specs.Inner.Pieces.{SubrecordIsSet, SubrecordsAreSet}
+use Rattle.omf_canon.specs.Inner.Writing.{subrecord_piece, ArePut}
 use Rattle.omf_canon.proofs.DirectLaws.{take-joined, take-kept}
 use Rattle.omf_canon.proofs.TakingLaws.{ok-and, take-first, take-set, take-value, take-next, take-last-set, take-last-put, take-never, take-readable}
 use Rattle.omf_canon.proofs.writing.Walk.take_fixups.Goals as goal
@@ -15,41 +15,32 @@ pub join_direct-requires : goal.join_direct-requires
 join_direct-requires c =
     let l = c.walk in
     let whole = ok-and c.args.subrecords.items (SubrecordsAreSet c.args.self.now.threads) c.requires.set in
-    take-readable c.args.kind c.args.self.now.threads c.args.self.now.out.items c.args.self.now.group whole.0 l.self.threads l.self.out.items l.self.group l.subrecords.items (l.invariant whole.0 whole.1)
+    take-readable (l.invariant whole.0 whole.1)
 
 pub returns-in-Ok-None-clause-put : goal.returns-in-Ok-None-clause-put
 returns-in-Ok-None-clause-put c subs e =
     let l = c.walk in
     let j = c.join_direct in
     let n = j.new in
-    let w = c.args.self.now in
-    let kept = take-kept c.args.kind w.threads w.out.items w.group subs l.self.threads l.self.out.items l.self.group l.subrecords (l.invariant subs e)
-    n.subrecords n.self.threads n.self.out.items n.self.group (j.ensures.left c.if-join_direct.false) (j.ensures.group c.if-join_direct.false) j.ensures.out j.ensures.threads in
-    take-last-put c.args.kind w.threads w.out.items w.group subs n.self.threads n.self.out.items n.self.group n.subrecords.items kept
-    (subst (λ o. NextGives n.subrecords (Ok o) c.read_next.new.self) c.in-Ok-None.field-0-is c.in-Ok-None.ensures).0
+    let kept = take-kept l.subrecords (l.invariant subs e) (j.ensures.left c.if-join_direct.false) (j.ensures.group c.if-join_direct.false) j.ensures.out j.ensures.threads in
+    take-last-put kept (subst (λ o. NextGives n.subrecords (Ok o) c.read_next.new.self) c.in-Ok-None.field-0-is c.in-Ok-None.ensures).0
 
 pub returns-in-Ok-None-clause-threads : goal.returns-in-Ok-None-clause-threads
 returns-in-Ok-None-clause-threads c subs e =
     let l = c.walk in
     let j = c.join_direct in
     let n = j.new in
-    let w = c.args.self.now in
-    let kept = take-kept c.args.kind w.threads w.out.items w.group subs l.self.threads l.self.out.items l.self.group l.subrecords (l.invariant subs e)
-    n.subrecords n.self.threads n.self.out.items n.self.group (j.ensures.left c.if-join_direct.false) (j.ensures.group c.if-join_direct.false) j.ensures.out j.ensures.threads in
-    take-last-set c.args.kind w.threads w.out.items w.group subs n.self.threads n.self.out.items n.self.group n.subrecords.items kept
-    (subst (λ o. NextGives n.subrecords (Ok o) c.read_next.new.self) c.in-Ok-None.field-0-is c.in-Ok-None.ensures).0
+    let kept = take-kept l.subrecords (l.invariant subs e) (j.ensures.left c.if-join_direct.false) (j.ensures.group c.if-join_direct.false) j.ensures.out j.ensures.threads in
+    take-last-set kept (subst (λ o. NextGives n.subrecords (Ok o) c.read_next.new.self) c.in-Ok-None.field-0-is c.in-Ok-None.ensures).0
 
 pub unreachable-requires : goal.unreachable-requires
 unreachable-requires c =
     let l = c.walk in
     let j = c.join_direct in
-    let n = j.new in
     let w = c.args.self.now in
     let whole = ok-and c.args.subrecords.items (SubrecordsAreSet w.threads) c.requires.set in
-    let kept = take-kept c.args.kind w.threads w.out.items w.group whole.0 l.self.threads l.self.out.items l.self.group l.subrecords (l.invariant whole.0 whole.1)
-    n.subrecords n.self.threads n.self.out.items n.self.group (j.ensures.left c.if-join_direct.false) (j.ensures.group c.if-join_direct.false) j.ensures.out j.ensures.threads in
-    take-never c.args.kind w.threads w.out.items w.group whole.0 n.self.threads n.self.out.items n.self.group n.subrecords.items kept
-    _ c.in-Err.ensures.0
+    let kept = take-kept l.subrecords (l.invariant whole.0 whole.1) (j.ensures.left c.if-join_direct.false) (j.ensures.group c.if-join_direct.false) j.ensures.out j.ensures.threads in
+    take-never kept _ c.in-Err.ensures.0
 
 pub walk-init : goal.walk-init
 walk-init c whole e =
@@ -65,11 +56,9 @@ take_subrecord-requires-clause-set c =
     let n = j.new in
     let w = c.args.self.now in
     let whole = ok-and c.args.subrecords.items (SubrecordsAreSet w.threads) c.requires.set in
-    let kept = take-kept c.args.kind w.threads w.out.items w.group whole.0 l.self.threads l.self.out.items l.self.group l.subrecords (l.invariant whole.0 whole.1)
-    n.subrecords n.self.threads n.self.out.items n.self.group (j.ensures.left c.if-join_direct.false) (j.ensures.group c.if-join_direct.false) j.ensures.out j.ensures.threads in
+    let kept = take-kept l.subrecords (l.invariant whole.0 whole.1) (j.ensures.left c.if-join_direct.false) (j.ensures.group c.if-join_direct.false) j.ensures.out j.ensures.threads in
     subst (λ s. SubrecordIsSet n.self.threads s.item) (sym c.subrecord.view_is)
-    (take-set c.args.kind w.threads w.out.items w.group whole.0 n.self.threads n.self.out.items n.self.group n.subrecords.items kept
-    c.in-Ok-Some.subrecord c.read_next.new.self.items
+    (take-set kept c.in-Ok-Some.subrecord c.read_next.new.self.items
     (subst (λ o. NextGives n.subrecords (Ok o) c.read_next.new.self) c.in-Ok-Some.field-0-is c.in-Ok-Some.ensures).0)
 
 pub take_subrecord-requires-clause-value : goal.take_subrecord-requires-clause-value
@@ -79,33 +68,25 @@ take_subrecord-requires-clause-value c =
     let n = j.new in
     let w = c.args.self.now in
     let whole = ok-and c.args.subrecords.items (SubrecordsAreSet w.threads) c.requires.set in
-    let kept = take-kept c.args.kind w.threads w.out.items w.group whole.0 l.self.threads l.self.out.items l.self.group l.subrecords (l.invariant whole.0 whole.1)
-    n.subrecords n.self.threads n.self.out.items n.self.group (j.ensures.left c.if-join_direct.false) (j.ensures.group c.if-join_direct.false) j.ensures.out j.ensures.threads in
+    let kept = take-kept l.subrecords (l.invariant whole.0 whole.1) (j.ensures.left c.if-join_direct.false) (j.ensures.group c.if-join_direct.false) j.ensures.out j.ensures.threads in
     subst (λ s. IsSubrecordValue c.args.kind s.item) (sym c.subrecord.view_is)
-    (take-value c.args.kind w.threads w.out.items w.group whole.0 n.self.threads n.self.out.items n.self.group n.subrecords.items kept
-    c.in-Ok-Some.subrecord c.read_next.new.self.items
+    (take-value kept c.in-Ok-Some.subrecord c.read_next.new.self.items
     (subst (λ o. NextGives n.subrecords (Ok o) c.read_next.new.self) c.in-Ok-Some.field-0-is c.in-Ok-Some.ensures).0)
 
 pub walk-preserved-then-join_direct : goal.walk-preserved-then-join_direct
 walk-preserved-then-join_direct c whole e =
     let l = c.walk in
     let j = c.join_direct in
-    let n = j.new in
-    let w = c.args.self.now in
-    take-joined c.args.kind w.threads w.out.items w.group whole l.self.threads l.self.out.items l.self.group l.subrecords (l.invariant whole e)
-    n.subrecords n.self.threads n.self.out.items n.self.group (j.ensures.joined c.if-join_direct.true) j.ensures.out j.ensures.threads
+    take-joined l.subrecords (l.invariant whole e) (j.ensures.joined c.if-join_direct.true) j.ensures.out j.ensures.threads
 
 pub walk-preserved : goal.walk-preserved
 walk-preserved c whole e =
     let l = c.walk in
     let j = c.join_direct in
     let n = j.new in
-    let w = c.args.self.now in
     let m = c.take_subrecord.new.self in
-    let kept = take-kept c.args.kind w.threads w.out.items w.group whole l.self.threads l.self.out.items l.self.group l.subrecords (l.invariant whole e)
-    n.subrecords n.self.threads n.self.out.items n.self.group (j.ensures.left c.if-join_direct.false) (j.ensures.group c.if-join_direct.false) j.ensures.out j.ensures.threads in
-    take-next c.args.kind w.threads w.out.items w.group whole n.self.threads n.self.out.items n.self.group n.subrecords.items kept
-    c.in-Ok-Some.subrecord c.read_next.new.self.items
+    let kept = take-kept l.subrecords (l.invariant whole e) (j.ensures.left c.if-join_direct.false) (j.ensures.group c.if-join_direct.false) j.ensures.out j.ensures.threads in
+    take-next kept c.in-Ok-Some.subrecord c.read_next.new.self.items
     (subst (λ o. NextGives n.subrecords (Ok o) c.read_next.new.self) c.in-Ok-Some.field-0-is c.in-Ok-Some.ensures).0
     m.threads m.out.items m.group
     (c.in_ok-take_subrecord.ensures.threads ∙ ap (λ s. set_thread n.self.threads s.item) c.subrecord.view_is)

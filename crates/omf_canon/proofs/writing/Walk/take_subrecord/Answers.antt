@@ -1,5 +1,5 @@
 use Rattle.std.proofs.Common.{◌≡◌, ◌∙◌, ap, sym}
-use Rattle.omf_records.specs.Parts.{part_seen}
+use Rattle.omf_records.specs.Inner.Parts.{part_seen}
 use Rattle.omf_records.specs.declared.subrecord.Part.TheVariants as part
 use Rattle.omf_canon.proofs.DirectLaws.{direct-put}
 use Rattle.omf_canon.proofs.TakingLaws.{fixup-put}

@@ -1,6 +1,6 @@
 use Rattle.std.proofs.Common.{◌+◌, ◌-◌, ◌∙◌, List, ◌∷◌, sym, ap, length}
 use Rattle.omf_frame.specs.declared.fault.Place.{Place}
-use Rattle.omf_records.specs.Seen.{rec_seen}
+use Rattle.omf_records.specs.Inner.Seen.{rec_seen}
 use Rattle.omf_records.specs.Values.{Rec}
 use Rattle.omf_check.specs.Module.{records_in}
 use Rattle.omf_check.specs.Listed.{placed_from}

@@ -1,5 +1,5 @@
 use Rattle.std.proofs.Common.{sym, subst, inr}
-use Rattle.omf_check.specs.Module.{IsChecked}
+use Rattle.omf_check.specs.Inner.Parts.{IsChecked}
 use Rattle.omf_check.specs.Session.{IsEndFault}
 use Rattle.omf_check.proofs.SessionLaws.{seen, state_of, stop_fault, stop_ok, checked_of, end_fault, framing_not_read}
 use Rattle.omf_check.proofs.session.Session.finish.Goals as goal

@@ -1,7 +1,7 @@
 use Rattle.std.proofs.Common.{ap, ◌∙◌}
 use Rattle.std.specs.Prelude.{is_none}
-use Rattle.omf_check.specs.Kept.{Kept}
-use Rattle.omf_check.specs.Judging.{location_fault, reference_fault}
+use Rattle.omf_check.specs.Inner.Kept.{Kept}
+use Rattle.omf_check.specs.Inner.Judging.{location_fault, reference_fault}
 use Rattle.omf_check.proofs.Lesser.{both_hold, first_fails}
 use Rattle.omf_check.proofs.table.Tables.has_fixup.Goals as goal
 

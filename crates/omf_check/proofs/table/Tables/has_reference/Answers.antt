@@ -1,5 +1,5 @@
 use Rattle.omf_check.specs.Rules.{judged_at}
-use Rattle.omf_check.specs.Judging.{frame_cell, frame_fault, target_cell, target_fault}
+use Rattle.omf_check.specs.Inner.Judging.{frame_cell, frame_fault, target_cell, target_fault}
 use Rattle.omf_check.proofs.Lesser.{both_hold, first_fails}
 use Rattle.omf_check.proofs.table.Tables.has_reference.Goals as goal
 

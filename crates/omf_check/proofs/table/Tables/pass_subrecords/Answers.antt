@@ -1,9 +1,9 @@
 use Rattle.std.proofs.Common.{◌≡◌, ◌∙◌, ℕ, ◌+◌, [], length, Ok, ap, sym, subst, refl, arith}
 use Rattle.std.specs.Prelude.{is_none}
-use Rattle.omf_records.specs.Unread.{NextGives}
+use Rattle.omf_records.specs.Inner.Unread.{NextGives}
 use Rattle.omf_check.specs.declared.threads.Threads.{Threads}
-use Rattle.omf_check.specs.Kept.{Kept, set_thread}
-use Rattle.omf_check.specs.Judging.{subrecord_fault}
+use Rattle.omf_check.specs.Inner.Kept.{Kept, set_thread}
+use Rattle.omf_check.specs.Inner.Judging.{subrecord_fault}
 use Rattle.omf_check.proofs.Walked.{passes_more, passes_full, passes_unsound, walks_whole}
 use Rattle.omf_check.proofs.table.Tables.pass_subrecords.Goals as goal
 

@@ -1,9 +1,9 @@
 use Rattle.std.proofs.Common.{ap, subst, ◌∙◌, Ok}
 use Rattle.std.specs.Prelude.{nat_lt}
 use Rattle.omf_frame.specs.declared.fault.Reason.TheVariants.{TooMany}
-use Rattle.omf_records.specs.Unread.{NextGives}
-use Rattle.omf_check.specs.Kept.{set_thread}
-use Rattle.omf_check.specs.Judging.{fault_unless, subrecord_fault}
+use Rattle.omf_records.specs.Inner.Unread.{NextGives}
+use Rattle.omf_check.specs.Inner.Kept.{set_thread}
+use Rattle.omf_check.specs.Inner.Judging.{fault_unless, subrecord_fault}
 use Rattle.omf_check.proofs.Walked.{walks_more, walks_whole}
 use Rattle.omf_check.proofs.table.Tables.subrecords_fault.Goals as goal
 

@@ -1,17 +1,17 @@
 use Rattle.std.proofs.Common.{◌≡◌, ◌∙◌, ℕ, Bool, false, is_some, ap, sym, subst}
-use Rattle.omf_records.specs.declared.record.Rec.{Rec as Told}
-use Rattle.omf_records.specs.Seen.{contents_seen, kind_seen, rec_seen}
-use Rattle.omf_records.specs.Unread.{is_fixupp}
+use Rattle.omf_records.specs.declared.record.Rec.{Rec as CodeRec}
+use Rattle.omf_records.specs.Inner.Seen.{contents_seen, kind_seen, rec_seen}
+use Rattle.omf_records.specs.Inner.Unread.{is_fixupp}
 use Rattle.omf_image.specs.Limits.{profile_limits}
-use Rattle.omf_check.specs.Kept.{IsBounded}
-use Rattle.omf_check.specs.Judging.{IsNoFixupp}
+use Rattle.omf_check.specs.Inner.Kept.{IsBounded}
+use Rattle.omf_check.specs.Inner.Judging.{IsNoFixupp}
 use Rattle.omf_check.proofs.RecordLaws.{fits_on, one_fits_on, not_fixupp}
 use Rattle.omf_check.proofs.ShortLaws.{spelled_short}
 use Rattle.omf_check.proofs.Walked.{walked_bounded}
 use Rattle.omf_check.proofs.table.Tables.take.Goals as goal
 
 -- what is no FIXUPP has none
-other : (given : Bool) (kind : ℕ) (rec : Told) → given ≡ false → given ≡ is_fixupp kind → kind_seen rec ≡ kind → IsNoFixupp (contents_seen rec)
+other : (given : Bool) (kind : ℕ) (rec : CodeRec) → given ≡ false → given ≡ is_fixupp kind → kind_seen rec ≡ kind → IsNoFixupp (contents_seen rec)
 other given kind rec none is same = not_fixupp rec (ap is_fixupp same ∙ sym is ∙ none)
 
 pub add-requires-clause-items : goal.add-requires-clause-items

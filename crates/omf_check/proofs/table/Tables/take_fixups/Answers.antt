@@ -1,7 +1,7 @@
 use Rattle.std.proofs.Common.{◌≡◌, ◌≤◌, ◌+◌, ℕ, length, sym, ap, ◌∙◌, arith}
 use Rattle.std.specs.Prelude.{max}
-use Rattle.omf_check.specs.Kept.{set_threads}
-use Rattle.omf_check.specs.Walking.{walk_fault}
+use Rattle.omf_check.specs.Inner.Kept.{set_threads}
+use Rattle.omf_check.specs.Inner.Walking.{walk_fault}
 use Rattle.omf_check.proofs.Walked.{nothing, some_fixups}
 use Rattle.omf_check.proofs.table.Tables.take_fixups.Goals as goal
 

@@ -1,5 +1,5 @@
 use Rattle.std.proofs.Common.{◌∙◌, ap}
-use Rattle.omf_check.specs.Kept.{set_thread}
+use Rattle.omf_check.specs.Inner.Kept.{set_thread}
 use Rattle.omf_check.proofs.Found.{threads_more}
 use Rattle.omf_check.proofs.threads.Threads.set_all.Goals as goal
 

@@ -1,5 +1,5 @@
 use Rattle.std.proofs.Common.{◌≡◌}
-use Rattle.omf_check.specs.Kept.{set_threads}
+use Rattle.omf_check.specs.Inner.Kept.{set_threads}
 use Rattle.omf_check.proofs.threads.Threads.set_all.Given as goal
 
 -- those to come set the others

@@ -1,7 +1,7 @@
 use Rattle.std.proofs.Common.{◌≡◌, ◌∙◌, ◌+◌, ◌∷◌, ◌++◌, [], take, get_or, sym, subst}
 use Rattle.std.proofs.lemmas.List.{take_more}
 use Rattle.omf_derive.specs.declared.given.Given.{Given}
-use Rattle.omf_derive.specs.GivenTable.{IsGivenTable}
+use Rattle.omf_derive.specs.Inner.GivenTable.{IsGivenTable}
 use Rattle.omf_derive.specs.Derive.{place_in}
 use Rattle.omf_derive.proofs.PairTableLaws.{again, first, looked-none, looked-some}
 use Rattle.omf_derive.proofs.given.GivenTable.of.Goals as goal

@@ -1,5 +1,5 @@
 use Rattle.std.proofs.Common.{take}
-use Rattle.omf_derive.specs.GivenTable.{IsGivenTable}
+use Rattle.omf_derive.specs.Inner.GivenTable.{IsGivenTable}
 use Rattle.omf_derive.proofs.given.GivenTable.of.Given as goal
 
 -- the entries so far are in the table

@@ -1,6 +1,6 @@
 use Rattle.std.proofs.Common.{◌≡◌, ap, ◌∙◌}
 use Rattle.omf_derive.specs.Derive.{PlacedPublic, public_at}
-use Rattle.omf_derive.specs.PublicTable.{found_after}
+use Rattle.omf_derive.specs.Inner.PublicTable.{found_after}
 use Rattle.omf_derive.proofs.TableLaws.{found_at, table-more}
 use Rattle.omf_derive.proofs.publics.PublicTable.add.Goals as goal
 

@@ -1,7 +1,7 @@
 use Rattle.std.proofs.Common.{◌∙◌, ◌+◌, [], ◌∷◌, ap, ap₂, subst}
 use Rattle.std.specs.Prelude.{OnOk}
 use Rattle.omf_derive.specs.Derive.{public_at}
-use Rattle.omf_derive.specs.PublicTable.{HasMore}
+use Rattle.omf_derive.specs.Inner.PublicTable.{HasMore}
 use Rattle.omf_derive.proofs.publics.PublicTable.add_public.Goals as goal
 
 pub returns : goal.returns

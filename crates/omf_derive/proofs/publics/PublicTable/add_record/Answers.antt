@@ -1,8 +1,8 @@
 use Rattle.std.proofs.Common.{◌≡◌, ◌∙◌, ap, ap₂, rules, sym, subst}
 use Rattle.std.specs.Prelude.{OnOk}
-use Rattle.omf_records.specs.Seen.{contents_seen}
+use Rattle.omf_records.specs.Inner.Seen.{contents_seen}
 use Rattle.omf_derive.specs.Derive.{base_of, placed_publics, publics_at}
-use Rattle.omf_derive.specs.PublicTable.{HasMore}
+use Rattle.omf_derive.specs.Inner.PublicTable.{HasMore}
 use Rattle.omf_derive.proofs.publics.PublicTable.add_record.Goals as goal
 
 pub returns-in-Publics : goal.returns-in-Publics

@@ -1,7 +1,7 @@
-use Rattle.omf_draft.specs.Names.{names_of}
-use Rattle.omf_draft.proofs.NameLaws.{IsFilled}
+use Rattle.omf_draft.specs.Names.{names_of, IsNameTable}
+use Rattle.omf_derive.proofs.Filling.{IsFilled}
 use Rattle.omf_draft.proofs.names.NameTable.add_items.Given as goal
 
 -- the names so far are in the table
 abbrev pub invariant-loop-public : goal.invariant-loop-public
-invariant-loop-public l = IsFilled l.fn.self.names l.self.names (names_of l.public-iterator) (names_of l.fn.items)
+invariant-loop-public l = IsFilled IsNameTable l.fn.self.names l.self.names (names_of l.public-iterator) (names_of l.fn.items)

@@ -1,6 +1,6 @@
 use Rattle.std.proofs.Common.{◌∙◌, ap, sym, subst}
 use Rattle.std.specs.Prelude.{OnOk}
-use Rattle.omf_records.specs.Seen.{contents_seen}
+use Rattle.omf_records.specs.Inner.Seen.{contents_seen}
 use Rattle.omf_draft.specs.Names.{HasMore, names_in, names_of}
 use Rattle.omf_draft.proofs.names.NameTable.add_record.Goals as goal
 

@@ -1,10 +1,11 @@
 use Rattle.std.proofs.Common.{◌≡◌, refl, ◌∙◌, ◌<◌, ◌-◌, ◌++◌, List, ℕ, [], sym, ap, subst, length, drop, arith, rules}
 use Rattle.std.specs.Prelude.{IsOk}
 use Rattle.std.proofs.lemmas.Result.{IfOk-weaker}
-use Rattle.omf_records.specs.Reads.{Reading}
+use Rattle.omf_records.specs.Inner.Reads.{Reading}
 use Rattle.omf_image.specs.Blocks.{count_size, repeated}
-use Rattle.omf_image.specs.Copying.{bytes_block, bytes_times}
-use Rattle.omf_image.proofs.CopySteps.{block_levels, block_counts, block_words, contents_are, block_is, moves_then, moves_as, moves_none, times_contents, times_ok, times_step, written_again, back_part, wanted_more, wanted_all, wanted_nothing, unwanted}
+use Rattle.omf_image.specs.Inner.Copying.{copies, bytes_block, bytes_times}
+use Rattle.omf_image.proofs.FoldSteps.{block_ok, times_contents, times_step}
+use Rattle.omf_image.proofs.CopySteps.{block_some, block_levels, block_counts, block_words, contents_are, moves_then, moves_as, moves_none, times_ok, written_again, back_part, wanted_more, wanted_all, wanted_nothing, unwanted}
 use Rattle.omf_image.proofs.copier.Copier.+copies.Goals as goal
 
 pub block-count-count-requires : goal.block-count-count-requires
@@ -49,7 +50,7 @@ block-returns-then-not-is_wanted t c =
     let count : ℕ = c.count-count.result.0 in
     IfOk-weaker c.contents.result _ _ (λ end h. record {
       value = repeated count h.value;
-      is = block_is w c.args.levels c.args.pos rest c.requires.1 count c.count-count.result.1 _ c.count-count.ensures.is c.word-blocks.result.0 c.word-blocks.result.1 _ c.word-blocks.ensures.is h.value end _ h.is;
+      is = block_ok copies w c.args.levels c.args.pos rest (block_some w c.args.levels c.args.pos rest c.requires.1) count c.count-count.result.1 _ c.count-count.ensures.is c.word-blocks.result.0 c.word-blocks.result.1 _ c.word-blocks.ensures.is h.value end _ h.is;
       from = omega (arith, h.from, c.word-blocks.ensures.from, c.count-count.ensures.from);
       to = h.to;
       moves = moves_as (moves_then (moves_then c.count-count.ensures.moves c.word-blocks.ensures.moves) h.moves)
@@ -63,7 +64,7 @@ block-returns t c =
     let count : ℕ = c.count-count.result.0 in
     let x : List ℕ = c.in_ok-end.ensures.value in
     let old : List ℕ = c.word-blocks.new.self.out.items in
-    let is = block_is w c.args.levels c.args.pos rest c.requires.1 count c.count-count.result.1 _ c.count-count.ensures.is c.word-blocks.result.0 c.word-blocks.result.1 _ c.word-blocks.ensures.is
+    let is = block_ok copies w c.args.levels c.args.pos rest (block_some w c.args.levels c.args.pos rest c.requires.1) count c.count-count.result.1 _ c.count-count.ensures.is c.word-blocks.result.0 c.word-blocks.result.1 _ c.word-blocks.ensures.is
     x c.in_ok-end.end _ c.in_ok-end.ensures.is in
     let from : c.written-from.result ≡ length old = search rules in
     let back : drop c.written-from.result c.contents-2.new.self.out.items ≡ x = back_part old c.contents-2.new.self.out.items x c.written-from.result c.in_ok-end.ensures.moves.appended from in
@@ -93,7 +94,7 @@ contents-block-requires t c =
     let block : Reading (List ℕ) = bytes_block (count_size c.args.source.is_wide) c.args.levels in
     let low : c.loop.counter < c.args.blocks = search rules in
     let whole : IsOk (bytes_times block c.args.blocks [] c.args.start (drop c.args.start c.args.source.bytes.now))
-    = subst (λ r. IsOk (r c.args.start (drop c.args.start c.args.source.bytes.now))) (times_contents block c.args.blocks c.if-blocks-eq0.false) c.requires.1 in
+    = subst (λ r. IsOk (r c.args.start (drop c.args.start c.args.source.bytes.now))) (times_contents copies block c.args.blocks c.if-blocks-eq0.false) c.requires.1 in
     let left = subst (λ r. IsOk r) (sym c.loop.invariant.written.1) whole in
     (omega arith, (c.loop.invariant.to, times_ok block c.args.blocks c.loop.counter c.loop.end c.loop.invariant.written.0 (drop c.loop.end c.args.source.bytes.now) low left))
 
@@ -108,7 +109,7 @@ contents-loop-preserved t c =
       to = w.to;
       written = (
         front ++ w.value,
-        times_step block c.args.blocks c.loop.counter c.loop.end front (drop c.loop.end c.args.source.bytes.now) low w.value c.in_ok-end.end _ w.is ∙ c.loop.invariant.written.1,
+        times_step copies block c.args.blocks c.loop.counter front c.loop.end (drop c.loop.end c.args.source.bytes.now) low w.value c.in_ok-end.end _ w.is ∙ c.loop.invariant.written.1,
         moves_as (moves_then c.loop.invariant.written.2 w.moves) (omega (arith, c.loop.invariant.from, w.from)) (wanted_more c.args.is_wanted front w.value),
       );
     }

@@ -1,6 +1,6 @@
 use Rattle.std.proofs.Common.{◌≡◌, ◌≤◌, ◌+◌, ◌*◌, ◌-◌, List, [], ℕ, length, drop}
 use Rattle.omf_image.specs.Blocks.{count_size}
-use Rattle.omf_image.specs.Copying.{IsMoved, wanted, bytes_block, bytes_times}
+use Rattle.omf_image.specs.Inner.Copying.{IsMoved, wanted, bytes_block, bytes_times}
 use Rattle.omf_image.proofs.copier.Copier.+copies.Given as goal
 
 abbrev pub decreases-block : goal.decreases-block

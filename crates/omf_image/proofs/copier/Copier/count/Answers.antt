@@ -1,7 +1,7 @@
 use Rattle.std.proofs.Common.{subst, sym, drop}
 use Rattle.std.specs.Prelude.{IsOk}
 use Rattle.omf_frame.specs.Fields.{IsLittle}
-use Rattle.omf_records.specs.FieldReaders.{le_read, le_ok, le_short}
+use Rattle.omf_records.specs.Inner.FieldReaders.{le_read, le_ok, le_short}
 use Rattle.omf_image.specs.Blocks.{count_size}
 use Rattle.omf_image.proofs.FieldSteps.{never_unspelled}
 use Rattle.omf_image.proofs.copier.Copier.count.Goals as goal

@@ -1,6 +1,6 @@
 use Rattle.std.proofs.Common.{ℕ, List, ◌∙◌, refl, arith}
 use Rattle.omf_frame.specs.Fields.{IsName}
-use Rattle.omf_records.specs.FieldReaders.{name_read, name_ok, name_again, name_short}
+use Rattle.omf_records.specs.Inner.FieldReaders.{name_read, name_ok, name_again, name_short}
 use Rattle.omf_image.proofs.FieldSteps.{read_at, never_unspelled}
 use Rattle.omf_image.proofs.CopySteps.{moves_then, moves_as, wanted_all, wanted_none}
 use Rattle.omf_image.proofs.copier.Copier.data.Goals as goal

@@ -1,6 +1,6 @@
 use Rattle.std.proofs.Common.{◌≤◌, ◌-◌, drop}
 use Rattle.omf_image.specs.Blocks.{repeated}
-use Rattle.omf_image.specs.Copying.{IsMoved}
+use Rattle.omf_image.specs.Inner.Copying.{IsMoved}
 use Rattle.omf_image.proofs.copier.Copier.repeat.Given as goal
 
 -- so often it stands there

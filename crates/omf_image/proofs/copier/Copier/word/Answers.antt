@@ -1,5 +1,5 @@
 use Rattle.omf_frame.specs.Fields.{IsLittle}
-use Rattle.omf_records.specs.FieldReaders.{le_read, le_ok, le_short}
+use Rattle.omf_records.specs.Inner.FieldReaders.{le_read, le_ok, le_short}
 use Rattle.omf_image.proofs.FieldSteps.{never_unspelled}
 use Rattle.omf_image.proofs.copier.Copier.word.Goals as goal
 

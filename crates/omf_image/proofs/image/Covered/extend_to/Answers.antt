@@ -3,7 +3,7 @@ use Rattle.std.specs.Prelude.{OnOk, slice_get}
 use Rattle.std.specs.Option.{option_map}
 use Rattle.std.proofs.lemmas.List.{length-map}
 use Rattle.std.proofs.lemmas.Option.{slice_get-map, slice_get_within}
-use Rattle.omf_image.specs.Sorted.{laid_run, laid_runs, low}
+use Rattle.omf_image.specs.Inner.Sorted.{laid_run, laid_runs, low}
 use Rattle.omf_image.proofs.OverLaws.{all_last}
 use Rattle.omf_image.proofs.image.Covered.extend_to.Goals as goal
 

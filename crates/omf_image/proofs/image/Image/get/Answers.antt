@@ -1,6 +1,6 @@
 use Rattle.std.proofs.Common.{◌≡◌, ◌≤◌, ◌<◌, ◌+◌, subst, sym, ap, ◌∙◌, length, take, drop, rules}
 use Rattle.omf_image.specs.Overlay.{byte_at}
-use Rattle.omf_image.specs.Sorted.{laid_runs, AreSorted, EndBefore, EndFrom, line_place}
+use Rattle.omf_image.specs.Inner.Sorted.{laid_runs, AreSorted, EndBefore, EndFrom, line_place}
 use Rattle.omf_image.proofs.SortedLaws.{byte_found, byte_missed}
 use Rattle.omf_image.proofs.image.Image.get.Goals as goal
 

@@ -2,7 +2,7 @@ use Rattle.std.proofs.Common.{◌≡◌, List, subst, sym, ap, ◌∙◌, Some, 
 use Rattle.std.specs.Prelude.{slice_get}
 use Rattle.std.specs.Option.{option_copied}
 use Rattle.omf_image.specs.Overlay.{Laid, byte_at, AreBytesAt}
-use Rattle.omf_image.specs.Sorted.{laid_run, laid_runs, in_segment, AreSorted}
+use Rattle.omf_image.specs.Inner.Sorted.{laid_run, laid_runs, in_segment, AreSorted}
 use Rattle.omf_image.proofs.SortedLaws.{bytes_at_is}
 use Rattle.omf_image.proofs.image.Image.run_bytes.Goals as goal
 

@@ -1,7 +1,7 @@
 use Rattle.std.proofs.Common.{◌≡◌, ◌∙◌, List, subst, sym, ap, Some, None}
 use Rattle.std.specs.Prelude.{option_map, slice_get}
 use Rattle.omf_image.specs.Overlay.{Laid, byte_at, IsRunShown}
-use Rattle.omf_image.specs.Sorted.{laid_run, laid_runs, in_segment, AreSorted}
+use Rattle.omf_image.specs.Inner.Sorted.{laid_run, laid_runs, in_segment, AreSorted}
 use Rattle.omf_image.proofs.SortedLaws.{run_at_is, run_bytes_over, run_fits}
 use Rattle.omf_image.proofs.image.Image.run_with_bytes.Goals as goal
 

@@ -1,7 +1,7 @@
 use Rattle.std.proofs.Common.{ap, ◌∙◌}
 use Rattle.std.specs.Result.{result_err}
-use Rattle.omf_records.specs.Reads.{after}
-use Rattle.omf_records.specs.Each.{each_turn, with_first_fault, not_yet}
+use Rattle.omf_records.specs.Inner.Reads.{after}
+use Rattle.omf_records.specs.Inner.Each.{each_turn, with_first_fault, not_yet}
 use Rattle.omf_records.proofs.item.Items.new.Goals as goal
 
 pub loop-left-smaller : goal.loop-left-smaller

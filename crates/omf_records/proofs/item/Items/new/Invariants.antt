@@ -1,6 +1,6 @@
 use Rattle.std.proofs.Common.{◌≡◌, length}
 use Rattle.std.specs.Result.{result_err}
-use Rattle.omf_records.specs.Reads.{each}
+use Rattle.omf_records.specs.Inner.Reads.{each}
 use Rattle.omf_records.proofs.item.Items.new.Given as goal
 
 -- the fault, if there is one, is still to come

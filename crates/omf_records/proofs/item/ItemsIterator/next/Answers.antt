@@ -1,6 +1,6 @@
 use Rattle.std.proofs.Common.{sym, ap, ◌∙◌, is_ok}
-use Rattle.omf_records.specs.Reads.{after, or_none}
-use Rattle.omf_records.specs.Each.{each_turn, with_first_ok, with_first_items, not_yet, shorter}
+use Rattle.omf_records.specs.Inner.Reads.{after, or_none}
+use Rattle.omf_records.specs.Inner.Each.{each_turn, with_first_ok, with_first_items, not_yet, shorter}
 use Rattle.omf_records.proofs.item.ItemsIterator.next.Goals as goal
 
 pub invariant_of-self : goal.invariant_of-self

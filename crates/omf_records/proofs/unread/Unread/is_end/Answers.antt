@@ -1,5 +1,5 @@
 use Rattle.std.proofs.Common.{◌≡◌, Bool, true, IsTrue, ap, ◌∙◌, rules}
-use Rattle.omf_records.specs.Each.{each_none, each_some, not_yet}
+use Rattle.omf_records.specs.Inner.Each.{each_none, each_some, not_yet}
 use Rattle.omf_records.proofs.unread.Unread.is_end.Goals as goal
 
 holds : (b : Bool) → b ≡ true → IsTrue b

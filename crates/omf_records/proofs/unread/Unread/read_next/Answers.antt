@@ -1,5 +1,5 @@
-use Rattle.omf_records.specs.Reads.{after}
-use Rattle.omf_records.specs.Each.{each_turn, not_yet}
+use Rattle.omf_records.specs.Inner.Reads.{after}
+use Rattle.omf_records.specs.Inner.Each.{each_turn, not_yet}
 use Rattle.omf_records.proofs.unread.Unread.read_next.Goals as goal
 
 pub returns : goal.returns

@@ -1,5 +1,5 @@
 use Rattle.std.proofs.Common.{◌≡◌, length}
-use Rattle.omf_reloc.specs.Pieces.{given}
+use Rattle.omf_reloc.specs.Inner.Pieces.{given}
 use Rattle.omf_reloc.proofs.pieces.PiecesIterator.next.Given as goal
 
 -- the pieces that are still to come are those at the front

@@ -2,7 +2,7 @@ use Rattle.std.proofs.Common.{◌∙◌, ap, length}
 use Rattle.omf_image.specs.Overlay.{Laid}
 use Rattle.omf_records.specs.Values.{location_offset}
 use Rattle.omf_reloc.specs.Offsets.{outcome_at}
-use Rattle.omf_reloc.specs.Placed.{fixupp_type}
+use Rattle.omf_reloc.specs.Inner.Widths.{fixupp_type}
 use Rattle.omf_reloc.specs.Plain.{PlainFixup}
 use Rattle.omf_reloc.proofs.PatchLaws.{room-for}
 use Rattle.omf_reloc.proofs.relocating.Open.add.Goals as goal

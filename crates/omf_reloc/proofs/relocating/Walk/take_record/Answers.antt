@@ -1,8 +1,8 @@
 use Rattle.std.proofs.Common.{◌≡◌, ◌∙◌, ap, sym, subst, List, ℕ, Some}
 use Rattle.omf_image.specs.Overlay.{Laid}
-use Rattle.omf_records.specs.Seen.{kind_seen, contents_seen}
+use Rattle.omf_records.specs.Inner.Seen.{kind_seen, contents_seen}
 use Rattle.omf_records.specs.Values.{contents_alone}
-use Rattle.omf_reloc.specs.Walking.{Walk, CanExpand, opened_by}
+use Rattle.omf_reloc.specs.Inner.Walking.{Walk, CanExpand, opened_by}
 use Rattle.omf_reloc.proofs.relocating.Walk.take_record.Goals as goal
 
 pub expanded-requires : goal.expanded-requires

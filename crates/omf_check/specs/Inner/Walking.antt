@@ -1,0 +1,16 @@
+-- What one walk over the subrecords of a FIXUPP finds: the fault of their layout, else the least fault of their rules.
+use Rattle.std.specs.Prelude.{◌-◌, List, Option, Some, Result, Ok, Err}
+use Rattle.omf_frame.specs.Fault.{Fault}
+use Rattle.omf_records.specs.Values.{At, Subrecord, Fixups}
+use Rattle.omf_check.specs.Rules.{item_limit, item_places, places}
+use Rattle.omf_check.specs.Inner.Kept.{Kept}
+use Rattle.omf_check.specs.Inner.Judging.{lesser, room_fault, subrecords_fault}
+
+abbrev pub walk_fault : Kept → Result (List (At Subrecord)) Fault → Option Fault
+walk_fault kept (Ok subs) = lesser (room_fault (item_limit - kept.items) (places subs)) (subrecords_fault kept kept.threads subs)
+walk_fault kept (Err f) = Some f
+
+-- where there is none, the record itself is an item
+abbrev pub fixups_fault : Kept → Result (List (At Subrecord)) Fault → Option Fault
+fixups_fault kept (Ok subs) = lesser (room_fault (item_limit - kept.items) (item_places (Fixups subs))) (subrecords_fault kept kept.threads subs)
+fixups_fault kept (Err f) = Some f

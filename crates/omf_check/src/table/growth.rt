@@ -1,0 +1,187 @@
+//! A record is taken: judged, and what it defines kept.
+
+ghost use Rattle.std.specs.Prelude.{◌≡◌, ◌≤◌, ◌<◌, ◌+◌, ◌^◌, ◌++◌, length, OnOk, IsTrue, IfErr, None, Ok};
+ghost use Rattle.omf_check.specs.Rules.{item_limit};
+ghost use Rattle.omf_image.specs.Limits.{profile_limits};
+ghost use Rattle.omf_check.specs.Inner.Kept.{starts, alike, with_record, with_contents, set_threads, IsBounded};
+ghost use Rattle.omf_check.specs.Inner.Judging.{IsNoFixupp, raw_fault, rec_of};
+ghost use Rattle.omf_check.specs.Inner.Passing.{refused_at, IsStopped};
+ghost use Rattle.omf_frame.specs.Framing.{is_taken};
+ghost use Rattle.omf_check.specs.Tables.{segment_info, items_in};
+ghost use Rattle.omf_records.specs.Inner.Seen.{contents_seen, kind_seen, odd_if, rec_seen};
+ghost use Rattle.omf_records.specs.Values.{Fixups};
+ghost use Rattle.omf_check.specs.Inner.Walking.{fixups_fault};
+
+use crate::fault::CheckFault;
+use crate::last_data::LastData;
+use crate::profile::Profile;
+use crate::rule::fault_unless;
+use crate::segment::SegInfo;
+use crate::table::{ITEM_LIMIT, Tables};
+use omf_frame::{Place, RawRecord, Reason};
+use omf_records::{Item, Items, LayoutFault, Rec, Segment, Subrecord, Unread, unread_fixups, view};
+use std::alloc::AllocError;
+
+/// What a SEGDEF says of its segment.
+fn segment_info(wide: bool, segment: &Segment) -> SegInfo
+    ensures { result ≡ segment_info (odd_if wide 0x98) segment.now }
+{
+    let length = match (segment.is_big(), wide) {
+        (true, false) => 65_536,
+        (true, true) => 4_294_967_296,
+        (false, _) => u64::from(segment.size),
+    };
+    SegInfo {
+        length,
+        absolute: segment.absolute,
+        name: segment.name.item.0,
+        class: segment.class.item.0,
+    }
+}
+
+/// Appends where each item stands in the module, in which their record begins at this offset.
+fn add_starts<T: Item>(places: &mut Vec<u64>, at: u64, items: Items<T>) -> Result<(), AllocError>
+    requires { at < 2 ^ 40 }
+    ensures { OnOk result (places.new.items ≡ places.old.items ++ starts at items) }
+{
+    for item in items {
+        places.push(at + u64::from(item.within))?;
+    }
+    Ok(())
+}
+
+/// Appends a value for each item.
+fn add_alike<T: Item>(
+    values: &mut Vec<bool>,
+    value: bool,
+    items: Items<T>,
+) -> Result<(), AllocError>
+    ensures { OnOk result (values.new.items ≡ values.old.items ++ alike value items) }
+{
+    for _item in items {
+        values.push(value)?;
+    }
+    Ok(())
+}
+
+/// The refusal of a record of this number, which begins at this offset of the module.
+fn refused(number: u32, start: u64, fault: LayoutFault) -> CheckFault
+    ensures { result ≡ refused_at number start fault }
+{
+    CheckFault::Refused {
+        reason: fault.reason,
+        place: Place {
+            number,
+            start,
+            within: fault.within,
+        },
+    }
+}
+
+impl Tables {
+    /// Keeps where external names stand, all of them local or none.
+    fn add_externals<T: Item>(
+        &mut self,
+        at: u64,
+        is_local: bool,
+        items: Items<T>,
+    ) -> Result<(), AllocError>
+        requires { at < 2 ^ 40 }
+        ensures { OnOk result (self.new ≡ record self.old { externals = self.old.externals ++ starts at items; locals = self.old.locals ++ alike is_local items }) }
+    {
+        add_starts(&mut self.externals, at, items.iter())?;
+        add_alike(&mut self.locals, is_local, items)
+    }
+
+    /// Keeps what a record that is no FIXUPP defines. It begins at this offset of the module.
+    fn add_contents(&mut self, at: u64, rec: &Rec<'_>) -> Result<(), AllocError>
+        requires start { at < 2 ^ 40 }
+        requires other { IsNoFixupp (contents_seen rec.now) }
+        ensures { OnOk result (self.new ≡ with_contents self.old at (kind_seen rec.now) (contents_seen rec.now)) }
+    {
+        match rec {
+            Rec::Names(items) => add_starts(&mut self.names, at, items.iter()),
+            Rec::LocalNames(items) => add_starts(&mut self.names, at, items.iter()),
+            Rec::Segment { wide, segment } => Ok(self.segments.push(segment_info(*wide, segment))?),
+            Rec::Group { .. } => Ok(self.groups.push(at)?),
+            Rec::Externs(items) => self.add_externals(at, false, items.iter()),
+            Rec::LocalExterns { externs, .. } => self.add_externals(at, true, externs.iter()),
+            Rec::Communals(items) => self.add_externals(at, false, items.iter()),
+            Rec::LocalCommunals(items) => self.add_externals(at, true, items.iter()),
+            Rec::Plain { data, .. } => {
+                self.last = Some(LastData::Plain(data.len()));
+                Ok(())
+            }
+            Rec::Iterated { .. } => {
+                self.last = Some(LastData::Iterated);
+                Ok(())
+            }
+            Rec::Fixups { .. } => unreachable!(),
+            Rec::Header { .. }
+            | Rec::Comment { .. }
+            | Rec::Publics { .. }
+            | Rec::LocalPublics { .. }
+            | Rec::ModEnd { .. }
+            | Rec::Carried { .. } => Ok(()),
+        }
+    }
+
+    /// Keeps what a record that is no FIXUPP tells later ones. It begins at this offset of the module.
+    fn add(&mut self, at: u64, rec: &Rec<'_>) -> Result<(), AllocError>
+        requires start { at < 2 ^ 40 }
+        requires other { IsNoFixupp (contents_seen rec.now) }
+        requires items { self.old.items < item_limit }
+        ensures { OnOk result (self.new ≡ with_record self.old at (rec_seen rec.now)) }
+    {
+        self.items += 1;
+        self.add_contents(at, rec)
+    }
+
+    /// Judges a FIXUPP of these subrecords, and keeps what it tells later records where it has no fault.
+    fn take_fixups(&mut self, subrecords: Unread<Subrecord<'_>>) -> Option<LayoutFault>
+        requires { self.old.items ≤ item_limit }
+        ensures found { result ≡ fixups_fault self.old subrecords.entry.items }
+        ensures kept { (subs : _) → subrecords.entry.items ≡ Ok subs → result ≡ None → self.new ≡ record self.old { items = self.old.items + items_in (Fixups subs); threads = set_threads self.old.threads subs } }
+    {
+        if subrecords.is_end() {
+            if self.items == ITEM_LIMIT {
+                return fault_unless(false, 0, Reason::TooMany);
+            }
+            self.items += 1;
+            return None;
+        }
+        let judged = subrecords.again();
+        if self.pass_subrecords(subrecords) {
+            return None;
+        }
+        self.subrecords_fault(judged)
+    }
+
+    /// Judges a record after those of these tables, and keeps what it defines.
+    pub fn take(&mut self, profile: Profile, raw: RawRecord<'_>) -> Result<(), CheckFault>
+        requires taken { IsTrue (is_taken raw.kind) }
+        requires short { length raw.body.now ≤ 65534 }
+        requires start { raw.start < 2 ^ 40 }
+        requires bounded { IsBounded self.old }
+        ensures sound { OnOk result (raw_fault profile profile_limits self.old raw.entry.kind raw.entry.body.now ≡ None) }
+        ensures kept { OnOk result (self.new ≡ with_record self.old raw.entry.start (rec_of raw.entry.kind raw.entry.body.now)) }
+        ensures bounded { OnOk result (IsBounded self.new) }
+        ensures cause { IfErr result (IsStopped (raw_fault profile profile_limits self.old raw.entry.kind raw.entry.body.now) raw.entry.number raw.entry.start) }
+    {
+        if let Some(subrecords) = unread_fixups(&raw) {
+            return match self.take_fixups(subrecords) {
+                Some(fault) => Err(refused(raw.number, raw.start, fault)),
+                None => Ok(()),
+            };
+        }
+        let rec = match view(raw) {
+            Ok(rec) => rec,
+            Err(fault) => return Err(refused(raw.number, raw.start, fault)),
+        };
+        if let Some(fault) = self.record_fault(profile, &rec) {
+            return Err(refused(raw.number, raw.start, fault));
+        }
+        self.add(raw.start, &rec)?;
+        Ok(())
+    }
+}

@@ -1,0 +1,160 @@
+//! The rules of the records that are no FIXUPP.
+
+ghost use Rattle.std.specs.Prelude.{◌≡◌, ◌≤◌, ◌+◌, length, ◌-◌, [], ◌∷◌};
+ghost use Rattle.omf_check.specs.Rules.{item_limit};
+ghost use Rattle.omf_image.specs.Limits.{profile_limits};
+ghost use Rattle.omf_check.specs.Inner.Judging.{kept_length, data_fault, contents_fault, segment_fault, group_fault, base_fault, room_fault, data_size, fault_moved, record_fault, IsShort, IsNoFixupp};
+ghost use Rattle.omf_image.specs.Blocks.{count_size};
+ghost use Rattle.omf_image.specs.Inner.Expanding.{expanded_length};
+ghost use Rattle.omf_records.specs.Inner.Seen.{contents_seen, kind_seen, rec_seen};
+
+use crate::profile::Profile;
+use crate::rule::{
+    comment_fault, entry_fault, fault_unless, lesser, members_fault, optional_fault, room_fault,
+};
+use crate::table::{ITEM_LIMIT, TABLE_LIMIT, Tables};
+use omf_frame::{Index, Reason};
+use omf_image::{Limits, expanded_len};
+use omf_records::{At, Blocks, Items, LayoutFault, Member, Rec, Segment};
+
+/// How many bytes the blocks of an LIDATA stand for, whose offset stands at this place; or their first fault.
+fn blocks_size(at: u32, blocks: Blocks<'_>) -> Result<usize, LayoutFault>
+    requires place { at ≤ 65537 }
+    requires short { length blocks.bytes.now ≤ 65534 }
+    ensures { result ≡ fault_moved (at + count_size blocks.entry.wide) (expanded_length (count_size blocks.entry.wide) profile_limits blocks.entry.bytes.now) }
+{
+    let first = if blocks.wide { at + 4 } else { at + 2 };
+    match expanded_len(blocks, Limits::profile()) {
+        Ok(size) => Ok(size as usize),
+        Err(fault) => Err(LayoutFault {
+            reason: fault.reason,
+            within: first + fault.within,
+        }),
+    }
+}
+
+/// How many bytes of data a data record has; or the first fault of its blocks.
+fn data_size(rec: &Rec<'_>) -> Result<usize, LayoutFault>
+    requires { IsShort (contents_seen rec.now) }
+    ensures { result ≡ data_size profile_limits (kind_seen rec.now) (contents_seen rec.now) }
+{
+    match rec {
+        Rec::Plain { data, .. } => Ok(data.len()),
+        Rec::Iterated { offset, blocks, .. } => blocks_size(offset.within, *blocks),
+        _ => Ok(0),
+    }
+}
+
+impl Tables {
+    /// How many bytes a segment has; 0 where there is none.
+    fn segment_length(&self, index: u16) -> u64
+        ensures { result ≡ kept_length self.now.segments index }
+    {
+        match self.segment(index) {
+            Some(segment) => segment.length,
+            None => 0,
+        }
+    }
+
+    /// So many bytes of data lie in their segment.
+    fn data_fault(&self, segment: &At<Index>, offset: &At<u32>, size: usize) -> Option<LayoutFault>
+        ensures { result ≡ data_fault self.now segment.now offset.now size }
+    {
+        let length = self.segment_length(segment.item.0);
+        let start = u64::from(offset.item);
+        let fits = start <= length && size as u64 <= length - start;
+        lesser(
+            entry_fault(self.segments.len(), Reason::UndefinedSegment, segment),
+            fault_unless(fits, offset.within, Reason::OutsideSegment),
+        )
+    }
+
+    fn segment_fault(&self, segment: &Segment) -> Option<LayoutFault>
+        ensures { result ≡ segment_fault self.now segment.now }
+    {
+        let names = self.names.len();
+        lesser(
+            fault_unless(self.segments.len() < TABLE_LIMIT, 3, Reason::TooMany),
+            lesser(
+                optional_fault(names, Reason::UndefinedName, &segment.name),
+                optional_fault(names, Reason::UndefinedName, &segment.class),
+            ),
+        )
+    }
+
+    fn group_fault(&self, name: &At<Index>, members: Items<Member<'_>>) -> Option<LayoutFault>
+        ensures { result ≡ group_fault self.now (record { name = name.now; members = members.entry }) }
+    {
+        lesser(
+            fault_unless(self.groups.len() < TABLE_LIMIT, 3, Reason::TooMany),
+            lesser(
+                optional_fault(self.names.len(), Reason::UndefinedName, name),
+                members_fault(self.segments.len(), members),
+            ),
+        )
+    }
+
+    /// The base of a PUBDEF.
+    fn base_fault(&self, group: &At<Index>, segment: &At<Index>) -> Option<LayoutFault>
+        ensures { result ≡ base_fault self.now group.now segment.now }
+    {
+        lesser(
+            optional_fault(self.groups.len(), Reason::UndefinedGroup, group),
+            optional_fault(self.segments.len(), Reason::UndefinedSegment, segment),
+        )
+    }
+
+    /// The rules of a record that is no FIXUPP. Data records have so many bytes of data.
+    fn contents_fault(&self, profile: Profile, size: usize, rec: &Rec<'_>) -> Option<LayoutFault>
+        requires { IsNoFixupp (contents_seen rec.now) }
+        ensures { result ≡ contents_fault profile self.now size (contents_seen rec.now) }
+    {
+        let name_room = TABLE_LIMIT.saturating_sub(self.names.len());
+        let external_room = TABLE_LIMIT.saturating_sub(self.externals.len());
+        match rec {
+            Rec::Comment { class, .. } => comment_fault(profile, *class),
+            Rec::Names(items) => room_fault(items.iter(), name_room),
+            Rec::LocalNames(items) => room_fault(items.iter(), name_room),
+            Rec::Segment { segment, .. } => self.segment_fault(segment),
+            Rec::Group { name, members } => self.group_fault(name, members.iter()),
+            Rec::Externs(items) => room_fault(items.iter(), external_room),
+            Rec::LocalExterns { externs, .. } => room_fault(externs.iter(), external_room),
+            Rec::Publics { group, segment, .. } => self.base_fault(group, segment),
+            Rec::LocalPublics { group, segment, .. } => self.base_fault(group, segment),
+            Rec::Communals(items) => room_fault(items.iter(), external_room),
+            Rec::LocalCommunals(items) => room_fault(items.iter(), external_room),
+            Rec::Plain {
+                segment,
+                offset,
+                ..
+            } => self.data_fault(segment, offset, size),
+            Rec::Iterated {
+                segment,
+                offset,
+                ..
+            } => self.data_fault(segment, offset, size),
+            Rec::Fixups { .. } => unreachable!(),
+            Rec::ModEnd { start, .. } => self.start_fault(start),
+            Rec::Header { .. } | Rec::Carried { .. } => None,
+        }
+    }
+
+    /// One item more has room, which stands at the record's start.
+    fn item_fault(&self) -> Option<LayoutFault>
+        ensures { result ≡ room_fault (item_limit - self.now.items) (0 ∷ []) }
+    {
+        fault_unless(self.items < ITEM_LIMIT, 0, Reason::TooMany)
+    }
+
+    /// The least fault of a record that is no FIXUPP, after the records of these tables: that of its blocks, else that of its rules.
+    pub(super) fn record_fault(&self, profile: Profile, rec: &Rec<'_>) -> Option<LayoutFault>
+        requires other { IsNoFixupp (contents_seen rec.now) }
+        requires short { IsShort (contents_seen rec.now) }
+        ensures { result ≡ record_fault profile profile_limits self.now (rec_seen rec.now) }
+    {
+        match data_size(rec) {
+            Ok(size) => lesser(self.item_fault(), self.contents_fault(profile, size, rec)),
+            Err(fault) => Some(fault),
+        }
+    }
+}

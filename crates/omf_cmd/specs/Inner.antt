@@ -1,0 +1,4 @@
+pub mod Parsed
+pub mod Printing
+pub mod RunLines
+pub mod Standing

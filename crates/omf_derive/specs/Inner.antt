@@ -1,0 +1,4 @@
+pub mod Derived
+pub mod Deriving
+pub mod GivenTable
+pub mod PublicTable

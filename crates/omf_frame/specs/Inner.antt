@@ -1,0 +1,4 @@
+pub mod Faulty
+pub mod FieldLaws
+pub mod Judging
+pub mod Standing

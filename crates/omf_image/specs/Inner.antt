@@ -1,0 +1,7 @@
+pub mod BlockReaders
+pub mod Copying
+pub mod Expanding
+pub mod Folding
+pub mod Joined
+pub mod Lengths
+pub mod Sorted

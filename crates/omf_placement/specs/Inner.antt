@@ -1,0 +1,3 @@
+pub mod EntryReading
+pub mod Lowest
+pub mod Parsing

@@ -1,0 +1,89 @@
+-- How contents lie in the bytes that spell them: one look at the record's type for all laws that go by the kind of contents.
+use Rattle.std.proofs.Common.{◌≡◌, ℕ, Bool, true, false, List, ◌++◌, refl, sym, subst}
+use Rattle.std.specs.Prelude.{⊤}
+use Rattle.omf_frame.specs.Bytes.{is_one_of}
+use Rattle.omf_frame.specs.Types.{coment, extdef, pubdef, lnames, segdef, grpdef, fixupp, ledata, lidata, comdef, lextdef, lpubdef, lcomdef, llnames}
+use Rattle.omf_frame.specs.Framing.{is_header, is_end}
+use Rattle.omf_records.specs.Values.{Contents, Names, Segment, Externs, Publics, Communals, Plain, Iterated, Fixups, ModEnd, is_wide}
+use Rattle.omf_records.specs.Layout.{Layout, SpellsEach, called, either, name}
+use Rattle.omf_records.specs.Entries.{external, communal, subrecord}
+use Rattle.omf_records.specs.Records.{contents, header, comment, names, segment, group, externs, publics, communals, data_item, fixups, mod_end, carried}
+
+abbrev pub IsLaidOut : ℕ → ℕ → List ℕ → Contents → Type 0
+IsLaidOut kind at bytes (Names items) = SpellsEach name at bytes items
+IsLaidOut kind at bytes (Segment s) = (segment (is_wide kind)).Spells at bytes (Segment s)
+IsLaidOut kind at bytes (Externs items) = SpellsEach external at bytes items
+IsLaidOut kind at bytes (Publics p) = (publics (is_wide kind)).Spells at bytes (Publics p)
+IsLaidOut kind at bytes (Communals items) = SpellsEach communal at bytes items
+IsLaidOut kind at bytes (Plain d) = (data_item (is_wide kind)).Spells at bytes d
+IsLaidOut kind at bytes (Iterated d) = (data_item (is_wide kind)).Spells at bytes d
+IsLaidOut kind at bytes (Fixups subs) = (is_one_of fixupp kind ≡ true) × SpellsEach (subrecord (is_wide kind)) at bytes subs
+IsLaidOut kind at bytes (ModEnd byte start) = (is_end kind ≡ true) × (mod_end (is_wide kind)).Spells at bytes (ModEnd byte start)
+IsLaidOut kind at bytes _ = ⊤
+
+module _ (kind : ℕ) where
+  abbrev LaysOut : Layout Contents → Type 0
+  LaysOut p = (at : ℕ) (bytes : List ℕ) (c : Contents) → p.Spells at bytes c → IsLaidOut kind at bytes c
+
+  by : (at : ℕ) (bytes : List ℕ) (c d : Contents) → c ≡ d → IsLaidOut kind at bytes d → IsLaidOut kind at bytes c
+  by at bytes c d e h = subst (IsLaidOut kind at bytes) (sym e) h
+
+  if_type : (b : Bool) (p q : Layout Contents) → (b ≡ true → LaysOut p) → LaysOut q → LaysOut (either b p q)
+  if_type true p q h k = h refl
+  if_type false p q h k = k
+
+  of_header : LaysOut header
+  of_header at bytes c (f, b, x, p, s, (none, e)) = by at bytes c _ e tt
+
+  of_comment : LaysOut comment
+  of_comment at bytes c (f, b, x, p, s, (g, d, y, q, t, (z, u, e))) = by at bytes c _ e tt
+
+  of_names : LaysOut names
+  of_names at bytes c (x, s, e) = by at bytes c _ e s
+
+  of_segment : LaysOut (segment (is_wide kind))
+  of_segment at bytes c (f1, b1, x1, p1, s1, (f2, b2, x2, p2, s2, (f3, b3, x3, p3, s3, (f4, b4, x4, p4, s4, (f5, b5, x5, p5, s5, (f6, b6, x6, p6, s6, (none, e))))))) =
+      by at bytes c _ e (f1, b1, x1, p1, s1, (f2, b2, x2, p2, s2, (f3, b3, x3, p3, s3, (f4, b4, x4, p4, s4, (f5, b5, x5, p5, s5, (f6, b6, x6, p6, s6, (none, refl)))))))
+
+  of_group : LaysOut group
+  of_group at bytes c (f, b, x, p, s, (y, t, e)) = by at bytes c _ e tt
+
+  of_externs : LaysOut externs
+  of_externs at bytes c (x, s, e) = by at bytes c _ e s
+
+  of_publics : LaysOut (publics (is_wide kind))
+  of_publics at bytes c (f1, b1, x1, p1, s1, (f2, b2, x2, p2, s2, (f3, b3, x3, p3, s3, (y, t, e)))) =
+      by at bytes c _ e (f1, b1, x1, p1, s1, (f2, b2, x2, p2, s2, (f3, b3, x3, p3, s3, (y, t, refl))))
+
+  of_communals : LaysOut communals
+  of_communals at bytes c (x, s, e) = by at bytes c _ e s
+
+  of_plain : LaysOut (called (data_item (is_wide kind)) Plain)
+  of_plain at bytes c (d, s, e) = by at bytes c _ e s
+
+  of_iterated : LaysOut (called (data_item (is_wide kind)) Iterated)
+  of_iterated at bytes c (d, s, e) = by at bytes c _ e s
+
+  of_fixups : is_one_of fixupp kind ≡ true → LaysOut (fixups (is_wide kind))
+  of_fixups is at bytes c (x, s, e) = by at bytes c _ e (is, s)
+
+  of_end : is_end kind ≡ true → LaysOut (mod_end (is_wide kind))
+  of_end is at bytes c (f1, b1, x1, p1, s1, (f2, b2, x2, p2, s2, (none, e))) = by at bytes c _ e (is, (f1, b1, x1, p1, s1, (f2, b2, x2, p2, s2, (none, refl))))
+
+  of_carried : LaysOut carried
+  of_carried at bytes c (x, s, e) = by at bytes c _ e tt
+
+  pub laid-out : LaysOut (contents kind)
+  laid-out =
+      if_type (is_header kind) _ _ (λ is. of_header) (
+      if_type (is_one_of coment kind) _ _ (λ is. of_comment) (
+      if_type (is_one_of (lnames ++ llnames) kind) _ _ (λ is. of_names) (
+      if_type (is_one_of segdef kind) _ _ (λ is. of_segment) (
+      if_type (is_one_of grpdef kind) _ _ (λ is. of_group) (
+      if_type (is_one_of (extdef ++ lextdef) kind) _ _ (λ is. of_externs) (
+      if_type (is_one_of (pubdef ++ lpubdef) kind) _ _ (λ is. of_publics) (
+      if_type (is_one_of (comdef ++ lcomdef) kind) _ _ (λ is. of_communals) (
+      if_type (is_one_of ledata kind) _ _ (λ is. of_plain) (
+      if_type (is_one_of lidata kind) _ _ (λ is. of_iterated) (
+      if_type (is_one_of fixupp kind) _ _ of_fixups (
+      if_type (is_end kind) _ _ of_end of_carried)))))))))))

@@ -1,0 +1,106 @@
+-- The pieces of a module, one after another and one fixup at a time, each at its place: what an iterator gives that has the threads in force at hand.
+use Rattle.std.specs.Prelude.{ℕ, List, [], ◌∷◌, ◌++◌, map, flat_map, filter_map, Option, Some, None, option_map, IsSome, ⊤}
+use Rattle.omf_frame.specs.declared.fault.Place.{Place}
+use Rattle.omf_records.specs.Values.{At, Rec, alone, Contents, Fixups, ModEnd, Subrecord, Thread, Fixup, Reference}
+use Rattle.omf_check.specs.Inner.Judging.{frame_cell, target_cell}
+use Rattle.omf_check.specs.Inner.Kept.{no_threads, set_thread, set_threads}
+use Rattle.omf_check.specs.declared.threads.Threads.{Threads}
+use Rattle.omf_reloc.specs.Plain.{Piece, Kept, Fixed, End, pieces, end_byte}
+use Rattle.omf_reloc.specs.Inner.Walking.{plain_by, plain_fixup_by, threads_after}
+
+-- The pieces of a module, each fixup a piece of its own.
+abbrev pub one_by_one : Piece → List Piece
+one_by_one (Kept r) = Kept r ∷ []
+one_by_one (Fixed kind fixups) = map (λ f. Fixed kind (f ∷ [])) fixups
+one_by_one (End kind byte start) = End kind byte start ∷ []
+
+abbrev pub single_pieces : List Rec → List Piece
+single_pieces m = flat_map one_by_one (pieces m)
+
+-- Where the references of a piece stand: the numbers of their record, and their offsets in it.
+abbrev pub references_at : Place → Piece → List (ℕ × ℕ)
+references_at at (Kept r) = []
+references_at at (Fixed kind fixups) = map (λ f. (at.number, at.within)) fixups
+references_at at (End kind byte None) = []
+references_at at (End kind byte (Some r)) = (at.number, at.within) ∷ []
+
+abbrev pub reference_places : List (Place × Piece) → List (ℕ × ℕ)
+reference_places ps = flat_map (λ p. references_at p.0 p.1) ps
+
+-- What each subrecord gives, by the threads in force at it: a fixup at its first byte, a THREAD nothing.
+abbrev pub subrecord_step : Threads → Place → ℕ → ℕ → Subrecord → Option (Place × Piece)
+subrecord_step threads at kind within (Thread byte datum) = None
+subrecord_step threads at kind within (Fixup locat r) = Some (record at { within = within }, Fixed kind (plain_fixup_by threads locat r ∷ []))
+
+abbrev pub subrecord_steps : Threads → Place → ℕ → List (At Subrecord) → List (Option (Place × Piece))
+subrecord_steps threads at kind [] = []
+subrecord_steps threads at kind (s ∷ subs) = subrecord_step threads at kind s.within s.item ∷ subrecord_steps (set_thread threads s.item) at kind subs
+
+-- Where a MODEND stands: at its type byte, or at the fix data byte of its start.
+abbrev pub end_at : Place → Option Reference → Place
+end_at at None = at
+end_at at (Some r) = record at { within = r.fix.within }
+
+-- What each record gives: a FIXUPP nothing but what its subrecords give.
+abbrev pub contents_steps : Threads → Place → ℕ → Contents → List (Option (Place × Piece))
+contents_steps threads at kind (Fixups subs) = None ∷ subrecord_steps threads at kind subs
+contents_steps threads at kind (ModEnd byte start) = Some (end_at at start, End kind (end_byte byte) (option_map (plain_by threads) start)) ∷ []
+contents_steps threads at kind c = Some (at, Kept (alone (record { kind = kind; contents = c }))) ∷ []
+
+abbrev pub steps_from : Threads → List (Place × Rec) → List (Option (Place × Piece))
+steps_from threads [] = []
+steps_from threads (x ∷ xs) = contents_steps threads x.0 x.1.kind x.1.contents ++ steps_from (threads_after threads x.1.contents) xs
+
+-- A FIXUPP some of whose subrecords are still to come.
+pub record OpenFixups : Type 0 where
+  pub place : Place
+  pub kind : ℕ
+  pub left : List (At Subrecord)
+
+abbrev pub open_steps : Threads → Option OpenFixups → List (Option (Place × Piece))
+open_steps threads None = []
+open_steps threads (Some o) = subrecord_steps threads o.place o.kind o.left
+
+abbrev pub threads_behind : Threads → Option OpenFixups → Threads
+threads_behind threads None = threads
+threads_behind threads (Some o) = set_threads threads o.left
+
+-- What is still to come of the FIXUPP that is open, and of the records after it; and the pieces among it.
+abbrev pub steps_left : Threads → Option OpenFixups → List (Place × Rec) → List (Option (Place × Piece))
+steps_left threads o xs = open_steps threads o ++ steps_from (threads_behind threads o) xs
+
+abbrev pub given : List (Option (Place × Piece)) → List (Place × Piece)
+given steps = filter_map (λ s. s) steps
+
+abbrev pub placed_pieces : List (Place × Rec) → List (Place × Piece)
+placed_pieces xs = given (steps_from no_threads xs)
+
+-- Each thread that is named is set where it is named.
+pub record IsSet (threads : Threads) (r : Reference) : Type 0 where
+  pub frame : IsSome (frame_cell threads r)
+  pub target : IsSome (target_cell threads r)
+
+abbrev pub SubrecordIsSet : Threads → Subrecord → Type 0
+SubrecordIsSet threads (Thread byte datum) = ⊤
+SubrecordIsSet threads (Fixup locat r) = IsSet threads r
+
+abbrev pub SubrecordsAreSet : Threads → List (At Subrecord) → Type 0
+SubrecordsAreSet threads [] = ⊤
+SubrecordsAreSet threads (s ∷ subs) = SubrecordIsSet threads s.item × SubrecordsAreSet (set_thread threads s.item) subs
+
+abbrev pub ContentsAreSet : Threads → Contents → Type 0
+ContentsAreSet threads (Fixups subs) = SubrecordsAreSet threads subs
+ContentsAreSet threads (ModEnd byte (Some r)) = IsSet threads r
+ContentsAreSet threads _ = ⊤
+
+abbrev pub RecordsAreSet : Threads → List (Place × Rec) → Type 0
+RecordsAreSet threads [] = ⊤
+RecordsAreSet threads (x ∷ xs) = ContentsAreSet threads x.1.contents × RecordsAreSet (threads_after threads x.1.contents) xs
+
+abbrev pub OpenIsSet : Threads → Option OpenFixups → Type 0
+OpenIsSet threads None = ⊤
+OpenIsSet threads (Some o) = SubrecordsAreSet threads o.left
+
+pub record AreSet (threads : Threads) (o : Option OpenFixups) (xs : List (Place × Rec)) : Type 0 where
+  pub open_fixups : OpenIsSet threads o
+  pub records : RecordsAreSet (threads_behind threads o) xs

@@ -1,0 +1,115 @@
+-- References by the threads in force; and what each step of a walk over a module's pieces makes of the image and of the data record that is open. Private
+-- functions speak in these words; public ones say what the image is by its definition.
+use Rattle.std.specs.Prelude.{◌≡◌, ◌≤◌, ◌+◌, ◌^◌, ⊤, ℕ, List, [], ◌∷◌, length, Option, Some, option_map, option_to_list, unwrap_or, IfSome, IsOk}
+use Rattle.omf_records.specs.Location.{location_size}
+use Rattle.omf_records.specs.Values.{Rec, Contents, Plain, Iterated, Fixups, Reference, width, location_type, location_offset}
+use Rattle.omf_image.specs.Inner.Expanding.{expanded, expanded_length}
+use Rattle.omf_image.specs.Limits.{profile_limits}
+use Rattle.omf_image.specs.Overlay.{Laid, AreLaidOver}
+use Rattle.omf_check.specs.Inner.Judging.{frame_cell, target_cell}
+use Rattle.omf_check.specs.Inner.Kept.{set_threads}
+use Rattle.omf_check.specs.Threads.{PlainReference}
+use Rattle.omf_check.specs.declared.method.FrameMethod.TheVariants.{Target as F5}
+use Rattle.omf_check.specs.declared.method.TargetMethod.TheVariants.{Segment as T0}
+use Rattle.omf_check.specs.declared.threads.Threads.{Threads}
+use Rattle.omf_reloc.specs.Image.{added}
+use Rattle.omf_reloc.specs.Offsets.{outcome_at, start_offset}
+use Rattle.omf_reloc.specs.Placed.{HasPlaces}
+use Rattle.omf_placement.specs.Placement.{Places}
+use Rattle.omf_reloc.specs.Plain.{Piece, Kept, Fixed, End, PlainFixup}
+
+-- A reference without threads, by the threads in force.
+abbrev pub plain_by : Threads → Reference → PlainReference
+plain_by threads r = record {
+  frame = unwrap_or (frame_cell threads r) F5;
+  target = unwrap_or (target_cell threads r) (T0 0);
+  displacement = unwrap_or r.displacement 0;
+}
+
+abbrev pub plain_fixup_by : Threads → ℕ → Reference → PlainFixup
+plain_fixup_by threads locat r = record { locat = locat; reference = plain_by threads r }
+
+-- The threads in force after one more record.
+abbrev pub threads_after : Threads → Contents → Threads
+threads_after threads (Fixups subs) = set_threads threads subs
+threads_after threads _ = threads
+
+-- And after all of these.
+abbrev pub threads_through : Threads → List Rec → Threads
+threads_through threads [] = threads
+threads_through threads (r ∷ rs) = threads_through (threads_after threads r.contents) rs
+
+-- Data with what a fixup adds at its location, in a FIXUPP of this type.
+abbrev pub with_fixup : Places → ℕ → PlainFixup → Laid → Laid
+with_fixup pl kind f l = record l { bytes = added (location_offset f.locat) (outcome_at pl l.segment l.offset (kind, f)) l.bytes }
+
+-- A fixup can be added: its location lies inside the data.
+abbrev pub CanAdd : PlainFixup → Laid → Type 0
+CanAdd f l = location_offset f.locat + location_size (location_type f.locat) ≤ length l.bytes
+
+-- Where the data record that is open lies: its segment, and its offset there.
+abbrev pub laid_place : Laid → ℕ × ℕ
+laid_place l = (l.segment, l.offset)
+
+abbrev pub open_place : Option Laid → Option (ℕ × ℕ)
+open_place l = option_map laid_place l
+
+-- The image so far, and the data record that is open.
+pub record Walk : Type 0 where
+  pub image : List Laid
+  pub open_data : Option Laid
+
+-- A data record closes the open one, which is laid, and is open itself.
+abbrev pub closed_by : Contents → Option Laid → List Laid
+closed_by (Plain d) l = option_to_list l
+closed_by (Iterated d) l = option_to_list l
+closed_by _ l = []
+
+abbrev pub opened_by : ℕ → Contents → Option Laid → Option Laid
+opened_by kind (Plain d) l = Some (record { segment = d.segment.item; offset = d.offset.item; bytes = d.bytes })
+opened_by kind (Iterated d) l = Some (record { segment = d.segment.item; offset = d.offset.item; bytes = expanded (width kind) profile_limits d.bytes })
+opened_by kind _ l = l
+
+-- So does a piece, of which a FIXUPP has one fixup, that is added to the open one.
+abbrev pub closed : Piece → Option Laid → List Laid
+closed (Kept r) l = closed_by r.contents l
+closed (Fixed kind fixups) l = []
+closed (End kind byte start) l = []
+
+abbrev pub opened : Places → Piece → Option Laid → Option Laid
+opened pl (Kept r) l = opened_by r.kind r.contents l
+opened pl (Fixed kind []) l = l
+opened pl (Fixed kind (f ∷ fixups)) l = option_map (with_fixup pl kind f) l
+opened pl (End kind byte start) l = l
+
+-- One piece more.
+pub record IsNext (pl : Places) (p : Piece) (old new : Walk) : Type 0 where
+  pub image : AreLaidOver old.image (closed p old.open_data) new.image
+  pub open_data : new.open_data ≡ opened pl p old.open_data
+
+-- A piece can be walked over: what is open has offsets of 32 bits; the blocks of an LIDATA expand; a fixup can be added to what is open.
+abbrev pub HasOffsets : Laid → Type 0
+HasOffsets l = l.offset + length l.bytes ≤ 2 ^ 32
+
+pub record Expands (kind : ℕ) (bytes : List ℕ) : Type 0 where
+  pub short : length bytes ≤ 65534
+  pub fits : IsOk (expanded_length (width kind) profile_limits bytes)
+
+abbrev pub CanExpand : ℕ → Contents → Type 0
+CanExpand kind (Iterated d) = Expands kind d.bytes
+CanExpand kind _ = ⊤
+
+abbrev pub CanTake : Piece → Option Laid → Type 0
+CanTake (Kept r) l = CanExpand r.kind r.contents
+CanTake (Fixed kind []) l = ⊤
+CanTake (Fixed kind (f ∷ fixups)) l = IfSome l (CanAdd f)
+CanTake (End kind byte start) l = ⊤
+
+pub record CanWalk (p : Piece) (w : Walk) : Type 0 where
+  pub offsets : IfSome w.open_data HasOffsets
+  pub piece : CanTake p w.open_data
+
+-- A start can be given: the placement has the places that it needs, and it reaches.
+pub record HasStart (pl : Places) (kind : ℕ) (r : PlainReference) : Type 0 where
+  pub places : HasPlaces pl 0 r
+  pub reaches : IsOk (start_offset pl kind r)
