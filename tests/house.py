@@ -2,7 +2,7 @@
 """Two tables of docs/ARCHITECTURE.md: house.py counts the lines of each crate; house.py laws has what is believed of computed words.
 
 Lines that are empty, a comment alone, or an import are not counted. Believed are the definitions in specs/, less the worked examples
-that are evaluated (Rows.antt, and the modules that they are about), which stand under tests; inner are those of specs/Inner/, which
+that are evaluated (Rows.antt, and the modules that they are about), which stand under tests, as does samples.rt; inner are those of specs/Inner/, which
 nobody needs to believe; proofs are proofs/; code is src/ with the contracts in it; tests are the test functions and what they stand on.
 
 A file of specs/ may import a word of an Inner only below a line that names the law which ties the word to its definition:
@@ -33,7 +33,7 @@ def lines_of(path):
 def kind_of(crate, path):
     parts = path.relative_to(crate).parts
     is_test = crate.name.endswith("_tests") or crate.name == "omf_trials"
-    if is_test or path.stem in ("tests", "rows", "Rows", "Modules") or "tests" in parts:
+    if is_test or path.stem in ("tests", "rows", "samples", "Rows", "Modules") or "tests" in parts:
         return "tests"
     if parts[:2] == ("specs", "Inner"):
         return "inner"

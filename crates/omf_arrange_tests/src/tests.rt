@@ -3,6 +3,7 @@
 use omf_arrange::{Combination, Lying, arrange, order_of, place_segments};
 use omf_check::{CheckFault, Checked, Profile, check};
 use omf_frame::Reading;
+use omf_frame::samples::END;
 use omf_layout::{Frames, LayoutFault, Options};
 use omf_placement::Placement;
 use std::alloc::{AllocGlobal, Global};
@@ -14,8 +15,6 @@ const FRONT: [u8; 17] = [
     0x80, 0x03, 0x00, 0x01, 0x4D, 0x00, 0x96, 0x08, 0x00, 0x00, 0x01, 0x41, 0x01, 0x42, 0x01, 0x43,
     0x00,
 ];
-
-const END: [u8; 5] = [0x8A, 0x02, 0x00, 0x00, 0x74];
 
 const FLAT: Frames = Frames::Flat { selector: 8 };
 
@@ -42,7 +41,7 @@ fn module_of(alloc: Global, segments: &[Segment]) -> Result<Checked, CheckFault>
     for segment in segments {
         add_segment(&mut bytes, *segment)?;
     }
-    bytes.extend_from_slice(&END)?;
+    bytes.extend_from_slice(END)?;
     let any = Profile {
         refuse_vendor_comments: false,
     };
@@ -102,7 +101,7 @@ fn a_name_is_its_bytes_and_not_its_index(rt: HostRuntime) -> Result<(), Fail> {
     bytes.extend_from_slice(&[0x96, 0x05, 0x00, 0x01, 0x43, 0x01, 0x41, 0x00])?;
     bytes.extend_from_slice(&[0x98, 0x07, 0x00, 0x28, 0x01, 0x00, 0x01, 0x02, 0x01, 0x00])?;
     bytes.extend_from_slice(&[0x98, 0x07, 0x00, 0x28, 0x01, 0x00, 0x02, 0x01, 0x01, 0x00])?;
-    bytes.extend_from_slice(&END)?;
+    bytes.extend_from_slice(END)?;
     let any = Profile {
         refuse_vendor_comments: false,
     };
@@ -304,7 +303,7 @@ fn grouped(alloc: Global, segments: &[Segment], groups: &[Group]) -> Result<Chec
     for group in groups {
         add_group(&mut bytes, *group)?;
     }
-    bytes.extend_from_slice(&END)?;
+    bytes.extend_from_slice(END)?;
     let any = Profile {
         refuse_vendor_comments: false,
     };

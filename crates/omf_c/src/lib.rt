@@ -6,8 +6,8 @@
 
 mod answer;
 mod calls;
+mod gathered;
 mod making;
-mod memory;
 #[cfg(test)]
 mod tests;
 

@@ -31,16 +31,8 @@ const END: &str = "8A 02 00 00 74";
 
 /// Appends the bytes that are written in hexadecimal, with a space between each two.
 fn push_record(bytes: &mut Vec<u8>, record: &str) -> Result<(), AllocError> {
-    let mut byte = 0u8;
-    let mut digits = 0u32;
-    for c in record.chars() {
-        if let Some(digit) = c.to_digit(16) {
-            byte = byte.wrapping_mul(16) | digit as u8;
-            digits = digits.wrapping_add(1);
-            if digits % 2 == 0 {
-                bytes.push(byte)?;
-            }
-        }
+    for digits in record.split(' ') {
+        bytes.push(u8::from_str_radix(digits, 16).unwrap_or(0))?;
     }
     Ok(())
 }

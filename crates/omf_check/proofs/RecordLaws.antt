@@ -10,7 +10,7 @@ use Rattle.omf_records.specs.Values.{At, Rec, Contents, Names, Segment, Group, E
 use Rattle.omf_records.specs.declared.record.Rec.{Rec as CodeRec}
 use Rattle.omf_records.specs.declared.record.Rec.TheVariants as code
 use Rattle.omf_records.specs.Inner.Seen.{contents_seen, kind_seen, odd_if}
-use Rattle.omf_records.specs.Inner.Unread.{is_fixupp}
+use Rattle.omf_records.specs.Valued.{is_fixupp}
 use Rattle.omf_records.specs.Inner.Reading.{read_body, fault_list, contents_or}
 use Rattle.omf_image.specs.Blocks.{Blocks, blocks_size}
 use Rattle.omf_image.specs.Inner.Expanding.{read_blocks, blocks_of, faults_of, length_or}

@@ -4,6 +4,7 @@
 ghost use Rattle.std.specs.Prelude.{◌<◌};
 
 use omf_check::{CheckFault, Checked, Profile, Records, SegInfo, Session, check};
+use omf_frame::samples::{ABSOLUTE, DATA, END, EXTERNAL, FIXUP, GROUP, HEADER, NAMES, SEGMENT};
 use omf_frame::{Name, Place, Reading, Reason};
 use omf_records::Rec;
 use std::alloc::{AllocError, Global};
@@ -18,21 +19,6 @@ mod verdicts;
 const ANY: Profile = Profile {
     refuse_vendor_comments: false,
 };
-
-// A header, a name T, a segment T of 4 bytes, its data, a fixup of its bytes 1 and 2, and the end.
-const HEADER: [u8; 6] = [0x80, 0x03, 0x00, 0x01, 0x41, 0x3B];
-
-const NAMES: [u8; 7] = [0x96, 0x04, 0x00, 0x00, 0x01, 0x54, 0x11];
-
-const SEGMENT: [u8; 10] = [0x98, 0x07, 0x00, 0x28, 0x04, 0x00, 0x02, 0x01, 0x01, 0x31];
-
-const DATA: [u8; 11] = [
-    0xA0, 0x08, 0x00, 0x01, 0x00, 0x00, 0xB8, 0x00, 0x00, 0x90, 0x0F,
-];
-
-const FIXUP: [u8; 9] = [0x9C, 0x06, 0x00, 0xC4, 0x01, 0x04, 0x01, 0x01, 0x93];
-
-const END: [u8; 5] = [0x8A, 0x02, 0x00, 0x00, 0x74];
 
 /// The length of the module that is accepted, or the fault.
 type Answer = Result<usize, CheckFault>;
@@ -199,13 +185,13 @@ fn first_wrong(
 fn many_names(alloc: Global, count: u16) -> Result<Vec<u8>, AllocError>
     requires { count < 65535 }
 {
-    let mut bytes = module(alloc, &[&HEADER])?;
+    let mut bytes = module(alloc, &[HEADER])?;
     let size = count + 1;
     bytes.extend_from_slice(&[0x96, (size % 256) as u8, (size / 256) as u8])?;
     for _ in 0..size {
         bytes.push(0)?;
     }
-    bytes.extend_from_slice(&END)?;
+    bytes.extend_from_slice(END)?;
     Ok(bytes)
 }
 
@@ -223,7 +209,7 @@ fn limits_names(rt: HostRuntime) -> Result<(), Fail> {
 }
 
 /// The records of the first module.
-const FIRST: [&[u8]; 6] = [&HEADER, &NAMES, &SEGMENT, &DATA, &FIXUP, &END];
+const FIRST: [&[u8]; 6] = [HEADER, NAMES, SEGMENT, DATA, FIXUP, END];
 
 /// Its one segment.
 const FIRST_SEGMENT: SegInfo = SegInfo {
@@ -398,15 +384,6 @@ fn shows_the_same_of_bytes(rt: HostRuntime) -> Result<(), Fail> {
     Ok(())
 }
 
-// A segment of 4 bytes at the frame number B800H, a group of it, and an external X.
-const ABSOLUTE: [u8; 13] = [
-    0x98, 0x0A, 0x00, 0x08, 0x00, 0xB8, 0x00, 0x04, 0x00, 0x02, 0x01, 0x01, 0x96,
-];
-
-const GROUP: [u8; 7] = [0x9A, 0x04, 0x00, 0x02, 0xFF, 0x01, 0x60];
-
-const EXTERNAL: [u8; 7] = [0x8C, 0x04, 0x00, 0x01, 0x58, 0x00, 0x17];
-
 /// What is wrong in a module of an absolute segment, a group and an external.
 fn wrong_in_absolute(checked: &Checked) -> Option<&'static str> {
     let segment = SegInfo {
@@ -427,7 +404,7 @@ fn wrong_in_absolute(checked: &Checked) -> Option<&'static str> {
     ])
 }
 
-const WITH_ABSOLUTE: [&[u8]; 6] = [&HEADER, &NAMES, &ABSOLUTE, &GROUP, &EXTERNAL, &END];
+const WITH_ABSOLUTE: [&[u8]; 6] = [HEADER, NAMES, ABSOLUTE, GROUP, EXTERNAL, END];
 
 /// What is wrong in it once it is checked.
 fn wrong_with_absolute(alloc: Global) -> Result<Option<&'static str>, CheckFault> {

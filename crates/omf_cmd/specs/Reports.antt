@@ -13,7 +13,7 @@ use Rattle.omf_cmd.specs.FaultLine.{fault_text, takes_memory}
 use Rattle.omf_cmd.specs.HowFar.{EndsAtRefusal, IsReadFrom, IsUnrefused}
 use Rattle.omf_cmd.specs.Listing.{canonical_text, check_text, list_text}
 use Rattle.omf_cmd.specs.Relocating.{IsRelocation}
-use Rattle.omf_cmd.specs.Runs.{IsCausedBy, IsWritten, Prints, PrintsInPieces}
+use Rattle.omf_cmd.specs.Runs.{EndsBy, IsCausedBy, IsWritten, Prints, PrintsInPieces}
 use Rattle.omf_cmd.specs.Words.{status_of, usage}
 use Rattle.omf_cmd.specs.declared.fault.RunFault.{RunFault}
 use Rattle.omf_cmd.specs.declared.fault.RunFault.TheVariants as fault
@@ -72,8 +72,7 @@ Tells old new f = IsWritten old new (fault_text f) ⊎ (IsTrue (takes_memory f) 
 
 -- How the program ends after a run: the status is that of the answer, and a fault's text is written.
 abbrev pub IsEnded : Device → Device → Result (Unit {0}) RunFault → ℕ → Type 0
-IsEnded old new (Ok done) status = (status ≡ 0) × (new ≡ old)
-IsEnded old new (Err f) status = (status ≡ status_of f) × Tells old new f
+IsEnded old new ran status = EndsBy status_of Tells old new ran status
 
 -- The program's answer to words that ask for a job: it ran, and the program ended. A device that is named has failed in the run.
 pub record IsAnswer (asked : Job × Profile) (reader reader' writer writer' : Device) (status : ℕ) : Type 0 where
@@ -88,6 +87,10 @@ pub record IsAnswer (asked : Job × Profile) (reader reader' writer writer' : De
 abbrev pub IsOutOfMemory : Device → Device → Device → Device → ℕ → Type 0
 IsOutOfMemory reader reader' writer writer' status = (reader' ≡ reader) × (status ≡ 3) × Tells writer writer' fault.Memory
 
--- The program's answer to words that are not understood: how it is called, unless the writer failed; or memory ran out. Nothing is read.
+-- A program's answer to words that are not understood: how it is called, unless the writer failed; or memory ran out. Nothing is read.
+abbrev pub Misuses : List ℕ → Device → Device → Device → Device → ℕ → Type 0
+Misuses called reader reader' writer writer' status = ((reader' ≡ reader) × (status ≡ 2) × IsWritten writer writer' called) ⊎ IsOutOfMemory reader reader' writer writer' status
+
+-- The answer of `omf` to such words.
 abbrev pub IsMisuse : Device → Device → Device → Device → ℕ → Type 0
-IsMisuse reader reader' writer writer' status = ((reader' ≡ reader) × (status ≡ 2) × IsWritten writer writer' usage) ⊎ IsOutOfMemory reader reader' writer writer' status
+IsMisuse reader reader' writer writer' status = Misuses usage reader reader' writer writer' status

@@ -53,3 +53,22 @@ PrintsInPieces old new (Ok done) text = Appends old new text
 PrintsInPieces old new (Err fault.Write) text = IsPart old new text
 PrintsInPieces old new (Err fault.Memory) text = IsPart old new text
 PrintsInPieces old new (Err e) text = Keeps old new
+
+-- what a program writes of its answer: a text whole, or a part of it from the front where the writer failed, which is then the fault
+-- `unwritten`; nothing of a fault
+abbrev pub PrintsOr : {F : Type 0} → F → Device → Device → Result (List ℕ) F → Result (Unit {0}) F → Type 0
+PrintsOr unwritten old new (Ok text) (Ok done) = IsUnbroken old new × Appends old.bytes new.bytes text
+PrintsOr unwritten old new (Ok text) (Err e) = (e ≡ unwritten) × HasGivenUp old new × IsPart old.bytes new.bytes text
+PrintsOr unwritten old new (Err f) ran = (ran ≡ Err f) × (new ≡ old)
+
+-- how a program ends after a run: the status is 0, or that of the fault, which is told
+abbrev pub EndsBy : {F : Type 0} → (F → ℕ) → (Device → Device → F → Type 0) → Device → Device → Result (Unit {0}) F → ℕ → Type 0
+EndsBy status_of tells old new (Ok done) status = (status ≡ 0) × (new ≡ old)
+EndsBy status_of tells old new (Err f) status = (status ≡ status_of f) × tells old new f
+
+-- a program's answer: it ran, and then it ended
+pub record AnswersBy {F : Type 0} (runs : Device → Device → Device → Device → Result (Unit {0}) F → Type 0) (ends : Device → Device → Result (Unit {0}) F → ℕ → Type 0) (reader reader' writer writer' : Device) (status : ℕ) : Type 0 where
+  pub ran : Result (Unit {0}) F
+  pub between : Device
+  pub run : runs reader reader' writer between ran
+  pub ended : ends between writer' ran status

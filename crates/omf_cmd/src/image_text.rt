@@ -1,6 +1,7 @@
 //! The text of an image and a start: lines of up to 16 bytes for each run of covered bytes.
 
-ghost use Rattle.std.specs.Prelude.{◌≡◌, ◌+◌, ◌^◌, ◌≤◌, ◌++◌, flat_map, length, option_map, OnOk};
+ghost use Rattle.std.specs.Prelude.{◌+◌, ◌^◌, ◌≤◌, ◌++◌, flat_map, length, option_map};
+ghost use Rattle.omf_frame.specs.Bytes.{AddsText};
 ghost use Rattle.omf_image.specs.Inner.Joined.{runs_of};
 ghost use Rattle.omf_image.specs.Overlay.{byte_at};
 ghost use Rattle.omf_cmd.specs.Relocated.{place_text, run_lines, start_line, image_text};
@@ -20,7 +21,7 @@ const LINE_BYTES: usize = 16;
 
 /// A segment and an offset in it.
 fn print_place(text: &mut Vec<u8>, segment: u16, offset: u32) -> Result<(), AllocError>
-    ensures { OnOk result (text.new.items ≡ text.old.items ++ place_text segment offset) }
+    ensures { AddsText result text.old.items text.new.items (place_text segment offset) }
 {
     text.extend_from_slice(&four_digits(segment))?;
     text.push(b':')?;
@@ -34,7 +35,7 @@ fn print_place(text: &mut Vec<u8>, segment: u16, offset: u32) -> Result<(), Allo
 /// `AllocError` where the growth is refused.
 pub fn print_bytes(text: &mut Vec<u8>, bytes: &[u8]) -> Result<(), AllocError>
     requires { length bytes.now ≤ 16 }
-    ensures { OnOk result (text.new.items ≡ text.old.items ++ flat_map byte_text bytes.now) }
+    ensures { AddsText result text.old.items text.new.items (flat_map byte_text bytes.now) }
 {
     let mut line = [0; 48];
     let (shown, _rest) = line.split_at_mut(3 * bytes.len());
@@ -45,7 +46,7 @@ pub fn print_bytes(text: &mut Vec<u8>, bytes: &[u8]) -> Result<(), AllocError>
 /// A line: the place of its first byte, and its bytes.
 fn print_line(text: &mut Vec<u8>, segment: u16, offset: u32, bytes: &[u8]) -> Result<(), AllocError>
     requires { length bytes.now ≤ 16 }
-    ensures { OnOk result (text.new.items ≡ text.old.items ++ line_text (place_text segment) offset bytes.now) }
+    ensures { AddsText result text.old.items text.new.items (line_text (place_text segment) offset bytes.now) }
 {
     print_place(text, segment, offset)?;
     print_bytes(text, bytes)?;
@@ -101,7 +102,7 @@ fn print_runs<K: Sink>(
 ///
 /// `AllocError` where a growth is refused.
 pub fn print_start(text: &mut Vec<u8>, start: Option<(u16, u32)>) -> Result<(), AllocError>
-    ensures { OnOk result (text.new.items ≡ text.old.items ++ start_line start) }
+    ensures { AddsText result text.old.items text.new.items (start_line start) }
 {
     let Some((selector, offset)) = start else {
         return Ok(());

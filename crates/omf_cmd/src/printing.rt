@@ -1,6 +1,7 @@
 //! The lines of `list` and `check`.
 
 ghost use Rattle.std.specs.Prelude.{◌≡◌, ◌++◌, ◌∷◌, [], OnOk, string_bytes, codes, decimal, unwrap_or, option_map};
+ghost use Rattle.omf_frame.specs.Bytes.{AddsText};
 ghost use Rattle.omf_cmd.specs.Printed.{line, index_or_dash};
 ghost use Rattle.omf_placement.specs.Quoted.{hex, is_plain, escaped, quoted};
 ghost use Rattle.omf_frame.specs.Types.{type_name};
@@ -44,7 +45,7 @@ fn type_name(kind: u8) -> &'static str
 
 /// A number behind a space.
 fn print_number(text: &mut Vec<u8>, number: u64) -> Result<(), AllocError>
-    ensures { OnOk result (text.new.items ≡ text.old.items ++ 32 ∷ decimal number) }
+    ensures { AddsText result text.old.items text.new.items (32 ∷ decimal number) }
 {
     let mut buffer = Buffer::new();
     text.push(b' ')?;
@@ -53,7 +54,7 @@ fn print_number(text: &mut Vec<u8>, number: u64) -> Result<(), AllocError>
 
 /// A type byte behind a space, in two hexadecimal digits.
 fn print_type(text: &mut Vec<u8>, kind: u8) -> Result<(), AllocError>
-    ensures { OnOk result (text.new.items ≡ text.old.items ++ 32 ∷ hex 2 kind) }
+    ensures { AddsText result text.old.items text.new.items (32 ∷ hex 2 kind) }
 {
     text.push(b' ')?;
     text.extend_from_slice(&two_digits(kind))
@@ -61,14 +62,14 @@ fn print_type(text: &mut Vec<u8>, kind: u8) -> Result<(), AllocError>
 
 /// An offset behind a space, in eight hexadecimal digits or more, as it is formatted.
 fn write_offset(text: &mut String, offset: u64) -> Result<(), AllocError>
-    ensures { OnOk result (string_bytes text.new ≡ string_bytes text.old ++ 32 ∷ hex 8 offset) }
+    ensures { AddsText result (string_bytes text.old) (string_bytes text.new) (32 ∷ hex 8 offset) }
 {
     write!(text, " {offset:08X}")
 }
 
 /// An offset of any size behind a space. Those of more than 32 bits are rare.
 fn print_far_offset(text: &mut Vec<u8>, offset: u64) -> Result<(), AllocError>
-    ensures { OnOk result (text.new.items ≡ text.old.items ++ 32 ∷ hex 8 offset) }
+    ensures { AddsText result text.old.items text.new.items (32 ∷ hex 8 offset) }
 {
     let mut shown = String::new(*text.allocator());
     write_offset(&mut shown, offset)?;
@@ -77,7 +78,7 @@ fn print_far_offset(text: &mut Vec<u8>, offset: u64) -> Result<(), AllocError>
 
 /// An offset behind a space, in eight hexadecimal digits or more.
 fn print_offset(text: &mut Vec<u8>, offset: u64) -> Result<(), AllocError>
-    ensures { OnOk result (text.new.items ≡ text.old.items ++ 32 ∷ hex 8 offset) }
+    ensures { AddsText result text.old.items text.new.items (32 ∷ hex 8 offset) }
 {
     let Ok(offset) = u32::try_from(offset) else {
         return print_far_offset(text, offset);
@@ -105,7 +106,7 @@ fn print_named(
     length: usize,
     name: &str,
 ) -> Result<(), AllocError>
-    ensures { OnOk result (text.new.items ≡ text.old.items ++ line (codes "R" ∷ decimal number ∷ hex 8 start ∷ hex 2 kind ∷ decimal length ∷ name.now ∷ [])) }
+    ensures { AddsText result text.old.items text.new.items (line (codes "R" ∷ decimal number ∷ hex 8 start ∷ hex 2 kind ∷ decimal length ∷ name.now ∷ [])) }
 {
     text.push(b'R')?;
     print_number(text, u64::from(number))?;
@@ -123,7 +124,7 @@ pub fn print_record(
     kind: u8,
     length: usize,
 ) -> Result<(), AllocError>
-    ensures { OnOk result (text.new.items ≡ text.old.items ++ line (codes "R" ∷ decimal number ∷ hex 8 start ∷ hex 2 kind ∷ decimal length ∷ type_name kind ∷ [])) }
+    ensures { AddsText result text.old.items text.new.items (line (codes "R" ∷ decimal number ∷ hex 8 start ∷ hex 2 kind ∷ decimal length ∷ type_name kind ∷ [])) }
 {
     print_named(text, number, start, kind, length, type_name(kind))
 }
@@ -137,7 +138,7 @@ fn is_plain(byte: u8) -> bool
 
 /// A byte as `\x` and two hexadecimal digits.
 fn print_digits(text: &mut Vec<u8>, byte: u8) -> Result<(), AllocError>
-    ensures { OnOk result (text.new.items ≡ text.old.items ++ 92 ∷ 120 ∷ hex 2 byte) }
+    ensures { AddsText result text.old.items text.new.items (92 ∷ 120 ∷ hex 2 byte) }
 {
     text.extend_from_slice(b"\\x")?;
     text.extend_from_slice(&two_digits(byte))
@@ -145,7 +146,7 @@ fn print_digits(text: &mut Vec<u8>, byte: u8) -> Result<(), AllocError>
 
 /// A byte of a name.
 fn print_escaped(text: &mut Vec<u8>, byte: u8) -> Result<(), AllocError>
-    ensures { OnOk result (text.new.items ≡ text.old.items ++ escaped byte) }
+    ensures { AddsText result text.old.items text.new.items (escaped byte) }
 {
     if is_plain(byte) {
         text.push(byte)?;
@@ -157,7 +158,7 @@ fn print_escaped(text: &mut Vec<u8>, byte: u8) -> Result<(), AllocError>
 
 /// A name in double quotes, behind a space.
 fn print_quoted(text: &mut Vec<u8>, name: &[u8]) -> Result<(), AllocError>
-    ensures { OnOk result (text.new.items ≡ text.old.items ++ 32 ∷ quoted name.now) }
+    ensures { AddsText result text.old.items text.new.items (32 ∷ quoted name.now) }
 {
     text.extend_from_slice(b" \"")?;
     for byte in name {
@@ -179,7 +180,7 @@ fn print_name(text: &mut Vec<u8>, name: Option<Name<'_>>) -> Result<(), AllocErr
 
 /// An index, or a dash for 0, behind a space.
 fn print_index(text: &mut Vec<u8>, index: u16) -> Result<(), AllocError>
-    ensures { OnOk result (text.new.items ≡ text.old.items ++ 32 ∷ index_or_dash index) }
+    ensures { AddsText result text.old.items text.new.items (32 ∷ index_or_dash index) }
 {
     if index == 0 {
         text.extend_from_slice(b" -")
@@ -195,7 +196,7 @@ pub fn print_segment(
     length: u64,
     name: Option<Name<'_>>,
 ) -> Result<(), AllocError>
-    ensures { OnOk result (text.new.items ≡ text.old.items ++ line (codes "S" ∷ decimal index ∷ decimal length ∷ unwrap_or (option_map quoted name.entry) (codes "-") ∷ [])) }
+    ensures { AddsText result text.old.items text.new.items (line (codes "S" ∷ decimal index ∷ decimal length ∷ unwrap_or (option_map quoted name.entry) (codes "-") ∷ [])) }
 {
     text.push(b'S')?;
     print_number(text, u64::from(index))?;
@@ -207,7 +208,7 @@ pub fn print_segment(
 
 /// A group: its index, its name.
 pub fn print_group(text: &mut Vec<u8>, index: u16, name: Option<Name<'_>>) -> Result<(), AllocError>
-    ensures { OnOk result (text.new.items ≡ text.old.items ++ line (codes "G" ∷ decimal index ∷ unwrap_or (option_map quoted name.entry) (codes "-") ∷ [])) }
+    ensures { AddsText result text.old.items text.new.items (line (codes "G" ∷ decimal index ∷ unwrap_or (option_map quoted name.entry) (codes "-") ∷ [])) }
 {
     text.push(b'G')?;
     print_number(text, u64::from(index))?;
@@ -218,7 +219,7 @@ pub fn print_group(text: &mut Vec<u8>, index: u16, name: Option<Name<'_>>) -> Re
 
 /// An external: its index, its name.
 pub fn print_external(text: &mut Vec<u8>, index: u16, name: &[u8]) -> Result<(), AllocError>
-    ensures { OnOk result (text.new.items ≡ text.old.items ++ line (codes "E" ∷ decimal index ∷ quoted name.now ∷ [])) }
+    ensures { AddsText result text.old.items text.new.items (line (codes "E" ∷ decimal index ∷ quoted name.now ∷ [])) }
 {
     text.push(b'E')?;
     print_number(text, u64::from(index))?;
@@ -235,7 +236,7 @@ pub fn print_public(
     offset: u32,
     name: &[u8],
 ) -> Result<(), AllocError>
-    ensures { OnOk result (text.new.items ≡ text.old.items ++ line (codes "P" ∷ index_or_dash group ∷ index_or_dash segment ∷ hex 8 offset ∷ quoted name.now ∷ [])) }
+    ensures { AddsText result text.old.items text.new.items (line (codes "P" ∷ index_or_dash group ∷ index_or_dash segment ∷ hex 8 offset ∷ quoted name.now ∷ [])) }
 {
     text.push(b'P')?;
     print_index(text, group)?;
@@ -248,7 +249,7 @@ pub fn print_public(
 
 /// How many records and bytes a module has.
 pub fn print_totals(text: &mut String, records: usize, bytes: usize) -> Result<(), AllocError>
-    ensures { OnOk result (string_bytes text.new ≡ string_bytes text.old ++ line (codes "OK" ∷ decimal records ∷ codes "records," ∷ decimal bytes ∷ codes "bytes" ∷ [])) }
+    ensures { AddsText result (string_bytes text.old) (string_bytes text.new) (line (codes "OK" ∷ decimal records ∷ codes "records," ∷ decimal bytes ∷ codes "bytes" ∷ [])) }
 {
     write!(text, "OK {records} records, {bytes} bytes\n")
 }

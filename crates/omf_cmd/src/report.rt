@@ -1,7 +1,7 @@
 //! The texts of `check` and `list`. That of `list` goes to the writer in pieces.
 
-ghost use Rattle.std.specs.Prelude.{◌≡◌, ◌++◌, ◌∷◌, [], OnOk, IfOk, string_bytes, codes, decimal, flat_map, length};
-ghost use Rattle.omf_frame.specs.Bytes.{with_before};
+ghost use Rattle.std.specs.Prelude.{◌≡◌, ◌++◌, ◌∷◌, [], IfOk, string_bytes, codes, decimal, flat_map, length};
+ghost use Rattle.omf_frame.specs.Bytes.{with_before, AddsText};
 ghost use Rattle.omf_frame.specs.Framing.{Raw};
 ghost use Rattle.omf_records.specs.Inner.Seen.{contents_seen};
 ghost use Rattle.omf_records.specs.Values.{Group, GroupItem};
@@ -82,7 +82,7 @@ fn print_group_of(
     group: &Rec<'_>,
 ) -> Result<(), AllocError>
     requires { (g : GroupItem) × (contents_seen group.now ≡ Group g) }
-    ensures { (g : GroupItem) → contents_seen group.now ≡ Group g → OnOk result (text.new.items ≡ text.old.items ++ line (codes "G" ∷ decimal index ∷ named (names (recs_of checked.now.bytes)) g.name.item ∷ [])) }
+    ensures { (g : GroupItem) → contents_seen group.now ≡ Group g → AddsText result text.old.items text.new.items (line (codes "G" ∷ decimal index ∷ named (names (recs_of checked.now.bytes)) g.name.item ∷ [])) }
 {
     match group {
         Rec::Group { name, .. } => print_group(text, index, checked.name(name.item.0)),
@@ -137,7 +137,7 @@ fn print_item(
     segment: u16,
     public: &At<Public<'_>>,
 ) -> Result<(), AllocError>
-    ensures { OnOk result (text.new.items ≡ text.old.items ++ line (codes "P" ∷ index_or_dash group ∷ index_or_dash segment ∷ hex 8 public.now.item.offset ∷ quoted public.now.item.name ∷ [])) }
+    ensures { AddsText result text.old.items text.new.items (line (codes "P" ∷ index_or_dash group ∷ index_or_dash segment ∷ hex 8 public.now.item.offset ∷ quoted public.now.item.name ∷ [])) }
 {
     let item = &public.item;
     print_public(text, group, segment, item.offset, item.name.0)

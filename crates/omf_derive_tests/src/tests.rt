@@ -6,6 +6,7 @@
 use omf_check::{CheckFault, Checked, Profile, check};
 use omf_derive::{DeriveFault, Given, derive};
 use omf_frame::Reading;
+use omf_frame::samples::END;
 use omf_placement::{Frame, Placement};
 use std::alloc::{AllocError, Global};
 
@@ -18,24 +19,10 @@ const FRONT: &[u8] = &[
     0x28, 0x04, 0x00, 0x02, 0x01, 0x01, 0x31,
 ];
 
-const END: &[u8] = &[0x8A, 0x02, 0x00, 0x00, 0x74];
-
-// An external X, and a local one.
-const EXTERNAL: &[u8] = &[0x8C, 0x04, 0x00, 0x01, 0x58, 0x00, 0x17];
-
-const LOCAL_EXTERNAL: &[u8] = &[0xB4, 0x04, 0x00, 0x01, 0x58, 0x00, 0xEF];
-
-// A public X at offset 2 of the segment, and a local one at offset 3.
-const PUBLIC: &[u8] = &[
-    0x90, 0x08, 0x00, 0x00, 0x01, 0x01, 0x58, 0x02, 0x00, 0x00, 0x0C,
-];
-
+// A local public X at offset 3 of the segment.
 const LOCAL_PUBLIC: &[u8] = &[
     0xB6, 0x08, 0x00, 0x00, 0x01, 0x01, 0x58, 0x03, 0x00, 0x00, 0xE5,
 ];
-
-// A group of the segment.
-const GROUP: &[u8] = &[0x9A, 0x04, 0x00, 0x02, 0xFF, 0x01, 0x60];
 
 /// A module: its records behind its segment, where that lies and in which frame, and the frames of its groups.
 type Lying = (&'static [&'static [u8]], (u32, Frame), &'static [Frame]);

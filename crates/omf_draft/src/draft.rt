@@ -1,7 +1,8 @@
 //! The draft of a link's text.
 
-ghost use Rattle.std.specs.Prelude.{◌≡◌, ◌++◌, ◌<◌, ◌^◌, [], All, List, ℕ, OnOk, IfOk, length, string_bytes, zip, Some, slice_get};
+ghost use Rattle.std.specs.Prelude.{◌≡◌, ◌<◌, ◌^◌, [], All, List, ℕ, IfOk, length, string_bytes, zip, Some, slice_get};
 ghost use Rattle.std.specs.List.{AllZip};
+ghost use Rattle.omf_frame.specs.Bytes.{AddsText};
 ghost use Rattle.omf_records.specs.Inner.Seen.{map_ok};
 ghost use Rattle.omf_records.specs.Values.{Rec as Typed};
 ghost use Rattle.omf_placement.specs.Placement.{Places};
@@ -22,7 +23,7 @@ use std::alloc::{AllocError, Global};
 
 /// The line in front of the part of a module of this number, from 0.
 fn print_border(text: &mut String, number: usize) -> Result<(), AllocError>
-    ensures { OnOk result (string_bytes text.new ≡ string_bytes text.old ++ border number) }
+    ensures { AddsText result (string_bytes text.old) (string_bytes text.new) (border number) }
 {
     if number == 0 {
         return Ok(());

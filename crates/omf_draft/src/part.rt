@@ -1,7 +1,8 @@
 //! The part of a module.
 
-ghost use Rattle.std.specs.Prelude.{◌≡◌, ◌++◌, ◌∷◌, [], All, Bool, List, ℕ, OnOk, IfOk, codes, decimal, flat_map, length, string_bytes, true, false, zip};
+ghost use Rattle.std.specs.Prelude.{◌≡◌, ◌∷◌, [], All, Bool, List, ℕ, OnOk, IfOk, codes, decimal, flat_map, length, string_bytes, true, false, zip};
 ghost use Rattle.std.specs.List.{enumerate_from};
+ghost use Rattle.omf_frame.specs.Bytes.{AddsText};
 ghost use Rattle.omf_records.specs.Inner.Seen.{contents_seen};
 ghost use Rattle.omf_check.specs.Module.{recs_of};
 ghost use Rattle.omf_check.specs.Tables.{entry, externals, groups, segments};
@@ -25,7 +26,7 @@ use std::fmt::Write;
 
 /// The name of a THEADR or an LHEADR in double quotes.
 fn print_header(text: &mut String, rec: &Rec<'_>) -> Result<(), AllocError>
-    ensures { OnOk result (string_bytes text.new ≡ string_bytes text.old ++ quoted (header_name (contents_seen rec.now))) }
+    ensures { AddsText result (string_bytes text.old) (string_bytes text.new) (quoted (header_name (contents_seen rec.now))) }
 {
     match rec {
         Rec::Header { name, .. } => print_quoted(text, name.0),
@@ -35,7 +36,7 @@ fn print_header(text: &mut String, rec: &Rec<'_>) -> Result<(), AllocError>
 
 /// The name of a module in double quotes.
 fn print_module_name(text: &mut String, module: &Checked) -> Result<(), AllocError>
-    ensures { OnOk result (string_bytes text.new ≡ string_bytes text.old ++ quoted (module_name (recs_of «module».now.bytes))) }
+    ensures { AddsText result (string_bytes text.old) (string_bytes text.new) (quoted (module_name (recs_of «module».now.bytes))) }
 {
     match module.records().next() {
         Some((_, rec)) => print_header(text, &rec),
@@ -45,7 +46,7 @@ fn print_module_name(text: &mut String, module: &Checked) -> Result<(), AllocErr
 
 /// The comment that names a module.
 fn print_name_line(text: &mut String, module: &Checked) -> Result<(), AllocError>
-    ensures { OnOk result (string_bytes text.new ≡ string_bytes text.old ++ name_line (recs_of «module».now.bytes)) }
+    ensures { AddsText result (string_bytes text.old) (string_bytes text.new) (name_line (recs_of «module».now.bytes)) }
 {
     text.push_str("; module ")?;
     print_module_name(text, module)?;
@@ -62,7 +63,7 @@ fn print_segment_lines(
 ) -> Result<(), AllocError>
     requires { length placement.now.segments ≡ length (segments (recs_of «module».now.bytes)) }
     ensures short { OnOk result (All IsShortPlace placement.now.segments) }
-    ensures lines { OnOk result (string_bytes text.new ≡ string_bytes text.old ++ segment_lines frames (recs_of «module».now.bytes) placement.now.segments) }
+    ensures lines { AddsText result (string_bytes text.old) (string_bytes text.new) (segment_lines frames (recs_of «module».now.bytes) placement.now.segments) }
 {
     let alignments = alignments_of(alloc, module)?;
     print_segments(text, module, frames, &alignments, placement)
@@ -76,7 +77,7 @@ fn print_group_lines(
 ) -> Result<(), AllocError>
     requires { length placement.now.groups ≡ length (groups (recs_of «module».now.bytes)) }
     ensures short { OnOk result (All IsShortFrame placement.now.groups) }
-    ensures lines { OnOk result (string_bytes text.new ≡ string_bytes text.old ++ group_lines (recs_of «module».now.bytes) placement.now.groups) }
+    ensures lines { AddsText result (string_bytes text.old) (string_bytes text.new) (group_lines (recs_of «module».now.bytes) placement.now.groups) }
 {
     let given = Frames::Flat { selector: 0 };
     print_groups(text, module, given, placement)
@@ -84,7 +85,7 @@ fn print_group_lines(
 
 /// The entry of an external that is to be filled in.
 fn print_wanted_entry(text: &mut String, index: u16) -> Result<(), AllocError>
-    ensures { OnOk result (string_bytes text.new ≡ string_bytes text.old ++ wanted_entry index) }
+    ensures { AddsText result (string_bytes text.old) (string_bytes text.new) (wanted_entry index) }
 {
     write!(text, "; X {index:X} address frame selector")
 }
@@ -96,7 +97,7 @@ fn print_wanted(
     name: Name<'_>,
     room: Option<u64>,
 ) -> Result<(), AllocError>
-    ensures { OnOk result (string_bytes text.new ≡ string_bytes text.old ++ wanted_line index name.entry room) }
+    ensures { AddsText result (string_bytes text.old) (string_bytes text.new) (wanted_line index name.entry room) }
 {
     print_wanted_entry(text, index)?;
     print_index(text, index)?;
@@ -122,7 +123,7 @@ fn print_external<'a>(
     local: bool,
     room: Option<u64>,
 ) -> Result<(), AllocError>
-    ensures { (among : Bool → List (List ℕ)) → IsNameTable all.now.names (among false) → IsNameTable own.now.names (among true) → OnOk result (string_bytes text.new ≡ string_bytes text.old ++ external_text among (index, ((name.entry, local), room))) }
+    ensures { (among : Bool → List (List ℕ)) → IsNameTable all.now.names (among false) → IsNameTable own.now.names (among true) → AddsText result (string_bytes text.old) (string_bytes text.new) (external_text among (index, ((name.entry, local), room))) }
 {
     if is_public(all, own, name.0, local) {
         return Ok(());
@@ -147,7 +148,7 @@ fn print_wanted_lines<'a>(
 ) -> Result<(), AllocError>
     requires asked { asked.now ≡ rooms (recs_of «module».now.bytes) }
     requires as_many { length asked.now ≡ length (externals (recs_of «module».now.bytes)) }
-    ensures { (among : Bool → List (List ℕ)) → IsNameTable all.now.names (among false) → IsNameTable own.now.names (among true) → OnOk result (string_bytes text.new ≡ string_bytes text.old ++ wanted_lines among (recs_of «module».entry.now.bytes)) }
+    ensures { (among : Bool → List (List ℕ)) → IsNameTable all.now.names (among false) → IsNameTable own.now.names (among true) → AddsText result (string_bytes text.old) (string_bytes text.new) (wanted_lines among (recs_of «module».entry.now.bytes)) }
 {
     for before in 0..module.externals() {
         let index = before + 1;
@@ -176,7 +177,7 @@ pub fn print_part<'a>(
     requires groups { length placement.now.groups ≡ length (groups (recs_of «module».now.bytes)) }
     ensures segments { OnOk result (All IsShortPlace placement.now.segments) }
     ensures groups { OnOk result (All IsShortFrame placement.now.groups) }
-    ensures text { (among : Bool → List (List ℕ)) → IsNameTable all.now.names (among false) → among true ≡ public_names true (recs_of «module».entry.now.bytes) → OnOk result (string_bytes text.new ≡ string_bytes text.old ++ part_text frames among (recs_of «module».entry.now.bytes) placement.now) }
+    ensures text { (among : Bool → List (List ℕ)) → IsNameTable all.now.names (among false) → among true ≡ public_names true (recs_of «module».entry.now.bytes) → AddsText result (string_bytes text.old) (string_bytes text.new) (part_text frames among (recs_of «module».entry.now.bytes) placement.now) }
 {
     let rooms = rooms_of(alloc, module)?;
     let own = NameTable::of_locals(alloc, module)?;

@@ -4,6 +4,7 @@ use omf_arrange::place_segments;
 use omf_check::{CheckFault, Checked, Profile, check};
 use omf_draft::link_draft;
 use omf_frame::Reading;
+use omf_frame::samples::END;
 use omf_layout::{Frames, LayoutFault, Options};
 use omf_linking::{link, parse_parts};
 use std::alloc::{AllocGlobal, Global};
@@ -13,8 +14,6 @@ use std::test::Fail;
 const NAMES: [u8; 11] = [
     0x96, 0x08, 0x00, 0x00, 0x01, 0x41, 0x01, 0x42, 0x01, 0x43, 0x00,
 ];
-
-const END: [u8; 5] = [0x8A, 0x02, 0x00, 0x00, 0x74];
 
 // A group B of segment 1.
 const GROUP: [u8; 7] = [0x9A, 0x04, 0x00, 0x03, 0xFF, 0x01, 0x00];
@@ -54,7 +53,7 @@ fn module_of(alloc: Global, letter: u8, records: &[&[u8]]) -> Result<Checked, Ch
     for record in records {
         bytes.extend_from_slice(record)?;
     }
-    bytes.extend_from_slice(&END)?;
+    bytes.extend_from_slice(END)?;
     let any = Profile {
         refuse_vendor_comments: false,
     };

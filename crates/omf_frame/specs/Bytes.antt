@@ -1,5 +1,5 @@
 -- Words on bytes and lists that the other definitions share.
-use Rattle.std.specs.Prelude.{ℕ, ◌-◌, ◌/◌, ◌%◌, ◌^◌, ◌<◌, Bool, ◌==◌, List, [], ◌∷◌, ◌++◌, Option, Some, None, nat_le, slice_index, if◌then◌else◌}
+use Rattle.std.specs.Prelude.{ℕ, ◌≡◌, ◌-◌, ◌/◌, ◌%◌, ◌^◌, ◌<◌, Bool, ◌==◌, List, [], ◌∷◌, ◌++◌, Option, Some, None, Result, OnOk, nat_le, slice_index, if◌then◌else◌}
 use Rattle.std.specs.List.{last_or, list_any}
 
 -- each number of the list is a byte
@@ -40,3 +40,7 @@ with_after f (x ∷ xs) = f x xs ++ with_after f xs
 abbrev pub up_to : {A : Type 0} → (A → Bool) → List A → List A
 up_to test [] = []
 up_to test (x ∷ xs) = if test x then [] else x ∷ up_to test xs
+
+-- where the call succeeds, the text `old` has become `new` by having `more` added to its end
+abbrev pub AddsText : {A E : Type 0} → Result A E → List ℕ → List ℕ → List ℕ → Type 0
+AddsText result old new more = OnOk result (new ≡ old ++ more)

@@ -24,10 +24,11 @@ mod framing;
 mod kinds;
 mod laws;
 mod pull;
+pub mod samples;
 mod sums;
 mod write;
 
-pub use device::{Buffered, Reading, Sink, Source, Writing};
+pub use device::{Buffered, Bytes, Reading, Sink, Source, Writing};
 pub use fault::{FrameFault, Place, Reason};
 pub use field::{CommunalLength, Field, Index, Le16, Le32, Name};
 pub use framer::{Fed, Framer, RawRecord};

@@ -2,9 +2,10 @@
 
 use faulty::pull_pieces;
 use omf_frame::faulty::{Script, Then};
+use omf_frame::samples::{HEADER, MODULE};
 use omf_frame::{
-    Buffered, CommunalLength, Field, FrameFault, Framer, Index, Le16, Le32, Name, Place, Reading,
-    Reason, Source, Writing, checksum, write_record,
+    Buffered, Bytes, CommunalLength, Field, FrameFault, Framer, Index, Le16, Le32, Name, Place,
+    Reading, Reason, Source, Writing, checksum, write_record,
 };
 use std::alloc::{AllocError, Global};
 use std::io;
@@ -12,15 +13,6 @@ use std::io::{BufReader, ErrorKind, Write};
 use std::test::Fail;
 
 mod faulty;
-
-/// A header, names, a segment, data, a fixup and a MODEND.
-const MODULE: [u8; 48] = [
-    0x80, 0x03, 0x00, 0x01, 0x41, 0x3B, 0x96, 0x04, 0x00, 0x00, 0x01, 0x54, 0x11, 0x98, 0x07, 0x00,
-    0x28, 0x04, 0x00, 0x02, 0x01, 0x01, 0x31, 0xA0, 0x08, 0x00, 0x01, 0x00, 0x00, 0xB8, 0x00, 0x00,
-    0x90, 0x0F, 0x9C, 0x06, 0x00, 0xC4, 0x01, 0x04, 0x01, 0x01, 0x93, 0x8A, 0x02, 0x00, 0x00, 0x74,
-];
-
-const HEADER: [u8; 6] = [0x80, 0x03, 0x00, 0x01, 0x41, 0x3B];
 
 /// A record's type, number and start, and its contents' length and first byte.
 type Seen = (u8, u32, u64, usize, Option<u8>);
@@ -151,7 +143,8 @@ fn finds_the_end_of_input(rt: HostRuntime) -> Result<(), Fail> {
 
 /// The module with this byte at each of these places.
 fn changed(places: &[usize], byte: u8) -> [u8; 48] {
-    let mut bytes = MODULE;
+    let mut bytes = [0; 48];
+    bytes.copy_from_slice(MODULE);
     for place in places {
         if let Some(old) = bytes.get_mut(*place) {
             *old = byte;
@@ -168,7 +161,7 @@ fn has_its_records(alloc: Global, bytes: &[u8]) -> Result<bool, Fail> {
 
 #[test]
 fn frames_single_bytes(rt: HostRuntime) -> Result<(), Fail> {
-    assert!(rt; has_its_records(rt.alloc(), &MODULE)?);
+    assert!(rt; has_its_records(rt.alloc(), MODULE)?);
     Ok(())
 }
 
@@ -255,11 +248,11 @@ fn refuses_after_header(
     framer: &mut Framer,
     fault: Option<FrameFault>,
 ) -> Result<bool, Fail> {
-    if takes(framer, &HEADER)? != (6, true) {
+    if takes(framer, HEADER)? != (6, true) {
         return Ok(false);
     }
     pass(framer, &mut Vec::new(alloc))?;
-    Ok(takes(framer, &[0x01]).err() == fault && takes(framer, &HEADER).err() == fault)
+    Ok(takes(framer, &[0x01]).err() == fault && takes(framer, HEADER).err() == fault)
 }
 
 #[test]
@@ -275,7 +268,7 @@ fn keeps_a_fault(rt: HostRuntime) -> Result<(), Fail> {
 fn does_not_keep_the_end_of_input(rt: HostRuntime) -> Result<(), Fail> {
     let mut framer = Framer::new(rt.alloc());
     assert_eq!(rt; stopped(&framer), refused(Reason::NoEnd, 0, 0, 0));
-    assert_eq!(rt; takes(&mut framer, &HEADER)?.0, 6);
+    assert_eq!(rt; takes(&mut framer, HEADER)?.0, 6);
     Ok(())
 }
 
@@ -385,7 +378,7 @@ fn writes_a_record(rt: HostRuntime) -> Result<(), Fail> {
     assert_eq!(rt; checksum(0x80, &[0x01, 0x41]), 0x3B);
     let mut out = Vec::new(rt.alloc());
     write_record(&mut Writing::new(&mut out), 0x80, &[0x01, 0x41])?;
-    assert_eq!(rt; out.as_slice(), HEADER.as_slice());
+    assert_eq!(rt; out.as_slice(), HEADER);
     Ok(())
 }
 
@@ -466,7 +459,7 @@ fn writes_to_slow_and_failing_writers(rt: HostRuntime) -> Result<(), Fail> {
 
 #[test]
 fn pulls_what_a_reader_gives(rt: HostRuntime) -> Result<(), Fail> {
-    let mut source = Reading::new(HEADER.as_slice());
+    let mut source = Reading::new(HEADER);
     let mut buf = [0; 4];
     assert_eq!(rt; source.pull(&mut buf)?, 4);
     assert_eq!(rt; buf.as_slice(), &HEADER[..4]);
@@ -492,9 +485,22 @@ fn shows_after_one<S: Source>(source: &mut S, ahead: &[u8]) -> io::Result<bool> 
 
 #[test]
 fn shows_what_a_buffer_holds(rt: HostRuntime) -> Result<(), Fail> {
-    let input = BufReader::with_capacity(rt.alloc(), 4, HEADER.as_slice())?;
+    let input = BufReader::with_capacity(rt.alloc(), 4, HEADER)?;
     assert!(rt; shows_after_one(&mut Buffered::new(input), &HEADER[1..4])?);
-    assert!(rt; shows(&Reading::new(HEADER.as_slice()), &[]));
+    assert!(rt; shows(&Reading::new(HEADER), &[]));
+    Ok(())
+}
+
+#[test]
+fn bytes_in_memory_are_ahead(rt: HostRuntime) -> Result<(), Fail> {
+    let mut source = Bytes::new(HEADER);
+    assert!(rt; shows(&source, HEADER));
+    assert_eq!(rt; pull_one(&mut source)?, 1);
+    assert!(rt; shows(&source, &HEADER[1..]));
+    let mut rest = [0; 8];
+    assert_eq!(rt; source.pull(&mut rest)?, 5);
+    assert_eq!(rt; &rest[..5], &HEADER[1..]);
+    assert_eq!(rt; source.pull(&mut rest)?, 0);
     Ok(())
 }
 
@@ -503,7 +509,7 @@ fn wants_the_record_that_is_ahead(rt: HostRuntime) -> Result<(), Fail> {
     let mut framer = Framer::new(rt.alloc());
     for (ahead, want) in [
         ([].as_slice(), 1),
-        (HEADER.as_slice(), 6),
+        (HEADER, 6),
         (HEADER.split_at(2).0, 3),
         ([0xC2, 0x04, 0x00].as_slice(), 1),
     ] {
@@ -520,7 +526,7 @@ fn pulls_a_piece_past_interruptions(rt: HostRuntime) -> Result<(), Fail> {
         (999, Ok(HEADER.split_at(4).0)),
         (1000, Err(ErrorKind::Interrupted)),
     ] {
-        let mut script = Script::new(HEADER.as_slice(), Then::Ends).interrupted(interruptions);
+        let mut script = Script::new(HEADER, Then::Ends).interrupted(interruptions);
         pull_pieces(&rt, &mut script, &[answer])?;
     }
     Ok(())

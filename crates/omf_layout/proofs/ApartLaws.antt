@@ -1,5 +1,5 @@
 -- Segments that are not absolute lie one after another.
-use Rattle.std.proofs.Common.{◌≡◌, ℕ, zero, suc, ◌+◌, ◌-◌, ◌*◌, ◌/◌, ◌<◌, ◌≤◌, List, [], ◌∷◌, length, refl, sym, ap, ◌∙◌, subst, arith}
+use Rattle.std.proofs.Common.{◌≡◌, ℕ, zero, suc, ◌+◌, ◌-◌, ◌/◌, ◌<◌, ◌≤◌, List, [], ◌∷◌, refl, sym, ap, ◌∙◌, subst, arith}
 use Rattle.std.specs.Prelude.{Option, Some, None, slice_get, ◌&&◌, nat_lt, nat_le}
 use Rattle.std.specs.List.{zip}
 use Rattle.std.proofs.lemmas.Bool.{ltb-true, leb-true, and_parts}
@@ -14,10 +14,9 @@ use Rattle.omf_layout.specs.declared.options.Frames.{Frames}
 use Rattle.omf_layout.specs.declared.options.Options.{Options}
 use Rattle.omf_layout.specs.Layout.{Laid, all_laid, segment_at, segment_laid, LaidOut, layout_of}
 use Rattle.omf_layout.specs.Laws.{IsMultiple, LiesWell, IsRelocatable, SegmentsLieApart, LayoutsLieApart}
-use Rattle.omf_layout.specs.Room.{limit, next_multiple, address_from, frame_at}
+use Rattle.omf_layout.specs.Room.{limit, next_multiple, address_from}
 use Rattle.omf_layout.specs.Wants.{bytes_aligned, alignments}
 use Rattle.omf_layout.proofs.FitLaws.{map_some, parts, first-of, segments-given}
-use Rattle.omf_layout.proofs.TableLaws.{length-alignments}
 
 no-lower : (x : Alignment) (n : ℕ) → n ≤ next_multiple (bytes_aligned x) n
 no-lower Byte n = omega arith

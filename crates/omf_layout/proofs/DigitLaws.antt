@@ -1,8 +1,8 @@
 -- Digits of numbers: which bytes they are, and how many.
-use Rattle.std.proofs.Common.{◌≡◌, ℕ, zero, suc, ◌+◌, ◌*◌, ◌/◌, ◌%◌, ◌^◌, ◌<◌, ◌≤◌, Bool, true, false, cond, eqb, not, ◌&&◌, nat_le, nat_lt, ◌==◌, List, [], ◌∷◌, length, refl, sym, ap, subst, ◌∙◌, pow-suc, arith}
+use Rattle.std.proofs.Common.{◌≡◌, ℕ, zero, suc, ◌+◌, ◌/◌, ◌%◌, ◌^◌, ◌<◌, ◌≤◌, Bool, true, false, cond, eqb, not, ◌&&◌, nat_le, nat_lt, ◌==◌, List, [], ◌∷◌, length, refl, sym, pow-suc, arith}
 use Rattle.std.specs.Fmt.{digits, digits_onto, digit_glyph}
 use Rattle.std.specs.List.{list_all}
-use Rattle.std.proofs.lemmas.Bool.{le-leb, lt-leb, ltb-true, ltb-false, leb-true, eqb-true, eqb-false, ne_eqb, and_from, and_parts, not_from_false, cond_both}
+use Rattle.std.proofs.lemmas.Bool.{le-leb, ltb-true, ltb-false, leb-true, eqb-false, ne_eqb, and_from, and_parts, not_from_false, cond_both}
 use Rattle.std.proofs.lemmas.Fmt.{digits_is_IsNumeral}
 use Rattle.omf_placement.specs.Entries.{IsHexadecimal}
 use Rattle.omf_placement.specs.Quoted.{number}

@@ -1,14 +1,13 @@
 -- The lines of a draft, each an entry with a comment behind it.
-use Rattle.std.proofs.Common.{◌≡◌, ℕ, zero, suc, ◌+◌, ◌-◌, ◌<◌, Bool, true, false, cond, not, ◌&&◌, nat_le, ◌==◌, List, [], ◌∷◌, ◌++◌, length, refl, sym, ap, ap₂, subst, ◌∙◌, append_assoc, arith, codes, inl, inr, eqb}
+use Rattle.std.proofs.Common.{◌≡◌, ℕ, zero, suc, ◌-◌, true, not, ◌&&◌, nat_le, ◌==◌, List, [], ◌∷◌, ◌++◌, length, refl, ap, ap₂, ◌∙◌, arith, codes, inl, inr}
 use Rattle.std.specs.Prelude.{flat_map, replicate, Option, Some, None, unwrap_or, option_map, decimal}
-use Rattle.std.specs.List.{list_all}
 use Rattle.std.proofs.lemmas.Bool.{cond_both, and_from, and_parts, eqb-true, false≢true}
 use Rattle.omf_records.specs.Values.{Rec, GroupItem}
 use Rattle.omf_check.specs.Tables.{names, entry}
 use Rattle.omf_check.specs.declared.segment.SegInfo.{SegInfo}
 use Rattle.omf_placement.specs.declared.frame.Frame.{Frame}
 use Rattle.omf_placement.specs.declared.frame.Placed.{Placed}
-use Rattle.omf_placement.specs.Entries.{Entry, SegmentEntry, GroupEntry, ExternalEntry, IsHexadecimal, SpellsPlaced, SpellsFrame, Spells, in_words, said}
+use Rattle.omf_placement.specs.Entries.{Entry, SegmentEntry, GroupEntry, ExternalEntry, IsHexadecimal, SpellsPlaced, Spells, in_words, said}
 use Rattle.omf_placement.specs.Inner.EntryReading.{entry_said}
 use Rattle.omf_placement.specs.Placement.{real_frame, real_group}
 use Rattle.omf_placement.proofs.EntryLaws.{entry-to}

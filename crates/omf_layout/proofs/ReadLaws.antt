@@ -1,9 +1,9 @@
 -- A draft is a placement text, which gives its module the places of the layout.
-use Rattle.std.proofs.Common.{◌≡◌, ℕ, zero, suc, ◌+◌, ◌≤◌, true, false, List, [], ◌∷◌, ◌++◌, length, refl, sym, ap, ap₂, subst, ◌∙◌, append_assoc, append-nil, arith, eqb}
-use Rattle.std.specs.Prelude.{flat_map, filter_map, map, All, Option, Some, None, Ok, unwrap_or, ◌==◌}
+use Rattle.std.proofs.Common.{◌≡◌, ℕ, zero, suc, ◌+◌, List, [], ◌∷◌, ◌++◌, length, refl, sym, ap, ap₂, subst, ◌∙◌, append_assoc, append-nil, arith}
+use Rattle.std.specs.Prelude.{flat_map, filter_map, map, All, Option, Some, None, Ok, unwrap_or}
 use Rattle.std.specs.List.{cons_option, enumerate_from, zip, range_with_len}
 use Rattle.std.proofs.lemmas.List.{length-map}
-use Rattle.std.proofs.lemmas.List.Elements.{All-nil, All-cons, All-head, All-tail, All-same, filter_map-append}
+use Rattle.std.proofs.lemmas.List.Elements.{All-nil, All-cons, All-head, All-tail, filter_map-append}
 use Rattle.omf_records.specs.Values.{Rec, GroupItem}
 use Rattle.omf_check.specs.Tables.{segments, groups, externals}
 use Rattle.omf_check.specs.declared.segment.SegInfo.{SegInfo}
@@ -11,16 +11,15 @@ use Rattle.omf_placement.specs.declared.frame.Frame.{Frame}
 use Rattle.omf_placement.specs.declared.frame.Placed.{Placed}
 use Rattle.omf_placement.specs.Entries.{Entry, Blank, SegmentEntry, GroupEntry, ExternalEntry}
 use Rattle.omf_placement.specs.Placement.{Places, no_frame, real_group}
-use Rattle.omf_placement.specs.PlacementText.{Draft, line_entries, bad_line, bad_lines, segment_entry, group_entry, external_entry, draft_of, ok_or_first, parsed, resolved, resolved_group, unresolved_group, line_unless}
+use Rattle.omf_placement.specs.PlacementText.{Draft, line_entries, bad_line, segment_entry, group_entry, external_entry, ok_or_first, parsed, resolved, resolved_group, unresolved_group, line_unless}
 use Rattle.omf_placement.proofs.ParsingLaws.{entries_from}
 use Rattle.omf_layout.specs.declared.alignment.Alignment.{Alignment}
 use Rattle.omf_layout.specs.declared.options.Frames.{Frames}
 use Rattle.omf_layout.specs.declared.options.Frames.TheVariants.{Real, Flat}
-use Rattle.omf_layout.specs.declared.options.Options.{Options}
 use Rattle.omf_layout.specs.Draft.{segment_line, group_line, external_line, draft_text}
-use Rattle.omf_layout.specs.Layout.{group_frame, group_frames, LaidOut, layout_of}
+use Rattle.omf_layout.specs.Layout.{group_frame, group_frames, LaidOut}
 use Rattle.omf_layout.specs.Laws.{DraftsAreRead}
-use Rattle.omf_layout.specs.Reading.{IsShortFrame, IsShortPlace, AreShort, unless_by_members, frame_given, draft_entries, IsReadBack}
+use Rattle.omf_layout.specs.Reading.{IsShortFrame, IsShortPlace, AreShort, unless_by_members, frame_given, draft_entries}
 use Rattle.omf_layout.proofs.FitLaws.{groups-given, segment-count, group-count, external-count, alignment-count, room-count}
 use Rattle.omf_layout.proofs.LineLaws.{entry_read, IsLine, segment-is-line, group-is-line, external-is-line}
 use Rattle.omf_layout.proofs.TextLaws.{parts_of, told_from, each-line}

@@ -1,10 +1,10 @@
 -- What a line says that is an entry with a comment behind it.
-use Rattle.std.proofs.Common.{◌≡◌, ℕ, zero, suc, ◌+◌, ◌<◌, ◌≤◌, Bool, true, false, cond, eqb, not, ◌&&◌, nat_le, ◌==◌, List, [], ◌∷◌, ◌++◌, length, reverse, take, refl, sym, ap, ap₂, subst, ◌∙◌, append_assoc, append-nil, add-one, arith, codes}
-use Rattle.std.specs.List.{list_all, before_first, position_or_len, prefix_len}
-use Rattle.std.proofs.lemmas.Bool.{le-leb, ne_eqb, and_from, and_parts, not-true, cond-false}
+use Rattle.std.proofs.Common.{◌≡◌, ℕ, suc, ◌+◌, ◌<◌, Bool, true, cond, eqb, not, nat_le, ◌==◌, List, [], ◌∷◌, ◌++◌, length, reverse, take, refl, sym, ap, subst, ◌∙◌, append_assoc, append-nil, arith, codes}
+use Rattle.std.specs.List.{list_all, before_first, prefix_len}
+use Rattle.std.proofs.lemmas.Bool.{le-leb, ne_eqb, and_from, and_parts, cond-false}
 use Rattle.std.proofs.lemmas.List.{reverse-reverse, length-reverse, reverse-append}
 use Rattle.std.proofs.lemmas.List.Folds.{list_all-append}
-use Rattle.omf_placement.specs.Entries.{without_return, without_spaces, said, in_words}
+use Rattle.omf_placement.specs.Entries.{without_return, without_spaces, said}
 use Rattle.omf_layout.proofs.DigitLaws.{is_mark, mark-low}
 
 -- Tests that hold of a list.

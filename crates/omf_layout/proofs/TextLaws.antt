@@ -1,5 +1,5 @@
 -- Lines one after another in a text, whatever each of them is read as.
-use Rattle.std.proofs.Common.{◌≡◌, ℕ, ◌+◌, false, List, [], ◌∷◌, ◌++◌, length, refl, sym, ap, ap₂, ◌∙◌, append_assoc, append-nil, length-append, arith, eqb}
+use Rattle.std.proofs.Common.{◌≡◌, ℕ, ◌+◌, false, List, [], ◌∷◌, ◌++◌, length, refl, sym, ap, ap₂, ◌∙◌, append_assoc, length-append, arith, eqb}
 use Rattle.std.specs.Prelude.{flat_map, map, All, Option, Some, ◌==◌}
 use Rattle.std.specs.List.{enumerate_from, slice_split, list_all}
 use Rattle.std.proofs.lemmas.Bool.{ne_eqb, leb-true, and_parts}

@@ -1,6 +1,6 @@
 -- The placement text of a layout: a line for each segment, each group and each external, with what its SEGDEF, GRPDEF, EXTDEF or COMDEF says in a
 -- comment (this profile's rule).
-use Rattle.std.specs.Prelude.{ℕ, ◌+◌, List, [], ◌∷◌, ◌++◌, flat_map, length, Bool, false, Option, Some, None, ◌==◌, ◌&&◌, codes, decimal, if◌then◌else◌}
+use Rattle.std.specs.Prelude.{ℕ, List, [], ◌∷◌, ◌++◌, flat_map, Bool, false, Option, Some, None, ◌==◌, ◌&&◌, codes, decimal, if◌then◌else◌}
 use Rattle.std.specs.List.{enumerate_from, zip}
 use Rattle.omf_records.specs.Values.{Rec, GroupItem}
 use Rattle.omf_check.specs.Tables.{names, segments, groups, externals}
@@ -12,7 +12,6 @@ use Rattle.omf_placement.specs.Placement.{real_frame, real_group}
 use Rattle.omf_layout.specs.declared.alignment.Alignment.{Alignment}
 use Rattle.omf_layout.specs.declared.options.Frames.{Frames}
 use Rattle.omf_layout.specs.declared.options.Frames.TheVariants.{Real, Flat}
-use Rattle.omf_layout.specs.declared.options.Options.{Options}
 use Rattle.omf_layout.specs.Layout.{LaidOut}
 use Rattle.omf_placement.specs.Quoted.{number, quoted, named}
 use Rattle.omf_layout.specs.Wants.{bytes_aligned}

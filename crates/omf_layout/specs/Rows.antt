@@ -3,7 +3,6 @@ use Rattle.std.specs.Prelude.{ℕ, List, [], ◌∷◌, ◌++◌, map, flat_map,
 use Rattle.omf_records.specs.Values.{alignment}
 use Rattle.omf_reloc.specs.Modules.{module_of}
 use Rattle.omf_layout.specs.declared.options.Frames.{Frames}
-use Rattle.omf_layout.specs.declared.options.Options.{Options}
 use Rattle.omf_layout.specs.Draft.{draft_text}
 use Rattle.omf_layout.specs.Layout.{layout_of}
 use Rattle.omf_layout.specs.Wants.{alignment_named, bytes_aligned}

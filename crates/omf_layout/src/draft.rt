@@ -2,6 +2,7 @@
 
 ghost use Rattle.std.specs.Prelude.{◌≡◌, ◌++◌, ◌∷◌, [], OnOk, IfOk, string_bytes, flat_map, length, Some, codes, decimal, All};
 ghost use Rattle.std.specs.List.{enumerate_from, zip};
+ghost use Rattle.omf_frame.specs.Bytes.{AddsText};
 ghost use Rattle.omf_records.specs.Inner.Seen.{contents_seen};
 ghost use Rattle.omf_records.specs.Values.{Group, GroupItem};
 ghost use Rattle.omf_check.specs.Module.{recs_of};
@@ -28,14 +29,14 @@ use std::alloc::{AllocError, Global};
 
 /// The name of an index in a module, in double quotes, or a dash for 0.
 fn print_named(text: &mut String, module: &Checked, index: u16) -> Result<(), AllocError>
-    ensures { OnOk result (string_bytes text.new ≡ string_bytes text.old ++ named (names (recs_of «module».now.bytes)) index) }
+    ensures { AddsText result (string_bytes text.old) (string_bytes text.new) (named (names (recs_of «module».now.bytes)) index) }
 {
     print_name(text, module.name(index))
 }
 
 /// The names of a segment and of its class.
 fn print_names(text: &mut String, module: &Checked, segment: SegInfo) -> Result<(), AllocError>
-    ensures { OnOk result (string_bytes text.new ≡ string_bytes text.old ++ named (names (recs_of «module».now.bytes)) segment.name ++ codes " class " ++ named (names (recs_of «module».now.bytes)) segment.class) }
+    ensures { AddsText result (string_bytes text.old) (string_bytes text.new) (named (names (recs_of «module».now.bytes)) segment.name ++ codes " class " ++ named (names (recs_of «module».now.bytes)) segment.class) }
 {
     print_named(text, module, segment.name)?;
     text.push_str(" class ")?;
@@ -50,7 +51,7 @@ fn print_segment_comment(
     segment: SegInfo,
     alignment: Alignment,
 ) -> Result<(), AllocError>
-    ensures { OnOk result (string_bytes text.new ≡ string_bytes text.old ++ codes " ; " ++ in_words (segment_comment (recs_of «module».now.bytes) index segment alignment) ++ 10 ∷ []) }
+    ensures { AddsText result (string_bytes text.old) (string_bytes text.new) (codes " ; " ++ in_words (segment_comment (recs_of «module».now.bytes) index segment alignment) ++ 10 ∷ []) }
 {
     print_index(text, index)?;
     print_names(text, module, segment)?;
@@ -68,7 +69,7 @@ fn print_segment(
     place: (u32, Frame),
 ) -> Result<(), AllocError>
     ensures short { IsShortPlace (record { address = place.0; frame = place.1 }) }
-    ensures line { OnOk result (string_bytes text.new ≡ string_bytes text.old ++ segment_line frames (recs_of «module».now.bytes) (index, ((segment, alignment), record { address = place.0; frame = place.1 }))) }
+    ensures line { AddsText result (string_bytes text.old) (string_bytes text.new) (segment_line frames (recs_of «module».now.bytes) (index, ((segment, alignment), record { address = place.0; frame = place.1 }))) }
 {
     let (address, frame) = place;
     print_segment_entry(text, frames, address, frame)?;
@@ -99,7 +100,7 @@ pub fn print_segments(
     requires placed { length placement.now.segments ≡ length (segments (recs_of «module».now.bytes)) }
     // The numbers of all are short enough for a placement text.
     ensures short { OnOk result (All IsShortPlace placement.now.segments) }
-    ensures lines { OnOk result (string_bytes text.new ≡ string_bytes text.old ++ flat_map (segment_line frames (recs_of «module».now.bytes)) (enumerate_from 1 (zip (zip (segments (recs_of «module».now.bytes)) alignments.now) placement.now.segments))) }
+    ensures lines { AddsText result (string_bytes text.old) (string_bytes text.new) (flat_map (segment_line frames (recs_of «module».now.bytes)) (enumerate_from 1 (zip (zip (segments (recs_of «module».now.bytes)) alignments.now) placement.now.segments))) }
 {
     for before in 0..module.segments() {
         let index = before + 1;
@@ -126,7 +127,7 @@ fn print_group_place(
     k: u16,
     frame: Frame,
 ) -> Result<(), AllocError>
-    ensures { OnOk result (string_bytes text.new ≡ string_bytes text.old ++ group_entry frames (recs_of «module».now.bytes) placement.now.segments k frame) }
+    ensures { AddsText result (string_bytes text.old) (string_bytes text.new) (group_entry frames (recs_of «module».now.bytes) placement.now.segments k frame) }
 {
     match frames {
         Frames::Real => print_group_entry(text, real_group(module, placement, k), frame),
@@ -141,7 +142,7 @@ fn print_group_comment(
     index: u16,
     name: u16,
 ) -> Result<(), AllocError>
-    ensures { OnOk result (string_bytes text.new ≡ string_bytes text.old ++ codes " ; " ++ in_words (decimal index ∷ named (names (recs_of «module».now.bytes)) name ∷ []) ++ 10 ∷ []) }
+    ensures { AddsText result (string_bytes text.old) (string_bytes text.new) (codes " ; " ++ in_words (decimal index ∷ named (names (recs_of «module».now.bytes)) name ∷ []) ++ 10 ∷ []) }
 {
     print_index(text, index)?;
     print_named(text, module, name)?;
@@ -171,7 +172,7 @@ fn print_group(
 ) -> Result<(), AllocError>
     requires { (g : GroupItem) × (contents_seen group.now ≡ Group g) }
     ensures short { IsShortFrame frame }
-    ensures line { (g : GroupItem) → contents_seen group.now ≡ Group g → OnOk result (string_bytes text.new ≡ string_bytes text.old ++ group_line frames (recs_of «module».now.bytes) placement.now.segments (index, (g, frame))) }
+    ensures line { (g : GroupItem) → contents_seen group.now ≡ Group g → AddsText result (string_bytes text.old) (string_bytes text.new) (group_line frames (recs_of «module».now.bytes) placement.now.segments (index, (g, frame))) }
 {
     print_group_place(text, module, frames, placement, index, frame)?;
     print_group_comment(text, module, index, group_name(group))
@@ -192,7 +193,7 @@ pub fn print_groups(
     requires { length placement.now.groups ≡ length (groups (recs_of «module».now.bytes)) }
     // The numbers of all are short enough for a placement text.
     ensures short { OnOk result (All IsShortFrame placement.now.groups) }
-    ensures lines { OnOk result (string_bytes text.new ≡ string_bytes text.old ++ flat_map (group_line frames (recs_of «module».now.bytes) placement.now.segments) (enumerate_from 1 (zip (groups (recs_of «module».now.bytes)) placement.now.groups))) }
+    ensures lines { AddsText result (string_bytes text.old) (string_bytes text.new) (flat_map (group_line frames (recs_of «module».now.bytes) placement.now.segments) (enumerate_from 1 (zip (groups (recs_of «module».now.bytes)) placement.now.groups))) }
 {
     for before in 0..module.groups() {
         let index = before + 1;
@@ -216,7 +217,7 @@ fn print_external(
     place: (u32, Frame),
 ) -> Result<(), AllocError>
     ensures short { IsShortPlace (record { address = place.0; frame = place.1 }) }
-    ensures line { OnOk result (string_bytes text.new ≡ string_bytes text.old ++ external_line (index, ((name.entry, room), record { address = place.0; frame = place.1 }))) }
+    ensures line { AddsText result (string_bytes text.old) (string_bytes text.new) (external_line (index, ((name.entry, room), record { address = place.0; frame = place.1 }))) }
 {
     let (address, frame) = place;
     print_external_entry(text, address, frame)?;
@@ -230,7 +231,7 @@ fn print_externals(text: &mut String, module: &Checked, layout: &Layout) -> Resu
     requires roomed { length layout.now.rooms ≡ length (externals (recs_of «module».now.bytes)) }
     requires placed { length layout.now.places.externals ≡ length (externals (recs_of «module».now.bytes)) }
     ensures short { OnOk result (All IsShortPlace layout.now.places.externals) }
-    ensures lines { OnOk result (string_bytes text.new ≡ string_bytes text.old ++ flat_map external_line (enumerate_from 1 (zip (zip (externals (recs_of «module».now.bytes)) layout.now.rooms) layout.now.places.externals))) }
+    ensures lines { AddsText result (string_bytes text.old) (string_bytes text.new) (flat_map external_line (enumerate_from 1 (zip (zip (externals (recs_of «module».now.bytes)) layout.now.rooms) layout.now.places.externals))) }
 {
     for before in 0..module.externals() {
         let index = before + 1;

@@ -1,6 +1,7 @@
 //! The lines of a placement text with comments.
 
-ghost use Rattle.std.specs.Prelude.{◌≡◌, ◌++◌, ◌∷◌, [], OnOk, string_bytes, codes, decimal, unwrap_or, option_map, Some, ◌<◌};
+ghost use Rattle.std.specs.Prelude.{◌≡◌, ◌++◌, ◌∷◌, [], string_bytes, codes, decimal, unwrap_or, option_map, Some, ◌<◌};
+ghost use Rattle.omf_frame.specs.Bytes.{AddsText};
 ghost use Rattle.omf_placement.specs.Placement.{real_frame};
 ghost use Rattle.omf_layout.specs.Draft.{placed_entry, is_same_frame, segment_entry, frame_entry, frame_or_real, alignment_text, room_text};
 ghost use Rattle.omf_placement.specs.Quoted.{number, hex, is_plain, escaped, quoted};
@@ -20,7 +21,7 @@ fn print_placed(
     frame: Frame,
 ) -> Result<(), AllocError>
     requires { letter < 128 }
-    ensures { OnOk result (string_bytes text.new ≡ string_bytes text.old ++ placed_entry (letter ∷ []) (record { address = address; frame = frame })) }
+    ensures { AddsText result (string_bytes text.old) (string_bytes text.new) (placed_entry (letter ∷ []) (record { address = address; frame = frame })) }
 {
     let base = frame.base;
     let selector = frame.selector;
@@ -44,7 +45,7 @@ pub fn print_segment_entry(
     address: u32,
     frame: Frame,
 ) -> Result<(), AllocError>
-    ensures { OnOk result (string_bytes text.new ≡ string_bytes text.old ++ segment_entry frames (record { address = address; frame = frame })) }
+    ensures { AddsText result (string_bytes text.old) (string_bytes text.new) (segment_entry frames (record { address = address; frame = frame })) }
 {
     match frames {
         Frames::Real => {
@@ -64,7 +65,7 @@ pub fn print_group_entry(
     by_members: Option<Frame>,
     frame: Frame,
 ) -> Result<(), AllocError>
-    ensures { OnOk result (string_bytes text.new ≡ string_bytes text.old ++ frame_or_real by_members frame) }
+    ensures { AddsText result (string_bytes text.old) (string_bytes text.new) (frame_or_real by_members frame) }
 {
     let base = frame.base;
     let selector = frame.selector;
@@ -76,14 +77,14 @@ pub fn print_group_entry(
 
 /// An external's entry.
 pub fn print_external_entry(text: &mut String, address: u32, frame: Frame) -> Result<(), AllocError>
-    ensures { OnOk result (string_bytes text.new ≡ string_bytes text.old ++ placed_entry (codes "E") (record { address = address; frame = frame })) }
+    ensures { AddsText result (string_bytes text.old) (string_bytes text.new) (placed_entry (codes "E") (record { address = address; frame = frame })) }
 {
     print_placed(text, 'E', address, frame)
 }
 
 /// The front of a comment: an index and a space.
 pub fn print_index(text: &mut String, index: u16) -> Result<(), AllocError>
-    ensures { OnOk result (string_bytes text.new ≡ string_bytes text.old ++ codes " ; " ++ decimal index ++ 32 ∷ []) }
+    ensures { AddsText result (string_bytes text.old) (string_bytes text.new) (codes " ; " ++ decimal index ++ 32 ∷ []) }
 {
     write!(text, " ; {index} ")
 }
@@ -97,14 +98,14 @@ fn is_plain(byte: u8) -> bool
 
 /// A byte as `\x` and two hexadecimal digits.
 fn print_digits(text: &mut String, byte: u8) -> Result<(), AllocError>
-    ensures { OnOk result (string_bytes text.new ≡ string_bytes text.old ++ 92 ∷ 120 ∷ hex 2 byte) }
+    ensures { AddsText result (string_bytes text.old) (string_bytes text.new) (92 ∷ 120 ∷ hex 2 byte) }
 {
     write!(text, "\\x{byte:02X}")
 }
 
 /// A byte of a name.
 fn print_escaped(text: &mut String, byte: u8) -> Result<(), AllocError>
-    ensures { OnOk result (string_bytes text.new ≡ string_bytes text.old ++ escaped byte) }
+    ensures { AddsText result (string_bytes text.old) (string_bytes text.new) (escaped byte) }
 {
     if is_plain(byte) {
         text.push(char::from(byte))
@@ -115,7 +116,7 @@ fn print_escaped(text: &mut String, byte: u8) -> Result<(), AllocError>
 
 /// A name in double quotes.
 pub fn print_quoted(text: &mut String, name: &[u8]) -> Result<(), AllocError>
-    ensures { OnOk result (string_bytes text.new ≡ string_bytes text.old ++ quoted name.now) }
+    ensures { AddsText result (string_bytes text.old) (string_bytes text.new) (quoted name.now) }
 {
     text.push_str("\"")?;
     for byte in name {
@@ -126,7 +127,7 @@ pub fn print_quoted(text: &mut String, name: &[u8]) -> Result<(), AllocError>
 
 /// A name in double quotes, or a dash for none.
 pub fn print_name(text: &mut String, name: Option<Name<'_>>) -> Result<(), AllocError>
-    ensures { OnOk result (string_bytes text.new ≡ string_bytes text.old ++ unwrap_or (option_map quoted name.entry) (codes "-")) }
+    ensures { AddsText result (string_bytes text.old) (string_bytes text.new) (unwrap_or (option_map quoted name.entry) (codes "-")) }
 {
     match name {
         Some(name) => print_quoted(text, name.0),
@@ -141,7 +142,7 @@ pub fn print_segment_room(
     alignment: Alignment,
     length: u64,
 ) -> Result<(), AllocError>
-    ensures { OnOk result (string_bytes text.new ≡ string_bytes text.old ++ 32 ∷ alignment_text absolute alignment ++ codes " length " ++ decimal length ++ 10 ∷ []) }
+    ensures { AddsText result (string_bytes text.old) (string_bytes text.new) (32 ∷ alignment_text absolute alignment ++ codes " length " ++ decimal length ++ 10 ∷ []) }
 {
     let align = alignment.bytes();
     match absolute {
@@ -152,14 +153,14 @@ pub fn print_segment_room(
 
 /// What a communal asks for, and the end of the line.
 fn print_communal(text: &mut String, size: u64) -> Result<(), AllocError>
-    ensures { OnOk result (string_bytes text.new ≡ string_bytes text.old ++ 32 ∷ room_text (Some size) ++ 10 ∷ []) }
+    ensures { AddsText result (string_bytes text.old) (string_bytes text.new) (32 ∷ room_text (Some size) ++ 10 ∷ []) }
 {
     write!(text, " communal length {size}\n")
 }
 
 /// What an external asks for, and the end of the line.
 pub fn print_room(text: &mut String, room: Option<u64>) -> Result<(), AllocError>
-    ensures { OnOk result (string_bytes text.new ≡ string_bytes text.old ++ 32 ∷ room_text room ++ 10 ∷ []) }
+    ensures { AddsText result (string_bytes text.old) (string_bytes text.new) (32 ∷ room_text room ++ 10 ∷ []) }
 {
     match room {
         Some(size) => print_communal(text, size),

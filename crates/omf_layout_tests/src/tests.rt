@@ -2,38 +2,24 @@
 
 use omf_check::{CheckFault, Checked, Profile, check};
 use omf_frame::Reading;
+use omf_frame::samples::{ABSOLUTE, END, EXTERNAL, GROUP, HEADER, NAMES};
 use omf_layout::{Frames, LayoutFault, Options, draft_text, layout_of};
 use omf_reloc::{parse_placement, reach};
 use std::alloc::{AllocGlobal, Global};
 use std::process::Abort;
 use std::test::Fail;
 
-// A header, an empty name and a name T, and the end. Checksum bytes of 0 are accepted.
-const HEADER: [u8; 6] = [0x80, 0x03, 0x00, 0x01, 0x41, 0x3B];
-
-const NAMES: [u8; 7] = [0x96, 0x04, 0x00, 0x00, 0x01, 0x54, 0x11];
-
-const END: [u8; 5] = [0x8A, 0x02, 0x00, 0x00, 0x74];
-
-// An external X, a near communal Y of 7 bytes, a far communal Z of 3 times 5.
-const EXTERNAL: [u8; 7] = [0x8C, 0x04, 0x00, 0x01, 0x58, 0x00, 0x17];
-
+// A near communal Y of 7 bytes, a far communal Z of 3 times 5. Checksum bytes of 0 are accepted.
 const NEAR: [u8; 9] = [0xB0, 0x06, 0x00, 0x01, 0x59, 0x00, 0x62, 0x07, 0x00];
 
 const FAR: [u8; 10] = [0xB0, 0x07, 0x00, 0x01, 0x5A, 0x00, 0x61, 0x03, 0x05, 0x00];
 
-// A segment of 4 bytes at the frame number B800H, and one at the byte offset 10H of that frame.
-const ABSOLUTE: [u8; 13] = [
-    0x98, 0x0A, 0x00, 0x08, 0x00, 0xB8, 0x00, 0x04, 0x00, 0x02, 0x01, 0x01, 0x96,
-];
-
+// A segment of 4 bytes at the byte offset 10H of the frame number B800H.
 const ABSOLUTE_AT_16: [u8; 13] = [
     0x98, 0x0A, 0x00, 0x08, 0x00, 0xB8, 0x10, 0x04, 0x00, 0x02, 0x01, 0x01, 0x00,
 ];
 
-// A group of segment 1, and one without members.
-const GROUP: [u8; 7] = [0x9A, 0x04, 0x00, 0x02, 0xFF, 0x01, 0x60];
-
+// A group without members.
 const EMPTY: [u8; 5] = [0x9A, 0x02, 0x00, 0x02, 0x00];
 
 const FLAT: Frames = Frames::Flat { selector: 8 };
@@ -47,12 +33,12 @@ fn segment(attribute: u8, length: u8) -> [u8; 10] {
 
 fn checked(alloc: Global, records: &[&[u8]]) -> Result<Checked, CheckFault> {
     let mut bytes = Vec::new(alloc);
-    bytes.extend_from_slice(&HEADER)?;
-    bytes.extend_from_slice(&NAMES)?;
+    bytes.extend_from_slice(HEADER)?;
+    bytes.extend_from_slice(NAMES)?;
     for record in records {
         bytes.extend_from_slice(record)?;
     }
-    bytes.extend_from_slice(&END)?;
+    bytes.extend_from_slice(END)?;
     let any = Profile {
         refuse_vendor_comments: false,
     };
@@ -97,7 +83,7 @@ fn segments_are_aligned_one_behind_another(rt: HostRuntime) -> Result<(), Fail> 
             &segment(0xA8, 1),
             &segment(0x68, 2),
             &segment(0x88, 1),
-            &EXTERNAL,
+            EXTERNAL,
             &NEAR,
             &FAR,
         ],
@@ -123,12 +109,12 @@ fn absolute_segments_lie_where_they_say(rt: HostRuntime) -> Result<(), Fail> {
         &rt,
         &[
             &segment(0x28, 4),
-            &ABSOLUTE,
+            ABSOLUTE,
             &ABSOLUTE_AT_16,
             &segment(0x68, 1),
-            &GROUP,
+            GROUP,
             &EMPTY,
-            &EXTERNAL,
+            EXTERNAL,
         ],
         options,
         "S 12345 real ; 1 \"T\" class \"\" align 1 length 4\n\
@@ -149,7 +135,7 @@ fn a_flat_frame_is_that_of_all_groups(rt: HostRuntime) -> Result<(), Fail> {
     };
     drafts(
         &rt,
-        &[&segment(0xA9, 10), &ABSOLUTE, &EMPTY, &GROUP],
+        &[&segment(0xA9, 10), ABSOLUTE, &EMPTY, GROUP],
         options,
         "S 401000 0 8 ; 1 \"T\" class \"\" align 4 length 10\n\
          S B8000 B8000 B800 ; 2 \"T\" class \"\" absolute length 4\n\
@@ -195,8 +181,8 @@ fn there_is_room_up_to_the_last_address(rt: HostRuntime) -> Result<(), Fail> {
     assert!(rt; !has_room(&rt, 0xFFFFD, Frames::Real, &[])?);
     assert!(rt; has_room(&rt, 0xFFFFFFFC, FLAT, &[])?);
     assert!(rt; !has_room(&rt, 0xFFFFFFFD, FLAT, &[])?);
-    assert!(rt; has_room(&rt, 0xFFFFFFE0, FLAT, &EXTERNAL)?);
-    assert!(rt; !has_room(&rt, 0xFFFFFFEE, FLAT, &EXTERNAL)?);
+    assert!(rt; has_room(&rt, 0xFFFFFFE0, FLAT, EXTERNAL)?);
+    assert!(rt; !has_room(&rt, 0xFFFFFFEE, FLAT, EXTERNAL)?);
     assert!(rt; has_room(&rt, 0xFFFFFFF4, FLAT, &NEAR)?);
     assert!(rt; !has_room(&rt, 0xFFFFFFF5, FLAT, &NEAR)?);
     Ok(())

@@ -1,11 +1,11 @@
 -- What a run answers, and what it reads and writes.
-use Rattle.std.specs.Prelude.{◌≡◌, ◌⊎◌, ℕ, List, Option, Some, Result, Ok, Err}
-use Rattle.std.specs.Io.KnownBytes.{Appends, Consumes}
+use Rattle.std.specs.Prelude.{◌≡◌, ℕ, List, Option, Some, Result, Ok, Err}
+use Rattle.std.specs.Io.KnownBytes.{Consumes}
 use Rattle.omf_frame.specs.Device.{Device}
 use Rattle.omf_linking.specs.Reading.{IsPartRead}
 use Rattle.omf_linking.specs.declared.fault.LinkFault.TheVariants as link
-use Rattle.omf_cmd.specs.Reports.{IsOutOfMemory}
-use Rattle.omf_cmd.specs.Runs.{HasGivenUp, IsPart, IsUnbroken, IsWritten}
+use Rattle.omf_cmd.specs.Reports.{Misuses}
+use Rattle.omf_cmd.specs.Runs.{AnswersBy, EndsBy, HasGivenUp, IsUnbroken, PrintsOr}
 use Rattle.omf_link.specs.Faults.{status_of, TellsFault, usage}
 use Rattle.omf_link.specs.Shown.{IsShownOf}
 use Rattle.omf_link.specs.declared.fault.ImageFault.{ImageFault}
@@ -29,9 +29,7 @@ IsShowCause old new r = IsUnbroken old new
 
 -- What is written of what was answered: the whole text, or a part of it from the front where the writer failed; nothing of a fault.
 abbrev pub IsPrinted : Device → Device → Result (List ℕ) ImageFault → Result (Unit {0}) ImageFault → Type 0
-IsPrinted old new (Ok text) (Ok done) = IsUnbroken old new × Appends old.bytes new.bytes text
-IsPrinted old new (Ok text) (Err e) = (e ≡ fault.Write) × HasGivenUp old new × IsPart old.bytes new.bytes text
-IsPrinted old new (Err f) ran = (ran ≡ Err f) × (new ≡ old)
+IsPrinted old new answer ran = PrintsOr fault.Write old new answer ran
 
 -- A run at a task: what it answered for its input, and what it wrote of that.
 pub record IsRun (t : Task) (reader reader' writer writer' : Device) (ran : Result (Unit {0}) ImageFault) : Type 0 where
@@ -42,16 +40,12 @@ pub record IsRun (t : Task) (reader reader' writer writer' : Device) (ran : Resu
 
 -- How the program ends after a run: the status is that of the answer, and a fault's line is written.
 abbrev pub IsEnded : Device → Device → Result (Unit {0}) ImageFault → ℕ → Type 0
-IsEnded old new (Ok done) status = (status ≡ 0) × (new ≡ old)
-IsEnded old new (Err f) status = (status ≡ status_of f) × TellsFault old new f
+IsEnded old new ran status = EndsBy status_of TellsFault old new ran status
 
 -- The program's answer to words that ask for a task: it ran, and ended.
-pub record IsAnswer (t : Task) (reader reader' writer writer' : Device) (status : ℕ) : Type 0 where
-  pub ran : Result (Unit {0}) ImageFault
-  pub between : Device
-  pub run : IsRun t reader reader' writer between ran
-  pub ended : IsEnded between writer' ran status
+abbrev pub IsAnswer : Task → Device → Device → Device → Device → ℕ → Type 0
+IsAnswer t reader reader' writer writer' status = AnswersBy (IsRun t) IsEnded reader reader' writer writer' status
 
 -- Its answer to words that are not understood: how it is called, unless the writer failed; or memory ran out. Nothing is read.
 abbrev pub IsMisuse : Device → Device → Device → Device → ℕ → Type 0
-IsMisuse reader reader' writer writer' status = ((reader' ≡ reader) × (status ≡ 2) × IsWritten writer writer' usage) ⊎ IsOutOfMemory reader reader' writer writer' status
+IsMisuse reader reader' writer writer' status = Misuses usage reader reader' writer writer' status

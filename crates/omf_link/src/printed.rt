@@ -1,6 +1,7 @@
 //! The line that a fault is printed as.
 
-ghost use Rattle.std.specs.Prelude.{◌≡◌, ◌++◌, [], IfOk, OnOk, string_bytes};
+ghost use Rattle.std.specs.Prelude.{◌≡◌, ◌++◌, [], IfOk, string_bytes};
+ghost use Rattle.omf_frame.specs.Bytes.{AddsText};
 ghost use Rattle.omf_cmd.specs.FaultLine.{fault_words as run_words};
 ghost use Rattle.omf_placement.specs.Quoted.{hex, quoted};
 ghost use Rattle.omf_placement.specs.Entries.{in_words};
@@ -27,7 +28,7 @@ fn quoted_text(alloc: Global, name: &[u8]) -> Result<String, AllocError>
 
 /// An address in eight hexadecimal digits.
 fn print_address(text: &mut String, address: u32) -> Result<(), AllocError>
-    ensures { OnOk result (string_bytes text.new ≡ string_bytes text.old ++ hex 8 address) }
+    ensures { AddsText result (string_bytes text.old) (string_bytes text.new) (hex 8 address) }
 {
     write!(text, "{address:08X}")
 }

@@ -1,6 +1,7 @@
 //! The text of the bytes of a memory.
 
-ghost use Rattle.std.specs.Prelude.{◌≡◌, ◌+◌, ◌≤◌, ◌^◌, ◌++◌, IfOk, OnOk, length};
+ghost use Rattle.std.specs.Prelude.{◌≡◌, ◌+◌, ◌≤◌, ◌^◌, IfOk, length};
+ghost use Rattle.omf_frame.specs.Bytes.{AddsText};
 ghost use Rattle.omf_cmd.specs.Inner.RunLines.{line_text, lines_of};
 ghost use Rattle.omf_image.specs.Inner.Joined.{runs_of};
 ghost use Rattle.omf_image.specs.Overlay.{byte_at};
@@ -16,7 +17,7 @@ const LINE_BYTES: usize = 16;
 /// A line: the address of its first byte, and its bytes.
 fn print_line(text: &mut Vec<u8>, address: u32, bytes: &[u8]) -> Result<(), AllocError>
     requires { length bytes.now ≤ 16 }
-    ensures { OnOk result (text.new.items ≡ text.old.items ++ line_text address_text address bytes.now) }
+    ensures { AddsText result text.old.items text.new.items (line_text address_text address bytes.now) }
 {
     text.extend_from_slice(&eight_digits(address))?;
     text.push(b':')?;
@@ -28,7 +29,7 @@ fn print_line(text: &mut Vec<u8>, address: u32, bytes: &[u8]) -> Result<(), Allo
 /// A run: lines of 16 bytes from its first address on, and what is left.
 fn print_run(text: &mut Vec<u8>, first: u32, bytes: &[u8]) -> Result<(), AllocError>
     requires { first + length bytes.now ≤ 2 ^ 32 }
-    ensures { OnOk result (text.new.items ≡ text.old.items ++ lines_of address_text first bytes.now) }
+    ensures { AddsText result text.old.items text.new.items (lines_of address_text first bytes.now) }
 {
     let mut address = u64::from(first);
     let mut rest = bytes;

@@ -2,6 +2,7 @@
 
 use crate::{image_text, main_with, memory_text};
 use omf_frame::faulty::{Full, Script, Taker, Then};
+use omf_frame::samples::END;
 use omf_frame::{Reading, Sink, Source, Writing};
 use omf_image::Image;
 use std::alloc::{AllocError, AllocGlobal, Global};
@@ -66,9 +67,7 @@ const DEFINED: &[u8] = &[
     0x90, 0x08, 0x00, 0x00, 0x01, 0x01, 0x58, 0x01, 0x00, 0x00, 0x00,
 ];
 
-// The end of a module that is not main; of one that is main and starts at offset 1 of its segment.
-const END: &[u8] = &[0x8A, 0x02, 0x00, 0x00, 0x74];
-
+// The end of a module that is main and starts at offset 1 of its segment.
 const MAIN: &[u8] = &[0x8A, 0x06, 0x00, 0xC1, 0x50, 0x01, 0x01, 0x00, 0x00];
 
 const USAGE: &str =

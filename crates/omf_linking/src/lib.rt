@@ -2,7 +2,6 @@
 //! that they lay together.
 #![tactic(auto)]
 
-mod bytes;
 mod entry;
 mod fault;
 mod memory;

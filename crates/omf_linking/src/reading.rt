@@ -5,10 +5,9 @@ ghost use Rattle.std.specs.Io.KnownBytes.{Consumes, IsAtEnd};
 ghost use Rattle.omf_records.specs.Inner.Seen.{map_ok};
 ghost use Rattle.omf_linking.specs.Reading.{AreModules, IsModuleAt, IsPartRead, IsReadCause, begins_module};
 
-use crate::bytes::Bytes;
 use crate::fault::LinkFault;
 use omf_check::{CheckFault, Checked, Profile, check};
-use omf_frame::{Source, pull_piece};
+use omf_frame::{Bytes, Source, pull_piece};
 use std::alloc::Global;
 
 /// How many bytes are asked for at once.

@@ -2,6 +2,7 @@
 
 use omf_check::Profile;
 use omf_frame::faulty::{Script, Then};
+use omf_frame::samples::END;
 use omf_image::{Image, Run};
 use omf_linking::{LinkFault, link, memory_image, modules_in, read_all, relocate_all, start_of};
 use omf_memory::Owner;
@@ -13,10 +14,7 @@ const FRONT: [u8; 13] = [
     0x80, 0x03, 0x00, 0x01, 0x41, 0x3B, 0x96, 0x04, 0x00, 0x00, 0x01, 0x54, 0x11,
 ];
 
-// The end of a module that is not main and names no start; of one that is main and starts at offset 1 of its segment; of one that is not
-// main and names that start.
-const END: &[u8] = &[0x8A, 0x02, 0x00, 0x00, 0x74];
-
+// The end of a module that is main and starts at offset 1 of its segment; of one that is not main and names that start.
 const MAIN: &[u8] = &[0x8A, 0x06, 0x00, 0xC1, 0x50, 0x01, 0x01, 0x00, 0x00];
 
 const NOT_MAIN: &[u8] = &[0x8A, 0x06, 0x00, 0x41, 0x50, 0x01, 0x01, 0x00, 0x00];

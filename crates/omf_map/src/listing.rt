@@ -1,7 +1,8 @@
 //! The map of several modules.
 
-ghost use Rattle.std.specs.Prelude.{◌≡◌, ◌++◌, IfOk, OnOk, length, flat_map, string_bytes, false};
+ghost use Rattle.std.specs.Prelude.{◌≡◌, IfOk, length, flat_map, string_bytes, false};
 ghost use Rattle.std.specs.List.{enumerate_from};
+ghost use Rattle.omf_frame.specs.Bytes.{AddsText};
 ghost use Rattle.omf_records.specs.Inner.Seen.{contents_seen, kind_seen};
 ghost use Rattle.omf_check.specs.Module.{recs_of};
 ghost use Rattle.omf_derive.specs.Derive.{record_publics, segment_base};
@@ -55,7 +56,7 @@ fn print_segment_of(
     placement: &Placement,
     segment: SegInfo,
 ) -> Result<(), AllocError>
-    ensures { OnOk result (string_bytes text.new ≡ string_bytes text.old ++ segment_line number (recs_of «module».now.bytes, placement.now) (index, segment)) }
+    ensures { AddsText result (string_bytes text.old) (string_bytes text.new) (segment_line number (recs_of «module».now.bytes, placement.now) (index, segment)) }
 {
     let address = segment_address(placement, index);
     let name = module.name(segment.name);
@@ -70,7 +71,7 @@ fn print_segments(
     module: &Checked,
     placement: &Placement,
 ) -> Result<(), AllocError>
-    ensures { OnOk result (string_bytes text.new ≡ string_bytes text.old ++ segment_lines (number, (recs_of «module».now.bytes, placement.now))) }
+    ensures { AddsText result (string_bytes text.old) (string_bytes text.new) (segment_lines (number, (recs_of «module».now.bytes, placement.now))) }
 {
     for before in 0..module.segments() {
         let index = before + 1;
@@ -102,7 +103,7 @@ fn print_item(
     base: u32,
     public: &At<Public<'_>>,
 ) -> Result<(), AllocError>
-    ensures { OnOk result (string_bytes text.new ≡ string_bytes text.old ++ item_line number base public.now) }
+    ensures { AddsText result (string_bytes text.old) (string_bytes text.new) (item_line number base public.now) }
 {
     let item = &public.item;
     let address = u64::from(base) + u64::from(item.offset);
@@ -116,7 +117,7 @@ fn print_items(
     base: u32,
     publics: &Items<Public<'_>>,
 ) -> Result<(), AllocError>
-    ensures { OnOk result (string_bytes text.new ≡ string_bytes text.old ++ flat_map (item_line number base) publics.now) }
+    ensures { AddsText result (string_bytes text.old) (string_bytes text.new) (flat_map (item_line number base) publics.now) }
 {
     for public in publics.iter() {
         print_item(text, number, base, &public)?;
@@ -131,7 +132,7 @@ fn print_record(
     placement: &Placement,
     rec: &Rec<'_>,
 ) -> Result<(), AllocError>
-    ensures { OnOk result (string_bytes text.new ≡ string_bytes text.old ++ flat_map (public_line number) (record_publics false placement.now (kind_seen rec.now) (contents_seen rec.now))) }
+    ensures { AddsText result (string_bytes text.old) (string_bytes text.new) (flat_map (public_line number) (record_publics false placement.now (kind_seen rec.now) (contents_seen rec.now))) }
 {
     match rec {
         Rec::Publics {
@@ -154,7 +155,7 @@ fn print_publics(
     module: &Checked,
     placement: &Placement,
 ) -> Result<(), AllocError>
-    ensures { OnOk result (string_bytes text.new ≡ string_bytes text.old ++ public_lines (number, (recs_of «module».now.bytes, placement.now))) }
+    ensures { AddsText result (string_bytes text.old) (string_bytes text.new) (public_lines (number, (recs_of «module».now.bytes, placement.now))) }
 {
     for (_, rec) in module.records() {
         print_record(text, number, placement, &rec)?;
@@ -169,7 +170,7 @@ fn print_externals(
     module: &Checked,
     placement: &Placement,
 ) -> Result<(), AllocError>
-    ensures { OnOk result (string_bytes text.new ≡ string_bytes text.old ++ external_lines (number, (recs_of «module».now.bytes, placement.now))) }
+    ensures { AddsText result (string_bytes text.old) (string_bytes text.new) (external_lines (number, (recs_of «module».now.bytes, placement.now))) }
 {
     for before in 0..module.externals() {
         let index = before + 1;
@@ -190,7 +191,7 @@ fn print_module(
     module: &Checked,
     placement: &Placement,
 ) -> Result<(), AllocError>
-    ensures { OnOk result (string_bytes text.new ≡ string_bytes text.old ++ part_lines part (number, (recs_of «module».now.bytes, placement.now))) }
+    ensures { AddsText result (string_bytes text.old) (string_bytes text.new) (part_lines part (number, (recs_of «module».now.bytes, placement.now))) }
 {
     match part {
         Part::Segments => print_segments(text, number, module, placement),
@@ -207,7 +208,7 @@ fn print_part(
     placements: &[Placement],
 ) -> Result<(), AllocError>
     requires { length placements.now ≡ length modules.now }
-    ensures { OnOk result (string_bytes text.new ≡ string_bytes text.old ++ flat_map (part_lines part) (enumerate_from 1 (placed_modules modules.now placements.now))) }
+    ensures { AddsText result (string_bytes text.old) (string_bytes text.new) (flat_map (part_lines part) (enumerate_from 1 (placed_modules modules.now placements.now))) }
 {
     for (j, module) in modules.iter().enumerate() {
         print_module(text, part, j + 1, module, &placements[j])?;

@@ -1,6 +1,7 @@
 //! The lines of a map.
 
-ghost use Rattle.std.specs.Prelude.{◌≡◌, ◌++◌, ◌∷◌, [], OnOk, string_bytes, codes, decimal, unwrap_or, option_map};
+ghost use Rattle.std.specs.Prelude.{◌++◌, ◌∷◌, [], string_bytes, codes, decimal, unwrap_or, option_map};
+ghost use Rattle.omf_frame.specs.Bytes.{AddsText};
 ghost use Rattle.omf_cmd.specs.Printed.{line};
 ghost use Rattle.omf_placement.specs.Quoted.{hex, quoted};
 ghost use Rattle.omf_map.specs.MapText.{address_or_dash};
@@ -12,21 +13,21 @@ use std::fmt::Write;
 
 /// A number in decimal, behind a space.
 fn print_number(text: &mut String, number: usize) -> Result<(), AllocError>
-    ensures { OnOk result (string_bytes text.new ≡ string_bytes text.old ++ 32 ∷ decimal number) }
+    ensures { AddsText result (string_bytes text.old) (string_bytes text.new) (32 ∷ decimal number) }
 {
     write!(text, " {number}")
 }
 
 /// A number in eight hexadecimal digits or more, behind a space.
 fn print_digits(text: &mut String, number: u64) -> Result<(), AllocError>
-    ensures { OnOk result (string_bytes text.new ≡ string_bytes text.old ++ 32 ∷ hex 8 number) }
+    ensures { AddsText result (string_bytes text.old) (string_bytes text.new) (32 ∷ hex 8 number) }
 {
     write!(text, " {number:08X}")
 }
 
 /// An address in eight hexadecimal digits, or a dash for none, behind a space.
 fn print_address(text: &mut String, address: Option<u32>) -> Result<(), AllocError>
-    ensures { OnOk result (string_bytes text.new ≡ string_bytes text.old ++ 32 ∷ address_or_dash address) }
+    ensures { AddsText result (string_bytes text.old) (string_bytes text.new) (32 ∷ address_or_dash address) }
 {
     match address {
         Some(address) => print_digits(text, u64::from(address)),
@@ -42,7 +43,7 @@ fn print_entry(
     index: u16,
     address: Option<u32>,
 ) -> Result<(), AllocError>
-    ensures { OnOk result (string_bytes text.new ≡ string_bytes text.old ++ word.now ++ 32 ∷ decimal number ++ 32 ∷ decimal index ++ 32 ∷ address_or_dash address) }
+    ensures { AddsText result (string_bytes text.old) (string_bytes text.new) (word.now ++ 32 ∷ decimal number ++ 32 ∷ decimal index ++ 32 ∷ address_or_dash address) }
 {
     text.push_str(word)?;
     print_number(text, number)?;
@@ -52,7 +53,7 @@ fn print_entry(
 
 /// A name in double quotes, behind a space.
 fn print_quoted(text: &mut String, name: &[u8]) -> Result<(), AllocError>
-    ensures { OnOk result (string_bytes text.new ≡ string_bytes text.old ++ 32 ∷ quoted name.now) }
+    ensures { AddsText result (string_bytes text.old) (string_bytes text.new) (32 ∷ quoted name.now) }
 {
     text.push_str(" ")?;
     printing::print_quoted(text, name)
@@ -60,7 +61,7 @@ fn print_quoted(text: &mut String, name: &[u8]) -> Result<(), AllocError>
 
 /// A name in double quotes, or a dash for none, behind a space.
 fn print_name(text: &mut String, name: Option<Name<'_>>) -> Result<(), AllocError>
-    ensures { OnOk result (string_bytes text.new ≡ string_bytes text.old ++ 32 ∷ unwrap_or (option_map quoted name.entry) (codes "-")) }
+    ensures { AddsText result (string_bytes text.old) (string_bytes text.new) (32 ∷ unwrap_or (option_map quoted name.entry) (codes "-")) }
 {
     match name {
         Some(name) => print_quoted(text, name.0),
@@ -74,7 +75,7 @@ fn print_names(
     name: Option<Name<'_>>,
     class: Option<Name<'_>>,
 ) -> Result<(), AllocError>
-    ensures { OnOk result (string_bytes text.new ≡ string_bytes text.old ++ 32 ∷ unwrap_or (option_map quoted name.entry) (codes "-") ++ 32 ∷ unwrap_or (option_map quoted class.entry) (codes "-") ++ 10 ∷ []) }
+    ensures { AddsText result (string_bytes text.old) (string_bytes text.new) (32 ∷ unwrap_or (option_map quoted name.entry) (codes "-") ++ 32 ∷ unwrap_or (option_map quoted class.entry) (codes "-") ++ 10 ∷ []) }
 {
     print_name(text, name)?;
     print_name(text, class)?;
@@ -91,7 +92,7 @@ pub fn print_segment(
     name: Option<Name<'_>>,
     class: Option<Name<'_>>,
 ) -> Result<(), AllocError>
-    ensures { OnOk result (string_bytes text.new ≡ string_bytes text.old ++ line (codes "segment" ∷ decimal number ∷ decimal index ∷ address_or_dash address ∷ hex 8 length ∷ unwrap_or (option_map quoted name.entry) (codes "-") ∷ unwrap_or (option_map quoted class.entry) (codes "-") ∷ [])) }
+    ensures { AddsText result (string_bytes text.old) (string_bytes text.new) (line (codes "segment" ∷ decimal number ∷ decimal index ∷ address_or_dash address ∷ hex 8 length ∷ unwrap_or (option_map quoted name.entry) (codes "-") ∷ unwrap_or (option_map quoted class.entry) (codes "-") ∷ [])) }
 {
     print_entry(text, "segment", number, index, address)?;
     print_digits(text, length)?;
@@ -105,7 +106,7 @@ pub fn print_public(
     address: u64,
     name: &[u8],
 ) -> Result<(), AllocError>
-    ensures { OnOk result (string_bytes text.new ≡ string_bytes text.old ++ line (codes "public" ∷ decimal number ∷ hex 8 address ∷ quoted name.now ∷ [])) }
+    ensures { AddsText result (string_bytes text.old) (string_bytes text.new) (line (codes "public" ∷ decimal number ∷ hex 8 address ∷ quoted name.now ∷ [])) }
 {
     text.push_str("public")?;
     print_number(text, number)?;
@@ -122,7 +123,7 @@ pub fn print_external(
     address: Option<u32>,
     name: &[u8],
 ) -> Result<(), AllocError>
-    ensures { OnOk result (string_bytes text.new ≡ string_bytes text.old ++ line (codes "external" ∷ decimal number ∷ decimal index ∷ address_or_dash address ∷ quoted name.now ∷ [])) }
+    ensures { AddsText result (string_bytes text.old) (string_bytes text.new) (line (codes "external" ∷ decimal number ∷ decimal index ∷ address_or_dash address ∷ quoted name.now ∷ [])) }
 {
     print_entry(text, "external", number, index, address)?;
     print_quoted(text, name)?;

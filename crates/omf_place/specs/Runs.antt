@@ -1,6 +1,5 @@
 -- What a run answers, and what it reads and writes.
 use Rattle.std.specs.Prelude.{◌≡◌, ◌⊎◌, ℕ, List, false, Option, Some, None, Result, Ok, Err}
-use Rattle.std.specs.Io.KnownBytes.{Appends}
 use Rattle.omf_frame.specs.Device.{Device}
 use Rattle.omf_frame.specs.Framing.{Raw}
 use Rattle.omf_image.specs.Limits.{profile_limits}
@@ -11,8 +10,8 @@ use Rattle.omf_check.specs.declared.profile.Profile.{Profile}
 use Rattle.omf_layout.specs.declared.options.Options.{Options}
 use Rattle.omf_layout.specs.Layout.{layout_of}
 use Rattle.omf_cmd.specs.HowFar.{EndsAtRefusal, IsReadFrom, IsUnrefused}
-use Rattle.omf_cmd.specs.Reports.{IsOutOfMemory}
-use Rattle.omf_cmd.specs.Runs.{HasGivenUp, IsPart, IsReadCause, IsUnbroken, IsWritten}
+use Rattle.omf_cmd.specs.Reports.{Misuses}
+use Rattle.omf_cmd.specs.Runs.{AnswersBy, EndsBy, IsReadCause, IsUnbroken, PrintsOr}
 use Rattle.omf_cmd.specs.declared.fault.RunFault.TheVariants as run
 use Rattle.omf_place.specs.Drafts.{IsDraft}
 use Rattle.omf_place.specs.Faults.{status_of, TellsFault, usage}
@@ -52,9 +51,7 @@ IsDraftCause old new (Err (fault.Run f)) = IsReadCause {A = List ℕ} old new (E
 
 -- What is written of what was drafted: the whole text, or a part of it from the front where the writer failed; nothing of a fault.
 abbrev pub IsPrinted : Device → Device → Result (List ℕ) PlaceFault → Result (Unit {0}) PlaceFault → Type 0
-IsPrinted old new (Ok text) (Ok done) = IsUnbroken old new × Appends old.bytes new.bytes text
-IsPrinted old new (Ok text) (Err e) = (e ≡ fault.Run run.Write) × HasGivenUp old new × IsPart old.bytes new.bytes text
-IsPrinted old new (Err f) ran = (ran ≡ Err f) × (new ≡ old)
+IsPrinted old new answer ran = PrintsOr (fault.Run run.Write) old new answer ran
 
 -- A run: what it drafted of its input, and what it wrote of that.
 pub record IsRun (o : Options) (reader reader' writer writer' : Device) (ran : Result (Unit {0}) PlaceFault) : Type 0 where
@@ -65,16 +62,12 @@ pub record IsRun (o : Options) (reader reader' writer writer' : Device) (ran : R
 
 -- How the program ends after a run: the status is that of the answer, and a fault's line is written.
 abbrev pub IsEnded : Device → Device → Result (Unit {0}) PlaceFault → ℕ → Type 0
-IsEnded old new (Ok done) status = (status ≡ 0) × (new ≡ old)
-IsEnded old new (Err f) status = (status ≡ status_of f) × TellsFault old new f
+IsEnded old new ran status = EndsBy status_of TellsFault old new ran status
 
 -- The program's answer at some options: it ran, and ended.
-pub record IsAnswer (o : Options) (reader reader' writer writer' : Device) (status : ℕ) : Type 0 where
-  pub ran : Result (Unit {0}) PlaceFault
-  pub between : Device
-  pub run : IsRun o reader reader' writer between ran
-  pub ended : IsEnded between writer' ran status
+abbrev pub IsAnswer : Options → Device → Device → Device → Device → ℕ → Type 0
+IsAnswer o reader reader' writer writer' status = AnswersBy (IsRun o) IsEnded reader reader' writer writer' status
 
 -- Its answer to words that are not understood: how it is called, unless the writer failed; or memory ran out. Nothing is read.
 abbrev pub IsMisuse : Device → Device → Device → Device → ℕ → Type 0
-IsMisuse reader reader' writer writer' status = ((reader' ≡ reader) × (status ≡ 2) × IsWritten writer writer' usage) ⊎ IsOutOfMemory reader reader' writer writer' status
+IsMisuse reader reader' writer writer' status = Misuses usage reader reader' writer writer' status

@@ -2,17 +2,11 @@
 
 use crate::main_with;
 use omf_frame::faulty::{Full, Script, Taker, Then};
+use omf_frame::samples::MODULE;
 use omf_frame::{Reading, Sink, Source, Writing};
 use std::alloc::{AllocError, AllocGlobal, Global};
 use std::process::Abort;
 use std::test::Fail;
-
-/// A header, names, a segment of 4 bytes, its data, a fixup, the end.
-const MODULE: [u8; 48] = [
-    0x80, 0x03, 0x00, 0x01, 0x41, 0x3B, 0x96, 0x04, 0x00, 0x00, 0x01, 0x54, 0x11, 0x98, 0x07, 0x00,
-    0x28, 0x04, 0x00, 0x02, 0x01, 0x01, 0x31, 0xA0, 0x08, 0x00, 0x01, 0x00, 0x00, 0xB8, 0x00, 0x00,
-    0x90, 0x0F, 0x9C, 0x06, 0x00, 0xC4, 0x01, 0x04, 0x01, 0x01, 0x93, 0x8A, 0x02, 0x00, 0x00, 0x74,
-];
 
 const USAGE: &str = "usage: omf-place [--base ADDRESS] [--real | --flat SELECTOR]\n";
 
@@ -56,13 +50,13 @@ fn ends(
 #[test]
 fn drafts_at_its_options(rt: HostRuntime) -> Result<(), Fail> {
     let flat = "S 10000 0 0 ; 1 \"T\" class \"\" align 1 length 4\n";
-    ends(&rt, &[], &MODULE, 0, flat)?;
+    ends(&rt, &[], MODULE, 0, flat)?;
     let real = "S 7C08 real ; 1 \"T\" class \"\" align 1 length 4\n";
-    ends(&rt, &["--base", "7c08", "--real"], &MODULE, 0, real)?;
-    ends(&rt, &["--real", "--base=7C08"], &MODULE, 0, real)?;
+    ends(&rt, &["--base", "7c08", "--real"], MODULE, 0, real)?;
+    ends(&rt, &["--real", "--base=7C08"], MODULE, 0, real)?;
     let selected = "S FFFFFFFC 0 1B ; 1 \"T\" class \"\" align 1 length 4\n";
     let words = ["--flat", "1B", "--base", "FFFFFFFC"];
-    ends(&rt, &words, &MODULE, 0, selected)?;
+    ends(&rt, &words, MODULE, 0, selected)?;
     Ok(())
 }
 
@@ -71,8 +65,8 @@ fn names_what_is_wrong(rt: HostRuntime) -> Result<(), Fail> {
     let none = "refused 1 NoEnd record 0 at 0 within 0\n";
     ends(&rt, &[], &[], 1, none)?;
     let room = "no room below the last address\n";
-    ends(&rt, &["--base", "FFFFD", "--real"], &MODULE, 1, room)?;
-    ends(&rt, &["--base", "FFFFFFFD"], &MODULE, 1, room)?;
+    ends(&rt, &["--base", "FFFFD", "--real"], MODULE, 1, room)?;
+    ends(&rt, &["--base", "FFFFFFFD"], MODULE, 1, room)?;
     Ok(())
 }
 
@@ -93,7 +87,7 @@ fn prints_how_it_is_called(rt: HostRuntime) -> Result<(), Fail> {
         &["--base", "1", "--base", "2"],
     ];
     for words in none {
-        ends(&rt, words, &MODULE, 2, USAGE)?;
+        ends(&rt, words, MODULE, 2, USAGE)?;
     }
     Ok(())
 }
@@ -102,7 +96,7 @@ fn prints_how_it_is_called(rt: HostRuntime) -> Result<(), Fail> {
 fn ends_where_a_device_fails(rt: HostRuntime) -> Result<(), Fail> {
     let alloc = rt.alloc();
     let mut printed = Vec::new(alloc);
-    let mut reader = Script::new(&MODULE, Then::Fails);
+    let mut reader = Script::new(MODULE, Then::Fails);
     let mut writer = Writing::new(&mut printed);
     let ended = status_of(alloc, &[], &mut reader, &mut writer)?;
     assert_eq!(rt; ended, 0);
@@ -112,7 +106,7 @@ fn ends_where_a_device_fails(rt: HostRuntime) -> Result<(), Fail> {
     let ended = status_of(alloc, &[], &mut reader, &mut writer)?;
     assert_eq!(rt; ended, 3);
     assert!(rt; printed.as_slice() == b"read\n".as_slice());
-    let mut reader = Script::new(&MODULE, Then::Ends);
+    let mut reader = Script::new(MODULE, Then::Ends);
     let mut writer = Taker::new(alloc, 7, Full::Fails)?;
     let ended = status_of(alloc, &[], &mut reader, &mut writer)?;
     assert_eq!(rt; ended, 3);

@@ -1,7 +1,8 @@
 -- References from their values: which fields of a FIXUPP or a MODEND can be written.
-use Rattle.std.specs.Prelude.{◌≡◌, ℕ, ◌*◌, ◌^◌, ◌<◌, ◌≤◌, nat_lt, not, Bool, true, false, List, [], ◌∷◌, Option, Some, None, All, ⊤}
+use Rattle.std.specs.Prelude.{◌≡◌, ℕ, ◌*◌, ◌^◌, ◌<◌, ◌≤◌, nat_lt, not, Bool, true, false, List, [], Option, Some, None, All, ⊤}
 use Rattle.omf_frame.specs.Bytes.{is_one_of}
 use Rattle.omf_frame.specs.Framing.{is_end}
+use Rattle.omf_frame.specs.Types.{fixupp}
 use Rattle.omf_records.specs.Values.{At, Contents, Fixups, ModEnd, Reference, Subrecord, Thread, Fixup, width, thread_method, has_frame_datum, has_target_datum, has_no_displacement, has_start}
 use Rattle.omf_records.specs.Entries.{wrong_methods, wrong_head}
 
@@ -40,8 +41,9 @@ abbrev pub IsSubrecordValue : ℕ → Subrecord → Type 0
 IsSubrecordValue kind (Thread byte datum) = IsThreadValue byte datum
 IsSubrecordValue kind (Fixup locat r) = IsFixupValue kind locat r
 
+-- The types of a FIXUPP.
 abbrev pub is_fixupp : ℕ → Bool
-is_fixupp kind = is_one_of (0x9C ∷ 0x9D ∷ []) kind
+is_fixupp kind = is_one_of fixupp kind
 
 pub record AreFixupValues (kind : ℕ) (subs : List (At Subrecord)) : Type 0 where
   pub taken : is_fixupp kind ≡ true

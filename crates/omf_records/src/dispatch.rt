@@ -7,7 +7,8 @@ ghost use Rattle.omf_records.specs.Inner.Seen.{contents_seen, kind_seen, map_ok}
 ghost use Rattle.omf_records.specs.Inner.Reading.{read_body};
 ghost use Rattle.omf_records.specs.Layout.{Meets};
 ghost use Rattle.omf_records.specs.Records.{contents};
-ghost use Rattle.omf_records.specs.Inner.Unread.{IsKnown, fixups_read, is_fixupp};
+ghost use Rattle.omf_records.specs.Inner.Unread.{IsKnown, fixups_read};
+ghost use Rattle.omf_records.specs.Valued.{is_fixupp};
 
 use crate::at::LayoutFault;
 use crate::here::Here;

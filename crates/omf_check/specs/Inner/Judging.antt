@@ -1,5 +1,5 @@
 -- The least fault of a record, computed from what is kept of the records before it.
-use Rattle.std.specs.Prelude.{ℕ, ◌+◌, ◌-◌, List, [], ◌∷◌, length, Bool, true, false, not, ◌||◌, ◌==◌, nat_le, nat_lt, Option, Some, None, unwrap_or, option_map, Result, Ok, Err, if◌then◌else◌, ◌≤◌, ⊤}
+use Rattle.std.specs.Prelude.{ℕ, ◌+◌, ◌-◌, List, [], ◌∷◌, length, Bool, false, not, ◌||◌, ◌==◌, nat_le, nat_lt, Option, Some, None, unwrap_or, option_map, Result, Ok, Err, if◌then◌else◌, ◌≤◌, ⊤}
 use Rattle.omf_frame.specs.Fault.{Fault, is_before}
 use Rattle.omf_frame.specs.declared.fault.Reason.{Reason}
 use Rattle.omf_frame.specs.declared.fault.Reason.TheVariants as reason

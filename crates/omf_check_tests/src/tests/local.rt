@@ -2,15 +2,14 @@
 
 use super::Verdict::{Fault, Taken};
 use super::{
-    ANY, Answer, DATA, END, HEADER, Line, NAMES, SEGMENT, Verdict, answer_under, back_counts,
-    checked_of, external_of, first_false, first_wrong,
+    ANY, Answer, Line, Verdict, answer_under, back_counts, checked_of, external_of, first_false,
+    first_wrong,
 };
 use omf_check::Checked;
 use omf_frame::Reason;
+use omf_frame::samples::{DATA, END, HEADER, LOCAL_EXTERNAL, NAMES, SEGMENT};
 use std::alloc::{AllocError, Global};
 use std::test::Fail;
-
-const LOCAL_EXTERNAL: [u8; 7] = [0xB4, 0x04, 0x00, 0x01, 0x58, 0x00, 0xEF];
 
 const LOCAL_COMMUNAL: [u8; 11] = [
     0xB8, 0x08, 0x00, 0x01, 0x58, 0x00, 0x62, 0x81, 0x80, 0x00, 0x84,
@@ -23,95 +22,95 @@ const LINES: [Line; 8] = [
     Line {
         name: "a short jump to a local external",
         records: &[
-            &HEADER,
-            &NAMES,
-            &SEGMENT,
-            &LOCAL_EXTERNAL,
+            HEADER,
+            NAMES,
+            SEGMENT,
+            LOCAL_EXTERNAL,
             &[
                 0xA0, 0x08, 0x00, 0x01, 0x00, 0x00, 0xEB, 0x00, 0x00, 0x90, 0xDC,
             ],
             &[0x9C, 0x06, 0x00, 0x80, 0x01, 0x06, 0x01, 0x01, 0xD5],
-            &END,
+            END,
         ],
         verdict: Taken(55),
     },
     Line {
         name: "a segment with a local name",
         records: &[
-            &HEADER,
+            HEADER,
             &[0xCA, 0x03, 0x00, 0x01, 0x55, 0xDD],
             &[0x98, 0x07, 0x00, 0x28, 0x04, 0x00, 0x01, 0x00, 0x00, 0x34],
-            &END,
+            END,
         ],
         verdict: Taken(27),
     },
     Line {
         name: "a local communal",
-        records: &[&HEADER, &LOCAL_COMMUNAL, &END],
+        records: &[HEADER, &LOCAL_COMMUNAL, END],
         verdict: Taken(22),
     },
     Line {
         name: "a local public in a segment that is not defined",
         records: &[
-            &HEADER,
-            &NAMES,
-            &SEGMENT,
+            HEADER,
+            NAMES,
+            SEGMENT,
             &[
                 0xB6, 0x08, 0x00, 0x00, 0x02, 0x01, 0x50, 0x00, 0x00, 0x00, 0xEF,
             ],
-            &END,
+            END,
         ],
         verdict: Fault(Reason::UndefinedSegment, 3, 23, 4),
     },
     Line {
         name: "a local public in a group that is not defined",
         records: &[
-            &HEADER,
-            &NAMES,
-            &SEGMENT,
+            HEADER,
+            NAMES,
+            SEGMENT,
             &[0xB6, 0x03, 0x00, 0x01, 0x02, 0x00],
-            &END,
+            END,
         ],
         verdict: Fault(Reason::UndefinedGroup, 3, 23, 3),
     },
     Line {
         name: "a local public with an offset of 32 bits",
         records: &[
-            &HEADER,
-            &NAMES,
-            &SEGMENT,
+            HEADER,
+            NAMES,
+            SEGMENT,
             &[
                 0xB7, 0x0A, 0x00, 0x00, 0x01, 0x01, 0x50, 0x00, 0x00, 0x00, 0x00, 0x00, 0x00,
             ],
-            &END,
+            END,
         ],
         verdict: Taken(41),
     },
     Line {
         name: "a fixup by the second of two local externals",
         records: &[
-            &HEADER,
-            &NAMES,
-            &SEGMENT,
+            HEADER,
+            NAMES,
+            SEGMENT,
             &SECOND_TYPE,
             &LOCAL_COMMUNAL,
-            &DATA,
+            DATA,
             &[0x9C, 0x05, 0x00, 0xC4, 0x01, 0x56, 0x02, 0x00],
-            &END,
+            END,
         ],
         verdict: Taken(65),
     },
     Line {
         name: "a fixup by the third of two local externals",
         records: &[
-            &HEADER,
-            &NAMES,
-            &SEGMENT,
+            HEADER,
+            NAMES,
+            SEGMENT,
             &SECOND_TYPE,
             &LOCAL_COMMUNAL,
-            &DATA,
+            DATA,
             &[0x9C, 0x05, 0x00, 0xC4, 0x01, 0x56, 0x03, 0x00],
-            &END,
+            END,
         ],
         verdict: Fault(Reason::UndefinedExternal, 6, 52, 6),
     },
@@ -179,7 +178,7 @@ fn answer_beyond(
     second: &[u8],
 ) -> Result<Option<Answer>, AllocError> {
     let first = repeated(alloc, kind, count, 0)?;
-    let answer = answer_under(alloc, ANY, &[&HEADER, &first, second, &END])?;
+    let answer = answer_under(alloc, ANY, &[HEADER, &first, second, END])?;
     Ok(answer)
 }
 
@@ -199,13 +198,13 @@ fn local_of(checked: &Checked, index: u16) -> Option<bool> {
 #[test]
 fn shows_which_externals_are_local(rt: HostRuntime) -> Result<(), Fail> {
     let records: [&[u8]; 7] = [
-        &HEADER,
+        HEADER,
         &[0x8C, 0x04, 0x00, 0x01, 0x41, 0x00, 0x00],
-        &LOCAL_EXTERNAL,
+        LOCAL_EXTERNAL,
         &[0xB0, 0x06, 0x00, 0x01, 0x42, 0x00, 0x62, 0x01, 0x00],
         &LOCAL_COMMUNAL,
         &SECOND_TYPE,
-        &END,
+        END,
     ];
     let checked = checked_of(rt.alloc(), &records)?;
     assert_eq!(rt; wrong_in_locals(&checked), None);

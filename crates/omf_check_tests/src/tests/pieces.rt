@@ -3,11 +3,12 @@
 ghost use Rattle.std.specs.Prelude.{◌<◌};
 
 use super::{
-    ANY, Answer, END, FIRST, HEADER, NAMES, by_check, closed, finished, in_pieces, module, opened,
-    refused, state_of, taken, takes, wrong_in_first,
+    ANY, Answer, FIRST, by_check, closed, finished, in_pieces, module, opened, refused, state_of,
+    taken, takes, wrong_in_first,
 };
 use omf_check::{CheckFault, Session};
 use omf_frame::Reason;
+use omf_frame::samples::{END, HEADER, NAMES};
 use std::alloc::{AllocError, Global};
 use std::test::Fail;
 
@@ -33,8 +34,8 @@ fn fed(alloc: Global, pieces: &[&[u8]]) -> Result<Session, CheckFault> {
 #[test]
 fn a_fault_is_kept(rt: HostRuntime) -> Result<(), Fail> {
     let unsupported = refused(Reason::UnsupportedType, 1, 6, 0);
-    let mut session = fed(rt.alloc(), &[&HEADER])?;
-    assert!(rt; keeps_answer(&mut session, &[&[0xC2], &END, &[]], unsupported));
+    let mut session = fed(rt.alloc(), &[HEADER])?;
+    assert!(rt; keeps_answer(&mut session, &[&[0xC2], END, &[]], unsupported));
     assert!(rt; finished(session) == unsupported);
     Ok(())
 }
@@ -92,18 +93,18 @@ fn refuses_behind(session: &mut Session, bytes: &[u8], answer: Answer) -> bool {
 fn judges_the_record_at_hand_alone(rt: HostRuntime) -> Result<(), Fail> {
     let rest = [0x00, 0x01, 0x54, 0x11, 0xC2, 0x8A, 0x02, 0x00, 0x00, 0x74];
     let unsupported = refused(Reason::UnsupportedType, 2, 13, 0);
-    let mut session = fed(rt.alloc(), &[&HEADER, NAMES.split_at(3).0])?;
+    let mut session = fed(rt.alloc(), &[HEADER, NAMES.split_at(3).0])?;
     assert!(rt; refuses_behind(&mut session, &rest, unsupported));
     Ok(())
 }
 
 /// A header, so many empty FIXUPPs and the end.
 fn empty_fixups(alloc: Global, count: u32) -> Result<Vec<u8>, AllocError> {
-    let mut bytes = module(alloc, &[&HEADER])?;
+    let mut bytes = module(alloc, &[HEADER])?;
     for _ in 0..count {
         bytes.extend_from_slice(&[0x9C, 0x01, 0x00, 0x63])?;
     }
-    bytes.extend_from_slice(&END)?;
+    bytes.extend_from_slice(END)?;
     Ok(bytes)
 }
 

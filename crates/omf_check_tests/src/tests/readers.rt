@@ -1,12 +1,10 @@
 //! How far a check reads, and what a failing reader makes of it.
 
 use super::Verdict::{Fault, Taken};
-use super::{
-    ANY, Answer, DATA, END, FIRST, FIXUP, HEADER, NAMES, SEGMENT, Verdict, bytes_of, length_of,
-    module, refused,
-};
+use super::{ANY, Answer, FIRST, Verdict, bytes_of, length_of, module, refused};
 use omf_check::{CheckFault, Checked, check};
 use omf_frame::faulty::{Script, Then};
+use omf_frame::samples::{DATA, END, FIXUP, HEADER, NAMES, SEGMENT};
 use omf_frame::{Buffered, Reading, Reason, Source};
 use std::alloc::Global;
 use std::io;
@@ -26,7 +24,7 @@ fn unread<S: Source>(source: &mut S) -> Result<(usize, [u8; 2]), Fail> {
 
 #[test]
 fn leaves_what_follows_unread(rt: HostRuntime) -> Result<(), Fail> {
-    let records: [&[u8]; 7] = [&HEADER, &NAMES, &SEGMENT, &DATA, &FIXUP, &END, &BEHIND];
+    let records: [&[u8]; 7] = [HEADER, NAMES, SEGMENT, DATA, FIXUP, END, &BEHIND];
     let bytes = module(rt.alloc(), &records)?;
     let expected = module(rt.alloc(), &FIRST)?;
     assert!(rt; leaves_two_behind(rt.alloc(), &bytes, &expected)?);
@@ -112,64 +110,64 @@ const EMPTY: [u8; 3] = [0x96, 0x00, 0x00];
 const EXTENTS: [Extent; 14] = [
     Extent {
         name: "an unsupported type",
-        records: &[&HEADER, &[0xC2], &END, &END],
+        records: &[HEADER, &[0xC2], END, END],
         verdict: Fault(Reason::UnsupportedType, 1, 6, 0),
         read: 7,
     },
     Extent {
         name: "an unsupported type at the front",
-        records: &[&[0xF0], &HEADER, &END],
+        records: &[&[0xF0], HEADER, END],
         verdict: Fault(Reason::UnsupportedType, 0, 0, 0),
         read: 1,
     },
     Extent {
         name: "an unknown type at the front",
-        records: &[&[0x00], &HEADER, &END],
+        records: &[&[0x00], HEADER, END],
         verdict: Fault(Reason::UnknownType, 0, 0, 0),
         read: 1,
     },
     Extent {
         name: "a length of 0",
-        records: &[&HEADER, &EMPTY, &NAMES, &END],
+        records: &[HEADER, &EMPTY, NAMES, END],
         verdict: Fault(Reason::EmptyRecord, 1, 6, 1),
         read: 9,
     },
     Extent {
         name: "a length of 0 at the front",
-        records: &[&[0x8A, 0x00, 0x00], &HEADER, &END],
+        records: &[&[0x8A, 0x00, 0x00], HEADER, END],
         verdict: Fault(Reason::EmptyRecord, 0, 0, 1),
         read: 3,
     },
     Extent {
         name: "a wrong checksum",
-        records: &[&HEADER, &NAMES, &SEGMENT, &WRONG_SUM, &FIXUP, &END],
+        records: &[HEADER, NAMES, SEGMENT, &WRONG_SUM, FIXUP, END],
         verdict: Fault(Reason::Checksum, 3, 23, 10),
         read: 34,
     },
     Extent {
         name: "no header",
-        records: &[&END, &HEADER, &END],
+        records: &[END, HEADER, END],
         verdict: Fault(Reason::NoHeader, 0, 0, 0),
         read: 5,
     },
     Extent {
         name: "a name that is cut by its record",
-        records: &[&HEADER, &[0x96, 0x03, 0x00, 0x05, 0x41, 0x00], &NAMES, &END],
+        records: &[HEADER, &[0x96, 0x03, 0x00, 0x05, 0x41, 0x00], NAMES, END],
         verdict: Fault(Reason::Short, 1, 6, 3),
         read: 12,
     },
     Extent {
         name: "data that are too long",
         records: &[
-            &HEADER,
-            &NAMES,
-            &SEGMENT,
+            HEADER,
+            NAMES,
+            SEGMENT,
             &[
                 0xA3, 0x0E, 0x00, 0x01, 0x00, 0x00, 0x00, 0x00, 0x01, 0x00, 0x00, 0x10, 0x00, 0x00,
                 0x01, 0xAA, 0x92,
             ],
-            &FIXUP,
-            &END,
+            FIXUP,
+            END,
         ],
         verdict: Fault(Reason::DataTooLong, 3, 23, 8),
         read: 40,
@@ -177,13 +175,13 @@ const EXTENTS: [Extent; 14] = [
     Extent {
         name: "a fixup past its data",
         records: &[
-            &HEADER,
-            &NAMES,
-            &SEGMENT,
-            &DATA,
+            HEADER,
+            NAMES,
+            SEGMENT,
+            DATA,
             &[0x9C, 0x06, 0x00, 0xC4, 0x03, 0x04, 0x01, 0x01, 0x91],
-            &FIXUP,
-            &END,
+            FIXUP,
+            END,
         ],
         verdict: Fault(Reason::OutsideRecord, 4, 34, 3),
         read: 43,
@@ -196,19 +194,19 @@ const EXTENTS: [Extent; 14] = [
     },
     Extent {
         name: "a record that is cut",
-        records: &[&HEADER, &NAMES, &SEGMENT, &DATA, &[0x9C, 0x06]],
+        records: &[HEADER, NAMES, SEGMENT, DATA, &[0x9C, 0x06]],
         verdict: Fault(Reason::Cut, 4, 34, 2),
         read: 36,
     },
     Extent {
         name: "no end",
-        records: &[&HEADER, &NAMES, &SEGMENT, &DATA, &FIXUP],
+        records: &[HEADER, NAMES, SEGMENT, DATA, FIXUP],
         verdict: Fault(Reason::NoEnd, 5, 43, 0),
         read: 43,
     },
     Extent {
         name: "a record behind a module",
-        records: &[&HEADER, &NAMES, &SEGMENT, &DATA, &FIXUP, &END, &END],
+        records: &[HEADER, NAMES, SEGMENT, DATA, FIXUP, END, END],
         verdict: Taken(48),
         read: 48,
     },
@@ -244,7 +242,7 @@ fn first_unlike(alloc: Global, extents: &[Extent]) -> Result<Option<&'static str
 #[test]
 fn reads_as_far_through_a_buffer(rt: HostRuntime) -> Result<(), Fail> {
     assert_eq!(rt; first_unlike(rt.alloc(), &EXTENTS)?, None);
-    let unknown: [&[u8]; 4] = [&HEADER, &[0x00], &END, &END];
+    let unknown: [&[u8]; 4] = [HEADER, &[0x00], END, END];
     assert!(rt; is_buffered_alike(rt.alloc(), &unknown)?);
     Ok(())
 }

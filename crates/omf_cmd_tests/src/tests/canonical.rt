@@ -4,18 +4,16 @@ use super::reports::{
     ANY, COMMENTED, FIRST, Refusal, answer_to, first_taken, is_before_failure, joined, prints,
     writes_front,
 };
-use super::{DATA, END, FIXUP, HEADER, NAMES, PLACED, SEGMENT, lists};
+use super::{PLACED, lists};
 use omf_cmd::{Job, RunFault};
 use omf_frame::Reason;
 use omf_frame::faulty::{Full, Taker};
+use omf_frame::samples::{DATA, END, FIXUP, GROUP, HEADER, NAMES, SEGMENT};
 use std::alloc::{AllocError, Global};
 use std::test::Fail;
 
 /// A segment of 2 bytes.
 const SHORT_SEGMENT: &[u8] = &[0x98, 0x07, 0x00, 0x28, 0x02, 0x00, 0x02, 0x01, 0x01, 0x33];
-
-/// A group of segment 1.
-const GROUP: &[u8] = &[0x9A, 0x04, 0x00, 0x02, 0xFF, 0x01, 0x60];
 
 /// A module, and the records that `canon` writes of it.
 struct Form {

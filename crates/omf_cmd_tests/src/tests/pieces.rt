@@ -1,10 +1,11 @@
 //! Listings of more than 64 KB, which are written in pieces.
 
 use super::reports::has_taken;
-use super::{BIG_SEGMENT, END, HEADER, NAMES, PLACED};
+use super::{BIG_SEGMENT, PLACED};
 use omf_check::Profile;
 use omf_cmd::{RunFault, run_list, run_reloc};
 use omf_frame::faulty::{Full, Script, Taker, Then};
+use omf_frame::samples::{END, HEADER, NAMES};
 use std::alloc::{AllocError, Global};
 use std::fmt::Write;
 use std::test::Fail;

@@ -1,9 +1,10 @@
 //! What the program prints, and which status it ends with.
 
+use super::PLACED;
 use super::reports::{FIRST, has_taken, joined};
-use super::{DATA, END, FIXUP, HEADER, NAMES, PLACED, SEGMENT};
 use omf_cmd::main_with;
 use omf_frame::faulty::{Full, Script, Taker, Then};
+use omf_frame::samples::{DATA, END, FIXUP, HEADER, LONG_DATA, NAMES, SEGMENT, VENDOR};
 use omf_frame::{Reading, Sink, Source, Writing};
 use std::alloc::{AllocError, Global};
 use std::test::Fail;
@@ -95,15 +96,10 @@ const JOBS: [Case; 3] = [
     },
 ];
 
-/// The data with an index of two bytes.
-const LONG_INDEX: &[u8] = &[
-    0xA0, 0x09, 0x00, 0x80, 0x01, 0x00, 0x00, 0xB8, 0x00, 0x00, 0x90, 0x8E,
-];
-
 #[test]
 fn does_its_jobs(rt: HostRuntime) -> Result<(), Fail> {
     assert_eq!(rt; first_wrong(rt.alloc(), &JOBS)?, None);
-    let pieces = [HEADER, NAMES, SEGMENT, LONG_INDEX, FIXUP, END];
+    let pieces = [HEADER, NAMES, SEGMENT, LONG_DATA, FIXUP, END];
     let canonical = joined(rt.alloc(), &FIRST)?;
     assert!(rt; ends_on(rt.alloc(), &["omf", "canon"], &pieces, 0, &canonical)?);
     Ok(())
@@ -111,9 +107,7 @@ fn does_its_jobs(rt: HostRuntime) -> Result<(), Fail> {
 
 const NO_END: &[u8] = b"refused 1 NoEnd record 0 at 0 within 0\n";
 
-const COMMENT: &[u8] = &[0x88, 0x03, 0x00, 0x00, 0xE9, 0x8C];
-
-const VENDOR: &[u8] = b"refused 32 VendorComment record 1 at 6 within 4\n";
+const VENDOR_REFUSED: &[u8] = b"refused 32 VendorComment record 1 at 6 within 4\n";
 
 const REFUSED: [Case; 8] = [
     Case {
@@ -142,15 +136,15 @@ const REFUSED: [Case; 8] = [
     },
     Case {
         words: &["omf", "check", "--refuse-vendor-comments"],
-        pieces: &[HEADER, COMMENT, END],
+        pieces: &[HEADER, VENDOR, END],
         status: 1,
-        text: VENDOR,
+        text: VENDOR_REFUSED,
     },
     Case {
         words: &["omf", "canon", "--refuse-vendor-comments"],
-        pieces: &[HEADER, COMMENT, END],
+        pieces: &[HEADER, VENDOR, END],
         status: 1,
-        text: VENDOR,
+        text: VENDOR_REFUSED,
     },
     Case {
         words: &["omf", "reloc"],

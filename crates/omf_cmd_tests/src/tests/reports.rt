@@ -1,9 +1,10 @@
 //! What `check` and `list` print of whole modules, and what `canon` has in common with them. Numbers in modules are hexadecimal.
 
-use super::{BIG_SEGMENT, DATA, END, FIXUP, HEADER, NAMES, Outcome, SEGMENT, is_outcome, refused};
+use super::{BIG_SEGMENT, Outcome, is_outcome, refused};
 use omf_check::Profile;
 use omf_cmd::{Job, RunFault, run_canon, run_check, run_list, run_reloc};
 use omf_frame::faulty::{Full, Script, Taker, Then};
+use omf_frame::samples::{DATA, END, FIXUP, HEADER, NAMES, SEGMENT};
 use omf_frame::{Reading, Reason, Sink, Source, Writing};
 use std::alloc::{AllocError, Global};
 use std::test::Fail;

@@ -2,10 +2,11 @@
 
 use super::table::{CALLEE, CALLER, LOCAL, LOCAL_CALLER, TOP};
 use super::{
-    Answer, EXTERNAL, GROUP, HIGH, HIGH_FRAME, LOCAL_EXTERNAL, LOCAL_PUBLIC, LOW, LOW_FRAME, Line,
-    Lying, PUBLIC, TOO_HIGH, TWICE, UNDEFINED, first_wrong,
+    Answer, HIGH, HIGH_FRAME, LOCAL_PUBLIC, LOW, LOW_FRAME, Line, Lying, TOO_HIGH, TWICE,
+    UNDEFINED, first_wrong,
 };
 use omf_derive::{DeriveFault, Given, derive};
+use omf_frame::samples::{EXTERNAL, GROUP, LOCAL_EXTERNAL, PUBLIC};
 use omf_placement::Frame;
 use std::test::Fail;
 

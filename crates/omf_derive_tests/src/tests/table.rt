@@ -1,10 +1,11 @@
 //! Two modules, of which one names what the other defines.
 
 use super::{
-    EXTERNAL, GROUP, HIGH, HIGH_FRAME, LOCAL_EXTERNAL, LOCAL_PUBLIC, LOW, LOW_FRAME, Line, Lying,
-    PUBLIC, TOO_HIGH, TWICE, UNDEFINED, first_wrong,
+    HIGH, HIGH_FRAME, LOCAL_PUBLIC, LOW, LOW_FRAME, Line, Lying, TOO_HIGH, TWICE, UNDEFINED,
+    first_wrong,
 };
 use omf_derive::Given;
+use omf_frame::samples::{EXTERNAL, GROUP, LOCAL_EXTERNAL, PUBLIC};
 use omf_placement::Frame;
 use std::test::Fail;
 

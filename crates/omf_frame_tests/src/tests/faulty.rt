@@ -2,14 +2,12 @@
 
 use super::failure;
 use omf_frame::faulty::{Full, Script, Taker, Then};
+use omf_frame::samples::HEADER;
 use omf_frame::{Sink, Source, pull_piece, push_all, write_record};
 use std::io;
 use std::io::ErrorKind;
 use std::process::Abort;
 use std::test::Fail;
-
-/// A header's record, with its checksum byte.
-const HEADER: [u8; 6] = [0x80, 0x03, 0x00, 0x01, 0x41, 0x3B];
 
 /// Whether what was answered is that: of bytes those at the front of the buffer, of a failure its kind.
 fn is_that(answer: io::Result<usize>, buf: &[u8], expected: Result<&[u8], ErrorKind>) -> bool {
@@ -65,12 +63,12 @@ fn not_pushed(taker: &mut Taker, bytes: &[u8]) -> Option<ErrorKind> {
 
 #[test]
 fn gives_pieces_and_ends(rt: HostRuntime) -> Result<(), Fail> {
-    let mut script = Script::new(&HEADER, Then::Ends);
-    pulls(&rt, &mut script, 8, &[Ok(&HEADER), Ok(&[]), Ok(&[])])?;
-    let mut script = Script::new(&HEADER, Then::Ends).in_pieces(4);
+    let mut script = Script::new(HEADER, Then::Ends);
+    pulls(&rt, &mut script, 8, &[Ok(HEADER), Ok(&[]), Ok(&[])])?;
+    let mut script = Script::new(HEADER, Then::Ends).in_pieces(4);
     let pieces: [Result<&[u8], ErrorKind>; 3] = [Ok(&HEADER[..4]), Ok(&HEADER[4..]), Ok(&[])];
     pulls(&rt, &mut script, 8, &pieces)?;
-    let mut script = Script::new(&HEADER, Then::Ends).in_pieces(4);
+    let mut script = Script::new(HEADER, Then::Ends).in_pieces(4);
     pulls(
         &rt,
         &mut script,
@@ -164,9 +162,7 @@ fn records_are_written_until_the_room_is_used_up(rt: HostRuntime) -> Result<(), 
 
 #[test]
 fn fails_once_and_goes_on(rt: HostRuntime) -> Result<(), Fail> {
-    let mut script = Script::new(&HEADER, Then::Ends)
-        .in_pieces(4)
-        .failing_once(1);
+    let mut script = Script::new(HEADER, Then::Ends).in_pieces(4).failing_once(1);
     let answers = [
         Ok(&HEADER[..4]),
         Err(ErrorKind::Other),
@@ -188,7 +184,7 @@ fn fails_once_and_goes_on(rt: HostRuntime) -> Result<(), Fail> {
 
 #[test]
 fn a_failure_is_answered_at_once(rt: HostRuntime) -> Result<(), Fail> {
-    let mut script = Script::new(&HEADER, Then::Ends)
+    let mut script = Script::new(HEADER, Then::Ends)
         .interrupted(2)
         .failing_once(1);
     let answers = [Ok(&HEADER[..4]), Err(ErrorKind::Other), Ok(&HEADER[4..])];
@@ -219,8 +215,8 @@ fn a_push_goes_on_after_a_failure(rt: HostRuntime) -> Result<(), Fail> {
     let mut taker = Taker::new(rt.alloc(), 6, Full::Fails)?
         .in_pieces(4)
         .failing_once(1);
-    assert_eq!(rt; not_pushed(&mut taker, &HEADER), Some(ErrorKind::Other));
+    assert_eq!(rt; not_pushed(&mut taker, HEADER), Some(ErrorKind::Other));
     assert_eq!(rt; not_pushed(&mut taker, &HEADER[4..]), None);
-    assert_eq!(rt; taker.bytes(), HEADER.as_slice());
+    assert_eq!(rt; taker.bytes(), HEADER);
     Ok(())
 }

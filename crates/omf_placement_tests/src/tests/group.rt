@@ -2,29 +2,12 @@
 
 use omf_check::{CheckFault, Checked, Profile, check};
 use omf_frame::Reading;
+use omf_frame::samples::{DATA, END, FIXUP, GROUP, GROUP_THREAD, HEADER, NAMES, SEGMENT};
 use omf_placement::{Frame, Placement, TextFault, parse_placement, real_group};
 use std::alloc::{AllocError, Global};
 use std::test::Fail;
 
-// A header, two names, a segment of 4 bytes, and the end.
-const HEADER: [u8; 6] = [0x80, 0x03, 0x00, 0x01, 0x41, 0x3B];
-
-const NAMES: [u8; 7] = [0x96, 0x04, 0x00, 0x00, 0x01, 0x54, 0x11];
-
-const SEGMENT: [u8; 10] = [0x98, 0x07, 0x00, 0x28, 0x04, 0x00, 0x02, 0x01, 0x01, 0x31];
-
-const END: [u8; 5] = [0x8A, 0x02, 0x00, 0x00, 0x74];
-
-// Four bytes of data, and a fixup of the bytes 1 and 2.
-const DATA: [u8; 11] = [
-    0xA0, 0x08, 0x00, 0x01, 0x00, 0x00, 0xB8, 0x00, 0x00, 0x90, 0x0F,
-];
-
-const FIXUP: [u8; 9] = [0x9C, 0x06, 0x00, 0xC4, 0x01, 0x04, 0x01, 0x01, 0x93];
-
-// Groups of segment 1, of segment 2, of both in either order, and of none.
-const GROUP: [u8; 7] = [0x9A, 0x04, 0x00, 0x02, 0xFF, 0x01, 0x60];
-
+// Groups of segment 2, of both in either order, and of none.
 const SECOND: [u8; 7] = [0x9A, 0x04, 0x00, 0x02, 0xFF, 0x02, 0x00];
 
 const BOTH: [u8; 9] = [0x9A, 0x06, 0x00, 0x02, 0xFF, 0x01, 0xFF, 0x02, 0x00];
@@ -33,9 +16,7 @@ const BOTH_TURNED: [u8; 9] = [0x9A, 0x06, 0x00, 0x02, 0xFF, 0x02, 0xFF, 0x01, 0x
 
 const EMPTY: [u8; 5] = [0x9A, 0x02, 0x00, 0x02, 0x00];
 
-// A frame thread that names group 1, and an end with a start in its frame.
-const THREAD: [u8; 6] = [0x9C, 0x03, 0x00, 0x46, 0x01, 0x1A];
-
+// An end with a start in the frame of the group's thread.
 const START: [u8; 9] = [0x8A, 0x06, 0x00, 0xC1, 0xA0, 0x01, 0x02, 0x00, 0x0C];
 
 fn frame(base: u32, selector: u16) -> Frame {
@@ -60,20 +41,20 @@ fn grouped(alloc: Global, groups: &[&[u8]]) -> Result<Checked, CheckFault> {
     for group in groups {
         defined.extend_from_slice(group)?;
     }
-    checked(
-        alloc,
-        &[&HEADER, &NAMES, &SEGMENT, &SEGMENT, &defined, &END],
-    )
+    checked(alloc, &[HEADER, NAMES, SEGMENT, SEGMENT, &defined, END])
 }
 
 /// A module with one segment, some data and a fixup.
 fn first_module(alloc: Global) -> Result<Checked, CheckFault> {
-    checked(alloc, &[&HEADER, &NAMES, &SEGMENT, &DATA, &FIXUP, &END])
+    checked(alloc, &[HEADER, NAMES, SEGMENT, DATA, FIXUP, END])
 }
 
 /// A module with one segment, a group of it, and a start in the group's frame.
 fn started(alloc: Global) -> Result<Checked, CheckFault> {
-    checked(alloc, &[&HEADER, &NAMES, &SEGMENT, &GROUP, &THREAD, &START])
+    checked(
+        alloc,
+        &[HEADER, NAMES, SEGMENT, GROUP, GROUP_THREAD, &START],
+    )
 }
 
 /// The placement that a text gives a module.
@@ -336,7 +317,7 @@ static COUNTED: [Given; 2] = [
 
 #[test]
 fn all_group_lines_are_counted(rt: HostRuntime) -> Result<(), Fail> {
-    let module = grouped(rt.alloc(), &[&GROUP, &SECOND, &BOTH])?;
+    let module = grouped(rt.alloc(), &[GROUP, &SECOND, &BOTH])?;
     assert_eq!(rt; first_wrong(rt.alloc(), &module, &COUNTED)?, None);
     Ok(())
 }
@@ -355,9 +336,9 @@ static UNFOUND: [Unfound; 12] = [
     (b"", b"S 10020 10000 1000\nG real", 2),
     (b"", b"G real\nG real", 1),
     (b"", b"G real\nx", 2),
-    (&GROUP, b"G real", 1),
-    (&GROUP, b"G real\nS 10020 real\nG real", 3),
-    (&GROUP, b"S 10020 real\n\n;\nG 0 0\nG real\nG 0 0", 5),
+    (GROUP, b"G real", 1),
+    (GROUP, b"G real\nS 10020 real\nG real", 3),
+    (GROUP, b"S 10020 real\n\n;\nG 0 0\nG real\nG 0 0", 5),
     (&EMPTY, b"S 1 0 0\nS 2 0 0\nG real", 3),
     (&SECOND, b"S 1 0 0\r\nG real", 2),
     (&BOTH, b"\nG real\nS 1 0 0", 2),
@@ -395,7 +376,7 @@ fn many_groups(alloc: Global) -> Result<Vec<u8>, AllocError> {
 #[test]
 fn the_count_of_group_lines_does_not_wrap(rt: HostRuntime) -> Result<(), Fail> {
     let text = many_groups(rt.alloc())?;
-    assert!(rt; fault_of(rt.alloc(), &GROUP, &text)? == Some(TextFault::Line(65_538)));
+    assert!(rt; fault_of(rt.alloc(), GROUP, &text)? == Some(TextFault::Line(65_538)));
     Ok(())
 }
 
@@ -437,7 +418,7 @@ fn first_unframed(
 
 /// A module with groups of segment 1, of segment 2, of both in either order, and of none.
 fn five_groups(alloc: Global) -> Result<Checked, CheckFault> {
-    grouped(alloc, &[&GROUP, &SECOND, &BOTH, &BOTH_TURNED, &EMPTY])
+    grouped(alloc, &[GROUP, &SECOND, &BOTH, &BOTH_TURNED, &EMPTY])
 }
 
 /// Groups, and their frames where no segment is placed, one, and three.

@@ -1,7 +1,5 @@
 -- Items whose spelling is judged as they are read.
 use Rattle.std.specs.Prelude.{◌≡◌, ◌<◌, ℕ, List, [], Bool, true, is_ok, Option, Some, None, Result, Ok, Err}
-use Rattle.omf_frame.specs.Bytes.{is_one_of}
-use Rattle.omf_frame.specs.Types.{fixupp}
 use Rattle.omf_frame.specs.Fault.{Fault}
 use Rattle.omf_records.specs.Values.{At, Subrecord, Contents, Fixups}
 use Rattle.omf_records.specs.Inner.Reads.{and_then}
@@ -21,10 +19,6 @@ NextGives old (Err f) new = (old.items ≡ Err f) × (new ≡ old)
 -- the contents that subrecords are
 abbrev pub fixups_read : Result (List (At Subrecord)) Fault → Result Contents Fault
 fixups_read r = and_then r (λ subs. Ok (Fixups subs))
-
--- the types of a FIXUPP
-abbrev pub is_fixupp : ℕ → Bool
-is_fixupp kind = is_one_of fixupp kind
 
 -- what is said to be known to have no fault has none
 abbrev pub IsKnown : {A : Type 0} → Bool → Result A Fault → Type 0

@@ -2,9 +2,12 @@
 
 ghost use Rattle.std.specs.Prelude.{◌<◌, ◌≡◌, ◌^◌, length};
 
-use super::modules::{DATA, END, EXTERNAL, GROUP, HEADER, LOW, NAMES, SEGMENT};
+use super::modules::LOW;
 use super::{Place, frame, image_of, module_of, placement_of};
 use omf_check::Checked;
+use omf_frame::samples::{
+    DATA, END, EXTERNAL, GROUP, HEADER, LOCAL_EXTERNAL, NAMES, PUBLIC, SEGMENT,
+};
 use omf_image::{Image, Run};
 use omf_reloc::{DeriveFault, Frame, Given, Placement, derive};
 use std::alloc::{AllocError, Global};
@@ -13,11 +16,7 @@ use std::test::Fail;
 // A fixup of the data by the external X.
 const FIXUP: [u8; 8] = [0x9C, 0x05, 0x00, 0xC4, 0x01, 0x56, 0x01, 0x43];
 
-// A public X at offset 2 of the segment, the same in a group of the segment, and one without a segment in the frame of number B800H.
-const PUBLIC: [u8; 11] = [
-    0x90, 0x08, 0x00, 0x00, 0x01, 0x01, 0x58, 0x02, 0x00, 0x00, 0x0C,
-];
-
+// The public X in a group of the segment, and one without a segment in the frame of number B800H.
 const GROUP_PUBLIC: [u8; 11] = [
     0x90, 0x08, 0x00, 0x01, 0x01, 0x01, 0x58, 0x02, 0x00, 0x00, 0x0B,
 ];
@@ -34,9 +33,7 @@ const FRAME_AND_GROUP_PUBLIC: [u8; 13] = [
 // Externals X and Y.
 const TWO_EXTERNALS: [u8; 10] = [0x8C, 0x07, 0x00, 0x01, 0x58, 0x00, 0x01, 0x59, 0x00, 0xBA];
 
-// A local external X, and a local public X at offset 3 of the segment.
-const LOCAL_EXTERNAL: [u8; 7] = [0xB4, 0x04, 0x00, 0x01, 0x58, 0x00, 0xEF];
-
+// A local public X at offset 3 of the segment.
 const LOCAL_PUBLIC: [u8; 11] = [
     0xB6, 0x08, 0x00, 0x00, 0x01, 0x01, 0x58, 0x03, 0x00, 0x00, 0xE5,
 ];
@@ -44,9 +41,9 @@ const LOCAL_PUBLIC: [u8; 11] = [
 /// A module's records, the place of its one segment, by its address and its frame's base and selector, and the frames of its groups.
 type Lying = (&'static [&'static [u8]], Place, &'static [(u32, u16)]);
 
-const FIRST: [&[u8]; 7] = [&HEADER, &NAMES, &SEGMENT, &EXTERNAL, &DATA, &FIXUP, &END];
+const FIRST: [&[u8]; 7] = [HEADER, NAMES, SEGMENT, EXTERNAL, DATA, &FIXUP, END];
 
-const SECOND: [&[u8]; 5] = [&HEADER, &NAMES, &SEGMENT, &PUBLIC, &END];
+const SECOND: [&[u8]; 5] = [HEADER, NAMES, SEGMENT, PUBLIC, END];
 
 const HIGH: Place = (0x20040, 0x20000, 0x2000);
 
@@ -200,7 +197,7 @@ const LAST: Place = (0xFFFF_FFFD, 0xFFFF_0000, 1);
 
 const BEYOND: Place = (0xFFFF_FFFE, 0xFFFF_0000, 1);
 
-const TWO_PUBLICS: [&[u8]; 6] = [&HEADER, &NAMES, &SEGMENT, &PUBLIC, &PUBLIC, &END];
+const TWO_PUBLICS: [&[u8]; 6] = [HEADER, NAMES, SEGMENT, PUBLIC, PUBLIC, END];
 
 /// What is derived by publics of segments, and faults.
 static BY_SEGMENT: [Case; 10] = [
@@ -293,7 +290,7 @@ static BY_SEGMENT: [Case; 10] = [
 ];
 
 /// A module of two externals.
-const TWO_USERS: [&[u8]; 5] = [&HEADER, &NAMES, &SEGMENT, &TWO_EXTERNALS, &END];
+const TWO_USERS: [&[u8]; 5] = [HEADER, NAMES, SEGMENT, &TWO_EXTERNALS, END];
 
 #[test]
 fn takes_the_public(rt: HostRuntime) -> Result<(), Fail> {
@@ -302,25 +299,17 @@ fn takes_the_public(rt: HostRuntime) -> Result<(), Fail> {
 }
 
 const WITH_LOCAL: [&[u8]; 8] = [
-    &HEADER,
-    &NAMES,
-    &SEGMENT,
-    &LOCAL_EXTERNAL,
+    HEADER,
+    NAMES,
+    SEGMENT,
+    LOCAL_EXTERNAL,
     &LOCAL_PUBLIC,
-    &DATA,
+    DATA,
     &FIXUP,
-    &END,
+    END,
 ];
 
-const WITHOUT_LOCAL: [&[u8]; 7] = [
-    &HEADER,
-    &NAMES,
-    &SEGMENT,
-    &LOCAL_EXTERNAL,
-    &DATA,
-    &FIXUP,
-    &END,
-];
+const WITHOUT_LOCAL: [&[u8]; 7] = [HEADER, NAMES, SEGMENT, LOCAL_EXTERNAL, DATA, &FIXUP, END];
 
 /// Another module's local public is not seen, nor is one by an external that is not local.
 static LOCAL: [Case; 4] = [
@@ -356,18 +345,11 @@ fn local_externals_take_local_publics(rt: HostRuntime) -> Result<(), Fail> {
     Ok(())
 }
 
-const BY_GROUP: [&[u8]; 6] = [&HEADER, &NAMES, &SEGMENT, &GROUP, &GROUP_PUBLIC, &END];
+const BY_GROUP: [&[u8]; 6] = [HEADER, NAMES, SEGMENT, GROUP, &GROUP_PUBLIC, END];
 
-const BY_NUMBER: [&[u8]; 5] = [&HEADER, &NAMES, &SEGMENT, &FRAME_PUBLIC, &END];
+const BY_NUMBER: [&[u8]; 5] = [HEADER, NAMES, SEGMENT, &FRAME_PUBLIC, END];
 
-const BY_BOTH: [&[u8]; 6] = [
-    &HEADER,
-    &NAMES,
-    &SEGMENT,
-    &GROUP,
-    &FRAME_AND_GROUP_PUBLIC,
-    &END,
-];
+const BY_BOTH: [&[u8]; 6] = [HEADER, NAMES, SEGMENT, GROUP, &FRAME_AND_GROUP_PUBLIC, END];
 
 /// Frames that are given, or come of a group or of a number.
 static FRAMED: [Case; 4] = [

@@ -2,6 +2,7 @@
 
 use super::{checked, image_of, start_of};
 use omf_check::Checked;
+use omf_frame::samples::END;
 use omf_image::Image;
 use omf_reloc::{Cause, Frame, Placement, ReachFault};
 use std::alloc::{AllocError, Global};
@@ -13,8 +14,6 @@ const FRONT: [u8; 37] = [
     0x28, 0x04, 0x00, 0x02, 0x01, 0x01, 0x31, 0x9A, 0x04, 0x00, 0x02, 0xFF, 0x01, 0x60, 0x8C, 0x04,
     0x00, 0x01, 0x58, 0x00, 0x17,
 ];
-
-const END: [u8; 5] = [0x8A, 0x02, 0x00, 0x00, 0x74];
 
 /// Where the segment, the group and the external lie. The external has the segment's frame.
 #[derive(Clone, Copy)]
@@ -123,7 +122,7 @@ fn fixed_module(alloc: Global, fixing: &Fixing) -> Result<Checked, Fail> {
     push_data(&mut bytes, fixing.data)?;
     let fixup = fixup_of(alloc, fixing)?;
     push_record(&mut bytes, if fixing.is_wide { 0x9D } else { 0x9C }, &fixup)?;
-    bytes.extend_from_slice(&END)?;
+    bytes.extend_from_slice(END)?;
     Ok(checked(alloc, &bytes)?)
 }
 

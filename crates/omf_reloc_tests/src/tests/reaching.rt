@@ -2,11 +2,14 @@
 
 use self::Wanted::{Absolute, Extra, Missing, Reaches, TooFar};
 use super::modules::{
-    ABSOLUTE, ABSOLUTE_AT_16, AT_THE_END, BIG, CALL, DATA, DISPLACED, END, EXTERNAL, FIRST, FIXUP,
-    FLAT, GROUP, HEADER, JUMP, LOW, NAMES, SEGMENT, START, STARTED, THREAD, THREADED,
+    ABSOLUTE_AT_16, AT_THE_END, BIG, CALL, DISPLACED, FIRST, FLAT, JUMP, LOW, START, STARTED,
+    THREADED,
 };
 use super::{Place, Placed, module_of, placement_of};
 use omf_check::Checked;
+use omf_frame::samples::{
+    ABSOLUTE, DATA, END, EXTERNAL, FIXUP, GROUP, GROUP_THREAD, HEADER, NAMES, SEGMENT,
+};
 use omf_reloc::{Cause, Kind, Placement, ReachFault, reach};
 use std::alloc::Global;
 use std::test::Fail;
@@ -256,25 +259,25 @@ fn threads_hold_across_records(rt: HostRuntime) -> Result<(), Fail> {
 
 /// A base, which reaches always, and then an offset.
 const BASE_AND_OFFSET: [&[u8]; 6] = [
-    &HEADER,
-    &NAMES,
-    &SEGMENT,
-    &DATA,
+    HEADER,
+    NAMES,
+    SEGMENT,
+    DATA,
     &[
         0x9C, 0x0B, 0x00, 0xC8, 0x00, 0x04, 0x01, 0x01, 0xC4, 0x02, 0x04, 0x01, 0x01, 0x00,
     ],
-    &END,
+    END,
 ];
 
 const TWO_OFFSETS: [&[u8]; 6] = [
-    &HEADER,
-    &NAMES,
-    &SEGMENT,
-    &DATA,
+    HEADER,
+    NAMES,
+    SEGMENT,
+    DATA,
     &[
         0x9C, 0x0B, 0x00, 0xC4, 0x00, 0x04, 0x01, 0x01, 0xC4, 0x02, 0x04, 0x01, 0x01, 0x00,
     ],
-    &END,
+    END,
 ];
 
 static PAIRS: [Case; 2] = [
@@ -300,7 +303,14 @@ fn the_first_of_two_fixups(rt: HostRuntime) -> Result<(), Fail> {
 
 /// A fixup before it, in the segment's own frame, which does not reach either.
 const FIXED_AND_STARTED: [&[u8]; 8] = [
-    &HEADER, &NAMES, &SEGMENT, &GROUP, &THREAD, &DATA, &FIXUP, &START,
+    HEADER,
+    NAMES,
+    SEGMENT,
+    GROUP,
+    GROUP_THREAD,
+    DATA,
+    FIXUP,
+    &START,
 ];
 
 static STARTS: [Case; 8] = [
@@ -360,9 +370,9 @@ fn the_start_comes_last(rt: HostRuntime) -> Result<(), Fail> {
     Ok(())
 }
 
-const TWO_SEGMENTS: [&[u8]; 5] = [&HEADER, &NAMES, &SEGMENT, &SEGMENT, &END];
+const TWO_SEGMENTS: [&[u8]; 5] = [HEADER, NAMES, SEGMENT, SEGMENT, END];
 
-const ONE_OF_EACH: [&[u8]; 6] = [&HEADER, &NAMES, &SEGMENT, &GROUP, &EXTERNAL, &END];
+const ONE_OF_EACH: [&[u8]; 6] = [HEADER, NAMES, SEGMENT, GROUP, EXTERNAL, END];
 
 static ENTRIES: [Case; 14] = [
     Case {
@@ -457,17 +467,9 @@ fn entries_missing_and_too_many(rt: HostRuntime) -> Result<(), Fail> {
     Ok(())
 }
 
-const FIXED_ABSOLUTE: [&[u8]; 6] = [&HEADER, &NAMES, &ABSOLUTE, &DATA, &FIXUP, &END];
+const FIXED_ABSOLUTE: [&[u8]; 6] = [HEADER, NAMES, ABSOLUTE, DATA, FIXUP, END];
 
-const LATER_ABSOLUTE: [&[u8]; 7] = [
-    &HEADER,
-    &NAMES,
-    &SEGMENT,
-    &ABSOLUTE,
-    &ABSOLUTE_AT_16,
-    &DATA,
-    &END,
-];
+const LATER_ABSOLUTE: [&[u8]; 7] = [HEADER, NAMES, SEGMENT, ABSOLUTE, &ABSOLUTE_AT_16, DATA, END];
 
 const THERE: Place = (0xB8000, 0xB8000, 0xB800);
 

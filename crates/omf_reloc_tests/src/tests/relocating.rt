@@ -1,10 +1,8 @@
 //! Images and starts of modules at placements, each a case with its name.
 
-use super::modules::{
-    AT_THE_END, BIG, CALL, DATA, DISPLACED, END, FIRST, FIXUP, FLAT, HEADER, JUMP, LOW, NAMES,
-    SEGMENT, STARTED, THREADED,
-};
+use super::modules::{AT_THE_END, BIG, CALL, DISPLACED, FIRST, FLAT, JUMP, LOW, STARTED, THREADED};
 use super::{Place, Placed, image_of, module_of, placement_of, start_of};
+use omf_frame::samples::{DATA, END, FIXUP, HEADER, NAMES, SEGMENT};
 use omf_image::{Image, Run};
 use omf_reloc::{Cause, Kind, ReachFault, RelocateFault, reach_and_relocate};
 use std::alloc::Global;
@@ -88,14 +86,14 @@ static OFFSETS: [Case; 9] = [
     Case {
         name: "later data",
         records: &[
-            &HEADER,
-            &NAMES,
-            &SEGMENT,
-            &DATA,
-            &FIXUP,
+            HEADER,
+            NAMES,
+            SEGMENT,
+            DATA,
+            FIXUP,
             &[0xA0, 0x06, 0x00, 0x01, 0x01, 0x00, 0x05, 0x00, 0x53],
             &[0x9C, 0x06, 0x00, 0xC4, 0x00, 0x04, 0x01, 0x01, 0x94],
-            &END,
+            END,
         ],
         placed: (&[LOW], &[], &[]),
         wanted: Some((&[(0, &[0xB8, 0x25, 0x00, 0x90])], None)),
@@ -103,16 +101,16 @@ static OFFSETS: [Case; 9] = [
     Case {
         name: "two fixups in the order of the file",
         records: &[
-            &HEADER,
-            &NAMES,
-            &SEGMENT,
+            HEADER,
+            NAMES,
+            SEGMENT,
             &[
                 0xA0, 0x08, 0x00, 0x01, 0x00, 0x00, 0xF0, 0xFF, 0x00, 0x00, 0x68,
             ],
             &[
                 0x9C, 0x0B, 0x00, 0xC4, 0x00, 0x04, 0x01, 0x01, 0xC4, 0x01, 0x04, 0x01, 0x01, 0xC4,
             ],
-            &END,
+            END,
         ],
         placed: (&[LOW], &[], &[]),
         wanted: Some((&[(0, &[0x10, 0x20, 0x00, 0x00])], None)),
@@ -233,12 +231,12 @@ static PARTS: [Case; 6] = [
     Case {
         name: "a pointer",
         records: &[
-            &HEADER,
-            &NAMES,
-            &SEGMENT,
-            &DATA,
+            HEADER,
+            NAMES,
+            SEGMENT,
+            DATA,
             &[0x9C, 0x06, 0x00, 0xCC, 0x00, 0x04, 0x01, 0x01, 0x8C],
-            &END,
+            END,
         ],
         placed: (&[LOW], &[], &[]),
         wanted: Some((&[(0, &[0xD8, 0x00, 0x00, 0xA0])], None)),
@@ -246,12 +244,12 @@ static PARTS: [Case; 6] = [
     Case {
         name: "a high byte",
         records: &[
-            &HEADER,
-            &NAMES,
-            &SEGMENT,
-            &DATA,
+            HEADER,
+            NAMES,
+            SEGMENT,
+            DATA,
             &[0x9C, 0x06, 0x00, 0xD0, 0x00, 0x04, 0x01, 0x01, 0x88],
-            &END,
+            END,
         ],
         placed: (&[(0x10420, 0x10000, 0x1000)], &[], &[]),
         wanted: Some((&[(0, &[0xBC, 0x00, 0x00, 0x90])], None)),
@@ -259,13 +257,13 @@ static PARTS: [Case; 6] = [
     Case {
         name: "the selector of a group",
         records: &[
-            &HEADER,
-            &NAMES,
-            &SEGMENT,
+            HEADER,
+            NAMES,
+            SEGMENT,
             &[0x9A, 0x04, 0x00, 0x02, 0xFF, 0x01, 0x60],
-            &DATA,
+            DATA,
             &[0x9C, 0x05, 0x00, 0xC8, 0x01, 0x55, 0x01, 0x40],
-            &END,
+            END,
         ],
         placed: (&[LOW], &[(0x10010, 0x1001)], &[]),
         wanted: Some((&[(0, &[0xB8, 0x01, 0x10, 0x90])], None)),
@@ -282,14 +280,14 @@ static DATA_LAID: [Case; 5] = [
     Case {
         name: "repeated blocks",
         records: &[
-            &HEADER,
-            &NAMES,
+            HEADER,
+            NAMES,
             &[0x98, 0x07, 0x00, 0x28, 0x0C, 0x00, 0x02, 0x01, 0x01, 0x29],
             &[
                 0xA2, 0x15, 0x00, 0x01, 0x00, 0x00, 0x03, 0x00, 0x02, 0x00, 0x02, 0x00, 0x00, 0x00,
                 0x01, 0xAA, 0x01, 0x00, 0x00, 0x00, 0x02, 0xBB, 0xCC, 0x0C,
             ],
-            &END,
+            END,
         ],
         placed: (&[LOW], &[], &[]),
         wanted: Some((
@@ -305,14 +303,14 @@ static DATA_LAID: [Case; 5] = [
     Case {
         name: "no bytes of a count of 0",
         records: &[
-            &HEADER,
-            &NAMES,
+            HEADER,
+            NAMES,
             &[0x98, 0x07, 0x00, 0x28, 0x0C, 0x00, 0x02, 0x01, 0x01, 0x29],
             &[
                 0xA3, 0x0D, 0x00, 0x01, 0x00, 0x00, 0x00, 0x00, 0xFF, 0xFF, 0xFF, 0xFF, 0x00, 0x00,
                 0x00, 0x53,
             ],
-            &END,
+            END,
         ],
         placed: (&[LOW], &[], &[]),
         wanted: Some((&[], None)),
@@ -332,14 +330,14 @@ static DATA_LAID: [Case; 5] = [
     Case {
         name: "an absolute segment",
         records: &[
-            &HEADER,
-            &NAMES,
+            HEADER,
+            NAMES,
             &[
                 0x98, 0x0A, 0x00, 0x08, 0x00, 0xB8, 0x00, 0x04, 0x00, 0x02, 0x01, 0x01, 0x96,
             ],
-            &DATA,
-            &FIXUP,
-            &END,
+            DATA,
+            FIXUP,
+            END,
         ],
         placed: (&[(0xB8000, 0xB8000, 0xB800)], &[], &[]),
         wanted: Some((&[(0, &[0xB8, 0x00, 0x00, 0x90])], None)),
@@ -362,14 +360,14 @@ static THREADS: [Case; 2] = [
     Case {
         name: "a thread of a segment that is defined before its use",
         records: &[
-            &HEADER,
-            &NAMES,
-            &SEGMENT,
+            HEADER,
+            NAMES,
+            SEGMENT,
             &[0x9C, 0x03, 0x00, 0x01, 0x02, 0x5E],
-            &SEGMENT,
-            &DATA,
+            SEGMENT,
+            DATA,
             &[0x9C, 0x05, 0x00, 0xC4, 0x01, 0x0D, 0x01, 0x8C],
-            &END,
+            END,
         ],
         placed: (&[LOW, (0x10040, 0x10000, 0x1000)], &[], &[]),
         wanted: Some((&[(0, &[0xB8, 0x40, 0x00, 0x90])], None)),
@@ -398,10 +396,10 @@ static STARTS: [Case; 3] = [
     Case {
         name: "a start by the last threads",
         records: &[
-            &HEADER,
-            &NAMES,
-            &SEGMENT,
-            &SEGMENT,
+            HEADER,
+            NAMES,
+            SEGMENT,
+            SEGMENT,
             &[0x9C, 0x03, 0x00, 0x00, 0x01, 0x60],
             &[0x9C, 0x03, 0x00, 0x00, 0x02, 0x5F],
             &[0x8A, 0x05, 0x00, 0xC1, 0x58, 0x03, 0x00, 0x55],

@@ -1,7 +1,7 @@
 use Rattle.std.proofs.Common.{◌≡◌, ◌∙◌, ℕ, Bool, false, is_some, ap, sym, subst}
 use Rattle.omf_records.specs.declared.record.Rec.{Rec as CodeRec}
 use Rattle.omf_records.specs.Inner.Seen.{contents_seen, kind_seen, rec_seen}
-use Rattle.omf_records.specs.Inner.Unread.{is_fixupp}
+use Rattle.omf_records.specs.Valued.{is_fixupp}
 use Rattle.omf_image.specs.Limits.{profile_limits}
 use Rattle.omf_check.specs.Inner.Kept.{IsBounded}
 use Rattle.omf_check.specs.Inner.Judging.{IsNoFixupp}
