@@ -20,11 +20,11 @@ use Rattle.omf_check.specs.Module.{Module, records_in}
 use Rattle.omf_check.specs.WellFormed.{recs}
 use Rattle.omf_placement.specs.declared.frame.Frame.{Frame}
 use Rattle.omf_derive.specs.declared.publics.Found.{Found}
-use Rattle.omf_derive.specs.Derive.{PlacedPublic, public_at, record_publics, publics}
+use Rattle.omf_derive.specs.Derive.{PlacedPublic, public_at, record_publics, publics, placed_modules}
 use Rattle.omf_derive.specs.Inner.Derived.{of_name}
 use Rattle.omf_placement.specs.declared.frame.Placed.{Placed}
 use Rattle.omf_placement.specs.Placement.{Places}
-use Rattle.omf_derive.specs.Inner.PublicTable.{summed, found_after, IsTable, HasMore, placed_modules}
+use Rattle.omf_derive.specs.Inner.PublicTable.{summed, found_after, IsTable, HasMore}
 
 summed-more : (ps : List Placed) (p : Placed) → summed (ps ++ p ∷ []) ≡ Some (found_after p (summed ps))
 summed-more [] p = refl

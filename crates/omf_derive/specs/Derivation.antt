@@ -1,5 +1,5 @@
 -- Which place each external takes, and which external is the first at fault, in words. A law ties this to what is computed (Inner/Derived).
-use Rattle.std.specs.Prelude.{◌≡◌, ◌≢◌, ◌⊎◌, ◌↔◌, ℕ, ◌<◌, ◌≤◌, ◌^◌, All, List, ◌∷◌, ◌++◌, length, Bool, Some, Ok, Err}
+use Rattle.std.specs.Prelude.{◌≡◌, ◌≢◌, ◌⊎◌, ◌↔◌, ℕ, ◌<◌, ◌≤◌, ◌^◌, All, List, ◌∷◌, ◌++◌, length, Bool, Some, Result, Ok, Err}
 use Rattle.std.specs.List.{AllZip, enumerate_from}
 use Rattle.omf_records.specs.Values.{Rec, Publics, PublicItems}
 use Rattle.omf_image.specs.declared.limits.Limits.{Limits}
@@ -164,3 +164,8 @@ pub record KeepsPlace (m : PlacedModule) (pl : Places) : Type 0 where
 
 abbrev pub DerivedFit : Type 0
 DerivedFit = (ms : List PlacedModule) (given : List Given) (pls : List Places) → derived ms given ≡ Ok pls → AllZip KeepsPlace ms pls
+
+-- An answer is what is defined: exactly these placements, or exactly this fault. Of want of memory nothing is said.
+abbrev pub IsDerived : Result (List Places) DeriveFault → Result (List Places) DeriveFault → Type 0
+IsDerived r (Ok pls) = r ≡ Ok pls
+IsDerived r (Err f) = (f ≡ fault.Memory) ⊎ (r ≡ Err f)

@@ -2,7 +2,9 @@
 use Rattle.std.specs.Prelude.{ℕ, ◌+◌, ◌*◌, List, [], map, flat_map, zip, Bool, true, false, Option, unwrap_or, ◌==◌, if◌then◌else◌}
 use Rattle.omf_records.specs.Values.{At, Rec, Contents, Publics, PublicItem}
 use Rattle.omf_frame.specs.Types.{is_local}
+use Rattle.omf_check.specs.Module.{Module, records_in}
 use Rattle.omf_check.specs.Tables.{externals, locals}
+use Rattle.omf_check.specs.WellFormed.{recs}
 use Rattle.omf_placement.specs.declared.frame.Frame.{Frame}
 use Rattle.omf_derive.specs.declared.given.Given.{Given}
 use Rattle.omf_placement.specs.declared.frame.Placed.{Placed}
@@ -11,6 +13,10 @@ use Rattle.omf_placement.specs.Placement.{Places, placed, group_frame}
 -- A module and its place: the places of its segments and groups.
 abbrev pub PlacedModule : Type 0
 PlacedModule = List Rec × Places
+
+-- Modules and their places.
+abbrev pub placed_modules : List Module → List Places → List PlacedModule
+placed_modules ms pls = zip (map (λ m. recs (records_in m.bytes)) ms) pls
 
 -- A public: its name, and where the place of its module puts it.
 pub record PlacedPublic : Type 0 where

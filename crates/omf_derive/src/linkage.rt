@@ -4,11 +4,12 @@ ghost use Rattle.std.specs.Prelude.{◌≡◌, ◌<◌, ◌^◌, length, List, B
 ghost use Rattle.omf_records.specs.Inner.Seen.{map_ok};
 ghost use Rattle.omf_check.specs.Module.{recs_of};
 ghost use Rattle.omf_derive.specs.declared.given.Given.{Given as Entry};
-ghost use Rattle.omf_derive.specs.Derive.{PlacedPublic};
+ghost use Rattle.omf_derive.specs.Derive.{PlacedPublic, placed_modules};
 ghost use Rattle.omf_derive.specs.Inner.Derived.{external_place, external_places, derived};
 ghost use Rattle.omf_derive.specs.Inner.GivenTable.{IsGivenTable};
-ghost use Rattle.omf_derive.specs.Inner.Deriving.{IsDerived, IsFound};
-ghost use Rattle.omf_derive.specs.Inner.PublicTable.{IsTable, placed_modules};
+ghost use Rattle.omf_derive.specs.Derivation.{IsDerived};
+ghost use Rattle.omf_derive.specs.Inner.Deriving.{IsFound};
+ghost use Rattle.omf_derive.specs.Inner.PublicTable.{IsTable};
 
 use crate::fault::DeriveFault;
 use crate::given::{Given, GivenTable};

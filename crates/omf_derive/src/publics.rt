@@ -6,9 +6,9 @@ ghost use Rattle.omf_frame.specs.Types.{is_local};
 ghost use Rattle.omf_records.specs.Inner.Seen.{contents_seen, kind_seen};
 ghost use Rattle.omf_records.specs.Values.{Contents};
 ghost use Rattle.omf_placement.specs.Placement.{Places};
-ghost use Rattle.omf_derive.specs.Derive.{PlacedPublic, paragraph, base_of, public_at, publics_at, placed_publics, record_publics, publics, all_publics};
+ghost use Rattle.omf_derive.specs.Derive.{PlacedPublic, paragraph, base_of, public_at, publics_at, placed_publics, record_publics, publics, all_publics, placed_modules};
 ghost use Rattle.omf_derive.specs.Inner.Derived.{of_name, one_public};
-ghost use Rattle.omf_derive.specs.Inner.PublicTable.{IsTable, HasMore, found_after, placed_modules};
+ghost use Rattle.omf_derive.specs.Inner.PublicTable.{IsTable, HasMore, found_after};
 
 use crate::fault::DeriveFault;
 use omf_check::Checked;

@@ -6,8 +6,8 @@ use Rattle.std.proofs.lemmas.List.{length-map}
 use Rattle.std.proofs.lemmas.List.FromFn.{length-enumerate_from}
 use Rattle.omf_check.specs.Module.{Module, typed_modules}
 use Rattle.omf_derive.specs.Inner.Derived.{derived, derive_faults, unless_fault, with_externals}
-use Rattle.omf_derive.specs.Inner.Deriving.{IsDerived}
-use Rattle.omf_derive.specs.Inner.PublicTable.{placed_modules}
+use Rattle.omf_derive.specs.Derivation.{IsDerived}
+use Rattle.omf_derive.specs.Derive.{placed_modules}
 use Rattle.omf_derive.specs.declared.fault.DeriveFault.{DeriveFault}
 use Rattle.omf_derive.specs.declared.fault.DeriveFault.TheVariants as derive
 use Rattle.omf_derive.specs.declared.given.Given.{Given}

@@ -2,7 +2,7 @@
 
 ghost use Rattle.std.specs.Prelude.{◌≡◌, ◌<◌, ◌^◌, length};
 ghost use Rattle.std.specs.List.{AllZip};
-ghost use Rattle.omf_derive.specs.Inner.PublicTable.{placed_modules};
+ghost use Rattle.omf_derive.specs.Derive.{placed_modules};
 ghost use Rattle.omf_linking.specs.LinkedMemory.{IsLinkedMemory};
 ghost use Rattle.omf_linking.specs.Relocated.{IsRelocated};
 ghost use Rattle.omf_linking.specs.Segments.{all_segments, with_images, with_own_images};

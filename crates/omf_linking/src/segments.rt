@@ -4,7 +4,7 @@ ghost use Rattle.std.specs.Prelude.{◌≡◌, ◌++◌, ◌<◌, ◌^◌, IfOk,
 ghost use Rattle.omf_records.specs.Inner.Seen.{contents_seen};
 ghost use Rattle.omf_check.specs.Module.{recs_of};
 ghost use Rattle.omf_check.specs.Tables.{segments};
-ghost use Rattle.omf_derive.specs.Inner.PublicTable.{placed_modules};
+ghost use Rattle.omf_derive.specs.Derive.{placed_modules};
 ghost use Rattle.omf_memory.specs.Segments.{segment_at, segments_at};
 ghost use Rattle.omf_placement.specs.Placement.{placed};
 ghost use Rattle.omf_linking.specs.Segments.{all_segments, commons, commons_in, image_bytes, is_common, module_segment, module_segments, with_images};

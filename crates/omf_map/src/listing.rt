@@ -5,8 +5,7 @@ ghost use Rattle.std.specs.List.{enumerate_from};
 ghost use Rattle.omf_frame.specs.Bytes.{AddsText};
 ghost use Rattle.omf_records.specs.Inner.Seen.{contents_seen, kind_seen};
 ghost use Rattle.omf_check.specs.Module.{recs_of};
-ghost use Rattle.omf_derive.specs.Derive.{record_publics, segment_base};
-ghost use Rattle.omf_derive.specs.Inner.PublicTable.{placed_modules};
+ghost use Rattle.omf_derive.specs.Derive.{record_publics, segment_base, placed_modules};
 ghost use Rattle.omf_map.specs.MapText.{address_at, external_lines, map_text, public_line, public_lines, segment_line, segment_lines};
 ghost use Rattle.omf_map.specs.Inner.Steps.{item_line, part_lines};
 

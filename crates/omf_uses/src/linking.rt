@@ -3,8 +3,8 @@
 ghost use Rattle.std.specs.Prelude.{[]};
 ghost use Rattle.omf_records.specs.Inner.Seen.{map_ok};
 ghost use Rattle.omf_derive.specs.Inner.Derived.{derived};
-ghost use Rattle.omf_derive.specs.Inner.Deriving.{IsDerived};
-ghost use Rattle.omf_derive.specs.Inner.PublicTable.{placed_modules};
+ghost use Rattle.omf_derive.specs.Derivation.{IsDerived};
+ghost use Rattle.omf_derive.specs.Derive.{placed_modules};
 
 use omf_check::Checked;
 use omf_reloc::{DeriveFault, Placement, derive};

@@ -3,12 +3,6 @@ use Rattle.std.specs.Prelude.{◌≡◌, ◌⊎◌, List, ◌∷◌, ◌++◌, m
 use Rattle.omf_derive.specs.declared.fault.DeriveFault.{DeriveFault}
 use Rattle.omf_derive.specs.declared.fault.DeriveFault.TheVariants as fault
 use Rattle.omf_placement.specs.declared.frame.Placed.{Placed}
-use Rattle.omf_placement.specs.Placement.{Places}
-
--- An answer is what is defined: exactly these placements, or exactly this fault. Of want of memory nothing is said.
-abbrev pub IsDerived : Result (List Places) DeriveFault → Result (List Places) DeriveFault → Type 0
-IsDerived r (Ok pls) = r ≡ Ok pls
-IsDerived r (Err f) = (f ≡ fault.Memory) ⊎ (r ≡ Err f)
 
 -- The first fault of a list.
 pub record IsFirstErr (rs : List (Result Placed DeriveFault)) (f : DeriveFault) : Type 0 where

@@ -1,17 +1,14 @@
 -- A table of publics by name: what it has of each name sums up the publics of that name.
-use Rattle.std.specs.Prelude.{◌≡◌, ℕ, List, [], ◌∷◌, ◌++◌, map, zip, filter_map, Option, Some, None}
+use Rattle.std.specs.Prelude.{◌≡◌, ℕ, List, [], ◌∷◌, ◌++◌, filter_map, Option, Some, None}
 use Rattle.std.specs.Ordering.{nat_cmp}
 use Rattle.std.specs.BTreeMap.{BTreeMap, get_by}
 use Rattle.std.specs.Cmp.Lexicographic.{slice_cmp}
 use denote.Ref.{Bor}
-use Rattle.omf_check.specs.Module.{Module, records_in}
-use Rattle.omf_check.specs.WellFormed.{recs}
 use Rattle.omf_derive.specs.declared.publics.Found.{Found}
 use Rattle.omf_derive.specs.declared.publics.Found.TheVariants.{One, Several}
-use Rattle.omf_derive.specs.Derive.{PlacedModule, PlacedPublic}
+use Rattle.omf_derive.specs.Derive.{PlacedPublic}
 use Rattle.omf_derive.specs.Inner.Derived.{of_name}
 use Rattle.omf_placement.specs.declared.frame.Placed.{Placed}
-use Rattle.omf_placement.specs.Placement.{Places}
 
 -- No public of a name, the one, or that there are several.
 abbrev pub summed : List Placed → Option Found
@@ -31,7 +28,3 @@ IsTable m among = (name : List ℕ) → get_by (λ k. slice_cmp nat_cmp name k.n
 -- A table has these publics more than another.
 abbrev pub HasMore : BTreeMap (Bor (List ℕ)) Found → BTreeMap (Bor (List ℕ)) Found → List PlacedPublic → Type 0
 HasMore m n more = (among : List PlacedPublic) → IsTable m among → IsTable n (among ++ more)
-
--- Modules and their places.
-abbrev pub placed_modules : List Module → List Places → List PlacedModule
-placed_modules ms pls = zip (map (λ m. recs (records_in m.bytes)) ms) pls

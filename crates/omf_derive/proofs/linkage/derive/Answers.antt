@@ -3,9 +3,8 @@ use Rattle.std.specs.Prelude.{Err}
 use Rattle.omf_records.specs.Inner.Seen.{map_ok}
 use Rattle.omf_check.specs.Module.{records_in}
 use Rattle.omf_check.specs.WellFormed.{recs}
-use Rattle.omf_derive.specs.Derive.{PlacedModule, seen_publics}
+use Rattle.omf_derive.specs.Derive.{PlacedModule, seen_publics, placed_modules}
 use Rattle.omf_derive.specs.Inner.Derived.{derived}
-use Rattle.omf_derive.specs.Inner.PublicTable.{placed_modules}
 use Rattle.omf_derive.proofs.LinkageLaws.{module-placed, module-ends, modules-placed, err-derived}
 use Rattle.omf_derive.proofs.TableLaws.{next-placed, none-left}
 use Rattle.omf_derive.proofs.linkage.derive.Goals as goal

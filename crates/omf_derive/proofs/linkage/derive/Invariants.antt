@@ -1,4 +1,4 @@
-use Rattle.omf_derive.specs.Inner.PublicTable.{placed_modules}
+use Rattle.omf_derive.specs.Derive.{placed_modules}
 use Rattle.omf_derive.proofs.LinkageLaws.{IsReached}
 use Rattle.omf_derive.proofs.linkage.derive.Given as goal
 

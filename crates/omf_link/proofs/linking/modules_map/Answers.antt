@@ -1,5 +1,5 @@
 use Rattle.std.proofs.Common.{List, ap, ◌∙◌}
-use Rattle.omf_derive.specs.Inner.PublicTable.{placed_modules}
+use Rattle.omf_derive.specs.Derive.{placed_modules}
 use Rattle.omf_map.specs.MapText.{map_text}
 use Rattle.omf_placement.specs.Placement.{Places}
 use Rattle.omf_link.proofs.linking.modules_map.Goals as goal

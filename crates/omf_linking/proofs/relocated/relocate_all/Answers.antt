@@ -3,8 +3,7 @@ use Rattle.std.specs.Prelude.{Err}
 use Rattle.std.proofs.lemmas.List.{length-append}
 use Rattle.omf_check.specs.Module.{records_in}
 use Rattle.omf_check.specs.WellFormed.{recs}
-use Rattle.omf_derive.specs.Derive.{PlacedModule}
-use Rattle.omf_derive.specs.Inner.PublicTable.{placed_modules}
+use Rattle.omf_derive.specs.Derive.{PlacedModule, placed_modules}
 use Rattle.omf_derive.proofs.TableLaws.{next-placed, none-left}
 use Rattle.omf_records.specs.Inner.Seen.{map_ok}
 use Rattle.omf_linking.specs.Relocated.{AreRelocated, far_modules}

@@ -1,7 +1,7 @@
 use Rattle.std.proofs.Common.{◌≡◌, drop, take, length}
 use Rattle.std.specs.Prelude.{filter_map}
 use Rattle.std.specs.List.{AllZip, enumerate_from}
-use Rattle.omf_derive.specs.Inner.PublicTable.{placed_modules}
+use Rattle.omf_derive.specs.Derive.{placed_modules}
 use Rattle.omf_linking.specs.Relocated.{IsRelocated, far_module, far_modules}
 use Rattle.omf_linking.proofs.relocated.relocate_all.Given as goal
 

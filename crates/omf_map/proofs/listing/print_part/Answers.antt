@@ -1,8 +1,7 @@
 use Rattle.std.proofs.Common.{◌≡◌, ◌+◌, ◌∷◌, drop, refl}
 use Rattle.omf_check.specs.Module.{records_in}
 use Rattle.omf_check.specs.WellFormed.{recs}
-use Rattle.omf_derive.specs.Derive.{PlacedModule}
-use Rattle.omf_derive.specs.Inner.PublicTable.{placed_modules}
+use Rattle.omf_derive.specs.Derive.{PlacedModule, placed_modules}
 use Rattle.omf_derive.proofs.TableLaws.{next-placed, none-left}
 use Rattle.omf_map.specs.Inner.Steps.{part_lines}
 use Rattle.omf_map.proofs.MapLaws.{one_more, all_printed}

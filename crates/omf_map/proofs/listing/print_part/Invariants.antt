@@ -1,5 +1,5 @@
 use Rattle.std.specs.Prelude.{string_bytes}
-use Rattle.omf_derive.specs.Inner.PublicTable.{placed_modules}
+use Rattle.omf_derive.specs.Derive.{placed_modules}
 use Rattle.omf_map.specs.Inner.Steps.{part_lines}
 use Rattle.omf_map.proofs.MapLaws.{ArePrinted}
 use Rattle.omf_map.proofs.listing.print_part.Given as goal

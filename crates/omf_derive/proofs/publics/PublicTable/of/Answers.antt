@@ -1,8 +1,8 @@
 use Rattle.std.proofs.Common.{◌+◌, refl, ap, drop, false}
 use Rattle.omf_check.specs.Module.{records_in}
 use Rattle.omf_check.specs.WellFormed.{recs}
-use Rattle.omf_derive.specs.Derive.{publics, all_publics}
-use Rattle.omf_derive.specs.Inner.PublicTable.{placed_modules, IsTable}
+use Rattle.omf_derive.specs.Derive.{publics, all_publics, placed_modules}
+use Rattle.omf_derive.specs.Inner.PublicTable.{IsTable}
 use Rattle.omf_derive.proofs.Filling.{fill-start, fill-more, fill-end}
 use Rattle.omf_derive.proofs.TableLaws.{fill-empty, next-placed, none-left}
 use Rattle.omf_derive.proofs.publics.PublicTable.of.Goals as goal

@@ -1,6 +1,6 @@
 use Rattle.std.proofs.Common.{drop}
-use Rattle.omf_derive.specs.Derive.{all_publics}
-use Rattle.omf_derive.specs.Inner.PublicTable.{placed_modules, IsTable}
+use Rattle.omf_derive.specs.Derive.{all_publics, placed_modules}
+use Rattle.omf_derive.specs.Inner.PublicTable.{IsTable}
 use Rattle.omf_derive.proofs.Filling.{IsFilled}
 use Rattle.omf_derive.proofs.publics.PublicTable.of.Given as goal
 
