@@ -6,7 +6,6 @@
 
 mod answer;
 mod calls;
-mod gathered;
 mod making;
 #[cfg(test)]
 mod tests;

@@ -10,10 +10,9 @@ ghost use Rattle.omf_records.specs.Inner.Seen.{map_ok};
 ghost use Rattle.omf_cmd.specs.declared.fault.RunFault.TheVariants.{Memory};
 ghost use Rattle.omf_c.specs.Making.{IsModule, IsTextOf, IsPlacedText};
 
-use crate::gathered::Gathered;
 use omf_canon::canon;
 use omf_check::{CheckFault, Checked, Profile, check};
-use omf_cmd::{Listing, RunFault, print_list};
+use omf_cmd::{Gathered, Listing, RunFault, print_list};
 use omf_frame::Bytes;
 use std::alloc::Global;
 

@@ -6,8 +6,8 @@ use Rattle.std.proofs.lemmas.Slice.Eq.{bytes_eq-Decides}
 use Rattle.clap.specs.Words.{App, Text, Row, fault_of, is_simple_and_free, one_of, subcommand_of}
 use Rattle.clap.specs.declared.parser.matches.ArgMatches.{ArgMatches}
 use Rattle.clap.proofs.OnLiterals.{clap_on_literals}
-use Rattle.omf_cmd.specs.Inner.Parsed.{omf_app, flag_id, IsParse, IsParsed}
-use Rattle.omf_cmd.specs.Words.{flag_text, asks, flag, job_named, profile_of}
+use Rattle.omf_cmd.specs.Parsed.{IsParse, IsParsed}
+use Rattle.omf_cmd.specs.Words.{asks, flag, flag_id, flag_text, job_named, omf_app, profile_of}
 use Rattle.omf_cmd.specs.declared.words.Job.{Job}
 use Rattle.omf_cmd.specs.declared.words.Job.TheVariants as job
 use Rattle.omf_check.specs.declared.profile.Profile.{Profile}

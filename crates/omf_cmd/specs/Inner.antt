@@ -1,4 +1,3 @@
-pub mod Parsed
 pub mod Printing
 pub mod RunLines
 pub mod Standing

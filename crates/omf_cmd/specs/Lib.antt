@@ -5,6 +5,7 @@ pub mod FaultLine
 pub mod Rows
 pub mod Runs
 pub mod Words
+pub mod Parsed
 pub mod Outcome
 pub mod HowFar
 pub mod Relocating

@@ -16,9 +16,13 @@ use Rattle.omf_placement.specs.Quoted.{hex}
 abbrev pub place_text : ℕ → ℕ → List ℕ
 place_text segment offset = hex 4 segment ++ 58 ∷ hex 8 offset
 
--- The bytes over an interval: where the first of them stands, and each in two digits behind a space.
+-- A byte: two digits behind a space.
+abbrev pub byte_text : ℕ → List ℕ
+byte_text b = 32 ∷ hex 2 b
+
+-- The bytes over an interval: where the first of them stands, and each of them.
 abbrev pub bytes_line : (ℕ → List ℕ) → (ℕ → Option ℕ) → ℕ → ℕ → List ℕ
-bytes_line place byte first len = place first ++ flat_map (λ x. flat_map (λ b. 32 ∷ hex 2 b) (option_to_list (byte x))) (range_with_len first len) ++ 10 ∷ []
+bytes_line place byte first len = place first ++ flat_map (λ x. flat_map byte_text (option_to_list (byte x))) (range_with_len first len) ++ 10 ∷ []
 
 -- A run, in lines of 16 bytes from its first byte on; the last line has what is left.
 abbrev pub run_lines : (ℕ → List ℕ) → (ℕ → Option ℕ) → Run → List ℕ

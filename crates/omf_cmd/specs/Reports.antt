@@ -1,6 +1,7 @@
 -- What `check`, `list` and `canon` answer for an input: each prints a text of the records of the module that it begins with. How the
 -- program ends.
-use Rattle.std.specs.Prelude.{◌≡◌, ◌⊎◌, IsTrue, ℕ, List, [], Option, Some, Result, Ok, Err}
+use Rattle.std.specs.Prelude.{◌≡◌, ◌⊎◌, IsTrue, ℕ, List, [], Option, Some, None, Result, Ok, Err}
+use Rattle.clap.specs.Words.{Text, fault_of, subcommand_of}
 use Rattle.omf_frame.specs.Device.{Device}
 use Rattle.omf_frame.specs.Framing.{Raw}
 use Rattle.omf_image.specs.Limits.{profile_limits}
@@ -14,7 +15,7 @@ use Rattle.omf_cmd.specs.HowFar.{EndsAtRefusal, IsReadFrom, IsUnrefused}
 use Rattle.omf_cmd.specs.Listing.{canonical_text, check_text, list_text}
 use Rattle.omf_cmd.specs.Relocating.{IsRelocation}
 use Rattle.omf_cmd.specs.Runs.{EndsBy, IsCausedBy, IsWritten, Prints, PrintsInPieces}
-use Rattle.omf_cmd.specs.Words.{status_of, usage}
+use Rattle.omf_cmd.specs.Words.{asks, omf_app, status_of, usage}
 use Rattle.omf_cmd.specs.declared.fault.RunFault.{RunFault}
 use Rattle.omf_cmd.specs.declared.fault.RunFault.TheVariants as fault
 use Rattle.omf_cmd.specs.declared.words.Job.{Job}
@@ -94,3 +95,10 @@ Misuses called reader reader' writer writer' status = ((reader' ≡ reader) × (
 -- The answer of `omf` to such words.
 abbrev pub IsMisuse : Device → Device → Device → Device → ℕ → Type 0
 IsMisuse reader reader' writer writer' status = Misuses usage reader reader' writer writer' status
+
+-- What `omf` answers to its words. Where they ask for a job it was run, and the status and what was written tell its answer; or memory ran
+-- out before. Where they name no subcommand, and where clap refuses them, it says how it is called.
+pub record AnswersTo (words : List Text) (reader reader' writer writer' : Device) (status : ℕ) : Type 0 where
+  pub answer : (asked : Job × Profile) → asks words ≡ Some asked → IsAnswer asked reader reader' writer writer' status ⊎ IsOutOfMemory reader reader' writer writer' status
+  pub nothing : subcommand_of omf_app words ≡ None → IsMisuse reader reader' writer writer' status
+  pub misuse : (fault_of omf_app words ≡ [] → ⊥) → IsMisuse reader reader' writer writer' status

@@ -1,5 +1,5 @@
 -- What a run of the program answers and writes.
-use Rattle.std.specs.Prelude.{◌≡◌, ◌⊎◌, ◌≤◌, ℕ, ◌++◌, List, Option, Result, Ok, Err}
+use Rattle.std.specs.Prelude.{◌≡◌, ◌⊎◌, ◌≤◌, ℕ, ◌++◌, List, [], Option, Some, Result, Ok, Err}
 use Rattle.std.specs.Io.KnownBytes.{Appends, Keeps}
 use Rattle.omf_frame.specs.Device.{Device, GivesUp, HasFailed}
 use Rattle.omf_cmd.specs.declared.fault.RunFault.{RunFault}
@@ -72,3 +72,8 @@ pub record AnswersBy {F : Type 0} (runs : Device → Device → Device → Devic
   pub between : Device
   pub run : runs reader reader' writer between ran
   pub ended : ends between writer' ran status
+
+-- what a program answers over an input in memory: it read that from its front, and wrote this text
+abbrev pub AnswersInMemory : (List (List ℕ) → Device → Device → Device → Device → ℕ → Type 0) → List (List ℕ) → List ℕ → ℕ → List ℕ → Type 0
+AnswersInMemory answers words input status text =
+    (reader' : Device) × (writer' : Device) × (writer'.bytes ≡ Some text) × answers words (record { bytes = Some input; failures = 0; breaks = 0 }) reader' (record { bytes = Some []; failures = 0; breaks = 0 }) writer' status

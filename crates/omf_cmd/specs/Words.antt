@@ -1,12 +1,13 @@
 -- What the words that the program is called with ask for, and the status that it ends with (this profile's rule).
-use Rattle.std.specs.Prelude.{ℕ, List, [], ◌∷◌, ◌++◌, Bool, true, false, Option, None, find, option_map, codes, if◌then◌else◌}
+use Rattle.std.specs.Prelude.{ℕ, List, [], ◌∷◌, ◌++◌, Bool, true, false, Option, Some, None, find, option_map, codes, if◌then◌else◌}
 use Rattle.std.specs.Str.{bytes_eq}
 use Rattle.omf_check.specs.declared.profile.Profile.{Profile}
 use Rattle.omf_cmd.specs.declared.fault.RunFault.{RunFault}
 use Rattle.omf_cmd.specs.declared.fault.RunFault.TheVariants as fault
 use Rattle.omf_cmd.specs.declared.words.Job.{Job}
 use Rattle.omf_cmd.specs.declared.words.Job.TheVariants as job
-use Rattle.clap.specs.Words.{Text}
+use Rattle.clap.specs.Words.{App, Rule, Text, new_app, new_rule, with_rule, with_subcommand}
+use Rattle.clap.specs.declared.builder.ArgAction.TheVariants.{SetTrue}
 
 -- The subcommands, and the flag that may follow one.
 abbrev pub subcommands : List (List ℕ × Job)
@@ -42,3 +43,16 @@ usage = codes "usage: omf list|check|reloc|canon [--refuse-vendor-comments]" ++ 
 abbrev pub flag_text : Bool → Text
 flag_text true = codes "true"
 flag_text false = codes "false"
+
+-- The program, as clap is told of it: its subcommands, each with the flag.
+abbrev pub flag_id : Text
+flag_id = codes "refuse-vendor-comments"
+
+abbrev pub flag_rule : Rule
+flag_rule = record (new_rule flag_id) { long = Some flag_id; action = Some SetTrue }
+
+abbrev pub with_flag : Text → App
+with_flag name = with_rule (new_app name) flag_rule
+
+abbrev pub omf_app : App
+omf_app = with_subcommand (with_subcommand (with_subcommand (with_subcommand (new_app (codes "omf")) (with_flag (codes "list")).top) (with_flag (codes "check")).top) (with_flag (codes "reloc")).top) (with_flag (codes "canon")).top

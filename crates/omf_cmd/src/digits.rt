@@ -3,7 +3,7 @@
 ghost use Rattle.std.specs.Prelude.{◌≡◌, ◌*◌, ◌<◌, true, length, flat_map};
 ghost use Rattle.std.specs.Fmt.{digit_glyph};
 ghost use Rattle.omf_placement.specs.Quoted.{hex};
-ghost use Rattle.omf_cmd.specs.Inner.RunLines.{byte_text};
+ghost use Rattle.omf_cmd.specs.Relocated.{byte_text};
 
 /// The hexadecimal digits in their order.
 const DIGITS: &[u8; 16] = b"0123456789ABCDEF";

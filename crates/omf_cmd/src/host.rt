@@ -1,13 +1,34 @@
-//! What the system hands to a program.
+//! A program on what the system hands to it.
 
-use omf_frame::Buffered;
-use std::alloc::AllocError;
-use std::io::{BufReader, ErrorKind, StdinLock};
+ghost use Rattle.std.specs.Prelude.{◌≤◌, ℕ, List, map, string_bytes};
+ghost use Rattle.omf_frame.specs.Device.{Device};
+
+use crate::fault::RunFault;
+use crate::program::fail;
+use omf_frame::{Buffered, Sink, Source, Writing};
+use std::alloc::{AllocError, Global};
+use std::io::{BufReader, ErrorKind, StdinLock, Write};
 use std::process::ExitCode;
 use std::{env, io};
 
 /// How many bytes of the standard input are read at once.
 const PIECE: usize = 65_536;
+
+/// A program over its words, a reader and a writer.
+pub trait Program {
+    /// What it may answer to words: the reader before and after, the writer before and after, and the status.
+    ghost answers: { List (List ℕ) → Device → Device → Device → Device → ℕ → Type 0 };
+
+    /// Does what the words ask for, the program's own name first. It answers the exit status, and does not flush.
+    fn run<S: Source, K: Sink>(
+        alloc: Global,
+        words: &[String],
+        reader: &mut S,
+        writer: &mut K,
+    ) -> u8
+        ensures known { result ≤ 3 }
+        ensures answers { answers (map string_bytes words.now) (S.seen reader.old) (S.seen reader.new) (K.seen writer.old) (K.seen writer.new) result };
+}
 
 /// The words that the program is called with, its own name first; none where one of them is not text.
 fn words_of(rt: &HostRuntime) -> Result<Vec<String>, AllocError> {
@@ -19,7 +40,7 @@ fn words_of(rt: &HostRuntime) -> Result<Vec<String>, AllocError> {
 }
 
 /// The words that the program is called with, and its standard input.
-pub fn words_and_input(rt: &HostRuntime) -> Result<(Vec<String>, Buffered<StdinLock>), AllocError> {
+fn words_and_input(rt: &HostRuntime) -> Result<(Vec<String>, Buffered<StdinLock>), AllocError> {
     let words = words_of(rt)?;
     let Ok(input) = BufReader::with_capacity(rt.alloc(), PIECE, rt.reader()) else {
         return Err(AllocError);
@@ -27,10 +48,25 @@ pub fn words_and_input(rt: &HostRuntime) -> Result<(Vec<String>, Buffered<StdinL
     Ok((words, Buffered::new(input)))
 }
 
+/// The status of a program's run on the standard input.
+fn run_input<P: Program, K: Sink>(rt: &HostRuntime, writer: &mut K) -> u8 {
+    match words_and_input(rt) {
+        Ok((words, mut input)) => P::run(rt.alloc(), &words, &mut input, writer),
+        Err(AllocError) => fail(rt.alloc(), &RunFault::Memory, writer),
+    }
+}
+
 /// What the program ends with: its status, but 3 where it was done and what it wrote could not be flushed.
-pub fn ended(status: u8, flushed: io::Result<()>) -> ExitCode {
+fn ended(status: u8, flushed: io::Result<()>) -> ExitCode {
     match status {
         0 if flushed.is_err() => ExitCode::from(3),
         _ => ExitCode::from(status),
     }
+}
+
+/// Runs a program on the words that it is called with, the standard input and the standard output.
+pub fn run_program<P: Program>(rt: &HostRuntime) -> ExitCode {
+    let mut output = rt.stdout();
+    let status = run_input::<P, _>(rt, &mut Writing::new(&mut output));
+    ended(status, output.flush())
 }

@@ -4,8 +4,8 @@ ghost use Rattle.std.specs.Prelude.{◌+◌, ◌^◌, ◌≤◌, ◌++◌, flat_
 ghost use Rattle.omf_frame.specs.Bytes.{AddsText};
 ghost use Rattle.omf_image.specs.Inner.Joined.{runs_of};
 ghost use Rattle.omf_image.specs.Overlay.{byte_at};
-ghost use Rattle.omf_cmd.specs.Relocated.{place_text, run_lines, start_line, image_text};
-ghost use Rattle.omf_cmd.specs.Inner.RunLines.{byte_text, line_text, lines_of, segments_text};
+ghost use Rattle.omf_cmd.specs.Relocated.{byte_text, image_text, place_text, run_lines, start_line};
+ghost use Rattle.omf_cmd.specs.Inner.RunLines.{line_text, lines_of, segments_text};
 ghost use Rattle.omf_cmd.specs.Runs.{PrintsInPieces, IsPrintCause};
 ghost use Rattle.omf_cmd.specs.Inner.Printing.{Passes};
 

@@ -11,8 +11,10 @@
 //! ```
 #![tactic(auto)]
 
+mod called;
 mod digits;
 mod fault;
+mod gathered;
 mod host;
 mod image_text;
 mod input;
@@ -27,12 +29,14 @@ pub mod rows;
 mod running;
 mod words;
 
+pub use called::{Ended, run_in_memory, run_on, words_from};
 pub use digits::eight_digits;
 pub use fault::RunFault;
-pub use host::{ended, words_and_input};
+pub use gathered::Gathered;
+pub use host::{Program, run_program};
 pub use image_text::{print_bytes, print_image, print_start};
 pub use printed::fault_line;
-pub use program::{fail, main_with};
+pub use program::{Omf, fail, main_with};
 pub use relocation::{Listing, run_reloc};
 pub use report::print_list;
 pub use running::{run_canon, run_check, run_list};

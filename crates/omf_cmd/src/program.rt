@@ -1,16 +1,15 @@
 //! The program over its words, a reader and a writer: what it prints and which status it ends with.
 
-ghost use Rattle.std.specs.Prelude.{◌≡◌, ◌⊎◌, ◌≤◌, ◌++◌, ◌∷◌, [], map, string_bytes, IfOk, IfSome, IsTrue, OnOk, Some, None};
-ghost use Rattle.clap.specs.Words.{fault_of, subcommand_of};
-ghost use Rattle.omf_cmd.specs.Inner.Parsed.{omf_app};
+ghost use Rattle.std.specs.Prelude.{◌≡◌, ◌≤◌, ◌++◌, ◌∷◌, [], map, string_bytes, IfOk, IfSome, IsTrue, OnOk, None};
 ghost use Rattle.omf_check.specs.declared.profile.Profile.{Profile};
 ghost use Rattle.omf_cmd.specs.FaultLine.{fault_line, fault_text, takes_memory};
-ghost use Rattle.omf_cmd.specs.Reports.{IsRun, IsAnswer, IsMisuse, IsOutOfMemory, Tells};
+ghost use Rattle.omf_cmd.specs.Reports.{AnswersTo, IsRun, IsAnswer, Tells};
 ghost use Rattle.omf_cmd.specs.Runs.{IsCausedBy, IsWritten};
-ghost use Rattle.omf_cmd.specs.Words.{asks, status_of, usage};
+ghost use Rattle.omf_cmd.specs.Words.{status_of, usage};
 ghost use Rattle.omf_cmd.specs.declared.words.Job.{Job};
 
 use crate::fault::RunFault;
+use crate::host::Program;
 use crate::output::write_all;
 use crate::printed::fault_line;
 use crate::relocation::run_reloc;
@@ -134,12 +133,7 @@ pub fn main_with<S: Source, K: Sink>(
     writer: &mut K,
 ) -> u8
     ensures known { result ≤ 3 }
-    // Where the words ask for a job, it was run, and the status and what was written tell its answer; or memory ran out before.
-    ensures answer { (asked : Job × Profile) → asks (map string_bytes words.now) ≡ Some asked → IsAnswer asked (S.seen reader.old) (S.seen reader.new) (K.seen writer.old) (K.seen writer.new) result ⊎ IsOutOfMemory (S.seen reader.old) (S.seen reader.new) (K.seen writer.old) (K.seen writer.new) result }
-    // Where the words name no subcommand, the program says how it is called.
-    ensures nothing { subcommand_of omf_app (map string_bytes words.now) ≡ None → IsMisuse (S.seen reader.old) (S.seen reader.new) (K.seen writer.old) (K.seen writer.new) result }
-    // Where clap refuses the words, the program says how it is called.
-    ensures misuse { (fault_of omf_app (map string_bytes words.now) ≡ [] → ⊥) → IsMisuse (S.seen reader.old) (S.seen reader.new) (K.seen writer.old) (K.seen writer.new) result }
+    ensures answers { AnswersTo (map string_bytes words.now) (S.seen reader.old) (S.seen reader.new) (K.seen writer.old) (K.seen writer.new) result }
 {
     match command(alloc, words) {
         Ok(Some((job, profile))) => run_to_end(alloc, job, profile, reader, writer),
@@ -148,5 +142,21 @@ pub fn main_with<S: Source, K: Sink>(
             2
         }
         Err(AllocError) => fail(alloc, &RunFault::Memory, writer),
+    }
+}
+
+/// The program `omf`.
+pub struct Omf;
+
+impl Program for Omf {
+    ghost answers = { AnswersTo };
+
+    fn run<S: Source, K: Sink>(
+        alloc: Global,
+        words: &[String],
+        reader: &mut S,
+        writer: &mut K,
+    ) -> u8 {
+        main_with(alloc, words, reader, writer)
     }
 }

@@ -1,9 +1,9 @@
 //! The words that the program is called with.
 
 ghost use Rattle.std.specs.Prelude.{◌≡◌, ◌⊎◌, ℕ, List, [], map, string_bytes, IfOk, Bool, true, false, Some, None};
-ghost use Rattle.omf_cmd.specs.Words.{asks, job_named, profile_of};
+ghost use Rattle.omf_cmd.specs.Words.{asks, flag_rule, job_named, omf_app, profile_of};
 ghost use Rattle.clap.specs.Words.{app_of, fault_of, is_simple_and_free, rule_of, subcommand_of, subcommand_rows_of};
-ghost use Rattle.omf_cmd.specs.Inner.Parsed.{flag_rule, omf_app, IsParse, IsParsed};
+ghost use Rattle.omf_cmd.specs.Parsed.{IsParse, IsParsed};
 
 use clap::error::ErrorKind;
 use clap::{Arg, ArgAction, ArgMatches, Command};

@@ -1,13 +1,15 @@
 -- What a run answers, and what it reads and writes.
-use Rattle.std.specs.Prelude.{◌≡◌, ℕ, List, Option, Some, Result, Ok, Err}
+use Rattle.std.specs.Prelude.{◌≡◌, ◌⊎◌, ℕ, List, [], Option, Some, None, Result, Ok, Err}
 use Rattle.std.specs.Io.KnownBytes.{Consumes}
+use Rattle.clap.specs.Words.{Text, fault_of, subcommand_of}
 use Rattle.omf_frame.specs.Device.{Device}
 use Rattle.omf_linking.specs.Reading.{IsPartRead}
 use Rattle.omf_linking.specs.declared.fault.LinkFault.TheVariants as link
-use Rattle.omf_cmd.specs.Reports.{Misuses}
+use Rattle.omf_cmd.specs.Reports.{IsOutOfMemory, Misuses}
 use Rattle.omf_cmd.specs.Runs.{AnswersBy, EndsBy, HasGivenUp, IsUnbroken, PrintsOr}
 use Rattle.omf_link.specs.Faults.{status_of, TellsFault, usage}
 use Rattle.omf_link.specs.Shown.{IsShownOf}
+use Rattle.omf_link.specs.Words.{IsAsked, IsOnlyAsked, link_app}
 use Rattle.omf_link.specs.declared.fault.ImageFault.{ImageFault}
 use Rattle.omf_link.specs.declared.fault.ImageFault.TheVariants as fault
 use Rattle.omf_link.specs.declared.words.Task.{Task}
@@ -49,3 +51,12 @@ IsAnswer t reader reader' writer writer' status = AnswersBy (IsRun t) IsEnded re
 -- Its answer to words that are not understood: how it is called, unless the writer failed; or memory ran out. Nothing is read.
 abbrev pub IsMisuse : Device → Device → Device → Device → ℕ → Type 0
 IsMisuse reader reader' writer writer' status = Misuses usage reader reader' writer writer' status
+
+-- What the program answers to its words. Where they ask for a task it was done, and the status and what was written tell its answer; or
+-- memory ran out before. Where they ask for nothing, as where a value behind `draft` is no hexadecimal number, where they name no
+-- subcommand, and where clap refuses them, it says how it is called.
+pub record AnswersTo (words : List Text) (reader reader' writer writer' : Device) (status : ℕ) : Type 0 where
+  pub answer : (asked : Task) → IsAsked words asked → IsAnswer asked reader reader' writer writer' status ⊎ IsOutOfMemory reader reader' writer writer' status
+  pub unasked : ((asked : Task) → IsOnlyAsked words asked → ⊥) → IsMisuse reader reader' writer writer' status
+  pub nothing : subcommand_of link_app words ≡ None → IsMisuse reader reader' writer writer' status
+  pub misuse : (fault_of link_app words ≡ [] → ⊥) → IsMisuse reader reader' writer writer' status

@@ -1,20 +1,16 @@
 //! The program over its words, a reader and a writer.
 
-ghost use Rattle.std.specs.Prelude.{◌≡◌, ◌⊎◌, ◌≤◌, ◌++◌, ◌∷◌, [], IfOk, map, string_bytes, Some, None};
-ghost use Rattle.clap.specs.Words.{fault_of, subcommand_of};
-ghost use Rattle.omf_cmd.specs.Reports.{IsOutOfMemory};
+ghost use Rattle.std.specs.Prelude.{◌≡◌, ◌≤◌, ◌++◌, ◌∷◌, [], string_bytes, IfOk};
 ghost use Rattle.omf_cmd.specs.Runs.{IsWritten};
 ghost use Rattle.omf_link.specs.Faults.{TellsFault, as_run, fault_line, status_of, usage};
-ghost use Rattle.omf_link.specs.Runs.{IsAnswer, IsMisuse};
-ghost use Rattle.omf_link.specs.Words.{IsAsked, IsOnlyAsked, link_app};
-ghost use Rattle.omf_link.specs.declared.words.Task.{Task as Asked};
+ghost use Rattle.omf_link.specs.Runs.{AnswersTo, IsAnswer};
 
 use crate::fault::ImageFault;
 use crate::output::tell;
 use crate::printed::fault_line;
 use crate::running::run_task;
 use crate::words::{Task, task_of};
-use omf_cmd::RunFault;
+use omf_cmd::{Program, RunFault};
 use omf_frame::{Sink, Source};
 use omf_linking::LinkFault;
 use std::alloc::{AllocError, Global};
@@ -89,31 +85,28 @@ fn run_to_end<S: Source, K: Sink>(alloc: Global, task: Task, reader: &mut S, wri
     }
 }
 
-/// Does what the words ask for: writes the text of their task, or a fault's line, or how the program is called. It answers the exit
-/// status: 0 done, 1 the input or its text is refused or has no room, 2 the words are not understood, 3 no memory, or the reader or the
-/// writer failed. It does not flush.
-pub fn main_with<S: Source, K: Sink>(
-    alloc: Global,
-    words: &[String],
-    reader: &mut S,
-    writer: &mut K,
-) -> u8
-    ensures known { result ≤ 3 }
-    // Where the words ask for a task, it was done, and the status and what was written tell its answer; or memory ran out before.
-    ensures answer { (asked : Asked) → IsAsked (map string_bytes words.now) asked → IsAnswer asked (S.seen reader.old) (S.seen reader.new) (K.seen writer.old) (K.seen writer.new) result ⊎ IsOutOfMemory (S.seen reader.old) (S.seen reader.new) (K.seen writer.old) (K.seen writer.new) result }
-    // Where the words ask for nothing, as where a value behind `draft` is no hexadecimal number, the program says how it is called.
-    ensures unasked { ((asked : Asked) → IsOnlyAsked (map string_bytes words.now) asked → ⊥) → IsMisuse (S.seen reader.old) (S.seen reader.new) (K.seen writer.old) (K.seen writer.new) result }
-    // Where the words name no subcommand, the program says how it is called.
-    ensures nothing { subcommand_of link_app (map string_bytes words.now) ≡ None → IsMisuse (S.seen reader.old) (S.seen reader.new) (K.seen writer.old) (K.seen writer.new) result }
-    // Where clap refuses the words, the program says how it is called.
-    ensures misuse { (fault_of link_app (map string_bytes words.now) ≡ [] → ⊥) → IsMisuse (S.seen reader.old) (S.seen reader.new) (K.seen writer.old) (K.seen writer.new) result }
-{
-    match task_of(alloc, words) {
-        Ok(Some(task)) => run_to_end(alloc, task, reader, writer),
-        Ok(None) => {
-            print_usage(writer);
-            2
+/// The program `omf-link`.
+pub struct Link;
+
+impl Program for Link {
+    ghost answers = { AnswersTo };
+
+    /// Does what the words ask for: writes the text of their task, or a fault's line, or how the program is called. It answers the exit
+    /// status: 0 done, 1 the input or its text is refused or has no room, 2 the words are not understood, 3 no memory, or the reader or
+    /// the writer failed. It does not flush.
+    fn run<S: Source, K: Sink>(
+        alloc: Global,
+        words: &[String],
+        reader: &mut S,
+        writer: &mut K,
+    ) -> u8 {
+        match task_of(alloc, words) {
+            Ok(Some(task)) => run_to_end(alloc, task, reader, writer),
+            Ok(None) => {
+                print_usage(writer);
+                2
+            }
+            Err(AllocError) => omf_cmd::fail(alloc, &RunFault::Memory, writer),
         }
-        Err(AllocError) => omf_cmd::fail(alloc, &RunFault::Memory, writer),
     }
 }

@@ -1,9 +1,10 @@
 //! Texts of memories, and what the program writes and which status it ends with; values worked out by hand.
 
-use crate::{image_text, main_with, memory_text};
+use crate::{Link, image_text, memory_text};
+use omf_cmd::{run_in_memory, run_on};
+use omf_frame::Writing;
 use omf_frame::faulty::{Full, Script, Taker, Then};
 use omf_frame::samples::END;
-use omf_frame::{Reading, Sink, Source, Writing};
 use omf_image::Image;
 use std::alloc::{AllocError, AllocGlobal, Global};
 use std::process::Abort;
@@ -83,21 +84,6 @@ fn input_of(alloc: Global, parts: &[&[u8]], text: &str) -> Result<Vec<u8>, Alloc
     Ok(input)
 }
 
-/// The status of a run.
-fn status_of<S: Source, K: Sink>(
-    alloc: Global,
-    words: &[&str],
-    reader: &mut S,
-    writer: &mut K,
-) -> Result<u8, AllocError> {
-    let mut texts = Vec::new(alloc);
-    texts.push(String::from_str(alloc, "omf-link")?)?;
-    for word in words {
-        texts.push(String::from_str(alloc, *word)?)?;
-    }
-    Ok(main_with(alloc, &texts, reader, writer))
-}
-
 /// The program ends with this status on this input, and prints this.
 fn ends(
     rt: &(impl Abort + AllocGlobal),
@@ -106,12 +92,8 @@ fn ends(
     status: u8,
     text: &str,
 ) -> Result<(), AllocError> {
-    let mut printed = Vec::new(rt.alloc());
-    let mut reader = Reading::new(input);
-    let mut writer = Writing::new(&mut printed);
-    let ended = status_of(rt.alloc(), words, &mut reader, &mut writer)?;
-    assert_eq!(rt; ended, status);
-    assert!(rt; printed.as_slice() == text.as_bytes());
+    let ended = run_in_memory::<Link>(rt.alloc(), words, input)?;
+    assert!(rt; ended.is(status, text.as_bytes()));
     Ok(())
 }
 
@@ -123,7 +105,7 @@ fn shows(
     shown: &str,
 ) -> Result<(), AllocError> {
     let input = input_of(rt.alloc(), parts, text)?;
-    ends(rt, &["image"], &input, 0, shown)
+    ends(rt, &["omf-link", "image"], &input, 0, shown)
 }
 
 /// These modules with this text have this fault.
@@ -134,7 +116,7 @@ fn refuses(
     line: &str,
 ) -> Result<(), AllocError> {
     let input = input_of(rt.alloc(), parts, text)?;
-    ends(rt, &["image"], &input, 1, line)
+    ends(rt, &["omf-link", "image"], &input, 1, line)
 }
 
 #[test]
@@ -232,10 +214,10 @@ fn maps_modules(rt: HostRuntime) -> Result<(), Fail> {
                segment 2 1 00010010 00000002 \"T\" \"\"\n\
                public 2 00010011 \"X\"\n\
                external 1 1 00010011 \"X\"\n";
-    ends(&rt, &["map"], &input, 0, map)?;
+    ends(&rt, &["omf-link", "map"], &input, 0, map)?;
     let undefined = "module 1 external 1 Undefined \"X\"\n";
     let input = input_of(rt.alloc(), &[FRONT, EXTERNAL, END], "")?;
-    ends(&rt, &["map"], &input, 1, undefined)?;
+    ends(&rt, &["omf-link", "map"], &input, 1, undefined)?;
     Ok(())
 }
 
@@ -243,7 +225,7 @@ fn maps_modules(rt: HostRuntime) -> Result<(), Fail> {
 fn maps_modules_that_do_not_reach(rt: HostRuntime) -> Result<(), Fail> {
     let input = input_of(rt.alloc(), &[FRONT, PUBLIC, END], "")?;
     let map = "segment 1 1 - 00000002 \"T\" \"\"\n";
-    ends(&rt, &["map"], &input, 0, map)?;
+    ends(&rt, &["omf-link", "map"], &input, 0, map)?;
     Ok(())
 }
 
@@ -258,7 +240,7 @@ fn a_draft_is_read_as_the_text_of_its_modules(rt: HostRuntime) -> Result<(), Fai
                  ; module \"A\"\n\
                  S 7C02 real ; 1 \"T\" class \"\" align 1 length 2\n";
     let input = input_of(rt.alloc(), &modules, "")?;
-    let words = ["draft", "--base", "7C00", "--real"];
+    let words = ["omf-link", "draft", "--base", "7C00", "--real"];
     ends(&rt, &words, &input, 0, draft)?;
     let image = "00007C00: CF DD CC DD\nSTART 07C0:00000003\n";
     shows(&rt, &modules, draft, image)?;
@@ -275,7 +257,7 @@ fn a_draft_makes_nothing_of_the_text(rt: HostRuntime) -> Result<(), Fail> {
                  S 10002 0 0 ; 1 \"T\" class \"\" align 1 length 2\n\
                  ; X 1 address frame selector ; 1 \"X\" to be filled in\n";
     let input = input_of(rt.alloc(), &modules, "Q\n")?;
-    ends(&rt, &["draft"], &input, 0, draft)?;
+    ends(&rt, &["omf-link", "draft"], &input, 0, draft)?;
     Ok(())
 }
 
@@ -283,29 +265,36 @@ fn a_draft_makes_nothing_of_the_text(rt: HostRuntime) -> Result<(), Fail> {
 fn tells_that_a_draft_has_no_room(rt: HostRuntime) -> Result<(), Fail> {
     let input = input_of(rt.alloc(), &[FRONT, PUBLIC, END], "")?;
     let room = "no room below the last address\n";
-    ends(&rt, &["draft", "--base=FFFFFFFF"], &input, 1, room)?;
+    ends(
+        &rt,
+        &["omf-link", "draft", "--base=FFFFFFFF"],
+        &input,
+        1,
+        room,
+    )?;
     let unknown = "module 1 refused 1 NoEnd record 0 at 0 within 0\n";
-    ends(&rt, &["draft"], &[], 1, unknown)?;
+    ends(&rt, &["omf-link", "draft"], &[], 1, unknown)?;
     Ok(())
 }
 
 #[test]
 fn prints_how_it_is_called(rt: HostRuntime) -> Result<(), Fail> {
     let input = input_of(rt.alloc(), &[FRONT, END], "")?;
-    let none: [&[&str]; 13] = [
+    let none: [&[&str]; 14] = [
         &[],
-        &["--help"],
-        &["images"],
-        &["image", "x.obj"],
-        &["image", "image"],
-        &["image", "map"],
-        &["--image"],
-        &["map", "--real"],
-        &["draft", "x.obj"],
-        &["draft", "--base"],
-        &["draft", "--base", "7G00"],
-        &["draft", "--real", "--flat", "8"],
-        &["--real", "draft"],
+        &["omf-link"],
+        &["omf-link", "--help"],
+        &["omf-link", "images"],
+        &["omf-link", "image", "x.obj"],
+        &["omf-link", "image", "image"],
+        &["omf-link", "image", "map"],
+        &["omf-link", "--image"],
+        &["omf-link", "map", "--real"],
+        &["omf-link", "draft", "x.obj"],
+        &["omf-link", "draft", "--base"],
+        &["omf-link", "draft", "--base", "7G00"],
+        &["omf-link", "draft", "--real", "--flat", "8"],
+        &["omf-link", "--real", "draft"],
     ];
     for words in none {
         ends(&rt, words, &input, 2, USAGE)?;
@@ -320,12 +309,12 @@ fn ends_where_a_device_fails(rt: HostRuntime) -> Result<(), Fail> {
     let mut printed = Vec::new(alloc);
     let mut reader = Script::new(&input, Then::Fails);
     let mut writer = Writing::new(&mut printed);
-    let ended = status_of(alloc, &["image"], &mut reader, &mut writer)?;
+    let ended = run_on::<Link, _, _>(alloc, &["omf-link", "image"], &mut reader, &mut writer)?;
     assert_eq!(rt; ended, 3);
     assert!(rt; printed.as_slice() == b"read\n".as_slice());
     let mut reader = Script::new(&input, Then::Ends);
     let mut writer = Taker::new(alloc, 7, Full::Fails)?;
-    let ended = status_of(alloc, &["image"], &mut reader, &mut writer)?;
+    let ended = run_on::<Link, _, _>(alloc, &["omf-link", "image"], &mut reader, &mut writer)?;
     assert_eq!(rt; ended, 3);
     assert!(rt; writer.bytes() == b"00007C0".as_slice());
     Ok(())

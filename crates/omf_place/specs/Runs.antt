@@ -1,5 +1,6 @@
 -- What a run answers, and what it reads and writes.
-use Rattle.std.specs.Prelude.{◌≡◌, ◌⊎◌, ℕ, List, false, Option, Some, None, Result, Ok, Err}
+use Rattle.std.specs.Prelude.{◌≡◌, ◌⊎◌, ℕ, List, [], false, Option, Some, None, Result, Ok, Err}
+use Rattle.clap.specs.Words.{Text, fault_of}
 use Rattle.omf_frame.specs.Device.{Device}
 use Rattle.omf_frame.specs.Framing.{Raw}
 use Rattle.omf_image.specs.Limits.{profile_limits}
@@ -10,11 +11,12 @@ use Rattle.omf_check.specs.declared.profile.Profile.{Profile}
 use Rattle.omf_layout.specs.declared.options.Options.{Options}
 use Rattle.omf_layout.specs.Layout.{layout_of}
 use Rattle.omf_cmd.specs.HowFar.{EndsAtRefusal, IsReadFrom, IsUnrefused}
-use Rattle.omf_cmd.specs.Reports.{Misuses}
+use Rattle.omf_cmd.specs.Reports.{IsOutOfMemory, Misuses}
 use Rattle.omf_cmd.specs.Runs.{AnswersBy, EndsBy, IsReadCause, IsUnbroken, PrintsOr}
 use Rattle.omf_cmd.specs.declared.fault.RunFault.TheVariants as run
 use Rattle.omf_place.specs.Drafts.{IsDraft}
 use Rattle.omf_place.specs.Faults.{status_of, TellsFault, usage}
+use Rattle.omf_place.specs.Words.{IsAsked, IsOnlyAsked, place_app}
 use Rattle.omf_place.specs.declared.fault.PlaceFault.{PlaceFault}
 use Rattle.omf_place.specs.declared.fault.PlaceFault.TheVariants as fault
 
@@ -71,3 +73,11 @@ IsAnswer o reader reader' writer writer' status = AnswersBy (IsRun o) IsEnded re
 -- Its answer to words that are not understood: how it is called, unless the writer failed; or memory ran out. Nothing is read.
 abbrev pub IsMisuse : Device → Device → Device → Device → ℕ → Type 0
 IsMisuse reader reader' writer writer' status = Misuses usage reader reader' writer writer' status
+
+-- What the program answers to its words. Where they ask for options it ran at these, and the status and what was written tell its answer;
+-- or memory ran out before. Where they ask for nothing, as where a value is no hexadecimal number, and where clap refuses them, it says how
+-- it is called.
+pub record AnswersTo (words : List Text) (reader reader' writer writer' : Device) (status : ℕ) : Type 0 where
+  pub answer : (asked : Options) → IsAsked words asked → IsAnswer asked reader reader' writer writer' status ⊎ IsOutOfMemory reader reader' writer writer' status
+  pub unasked : ((asked : Options) → IsOnlyAsked words asked → ⊥) → IsMisuse reader reader' writer writer' status
+  pub misuse : (fault_of place_app words ≡ [] → ⊥) → IsMisuse reader reader' writer writer' status

@@ -361,24 +361,7 @@ fn adds_what_fixups_say(rt: HostRuntime) -> Result<(), Fail> {
     Ok(())
 }
 
-const THREADED: [Case; 4] = [
-    Case {
-        name: "threads across records",
-        records: &[
-            HEADER,
-            NAMES,
-            SEGMENT,
-            "98 07 00 28 02 00 02 01 01 33",
-            "A0 08 00 01 00 00 00 00 00 00 57",
-            "9C 09 00 50 00 01 C4 00 8C 00 02 B8",
-            "9C 04 00 C4 02 8C 0E",
-            "A0 06 00 02 00 00 00 00 58",
-            "9C 04 00 C4 00 8C 10",
-            END,
-        ],
-        text: b"S 20 10 1\nS 50 40 4",
-        wanted: Writes(b"0001:00000000 10 00 40 00\n0002:00000000 10 00\n"),
-    },
+const THREADED: [Case; 3] = [
     Case {
         name: "a thread that is not set",
         records: &[
@@ -428,7 +411,7 @@ const THREADED: [Case; 4] = [
 ];
 
 #[test]
-fn keeps_threads_until_they_are_set_again(rt: HostRuntime) -> Result<(), Fail> {
+fn judges_threads_where_they_are_used(rt: HostRuntime) -> Result<(), Fail> {
     assert_eq!(rt; first_wrong(rt.alloc(), &THREADED)?, None);
     Ok(())
 }

@@ -2,35 +2,16 @@
 
 use super::PLACED;
 use super::reports::{FIRST, has_taken, joined};
-use omf_cmd::main_with;
+use omf_cmd::{Omf, run_in_memory, run_on};
 use omf_frame::faulty::{Full, Script, Taker, Then};
 use omf_frame::samples::{DATA, END, FIXUP, HEADER, LONG_DATA, NAMES, SEGMENT, VENDOR};
-use omf_frame::{Reading, Sink, Source, Writing};
+use omf_frame::{Source, Writing};
 use std::alloc::{AllocError, Global};
 use std::test::Fail;
 
 const USAGE: &[u8] = b"usage: omf list|check|reloc|canon [--refuse-vendor-comments]\n";
 
-fn texts(alloc: Global, words: &[&str]) -> Result<Vec<String>, AllocError> {
-    let mut texts = Vec::new(alloc);
-    for word in words {
-        texts.push(String::from_str(alloc, *word)?)?;
-    }
-    Ok(texts)
-}
-
-/// The status that the program ends with on these words.
-fn status_of<S: Source, K: Sink>(
-    alloc: Global,
-    words: &[&str],
-    reader: &mut S,
-    writer: &mut K,
-) -> Result<u8, AllocError> {
-    let words = texts(alloc, words)?;
-    Ok(main_with(alloc, &words, reader, writer))
-}
-
-/// Whether the program ends with this status, and prints this.
+/// Whether the program ends with this status on what a reader gives, and prints this.
 fn ends<S: Source>(
     alloc: Global,
     words: &[&str],
@@ -39,8 +20,7 @@ fn ends<S: Source>(
     text: &[u8],
 ) -> Result<bool, AllocError> {
     let mut printed = Vec::new(alloc);
-    let mut writer = Writing::new(&mut printed);
-    let ended = status_of(alloc, words, reader, &mut writer)?;
+    let ended = run_on::<Omf, _, _>(alloc, words, reader, &mut Writing::new(&mut printed))?;
     Ok(ended == status && printed.as_slice() == text)
 }
 
@@ -53,8 +33,7 @@ fn ends_on(
     text: &[u8],
 ) -> Result<bool, AllocError> {
     let input = joined(alloc, pieces)?;
-    let mut reader = Reading::new(input.as_slice());
-    ends(alloc, words, &mut reader, status, text)
+    Ok(run_in_memory::<Omf>(alloc, words, &input)?.is(status, text))
 }
 
 /// The words behind the program's name, the pieces of input, the status, and what is printed.
@@ -201,7 +180,7 @@ fn ends_over(
     let input = joined(alloc, &FIRST)?;
     let mut reader = Script::new(&input, Then::Ends);
     let mut writer = Taker::new(alloc, room, full)?;
-    let ended = status_of(alloc, words, &mut reader, &mut writer)?;
+    let ended = run_on::<Omf, _, _>(alloc, words, &mut reader, &mut writer)?;
     Ok(ended == status && has_taken(&writer, text))
 }
 

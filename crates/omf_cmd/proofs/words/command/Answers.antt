@@ -1,5 +1,5 @@
 use Rattle.std.proofs.Common.{refl, ◌∙◌, map, string_bytes, inl, inr, Some, None}
-use Rattle.omf_cmd.specs.Inner.Parsed.{omf_app}
+use Rattle.omf_cmd.specs.Words.{omf_app}
 use Rattle.omf_cmd.proofs.Parsed.{answers, is_free_omf, parse_of}
 use Rattle.omf_cmd.proofs.words.command.Goals as goal
 

@@ -1,8 +1,7 @@
 use Rattle.std.proofs.Common.{◌≡◌, sym, ap, ◌∙◌}
 use Rattle.clap.proofs.WalkLemmas.{one_text-rows}
 use Rattle.clap.specs.Words.{found_of, rows_of, subcommand_rows_of}
-use Rattle.omf_cmd.specs.Inner.Parsed.{flag_id}
-use Rattle.omf_cmd.specs.Words.{job_named}
+use Rattle.omf_cmd.specs.Words.{flag_id, job_named}
 use Rattle.omf_cmd.proofs.Parsed.{name_at, flag_at, flag_value, same_job}
 use Rattle.omf_cmd.proofs.words.named_by.Goals as goal
 

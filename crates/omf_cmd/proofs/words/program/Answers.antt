@@ -1,6 +1,6 @@
 use Rattle.std.proofs.Common.{◌≡◌, rules, ap, ap₂, ◌∙◌, codes}
 use Rattle.clap.specs.Words.{App, app_of, with_rule, with_subcommand}
-use Rattle.omf_cmd.specs.Inner.Parsed.{with_flag}
+use Rattle.omf_cmd.specs.Words.{with_flag}
 use Rattle.omf_cmd.proofs.Parsed.{ok_also}
 use Rattle.omf_cmd.proofs.words.program.Goals as goal
 

@@ -10,14 +10,15 @@ use std::io::{Error, ErrorKind};
 
 /// A text that is gathered. It fails where a growth is refused, and takes nothing then.
 #[derive(Drop)]
-pub(crate) struct Gathered {
-    pub(crate) text: Vec<u8>,
+pub struct Gathered {
+    /// All that it took.
+    pub text: Vec<u8>,
     refusals: u64,
 }
 
 impl Gathered {
     /// No text.
-    pub(crate) fn new(alloc: Global) -> Self
+    pub fn new(alloc: Global) -> Self
         ensures { ⟦<Gathered as Sink>⟧.seen result ≡ record { bytes = Some []; failures = 0; breaks = 0 } }
     {
         Gathered {

@@ -1,0 +1,29 @@
+use Rattle.std.proofs.Common.{◌≡◌, rules, subst, inl}
+use Rattle.omf_link.specs.declared.words.Task.{Task as Asked}
+use Rattle.omf_link.specs.Runs.{IsAnswer}
+use Rattle.omf_link.proofs.program.LinkProgram.run.Goals as goal
+
+pub returns-in-Ok-Some-clause-answers : goal.returns-in-Ok-Some-clause-answers
+returns-in-Ok-Some-clause-answers g c =
+    let is = c.in-Ok-Some.field-0-is in
+    record {
+      answer = λ asked a.
+          let told = c.in-Ok-Some.ensures.asks asked a in
+          let same : c.in-Ok-Some.task ≡ asked = cc in
+          inl (subst
+          (λ (t : Asked). IsAnswer t (g.S.Source.seen c.args.reader.now) (g.S.Source.seen c.run_to_end.new.reader) (g.K.Sink.seen c.args.writer.now) (g.K.Sink.seen c.run_to_end.new.writer) c.run_to_end.result)
+          same c.run_to_end.ensures.answer);
+      unasked = λ none. absurd (none c.in-Ok-Some.task (rw is at c.in-Ok-Some.ensures.only));
+      nothing = λ e. let told = c.in-Ok-Some.ensures.none e in absurd cc;
+      misuse = λ e. absurd (search rules);
+    }
+
+pub returns-in-Ok-None-clause-answers : goal.returns-in-Ok-None-clause-answers
+returns-in-Ok-None-clause-answers g c =
+    let is = c.in-Ok-None.field-0-is in
+    record {
+      answer = λ asked a. let told = c.in-Ok-None.ensures.asks asked a in absurd cc;
+      unasked = search rules;
+      nothing = search rules;
+      misuse = search rules;
+    }
