@@ -1,5 +1,6 @@
 #!/usr/bin/env python3
-"""Two tables of docs/ARCHITECTURE.md: house.py counts the lines of each crate; house.py laws has what is believed of computed words.
+"""Tables of docs/ARCHITECTURE.md: house.py counts the lines of each crate; house.py laws has what is believed of computed words; house.py
+calls has the inner words in contracts of public calls.
 
 Lines that are empty, a comment alone, or an import are not counted. Believed are the definitions in specs/, less the worked examples
 that are evaluated (Rows.antt, and the modules that they are about), which stand under tests, as does samples.rt; inner are those of specs/Inner/, which
@@ -67,9 +68,56 @@ def laws():
     return not untied
 
 
+def exported(crate):
+    """The names that a crate's root file makes public."""
+    root = next(path for name in ("lib.rt", "main.rt") if (path := crate / "src" / name).exists())
+    uses = re.findall(r"^pub use ([^;]*);", root.read_text(encoding="utf-8"), re.M)
+    return {name for use in uses for name in re.findall(r"\w+", use)}
+
+
+def contracts(path):
+    """Each public function of a file: its type, if it is a method, its name, and its clauses."""
+    owner, name, clauses = None, None, []
+    for line in path.read_text(encoding="utf-8").splitlines():
+        begins = re.match(r"impl(?:<[^>]*>)? (?:[^{]* for )?(\w+)", line)
+        function = re.match(r" *pub (?:extern \"C\" )?fn (\w+)", line)
+        if begins or line == "}":
+            owner = begins[1] if begins else None
+        if function:
+            name, clauses = function[1], []
+        elif name and re.match(r" *(ensures|requires)\b", line):
+            clauses.append(line)
+        if name and line.rstrip().endswith("{"):
+            yield owner, name, " ".join(clauses)
+            name = None
+
+
+def calls():
+    """The words of an Inner that contracts of public calls name, with these calls."""
+    found = {}
+    for crate in sorted(it for it in ROOT.iterdir() if it.is_dir() and not it.name.endswith(("_tests", "_trials"))):
+        public = exported(crate)
+        for path in sorted(crate.glob("src/**/*.rt")):
+            text = path.read_text(encoding="utf-8")
+            uses = re.findall(r"ghost use Rattle\.(omf_\w+)\.specs\.Inner\.(\w+)\.\{(.*)\}", text)
+            words = {word.split(" as ")[-1]: use[:2] for use in uses for word in use[2].split(", ")}
+            for owner, name, clauses in contracts(path):
+                if (owner or name) in public:
+                    for word in words.keys() & set(re.findall(r"\w+", clauses)):
+                        call = f"`{owner}::{name}`" if owner else f"`{name}`"
+                        found.setdefault((*words[word], word), set()).add(call + f" of {crate.name}")
+    print("| Word | Of | In the contracts of |")
+    print("|---|---|---|")
+    for (crate, module, word), users in sorted(found.items()):
+        print(f"| `{word}` | `{crate}` {module} | {', '.join(sorted(users))} |")
+
+
 def main():
     if sys.argv[1:] == ["laws"]:
         sys.exit(0 if laws() else 1)
+    if sys.argv[1:] == ["calls"]:
+        calls()
+        return
     print("| Crate | " + " | ".join(KINDS) + " |")
     print("|---|" + "---|" * len(KINDS))
     sums = dict.fromkeys(KINDS, 0)
