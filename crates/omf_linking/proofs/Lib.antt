@@ -3,6 +3,7 @@ pub mod PlacesLaws
 pub mod GiveLaws
 pub mod LinkLaws
 pub mod ReadingLaws
+pub mod OneReading
 pub mod RelocatedLaws
 pub mod StartLaws
 pub mod SegmentsLaws

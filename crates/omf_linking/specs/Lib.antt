@@ -3,6 +3,7 @@ pub mod Parts
 pub mod Faults
 pub mod Placing
 pub mod Reading
+pub mod Laws
 pub mod Relocated
 pub mod Segments
 pub mod LinkedMemory

@@ -1,6 +1,7 @@
 -- Words of the worked examples.
 use Rattle.std.specs.Prelude.{ℕ, List, [], ◌∷◌, Bool, Option, Some, None, slice_get, ◌==◌, if◌then◌else◌}
 use Rattle.std.specs.List.{join_with_byte}
+use Rattle.omf_derive.specs.declared.given.Given.{Given}
 use Rattle.omf_placement.specs.declared.frame.Frame.{Frame}
 use Rattle.omf_placement.specs.declared.frame.Placed.{Placed}
 use Rattle.omf_records.specs.Values.{Rec, ModEnd, Segment}
@@ -16,6 +17,10 @@ lines ls = join_with_byte 10 ls
 -- a part behind a line
 abbrev pub part : ℕ → List Placed → List (ℕ × Option Frame) → List GivenLine → Part
 part n segments groups given = record { line = n; draft = record { segments = segments; groups = groups; externals = [] }; given = given }
+
+-- an external of a module that is given by hand, in the frame at 0
+abbrev pub given_at : ℕ → ℕ → ℕ → Given
+given_at j i address = record { «module» = j; external = i; address = address; frame = record { base = 0; selector = 0 } }
 
 -- a module that ends with this type byte of its MODEND, and a start
 abbrev pub ending : ℕ → ℕ × ℕ → List Rec × Relocated

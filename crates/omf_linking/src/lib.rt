@@ -4,6 +4,7 @@
 
 mod entry;
 mod fault;
+pub mod laws;
 mod memory;
 mod parts;
 mod placing;

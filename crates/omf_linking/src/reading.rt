@@ -1,6 +1,6 @@
 //! The modules and the text of an input.
 
-ghost use Rattle.std.specs.Prelude.{◌≡◌, ◌<◌, ◌^◌, IfErr, IfOk, length};
+ghost use Rattle.std.specs.Prelude.{◌≡◌, ◌+◌, ◌*◌, ◌<◌, ◌≤◌, ◌^◌, IfErr, IfOk, length};
 ghost use Rattle.std.specs.Io.KnownBytes.{Consumes, IsAtEnd};
 ghost use Rattle.omf_records.specs.Inner.Seen.{map_ok};
 ghost use Rattle.omf_linking.specs.Reading.{AreModules, IsModuleAt, IsPartRead, IsReadCause, begins_module};
@@ -22,6 +22,8 @@ const PIECE: usize = 65_536;
 pub fn read_all<S: Source>(alloc: Global, source: &mut S) -> Result<Vec<u8>, LinkFault>
     ensures read { IfOk result (λ bytes. Consumes (S.seen source.old).bytes (S.seen source.new).bytes bytes.items) }
     ensures end { IfOk result (λ bytes. IsAtEnd (S.seen source.new).bytes) }
+    // In front of each byte, and of the end, a thousand failures are passed over at most.
+    ensures bounded { IfOk result (λ bytes. (S.seen source.new).failures ≤ (S.seen source.old).failures + 1000 * (length bytes.items + 1)) }
     ensures part { IfErr result (λ fault. IsPartRead (S.seen source.old).bytes (S.seen source.new).bytes) }
     ensures cause { IsReadCause (S.seen source.old) (S.seen source.new) result }
 {
@@ -72,7 +74,7 @@ fn begins_module(bytes: &[u8]) -> bool
     ensures { result ≡ begins_module bytes.now }
 {
     match bytes {
-        [kind, ..] => *kind == 0x80 || *kind == 0x82,
+        [kind, ..] => matches!(*kind, 0x80 | 0x82),
         [] => false,
     }
 }
@@ -82,7 +84,8 @@ fn begins_module(bytes: &[u8]) -> bool
 ///
 /// # Errors
 ///
-/// `Refused` for the first module that is not well formed. `Memory` where a growth was refused.
+/// `Refused` for the first module that is not well formed. `Memory` where a growth was refused, or where a further module begins behind
+/// 4,294,967,295 of them.
 pub fn modules_in(
     alloc: Global,
     profile: Profile,

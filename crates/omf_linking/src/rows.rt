@@ -6,8 +6,8 @@ ghost use Rattle.omf_placement.specs.Entries.{Blank, SegmentEntry};
 ghost use Rattle.omf_reloc.specs.Rows.{at, frame};
 ghost use Rattle.omf_linking.specs.LinkEntries.{link_entry_said, NextModule, GivenExternal, OfPlacement};
 ghost use Rattle.omf_linking.specs.Parts.{parsed_parts};
-ghost use Rattle.omf_linking.specs.Placing.{places_of};
-ghost use Rattle.omf_linking.specs.Rows.{ending, lines, lying, part, share};
+ghost use Rattle.omf_linking.specs.Placing.{given_of, places_of};
+ghost use Rattle.omf_linking.specs.Rows.{ending, given_at, lines, lying, part, share};
 ghost use Rattle.omf_linking.specs.Segments.{all_segments, is_common};
 ghost use Rattle.omf_linking.specs.Starts.{main_starts, one_start};
 ghost use Rattle.omf_linking.specs.declared.fault.LinkFault.TheVariants.{Starts};
@@ -33,6 +33,14 @@ pub fn parts_of_a_text()
 pub fn parts_and_modules()
     ensures beyond { places_of [] (part 3 [] [] [] ∷ []) ≡ Err 3 }
     ensures none { places_of ([] ∷ []) [] ≡ Ok (record { segments = []; groups = []; externals = [] } ∷ []) }
+{}
+
+/// An `X` line gives a place to an external of its part's module. Where the module has no such external the line is at fault, and is told
+/// before a group without a frame.
+pub fn externals_given_by_hand()
+    ensures given { given_of (part 0 [] [] [] ∷ part 3 [] [] ((4, (2, at 0x30 0 0)) ∷ []) ∷ []) ≡ given_at 1 2 0x30 ∷ [] }
+    ensures frame { places_of ([] ∷ []) (part 0 [] ((1, None) ∷ []) [] ∷ []) ≡ Err 1 }
+    ensures stray { places_of ([] ∷ []) (part 0 [] ((1, None) ∷ []) ((2, (2, at 0 0 0)) ∷ []) ∷ []) ≡ Err 2 }
 {}
 
 /// The start is that of the one main module that names one: bit 7 of the type byte of its MODEND is set. Of two or more the first two are

@@ -189,6 +189,14 @@ fn all_of_an_input_is_read(rt: HostRuntime) -> Result<(), Fail> {
             bytes
         )
     );
+    // More than a thousand interruptions in all, and no thousand running.
+    assert!(rt;
+        reads(
+            alloc,
+            &mut Script::new(bytes, Then::Ends).in_pieces(5).interrupted(600),
+            bytes
+        )
+    );
     assert!(rt; reads(alloc, &mut Script::new(&[], Then::Ends), &[]));
     let long = vec![in alloc; 0xA5; 70_000]?;
     assert!(rt; reads(alloc, &mut Script::new(&long, Then::Ends), &long));

@@ -1,8 +1,9 @@
 -- What is laid in memory, and which two segments overlap.
-use Rattle.std.proofs.Common.{◌≡◌, ℕ, ◌+◌, ◌-◌, ◌<◌, ◌≤◌, List, [], ◌∷◌, ◌++◌, length, take, drop, get_or, add-one, map, refl, sym, ap, subst, ◌∙◌, Bool, true, false, ◌&&◌, nat_le, Option, Some, None, if◌then◌else◌, append_assoc}
-use Rattle.std.specs.Prelude.{All, Ok, filter_map, option_map, slice_get, is_some, replicate}
+use Rattle.std.proofs.Common.{◌≡◌, ℕ, ◌+◌, ◌-◌, ◌<◌, ◌≤◌, List, [], ◌∷◌, ◌++◌, length, take, drop, get_or, add-one, map, refl, sym, ap, subst, ◌∙◌, Bool, true, false, ◌&&◌, arith, nat_le, Option, Some, None, if◌then◌else◌, append_assoc}
+use Rattle.std.specs.Prelude.{◌==◌, All, Ok, filter_map, option_map, slice_get, is_some, replicate}
 use Rattle.std.specs.Option.{option_or}
 use Rattle.std.specs.List.{last_or, cons_option}
+use Rattle.std.proofs.lemmas.Bool.{eqb-true}
 use Rattle.std.proofs.lemmas.List.Elements.{All-head, All-tail, All-nil, All-cons}
 use Rattle.std.proofs.lemmas.List.{length-replicate, map-append, take_all}
 use Rattle.std.proofs.lemmas.Grind.{take_at_read}
@@ -15,7 +16,7 @@ use Rattle.omf_image.proofs.PaintLaws.{same_are_lost}
 use Rattle.omf_image.proofs.TurnLaws.{images_are}
 use Rattle.omf_memory.specs.declared.stretch.Owner.{Owner}
 use Rattle.omf_memory.specs.declared.stretch.Stretch.{Stretch}
-use Rattle.omf_memory.specs.Memory.{piece, pieces, Lies, Share, share_of, shares, memory_byte, IsMemory, IsFirstOverlap}
+use Rattle.omf_memory.specs.Memory.{piece, pieces, Lies, Share, share_of, shares, memory_byte, HasNoOther, IsMemory, IsFirstOverlap}
 use Rattle.omf_memory.specs.Inner.Laying.{laid_piece, laid_pieces, extent_in, extents_in, overlap_with, excluded}
 
 -- ---- what one stretch has at an address
@@ -139,5 +140,17 @@ last_mapped o (s ∷ ss) = last_mapped (Some s) ss
 byte_there : (ss : List Stretch) (image : List Laid) → AreLaidOver [] (laid_pieces ss) image → (a : ℕ) → byte_at image 0 a ≡ memory_byte (shares (pieces ss) a)
 byte_there ss image h a = (images_are (laid_pieces ss) image h).0 0 a ∙ ap last (all_bytes a ss) ∙ last_mapped None (shares (pieces ss) a)
 
+-- all of them were laid in segment 0
+none_in : (segment a : ℕ) → 0 < segment → (ss : List Stretch) → filter_map (byte_of segment a) (laid_pieces ss) ≡ []
+none_in segment a low [] = refl
+none_in segment a low (s ∷ ss) = by (0 == segment) refl (none_in segment a low ss)
+  where
+    by : (t : Bool) → (0 == segment) ≡ t → filter_map (byte_of segment a) (laid_pieces ss) ≡ [] → filter_map (byte_of segment a) (laid_pieces (s ∷ ss)) ≡ []
+    by true e rest = let same : 0 ≡ segment = eqb-true 0 segment e in absurd (omega (arith, same, low))
+    by false e rest = rw e rest
+
+no_other : (ss : List Stretch) (image : List Laid) → AreLaidOver [] (laid_pieces ss) image → HasNoOther image
+no_other ss image h segment a low = (images_are (laid_pieces ss) image h).0 segment a ∙ ap last (none_in segment a low ss)
+
 pub is_memory : (ss : List Stretch) (o : Option ℕ) (image : List Laid) → o ≡ None → IsFirstOverlap (shares (pieces ss)) o → AreLaidOver [] (laid_pieces ss) image → IsMemory (shares (pieces ss)) (Ok image)
-is_memory ss o image e first h = (subst (IsFirstOverlap (shares (pieces ss))) e first, byte_there ss image h)
+is_memory ss o image e first h = (subst (IsFirstOverlap (shares (pieces ss))) e first, byte_there ss image h, no_other ss image h)

@@ -56,10 +56,14 @@ IsFirstOverlap at (Some x) = IsSome (overlap (at x)) × ((a : ℕ) → a < x →
 abbrev pub memory_byte : List Share → Option ℕ
 memory_byte ss = option_map (λ s. s.byte) (last ss)
 
--- The memory of what segments have at each address, as segment 0 of an image; or the first address at which two overlap, and which two. Want of memory may come
--- at any time.
+-- An image has no bytes but in segment 0.
+abbrev pub HasNoOther : List Laid → Type 0
+HasNoOther image = (segment a : ℕ) → 0 < segment → byte_at image segment a ≡ None
+
+-- The memory of what segments have at each address, as segment 0 of an image, which has no other; or the first address at which two
+-- overlap, and which two. Want of memory may come at any time.
 abbrev pub IsMemory : (ℕ → List Share) → Result (List Laid) MemoryFault → Type 0
-IsMemory at (Ok image) = ((a : ℕ) → IsNone (overlap (at a))) × ((a : ℕ) → byte_at image 0 a ≡ memory_byte (at a))
+IsMemory at (Ok image) = ((a : ℕ) → IsNone (overlap (at a))) × ((a : ℕ) → byte_at image 0 a ≡ memory_byte (at a)) × HasNoOther image
 IsMemory at (Err fault.Memory) = ⊤
 IsMemory at (Err (fault.Beyond o)) = ⊥
 IsMemory at (Err (fault.Overlap a s t)) = (overlap (at a) ≡ Some (s, t)) × ((b : ℕ) → b < a → IsNone (overlap (at b)))

@@ -5,7 +5,7 @@ use Rattle.omf_memory.specs.declared.fault.MemoryFault.{MemoryFault}
 use Rattle.omf_memory.specs.declared.fault.MemoryFault.TheVariants as fault
 use Rattle.omf_memory.specs.declared.segment.PlacedSegment.{PlacedSegment}
 use Rattle.omf_memory.specs.declared.stretch.Owner.{Owner}
-use Rattle.omf_memory.specs.Memory.{Share, overlap, memory_byte}
+use Rattle.omf_memory.specs.Memory.{HasNoOther, Share, overlap, memory_byte}
 
 -- A segment at an address, with its byte at each of its offsets, where it has one there.
 pub record SegmentAt : Type 0 where
@@ -51,6 +51,7 @@ pub record AreLaid (segments : List SegmentAt) (image : List Laid) : Type 0 wher
   pub within : All IsWithin segments
   pub apart : (a : ℕ) → IsNone (overlap (segment_shares segments a))
   pub bytes : (a : ℕ) → byte_at image 0 a ≡ memory_byte (segment_shares segments a)
+  pub no_other : HasNoOther image
 
 -- No byte lies beyond the last address, and this is the first address at which two segments overlap, and which two.
 pub record DoOverlap (segments : List SegmentAt) (address : ℕ) (first second : Owner) : Type 0 where

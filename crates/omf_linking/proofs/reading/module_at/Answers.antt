@@ -3,4 +3,4 @@ use Rattle.omf_frame.specs.Device.{Device}
 use Rattle.omf_linking.proofs.reading.module_at.Goals as goal
 
 pub returns-in-Ok : goal.returns-in-Ok
-returns-in-Ok c = (c.in-Ok.ensures.verdict c.args.bytes.now (ap (λ (d : Device). d.bytes) c.new.ensures)).1
+returns-in-Ok c = c.in-Ok.ensures.verdict c.args.bytes.now (ap (λ (d : Device). d.bytes) c.new.ensures)

@@ -1,4 +1,4 @@
-use Rattle.std.proofs.Common.{◌≡◌, ◌∷◌, ◌∙◌, [], length, sym, ap, subst, rules, arith}
+use Rattle.std.proofs.Common.{◌≡◌, ◌∷◌, ◌∙◌, [], inr, length, sym, ap, subst, rules, arith}
 use Rattle.std.specs.Prelude.{Err}
 use Rattle.std.proofs.lemmas.List.{length-append}
 use Rattle.omf_records.specs.Inner.Seen.{map_ok}
@@ -11,15 +11,17 @@ returns-in_err-module-clause-modules c =
     let f = c.in_err-module.field-0.0 in
     let same : c.from_residual.result ≡ Err f = search rules in
     subst (λ r. AreModules c.args.profile c.args.input.now (map_ok (λ v. (v.0.items, v.1.now)) r)) (sym same)
-    (refused_behind c.args.profile c.args.input.now c.loop-number.modules.items c.loop-number.rest.now c.loop-number.number f c.loop-number.invariant.front c.loop-number.invariant.counted c.in_err-module.ensures)
+    (refused_behind c.args.profile c.args.input.now c.loop-number.modules.items c.loop-number.rest.now c.loop-number.number f c.loop-number.invariant.front c.loop-number.invariant.counted c.loop-number.invariant.begun c.in_err-module.ensures)
 
 pub returns-then-not-begins_module-clause-modules : goal.returns-then-not-begins_module-clause-modules
 returns-then-not-begins_module-clause-modules c =
     let m = c.in_ok-module.module in
     let rest = c.loop-number.rest.now in
-    let left = c.split_at.ensures.back ∙ behind c.args.profile rest m c.in_ok-module.ensures c.bytes.result.now c.bytes.ensures.bytes in (
+    let left = c.split_at.ensures.back ∙ behind c.args.profile rest m c.in_ok-module.ensures c.bytes.result.now c.bytes.ensures.bytes in
+    let grown = ap length c.in_ok-push.ensures.items ∙ length-append c.loop-number.modules.items (m ∷ []) in (
       front_grown c.args.profile c.args.input.now c.loop-number.modules.items c.push.new.self.items rest c.split_at.result.1.now m c.in_ok-push.ensures.items c.loop-number.invariant.front c.in_ok-module.ensures left,
       sym c.begins_module.ensures ∙ c.if-not-begins_module.true,
+      omega (arith, grown),
     )
 
 pub loop-number-preserved : goal.loop-number-preserved
@@ -31,4 +33,5 @@ loop-number-preserved c =
     record {
       front = front_grown c.args.profile c.args.input.now c.loop-number.modules.items c.push.new.self.items rest c.split_at.result.1.now m c.in_ok-push.ensures.items c.loop-number.invariant.front c.in_ok-module.ensures left;
       counted = omega (arith, grown, c.loop-number.invariant.counted);
+      begun = inr (sym c.begins_module.ensures ∙ c.if-not-begins_module.false);
     }
