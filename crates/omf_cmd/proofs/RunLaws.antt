@@ -112,7 +112,7 @@ pub record IsReport (prints_by : Printing) (text : List Raw → List ℕ) (profi
   pub prints : ReportsBy prints_by text profile reader reader' writer writer' ran
 
 -- the faults of a check and of printing are no faults of a placement
-check_fault : (e : CheckFault) → IsModuleFault (of_check e)
+pub check_fault : (e : CheckFault) → IsModuleFault (of_check e)
 check_fault check.Memory = tt
 check_fault check.Read = tt
 check_fault (check.Refused why at) = tt

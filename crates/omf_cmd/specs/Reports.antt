@@ -1,6 +1,6 @@
 -- What `check`, `list` and `canon` answer for an input: each prints a text of the records of the module that it begins with. How the
 -- program ends.
-use Rattle.std.specs.Prelude.{◌≡◌, ◌⊎◌, IsTrue, ℕ, List, [], Option, Some, None, Result, Ok, Err}
+use Rattle.std.specs.Prelude.{◌≡◌, ◌⊎◌, ⊤, IfErr, IsTrue, ℕ, Bool, List, [], Option, Some, None, Result, Ok, Err}
 use Rattle.clap.specs.Words.{Text, fault_of, subcommand_of}
 use Rattle.omf_frame.specs.Device.{Device}
 use Rattle.omf_frame.specs.Framing.{Raw}
@@ -15,7 +15,8 @@ use Rattle.omf_cmd.specs.HowFar.{EndsAtRefusal, IsReadFrom, IsUnrefused}
 use Rattle.omf_cmd.specs.Listing.{canonical_text, check_text, list_text}
 use Rattle.omf_cmd.specs.Relocating.{IsRelocation}
 use Rattle.omf_cmd.specs.Runs.{EndsBy, IsCausedBy, IsWritten, Prints, PrintsInPieces}
-use Rattle.omf_cmd.specs.Words.{asks, omf_app, status_of, usage}
+use Rattle.omf_cmd.specs.Parsed.{IsParsed}
+use Rattle.omf_cmd.specs.Words.{asks, job_named, omf_app, profile_of, status_of, usage}
 use Rattle.omf_cmd.specs.declared.fault.RunFault.{RunFault}
 use Rattle.omf_cmd.specs.declared.fault.RunFault.TheVariants as fault
 use Rattle.omf_cmd.specs.declared.words.Job.{Job}
@@ -67,6 +68,11 @@ IsRun job.Check profile reader reader' writer writer' ran = Reports check_text p
 IsRun job.Canon profile reader reader' writer writer' ran = Reports canonical_text profile reader reader' writer writer' ran
 IsRun job.Reloc profile reader reader' writer writer' ran = IsRelocation profile reader reader' writer writer' ran
 
+-- A job over the module alone names no fault of a placement, whatever its reader tells.
+abbrev pub IsNamedBy : Job → Result (Unit {0}) RunFault → Type 0
+IsNamedBy job.Reloc ran = ⊤
+IsNamedBy _ ran = IfErr ran IsModuleFault
+
 -- What is written of a fault: its whole text, or a part of it where the writer failed; where its line takes memory, it may be nothing.
 abbrev pub Tells : Device → Device → RunFault → Type 0
 Tells old new f = IsWritten old new (fault_text f) ⊎ (IsTrue (takes_memory f) × (new ≡ old))
@@ -81,6 +87,7 @@ pub record IsAnswer (asked : Job × Profile) (reader reader' writer writer' : De
   pub between : Device
   pub run : IsRun asked.0 asked.1 reader reader' writer between ran
   pub cause : IsCausedBy reader reader' writer between ran
+  pub named : IsNamedBy asked.0 ran
   pub ended : IsEnded between writer' ran status
 
 -- The program's answer where memory runs out before its words are read: the line of that fault, unless the writer failed. Nothing is
@@ -96,9 +103,15 @@ Misuses called reader reader' writer writer' status = ((reader' ≡ reader) × (
 abbrev pub IsMisuse : Device → Device → Device → Device → ℕ → Type 0
 IsMisuse reader reader' writer writer' status = Misuses usage reader reader' writer writer' status
 
+-- The answer of `omf` to words that ask for a job: it was run, or memory ran out before.
+abbrev pub IsDone : Job × Profile → Device → Device → Device → Device → ℕ → Type 0
+IsDone asked reader reader' writer writer' status = IsAnswer asked reader reader' writer writer' status ⊎ IsOutOfMemory reader reader' writer writer' status
+
 -- What `omf` answers to its words. Where they ask for a job it was run, and the status and what was written tell its answer; or memory ran
--- out before. Where they name no subcommand, and where clap refuses them, it says how it is called.
+-- out before. So it is for each job that clap finds in words without a fault, as in `omf check --`. Where they name no subcommand, and where
+-- clap refuses them, it says how it is called.
 pub record AnswersTo (words : List Text) (reader reader' writer writer' : Device) (status : ℕ) : Type 0 where
-  pub answer : (asked : Job × Profile) → asks words ≡ Some asked → IsAnswer asked reader reader' writer writer' status ⊎ IsOutOfMemory reader reader' writer writer' status
+  pub answer : (asked : Job × Profile) → asks words ≡ Some asked → IsDone asked reader reader' writer writer' status
+  pub parsed : (name : Text) (job : Job) (refuses : Bool) → fault_of omf_app words ≡ [] → IsParsed (subcommand_of omf_app words) name refuses → job_named name ≡ Some job → IsDone (job, profile_of refuses) reader reader' writer writer' status
   pub nothing : subcommand_of omf_app words ≡ None → IsMisuse reader reader' writer writer' status
   pub misuse : (fault_of omf_app words ≡ [] → ⊥) → IsMisuse reader reader' writer writer' status

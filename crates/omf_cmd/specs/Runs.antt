@@ -73,7 +73,18 @@ pub record AnswersBy {F : Type 0} (runs : Device → Device → Device → Devic
   pub run : runs reader reader' writer between ran
   pub ended : ends between writer' ran status
 
--- what a program answers over an input in memory: it read that from its front, and wrote this text
+-- a program ran, on some words and devices, and ended with this status; it ends with 3 also where memory ran out before, and where what it
+-- wrote could not be flushed
+abbrev pub HasRun : (List (List ℕ) → Device → Device → Device → Device → ℕ → Type 0) → ℕ → Type 0
+HasRun answers status =
+    ((words : List (List ℕ)) × (reader : Device) × (reader' : Device) × (writer : Device) × (writer' : Device) × answers words reader reader' writer writer' status) ⊎ (status ≡ 3)
+
+-- bytes in memory as a device: its only failures are refusals of memory, each of which is a break
+abbrev pub in_memory : ℕ → List ℕ → Device
+in_memory refusals bytes = record { bytes = Some bytes; failures = refusals; breaks = refusals }
+
+-- what a program answers over an input in memory: it read that from its front, left some of it, and wrote this text; the input never
+-- failed, and the text only where memory for it was refused
 abbrev pub AnswersInMemory : (List (List ℕ) → Device → Device → Device → Device → ℕ → Type 0) → List (List ℕ) → List ℕ → ℕ → List ℕ → Type 0
 AnswersInMemory answers words input status text =
-    (reader' : Device) × (writer' : Device) × (writer'.bytes ≡ Some text) × answers words (record { bytes = Some input; failures = 0; breaks = 0 }) reader' (record { bytes = Some []; failures = 0; breaks = 0 }) writer' status
+    (left : List ℕ) × (refusals : ℕ) × answers words (in_memory 0 input) (in_memory 0 left) (in_memory 0 []) (in_memory refusals text) status

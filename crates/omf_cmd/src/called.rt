@@ -1,6 +1,6 @@
 //! Programs that are called with words written out, also over an input in memory.
 
-ghost use Rattle.std.specs.Prelude.{◌≡◌, ◌↔◌, ◌≤◌, map, string_bytes, true, IfOk};
+ghost use Rattle.std.specs.Prelude.{◌≡◌, ◌↔◌, ◌≤◌, map, string_bytes, true, IfOk, OnErr};
 ghost use Rattle.omf_cmd.specs.Runs.{AnswersInMemory};
 
 use crate::gathered::Gathered;
@@ -45,6 +45,8 @@ pub fn run_on<P: Program, S: Source, K: Sink>(
     writer: &mut K,
 ) -> Result<u8, AllocError>
     ensures known { IfOk result (λ status. status ≤ 3) }
+    // Where memory ran out before, nothing was read and nothing written.
+    ensures kept { OnErr result ((S.seen reader.new ≡ S.seen reader.old) × (K.seen writer.new ≡ K.seen writer.old)) }
     ensures answers { IfOk result (λ status. P.answers (map (λ word. word.now) words.now) (S.seen reader.old) (S.seen reader.new) (K.seen writer.old) (K.seen writer.new) status) }
 {
     let words = words_from(alloc, words)?;

@@ -1,7 +1,8 @@
 //! Bytes that are gathered in memory, as a sink.
 
-ghost use Rattle.std.specs.Prelude.{◌≡◌, [], Some};
-ghost use Rattle.omf_frame.specs.Device.{Device};
+ghost use Rattle.std.specs.Prelude.{◌≡◌, ◌≤◌, [], Some, length, IfOk};
+ghost use Rattle.omf_frame.specs.Device.{Device, Pushes, push_fails, push_breaks, counted};
+ghost use Rattle.omf_cmd.specs.Runs.{in_memory};
 
 use omf_frame::Sink;
 use std::alloc::Global;
@@ -19,7 +20,7 @@ pub struct Gathered {
 impl Gathered {
     /// No text.
     pub fn new(alloc: Global) -> Self
-        ensures { ⟦<Gathered as Sink>⟧.seen result ≡ record { bytes = Some []; failures = 0; breaks = 0 } }
+        ensures { ⟦<Gathered as Sink>⟧.seen result ≡ in_memory 0 [] }
     {
         Gathered {
             text: Vec::new(alloc),
@@ -31,9 +32,16 @@ impl Gathered {
 impl Sink for Gathered {
     ghost use Rattle.std.specs.Prelude.{Some};
 
-    ghost seen = { λ s. record { bytes = Some s.text.items; failures = s.refusals; breaks = s.refusals } };
+    ghost seen = { λ s. in_memory s.refusals s.text.items };
 
-    fn push(&mut self, bytes: &[u8]) -> io::Result<usize> {
+    fn push(&mut self, bytes: &[u8]) -> io::Result<usize>
+        ensures bound { IfOk result (λ n. n ≤ length bytes.now) }
+        ensures bytes { Pushes (⟦<Gathered as Sink>⟧.seen self.old).bytes (⟦<Gathered as Sink>⟧.seen self.new).bytes result bytes.now }
+        ensures failures { (⟦<Gathered as Sink>⟧.seen self.new).failures ≡ counted (push_fails result bytes.now) (⟦<Gathered as Sink>⟧.seen self.old).failures }
+        ensures breaks { (⟦<Gathered as Sink>⟧.seen self.new).breaks ≡ counted (push_breaks result bytes.now) (⟦<Gathered as Sink>⟧.seen self.old).breaks }
+        // It takes all or fails.
+        ensures whole { IfOk result (λ n. n ≡ length bytes.now) }
+    {
         match self.text.extend_from_slice(bytes) {
             Ok(()) => Ok(bytes.len()),
             Err(_) => {

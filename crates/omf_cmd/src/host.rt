@@ -1,6 +1,8 @@
 //! A program on what the system hands to it.
 
-ghost use Rattle.std.specs.Prelude.{◌≤◌, ℕ, List, map, string_bytes};
+ghost use Rattle.std.specs.Prelude.{◌≡◌, ◌≤◌, ℕ, List, ◌&&◌, ◌==◌, if◌then◌else◌, is_err, map, string_bytes};
+ghost use Rattle.std.specs.Process.{exit_status};
+ghost use Rattle.omf_cmd.specs.Runs.{HasRun};
 ghost use Rattle.omf_frame.specs.Device.{Device};
 
 use crate::fault::RunFault;
@@ -49,7 +51,10 @@ fn words_and_input(rt: &HostRuntime) -> Result<(Vec<String>, Buffered<StdinLock>
 }
 
 /// The status of a program's run on the standard input.
-fn run_input<P: Program, K: Sink>(rt: &HostRuntime, writer: &mut K) -> u8 {
+fn run_input<P: Program, K: Sink>(rt: &HostRuntime, writer: &mut K) -> u8
+    ensures known { result ≤ 3 }
+    ensures ran { HasRun P.answers result }
+{
     match words_and_input(rt) {
         Ok((words, mut input)) => P::run(rt.alloc(), &words, &mut input, writer),
         Err(AllocError) => fail(rt.alloc(), &RunFault::Memory, writer),
@@ -57,15 +62,21 @@ fn run_input<P: Program, K: Sink>(rt: &HostRuntime, writer: &mut K) -> u8 {
 }
 
 /// What the program ends with: its status, but 3 where it was done and what it wrote could not be flushed.
-fn ended(status: u8, flushed: io::Result<()>) -> ExitCode {
+fn ended(status: u8, flushed: io::Result<()>) -> ExitCode
+    ensures { exit_status result ≡ (if status == 0 && is_err flushed then 3 else status) }
+{
     match status {
         0 if flushed.is_err() => ExitCode::from(3),
         _ => ExitCode::from(status),
     }
 }
 
-/// Runs a program on the words that it is called with, the standard input and the standard output.
-pub fn run_program<P: Program>(rt: &HostRuntime) -> ExitCode {
+/// Runs a program on the words that it is called with, the standard input and the standard output. It ends with the program's status, but
+/// with 3 where memory ran out before, and where the program was done and what it wrote could not be flushed.
+pub fn run_program<P: Program>(rt: &HostRuntime) -> ExitCode
+    ensures known { exit_status result ≤ 3 }
+    ensures ran { HasRun P.answers (exit_status result) }
+{
     let mut output = rt.stdout();
     let status = run_input::<P, _>(rt, &mut Writing::new(&mut output));
     ended(status, output.flush())

@@ -3,7 +3,7 @@
 ghost use Rattle.std.specs.Prelude.{◌≡◌, ◌≤◌, ◌++◌, ◌∷◌, [], map, string_bytes, IfOk, IfSome, IsTrue, OnOk, None};
 ghost use Rattle.omf_check.specs.declared.profile.Profile.{Profile};
 ghost use Rattle.omf_cmd.specs.FaultLine.{fault_line, fault_text, takes_memory};
-ghost use Rattle.omf_cmd.specs.Reports.{AnswersTo, IsRun, IsAnswer, Tells};
+ghost use Rattle.omf_cmd.specs.Reports.{AnswersTo, IsNamedBy, IsRun, IsAnswer, Tells};
 ghost use Rattle.omf_cmd.specs.Runs.{IsCausedBy, IsWritten};
 ghost use Rattle.omf_cmd.specs.Words.{status_of, usage};
 ghost use Rattle.omf_cmd.specs.declared.words.Job.{Job};
@@ -41,6 +41,7 @@ fn run<S: Source, K: Sink>(
     writer: &mut K,
 ) -> Result<(), RunFault>
     ensures cause { IsCausedBy (S.seen reader.old) (S.seen reader.new) (K.seen writer.old) (K.seen writer.new) result }
+    ensures named { IsNamedBy job result }
     ensures runs { IsRun job profile (S.seen reader.old) (S.seen reader.new) (K.seen writer.old) (K.seen writer.new) result }
 {
     match job {

@@ -25,7 +25,7 @@ use Rattle.omf_linking.specs.declared.fault.LinkFault.{LinkFault}
 use Rattle.omf_linking.specs.declared.fault.LinkFault.TheVariants as link
 use Rattle.omf_cmd.specs.Runs.{IsUnbroken, IsWritten}
 use Rattle.omf_cmd.specs.declared.fault.RunFault.{RunFault}
-use Rattle.omf_link.specs.Faults.{IsNamed, IsUnnamed, TellsAs, TellsFault, as_run, fault_line, name_of}
+use Rattle.omf_link.specs.Faults.{IsNamed, IsUnnamed, TellsAs, TellsFault, TellsLine, as_run, name_of, no_room}
 use Rattle.omf_link.specs.Drafted.{IsDrafted}
 use Rattle.omf_link.specs.Linked.{any, IsFirstFault, IsLinked}
 use Rattle.omf_link.specs.Mapped.{IsMapped}
@@ -41,9 +41,13 @@ pub written : (old new : Device) (text : List ℕ) (r : Result (Unit {0}) ImageF
 written old new text (Ok done) p = inl p
 written old new text (Err e) p = inr (p.1, p.2)
 
+-- that there is no room is told without memory
+pub no_room_told : (old new : Device) (f : ImageFault) → f ≡ fault.NoRoom → IsWritten old new (no_room ++ 10 ∷ []) → TellsLine old new f
+no_room_told old new f is w = subst (TellsLine old new) (sym is) (inl w)
+
 -- a fault that `omf` does not know is told by its line
-pub line_told : (old new : Device) (f : ImageFault) (text : List ℕ) → as_run f ≡ None → text ≡ fault_line f ++ 10 ∷ [] → IsWritten old new text → TellsFault old new f
-line_told old new f text none is w = subst (λ (o : Option RunFault). TellsAs o old new f) (sym none) (inl (subst (IsWritten old new) is w))
+pub line_told : (old new : Device) (f : ImageFault) → as_run f ≡ None → TellsLine old new f → TellsFault old new f
+line_told old new f none t = subst (λ (o : Option RunFault). TellsAs o old new f) (sym none) t
 
 -- ---- a fault with its name
 
@@ -115,15 +119,17 @@ not_first ms text (inr (inl h)) = not_far (enumerate_from 0 (zip ms h.0)) h.2
 not_first ms text (inr (inr (inl h))) = h.1
 not_first ms text (inr (inr (inr h))) = not_started (main_starts (zip ms h.0.relocated)) h.2
 
--- so what is answered names no device
+-- so what is answered names no device, and want of memory has no name
 abbrev pub IsNoDevice : Result (List ℕ) ImageFault → Type 0
 IsNoDevice (Err (fault.Link link.Read name)) = ⊥
+IsNoDevice (Err (fault.Link link.Memory name)) = name.items ≡ []
 IsNoDevice (Err fault.Write) = ⊥
 IsNoDevice _ = ⊤
 
 not_told : (Is : Result (List ℕ) LinkFault → Type 0) (ms : List (List Rec)) (r : Result (List ℕ) ImageFault) → (Is (Err link.Read) → ⊥) → IsNamedAs Is ms r → IsNoDevice r
 not_told Is ms (Ok shown) not h = tt
-not_told Is ms (Err (fault.Link link.Memory name)) not h = tt
+not_told Is ms (Err (fault.Link link.Memory name)) not (inl h) = h.1
+not_told Is ms (Err (fault.Link link.Memory name)) not (inr h) = h.1
 not_told Is ms (Err (fault.Link link.Read name)) not (inl h) = not h.0
 not_told Is ms (Err (fault.Link link.Read name)) not (inr h) = let is = h.0 in absurd cc
 not_told Is ms (Err (fault.Link (link.Refused j why at) name)) not h = tt
@@ -138,7 +144,7 @@ not_told Is ms (Err fault.Write) not h = h
 
 not_drafted : (o : Options) (ms : List (List Rec)) (r : Result (List ℕ) ImageFault) → IsDrafted o ms r → IsNoDevice r
 not_drafted o ms (Ok shown) h = tt
-not_drafted o ms (Err (fault.Link link.Memory name)) h = tt
+not_drafted o ms (Err (fault.Link link.Memory name)) h = h
 not_drafted o ms (Err (fault.Link link.Read name)) h = h
 not_drafted o ms (Err (fault.Link (link.Refused j why at) name)) h = tt
 not_drafted o ms (Err (fault.Link (link.Line n) name)) h = tt
@@ -157,7 +163,7 @@ not_shown (task.Draft o) ms text r h = not_drafted o ms r h
 
 not_refused : (input : List ℕ) (r : Result (List ℕ) ImageFault) → IsNoModule input r → IsNoDevice r
 not_refused input (Ok shown) h = tt
-not_refused input (Err (fault.Link link.Memory name)) h = tt
+not_refused input (Err (fault.Link link.Memory name)) h = h.1
 not_refused input (Err (fault.Link link.Read name)) h = h.0
 not_refused input (Err (fault.Link (link.Refused j why at) name)) h = tt
 not_refused input (Err (fault.Link (link.Line n) name)) h = tt
@@ -179,7 +185,7 @@ module _ (old new : Device) where
   -- whole
   unbroken : (r : Result (List ℕ) ImageFault) → IsUnbroken old new → IsNoDevice r → IsShowCause old new r
   unbroken (Ok shown) h n = h
-  unbroken (Err (fault.Link link.Memory name)) h n = h
+  unbroken (Err (fault.Link link.Memory name)) h n = (h, n)
   unbroken (Err (fault.Link link.Read name)) h n = absurd n
   unbroken (Err (fault.Link (link.Refused j why at) name)) h n = h
   unbroken (Err (fault.Link (link.Line k) name)) h n = h
@@ -195,19 +201,19 @@ module _ (old new : Device) where
   whole_cause t input r h i = unbroken r h (no_device t input r i)
 
   -- in part
-  told_cause : (A : Type 0) (f : LinkFault) (name : Vec ℕ Global) → IsReadCause {A = A} old new (Err f) → IsShowCause old new (Err (fault.Link f name))
-  told_cause A link.Memory name h = h
-  told_cause A link.Read name h = h
-  told_cause A (link.Refused j why at) name h = absurd h
-  told_cause A (link.Line k) name h = absurd h
-  told_cause A (link.External d) name h = absurd h
-  told_cause A (link.Reach j d) name h = absurd h
-  told_cause A (link.Starts j k) name h = absurd h
-  told_cause A (link.Beyond o) name h = absurd h
-  told_cause A (link.Overlap a s t) name h = absurd h
+  told_cause : (A : Type 0) (f : LinkFault) (name : Vec ℕ Global) → name.items ≡ [] → IsReadCause {A = A} old new (Err f) → IsShowCause old new (Err (fault.Link f name))
+  told_cause A link.Memory name e h = (h, e)
+  told_cause A link.Read name e h = (h, e)
+  told_cause A (link.Refused j why at) name e h = absurd h
+  told_cause A (link.Line k) name e h = absurd h
+  told_cause A (link.External d) name e h = absurd h
+  told_cause A (link.Reach j d) name e h = absurd h
+  told_cause A (link.Starts j k) name e h = absurd h
+  told_cause A (link.Beyond o) name e h = absurd h
+  told_cause A (link.Overlap a s t) name e h = absurd h
 
   pub part_cause : (A : Type 0) (f : LinkFault) (e : ImageFault) → IsReadCause {A = A} old new (Err f) → IsUnnamed f e → IsShowCause old new (Err e)
-  part_cause A f (fault.Link g name) c n = subst (λ (x : LinkFault). IsShowCause old new (Err (fault.Link x name))) (sym n.0) (told_cause A f name c)
+  part_cause A f (fault.Link g name) c n = subst (λ (x : LinkFault). IsShowCause old new (Err (fault.Link x name))) (sym n.0) (told_cause A f name n.1 c)
   part_cause A f fault.NoRoom c n = absurd n
   part_cause A f fault.Write c n = absurd n
 

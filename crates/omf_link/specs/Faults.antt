@@ -1,5 +1,5 @@
 -- The line that a fault is printed as, and the name of the external that it tells of (this profile's rule).
-use Rattle.std.specs.Prelude.{◌≡◌, ◌⊎◌, ℕ, ◌+◌, List, [], ◌∷◌, ◌++◌, Option, Some, None, option_and_then, unwrap_or, slice_get, codes, decimal}
+use Rattle.std.specs.Prelude.{◌≡◌, ◌⊎◌, IsTrue, Bool, true, false, ℕ, ◌+◌, List, [], ◌∷◌, ◌++◌, Option, Some, None, option_and_then, unwrap_or, slice_get, codes, decimal}
 use Rattle.omf_frame.specs.Device.{Device}
 use Rattle.omf_check.specs.Tables.{entry, externals}
 use Rattle.omf_derive.specs.declared.fault.DeriveFault.{DeriveFault}
@@ -104,10 +104,18 @@ status_as None = 1
 abbrev pub status_of : ImageFault → ℕ
 status_of f = status_as (as_run f)
 
--- What is written of a fault: its line, or a part of it where the writer failed, or nothing where the line finds no memory.
+-- A fault's line tells numbers, for which it takes memory; but not that there is no room.
+abbrev pub takes_memory : ImageFault → Bool
+takes_memory fault.NoRoom = false
+takes_memory _ = true
+
+-- What is written of a fault: its line, or a part of it where the writer failed; nothing where the line takes memory and finds none.
+abbrev pub TellsLine : Device → Device → ImageFault → Type 0
+TellsLine old new f = IsWritten old new (fault_line f ++ 10 ∷ []) ⊎ (IsTrue (takes_memory f) × (new ≡ old))
+
 abbrev pub TellsAs : Option RunFault → Device → Device → ImageFault → Type 0
 TellsAs (Some r) old new f = Tells old new r
-TellsAs None old new f = IsWritten old new (fault_line f ++ 10 ∷ []) ⊎ (new ≡ old)
+TellsAs None old new f = TellsLine old new f
 
 abbrev pub TellsFault : Device → Device → ImageFault → Type 0
 TellsFault old new f = TellsAs (as_run f) old new f

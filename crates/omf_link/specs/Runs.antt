@@ -23,9 +23,10 @@ Shows t input old new (Err (fault.Link link.Memory name)) = IsPartRead old new
 Shows t input old new (Err (fault.Link link.Read name)) = IsPartRead old new
 Shows t input old new r = IsWhole t input old new r
 
--- The reader is named where it failed, and else did not break.
+-- The reader is named where it failed, and else did not break. Neither its failure nor want of memory tells of an external.
 abbrev pub IsShowCause : Device → Device → Result (List ℕ) ImageFault → Type 0
-IsShowCause old new (Err (fault.Link link.Read name)) = HasGivenUp old new
+IsShowCause old new (Err (fault.Link link.Read name)) = HasGivenUp old new × (name.items ≡ [])
+IsShowCause old new (Err (fault.Link link.Memory name)) = IsUnbroken old new × (name.items ≡ [])
 IsShowCause old new (Err fault.Write) = ⊥
 IsShowCause old new r = IsUnbroken old new
 

@@ -2,7 +2,7 @@
 
 ghost use Rattle.std.specs.Prelude.{◌≡◌, ◌≤◌, ◌++◌, ◌∷◌, [], string_bytes, IfOk};
 ghost use Rattle.omf_cmd.specs.Runs.{IsWritten};
-ghost use Rattle.omf_link.specs.Faults.{TellsFault, as_run, fault_line, status_of, usage};
+ghost use Rattle.omf_link.specs.Faults.{TellsFault, TellsLine, as_run, fault_line, status_of, usage};
 ghost use Rattle.omf_link.specs.Runs.{AnswersTo, IsAnswer};
 
 use crate::fault::ImageFault;
@@ -18,6 +18,9 @@ use std::alloc::{AllocError, Global};
 /// What is printed where the words are not understood.
 const USAGE: &[u8] =
     b"usage: omf-link image | map | draft [--base ADDRESS] [--real | --flat SELECTOR]\n";
+
+/// What is printed where a draft has no room.
+const NO_ROOM: &[u8] = b"no room below the last address\n";
 
 /// The fault of `omf` that this one is told as.
 fn as_run(fault: &ImageFault) -> Option<RunFault>
@@ -49,9 +52,24 @@ fn line_text(alloc: Global, fault: &ImageFault) -> Result<String, AllocError>
     Ok(text)
 }
 
+/// Prints the line of a fault that `omf` does not know; nothing where a line that tells numbers finds no memory. A failure to print is
+/// passed over.
+fn print_line<K: Sink>(alloc: Global, fault: &ImageFault, writer: &mut K)
+    ensures { TellsLine (K.seen writer.old) (K.seen writer.new) fault.now }
+{
+    match fault {
+        ImageFault::NoRoom => tell(writer, NO_ROOM),
+        ImageFault::Link { .. } | ImageFault::Write => {
+            if let Ok(text) = line_text(alloc, fault) {
+                tell(writer, text.as_bytes());
+            }
+        }
+    }
+}
+
 /// Prints a fault's line, and answers its exit status: 1 where the input or its text is refused or has no room, 3 for want of memory and
-/// failing devices. Nothing is printed where the writer has failed already, nor where a line finds no memory; a failure to print is passed
-/// over.
+/// failing devices. Nothing is printed where the writer has failed already, nor where a line that tells numbers finds no memory; a failure
+/// to print is passed over.
 fn fail<K: Sink>(alloc: Global, fault: &ImageFault, writer: &mut K) -> u8
     ensures status { result ≡ status_of fault.now }
     ensures prints { TellsFault (K.seen writer.old) (K.seen writer.new) fault.now }
@@ -59,9 +77,7 @@ fn fail<K: Sink>(alloc: Global, fault: &ImageFault, writer: &mut K) -> u8
     match as_run(fault) {
         Some(fault) => omf_cmd::fail(alloc, &fault, writer),
         None => {
-            if let Ok(text) = line_text(alloc, fault) {
-                tell(writer, text.as_bytes());
-            }
+            print_line(alloc, fault, writer);
             1
         }
     }

@@ -49,7 +49,7 @@ is-drafted o input rs old new (Err (fault.Run (run.Refused why at))) read d = ab
 pub drafted-cause : (o : Options) (m : List Rec) (old new : Device) (r : Result (List ℕ) PlaceFault) → IsUnbroken old new → IsDrafted o m r → IsDraftCause old new r
 drafted-cause o m old new (Ok text) h d = h
 drafted-cause o m old new (Err fault.NoRoom) h d = h
-drafted-cause o m old new (Err (fault.Run run.Memory)) h d = h
+drafted-cause o m old new (Err (fault.Run run.Memory)) h d = (h, tt)
 drafted-cause o m old new (Err (fault.Run run.Read)) h d = absurd d
 drafted-cause o m old new (Err (fault.Run run.Write)) h d = absurd d
 drafted-cause o m old new (Err (fault.Run run.TooLong)) h d = absurd d

@@ -11,7 +11,7 @@ use Rattle.omf_check.specs.declared.profile.Profile.{Profile}
 use Rattle.omf_layout.specs.declared.options.Options.{Options}
 use Rattle.omf_layout.specs.Layout.{layout_of}
 use Rattle.omf_cmd.specs.HowFar.{EndsAtRefusal, IsReadFrom, IsUnrefused}
-use Rattle.omf_cmd.specs.Reports.{IsOutOfMemory, Misuses}
+use Rattle.omf_cmd.specs.Reports.{IsModuleFault, IsOutOfMemory, Misuses}
 use Rattle.omf_cmd.specs.Runs.{AnswersBy, EndsBy, IsReadCause, IsUnbroken, PrintsOr}
 use Rattle.omf_cmd.specs.declared.fault.RunFault.TheVariants as run
 use Rattle.omf_place.specs.Drafts.{IsDraft}
@@ -45,11 +45,11 @@ Drafts o input old new (Err (fault.Run run.Memory)) = IsUnrefused any old new �
 Drafts o input old new (Err (fault.Run run.Read)) = IsUndecided any old new
 Drafts o input old new (Err (fault.Run _)) = ⊥
 
--- The reader is named where it failed, and else did not break.
+-- The reader is named where it failed, and else did not break. No fault of a placement is named, whatever the reader tells.
 abbrev pub IsDraftCause : Device → Device → Result (List ℕ) PlaceFault → Type 0
 IsDraftCause old new (Ok text) = IsUnbroken old new
 IsDraftCause old new (Err fault.NoRoom) = IsUnbroken old new
-IsDraftCause old new (Err (fault.Run f)) = IsReadCause {A = List ℕ} old new (Err f)
+IsDraftCause old new (Err (fault.Run f)) = IsReadCause {A = List ℕ} old new (Err f) × IsModuleFault f
 
 -- What is written of what was drafted: the whole text, or a part of it from the front where the writer failed; nothing of a fault.
 abbrev pub IsPrinted : Device → Device → Result (List ℕ) PlaceFault → Result (Unit {0}) PlaceFault → Type 0

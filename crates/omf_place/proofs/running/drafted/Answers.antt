@@ -5,7 +5,7 @@ use Rattle.std.specs.Prelude.{string_bytes}
 use Rattle.omf_records.specs.Inner.Seen.{map_ok}
 use Rattle.omf_check.specs.Module.{records_in}
 use Rattle.omf_check.specs.WellFormed.{recs}
-use Rattle.omf_cmd.proofs.RunLaws.{check_cause}
+use Rattle.omf_cmd.proofs.RunLaws.{check_cause, check_fault}
 use Rattle.omf_place.specs.Runs.{any}
 use Rattle.omf_place.proofs.RunLaws.{not-checked, is-drafted, drafted-cause}
 use Rattle.omf_place.proofs.running.drafted.Goals as goal
@@ -14,8 +14,10 @@ pub returns-in_err-checked-clause-cause : goal.returns-in_err-checked-clause-cau
 returns-in_err-checked-clause-cause g c =
     let e = err_from_is_err_and c.from_residual.result c.from_residual.ensures.1 in
     rw (e.1, e.2) (
-    check_cause any (g.S.Source.seen c.args.reader.now) (g.S.Source.seen c.check.new.reader) c.in_err-checked.field-0.0
-    c.in_err-checked.ensures.grows c.in_err-checked.ensures.patient c.in_err-checked.ensures.cause)
+      check_cause any (g.S.Source.seen c.args.reader.now) (g.S.Source.seen c.check.new.reader) c.in_err-checked.field-0.0
+          c.in_err-checked.ensures.grows c.in_err-checked.ensures.patient c.in_err-checked.ensures.cause,
+      check_fault c.in_err-checked.field-0.0,
+    )
 
 pub returns-in_err-checked-clause-answer : goal.returns-in_err-checked-clause-answer
 returns-in_err-checked-clause-answer g c input told =
