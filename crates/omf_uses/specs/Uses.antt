@@ -1,9 +1,10 @@
 -- What the uses of the library answer.
-use Rattle.std.specs.Prelude.{◌≡◌, ⊤, ℕ, List, [], ◌∷◌, Some, Result, Ok, Err, codes, false}
+use Rattle.std.specs.Prelude.{◌≡◌, ⊤, ℕ, List, [], ◌∷◌, Some, None, Result, Ok, Err, codes, false}
+use Rattle.omf_frame.specs.Device.{Device}
 use Rattle.omf_records.specs.Values.{Rec}
 use Rattle.omf_image.specs.Limits.{profile_limits}
 use Rattle.omf_image.specs.Overlay.{Laid, byte_at}
-use Rattle.omf_check.specs.Checking.{Decides}
+use Rattle.omf_check.specs.Checking.{Decides, IsReadPatiently}
 use Rattle.omf_check.specs.Module.{Module}
 use Rattle.omf_check.specs.declared.fault.CheckFault.{CheckFault}
 use Rattle.omf_check.specs.declared.profile.Profile.{Profile}
@@ -24,9 +25,9 @@ abbrev pub said : Result Module CheckFault → List ℕ
 said (Ok m) = codes "OK"
 said (Err f) = fault_line (of_check f)
 
--- A line is that of what the check decides for an input.
-abbrev pub IsVerdict : List ℕ → List ℕ → Type 0
-IsVerdict input line = (judged : Result Module CheckFault) × Decides lenient input judged × (line ≡ said judged)
+-- A line is that of what the check decides for an input; the reader is named only where it failed.
+abbrev pub IsVerdict : Device → Device → List ℕ → List ℕ → Type 0
+IsVerdict old new input line = (judged : Result Module CheckFault) × Decides lenient input judged × IsReadPatiently old new judged × (line ≡ said judged)
 
 -- One segment, at 7C00H in the frame at 0.
 abbrev pub boot_place : Places
@@ -36,9 +37,9 @@ boot_place = record {
   externals = [];
 }
 
--- Exactly the image there, or the first reason why the module does not reach there.
+-- The module reaches there, and this is exactly its image; or the first reason why it does not.
 abbrev pub IsBootImage : List Rec → Result (List Laid) RunFault → Type 0
-IsBootImage m (Ok made) = (segment x : ℕ) → byte_at made segment x ≡ image profile_limits boot_place m segment x
+IsBootImage m (Ok made) = (reach_fault boot_place m ≡ None) × ((segment x : ℕ) → byte_at made segment x ≡ image profile_limits boot_place m segment x)
 IsBootImage m (Err fault.Memory) = ⊤
 IsBootImage m (Err (fault.Reach f)) = reach_fault boot_place m ≡ Some f
 IsBootImage m (Err _) = ⊥

@@ -10,7 +10,7 @@ use std::alloc::{AllocError, Global};
 
 /// What is said of a file: `OK` where it begins with a well-formed module, or else why it does not, and where.
 pub fn verdict<S: Source>(alloc: Global, file: &mut S) -> Result<String, AllocError>
-    ensures { (input : List ℕ) → (S.seen file.old).bytes ≡ Some input → IfOk result (λ line. IsVerdict input (string_bytes line)) }
+    ensures { (input : List ℕ) → (S.seen file.old).bytes ≡ Some input → IfOk result (λ line. IsVerdict (S.seen file.old) (S.seen file.new) input (string_bytes line)) }
 {
     let profile = Profile {
         refuse_vendor_comments: false,
