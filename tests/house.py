@@ -56,23 +56,26 @@ def laws():
                 if law is None and path.stem not in ("Rows", "Modules"):
                     untied.append(user)
                 for word in used[3].split(", ") if law else []:
-                    tied.setdefault((used[1], used[2], word, law), []).append(user)
+                    tied.setdefault((used[1], used[2], word), []).append((law, user))
             else:
                 law = None
     print("| Word | Of | By the law | Used in |")
     print("|---|---|---|---|")
-    for (crate, module, word, law), users in sorted(tied.items()):
-        print(f"| `{word}` | `{crate}` {module} | {law} | {', '.join(users)} |")
+    for (crate, module, word), found in sorted(tied.items()):
+        by = "; ".join(sorted({law for law, _ in found}))
+        print(f"| `{word}` | `{crate}` {module} | {by} | {', '.join(user for _, user in found)} |")
     for user in untied:
         print(f"without a law: {user}", file=sys.stderr)
     return not untied
 
 
 def exported(crate):
-    """The names that a crate's root file makes public."""
+    """The names that a crate's root file makes public, and its public modules, but for those of laws and of worked examples."""
     root = next(path for name in ("lib.rt", "main.rt") if (path := crate / "src" / name).exists())
-    uses = re.findall(r"^pub use ([^;]*);", root.read_text(encoding="utf-8"), re.M)
-    return {name for use in uses for name in re.findall(r"\w+", use)}
+    text = root.read_text(encoding="utf-8")
+    uses = re.findall(r"^pub use ([^;]*);", text, re.M)
+    names = {name for use in uses for name in re.findall(r"\w+", use)}
+    return names, set(re.findall(r"^pub mod (\w+);", text, re.M)) - {"laws", "rows"}
 
 
 def contracts(path):
@@ -96,13 +99,13 @@ def calls():
     """The words of an Inner that contracts of public calls name, with these calls."""
     found = {}
     for crate in sorted(it for it in ROOT.iterdir() if it.is_dir() and not it.name.endswith(("_tests", "_trials"))):
-        public = exported(crate)
+        public, modules = exported(crate)
         for path in sorted(crate.glob("src/**/*.rt")):
             text = path.read_text(encoding="utf-8")
             uses = re.findall(r"ghost use Rattle\.(omf_\w+)\.specs\.Inner\.(\w+)\.\{(.*)\}", text)
             words = {word.split(" as ")[-1]: use[:2] for use in uses for word in use[2].split(", ")}
             for owner, name, clauses in contracts(path):
-                if (owner or name) in public:
+                if (owner or name) in public or path.stem in modules:
                     for word in words.keys() & set(re.findall(r"\w+", clauses)):
                         call = f"`{owner}::{name}`" if owner else f"`{name}`"
                         found.setdefault((*words[word], word), set()).add(call + f" of {crate.name}")

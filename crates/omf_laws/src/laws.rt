@@ -1,0 +1,33 @@
+//! Laws over the definitions, each the contract of a function that does nothing.
+
+ghost use Rattle.omf_laws.specs.Laws.{BlocksAreExpanded, BlockFaultsAreLeast, BlocksAreMeasured, LayoutFaultsAreLeast, FixupsStandAlone, ThreadsGiveReferences};
+
+/// The blocks that bytes spell are those that are computed of the bytes, and have no fault; the bytes that they stand for are theirs.
+pub fn blocks_are_expanded()
+    ensures { BlocksAreExpanded }
+{}
+
+/// Blocks have no fault that is computed exactly where bytes spell some; and else the one that is computed is their least.
+pub fn block_faults_are_least()
+    ensures { BlockFaultsAreLeast }
+{}
+
+/// Blocks that bytes spell are too long, as it is computed, exactly where they stand for more bytes than the limit.
+pub fn blocks_are_measured()
+    ensures { BlocksAreMeasured }
+{}
+
+/// Each fault of layout that is computed of a record is the least of its layout.
+pub fn layout_faults_are_least()
+    ensures { LayoutFaultsAreLeast }
+{}
+
+/// The pieces of a module with each fixup by itself, as they are computed, are the parts of its pieces.
+pub fn fixups_stand_alone()
+    ensures { FixupsStandAlone }
+{}
+
+/// A reference by the threads that are kept is the plain reference behind the subrecords that set them.
+pub fn threads_give_references()
+    ensures { ThreadsGiveReferences }
+{}
