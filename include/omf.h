@@ -1,9 +1,10 @@
 /* omf.h - object modules in OMF (TIS OMF 1.1), checked, listed, relocated and made canonical.
  *
- * The functions are written in Rattle, which is Rust with contracts, and are proved to do what is said here, as long as the caller keeps
- * to C's rules: each pointer leads to as many bytes as the length behind it says (a pointer with length 0 may be NULL), and the buffer
- * `out` overlaps no other argument. They keep nothing between calls, so that any number of threads may call them at once. Memory comes
- * from malloc and is freed before a call returns; the only memory of the caller's that is written is `out`.
+ * The functions are written in Rattle, which is Rust with contracts. What is said here of answers and of the buffer `out` is proved, but
+ * for one thing, which is tested: that OMF_MEMORY comes only where memory was refused. The caller keeps to C's rules: each pointer leads
+ * to as many bytes as the length behind it says (a pointer with length 0 may be NULL), and the buffer `out` overlaps no other argument.
+ * The functions keep nothing between calls, so that any number of threads may call them at once. Memory comes from malloc and is freed
+ * before a call returns; the only memory of the caller's that is written is `out`.
  *
  * Link with -lomf.
  */
