@@ -1,3 +1,6 @@
 pub mod BlockLaws
 pub mod FaultLaws
 pub mod PieceLaws
+pub mod NameLaws
+pub mod LayoutLaws
+pub mod CommunalLaws

@@ -1,5 +1,5 @@
-//! Laws that tie computed words of the crates below to what is believed: each word that a definition takes from `specs/Inner` means what
-//! the relation beside it says. A crate's own laws stand in its `src/laws.rt`; here are those that say more of such a word.
+//! Laws over the definitions of the crates below, beside those that stand in these crates: that computed words, which a definition takes
+//! from `specs/Inner`, mean what is believed, and what layouts and drafts have of their modules.
 #![tactic(auto)]
 
 pub mod laws;
