@@ -4,3 +4,4 @@ pub mod PieceLaws
 pub mod NameLaws
 pub mod LayoutLaws
 pub mod CommunalLaws
+pub mod ReadingLaws

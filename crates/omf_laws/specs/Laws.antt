@@ -1,5 +1,5 @@
 -- Laws over the definitions of the crates below, each the contract of a function of the same name.
-use Rattle.std.specs.Prelude.{◌≡◌, ◌↔◌, ◌<◌, ◌≤◌, IsTrue, Contains, ℕ, Bool, List, [], ◌∷◌, length, map, flat_map, zip, slice_get, Some, None, ◌+◌}
+use Rattle.std.specs.Prelude.{◌≡◌, ◌↔◌, ◌<◌, ◌≤◌, IsTrue, Contains, ℕ, Bool, List, [], ◌∷◌, length, map, flat_map, zip, slice_get, Some, None, ◌+◌, true, Result}
 use Rattle.omf_frame.specs.Bytes.{AreBytes}
 use Rattle.omf_frame.specs.Fault.{Fault, is_before}
 use Rattle.omf_frame.specs.Framing.{Raw}
@@ -23,7 +23,9 @@ use Rattle.omf_reloc.specs.Inner.Pieces.{single_pieces}
 use Rattle.omf_reloc.specs.Inner.Walking.{plain_by}
 use Rattle.omf_reloc.specs.Plain.{pieces}
 use Rattle.omf_canon.specs.Joined.{parts}
+use Rattle.omf_check.specs.Module.{Module}
 use Rattle.omf_check.specs.Tables.{segments}
+use Rattle.omf_check.specs.declared.profile.Profile.{Profile}
 use Rattle.omf_check.specs.declared.segment.SegInfo.{SegInfo}
 use Rattle.omf_placement.specs.Placement.{Places}
 use Rattle.omf_placement.specs.declared.frame.Placed.{Placed}
@@ -35,6 +37,9 @@ use Rattle.omf_layout.specs.declared.options.Options.{Options}
 use Rattle.omf_arrange.specs.Laws.{IsToldBy}
 use Rattle.omf_arrange.specs.Laying.{Lying, arranged}
 use Rattle.omf_arrange.specs.Order.{in_order, runs}
+use Rattle.omf_linking.specs.Laws.{is_settled}
+use Rattle.omf_linking.specs.Reading.{AreModules}
+use Rattle.omf_linking.specs.declared.fault.LinkFault.{LinkFault}
 use Rattle.omf_draft.specs.Names.{seen_names}
 
 -- The blocks that bytes spell within some levels are the blocks computed of them, which have no fault; their bytes are those computed.
@@ -108,3 +113,7 @@ pub record CommunalsLie (m : List Rec) (l : LaidOut) : Type 0 where
 
 abbrev pub CommunalsLieApart : Type 0
 CommunalsLieApart = (o : Options) (m : List Rec) (l : LaidOut) → layout_of o m ≡ Some l → CommunalsLie m l
+
+-- Each input is read as modules, one at least, and a text behind them, or a module of it is refused. By inputs_are_read_one_way of omf_linking it is so in one way alone.
+abbrev pub InputsAreRead : Type 0
+InputsAreRead = (profile : Profile) (input : List ℕ) → AreBytes input → (r : Result (List Module × List ℕ) LinkFault) × (is_settled r ≡ true) × AreModules profile input r

@@ -1,6 +1,6 @@
 //! Laws over the definitions, each the contract of a function that does nothing.
 
-ghost use Rattle.omf_laws.specs.Laws.{BlocksAreExpanded, BlockFaultsAreLeast, BlocksAreMeasured, LayoutFaultsAreLeast, FixupsStandAlone, ThreadsGiveReferences, DraftsLookAmongPublics, LayoutsKeepAlignments, ArrangedAsTold, CommunalsLieApart};
+ghost use Rattle.omf_laws.specs.Laws.{BlocksAreExpanded, BlockFaultsAreLeast, BlocksAreMeasured, LayoutFaultsAreLeast, FixupsStandAlone, ThreadsGiveReferences, DraftsLookAmongPublics, LayoutsKeepAlignments, ArrangedAsTold, CommunalsLieApart, InputsAreRead};
 
 /// The blocks that bytes spell are those that are computed of the bytes, and have no fault; the bytes that they stand for are theirs.
 pub fn blocks_are_expanded()
@@ -51,4 +51,10 @@ pub fn arranged_as_told()
 /// a layout lies behind them all.
 pub fn communals_lie_apart()
     ensures { CommunalsLieApart }
+{}
+
+/// Each input is read as modules and a text behind them, or a module of it is refused: by `inputs_are_read_one_way` of omf_linking in one
+/// way alone.
+pub fn inputs_are_read()
+    ensures { InputsAreRead }
 {}
