@@ -1,4 +1,4 @@
--- What C is told of a fault and of a text (this profile's rule).
+-- The results for faults and texts (this profile's rule).
 use Rattle.std.specs.Prelude.{◌≡◌, ◌⊎◌, ◌<◌, ◌≤◌, ℕ, List, ◌++◌, drop, length, Result, Ok, Err}
 use Rattle.omf_frame.specs.Fault.{reason_number}
 use Rattle.omf_reloc.specs.declared.fault.Cause.{Cause}
@@ -11,7 +11,7 @@ use Rattle.omf_cmd.specs.declared.fault.RunFault.{RunFault}
 use Rattle.omf_cmd.specs.declared.fault.RunFault.TheVariants as fault
 use Rattle.omf_c.specs.declared.answer.Answer.{Answer}
 
--- Done, and nothing to tell.
+-- Status 0, and 0 in every other field.
 abbrev pub done : Answer
 done = record { status = 0; reason = 0; kind = 0; index = 0; number = 0; within = 0; start = 0; line = 0; size = 0; record_count = 0 }
 
@@ -26,14 +26,14 @@ cause_number cause.Target = 1
 cause_number cause.Location = 2
 cause_number cause.Distance = 3
 
--- A placement that does not reach: the number of the reason, and what it names.
+-- The result for a placement that does not reach: the number of the reason and its values.
 abbrev pub of_reach : ReachFault → Answer
 of_reach (reach.Missing k i) = record done { status = 7; reason = 1; kind = kind_number k; index = i }
 of_reach (reach.Extra k i) = record done { status = 7; reason = 2; kind = kind_number k; index = i }
 of_reach (reach.Absolute i) = record done { status = 7; reason = 3; index = i }
 of_reach (reach.TooFar n w c) = record done { status = 7; reason = 4; kind = cause_number c; number = n; within = w }
 
--- A fault: its number, and what it names.
+-- The result for a fault: its number and its values.
 abbrev pub of_fault : RunFault → Answer
 of_fault fault.Memory = record done { status = 1 }
 of_fault fault.Read = record done { status = 2 }
@@ -43,18 +43,18 @@ of_fault (fault.Line n) = record done { status = 5; line = n }
 of_fault fault.TooLong = record done { status = 6 }
 of_fault (fault.Reach f) = of_reach f
 
--- A text that fits stands at the front of the buffer, and what is behind it stays; a text that does not fit leaves the buffer as it was.
--- Its length is told.
+-- A text that fits is at the start of the buffer, and the rest of the buffer is unchanged; if the text does not fit, the whole buffer is
+-- unchanged. The result has the size of the text.
 abbrev pub HandsOut : List ℕ → Answer → List ℕ → List ℕ → Type 0
 HandsOut text answer old new =
     ((length text ≤ length old) × (answer ≡ record done { size = length text }) × (new ≡ text ++ drop (length text) old))
     ⊎ ((length old < length text) × (answer ≡ record done { status = 8; size = length text }) × (new ≡ old))
 
--- What is told of a text, or of the fault in its place, which leaves the buffer as it was.
+-- The result for a text, or for the fault in its place. A fault leaves the buffer unchanged.
 abbrev pub Tells : Result (List ℕ) RunFault → Answer → List ℕ → List ℕ → Type 0
 Tells (Ok text) answer old new = HandsOut text answer old new
 Tells (Err f) answer old new = (answer ≡ of_fault f) × (new ≡ old)
 
--- A call made a text or a fault, which is as it is to be, and told it.
+-- A call made a text or a fault by this rule, and returned the result for it.
 abbrev pub IsAnswered : (Result (List ℕ) RunFault → Type 0) → Answer → List ℕ → List ℕ → Type 0
 IsAnswered IsMade answer old new = (made : Result (List ℕ) RunFault) × IsMade made × Tells made answer old new

@@ -1,4 +1,4 @@
--- What is made of the module at the front of some bytes. Want of memory may come at any time, and no device has a part in it.
+-- The texts made of the module at the start of some bytes. Memory may run out at any time; no device is involved.
 use Rattle.std.specs.Prelude.{◌≡◌, ⊤, ℕ, List, length, Result, Ok, Err}
 use Rattle.omf_frame.specs.Framing.{Raw}
 use Rattle.omf_image.specs.Limits.{profile_limits}
@@ -12,23 +12,23 @@ use Rattle.omf_cmd.specs.declared.fault.RunFault.TheVariants as fault
 use Rattle.omf_c.specs.Answers.{done, of_fault}
 use Rattle.omf_c.specs.declared.answer.Answer.{Answer}
 
--- No text is made: the module is refused, or memory ran out.
+-- No text: the module is refused, or memory ran out.
 abbrev pub IsNoModule : Profile → List ℕ → RunFault → Type 0
 IsNoModule profile bytes fault.Memory = ⊤
 IsNoModule profile bytes (fault.Refused why at) = IsRefused profile profile_limits bytes why at
 IsNoModule profile bytes _ = ⊥
 
--- The bytes begin with this module; or they begin with none, and are refused so.
+-- The bytes begin with this module, or with none and are refused with this fault.
 abbrev pub IsModule : Profile → List ℕ → Result Module RunFault → Type 0
 IsModule profile bytes (Ok m) = (a : IsAccepted profile profile_limits bytes (records_in m.bytes)) × (a.bytes ≡ m.bytes)
 IsModule profile bytes (Err f) = IsNoModule profile bytes f
 
--- A text of the records of the module that the bytes begin with.
+-- A text made from the records of the module at the start of the bytes.
 abbrev pub IsTextOf : (List Raw → List ℕ) → Profile → List ℕ → Result (List ℕ) RunFault → Type 0
 IsTextOf text profile bytes (Ok shown) = (records : List Raw) × IsAccepted profile profile_limits bytes records × (shown ≡ text records)
 IsTextOf text profile bytes (Err f) = IsNoModule profile bytes f
 
--- The outcome for the module that the bytes begin with and a placement text: the listing, or the first fault.
+-- The outcome for the module at the start of the bytes and a placement text: the listing, or the first fault.
 abbrev pub HasOutcome : Profile → List ℕ → List ℕ → Result (List ℕ) RunFault → Type 0
 HasOutcome profile bytes text r = (records : List Raw) × IsAccepted profile profile_limits bytes records × (reloc_outcome profile_limits (recs records) text ≡ r)
 
@@ -39,11 +39,11 @@ IsPlacedText profile bytes text (Err fault.TooLong) = HasOutcome profile bytes t
 IsPlacedText profile bytes text (Err (fault.Reach f)) = HasOutcome profile bytes text (Err (fault.Reach f))
 IsPlacedText profile bytes text (Err f) = IsNoModule profile bytes f
 
--- What is told of it.
+-- The result for it.
 abbrev pub verdict : Result Module RunFault → Answer
 verdict (Ok m) = record done { size = length m.bytes; record_count = length (records_in m.bytes) }
 verdict (Err f) = of_fault f
 
--- The verdict on some bytes: how long the module is that they begin with, and how many records it has; or its refusal.
+-- The verdict on some bytes: the size and the number of records of the module at their start, or its refusal.
 abbrev pub IsVerdict : Profile → List ℕ → Answer → Type 0
 IsVerdict profile bytes answer = (judged : Result Module RunFault) × IsModule profile bytes judged × (answer ≡ verdict judged)

@@ -1,4 +1,4 @@
-//! What C is told.
+//! The results of the calls, for C.
 
 ghost use Rattle.std.specs.Prelude.{◌≡◌};
 ghost use Rattle.omf_c.specs.Answers.{cause_number, HandsOut, kind_number, of_fault, of_reach};
@@ -6,35 +6,35 @@ ghost use Rattle.omf_c.specs.Answers.{cause_number, HandsOut, kind_number, of_fa
 use omf_cmd::RunFault;
 use omf_reloc::{Cause, Kind, ReachFault};
 
-/// What a call answers: done, or why not, in numbers. A field of which the status says nothing is 0.
+/// The result of a call, in numbers. A field is 0 unless it is described for the status.
 #[repr(C)]
 #[derive(Clone, Copy, Debug, PartialEq, Eq)]
 pub struct Answer {
-    /// 0 done; 1 no memory; 4 the module is refused; 5 a line of the placement is no entry; 6 the placement is too long; 7 the placement
-    /// does not reach; 8 the text does not fit the buffer.
+    /// 0 done; 1 out of memory; 4 the module is refused; 5 a line of the placement is no entry; 6 the placement is too long; 7 the
+    /// placement does not reach; 8 the text does not fit the buffer.
     pub status: u32,
-    /// At status 4 the reason, 1 to 33. At status 7: 1 an entry is missing, 2 one is too many, 3 an absolute segment is placed elsewhere,
+    /// At status 4 the reason, 1 to 33. At status 7: 1 an entry is missing, 2 there is an extra entry, 3 an absolute segment is misplaced,
     /// 4 a reference does not reach.
     pub reason: u32,
-    /// At status 7 and reasons 1 and 2: 1 a segment, 2 a group, 3 an external. At reason 4: 1 its target, 2 its location, 3 its distance.
+    /// At status 7 with reason 1 or 2: 1 a segment, 2 a group, 3 an external. With reason 4: 1 its target, 2 its location, 3 its distance.
     pub kind: u32,
-    /// At status 7 and reasons 1 to 3, the index.
+    /// At status 7 with reason 1 to 3: the index, from 1.
     pub index: u32,
-    /// At status 4, and at status 7 and reason 4: the number of the record, from 0.
+    /// At status 4, and at status 7 with reason 4: the number of the record, from 0.
     pub number: u32,
-    /// There, the offset in the record of what is at fault.
+    /// There: the offset in the record of the fault.
     pub within: u32,
-    /// At status 4, the record's offset in the module.
+    /// At status 4: the record's offset in the module.
     pub start: u64,
-    /// At status 5, the number of the line, from 1.
+    /// At status 5: the number of the line, from 1.
     pub line: u64,
-    /// How many bytes the text has, at statuses 0 and 8; of `omf_check`, how many the module has, at status 0.
+    /// The size of the text in bytes, at status 0 or 8. For `omf_check` at status 0: the size of the module.
     pub size: u64,
-    /// Of `omf_check`, how many records the module has, at status 0.
+    /// For `omf_check` at status 0: the number of records in the module.
     pub record_count: u64,
 }
 
-/// Done, with nothing to tell.
+/// Status 0, and 0 in every other field.
 pub(crate) const NOTHING: Answer = Answer {
     status: 0,
     reason: 0,
@@ -70,7 +70,7 @@ fn cause_number(cause: Cause) -> u32
     }
 }
 
-/// What is told of a placement that does not reach.
+/// The result for a placement that does not reach.
 fn reach_answer(fault: ReachFault) -> Answer
     ensures { result ≡ of_reach fault }
 {
@@ -110,7 +110,7 @@ fn reach_answer(fault: ReachFault) -> Answer
     }
 }
 
-/// What is told of a fault.
+/// The result for a fault.
 pub(crate) fn fault_answer(fault: RunFault) -> Answer
     ensures { result ≡ of_fault fault }
 {
@@ -148,7 +148,8 @@ pub(crate) fn fault_answer(fault: RunFault) -> Answer
     }
 }
 
-/// Puts a text at the front of a buffer, where it fits; else the buffer stays as it was. The length of the text is told either way.
+/// Copies a text to the start of a buffer if it fits; otherwise the buffer is unchanged. The result has the size of the text in either
+/// case.
 pub(crate) fn hand_out(text: &[u8], out: &mut [u8]) -> Answer
     ensures { HandsOut text.now result out.old out.new }
 {

@@ -1,4 +1,4 @@
-//! The calls.
+//! The exported calls.
 
 ghost use Rattle.std.specs.Prelude.{◌≡◌};
 ghost use Rattle.omf_canon.specs.Canonical.{canonical};
@@ -11,7 +11,7 @@ use crate::answer::{Answer, NOTHING, fault_answer, hand_out};
 use crate::making::{canonical, listed, module_of, profile, relocated};
 use std::alloc::Global;
 
-/// Checks the module that the bytes begin with: status 0 with its length and how many records it has, or its refusal.
+/// Checks the module at the start of the bytes: status 0 with its size and its number of records, or its refusal.
 #[unsafe(no_mangle)]
 pub extern "C" fn omf_check(alloc: Global, bytes: &[u8], refuse_vendor_comments: bool) -> Answer
     ensures { IsVerdict (record { refuse_vendor_comments = refuse_vendor_comments }) bytes.now result }
@@ -26,7 +26,7 @@ pub extern "C" fn omf_check(alloc: Global, bytes: &[u8], refuse_vendor_comments:
     }
 }
 
-/// Lists the module that the bytes begin with, as `omf list` prints it: status 0 where the text was put at the front of the buffer.
+/// Lists the module at the start of the bytes, as `omf list` does. At status 0 the text is at the start of the buffer.
 #[unsafe(no_mangle)]
 pub extern "C" fn omf_list(
     alloc: Global,
@@ -42,8 +42,8 @@ pub extern "C" fn omf_list(
     }
 }
 
-/// Relocates the module that the bytes begin with by a placement text, and gives the listing that `omf reloc` prints: status 0 where it
-/// was put at the front of the buffer.
+/// Relocates the module at the start of the bytes at the placement that a text gives. At status 0 the listing that `omf reloc` prints is at
+/// the start of the buffer.
 #[unsafe(no_mangle)]
 pub extern "C" fn omf_reloc(
     alloc: Global,
@@ -60,7 +60,7 @@ pub extern "C" fn omf_reloc(
     }
 }
 
-/// Gives the canonical bytes of the module that the bytes begin with: status 0 where they were put at the front of the buffer.
+/// Makes the canonical bytes of the module at the start of the bytes. At status 0 they are at the start of the buffer.
 #[unsafe(no_mangle)]
 pub extern "C" fn omf_canon(
     alloc: Global,

@@ -1,6 +1,6 @@
-//! The library for C: modules in memory are checked, listed, relocated and made canonical. `include/omf.h` describes the calls.
+//! The library for C: checks, lists and relocates modules in memory, and makes their canonical bytes. `include/omf.h` describes the calls.
 //!
-//! Each call takes bytes as a pointer and a length, requires nothing beyond that, and answers an `Answer` by value. A text goes into the
+//! Each call takes bytes as a pointer and a length, has no other precondition, and returns an `Answer` by value. A text goes into the
 //! caller's buffer, whole or not at all.
 #![tactic(auto)]
 

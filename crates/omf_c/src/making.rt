@@ -1,4 +1,4 @@
-//! What a call makes of the module at the front of some bytes.
+//! The text that each call makes of the module at the start of some bytes.
 
 ghost use Rattle.std.specs.Prelude.{◌≡◌, IfOk, IfErr};
 ghost use Rattle.omf_canon.specs.Canonical.{canonical};
@@ -16,7 +16,7 @@ use omf_cmd::{Gathered, Listing, RunFault, print_list};
 use omf_frame::Bytes;
 use std::alloc::Global;
 
-/// The profile that a caller asks for.
+/// The profile for the caller's flag.
 pub(crate) fn profile(refuse_vendor_comments: bool) -> Profile
     ensures { result ≡ record { refuse_vendor_comments = refuse_vendor_comments } }
 {
@@ -25,7 +25,7 @@ pub(crate) fn profile(refuse_vendor_comments: bool) -> Profile
     }
 }
 
-/// The module that the bytes begin with.
+/// The module at the start of the bytes.
 pub(crate) fn module_of(alloc: Global, profile: Profile, bytes: &[u8]) -> Result<Checked, RunFault>
     ensures { IsModule profile bytes.now result }
 {
@@ -37,7 +37,7 @@ pub(crate) fn module_of(alloc: Global, profile: Profile, bytes: &[u8]) -> Result
     }
 }
 
-/// What `omf list` prints of a module.
+/// The listing of a module, as `omf list` prints it.
 fn listed_module(alloc: Global, checked: &Checked) -> Result<Vec<u8>, RunFault>
     ensures ok { IfOk result (λ v. v.items ≡ list_text (records_in checked.now.bytes)) }
     ensures err { IfErr result (λ e. e ≡ Memory) }
@@ -49,7 +49,7 @@ fn listed_module(alloc: Global, checked: &Checked) -> Result<Vec<u8>, RunFault>
     }
 }
 
-/// The listing of the module that the bytes begin with.
+/// The listing of the module at the start of the bytes.
 pub(crate) fn listed(alloc: Global, profile: Profile, bytes: &[u8]) -> Result<Vec<u8>, RunFault>
     ensures { IsTextOf list_text profile bytes.now (map_ok (λ v. v.items) result) }
 {
@@ -57,7 +57,7 @@ pub(crate) fn listed(alloc: Global, profile: Profile, bytes: &[u8]) -> Result<Ve
     listed_module(alloc, &checked)
 }
 
-/// The canonical bytes of the module that the bytes begin with.
+/// The canonical bytes of the module at the start of the bytes.
 pub(crate) fn canonical(alloc: Global, profile: Profile, bytes: &[u8]) -> Result<Vec<u8>, RunFault>
     ensures { IsTextOf (λ records. canonical (recs records)) profile bytes.now (map_ok (λ v. v.items) result) }
 {
@@ -65,7 +65,7 @@ pub(crate) fn canonical(alloc: Global, profile: Profile, bytes: &[u8]) -> Result
     Ok(canon(alloc, &checked)?)
 }
 
-/// The listing of a module at the placement that a text gives it.
+/// The listing of a module's image at the placement that a text gives.
 fn relocated_module(alloc: Global, checked: &Checked, text: &[u8]) -> Result<Vec<u8>, RunFault>
     ensures { IsOutcome (recs_of checked.now.bytes) text.now (map_ok (λ v. v.items) result) }
 {
@@ -77,7 +77,7 @@ fn relocated_module(alloc: Global, checked: &Checked, text: &[u8]) -> Result<Vec
     }
 }
 
-/// The listing of the module that the bytes begin with, at the placement that a text gives it.
+/// The listing of the image of the module at the start of the bytes, at the placement that a text gives.
 pub(crate) fn relocated(
     alloc: Global,
     profile: Profile,

@@ -2,6 +2,7 @@ pub mod SkeletonLaws
 pub mod CutLaws
 pub mod ReachLaws
 pub mod JoinLaws
+pub mod PartLaws
 pub mod CountLaws
 pub mod UnthreadedLaws
 pub mod AloneLaws

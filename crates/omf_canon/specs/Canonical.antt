@@ -1,4 +1,5 @@
--- Canonical bytes (this profile's rule): shortest spellings, computed checksums, fixups without threads in records of at most 1,024 bytes.
+-- Canonical bytes (this profile's rule): shortest encodings, computed checksums, and fixups without threads in records of at most 1,024
+-- bytes.
 use Rattle.std.specs.Prelude.{ℕ, List, [], ◌∷◌, map, flat_map}
 use Rattle.omf_frame.specs.Framing.{Raw, raw_bytes, raw_of}
 use Rattle.omf_records.specs.Values.{Rec}

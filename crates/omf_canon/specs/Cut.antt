@@ -1,16 +1,16 @@
--- The fixups of one joined FIXUPP, cut into groups, each of which becomes a record of at most 1,024 bytes in all.
+-- The fixups of one joined FIXUPP, cut into groups. Each group becomes a record of at most 1,024 bytes in all.
 use Rattle.std.specs.Prelude.{◌≡◌, ℕ, ◌<◌, ◌≤◌, List, [], ◌∷◌, ◌++◌, length, flat_map, sum_by, All, nat_le, if◌then◌else◌}
 use Rattle.omf_reloc.specs.Plain.{PlainFixup}
 use Rattle.omf_canon.specs.PlainBytes.{fixup_bytes}
 
--- Type byte, two bytes of length and the checksum leave so many bytes for the contents.
+-- The most bytes of contents: 1,024 less the type byte, the two length bytes and the checksum byte.
 abbrev pub body_limit : ℕ
 body_limit = 1020
 
 abbrev pub fixups_size : ℕ → List PlainFixup → ℕ
 fixups_size kind fs = sum_by (λ f. length (fixup_bytes kind f)) fs
 
--- A greedy cut: the groups are the fixups in their order, none is empty, each fits, and none would with the first fixup of the next.
+-- A greedy cut: the groups together are the fixups in order, no group is empty, each fits, and none fits with the first fixup of the next.
 pub record IsGreedyCut (kind : ℕ) (fixups : List PlainFixup) (groups : List (List PlainFixup)) : Type 0 where
   pub whole : fixups ≡ flat_map (λ g. g) groups
   pub full : All (λ g. 0 < length g) groups

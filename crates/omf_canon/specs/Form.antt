@@ -1,4 +1,4 @@
--- What canonical bytes are to the module that they are made of.
+-- How canonical bytes relate to their module.
 use Rattle.std.specs.Prelude.{◌≡◌, ◌↔◌, ℕ, ◌≤◌, List}
 use Rattle.omf_frame.specs.Framing.{Raw}
 use Rattle.omf_image.specs.Limits.{profile_limits}
@@ -12,8 +12,8 @@ use Rattle.omf_canon.specs.Canonical.{canonical}
 use Rattle.omf_canon.specs.Laws.{MeanTheSame}
 use Rattle.omf_canon.specs.Skeleton.{skeleton}
 
--- They are well formed under its profile, have no more items and its skeleton, and are their own canonical bytes. Any module has them exactly where it has the skeleton.
--- At every placement they mean the same.
+-- They are well formed under its profile, have no more items than it, have its skeleton, and are their own canonical bytes. Another module
+-- has the same canonical bytes exactly if it has the same skeleton. At every placement they mean the same.
 pub record IsFormOf (profile : Profile) (whole : List ℕ) (form : List ℕ) : Type 0 where
   pub well_formed : IsWellFormed profile profile_limits form (records_in form)
   pub items : item_count (recs_of form) ≤ item_count (recs_of whole)

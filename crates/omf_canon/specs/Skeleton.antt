@@ -1,14 +1,15 @@
--- The skeleton of a module: its records with plain references, FIXUPPs without a fixup dropped, and then adjacent FIXUPPs of one type joined (this profile's rule).
+-- The skeleton of a module (this profile's rule): its records with their threads resolved; FIXUPPs without a fixup are dropped, and then
+-- adjacent FIXUPPs of one type are joined.
 use Rattle.std.specs.Prelude.{List, [], ◌∷◌, ◌++◌, filter, Bool, true, false, ◌==◌, if◌then◌else◌}
 use Rattle.omf_records.specs.Values.{Rec}
 use Rattle.omf_reloc.specs.Plain.{Piece, Fixed, pieces}
 
--- not a FIXUPP without a fixup
+-- whether a piece is anything but a FIXUPP without fixups
 abbrev pub is_kept : Piece → Bool
 is_kept (Fixed kind []) = false
 is_kept _ = true
 
--- One piece in front of a joined list.
+-- A joined list with one more piece at its front.
 abbrev pub join_front : Piece → List Piece → List Piece
 join_front (Fixed kind fs) (Fixed other gs ∷ ps) = if kind == other then Fixed kind (fs ++ gs) ∷ ps else Fixed kind fs ∷ Fixed other gs ∷ ps
 join_front p ps = p ∷ ps

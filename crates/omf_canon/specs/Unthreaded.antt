@@ -1,4 +1,4 @@
--- A plain reference as a reference of a record that names no thread (TIS OMF 1.1, "FIXUPP"): its methods and its indices stand in it.
+-- A resolved reference written without threads (TIS OMF 1.1, "FIXUPP"): its methods and its indices are in the record itself.
 use Rattle.std.specs.Prelude.{ℕ, ◌+◌, ◌*◌, Bool, Option, Some, None, ◌==◌, if◌then◌else◌}
 use Rattle.omf_records.specs.Values.{At, Reference, Subrecord, Fixup, nowhere}
 use Rattle.omf_check.specs.Threads.{PlainReference}
@@ -34,7 +34,8 @@ target_index (T0 i) = Some (nowhere i)
 target_index (T1 i) = Some (nowhere i)
 target_index (T2 i) = Some (nowhere i)
 
--- The fix data byte: bits 7 and 3 are clear (no thread), bits 6-4 are the frame's method, bits 1-0 the target's, and bit 2 says that no displacement follows.
+-- The fix data byte: bits 7 and 3 are clear (no thread), bits 6-4 are the frame's method, bits 1-0 are the target's method, and bit 2 is
+-- set if no displacement follows.
 abbrev pub fix_byte : Bool → FrameMethod → TargetMethod → ℕ
 fix_byte short frame target = 16 * frame_code frame + target_code target + (if short then 4 else 0)
 
@@ -47,6 +48,6 @@ unthreaded short r = record {
   displacement = if short then None else Some r.displacement;
 }
 
--- A fixup is short exactly where its displacement is 0 (this profile's rule).
+-- A fixup is short, that is, without a displacement, exactly if its displacement is 0 (this profile's rule).
 abbrev pub unthreaded_fixup : PlainFixup → Subrecord
 unthreaded_fixup f = Fixup f.locat (unthreaded (f.reference.displacement == 0) f.reference)

@@ -1,6 +1,6 @@
-//! Laws over the definitions, each the contract of a function that does nothing.
+//! Laws about the definitions, each the contract of an empty function.
 
-ghost use Rattle.omf_canon.specs.Laws.{EqualSkeletons, CutsAreGreedy, FixuppsFit, SkeletonsAreJoined, SkeletonsAreUnique, CutsAreJoined, CutsAreNotMore, CanonicalsHold, CanonicalsAreWellFormed, CanonicalsAreFixed, CanonicalsDecide, UnthreadedArePlain, CanonicalsMeanTheSame, CanonicalsAreRead, WalksAreCanonical};
+ghost use Rattle.omf_canon.specs.Laws.{EqualSkeletons, CutsAreGreedy, FixuppsFit, SkeletonsAreJoined, SkeletonsAreUnique, FixupsStandAlone, CutsAreJoined, CutsAreNotMore, CanonicalsHold, CanonicalsAreWellFormed, CanonicalsAreFixed, CanonicalsDecide, UnthreadedArePlain, CanonicalsMeanTheSame, CanonicalsAreRead, WalksAreCanonical};
 
 use omf_check::laws::modules_hold;
 use omf_records::laws::{
@@ -9,14 +9,15 @@ use omf_records::laws::{
 };
 use omf_reloc::laws::reach_is_decided;
 
-/// Modules of equal skeletons have the same image and start at every placement, and their fixups reach or not for the same causes.
+/// Modules with equal skeletons have the same image and start at every placement, and their fixups reach or fail to reach for the same
+/// causes.
 pub fn equal_skeletons()
     ensures { EqualSkeletons }
 {
     reach_is_decided();
 }
 
-/// There is one greedy cut of fixups, and it is the one that is computed.
+/// There is one greedy cut of fixups, and it is the computed one.
 pub fn cuts_are_greedy()
     ensures { CutsAreGreedy }
 {}
@@ -26,17 +27,22 @@ pub fn fixupps_fit()
     ensures { FixuppsFit }
 {}
 
-/// In a skeleton each FIXUPP has a fixup, and two that are adjacent differ in type.
+/// In a skeleton each FIXUPP has a fixup, and two adjacent FIXUPPs differ in type.
 pub fn skeletons_are_joined()
     ensures { SkeletonsAreJoined }
 {}
 
-/// There is one joined list with the same fixups and records in their order: the skeleton.
+/// There is exactly one joined list with the same fixups and records in order: the skeleton.
 pub fn skeletons_are_unique()
     ensures { SkeletonsAreUnique }
 {}
 
-/// Joined pieces are the skeleton of what they are cut into.
+/// The pieces of a module one fixup at a time, as a walk gives them, are the parts of its pieces.
+pub fn fixups_stand_alone()
+    ensures { FixupsStandAlone }
+{}
+
+/// Joined pieces are the skeleton of their cut.
 pub fn cuts_are_joined()
     ensures { CutsAreJoined }
 {}
@@ -46,7 +52,7 @@ pub fn cuts_are_not_more()
     ensures { CutsAreNotMore }
 {}
 
-/// Canonical records spell the cut of the skeleton that they are made of, and have that skeleton.
+/// Canonical records encode the cut of the skeleton that they come from, and have that skeleton.
 pub fn canonicals_hold()
     ensures { CanonicalsHold }
 {
@@ -57,7 +63,7 @@ pub fn canonicals_hold()
     places_do_not_count();
 }
 
-/// Canonical bytes are well formed under the profile of their module, and have no more items.
+/// Canonical bytes are well formed under their module's profile, and have no more items than the module.
 pub fn canonicals_are_well_formed()
     ensures { CanonicalsAreWellFormed }
 {
@@ -76,7 +82,7 @@ pub fn canonicals_are_fixed()
     canonicals_hold();
 }
 
-/// Canonical bytes are equal exactly where skeletons are.
+/// Canonical bytes are equal exactly if skeletons are.
 pub fn canonicals_decide()
     ensures { CanonicalsDecide }
 {
@@ -84,12 +90,12 @@ pub fn canonicals_decide()
     canonicals_are_well_formed();
 }
 
-/// A plain reference can be written as one that names no thread.
+/// A resolved reference can be written as one that names no thread.
 pub fn unthreaded_are_plain()
     ensures { UnthreadedArePlain }
 {}
 
-/// At every placement canonical bytes mean what their module means.
+/// At every placement canonical bytes mean the same as their module.
 pub fn canonicals_mean_the_same()
     ensures { CanonicalsMeanTheSame }
 {

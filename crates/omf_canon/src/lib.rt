@@ -1,4 +1,4 @@
-//! Canonical bytes: modules of one meaning, written in one way.
+//! Canonical bytes: one encoding for all modules with the same meaning.
 //!
 //! ```
 //! let module = check(alloc, &mut Reading::new(bytes), profile)?;

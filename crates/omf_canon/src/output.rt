@@ -1,4 +1,4 @@
-//! Canonical bytes to a writer.
+//! Output of canonical bytes.
 
 ghost use Rattle.std.specs.Prelude.{◌≡◌, ◌≤◌, IfOk, IfErr};
 ghost use Rattle.omf_frame.specs.Device.{Writes};
@@ -12,12 +12,12 @@ use omf_check::Checked;
 use omf_frame::{Sink, push_all};
 use std::alloc::Global;
 
-/// Writes the canonical bytes of a module, and does not flush. They are made before the first is written.
+/// Writes the canonical bytes of a module, and does not flush. All of them are made before the first is written.
 ///
 /// # Errors
 ///
-/// `Memory` where a growth was refused: nothing is written. `Write` where the writer failed, at once, took none of some bytes, or was
-/// interrupted 1,000 times running: what it took is a beginning of the canonical bytes.
+/// `Memory` if memory runs out: nothing is written. `Write` if the writer fails, takes none of some bytes, or is interrupted 1,000 times in
+/// a row: the bytes that it took are a beginning of the canonical bytes.
 pub fn canon_to<S: Sink>(alloc: Global, module: &Checked, writer: &mut S) -> Result<(), CanonFault>
     ensures bytes { Writes (S.seen writer.old).bytes (S.seen writer.new).bytes result (canonical (recs_of «module».now.bytes)) }
     ensures cause { IfErr result (IsCanonFault (S.seen writer.old) (S.seen writer.new)) }

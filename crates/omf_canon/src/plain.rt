@@ -1,4 +1,4 @@
-//! Fixups and starts without threads (TIS OMF 1.1, "FIXUPP", frame and target methods), and their bytes.
+//! The encoding of fixups and starts without threads (TIS OMF 1.1, "FIXUPP", frame and target methods).
 
 ghost use Rattle.std.specs.Prelude.{◌≡◌, ◌++◌, OnOk, IfSome, option_map};
 ghost use Rattle.omf_records.specs.Inner.Direct.{is_direct};
@@ -40,7 +40,7 @@ fn target_code(target: TargetMethod) -> u8
     }
 }
 
-/// An index that stands at no place.
+/// An index without an offset in a record.
 #[inline(always)]
 fn nowhere(index: Index) -> At<Index>
     ensures { result ≡ nowhere index }
@@ -78,7 +78,7 @@ fn target_index(target: TargetMethod) -> Option<At<Index>>
     Some(nowhere(index))
 }
 
-/// The fix data byte: no bit says that a thread gives the frame or the target.
+/// The fix data byte, with the bits for threads clear.
 #[inline(always)]
 fn fix_byte(frame: FrameMethod, target: TargetMethod, is_short: bool) -> u8
     ensures { result ≡ fix_byte is_short frame target }
@@ -87,7 +87,7 @@ fn fix_byte(frame: FrameMethod, target: TargetMethod, is_short: bool) -> u8
     if is_short { methods + 4 } else { methods }
 }
 
-/// A plain reference as one of a record that names no thread. A short one has no displacement.
+/// A resolved reference written without threads. If `is_short`, it has no displacement.
 #[inline(always)]
 fn unthreaded(plain: &PlainReference, is_short: bool) -> Reference
     ensures { result ≡ unthreaded is_short plain.now }
@@ -107,7 +107,7 @@ fn unthreaded(plain: &PlainReference, is_short: bool) -> Reference
     }
 }
 
-/// The reference of a fixup as one that names no thread: it is short exactly where its displacement is 0.
+/// The reference of a fixup, written without threads. It has no displacement exactly if the displacement is 0.
 #[inline(always)]
 pub(crate) fn unthreaded_fixup(threads: &Threads, location: u16, reference: &Reference) -> Reference
     requires { IsSet threads.now reference.now }
@@ -117,7 +117,7 @@ pub(crate) fn unthreaded_fixup(threads: &Threads, location: u16, reference: &Ref
     unthreaded(&plain, plain.displacement == 0)
 }
 
-/// A reference is written already as one that names no thread: it names none, and has no displacement of 0.
+/// Whether a reference is in that form already: it names no thread, and has no displacement of 0.
 #[inline(always)]
 pub(crate) fn is_direct(reference: &Reference) -> bool
     ensures { result ≡ is_direct reference.now }
@@ -130,7 +130,7 @@ pub(crate) fn is_direct(reference: &Reference) -> bool
     fix / 128 % 2 != 1 && fix / 8 % 2 != 1 && !is_zero
 }
 
-/// Appends the start of a MODEND of a type, if there is one: it is never short.
+/// Appends the start of a MODEND of this type, if there is one. It always has its displacement.
 pub(crate) fn put_start(
     out: &mut Vec<u8>,
     kind: u8,

@@ -33,10 +33,10 @@ use omf_reloc::end_byte;
 use std::alloc::{AllocError, Global};
 use std::marker::Model;
 
-/// Type byte, two bytes of length and the checksum leave so many bytes for the contents of a canonical FIXUPP.
+/// The most bytes of contents in a canonical FIXUPP: 1,024 less the type byte, the two length bytes and the checksum byte.
 const BODY_LIMIT: usize = 1020;
 
-/// These are types of LEDATA and LIDATA.
+/// Whether this is the type of an LEDATA or an LIDATA.
 #[inline(always)]
 fn is_data(kind: u8) -> bool
     ensures { result ≡ is_data kind }
@@ -44,7 +44,7 @@ fn is_data(kind: u8) -> bool
     kind == 0xA0 || kind == 0xA1 || kind == 0xA2 || kind == 0xA3
 }
 
-/// Contents begin with an index in its shortest spelling, and have a byte behind its first.
+/// Whether contents begin with an index in its shortest encoding and have another byte after their first.
 #[inline(always)]
 fn begins_short(body: &[u8]) -> bool
     ensures { result ≡ begins_short body.now }
@@ -55,7 +55,7 @@ fn begins_short(body: &[u8]) -> bool
     }
 }
 
-/// A record with its checksum byte.
+/// Appends a record with its computed checksum byte.
 fn put_record(out: &mut Vec<u8>, kind: u8, body: &[u8]) -> Result<(), AllocError>
     requires { length body.now ≤ 65534 }
     ensures { OnOk result (out.new.items ≡ out.old.items ++ record_bytes kind body.now) }
@@ -69,7 +69,7 @@ fn put_record(out: &mut Vec<u8>, kind: u8, body: &[u8]) -> Result<(), AllocError
     Ok(out.push(checksum(kind, body))?)
 }
 
-/// A FIXUPP whose record is not written yet.
+/// A FIXUPP whose record is not yet written.
 #[derive(Drop)]
 struct Group {
     kind: u8,
@@ -88,7 +88,7 @@ impl Model for Group {
 }
 
 impl Group {
-    /// The FIXUPP that a fixup opens.
+    /// A FIXUPP with one fixup.
     fn open(
         alloc: Global,
         kind: u8,
@@ -102,7 +102,7 @@ impl Group {
         Ok(Group { kind, body })
     }
 
-    /// Takes a fixup of a FIXUPP of a type and says so, if it has that type and room for it; else it stays as it was.
+    /// Appends a fixup and returns true, if this FIXUPP has its type and room for it. Otherwise returns false and changes nothing.
     #[inline(always)]
     fn join(&mut self, kind: u8, location: u16, reference: &Reference) -> Result<bool, AllocError>
         ensures fits { IfOk result (λ taken. taken ≡ has_room kind (subrecord_bytes kind (Fixup location reference.now)) self.old) }
@@ -120,8 +120,8 @@ impl Group {
         Ok(false)
     }
 
-    /// Takes the subrecord that comes next in a FIXUPP of a type and says so, if that is a fixup which names no thread and has no
-    /// displacement of 0, and this FIXUPP has its type and room for any fixup; else all stays as it was.
+    /// Takes the next subrecord and returns true, if it is a fixup that names no thread and has no displacement of 0, and this FIXUPP has
+    /// its type and room for the longest fixup. Otherwise returns false and changes nothing.
     #[inline(always)]
     fn join_direct(&mut self, kind: u8, subrecords: &mut Unread<Subrecord<'_>>) -> bool
         requires { IsOk subrecords.old.items }
@@ -140,15 +140,15 @@ impl Group {
 #[derive(Drop)]
 struct Walk {
     out: Vec<u8>,
-    /// The FIXUPP that is open.
+    /// The open FIXUPP, if there is one.
     group: Option<Group>,
     /// The threads in force.
     threads: Threads,
-    /// The contents of the record that was kept last, in whose room those of the next are made.
+    /// The contents of the last kept record. Its room is used again for the next.
     body: Vec<u8>,
 }
 
-/// Writes the record of an open FIXUPP, if there is one.
+/// Writes the record of the open FIXUPP, if there is one.
 fn close(out: &mut Vec<u8>, group: Option<Group>) -> Result<(), AllocError>
     ensures { OnOk result (out.new.items ≡ out.old.items ++ closed group) }
 {
@@ -158,7 +158,7 @@ fn close(out: &mut Vec<u8>, group: Option<Group>) -> Result<(), AllocError>
     }
 }
 
-/// Writes a record of a type behind the FIXUPP that is open, which is closed.
+/// Closes the open FIXUPP and writes a record after it.
 fn write(
     out: &mut Vec<u8>,
     group: &mut Option<Group>,
@@ -174,7 +174,7 @@ fn write(
 }
 
 impl Walk {
-    /// No record is walked over, and there is room for so many bytes.
+    /// A walk from the first record on, with room for `capacity` bytes of output.
     fn new(alloc: Global, capacity: usize) -> Result<Walk, AllocError>
         ensures out { IfOk result (λ w. w.out.items ≡ []) }
         ensures group { IfOk result (λ w. w.group ≡ None) }
@@ -188,8 +188,8 @@ impl Walk {
         })
     }
 
-    /// Takes a fixup that names no thread, of a FIXUPP of a type: it joins the open one, if that has its type and room for it; else that
-    /// is written, and the fixup opens the next.
+    /// Takes a fixup that names no thread: it joins the open FIXUPP, if that has its type and room for it; otherwise the open FIXUPP is
+    /// written, and the fixup opens the next.
     #[inline(always)]
     fn take_fixup(
         &mut self,
@@ -212,7 +212,7 @@ impl Walk {
         Ok(())
     }
 
-    /// Takes a subrecord of a FIXUPP of a type.
+    /// Takes a subrecord of a FIXUPP of this type.
     #[inline(always)]
     fn take_subrecord(
         &mut self,
@@ -243,8 +243,8 @@ impl Walk {
         }
     }
 
-    /// Takes the subrecord that comes next in a FIXUPP of a type and says so, if that is a fixup which names no thread and has no
-    /// displacement of 0, and the open FIXUPP has its type and room for any fixup; else all stays as it was.
+    /// Takes the next subrecord and returns true, if it is a fixup that names no thread and has no displacement of 0, and the open FIXUPP
+    /// has its type and room for the longest fixup. Otherwise returns false and changes nothing.
     #[inline(always)]
     fn join_direct(&mut self, kind: u8, subrecords: &mut Unread<Subrecord<'_>>) -> bool
         requires { IsOk subrecords.old.items }
@@ -260,7 +260,7 @@ impl Walk {
         }
     }
 
-    /// Takes the subrecords of a FIXUPP of a type, which are well spelled.
+    /// Takes the subrecords of a FIXUPP of this type. They are well formed.
     fn take_fixups(
         &mut self,
         alloc: Global,
@@ -286,7 +286,7 @@ impl Walk {
         }
     }
 
-    /// Writes a record that is kept.
+    /// Writes a kept record.
     fn keep(&mut self, rec: &Rec<'_>) -> Result<(), AllocError>
         requires { CanPut (Kept (alone (rec_seen rec.now))) }
         ensures out { OnOk result (self.new.out.items ≡ self.old.out.items ++ piece_puts (Kept (alone (rec_seen rec.now))) self.old.group) }
@@ -298,7 +298,7 @@ impl Walk {
         write(&mut self.out, &mut self.group, rec.kind(), &self.body)
     }
 
-    /// Writes a MODEND of a type, with bit 0 of its type byte as bit 6, and the ignored bits 0.
+    /// Writes a MODEND of this type, with its module type byte normalized.
     fn end(
         &mut self,
         alloc: Global,
@@ -315,7 +315,7 @@ impl Walk {
         write(&mut self.out, &mut self.group, kind, &body)
     }
 
-    /// Takes a record that is no FIXUPP.
+    /// Takes a record other than a FIXUPP.
     #[tactic(auto, using(crate::proofs::TakingLaws::end_set))]
     fn take_other(&mut self, alloc: Global, rec: &Rec<'_>) -> Result<(), AllocError>
         requires other { IsNoFixupp (contents_seen rec.now) }
@@ -335,7 +335,7 @@ impl Walk {
         }
     }
 
-    /// Writes an LEDATA or an LIDATA of which the index is in its shortest spelling: its contents are written as they were read.
+    /// Copies the contents of an LEDATA or an LIDATA whose index is in its shortest encoding.
     fn copy(&mut self, kind: u8, body: &[u8]) -> Result<(), AllocError>
         requires data { is_data kind ≡ true }
         requires begins { begins_short body.now ≡ true }
@@ -346,7 +346,7 @@ impl Walk {
         write(&mut self.out, &mut self.group, kind, body)
     }
 
-    /// Takes the next record, which is well spelled.
+    /// Takes the next record. It is well formed.
     fn take(&mut self, alloc: Global, raw: RawRecord<'_>) -> Result<(), AllocError>
         requires taken { IsTrue (is_taken raw.kind) }
         requires body { length raw.body.now ≤ 65534 }
@@ -366,7 +366,7 @@ impl Walk {
         self.take_other(alloc, &view_known(raw))
     }
 
-    /// Writes the FIXUPP that is open, and gives all that is written.
+    /// Writes the open FIXUPP, if there is one, and returns all the bytes.
     fn finish(self) -> Result<Vec<u8>, AllocError>
         ensures { IfOk result (λ v. v.items ≡ self.out.items ++ closed self.group) }
     {
@@ -376,7 +376,7 @@ impl Walk {
     }
 }
 
-/// The contents of a MODEND of a type.
+/// The contents of a MODEND of this type.
 fn end_contents(
     alloc: Global,
     kind: u8,
@@ -394,7 +394,7 @@ fn end_contents(
     Ok(body)
 }
 
-/// What one walk over a module's records writes: its canonical bytes, with room for so many from the start.
+/// The canonical bytes of a module, made in one walk over its records, with room for `capacity` bytes from the start.
 fn written(alloc: Global, module: &Checked, capacity: usize) -> Result<Vec<u8>, AllocError>
     requires { All IsRecord (canonical_raws (skeleton (recs_of «module».now.bytes))) }
     ensures { IfOk result (λ v. v.items ≡ canonical (recs_of «module».now.bytes)) }
@@ -411,13 +411,14 @@ fn written(alloc: Global, module: &Checked, capacity: usize) -> Result<Vec<u8>, 
     walk.finish()
 }
 
-/// The canonical bytes of a module: shortest spellings, computed checksums, fixups without threads in records of at most 1,024 bytes.
-/// They are well formed under the module's profile, have no more items and the same skeleton, are fixed by a further call, and mean the
-/// same at every placement. Two modules have the same exactly where their skeletons are equal.
+/// The canonical bytes of a module: shortest encodings, computed checksums, and fixups without threads in records of at most 1,024 bytes
+/// (TIS OMF 1.1, "FIXUPP", "MODEND"). They are well formed under the module's profile, have the same skeleton and no more items, are their
+/// own canonical bytes, and mean the same at every placement. Two modules have the same canonical bytes exactly if their skeletons are
+/// equal.
 ///
 /// # Errors
 ///
-/// `AllocError` where a growth is refused.
+/// `AllocError` if memory runs out.
 pub fn canon(alloc: Global, module: &Checked) -> Result<Vec<u8>, AllocError>
     ensures bytes { IfOk result (λ v. v.items ≡ canonical (recs_of «module».now.bytes)) }
     ensures form { IfOk result (λ v. IsFormOf «module».now.profile «module».now.bytes v.items) }

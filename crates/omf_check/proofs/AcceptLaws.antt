@@ -1,4 +1,4 @@
--- No input is both accepted and refused, and one module is accepted at most.
+-- No input is both accepted and refused, and at most one module is accepted.
 use Rattle.std.proofs.Common.{◌≡◌, ℕ, List, [], ◌∷◌, ◌++◌, refl, sym, ◌∙◌, ap, subst, arith, append_assoc, Bool, true, false}
 use Rattle.std.specs.Prelude.{All, flat_map, IsTrue, not, ◌||◌, slice_index}
 use Rattle.std.proofs.lemmas.List.{append_cancel_left, append-nil}

@@ -1,4 +1,4 @@
--- One step of a session: what its framer took, and what is true then.
+-- One step of a session: the bytes its framer took, and the invariant after it.
 use Rattle.std.proofs.Common.{◌≡◌, ℕ, zero, suc, ◌+◌, ◌-◌, ◌^◌, ◌<◌, ◌≤◌, ◌⊎◌, Bool, true, false, List, [], ◌∷◌, ◌++◌, refl, sym, ◌∙◌, ap, subst, arith, length, length-append, take, inl, inr}
 use Rattle.std.specs.Prelude.{◌==◌, Option, Some, None, is_none, ◌&&◌}
 use Rattle.omf_frame.specs.Bytes.{AreBytes}
@@ -98,7 +98,7 @@ module _ (profile : Profile) (held : Held) (taken : List ℕ) (kept : Kept) (p :
         none : (n : ℕ) → n < 0 → ⊥
         none n h = omega (arith, h)
 
-    -- a growth behind a record without fault
+    -- memory ran out after a record without fault
     longer : 0 < length (take count piece) → length held.bytes < length (next_of held piece)
     longer some =
         let e : length (next_of held piece) ≡ length held.bytes + length (take count piece) = ap length t.grown ∙ length-append held.bytes (take count piece) in
@@ -114,7 +114,7 @@ module _ (profile : Profile) (held : Held) (taken : List ℕ) (kept : Kept) (p :
       sound = passed_sound profile held taken kept p piece count whole new t (append_small taken (take count piece) p.small small) w is back f judged;
     }
 
-    -- a growth in the midst of a record
+    -- memory ran out within a record
     pub part_lacks : 0 < length (take count piece) → stands new ≡ false → Fails profile held taken piece check.Memory
     part_lacks some s =
         lacks_part profile held taken kept p (running_now held.ended refl (longer some)) piece count t.grown (longer some)
@@ -142,14 +142,14 @@ module _ (profile : Profile) (held : Held) (taken : List ℕ) (kept : Kept) (p :
         let h4 = subst (λ x. P (front_record (next_of held piece)).kind (front_record (next_of held piece)).body held.number x) (st ∙ new_start) h3 in
         by_fault fault (AreBytes-take count piece small) (whole_now s) (framed_now f) (record_now is) (back_now back) h4
 
-    -- a growth of the bytes taken, behind that record
+    -- memory ran out for the bytes taken, after that record
     pub record_lacks : (kind : ℕ) (body : List ℕ) → AreBytes piece → stands new ≡ true → frame_fault (new.number == 0) new.bytes ≡ None
         → IsRecord (front_record new.bytes) → raw_bytes (front_record new.bytes) ≡ new.bytes → kind ≡ (front_record new.bytes).kind → body ≡ (front_record new.bytes).body
         → raw_fault profile profile_limits kept kind body ≡ None → Fails profile held taken piece check.Memory
     record_lacks kind body small s f is back k b judged =
         passed_lacks (AreBytes-take count piece small) (whole_now s) (record_now is) (back_now back) (framed_now f) (judged_now kind body k b judged)
 
-    -- what is true after the step
+    -- the invariant after the step
     pub none_passed : (now : List ℕ) → now ≡ taken ++ take count piece → AreBytes piece → length new.bytes ≤ 65538 → stands new ≡ false → IsPassing profile new now kept
     none_passed now e small short s =
         subst (λ x. IsPassing profile new x kept) (sym e) (more_goes_on profile held taken kept p piece count whole new t (append_small taken (take count piece) p.small (AreBytes-take count piece small)) short s)

@@ -1,4 +1,4 @@
--- What a check answers, from what its session answers.
+-- The results of a check, from those of its session.
 use Rattle.std.proofs.Common.{◌≡◌, ℕ, zero, suc, ◌+◌, ◌-◌, ◌*◌, ◌^◌, ◌<◌, ◌≤◌, ◌⊎◌, Bool, true, false, List, [], ◌∷◌, ◌++◌, Result, Ok, Err, refl, sym, ◌∙◌, ap, subst, arith, append_assoc, length, take, drop, min, inl, inr}
 use Rattle.std.specs.Prelude.{Option, Some, None, is_some, not, ◌&&◌, ◌||◌, cond, IfErr, IsTrue, slice_index}
 use Rattle.std.specs.Io.{StartsWith}
@@ -34,7 +34,7 @@ pub some_given : (n : ℕ) (bytes : List ℕ) → (n ≡ 0 → ⊥) → n ≤ le
 some_given zero bytes h few = absurd (h refl)
 some_given (suc n) bytes h few = let e = length-take (suc n) bytes in omega (arith, e, few)
 
--- What was consumed of known bytes.
+-- The bytes consumed of known bytes.
 pub consumes_more : (old between new : Option (List ℕ)) (xs ys : List ℕ) → Consumes old between xs → Consumes between new ys → Consumes old new (xs ++ ys)
 consumes_more None between new xs ys h k = tt
 consumes_more (Some a) None new xs ys h k = absurd h
@@ -65,13 +65,13 @@ none_some o f e h = cc
 clash : (b : Bool) → b ≡ true → b ≡ false → ⊥
 clash b e h = cc
 
--- A refusal that stands is not that the input ends too early.
+-- A refusal that remains is not that the input ends too early.
 not_early : (why : Reason) (part : List ℕ) → EndsWhereJudged why part → IsTrue (may_go_on why) → ⊥
 not_early reason.NoEnd part h t = h
 not_early reason.Cut part h t = h
 not_early _ part h t = absurd (untrue t)
 
--- No more than the wanted bytes are of the record at hand.
+-- No more than the wanted bytes belong to the current record.
 present_wanted : (hand piece : List ℕ) → 0 < wanted hand → length piece ≤ wanted hand → present (hand ++ piece) ≡ hand ++ piece
 present_wanted [] [] some few = refl
 present_wanted [] (t ∷ []) some few = refl
@@ -102,7 +102,7 @@ all_wanted (t ∷ []) front n some most few h = omega (arith, few, h)
 all_wanted (t ∷ lo ∷ []) front n some most few h = omega (arith, few, some)
 all_wanted (t ∷ lo ∷ hi ∷ hand) front n some most few h = let e = length-append hand front in omega (arith, some, few, h, e)
 
--- What is judged ends with the last of the wanted bytes.
+-- The check of a record ends with the last of the wanted bytes.
 judged_at_wanted : (why : Reason) (hand front : List ℕ) (n : ℕ) → 0 < length front → length front ≤ n → n ≤ wanted hand → EndsWhereJudged why (hand ++ front) → n ≤ length front
 judged_at_wanted reason.NoEnd hand front n some most few h = absurd h
 judged_at_wanted reason.Cut hand front n some most few h = absurd h
@@ -114,7 +114,7 @@ judged_at_wanted _ hand front n some most few h = all_wanted hand front n some m
 whole_take : (n : ℕ) (xs : List ℕ) → length xs ≤ length (take n xs) → take n xs ≡ xs
 whole_take n xs h = let e = length-take n xs in take_all n xs (omega (arith, e, h))
 
--- What is shown of the bytes that a reader has left.
+-- The bytes shown of those that a reader has left.
 no_hand : (hand ahead : List ℕ) → begins_record hand ahead ≡ true → hand ≡ []
 no_hand [] ahead h = refl
 no_hand (b ∷ hand) [] h = absurd (clash false h refl)
@@ -227,7 +227,7 @@ module _ (profile : Profile) (s : Seen) (open_s : IsOpen s) (fault : s.fault ≡
   finish_err (Ok m) old left n k f c z = tt
   finish_err (Err why) old left n k f c z = finish_cause why old left n k f.1 c z
 
-  -- the reader failed, and what was read decides nothing
+  -- the reader failed, and the bytes read are undecided
   pub read_failed : (old mid new : Option (List ℕ)) → Consumes old mid s.taken → Keeps mid new → IsUndecided profile old new
   read_failed old mid new c k = (s.taken, Consumes-kept old mid new s.taken c k, subst (λ p. AreSoundSoFar p profile_limits s.taken) same open_s.sound)
 

@@ -1,4 +1,4 @@
--- Steps of the loops that judge and keep.
+-- Steps of the loops that check and keep.
 use Rattle.std.proofs.Common.{◌≡◌, ℕ, ◌+◌, List, [], ◌∷◌, ◌++◌, sym, ◌∙◌, ap, append_assoc}
 use Rattle.std.specs.Prelude.{Option}
 use Rattle.omf_frame.specs.Fault.{Fault}
@@ -8,7 +8,7 @@ use Rattle.omf_check.specs.Inner.Judging.{lesser, subrecord_fault, subrecords_fa
 use Rattle.omf_check.specs.declared.threads.Threads.{Threads}
 use Rattle.omf_check.proofs.Lesser.{lesser_more}
 
--- one subrecord more is judged
+-- one more subrecord is checked
 pub subrecords_more : (kept : Kept) (found one now all : Option Fault) (cells next : Threads) (s : At Subrecord) (old rest : List (At Subrecord)) → now ≡ lesser found one
     → one ≡ subrecord_fault kept cells s.within s.item → next ≡ set_thread cells s.item → old ≡ s ∷ rest
     → lesser found (subrecords_fault kept cells old) ≡ all → lesser now (subrecords_fault kept next rest) ≡ all
@@ -17,12 +17,12 @@ subrecords_more kept found one now all cells next s old rest n o t e h =
     ∙ ap (λ c. lesser (lesser found (subrecord_fault kept cells s.within s.item)) (subrecords_fault kept c rest)) t
     ∙ lesser_more found _ _ (subrecords_fault kept (set_thread cells s.item) rest) all (ap (subrecords_fault kept cells) e) h
 
--- one subrecord more sets its thread
+-- one more subrecord sets its thread
 pub threads_more : (cells next all : Threads) (s : At Subrecord) (old rest : List (At Subrecord)) → next ≡ set_thread cells s.item → old ≡ s ∷ rest
     → set_threads cells old ≡ all → set_threads next rest ≡ all
 threads_more cells next all s old rest t e h = ap (λ c. set_threads c rest) t ∙ ap (set_threads cells) (sym e) ∙ h
 
--- one place more is kept
+-- one more place is kept
 pub starts_more : {A : Type 0} (at p : ℕ) (a : At A) (old now all : List ℕ) (items rest : List (At A)) → now ≡ old ++ p ∷ [] → p ≡ at + a.within → items ≡ a ∷ rest
     → old ++ starts at items ≡ all → now ++ starts at rest ≡ all
 starts_more at p a old now all items rest n f e h =

@@ -1,4 +1,4 @@
--- The fault computed from what is kept is the least fault of the rules.
+-- The fault computed from the state kept is the first fault of the rules.
 use Rattle.std.proofs.Common.{◌≡◌, ℕ, suc, ◌+◌, ◌-◌, ◌≤◌, Bool, List, [], ◌∷◌, ◌++◌, refl, sym, ◌∙◌, ap, subst, arith, length, map, append_assoc, inl, inr}
 use Rattle.std.specs.Prelude.{Option, Some, None, option_map, not, nat_lt, nat_le}
 use Rattle.std.specs.List.{enumerate_from}

@@ -1,4 +1,4 @@
--- Where a refusal is decided: in a front of the input that ends where the record at fault is judged, and in no shorter one.
+-- A refusal is decided by a prefix of the input that ends where the record at fault is refused, and by no shorter one.
 use Rattle.std.proofs.Common.{◌≡◌, ◌≢◌, ℕ, ◌+◌, ◌*◌, Bool, true, false, cond, List, [], ◌∷◌, ◌++◌, Option, Some, None, refl, sym, ◌∙◌, ap, subst, arith, append_assoc, length, drop, inl, inr}
 use Rattle.std.specs.Prelude.{◌⊎◌, ◌↔◌, flat_map, option_map}
 use Rattle.std.specs.Option.{option_or}
@@ -44,7 +44,7 @@ none_some x e = cc
 clash : (b : Bool) → b ≡ true → b ≡ false → ⊥
 clash b e h = cc
 
--- some tables tell what the records defined
+-- some state is that after the records
 tells_on : (done more : List Raw) (kept : Kept) → Tells kept (recs done) → (k : Kept) × Tells k (recs (done ++ more))
 tells_on done [] kept h = (kept, subst (λ rs. Tells kept (recs rs)) (sym (append-nil done)) h)
 tells_on done (r ∷ more) kept h =
@@ -56,7 +56,7 @@ least_computed : (fs : List Fault) (f : Fault) → IsLeast fs f → least fs ≡
 least_computed [] f h = absurd (nothing_least f h)
 least_computed (g ∷ gs) f h = ap (λ x. Some x) (least_unique (g ∷ gs) (least_or g gs) f (least_is_least g gs) h)
 
--- what is there of the record, and what is behind it
+-- the bytes present of the record, and those after it
 parts_of : (bytes : List ℕ) → (behind : List ℕ) × (bytes ≡ present bytes ++ behind)
 parts_of [] = ([], refl)
 parts_of (t ∷ []) = ([], refl)
@@ -66,7 +66,7 @@ parts_of (t ∷ lo ∷ hi ∷ bytes) = (drop (lo + 256 * hi) bytes, ap (λ bs. t
 lasts : (f : Fault) → is_end_of_input f.reason ≡ false → lasting (Some f) ≡ Some f
 lasts f n = ap (λ b. cond b None (Some f)) n
 
--- a front of some bytes in which their fault is the least, and which ends where it is judged
+-- a prefix of some bytes with the same first fault, which ends where it is decided
 pub record Decides (profile : Profile) (limits : Limits) (before : List Raw) (bytes : List ℕ) (f : Fault) : Type 0 where
   pub part : List ℕ
   pub behind : List ℕ
@@ -160,7 +160,7 @@ one_length reason.UnsupportedType p x h k = let e = length-append p x in omega (
 one_length reason.EmptyRecord p x h k = let e = length-append p x in omega (arith, h, k, e)
 one_length _ p x h k = let e = length-append p x in let s = stated_front p x h in omega (arith, h, k, e, s)
 
--- The end of the input is not where anything else is judged.
+-- The end of the input decides nothing else.
 judged_lasts : (why : Reason) (part : List ℕ) → EndsWhereJudged why part → is_end_of_input why ≡ false
 judged_lasts reason.NoEnd part h = absurd h
 judged_lasts reason.Cut part h = absurd h
@@ -175,7 +175,7 @@ not_cut why n e = clash (is_end_of_input why) (ap is_end_of_input e) n
 last_none : (b : ℕ) (rest back : List ℕ) → length (rest ++ b ∷ back) ≡ 0 → ⊥
 last_none b rest back h = let e = length-append rest (b ∷ back) in omega (arith, h, e)
 
--- the front of an input that decides its refusal, behind the records before
+-- the prefix of an input that decides its refusal, after the records before
 record Front (profile : Profile) (limits : Limits) (input : List ℕ) (why : Reason) (at : Place) : Type 0 where
   before : List ℕ
   part : List ℕ
@@ -216,7 +216,7 @@ module _ (profile : Profile) (limits : Limits) (input : List ℕ) (why : Reason)
         λ more. refusal_stays profile limits (x.before ++ x.part) more why at (not_no_end why n) (not_cut why n) x.refused,
       )
 
-  -- bytes behind which nothing was refused
+  -- bytes up to which nothing was refused
   behind_none : (rest : List ℕ) → (read : List ℕ) → input ≡ read ++ rest → NoneShorter profile limits input → EndsWhereJudged why (drop at.start read) → IsRefused profile limits read why at
       → is_end_of_input why ≡ false → EndsWhereJudged why (drop at.start input)
   behind_none [] read e none j refused n = subst (λ x. EndsWhereJudged why (drop at.start x)) (sym (e ∙ append-nil read)) j
@@ -227,7 +227,7 @@ module _ (profile : Profile) (limits : Limits) (input : List ℕ) (why : Reason)
       let x = front_of n in
       behind_none x.behind (x.before ++ x.part) x.spelled none (subst (EndsWhereJudged why) (sym (from_start x.before x.part x.starts)) x.judged) x.refused n
 
--- no shorter front is refused so
+-- no shorter prefix has this refusal
 module _ (profile : Profile) (limits : Limits) (input : List ℕ) (why : Reason) (at : Place) (small : AreBytes input) (r : IsRefused profile limits input why at) where
   same_length : (front back : List ℕ) (b : ℕ) → input ≡ front ++ b ∷ back → Front profile limits front why at → EndsWhereJudged why (drop at.start input) → ⊥
   same_length front back b e x j =

@@ -1,4 +1,4 @@
--- What is kept goes on telling the records before, one record after another.
+-- The state kept always determines the records before, record by record.
 use Rattle.std.proofs.Common.{◌≡◌, ℕ, zero, suc, ◌+◌, ◌<◌, ◌≢◌, Bool, true, false, List, [], ◌∷◌, ◌++◌, refl, sym, ◌∙◌, ap, subst, arith, append_assoc, length, map, get_or, set, inl, inr, length-append}
 use Rattle.std.specs.Prelude.{Option, Some, None, option_map, flat_map, sum_by, cond, ◌&&◌, ◌==◌}
 use Rattle.std.specs.Option.{option_or}

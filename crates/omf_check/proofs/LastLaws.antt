@@ -1,4 +1,4 @@
--- The last of the records that bytes are, past those before it.
+-- The last of the records in some bytes.
 use Rattle.std.proofs.Common.{◌≡◌, ℕ, ◌+◌, ◌-◌, ◌<◌, List, [], ◌∷◌, ◌++◌, length, arith, refl, sym, ap, ◌∙◌, Some}
 use Rattle.omf_frame.specs.Bytes.{last}
 use Rattle.omf_frame.specs.Framing.{front_record, present, after_front}
@@ -11,7 +11,7 @@ use Rattle.omf_check.specs.Sound.{ModuleHolds}
 use Rattle.omf_check.specs.WellFormed.{recs}
 use Rattle.omf_check.proofs.ListedLaws.{starts, less, list_rest, split_here}
 
--- What is left behind some of the records.
+-- The bytes after some of the records.
 pub record IsLeft (whole left : List ℕ) : Type 0 where
   pub number : ℕ
   pub start : ℕ

@@ -1,4 +1,4 @@
--- An index is judged by the length of its method's table.
+-- An index is checked against the length of its method's table.
 use Rattle.std.proofs.Common.{◌≡◌, ℕ, zero, suc, ◌<◌, ◌≤◌, Bool, true, false, cond, List, Option, Some, refl, ◌∙◌, ap, arith, inl, inr}
 use Rattle.std.specs.Prelude.{is_none, get_or, option_map, unwrap_or, ◌==◌}
 use Rattle.std.proofs.lemmas.Bool.Decides.{eqb_tells}
@@ -26,7 +26,7 @@ pub entry_counted : (kept : Kept) (lengths : List ℕ) (at method i : ℕ) → l
     → is_defined (get_or lengths method 0) i ≡ is_none (index_fault kept at (cond (method == 0) (T0 i) (cond (method == 1) (T1 i) (T2 i))))
 entry_counted kept lengths at method i e h = ap (λ ls. is_defined (get_or ls method 0) i) e ∙ counted kept at method i h
 
--- A frame of one of the first three methods is judged as the target of that method is; one of the others names no entry.
+-- A frame with one of the first three methods is checked like the target with that method; the others refer to no entry.
 pub frame_by_table : (kept : Kept) (at method : ℕ) (datum : Option (At ℕ)) → method ≤ 2
     → is_none (frame_fault kept at (Some (frame_from (setting method datum)))) ≡ is_none (index_fault kept at (target_from (setting method datum)))
 frame_by_table kept at zero datum h = refl

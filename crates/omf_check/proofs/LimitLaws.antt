@@ -1,4 +1,4 @@
--- A module within some limits on blocks is within any larger ones.
+-- A module within some limits on blocks is within all larger limits.
 use Rattle.std.proofs.Common.{◌≡◌, ℕ, ◌≤◌, List, ◌++◌, refl, sym, ◌∙◌, ap, subst}
 use Rattle.omf_frame.specs.Fault.{AreKept}
 use Rattle.omf_frame.specs.Framing.{Raw}

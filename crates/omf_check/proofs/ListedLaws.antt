@@ -1,4 +1,4 @@
--- The records of a checked module are read one after another.
+-- The records of a checked module are read in order.
 use Rattle.std.proofs.Common.{◌≡◌, ℕ, suc, ◌+◌, ◌-◌, ◌*◌, ◌/◌, ◌%◌, ◌^◌, ◌<◌, ◌≤◌, List, [], ◌∷◌, ◌++◌, Result, Ok, refl, sym, ◌∙◌, ap, subst, arith, length, length-append}
 use Rattle.std.specs.Prelude.{All, flat_map, IsTrue, Bool, true, false, is_ok, ◌==◌}
 use Rattle.omf_frame.specs.Framing.{Raw, raw_bytes, IsRecord, is_taken, front_record, present, after_front}
@@ -115,7 +115,7 @@ module _ (bytes : List ℕ) (number start : ℕ) (a : AreListed bytes number sta
         ∙ ap (λ n. row (typed (front_record (present bytes))) n more) size
         ∙ ap (λ rs. row (typed (front_record (present bytes))) (length bytes - length rest) rs) (sym (records_back rest more (e ∙ after_is) (all_tail IsReadable r more readable)))
 
--- The record in front.
+-- The first record.
 pub front_of : (bytes : List ℕ) → StartsWithRecord bytes → IsReadable (front_record (present bytes))
 front_of bytes s =
     let small = s.readable.is_record.0 in

@@ -1,4 +1,4 @@
--- A session at its start, with more bytes of a record, and with a record passed.
+-- A session at its start, with more bytes of a record, and with a record accepted.
 use Rattle.std.proofs.Common.{◌≡◌, ℕ, suc, ◌+◌, ◌*◌, ◌^◌, ◌<◌, ◌≤◌, Bool, true, false, List, [], ◌∷◌, ◌++◌, refl, sym, ◌∙◌, ap, subst, arith, append_assoc, length, take, length-append, inl, inr}
 use Rattle.std.specs.Prelude.{All, flat_map, IsTrue, not, ◌==◌, cond, None, slice_index, is_none, ◌&&◌, sum_by, max}
 use Rattle.std.proofs.lemmas.List.{append-nil, map-append}
@@ -108,7 +108,7 @@ item_more (r ∷ rs) =
     single a b n whole h k e = omega (arith, h, k, e)
 
 module _ (profile : Profile) (held : Held) (taken : List ℕ) (kept : Kept) (p : IsPassing profile held taken kept) where
-  -- the number and the start are far below their types' ends
+  -- the number and the start are far below the ends of their types
   pub number_bound : held.number ≤ 1048576
   number_bound = let e = p.number in let m = item_more p.before in let t = p.tells.items in let b = p.bounded.items in omega (arith, e, m, t, b)
 

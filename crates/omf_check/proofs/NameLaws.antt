@@ -1,4 +1,4 @@
--- A name is read where it stands.
+-- A name is read at its offset.
 use Rattle.std.proofs.Common.{◌≡◌, ℕ, ◌-◌, ◌≤◌, Bool, true, false, List, ◌∷◌, ◌++◌, refl, sym, ◌∙◌, ap, subst, arith, length, take, drop, length-append}
 use Rattle.std.specs.Prelude.{Option, Some, None, IfSome, slice_get, cond, nat_le}
 use Rattle.std.proofs.lemmas.List.{length-take, take-append-drop}
@@ -32,7 +32,7 @@ spelled_name bytes p to n (le, low, (short, e)) = record {
 pub one_name : (bytes : List ℕ) (p : ℕ) (n m : List ℕ) → NameAt bytes p n → NameAt bytes p m → n ≡ m
 one_name bytes p n m h k = (name_free n m (length n ∷ n) (length m ∷ m) h.rest k.rest (h.short, refl) (k.short, refl) (sym (behind bytes p n h) ∙ behind bytes p m k)).1
 
--- The entry of an index from 1.
+-- The entry with an index, from 1.
 pub entry_at : {A : Type 0} (P : ℕ → A → Type 0) (ps : List ℕ) (xs : List A) (i : ℕ) → AllAt P ps xs → IsItemAt P (entry ps i) (entry xs i)
 entry_at P ps xs i h = by (nat_le 1 i)
   where
@@ -68,7 +68,7 @@ one_at bytes None (Some n) other h k = absurd h
 one_at bytes (Some p) (Some n) None h k = absurd k
 one_at bytes None None (Some m) h k = absurd k
 
--- The name of an index, in bytes that are those of the module.
+-- The name with an index, in the bytes of the module.
 module _ (whole ps : List ℕ) (ns : List (List ℕ)) (i : ℕ) (h : AllAt (NameAt whole) ps ns) (bytes : List ℕ) (same : bytes ≡ whole) (place : Option ℕ) (is : place ≡ entry ps i) where
   there : IsItemAt (NameAt bytes) place (entry ns i)
   there = subst (λ b. IsItemAt (NameAt b) place (entry ns i)) (sym same) (subst (λ o. IsItemAt (NameAt whole) o (entry ns i)) (sym is) (entry_at (NameAt whole) ps ns i h))

@@ -1,4 +1,4 @@
--- A session passes records: what is true of it stays true, and what it refuses is refused.
+-- A session accepts records: its invariant is kept, and its refusals are right.
 use Rattle.std.proofs.Common.{◌≡◌, ℕ, suc, ◌+◌, ◌*◌, ◌^◌, ◌<◌, Bool, true, false, List, [], ◌∷◌, ◌++◌, refl, sym, ◌∙◌, ap, subst, arith, append_assoc, length, inl, inr}
 use Rattle.std.specs.Prelude.{All, flat_map, IsTrue, ◌==◌, cond, Option, Some, None, option_map}
 use Rattle.std.proofs.lemmas.List.{append-nil}
@@ -138,7 +138,7 @@ module _ (profile : Profile) (held : Held) (taken : List ℕ) (kept : Kept) (p :
   back : (piece more : List ℕ) (why : Reason) (at : Place) → IsRefused profile profile_limits (taken ++ (piece ++ more)) why at → IsRefused profile profile_limits ((taken ++ piece) ++ more) why at
   back piece more why at h = subst (λ x. IsRefused profile profile_limits x why at) (sym (append_assoc taken piece more)) h
 
-  -- the fault of framing that stands
+  -- the remaining fault of framing
   framing_refused : held.ended ≡ false → (piece more : List ℕ) (f : Fault) → standing_fault (held.number == 0) (present (held.bytes ++ piece)) ≡ Some f
       → IsRefused profile profile_limits ((taken ++ piece) ++ more) f.reason (record { number = held.number; start = held.start; within = f.within })
   framing_refused e piece more f s =
@@ -160,7 +160,7 @@ module _ (profile : Profile) (held : Held) (taken : List ℕ) (kept : Kept) (p :
       → option_map (refused held) (Some f) ≡ Some (frame.Refused why at) → IsRefused profile profile_limits ((taken ++ piece) ++ more) why at
   framing_refuses e piece more f why at s h = by_frame e piece more (Some f) why at s h
 
-  -- A refusal of the framer stands, whatever follows.
+  -- A refusal of the framer remains, whatever follows.
   pub framer_refuses : held.ended ≡ false → (piece more : List ℕ) (why : Reason) (at : Place) → option_map (refused held) (standing_fault (held.number == 0) (next_of held piece)) ≡ Some (frame.Refused why at)
       → IsRefused profile profile_limits ((taken ++ piece) ++ more) why at
   framer_refuses e piece more why at h =

@@ -1,4 +1,4 @@
--- A check tries only an interruption of its reader again.
+-- A check retries only interruptions of its reader.
 use Rattle.std.proofs.Common.{◌≡◌, ◌⊎◌, ◌∙◌, ℕ, List, ap, inl, inr}
 use Rattle.std.specs.Prelude.{Some, None, Result, Ok, Err, IfOk}
 use Rattle.omf_frame.specs.Device.{Device}

@@ -1,4 +1,4 @@
--- Names stand where what is kept says.
+-- The offsets kept for names are right.
 use Rattle.std.proofs.Common.{◌≡◌, ℕ, zero, suc, ◌+◌, ◌/◌, ◌%◌, ◌<◌, List, [], ◌∷◌, ◌++◌, refl, sym, ◌∙◌, ap, subst, arith, append_assoc, length, map, length-append}
 use Rattle.std.specs.Prelude.{⊤, slice_get}
 use Rattle.std.proofs.lemmas.List.{append-nil}
@@ -15,7 +15,7 @@ use Rattle.omf_check.specs.Tables.{defined_names, defined_groups, defined_extern
 use Rattle.omf_check.specs.Tables.{names as all_names, groups as all_groups, externals as all_externals}
 use Rattle.omf_check.proofs.KeptLaws.{flat_more}
 
--- Places of items: under a weaker rule, put together, and looked up.
+-- Places of items: weakened, concatenated, and looked up.
 all_by : {A : Type 0} (P Q : ℕ → A → Type 0) → ((p : ℕ) (x : A) → P p x → Q p x) → (ps : List ℕ) (xs : List A) → AllAt P ps xs → AllAt Q ps xs
 all_by P Q f [] [] h = tt
 all_by P Q f (p ∷ ps) (x ∷ xs) h = (f p x h.0, all_by P Q f ps xs h.1)
@@ -35,7 +35,7 @@ item_at P (p ∷ ps) (x ∷ xs) (suc i) h = item_at P ps xs i h.1
 item_at P [] (x ∷ xs) i h = absurd h
 item_at P (p ∷ ps) [] i h = absurd h
 
--- More bytes behind.
+-- More bytes after them.
 name_more : (bytes more : List ℕ) (p : ℕ) (n : List ℕ) → NameAt bytes p n → NameAt (bytes ++ more) p n
 name_more bytes more p n h = record {
   front = h.front;
@@ -136,7 +136,7 @@ laid_named kind at bytes (Communals items) h = each_at communal (λ c. c.name) b
 laid_named kind at bytes (Header n) h = tt
 laid_named kind at bytes _ h = tt
 
--- A record's names in the module, behind `before` bytes.
+-- A record's names in the module, after `before` bytes.
 module _ (before : List ℕ) (r : Raw) (start : ℕ) (e : start ≡ length before) where
   in_module : (w : ℕ) (n : List ℕ) → ItemAt 3 r.body w n → NameAt (before ++ raw_bytes r) (start + w) n
   in_module w n h =

@@ -246,7 +246,7 @@ block_inner width (suc levels) =
 blocks_inner : (width levels : ℕ) → Inner (blocks width levels)
 blocks_inner width levels = called_inner _ _ (many_inner (block width levels) (block_inner width levels))
 
--- What is read and judged.
+-- Readings and rules.
 SizeInner : Result ℕ Fault → Type 0
 SizeInner (Ok n) = ⊤
 SizeInner (Err f) = IsInner f.reason
@@ -389,6 +389,6 @@ module _ (kept : Kept) where
       by_data profile c (data_size limits kind c) (by_bytes profile limits kind c (spelled_bytes kind body c small ((contents_whole kind).ok 3 body c small e)))
   by_read profile limits kind body small (Err f) e = contents_inner kind 3 body f ((contents_whole kind).err 3 body f small e)
 
-  -- What a record is refused for, once it is framed.
+  -- The refusal of a framed record.
   pub raw_inner : (profile : Profile) (limits : Limits) (kind : ℕ) (body : List ℕ) → AreBytes body → FaultInner (raw_fault profile limits kept kind body)
   raw_inner profile limits kind body small = by_read profile limits kind body small (read_body kind body) refl

@@ -1,4 +1,4 @@
--- The fault that is computed for a record is the least of the first of its steps that has one.
+-- The fault computed for a record is the first fault of the first of its steps that has any.
 use Rattle.std.proofs.Common.{◌≡◌, ℕ, suc, ◌+◌, ◌-◌, ◌<◌, ◌≤◌, Bool, true, false, List, [], ◌∷◌, ◌++◌, Result, Ok, Err, refl, sym, ◌∙◌, ap, arith, length, length-append}
 use Rattle.std.proofs.lemmas.List.{length-map}
 use Rattle.std.proofs.lemmas.Bool.{leb-true}
@@ -98,7 +98,7 @@ item_lengths (Fixups (s ∷ subs)) = let e : length (places (s ∷ subs)) ≡ su
 item_lengths (Names items) = refl
 item_lengths _ = refl
 
--- A record that is no FIXUPP is one item, at its start.
+-- A record other than a FIXUPP is one item, at its start.
 pub not_fixupp : (r : CodeRec) → is_fixupp (kind_seen r) ≡ false → IsNoFixupp (contents_seen r)
 not_fixupp (code.Fixups wide subs) h = absurd (by wide h)
   where
@@ -116,7 +116,7 @@ one_item _ h = refl
 fits : (limit old n room : ℕ) → old ≤ limit → room ≡ limit - old → n ≤ room → old + n ≤ limit
 fits limit old n room le e h = omega (arith, le, e, h)
 
--- what is kept of a record that no limit refuses
+-- the state kept after a record within the limits
 module _ (profile : Profile) (limits : Limits) (kept : Kept) (bounded : IsBounded kept) where
   items_fit : (c : Contents) → room_fault (item_limit - kept.items) (item_places c) ≡ None → kept.items + items_in c ≤ 1048576
   items_fit c h = fits 1048576 kept.items (items_in c) (item_limit - kept.items) bounded.items refl
@@ -153,7 +153,7 @@ module _ (profile : Profile) (limits : Limits) (kept : Kept) (bounded : IsBounde
       (le, more_bounded at r.kind size (kept.items + items_in r.contents) r.contents le both.1)
   by_data at r (Err f) h = absurd cc
 
-  -- what is no FIXUPP has room as one item
+  -- a record other than a FIXUPP has room as one item
   pub one_fits_on : (at : ℕ) (r : Rec) → IsNoFixupp r.contents → record_fault profile limits kept r ≡ None → kept.items < 1048576
   one_fits_on at r other h = let le = (by_data at r (data_size limits r.kind r.contents) h).0 in let one = one_item r.contents other in omega (arith, le, one)
 

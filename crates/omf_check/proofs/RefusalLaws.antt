@@ -1,4 +1,4 @@
--- A refusal that is neither NoEnd nor Cut stands whatever follows.
+-- A refusal other than NoEnd and Cut remains, whatever follows.
 use Rattle.std.proofs.Common.{◌≡◌, ℕ, List, [], ◌∷◌, ◌++◌, refl, sym, ◌∙◌, ap, subst, Bool, true, false, append_assoc, length, arith, ◌≢◌, ◌≤◌, take, drop, get_or, zero, suc, ◌<◌, ◌+◌, ◌*◌}
 use Rattle.std.specs.Prelude.{nat_le, flat_map}
 use Rattle.std.proofs.lemmas.List.{take-append-le, length-take}
@@ -33,7 +33,7 @@ module _ (profile : Profile) (limits : Limits) (before : List Raw) where
   the_steps : List ℕ → List (List Fault)
   the_steps bytes = steps profile limits before (present bytes)
 
-  -- the first two steps look at the first byte alone
+  -- the first two steps depend on the first byte only
   front_steps : (t : ℕ) (bytes : List ℕ) → (later : List (List Fault)) × (the_steps (t ∷ bytes) ≡ [] ∷ type_faults t ∷ later)
   unfolding the_steps
   front_steps t [] = (drop 2 (the_steps (t ∷ [])), refl)
@@ -49,7 +49,7 @@ module _ (profile : Profile) (limits : Limits) (before : List Raw) where
       let P : List Fault → Type 0 = λ fs. IsLeast fs g in
       ap first_step s.1 ∙ type_first (type_faults t) xs s.0 cut g (subst P e h) ne ∙ sym e
 
-  -- the fault Cut of so many bytes, and NoEnd
+  -- the fault Cut of some bytes, and NoEnd
   abbrev cut_at : ℕ → Fault
   cut_at n = record { within = n; reason = reason.Cut }
 
@@ -85,7 +85,7 @@ module _ (profile : Profile) (limits : Limits) (before : List Raw) where
   steps_stay (t ∷ lo ∷ []) more g h end cut = short_stays t (lo ∷ []) (cut_at 2) g (drop 3 (the_steps (t ∷ lo ∷ []))) refl h (other_reason (cut_at 2) g cut) (lo ∷ more)
   steps_stay (t ∷ lo ∷ hi ∷ bytes) more g h end cut = long_stays (nat_le (lo + 256 * hi) (length (take (lo + 256 * hi) bytes))) t lo hi bytes more g refl h cut
 
--- A refusal that is neither NoEnd nor Cut stands, whatever follows the input.
+-- A refusal other than NoEnd and Cut remains, whatever follows the input.
 pub refusal_stays : (profile : Profile) (limits : Limits) (input more : List ℕ) (why : Reason) (at : Place) → why ≢ reason.NoEnd → why ≢ reason.Cut
     → IsRefused profile limits input why at → IsRefused profile limits (input ++ more) why at
 unfolding the_steps

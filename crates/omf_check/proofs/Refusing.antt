@@ -1,4 +1,4 @@
--- Where the record at hand is refused, and what is found before a growth.
+-- The place where the current record is refused, and the faults found before memory runs out.
 use Rattle.std.proofs.Common.{◌≡◌, ℕ, zero, suc, ◌+◌, ◌-◌, ◌*◌, ◌<◌, ◌≤◌, Bool, true, false, cond, List, [], ◌∷◌, ◌++◌, refl, sym, ◌∙◌, ap, subst, arith, append_assoc, length, take, drop, min, inl, inr}
 use Rattle.std.specs.Prelude.{flat_map, IsTrue, ◌==◌, ◌||◌, nat_le, not, sum, ◌%◌, slice_index, Option, Some, None, option_map}
 use Rattle.std.specs.Option.{option_or}
@@ -37,7 +37,7 @@ some_same x y e = cc
 none_some : {A : Type 0} (x : A) → ◌≡◌ {A = Option A} None (Some x) → ⊥
 none_some x e = cc
 
--- Where the faults of framing are judged.
+-- The places where faults of framing are decided.
 pub type_ends : (t : ℕ) (q : Reason × ℕ) → type_fault (t ∷ []) ≡ Some q → EndsWhereJudged q.0 (t ∷ [])
 unfolding type_fault
 type_ends t q e = by (is_unsupported t) (is_taken t) e
@@ -290,7 +290,7 @@ module _ (profile : Profile) (held : Held) (taken : List ℕ) (kept : Kept) (p :
         record_by small (raw_fault profile profile_limits kept (front_record now).kind (front_record now).body) why at w s refl
         (raw_inner kept profile profile_limits (front_record now).kind (front_record now).body (body_small now (part_small small))) h
 
-  -- What is found before a growth: nothing, in what the framer took of a record that goes on.
+  -- Before memory runs out there is no fault in the bytes taken of an incomplete record.
   pub lacks_part : held.ended ≡ false → (piece : List ℕ) (count : ℕ) → next_of held piece ≡ held.bytes ++ take count piece → length held.bytes < length (next_of held piece)
       → is_whole (next_of held piece) ≡ false → standing_fault first (next_of held piece) ≡ None → LacksMemory (here profile held taken) piece
   lacks_part e piece count g more w s = record {

@@ -1,4 +1,4 @@
--- What a session's calls answer.
+-- The results of a session's calls.
 use Rattle.std.proofs.Common.{◌≡◌, ◌≢◌, ℕ, zero, suc, ◌+◌, ◌<◌, ◌≤◌, Bool, true, false, List, [], ◌∷◌, ◌++◌, Result, Ok, Err, refl, sym, ◌∙◌, ap, subst, arith, length, min, length-append}
 use Rattle.std.specs.Prelude.{All, flat_map, ◌==◌, not, ◌&&◌, ◌||◌, Option, Some, None, is_some, cond}
 use Rattle.omf_frame.specs.Fault.{Fault}
@@ -48,7 +48,7 @@ feeds profile held new taken now piece kept after count whole fault e s m q =
     subst (λ f. Takes (seen profile held taken f) piece count whole (seen profile new now f)) (sym e)
     (feeds_open profile held new taken now piece kept after count whole (subst (IsState profile held taken kept) e s) m q)
 
--- What it wants of the bytes that are next.
+-- Its want for the next bytes.
 pub nonzero : (n : ℕ) → n == 0 ≡ false → 0 < n
 nonzero zero e = cc
 nonzero (suc n) e = omega arith
@@ -152,7 +152,7 @@ checked_of profile held taken kept p e =
 pub state_of : (profile : Profile) (held : Held) (taken : List ℕ) (kept : Kept) (fault : Option CheckFault) → fault ≡ None → IsState profile held taken kept fault → IsPassing profile held taken kept
 state_of profile held taken kept fault e s = subst (IsState profile held taken kept) e s
 
--- a kept fault is not that a reader failed, nor is one that is found
+-- neither a kept fault nor a new one is Read
 pub kept_fault : (profile : Profile) (held : Held) (taken : List ℕ) (kept : Kept) (fault : Option CheckFault) (why : CheckFault) → fault ≡ Some why → IsState profile held taken kept fault
     → (held.ended ≡ false) × (why ≢ check.Read)
 kept_fault profile held taken kept fault why e s = subst (IsState profile held taken kept) e s

@@ -1,4 +1,4 @@
--- The blocks of an LIDATA lie in its record, at the end of its contents.
+-- The blocks of an LIDATA are at the end of its record's contents.
 use Rattle.std.proofs.Common.{◌≡◌, ℕ, ◌+◌, ◌≤◌, List, ◌++◌, sym, ◌∙◌, ap, subst, arith, length, length-append, append_assoc}
 use Rattle.std.specs.Prelude.{⊤}
 use Rattle.omf_frame.specs.Bytes.{AreBytes}

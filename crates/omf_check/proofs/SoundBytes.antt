@@ -1,4 +1,4 @@
--- Bytes that have no refusal but that they end too early.
+-- Bytes that have no refusal other than for ending too early.
 use Rattle.std.proofs.Common.{◌≡◌, ℕ, List, [], ◌++◌, refl, sym, ◌∙◌, ap, subst, inl, inr}
 use Rattle.std.specs.Prelude.{◌⊎◌, ◌↔◌, IsTrue}
 use Rattle.std.proofs.lemmas.List.{append-nil, append_cancel_left}
@@ -17,7 +17,7 @@ use Rattle.omf_check.proofs.UniqueLaws.{refused_once}
 use Rattle.omf_check.proofs.VerdictLaws.{either, verdict_accepts, verdict_refuses}
 
 module _ (profile : Profile) (limits : Limits) (bytes : List ℕ) where
-  -- a module is accepted, with nothing behind it
+  -- a module is accepted, with nothing after it
   abbrev pub accepted_whole : (records : List Raw) → IsWellFormed profile limits bytes records → IsAccepted profile limits bytes records
   accepted_whole records w = record { bytes = bytes; rest = []; spelled = sym (append-nil bytes); well_formed = w }
 
@@ -26,7 +26,7 @@ module _ (profile : Profile) (limits : Limits) (bytes : List ℕ) where
   no_other (inl m) why at r = absurd (never_both profile limits bytes m.0 why at (accepted_whole m.0 m.1) r)
   no_other (inr h) why at r = subst (λ y. IsTrue (is_end_of_input y)) (refused_once profile limits bytes h.0 why h.1 at h.3 r).0 h.2
 
-  -- nothing is behind the module that they are
+  -- nothing follows the module that they are
   pub nothing_behind : AreSoundSoFar profile limits bytes → (records : List Raw) (a : IsAccepted profile limits bytes records) → a.rest ≡ []
   nothing_behind (inl m) records a =
       let same : a.bytes ≡ bytes = (accepted_once profile limits bytes records m.0 a (accepted_whole m.0 m.1)).1 in
@@ -43,7 +43,7 @@ module _ (profile : Profile) (limits : Limits) (bytes : List ℕ) where
   pub sound_unrefused : AreBytes bytes → AreSoundSoFar profile limits bytes ↔ IsUnrefused profile limits bytes
   sound_unrefused small = (λ s. (no_other s, nothing_behind s), by_either (either profile limits bytes small))
 
-  -- What the verdict says of them.
+  -- The verdict on them.
   says : AreBytes bytes → AreSoundSoFar profile limits bytes → SaysSound bytes (verdict profile limits bytes)
   says small (inl m) = subst (SaysSound bytes) (sym ((verdict_accepts profile limits bytes small m.0).1 (accepted_whole m.0 m.1))) (sym m.1.framed.spelled)
   says small (inr h) = subst (SaysSound bytes) (sym ((verdict_refuses profile limits bytes small h.0 h.1).1 h.3)) h.2

@@ -1,4 +1,4 @@
--- What the records of a well-formed module may rely on follows from the rules that they keep.
+-- The guarantees for the records of a well-formed module follow from their rules.
 use Rattle.std.proofs.Common.{◌≡◌, ◌≢◌, ℕ, ◌+◌, ◌*◌, ◌^◌, ◌<◌, ◌≤◌, Bool, true, false, List, [], ◌∷◌, ◌++◌, refl, sym, ◌∙◌, ap, subst, arith, append_assoc, length, length-append, map, cond}
 use Rattle.std.specs.Prelude.{Option, Some, None, option_map, unwrap_or, All, IsTrue, is_some, IsSome, IsOk, ⊤, not, ◌==◌, ◌||◌, nat_le, Result}
 use Rattle.std.proofs.lemmas.Bool.{leb-true, le-leb, eqb-true, true≢false}
@@ -224,7 +224,7 @@ segment_fits kind s low = by (is_big s.attribute) (is_wide kind)
     by true false = omega arith
     by false wide = omega (arith, low)
 
--- What the records of a module hold.
+-- The guarantees for the records of a module.
 by_contents : (profile : Profile) (limits : Limits) (before : List Rec) (kind n : ℕ) (c : Contents) → n ≤ 65534 → IsBrief n c → HasTrees limits kind c
     → AreKept (contents_rules profile limits before kind c) → ContentsHold limits before kind c
 by_contents profile limits before kind n (Plain d) short brief trees h = data_holds before d (length d.bytes) (omega (arith, brief, short)) h

@@ -1,4 +1,4 @@
--- A record has no fault of any step exactly where it is sound.
+-- A record has no fault in any step exactly if it is sound.
 use Rattle.std.proofs.Common.{◌≡◌, ◌+◌, ◌<◌, List, [], ◌∷◌, ◌++◌, refl, sym, ◌∙◌, ap, length}
 use Rattle.std.specs.Prelude.{IsTrue, not, ◌||◌}
 use Rattle.omf_check.specs.declared.profile.Profile.{Profile}

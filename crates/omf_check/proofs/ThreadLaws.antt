@@ -1,4 +1,4 @@
--- Threads kept in cells go on being those in force.
+-- The threads kept are always those in force.
 use Rattle.std.proofs.Common.{◌≡◌, ◌<◌, Bool, true, false, List, arith, refl, cond}
 use Rattle.std.specs.Prelude.{Option, Some, option_map}
 use Rattle.omf_records.specs.Values.{Subrecord, Reference, frame_by_thread, frame_thread, frame_bits, target_by_thread, target_bits}

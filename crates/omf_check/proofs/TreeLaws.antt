@@ -1,4 +1,4 @@
--- The blocks of an LIDATA have no fault exactly where they are trees within the limits.
+-- The blocks of an LIDATA have no fault exactly if they are trees within the limits.
 use Rattle.std.proofs.Common.{◌≡◌, ℕ, ◌+◌, ◌≤◌, Bool, true, false, List, [], ◌∷◌, Result, Ok, Err, refl, sym, ◌∙◌, ap, subst}
 use Rattle.std.specs.Prelude.{nat_le}
 use Rattle.std.proofs.lemmas.Bool.{le-leb, leb-true}

@@ -39,7 +39,7 @@ module _ (profile : Profile) (limits : Limits) where
   sound_rest done before r h earlier later x e =
       ap (λ d. first_step (steps profile limits d (raw_bytes x))) (append_assoc done (r ∷ []) earlier) ∙ h (r ∷ earlier) later x (ap (λ t. r ∷ t) e)
 
-  -- the record in front is the same
+  -- the first record is the same
   pub same_front : (r s : Raw) (x y : List ℕ) → length r.body + 1 < 65536 → length s.body + 1 < 65536 → raw_bytes r ++ x ≡ raw_bytes s ++ y → r ≡ s
   same_front r s x y hr hs e =
       sym (front_raw r hr) ∙ ap front_record (sym (present_raw r hr x) ∙ ap present e ∙ present_raw s hs y) ∙ front_raw s hs
@@ -80,7 +80,7 @@ module _ (profile : Profile) (limits : Limits) where
       (subst F (sym (append_assoc done (x ∷ []) xs)) lf) (subst G (sym (append_assoc done (x ∷ []) ys)) lg') in
       (ap (λ t. x ∷ t) others.0 ∙ ap (λ r. r ∷ ys) first, others.1)
 
--- An input is refused for one reason at one place at most.
+-- An input is refused for at most one reason, at one place.
 pub refused_once : (profile : Profile) (limits : Limits) (input : List ℕ) (why other : Reason) (at there : Place)
     → IsRefused profile limits input why at → IsRefused profile limits input other there → (why ≡ other) × (at ≡ there)
 unfolding AreSound

@@ -1,4 +1,4 @@
--- Each input is accepted or refused, and the verdict says which.
+-- Every input is accepted or refused, and the verdict shows which.
 use Rattle.std.proofs.Common.{◌≡◌, ℕ, zero, suc, ◌+◌, ◌<◌, List, [], ◌∷◌, ◌++◌, refl, sym, ◌∙◌, ap, subst, length, arith, append_assoc, Bool, true, false, inl, inr}
 use Rattle.std.specs.Prelude.{All, flat_map, IsTrue, not, ◌⊎◌, ◌↔◌, slice_index, Option, Some, None}
 use Rattle.std.proofs.lemmas.List.{append-nil}
@@ -92,7 +92,7 @@ module _ (profile : Profile) (limits : Limits) where
       }
 
 module _ (profile : Profile) (limits : Limits) (input : List ℕ) where
-  -- What a verdict says.
+  -- The meaning of a verdict.
   unfoldable pub Means : Verdict → Type 0
   Means (Accepted rs) = IsAccepted profile limits input rs
   Means (Refused why at) = IsRefused profile limits input why at
@@ -228,7 +228,7 @@ module _ (profile : Profile) (limits : Limits) (input : List ℕ) where
     small = small;
   })
 
-  -- Each list of bytes is accepted or refused.
+  -- Every input is accepted or refused.
   either_of : (v : Verdict) → Means v → ((rs : List Raw) × IsAccepted profile limits input rs) ⊎ ((why : Reason) × (at : Place) × IsRefused profile limits input why at)
   unfolding Means
   either_of (Accepted rs) h = inl (rs, h)
@@ -238,7 +238,7 @@ module _ (profile : Profile) (limits : Limits) (input : List ℕ) where
   pub either : AreBytes input → ((rs : List Raw) × IsAccepted profile limits input rs) ⊎ ((why : Reason) × (at : Place) × IsRefused profile limits input why at)
   either small = either_of (verdict profile limits input) (verdict_true small)
 
-  -- The verdict says which.
+  -- The verdict shows which.
   accepted_says : (v : Verdict) (rs : List Raw) → Means v → IsAccepted profile limits input rs → v ≡ Accepted rs
   unfolding Means
   accepted_says (Accepted ss) rs h a = ap (λ x. Accepted x) (accepted_once profile limits input ss rs h a).0

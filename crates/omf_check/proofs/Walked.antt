@@ -1,4 +1,4 @@
--- The walk over the subrecords of a FIXUPP, which reads, judges, counts and keeps them.
+-- The pass over the subrecords of a FIXUPP that reads, checks, counts and keeps them.
 use Rattle.std.proofs.Common.{◌≡◌, ◌≢◌, ℕ, suc, ◌+◌, ◌-◌, ◌≤◌, Bool, true, false, List, [], ◌∷◌, length, Result, Ok, Err, refl, sym, ◌∙◌, ap, subst, arith}
 use Rattle.std.specs.Prelude.{Option, Some, None, is_none, nat_lt, ◌&&◌}
 use Rattle.std.proofs.lemmas.Bool.{le-leb}
@@ -19,7 +19,7 @@ use Rattle.omf_check.proofs.RecordLaws.{fits_on}
 use Rattle.omf_check.proofs.Lesser.{lesser_none, lesser_is_none, room_more}
 use Rattle.omf_check.proofs.Found.{subrecords_more, threads_more}
 
--- what was found of those before, and what those to come will add
+-- the faults of the subrecords so far, and those of the remaining ones
 pub record Walked (kept : Kept) (left : ℕ) (threads : Threads) (beyond found : Option Fault) (subs all : List (At Subrecord)) : Type 0 where
   pub room : lesser beyond (room_fault left (places subs)) ≡ room_fault (item_limit - kept.items) (places all)
   pub judged : lesser found (subrecords_fault kept threads subs) ≡ subrecords_fault kept kept.threads all

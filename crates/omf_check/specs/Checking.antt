@@ -1,4 +1,4 @@
--- What a check answers, and how far it reads.
+-- The results of a check, and how far it reads.
 use Rattle.std.specs.Prelude.{◌≡◌, ◌⊎◌, ◌<◌, IsTrue, ⊤, ℕ, List, drop, length, Option, Result, Ok, Err}
 use Rattle.std.specs.Io.KnownBytes.{Consumes, IsAtEnd}
 use Rattle.omf_frame.specs.Device.{Device, HasFailed, GivesUp}
@@ -13,32 +13,32 @@ use Rattle.omf_check.specs.declared.fault.CheckFault.{CheckFault}
 use Rattle.omf_check.specs.declared.fault.CheckFault.TheVariants.{Memory, Read, Refused}
 use Rattle.omf_check.specs.declared.profile.Profile.{Profile}
 
--- The bytes that were read are refused so, and no more was read than that needs: all of the input, where it ends too early; else
--- they end where the record at fault is judged.
+-- The bytes read are refused for this reason at this place, and no more was read than this needs: all of the input if it ends too early,
+-- else up to where the record at fault is refused.
 abbrev pub IsReadTo : Profile → List ℕ → Option (List ℕ) → Reason → Place → Type 0
 IsReadTo profile read left why at =
     IsRefused profile profile_limits read why at × ((IsTrue (may_go_on why) × IsAtEnd left) ⊎ EndsWhereJudged why (drop at.start read))
 
--- What was read, which may be nothing, has no refusal but that it ends too early.
+-- The bytes read, possibly none, have no refusal other than for ending too early.
 abbrev pub IsUndecided : Profile → Option (List ℕ) → Option (List ℕ) → Type 0
 IsUndecided profile old new = (read : List ℕ) × Consumes old new read × AreSoundSoFar profile profile_limits read
 
--- Why a check gives no module, and what it read of a reader that tells its bytes. Where the reader failed, that decides nothing; nor
--- where a growth was refused, and then it is a byte at least.
+-- The cause of each fault of a check, and the bytes read from a reader whose bytes are known. After Read and Memory the bytes read are
+-- undecided; after Memory they are at least one.
 abbrev pub IsCheckFault : Profile → Option (List ℕ) → Option (List ℕ) → ℕ → ℕ → CheckFault → Type 0
 IsCheckFault profile old new failed fails Memory = (read : List ℕ) × Consumes old new read × AreSoundSoFar profile profile_limits read × (0 < length read)
 IsCheckFault profile old new failed fails Read = HasFailed failed fails × IsUndecided profile old new
 IsCheckFault profile old new failed fails (Refused why at) = (read : List ℕ) × Consumes old new read × IsReadTo profile read new why at
 
--- Only an interruption of the reader is tried again: Read is answered for the reader's one break, or for a thousand interruptions;
--- with every other answer the reader did not break.
+-- Only interruptions of the reader are retried: Read means one failure of another kind, or a thousand interruptions; with every other
+-- result the reader had no failure but interruptions.
 abbrev pub IsReadPatiently : Device → Device → Result Module CheckFault → Type 0
 IsReadPatiently old new (Ok m) = new.breaks ≡ old.breaks
 IsReadPatiently old new (Err Memory) = new.breaks ≡ old.breaks
 IsReadPatiently old new (Err Read) = GivesUp old new
 IsReadPatiently old new (Err (Refused why at)) = new.breaks ≡ old.breaks
 
--- What a check says of an input: the module that it begins with, or its refusal; nothing where memory or the reader failed.
+-- The result of a check for an input: the module it begins with, or its refusal; after Memory and Read, nothing is claimed.
 abbrev pub Decides : Profile → List ℕ → Result Module CheckFault → Type 0
 Decides profile input (Ok m) = (m.profile ≡ profile) × ((a : IsAccepted profile profile_limits input (records_in m.bytes)) × (a.bytes ≡ m.bytes))
 Decides profile input (Err Memory) = ⊤

@@ -1,16 +1,16 @@
--- What is seen of a checked module.
+-- Checked modules, as callers see them.
 use Rattle.std.specs.Prelude.{ℕ, zero, suc, List, [], ◌∷◌, length, map}
 use Rattle.omf_frame.specs.Framing.{Raw, present, front_record, after_front}
 use Rattle.omf_records.specs.Values.{Rec}
 use Rattle.omf_check.specs.WellFormed.{recs}
 use Rattle.omf_check.specs.declared.profile.Profile.{Profile}
 
--- Its bytes, and the profile under which it is well formed.
+-- The bytes of a module, and the profile it was checked with.
 pub record Module : Type 0 where
   pub bytes : List ℕ
   pub profile : Profile
 
--- The records that bytes are, one after another.
+-- The records in bytes, in order.
 abbrev pub records_from : ℕ → List ℕ → List Raw
 records_from zero bytes = []
 records_from (suc n) [] = []
@@ -19,10 +19,10 @@ records_from (suc n) (b ∷ bytes) = front_record (present (b ∷ bytes)) ∷ re
 abbrev pub records_in : List ℕ → List Raw
 records_in bytes = records_from (length bytes) bytes
 
--- Those records, typed.
+-- The typed records in bytes.
 abbrev pub recs_of : List ℕ → List Rec
 recs_of bytes = recs (records_in bytes)
 
--- Those of each of several modules.
+-- The typed records of each of several modules.
 abbrev pub typed_modules : List Module → List (List Rec)
 typed_modules ms = map (λ m. recs_of m.bytes) ms

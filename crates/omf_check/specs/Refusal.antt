@@ -15,14 +15,14 @@ use Rattle.omf_check.specs.Rules.{rules}
 use Rattle.omf_check.specs.WellFormed.{IsWellFormed, recs}
 use Rattle.omf_check.specs.declared.profile.Profile.{Profile}
 
--- Faults whose places count from a place in the record.
+-- Faults whose places count from a place in the record, with places that count from its start.
 abbrev pub fault_from : ℕ → Fault → Fault
 fault_from at f = record f { within = at + f.within }
 
 abbrev pub moved : ℕ → List Fault → List Fault
 moved at fs = map (fault_from at) fs
 
--- The blocks of an LIDATA, after its offset: the first Short or TooDeep; and that they stand for too many bytes.
+-- The faults of the blocks of an LIDATA, which follow its offset: the first Short or TooDeep; and DataTooLong.
 abbrev pub short_or_deep : Limits → ℕ → Contents → List Fault
 short_or_deep limits kind (Iterated d) = moved (d.offset.within + width kind) (block_faults (width kind) limits d.bytes)
 short_or_deep limits kind _ = []
@@ -31,8 +31,8 @@ abbrev pub too_long : Limits → ℕ → Contents → List Fault
 too_long limits kind (Iterated d) = moved (d.offset.within + width kind) (length_faults (width kind) limits d.bytes)
 too_long limits kind _ = []
 
--- The faults of a whole record after these records, in the order in which they are judged: layout and blocks, too many bytes of
--- blocks, meaning.
+-- The faults of a whole record after these records, in the order of the steps that check them: layout and blocks; the length of
+-- the blocks' bytes; meaning.
 abbrev pub record_steps : Profile → Limits → List Raw → Raw → List (List Fault)
 record_steps profile limits before r = (layout_faults r ++ short_or_deep limits r.kind (typed r).contents)
     ∷ too_long limits r.kind (typed r).contents
@@ -43,20 +43,20 @@ abbrev pub is_empty : List Raw → Bool
 is_empty [] = true
 is_empty (r ∷ rs) = false
 
--- The faults of the bytes present of one record after these records: framing first.
+-- The faults of the bytes present of one record after these records, by step: those of framing first.
 abbrev pub steps : Profile → Limits → List Raw → List ℕ → List (List Fault)
 steps profile limits before bytes = frame_steps (is_empty before) bytes ++ record_steps profile limits before (front_record bytes)
 
--- The faults of the first step that has one.
+-- The faults of the first step that has any.
 abbrev pub faults_after : Profile → Limits → List Raw → List ℕ → List Fault
 faults_after profile limits before bytes = first_step (steps profile limits before bytes)
 
--- Where a fault stands in the stream.
+-- The place of a fault in the input.
 abbrev pub place_after : List Raw → Fault → Place
 place_after before f = record { number = length before; start = length (flat_map raw_bytes before); within = f.within }
 
--- The input is refused so: it begins with records without fault, none of them a MODEND, and what follows them has its least
--- fault, of the first step that has one, at this place.
+-- The input is refused for this reason at this place: it begins with records without fault, none of them a MODEND, and this is the
+-- first fault, in the first step that has any, of the bytes that follow them.
 pub record IsRefused (profile : Profile) (limits : Limits) (input : List ℕ) (why : Reason) (at : Place) : Type 0 where
   pub before : List Raw
   pub rest : List ℕ
@@ -69,8 +69,8 @@ pub record IsRefused (profile : Profile) (limits : Limits) (input : List ℕ) (w
   pub named : why ≡ fault.reason
   pub there : at ≡ place_after before fault
 
--- The bytes of a record at fault end where it is refused for the reason: its type byte alone; its type byte and its length, which
--- is 0; all of it. NoEnd and Cut are told by the end of the input alone.
+-- The bytes of a record at fault end where it is refused for this reason: after its type byte, after a length of 0, or at its end.
+-- NoEnd and Cut are decided only by the end of the input.
 abbrev pub EndsWhereJudged : Reason → List ℕ → Type 0
 EndsWhereJudged reason.NoEnd part = ⊥
 EndsWhereJudged reason.Cut part = ⊥
@@ -79,7 +79,7 @@ EndsWhereJudged reason.UnsupportedType part = length part ≡ 1
 EndsWhereJudged reason.EmptyRecord part = length part ≡ 3
 EndsWhereJudged _ part = length part ≡ 3 + stated_length part
 
--- The bytes are a module and nothing more, or end too early for one; no other refusal of them is there to be found.
+-- The bytes are a module and nothing more, or their only refusal is that they end too early for one.
 abbrev pub AreSoundSoFar : Profile → Limits → List ℕ → Type 0
 AreSoundSoFar profile limits bytes =
     ((records : List Raw) × IsWellFormed profile limits bytes records)

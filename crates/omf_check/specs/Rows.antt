@@ -1,4 +1,4 @@
--- Words and modules of the worked examples.
+-- Definitions and modules of the worked examples.
 use Rattle.std.specs.Prelude.{ℕ, List, [], ◌∷◌, ◌++◌, false, true, flat_map, replicate, Option, Some, None}
 use Rattle.omf_frame.specs.Fault.{Fault, broken, least}
 use Rattle.omf_frame.specs.Framing.{raw_bytes}
@@ -19,7 +19,7 @@ no_vendors = record { refuse_vendor_comments = true }
 abbrev pub verdict_of : List ℕ → Verdict
 verdict_of input = verdict any profile_limits input
 
--- the bytes that are accepted
+-- the bytes of the accepted module
 abbrev pub module_in : Verdict → Option (List ℕ)
 module_in (Accepted records) = Some (flat_map raw_bytes records)
 module_in (Refused why at) = None
@@ -85,7 +85,7 @@ flat = H ++ 0x96 ∷ 0x09 ∷ 0x00 ∷ 0x00 ∷ 0x01 ∷ 0x54 ∷ 0x04 ∷ 0x46 
     ∷ 0xA1 ∷ 0x10 ∷ 0x00 ∷ 0x01 ∷ 0x00 ∷ 0x00 ∷ 0x00 ∷ 0x00 ∷ 0x00 ∷ 0x00 ∷ 0x00 ∷ 0x00 ∷ 0x00 ∷ 0x00 ∷ 0x00 ∷ 0x00 ∷ 0x00 ∷ 0x00 ∷ 0x4E
     ∷ 0x9D ∷ 0x0F ∷ 0x00 ∷ 0xEC ∷ 0x00 ∷ 0x14 ∷ 0x01 ∷ 0x01 ∷ 0xE4 ∷ 0x06 ∷ 0x10 ∷ 0x01 ∷ 0x01 ∷ 0x04 ∷ 0x00 ∷ 0x00 ∷ 0x00 ∷ 0x52 ∷ M
 
--- a segment of 12 bytes, and the records given
+-- a segment of 12 bytes, then the given records
 abbrev pub repeated : List ℕ → List ℕ
 repeated records = H ++ N ++ 0x98 ∷ 0x07 ∷ 0x00 ∷ 0x28 ∷ 0x0C ∷ 0x00 ∷ 0x02 ∷ 0x01 ∷ 0x01 ∷ 0x29 ∷ records ++ M
 
@@ -120,7 +120,7 @@ started end = H ++ N ++ S ++ 0x9A ∷ 0x04 ∷ 0x00 ∷ 0x02 ∷ 0xFF ∷ 0x01 �
 abbrev pub absolute : List ℕ
 absolute = H ++ N ++ 0x98 ∷ 0x0A ∷ 0x00 ∷ 0x08 ∷ 0x00 ∷ 0xB8 ∷ 0x00 ∷ 0x04 ∷ 0x00 ∷ 0x02 ∷ 0x01 ∷ 0x01 ∷ 0x96 ∷ L ++ F ++ M
 
--- a thread names segment 2 before it is there; what comes next is given
+-- a thread refers to segment 2 before it is defined; the next records are given
 abbrev pub thread_ahead : List ℕ → List ℕ
 thread_ahead records = H ++ N ++ S ++ 0x9C ∷ 0x03 ∷ 0x00 ∷ 0x01 ∷ 0x02 ∷ 0x5E ∷ records ++ L ++ 0x9C ∷ 0x05 ∷ 0x00 ∷ 0xC4 ∷ 0x01 ∷ 0x0D ∷ 0x01 ∷ 0x8C ∷ M
 
@@ -144,7 +144,7 @@ local_name = H ++ 0xCA ∷ 0x03 ∷ 0x00 ∷ 0x01 ∷ 0x55 ∷ 0xDD ∷ 0x98 ∷
 abbrev pub local_communal : List ℕ
 local_communal = H ++ 0xB8 ∷ 0x08 ∷ 0x00 ∷ 0x01 ∷ 0x58 ∷ 0x00 ∷ 0x62 ∷ 0x81 ∷ 0x80 ∷ 0x00 ∷ 0x84 ∷ M
 
--- no names at all, and a public at a frame number
+-- no names, and a public at a base frame number
 abbrev pub nameless : List ℕ
 nameless = H ++ 0x98 ∷ 0x07 ∷ 0x00 ∷ 0x28 ∷ 0x04 ∷ 0x00 ∷ 0x00 ∷ 0x00 ∷ 0x01 ∷ 0x00 ∷ 0x9A ∷ 0x04 ∷ 0x00 ∷ 0x00 ∷ 0xFF ∷ 0x01 ∷ 0x00
     ∷ 0x90 ∷ 0x0A ∷ 0x00 ∷ 0x00 ∷ 0x00 ∷ 0x00 ∷ 0xB8 ∷ 0x01 ∷ 0x58 ∷ 0x02 ∷ 0x00 ∷ 0x00 ∷ 0x53 ∷ M
@@ -163,6 +163,6 @@ two_externals = record { kind = 0x8C; contents = Externs (put_at 3 (record { nam
 abbrev pub named_in : ℕ → Rec
 named_in kind = record { kind = kind; contents = Names (put_at 3 (0x55 ∷ []) ∷ []) }
 
--- the fault of meaning of a record behind so many of one kind
+-- the fault of meaning of a record after n records of one kind
 abbrev pub meaning_after : ℕ → Rec → Rec → Option Fault
 meaning_after n before r = least (broken (rules any profile_limits (replicate n before) r))

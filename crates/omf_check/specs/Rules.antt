@@ -1,4 +1,4 @@
--- What a record must satisfy after the records before it: each rule with the place and the reason of its fault.
+-- The rules of a record, given the records before it. Each rule has the place and the reason of its fault.
 use Rattle.std.specs.Prelude.{ℕ, ◌+◌, List, [], ◌∷◌, ◌++◌, length, map, Bool, true, false, not, ◌||◌, ◌==◌, nat_le, nat_lt, Option, Some, None, unwrap_or, option_map}
 use Rattle.std.specs.List.{enumerate_from}
 use Rattle.omf_frame.specs.Bytes.{with_before}
@@ -15,18 +15,18 @@ use Rattle.omf_check.specs.Tables.{names, segments, groups, externals, is_define
 use Rattle.omf_check.specs.Threads.{FrameMethod, F0, F1, F2, F4, F5, TargetMethod, T0, T1, T2, frame_of, target_of}
 use Rattle.omf_check.specs.declared.profile.Profile.{Profile}
 
--- This profile's limits: entries of each table, and items of a module.
+-- The limits of this profile: entries of each table, and items of a module.
 abbrev pub table_limit : ℕ
 table_limit = 32767
 
 abbrev pub item_limit : ℕ
 item_limit = 1048576
 
--- Each of a record's entries, which stand at these places, has room after so many that are there.
+-- The entries that a record adds, at these places, fit a table that has `taken` entries already.
 abbrev pub room : ℕ → ℕ → List ℕ → List Rule
 room limit taken places = map (λ p. rule (nat_lt (taken + p.0) limit) p.1 reason.TooMany) (enumerate_from 0 places)
 
--- The places of a record's items: those of the subrecords of a FIXUPP, else 0.
+-- The places of a record's items: those of the subrecords of a FIXUPP; 0 for every other record.
 abbrev pub places : {A : Type 0} → List (At A) → List ℕ
 places items = map (λ a. a.within) items
 
@@ -34,19 +34,19 @@ abbrev pub item_places : Contents → List ℕ
 item_places (Fixups (s ∷ subs)) = places (s ∷ subs)
 item_places _ = 0 ∷ []
 
--- An index names an entry of a table of n entries; or it is 0, which stands for none.
+-- An index is that of an entry of a table of n entries; or of an entry or 0, for none.
 abbrev pub names_entry : ℕ → Reason → At ℕ → Rule
 names_entry n r index = rule (is_defined n index.item) index.within r
 
 abbrev pub names_entry_or_none : ℕ → Reason → At ℕ → Rule
 names_entry_or_none n r index = rule (is_none_or_defined n index.item) index.within r
 
--- COMENT classes: AAH marks another dialect, C0H to FFH are left to vendors (this profile's rules). The class is at 4.
+-- COMENT classes: AAH marks another dialect, C0H to FFH are reserved for vendors (rules of this profile). The class is at 4.
 abbrev pub comment_rules : Profile → ℕ → List Rule
 comment_rules profile class = rule (not (class == 0xAA)) 4 reason.OtherDialect
     ∷ rule (not profile.refuse_vendor_comments || nat_lt class 0xC0) 4 reason.VendorComment ∷ []
 
--- The data, of so many bytes, lie in their segment.
+-- The segment of the data exists, and their `size` bytes are within it.
 abbrev pub length_of_segment : List Rec → ℕ → ℕ
 length_of_segment before i = unwrap_or (option_map (λ s. s.length) (entry (segments before) i)) 0
 
@@ -54,7 +54,7 @@ abbrev pub data_rules : List Rec → DataItem → ℕ → List Rule
 data_rules before d size = names_entry (length (segments before)) reason.UndefinedSegment d.segment
     ∷ rule (nat_le (d.offset.item + size) (length_of_segment before d.segment.item)) d.offset.within reason.OutsideSegment ∷ []
 
--- A frame, judged at a place: it is there where a thread gives it, and its index is defined.
+-- A frame, with the place of a fault: if a thread gives it, the thread is set; its index is defined.
 abbrev pub frame_rules : List Rec → ℕ → Option FrameMethod → List Rule
 frame_rules before at None = rule false at reason.UndefinedThread ∷ []
 frame_rules before at (Some (F0 i)) = rule (is_defined (length (segments before)) i) at reason.UndefinedSegment ∷ []
@@ -63,27 +63,27 @@ frame_rules before at (Some (F2 i)) = rule (is_defined (length (externals before
 frame_rules before at (Some F4) = []
 frame_rules before at (Some F5) = []
 
--- A target, likewise.
+-- A target, in the same way.
 abbrev pub target_rules : List Rec → ℕ → Option TargetMethod → List Rule
 target_rules before at None = rule false at reason.UndefinedThread ∷ []
 target_rules before at (Some (T0 i)) = rule (is_defined (length (segments before)) i) at reason.UndefinedSegment ∷ []
 target_rules before at (Some (T1 i)) = rule (is_defined (length (groups before)) i) at reason.UndefinedGroup ∷ []
 target_rules before at (Some (T2 i)) = rule (is_defined (length (externals before)) i) at reason.UndefinedExternal ∷ []
 
--- Each is judged at its own datum, or at the fix data byte where a thread gives it.
+-- The place of a fault of a frame or a target: its own datum, or the fix data byte if it has none.
 abbrev pub judged_at : Reference → Option (At ℕ) → ℕ
 judged_at r datum = unwrap_or (option_map (λ a. a.within) datum) r.fix.within
 
 abbrev pub reference_rules : List Rec → List Subrecord → Reference → List Rule
 reference_rules before earlier r = frame_rules before (judged_at r r.frame) (frame_of earlier r) ++ target_rules before (judged_at r r.target) (target_of earlier r)
 
--- A fixup lies in the data of the last data record, which is an LEDATA.
+-- The location of a fixup is within the data of the last data record, which is an LEDATA.
 abbrev pub location_rule : Option Contents → ℕ → ℕ → Rule
 location_rule (Some (Plain d)) within locat = rule (nat_le (location_offset locat + location_size (location_type locat)) (length d.bytes)) within reason.OutsideRecord
 location_rule (Some _) within locat = rule false within reason.FixupOnIterated
 location_rule None within locat = rule false within reason.NoDataRecord
 
--- A subrecord, at its place, after the earlier ones of its record. A THREAD's index is judged where it is used.
+-- A subrecord at its place, after the earlier subrecords of its record. The index of a THREAD is checked where the thread is used.
 abbrev pub subrecord_rules_at : List Rec → List Subrecord → ℕ → Subrecord → List Rule
 subrecord_rules_at before earlier within (Thread byte datum) = []
 subrecord_rules_at before earlier within (Fixup locat r) = location_rule (last_data before) within locat ∷ reference_rules before (subrecords before ++ earlier) r
@@ -91,7 +91,7 @@ subrecord_rules_at before earlier within (Fixup locat r) = location_rule (last_d
 abbrev pub subrecord_rules : List Rec → List (At Subrecord) → At Subrecord → List Rule
 subrecord_rules before earlier s = subrecord_rules_at before (map (λ e. e.item) earlier) s.within s.item
 
--- The start is a reference whose frame is not that of a location.
+-- The start of a MODEND is a reference whose frame method is not F4.
 abbrev pub is_location_frame : Option FrameMethod → Bool
 is_location_frame (Some F4) = true
 is_location_frame _ = false
@@ -101,7 +101,7 @@ start_rules before None = []
 start_rules before (Some r) = reference_rules before (subrecords before) r
     ++ rule (not (is_location_frame (frame_of (subrecords before) r))) r.fix.within reason.StartFrame ∷ []
 
--- What a record of this type must satisfy, by its contents. A SEGDEF and a GRPDEF beyond the limit are named at 3.
+-- The rules of a record of this type, by its contents. A SEGDEF or a GRPDEF above the limit has its fault at 3.
 abbrev pub contents_rules : Profile → Limits → List Rec → ℕ → Contents → List Rule
 contents_rules profile limits before kind (Header name) = []
 contents_rules profile limits before kind (Comment byte class text) = comment_rules profile class
@@ -122,6 +122,6 @@ contents_rules profile limits before kind (Fixups subs) = with_before (subrecord
 contents_rules profile limits before kind (ModEnd byte start) = start_rules before start
 contents_rules profile limits before kind (Carried bytes) = []
 
--- All the rules of a record after the records before it.
+-- All the rules of a record, given the records before it.
 abbrev pub rules : Profile → Limits → List Rec → Rec → List Rule
 rules profile limits before r = room item_limit (item_count before) (item_places r.contents) ++ contents_rules profile limits before r.kind r.contents

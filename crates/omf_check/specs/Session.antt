@@ -1,4 +1,4 @@
--- What is seen of a session, and what its calls do.
+-- Sessions, as callers see them, and their calls.
 use Rattle.std.specs.Prelude.{◌≡◌, ◌≢◌, ◌⊎◌, ◌≤◌, ◌<◌, ◌^◌, IsTrue, ℕ, slice_index, Bool, true, false, not, ◌&&◌, ◌||◌, is_some, min, if◌then◌else◌, List, [], ◌++◌, length, take, drop, Option, Some, None, Result, Ok, Err}
 use Rattle.omf_frame.specs.Framer.{begins_record}
 use Rattle.omf_frame.specs.Framing.{Raw, is_end_of_input, is_nonempty, is_taken, is_whole, present, wanted, record_len}
@@ -12,8 +12,8 @@ use Rattle.omf_check.specs.declared.fault.CheckFault.{CheckFault}
 use Rattle.omf_check.specs.declared.fault.CheckFault.TheVariants.{Memory, Read, Refused}
 use Rattle.omf_check.specs.declared.profile.Profile.{Profile}
 
--- The profile, all bytes taken before a fault, those of them that are of the record at hand, whether a MODEND was passed, and a
--- kept fault.
+-- The profile, all bytes taken before a fault, those of them that belong to the current record, whether the module is complete, and
+-- the kept fault.
 pub record Seen : Type 0 where
   pub profile : Profile
   pub taken : List ℕ
@@ -21,19 +21,19 @@ pub record Seen : Type 0 where
   pub ended : Bool
   pub fault : Option CheckFault
 
--- Nothing was taken.
+-- A new session.
 abbrev pub at_start : Profile → Seen
 at_start profile = record { profile = profile; taken = []; at_hand = []; ended = false; fault = None }
 
--- How many bytes it can take before it next judges; none after the end or after a fault.
+-- The number of bytes it can take before its next decision; 0 after the end or after a fault.
 abbrev pub want_of : Seen → ℕ
 want_of s = if s.ended || is_some s.fault then 0 else wanted s.at_hand
 
--- The same where these are the next bytes: behind a first record, from a type byte that has no fault on, all of the record.
+-- The same if `ahead` are the next bytes: after the first record, from a type byte without fault on, the length of the whole record.
 abbrev pub want_with : Seen → List ℕ → ℕ
 want_with s ahead = if is_nonempty s.taken && (begins_record s.at_hand ahead && not (s.ended || is_some s.fault)) then record_len ahead else want_of s
 
--- The bytes of the record at hand once a piece has come, up to its end.
+-- The bytes of the current record after a piece has arrived, up to the record's end.
 abbrev pub next_bytes : Seen → List ℕ → List ℕ
 next_bytes s piece = if s.ended then [] else present (s.at_hand ++ piece)
 
@@ -41,12 +41,12 @@ next_bytes s piece = if s.ended then [] else present (s.at_hand ++ piece)
 abbrev pub IsModule : Profile → List ℕ → Type 0
 IsModule profile bytes = (records : List Raw) × IsWellFormed profile profile_limits bytes records
 
--- Whether a reason says that the input ended too early: bytes to come can take it away.
+-- Whether the reason is that the input ends too early. More bytes can remove such a refusal.
 abbrev pub may_go_on : Reason → Bool
 may_go_on why = is_end_of_input why
 
--- What is true of a session without a fault: the bytes taken have no refusal but that they end too early; and they are a module
--- exactly where a MODEND was passed.
+-- A session without a fault: the bytes taken have no refusal other than for ending too early; and they are a module exactly if the
+-- session has ended.
 pub record IsOpen (s : Seen) : Type 0 where
   pub sound : AreSoundSoFar s.profile profile_limits s.taken
   pub ended : s.ended ≡ true → IsModule s.profile s.taken
@@ -54,8 +54,8 @@ pub record IsOpen (s : Seen) : Type 0 where
   pub bounded : length s.taken < 2 ^ 37
   pub wants : s.ended ≡ false → 0 < wanted s.at_hand
 
--- A feed that succeeds takes what the record at hand still lacks, or the whole piece if that is less; a record that is whole then
--- is passed.
+-- A feed that succeeds takes the bytes that the current record still lacks, or the whole piece if that is shorter; a record that is
+-- now complete is accepted.
 pub record Takes (old : Seen) (piece : List ℕ) (count : ℕ) (whole : Bool) (new : Seen) : Type 0 where
   pub no_fault : old.fault ≡ None
   pub bound : count ≤ length piece
@@ -68,8 +68,8 @@ pub record Takes (old : Seen) (piece : List ℕ) (count : ℕ) (whole : Bool) (n
   pub fault : new.fault ≡ None
   pub is_open : IsOpen new
 
--- The record at hand is refused: the bytes taken and so many of the piece, which are all of it that is needed to judge it and no
--- more, are refused so whatever follows them. Where its type is good, that is all there is of the record.
+-- The current record is refused: the bytes taken and the first `count` of the piece, no more than the refusal needs, are refused for
+-- this reason at this place whatever follows. If the record's type is good, these are all its bytes that are present.
 pub record RefusesHere (old : Seen) (piece : List ℕ) (why : Reason) (at : Place) : Type 0 where
   pub count : ℕ
   pub of_it : drop at.start (old.taken ++ take count piece) ≡ old.at_hand ++ take count piece
@@ -77,28 +77,28 @@ pub record RefusesHere (old : Seen) (piece : List ℕ) (why : Reason) (at : Plac
   pub judged : EndsWhereJudged why (old.at_hand ++ take count piece)
   pub refused : (more : List ℕ) → IsRefused old.profile profile_limits ((old.taken ++ take count piece) ++ more) why at
 
--- A growth was refused that the record at hand needs, and the bytes taken, with so many of the piece, have no refusal but that they
--- end too early: to the end of the record, or of the piece; or the first byte of all, which takes room for the records.
+-- Memory ran out while the current record was taken, and the bytes taken, with the first `count` of the piece, have no refusal other
+-- than for ending too early: up to the end of the record or of the piece; or one byte at the very start, where room for the record is made.
 pub record LacksMemory (old : Seen) (piece : List ℕ) : Type 0 where
   pub count : ℕ
   pub needed : length old.at_hand < length (next_bytes old piece)
   pub judged : (next_bytes old piece ≡ old.at_hand ++ take count piece) ⊎ ((old.taken ≡ []) × (old.at_hand ≡ []) × (count ≡ 1))
   pub sound : AreSoundSoFar old.profile profile_limits (old.taken ++ take count piece)
 
--- Why a feed fails.
+-- The cause of each fault of a feed.
 abbrev pub IsCause : Seen → List ℕ → CheckFault → Type 0
 IsCause old piece Memory = LacksMemory old piece
 IsCause old piece Read = ⊥
 IsCause old piece (Refused why at) = RefusesHere old piece why at
 
--- A feed that fails keeps its fault, which is the answer from then on, and is not that a reader failed.
+-- A feed that fails keeps its fault, which every later call returns; the fault is never Read.
 pub record FailsAs (old : Seen) (piece : List ℕ) (fault : CheckFault) (new : Seen) : Type 0 where
   pub not_read : fault ≢ Read
   pub not_ended : old.ended ≡ false
   pub new_is : new ≡ record old { at_hand = []; fault = Some fault }
   pub cause : (old.fault ≡ Some fault) ⊎ ((old.fault ≡ None) × IsCause old piece fault)
 
--- What the end of the input means: a kept fault; or after a MODEND the module that the bytes taken are; or their refusal.
+-- The result at the end of the input: the kept fault; or the module if it is complete; or the refusal of the bytes taken.
 abbrev pub IsEndFault : Seen → CheckFault → Type 0
 IsEndFault s Memory = ⊥
 IsEndFault s Read = ⊥

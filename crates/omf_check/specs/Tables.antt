@@ -1,19 +1,19 @@
--- The tables that records define, in their order (TIS OMF 1.1, LNAMES, LLNAMES, SEGDEF, GRPDEF, EXTDEF, COMDEF, LEXTDEF, LCOMDEF: indices
--- count from 1).
+-- The tables that records define, in their order (TIS OMF 1.1, LNAMES, LLNAMES, SEGDEF, GRPDEF, EXTDEF, COMDEF, LEXTDEF, LCOMDEF).
+-- Indices count from 1.
 use Rattle.std.specs.Prelude.{ℕ, ◌-◌, ◌^◌, List, [], ◌∷◌, length, map, flat_map, sum_by, max, Bool, ◌&&◌, nat_le, Option, None, slice_get, if◌then◌else◌}
 use Rattle.omf_frame.specs.Bytes.{last}
 use Rattle.omf_frame.specs.Types.{is_local}
 use Rattle.omf_records.specs.Values.{Rec, Contents, Names, Segment, Group, Externs, Communals, Fixups, Plain, Iterated, SegmentItem, GroupItem, Subrecord, is_big, width_bits}
 use Rattle.omf_check.specs.declared.segment.SegInfo.{SegInfo}
 
--- A big segment has 2^16 bytes in 98H and 2^32 in 99H; any other has as many as its length field says.
+-- The length of a segment in bytes: 2^16 for a big segment of 98H, 2^32 for one of 99H, else the length field.
 abbrev pub segment_length : ℕ → SegmentItem → ℕ
 segment_length kind s = if is_big s.attribute then 2 ^ width_bits kind else s.size
 
 abbrev pub segment_info : ℕ → SegmentItem → SegInfo
 segment_info kind s = record { length = segment_length kind s; absolute = s.absolute; name = s.name.item; class = s.class.item }
 
--- What one record defines. LNAMES and LLNAMES share one index space, and EXTDEF, COMDEF, LEXTDEF and LCOMDEF another.
+-- The entries that one record defines. LNAMES and LLNAMES share one index space; EXTDEF, COMDEF, LEXTDEF and LCOMDEF share another.
 abbrev pub defined_names : Contents → List (List ℕ)
 defined_names (Names items) = map (λ n. n.item) items
 defined_names _ = []
@@ -48,18 +48,18 @@ externals rs = flat_map (λ r. defined_externals r.contents) rs
 abbrev pub locals : List Rec → List Bool
 locals rs = flat_map (λ r. map (λ e. is_local r.kind) (defined_externals r.contents)) rs
 
--- Whether an index is one of a table of n entries; whether it is, or is 0 and stands for none.
+-- Whether an index is that of an entry of a table of n entries; whether it is, or is 0 for none.
 abbrev pub is_defined : ℕ → ℕ → Bool
 is_defined n i = nat_le 1 i && nat_le i n
 
 abbrev pub is_none_or_defined : ℕ → ℕ → Bool
 is_none_or_defined n i = nat_le i n
 
--- The entry of an index, counted from 1.
+-- The entry with index i, from 1.
 abbrev pub entry : {A : Type 0} → List A → ℕ → Option A
 entry xs i = if nat_le 1 i then slice_get xs (i - 1) else None
 
--- Items: one per subrecord of a FIXUPP, one per empty FIXUPP, one per other record (this profile's rule).
+-- Items: one per subrecord of a FIXUPP, one per empty FIXUPP, one per other record (a rule of this profile).
 abbrev pub items_in : Contents → ℕ
 items_in (Fixups subs) = max 1 (length subs)
 items_in _ = 1
@@ -67,7 +67,7 @@ items_in _ = 1
 abbrev pub item_count : List Rec → ℕ
 item_count rs = sum_by (λ r. items_in r.contents) rs
 
--- The subrecords of all FIXUPPs.
+-- The subrecords of all FIXUPP records.
 abbrev pub subrecords_in : Contents → List Subrecord
 subrecords_in (Fixups subs) = map (λ s. s.item) subs
 subrecords_in _ = []

@@ -2,14 +2,14 @@
 use Rattle.std.specs.Prelude.{ℕ, List, filter_map, Bool, true, false, ◌&&◌, ◌==◌, Option, Some, None, unwrap_or, option_map, if◌then◌else◌}
 use Rattle.omf_frame.specs.Bytes.{last}
 use Rattle.omf_records.specs.Values.{At, Subrecord, Thread, Fixup, Reference, thread_is_frame, thread_method, thread_number, frame_by_thread, frame_bits, frame_thread, target_by_thread, target_bits}
--- Frame methods: the frame of a segment, of a group, of an external, of the segment of the last data record, of the target.
+-- Frame methods: the frame of a segment, of a group, of an external, of the segment of the last data record, or of the target.
 pub use Rattle.omf_check.specs.declared.method.FrameMethod.{FrameMethod}
 pub use Rattle.omf_check.specs.declared.method.FrameMethod.TheVariants.{Segment as F0, Group as F1, External as F2, Location as F4, Target as F5}
--- Target methods: a segment, a group, an external.
+-- Target methods: a segment, a group, or an external.
 pub use Rattle.omf_check.specs.declared.method.TargetMethod.{TargetMethod}
 pub use Rattle.omf_check.specs.declared.method.TargetMethod.TheVariants.{Segment as T0, Group as T1, External as T2}
 
--- What a THREAD or a reference says: a method's code and, if the method has one, an index.
+-- The setting of a THREAD or a reference: the code of a method and, if the method has one, an index.
 pub record Setting : Type 0 where
   pub method : ℕ
   pub datum : Option ℕ
@@ -17,7 +17,7 @@ pub record Setting : Type 0 where
 abbrev pub setting : ℕ → Option (At ℕ) → Setting
 setting method datum = record { method = method; datum = option_map (λ a. a.item) datum }
 
--- Layout takes no other methods.
+-- The frame or target method of a setting. A record with any other code has a fault of layout.
 abbrev pub frame_from : Setting → FrameMethod
 frame_from s = let i = unwrap_or s.datum 0 in
     if s.method == 0 then F0 i else (if s.method == 1 then F1 i else (if s.method == 2 then F2 i else (if s.method == 4 then F4 else F5)))
@@ -26,23 +26,23 @@ abbrev pub target_from : Setting → TargetMethod
 target_from s = let i = unwrap_or s.datum 0 in
     if s.method == 0 then T0 i else (if s.method == 1 then T1 i else T2 i)
 
--- the same truth value
+-- whether two truth values are equal
 abbrev pub same : Bool → Bool → Bool
 same true b = b
 same false true = false
 same false false = true
 
--- What a subrecord sets, if it is a THREAD of this kind and number.
+-- The setting that a subrecord makes, if it is a THREAD of this kind and number.
 abbrev pub setting_of : Bool → ℕ → Subrecord → Option Setting
 setting_of is_frame k (Thread byte datum) =
     if same is_frame (thread_is_frame byte) && (thread_number byte == k) then Some (setting (thread_method byte) datum) else None
 setting_of is_frame k (Fixup locat r) = None
 
--- The thread of a kind and number: the last of that kind and number among all earlier subrecords of the module.
+-- The setting of the thread of a kind and number: the last one made among all earlier subrecords of the module.
 abbrev pub thread : Bool → ℕ → List Subrecord → Option Setting
 thread is_frame k earlier = last (filter_map (setting_of is_frame k) earlier)
 
--- The frame and the target of a reference, by its own method or by its thread, after these subrecords.
+-- The frame and the target of a reference after these subrecords: by its own method, or by its thread.
 abbrev pub frame_setting : List Subrecord → Reference → Option Setting
 frame_setting earlier r = if frame_by_thread r.fix.item then thread true (frame_thread r.fix.item) earlier else Some (setting (frame_bits r.fix.item) r.frame)
 
@@ -55,12 +55,12 @@ frame_of earlier r = option_map frame_from (frame_setting earlier r)
 abbrev pub target_of : List Subrecord → Reference → Option TargetMethod
 target_of earlier r = option_map target_from (target_setting earlier r)
 
--- A plain reference: no thread, and a displacement that is 0 where it was absent.
+-- A plain reference: methods without threads, and a displacement that is 0 if absent.
 pub record PlainReference : Type 0 where
   pub frame : FrameMethod
   pub target : TargetMethod
   pub displacement : ℕ
 
--- A thread that is not there counts as F5 or T0 0; a well-formed module uses none such.
+-- The plain form of a reference after these subrecords. A thread that is not set counts as F5 or T0 0; a well-formed module uses none.
 abbrev pub plain : List Subrecord → Reference → PlainReference
 plain earlier r = record { frame = unwrap_or (frame_of earlier r) F5; target = unwrap_or (target_of earlier r) (T0 0); displacement = unwrap_or r.displacement 0 }

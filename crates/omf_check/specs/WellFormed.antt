@@ -1,4 +1,4 @@
--- Well-formed modules, and the inputs that begin with one.
+-- Well-formed modules, and inputs that begin with one.
 use Rattle.std.specs.Prelude.{◌≡◌, ℕ, List, ◌∷◌, ◌++◌, map, All, ⊤}
 use Rattle.omf_frame.specs.Fault.{AreKept}
 use Rattle.omf_frame.specs.Framing.{Raw, IsFramed}
@@ -11,24 +11,24 @@ use Rattle.omf_image.specs.declared.limits.Limits.{Limits}
 use Rattle.omf_check.specs.Rules.{rules}
 use Rattle.omf_check.specs.declared.profile.Profile.{Profile}
 
--- The typed records of records.
+-- The records, typed.
 abbrev pub recs : List Raw → List Rec
 recs records = map typed records
 
--- The blocks of an LIDATA are trees within the limits.
+-- The blocks of an LIDATA are within the limits.
 abbrev pub HasTrees : Limits → ℕ → Contents → Type 0
 HasTrees limits kind (Iterated d) = (trees : Blocks) × AreBlocks (width kind) limits d.bytes trees
 HasTrees limits kind _ = ⊤
 
--- A module made of these records: it is framed, the contents of each record spell its typed record, blocks are within the limits,
--- and each record keeps the rules after the records before it.
+-- The bytes are a well-formed module of these records: they are framed, the contents of each record spell its typed record, blocks are
+-- within the limits, and each record keeps its rules, given the records before it.
 pub record IsWellFormed (profile : Profile) (limits : Limits) (bytes : List ℕ) (records : List Raw) : Type 0 where
   pub framed : IsFramed bytes records
   pub spelled : All (λ r. IsTyped (typed r) r.body) records
   pub blocks : All (λ r. HasTrees limits r.kind (typed r).contents) records
   pub kept : (before after : List Raw) (r : Raw) → records ≡ before ++ r ∷ after → AreKept (rules profile limits (recs before) (typed r))
 
--- The input begins with a module made of these records, and goes on as it may.
+-- The input begins with a well-formed module of these records; any bytes may follow.
 pub record IsAccepted (profile : Profile) (limits : Limits) (input : List ℕ) (records : List Raw) : Type 0 where
   pub bytes : List ℕ
   pub rest : List ℕ

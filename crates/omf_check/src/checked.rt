@@ -1,4 +1,4 @@
-//! A module that was checked.
+//! Checked modules.
 
 ghost use Rattle.std.specs.Prelude.{◌≡◌, ◌≤◌, Some, IfSome, length, drop, option_map};
 ghost use Rattle.omf_frame.specs.Bytes.{last};
@@ -23,13 +23,13 @@ use omf_frame::{Field, Name};
 use omf_records::Rec;
 use std::marker::Model;
 
-/// A well-formed module: its bytes, and the profile under which it is one. Only a check makes it.
+/// A well-formed module: its bytes, and the profile it was checked with. Only a check creates one.
 #[derive(Drop)]
 pub struct Checked {
     profile: Profile,
     bytes: Vec<u8>,
     tables: Tables,
-    /// How many records it has.
+    /// The number of its records.
     count: u32,
 }
 
@@ -44,7 +44,7 @@ impl Model for Checked {
     ghost invariant = { λ c. IsChecked c.profile c.bytes.items c.tables c.count };
 }
 
-/// The name that stands at an offset of the module.
+/// The name at an offset of the module.
 fn name_at(bytes: &[u8], place: u64) -> Name<'_>
     requires { HasName bytes.now place }
     ensures { NameAt bytes.now place result }
@@ -55,7 +55,7 @@ fn name_at(bytes: &[u8], place: u64) -> Name<'_>
     }
 }
 
-/// The name that stands at a place, where there is one.
+/// The name at an offset of the module, if there is an offset.
 fn name_if(bytes: &[u8], place: Option<u64>) -> Option<Name<'_>>
     requires { IfSome place (HasName bytes.now) }
     ensures { IsItemAt (NameAt bytes.now) place result }
@@ -66,7 +66,7 @@ fn name_if(bytes: &[u8], place: Option<u64>) -> Option<Name<'_>>
     }
 }
 
-/// The typed record of the GRPDEF that stands at an offset of the module.
+/// The GRPDEF at an offset of the module.
 fn group_at(bytes: &[u8], place: u64) -> Rec<'_>
     requires { HasGroup bytes.now place }
     ensures { rec_seen result ≡ typed (front_record (present (drop place bytes.now))) }
@@ -89,7 +89,7 @@ impl Checked {
         }
     }
 
-    /// The module's bytes: a well-formed module.
+    /// The module's bytes, which are well-formed.
     pub fn bytes(&self) -> &[u8]
         ensures bytes { result.now ≡ self.now.bytes }
         ensures well_formed { IsWellFormed self.now.profile profile_limits self.now.bytes (records_in self.now.bytes) }
@@ -97,14 +97,14 @@ impl Checked {
         &self.bytes
     }
 
-    /// The profile under which it is well formed.
+    /// The profile it was checked with.
     pub fn profile(&self) -> Profile
         ensures { result ≡ self.now.profile }
     {
         self.profile
     }
 
-    /// How many names its LNAMES and LLNAMES define.
+    /// The number of names, defined by its LNAMES and LLNAMES records: at most 32,767.
     pub fn names(&self) -> u16
         ensures count { result ≡ length (names (recs_of self.now.bytes)) }
         ensures bounded { result ≤ 32767 }
@@ -112,7 +112,7 @@ impl Checked {
         self.tables.name_count()
     }
 
-    /// How many segments it has.
+    /// The number of segments: at most 32,767.
     pub fn segments(&self) -> u16
         ensures count { result ≡ length (segments (recs_of self.now.bytes)) }
         ensures bounded { result ≤ 32767 }
@@ -120,7 +120,7 @@ impl Checked {
         self.tables.segment_count()
     }
 
-    /// How many groups it has.
+    /// The number of groups: at most 32,767.
     pub fn groups(&self) -> u16
         ensures count { result ≡ length (groups (recs_of self.now.bytes)) }
         ensures bounded { result ≤ 32767 }
@@ -128,7 +128,7 @@ impl Checked {
         self.tables.group_count()
     }
 
-    /// How many external names it has; those of EXTDEFs, COMDEFs, LEXTDEFs and LCOMDEFs share one table.
+    /// The number of external names: at most 32,767. EXTDEF, COMDEF, LEXTDEF and LCOMDEF records share one table.
     pub fn externals(&self) -> u16
         ensures count { result ≡ length (externals (recs_of self.now.bytes)) }
         ensures bounded { result ≤ 32767 }
@@ -136,22 +136,22 @@ impl Checked {
         self.tables.external_count()
     }
 
-    /// What a segment's SEGDEF says of it, by its index from 1; `None` outside the table.
+    /// The segment with index `i`, from 1; `None` outside the table.
     pub fn segment(&self, i: u16) -> Option<SegInfo>
         ensures { result ≡ entry (segments (recs_of self.now.bytes)) i }
     {
         self.tables.segment(i)
     }
 
-    /// How many records it has.
+    /// The number of records.
     pub fn record_count(&self) -> u32
         ensures { result ≡ length (records_in self.now.bytes) }
     {
         self.count
     }
 
-    /// The records, one after another, each with its place (in which `within` is 0). None names a thread, an entry, a datum or a byte
-    /// that is missing, and a MODEND is the last of them alone.
+    /// The records in order, each with its place; `within` is 0. No record refers to a thread, an entry, data or a byte that is missing;
+    /// only the last is a MODEND.
     pub fn records(&self) -> Records<'_>
         ensures listed { result ≡ placed_from 0 0 (records_in self.now.bytes) }
         ensures holds { ModuleHolds profile_limits (recs_of self.now.bytes) }
@@ -159,7 +159,7 @@ impl Checked {
         Records::new(&self.bytes)
     }
 
-    /// The record that it ends with: its MODEND. It is found by the lengths of the records before it, which are not read again.
+    /// Its last record, the MODEND. Records before it are skipped by their lengths.
     pub fn end(&self) -> Rec<'_>
         ensures last { Some (rec_seen result) ≡ last (recs_of self.now.bytes) }
         ensures holds { ModuleHolds profile_limits (recs_of self.now.bytes) }
@@ -167,29 +167,28 @@ impl Checked {
         last_record(&self.bytes)
     }
 
-    /// A name, by its index from 1; `None` outside the table.
+    /// The name with index `i`, from 1; `None` outside the table.
     pub fn name(&self, i: u16) -> Option<Name<'_>>
         ensures { result ≡ entry (names (recs_of self.now.bytes)) i }
     {
         name_if(&self.bytes, self.tables.name_place(i))
     }
 
-    /// An external name, by its index from 1; `None` outside the table.
+    /// The external name with index `i`, from 1; `None` outside the table.
     pub fn external(&self, i: u16) -> Option<Name<'_>>
         ensures { result ≡ entry (externals (recs_of self.now.bytes)) i }
     {
         name_if(&self.bytes, self.tables.external_place(i))
     }
 
-    /// Whether an external is local, by its index from 1: that of a LEXTDEF or an LCOMDEF is, that of an EXTDEF or a COMDEF is not. `None`
-    /// outside the table.
+    /// Whether the external with index `i`, from 1, is local: defined by a LEXTDEF or an LCOMDEF. `None` outside the table.
     pub fn local(&self, i: u16) -> Option<bool>
         ensures { result ≡ entry (locals (recs_of self.now.bytes)) i }
     {
         self.tables.is_local(i)
     }
 
-    /// The typed record of a group's GRPDEF, by the group's index from 1; `None` outside the table.
+    /// The GRPDEF of the group with index `i`, from 1; `None` outside the table.
     pub fn group(&self, i: u16) -> Option<Rec<'_>>
         ensures { option_map contents_seen result ≡ option_map Group (entry (groups (recs_of self.now.bytes)) i) }
     {

@@ -1,4 +1,4 @@
-//! The check of a reader.
+//! The check of a module that is read from a source.
 
 ghost use Rattle.std.specs.Prelude.{◌≡◌, ◌≤◌, ℕ, List, Some, IfOk, IfErr};
 ghost use Rattle.std.specs.Io.KnownBytes.{Consumes};
@@ -11,17 +11,16 @@ use crate::session::Session;
 use omf_frame::{Source, pull_piece};
 use std::alloc::Global;
 
-/// Reads a module, and no further than its end: the module that the input begins with; or else its first refusal, by record,
-/// step, place and number.
+/// Reads and checks the module that the input begins with, and reads no further than its end.
 ///
-/// Of an input that is refused it reads what decides that, and no further: all of it where it ends too early; else to the end of
-/// the record at fault, or through its type byte or its length where these decide.
+/// Of an input that is refused it reads no more than the refusal needs: all of it if it ends too early; otherwise up to the end of the
+/// record at fault, or only its type byte or its length if these are at fault.
 ///
 /// # Errors
 ///
-/// `Refused` where the input does not begin with a well-formed module. `Read` where the reader failed, at once, or was interrupted
-/// 1,000 times running; only an interruption is tried again. `Memory` where a growth was refused, and what was read has no refusal
-/// but that it ends too early.
+/// `Refused` if the input does not begin with a well-formed module: its first fault, by record, then step, place and reason number.
+/// `Read` if the reader failed, or was interrupted 1,000 times in a row; only interruptions are retried. `Memory` if out of memory,
+/// while the bytes read have no fault except that they end too early.
 pub fn check<S: Source>(
     alloc: Global,
     reader: &mut S,

@@ -1,5 +1,5 @@
-//! Worked examples at the edges of the rules, worked out by hand and evaluated by the check. Their checksum bytes are 00, which is
-//! always taken. The first records stand at 0, 6 and 13, and what follows them at 23.
+//! Worked examples at the edges of the rules, worked out by hand and evaluated by the prover. Their checksum bytes are 00, which is
+//! always accepted. The first records are at 0, 6 and DH, and the next at 17H.
 
 ghost use Rattle.std.specs.Prelude.{◌≡◌, ℕ, [], ◌∷◌, ◌++◌, Some, None, take, drop, true, false};
 ghost use Rattle.std.specs.List.{repeat};
@@ -15,7 +15,7 @@ ghost use Rattle.omf_check.specs.Rules.{room, item_limit, item_places};
 ghost use Rattle.omf_check.specs.Tables.{items_in, locals};
 ghost use Rattle.omf_check.specs.Inner.Verdict.{Refused, verdict};
 
-/// The steps of framing: the type before the end of the input, that before the checksum, and that before the header.
+/// The order of framing faults: the type, the end of the input, the checksum, the header.
 pub fn framing_steps()
     ensures unknown { verdict_of (H ++ 0xFF ∷ []) ≡ Refused reason.UnknownType (place 1 6 0) }
     ensures unsupported { verdict_of (0xBC ∷ []) ≡ Refused reason.UnsupportedType (place 0 0 0) }
@@ -26,12 +26,12 @@ pub fn framing_steps()
     ensures header_again { module_in (verdict_of (H ++ 0x82 ∷ 0x02 ∷ 0x00 ∷ 0x00 ∷ 0x00 ∷ M)) ≡ Some (H ++ 0x82 ∷ 0x02 ∷ 0x00 ∷ 0x00 ∷ 0x00 ∷ M) }
 {}
 
-/// A wrong THREAD to the right of a FIXUP that has no data record: all layout comes first.
+/// A bad THREAD to the right of a FIXUP without a data record: faults of layout precede all others.
 pub fn layout_before_meaning()
     ensures { verdict_of (H ++ N ++ S ++ 0x9C ∷ 0x06 ∷ 0x00 ∷ 0xC4 ∷ 0x01 ∷ 0x54 ∷ 0x01 ∷ 0x4C ∷ 0x00 ∷ []) ≡ Refused reason.FrameMethod (place 3 23 7) }
 {}
 
-/// A FIXUP's first byte stands left of its datum, whose index is undefined.
+/// A FIXUP's first byte is left of its datum, whose index is undefined.
 pub fn data_before_datum()
     ensures none { verdict_of (H ++ N ++ S ++ 0x9C ∷ 0x06 ∷ 0x00 ∷ 0xC4 ∷ 0x01 ∷ 0x04 ∷ 0x09 ∷ 0x09 ∷ 0x00 ∷ []) ≡ Refused reason.NoDataRecord (place 3 23 3) }
     ensures outside { verdict_of (with_fixup (0x9C ∷ 0x06 ∷ 0x00 ∷ 0xC4 ∷ 0x03 ∷ 0x04 ∷ 0x09 ∷ 0x09 ∷ 0x00 ∷ [])) ≡ Refused reason.OutsideRecord (place 4 34 3) }
@@ -39,7 +39,7 @@ pub fn data_before_datum()
     ensures threads { module_in (verdict_of (H ++ N ++ S ++ 0x9C ∷ 0x03 ∷ 0x00 ∷ 0x01 ∷ 0x09 ∷ 0x00 ∷ M)) ≡ Some (H ++ N ++ S ++ 0x9C ∷ 0x03 ∷ 0x00 ∷ 0x01 ∷ 0x09 ∷ 0x00 ∷ M) }
 {}
 
-/// Frame and target each at their own datum; 0 is undefined in both.
+/// Faults of frame and target are each at their own datum; index 0 is undefined in both.
 pub fn data_of_references()
     ensures both { verdict_of (with_fixup (0x9C ∷ 0x06 ∷ 0x00 ∷ 0xC4 ∷ 0x01 ∷ 0x04 ∷ 0x09 ∷ 0x09 ∷ 0x00 ∷ [])) ≡ Refused reason.UndefinedSegment (place 4 34 6) }
     ensures long_frame { verdict_of (with_fixup (0x9C ∷ 0x07 ∷ 0x00 ∷ 0xC4 ∷ 0x01 ∷ 0x04 ∷ 0x80 ∷ 0x01 ∷ 0x02 ∷ 0x00 ∷ [])) ≡ Refused reason.UndefinedSegment (place 4 34 8) }
@@ -49,7 +49,7 @@ pub fn data_of_references()
     ensures target_external { verdict_of (with_fixup (0x9C ∷ 0x05 ∷ 0x00 ∷ 0xC4 ∷ 0x01 ∷ 0x46 ∷ 0x01 ∷ 0x00 ∷ [])) ≡ Refused reason.UndefinedExternal (place 4 34 6) }
 {}
 
-/// Two threads at one fix data byte: a frame thread that was never set, or is that of a location, and a target thread of an undefined segment.
+/// Two threads at one fix data byte: a frame thread that was never set, or has method F4, and a target thread with an undefined segment.
 pub fn smaller_number()
     ensures fixup { verdict_of (with_fixup (0x9C ∷ 0x06 ∷ 0x00 ∷ 0x01 ∷ 0x02 ∷ 0xC4 ∷ 0x01 ∷ 0x8D ∷ 0x00 ∷ [])) ≡ Refused reason.UndefinedSegment (place 4 34 7) }
     ensures start { verdict_of (H ++ N ++ S ++ 0x9C ∷ 0x04 ∷ 0x00 ∷ 0x50 ∷ 0x00 ∷ 0x05 ∷ 0x00 ∷ 0x8A ∷ 0x03 ∷ 0x00 ∷ 0x40 ∷ 0x8C ∷ 0x00 ∷ []) ≡ Refused reason.UndefinedSegment (place 4 30 4) }
@@ -57,14 +57,14 @@ pub fn smaller_number()
     ensures start_target { verdict_of (H ++ N ++ S ++ 0x8A ∷ 0x04 ∷ 0x00 ∷ 0x40 ∷ 0x54 ∷ 0x00 ∷ 0x00 ∷ []) ≡ Refused reason.UndefinedSegment (place 3 23 5) }
 {}
 
-/// A thread of the other kind, or one that is set behind the fixup, is not the one that is used.
+/// A thread of the other kind, or one that is set after the fixup, is not used.
 pub fn other_threads()
     ensures kind { verdict_of (with_fixup (0x9C ∷ 0x05 ∷ 0x00 ∷ 0x51 ∷ 0xC4 ∷ 0x01 ∷ 0x5D ∷ 0x00 ∷ [])) ≡ Refused reason.UndefinedThread (place 4 34 6) }
     ensures behind { verdict_of (with_fixup (0x9C ∷ 0x06 ∷ 0x00 ∷ 0xC4 ∷ 0x01 ∷ 0x5D ∷ 0x01 ∷ 0x01 ∷ 0x00 ∷ [])) ≡ Refused reason.UndefinedThread (place 4 34 5) }
     ensures last { verdict_of (with_fixup (0x9C ∷ 0x08 ∷ 0x00 ∷ 0x01 ∷ 0x01 ∷ 0x01 ∷ 0x02 ∷ 0xC4 ∷ 0x01 ∷ 0x5D ∷ 0x00 ∷ [])) ≡ Refused reason.UndefinedSegment (place 4 34 9) }
 {}
 
-/// Data of no bytes may lie at the segment's end, and not past it; the offset stands behind its segment's index.
+/// Data of no bytes may be at the segment's end, and not after it; the fault is at the offset field.
 pub fn no_data_bytes()
     ensures end { module_in (verdict_of (H ++ N ++ S ++ 0xA0 ∷ 0x04 ∷ 0x00 ∷ 0x01 ∷ 0x04 ∷ 0x00 ∷ 0x00 ∷ M)) ≡ Some (H ++ N ++ S ++ 0xA0 ∷ 0x04 ∷ 0x00 ∷ 0x01 ∷ 0x04 ∷ 0x00 ∷ 0x00 ∷ M) }
     ensures past { verdict_of (H ++ N ++ S ++ 0xA0 ∷ 0x04 ∷ 0x00 ∷ 0x01 ∷ 0x05 ∷ 0x00 ∷ 0x00 ∷ M) ≡ Refused reason.OutsideSegment (place 3 23 4) }
@@ -73,7 +73,7 @@ pub fn no_data_bytes()
     ensures no_segment { verdict_of (H ++ N ++ S ++ 0xA1 ∷ 0x06 ∷ 0x00 ∷ 0x09 ∷ 0xFF ∷ 0xFF ∷ 0xFF ∷ 0xFF ∷ 0x00 ∷ M) ≡ Refused reason.UndefinedSegment (place 3 23 3) }
 {}
 
-/// Names and bases that are not there, each at its index.
+/// Undefined names and bases: the fault is at the index.
 pub fn undefined_indices()
     ensures name { verdict_of (H ++ N ++ 0x98 ∷ 0x07 ∷ 0x00 ∷ 0x28 ∷ 0x04 ∷ 0x00 ∷ 0x03 ∷ 0x01 ∷ 0x01 ∷ 0x00 ∷ []) ≡ Refused reason.UndefinedName (place 2 13 6) }
     ensures class { verdict_of (H ++ N ++ 0x99 ∷ 0x09 ∷ 0x00 ∷ 0x28 ∷ 0x04 ∷ 0x00 ∷ 0x00 ∷ 0x00 ∷ 0x02 ∷ 0x03 ∷ 0x01 ∷ 0x00 ∷ []) ≡ Refused reason.UndefinedName (place 2 13 9) }
@@ -83,32 +83,32 @@ pub fn undefined_indices()
     ensures public_segment { verdict_of (H ++ N ++ S ++ 0x91 ∷ 0x03 ∷ 0x00 ∷ 0x00 ∷ 0x02 ∷ 0x00 ∷ []) ≡ Refused reason.UndefinedSegment (place 3 23 4) }
 {}
 
-/// Externals of an EXTDEF and of a COMDEF have one count.
+/// EXTDEF and COMDEF share one table of externals.
 pub fn one_external_table()
     ensures { verdict_of (H ++ N ++ S ++ 0x8C ∷ 0x04 ∷ 0x00 ∷ 0x01 ∷ 0x58 ∷ 0x00 ∷ 0x00 ∷ 0xB0 ∷ 0x06 ∷ 0x00 ∷ 0x01 ∷ 0x59 ∷ 0x00 ∷ 0x62 ∷ 0x01 ∷ 0x00 ∷ L ++ 0x9C ∷ 0x09 ∷ 0x00 ∷ 0xC4 ∷ 0x01 ∷ 0x46 ∷ 0x02 ∷ 0xC4 ∷ 0x01 ∷ 0x46 ∷ 0x03 ∷ 0x00 ∷ M) ≡ Refused reason.UndefinedExternal (place 6 50 10) }
 {}
 
-/// So have those of a LEXTDEF and of an LCOMDEF, in front of them or behind.
+/// LEXTDEF and LCOMDEF share the same table, before or after the others.
 pub fn local_externals_count()
     ensures local { verdict_of (H ++ N ++ S ++ 0xB4 ∷ 0x04 ∷ 0x00 ∷ 0x01 ∷ 0x58 ∷ 0x00 ∷ 0x00 ∷ 0xB8 ∷ 0x06 ∷ 0x00 ∷ 0x01 ∷ 0x59 ∷ 0x00 ∷ 0x62 ∷ 0x01 ∷ 0x00 ∷ L ++ 0x9C ∷ 0x09 ∷ 0x00 ∷ 0xC4 ∷ 0x01 ∷ 0x46 ∷ 0x02 ∷ 0xC4 ∷ 0x01 ∷ 0x46 ∷ 0x03 ∷ 0x00 ∷ M) ≡ Refused reason.UndefinedExternal (place 6 50 10) }
     ensures mixed { verdict_of (H ++ N ++ S ++ 0xB5 ∷ 0x04 ∷ 0x00 ∷ 0x01 ∷ 0x58 ∷ 0x00 ∷ 0x00 ∷ 0xB0 ∷ 0x06 ∷ 0x00 ∷ 0x01 ∷ 0x59 ∷ 0x00 ∷ 0x62 ∷ 0x01 ∷ 0x00 ∷ L ++ 0x9C ∷ 0x09 ∷ 0x00 ∷ 0xC4 ∷ 0x01 ∷ 0x46 ∷ 0x02 ∷ 0xC4 ∷ 0x01 ∷ 0x46 ∷ 0x03 ∷ 0x00 ∷ M) ≡ Refused reason.UndefinedExternal (place 6 50 10) }
     ensures told { locals (two_externals ∷ record two_externals { kind = 0xB4 } ∷ []) ≡ false ∷ false ∷ true ∷ true ∷ [] }
 {}
 
-/// Names of an LNAMES and of an LLNAMES have one count.
+/// LNAMES and LLNAMES share one table of names.
 pub fn one_name_table()
     ensures last { verdict_of (H ++ 0xCA ∷ 0x03 ∷ 0x00 ∷ 0x01 ∷ 0x55 ∷ 0x00 ∷ N ++ 0x98 ∷ 0x07 ∷ 0x00 ∷ 0x28 ∷ 0x04 ∷ 0x00 ∷ 0x03 ∷ 0x04 ∷ 0x01 ∷ 0x00 ∷ M) ≡ Refused reason.UndefinedName (place 3 19 7) }
     ensures beyond { meaning_after 32767 (named_in 0x96) (named_in 0xCA) ≡ Some (fault 3 reason.TooMany) }
 {}
 
-/// The base of an LPUBDEF is judged as that of a PUBDEF; 0 stands for none.
+/// The base of an LPUBDEF is checked like that of a PUBDEF; index 0 means none.
 pub fn local_bases()
     ensures group { verdict_of (H ++ N ++ S ++ 0xB6 ∷ 0x03 ∷ 0x00 ∷ 0x01 ∷ 0x02 ∷ 0x00 ∷ []) ≡ Refused reason.UndefinedGroup (place 3 23 3) }
     ensures segment { verdict_of (H ++ N ++ S ++ 0xB7 ∷ 0x03 ∷ 0x00 ∷ 0x00 ∷ 0x02 ∷ 0x00 ∷ []) ≡ Refused reason.UndefinedSegment (place 3 23 4) }
     ensures none { module_in (verdict_of (H ++ 0xB6 ∷ 0x05 ∷ 0x00 ∷ 0x00 ∷ 0x00 ∷ 0x34 ∷ 0x12 ∷ 0x00 ∷ M)) ≡ Some (H ++ 0xB6 ∷ 0x05 ∷ 0x00 ∷ 0x00 ∷ 0x00 ∷ 0x34 ∷ 0x12 ∷ 0x00 ∷ M) }
 {}
 
-/// Blocks: too deep even where they are taken 0 times, too many bytes without wrap, Short to the right of them, and all of it before meaning.
+/// Blocks: too deep even if repeated 0 times; too many bytes, with no wraparound; Short though further right; all before meaning.
 pub fn block_steps()
     ensures deep { verdict_of (repeated (0xA2 ∷ 0x0A ∷ 0x01 ∷ 0x01 ∷ 0x00 ∷ 0x00 ∷ repeat 64 (0x00 ∷ 0x00 ∷ 0x01 ∷ 0x00 ∷ []) ++ 0x01 ∷ 0x00 ∷ 0x00 ∷ 0x00 ∷ 0x01 ∷ 0xAA ∷ 0x00 ∷ [])) ≡ Refused reason.TooDeep (place 3 23 262) }
     ensures no_wrap { verdict_of (repeated (0xA2 ∷ 0x1E ∷ 0x00 ∷ 0x01 ∷ 0x00 ∷ 0x00 ∷ repeat 5 (0xFF ∷ 0xFF ∷ 0x01 ∷ 0x00 ∷ []) ++ 0x01 ∷ 0x00 ∷ 0x00 ∷ 0x00 ∷ 0x01 ∷ 0xAA ∷ 0x00 ∷ [])) ≡ Refused reason.DataTooLong (place 3 23 6) }
@@ -117,14 +117,14 @@ pub fn block_steps()
     ensures missing_block { verdict_of (repeated (0xA3 ∷ 0x0C ∷ 0x00 ∷ 0x01 ∷ 0x00 ∷ 0x00 ∷ 0x00 ∷ 0x00 ∷ 0x00 ∷ 0x00 ∷ 0x00 ∷ 0x00 ∷ 0x01 ∷ 0x00 ∷ 0x00 ∷ [])) ≡ Refused reason.Short (place 3 23 14) }
 {}
 
-/// Vendors' classes begin at C0H; AAH is another dialect under either profile.
+/// Vendor classes start at C0H; AAH is another dialect in either profile.
 pub fn comment_classes()
     ensures last { module_in (verdict no_vendors profile_limits (comment 0xBF 0x00)) ≡ Some (comment 0xBF 0x00) }
     ensures first { verdict no_vendors profile_limits (comment 0xC0 0x00) ≡ Refused reason.VendorComment (place 1 6 4) }
     ensures dialect { verdict no_vendors profile_limits (comment 0xAA 0x00) ≡ Refused reason.OtherDialect (place 1 6 4) }
 {}
 
-/// Items: one for each subrecord, and one for a FIXUPP without any. The first beyond the limit is named at its place, or at 0.
+/// Items: one for each subrecord, and one for a FIXUPP without any. The fault is at the first item above the limit, or at 0.
 pub fn items()
     ensures none { items_in (Fixups []) ≡ 1 }
     ensures two { items_in (Fixups (put_at 3 (Thread 0x50 None) ∷ put_at 4 (Thread 0x50 None) ∷ [])) ≡ 2 }
@@ -134,8 +134,8 @@ pub fn items()
     ensures comment { broken (room item_limit 1048576 (item_places (Comment 0 0xAA []))) ≡ fault 0 reason.TooMany ∷ [] }
 {}
 
-/// The entry beyond a table's limit: a segment is named at 3, left of its name; a group at 3 too, where the smaller number is that of an
-/// undefined name; an external at its name.
+/// The first entry above a table's limit: for a segment the fault is at 3, left of its name; for a group also at 3, where an undefined
+/// name has the smaller number; for an external it is at its name.
 pub fn full_tables()
     ensures last_segment { meaning_after 32766 (segment_named 0) (segment_named 0) ≡ None }
     ensures segment { meaning_after 32767 (segment_named 0) (segment_named 9) ≡ Some (fault 3 reason.TooMany) }
@@ -145,7 +145,7 @@ pub fn full_tables()
     ensures external { meaning_after 16383 two_externals two_externals ≡ Some (fault 6 reason.TooMany) }
 {}
 
-/// Bytes that are sound so far: a module, a front of one, none at all; not with a wrong checksum, nor with a byte behind the module.
+/// Bytes that are sound so far: a module, a prefix of one, no bytes; not with a wrong checksum, nor with a byte after the module.
 pub fn sound_bytes()
     ensures whole { AreSoundSoFar any profile_limits first_module }
     ensures inside { AreSoundSoFar any profile_limits (take 36 first_module) }
@@ -156,7 +156,7 @@ pub fn sound_bytes()
     ensures behind { AreSoundSoFar any profile_limits (first_module ++ 0xDE ∷ []) → ⊥ }
 {}
 
-/// A record is judged by its type byte, by a length of 0, or to its end.
+/// A record is refused by its type byte, by a length of 0, or at its end.
 pub fn places_of_judging()
     ensures kind { EndsWhereJudged reason.UnsupportedType (0xC2 ∷ []) }
     ensures past_kind { EndsWhereJudged reason.UnsupportedType (0xC2 ∷ 0x01 ∷ []) → ⊥ }

@@ -1,4 +1,4 @@
-//! Why a check answers no module.
+//! Faults of a check.
 
 ghost use Rattle.std.specs.Prelude.{◌≡◌};
 ghost use Rattle.omf_check.specs.declared.fault.CheckFault.TheVariants.{Memory};
@@ -7,21 +7,21 @@ use omf_frame::{Place, Reason};
 use std::alloc::AllocError;
 use thiserror::Error;
 
-/// Why a check answers no module. The numbers of the reasons are 1 to 3.
+/// Why a check returns no module. The reasons have the numbers 1 to 3.
 #[derive(Clone, Copy, Debug, PartialEq, Eq, Error)]
 pub enum CheckFault {
-    /// 1: a growth was refused.
+    /// 1: out of memory.
     #[error("memory ran out")]
     Memory,
-    /// 2: the reader failed, or was interrupted a thousand times running.
+    /// 2: the reader failed, or was interrupted 1,000 times in a row.
     #[error("the input could not be read")]
     Read,
     /// 3: the input does not begin with a well-formed module.
     #[error("the input does not begin with a well-formed module")]
     Refused {
-        /// What is wrong with its first record at fault.
+        /// The fault of its first record at fault.
         reason: Reason,
-        /// Where that is.
+        /// The place of the fault.
         place: Place,
     },
 }

@@ -1,6 +1,6 @@
-//! The last data record, as fixups see it.
+//! The last data record, for fixups.
 
-/// An LEDATA of so many bytes of data, or an LIDATA.
+/// An LEDATA with the number of its data bytes, or an LIDATA.
 #[derive(Clone, Copy, Debug, PartialEq, Eq)]
 pub enum LastData {
     Plain(usize),

@@ -1,19 +1,20 @@
-//! The checker of object modules: which bytes begin with a well-formed module, and why and where all others are refused.
+//! The checker of object modules (TIS OMF 1.1): accepts bytes that begin with a well-formed module, and refuses all others with a
+//! reason and a place.
 //!
 //! ```
 //! let profile = Profile { refuse_vendor_comments: false };
 //! match check(alloc, &mut Reading::new(bytes), profile) {
 //!     Ok(module) => {
-//!         // module.segments() segments, each by module.segment(i) from 1; its records by module.records()
+//!         // module.segments() is the number of segments; module.segment(i) is each of them, from 1; module.records() are its records
 //!     }
 //!     Err(CheckFault::Refused { reason, place }) => {
-//!         // reason.number() is 1 to 33; the record's number and offset, and the offset in it, are in place
+//!         // reason.number() is 1 to 33; place has the record's number and offset, and the offset within the record
 //!     }
-//!     Err(_) => {} // the reader failed, or a growth was refused
+//!     Err(_) => {} // the reader failed, or memory ran out
 //! }
 //! ```
 //!
-//! A `Session` does the same where bytes come in pieces.
+//! A `Session` does the same for bytes that arrive in pieces.
 #![tactic(auto)]
 
 mod checked;
@@ -40,4 +41,5 @@ pub use profile::Profile;
 pub use records::{Records, split_record};
 pub use segment::SegInfo;
 pub use session::Session;
+pub use table::entry_of;
 pub use threads::Threads;

@@ -1,4 +1,4 @@
-//! Frame and target methods (TIS OMF 1.1, "FIXUPP", frame and target methods).
+//! Frame and target methods (TIS OMF 1.1, "FIXUPP").
 
 ghost use Rattle.std.specs.Prelude.{◌≡◌, unwrap_or, option_map};
 ghost use Rattle.omf_check.specs.Threads.{setting, frame_from, target_from};
@@ -6,7 +6,7 @@ ghost use Rattle.omf_check.specs.Threads.{setting, frame_from, target_from};
 use omf_frame::Index;
 use omf_records::At;
 
-/// Where a reference's frame comes from. An index counts from 1.
+/// The source of a reference's frame. Indices count from 1.
 #[derive(Clone, Copy, Debug, Drop)]
 pub enum FrameMethod {
     /// F0: the frame of this segment.
@@ -21,7 +21,7 @@ pub enum FrameMethod {
     Target,
 }
 
-/// What a reference refers to. An index counts from 1.
+/// The target of a reference. Indices count from 1.
 #[derive(Clone, Copy, Debug, Drop)]
 pub enum TargetMethod {
     /// T0: this segment.
@@ -32,7 +32,7 @@ pub enum TargetMethod {
     External(Index),
 }
 
-/// The index of a thread's or a reference's method, or 0.
+/// The index in a thread's or a reference's datum; 0 if it has none.
 #[inline(always)]
 fn index_of(datum: &Option<At<Index>>) -> Index
     ensures { result ≡ unwrap_or (option_map (λ a. a.item) datum.now) 0 }
@@ -44,7 +44,7 @@ fn index_of(datum: &Option<At<Index>>) -> Index
 }
 
 impl FrameMethod {
-    /// The frame method of a code that the layout takes, with its index. Beside 0, 1, 2 and 4 it takes 5 alone.
+    /// The frame method with this code and index. Codes other than 0, 1, 2, 4 and 5 do not pass the layout check.
     #[inline(always)]
     pub(crate) fn new(code: u8, datum: &Option<At<Index>>) -> FrameMethod
         ensures { result ≡ frame_from (setting code datum.now) }
@@ -60,7 +60,7 @@ impl FrameMethod {
 }
 
 impl TargetMethod {
-    /// The target method of a code that the layout takes, with its index. Beside 0 and 1 it takes 2 alone.
+    /// The target method with this code and index. Codes other than 0, 1 and 2 do not pass the layout check.
     #[inline(always)]
     pub(crate) fn new(code: u8, datum: &Option<At<Index>>) -> TargetMethod
         ensures { result ≡ target_from (setting code datum.now) }

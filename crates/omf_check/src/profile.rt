@@ -1,8 +1,8 @@
-//! What a caller may choose.
+//! Options of a check.
 
-/// What is accepted beyond the format's own rules.
+/// The rules beyond those of the format that a caller may choose.
 #[derive(Clone, Copy, Debug, PartialEq, Eq)]
 pub struct Profile {
-    /// Whether a COMENT of a class from C0H to FFH, which are left to vendors, is refused.
+    /// Whether to refuse COMENT records of the classes C0H to FFH, which are reserved for vendors.
     pub refuse_vendor_comments: bool,
 }

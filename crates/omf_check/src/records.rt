@@ -1,4 +1,4 @@
-//! The records of a checked module, one after another.
+//! Iteration over the records of a checked module.
 
 ghost use Rattle.std.specs.Prelude.{◌≡◌, ◌<◌, Some, length};
 ghost use Rattle.omf_frame.specs.Bytes.{last};
@@ -12,7 +12,8 @@ use omf_frame::{Place, RawRecord};
 use omf_records::{Rec, view_known};
 use std::marker::Model;
 
-/// The record that the bytes begin with, and the bytes after it.
+/// Splits `bytes` into their first record, and the bytes after it. The record's `number` and `start` are 0. The bytes must begin with
+/// a whole record of a known type.
 pub fn split_record<'a>(bytes: &'a [u8]) -> (RawRecord<'a>, &'a [u8])
     requires { StartsWithRecord bytes.now }
     ensures kind { result.0.kind ≡ (front_record (present bytes.entry.now)).kind }
@@ -35,7 +36,7 @@ pub fn split_record<'a>(bytes: &'a [u8]) -> (RawRecord<'a>, &'a [u8])
     }
 }
 
-/// The typed record that the bytes begin with, and the bytes after it.
+/// Splits `bytes` into their first record, typed, and the bytes after it.
 pub(crate) fn first_record<'a>(bytes: &'a [u8]) -> (Rec<'a>, &'a [u8])
     requires { StartsWithRecord bytes.now }
     ensures rec { rec_seen result.0 ≡ typed (front_record (present bytes.entry.now)) }
@@ -45,7 +46,7 @@ pub(crate) fn first_record<'a>(bytes: &'a [u8]) -> (Rec<'a>, &'a [u8])
     (view_known(raw), rest)
 }
 
-/// The last of the records that bytes are. The contents of those before it are passed over by their lengths alone.
+/// The last of the records in `bytes`. Records before it are skipped by their lengths.
 pub(crate) fn last_record<'a>(bytes: &'a [u8]) -> Rec<'a>
     requires listed { AreListed bytes.now 0 0 }
     requires filled { 0 < length bytes.now }
@@ -62,7 +63,7 @@ pub(crate) fn last_record<'a>(bytes: &'a [u8]) -> Rec<'a>
     }
 }
 
-/// The records that are still to come, each with its place, in which `within` is 0.
+/// Iterator over the remaining records of a module, each with its place; `within` is 0.
 #[derive(Drop)]
 pub struct Records<'a> {
     bytes: &'a [u8],
@@ -85,7 +86,7 @@ impl<'a> Model for Records<'a> {
 }
 
 impl<'a> Records<'a> {
-    /// The records that bytes are.
+    /// The records of `bytes`.
     pub(crate) fn new(bytes: &'a [u8]) -> Records<'a>
         requires { AreListed bytes.now 0 0 }
         ensures { result ≡ placed_from 0 0 (records_in bytes.entry.now) }

@@ -1,4 +1,4 @@
-//! Faults of rules, and which of them is named.
+//! Faults of single rules, and the choice among them.
 
 ghost use Rattle.std.specs.Prelude.{◌≡◌, ℕ};
 ghost use Rattle.omf_frame.specs.Fault.{is_before};
@@ -11,7 +11,15 @@ use crate::profile::Profile;
 use omf_frame::{Index, Reason};
 use omf_records::{At, Item, Items, LayoutFault, Member};
 
-/// The fault of a rule that does not hold.
+/// The fault with this place in the record and this reason.
+#[inline(always)]
+pub fn fault(within: u32, reason: Reason) -> LayoutFault
+    ensures { result ≡ record { within = within; reason = reason } }
+{
+    LayoutFault { reason, within }
+}
+
+/// The fault of a rule, if it does not hold.
 #[inline(always)]
 pub fn fault_unless(holds: bool, within: u32, reason: Reason) -> Option<LayoutFault>
     ensures { result ≡ fault_unless holds within reason }
@@ -19,11 +27,11 @@ pub fn fault_unless(holds: bool, within: u32, reason: Reason) -> Option<LayoutFa
     if holds {
         None
     } else {
-        Some(LayoutFault { reason, within })
+        Some(fault(within, reason))
     }
 }
 
-/// Whether a fault stands further left than another, or at the same place with a number that is not larger.
+/// Whether `one` is further left than `other`, or at the same place with no larger reason number.
 #[inline(always)]
 fn is_before(one: &LayoutFault, other: &LayoutFault) -> bool
     ensures { result ≡ is_before one.now other.now }
@@ -32,7 +40,7 @@ fn is_before(one: &LayoutFault, other: &LayoutFault) -> bool
         || one.within == other.within && one.reason.number() <= other.reason.number()
 }
 
-/// The lesser of two faults, where there are any.
+/// The lesser of two faults, if any.
 #[inline(always)]
 pub fn lesser(one: Option<LayoutFault>, other: Option<LayoutFault>) -> Option<LayoutFault>
     ensures { result ≡ lesser one other }
@@ -50,7 +58,7 @@ pub fn lesser(one: Option<LayoutFault>, other: Option<LayoutFault>) -> Option<La
     }
 }
 
-/// Each of these items has room, where there is room for so many.
+/// Rule: all the items fit, where there is room for `room` of them.
 pub fn room_fault<T: Item>(items: Items<T>, room: usize) -> Option<LayoutFault>
     ensures { result ≡ room_fault room (places items) }
 {
@@ -63,7 +71,7 @@ pub fn room_fault<T: Item>(items: Items<T>, room: usize) -> Option<LayoutFault>
     found
 }
 
-/// A table of so many entries has one of this index, counted from 1.
+/// Whether a table of `count` entries has one with this index, from 1.
 #[inline(always)]
 pub fn is_defined(count: usize, index: u16) -> bool
     ensures { result ≡ is_defined count index }
@@ -71,14 +79,14 @@ pub fn is_defined(count: usize, index: u16) -> bool
     1 <= index && usize::from(index) <= count
 }
 
-/// An index names an entry of a table of so many entries.
+/// Rule: the index is that of an entry of a table of `count` entries.
 pub fn entry_fault(count: usize, reason: Reason, index: &At<Index>) -> Option<LayoutFault>
     ensures { result ≡ entry_fault count reason index.now }
 {
     fault_unless(is_defined(count, index.item.0), index.within, reason)
 }
 
-/// An index names an entry of a table of so many entries, or is 0 and stands for none.
+/// Rule: the index is that of an entry of a table of `count` entries, or is 0 for none.
 pub fn optional_fault(count: usize, reason: Reason, index: &At<Index>) -> Option<LayoutFault>
     ensures { result ≡ optional_fault count reason index.now }
 {
@@ -86,14 +94,14 @@ pub fn optional_fault(count: usize, reason: Reason, index: &At<Index>) -> Option
     fault_unless(number <= count, index.within, reason)
 }
 
-/// A member of a GRPDEF names a segment, of which there are so many.
+/// Rule: a member of a GRPDEF is one of `count` segments.
 fn member_fault(count: usize, member: &Member<'_>) -> Option<LayoutFault>
     ensures { result ≡ entry_fault count UndefinedSegment member.now }
 {
     entry_fault(count, Reason::UndefinedSegment, &member.segment)
 }
 
-/// The members of a GRPDEF name segments, of which there are so many.
+/// Rule: each member of a GRPDEF is one of `count` segments.
 pub fn members_fault(count: usize, members: Items<Member<'_>>) -> Option<LayoutFault>
     ensures { result ≡ members_fault count members.entry }
 {
@@ -104,7 +112,7 @@ pub fn members_fault(count: usize, members: Items<Member<'_>>) -> Option<LayoutF
     found
 }
 
-/// The class of a COMENT.
+/// The rules of a COMENT's class.
 pub fn comment_fault(profile: Profile, class: u8) -> Option<LayoutFault>
     ensures { result ≡ comment_fault profile class }
 {

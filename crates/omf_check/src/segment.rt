@@ -1,14 +1,14 @@
-//! Segments, as later records see them.
+//! Segments, for later records.
 
-/// What a SEGDEF says of its segment (TIS OMF 1.1, "SEGDEF").
+/// A segment as its SEGDEF defines it (TIS OMF 1.1, "SEGDEF").
 #[derive(Clone, Copy, Debug, PartialEq, Eq)]
 pub struct SegInfo {
-    /// How many bytes it has: 0 to 2^32.
+    /// Its length in bytes: 0 to 2^32.
     pub length: u64,
-    /// The frame number and the offset in that frame of an absolute segment.
+    /// For an absolute segment, its frame number and its offset in that frame.
     pub absolute: Option<(u16, u8)>,
-    /// The index of its name, counted from 1; 0 for none.
+    /// The index of its name, from 1; 0 for none.
     pub name: u16,
-    /// The index of its class name, counted from 1; 0 for none.
+    /// The index of its class name, from 1; 0 for none.
     pub class: u16,
 }

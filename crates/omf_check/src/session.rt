@@ -1,4 +1,4 @@
-//! The checker, fed in pieces.
+//! The incremental checker.
 
 ghost use Rattle.std.specs.Prelude.{◌≡◌, None, IfOk, IfErr, OnOk, OnErr, false};
 ghost use Rattle.omf_check.specs.Session.{at_start, want_of, want_with, IsOpen, Takes, FailsAs, Finishes};
@@ -12,7 +12,7 @@ use omf_frame::{Fed, FrameFault, Framer};
 use std::alloc::Global;
 use std::marker::Model;
 
-/// Judges a module that comes in any pieces, record by record, and keeps its bytes.
+/// Checks a module that arrives in pieces of any size, record by record, and keeps its bytes.
 #[derive(Drop)]
 pub struct Session {
     profile: Profile,
@@ -35,7 +35,7 @@ impl Model for Session {
     ghost invariant = { λ s. IsState s.profile s.framer s.bytes.items s.tables s.fault };
 }
 
-/// What a framer's fault is to a session.
+/// Converts a framing fault.
 fn framing_fault(fault: FrameFault) -> CheckFault
     ensures { result ≡ framing_fault fault }
 {
@@ -45,7 +45,8 @@ fn framing_fault(fault: FrameFault) -> CheckFault
     }
 }
 
-/// Takes what the record at hand still lacks. Where the record is whole then, it is judged and passed. A fault takes no bytes.
+/// Takes the bytes that the current record still lacks. If the record is then complete, checks it and moves past it. A fault takes
+/// no bytes.
 fn advance(
     framer: &mut Framer,
     bytes: &mut Vec<u8>,
@@ -79,7 +80,7 @@ fn advance(
 }
 
 impl Session {
-    /// A session that has taken nothing.
+    /// An empty session.
     pub fn new(alloc: Global, profile: Profile) -> Session
         ensures start { result ≡ at_start profile }
         ensures is_open { IsOpen result }
@@ -93,8 +94,8 @@ impl Session {
         }
     }
 
-    /// How many bytes it can take before it next judges: one before a type byte, then the length bytes that are missing,
-    /// then the rest of the record. None after the end, or after a fault.
+    /// The number of bytes it can take before its next decision: 1 before a type byte, then the missing length bytes, then the rest of
+    /// the record. 0 after the end or after a fault.
     pub fn want(&self) -> usize
         ensures same { result ≡ want_of self.now }
         ensures is_open { self.now.fault ≡ None → IsOpen self.now }
@@ -105,8 +106,8 @@ impl Session {
         self.framer.want()
     }
 
-    /// The same where these are the next bytes: behind a first record, from a type byte that has no fault on, all of the record, which is
-    /// judged with its last byte.
+    /// Like `want`, if `ahead` are the next bytes: after the first record, from a type byte without fault on, the length of the whole
+    /// record, which is checked with its last byte.
     pub fn want_with(&self, ahead: &[u8]) -> usize
         ensures same { result ≡ want_with self.now ahead.now }
         ensures is_open { self.now.fault ≡ None → IsOpen self.now }
@@ -120,7 +121,7 @@ impl Session {
         self.framer.want_with(ahead)
     }
 
-    /// Whether a MODEND was passed.
+    /// Whether the module is complete: its MODEND has been checked.
     pub fn ended(&self) -> bool
         ensures same { result ≡ self.now.ended }
         ensures is_open { self.now.fault ≡ None → IsOpen self.now }
@@ -128,12 +129,14 @@ impl Session {
         self.framer.ended()
     }
 
-    /// Takes bytes to the end of one record at most; none after the end. `whole` says that a record was ended and passed.
+    /// Takes bytes up to the end of the current record; none after the end of the module. `whole` is set if the record is now complete
+    /// and was accepted.
     ///
-    /// A fault is kept, and is the answer from then on: the refusal of the record at hand, which stands whatever follows, with
-    /// its place; or `Memory` where a growth was refused that this record needs, and what was judged before has no refusal: the
-    /// record to its end, or all of the piece, or at the first byte of all its type. It takes no bytes. No later record of the
-    /// piece is judged. It is never `Read`.
+    /// # Errors
+    ///
+    /// `Refused` with reason and place if the current record is at fault; no bytes that follow change this. `Memory` if out of memory,
+    /// where the bytes checked so far have no fault: the record up to its end, or all of the piece, or the very first type byte. Never
+    /// `Read`. A fault takes no bytes, is kept, and is returned by every later call. No later record of the piece is checked.
     pub fn feed(&mut self, piece: &[u8]) -> Result<Fed, CheckFault>
         ensures ok { IfOk result (λ fed. Takes self.old piece.now fed.taken fed.whole self.new) }
         ensures err { IfErr result (λ fault. FailsAs self.old piece.now fault self.new) }
@@ -156,10 +159,11 @@ impl Session {
         }
     }
 
-    /// The input has ended: the module that the bytes taken are, where a MODEND was passed.
+    /// Ends the input, and returns the module if its MODEND has been checked.
     ///
-    /// A kept fault is the answer; else, before a MODEND, the refusal of the bytes taken: Cut in a record, NoEnd between two. It is
-    /// never `Read`.
+    /// # Errors
+    ///
+    /// The kept fault, if any; otherwise, before a MODEND, `Refused`: Cut within a record, NoEnd between records. Never `Read`.
     pub fn finish(self) -> Result<Checked, CheckFault>
         ensures { Finishes self result }
     {

@@ -1,4 +1,4 @@
-//! What is kept of the records so far.
+//! The state kept of the records so far.
 
 ghost use Rattle.std.specs.Prelude.{◌≡◌};
 ghost use Rattle.omf_check.specs.Inner.Kept.{Kept, nothing_kept};
@@ -12,6 +12,7 @@ mod sound;
 use crate::last_data::LastData;
 use crate::segment::SegInfo;
 use crate::threads::Threads;
+pub use entries::entry_of;
 use std::alloc::Global;
 use std::marker::Model;
 
@@ -21,15 +22,15 @@ const TABLE_LIMIT: usize = 32_767;
 /// The most items of a module: one per subrecord of a FIXUPP, one per empty FIXUPP, one per other record.
 const ITEM_LIMIT: usize = 1_048_576;
 
-/// What is kept of the records so far.
+/// The state kept of the records so far.
 #[derive(Drop)]
 pub struct Tables {
-    /// Where each name stands in the module.
+    /// The offset of each name in the module.
     names: Vec<u64>,
     segments: Vec<SegInfo>,
-    /// Where each GRPDEF stands in the module.
+    /// The offset of each GRPDEF in the module.
     groups: Vec<u64>,
-    /// Where each external name stands in the module.
+    /// The offset of each external name in the module.
     externals: Vec<u64>,
     /// Whether each external is local.
     locals: Vec<bool>,
@@ -47,7 +48,7 @@ impl Model for Tables {
 }
 
 impl Tables {
-    /// Nothing is kept.
+    /// The state before the first record.
     pub fn new(alloc: Global) -> Tables
         ensures { result ≡ nothing_kept }
     {

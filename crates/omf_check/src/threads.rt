@@ -1,4 +1,4 @@
-//! The threads in force (TIS OMF 1.1, "FIXUPP", THREAD).
+//! Frame and target threads (TIS OMF 1.1, "FIXUPP", THREAD).
 
 ghost use Rattle.std.specs.Prelude.{◌≡◌, ◌<◌};
 ghost use Rattle.omf_check.specs.Inner.Kept.{kept_frame, kept_target, set_thread, set_threads, no_threads};
@@ -9,17 +9,17 @@ use omf_records::{
     Items, Part, Reference, Subrecord, is_frame_thread, thread_method, thread_number,
 };
 
-/// Frame threads 0 to 3, and target threads 0 to 3: the threads in force at a place of a module, for whoever walks over its records.
+/// The frame threads 0 to 3 and target threads 0 to 3 in force at a place of a module. Kept while walking over its records.
 #[derive(Clone, Copy, Debug, Drop)]
 pub struct Threads {
-    /// What each frame thread keeps, if it was set.
+    /// The frame method of each frame thread, if set.
     pub frames: [Option<FrameMethod>; 4],
-    /// What each target thread keeps, if it was set.
+    /// The target method of each target thread, if set.
     pub targets: [Option<TargetMethod>; 4],
 }
 
 impl Threads {
-    /// None is set.
+    /// No thread is set.
     pub fn new() -> Threads
         ensures { result ≡ no_threads }
     {
@@ -29,7 +29,7 @@ impl Threads {
         }
     }
 
-    /// A frame thread.
+    /// The frame method of a frame thread, if set.
     #[inline(always)]
     fn frame_thread(&self, number: u8) -> Option<FrameMethod>
         requires { number < 4 }
@@ -38,7 +38,7 @@ impl Threads {
         self.frames[usize::from(number)]
     }
 
-    /// A target thread.
+    /// The target method of a target thread, if set.
     #[inline(always)]
     fn target_thread(&self, number: u8) -> Option<TargetMethod>
         requires { number < 4 }
@@ -47,7 +47,7 @@ impl Threads {
         self.targets[usize::from(number)]
     }
 
-    /// The frame of a reference: its own, or its thread's.
+    /// The frame method of a reference: its own, or that of its thread; `None` if the thread is not set.
     #[inline(always)]
     pub fn frame(&self, reference: &Reference) -> Option<FrameMethod>
         ensures { result ≡ frame_cell self.now reference.now }
@@ -58,7 +58,7 @@ impl Threads {
         }
     }
 
-    /// The target of a reference: its own, or its thread's.
+    /// The target method of a reference: its own, or that of its thread; `None` if the thread is not set.
     #[inline(always)]
     pub fn target(&self, reference: &Reference) -> Option<TargetMethod>
         ensures { result ≡ target_cell self.now reference.now }
@@ -69,7 +69,7 @@ impl Threads {
         }
     }
 
-    /// Sets the thread of a THREAD; a FIXUP sets none.
+    /// Sets the thread that a THREAD subrecord defines; a FIXUP subrecord sets none.
     #[inline(always)]
     pub fn set(&mut self, subrecord: &Subrecord<'_>)
         ensures { self.new ≡ set_thread self.old subrecord.now }
@@ -85,7 +85,7 @@ impl Threads {
         }
     }
 
-    /// Sets the threads of all these subrecords, in their order.
+    /// Sets the threads that the subrecords define, in order.
     pub fn set_all(&mut self, subrecords: Items<Subrecord<'_>>)
         ensures { self.new ≡ set_threads self.old subrecords.entry }
     {

@@ -21,7 +21,7 @@ use Rattle.omf_check.specs.declared.profile.Profile.{Profile}
 use Rattle.omf_cmd.specs.FaultLine.{fault_line, fault_text, takes_memory}
 use Rattle.omf_cmd.specs.HowFar.{IsReadFrom}
 use Rattle.omf_cmd.specs.Reports.{of_check, IsModuleFault, Judges, ReportsBy}
-use Rattle.omf_cmd.specs.Runs.{IsCausedBy, IsPart, IsPrintCause, IsReadCause, IsUnbroken, IsWritten, Prints, PrintsInPieces}
+use Rattle.omf_cmd.specs.Runs.{IsCausedBy, IsPart, IsPrintCause, IsReadCause, IsUnbroken, Prints, PrintsInPieces}
 use Rattle.omf_cmd.proofs.Pieces.{given_up_later, unbroken_on}
 use Rattle.omf_cmd.specs.declared.fault.RunFault.{RunFault}
 use Rattle.omf_cmd.specs.declared.fault.RunFault.TheVariants as fault
@@ -29,17 +29,6 @@ use Rattle.omf_cmd.specs.declared.fault.RunFault.TheVariants as fault
 pub kept : (held : Option (List ℕ)) → Keeps held held
 kept None = tt
 kept (Some xs) = refl
-
--- a text that may not be written whole
-pub part_written : (old new : Option (List ℕ)) (r : Result (Unit {0}) RunFault) (shown text : List ℕ) → shown ≡ text → IfErr r (λ e. e ≡ fault.Write) → Prints old new r shown → IsPart old new text
-part_written old new (Ok done) shown text e w p = (shown, [], sym e ∙ sym (append-nil shown), p)
-part_written old new (Err x) shown text e w p =
-    let q = subst (λ (y : RunFault). Prints old new (Err y) shown) w p in
-    (q.0, q.1, sym e ∙ q.2, q.3)
-
-pub written_or_failed : (old new : Device) (r : Result (Unit {0}) RunFault) (text : List ℕ) → IfErr r (λ e. e ≡ fault.Write) → IsPrintCause old new r → Prints old.bytes new.bytes r text → IsWritten old new text
-written_or_failed old new (Ok done) text w c p = inl (c, p)
-written_or_failed old new (Err x) text w c p = inr (subst (λ (y : RunFault). IsPrintCause old new (Err y)) w c, part_written old.bytes new.bytes (Err x) text text refl w p)
 
 -- ---- which device is named
 

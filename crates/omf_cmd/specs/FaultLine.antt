@@ -1,4 +1,4 @@
--- The line that a fault is printed as (this profile's rule).
+-- The line printed for a fault (this profile's rule).
 use Rattle.std.specs.Prelude.{ℕ, List, [], ◌∷◌, ◌++◌, Bool, true, false, codes, decimal}
 use Rattle.omf_frame.specs.Fault.{reason_number}
 use Rattle.omf_frame.specs.declared.fault.Reason.{Reason}
@@ -59,7 +59,7 @@ cause_name cause.Target = codes "Target"
 cause_name cause.Location = codes "Location"
 cause_name cause.Distance = codes "Distance"
 
--- The number and the name of each reason, and what it tells.
+-- A placement that does not fit, or a fixup out of range: number, name and details.
 abbrev pub reach_words : ReachFault → List (List ℕ)
 reach_words (reach.Missing k i) = codes "1" ∷ codes "Missing" ∷ kind_name k ∷ decimal i ∷ []
 reach_words (reach.Extra k i) = codes "2" ∷ codes "Extra" ∷ kind_name k ∷ decimal i ∷ []
@@ -79,12 +79,12 @@ fault_words (fault.Reach f) = codes "reach" ∷ reach_words f
 abbrev pub fault_line : RunFault → List ℕ
 fault_line f = in_words (fault_words f)
 
--- What is printed of a fault: its line; nothing where the writer has failed.
+-- The text printed for a fault: its line and a line feed; nothing if the writer failed.
 abbrev pub fault_text : RunFault → List ℕ
 fault_text fault.Write = []
 fault_text f = fault_line f ++ 10 ∷ []
 
--- A line that tells numbers is put together first, which takes memory. The others are fixed.
+-- Whether the line has numbers, so that it is built at run time, which takes memory. The other lines are fixed.
 abbrev pub takes_memory : RunFault → Bool
 takes_memory (fault.Refused r p) = true
 takes_memory (fault.Line n) = true

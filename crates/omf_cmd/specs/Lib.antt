@@ -4,6 +4,7 @@ pub mod Relocated
 pub mod FaultLine
 pub mod Rows
 pub mod Runs
+pub mod Programs
 pub mod Words
 pub mod Parsed
 pub mod Outcome

@@ -1,4 +1,4 @@
--- What `list`, `check` and `canon` print of a module (this profile's rule).
+-- The texts that `list`, `check` and `canon` print of a module (this profile's rule).
 use Rattle.std.specs.Prelude.{ℕ, List, [], ◌∷◌, ◌++◌, length, flat_map, codes, decimal}
 use Rattle.std.specs.List.{enumerate_from}
 use Rattle.omf_frame.specs.Bytes.{with_before}
@@ -43,7 +43,7 @@ abbrev pub public_lines : Contents → List ℕ
 public_lines (Publics p) = flat_map (λ q. public_line p q.item) p.items
 public_lines _ = []
 
--- What `list` prints: the records, the segments, the groups, the externals, the publics.
+-- The text of `list`: records, segments, groups, externals, publics.
 abbrev pub list_text : List Raw → List ℕ
 list_text rs = with_before record_line [] rs
     ++ segment_lines (recs rs)
@@ -51,10 +51,10 @@ list_text rs = with_before record_line [] rs
     ++ external_lines (recs rs)
     ++ flat_map (λ r. public_lines r.contents) (recs rs)
 
--- What `check` prints: how many records and bytes the module has.
+-- The text of `check`: the numbers of records and bytes.
 abbrev pub check_text : List Raw → List ℕ
 check_text rs = line (codes "OK" ∷ decimal (length rs) ∷ codes "records," ∷ decimal (length (flat_map raw_bytes rs)) ∷ codes "bytes" ∷ [])
 
--- What `canon` writes: the module's canonical bytes.
+-- The output of `canon`: the canonical bytes.
 abbrev pub canonical_text : List Raw → List ℕ
 canonical_text rs = canonical (recs rs)

@@ -1,8 +1,8 @@
--- Words of the printed texts (this profile's rule).
+-- Parts of the printed texts (this profile's rule).
 use Rattle.std.specs.Prelude.{ℕ, List, [], ◌∷◌, ◌++◌, ◌==◌, codes, decimal, if◌then◌else◌}
 use Rattle.omf_placement.specs.Entries.{in_words}
 
--- A line: words with one space between each two.
+-- A line: words separated by one space, and a line feed.
 abbrev pub line : List (List ℕ) → List ℕ
 line words = in_words words ++ 10 ∷ []
 

@@ -1,4 +1,4 @@
--- What `reloc` prints of an image and a start (this profile's rule).
+-- The text that `reloc` prints of an image and a start (this profile's rule).
 use Rattle.std.specs.Prelude.{ℕ, ◌+◌, ◌-◌, ◌*◌, ◌/◌, List, [], ◌∷◌, ◌++◌, length, flat_map, min, Option, Some, None, option_to_list, codes}
 use Rattle.std.specs.List.{range_with_len}
 -- computed: runs_are_maximal of omf_image.
@@ -16,27 +16,27 @@ use Rattle.omf_placement.specs.Quoted.{hex}
 abbrev pub place_text : ℕ → ℕ → List ℕ
 place_text segment offset = hex 4 segment ++ 58 ∷ hex 8 offset
 
--- A byte: two digits behind a space.
+-- A byte: a space and two digits.
 abbrev pub byte_text : ℕ → List ℕ
 byte_text b = 32 ∷ hex 2 b
 
--- The bytes over an interval: where the first of them stands, and each of them.
+-- A line: the place of its first byte, and the bytes of an interval.
 abbrev pub bytes_line : (ℕ → List ℕ) → (ℕ → Option ℕ) → ℕ → ℕ → List ℕ
 bytes_line place byte first len = place first ++ flat_map (λ x. flat_map byte_text (option_to_list (byte x))) (range_with_len first len) ++ 10 ∷ []
 
--- A run, in lines of 16 bytes from its first byte on; the last line has what is left.
+-- A run in lines of 16 bytes; the last line has what is left.
 abbrev pub run_lines : (ℕ → List ℕ) → (ℕ → Option ℕ) → Run → List ℕ
 run_lines place byte r = flat_map (λ k. bytes_line place byte (r.first + 16 * k) (min 16 (r.len - 16 * k))) (range_with_len 0 ((r.len + 15) / 16))
 
--- The start: four digits of the selector, eight of the offset.
+-- The start: the selector in four digits, the offset in eight.
 abbrev pub start_line : Option (ℕ × ℕ) → List ℕ
 start_line None = []
 start_line (Some s) = codes "START " ++ hex 4 s.0 ++ 58 ∷ hex 8 s.1 ++ 10 ∷ []
 
--- So many segments in the order of their indices, each with its runs; last the start.
+-- The runs of the segments 1 to `count`, and then the start.
 abbrev pub image_text : ℕ → (ℕ → ℕ → Option ℕ) → (ℕ → List Run) → Option (ℕ × ℕ) → List ℕ
 image_text count byte runs s = flat_map (λ segment. flat_map (run_lines (place_text segment) (byte segment)) (runs segment)) (range_with_len 1 count) ++ start_line s
 
--- What `reloc` prints of a module at a placement that reaches.
+-- The text of a module at a placement that reaches.
 abbrev pub reloc_text : Limits → Places → List Rec → List ℕ
 reloc_text limits pl m = image_text (length (segments m)) (image limits pl m) (runs_of (laid limits pl (pieces m))) (start pl m)

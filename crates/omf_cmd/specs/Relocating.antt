@@ -1,4 +1,4 @@
--- What `reloc` answers for an input: a module, and the placement text that is all that is left.
+-- What `reloc` answers for an input: a module, and a placement text to the end.
 use Rattle.std.specs.Prelude.{◌≡◌, ◌⊎◌, ◌≤◌, ⊤, ℕ, ◌+◌, List, [], length, Option, Some, None, Result, Ok, Err, IsOk}
 use Rattle.std.specs.Io.KnownBytes.{Consumes, IsAtEnd}
 use Rattle.omf_frame.specs.Device.{Device}
@@ -22,32 +22,30 @@ use Rattle.omf_cmd.specs.Runs.{PrintsInPieces}
 use Rattle.omf_cmd.specs.declared.fault.RunFault.{RunFault}
 use Rattle.omf_cmd.specs.declared.fault.RunFault.TheVariants as fault
 
--- A text that was read: all that was left, within the limit.
+-- The text read is the rest of the input, within the limit.
 pub record IsWholeText (old new : Option (List ℕ)) (text : List ℕ) : Type 0 where
   pub read : Consumes old new text
   pub all : IsAtEnd new
   pub short : length text ≤ text_limit
 
--- What was read of a text that is not whole: no more than a text may have.
+-- A part of the text was read, within the limit.
 abbrev pub IsShortText : Option (List ℕ) → Option (List ℕ) → Type 0
 IsShortText old new = (read : List ℕ) × Consumes old new read × (length read ≤ text_limit)
 
--- Why no text was read, and what was read of it: one byte more is there than a text may have; the reader failed, or memory ran out, before
--- that.
+-- Why the text was not read: one byte beyond the limit was read; or the reader failed or memory ran out before that.
 abbrev pub IsTextFault : Option (List ℕ) → Option (List ℕ) → RunFault → Type 0
 IsTextFault old new fault.TooLong = (read : List ℕ) × Consumes old new read × (length read ≡ text_limit + 1)
 IsTextFault old new fault.Read = IsShortText old new
 IsTextFault old new fault.Memory = IsShortText old new
 IsTextFault old new _ = ⊥
 
--- The input begins with a module, and this is the outcome for it and for what follows it.
+-- The input begins with a module, and this is the outcome for it and the text after it.
 pub record HasOutcome (profile : Profile) (input : List ℕ) (outcome : Result (List ℕ) RunFault) : Type 0 where
   pub records : List Raw
   pub accepted : IsAccepted profile profile_limits input records
   pub is : reloc_outcome profile_limits (recs records) accepted.rest ≡ outcome
 
--- What a module and a placement text give: the text to print, or the first fault. Want of memory may come at any time, and no device has a
--- part in it.
+-- The outcome for a module and a placement text: the text to print, or the first fault. Memory may run out at any time; no device takes part.
 abbrev pub IsOutcome : List Rec → List ℕ → Result (List ℕ) RunFault → Type 0
 IsOutcome m given (Ok text) = reloc_outcome profile_limits m given ≡ Ok text
 IsOutcome m given (Err fault.Memory) = ⊤
@@ -58,8 +56,8 @@ IsOutcome m given (Err (fault.Line n)) = reloc_outcome profile_limits m given �
 IsOutcome m given (Err fault.TooLong) = reloc_outcome profile_limits m given ≡ Err fault.TooLong
 IsOutcome m given (Err (fault.Reach f)) = reloc_outcome profile_limits m given ≡ Err (fault.Reach f)
 
--- What is answered for an input: the text to print, or the first fault: of the module, of the text, of the placement. Want of memory and
--- a failing reader may come at any time, and a writer has no part in it.
+-- The answer to an input: the text to print, or the first fault of the module, the text or the placement. Memory may run out and the reader
+-- may fail at any time; the writer takes no part.
 abbrev pub Answers : Profile → List ℕ → Result (List ℕ) RunFault → Type 0
 Answers profile input (Ok text) = HasOutcome profile input (Ok text)
 Answers profile input (Err fault.Memory) = ⊤
@@ -70,42 +68,40 @@ Answers profile input (Err (fault.Line n)) = HasOutcome profile input (Err (faul
 Answers profile input (Err fault.TooLong) = HasOutcome profile input (Err fault.TooLong)
 Answers profile input (Err (fault.Reach f)) = HasOutcome profile input (Err (fault.Reach f))
 
--- What is answered for an input, and how far it is read for that.
+-- The answer to an input, and how far it is read.
 abbrev pub IsAnswered : Profile → List ℕ → Option (List ℕ) → Option (List ℕ) → Result (List ℕ) RunFault → Type 0
 IsAnswered profile input old new answer = Answers profile input answer × IsReadFor profile input old new answer
 
--- What a run answers for an input, and the text that is its to print: all of it on Ok, and where the writer failed a part of it. Where
--- memory ran out it is the same text, or there is none, so that nothing was printed.
+-- The result of a run over an input, with the text to print. If memory ran out, that is the same text, or it is empty, so that nothing was
+-- printed.
 abbrev pub Relocates : Profile → List ℕ → Option (List ℕ) → Option (List ℕ) → List ℕ → Result (Unit {0}) RunFault → Type 0
 Relocates profile input old new text (Ok done) = IsAnswered profile input old new (Ok text)
 Relocates profile input old new text (Err fault.Write) = IsAnswered profile input old new (Ok text)
 Relocates profile input old new text (Err fault.Memory) = IsAnswered profile input old new (Ok text) ⊎ ((text ≡ []) × IsAnswered profile input old new (Err fault.Memory))
 Relocates profile input old new text (Err e) = IsAnswered profile input old new (Err e)
 
--- What a run answers, and what it reads and writes.
+-- The result of a run, and what it reads and writes.
 abbrev pub IsRelocation : Profile → Device → Device → Device → Device → Result (Unit {0}) RunFault → Type 0
 IsRelocation profile reader reader' writer writer' ran =
     (text : List ℕ) × PrintsInPieces writer.bytes writer'.bytes ran text × ((input : List ℕ) → reader.bytes ≡ Some input → Relocates profile input reader.bytes reader'.bytes text ran)
 
--- What the faults of a placement text are to a run.
+-- Converts a fault of a placement text.
 abbrev pub of_text : TextFault → RunFault
 of_text text.Memory = fault.Memory
 of_text (text.Line n) = fault.Line n
 
--- What the faults of relocation are to a run.
+-- Converts a fault of relocation.
 abbrev pub of_relocate : RelocateFault → RunFault
 of_relocate (relocate.Reach f) = fault.Reach f
 of_relocate relocate.Memory = fault.Memory
 
--- What a text gives a module: exactly the placement, or the line at fault; want of memory only where each of its lines is an entry or
--- empty.
+-- The placement that a text gives a module, or the number of the line at fault. Memory runs out only if each line is empty or an entry.
 abbrev pub IsPlaced : List Rec → List ℕ → Result Places TextFault → Type 0
 IsPlaced m given (Ok pl) = placement_of m (parsed given) ≡ Ok pl
 IsPlaced m given (Err (text.Line n)) = placement_of m (parsed given) ≡ Err n
 IsPlaced m given (Err text.Memory) = IsOk (parsed given)
 
--- What a module is at a placement: the text to print, or the first reason why the placement does not reach; want of memory only where it
--- reaches.
+-- The text to print of a module at a placement, or the first reason why the placement does not reach. Memory runs out only if it reaches.
 abbrev pub IsShown : Limits → List Rec → Places → Result (List ℕ) RunFault → Type 0
 IsShown limits m pl (Ok shown) = unless_far limits m pl (reach_fault pl m) ≡ Ok shown
 IsShown limits m pl (Err fault.Memory) = reach_fault pl m ≡ None

@@ -1,6 +1,5 @@
--- What `check`, `list` and `canon` answer for an input: each prints a text of the records of the module that it begins with. How the
--- program ends.
-use Rattle.std.specs.Prelude.{◌≡◌, ◌⊎◌, ⊤, IfErr, IsTrue, ℕ, Bool, List, [], Option, Some, None, Result, Ok, Err}
+-- What `check`, `list` and `canon` answer for an input: each prints a text of the module that it begins with. How `omf` answers its arguments.
+use Rattle.std.specs.Prelude.{◌≡◌, ◌⊎◌, ⊤, IfErr, ℕ, Bool, List, [], Option, Some, None, Result, Ok, Err}
 use Rattle.clap.specs.Words.{Text, fault_of, subcommand_of}
 use Rattle.omf_frame.specs.Device.{Device}
 use Rattle.omf_frame.specs.Framing.{Raw}
@@ -14,7 +13,8 @@ use Rattle.omf_cmd.specs.FaultLine.{fault_text, takes_memory}
 use Rattle.omf_cmd.specs.HowFar.{EndsAtRefusal, IsReadFrom, IsUnrefused}
 use Rattle.omf_cmd.specs.Listing.{canonical_text, check_text, list_text}
 use Rattle.omf_cmd.specs.Relocating.{IsRelocation}
-use Rattle.omf_cmd.specs.Runs.{EndsBy, IsCausedBy, IsWritten, Prints, PrintsInPieces}
+use Rattle.omf_cmd.specs.Programs.{FaultReport, IsOutOfMemory, Misuses, RunsAndEnds}
+use Rattle.omf_cmd.specs.Runs.{IsCausedBy, Prints, PrintsInPieces}
 use Rattle.omf_cmd.specs.Parsed.{IsParsed}
 use Rattle.omf_cmd.specs.Words.{asks, job_named, omf_app, profile_of, status_of, usage}
 use Rattle.omf_cmd.specs.declared.fault.RunFault.{RunFault}
@@ -22,22 +22,22 @@ use Rattle.omf_cmd.specs.declared.fault.RunFault.TheVariants as fault
 use Rattle.omf_cmd.specs.declared.words.Job.{Job}
 use Rattle.omf_cmd.specs.declared.words.Job.TheVariants as job
 
--- What a fault of the check is to a run.
+-- Converts a fault of the check.
 abbrev pub of_check : CheckFault → RunFault
 of_check check.Memory = fault.Memory
 of_check check.Read = fault.Read
 of_check (check.Refused why at) = fault.Refused why at
 
--- No fault of a placement.
+-- The fault is not one of a placement.
 abbrev pub IsModuleFault : RunFault → Type 0
 IsModuleFault (fault.Line n) = ⊥
 IsModuleFault fault.TooLong = ⊥
 IsModuleFault (fault.Reach f) = ⊥
 IsModuleFault _ = Unit {0}
 
--- What the answer says of an input, and how far that was read: done, or failed to write, only for a module of these records; refused as
--- the input is; out of memory, or failed to read, only where nothing that was read is refused; and no fault of a placement. Where memory
--- ran out before the module was there, there are no records.
+-- What a result shows of an input, and how far that was read. Done, or a failed writer: the input begins with a module of these records.
+-- Refused: the input is refused so. Out of memory, or a failed reader: the bytes read hold no refusal. There is no fault of a placement. If
+-- memory ran out before the module was read, there are no records.
 abbrev pub Judges : Profile → List ℕ → List Raw → Option (List ℕ) → Option (List ℕ) → Result (Unit {0}) RunFault → Type 0
 Judges profile input records old new (Ok done) = IsReadFrom profile input records old new
 Judges profile input records old new (Err fault.Write) = IsReadFrom profile input records old new
@@ -48,70 +48,62 @@ Judges profile input records old new (Err (fault.Line n)) = ⊥
 Judges profile input records old new (Err fault.TooLong) = ⊥
 Judges profile input records old new (Err (fault.Reach f)) = ⊥
 
--- What a run that prints a text of the module's records answers, and what it reads and writes, by the way in which it prints.
+-- The result of a run that prints a text of the module's records, and what it reads and writes. `prints` gives how the text is written.
 abbrev pub ReportsBy : (Option (List ℕ) → Option (List ℕ) → Result (Unit {0}) RunFault → List ℕ → Type 0) → (List Raw → List ℕ) → Profile → Device → Device → Device → Device → Result (Unit {0}) RunFault → Type 0
 ReportsBy prints text profile reader reader' writer writer' ran =
     (records : List Raw) × prints writer.bytes writer'.bytes ran (text records) × ((input : List ℕ) → reader.bytes ≡ Some input → Judges profile input records reader.bytes reader'.bytes ran)
 
--- Its text is written in one go.
+-- The text is written at once.
 abbrev pub Reports : (List Raw → List ℕ) → Profile → Device → Device → Device → Device → Result (Unit {0}) RunFault → Type 0
 Reports text profile reader reader' writer writer' ran = ReportsBy Prints text profile reader reader' writer writer' ran
 
--- Its text is written in pieces, so that where memory runs out a part of it may be written.
+-- The text is written in pieces, so that a front of it may be written if memory runs out.
 abbrev pub ReportsInPieces : (List Raw → List ℕ) → Profile → Device → Device → Device → Device → Result (Unit {0}) RunFault → Type 0
 ReportsInPieces text profile reader reader' writer writer' ran = ReportsBy PrintsInPieces text profile reader reader' writer writer' ran
 
--- What a job answers, and what it reads and writes.
+-- The result of a job, and what it reads and writes.
 abbrev pub IsRun : Job → Profile → Device → Device → Device → Device → Result (Unit {0}) RunFault → Type 0
 IsRun job.List profile reader reader' writer writer' ran = ReportsInPieces list_text profile reader reader' writer writer' ran
 IsRun job.Check profile reader reader' writer writer' ran = Reports check_text profile reader reader' writer writer' ran
 IsRun job.Canon profile reader reader' writer writer' ran = Reports canonical_text profile reader reader' writer writer' ran
 IsRun job.Reloc profile reader reader' writer writer' ran = IsRelocation profile reader reader' writer writer' ran
 
--- A job over the module alone names no fault of a placement, whatever its reader tells.
+-- A job over the module alone has no fault of a placement, even if the bytes of its reader are unknown.
 abbrev pub IsNamedBy : Job → Result (Unit {0}) RunFault → Type 0
 IsNamedBy job.Reloc ran = ⊤
 IsNamedBy _ ran = IfErr ran IsModuleFault
 
--- What is written of a fault: its whole text, or a part of it where the writer failed; where its line takes memory, it may be nothing.
-abbrev pub Tells : Device → Device → RunFault → Type 0
-Tells old new f = IsWritten old new (fault_text f) ⊎ (IsTrue (takes_memory f) × (new ≡ old))
+-- What `omf` reports of a fault.
+abbrev pub report : RunFault → FaultReport
+report f = record { status = status_of f; text = fault_text f; takes_memory = takes_memory f }
 
--- How the program ends after a run: the status is that of the answer, and a fault's text is written.
-abbrev pub IsEnded : Device → Device → Result (Unit {0}) RunFault → ℕ → Type 0
-IsEnded old new ran status = EndsBy status_of Tells old new ran status
-
--- The program's answer to words that ask for a job: it ran, and the program ended. A device that is named has failed in the run.
-pub record IsAnswer (asked : Job × Profile) (reader reader' writer writer' : Device) (status : ℕ) : Type 0 where
-  pub ran : Result (Unit {0}) RunFault
-  pub between : Device
-  pub run : IsRun asked.0 asked.1 reader reader' writer between ran
-  pub cause : IsCausedBy reader reader' writer between ran
+-- A run of a job with a profile: its result, what it reads and writes, and which device failed.
+pub record IsPerformed (asked : Job × Profile) (reader reader' writer writer' : Device) (ran : Result (Unit {0}) RunFault) : Type 0 where
+  pub run : IsRun asked.0 asked.1 reader reader' writer writer' ran
+  pub cause : IsCausedBy reader reader' writer writer' ran
   pub named : IsNamedBy asked.0 ran
-  pub ended : IsEnded between writer' ran status
 
--- The program's answer where memory runs out before its words are read: the line of that fault, unless the writer failed. Nothing is
--- read.
-abbrev pub IsOutOfMemory : Device → Device → Device → Device → ℕ → Type 0
-IsOutOfMemory reader reader' writer writer' status = (reader' ≡ reader) × (status ≡ 3) × Tells writer writer' fault.Memory
+-- The job and the profile that `omf` finds in its arguments. None: they are not understood.
+pub record IsFound (arguments : List Text) (found : Option (Job × Profile)) : Type 0 where
+  -- The subcommand after the program's name, alone or with the flag.
+  pub asks : (asked : Job × Profile) → asks arguments ≡ Some asked → found ≡ Some asked
+  -- Each subcommand that clap finds in arguments without a fault, as in `omf check --`.
+  pub parsed : (name : Text) (job : Job) (refuses : Bool) → fault_of omf_app arguments ≡ [] → IsParsed (subcommand_of omf_app arguments) name refuses → job_named name ≡ Some job → found ≡ Some (job, profile_of refuses)
+  pub none : subcommand_of omf_app arguments ≡ None → found ≡ None
+  pub refused : (found ≡ None) ⊎ (fault_of omf_app arguments ≡ [])
 
--- A program's answer to words that are not understood: how it is called, unless the writer failed; or memory ran out. Nothing is read.
-abbrev pub Misuses : List ℕ → Device → Device → Device → Device → ℕ → Type 0
-Misuses called reader reader' writer writer' status = ((reader' ≡ reader) × (status ≡ 2) × IsWritten writer writer' called) ⊎ IsOutOfMemory reader reader' writer writer' status
-
--- The answer of `omf` to such words.
+-- The answer of `omf` to arguments that are not understood.
 abbrev pub IsMisuse : Device → Device → Device → Device → ℕ → Type 0
 IsMisuse reader reader' writer writer' status = Misuses usage reader reader' writer writer' status
 
--- The answer of `omf` to words that ask for a job: it was run, or memory ran out before.
+-- The answer of `omf` to arguments that ask for a job: it was run, or memory ran out before.
 abbrev pub IsDone : Job × Profile → Device → Device → Device → Device → ℕ → Type 0
-IsDone asked reader reader' writer writer' status = IsAnswer asked reader reader' writer writer' status ⊎ IsOutOfMemory reader reader' writer writer' status
+IsDone asked reader reader' writer writer' status = RunsAndEnds (IsPerformed asked) report reader reader' writer writer' status ⊎ IsOutOfMemory reader reader' writer writer' status
 
--- What `omf` answers to its words. Where they ask for a job it was run, and the status and what was written tell its answer; or memory ran
--- out before. So it is for each job that clap finds in words without a fault, as in `omf check --`. Where they name no subcommand, and where
--- clap refuses them, it says how it is called.
-pub record AnswersTo (words : List Text) (reader reader' writer writer' : Device) (status : ℕ) : Type 0 where
-  pub answer : (asked : Job × Profile) → asks words ≡ Some asked → IsDone asked reader reader' writer writer' status
-  pub parsed : (name : Text) (job : Job) (refuses : Bool) → fault_of omf_app words ≡ [] → IsParsed (subcommand_of omf_app words) name refuses → job_named name ≡ Some job → IsDone (job, profile_of refuses) reader reader' writer writer' status
-  pub nothing : subcommand_of omf_app words ≡ None → IsMisuse reader reader' writer writer' status
-  pub misuse : (fault_of omf_app words ≡ [] → ⊥) → IsMisuse reader reader' writer writer' status
+-- What `omf` answers to its arguments. If they ask for a job, it is run, unless memory ran out before; so is each job that clap finds in
+-- arguments without a fault, as in `omf check --`. If they name no subcommand, or clap refuses them, the usage is printed.
+pub record AnswersTo (arguments : List Text) (reader reader' writer writer' : Device) (status : ℕ) : Type 0 where
+  pub answer : (asked : Job × Profile) → asks arguments ≡ Some asked → IsDone asked reader reader' writer writer' status
+  pub parsed : (name : Text) (job : Job) (refuses : Bool) → fault_of omf_app arguments ≡ [] → IsParsed (subcommand_of omf_app arguments) name refuses → job_named name ≡ Some job → IsDone (job, profile_of refuses) reader reader' writer writer' status
+  pub nothing : subcommand_of omf_app arguments ≡ None → IsMisuse reader reader' writer writer' status
+  pub misuse : (fault_of omf_app arguments ≡ [] → ⊥) → IsMisuse reader reader' writer writer' status

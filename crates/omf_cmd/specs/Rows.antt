@@ -1,4 +1,4 @@
--- Words of the worked examples.
+-- Definitions for the worked examples.
 use Rattle.std.specs.Prelude.{ℕ, List, [], ◌∷◌, ◌++◌, flat_map, codes, Result, Ok, Err}
 use Rattle.omf_image.specs.Limits.{profile_limits}
 use Rattle.omf_reloc.specs.declared.fault.ReachFault.{ReachFault}

@@ -1,4 +1,4 @@
--- What the words that the program is called with ask for, and the status that it ends with (this profile's rule).
+-- The arguments of `omf`, and its exit statuses (this profile's rule).
 use Rattle.std.specs.Prelude.{ℕ, List, [], ◌∷◌, ◌++◌, Bool, true, false, Option, Some, None, find, option_map, codes, if◌then◌else◌}
 use Rattle.std.specs.Str.{bytes_eq}
 use Rattle.omf_check.specs.declared.profile.Profile.{Profile}
@@ -22,29 +22,29 @@ flag = codes "--refuse-vendor-comments"
 abbrev pub profile_of : Bool → Profile
 profile_of refuses = record { refuse_vendor_comments = refuses }
 
--- Behind the program's own name, a subcommand alone, or followed by the flag.
+-- After the program's own name a subcommand, alone or followed by the flag.
 abbrev pub asks : List (List ℕ) → Option (Job × Profile)
 asks (program ∷ name ∷ []) = option_map (λ j. (j, profile_of false)) (job_named name)
 asks (program ∷ name ∷ f ∷ []) = if bytes_eq f flag then option_map (λ j. (j, profile_of true)) (job_named name) else None
 asks _ = None
 
--- The exit status of a fault: 3 for memory and devices, 1 for what the input is refused for.
+-- The exit status of a fault: 3 for memory and devices, 1 if the input is refused.
 abbrev pub status_of : RunFault → ℕ
 status_of fault.Memory = 3
 status_of fault.Read = 3
 status_of fault.Write = 3
 status_of _ = 1
 
--- What is printed where the words are not understood.
+-- The text printed if the arguments are not understood.
 abbrev pub usage : List ℕ
 usage = codes "usage: omf list|check|reloc|canon [--refuse-vendor-comments]" ++ 10 ∷ []
 
--- the value of the flag, as text
+-- the value of the flag in clap
 abbrev pub flag_text : Bool → Text
 flag_text true = codes "true"
 flag_text false = codes "false"
 
--- The program, as clap is told of it: its subcommands, each with the flag.
+-- The command line of `omf` in clap's definitions: its subcommands, each with the flag.
 abbrev pub flag_id : Text
 flag_id = codes "refuse-vendor-comments"
 

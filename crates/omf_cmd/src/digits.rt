@@ -1,11 +1,11 @@
-//! Digits of numbers, by a table.
+//! Hexadecimal digits of numbers.
 
 ghost use Rattle.std.specs.Prelude.{◌≡◌, ◌*◌, ◌<◌, true, length, flat_map};
 ghost use Rattle.std.specs.Fmt.{digit_glyph};
 ghost use Rattle.omf_placement.specs.Quoted.{hex};
 ghost use Rattle.omf_cmd.specs.Relocated.{byte_text};
 
-/// The hexadecimal digits in their order.
+/// The hexadecimal digits.
 const DIGITS: &[u8; 16] = b"0123456789ABCDEF";
 
 /// The digit of a number below 16.
@@ -55,7 +55,7 @@ pub fn four_digits(number: u16) -> [u8; 4]
     ]
 }
 
-/// Writes bytes, each behind a space, over a text of their size.
+/// Writes each byte as a space and two hexadecimal digits. The text is three times as long as the bytes.
 pub fn write_bytes(text: &mut [u8], bytes: &[u8])
     requires { length text.old ≡ 3 * length bytes.now }
     ensures { text.new ≡ flat_map byte_text bytes.now }

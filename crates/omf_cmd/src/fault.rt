@@ -1,23 +1,26 @@
-//! Why a run stops.
+//! Why a run of `omf` fails.
 
-ghost use Rattle.std.specs.Prelude.{◌≡◌};
+ghost use Rattle.std.specs.Prelude.{◌≡◌, ◌++◌, ◌∷◌, [], IfOk, string_bytes};
+ghost use Rattle.omf_cmd.specs.FaultLine.{fault_line};
 ghost use Rattle.omf_cmd.specs.declared.fault.RunFault.TheVariants.{Memory, Reach};
 ghost use Rattle.omf_cmd.specs.Relocating.{of_text, of_relocate};
-ghost use Rattle.omf_cmd.specs.Reports.{of_check};
+ghost use Rattle.omf_cmd.specs.Reports.{of_check, report};
 
+use crate::printed::fault_line;
+use crate::program::Fault;
 use omf_check::CheckFault;
 use omf_frame::{Place, Reason};
 use omf_reloc::{ReachFault, RelocateFault, TextFault};
-use std::alloc::{AllocError, AllocFailed};
+use std::alloc::{AllocError, AllocFailed, Global};
 use thiserror::Error;
 
-/// Why a run stops. The numbers are those that a host can print or keep.
+/// Why a run of `omf` fails, with the number of each.
 #[derive(Clone, Copy, Debug, PartialEq, Eq, Error)]
 pub enum RunFault {
-    /// 1: a growth was refused.
+    /// 1: memory ran out.
     #[error("memory ran out")]
     Memory,
-    /// 2: the reader failed, or was interrupted a thousand times running.
+    /// 2: the reader failed, or was interrupted 1,000 times in a row.
     #[error("the input could not be read")]
     Read,
     /// 3: the writer failed, or took nothing.
@@ -26,19 +29,19 @@ pub enum RunFault {
     /// 4: the input does not begin with a well-formed module.
     #[error("the input does not begin with a well-formed module")]
     Refused {
-        /// What is wrong with its first record at fault.
+        /// What is wrong with the first faulty record.
         reason: Reason,
-        /// Where that is.
+        /// Where that is in the input.
         place: Place,
     },
-    /// 5: this line of the placement text, counted from 1, is neither empty nor an entry; or, where each is, this is the first `G real`
+    /// 5: the line of this number, from 1, of the placement text is neither empty nor an entry; or, if all lines are, it is the first `G real`
     /// line whose group has no frame.
     #[error("a line of the placement gives no entry")]
     Line(u64),
     /// 6: the placement text has more than 4,194,304 bytes.
     #[error("the placement has more than 4,194,304 bytes")]
     TooLong,
-    /// 7: the placement does not fit the module, or a fixup or the start does not reach.
+    /// 7: the placement does not fit the module, or a fixup or the start is out of range.
     #[error("the placement does not reach")]
     Reach(ReachFault),
 }
@@ -98,5 +101,42 @@ impl From<CheckFault> for RunFault {
             CheckFault::Read => RunFault::Read,
             CheckFault::Refused { reason, place } => RunFault::Refused { reason, place },
         }
+    }
+}
+
+/// The text of a fault: its line and a line feed.
+fn line_text(alloc: Global, fault: &RunFault) -> Result<String, AllocError>
+    ensures { IfOk result (λ text. string_bytes text ≡ fault_line fault.now ++ 10 ∷ []) }
+{
+    let mut text = fault_line(alloc, fault)?;
+    text.push_str("\n")?;
+    Ok(text)
+}
+
+impl Fault for RunFault {
+    ghost report = { report };
+
+    fn status(&self) -> u8 {
+        match self {
+            RunFault::Memory | RunFault::Read | RunFault::Write => 3,
+            RunFault::Refused { .. } => 1,
+            RunFault::Line(_) => 1,
+            RunFault::TooLong => 1,
+            RunFault::Reach(_) => 1,
+        }
+    }
+
+    fn fixed_text(&self) -> Option<&'static str> {
+        match self {
+            RunFault::Memory => Some("memory\n"),
+            RunFault::Read => Some("read\n"),
+            RunFault::Write => Some(""),
+            RunFault::TooLong => Some("placement too long\n"),
+            RunFault::Refused { .. } | RunFault::Line(_) | RunFault::Reach(_) => None,
+        }
+    }
+
+    fn built_text(&self, alloc: Global) -> Result<String, AllocError> {
+        line_text(alloc, self)
     }
 }

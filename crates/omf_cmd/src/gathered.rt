@@ -1,15 +1,15 @@
-//! Bytes that are gathered in memory, as a sink.
+//! A sink in memory.
 
 ghost use Rattle.std.specs.Prelude.{◌≡◌, ◌≤◌, [], Some, length, IfOk};
 ghost use Rattle.omf_frame.specs.Device.{Device, Pushes, push_fails, push_breaks, counted};
-ghost use Rattle.omf_cmd.specs.Runs.{in_memory};
+ghost use Rattle.omf_cmd.specs.Programs.{in_memory};
 
 use omf_frame::Sink;
 use std::alloc::Global;
 use std::io;
 use std::io::{Error, ErrorKind};
 
-/// A text that is gathered. It fails where a growth is refused, and takes nothing then.
+/// A sink that keeps what it takes. It fails where memory for that runs out, and takes nothing then.
 #[derive(Drop)]
 pub struct Gathered {
     /// All that it took.
@@ -18,7 +18,7 @@ pub struct Gathered {
 }
 
 impl Gathered {
-    /// No text.
+    /// An empty sink.
     pub fn new(alloc: Global) -> Self
         ensures { ⟦<Gathered as Sink>⟧.seen result ≡ in_memory 0 [] }
     {

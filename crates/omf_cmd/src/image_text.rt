@@ -1,4 +1,4 @@
-//! The text of an image and a start: lines of up to 16 bytes for each run of covered bytes.
+//! The text of an image and its start: each run of covered bytes in lines of up to 16 bytes.
 
 ghost use Rattle.std.specs.Prelude.{◌+◌, ◌^◌, ◌≤◌, ◌++◌, flat_map, length, option_map};
 ghost use Rattle.omf_frame.specs.Bytes.{AddsText};
@@ -16,10 +16,10 @@ use omf_frame::Sink;
 use omf_image::Image;
 use std::alloc::{AllocError, Global};
 
-/// How many bytes a line has at most.
+/// The most bytes in a line.
 const LINE_BYTES: usize = 16;
 
-/// A segment and an offset in it.
+/// Appends a segment and an offset in it, as `0001:00000010`.
 fn print_place(text: &mut Vec<u8>, segment: u16, offset: u32) -> Result<(), AllocError>
     ensures { AddsText result text.old.items text.new.items (place_text segment offset) }
 {
@@ -28,11 +28,7 @@ fn print_place(text: &mut Vec<u8>, segment: u16, offset: u32) -> Result<(), Allo
     text.extend_from_slice(&eight_digits(offset))
 }
 
-/// Appends the bytes of a line, each in two hexadecimal digits behind a space: at most 16.
-///
-/// # Errors
-///
-/// `AllocError` where the growth is refused.
+/// Appends the bytes of a line, at most 16, each as a space and two hexadecimal digits.
 pub fn print_bytes(text: &mut Vec<u8>, bytes: &[u8]) -> Result<(), AllocError>
     requires { length bytes.now ≤ 16 }
     ensures { AddsText result text.old.items text.new.items (flat_map byte_text bytes.now) }
@@ -43,7 +39,7 @@ pub fn print_bytes(text: &mut Vec<u8>, bytes: &[u8]) -> Result<(), AllocError>
     text.extend_from_slice(shown)
 }
 
-/// A line: the place of its first byte, and its bytes.
+/// Appends a line: the place of its first byte, and its bytes.
 fn print_line(text: &mut Vec<u8>, segment: u16, offset: u32, bytes: &[u8]) -> Result<(), AllocError>
     requires { length bytes.now ≤ 16 }
     ensures { AddsText result text.old.items text.new.items (line_text (place_text segment) offset bytes.now) }
@@ -54,7 +50,7 @@ fn print_line(text: &mut Vec<u8>, segment: u16, offset: u32, bytes: &[u8]) -> Re
     Ok(())
 }
 
-/// A run of covered bytes: lines of 16 bytes from its first byte on, and what is left.
+/// Prints a run of covered bytes in lines of 16; the last line has what is left.
 fn print_run<K: Sink>(
     writer: &mut K,
     text: &mut Vec<u8>,
@@ -78,7 +74,7 @@ fn print_run<K: Sink>(
     Ok(())
 }
 
-/// The runs of a segment, in rising order.
+/// Prints the runs of a segment, in rising order.
 fn print_runs<K: Sink>(
     writer: &mut K,
     text: &mut Vec<u8>,
@@ -96,11 +92,7 @@ fn print_runs<K: Sink>(
     Ok(())
 }
 
-/// Appends the line of a start: its selector in four hexadecimal digits and its offset in eight. Nothing where there is none.
-///
-/// # Errors
-///
-/// `AllocError` where a growth is refused.
+/// Appends the line of a start, as `START 1001:00000012`; nothing if there is none.
 pub fn print_start(text: &mut Vec<u8>, start: Option<(u16, u32)>) -> Result<(), AllocError>
     ensures { AddsText result text.old.items text.new.items (start_line start) }
 {
@@ -113,7 +105,7 @@ pub fn print_start(text: &mut Vec<u8>, start: Option<(u16, u32)>) -> Result<(), 
     Ok(())
 }
 
-/// The runs of the segments 1 to `segments` of an image.
+/// Prints the runs of the segments 1 to `segments` of an image.
 fn print_segments<K: Sink>(
     writer: &mut K,
     text: &mut Vec<u8>,
@@ -129,12 +121,12 @@ fn print_segments<K: Sink>(
     Ok(())
 }
 
-/// Prints the runs of the segments 1 to `segments` of an image, and last the start, if there is one. The text is written in
-/// pieces of 64 KB or a line more, so no more than that of it is kept.
+/// Prints the runs of the segments 1 to `segments` of an image, and then its start, if it has one. The text is written in pieces of 64 KB or
+/// a line more; no more than that is kept in memory.
 ///
 /// # Errors
 ///
-/// `Write` where the writer failed, `Memory` where the text that is kept does not grow: a part of the text may have been written.
+/// `Write` if the writer failed, `Memory` if memory ran out. A front of the text may then be written.
 pub fn print_image<K: Sink>(
     alloc: Global,
     writer: &mut K,

@@ -1,4 +1,4 @@
-//! The placement text in the input.
+//! Reading the placement text.
 
 ghost use Rattle.std.specs.Prelude.{IfOk, IfErr};
 ghost use Rattle.omf_cmd.specs.Relocating.{IsWholeText, IsTextFault};
@@ -8,18 +8,17 @@ use crate::fault::RunFault;
 use omf_frame::{Source, pull_piece};
 use std::alloc::Global;
 
-/// How many bytes are asked for at once.
+/// The most bytes read at once.
 const PIECE: usize = 65_536;
 
-/// The most bytes that a placement text may have.
+/// The most bytes of a placement text.
 pub(crate) const TEXT_LIMIT: usize = 4_194_304;
 
-/// All that is left of the input, which is the placement text. No more than one byte beyond its limit is read.
+/// Reads the rest of the input, which is the placement text. Reads at most one byte beyond its limit of 4,194,304 bytes.
 ///
 /// # Errors
 ///
-/// `TooLong` as soon as 4,194,305 bytes of it are there. `Read` where the reader failed, or was interrupted 1,000 times running.
-/// `Memory` where a growth was refused.
+/// `TooLong` once 4,194,305 bytes are read. `Read` if the reader failed, or was interrupted 1,000 times in a row. `Memory` if memory ran out.
 pub fn read_text<S: Source>(alloc: Global, source: &mut S) -> Result<Vec<u8>, RunFault>
     ensures text { IfOk result (λ text. IsWholeText (S.seen source.old).bytes (S.seen source.new).bytes text.items) }
     ensures fault { IfErr result (IsTextFault (S.seen source.old).bytes (S.seen source.new).bytes) }

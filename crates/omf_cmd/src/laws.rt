@@ -1,8 +1,8 @@
-//! Laws over the definitions, each the contract of a function that does nothing.
+//! Laws over the definitions, each as the contract of a function that does nothing.
 
 ghost use Rattle.omf_cmd.specs.Laws.{InputsHaveOneAnswer};
 
-/// Each input has one answer of `reloc`, want of memory and a failing reader aside: a text to print, or one fault.
+/// `reloc` has exactly one answer to each input, a text or a fault, unless memory or the reader fails.
 pub fn inputs_have_one_answer()
     ensures { InputsHaveOneAnswer }
 {}

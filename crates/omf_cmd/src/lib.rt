@@ -1,4 +1,4 @@
-//! The command's work, from readers to writers: the texts that `omf` prints, and its runs, words and statuses.
+//! The command `omf`: its jobs from a reader to a writer, its arguments, texts and exit statuses; and what it shares with other programs.
 //!
 //! ```
 //! let mut text = Vec::new(alloc);
@@ -18,6 +18,7 @@ mod gathered;
 mod host;
 mod image_text;
 mod input;
+mod jobs;
 pub mod laws;
 mod output;
 mod printed;
@@ -33,10 +34,12 @@ pub use called::{Ended, run_in_memory, run_on, words_from};
 pub use digits::eight_digits;
 pub use fault::RunFault;
 pub use gathered::Gathered;
-pub use host::{Program, run_program};
+pub use host::run_program;
 pub use image_text::{print_bytes, print_image, print_start};
+pub use jobs::{Omf, main_with};
+pub use output::{print_all, tell};
 pub use printed::fault_line;
-pub use program::{Omf, fail, main_with};
+pub use program::{Fault, Program, run_with};
 pub use relocation::{Listing, run_reloc};
 pub use report::print_list;
 pub use running::{run_canon, run_check, run_list};

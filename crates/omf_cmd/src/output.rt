@@ -1,17 +1,21 @@
-//! The output.
+//! Writing texts.
 
-ghost use Rattle.std.specs.Prelude.{◌≡◌, IfErr};
-ghost use Rattle.omf_cmd.specs.Runs.{Prints, IsPrintCause};
+ghost use Rattle.std.specs.Prelude.{◌≡◌, IfErr, Ok};
+ghost use Rattle.omf_cmd.specs.Runs.{IsPrintCause, IsWritten, Prints, PrintsOr};
 ghost use Rattle.omf_cmd.specs.Inner.Printing.{Passes};
 ghost use Rattle.omf_cmd.specs.declared.fault.RunFault.TheVariants.{Write};
 
 use crate::fault::RunFault;
 use omf_frame::{Sink, push_all};
 
-/// How many bytes of a text are kept before they are written.
+/// The number of bytes collected before they are written.
 const PIECE: usize = 65_536;
 
 /// Writes all of the bytes.
+///
+/// # Errors
+///
+/// `Write` if the writer failed, or took nothing. A front of the bytes may then be written.
 pub fn write_all<K: Sink>(writer: &mut K, bytes: &[u8]) -> Result<(), RunFault>
     ensures prints { Prints (K.seen writer.old).bytes (K.seen writer.new).bytes result bytes.now }
     ensures fault { IfErr result (λ e. e ≡ Write) }
@@ -23,7 +27,28 @@ pub fn write_all<K: Sink>(writer: &mut K, bytes: &[u8]) -> Result<(), RunFault>
     }
 }
 
-/// Writes what is kept of a text, once that is a whole piece of 64 KB; till then it is kept.
+/// Writes all of the bytes.
+///
+/// # Errors
+///
+/// `failed` if the writer failed, or took nothing. A front of the bytes may then be written.
+pub fn print_all<F: Drop, K: Sink>(writer: &mut K, bytes: &[u8], failed: F) -> Result<(), F>
+    ensures { PrintsOr failed (K.seen writer.old) (K.seen writer.new) (Ok bytes.now) result }
+{
+    match push_all(writer, bytes) {
+        Ok(()) => Ok(()),
+        Err(_) => Err(failed),
+    }
+}
+
+/// Writes all of the bytes. A failing writer is ignored.
+pub fn tell<K: Sink>(writer: &mut K, bytes: &[u8])
+    ensures { IsWritten (K.seen writer.old) (K.seen writer.new) bytes.now }
+{
+    let _ = print_all(writer, bytes, ());
+}
+
+/// Writes the collected text and clears it, if it has 64 KB or more.
 pub fn write_piece<K: Sink>(writer: &mut K, kept: &mut Vec<u8>) -> Result<(), RunFault>
     ensures passes { Passes (K.seen writer.old).bytes (K.seen writer.new).bytes result (kept.old.items) (kept.new.items) }
     ensures cause { IsPrintCause (K.seen writer.old) (K.seen writer.new) result }

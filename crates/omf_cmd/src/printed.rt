@@ -1,4 +1,4 @@
-//! The line that a fault is printed as.
+//! The line printed for a fault.
 
 ghost use Rattle.std.specs.Prelude.{◌≡◌, ◌++◌, IfOk, string_bytes};
 ghost use Rattle.omf_cmd.specs.FaultLine.{reason_name, kind_name, cause_name, fault_line};
@@ -50,7 +50,7 @@ fn reason_name(reason: Reason) -> &'static str
     }
 }
 
-/// The name of a kind of entries.
+/// The name of a kind of placement entry.
 fn kind_name(kind: Kind) -> &'static str
     ensures { result.now ≡ kind_name kind }
 {
@@ -61,7 +61,7 @@ fn kind_name(kind: Kind) -> &'static str
     }
 }
 
-/// The name of a cause.
+/// The name of a cause for a fixup out of range.
 fn cause_name(cause: Cause) -> &'static str
     ensures { result.now ≡ cause_name cause }
 {
@@ -72,7 +72,7 @@ fn cause_name(cause: Cause) -> &'static str
     }
 }
 
-/// The line of a refusal.
+/// The line of a refused module.
 fn refused_line(alloc: Global, reason: Reason, place: Place) -> Result<String, AllocError>
     ensures { IfOk result (λ line. string_bytes line ≡ fault_line (Refused reason place)) }
 {
@@ -84,7 +84,7 @@ fn refused_line(alloc: Global, reason: Reason, place: Place) -> Result<String, A
     format!(in alloc; "refused {number} {name} record {record} at {start} within {within}")
 }
 
-/// The line of a placement that does not reach.
+/// The line of a placement that does not fit, or of a fixup out of range.
 fn reach_line(alloc: Global, fault: ReachFault) -> Result<String, AllocError>
     ensures { IfOk result (λ line. string_bytes line ≡ fault_line (Reach fault)) }
 {
@@ -109,7 +109,7 @@ fn reach_line(alloc: Global, fault: ReachFault) -> Result<String, AllocError>
     }
 }
 
-/// The line that a fault is printed as, without a line feed. Numbers are decimal.
+/// The line printed for a fault, without its line feed. Numbers are decimal.
 pub fn fault_line(alloc: Global, fault: &RunFault) -> Result<String, AllocError>
     ensures { IfOk result (λ line. string_bytes line ≡ fault_line fault.now) }
 {

@@ -12,7 +12,7 @@ use omf_frame::Name;
 use std::alloc::AllocError;
 use std::fmt::Write;
 
-/// The name of a record type, as the standard has it; none for a type that no module has.
+/// The standard's name of a record type; empty for a type that no module has.
 fn type_name(kind: u8) -> &'static str
     ensures { result.now ≡ type_name kind }
 {
@@ -43,7 +43,7 @@ fn type_name(kind: u8) -> &'static str
     }
 }
 
-/// A number behind a space.
+/// Appends a space and a decimal number.
 fn print_number(text: &mut Vec<u8>, number: u64) -> Result<(), AllocError>
     ensures { AddsText result text.old.items text.new.items (32 ∷ decimal number) }
 {
@@ -52,7 +52,7 @@ fn print_number(text: &mut Vec<u8>, number: u64) -> Result<(), AllocError>
     text.extend_from_slice(buffer.format(number).as_bytes())
 }
 
-/// A type byte behind a space, in two hexadecimal digits.
+/// Appends a space and a type byte in two hexadecimal digits.
 fn print_type(text: &mut Vec<u8>, kind: u8) -> Result<(), AllocError>
     ensures { AddsText result text.old.items text.new.items (32 ∷ hex 2 kind) }
 {
@@ -60,14 +60,14 @@ fn print_type(text: &mut Vec<u8>, kind: u8) -> Result<(), AllocError>
     text.extend_from_slice(&two_digits(kind))
 }
 
-/// An offset behind a space, in eight hexadecimal digits or more, as it is formatted.
+/// Appends a space and an offset in at least eight hexadecimal digits.
 fn write_offset(text: &mut String, offset: u64) -> Result<(), AllocError>
     ensures { AddsText result (string_bytes text.old) (string_bytes text.new) (32 ∷ hex 8 offset) }
 {
     write!(text, " {offset:08X}")
 }
 
-/// An offset of any size behind a space. Those of more than 32 bits are rare.
+/// Appends a space and an offset of any size. Those of more than 32 bits are rare.
 fn print_far_offset(text: &mut Vec<u8>, offset: u64) -> Result<(), AllocError>
     ensures { AddsText result text.old.items text.new.items (32 ∷ hex 8 offset) }
 {
@@ -76,7 +76,7 @@ fn print_far_offset(text: &mut Vec<u8>, offset: u64) -> Result<(), AllocError>
     text.extend_from_slice(shown.as_bytes())
 }
 
-/// An offset behind a space, in eight hexadecimal digits or more.
+/// Appends a space and an offset in at least eight hexadecimal digits, without formatting if it has 32 bits.
 fn print_offset(text: &mut Vec<u8>, offset: u64) -> Result<(), AllocError>
     ensures { AddsText result text.old.items text.new.items (32 ∷ hex 8 offset) }
 {
@@ -87,7 +87,7 @@ fn print_offset(text: &mut Vec<u8>, offset: u64) -> Result<(), AllocError>
     text.extend_from_slice(&eight_digits(offset))
 }
 
-/// A word behind a space, and the end of the line.
+/// Appends a space, a word and a line feed.
 fn print_last_word(text: &mut Vec<u8>, word: &str) -> Result<(), AllocError>
     ensures { OnOk result (text.new.items ≡ text.old.items ++ 32 ∷ word.now ++ 10 ∷ []) }
 {
@@ -97,7 +97,7 @@ fn print_last_word(text: &mut Vec<u8>, word: &str) -> Result<(), AllocError>
     Ok(())
 }
 
-/// A record's line, which ends with this name.
+/// Appends the line of a record with this type name.
 fn print_named(
     text: &mut Vec<u8>,
     number: u32,
@@ -116,7 +116,7 @@ fn print_named(
     print_last_word(text, name)
 }
 
-/// A record: its number, its offset, its type, how many bytes its contents have, its name.
+/// Appends a record's line: number, offset, type byte, length of its contents, type name.
 pub fn print_record(
     text: &mut Vec<u8>,
     number: u32,
@@ -129,14 +129,14 @@ pub fn print_record(
     print_named(text, number, start, kind, length, type_name(kind))
 }
 
-/// A byte from 20H to 7EH but the quote and the backslash.
+/// Whether a byte is printed as it is: 20H to 7EH without the quote and the backslash.
 fn is_plain(byte: u8) -> bool
     ensures { result ≡ is_plain byte }
 {
     byte >= 0x20 && byte <= 0x7E && byte != b'"' && byte != b'\\'
 }
 
-/// A byte as `\x` and two hexadecimal digits.
+/// Appends a byte as `\x` and two hexadecimal digits.
 fn print_digits(text: &mut Vec<u8>, byte: u8) -> Result<(), AllocError>
     ensures { AddsText result text.old.items text.new.items (92 ∷ 120 ∷ hex 2 byte) }
 {
@@ -144,7 +144,7 @@ fn print_digits(text: &mut Vec<u8>, byte: u8) -> Result<(), AllocError>
     text.extend_from_slice(&two_digits(byte))
 }
 
-/// A byte of a name.
+/// Appends a byte of a name, as it is or as `\x` and two digits.
 fn print_escaped(text: &mut Vec<u8>, byte: u8) -> Result<(), AllocError>
     ensures { AddsText result text.old.items text.new.items (escaped byte) }
 {
@@ -156,7 +156,7 @@ fn print_escaped(text: &mut Vec<u8>, byte: u8) -> Result<(), AllocError>
     }
 }
 
-/// A name in double quotes, behind a space.
+/// Appends a space and a name in double quotes.
 fn print_quoted(text: &mut Vec<u8>, name: &[u8]) -> Result<(), AllocError>
     ensures { AddsText result text.old.items text.new.items (32 ∷ quoted name.now) }
 {
@@ -168,7 +168,7 @@ fn print_quoted(text: &mut Vec<u8>, name: &[u8]) -> Result<(), AllocError>
     Ok(())
 }
 
-/// A name in double quotes, or a dash for none, behind a space.
+/// Appends a space and a name in double quotes, or a dash for none.
 fn print_name(text: &mut Vec<u8>, name: Option<Name<'_>>) -> Result<(), AllocError>
     ensures { OnOk result (text.new.items ≡ text.old.items ++ 32 ∷ unwrap_or (option_map quoted name.entry) (codes "-")) }
 {
@@ -178,7 +178,7 @@ fn print_name(text: &mut Vec<u8>, name: Option<Name<'_>>) -> Result<(), AllocErr
     }
 }
 
-/// An index, or a dash for 0, behind a space.
+/// Appends a space and an index, or a dash for 0.
 fn print_index(text: &mut Vec<u8>, index: u16) -> Result<(), AllocError>
     ensures { AddsText result text.old.items text.new.items (32 ∷ index_or_dash index) }
 {
@@ -189,7 +189,7 @@ fn print_index(text: &mut Vec<u8>, index: u16) -> Result<(), AllocError>
     }
 }
 
-/// A segment: its index, how many bytes it has, its name.
+/// Appends a segment's line: index, length in bytes, name.
 pub fn print_segment(
     text: &mut Vec<u8>,
     index: u16,
@@ -206,7 +206,7 @@ pub fn print_segment(
     Ok(())
 }
 
-/// A group: its index, its name.
+/// Appends a group's line: index, name.
 pub fn print_group(text: &mut Vec<u8>, index: u16, name: Option<Name<'_>>) -> Result<(), AllocError>
     ensures { AddsText result text.old.items text.new.items (line (codes "G" ∷ decimal index ∷ unwrap_or (option_map quoted name.entry) (codes "-") ∷ [])) }
 {
@@ -217,7 +217,7 @@ pub fn print_group(text: &mut Vec<u8>, index: u16, name: Option<Name<'_>>) -> Re
     Ok(())
 }
 
-/// An external: its index, its name.
+/// Appends an external's line: index, name.
 pub fn print_external(text: &mut Vec<u8>, index: u16, name: &[u8]) -> Result<(), AllocError>
     ensures { AddsText result text.old.items text.new.items (line (codes "E" ∷ decimal index ∷ quoted name.now ∷ [])) }
 {
@@ -228,7 +228,7 @@ pub fn print_external(text: &mut Vec<u8>, index: u16, name: &[u8]) -> Result<(),
     Ok(())
 }
 
-/// A public: the indices of its group and its segment, its offset, its name.
+/// Appends a public's line: the indices of its group and its segment, offset, name.
 pub fn print_public(
     text: &mut Vec<u8>,
     group: u16,
@@ -247,7 +247,7 @@ pub fn print_public(
     Ok(())
 }
 
-/// How many records and bytes a module has.
+/// Appends the line of `check`: the numbers of records and bytes of a module.
 pub fn print_totals(text: &mut String, records: usize, bytes: usize) -> Result<(), AllocError>
     ensures { AddsText result (string_bytes text.old) (string_bytes text.new) (line (codes "OK" ∷ decimal records ∷ codes "records," ∷ decimal bytes ∷ codes "bytes" ∷ [])) }
 {

@@ -1,163 +1,133 @@
-//! The program over its words, a reader and a writer: what it prints and which status it ends with.
+//! Programs: arguments, a reader and a writer to an exit status.
 
-ghost use Rattle.std.specs.Prelude.{◌≡◌, ◌≤◌, ◌++◌, ◌∷◌, [], map, string_bytes, IfOk, IfSome, IsTrue, OnOk, None};
-ghost use Rattle.omf_check.specs.declared.profile.Profile.{Profile};
-ghost use Rattle.omf_cmd.specs.FaultLine.{fault_line, fault_text, takes_memory};
-ghost use Rattle.omf_cmd.specs.Reports.{AnswersTo, IsNamedBy, IsRun, IsAnswer, Tells};
-ghost use Rattle.omf_cmd.specs.Runs.{IsCausedBy, IsWritten};
-ghost use Rattle.omf_cmd.specs.Words.{status_of, usage};
-ghost use Rattle.omf_cmd.specs.declared.words.Job.{Job};
+ghost use Rattle.std.specs.Prelude.{◌≡◌, ◌≤◌, ◌++◌, ◌∷◌, [], ℕ, List, Option, None, Result, codes, map, string_bytes, IfOk, IfSome, IsTrue};
+ghost use Rattle.omf_cmd.specs.Programs.{Acts, FaultReport, IsReported, ProgramAnswers};
+ghost use Rattle.omf_cmd.specs.Runs.{IsWritten};
+ghost use Rattle.omf_frame.specs.Device.{Device};
 
-use crate::fault::RunFault;
-use crate::host::Program;
-use crate::output::write_all;
-use crate::printed::fault_line;
-use crate::relocation::run_reloc;
-use crate::running::{run_canon, run_check, run_list};
-use crate::words::{Job, command};
-use omf_check::Profile;
+use crate::output::tell;
 use omf_frame::{Sink, Source};
 use std::alloc::{AllocError, Global};
 
-/// What is printed where the words are not understood.
-const USAGE: &[u8] = b"usage: omf list|check|reloc|canon [--refuse-vendor-comments]\n";
+/// Why a program fails: what it prints, and the exit status it ends with.
+pub trait Fault {
+    /// The status, the text, and whether building the text takes memory.
+    ghost report: { Self → FaultReport };
 
-/// The exit status of a fault: 1 where the input is refused, 3 for want of memory and failing devices.
-fn status_of(fault: &RunFault) -> u8
-    ensures { result ≡ status_of fault.now }
-{
-    match fault {
-        RunFault::Memory | RunFault::Read | RunFault::Write => 3,
-        RunFault::Refused { .. } | RunFault::Line(_) | RunFault::TooLong | RunFault::Reach(_) => 1,
-    }
+    /// The exit status, at most 3.
+    fn status(&self) -> u8
+        ensures known { result ≤ 3 }
+        ensures status { result ≡ (report self.now).status };
+
+    /// The text printed, if it is always the same; empty for a fault of the writer, of which nothing can be printed.
+    fn fixed_text(&self) -> Option<&'static str>
+        ensures text { IfSome result (λ text. text.now ≡ (report self.now).text) }
+        ensures none { result ≡ None → IsTrue (report self.now).takes_memory };
+
+    /// Builds the text printed, where `fixed_text` has none: a line and its line feed.
+    fn built_text(&self, alloc: Global) -> Result<String, AllocError>
+        ensures { IsTrue (report self.now).takes_memory → IfOk result (λ text. string_bytes text ≡ (report self.now).text) };
 }
 
-/// Runs a job.
-fn run<S: Source, K: Sink>(
-    alloc: Global,
-    job: Job,
-    profile: Profile,
-    reader: &mut S,
-    writer: &mut K,
-) -> Result<(), RunFault>
-    ensures cause { IsCausedBy (S.seen reader.old) (S.seen reader.new) (K.seen writer.old) (K.seen writer.new) result }
-    ensures named { IsNamedBy job result }
-    ensures runs { IsRun job profile (S.seen reader.old) (S.seen reader.new) (K.seen writer.old) (K.seen writer.new) result }
-{
-    match job {
-        Job::List => run_list(alloc, profile, reader, writer),
-        Job::Check => run_check(alloc, profile, reader, writer),
-        Job::Reloc => run_reloc(alloc, profile, reader, writer),
-        Job::Canon => run_canon(alloc, profile, reader, writer),
-    }
+/// A program: what its arguments ask for, how that is done, and how the program is called.
+pub trait Program {
+    /// What the arguments can ask for.
+    type Task: Drop;
+    /// Why a task fails.
+    type Fault: Fault + Drop;
+
+    /// Relates arguments to the task found in them.
+    ghost asks: { List (List ℕ) → Option Self.Task → Type 0 };
+    /// What a task does: the reader before and after, the writer before and after, and the result.
+    ghost performs: { Self.Task → Device → Device → Device → Device → Result (Unit {0}) Self.Fault → Type 0 };
+    /// The usage.
+    ghost called: { List ℕ };
+
+    /// The task that the arguments ask for, the program's own name first; None if they are not understood.
+    fn task(alloc: Global, arguments: &[String]) -> Result<Option<Self::Task>, AllocError>
+        ensures { IfOk result (asks (map string_bytes arguments.now)) };
+
+    /// Does a task. It does not flush the writer.
+    fn perform<S: Source, K: Sink>(
+        alloc: Global,
+        task: Self::Task,
+        reader: &mut S,
+        writer: &mut K,
+    ) -> Result<(), Self::Fault>
+        ensures { performs task (S.seen reader.old) (S.seen reader.new) (K.seen writer.old) (K.seen writer.new) result };
+
+    /// How the program is called: the text printed if the arguments are not understood.
+    fn usage() -> &'static [u8]
+        ensures { result.now ≡ called };
 }
 
-/// Runs a job, and prints its fault's line where it has one. It answers the exit status.
-fn run_to_end<S: Source, K: Sink>(
-    alloc: Global,
-    job: Job,
-    profile: Profile,
-    reader: &mut S,
-    writer: &mut K,
-) -> u8
-    ensures known { result ≤ 3 }
-    ensures answer { IsAnswer (job, profile) (S.seen reader.old) (S.seen reader.new) (K.seen writer.old) (K.seen writer.new) result }
+/// Prints a fault's text, if there is memory for it. A failing writer is ignored.
+fn print_fault<F: Fault, K: Sink>(alloc: Global, fault: &F, writer: &mut K)
+    ensures { IsReported (K.seen writer.old) (K.seen writer.new) (F.report fault.now) }
 {
-    match run(alloc, job, profile, reader, writer) {
-        Ok(()) => 0,
-        Err(fault) => fail(alloc, &fault, writer),
-    }
-}
-
-/// What is printed of a fault whose line is always the same; nothing of a writer that has failed. None where the line tells numbers.
-fn fixed_text(fault: &RunFault) -> Option<&'static str>
-    ensures text { IfSome result (λ text. text.now ≡ fault_text fault.now) }
-    ensures none { result ≡ None → IsTrue (takes_memory fault.now) }
-{
-    match fault {
-        RunFault::Memory => Some("memory\n"),
-        RunFault::Read => Some("read\n"),
-        RunFault::Write => Some(""),
-        RunFault::TooLong => Some("placement too long\n"),
-        RunFault::Refused { .. } | RunFault::Line(_) | RunFault::Reach(_) => None,
-    }
-}
-
-/// A fault's line and a line feed.
-fn line_text(alloc: Global, fault: &RunFault) -> Result<String, AllocError>
-    ensures { IfOk result (λ text. string_bytes text ≡ fault_line fault.now ++ 10 ∷ []) }
-{
-    let mut text = fault_line(alloc, fault)?;
-    text.push_str("\n")?;
-    Ok(text)
-}
-
-/// Prints a fault's line; nothing where the writer has failed already, nor where a line that tells numbers finds no memory. A failure to
-/// print is passed over.
-fn print_fault<K: Sink>(alloc: Global, fault: &RunFault, writer: &mut K)
-    ensures { Tells (K.seen writer.old) (K.seen writer.new) fault.now }
-{
-    match fixed_text(fault) {
-        Some(text) => {
-            let _ = write_all(writer, text.as_bytes());
-        }
+    match fault.fixed_text() {
+        Some(text) => tell(writer, text.as_bytes()),
         None => {
-            if let Ok(text) = line_text(alloc, fault) {
-                let _ = write_all(writer, text.as_bytes());
+            if let Ok(text) = fault.built_text(alloc) {
+                tell(writer, text.as_bytes());
             }
         }
     }
 }
 
-/// Prints a fault's line, and answers its exit status.
-pub fn fail<K: Sink>(alloc: Global, fault: &RunFault, writer: &mut K) -> u8
-    ensures status { result ≡ status_of fault.now }
-    ensures prints { Tells (K.seen writer.old) (K.seen writer.new) fault.now }
+/// Prints a fault's text, and returns its exit status.
+pub(crate) fn fail<F: Fault, K: Sink>(alloc: Global, fault: &F, writer: &mut K) -> u8
+    ensures known { result ≤ 3 }
+    ensures status { result ≡ (F.report fault.now).status }
+    ensures prints { IsReported (K.seen writer.old) (K.seen writer.new) (F.report fault.now) }
 {
     print_fault(alloc, fault, writer);
-    status_of(fault)
+    fault.status()
 }
 
-/// Prints how the program is called. A failure to print is passed over.
-fn print_usage<K: Sink>(writer: &mut K)
-    ensures { IsWritten (K.seen writer.old) (K.seen writer.new) usage }
+/// Prints "memory", and returns the exit status 3: memory ran out before the arguments were read.
+pub(crate) fn fail_early<K: Sink>(writer: &mut K) -> u8
+    ensures status { result ≡ 3 }
+    ensures prints { IsWritten (K.seen writer.old) (K.seen writer.new) (codes "memory" ++ 10 ∷ []) }
 {
-    let _ = write_all(writer, USAGE);
+    tell(writer, b"memory\n");
+    3
 }
 
-/// Runs the job that the words name; prints its text, or its fault's line, or how the program is called. It answers the exit status:
-/// 0 done, 1 the input is refused, 2 the words are not understood, 3 no memory, or the reader or the writer failed. It does not flush.
-pub fn main_with<S: Source, K: Sink>(
+/// Does what a program's arguments ask for.
+fn act<P: Program, S: Source, K: Sink>(
     alloc: Global,
-    words: &[String],
+    found: Option<P::Task>,
     reader: &mut S,
     writer: &mut K,
 ) -> u8
     ensures known { result ≤ 3 }
-    ensures answers { AnswersTo (map string_bytes words.now) (S.seen reader.old) (S.seen reader.new) (K.seen writer.old) (K.seen writer.new) result }
+    ensures acts { Acts P.performs P.Fault.report P.called found (S.seen reader.old) (S.seen reader.new) (K.seen writer.old) (K.seen writer.new) result }
 {
-    match command(alloc, words) {
-        Ok(Some((job, profile))) => run_to_end(alloc, job, profile, reader, writer),
-        Ok(None) => {
-            print_usage(writer);
-            2
-        }
-        Err(AllocError) => fail(alloc, &RunFault::Memory, writer),
+    let Some(task) = found else {
+        tell(writer, P::usage());
+        return 2;
+    };
+    match P::perform(alloc, task, reader, writer) {
+        Ok(()) => 0,
+        Err(fault) => fail(alloc, &fault, writer),
     }
 }
 
-/// The program `omf`.
-pub struct Omf;
-
-impl Program for Omf {
-    ghost answers = { AnswersTo };
-
-    fn run<S: Source, K: Sink>(
-        alloc: Global,
-        words: &[String],
-        reader: &mut S,
-        writer: &mut K,
-    ) -> u8 {
-        main_with(alloc, words, reader, writer)
+/// Runs a program on arguments, the program's own name first. It does the task that they ask for, or prints the usage, and prints the text of
+/// a fault. It returns the exit status: 0 done, 2 the arguments are not understood, 3 memory ran out before they were read, else that of the
+/// fault. It does not flush the writer.
+pub fn run_with<P: Program, S: Source, K: Sink>(
+    alloc: Global,
+    arguments: &[String],
+    reader: &mut S,
+    writer: &mut K,
+) -> u8
+    ensures known { result ≤ 3 }
+    ensures answers { ProgramAnswers P.asks P.performs P.Fault.report P.called (map string_bytes arguments.now) (S.seen reader.old) (S.seen reader.new) (K.seen writer.old) (K.seen writer.new) result }
+{
+    match P::task(alloc, arguments) {
+        Ok(found) => act::<P, _, _>(alloc, found, reader, writer),
+        Err(AllocError) => fail_early(writer),
     }
 }

@@ -1,4 +1,4 @@
-//! The run of `reloc`, from a reader to a writer.
+//! The job `reloc`.
 
 ghost use Rattle.std.specs.Prelude.{◌≡◌, ℕ, List, Some};
 ghost use Rattle.omf_image.specs.Limits.{profile_limits};
@@ -16,7 +16,7 @@ use omf_reloc::{Placement, TextFault, parse_placement, reach_and_relocate, start
 use std::alloc::Global;
 use std::marker::Model;
 
-/// What is printed of a module at a placement: so many segments of its image, and its start. It is seen as the text.
+/// What `reloc` prints of a module at a placement: the segments of its image, and its start. Contracts see it as that text.
 #[derive(Drop)]
 pub struct Listing {
     image: Image,
@@ -36,12 +36,12 @@ impl Model for Listing {
 }
 
 impl Listing {
-    /// The listing of a module at the placement that a text gives it.
+    /// Relocates a module by a placement text.
     ///
     /// # Errors
     ///
-    /// The first of: `TooLong` where the text has more than 4,194,304 bytes; `Line` for a line that is no entry, or a group whose frame is
-    /// not found; `Reach` where the placement does not reach. `Memory` where a growth was refused.
+    /// The first of: `TooLong` if the text has more than 4,194,304 bytes; `Line` for a line that is no entry, or a `G real` line whose group has
+    /// no frame; `Reach` if the placement does not fit the module, or a fixup or the start is out of range. `Memory` if memory ran out.
     pub fn of(alloc: Global, checked: &Checked, text: &[u8]) -> Result<Listing, RunFault>
         ensures { IsOutcome (recs_of checked.now.bytes) text.now result }
     {
@@ -52,22 +52,22 @@ impl Listing {
         listing_of(alloc, checked, &placement)
     }
 
-    /// The listing of a module at a placement.
+    /// Relocates a module by a placement.
     ///
     /// # Errors
     ///
-    /// `Reach` where the placement does not reach, `Memory` where a growth was refused.
+    /// `Reach` if the placement does not fit the module, or a fixup or the start is out of range; otherwise `Memory` if memory ran out.
     pub fn at(alloc: Global, checked: &Checked, placement: &Placement) -> Result<Listing, RunFault>
         ensures { IsShown profile_limits (recs_of checked.now.bytes) placement.now result }
     {
         listing_of(alloc, checked, placement)
     }
 
-    /// Prints it. The text is written in pieces of 64 KB or a line more, so no more than that of it is kept.
+    /// Prints the listing. The text is written in pieces of 64 KB or a line more; no more than that is kept in memory.
     ///
     /// # Errors
     ///
-    /// `Write` where the writer failed, `Memory` where the text that is kept does not grow: a part of the text may have been written.
+    /// `Write` if the writer failed, `Memory` if memory ran out. A front of the text may then be written.
     pub fn print<K: Sink>(&self, alloc: Global, writer: &mut K) -> Result<(), RunFault>
         ensures prints { PrintsInPieces (K.seen writer.old).bytes (K.seen writer.new).bytes result self.now }
         ensures cause { IsPrintCause (K.seen writer.old) (K.seen writer.new) result }
@@ -76,32 +76,32 @@ impl Listing {
     }
 }
 
-/// Relocates the module at the front of the input by the placement text after it, which is all that is left, and writes the
-/// listing of its image and its start. Nothing is written before all faults but Write and Memory are excluded.
+/// Relocates the module at the front of the input by the placement text after it, and prints its image and its start. Nothing is written
+/// before all faults but Write and Memory are excluded. The writer is not flushed.
 ///
 /// # Errors
 ///
-/// The first of: `Refused` where the input does not begin with a well-formed module; `TooLong` and then `Line` by the text; `Line`
-/// for a group whose frame is not found; `Reach` where the placement does not reach. `Read` and `Write` where that device failed,
-/// `Memory` where a growth was refused. At `Write` and at `Memory` a part of the listing may have been written.
+/// The first of: `Refused` if the input does not begin with a well-formed module; `TooLong` if the text has more than 4,194,304 bytes; `Line`
+/// for a line that is no entry, or a `G real` line whose group has no frame; `Reach` if the placement does not fit the module, or a fixup is
+/// out of range. `Read` or `Write` if that device failed, `Memory` if memory ran out. At `Write` and at `Memory` a front of the text may be
+/// written.
 pub fn run_reloc<S: Source, K: Sink>(
     alloc: Global,
     profile: Profile,
     reader: &mut S,
     writer: &mut K,
 ) -> Result<(), RunFault>
-    // A reader or a writer is named only where it failed: at once, or after a thousand interruptions. Else it did not break.
+    // A device is named only if it failed, at once or after 1,000 interruptions. One that is not named did not break.
     ensures cause { IsCausedBy (S.seen reader.old) (S.seen reader.new) (K.seen writer.old) (K.seen writer.new) result }
-    // The answer is that of the definition, and the whole text is written, or where the writer failed or memory ran out a part of it
-    // from the front.
-    // A refusal is read as far as decides it, a text that is too long to the first byte beyond its limit, and all else to the end.
+    // The answer is the defined one. The whole text is written, or a front of it if the writer failed or memory ran out. The input is read as
+    // far as decides a refusal, one byte beyond the limit of a text that is too long, and else to its end.
     ensures prints { IsRelocation profile (S.seen reader.old) (S.seen reader.new) (K.seen writer.old) (K.seen writer.new) result }
 {
     let listing = listed(alloc, profile, reader)?;
     listing.print(alloc, writer)
 }
 
-/// What is to be printed of the module and the placement text that the reader gives.
+/// Reads a module and a placement text, and relocates the module.
 fn listed<S: Source>(alloc: Global, profile: Profile, reader: &mut S) -> Result<Listing, RunFault>
     ensures answer { (input : List ℕ) → (S.seen reader.old).bytes ≡ Some input → IsAnswered profile input (S.seen reader.old).bytes (S.seen reader.new).bytes result }
     ensures cause { IsReadCause (S.seen reader.old) (S.seen reader.new) result }
@@ -120,7 +120,7 @@ fn placed(alloc: Global, checked: &Checked, text: &[u8]) -> Result<Placement, Te
     draft.resolve(alloc, checked)
 }
 
-/// What is to be printed of a module at a placement. Where it does not reach, that is the answer, whatever memory there is.
+/// Relocates a module by a placement. `Reach` wins over `Memory`.
 fn listing_of(alloc: Global, checked: &Checked, placement: &Placement) -> Result<Listing, RunFault>
     ensures { IsShown profile_limits (recs_of checked.now.bytes) placement.now result }
 {

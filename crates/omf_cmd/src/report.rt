@@ -1,4 +1,4 @@
-//! The texts of `check` and `list`. That of `list` goes to the writer in pieces.
+//! The texts of `check` and `list`. The latter is written in pieces.
 
 ghost use Rattle.std.specs.Prelude.{◌≡◌, ◌++◌, ◌∷◌, [], IfOk, string_bytes, codes, decimal, flat_map, length};
 ghost use Rattle.omf_frame.specs.Bytes.{with_before, AddsText};
@@ -24,7 +24,7 @@ use omf_frame::Sink;
 use omf_records::{At, Items, Public, Rec};
 use std::alloc::{AllocError, Global};
 
-/// How many bytes the contents of the record at an offset have, without the checksum byte.
+/// The length of the contents of the record at an offset, without the checksum byte.
 fn contents_length(bytes: &[u8], start: u64) -> usize
     requires { HasRecord bytes.now start }
     ensures { (r : Raw) → StandsAt bytes.now start r → result ≡ length r.body }
@@ -36,7 +36,7 @@ fn contents_length(bytes: &[u8], start: u64) -> usize
     }
 }
 
-/// A line for each record.
+/// Prints a line for each record.
 fn print_records<K: Sink>(
     writer: &mut K,
     text: &mut Vec<u8>,
@@ -54,7 +54,7 @@ fn print_records<K: Sink>(
     Ok(())
 }
 
-/// A line for each segment.
+/// Prints a line for each segment.
 fn print_segments<K: Sink>(
     writer: &mut K,
     text: &mut Vec<u8>,
@@ -74,7 +74,7 @@ fn print_segments<K: Sink>(
     Ok(())
 }
 
-/// A group's line.
+/// Appends a group's line.
 fn print_group_of(
     text: &mut Vec<u8>,
     checked: &Checked,
@@ -90,7 +90,7 @@ fn print_group_of(
     }
 }
 
-/// A line for each group.
+/// Prints a line for each group.
 fn print_groups<K: Sink>(
     writer: &mut K,
     text: &mut Vec<u8>,
@@ -110,7 +110,7 @@ fn print_groups<K: Sink>(
     Ok(())
 }
 
-/// A line for each external name.
+/// Prints a line for each external name.
 fn print_externals<K: Sink>(
     writer: &mut K,
     text: &mut Vec<u8>,
@@ -130,7 +130,7 @@ fn print_externals<K: Sink>(
     Ok(())
 }
 
-/// The line of a public name of a PUBDEF or an LPUBDEF.
+/// Appends the line of a public name of a PUBDEF or an LPUBDEF.
 fn print_item(
     text: &mut Vec<u8>,
     group: u16,
@@ -143,7 +143,7 @@ fn print_item(
     print_public(text, group, segment, item.offset, item.name.0)
 }
 
-/// A line for each public name of a PUBDEF or an LPUBDEF.
+/// Prints a line for each public name of a PUBDEF or an LPUBDEF.
 fn print_items<K: Sink>(
     writer: &mut K,
     text: &mut Vec<u8>,
@@ -161,7 +161,7 @@ fn print_items<K: Sink>(
     Ok(())
 }
 
-/// The public names of a record.
+/// Prints a line for each public name of a record.
 fn print_publics_of<K: Sink>(
     writer: &mut K,
     text: &mut Vec<u8>,
@@ -187,7 +187,7 @@ fn print_publics_of<K: Sink>(
     }
 }
 
-/// A line for each public name, in file order.
+/// Prints a line for each public name of a module, in file order.
 fn print_publics<K: Sink>(
     writer: &mut K,
     text: &mut Vec<u8>,
@@ -202,7 +202,7 @@ fn print_publics<K: Sink>(
     Ok(())
 }
 
-/// The lines of a module: its records, its segments, its groups, its externals, its publics.
+/// Prints the lines of a module: records, segments, groups, externals, publics.
 fn print_lines<K: Sink>(
     writer: &mut K,
     text: &mut Vec<u8>,
@@ -218,11 +218,11 @@ fn print_lines<K: Sink>(
     print_publics(writer, text, checked)
 }
 
-/// Prints what `list` prints of a module. The text is written in pieces of 64 KB or a line more, so no more than that of it is kept.
+/// Prints the listing of a module. The text is written in pieces of 64 KB or a line more; no more than that is kept in memory.
 ///
 /// # Errors
 ///
-/// `Write` where the writer failed, `Memory` where the text that is kept does not grow: a part of the text may have been written.
+/// `Write` if the writer failed, `Memory` if memory ran out. A front of the text may then be written.
 pub fn print_list<K: Sink>(alloc: Global, checked: &Checked, writer: &mut K) -> Result<(), RunFault>
     ensures prints { PrintsInPieces (K.seen writer.old).bytes (K.seen writer.new).bytes result (list_text (records_in checked.now.bytes)) }
     ensures cause { IsPrintCause (K.seen writer.old) (K.seen writer.new) result }
@@ -232,7 +232,7 @@ pub fn print_list<K: Sink>(alloc: Global, checked: &Checked, writer: &mut K) -> 
     write_all(writer, text.as_slice())
 }
 
-/// What `check` prints of a module: how many records and bytes it has.
+/// The line of `check`: the numbers of records and bytes of a module.
 pub fn check_text(alloc: Global, checked: &Checked) -> Result<String, AllocError>
     ensures { IfOk result (λ text. string_bytes text ≡ check_text (records_in checked.now.bytes)) }
 {

@@ -16,7 +16,7 @@ ghost use Rattle.omf_placement.specs.Quoted.{quoted};
 ghost use Rattle.omf_cmd.specs.Relocated.{image_text, reloc_text};
 ghost use Rattle.omf_cmd.specs.Rows.{lines, relocating, prints, not_reached, low_line};
 
-/// What is printed of a module of six records.
+/// The texts of a module of six records.
 pub fn printed_texts()
     ensures list { list_text (raws_of first_module) ≡ lines (codes "R 0 00000000 80 2 THEADR" ∷ codes "R 1 00000006 96 3 LNAMES" ∷ codes "R 2 0000000D 98 6 SEGDEF" ∷ codes "R 3 00000017 A0 7 LEDATA" ∷ codes "R 4 00000022 9C 5 FIXUPP" ∷ codes "R 5 0000002B 8A 1 MODEND" ∷ codes "S 1 4 \"T\"" ∷ []) }
     ensures none { list_text [] ≡ [] }
@@ -24,7 +24,7 @@ pub fn printed_texts()
     ensures reloc { reloc_text profile_limits low (module_of first_module) ≡ lines (codes "0001:00000000 B8 20 00 90" ∷ []) }
 {}
 
-/// A public without a group, and its offset in eight digits.
+/// The line of a public without a group.
 pub fn listed_public()
     ensures { list_text (raws_of public) ≡ lines (codes "R 0 00000000 80 2 THEADR" ∷ codes "R 1 00000006 96 3 LNAMES" ∷ codes "R 2 0000000D 98 6 SEGDEF" ∷ codes "R 3 00000017 90 7 PUBDEF" ∷ codes "R 4 00000022 8A 1 MODEND" ∷ codes "S 1 4 \"T\"" ∷ codes "P - 1 00000002 \"X\"" ∷ []) }
 {}
@@ -53,18 +53,18 @@ pub fn fault_lines()
     ensures far { fault_line (fault.Reach (reach.TooFar 4 3 cause.Target)) ≡ codes "reach 4 TooFar Target record 4 within 3" }
 {}
 
-/// Names in quotes: an empty one, and bytes that are written with \x.
+/// Names in quotes: an empty one, and bytes written with `\x`.
 pub fn quoted_names()
     ensures empty { quoted [] ≡ codes "\"\"" }
     ensures escaped { quoted (0x22 ∷ 0x5C ∷ 0x1F ∷ 0x20 ∷ 0x7E ∷ 0x7F ∷ 0xFF ∷ 0x61 ∷ []) ≡ codes "\"\\x22\\x5C\\x1F ~\\x7F\\xFFa\"" }
 {}
 
-/// A run of 18 bytes has two lines, the first of 16 bytes from where the run begins.
+/// A run of 18 bytes has two lines; the first has 16 bytes.
 pub fn two_lines_of_a_run()
     ensures { image_text 1 (λ segment x. Some 0xA5) (λ segment. record { first = 0xFFF9; len = 18 } ∷ []) None ≡ lines (codes "0001:0000FFF9 A5 A5 A5 A5 A5 A5 A5 A5 A5 A5 A5 A5 A5 A5 A5 A5" ∷ codes "0001:00010009 A5 A5" ∷ []) }
 {}
 
-/// A module and a text in one input: what is printed, and what is answered where the placement does not reach.
+/// A module and a placement text: what is printed, or the fault where the placement does not reach.
 pub fn texts_and_images()
     ensures first { relocating first_module (low_line ∷ []) ≡ prints (codes "0001:00000000 B8 20 00 90" ∷ []) }
     ensures empty { relocating first_module [] ≡ not_reached (reach.Missing kind.Segment 1) }
@@ -80,7 +80,7 @@ pub fn texts_and_images()
     ensures blocks { relocating with_blocks (low_line ∷ []) ≡ prints (codes "0001:00000000 AA AA BB CC AA AA BB CC AA AA BB CC" ∷ []) }
 {}
 
-/// Groups, real segments and absolute segments by their lines.
+/// Placement lines for groups, real segments and absolute segments.
 pub fn texts_of_other_lines()
     ensures start { relocating with_start (low_line ∷ codes "G 10010 1001" ∷ []) ≡ prints (codes "START 1001:00000012" ∷ []) }
     ensures real_start { relocating with_start (codes "S 10020 real" ∷ codes "G real" ∷ []) ≡ prints (codes "START 1002:00000002" ∷ []) }

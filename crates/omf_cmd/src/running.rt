@@ -1,4 +1,4 @@
-//! The program's runs over a module alone, from a reader to a writer.
+//! The jobs over a module alone: `check`, `list` and `canon`.
 
 ghost use Rattle.std.specs.Prelude.{IfErr};
 ghost use Rattle.omf_check.specs.Module.{records_in};
@@ -14,30 +14,30 @@ use omf_check::{Checked, Profile, check};
 use omf_frame::{Sink, Source};
 use std::alloc::Global;
 
-/// Checks the module at the front of the input, and writes how many records and bytes it has. Nothing behind the module is read, and
-/// nothing is written before all faults but Write and Memory are excluded.
+/// Checks the module at the front of the input, and prints its numbers of records and bytes. Nothing after the module is read, and nothing is
+/// written before all faults but Write and Memory are excluded. The writer is not flushed.
 ///
 /// # Errors
 ///
-/// `Refused` where the input does not begin with a well-formed module; `Read`, `Write` where that device failed; `Memory`.
+/// `Refused` if the input does not begin with a well-formed module; `Read` or `Write` if that device failed; `Memory` if memory ran out.
 pub fn run_check<S: Source, K: Sink>(
     alloc: Global,
     profile: Profile,
     reader: &mut S,
     writer: &mut K,
 ) -> Result<(), RunFault>
-    // A reader or a writer is named only where it failed: at once, or after a thousand interruptions. Else it did not break.
+    // A device is named only if it failed, at once or after 1,000 interruptions. One that is not named did not break.
     ensures cause { IsCausedBy (S.seen reader.old) (S.seen reader.new) (K.seen writer.old) (K.seen writer.new) result }
-    // No fault of a placement is named, whatever the reader tells.
+    // There is no fault of a placement, even if the bytes of the reader are unknown.
     ensures module { IfErr result IsModuleFault }
-    // The answer is that of the definition, and the whole text is written, or where the writer failed a part of it from the front.
+    // The answer is the defined one. The whole text is written, or a front of it if the writer failed.
     ensures prints { Reports check_text profile (S.seen reader.old) (S.seen reader.new) (K.seen writer.old) (K.seen writer.new) result }
 {
     let checked = check(alloc, reader, profile)?;
     print_check(alloc, &checked, writer)
 }
 
-/// Writes what `check` prints of a module.
+/// Prints the line of `check`.
 fn print_check<K: Sink>(alloc: Global, checked: &Checked, writer: &mut K) -> Result<(), RunFault>
     ensures prints { Prints (K.seen writer.old).bytes (K.seen writer.new).bytes result (check_text (records_in checked.now.bytes)) }
     ensures cause { IsPrintCause (K.seen writer.old) (K.seen writer.new) result }
@@ -46,48 +46,48 @@ fn print_check<K: Sink>(alloc: Global, checked: &Checked, writer: &mut K) -> Res
     write_all(writer, text.as_bytes())
 }
 
-/// Lists the module at the front of the input: its records, its tables, its public names. Nothing behind the module is read, and
-/// nothing is written before all faults but Write and Memory are excluded.
+/// Lists the module at the front of the input: its records, segments, groups, externals and publics. Nothing after the module is read, and
+/// nothing is written before all faults but Write and Memory are excluded. The writer is not flushed.
 ///
 /// # Errors
 ///
-/// `Refused` where the input does not begin with a well-formed module; `Read`, `Write` where that device failed; `Memory`. At `Write`
-/// and at `Memory` a part of the listing may have been written.
+/// `Refused` if the input does not begin with a well-formed module; `Read` or `Write` if that device failed; `Memory` if memory ran out. At
+/// `Write` and at `Memory` a front of the listing may be written.
 pub fn run_list<S: Source, K: Sink>(
     alloc: Global,
     profile: Profile,
     reader: &mut S,
     writer: &mut K,
 ) -> Result<(), RunFault>
-    // A reader or a writer is named only where it failed: at once, or after a thousand interruptions. Else it did not break.
+    // A device is named only if it failed, at once or after 1,000 interruptions. One that is not named did not break.
     ensures cause { IsCausedBy (S.seen reader.old) (S.seen reader.new) (K.seen writer.old) (K.seen writer.new) result }
-    // No fault of a placement is named, whatever the reader tells.
+    // There is no fault of a placement, even if the bytes of the reader are unknown.
     ensures module { IfErr result IsModuleFault }
-    // The answer is that of the definition, and the whole text is written, or where the writer failed or memory ran out a part of it
-    // from the front; nothing where memory ran out before the module was there.
+    // The answer is the defined one. The whole text is written, or a front of it if the writer failed or memory ran out; nothing if memory
+    // ran out before the module was read.
     ensures prints { ReportsInPieces list_text profile (S.seen reader.old) (S.seen reader.new) (K.seen writer.old) (K.seen writer.new) result }
 {
     let checked = check(alloc, reader, profile)?;
     print_list(alloc, &checked, writer)
 }
 
-/// Writes the canonical bytes of the module at the front of the input: of two modules that differ in spelling alone they are the same.
-/// Nothing behind the module is read, and nothing is written before all faults but Write and Memory are excluded.
+/// Writes the canonical bytes of the module at the front of the input; two modules that differ only in spelling have the same. Nothing after
+/// the module is read, and nothing is written before all faults but Write and Memory are excluded. The writer is not flushed.
 ///
 /// # Errors
 ///
-/// `Refused` where the input does not begin with a well-formed module; `Read`, `Write` where that device failed; `Memory`.
+/// `Refused` if the input does not begin with a well-formed module; `Read` or `Write` if that device failed; `Memory` if memory ran out.
 pub fn run_canon<S: Source, K: Sink>(
     alloc: Global,
     profile: Profile,
     reader: &mut S,
     writer: &mut K,
 ) -> Result<(), RunFault>
-    // A reader or a writer is named only where it failed: at once, or after a thousand interruptions. Else it did not break.
+    // A device is named only if it failed, at once or after 1,000 interruptions. One that is not named did not break.
     ensures cause { IsCausedBy (S.seen reader.old) (S.seen reader.new) (K.seen writer.old) (K.seen writer.new) result }
-    // No fault of a placement is named, whatever the reader tells.
+    // There is no fault of a placement, even if the bytes of the reader are unknown.
     ensures module { IfErr result IsModuleFault }
-    // The answer is that of the definition, and all canonical bytes are written, or where the writer failed a part of them from the front.
+    // The answer is the defined one. All canonical bytes are written, or a front of them if the writer failed.
     ensures prints { Reports canonical_text profile (S.seen reader.old) (S.seen reader.new) (K.seen writer.old) (K.seen writer.new) result }
 {
     let checked = check(alloc, reader, profile)?;

@@ -1,8 +1,9 @@
-//! The words that the program is called with.
+//! The arguments of `omf`.
 
 ghost use Rattle.std.specs.Prelude.{◌≡◌, ◌⊎◌, ℕ, List, [], map, string_bytes, IfOk, Bool, true, false, Some, None};
-ghost use Rattle.omf_cmd.specs.Words.{asks, flag_rule, job_named, omf_app, profile_of};
+ghost use Rattle.omf_cmd.specs.Words.{asks, flag_rule, job_named, omf_app, profile_of, with_flag};
 ghost use Rattle.clap.specs.Words.{app_of, fault_of, is_simple_and_free, rule_of, subcommand_of, subcommand_rows_of};
+ghost use Rattle.clap.specs.declared.builder.command.Command.{out-Command};
 ghost use Rattle.omf_cmd.specs.Parsed.{IsParse, IsParsed};
 
 use clap::error::ErrorKind;
@@ -10,12 +11,12 @@ use clap::{Arg, ArgAction, ArgMatches, Command};
 use omf_check::Profile;
 use std::alloc::{AllocError, Global};
 
-/// What the program is asked to do.
+/// What `omf` is asked to do.
 #[derive(Clone, Copy, Debug, PartialEq, Eq)]
 pub enum Job {
     /// Print a module's records and tables.
     List,
-    /// Say whether the input begins with a well-formed module.
+    /// Check whether the input begins with a well-formed module.
     Check,
     /// Relocate a module.
     Reloc,
@@ -23,15 +24,19 @@ pub enum Job {
     Canon,
 }
 
-/// The job that the words name, and its profile. None where they name none, or are not understood.
+/// The job that the arguments ask for, the program's own name first, and its profile; None if they are not understood.
+///
+/// # Errors
+///
+/// `AllocError` if memory ran out.
 pub fn command(alloc: Global, words: &[String]) -> Result<Option<(Job, Profile)>, AllocError>
-    // Behind the program's own name a subcommand is understood, alone or followed by the flag.
+    // A subcommand is understood, alone or followed by the flag.
     ensures asks { (asked : Job × Profile) → asks (map string_bytes words.now) ≡ Some asked → IfOk result (λ found. found ≡ Some asked) }
-    // So is each subcommand that clap's definition has of words without a fault.
+    // So is each subcommand that clap finds in arguments without a fault.
     ensures parsed { (name : List ℕ) (job : Job) (refuses : Bool) → fault_of omf_app (map string_bytes words.now) ≡ [] → IsParsed (subcommand_of omf_app (map string_bytes words.now)) name refuses → job_named name ≡ Some job → IfOk result (λ found. found ≡ Some (record { 0 = job; 1 = profile_of refuses })) }
-    // Where the words name no subcommand, none is answered.
+    // Without a subcommand the answer is None.
     ensures none { subcommand_of omf_app (map string_bytes words.now) ≡ None → IfOk result (λ found. found ≡ None) }
-    // A job is answered only where clap's definition has no fault of these words.
+    // Some is returned only if clap finds no fault.
     ensures refused { IfOk result (λ found. (found ≡ None) ⊎ (fault_of omf_app (map string_bytes words.now) ≡ [])) }
 {
     let omf = program(alloc)?;
@@ -42,12 +47,16 @@ pub fn command(alloc: Global, words: &[String]) -> Result<Option<(Job, Profile)>
     }
 }
 
-/// What a command makes of words. None where it does not understand them.
+/// Parses arguments, the program's own name first; None if they are not understood.
+///
+/// # Errors
+///
+/// `AllocError` if memory ran out.
 pub fn read_words<'a>(
     command: Command<'a>,
     words: &'a [String],
 ) -> Result<Option<ArgMatches<'a>>, AllocError>
-    // Where no argument has a rule on another, this is what clap's definition makes of the words, and none exactly where that finds a fault.
+    // If no argument has a rule on another, this is clap's parse, and None exactly if clap finds a fault.
     ensures { is_simple_and_free (app_of command.entry) ≡ true → IfOk result (IsParse (app_of command.entry) (map string_bytes words.now)) }
 {
     match command.try_get_matches_from(words) {
@@ -57,22 +66,26 @@ pub fn read_words<'a>(
     }
 }
 
-/// The program's words: its subcommands, each with the flag and nothing else.
+/// A subcommand that has the flag and nothing else.
+fn subcommand<'a>(alloc: Global, name: &'a str) -> Result<Command<'a>, AllocError>
+    ensures app { IfOk result (λ c. app_of c ≡ with_flag name.now) }
+    ensures own { IfOk result (λ c. (out-Command c).has_globals ≡ false) }
+{
+    Command::new(alloc, name).arg(flag(alloc))
+}
+
+/// The command line of `omf`: its subcommands, each with the flag and nothing else.
 fn program<'a>(alloc: Global) -> Result<Command<'a>, AllocError>
     ensures { IfOk result (λ c. app_of c ≡ omf_app) }
 {
-    let list = Command::new(alloc, "list").arg(flag(alloc))?;
-    let check = Command::new(alloc, "check").arg(flag(alloc))?;
-    let reloc = Command::new(alloc, "reloc").arg(flag(alloc))?;
-    let canon = Command::new(alloc, "canon").arg(flag(alloc))?;
-    Command::new(alloc, "omf")
-        .subcommand(list)?
-        .subcommand(check)?
-        .subcommand(reloc)?
-        .subcommand(canon)
+    let omf = Command::new(alloc, "omf");
+    let omf = omf.subcommand(subcommand(alloc, "list")?)?;
+    let omf = omf.subcommand(subcommand(alloc, "check")?)?;
+    let omf = omf.subcommand(subcommand(alloc, "reloc")?)?;
+    omf.subcommand(subcommand(alloc, "canon")?)
 }
 
-/// The flag that refuses comments of the classes left to vendors.
+/// The flag that refuses comments of vendor classes.
 fn flag<'a>(alloc: Global) -> Arg<'a>
     ensures rule { rule_of result ≡ flag_rule }
     ensures own { result.global ≡ false }
@@ -82,7 +95,7 @@ fn flag<'a>(alloc: Global) -> Arg<'a>
         .action(ArgAction::SetTrue)
 }
 
-/// The job of a subcommand.
+/// The job of a subcommand's name.
 fn job_named(name: &str) -> Option<Job>
     ensures { result ≡ job_named name.now }
 {
@@ -95,7 +108,7 @@ fn job_named(name: &str) -> Option<Job>
     }
 }
 
-/// The job of the subcommand that was parsed, and the profile of its flag.
+/// The job of the parsed subcommand, and the profile of its flag.
 fn named_by(matches: &ArgMatches<'_>) -> Option<(Job, Profile)>
     ensures none { subcommand_rows_of matches.now ≡ None → result ≡ None }
     ensures some { (name : List ℕ) (job : Job) (refuses : Bool) → IsParsed (subcommand_rows_of matches.now) name refuses → job_named name ≡ Some job → result ≡ Some (record { 0 = job; 1 = profile_of refuses }) }

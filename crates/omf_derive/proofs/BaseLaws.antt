@@ -14,11 +14,11 @@ use Rattle.omf_placement.specs.declared.frame.Placed.{Placed}
 use Rattle.omf_placement.specs.Placement.{Places, placed, group_frame, no_place, no_frame}
 use Rattle.omf_derive.proofs.NamedLaws.{entry-suc}
 
--- What records define grows with them.
+-- The tables grow with the records.
 pub longer : {A : Type 0} (f : Rec → List A) (before rs : List Rec) → length (flat_map f before) ≤ length (flat_map f (before ++ rs))
 longer f before rs = omega (arith, ap length (flat_map-append f before rs), length-append (flat_map f before) (flat_map f rs))
 
--- An index that is not 0 and is within a list has its entry there.
+-- An index of 1 to a list's length has an entry in it.
 there : {A : Type 0} (d : A) (xs : List A) (i : ℕ) → (i == 0) ≡ false → i ≤ length xs → entry xs i ≡ Some (unwrap_or (entry xs i) d)
 there d xs zero n h = absurd cc
 there d xs (suc j) n h =

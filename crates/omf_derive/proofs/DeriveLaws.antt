@@ -27,7 +27,7 @@ abbrev value-or : {A B : Type 0} → A → Result A B → A
 value-or d (Ok a) = a
 value-or d (Err e) = d
 
--- Where there is no fault, each has its place.
+-- Without a fault, each has its place.
 all-placed : (rs : List (Result Placed DeriveFault)) → filter_map err_of rs ≡ [] → length (filter_map ok_of rs) ≡ length rs
 all-placed [] h = refl
 all-placed (Ok p ∷ rs) h = ap (λ n. suc n) (all-placed rs h)

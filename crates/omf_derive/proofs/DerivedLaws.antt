@@ -1,4 +1,4 @@
--- The placements that are computed are those in which each external takes its place, and the fault that is computed is the first.
+-- In the computed placements each external has its place; the computed fault is the first.
 use Rattle.std.proofs.Common.{◌≡◌, ℕ, List, [], ◌∷◌, ◌++◌, refl, sym, ap, ap₂, ◌∙◌, subst, inl, inr}
 use Rattle.std.specs.Prelude.{◌⊎◌, All, Bool, map, flat_map, filter_map, Result, Ok, Err}
 use Rattle.std.specs.List.{AllZip, cons_option, enumerate_from}
@@ -35,7 +35,7 @@ module _ (among : Bool → List PlacedPublic) (given : List Given) (j : ℕ) whe
   fault-more : (e : External) (es : List External) (f : DeriveFault) → Fails (among e.1.1) given j e.0 e.1.0 f → faults (e ∷ es) ≡ f ∷ faults es
   fault-more e es f t = ap (λ r. cons_option (err_of r) (faults es)) (fail-to (among e.1.1) given j e.0 e.1.0 f t)
 
-  -- where each takes a place
+  -- each has a place
   pub none-fails : (es : List External) → AllTake among given j es → faults es ≡ []
   none-fails [] h = refl
   none-fails (e ∷ es) h =
@@ -50,7 +50,7 @@ module _ (among : Bool → List PlacedPublic) (given : List Given) (j : ℕ) whe
       let r = zip-found es ps h in
       (no-fault-more e es p t ∙ r.0, found-more e es p t ∙ ap (λ qs. p ∷ qs) r.1)
 
-  -- they all do, or there is a first that fails
+  -- all have one, or there is a first that fails
   first-more : (e : External) (es : List External) (f : DeriveFault) → (p : Placed) × Taken e p → IsFirstIn among given j es f → IsFirstIn among given j (e ∷ es) f
   first-more e es f t h = record {
     before = e ∷ h.before;

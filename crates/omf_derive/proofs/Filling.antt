@@ -1,11 +1,11 @@
 -- A table that is filled from a list, some values at a time.
 use Rattle.std.proofs.Common.{◌≡◌, List, [], ◌++◌, sym, ap, ◌∙◌, subst, append-nil, append_assoc}
 
--- A table has these values more than another.
+-- A table holds these values in addition to those of another.
 abbrev pub Adds : {M A : Type 0} → (M → List A → Type 0) → M → M → List A → Type 0
 Adds IsTable m n more = (among : _) → IsTable m among → IsTable n (among ++ more)
 
--- Of the values `all`, some are in the table n and not in m, and these are still to come.
+-- Of the values `all`, some are in the table n and not in m, and these remain.
 pub record IsFilled {M A : Type 0} (IsTable : M → List A → Type 0) (m n : M) (rest all : List A) : Type 0 where
   pub done : List A
   pub more : Adds IsTable m n done

@@ -1,4 +1,4 @@
--- Externals of a module and modules, one after another, until one has no place.
+-- Externals of a module, and modules, in order, until one has no place.
 use Rattle.std.proofs.Common.{◌≡◌, ℕ, zero, suc, ◌+◌, ◌-◌, ◌≤◌, List, [], ◌∷◌, ◌++◌, length, drop, refl, sym, ap, ap₂, ◌∙◌, subst, inl, inr, append-nil, append_assoc, arith}
 use Rattle.std.specs.Prelude.{◌⊎◌, Bool, map, flat_map, filter_map, slice_get, Some, Result, Ok, Err}
 use Rattle.std.specs.List.{enumerate_from}
@@ -42,7 +42,7 @@ module _ (among : Bool → List PlacedPublic) (given : List Given) (j : ℕ) (m 
   abbrev pub outcomes_from : ℕ → List (Result Placed DeriveFault)
   outcomes_from i = map outcome (enumerate_from i (drop (i - 1) (named_externals m)))
 
-  -- some have their places, and the others are still to come
+  -- some have their places, and the others remain
   abbrev pub IsSoFar : List Placed → ℕ → Type 0
   IsSoFar ps i = map (λ p. Ok p) ps ++ outcomes_from i ≡ external_places among given j m
 
@@ -90,7 +90,7 @@ module _ (ms : List PlacedModule) (given : List Given) where
   abbrev pub placements_from : ℕ → List Places
   placements_from j = map (with_externals ms given) (enumerate_from j (drop j ms))
 
-  -- some modules have their placements and no fault, and the others are still to come
+  -- some modules have their placements and no fault, and the others remain
   pub record IsReached (pls : List Places) (j : ℕ) : Type 0 where
     pub placements : pls ++ placements_from j ≡ placements_from 0
     pub faults : faults_from j ≡ faults_from 0

@@ -9,7 +9,7 @@ use Rattle.omf_records.specs.Values.{Rec}
 use Rattle.omf_check.specs.Tables.{externals, locals, defined_externals, entry}
 use Rattle.omf_derive.specs.Derive.{named_externals}
 
--- The entry of an index from 1.
+-- The entry with an index, from 1.
 pub entry-suc : {A : Type 0} (xs : List A) (j : ℕ) → entry xs (suc j) ≡ slice_get xs j
 entry-suc xs j = cond-true (nat_le 1 (suc j)) (slice_get xs (suc j - 1)) None (le-leb 1 (suc j) (omega arith)) ∙ ap (slice_get xs) (omega arith)
 

@@ -1,4 +1,4 @@
--- A table of places by two numbers, which has the first of each, grows entry by entry.
+-- A table of places by two numbers, which holds the first of each, grows entry by entry.
 use Rattle.std.proofs.Common.{◌≡◌, ℕ, true, false, Bool, List, [], ◌∷◌, ◌++◌, refl, sym, ap, ap₂, ◌∙◌, inl, inr, arith, nat_cmp, Ordering, Less, Equal, Greater, Bor, not}
 use Rattle.std.specs.Prelude.{◌==◌, ◌&&◌, find, option_map, is_some, nat_lt, Option, Some, None, cond}
 use Rattle.std.specs.BTreeMap.{BTreeMap, get, Updates}
@@ -14,7 +14,7 @@ Map = BTreeMap (ℕ × ℕ) Placed
 abbrev pub pair_cmp : ℕ × ℕ → ℕ × ℕ → Ordering
 pair_cmp x y = ordering_then (nat_cmp x.0 y.0) (nat_cmp x.1 y.1)
 
--- two keys are one, or two
+-- two keys are equal or not
 nat-equal : (a : ℕ) → nat_cmp a a ≡ Equal
 nat-equal a = ap (λ b. cond b Less (cond (a == a) Equal Greater)) (le-ltb a a (omega arith)) ∙ ap (λ b. cond b Equal Greater) (eq-eqb a a refl)
 
@@ -71,7 +71,7 @@ module _ {A : Type 0} (key : A → ℕ × ℕ) (place : A → Placed) where
     elsewhere : (j i : ℕ) → ((a == j) && (b == i)) ≡ false → first_with (xs ++ x ∷ []) j i ≡ first_with xs j i
     elsewhere j i e = push j i ∙ ap (λ t. option_or (first_with xs j i) (option_map place (cond t (Some x) None))) e ∙ or-none (first_with xs j i)
 
-    -- of the same numbers there is an entry already
+    -- there is already an entry with these numbers
     pub again : (m : Map) (p : Placed) → get pair_cmp m (a, b) ≡ Some p → IsTable m xs → IsTable m (xs ++ x ∷ [])
     again m p e h j i = elim (cases_Bool ((a == j) && (b == i))) [
       | inl t ↦
@@ -81,7 +81,7 @@ module _ {A : Type 0} (key : A → ℕ × ℕ) (place : A → Placed) where
       | inr t ↦ h j i ∙ sym (elsewhere j i t)
     ]
 
-    -- it is the first of its numbers
+    -- it is the first with its numbers
     pub first : (m n : Map) → get pair_cmp m (a, b) ≡ None → Updates pair_cmp m n (a, b) (Some (place x)) → IsTable m xs → IsTable n (xs ++ x ∷ [])
     first m n e u h j i = elim (cases_Bool ((a == j) && (b == i))) [
       | inl t ↦
@@ -94,7 +94,7 @@ module _ {A : Type 0} (key : A → ℕ × ℕ) (place : A → Placed) where
           ∙ h j i ∙ sym (elsewhere j i t)
     ]
 
--- What a look-up tells.
+-- The result of a lookup.
 pub looked-none : (o : Option (Bor Placed)) (b : Bool) → is_some o ≡ not b → b ≡ true → option_copied o ≡ None
 looked-none None b e t = refl
 looked-none (Some x) b e t = absurd (true≢false (e ∙ ap not t))

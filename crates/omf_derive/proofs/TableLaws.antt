@@ -78,7 +78,7 @@ pub listed-publics : (local : Bool) (pl : Places) (number start : ℕ) (rs : Lis
 listed-publics local pl number start [] = refl
 listed-publics local pl number start (r ∷ rs) = ap (λ xs. record_publics local pl r.kind (typed r).contents ++ xs) (listed-publics local pl (number + 1) (start + length (raw_bytes r)) rs)
 
--- No public more; and the same publics by other words.
+-- No more publics; and the same publics, stated in another way.
 pub none_more : (m : Map) (xs : List PlacedPublic) → xs ≡ [] → HasMore m m xs
 none_more m xs e = subst (HasMore m m) (sym e) (λ among h. subst (IsTable m) (sym (append-nil among)) h)
 

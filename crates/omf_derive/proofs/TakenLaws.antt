@@ -1,4 +1,4 @@
--- The place that is computed for an external is the one that it takes.
+-- The place computed for an external is its place.
 use Rattle.std.proofs.Common.{◌≡◌, ℕ, ◌<◌, ◌≤◌, false, List, [], ◌∷◌, ◌++◌, length, refl, sym, ap, ap₂, ◌∙◌, subst, inl, inr, arith, length-append}
 use Rattle.std.specs.Prelude.{◌≢◌, ◌⊎◌, ◌^◌, filter_map, find, option_map, Some, None, Result, Ok, Err, bytes_eq, ◌==◌, ◌&&◌, cond, Bool}
 use Rattle.std.specs.Bool.{Decides}
@@ -144,7 +144,7 @@ module _ (name : List ℕ) where
     | inr e ↦ cases-other p among (λ n. not_from_Decides (bytes_eq name p.name) (bytes_eq-Decides name p.name) e (sym n)) (public-cases among)
   ]
 
--- What is computed of an external.
+-- The computed place or fault of an external.
 module _ (among : List PlacedPublic) (given : List Given) (j i : ℕ) (name : List ℕ) where
   abbrev computed : Result Placed DeriveFault
   computed = external_place among given j i name
@@ -171,7 +171,7 @@ module _ (among : List PlacedPublic) (given : List Given) (j i : ℕ) (name : Li
   fail-to (fault.TooHigh k e) (n, (a, b, h)) = not-given (h.source.place ∷ []) n (named-only name among h.source h.only) ∙ is-high h.source.place h.high ∙ ap₂ (λ x y. Err (fault.TooHigh x y)) (sym a) (sym b)
   fail-to fault.Memory (n, h) = absurd h
 
-  -- It takes a place or fails.
+  -- It has a place or a fault.
   pub taken-cases : ((p : Placed) × Takes among given j i name p) ⊎ ((f : DeriveFault) × Fails among given j i name f)
   taken-cases = elim (given-cases j i given) [
     | inl s ↦ inl (place_in s.0, inl (record { entry = s.0; first = s.1; place = refl }))

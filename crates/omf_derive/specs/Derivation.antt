@@ -1,4 +1,5 @@
--- Which place each external takes, and which external is the first at fault, in words. A law ties this to what is computed (Inner/Derived).
+-- The place of each external, and the first external at fault, stated without computing them. The law derived_is_taken shows that the computed
+-- placements (Inner/Derived) agree.
 use Rattle.std.specs.Prelude.{◌≡◌, ◌≢◌, ◌⊎◌, ◌↔◌, ℕ, ◌<◌, ◌≤◌, ◌^◌, All, List, ◌∷◌, ◌++◌, length, Bool, Some, Result, Ok, Err}
 use Rattle.std.specs.List.{AllZip, enumerate_from}
 use Rattle.omf_records.specs.Values.{Rec, Publics, PublicItems}
@@ -15,7 +16,7 @@ use Rattle.omf_placement.specs.declared.frame.Frame.{Frame}
 use Rattle.omf_placement.specs.declared.frame.Placed.{Placed}
 use Rattle.omf_placement.specs.Placement.{Places}
 
--- An entry is for external i of module j; none is; this one is the first that is.
+-- An entry is for external i of module j; no entry is; this is the first entry that is.
 abbrev pub IsFor : ℕ → ℕ → Given → Type 0
 IsFor j i g = (g.module ≡ j) × (g.external ≡ i)
 
@@ -29,7 +30,7 @@ pub record IsFirstGiven (j i : ℕ) (given : List Given) (g : Given) : Type 0 wh
   pub applies : IsFor j i g
   pub earlier : IsNotGiven j i before
 
--- No public has a name; this one has it and no other; two or more have it.
+-- No public has this name; only this one has it; two or more have it.
 abbrev pub IsUnnamed : List ℕ → List PlacedPublic → Type 0
 IsUnnamed name among = All (λ p. p.name ≢ name) among
 
@@ -51,7 +52,7 @@ pub record AreSeveral (name : List ℕ) (among : List PlacedPublic) : Type 0 whe
   pub first_named : first.name ≡ name
   pub second_named : second.name ≡ name
 
--- A place is that of the one public of a name, and lies below 2^32.
+-- A place is that of the only public with a name, and is below 2^32.
 pub record IsPublicPlace (name : List ℕ) (among : List PlacedPublic) (p : Placed) : Type 0 where
   pub source : PlacedPublic
   pub only : IsOnly name among source
@@ -64,17 +65,17 @@ pub record IsGivenPlace (j i : ℕ) (given : List Given) (p : Placed) : Type 0 w
   pub first : IsFirstGiven j i given entry
   pub place : place_in entry ≡ p
 
--- External i of module j, of this name, takes a place: that of its first entry, or where it has none that of the one public of its name.
+-- The place of external i of module j, with this name: that of its first entry, or if it has none that of the only public with its name.
 abbrev pub Takes : List PlacedPublic → List Given → ℕ → ℕ → List ℕ → Placed → Type 0
 Takes among given j i name p = IsGivenPlace j i given p ⊎ (IsNotGiven j i given × IsPublicPlace name among p)
 
--- The one public of a name lies too high.
+-- The only public with a name has an address of 2^32 or more.
 pub record IsTooHigh (name : List ℕ) (among : List PlacedPublic) : Type 0 where
   pub source : PlacedPublic
   pub only : IsOnly name among source
   pub high : 2 ^ 32 ≤ source.place.address
 
--- Why external i of module j, of this name, has no place: nothing is given, and there is no public of its name, or several, or the one lies too high.
+-- The fault of external i of module j, with this name: it has no entry, and no public has its name, several have, or the only one has too high an address.
 abbrev pub IsFaultOf : List PlacedPublic → ℕ → ℕ → List ℕ → DeriveFault → Type 0
 IsFaultOf among j i name (fault.Undefined k n) = (k ≡ j) × (n ≡ i) × IsUnnamed name among
 IsFaultOf among j i name (fault.Twice k n) = (k ≡ j) × (n ≡ i) × AreSeveral name among
@@ -84,14 +85,14 @@ IsFaultOf among j i name fault.Memory = ⊥
 abbrev pub Fails : List PlacedPublic → List Given → ℕ → ℕ → List ℕ → DeriveFault → Type 0
 Fails among given j i name e = IsNotGiven j i given × IsFaultOf among j i name e
 
--- The externals of a module with their indices, from 1: the name of each, and whether it is local.
+-- The externals of a module: the index of each, from 1, its name, and whether it is local.
 abbrev pub External : Type 0
 External = ℕ × (List ℕ × Bool)
 
 abbrev pub numbered : PlacedModule → List External
 numbered m = enumerate_from 1 (named_externals m.0)
 
--- The placement of a module with its number: its place's segments and groups, and the place that each external takes, in order.
+-- The derived placement of a module with its number: the segments and groups of its placement, and the place of each external, in order.
 pub record IsPlacement (ms : List PlacedModule) (given : List Given) (m : ℕ × PlacedModule) (pl : Places) : Type 0 where
   pub segments : pl.segments ≡ m.1.1.segments
   pub groups : pl.groups ≡ m.1.1.groups
@@ -100,11 +101,11 @@ pub record IsPlacement (ms : List PlacedModule) (given : List Given) (m : ℕ ×
 abbrev pub AreDerived : List PlacedModule → List Given → List Places → Type 0
 AreDerived ms given pls = AllZip (IsPlacement ms given) (enumerate_from 0 ms) pls
 
--- Each of these externals of module j takes a place, among the publics that it sees.
+-- Each of these externals of module j has a place, by the publics that it can refer to.
 abbrev pub AllTake : (Bool → List PlacedPublic) → List Given → ℕ → List External → Type 0
 AllTake among given j es = All (λ e. (p : Placed) × Takes (among e.1.1) given j e.0 e.1.0 p) es
 
--- An external has a fault, and each before it in its module takes a place.
+-- An external has a fault, and each before it in its module has a place.
 pub record IsFirstIn (among : Bool → List PlacedPublic) (given : List Given) (j : ℕ) (es : List External) (f : DeriveFault) : Type 0 where
   pub before : List External
   pub external : External
@@ -113,7 +114,7 @@ pub record IsFirstIn (among : Bool → List PlacedPublic) (given : List Given) (
   pub earlier : AllTake among given j before
   pub fails : Fails (among external.1.1) given j external.0 external.1.0 f
 
--- The first fault: that of the first such external of the first module that has one.
+-- The first fault: that of the first external at fault of the first module that has one.
 pub record IsFirstAmong (all : List PlacedModule) (given : List Given) (ms : List (ℕ × PlacedModule)) (f : DeriveFault) : Type 0 where
   pub before : List (ℕ × PlacedModule)
   pub «module» : ℕ × PlacedModule
@@ -125,18 +126,18 @@ pub record IsFirstAmong (all : List PlacedModule) (given : List Given) (ms : Lis
 abbrev pub IsFirstFault : List PlacedModule → List Given → DeriveFault → Type 0
 IsFirstFault ms given f = IsFirstAmong ms given (enumerate_from 0 ms) f
 
--- What is computed is what the words say.
+-- The computed placements and faults are those defined above.
 pub record DerivedIsTaken (ms : List PlacedModule) (given : List Given) : Type 0 where
   pub placements : (pls : List Places) → (derived ms given ≡ Ok pls) ↔ AreDerived ms given pls
   pub fault : (f : DeriveFault) → (derived ms given ≡ Err f) ↔ IsFirstFault ms given f
 
--- The place of a module has an entry for each of its segments and groups, and no other.
+-- The placement of a module has an entry for each of its segments and groups, and no other.
 pub record IsPlaceOf (m : PlacedModule) : Type 0 where
   pub segments : length m.1.segments ≡ length (segments m.0)
   pub groups : length m.1.groups ≡ length (groups m.0)
 
--- Where the base of a PUBDEF or an LPUBDEF begins, with nothing in the place of an entry that is missing: at the place of the segment that it names, or
--- where it names none (index 0) at its base frame; and its frame, which is that of the group that it names, or where it names none that of where it begins.
+-- The start of the base of a PUBDEF or an LPUBDEF, without defaults for missing entries: the place of its segment, or, if that is 0, its base frame; and
+-- the frame of the base: that of its group, or, if that is 0, that of the start.
 abbrev pub BeginsAt : Places → PublicItems → Placed → Type 0
 BeginsAt pl p start = (entry pl.segments p.segment.item ≡ Some start) ⊎ ((number : ℕ) × (p.segment.item ≡ 0) × (p.frame ≡ Some number) × (start ≡ paragraph number))
 
@@ -149,14 +150,13 @@ pub record IsBase (pl : Places) (p : PublicItems) (base : Placed) : Type 0 where
   pub address : base.address ≡ start.address
   pub frame : HasBaseFrame pl p start base.frame
 
--- The base from which the publics of a module are computed is that, in each of its places: what the computation takes where an entry or a number is missing
--- is never met.
+-- For each PUBDEF and LPUBDEF of a well-formed module the computed base is this one: its defaults for missing entries and numbers are never used.
 abbrev pub BasesAreFound : Type 0
 BasesAreFound = (limits : Limits) (m : List Rec) (pl : Places) → ModuleHolds limits m → IsPlaceOf (m, pl)
     → (before after : List Rec) (r : Rec) (p : PublicItems) → m ≡ before ++ r ∷ after → r.contents ≡ Publics p
     → IsBase pl p (base_of pl p.group.item p.segment.item p.frame)
 
--- A derived placement keeps the segments and groups of its module's place, and has an entry for each external.
+-- A derived placement keeps the segments and groups of its module's placement, and has an entry for each external.
 pub record KeepsPlace (m : PlacedModule) (pl : Places) : Type 0 where
   pub segments : pl.segments ≡ m.1.segments
   pub groups : pl.groups ≡ m.1.groups
@@ -165,7 +165,7 @@ pub record KeepsPlace (m : PlacedModule) (pl : Places) : Type 0 where
 abbrev pub DerivedFit : Type 0
 DerivedFit = (ms : List PlacedModule) (given : List Given) (pls : List Places) → derived ms given ≡ Ok pls → AllZip KeepsPlace ms pls
 
--- An answer is what is defined: exactly these placements, or exactly this fault. Of want of memory nothing is said.
+-- A result is the defined one: exactly these placements, or exactly this fault. Memory may be returned at any time.
 abbrev pub IsDerived : Result (List Places) DeriveFault → Result (List Places) DeriveFault → Type 0
 IsDerived r (Ok pls) = r ≡ Ok pls
 IsDerived r (Err f) = (f ≡ fault.Memory) ⊎ (r ≡ Err f)

@@ -1,4 +1,5 @@
--- The publics of modules that are placed, and among which of them an external looks for its name (this profile's rule; TIS OMF 1.1, "PUBDEF").
+-- The publics of placed modules, and those that an external can refer to (TIS OMF 1.1, "PUBDEF"; which publics an external can refer to is a rule of this
+-- profile).
 use Rattle.std.specs.Prelude.{ℕ, ◌+◌, ◌*◌, List, [], map, flat_map, zip, Bool, true, false, Option, unwrap_or, ◌==◌, if◌then◌else◌}
 use Rattle.omf_records.specs.Values.{At, Rec, Contents, Publics, PublicItem}
 use Rattle.omf_frame.specs.Types.{is_local}
@@ -10,36 +11,36 @@ use Rattle.omf_derive.specs.declared.given.Given.{Given}
 use Rattle.omf_placement.specs.declared.frame.Placed.{Placed}
 use Rattle.omf_placement.specs.Placement.{Places, placed, group_frame}
 
--- A module and its place: the places of its segments and groups.
+-- A module and its placement, of which the segments and groups count.
 abbrev pub PlacedModule : Type 0
 PlacedModule = List Rec × Places
 
--- Modules and their places.
+-- Modules and their placements.
 abbrev pub placed_modules : List Module → List Places → List PlacedModule
 placed_modules ms pls = zip (map (λ m. recs (records_in m.bytes)) ms) pls
 
--- A public: its name, and where the place of its module puts it.
+-- A public: its name, and its place by the placement of its module.
 pub record PlacedPublic : Type 0 where
   pub name : List ℕ
   pub place : Placed
 
--- A place at a frame's number: the frame begins there.
+-- The place at the start of the frame with a number.
 abbrev pub paragraph : ℕ → Placed
 paragraph number = record { address = 16 * number; frame = record { base = 16 * number; selector = number } }
 
--- Where a PUBDEF's segment lies, by its index; where it names none, its base frame, by its number.
+-- The place of a PUBDEF's segment; if that is 0, the start of its base frame.
 abbrev pub segment_base : Places → ℕ → Option ℕ → Placed
 segment_base pl segment number = if segment == 0 then paragraph (unwrap_or number 0) else placed pl.segments segment
 
--- The base of a PUBDEF, by the indices of its group and its segment: the address is that of its segment or base frame; the frame is that of the group that
--- it names, else that of its segment or base frame.
+-- The base of a PUBDEF, by the indices of its group and its segment: the address is that of its segment or base frame; the frame is that of its group; if
+-- that is 0, that of its segment or base frame.
 abbrev pub base_of : Places → ℕ → ℕ → Option ℕ → Placed
 base_of pl group segment number = record {
   address = (segment_base pl segment number).address;
   frame = if group == 0 then (segment_base pl segment number).frame else group_frame pl group;
 }
 
--- A public of a name, at an address in a frame; the publics of a PUBDEF whose base is at an address in a frame, each at its offset.
+-- A public at an address in a frame; the publics of a PUBDEF, each at its offset from the base.
 abbrev pub public_at : List ℕ → ℕ → Frame → PlacedPublic
 public_at name address frame = record { name = name; place = record { address = address; frame = frame } }
 
@@ -50,20 +51,20 @@ abbrev pub placed_publics : Places → Contents → List PlacedPublic
 placed_publics pl (Publics p) = publics_at (base_of pl p.group.item p.segment.item p.frame) p.items
 placed_publics pl _ = []
 
--- The local publics of a record, or the others: an LPUBDEF defines local ones, a PUBDEF others.
+-- The local publics of a record, or its other publics. Those of an LPUBDEF are local, those of a PUBDEF are not.
 abbrev pub record_publics : Bool → Places → ℕ → Contents → List PlacedPublic
 record_publics true pl kind c = if is_local kind then placed_publics pl c else []
 record_publics false pl kind c = if is_local kind then [] else placed_publics pl c
 
--- Those of a module. A name that is twice in one module counts twice.
+-- The local publics of a module, or its other publics. A name that occurs twice in one module counts twice.
 abbrev pub publics : Bool → PlacedModule → List PlacedPublic
 publics local m = flat_map (λ r. record_publics local m.1 r.kind r.contents) m.0
 
 abbrev pub all_publics : List PlacedModule → List PlacedPublic
 all_publics ms = flat_map (publics false) ms
 
--- Where an external of a module looks for its name: that of a LEXTDEF or an LCOMDEF among the local publics of the module, that of an
--- EXTDEF or a COMDEF among the publics of all modules.
+-- The publics that an external of a module can refer to: a LEXTDEF's or an LCOMDEF's, the local publics of the module; an EXTDEF's or a
+-- COMDEF's, the publics of all modules that are not local.
 abbrev pub seen_publics : List PlacedModule → PlacedModule → Bool → List PlacedPublic
 seen_publics ms m local = if local then publics true m else all_publics ms
 
@@ -71,6 +72,6 @@ seen_publics ms m local = if local then publics true m else all_publics ms
 abbrev pub named_externals : List Rec → List (List ℕ × Bool)
 named_externals m = zip (externals m) (locals m)
 
--- The first given entry of an external. It counts whatever publics there are.
+-- The place of a given entry.
 abbrev pub place_in : Given → Placed
 place_in g = record { address = g.address; frame = g.frame }

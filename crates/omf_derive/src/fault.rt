@@ -1,14 +1,14 @@
-//! Why placements are not derived.
+//! Faults of a derivation.
 
 use std::alloc::{AllocError, AllocFailed};
 use thiserror::Error;
 
-/// Why no placements are derived. The numbers of the reasons are 1 to 4.
+/// Why no placements are derived. The reasons have the numbers 1 to 4.
 ///
-/// A fault that names an external names the first at fault, by module (from 0), then by external (from 1).
+/// The external of a fault is the first at fault, by module (from 0), then by index (from 1).
 #[derive(Clone, Copy, Debug, PartialEq, Eq, Error)]
 pub enum DeriveFault {
-    /// 1: a growth was refused.
+    /// 1: out of memory.
     #[error("memory ran out")]
     Memory,
     /// 2: no public has the external's name.
@@ -16,7 +16,7 @@ pub enum DeriveFault {
     Undefined {
         /// The module, from 0.
         module: u32,
-        /// The index of the external in it, from 1.
+        /// The index of the external in the module, from 1.
         external: u16,
     },
     /// 3: two or more publics have the external's name.
@@ -24,7 +24,7 @@ pub enum DeriveFault {
     Twice {
         /// The module, from 0.
         module: u32,
-        /// The index of the external in it, from 1.
+        /// The index of the external in the module, from 1.
         external: u16,
     },
     /// 4: the public's address is 2^32 or more.
@@ -32,7 +32,7 @@ pub enum DeriveFault {
     TooHigh {
         /// The module, from 0.
         module: u32,
-        /// The index of the external in it, from 1.
+        /// The index of the external in the module, from 1.
         external: u16,
     },
 }

@@ -1,4 +1,4 @@
-//! Externals that are placed by hand.
+//! Externals with a given place.
 
 ghost use Rattle.std.specs.Prelude.{◌≡◌, IfOk, List};
 ghost use Rattle.omf_derive.specs.Inner.Derived.{given_place};
@@ -8,7 +8,8 @@ use omf_placement::{Frame, Placed};
 use std::alloc::{AllocError, Global};
 use std::collections::BTreeMap;
 
-/// An external of one of several modules, and where it lies. The first that names an external counts, and wins over any public.
+/// The given place of an external of one of several modules. Of several entries for an external the first counts; it takes precedence
+/// over publics.
 #[derive(Clone, Copy, Debug, PartialEq, Eq)]
 pub struct Given {
     /// The module, from 0.
@@ -21,7 +22,7 @@ pub struct Given {
     pub frame: Frame,
 }
 
-/// The places that externals are given first, by module and external.
+/// The given place of each external, by module and index: that of its first entry.
 #[derive(Drop)]
 pub(crate) struct GivenTable {
     by_external: BTreeMap<(u32, u16), Placed>,
@@ -30,7 +31,7 @@ pub(crate) struct GivenTable {
 impl GivenTable {
     ghost use Rattle.omf_derive.specs.declared.given.Given.{Given};
 
-    /// The places of these entries.
+    /// The table of these entries.
     pub(crate) fn of(alloc: Global, given: &[Given]) -> Result<GivenTable, AllocError>
         ensures { IfOk result (λ t. IsGivenTable t.by_external given.now) }
     {
@@ -48,7 +49,7 @@ impl GivenTable {
         Ok(GivenTable { by_external })
     }
 
-    /// The place that an external is given.
+    /// The given place of an external, if any.
     pub(crate) fn place_of(&self, module: u32, external: u16) -> Option<Placed>
         ensures { (given : List Given) → IsGivenTable self.now.by_external given → result ≡ given_place given «module» external }
     {

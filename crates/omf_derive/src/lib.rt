@@ -1,4 +1,4 @@
-//! Placements of several modules, in which each external finds the one public of its name.
+//! Placements of several modules that resolve each external to the only public with its name.
 #![tactic(auto)]
 
 mod fault;

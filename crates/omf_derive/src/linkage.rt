@@ -1,4 +1,4 @@
-//! Placements of several modules, in which each external has the place of the public of its name.
+//! Derivation of the places of externals from the publics of several modules.
 
 ghost use Rattle.std.specs.Prelude.{◌≡◌, ◌<◌, ◌^◌, length, List, Bool, true, false};
 ghost use Rattle.omf_records.specs.Inner.Seen.{map_ok};
@@ -18,7 +18,7 @@ use omf_check::Checked;
 use omf_placement::{Placed, Placement};
 use std::alloc::Global;
 
-/// The place of an external of this name: that which it is given, or else that of the one public of its name.
+/// The place of an external with this name: the given one, or else that of the only public with its name.
 fn external_place<'a>(
     table: &PublicTable<'a>,
     given: &GivenTable,
@@ -34,7 +34,7 @@ fn external_place<'a>(
     }
 }
 
-/// The place of an external of this name, which is local or not.
+/// The place of an external with this name, by the publics that it can refer to: those of its own module if it is local, else all.
 fn visible_place<'a>(
     all: &PublicTable<'a>,
     own: &PublicTable<'a>,
@@ -53,8 +53,8 @@ fn visible_place<'a>(
     }
 }
 
-/// The places of the externals of a module of this number, or the fault of the first that has none. A local one has its place among
-/// the module's own local publics.
+/// The places of the externals of the module with this number, or the fault of the first that has none. A local external refers to the
+/// module's own local publics.
 fn external_places<'a>(
     alloc: Global,
     all: &PublicTable<'a>,
@@ -77,14 +77,18 @@ fn external_places<'a>(
     Ok(places)
 }
 
-/// Placements of modules, each of which lies where its place says, with an entry for each of its externals: that which it is first
-/// given, or else the address and frame of the one public of its name: of all those that the PUBDEFs of the modules define, and for a
-/// local external of those that its own module's LPUBDEFs define. A public's address is that of
-/// its segment plus its offset; where it names no segment, 16 times its base frame's number plus its offset. Its frame is that of the
-/// group that it names, or else of its segment, or else that of its base frame's number.
+/// Derives the placement of each module: the segments and groups of its placement in `places`, and a place for each of its externals.
+/// That is the place of its first entry in `given`, or else the address and the frame of the only public with its name, among those of
+/// the PUBDEF records of all modules, or for a local external those of the LPUBDEF records of its own module. There must be as many
+/// `places` as modules, and fewer than 2^32.
 ///
-/// A fault names the first external that has no place, by module, then by index: where no public has its name, where two or more have,
-/// or where the public's address is 2^32 or more. A growth that is refused is `Memory`.
+/// The address of a public is that of its segment plus its offset; without a segment, 16 times its base frame number plus its offset.
+/// Its frame is that of its group; without a group, that of its segment or base frame (TIS OMF 1.1, "PUBDEF").
+///
+/// # Errors
+///
+/// `Undefined`, `Twice` or `TooHigh` with the first external, by module, then by index, whose name no public has, two or more publics
+/// have, or a public at an address of 2^32 or more has. `Memory` if out of memory.
 pub fn derive(
     alloc: Global,
     modules: &[Checked],

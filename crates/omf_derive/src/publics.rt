@@ -18,10 +18,10 @@ use omf_records::{Items, Public, Rec};
 use std::alloc::{AllocError, Global};
 use std::collections::BTreeMap;
 
-/// What stands under a name.
+/// The publics with one name.
 #[derive(Clone, Copy, Drop)]
 pub enum Found {
-    /// One public, at an address that may be 2^32 or more.
+    /// A single public. Its address may be 2^32 or more.
     One {
         /// Its address.
         address: u64,
@@ -32,19 +32,7 @@ pub enum Found {
     Several,
 }
 
-/// A frame that counts from address 0.
-const NO_FRAME: Frame = Frame {
-    base: 0,
-    selector: 0,
-};
-
-/// What stands for a place that a placement does not have.
-const NO_PLACE: Placed = Placed {
-    address: 0,
-    frame: NO_FRAME,
-};
-
-/// The place of a frame's number: the frame begins there.
+/// The place at the start of the frame with this number.
 fn paragraph(number: u16) -> Placed
     ensures { result ≡ paragraph number }
 {
@@ -59,7 +47,7 @@ fn paragraph(number: u16) -> Placed
     }
 }
 
-/// Where the base of a PUBDEF lies that names a group and a segment by their indices, and where that is 0 a frame by its number.
+/// The base of a PUBDEF with these indices of its group and its segment, and, if the segment is 0, this number of its base frame.
 fn base_of(placement: &Placement, group: Index, segment: Index, number: Option<u16>) -> Placed
     ensures { result ≡ base_of placement.now group segment number }
 {
@@ -68,13 +56,13 @@ fn base_of(placement: &Placement, group: Index, segment: Index, number: Option<u
     } else {
         match placement.segment(usize::from(segment.0)) {
             Some((address, frame)) => Placed { address, frame },
-            None => NO_PLACE,
+            None => Placed::NONE,
         }
     };
     let frame = if group.0 == 0 {
         base.frame
     } else {
-        placement.group(usize::from(group.0)).unwrap_or(NO_FRAME)
+        placement.group(usize::from(group.0)).unwrap_or(Frame::NONE)
     };
     Placed {
         address: base.address,
@@ -82,13 +70,13 @@ fn base_of(placement: &Placement, group: Index, segment: Index, number: Option<u
     }
 }
 
-/// The publics of some modules.
+/// Publics by name.
 #[derive(Drop)]
 pub struct PublicTable<'a> {
     by_name: BTreeMap<&'a [u8], Found>,
 }
 
-/// What stands under a name once there is one more public of it, where this stood there before.
+/// The publics with one name after one more is added.
 fn with_one_more(found: Option<Found>, address: u64, frame: Frame) -> Found
     ensures { result ≡ found_after (record { address = address; frame = frame }) found }
 {
@@ -105,16 +93,12 @@ fn is_local(kind: u8) -> bool
     matches!(kind, 0xB4..=0xB8 | 0xCA)
 }
 
-/// Whether the publics of a record of this type are among those that are asked for: the local ones, or the others.
+/// Whether the publics of a record of this type are local, if `local` is set, or not local otherwise.
 fn has_asked(local: bool, kind: u8) -> bool
     ensures some { result ≡ true → (pl : Places) (c : Contents) → record_publics local pl kind c ≡ placed_publics pl c }
     ensures none { result ≡ false → (pl : Places) (c : Contents) → record_publics local pl kind c ≡ [] }
 {
-    if local {
-        is_local(kind)
-    } else {
-        !is_local(kind)
-    }
+    is_local(kind) == local
 }
 
 impl<'a> PublicTable<'a> {
@@ -127,7 +111,7 @@ impl<'a> PublicTable<'a> {
         Ok(())
     }
 
-    /// Adds a public of a PUBDEF with this base.
+    /// Adds a public of a PUBDEF or an LPUBDEF with this base.
     fn add_public(&mut self, public: &Public<'a>, base: Placed) -> Result<(), AllocError>
         ensures { OnOk result (HasMore self.old.by_name self.new.by_name (public_at public.now.name (base.address + public.now.offset) base.frame ∷ [])) }
     {
@@ -135,7 +119,7 @@ impl<'a> PublicTable<'a> {
         self.add(public.name.0, address, base.frame)
     }
 
-    /// Adds the publics of a PUBDEF with this base.
+    /// Adds the publics of a PUBDEF or an LPUBDEF with this base.
     fn add_items(&mut self, items: Items<Public<'a>>, base: Placed) -> Result<(), AllocError>
         ensures { OnOk result (HasMore self.old.by_name self.new.by_name (publics_at base items.entry)) }
     {
@@ -174,7 +158,7 @@ impl<'a> PublicTable<'a> {
         }
     }
 
-    /// Adds the publics of a record if they are among those that are asked for.
+    /// Adds the publics of a record if they are local, or if they are not.
     #[tactic(auto, using(crate::proofs::TableLaws::none_more, crate::proofs::TableLaws::same_more))]
     fn add_asked(
         &mut self,
@@ -190,7 +174,7 @@ impl<'a> PublicTable<'a> {
         self.add_record(rec, placement)
     }
 
-    /// Adds the local publics of a module, or the others.
+    /// Adds the local publics of a module, or its other publics.
     fn add_module(
         &mut self,
         local: bool,
@@ -205,7 +189,7 @@ impl<'a> PublicTable<'a> {
         Ok(())
     }
 
-    /// The local publics of a module, which has this placement.
+    /// The local publics of a module with this placement.
     pub(crate) fn of_locals(
         alloc: Global,
         module: &'a Checked,
@@ -220,7 +204,7 @@ impl<'a> PublicTable<'a> {
         Ok(table)
     }
 
-    /// The publics of modules that are not local, each module with its placement.
+    /// The publics of all modules that are not local, each module with its placement.
     pub(crate) fn of(
         alloc: Global,
         modules: &'a [Checked],
@@ -238,7 +222,7 @@ impl<'a> PublicTable<'a> {
         Ok(table)
     }
 
-    /// The place of an external of this name, which is that of the one public of its name.
+    /// The place of an external with this name: that of the only public with its name.
     pub(crate) fn place_of(
         &self,
         name: &'a [u8],

@@ -23,7 +23,7 @@ use Rattle.omf_draft.specs.Reading.{HasEntries, IsReadBack}
 use Rattle.omf_draft.specs.Text.{border as border_line, part_text, module_text, link_text}
 use Rattle.omf_draft.proofs.EntryLaws.{link_read, blanks, more-blanks, given_frame, entries_for, IsToldPart, part-is-told}
 
--- ---- what is picked of the entries of a part
+-- ---- the entries of a part that are picked
 
 picks : {C : Type 0} (pick : ℕ × Option Entry → Option C) (n : ℕ) (a b : List Entry) (p q : List C) → filter_map pick (told_from n a) ≡ p → filter_map pick (told_from (n + length a) b) ≡ q → filter_map pick (told_from n (a ++ b)) ≡ p ++ q
 picks pick n a b p q h k =
@@ -117,7 +117,7 @@ no-borders : (n : ℕ) (xs : List Entry) → filter_map border (told_from n (lin
 no-borders n [] = refl
 no-borders n (x ∷ xs) = no-borders (n + 1) xs
 
--- A part of a module's places, which gives no external.
+-- A part with a module's places, without externals.
 record IsPartOf (m : List Rec) (pl : Places) (p : Part) : Type 0 where
   pub place : place_of m p ≡ Ok pl
   pub none : p.given ≡ []
@@ -133,7 +133,7 @@ one-part m pl c k n none =
 
 -- ---- parts, one after another
 
--- The parts that lines from a border on are.
+-- The parts of lines from a border on.
 abbrev parts_from : ℕ → List Line → List Part
 parts_from k ls = map part_of (zip (k ∷ filter_map border ls) (slice_split is_border ls))
 
@@ -173,7 +173,7 @@ record Follows (text : List ℕ) (ms : List (List Rec)) (pls : List Places) : Ty
   pub told : SpellsLines link_read text entries
   pub read : (k n : ℕ) (m : List Rec) (pl : Places) (c : ℕ) → pl.externals ≡ [] → AreRead (m ∷ ms) (pl ∷ pls) (parts_from k (told_from n (links (entries_for pl c) ++ (entries ++ OfPlacement Blank ∷ []))))
 
--- At the end of the text one more line says nothing.
+-- At the end of the text there is one more line, which is blank.
 one-blank : (pl : Places) (c : ℕ) → entries_for pl c ++ Blank ∷ [] ≡ entries_for pl (c + 1)
 one-blank pl c =
     let s = map SegmentEntry pl.segments in

@@ -1,4 +1,4 @@
--- What the lines of a draft say as lines of a link's text.
+-- The entries of a draft's lines as lines of a link's text.
 use Rattle.std.proofs.Common.{◌≡◌, ℕ, zero, suc, ◌+◌, Bool, true, false, List, [], ◌∷◌, ◌++◌, length, refl, sym, ap, subst, ◌∙◌, append_assoc, arith, codes}
 use Rattle.std.specs.Prelude.{flat_map, map, All, Option, Some, option_and_then, bytes_eq, decimal, if◌then◌else◌}
 use Rattle.std.specs.List.{enumerate_from, zip}
@@ -36,7 +36,7 @@ use Rattle.omf_draft.specs.Text.{module_name, name_line, segment_lines, group_li
 abbrev pub link_read : List ℕ → Option LinkEntry
 link_read text = link_entry_said (said text)
 
--- ---- a line of a placement text says the same in the text of a link
+-- ---- a line of a placement text has the same entry in a link's text
 
 no-x : (ws : List (List ℕ)) (e : Entry) → entry_of_words (codes "X" ∷ ws) ≡ Some e → ⊥
 no-x [] e h = none-some e h
@@ -63,14 +63,14 @@ same-line text e g h = record { body = h.body; is = h.is; unbroken = h.unbroken;
 
 -- ---- texts of such lines
 
--- A text is whole lines that say these entries.
+-- A text is whole lines with these entries.
 abbrev pub Told : List ℕ → List Entry → Type 0
 Told text xs = SpellsLines link_read text (map OfPlacement xs)
 
 pub told-both : (a b : List ℕ) (xs ys : List Entry) → Told a xs → Told b ys → Told (a ++ b) (xs ++ ys)
 told-both a b xs ys h k = subst (SpellsLines link_read (a ++ b)) (sym (map-append OfPlacement xs ys)) (more-lines link_read a b (map OfPlacement xs) (map OfPlacement ys) h k)
 
--- So many lines that say nothing.
+-- n lines without entries.
 abbrev pub blanks : ℕ → List Entry
 blanks zero = []
 blanks (suc c) = Blank ∷ blanks c
@@ -100,7 +100,7 @@ wanted-is-line : (i : ℕ) (name : List ℕ) (room : Option ℕ) → IsLineOf li
 wanted-is-line i name room =
     let comment : List (List ℕ) = decimal i ∷ quoted name ∷ room_text room ∷ [] in
     let entry : Passes is_printed (wanted_entry i)
-    = both-pass is_printed (codes "; X " ++ number i) (codes " address frame selector") (both-pass is_printed (codes "; X ") (number i) refl (marks-printed (number i) (marks-number i))) refl in
+    = both-pass is_printed (codes "; X " ++ number i) (codes " address base selector") (both-pass is_printed (codes "; X ") (number i) refl (marks-printed (number i) (marks-number i))) refl in
     record {
       body = wanted_entry i ++ codes " ; " ++ in_words comment;
       is = refl;
@@ -118,7 +118,7 @@ blank-wanted among [] = record { count = 0; told = no-lines link_read }
 blank-wanted among (e ∷ es) =
     both-blank (external_text among e) (flat_map (external_text among) es) (wanted-or-none (has_name (among e.1.0.1) e.1.0.0) e.0 e.1.0.0 e.1.1) (blank-wanted among es)
 
--- What the lines of a table's entries say.
+-- The entries of the lines of a table.
 second-of : {A B : Type 0} (say : B → Entry) (j : ℕ) (xs : List A) (ys : List B) → length ys ≡ length xs → map (λ s. say s.1.1) (enumerate_from j (zip xs ys)) ≡ map say ys
 second-of say j [] [] h = refl
 second-of say j [] (y ∷ ys) h = absurd (omega arith)
@@ -161,7 +161,7 @@ told-groups m fs count short =
     (all-lines IsShortFrame (λ g. IsLineOf link_read (group_line m g) (OfPlacement (given_frame g.1.1)))
     (λ g k. same-line (group_line m g) (given_frame g.1.1) refl (group-is-line (Flat 0) m [] g k)) 1 (groups m) fs short)
 
--- What a part says, and behind it some lines that say nothing.
+-- The entries of a part, followed by lines without entries.
 abbrev pub entries_for : Places → ℕ → List Entry
 entries_for pl c = Blank ∷ (map SegmentEntry pl.segments ++ (map given_frame pl.groups ++ blanks c))
 

@@ -54,7 +54,7 @@ table-more m n x v u names h name = elim (cases_Bool (bytes_eq x name)) [
 pub fill-empty : (m n : Map) (all : List (List ℕ)) → m.entries ≡ [] → HasMore m n all → IsNameTable n all
 fill-empty m n all e g = g [] (λ name. ap (λ xs. is_some (lookup (is_at (λ k. slice_cmp nat_cmp name k.now)) xs)) e)
 
--- No name more; and the same names by other words.
+-- No further name; and the same names written in another way.
 pub none_more : (m : Map) (xs : List (List ℕ)) → xs ≡ [] → HasMore m m xs
 none_more m xs e = subst (HasMore m m) (sym e) (λ names h. subst (IsNameTable m) (sym (append-nil names)) h)
 

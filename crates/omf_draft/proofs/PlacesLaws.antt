@@ -17,10 +17,12 @@ use Rattle.omf_layout.specs.Reading.{IsShortFrame, IsShortPlace, AreShort}
 use Rattle.omf_layout.proofs.TableLaws.{entry-at}
 use Rattle.omf_linking.specs.Parts.{parsed_parts}
 use Rattle.omf_linking.specs.Placing.{places_of}
-use Rattle.omf_arrange.specs.Laws.{FitsSoFar, FitModules, PlacedLieApart}
-use Rattle.omf_arrange.specs.Laying.{laid}
-use Rattle.omf_arrange.specs.Placing.{arranged_places}
-use Rattle.omf_arrange.proofs.FitLaws.{places-fit, places-lie-apart}
+use Rattle.omf_layout.specs.Several.Laws.{PlacedLieApart}
+use Rattle.omf_layout.specs.Several.Laying.{laid}
+use Rattle.omf_layout.specs.Several.Placing.{arranged_places}
+use Rattle.omf_layout.proofs.SeveralLaws.FitLaws.{places-lie-apart}
+use Rattle.omf_draft.specs.Fit.{FitsSoFar, FitModules}
+use Rattle.omf_draft.proofs.FitLaws.{places-fit}
 use Rattle.omf_draft.specs.Laws.{IsDraft, DraftsAreRead, DraftsFit, DraftsLieApart}
 use Rattle.omf_draft.specs.Reading.{GivesPlaces, HasEntries}
 use Rattle.omf_draft.specs.Text.{link_text}
@@ -38,7 +40,7 @@ all-have o ms l h = each-has ms l.what (places-fit o ms l h).so_far
 pub drafts-are-read : DraftsAreRead
 drafts-are-read o ms l h some short = link-text-read o.frames ms l.what some (all-have o ms l h) short
 
--- What a draft's text gives the modules is what it was made of.
+-- The draft's text gives the modules the places that it was made of.
 same-value : {A E : Type 0} (r : Result A E) (x y : A) → r ≡ Ok x → r ≡ Ok y → x ≡ y
 same-value r x y e f = cc
 
@@ -54,7 +56,7 @@ drafts-fit o ms l pls d g = subst (FitModules ms) (given-same o ms l pls d g) (p
 pub drafts-lie-apart : DraftsLieApart
 drafts-lie-apart o ms l pls d g = subst (λ xs. PlacedLieApart o ms (laid xs l.free)) (given-same o ms l pls d g) (places-lie-apart o ms l d.is)
 
--- The entries of a module.
+-- The numbers of entries of a module.
 pub has-at : (ms : List Module) (pls : List Places) (j : ℕ) (m : Module) (pl : Places) → m ≡ get_or ms j m → pl ≡ get_or pls j pl → j < length ms → AllZip HasEntries (typed_modules ms) pls → HasEntries (recs (records_in m.bytes)) pl
 has-at [] pls j m pl a b l h = absurd (omega (arith, l))
 has-at (x ∷ ms) [] j m pl a b l h = absurd h
@@ -64,14 +66,14 @@ has-at (x ∷ ms) (y ∷ pls) (suc j) m pl a b l h = has-at ms pls j m pl a b (o
 pub as-many : (ms : List Module) (pls : List Places) → AllZip HasEntries (typed_modules ms) pls → length pls ≡ length ms
 as-many ms pls h = AllZip-long HasEntries (typed_modules ms) pls h ∙ length-map ms (λ (m : Module). recs (records_in m.bytes))
 
--- Places of short numbers.
+-- Places with short numbers.
 pub is-short : (m : List Rec) (pl : Places) → HasEntries m pl → All IsShortPlace pl.segments → All IsShortFrame pl.groups → AreShort pl
 is-short m pl h s g = record { segments = s; groups = g; externals = subst (All IsShortPlace) (sym h.externals) (All-nil IsShortPlace) }
 
 pub here-at : (pls : List Places) (j : ℕ) (pl : Places) → pl ≡ get_or pls j pl → j < length pls → entry pls (j + 1) ≡ Some pl
 here-at pls j pl e low = entry-at pls j ∙ slice_get-get_or pls j pl low ∙ ap Some (sym e)
 
--- One more part is written: the line in front of it, and the part.
+-- One more part is printed: the line before it, and the part.
 pub more-parts : (old mid new front part rest left all : List ℕ) → mid ≡ old ++ front → new ≡ mid ++ part → left ≡ (front ++ part) ++ rest → old ++ left ≡ all → new ++ rest ≡ all
 more-parts old mid new front part rest left all e f g h =
     ap (λ t. t ++ rest) (f ∙ ap (λ t. t ++ part) e ∙ append_assoc old front part) ∙ append_assoc old (front ++ part) rest ∙ ap (λ t. old ++ t) (sym g) ∙ h
@@ -79,7 +81,7 @@ more-parts old mid new front part rest left all e f g h =
 pub all-parts : (now left all : List ℕ) → left ≡ [] → now ++ left ≡ all → now ≡ all
 all-parts now left all e h = sym (append-nil now) ∙ ap (λ t. now ++ t) (sym e) ∙ h
 
--- What is written in four steps.
+-- What is printed in four steps.
 pub four-steps : (t0 t1 t2 t3 a b c d : List ℕ) → t1 ≡ t0 ++ a → t2 ≡ t1 ++ b → t3 ≡ t2 ++ c → t3 ++ d ≡ t0 ++ (a ++ b ++ c ++ d)
 four-steps t0 t1 t2 t3 a b c d e f g =
     ap (λ t. t ++ d) (g ∙ ap (λ t. t ++ c) (f ∙ ap (λ t. t ++ b) e ∙ append_assoc t0 a b) ∙ append_assoc t0 (a ++ b) c) ∙ append_assoc t0 (a ++ b ++ c) d

@@ -1,4 +1,4 @@
--- The names that publics define, and where an external looks for its own (TIS OMF 1.1, "PUBDEF", "LPUBDEF").
+-- The names that publics define, and those that an external sees (TIS OMF 1.1, "PUBDEF", "LPUBDEF").
 use Rattle.std.specs.Prelude.{◌≡◌, ℕ, List, [], ◌∷◌, ◌++◌, map, flat_map, Bool, true, false, ◌||◌, bytes_eq, is_some, if◌then◌else◌}
 use Rattle.std.specs.BTreeMap.{BTreeMap, get_by}
 use Rattle.std.specs.Cmp.Lexicographic.{slice_cmp}
@@ -27,11 +27,11 @@ public_names local m = flat_map (λ r. names_asked local r.kind r.contents) m
 abbrev pub all_names : List (List Rec) → List (List ℕ)
 all_names ms = flat_map (public_names false) ms
 
--- Where an external of a module looks: a local one among the local publics of its module, any other among the publics of all modules.
+-- The names that an external sees: a local one those of the local publics of its module, any other those of the publics of all modules.
 abbrev pub seen_names : List (List Rec) → List Rec → Bool → List (List ℕ)
 seen_names ms m local = if local then public_names true m else all_names ms
 
--- A name is one of some.
+-- A name is in a list.
 abbrev pub has_name : List (List ℕ) → List ℕ → Bool
 has_name [] name = false
 has_name (x ∷ xs) name = bytes_eq x name || has_name xs name
@@ -40,6 +40,6 @@ has_name (x ∷ xs) name = bytes_eq x name || has_name xs name
 abbrev pub IsNameTable : BTreeMap (Bor (List ℕ)) (Unit {0}) → List (List ℕ) → Type 0
 IsNameTable m names = (name : List ℕ) → is_some (get_by (λ k. slice_cmp nat_cmp name k.now) m) ≡ has_name names name
 
--- A table has these names more than another.
+-- A table has these names in addition to those of another.
 abbrev pub HasMore : BTreeMap (Bor (List ℕ)) (Unit {0}) → BTreeMap (Bor (List ℕ)) (Unit {0}) → List (List ℕ) → Type 0
 HasMore m n more = (names : List (List ℕ)) → IsNameTable m names → IsNameTable n (names ++ more)

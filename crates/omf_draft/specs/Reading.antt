@@ -1,4 +1,4 @@
--- What a draft says when it is read as the text of a link.
+-- A draft read back as a link's text.
 use Rattle.std.specs.Prelude.{◌≡◌, ℕ, List, [], length, Ok}
 use Rattle.omf_records.specs.Values.{Rec}
 use Rattle.omf_check.specs.Tables.{segments, groups}
@@ -6,7 +6,7 @@ use Rattle.omf_placement.specs.Placement.{Places}
 use Rattle.omf_linking.specs.Parts.{Part, parsed_parts}
 use Rattle.omf_linking.specs.Placing.{given_of, places_of}
 
--- No line of the text is at fault. It has a part for each module, which gives the module these places; no external is given by hand.
+-- The text has no faulty line. It has a part for each module, which gives the module these places; it gives no external a place.
 pub record IsReadBack (ms : List (List Rec)) (pls : List Places) (text : List ℕ) : Type 0 where
   pub parts : List Part
   pub parses : parsed_parts text ≡ Ok parts
@@ -14,13 +14,13 @@ pub record IsReadBack (ms : List (List Rec)) (pls : List Places) (text : List �
   pub places : places_of ms parts ≡ Ok pls
   pub none_given : given_of parts ≡ []
 
--- As many entries as the module has segments and groups.
+-- There are as many entries as the module has segments and groups.
 pub record HasEntries (m : List Rec) (pl : Places) : Type 0 where
   pub segments : length pl.segments ≡ length (segments m)
   pub groups : length pl.groups ≡ length (groups m)
   pub externals : pl.externals ≡ []
 
--- What a text gives modules when it is read as the text of a link, whatever it may give besides.
+-- The places that a text, read as a link's text, gives the modules.
 pub record GivesPlaces (ms : List (List Rec)) (text : List ℕ) (pls : List Places) : Type 0 where
   pub parts : List Part
   pub parses : parsed_parts text ≡ Ok parts

@@ -1,4 +1,4 @@
--- Words of the worked examples.
+-- Definitions for the worked examples.
 use Rattle.std.specs.Prelude.{ℕ, List, [], ◌∷◌, Option}
 use Rattle.omf_records.specs.Values.{Rec}
 use Rattle.omf_layout.specs.declared.options.Frames.{Frames}
@@ -8,7 +8,7 @@ use Rattle.omf_draft.specs.Text.{drafted}
 abbrev pub drafted_from : ℕ → Frames → List (List Rec) → Option (List ℕ)
 drafted_from base frames ms = drafted (record { base = base; frames = frames }) ms
 
--- Externals X and Y; a public X and a local one Y at the front of segment 1.
+-- Externals X and Y; a public X and a local one Y at offset 0 of segment 1.
 abbrev pub external_x_and_y : List ℕ
 external_x_and_y = 0x8C ∷ 0x07 ∷ 0x00 ∷ 0x01 ∷ 0x58 ∷ 0x00 ∷ 0x01 ∷ 0x59 ∷ 0x00 ∷ 0x00 ∷ []
 

@@ -8,20 +8,20 @@ ghost use Rattle.omf_records.specs.Values.{Rec as Typed};
 ghost use Rattle.omf_placement.specs.Placement.{Places};
 ghost use Rattle.omf_layout.specs.Layout.{IsAnswer, Laid};
 ghost use Rattle.omf_layout.specs.Reading.{AreShort};
-ghost use Rattle.omf_arrange.specs.Placing.{arranged_places};
+ghost use Rattle.omf_layout.specs.Several.Placing.{arranged_places};
 ghost use Rattle.omf_check.specs.Module.{typed_modules};
 ghost use Rattle.omf_draft.specs.Reading.{HasEntries, IsReadBack};
 ghost use Rattle.omf_draft.specs.Text.{border, drafted, link_text, module_text};
 
 use crate::names::NameTable;
 use crate::part::print_part;
-use omf_arrange::place_segments;
 use omf_check::Checked;
+use omf_layout::several::place_segments;
 use omf_layout::{Frames, LayoutFault, Options};
 use omf_placement::Placement;
 use std::alloc::{AllocError, Global};
 
-/// The line in front of the part of a module of this number, from 0.
+/// Prints the line before the part of the module with this number, from 0.
 fn print_border(text: &mut String, number: usize) -> Result<(), AllocError>
     ensures { AddsText result (string_bytes text.old) (string_bytes text.new) (border number) }
 {
@@ -31,7 +31,7 @@ fn print_border(text: &mut String, number: usize) -> Result<(), AllocError>
     text.push_str("M\n")
 }
 
-/// The text of modules that lie so.
+/// Returns the text of modules at these placements.
 fn text_of(
     alloc: Global,
     modules: &[Checked],
@@ -51,15 +51,15 @@ fn text_of(
     Ok(text)
 }
 
-/// A first text for a link: a part for each module, with a line `M` in front of each but the first. A part has a comment that names the
-/// module; a line for each segment and each group at the place that `place_segments` gives it, with the comments of `omf_layout`'s drafts;
-/// and for each external that sees no public of its name an `X` line that is still a comment, where its place is to be filled in, with its
-/// name and what it asks for. A local external sees the local publics of its module, any other the publics of all modules. Indices in `X`
-/// lines are hexadecimal, numbers in comments decimal.
+/// Returns a first text for a link: a part for each module, with a line `M` before each but the first. A part has a comment with the
+/// module's name; a line for each segment and each group at its place from `place_segments`, with the comments of `omf_layout`'s drafts;
+/// and for each external that sees no public of its name an `X` line in a comment, where its place is to be filled in, with its name and
+/// a communal's length. A local external sees the local publics of its module, any other the publics of all modules. Indices in `X` lines
+/// are hexadecimal, numbers in comments decimal.
 ///
 /// # Errors
 ///
-/// `NoRoom` where a segment does not lie below the last address; `Memory` where a growth was refused.
+/// `NoRoom` if a segment does not fit below the limit; `Memory` if memory runs out.
 pub fn link_draft(
     alloc: Global,
     modules: &[Checked],
@@ -67,7 +67,7 @@ pub fn link_draft(
 ) -> Result<String, LayoutFault>
     requires { length modules.now < 2 ^ 32 }
     ensures text { IsAnswer (drafted options (typed_modules modules.now)) (map_ok string_bytes result) }
-    // Read again it gives each of the modules, if there are any, the places of `place_segments`.
+    // Read back, it gives each module, if there are any, its places from `place_segments`.
     ensures read { IfOk result (λ text. (l : Laid (List Places)) → arranged_places options (typed_modules modules.now) ≡ Some l → 0 < length modules.now → IsReadBack (typed_modules modules.now) l.what (string_bytes text)) }
 {
     let (placements, _free) = place_segments(alloc, modules, options)?;

@@ -12,14 +12,14 @@ use omf_records::{Items, Public, Rec};
 use std::alloc::{AllocError, Global};
 use std::collections::BTreeMap;
 
-/// Whether records of this type are local: LEXTDEF, LPUBDEF, LCOMDEF and LLNAMES.
+/// Returns whether records of this type are local: LEXTDEF, LPUBDEF, LCOMDEF and LLNAMES.
 fn is_local(kind: u8) -> bool
     ensures { result ≡ is_local kind }
 {
     matches!(kind, 0xB4..=0xB8 | 0xCA)
 }
 
-/// Whether the publics of a record of this type are among those that are asked for: the local ones, or the others.
+/// Returns whether a record of this type has publics of the kind asked for: local ones, or the others.
 fn has_asked(local: bool, kind: u8) -> bool
     ensures some { result ≡ true → (c : Contents) → names_asked local kind c ≡ names_in c }
     ensures none { result ≡ false → (c : Contents) → names_asked local kind c ≡ [] }
@@ -74,7 +74,7 @@ impl<'a> NameTable<'a> {
         }
     }
 
-    /// Adds the names of a record's publics if they are among those that are asked for.
+    /// Adds the names of a record's publics if they are of the kind asked for.
     #[tactic(auto, using(crate::proofs::NameLaws::none_more, crate::proofs::NameLaws::same_more))]
     fn add_asked(&mut self, local: bool, rec: &Rec<'a>) -> Result<(), AllocError>
         ensures { OnOk result (HasMore self.old.names self.new.names (names_asked local (kind_seen rec.now) (contents_seen rec.now))) }
@@ -95,7 +95,7 @@ impl<'a> NameTable<'a> {
         Ok(())
     }
 
-    /// The names of the local publics of a module.
+    /// Returns the names of the local publics of a module.
     pub fn of_locals(alloc: Global, module: &'a Checked) -> Result<NameTable<'a>, AllocError>
         ensures { IfOk result (λ t. IsNameTable t.names (public_names true (recs_of «module».entry.now.bytes))) }
     {
@@ -106,7 +106,7 @@ impl<'a> NameTable<'a> {
         Ok(table)
     }
 
-    /// The names of the publics of modules that are not local.
+    /// Returns the names of the publics of all modules that are not local.
     pub fn of(alloc: Global, modules: &'a [Checked]) -> Result<NameTable<'a>, AllocError>
         ensures { IfOk result (λ t. IsNameTable t.names (all_names (typed_modules modules.entry.now))) }
     {
@@ -119,7 +119,7 @@ impl<'a> NameTable<'a> {
         Ok(table)
     }
 
-    /// Whether a name is one of them.
+    /// Returns whether a name is in the table.
     pub fn has(&self, name: &'a [u8]) -> bool
         ensures { (names : List (List ℕ)) → IsNameTable self.now.names names → result ≡ has_name names name.now }
     {

@@ -24,7 +24,7 @@ use omf_records::Rec;
 use std::alloc::{AllocError, Global};
 use std::fmt::Write;
 
-/// The name of a THEADR or an LHEADR in double quotes.
+/// Prints the name of a THEADR or an LHEADR in double quotes.
 fn print_header(text: &mut String, rec: &Rec<'_>) -> Result<(), AllocError>
     ensures { AddsText result (string_bytes text.old) (string_bytes text.new) (quoted (header_name (contents_seen rec.now))) }
 {
@@ -34,7 +34,7 @@ fn print_header(text: &mut String, rec: &Rec<'_>) -> Result<(), AllocError>
     }
 }
 
-/// The name of a module in double quotes.
+/// Prints the name of a module in double quotes.
 fn print_module_name(text: &mut String, module: &Checked) -> Result<(), AllocError>
     ensures { AddsText result (string_bytes text.old) (string_bytes text.new) (quoted (module_name (recs_of «module».now.bytes))) }
 {
@@ -44,7 +44,7 @@ fn print_module_name(text: &mut String, module: &Checked) -> Result<(), AllocErr
     }
 }
 
-/// The comment that names a module.
+/// Prints the comment with a module's name.
 fn print_name_line(text: &mut String, module: &Checked) -> Result<(), AllocError>
     ensures { AddsText result (string_bytes text.old) (string_bytes text.new) (name_line (recs_of «module».now.bytes)) }
 {
@@ -53,7 +53,7 @@ fn print_name_line(text: &mut String, module: &Checked) -> Result<(), AllocError
     text.push_str("\n")
 }
 
-/// A line for each segment.
+/// Prints a line for each segment.
 fn print_segment_lines(
     alloc: Global,
     text: &mut String,
@@ -69,7 +69,7 @@ fn print_segment_lines(
     print_segments(text, module, frames, &alignments, placement)
 }
 
-/// A line for each group. All have their own frames: in a flat frame none is left to be found by its members.
+/// Prints a line for each group with its own frame: in a flat frame no entry is `G real`.
 fn print_group_lines(
     text: &mut String,
     module: &Checked,
@@ -83,14 +83,14 @@ fn print_group_lines(
     print_groups(text, module, given, placement)
 }
 
-/// The entry of an external that is to be filled in.
+/// Prints the entry of an external that is to be filled in.
 fn print_wanted_entry(text: &mut String, index: u16) -> Result<(), AllocError>
     ensures { AddsText result (string_bytes text.old) (string_bytes text.new) (wanted_entry index) }
 {
-    write!(text, "; X {index:X} address frame selector")
+    write!(text, "; X {index:X} address base selector")
 }
 
-/// The line of an external that is to be filled in.
+/// Prints the line of an external that is to be filled in.
 fn print_wanted(
     text: &mut String,
     index: u16,
@@ -105,15 +105,15 @@ fn print_wanted(
     print_room(text, room)
 }
 
-/// Whether an external of this name, which is local or not, sees a public of it: among the publics of all modules, or if it is local
-/// among its module's own local ones.
+/// Returns whether an external sees a public of its name: among the publics of all modules, or if it is local among its module's own
+/// local ones.
 fn is_public<'a>(all: &NameTable<'a>, own: &NameTable<'a>, name: &'a [u8], local: bool) -> bool
     ensures { (among : Bool → List (List ℕ)) → IsNameTable all.now.names (among false) → IsNameTable own.now.names (among true) → result ≡ has_name (among local) name.now }
 {
     if local { own.has(name) } else { all.has(name) }
 }
 
-/// The line of an external that sees no public of its name.
+/// Prints the line of an external that sees no public of its name.
 fn print_external<'a>(
     text: &mut String,
     all: &NameTable<'a>,
@@ -131,14 +131,14 @@ fn print_external<'a>(
     print_wanted(text, index, name, room)
 }
 
-/// What an external asks for, by its index from 1.
+/// Returns the length of a communal, by its index from 1; `Some(None)` for any other external.
 fn room_of(rooms: &[Option<u64>], index: u16) -> Option<Option<u64>>
     ensures { result ≡ entry rooms.now index }
 {
     rooms.get(usize::from(index).checked_sub(1)?).copied()
 }
 
-/// A line for each external that sees no public of its name; what the externals ask for is given.
+/// Prints a line for each external that sees no public of its name; `asked` has the lengths of the communals.
 fn print_wanted_lines<'a>(
     text: &mut String,
     module: &'a Checked,
@@ -164,7 +164,7 @@ fn print_wanted_lines<'a>(
     Ok(())
 }
 
-/// Adds the part of a module, which lies so, beside modules whose publics have these names.
+/// Adds the part of a module at this placement; `all` has the names of the publics of all modules.
 pub fn print_part<'a>(
     alloc: Global,
     text: &mut String,

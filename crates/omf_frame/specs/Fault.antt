@@ -1,4 +1,4 @@
--- The faults of one record, and which of them is named.
+-- The faults of a record, and which of them is reported.
 use Rattle.std.specs.Prelude.{ℕ, List, [], ◌∷◌, Option, Some, None, All, Contains, Bool, nat_lt, nat_le, ◌==◌, ◌&&◌, ◌||◌, if◌then◌else◌, IsTrue}
 use Rattle.omf_frame.specs.declared.fault.Reason.{Reason}
 use Rattle.omf_frame.specs.declared.fault.Reason.TheVariants as reason
@@ -44,7 +44,7 @@ pub record Fault : Type 0 where
   pub within : ℕ
   pub reason : Reason
 
--- f stands before g: further left, or at the same place with the smaller number
+-- f comes before g: at a smaller offset, or at the same offset with a smaller or equal number
 abbrev pub is_before : Fault → Fault → Bool
 is_before f g = nat_lt f.within g.within
     || (f.within == g.within) && nat_le (reason_number f.reason) (reason_number g.reason)
@@ -53,11 +53,12 @@ is_before f g = nat_lt f.within g.within
 abbrev pub IsLeast : List Fault → Fault → Type 0
 IsLeast fs f = Contains fs f × All (λ g. IsTrue (is_before f g)) fs
 
--- the least of the faults, computed
+-- the least of f and the faults, computed
 abbrev pub least_or : Fault → List Fault → Fault
 least_or f [] = f
 least_or f (g ∷ gs) = if is_before f (least_or g gs) then f else least_or g gs
 
+-- the least of the faults, if there is any
 abbrev pub least : List Fault → Option Fault
 least [] = None
 least (f ∷ fs) = Some (least_or f fs)
@@ -68,7 +69,7 @@ first_step [] = []
 first_step ([] ∷ steps) = first_step steps
 first_step ((f ∷ fs) ∷ steps) = f ∷ fs
 
--- something that must hold, and the fault where it does not
+-- a condition, and the fault if it does not hold
 pub record Rule : Type 0 where
   pub holds : Bool
   pub within : ℕ
@@ -77,7 +78,7 @@ pub record Rule : Type 0 where
 abbrev pub rule : Bool → ℕ → Reason → Rule
 rule holds within r = record { holds = holds; within = within; reason = r }
 
--- all the rules hold
+-- all rules hold
 abbrev pub AreKept : List Rule → Type 0
 AreKept rules = All (λ r. IsTrue r.holds) rules
 

@@ -1,11 +1,11 @@
--- What is seen of a framer, and what its calls do.
+-- The state of a framer, and the effect of its calls.
 use Rattle.std.specs.Prelude.{◌≡◌, ◌⊎◌, ◌≤◌, ◌<◌, ℕ, ◌+◌, Bool, false, not, ◌&&◌, ◌||◌, ◌==◌, is_some, is_none, min, if◌then◌else◌, List, [], ◌∷◌, ◌++◌, length, take, slice_index, Option, Some, None, option_map, Result, Ok, Err}
 use Rattle.omf_frame.specs.declared.fault.FrameFault.{FrameFault}
 use Rattle.omf_frame.specs.declared.fault.FrameFault.TheVariants.{Memory, Refused}
 use Rattle.omf_frame.specs.Fault.{Fault}
 use Rattle.omf_frame.specs.Framing.{present, is_whole, is_taken, wanted, is_end, type_faults, frame_fault, standing_fault, record_len}
 
--- The bytes taken of the record at hand, its number and start, whether a MODEND was passed, and a kept fault.
+-- The bytes taken of the record at hand, its number and its offset in the input, whether MODEND was passed, and a permanent fault.
 pub record Held : Type 0 where
   pub bytes : List ℕ
   pub number : ℕ
@@ -13,40 +13,40 @@ pub record Held : Type 0 where
   pub ended : Bool
   pub fault : Option FrameFault
 
--- Nothing was taken.
+-- The start of an input.
 abbrev pub at_start : Held
 at_start = record { bytes = []; number = 0; start = 0; ended = false; fault = None }
 
--- Some bytes of a record are taken.
+-- Some bytes of a record were taken.
 abbrev pub open_at : List ℕ → ℕ → ℕ → Held
 open_at bytes number start = record { bytes = bytes; number = number; start = start; ended = false; fault = None }
 
--- The bytes of the record at hand once a piece has come.
+-- The bytes of the record at hand after a piece.
 abbrev pub next_bytes : Held → List ℕ → List ℕ
 next_bytes held piece = if held.ended then [] else present (held.bytes ++ piece)
 
--- A whole record stands.
+-- The record at hand is complete.
 abbrev pub stands : Held → Bool
 stands held = is_none held.fault && is_whole held.bytes
 
--- How many bytes it can take before it next judges.
+-- The number of bytes up to the next check.
 abbrev pub want_of : Held → ℕ
 want_of held = if held.ended || is_some held.fault then 0 else wanted held.bytes
 
--- The next bytes begin a record between two others, and its type has no fault.
+-- No byte of a record is at hand, and the next bytes begin with a supported type byte.
 abbrev pub begins_record : List ℕ → List ℕ → Bool
 begins_record [] (t ∷ ahead) = is_taken t
 begins_record _ _ = false
 
--- The same where these are the next bytes: from a type byte that has no fault on, all of the record.
+-- Like `want_of`, with a look at the next bytes: at the start of a record of a supported type, the size of the record.
 abbrev pub want_with : Held → List ℕ → ℕ
 want_with held ahead = if begins_record held.bytes ahead && not (held.ended || is_some held.fault) then record_len ahead else want_of held
 
--- A fault of the record at hand, with its place.
+-- A fault of the record at hand, with its place in the input.
 abbrev pub refused : Held → Fault → FrameFault
 refused held f = Refused f.reason (record { number = held.number; start = held.start; within = f.within })
 
--- A feed that succeeds takes what the record at hand still lacks, or the whole piece if that is less, and no fault stands.
+-- A successful feed takes the missing bytes of the record, or the whole piece if it is shorter. The record has no permanent fault.
 pub record Takes (old : Held) (piece : List ℕ) (taken : ℕ) (whole : Bool) (new : Held) : Type 0 where
   pub no_fault : old.fault ≡ None
   pub new_is : new ≡ record old { bytes = next_bytes old piece }
@@ -57,20 +57,20 @@ pub record Takes (old : Held) (piece : List ℕ) (taken : ℕ) (whole : Bool) (n
   pub whole_is : whole ≡ stands new
   pub sound : standing_fault (old.number == 0) (next_bytes old piece) ≡ None
 
--- Why a feed fails: a growth was refused, which only the first byte of the first record needs, and that type byte has no fault; or
--- the fault that now stands.
+-- Why a feed fails: out of memory, which only the first byte of the first record can give, if its type has no fault; or the
+-- permanent fault of the record.
 abbrev pub IsCause : Held → List ℕ → FrameFault → Type 0
 IsCause old piece Memory =
     (old.number ≡ 0) × (old.bytes ≡ []) × (0 < length (next_bytes old piece)) × (type_faults (slice_index (next_bytes old piece) 0) ≡ [])
 IsCause old piece (Refused reason place) = option_map (refused old) (standing_fault (old.number == 0) (next_bytes old piece)) ≡ Some (Refused reason place)
 
--- A feed that fails keeps its fault and drops the bytes at hand; a kept fault is the answer from then on.
+-- A feed that fails drops the bytes at hand and keeps its fault, which later feeds return.
 pub record FailsAs (old : Held) (piece : List ℕ) (fault : FrameFault) (new : Held) : Type 0 where
   pub not_ended : old.ended ≡ false
   pub new_is : new ≡ record old { bytes = []; fault = Some fault }
   pub cause : ((old.fault ≡ Some fault) × (new ≡ old)) ⊎ ((old.fault ≡ None) × IsCause old piece fault)
 
--- The record that stands is passed.
+-- The state after the complete record.
 abbrev pub passed : Held → Held
 passed held = record {
   bytes = [];
@@ -80,7 +80,7 @@ passed held = record {
   fault = None;
 }
 
--- What the end of the input means: a kept fault, or none after a MODEND, or the fault of the bytes at hand.
+-- The result at the end of the input: the permanent fault; Ok after MODEND; else the framing fault of the bytes at hand.
 abbrev pub stop_of : Held → Result (Unit {0}) FrameFault
 stop_of held = at_fault held.fault
   where

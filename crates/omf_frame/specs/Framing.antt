@@ -1,4 +1,4 @@
--- Records and the frame of a module (TIS OMF 1.1, "Object record format" and "Order of records").
+-- Records, and how they form a module (TIS OMF 1.1, "Object record format" and "Order of records").
 use Rattle.std.specs.Prelude.{◌≡◌, ℕ, ◌+◌, ◌*◌, ◌-◌, ◌/◌, ◌%◌, ◌<◌, ◌⊎◌, List, [], ◌∷◌, ◌++◌, length, sum, take, drop, All, flat_map, Bool, true, false, not, ◌||◌, ◌==◌, nat_le, IsTrue, slice_index, Option, Some, None, if◌then◌else◌}
 use Rattle.omf_frame.specs.Bytes.{is_one_of}
 use Rattle.omf_frame.specs.Types.{theadr, lheadr, modend, read, carried, refused, types_of}
@@ -12,11 +12,11 @@ pub record Raw : Type 0 where
   pub body : List ℕ
   pub checksum : ℕ
 
--- The bytes of a record: type, length of contents and checksum (low byte first), contents, checksum.
+-- The bytes of a record: type, length of contents and checksum (2 bytes, little-endian), contents, checksum.
 abbrev pub raw_bytes : Raw → List ℕ
 raw_bytes r = r.kind ∷ (length r.body + 1) % 256 ∷ (length r.body + 1) / 256 ∷ (r.body ++ r.checksum ∷ [])
 
--- The checksum byte is 0, or makes the sum of all bytes 0 modulo 256.
+-- The checksum byte is 0, or it makes the sum of all bytes 0 modulo 256.
 abbrev pub IsRecord : Raw → Type 0
 IsRecord r = (length r.body + 1 < 65536) × ((r.checksum ≡ 0) ⊎ (sum (raw_bytes r) % 256 ≡ 0))
 
@@ -28,17 +28,19 @@ checksum_of kind body = (256 - sum (raw_bytes (record { kind = kind; body = body
 abbrev pub raw_of : ℕ → List ℕ → Raw
 raw_of kind body = record { kind = kind; body = body; checksum = checksum_of kind body }
 
--- How a type of record is treated: read, carried unread, or known and refused. Types has the table.
+-- The type is supported.
 abbrev pub is_read : ℕ → Bool
 is_read kind = is_one_of (types_of read) kind
 
+-- Records of the type are kept but not interpreted.
 abbrev pub is_carried : ℕ → Bool
 is_carried kind = is_one_of (types_of carried) kind
 
+-- The type is known and refused.
 abbrev pub is_unsupported : ℕ → Bool
 is_unsupported kind = is_one_of (types_of refused) kind
 
--- A record of this type may stand in a module.
+-- A module may have records of this type.
 abbrev pub is_taken : ℕ → Bool
 is_taken kind = is_read kind || is_carried kind
 
@@ -49,7 +51,7 @@ is_header kind = is_one_of (theadr ++ lheadr) kind
 abbrev pub is_end : ℕ → Bool
 is_end kind = is_one_of modend kind
 
--- The bytes are these records: known types, a header first, a MODEND last and nowhere else.
+-- The bytes are these records, of types that a module may have: a header first, a MODEND last and nowhere else.
 pub record IsFramed (bytes : List ℕ) (records : List Raw) : Type 0 where
   pub spelled : bytes ≡ flat_map raw_bytes records
   pub each : All IsRecord records
@@ -57,15 +59,17 @@ pub record IsFramed (bytes : List ℕ) (records : List Raw) : Type 0 where
   pub first : IsTrue (is_header (slice_index bytes 0))
   pub last : (front : List Raw) × (end : Raw) × (records ≡ front ++ end ∷ []) × IsTrue (is_end end.kind) × All (λ r. IsTrue (not (is_end r.kind))) front
 
--- The bytes that are there of the record at the front, and whether they are all of it.
+-- The bytes present of the record at the front.
 abbrev pub present : List ℕ → List ℕ
 present (t ∷ lo ∷ hi ∷ bytes) = t ∷ lo ∷ hi ∷ take (lo + 256 * hi) bytes
 present bytes = bytes
 
+-- All bytes of the record at the front are present.
 abbrev pub is_whole : List ℕ → Bool
 is_whole (t ∷ lo ∷ hi ∷ bytes) = nat_le (lo + 256 * hi) (length bytes)
 is_whole _ = false
 
+-- There is a byte.
 abbrev pub is_nonempty : List ℕ → Bool
 is_nonempty [] = false
 is_nonempty (b ∷ bytes) = true
@@ -75,28 +79,29 @@ abbrev pub after_front : List ℕ → List ℕ
 after_front (t ∷ lo ∷ hi ∷ bytes) = drop (lo + 256 * hi) bytes
 after_front _ = []
 
--- How many bytes are wanted before the record at hand is next judged.
+-- The number of bytes up to the next check of the record: its type byte, its length bytes, its end.
 abbrev pub wanted : List ℕ → ℕ
 wanted [] = 1
 wanted (t ∷ []) = 2
 wanted (t ∷ lo ∷ []) = 1
 wanted (t ∷ lo ∷ hi ∷ bytes) = lo + 256 * hi - length bytes
 
--- What the two length bytes say, and the record that its bytes are.
+-- The number in the two length bytes.
 abbrev pub stated_length : List ℕ → ℕ
 stated_length (t ∷ lo ∷ hi ∷ bytes) = lo + 256 * hi
 stated_length _ = 0
 
+-- The record whose bytes are present.
 abbrev pub front_record : List ℕ → Raw
 front_record (t ∷ lo ∷ hi ∷ bytes) = record { kind = t; body = take (lo + 256 * hi - 1) bytes; checksum = slice_index bytes (lo + 256 * hi - 1) }
 front_record bytes = record { kind = slice_index bytes 0; body = []; checksum = 0 }
 
--- The fault of a type byte.
+-- The faults of a type byte.
 abbrev pub type_faults : ℕ → List Fault
 type_faults kind = broken (rule (is_taken kind || is_unsupported kind) 0 reason.UnknownType ∷ rule (not (is_unsupported kind)) 0 reason.UnsupportedType ∷ [])
 
--- The faults of framing of the bytes present of one record, in the order in which they are judged: the input ends before the
--- record, its type, the input ends inside it, a length of 0, the checksum, a first record that is no header.
+-- The framing faults of the bytes present of one record, in the order of the checks: the input ends before the record, the type
+-- byte, the input ends inside the record, a length of 0, the checksum, a first record that is not a header.
 abbrev pub frame_steps : Bool → List ℕ → List (List Fault)
 frame_steps is_first bytes = broken (rule (is_nonempty bytes) 0 reason.NoEnd ∷ [])
     ∷ type_faults (slice_index bytes 0)
@@ -106,32 +111,33 @@ frame_steps is_first bytes = broken (rule (is_nonempty bytes) 0 reason.NoEnd ∷
     ∷ broken (rule (not is_first || is_header (slice_index bytes 0)) 0 reason.NoHeader ∷ [])
     ∷ []
 
--- The first of them.
+-- The framing fault: the first of them.
 abbrev pub frame_fault : Bool → List ℕ → Option Fault
 frame_fault is_first bytes = least (first_step (frame_steps is_first bytes))
 
--- More bytes can take this fault away: the input may go on.
+-- More input can remove this fault.
 abbrev pub is_end_of_input : Reason → Bool
 is_end_of_input reason.NoEnd = true
 is_end_of_input reason.Cut = true
 is_end_of_input _ = false
 
+-- The fault, if more input cannot remove it.
 abbrev pub lasting : Option Fault → Option Fault
 lasting None = None
 lasting (Some f) = if is_end_of_input f.reason then None else Some f
 
--- The fault of framing that stands whatever bytes follow.
+-- The framing fault that remains whatever bytes follow.
 abbrev pub standing_fault : Bool → List ℕ → Option Fault
 standing_fault is_first bytes = lasting (frame_fault is_first bytes)
 
--- The bytes begin with a whole record.
+-- The bytes begin with a complete record.
 pub record HasFront (bytes : List ℕ) : Type 0 where
   pub is_record : IsRecord (front_record (present bytes))
   pub whole : raw_bytes (front_record (present bytes)) ≡ present bytes
   pub parts : bytes ≡ present bytes ++ after_front bytes
   pub shorter : length (after_front bytes) < length bytes
 
--- how many bytes the record has, as far as its length bytes are there
+-- the size in bytes of the record at the front; 3 until both length bytes are present
 abbrev pub record_len : List ℕ → ℕ
 record_len [] = 3
 record_len (t ∷ []) = 3

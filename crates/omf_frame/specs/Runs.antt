@@ -1,4 +1,4 @@
--- Whole runs of a framer: bytes given one after another, and each whole record shown and passed as soon as it stands.
+-- Whole runs of a framer: it is fed, and shows and passes each record as soon as the record is complete.
 use Rattle.std.specs.Prelude.{◌≡◌, ◌⊎◌, ◌<◌, ℕ, Bool, true, false, not, ◌||◌, ◌==◌, is_some, if◌then◌else◌, List, [], ◌∷◌, ◌++◌, length, take, All, flat_map, IsTrue, slice_index_or, Option, Some, None}
 use Rattle.omf_frame.specs.declared.fault.Reason.{Reason}
 use Rattle.omf_frame.specs.declared.fault.Place.{Place}
@@ -12,20 +12,20 @@ pub record Run : Type 0 where
   pub shown : List Raw
   pub held : Held
 
--- Nothing was given yet.
+-- The start of a run.
 abbrev pub before_all : Run
 before_all = record { shown = []; held = at_start }
 
--- A whole record is shown and passed.
+-- A complete record is shown and passed.
 abbrev pub settled : Run → Run
 settled run = if stands run.held then record { shown = run.shown ++ front_record run.held.bytes ∷ []; held = passed run.held } else run
 
--- The record at hand with these bytes: its fault is kept, or there is none.
+-- The state with these bytes of the record at hand: its fault is kept, if it has one.
 abbrev pub judged : Held → List ℕ → Option Fault → Held
 judged held bytes None = record held { bytes = bytes }
 judged held bytes (Some f) = record held { bytes = []; fault = Some (refused held f) }
 
--- One byte more; none is taken after a fault or after the end.
+-- One more byte. None is taken after a fault or after MODEND.
 abbrev pub with_byte : Held → ℕ → Held
 with_byte held b =
     if is_some held.fault || held.ended then held
@@ -36,27 +36,27 @@ abbrev pub run_over : Run → List ℕ → Run
 run_over run [] = run
 run_over run (b ∷ bytes) = run_over (settled (record run { held = with_byte run.held b })) bytes
 
--- The bytes are what one feed after another took, or was refused for; and a whole record is shown and passed at once.
+-- Each list of bytes is what one feed took or was refused for; a complete record is shown and passed at once.
 abbrev pub IsFed : Run → List (List ℕ) → Run → Type 0
 IsFed run [] end = run ≡ end
 IsFed run (bytes ∷ more) end =
     ((piece : List ℕ) × (taken : ℕ) × (whole : Bool) × (new : Held) × (bytes ≡ take taken piece) × Takes run.held piece taken whole new × IsFed (settled (record run { held = new })) more end)
     ⊎ ((why : Reason) × (place : Place) × (new : Held) × FailsAs run.held bytes (Refused why place) new × IsFed (record run { held = new }) more end)
 
--- No whole record stands, and the bytes at hand have no fault that would stand.
+-- The record at hand is not complete, and has no permanent fault.
 pub record IsOpen (held : Held) : Type 0 where
   pub not_whole : is_whole held.bytes ≡ false
   pub sound : standing_fault (held.number == 0) held.bytes ≡ None
 
--- Each is a record without a fault of framing.
+-- Each is a record without a framing fault.
 abbrev pub AreSound : List Raw → Type 0
 AreSound records = (k : ℕ) (d : Raw) → k < length records → IsRecord (slice_index_or records k d) × (frame_fault (k == 0) (raw_bytes (slice_index_or records k d)) ≡ None)
 
--- None of them is a MODEND.
+-- None is a MODEND.
 abbrev pub HasNoEnd : List Raw → Type 0
 HasNoEnd records = All (λ r. IsTrue (not (is_end r.kind))) records
 
--- The input goes on behind the records: what is there of the next one has no fault that would stand, and is at hand.
+-- The input ends inside the record after these, or before it: its bytes are at hand, and have no permanent fault.
 pub record GoesOn (records : List Raw) (rest : List ℕ) (held : Held) : Type 0 where
   pub not_ended : held.ended ≡ false
   pub no_fault : held.fault ≡ None
@@ -65,7 +65,7 @@ pub record GoesOn (records : List Raw) (rest : List ℕ) (held : Held) : Type 0 
   pub not_whole : is_whole rest ≡ false
   pub sound : standing_fault (length records == 0) rest ≡ None
 
--- The record behind them is refused, and its fault is kept.
+-- The record after these is refused, and its fault is kept.
 pub record IsStopped (records : List Raw) (rest : List ℕ) (held : Held) : Type 0 where
   pub not_ended : held.ended ≡ false
   pub no_end : HasNoEnd records
@@ -74,14 +74,14 @@ pub record IsStopped (records : List Raw) (rest : List ℕ) (held : Held) : Type
   pub lasts : standing_fault (length records == 0) (present rest) ≡ Some fault
   pub kept : held.fault ≡ Some (refused held fault)
 
--- They are a module from its header to its MODEND.
+-- The records are a module, from header to MODEND.
 pub record HasEnded (records : List Raw) (held : Held) : Type 0 where
   pub ended : held.ended ≡ true
   pub no_fault : held.fault ≡ None
   pub at_hand : held.bytes ≡ []
   pub framed : IsFramed (flat_map raw_bytes records) records
 
--- The records shown are the first of the input, and the state tells what is behind them.
+-- The records shown are the first of the input, and the state agrees with the rest of it.
 pub record IsFramingOf (input : List ℕ) (run : Run) : Type 0 where
   pub rest : List ℕ
   pub spelled : input ≡ flat_map raw_bytes run.shown ++ rest

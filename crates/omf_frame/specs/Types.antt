@@ -1,5 +1,5 @@
--- The types of records, by the names that the standard has for them (TIS OMF 1.1, "Record types"): all that is said of a type
--- byte stands here. Where a record has two types, the odd one has 32-bit fields.
+-- The types of records by their names in the standard (TIS OMF 1.1, "Record types"). If a record has two types, the odd one has
+-- 32-bit fields.
 use Rattle.std.specs.Prelude.{ℕ, List, [], ◌∷◌, ◌++◌, flat_map, find, unwrap_or, option_map, Bool, codes}
 use Rattle.omf_frame.specs.Bytes.{is_one_of}
 
@@ -42,7 +42,7 @@ lidata = 0xA2 ∷ 0xA3 ∷ []
 abbrev pub comdef : List ℕ
 comdef = 0xB0 ∷ []
 
--- Local records have the contents of EXTDEF, PUBDEF, COMDEF and LNAMES. B5H as a second type of LEXTDEF is this profile's rule.
+-- Local records have the layouts of EXTDEF, PUBDEF, COMDEF and LNAMES. B5H as a second type of LEXTDEF is this profile's rule.
 abbrev pub lextdef : List ℕ
 lextdef = 0xB4 ∷ 0xB5 ∷ []
 
@@ -61,26 +61,27 @@ local_types = lextdef ++ lpubdef ++ lcomdef ++ llnames
 abbrev pub is_local : ℕ → Bool
 is_local kind = is_one_of local_types kind
 
--- The records that are read: their types, and their names.
+-- The supported records: their types and names.
 abbrev pub read : List (List ℕ × List ℕ)
 read = (theadr, codes "THEADR") ∷ (lheadr, codes "LHEADR") ∷ (coment, codes "COMENT") ∷ (modend, codes "MODEND") ∷ (extdef, codes "EXTDEF")
     ∷ (pubdef, codes "PUBDEF") ∷ (lnames, codes "LNAMES") ∷ (segdef, codes "SEGDEF") ∷ (grpdef, codes "GRPDEF") ∷ (fixupp, codes "FIXUPP")
     ∷ (ledata, codes "LEDATA") ∷ (lidata, codes "LIDATA") ∷ (comdef, codes "COMDEF") ∷ (lextdef, codes "LEXTDEF") ∷ (lpubdef, codes "LPUBDEF")
     ∷ (lcomdef, codes "LCOMDEF") ∷ (llnames, codes "LLNAMES") ∷ []
 
--- Those that are carried unread: debug, naming and version information.
+-- Records that are kept but not interpreted: debug, naming and version information.
 abbrev pub carried : List (List ℕ × List ℕ)
 carried = (0x8E ∷ [], codes "TYPDEF") ∷ (0x94 ∷ 0x95 ∷ [], codes "LINNUM") ∷ (0xC4 ∷ 0xC5 ∷ [], codes "LINSYM") ∷ (0xC6 ∷ [], codes "ALIAS")
     ∷ (0xCC ∷ [], codes "VERNUM") ∷ []
 
--- Those that are known and refused (this profile's rule): data selected or patched at link time, vendors' extensions, libraries.
+-- Known records that are refused (this profile's rule): data selected or patched at link time, vendors' extensions, libraries.
 abbrev pub refused : List (List ℕ × List ℕ)
 refused = (0xB2 ∷ 0xB3 ∷ [], codes "BAKPAT") ∷ (0xBC ∷ [], codes "CEXTDEF") ∷ (0xC2 ∷ 0xC3 ∷ [], codes "COMDAT") ∷ (0xC8 ∷ 0xC9 ∷ [], codes "NBKPAT")
     ∷ (0xCE ∷ [], codes "VENDEXT") ∷ (0xF0 ∷ 0xF1 ∷ [], codes "library") ∷ []
 
+-- The types of such a table.
 abbrev pub types_of : List (List ℕ × List ℕ) → List ℕ
 types_of rows = flat_map (λ r. r.0) rows
 
--- The name of the records of a type that may stand in a module.
+-- The name of a type that is read or carried.
 abbrev pub type_name : ℕ → List ℕ
 type_name kind = unwrap_or (option_map (λ r. r.1) (find (λ r. is_one_of r.0 kind) (read ++ carried))) []

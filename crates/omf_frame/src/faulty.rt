@@ -1,4 +1,4 @@
-//! A source and a sink that behave as a test asks: in pieces, with interruptions, with failures at a chosen place, once or from then on.
+//! A source and a sink for tests: they work in pieces of a chosen size, are interrupted, and fail at a chosen point, once or for good.
 
 ghost use Rattle.std.specs.Prelude.{◌≡◌, ◌<◌, ◌≤◌, ◌-◌, ◌^◌, [], length, take, min, replicate, Some, None, IfOk};
 ghost use Rattle.omf_frame.specs.Device.{Device, Pulls, Pushes, pull_fails, pull_breaks, push_fails, push_breaks, counted};
@@ -9,23 +9,23 @@ use std::io;
 use std::io::ErrorKind;
 use std::marker::Model;
 
-/// What a script does once its bytes are given.
+/// What a script does after its bytes.
 #[derive(Clone, Copy, Debug, PartialEq, Eq)]
 pub enum Then {
     /// The input ends.
     Ends,
-    /// Each further pull fails, with `Other`.
+    /// Each pull fails with `Other`.
     Fails,
-    /// This byte comes again and again, without end.
+    /// This byte repeats forever.
     Repeats(u8),
 }
 
-/// What a taker does with bytes once its room is used up.
+/// What a taker does when it is full.
 #[derive(Clone, Copy, Debug, PartialEq, Eq)]
 pub enum Full {
-    /// Each further push fails, with `Other`.
+    /// Each push fails with `Other`.
     Fails,
-    /// Each further push takes none.
+    /// Each push takes 0 bytes.
     TakesNone,
 }
 
@@ -55,7 +55,7 @@ impl<'a> Model for Script<'a> {
 impl<'a> Script<'a> {
     ghost use Rattle.omf_frame.specs.Inner.Faulty.{Scripted, told};
 
-    /// Gives the bytes, as many at a time as are wanted, and then does what `then` says. No call is interrupted.
+    /// Gives the bytes, as many as each pull asks for, and then does `then`. No pull is interrupted.
     pub fn new(bytes: &'a [u8], then: Then) -> Self
         ensures script { result ≡ record { bytes = bytes.now; after = then; piece = 2 ^ 64 - 1; interruptions = 0; due = 0; fails_in = None; failures = 0; breaks = 0 } }
         ensures seen { ⟦<Script<'a> as Source>⟧.seen result ≡ record { bytes = told then bytes.now; failures = 0; breaks = 0 } }
@@ -71,7 +71,7 @@ impl<'a> Script<'a> {
         }
     }
 
-    /// The same, but at most so many bytes at a time.
+    /// The same, with at most `piece` bytes per call.
     pub fn in_pieces(self, piece: usize) -> Self
         requires { 0 < piece }
         ensures { result ≡ record self.entry { piece = piece } }
@@ -79,7 +79,7 @@ impl<'a> Script<'a> {
         Script { piece, ..self }
     }
 
-    /// The same, but each pull is answered only after this many that are interrupted.
+    /// The same, with this many interruptions before each other answer.
     pub fn interrupted(self, times: u64) -> Self
         ensures { result ≡ record self.entry { interruptions = times; due = times } }
     {
@@ -90,7 +90,7 @@ impl<'a> Script<'a> {
         }
     }
 
-    /// The same, but after this many answers that are no interruption one pull fails, with `Other`; those behind it go on.
+    /// The same, but one pull fails with `Other`, after this many answers other than interruptions. Later pulls work again.
     pub fn failing_once(self, after: u64) -> Self
         ensures { result ≡ record self.entry { fails_in = Some after } }
     {
@@ -103,7 +103,7 @@ impl<'a> Script<'a> {
 
 ghost use Rattle.omf_frame.specs.Inner.Faulty.{kind_due, next_due, next_failing};
 
-/// The failure that a call is to answer by its turn, if any: an interruption while some are due, or the one failure.
+/// The failure due at this call, if any: an interruption, or the one failure.
 fn failure_due(interruptions: u64, due: &mut u64, fails_in: &mut Option<u64>) -> Option<ErrorKind>
     ensures answer { result ≡ kind_due due.old fails_in.old }
     ensures due { due.new ≡ next_due due.old interruptions }
@@ -127,7 +127,7 @@ fn failure_due(interruptions: u64, due: &mut u64, fails_in: &mut Option<u64>) ->
     }
 }
 
-/// Copies at most `most` of the bytes to the front of a buffer, and says how many.
+/// Copies at most `most` bytes to the front of a buffer. Returns their number.
 fn copy_front(bytes: &[u8], buf: &mut [u8], most: usize) -> usize
     requires { most ≤ length buf.old }
     ensures count { result ≡ min most (length bytes.now) }
@@ -141,7 +141,7 @@ fn copy_front(bytes: &[u8], buf: &mut [u8], most: usize) -> usize
     count
 }
 
-/// Fills the front of a buffer with a byte.
+/// Fills the first `most` bytes of a buffer.
 fn fill_front(byte: u8, buf: &mut [u8], most: usize)
     requires { most ≤ length buf.old }
     ensures filled { take most buf.new ≡ replicate most byte }
@@ -184,7 +184,7 @@ impl<'a> Source for Script<'a> {
     }
 }
 
-/// A sink with room for a chosen number of bytes, which it keeps.
+/// A sink that keeps its bytes, with room for a chosen number.
 #[derive(Drop)]
 pub struct Taker {
     held: Vec<u8>,
@@ -211,8 +211,8 @@ impl Model for Taker {
 impl Taker {
     ghost use Rattle.omf_frame.specs.Inner.Faulty.{Taking};
 
-    /// Takes `room` bytes, as many at a time as come, and then does what `full` says. No call is interrupted. The room is set aside
-    /// here, so that no push is refused for want of memory.
+    /// Takes `room` bytes, as many as each push offers, and then does `full`. No push is interrupted. The room is allocated here, so
+    /// no push runs out of memory.
     pub fn new(alloc: Global, room: usize, full: Full) -> Result<Self, AllocError>
         ensures taker { IfOk result (λ t. t ≡ record { held = []; room = room; full = full; piece = 2 ^ 64 - 1; interruptions = 0; due = 0; fails_in = None; failures = 0; breaks = 0 }) }
         ensures seen { IfOk result (λ t. ⟦<Taker as Sink>⟧.seen t ≡ record { bytes = Some []; failures = 0; breaks = 0 }) }
@@ -229,7 +229,7 @@ impl Taker {
         })
     }
 
-    /// The same, but at most so many bytes at a time.
+    /// The same, with at most `piece` bytes per call.
     pub fn in_pieces(self, piece: usize) -> Self
         requires { 0 < piece }
         ensures { result ≡ record self { piece = piece } }
@@ -237,7 +237,7 @@ impl Taker {
         Taker { piece, ..self }
     }
 
-    /// The same, but each push is answered only after this many that are interrupted.
+    /// The same, with this many interruptions before each other answer.
     pub fn interrupted(self, times: u64) -> Self
         ensures { result ≡ record self { interruptions = times; due = times } }
     {
@@ -248,7 +248,7 @@ impl Taker {
         }
     }
 
-    /// The same, but after this many answers that are no interruption one push fails, with `Other`; those behind it go on.
+    /// The same, but one push fails with `Other`, after this many answers other than interruptions. Later pushes work again.
     pub fn failing_once(self, after: u64) -> Self
         ensures { result ≡ record self { fails_in = Some after } }
     {
@@ -258,7 +258,7 @@ impl Taker {
         }
     }
 
-    /// The bytes that it took.
+    /// The bytes taken so far.
     pub fn bytes(&self) -> &[u8]
         ensures { result.now ≡ self.now.held }
     {

@@ -1,4 +1,4 @@
-//! Fields that say by themselves where they end (TIS OMF 1.1, "Frequently used fields").
+//! Self-delimiting fields of records (TIS OMF 1.1, "Frequently used fields").
 
 ghost use Rattle.std.specs.Prelude.{◌≡◌, ◌≤◌, ◌<◌, ◌++◌, ◌∷◌, ℕ, List, drop, length, IfSome, IfNone, OnOk, OnErr};
 ghost use Rattle.omf_frame.specs.Fields.{IsSpelledAt, IsUnspelled, IsPrefixFree, IsShortest, IsLittle, IsIndex, index_bytes, IsName, name_bytes, IsCommunalLength, communal_length_bytes};
@@ -10,35 +10,34 @@ use byteorder::{ByteOrder, LittleEndian};
 use std::alloc::AllocError;
 use std::marker::Model;
 
-/// A field of a record, with its spellings. No spelling begins another.
+/// A field of a record and its encodings ("spellings"), none of which is a prefix of another.
 pub trait Field<'a>: Sized {
-    /// The bytes spell the value.
+    /// The bytes encode the value.
     ghost spells: { Self → List ℕ → Type 0 };
 
-    /// The shortest of a value's spellings.
+    /// The shortest encoding of a value.
     ghost shortest: { Self → List ℕ };
 
-    /// The value that is spelled at a position, at most the length, and the position after it. `None` where
-    /// the bytes there begin with no spelling.
+    /// Decodes the field at offset `pos` of `src`, and returns it with the offset after it. `None` if no encoding begins there.
     fn read_at(src: &'a [u8], pos: usize) -> Option<(Self, usize)>
         requires { pos ≤ length src.now }
         ensures found { IfSome result (λ p. IsSpelledAt spells src.now pos p.0 p.1) }
         ensures none { IfNone result (IsUnspelled spells (drop pos src.now)) };
 
-    /// Appends the shortest spelling. `out` is unchanged at an `Err`.
+    /// Appends the shortest encoding. After an error `out` is unchanged.
     fn put(&self, out: &mut Vec<u8>) -> Result<(), AllocError>
         ensures spelled { spells self.now (shortest self.now) }
         ensures ok { OnOk result (out.new.items ≡ out.old.items ++ shortest self.now) }
         ensures err { OnErr result (out.new.items ≡ out.old.items) };
 
-    /// No spelling begins another.
+    /// No encoding is a prefix of another.
     ghost prefix_free: { IsPrefixFree spells };
 
-    /// The shortest spelling is one, and none is shorter.
+    /// `shortest` is an encoding, and none is shorter.
     ghost is_shortest: { IsShortest spells shortest };
 }
 
-/// A number of two bytes, low byte first.
+/// A little-endian number of 2 bytes.
 #[derive(Clone, Copy, Debug, PartialEq, Eq)]
 pub struct Le16(pub u16);
 
@@ -68,7 +67,7 @@ impl<'a> Field<'a> for Le16 {
     ghost is_shortest = { λ x a h. little_shortest 2 x.0 a h };
 }
 
-/// A number of four bytes, low byte first.
+/// A little-endian number of 4 bytes.
 #[derive(Clone, Copy, Debug, PartialEq, Eq)]
 pub struct Le32(pub u32);
 
@@ -98,7 +97,7 @@ impl<'a> Field<'a> for Le32 {
     ghost is_shortest = { λ x a h. little_shortest 4 x.0 a h };
 }
 
-/// An index into a table, at most 32,767: one byte, or two with the top bit of the first set.
+/// An index into a table, at most 32,767: 1 byte, or 2 with the top bit of the first set, high byte first.
 #[derive(Clone, Copy, Debug, PartialEq, Eq)]
 pub struct Index(pub u16);
 
@@ -146,7 +145,7 @@ impl<'a> Field<'a> for Index {
     ghost is_shortest = { index_shortest };
 }
 
-/// A name: at most 255 bytes, which are its value. A byte of length precedes them.
+/// A name of at most 255 bytes, after a length byte.
 #[derive(Debug, Drop)]
 pub struct Name<'a>(pub &'a [u8]);
 
@@ -190,7 +189,7 @@ impl<'a> Field<'a> for Name<'a> {
     ghost is_shortest = { name_shortest };
 }
 
-/// The number of a few bytes, the lowest first, and the position after them.
+/// Decodes a little-endian number of `count` bytes at `pos`, and returns it with the offset after it.
 fn little_at(src: &[u8], pos: usize, count: usize) -> Option<(u32, usize)>
     requires within { pos ≤ length src.now }
     requires some { 0 < count }
@@ -205,8 +204,8 @@ fn little_at(src: &[u8], pos: usize, count: usize) -> Option<(u32, usize)>
     Some((LittleEndian::read_uint(&src[pos..end], count) as u32, end))
 }
 
-/// A communal length (TIS OMF 1.1, COMDEF): one byte up to 128, or 81H, 84H, 88H and two, three, four
-/// bytes, all unsigned.
+/// A communal length (TIS OMF 1.1, COMDEF): one byte up to 128, or 81H, 84H or 88H and a little-endian number of 2, 3 or 4 bytes.
+/// All are unsigned.
 #[derive(Clone, Copy, Debug, PartialEq, Eq)]
 pub struct CommunalLength(pub u32);
 

@@ -1,4 +1,4 @@
-//! One record after another, from bytes in any pieces.
+//! Splits bytes, given in any pieces, into records.
 
 ghost use Rattle.std.specs.Prelude.{◌≡◌, ◌≤◌, ◌<◌, ◌+◌, ◌-◌, ◌^◌, ◌++◌, ◌==◌, ◌||◌, [], true, false, None, IsTrue, length, take, slice_index, IfOk, IfErr, OnOk, OnErr, IfSome, OnSome, ℕ, List, is_some, vec_capacity};
 ghost use Rattle.omf_frame.specs.Framing.{Raw, IsRecord, raw_bytes, present, front_record, frame_fault, standing_fault, is_whole, is_taken, is_end, record_len};
@@ -12,15 +12,15 @@ use crate::kinds::{is_end, is_taken};
 use std::alloc::{AllocError, Global};
 use std::marker::Model;
 
-/// How many bytes were taken, and whether a whole record stands now.
+/// The number of bytes taken, and whether the record at hand is now complete.
 #[derive(Clone, Copy, Debug, PartialEq, Eq)]
 pub struct Fed {
     pub taken: usize,
     pub whole: bool,
 }
 
-/// A record: its type byte, its contents without the checksum byte, its number from 0, and its offset in
-/// the stream (TIS OMF 1.1, "Object record format").
+/// A record: its type byte, its contents without the checksum byte, its number from 0, and its offset in the stream in bytes
+/// (TIS OMF 1.1, "Object record format").
 #[derive(Clone, Copy, Debug)]
 pub struct RawRecord<'a> {
     pub kind: u8,
@@ -29,11 +29,11 @@ pub struct RawRecord<'a> {
     pub start: u64,
 }
 
-/// The most bytes of a record: its type byte, two length bytes, and up to 65,535 more.
+/// The largest size of a record: the type byte, two length bytes, and up to 65,535 more.
 const LONGEST_RECORD: usize = 65_538;
 
-/// Takes bytes in any pieces, and shows one record after another. It keeps one record at most, of up to
-/// 65,538 bytes, and takes room for the longest at its first byte.
+/// Splits bytes, given in any pieces, into records. It holds one record at most, of up to 65,538 bytes, and allocates that much at
+/// its first byte.
 #[derive(Drop)]
 pub struct Framer {
     bytes: Vec<u8>,
@@ -55,7 +55,7 @@ impl Model for Framer {
     ghost invariant = { λ a. IsState (vec_capacity a.bytes) (record { bytes = a.bytes.items; number = a.number; start = a.start; ended = a.ended; fault = a.fault }) };
 }
 
-/// How long the record is that begins with some bytes and goes on with others.
+/// The size of the record that starts with `held` and continues with `piece`.
 fn joined_len(held: &[u8], piece: &[u8]) -> usize
     ensures same { result ≡ record_len (held.now ++ piece.now) }
     ensures bound { result ≤ 65538 }
@@ -74,7 +74,7 @@ fn joined_len(held: &[u8], piece: &[u8]) -> usize
     }
 }
 
-/// Takes room for every record, where so many bytes are to come and there is none yet.
+/// Allocates room for the longest record, unless `coming` is 0.
 fn take_room(bytes: &mut Vec<u8>, coming: usize) -> Result<(), AllocError>
     requires small { length bytes.old.items ≤ 65538 }
     ensures same { bytes.new.items ≡ bytes.old.items }
@@ -88,7 +88,7 @@ fn take_room(bytes: &mut Vec<u8>, coming: usize) -> Result<(), AllocError>
     bytes.reserve_exact(LONGEST_RECORD - bytes.len())
 }
 
-/// Appends what the record still lacks, and says how much that was.
+/// Appends the missing bytes of the record, as far as `piece` has them. Returns their number.
 fn grow(bytes: &mut Vec<u8>, piece: &[u8]) -> Result<usize, AllocError>
     requires short { length bytes.old.items ≤ record_len bytes.old.items }
     requires small { length bytes.old.items ≤ 65538 }
@@ -111,7 +111,7 @@ fn grow(bytes: &mut Vec<u8>, piece: &[u8]) -> Result<usize, AllocError>
     Ok(taken)
 }
 
-/// The fault of the type byte once more bytes are there.
+/// The fault of the type byte after `piece` is appended.
 fn joined_type_fault(held: &[u8], piece: &[u8]) -> Option<(Reason, u32)>
     requires { type_fault held.now ≡ None }
     ensures { result ≡ type_fault (present (held.now ++ piece.now)) }
@@ -122,7 +122,7 @@ fn joined_type_fault(held: &[u8], piece: &[u8]) -> Option<(Reason, u32)>
     }
 }
 
-/// Takes what the record at hand still lacks, and judges it. `at` is the place of its type byte.
+/// Appends the missing bytes of the record and checks it. `at` is the place of its type byte.
 fn advance(bytes: &mut Vec<u8>, at: Place, piece: &[u8]) -> Result<usize, FrameFault>
     requires short { length bytes.old.items ≤ record_len bytes.old.items }
     requires small { length bytes.old.items ≤ 65538 }
@@ -149,7 +149,7 @@ fn advance(bytes: &mut Vec<u8>, at: Place, piece: &[u8]) -> Result<usize, FrameF
     }
 }
 
-/// The whole record that some bytes are, with its number and start.
+/// The record in `bytes`, if it is complete.
 fn front(bytes: &[u8], number: u32, start: u64) -> Option<RawRecord<'_>>
     requires short { length bytes.now ≤ record_len bytes.now }
     requires sound { standing_fault (number == 0) bytes.now ≡ None }
@@ -179,7 +179,7 @@ fn front(bytes: &[u8], number: u32, start: u64) -> Option<RawRecord<'_>>
 }
 
 impl Framer {
-    /// A framer that has taken nothing.
+    /// A framer at the start of an input.
     pub fn new(alloc: Global) -> Framer
         ensures { result ≡ at_start }
     {
@@ -192,11 +192,10 @@ impl Framer {
         }
     }
 
-    /// Takes bytes to the end of one record at most: none while a whole record stands, and none after
-    /// the end. `whole` says whether a whole record stands then.
+    /// Takes bytes up to the end of the current record. Takes none while a record is complete, and none after MODEND.
     ///
-    /// A fault is kept, drops the bytes at hand, and is the answer from then on: a refusal by reasons 3 to 7,
-    /// or `Memory` where the first byte of the first record found no room, and its type has no fault.
+    /// Errors: a refusal by reasons 3 to 7, or `Memory`, which only the first byte of the first record can give. An error drops the
+    /// bytes at hand and is permanent: each later call returns it.
     pub fn feed(&mut self, piece: &[u8]) -> Result<Fed, FrameFault>
         ensures ok { IfOk result (λ fed. Takes self.old piece.now fed.taken fed.whole self.new) }
         ensures err { IfErr result (λ fault. FailsAs self.old piece.now fault self.new) }
@@ -229,9 +228,8 @@ impl Framer {
         }
     }
 
-    /// How many bytes it can take before it next judges: one before a type byte, then the length bytes
-    /// that are missing, then the rest of the record. None while a record is whole, after the end, or
-    /// after a fault.
+    /// The number of bytes up to the next check: 1 before a type byte, then the missing length bytes, then the rest of the record.
+    /// 0 while a record is complete, after MODEND, and after a fault.
     pub fn want(&self) -> usize
         ensures same { result ≡ want_of self.now }
         ensures none { (result == 0) ≡ (self.now.ended || (is_some self.now.fault || is_whole self.now.bytes)) }
@@ -245,8 +243,8 @@ impl Framer {
         record_len(&self.bytes) - self.bytes.len()
     }
 
-    /// The same where these are the next bytes: between two records, from a type byte that has no fault on, all of the record, which
-    /// is judged with its last byte.
+    /// Like `want`, with a look at the next bytes: between two records, if `ahead` begins with a supported type byte, the size of the
+    /// whole record as far as its length bytes are in `ahead`.
     pub fn want_with(&self, ahead: &[u8]) -> usize
         ensures { result ≡ want_with self.now ahead.now }
     {
@@ -257,21 +255,21 @@ impl Framer {
         }
     }
 
-    /// Whether a MODEND was passed by `next`.
+    /// Whether `next` has passed a MODEND.
     pub fn ended(&self) -> bool
         ensures { result ≡ self.now.ended }
     {
         self.ended
     }
 
-    /// The number of the record at hand, or of the next: how many were passed.
+    /// The number of records passed by `next`: the number of the record at hand, from 0.
     pub fn number(&self) -> u32
         ensures { result ≡ self.now.number }
     {
         self.number
     }
 
-    /// Passes the whole record that stands. Its number is below 2^32 - 1.
+    /// Goes on after the complete record at hand, whose number must be below 2^32 - 1.
     pub fn next(&mut self)
         requires whole { IsTrue (stands self.old) }
         requires number { self.old.number < 2 ^ 32 - 1 }
@@ -283,7 +281,7 @@ impl Framer {
         self.bytes.clear();
     }
 
-    /// The whole record that stands. There is none after a fault.
+    /// The record at hand, if it is complete. `None` after a fault.
     pub fn raw(&self) -> Option<RawRecord<'_>>
         ensures stands { is_some result ≡ stands self.now }
         ensures kind { IfSome result (λ r. r.kind ≡ (front_record self.now.bytes).kind) }
@@ -302,10 +300,10 @@ impl Framer {
         front(&self.bytes, self.number, self.start)
     }
 
-    /// What the end of the input means here. No whole record but a MODEND stands.
+    /// Whether the input may end here. The record at hand must not be complete, unless it is a MODEND.
     ///
-    /// A kept fault is the answer. `Ok` comes where a whole MODEND stands or was passed; else a part of a
-    /// record is `Cut`, and none is `NoEnd`. That fault is not kept.
+    /// `Ok` if MODEND is complete or was passed. Errors: a fault of `feed`; else `Cut` inside a record, and `NoEnd` between records.
+    /// The last two are not permanent.
     pub fn stop(&self) -> Result<(), FrameFault>
         requires { IsTrue (stands self.now) → IsTrue (is_end (slice_index self.now.bytes 0)) }
         ensures { result ≡ stop_of self.now }

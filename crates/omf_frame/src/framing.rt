@@ -1,4 +1,4 @@
-//! The first record in some bytes, and its fault of framing.
+//! The record at the front of some bytes, and its framing fault.
 
 ghost use Rattle.std.specs.Prelude.{◌≡◌, ◌≤◌, ◌+◌, ◌*◌, length};
 ghost use Rattle.omf_frame.specs.Framing.{is_whole, record_len};
@@ -8,7 +8,7 @@ use crate::fault::Reason;
 use crate::kinds::{is_header, is_taken, is_unsupported};
 use crate::sums::byte_sum;
 
-/// What the length bytes say: how many bytes follow them.
+/// The number of bytes after the two length bytes.
 fn stated(low: u8, high: u8) -> usize
     ensures same { result ≡ low + 256 * high }
     ensures bound { result ≤ 65535 }
@@ -16,7 +16,7 @@ fn stated(low: u8, high: u8) -> usize
     usize::from(u16::from_le_bytes([low, high]))
 }
 
-/// How long a record is by its length bytes.
+/// The size of a record in bytes, from its length bytes.
 pub fn len_of(low: u8, high: u8) -> usize
     ensures same { result ≡ 3 + (low + 256 * high) }
     ensures bound { result ≤ 65538 }
@@ -24,7 +24,7 @@ pub fn len_of(low: u8, high: u8) -> usize
     3 + stated(low, high)
 }
 
-/// How long the record is that begins so, as far as its bytes tell.
+/// The size in bytes of the record at the front; 3 until both length bytes are present.
 pub fn record_len(bytes: &[u8]) -> usize
     ensures same { result ≡ record_len bytes.now }
     ensures bound { result ≤ 65538 }
@@ -35,7 +35,7 @@ pub fn record_len(bytes: &[u8]) -> usize
     }
 }
 
-/// Whether the record is all there.
+/// Whether all bytes of the record are present.
 pub fn is_whole(bytes: &[u8]) -> bool
     ensures { result ≡ is_whole bytes.now }
 {
@@ -45,7 +45,7 @@ pub fn is_whole(bytes: &[u8]) -> bool
     }
 }
 
-/// The fault of the type byte, with its offset.
+/// The fault of the type byte, with its offset in the record.
 #[tactic(auto, unfolding(crate::specs::Inner::Judging::type_fault))]
 pub fn type_fault(bytes: &[u8]) -> Option<(Reason, u32)>
     ensures { result ≡ type_fault bytes.now }
@@ -58,7 +58,7 @@ pub fn type_fault(bytes: &[u8]) -> Option<(Reason, u32)>
     }
 }
 
-/// The fault of a whole record whose type is good, with its offset.
+/// The fault of a complete record of a supported type, with its offset in the record.
 #[tactic(auto, unfolding(crate::specs::Inner::Judging::whole_fault))]
 pub fn whole_fault(is_first: bool, bytes: &[u8]) -> Option<(Reason, u32)>
     ensures { result ≡ whole_fault is_first bytes.now }

@@ -3,7 +3,7 @@
 ghost use Rattle.std.specs.Prelude.{◌≡◌};
 ghost use Rattle.omf_frame.specs.Framing.{is_taken, is_unsupported, is_header, is_end};
 
-/// Whether records of the type may stand in a module.
+/// Whether a module may have records of this type.
 pub fn is_taken(kind: u8) -> bool
     ensures { result ≡ is_taken kind }
 {
@@ -14,7 +14,7 @@ pub fn is_taken(kind: u8) -> bool
     )
 }
 
-/// Whether the type is known, and no record of it may stand in a module.
+/// Whether the type is known but not supported.
 pub fn is_unsupported(kind: u8) -> bool
     ensures { result ≡ is_unsupported kind }
 {
@@ -24,14 +24,14 @@ pub fn is_unsupported(kind: u8) -> bool
     )
 }
 
-/// Whether the record begins a module.
+/// Whether a record of this type begins a module: THEADR (80H) or LHEADR (82H).
 pub fn is_header(kind: u8) -> bool
     ensures { result ≡ is_header kind }
 {
     matches!(kind, 0x80 | 0x82)
 }
 
-/// Whether the record ends a module.
+/// Whether a record of this type ends a module: MODEND (8AH, 8BH).
 pub fn is_end(kind: u8) -> bool
     ensures { result ≡ is_end kind }
 {

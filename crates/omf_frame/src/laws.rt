@@ -1,4 +1,4 @@
-//! Laws of the definitions, over all inputs.
+//! Laws of the definitions, for all inputs.
 
 ghost use Rattle.std.specs.Prelude.{◌≡◌, ◌+◌, ◌<◌, ℕ, Bool, true, not, ◌||◌, IsTrue, List, [], ◌∷◌, ◌++◌, length, take, flat_map, Some, None};
 ghost use Rattle.omf_frame.specs.declared.fault.Reason.{Reason};
@@ -10,10 +10,9 @@ ghost use Rattle.omf_frame.specs.Framing.{Raw, IsRecord, IsFramed, HasFront, raw
 ghost use Rattle.omf_frame.specs.Framer.{Held, at_start, Takes, FailsAs};
 ghost use Rattle.omf_frame.specs.Runs.{Run, run_over, settled, IsFed, IsOpen, IsFramingOf, before_all};
 
-/// However bytes are cut into pieces, what is shown of them and the state are the same.
+/// A framer shows the same records and reaches the same state, however its input is cut into pieces.
 ///
-/// `run_over` gives a framer one byte after another. A feed does to the state what the bytes that it takes
-/// do, or those for which it is refused; and so do many feeds.
+/// `run_over` feeds single bytes. A feed of a piece equals a run over the bytes it takes or is refused for; so do many feeds.
 pub fn pieces_do_not_matter()
     ensures joined { (run : Run) (a b : List ℕ) → run_over run (a ++ b) ≡ run_over (run_over run a) b }
     ensures takes { (run : Run) (piece : List ℕ) (taken : ℕ) (whole : Bool) (new : Held) → IsOpen run.held → Takes run.held piece taken whole new
@@ -25,29 +24,29 @@ pub fn pieces_do_not_matter()
     ensures fed { (run end : Run) (pieces : List (List ℕ)) → IsOpen run.held → IsFed run pieces end → run_over run (flat_map (λ piece. piece) pieces) ≡ end }
 {}
 
-/// A fault of framing that stands in the bytes of a record stands whatever bytes follow.
+/// A framing fault remains whatever bytes follow.
 pub fn standing_faults_stay()
     ensures { (is_first : Bool) (bytes more : List ℕ) (fault : Fault) → standing_fault is_first (present bytes) ≡ Some fault → standing_fault is_first (present (bytes ++ more)) ≡ Some fault }
 {}
 
-/// What a run over an input shows, and the state it ends in, are those of the definitions over the whole input.
+/// A run over an input shows the records, and ends in the state, that the definitions give for the whole input.
 pub fn runs_are_framings()
     ensures { (input : List ℕ) → AreBytes input → IsFramingOf input (run_over before_all input) }
 {}
 
-/// A module at the front of an input is read to its end, and nothing behind it is taken.
+/// A module at the front of an input is read to its end, and no byte after it is taken.
 pub fn modules_are_read()
     ensures { (bytes behind : List ℕ) (records : List Raw) → IsFramed bytes records
         → run_over before_all (bytes ++ behind)
         ≡ record { shown = records; held = record { bytes = []; number = length records; start = length bytes; ended = true; fault = None } } }
 {}
 
-/// At most one prefix of an input is framed.
+/// At most one prefix of an input is a framed module.
 pub fn modules_are_unique()
     ensures { (a b x y : List ℕ) (rs ss : List Raw) → IsFramed a rs → IsFramed b ss → a ++ x ≡ b ++ y → (a ≡ b) × (rs ≡ ss) }
 {}
 
-/// A record and its bytes determine each other, and bytes without a fault of framing begin with a record.
+/// A record and its bytes determine each other, and bytes without a framing fault begin with a record.
 pub fn records_delimit()
     ensures present { (r : Raw) (rest : List ℕ) → length r.body + 1 < 65536 → present (raw_bytes r ++ rest) ≡ raw_bytes r }
     ensures after { (r : Raw) (rest : List ℕ) → length r.body + 1 < 65536 → after_front (raw_bytes r ++ rest) ≡ rest }
@@ -56,8 +55,7 @@ pub fn records_delimit()
     ensures begins { (is_first : Bool) (bytes : List ℕ) → AreBytes bytes → frame_fault is_first (present bytes) ≡ None → HasFront bytes }
 {}
 
-/// The fault that is named is the least: the only one that is among the faults and stands before them all. Rules are
-/// kept exactly where none of them is broken.
+/// The reported fault is the least of the faults, and the only least one. Rules are kept exactly if none is broken.
 pub fn faults_are_least()
     ensures least { (fault : Fault) (faults : List Fault) → IsLeast (fault ∷ faults) (least_or fault faults) }
     ensures none { (faults : List Fault) → least faults ≡ None → faults ≡ [] }

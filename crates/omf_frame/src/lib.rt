@@ -1,6 +1,6 @@
-//! The records of an object module: fields, one record after another, readers and writers.
+//! Framing of an object module: its records one by one, the fields inside them, and the devices they are read from and written to.
 //!
-//! A record is written to memory, and found again:
+//! Writes a record to memory and reads it back:
 //!
 //! ```
 //! let mut bytes = Vec::new(alloc);
@@ -12,7 +12,7 @@
 //! }
 //! ```
 //!
-//! A framer takes bytes in any pieces; `next` passes the record that stands, and `stop` says whether the input may end there.
+//! A framer takes bytes in any pieces. `next` goes on to the next record, and `stop` tells whether the input may end here.
 #![tactic(auto)]
 
 mod device;
@@ -24,7 +24,6 @@ mod framing;
 mod kinds;
 mod laws;
 mod pull;
-pub mod samples;
 mod sums;
 mod write;
 
@@ -32,6 +31,7 @@ pub use device::{Buffered, Bytes, Reading, Sink, Source, Writing};
 pub use fault::{FrameFault, Place, Reason};
 pub use field::{CommunalLength, Field, Index, Le16, Le32, Name};
 pub use framer::{Fed, Framer, RawRecord};
+pub use kinds::is_header;
 pub use laws::{
     faults_are_least, modules_are_read, modules_are_unique, pieces_do_not_matter, records_delimit,
     runs_are_framings, standing_faults_stay,

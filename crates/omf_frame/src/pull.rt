@@ -1,4 +1,4 @@
-//! Pieces read from a source.
+//! Reading pieces from a source.
 
 ghost use Rattle.std.specs.Prelude.{◌≡◌, ◌<◌, ◌≤◌, ◌+◌, length, take, IfOk, IfErr, OnErr};
 ghost use Rattle.std.specs.Io.KnownBytes.{Consumes, Keeps, IsAtEnd};
@@ -8,10 +8,9 @@ use crate::device::{Source, TRIES, is_interrupted};
 use std::io;
 use std::io::{Error, ErrorKind};
 
-/// Puts the next bytes of a source at the front of a buffer that has room, and says how many: 0 only at the end.
+/// Reads the next bytes of a source into a nonempty buffer. Returns their number: 0 only at the end.
 ///
-/// An `Err` is the source's own, at once, and takes nothing; only `Interrupted` is tried again, and is the answer after a thousand
-/// running.
+/// Errors are the source's own, and take no bytes. `Interrupted` is retried, and is returned after a thousand in a row.
 pub fn pull_piece<S: Source>(source: &mut S, buffer: &mut [u8]) -> io::Result<usize>
     requires { 0 < length buffer.old }
     ensures bound { IfOk result (λ n. n ≤ length buffer.new) }

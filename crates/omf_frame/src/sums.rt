@@ -14,7 +14,7 @@ pub fn byte_sum(bytes: &[u8]) -> u8
     total
 }
 
-/// The byte that makes the sum of a record's bytes 0 modulo 256 (TIS OMF 1.1, "Object record format").
+/// The checksum byte of a record: it makes the sum of the record's bytes 0 modulo 256 (TIS OMF 1.1, "Object record format").
 /// The contents have at most 65,534 bytes.
 pub fn checksum(kind: u8, body: &[u8]) -> u8
     requires { length body.now ≤ 65534 }

@@ -1,4 +1,4 @@
-//! Records written to a sink.
+//! Writing records to a sink.
 
 ghost use Rattle.std.specs.Prelude.{◌≡◌, ◌+◌, ◌*◌, ◌≤◌, length, OnErr};
 ghost use Rattle.omf_frame.specs.Framing.{raw_bytes, raw_of};
@@ -11,8 +11,8 @@ use std::io::{Error, ErrorKind};
 
 /// Writes all of the bytes to a sink.
 ///
-/// An `Err` is the sink's own, at once, or `WriteZero` where it took none of some bytes; only `Interrupted` is tried again, and is
-/// the answer after a thousand running. What was written before an `Err` is a front of the bytes.
+/// Errors: the sink's own, or `WriteZero` if it took no byte. `Interrupted` is retried, and is returned after a thousand in a row.
+/// After an error the sink holds a prefix of the bytes.
 pub fn push_all<S: Sink>(writer: &mut S, bytes: &[u8]) -> io::Result<()>
     ensures bytes { Writes (S.seen writer.old).bytes (S.seen writer.new).bytes result bytes.now }
     ensures cause { OnErr result (HasFailed (S.seen writer.old).failures (S.seen writer.new).failures) }
@@ -40,7 +40,7 @@ pub fn push_all<S: Sink>(writer: &mut S, bytes: &[u8]) -> io::Result<()>
     Ok(())
 }
 
-/// A record's type byte and length.
+/// The first three bytes of a record: its type and its length.
 fn head_of(kind: u8, body: &[u8]) -> [u8; 3]
     requires { length body.now ≤ 65534 }
     ensures { result ≡ head kind body.now }
@@ -49,9 +49,9 @@ fn head_of(kind: u8, body: &[u8]) -> [u8; 3]
     [kind, low, high]
 }
 
-/// Writes a record of a type and at most 65,534 bytes of contents, with its checksum byte.
+/// Writes a record: the type byte, the length, at most 65,534 bytes of contents, and the checksum byte.
 ///
-/// An `Err` is that of `push_all`. What was written before it is the record's front.
+/// Errors are those of `push_all`. After an error the sink holds a prefix of the record.
 pub fn write_record<S: Sink>(writer: &mut S, kind: u8, body: &[u8]) -> io::Result<()>
     requires { length body.now ≤ 65534 }
     ensures bytes { Writes (S.seen writer.old).bytes (S.seen writer.new).bytes result (raw_bytes (raw_of kind body.now)) }

@@ -1,4 +1,4 @@
--- As many bytes as the size says.
+-- The size is the number of bytes.
 use Rattle.std.proofs.Common.{◌≡◌, ℕ, zero, suc, ◌*◌, List, [], ◌∷◌, refl, ◌∙◌, ap, length, length-append, arith}
 use Rattle.std.specs.List.{repeat}
 use Rattle.omf_image.specs.Blocks.{Block, Blocks, Repeat, Nest, NoBlocks, First, repeated, block_bytes, blocks_bytes, block_size, blocks_size}

@@ -1,4 +1,4 @@
--- Steps of the functions that write the bytes of blocks.
+-- Steps of the functions that expand blocks.
 use Rattle.std.proofs.Common.{◌≡◌, ◌⊎◌, inl, inr, ℕ, zero, suc, ◌+◌, ◌-◌, ◌*◌, ◌<◌, ◌≤◌, Bool, true, false, List, [], ◌∷◌, ◌++◌, append_assoc, length, length-append, length-drop, take, drop, Result, Ok, Err, refl, sym, ◌∙◌, ap, subst, arith}
 use Rattle.std.specs.Prelude.{IsOk, slice_range}
 use Rattle.std.specs.List.{repeat}
@@ -14,7 +14,7 @@ use Rattle.omf_image.specs.Inner.Copying.{bytes_times, bytes_contents, bytes_blo
 use Rattle.omf_image.proofs.BlocksLaws.{length-repeated}
 use Rattle.omf_image.proofs.FoldSteps.{lower, one_more}
 
--- ---- what a block that is spelled has
+-- ---- the parts of a spelled block
 
 ok_first : {A B : Type 0} (r : Result A Fault) (f : A → Result B Fault) → IsOk (and_then r f) → (a : A) × (r ≡ Ok a) × IsOk (f a)
 ok_first (Ok a) f h = (a, refl, h)
@@ -56,7 +56,7 @@ module _ (width levels at : ℕ) (bytes : List ℕ) (ok : IsOk (bytes_block widt
           let a = ok_first (bytes_contents (bytes_block width (levels - 1)) n k kr) (λ x. Ok (after (repeated count x.value) x.within x.rest)) q in
           subst (λ r. IsOk r) (sym a.1) refl
 
--- ---- bytes that are repeated
+-- ---- repeated bytes
 
 repeat_more : (n : ℕ) (xs : List ℕ) → repeat n xs ++ xs ≡ xs ++ repeat n xs
 repeat_more zero xs = sym (append-nil xs)
@@ -88,12 +88,12 @@ pub nothing_repeated : (n : ℕ) (xs : List ℕ) → length xs ≡ 0 → repeate
 nothing_repeated n [] h = refl
 nothing_repeated n (x ∷ xs) h = absurd (omega (arith, h))
 
--- what stands in front of what was appended
+-- the bytes before those appended
 pub slice_front : (xs ys : List ℕ) (from : ℕ) → from ≤ length xs → slice_range (xs ++ ys) from (length xs) ≡ drop from xs
 slice_front xs ys from h =
     ap (λ zs. take (length xs - from) zs) (drop-append-le from xs ys h) ∙ take_at (drop from xs) ys (length xs - from) (length-drop from xs)
 
--- ---- one after the other
+-- ---- sequences
 
 pub moves_then : {a b c : List ℕ} {m n k i j : ℕ} {x y : List ℕ} → IsMoved a m b n i x → IsMoved b n c k j y → IsMoved a m c k (i + j) (x ++ y)
 moves_then {a} {b} {c} {m} {n} {k} {i} {j} {x} {y} g h = record {
@@ -133,7 +133,7 @@ module _ (block : Reading (List ℕ)) (n i at : ℕ) (front bytes : List ℕ) (l
       let a = ok_first (block at bytes) (λ a. bytes_times block (n - (i + 1)) (front ++ a.value) a.within a.rest) k in
       subst (λ r. IsOk r) (sym a.1) refl
 
--- what was written once and then repeated
+-- bytes written once and then repeated
 pub written_again : (n : ℕ) (x : List ℕ) → (n ≡ 0 → ⊥) → x ++ repeated (n - 1) x ≡ repeated n x
 written_again zero x some = absurd (some refl)
 written_again (suc n) x some = let e : suc n - 1 ≡ n = omega arith in ap (λ k. x ++ repeated k x) e ∙ first_repeated n x
@@ -141,16 +141,16 @@ written_again (suc n) x some = let e : suc n - 1 ≡ n = omega arith in ap (λ k
 pub written_never : (n : ℕ) (x : List ℕ) → n ≡ 0 → repeated n x ≡ []
 written_never n x e = ap (λ k. repeated k x) e ∙ repeated_none x
 
--- what is not wanted, or is repeated 0 times, is not written
+-- bytes that are not wanted, or are repeated 0 times, are not written
 pub unwanted : (want : Bool) (n : ℕ) (x : List ℕ) → (want ≡ false) ⊎ ((want ≡ true) × (n ≡ 0)) → [] ≡ wanted want (repeated n x)
 unwanted want n x (inl e) = wanted_none want (repeated n x) e
 unwanted want n x (inr (e, none)) = sym (written_never n x none) ∙ wanted_all want (repeated n x) e
 
--- the last of what stands there
+-- the last bytes written
 pub back_part : (a b x : List ℕ) (from : ℕ) → b ≡ a ++ x → from ≡ length a → drop from b ≡ x
 back_part a b x from e f = ap (λ k. drop k b) f ∙ ap (λ z. drop (length a) z) e ∙ drop_at a x (length a) refl
 
--- ---- what stands there once and again, in part
+-- ---- whole copies and a part of one
 
 module _ (old : List ℕ) (from done more len : ℕ) (inside : from ≤ length old) (size : len ≡ length old - from) (some : 1 ≤ done) (within : more ≤ done) where
   abbrev part : List ℕ

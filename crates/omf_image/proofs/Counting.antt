@@ -1,4 +1,4 @@
--- What is counted without trees is the size of the trees.
+-- The length counted without trees is the size of the trees.
 use Rattle.std.proofs.Common.{◌≡◌, inl, inr, ℕ, zero, suc, ◌+◌, ◌-◌, ◌*◌, ◌^◌, ◌<◌, ◌≤◌, List, length, Result, Ok, Err, refl, sym, ◌∙◌, ap, arith}
 use Rattle.std.proofs.Math.Nat.{min-eq_left, min-eq_right, min-le_left, min-le_right}
 use Rattle.std.proofs.lemmas.Bool.Decides.{leb_tells}
@@ -15,7 +15,7 @@ use Rattle.omf_image.proofs.LengthLaws.{is_within, is_beyond, judged, length_of}
 use Rattle.omf_image.proofs.FoldLaws.{Gives, blocks_told, all_step}
 use Rattle.omf_image.specs.Inner.Lengths.{capped, lengths, len_data, len_block, len_all}
 
--- ---- numbers that stop at the greatest
+-- ---- saturating numbers
 
 abbrev top : ℕ
 top = 2 ^ 64 - 1
@@ -82,7 +82,7 @@ module _ (width levels : ℕ) where
       blocks_told lengths (λ b. capped (block_size b)) front_size (λ sum. sum ≤ top) gives_size width levels bytes
       ∙ then_same (read_blocks width levels bytes) _ _ (λ trees. ap (λ k. Ok (capped k)) (omega arith))
 
-  -- one block of those that are left
+  -- one of the remaining blocks
   pub size_step : (n sum at : ℕ) (bytes : List ℕ) (a : After ℕ) → 0 < length bytes → length bytes ≤ n → Ok a ≡ len_block width levels at bytes
       → len_all (len_block width levels) n (capped (sum + a.value)) a.within a.rest ≡ len_all (len_block width levels) n sum at bytes
   size_step = all_step lengths (λ b. capped (block_size b)) front_size (λ sum. sum ≤ top) gives_size width levels

@@ -1,4 +1,4 @@
--- The bytes that are computed without trees are those of the trees.
+-- The bytes computed without trees are those of the trees.
 use Rattle.std.proofs.Common.{◌≡◌, ℕ, zero, suc, ◌<◌, ◌≤◌, List, [], ◌∷◌, ◌++◌, append_assoc, length, length-drop, drop, Result, Ok, Err, refl, sym, ◌∙◌, ap, subst, arith}
 use Rattle.std.specs.Prelude.{IsOk, ⊤}
 use Rattle.std.specs.List.{repeat}
@@ -55,7 +55,7 @@ module _ (width levels : ℕ) where
   bytes_shrinks : Shrinks (bytes_block width levels)
   bytes_shrinks = fold_shrinks copies block_bytes front_bytes (λ front. ⊤) gives_bytes width levels
 
-  -- one block of those that are left, and the end
+  -- one of the remaining blocks, and the end
   pub bytes_step : (n : ℕ) (front : List ℕ) (at : ℕ) (bytes : List ℕ) (a : After (List ℕ)) → 0 < length bytes → length bytes ≤ n → Ok a ≡ bytes_block width levels at bytes
       → bytes_all (bytes_block width levels) n (front ++ a.value) a.within a.rest ≡ bytes_all (bytes_block width levels) n front at bytes
   bytes_step = all_step copies block_bytes front_bytes (λ front. ⊤) gives_bytes width levels

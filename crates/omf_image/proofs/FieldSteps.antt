@@ -1,4 +1,4 @@
--- A field that is read at a position is what its reading gives there.
+-- The field read at a position is the result of its reading there.
 use Rattle.std.proofs.Common.{◌≡◌, ℕ, ◌+◌, ◌-◌, List, length, length-take, length-drop, take, drop, Ok, Err, sym, ap, ◌∙◌, arith}
 use Rattle.std.specs.Prelude.{slice_range, IsOk}
 use Rattle.std.proofs.lemmas.List.{take-append-drop}
@@ -19,7 +19,7 @@ module _ {A : Type 0} (P : A → List ℕ → Type 0) (read : Reading A) where
       let long : pos + length cut ≡ end = omega (arith, length-take (end - pos) (drop pos bytes), length-drop pos bytes, from, to) in
       sym (ap (λ (t : List ℕ). read pos t) (drop_split bytes pos end from) ∙ again pos cut (drop end bytes) x spells ∙ ap (λ k. Ok (after x k (drop end bytes))) long)
 
-  -- where no spelling begins, reading gives Short
+  -- if no spelling starts there, reading gives Short
   pub unread : FieldOk short P read → FieldRefused short P read → (pos : ℕ) (bytes : List ℕ) → AreBytes bytes → IsUnspelled P (drop pos bytes) → read pos (drop pos bytes) ≡ Err (fault pos reason.Short)
   unread ok refused pos bytes fit none =
       not_found short P read ok refused pos (drop pos bytes) (AreBytes-rest bytes (take pos bytes) (drop pos bytes) (sym (take-append-drop pos bytes)) fit) none

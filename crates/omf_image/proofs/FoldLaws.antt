@@ -1,4 +1,4 @@
--- What is read of blocks without their trees is what the trees give.
+-- A fold over the readings of blocks gives what a fold over their trees gives.
 use Rattle.std.proofs.Common.{◌≡◌, ℕ, zero, suc, ◌<◌, ◌≤◌, Bool, cond, List, [], ◌∷◌, length, Result, Ok, Err, refl, sym, ◌∙◌, ap, subst, arith}
 use Rattle.std.specs.Prelude.{map, ◌==◌}
 use Rattle.omf_frame.specs.Fault.{Fault}
@@ -14,7 +14,7 @@ use Rattle.omf_image.specs.Inner.Expanding.{read_blocks}
 use Rattle.omf_image.specs.Inner.Folding.{Folded, fold_times, fold_contents, fold_block, fold_all}
 use Rattle.omf_image.proofs.ReadingSteps.{then_same, then_when, then_then, is_some}
 
--- What a block gives, and what blocks give after others that fit.
+-- The value of a block, and that of blocks after others.
 pub record Gives {A : Type 0} (f : Folded A) (one : Block → A) (all : A → Blocks → A) (Fits : A → Type 0) : Type 0 where
   pub none_fits : Fits f.none
   pub join_fits : (front : A) (b : Block) → Fits (f.join front (one b))
@@ -25,7 +25,7 @@ pub record Gives {A : Type 0} (f : Folded A) (one : Block → A) (all : A → Bl
   pub nest : (count : ℕ) (trees : Blocks) → f.again count (all f.none trees) ≡ one (Nest count trees)
 
 module _ {A : Type 0} (f : Folded A) (one : Block → A) (all : A → Blocks → A) (Fits : A → Type 0) (g : Gives f one all Fits) where
-  -- what was read of a block
+  -- the reading of a block
   abbrev told : After Block → After A
   told a = after (one a.value) a.within a.rest
 
@@ -122,7 +122,7 @@ module _ {A : Type 0} (f : Folded A) (one : Block → A) (all : A → Blocks →
         ∙ sym (then_then (item at (b ∷ bytes)) (λ a. and_then (each_read item n a.within a.rest) (λ xs. Ok (record { within = at; item = a.value } ∷ xs)))
         (λ xs. Ok (all front (gathered (map (λ b. b.item) xs)))))
 
-    -- what all the blocks give
+    -- the value of all the blocks
     pub blocks_told : (bytes : List ℕ) → fold_all f block_read (length bytes) f.none 0 bytes ≡ and_then (read_blocks width levels bytes) (λ trees. Ok (all f.none trees))
     blocks_told bytes =
         all_told (length bytes) f.none 0 bytes g.none_fits
@@ -138,7 +138,7 @@ module _ {A : Type 0} (f : Folded A) (one : Block → A) (all : A → Blocks →
         let less = fold_shrinks at (b ∷ bytes) a e in
         all_enough n m (f.join front a.value) a.within a.rest (omega (arith, less)) (omega (arith, less)))
 
-    -- one block of those that are left
+    -- one of the remaining blocks
     pub all_step : (n : ℕ) (front : A) (at : ℕ) (bytes : List ℕ) (a : After A) → 0 < length bytes → length bytes ≤ n → Ok a ≡ block_read at bytes
         → fold_all f block_read n (f.join front a.value) a.within a.rest ≡ fold_all f block_read n front at bytes
     all_step n front at [] a some le e = absurd (omega (arith, some))

@@ -1,4 +1,4 @@
--- Steps of the functions that read blocks to something else than their trees.
+-- Steps of the functions that read blocks to a value other than their trees.
 use Rattle.std.proofs.Common.{◌≡◌, ℕ, zero, suc, ◌+◌, ◌-◌, ◌<◌, ◌≤◌, List, Ok, Err, refl, sym, ◌∙◌, ap, arith}
 use Rattle.omf_frame.specs.Fault.{Fault}
 use Rattle.omf_records.specs.Inner.FieldReaders.{le_read}
@@ -21,7 +21,7 @@ module _ {A : Type 0} (f : Folded A) where
   times_contents block zero some = absurd (some refl)
   times_contents block (suc n) some = refl
 
-  -- one of the blocks that are left
+  -- one of the remaining blocks
   module _ (block : Reading A) (n i : ℕ) (front : A) (at : ℕ) (bytes : List ℕ) (low : i < n) where
     pub times_step : (x : A) (next : ℕ) (rest : List ℕ) → Ok (after x next rest) ≡ block at bytes
         → fold_times f block (n - (i + 1)) (f.join front x) next rest ≡ fold_times f block (n - i) front at bytes

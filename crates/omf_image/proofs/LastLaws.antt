@@ -1,4 +1,4 @@
--- The last of some values that a function gives of a list's elements.
+-- The last of the values that a function gives for a list's elements.
 use Rattle.std.proofs.Common.{◌≡◌, List, [], ◌∷◌, ◌++◌, Option, Some, None, refl, ◌∙◌, ap}
 use Rattle.std.specs.Prelude.{filter_map}
 use Rattle.std.specs.List.{last_or, cons_option}
@@ -18,6 +18,6 @@ last_option : {A : Type 0} (o : Option A) (ys : List A) → last (ys ++ cons_opt
 last_option None ys = last_same None ys
 last_option (Some y) ys = last_more None ys y
 
--- One more element gives the last value, or leaves it as it was.
+-- One more element gives the last value, or leaves it unchanged.
 pub last_filter_map : {X A : Type 0} (f : X → Option A) (xs : List X) (x : X) → last (filter_map f (xs ++ x ∷ [])) ≡ option_or (f x) (last (filter_map f xs))
 last_filter_map f xs x = ap last (filter_map-append f xs (x ∷ [])) ∙ last_option (f x) (filter_map f xs)

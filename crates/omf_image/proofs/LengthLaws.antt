@@ -60,7 +60,7 @@ module _ (width : ℕ) (limits : Limits) (bytes : List ℕ) where
   err_is (Ok t) m e h = let j = judged_err (nat_le (blocks_size t) limits.expanded) (blocks_size t) e h in inr (t, m.spelled, beyond (blocks_size t) limits.expanded j.0, j.1)
   err_is (Err f) m e h = let same : f ≡ e = cc in inl (subst (λ x. (blocks width limits.nesting).Faults 0 bytes x × ((g : Fault) → (blocks width limits.nesting).Faults 0 bytes g → IsTrue (is_before x g))) same (m.faulty, m.first))
 
-  -- two faults of which neither comes later are one
+  -- two faults, neither before the other, are equal
   same_fault : (d e : Fault) → IsTrue (is_before d e) → IsTrue (is_before e d) → d ≡ e
   same_fault d e de ed = least_unique (d ∷ e ∷ []) d e
       ((0, omega arith, refl), all_cons (λ g. IsTrue (is_before d g)) d (e ∷ []) (before_itself d) (all_cons (λ g. IsTrue (is_before d g)) e [] de (λ k x low. absurd (omega (arith, low)))))

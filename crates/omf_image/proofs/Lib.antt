@@ -1,6 +1,7 @@
 pub mod BlocksLaws
 pub mod LengthLaws
 pub mod LimitLaws
+pub mod ComputedLaws
 pub mod LastLaws
 pub mod RunLaws
 pub mod ShownLaws

@@ -1,4 +1,4 @@
--- Blocks within some limits are within any larger ones.
+-- Blocks within some limits are within all larger limits.
 use Rattle.std.proofs.Common.{ℕ, zero, suc, ◌+◌, ◌≤◌, Bool, true, false, List, [], ◌∷◌, length, arith}
 use Rattle.std.specs.Prelude.{◌==◌}
 use Rattle.omf_records.specs.Values.{At}

@@ -51,7 +51,7 @@ overwritten_items old new at n k len d f items inside e ek ei ed ef el =
     let two : length items ≡ length old + (length new - n) = ap (λ (x : List ℕ). length x) ei ∙ length-append old (drop n new) ∙ ap (λ x. length old + x) (length-drop n new) in
     take_at z (drop (length z) items) len (omega (arith, one, two, inside, e, el)) ∙ is
 
--- ---- where they end
+-- ---- their ends
 
 max_cases : (a b : ℕ) → ((a ≤ b) × (max a b ≡ b)) ⊎ ((b ≤ a) × (max a b ≡ a))
 max_cases a b = elim (leb_tells a b) [ inl t ↦ inl (t.1, omega (arith, t.1)) | inr t ↦ inr (omega (arith, t.1), omega (arith, t.1)) ]

@@ -1,4 +1,4 @@
--- Pieces that are laid ahead of others, which cover all their places; and images of zeros.
+-- Pieces laid before others that cover all their places; and images of zeros.
 use Rattle.std.proofs.Common.{◌≡◌, inl, inr, ℕ, zero, suc, ◌-◌, Bool, true, false, List, [], ◌∷◌, ◌++◌, length, map, Option, Some, None, refl, sym, ◌∙◌, ap, subst, arith, append_assoc}
 use Rattle.std.specs.Prelude.{IsSome, Contains, slice_get, replicate, option_to_list, nat_le, ◌==◌, ◌&&◌, if◌then◌else◌}
 use Rattle.std.specs.List.Sorted.{IsPermutation}
@@ -54,7 +54,7 @@ same_places (l ∷ ls) (m ∷ ms) e segment x h =
       | inr s ↦ or_right (byte_at ms segment x) (byte_of segment x m) (same_place segment x l m first s)
     ])
 
--- ---- an image that has the bytes of pieces is one over which they were laid
+-- ---- an image with the bytes of some pieces is one made by laying them
 
 laid_after : (done old ls image : List Laid) → ((segment x : ℕ) → byte_at old segment x ≡ byte_at done segment x)
     → ((segment x : ℕ) → byte_at image segment x ≡ byte_at (done ++ ls) segment x) → (ls ≡ [] → old ≡ image) → AreLaidOver old ls image
@@ -87,7 +87,7 @@ pub laid_more : (old mid new ls : List Laid) (l : Laid) → AreLaidOver old ls m
 laid_more old mid new [] l h k = (new, subst (λ z. IsLaidOver z l new) (sym h) k, refl)
 laid_more old mid new (m ∷ ls) l (next, one, h) k = (next, one, laid_more next mid new ls l h k)
 
--- behind other pieces
+-- after other pieces
 laid_behind : (front ls ms : List Laid) (l : Laid) → IsLaidOver ls l ms → IsLaidOver (front ++ ls) l (front ++ ms)
 laid_behind front ls ms l h segment x =
     byte_append front ms segment x ∙ ap (λ o. option_or o (byte_at front segment x)) (h segment x)

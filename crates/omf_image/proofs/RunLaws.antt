@@ -1,4 +1,4 @@
--- Runs that are kept apart and cover what the pieces cover are all the maximal covered intervals.
+-- Separate runs that cover the same places as the pieces are all the maximal covered intervals.
 use Rattle.std.proofs.Common.{◌≡◌, ◌⊎◌, inl, inr, ℕ, zero, suc, ◌+◌, ◌-◌, ◌<◌, ◌≤◌, Bool, true, false, List, [], ◌∷◌, ◌++◌, length, Option, Some, None, refl, sym, ◌∙◌, ap, subst, arith, append_assoc}
 use Rattle.std.specs.Prelude.{Contains, IsSome, IsNone, slice_get, fold, min, max, nat_lt, nat_le, ◌==◌, ◌&&◌, if◌then◌else◌, ⊤}
 use Rattle.std.specs.Option.{option_or}
@@ -22,7 +22,7 @@ within_some [] i h = absurd (omega arith)
 within_some (x ∷ xs) zero h = refl
 within_some (x ∷ xs) (suc i) h = let low : i < length xs = omega arith in within_some xs i low
 
--- a place lies in a run, or in one of some runs
+-- a place is in a run, or in one of some runs
 abbrev pub IsIn : ℕ → Run → Type 0
 IsIn x r = (r.first ≤ x) × (x < run_end r)
 
@@ -30,7 +30,7 @@ abbrev pub Covers : List Run → ℕ → Type 0
 Covers [] x = ⊥
 Covers (r ∷ runs) x = IsIn x r ⊎ Covers runs x
 
--- runs from a place on, with a place between each and the next
+-- runs from a place on, with a gap between each and the next
 abbrev pub AreApart : ℕ → List Run → Type 0
 AreApart low [] = ⊤
 AreApart low (r ∷ runs) = (low ≤ r.first) × (0 < r.len) × AreApart (suc (run_end r)) runs
@@ -58,7 +58,7 @@ module _ (r s : Run) (some : 0 < r.len) where
   in_hull x (inl (from, to)) = (omega (arith, min-le_left r.first s.first), omega (arith, hull_end, le-max_left (run_end r) (run_end s)))
   in_hull x (inr (from, to)) = (omega (arith, min-le_right r.first s.first), omega (arith, hull_end, le-max_right (run_end r) (run_end s)))
 
-  -- intervals that touch have no place between them
+  -- intervals that touch have no gap between them
   of_hull : (x : ℕ) → s.first ≤ run_end r → r.first ≤ run_end s → IsIn x (hull r s) → IsIn x r ⊎ IsIn x s
   of_hull x h k (from, to) = elim (leb_tells r.first x) [
     | inr t ↦ elim (min_is r.first s.first) [
@@ -151,13 +151,13 @@ contains_here x xs = let some : 0 < length (x ∷ xs) = omega arith in (0, some,
 pub contains_none : {A : Type 0} (x : A) → Contains [] x → ⊥
 contains_none x (k, low, e) = omega (arith, low)
 
--- nothing is covered in front of the runs
+-- nothing is covered before the runs
 covers_from : (low : ℕ) (runs : List Run) (x : ℕ) → AreApart low runs → Covers runs x → low ≤ x
 covers_from low [] x h c = absurd c
 covers_from low (r ∷ runs) x (from, some, others) (inl i) = omega (arith, i.0)
 covers_from low (r ∷ runs) x (from, some, others) (inr c) = omega (arith, covers_from (suc (run_end r)) runs x others c)
 
--- each run stands from the place on, and is not empty
+-- each run is after the place, and not empty
 run_from : (low : ℕ) (runs : List Run) (r : Run) → AreApart low runs → Contains runs r → (low ≤ r.first) × (0 < r.len)
 run_from low [] r h c = absurd (contains_none r c)
 run_from low (s ∷ runs) r (from, some, others) c = elim (contains_first r s runs c) [
@@ -290,7 +290,7 @@ or_some (Some x) p h = refl
 pub byte_at-append : (laid : List Laid) (l : Laid) (segment x : ℕ) → byte_at (laid ++ l ∷ []) segment x ≡ option_or (byte_of segment x l) (byte_at laid segment x)
 byte_at-append laid l segment x = last_filter_map (byte_of segment x) laid l
 
--- runs that are apart and cover what some pieces cover
+-- separate runs that cover the same places as some pieces
 pub record AreOf (segment : ℕ) (laid : List Laid) (runs : List Run) : Type 0 where
   pub apart : AreApart 0 runs
   pub covered : (x : ℕ) → Covers runs x → IsSome (byte_at laid segment x)
@@ -337,11 +337,11 @@ fold_of segment laid (l ∷ more) runs h =
 none_of : (segment : ℕ) → AreOf segment [] []
 none_of segment = record { apart = tt; covered = λ x c. absurd c; covers = λ x s. absurd cc }
 
--- The runs that are computed cover what the pieces cover.
+-- The computed runs cover the same places as the pieces.
 pub runs_cover : (segment : ℕ) (laid : List Laid) → AreOf segment laid (runs_of laid segment)
 runs_cover segment laid = fold_of segment [] laid [] (none_of segment)
 
--- The runs that are computed are all the maximal covered intervals.
+-- The computed runs are all the maximal covered intervals.
 pub joined_are_runs : (laid : List Laid) (segment : ℕ) → AreRuns (byte_at laid segment) (runs_of laid segment)
 joined_are_runs laid segment = let h = runs_cover segment laid in runs_of_apart (byte_at laid segment) (runs_of laid segment) h.apart h.covered h.covers
 
@@ -358,7 +358,7 @@ rising_rest : (r : Run) (rs : List Run) → AreRising (r ∷ rs) → AreRising r
 rising_rest r [] h = tt
 rising_rest r (s ∷ rs) (lt, h) = h
 
--- what is in both lists and is not the first of one stands behind the first of the other
+-- a run in both lists that is not the first of one is after the first of the other
 in_rest : (r s t : Run) (rs ss : List Run) → AreRising (r ∷ rs) → r ≡ s → Contains rs t → Contains (s ∷ ss) t → Contains ss t
 in_rest r s t rs ss h same c d = elim (contains_first t s ss d) [
   | inl e ↦ let more = rising_above r rs t h c in let q = ap (λ u. u.first) e in let p = ap (λ u. u.first) same in absurd (omega (arith, more, q, p))

@@ -1,4 +1,4 @@
--- Runs that stand in one line: searching them, and the byte at a place.
+-- Runs on one line: searching them, and the byte at a place.
 use Rattle.std.proofs.Common.{◌≡◌, ◌⊎◌, inl, inr, ℕ, zero, suc, ◌+◌, ◌-◌, ◌*◌, ◌<◌, ◌≤◌, Bool, true, false, List, [], ◌∷◌, ◌++◌, length, map, take, drop, Option, Some, None, refl, sym, ◌∙◌, ap, subst, arith, get_or}
 use Rattle.std.specs.Prelude.{IsSome, slice_get, filter_map, nat_lt, nat_le, ◌==◌, ◌&&◌, if◌then◌else◌}
 use Rattle.std.specs.List.{last_or, cons_option}
@@ -40,7 +40,7 @@ sorted_within from (c ∷ cs) (suc k) d (at, some, fits, others) lt =
     let more = sorted_within (ends c + 1) cs k d others less in
     (omega (arith, at, more), omega (arith, at, more))
 
--- what lies between the beginning of a run and the place behind its end does not fall from one run to the next
+-- the bounds of runs are in ascending order
 rise_of : (of : Covered → ℕ) → ((c : Covered) → of c ≤ ends c + 1) → ((from : ℕ) (cs : List Covered) (k : ℕ) (d : Covered) → AreSorted from (laid_runs cs) → k < length cs → from ≤ of (get_or cs k d))
     → (from : ℕ) (cs : List Covered) → AreSorted from (laid_runs cs) → IsNonDecreasingBy of cs
 rise_of of low more from [] h i j d le lt = absurd (omega (arith, lt))
@@ -87,7 +87,7 @@ pub not_none : (n : ℕ) → ((n ≡ 0) → ⊥) → n - 1 + 1 ≡ n
 not_none zero h = absurd (h refl)
 not_none (suc n) h = omega arith
 
--- one run tells of those before it and behind it
+-- one run bounds those before it and those after it
 module _ (at k : ℕ) (cs : List Covered) (h : AreSorted 0 (laid_runs cs)) where
   module _ (c : Covered) (lt : k < length cs) (is : c ≡ get_or cs k c) where
     here : (d : Covered) → get_or cs k d ≡ c
@@ -171,7 +171,7 @@ none_low segment x l lt = no_byte (byte_of segment x l) (λ h. let i = covered_p
 pub none_high : (segment x : ℕ) (l : Laid) → high l ≤ line_place segment x → byte_of segment x l ≡ None
 none_high segment x l le = no_byte (byte_of segment x l) (λ h. let i = covered_place segment x l h in omega (arith, le, i))
 
--- nothing is covered in front of the runs
+-- nothing is covered before the runs
 pub none_before : (from : ℕ) (ls : List Laid) (segment x : ℕ) → AreSorted from ls → line_place segment x < from → byte_at ls segment x ≡ None
 none_before from [] segment x h lt = refl
 none_before from (l ∷ ls) segment x (at, some, fits, others) lt =
@@ -209,7 +209,7 @@ differs a b h = by (a == b) refl
     by true e = absurd (h (eqb-true a b e))
     by false e = e
 
--- no run behind a segment lies in it
+-- no run after a segment's last is in it
 none_in : (from segment : ℕ) (ls : List Laid) → AreSorted from ls → (segment + 1) * 8589934592 ≤ from → in_segment segment ls ≡ []
 none_in from segment [] h le = refl
 none_in from segment (l ∷ ls) (at, some, fits, others) le =
@@ -344,7 +344,7 @@ run_each from segment k (m ∷ ls) l (at, some, fits, others) e i lt =
 pub run_bytes_over : (segment k : ℕ) (ls : List Laid) (l : Laid) → AreSorted 0 ls → slice_get (in_segment segment ls) k ≡ Some l → AreBytesOver (byte_at ls segment) (span l) l.bytes
 run_bytes_over segment k ls l h e = record { long = refl; each = λ i lt. run_each 0 segment k ls l h e i lt }
 
--- ---- what the calls answer
+-- ---- the results of the calls
 
 at_rest : (start k : ℕ) (cs rest : List Covered) → rest ≡ drop start cs → option_map laid_run (slice_get rest k) ≡ slice_get (drop start (laid_runs cs)) k
 at_rest start k cs rest e = sym (slice_get-map laid_run rest k) ∙ ap (λ z. slice_get z k) (ap laid_runs e ∙ sym (drop-map laid_run start cs))

@@ -1,4 +1,4 @@
--- Pieces that are laid in turn.
+-- Pieces laid in turn.
 use Rattle.std.proofs.Common.{◌≡◌, ℕ, ◌+◌, List, [], ◌∷◌, ◌++◌, length, Option, refl, sym, ◌∙◌, ap, subst, arith, append_assoc}
 use Rattle.std.specs.Prelude.{IsSome, IsNone, slice_get}
 use Rattle.std.specs.Option.{option_or}
@@ -34,7 +34,7 @@ are_runs_as f g e runs h = record {
   rising = h.rising;
 }
 
--- There is one k-th interval.
+-- The k-th interval is unique.
 pub run_at_unique : (byte : ℕ → Option ℕ) (k : ℕ) (r s : Option Run) → IsRunAt byte k r → IsRunAt byte k s → r ≡ s
 run_at_unique byte k r s h i = h.2 ∙ ap (λ z. slice_get z k) (runs_unique byte h.0 i.0 h.1 i.1) ∙ sym i.2
 

@@ -7,7 +7,7 @@ use Rattle.omf_frame.specs.declared.fault.Reason.TheVariants as reason
 use Rattle.omf_records.specs.Layout.{Layout, fault, ◌>>=◌, le, name, checked, choose, called, times, many}
 use Rattle.omf_image.specs.declared.limits.Limits.{Limits}
 
--- A block is a repeat count with data, or with one or more blocks.
+-- A block is a repeat count and data, or a repeat count and one or more blocks.
 mutual
   pub data Block : Type 0 where
     Repeat : ℕ → List ℕ → Block
@@ -21,12 +21,12 @@ abbrev pub gathered : List Block → Blocks
 gathered [] = NoBlocks
 gathered (b ∷ bs) = First b (gathered bs)
 
--- A repeat count has four bytes in the odd record type, two in the even one.
+-- A repeat count has four bytes in a record of odd type (A3H), two in one of even type (A2H).
 abbrev pub count_size : Bool → ℕ
 count_size wide = if wide then 4 else 2
 
--- A repeat count of `width` bytes, a block count of two, and then, where the block count is 0, a length byte and that many bytes,
--- otherwise that many blocks. So many levels are still allowed; where none is left, the repeat count is refused.
+-- A repeat count of `width` bytes and a block count of two; then a length byte and that many bytes if the block count is 0, else that
+-- many blocks. Blocks nest at most `levels` deep; with no level left, the repeat count is refused.
 abbrev pub too_deep : ℕ → List Reason
 too_deep count = reason.TooDeep ∷ []
 
@@ -37,16 +37,16 @@ abbrev pub block : ℕ → ℕ → Layout Block
 block width zero = called (checked (le width) too_deep) (λ count. Repeat count [])
 block width (suc levels) = le width >>= λ count. le 2 >>= λ n. block_contents (block width levels) count n
 
--- Blocks up to the end of the bytes; an outermost block is at the first level.
+-- Blocks up to the end of the bytes. An outermost block has depth 1.
 abbrev pub blocks : ℕ → ℕ → Layout Blocks
 blocks width levels = called (many (block width levels)) (λ bs. gathered (map (λ b. b.item) bs))
 
--- Bytes, so many times over; no bytes stay none.
+-- Bytes repeated n times. Repeating no bytes gives none.
 abbrev pub repeated : ℕ → List ℕ → List ℕ
 repeated n [] = []
 repeated n (b ∷ bytes) = repeat n (b ∷ bytes)
 
--- The bytes of a block: those of its contents, concatenated, repeat count times.
+-- The bytes of a block: the bytes of its contents, repeated by its repeat count.
 abbrev mutual
   pub block_bytes : Block → List ℕ
   block_bytes (Repeat count bytes) = repeated count bytes
@@ -57,7 +57,7 @@ abbrev mutual
   blocks_bytes NoBlocks = []
   blocks_bytes (First b trees) = block_bytes b ++ blocks_bytes trees
 
--- How many they are.
+-- The number of these bytes.
 abbrev mutual
   pub block_size : Block → ℕ
   block_size (Repeat count bytes) = count * length bytes
@@ -67,12 +67,12 @@ abbrev mutual
   blocks_size NoBlocks = 0
   blocks_size (First b trees) = block_size b + blocks_size trees
 
--- The bytes spell these blocks within the limits. Places count from the first block's byte.
+-- The bytes spell these blocks, which are within the limits. Places count from the first block's byte.
 abbrev pub AreBlocks : ℕ → Limits → List ℕ → Blocks → Type 0
 AreBlocks width limits bytes trees = (blocks width limits.nesting).Spells 0 bytes trees × (blocks_size trees ≤ limits.expanded)
 
--- The first fault of bytes that spell none: the first Short or TooDeep from the left, Short at a tie; where there is neither, that
--- the blocks stand for too many bytes.
+-- The first fault of bytes that are no blocks within the limits: the first Short or TooDeep from the left, Short at a tie; if there is
+-- neither, DataTooLong at 0, as the blocks expand to too many bytes.
 abbrev pub IsFirstFault : ℕ → Limits → List ℕ → Fault → Type 0
 IsFirstFault width limits bytes e =
     ((blocks width limits.nesting).Faults 0 bytes e × ((f : Fault) → (blocks width limits.nesting).Faults 0 bytes f → IsTrue (is_before e f)))

@@ -1,4 +1,4 @@
--- This profile's limits on repeated blocks.
+-- The limits of this profile on repeated blocks.
 use Rattle.omf_image.specs.declared.limits.Limits.{Limits}
 
 abbrev pub profile_limits : Limits

@@ -1,29 +1,29 @@
--- What a fixup adds to the bytes of its location (TIS OMF 1.1, "FIXUPP", LOCATION; that parts are added, each modulo its size, is this profile's rule).
+-- The numbers that a fixup adds to the bytes of its location (TIS OMF 1.1, "FIXUPP", LOCATION; adding each part modulo its size is a rule of this profile).
 use Rattle.std.specs.Prelude.{ℕ, ◌+◌, ◌%◌, ◌^◌, List, ◌++◌, take, drop, fold}
 use Rattle.byteorder.specs.Endian.{little_bytes, little_number}
 use Rattle.omf_image.specs.declared.part.Part.{Part}
 use Rattle.omf_image.specs.declared.part.Part.TheVariants as part
 
--- How many bytes a part has.
+-- The size of a part in bytes.
 abbrev pub part_size : Part → ℕ
 part_size part.Byte = 1
 part_size part.Word = 2
 part_size part.Dword = 4
 
--- A number of n bytes, low byte first, gives way to its sum with the value, modulo 256^n.
+-- The bytes of a little-endian number of n bytes after the value is added, modulo 256^n.
 abbrev pub sum_bytes : ℕ → List ℕ → ℕ → List ℕ
 sum_bytes n bytes value = little_bytes n ((little_number n bytes + value) % 256 ^ n)
 
--- The number at `pos` gives way to its sum with the value; no other byte changes.
+-- The value is added to the number at `pos`; no other byte changes.
 abbrev pub add_part : List ℕ → ℕ → Part → ℕ → List ℕ
 add_part bytes pos part value = take pos bytes ++ sum_bytes (part_size part) (drop pos bytes) value ++ drop (pos + part_size part) bytes
 
--- A number to add, at an offset in a location.
+-- A number to add at an offset of a location.
 pub record Addition : Type 0 where
   pub offset : ℕ
   pub part : Part
   pub value : ℕ
 
--- All the parts of the location at `pos`, one after another.
+-- All the parts added to the location at `pos`, one after another.
 abbrev pub add_parts : ℕ → List Addition → List ℕ → List ℕ
 add_parts pos parts bytes = fold (λ bs p. add_part bs (pos + p.offset) p.part p.value) bytes parts

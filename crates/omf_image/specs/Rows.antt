@@ -1,9 +1,9 @@
--- Words of the worked examples.
+-- Definitions of the worked examples.
 use Rattle.std.specs.Prelude.{ℕ, List, [], ◌∷◌, ◌++◌}
 use Rattle.omf_image.specs.declared.run.Run.{Run}
 use Rattle.omf_image.specs.Overlay.{Laid}
 
--- a block of one byte, taken once
+-- a block of one byte, repeated once
 abbrev pub innermost : List ℕ
 innermost = 1 ∷ 0 ∷ 0 ∷ 0 ∷ 1 ∷ 0xAA ∷ []
 

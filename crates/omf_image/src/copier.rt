@@ -1,5 +1,5 @@
-//! What is read of blocks and what is written for them, counted. Only this module sees the bytes of blocks while they are expanded,
-//! and only it writes.
+//! Counted reading and writing for the expansion of blocks. Only this module reads the blocks' bytes and writes the output, so
+//! every byte is counted.
 
 ghost use Rattle.std.specs.Prelude.{◌≡◌, ◌≤◌, ◌<◌, ◌+◌, ◌-◌, ◌^◌, [], drop, length, vec_len, slice_range, IfNone, IfSome, OnOk};
 ghost use Rattle.omf_frame.specs.Bytes.{AreBytes};
@@ -10,17 +10,17 @@ use omf_frame::Field;
 use omf_records::Blocks;
 use std::alloc::{AllocError, Global};
 
-/// The bytes of blocks, which are read through a `Copier` alone.
+/// The bytes of blocks, readable only through a `Copier`.
 #[derive(Clone, Copy)]
 pub struct BlockBytes<'b> {
     bytes: &'b [u8],
-    /// Whether repeat counts have 32 bits.
+    /// Whether repeat counts have 32 bits, not 16.
     is_wide: bool,
     ghost are_bytes: { AreBytes bytes.now },
 }
 
 impl<'b> BlockBytes<'b> {
-    /// The bytes of some blocks.
+    /// The bytes of `blocks`.
     pub fn new(blocks: Blocks<'b>) -> BlockBytes<'b>
         ensures bytes { result.bytes.now ≡ blocks.entry.bytes.now }
         ensures width { result.is_wide ≡ blocks.entry.wide }
@@ -28,7 +28,7 @@ impl<'b> BlockBytes<'b> {
         BlockBytes::of(blocks.bytes, blocks.wide)
     }
 
-    /// Some bytes of blocks.
+    /// `bytes` as the bytes of blocks. A function of its own: each byte is known to be below 256 only in a slice parameter.
     fn of(bytes: &'b [u8], is_wide: bool) -> BlockBytes<'b>
         ensures bytes { result.bytes.now ≡ bytes.now }
         ensures width { result.is_wide ≡ is_wide }
@@ -36,14 +36,14 @@ impl<'b> BlockBytes<'b> {
         BlockBytes { bytes, is_wide }
     }
 
-    /// Whether repeat counts have 32 bits.
+    /// Whether repeat counts have 32 bits, not 16.
     pub fn is_wide(self) -> bool
         ensures { result ≡ self.entry.is_wide }
     {
         self.is_wide
     }
 
-    /// How many bytes there are.
+    /// The number of bytes.
     pub fn len(self) -> usize
         ensures { result ≡ length self.entry.bytes.now }
     {
@@ -51,7 +51,7 @@ impl<'b> BlockBytes<'b> {
     }
 }
 
-/// Reads fields of blocks and writes bytes, and counts the bytes of both, up to 2^64 - 1.
+/// Reads fields, writes bytes, and counts the bytes read and written. The count saturates at 2^64 - 1.
 #[derive(Drop)]
 pub struct Copier {
     out: Vec<u8>,
@@ -59,7 +59,7 @@ pub struct Copier {
 }
 
 impl Copier {
-    /// Nothing is read or written.
+    /// A copier with no output and a count of 0.
     pub fn new(alloc: Global) -> Copier
         ensures out { result.out.items ≡ [] }
         ensures moved { result.moved ≡ 0 }
@@ -70,7 +70,7 @@ impl Copier {
         }
     }
 
-    /// The field at a position, and the position after it. None where no spelling begins there.
+    /// Reads the field at `pos`. Returns it and the position after it, or None if no valid field starts there.
     pub fn read<'b, F: Field<'b>>(
         &mut self,
         source: BlockBytes<'b>,
@@ -86,7 +86,7 @@ impl Copier {
         Some((field, end))
     }
 
-    /// Writes some bytes.
+    /// Appends `bytes` to the output.
     pub fn write(&mut self, bytes: &[u8]) -> Result<(), AllocError>
         ensures { OnOk result (IsMoved self.old.out.items self.old.moved self.new.out.items self.new.moved 0 bytes.now) }
     {
@@ -95,7 +95,7 @@ impl Copier {
         Ok(())
     }
 
-    /// Writes once more what was written from one position to another.
+    /// Appends a copy of the output's bytes from `from` up to `to`.
     pub fn copy(&mut self, from: usize, to: usize) -> Result<(), AllocError>
         requires { (from ≤ to) × (to ≤ vec_len self.old.out) }
         ensures { OnOk result (IsMoved self.old.out.items self.old.moved self.new.out.items self.new.moved 0 (slice_range self.old.out.items from to)) }
@@ -105,7 +105,7 @@ impl Copier {
         Ok(())
     }
 
-    /// Sets memory aside for so many bytes more.
+    /// Reserves room for `more` further bytes.
     pub fn reserve(&mut self, more: usize) -> Result<(), AllocError>
         ensures same { OnOk result (IsMoved self.old.out.items self.old.moved self.new.out.items self.new.moved 0 []) }
         ensures room { OnOk result (vec_len self.old.out + more < 2 ^ 63) }
@@ -114,14 +114,14 @@ impl Copier {
         Ok(())
     }
 
-    /// How many bytes were written.
+    /// The number of bytes written.
     pub fn written(&self) -> usize
         ensures { result ≡ vec_len self.now.out }
     {
         self.out.len()
     }
 
-    /// The bytes that were written, and the count.
+    /// The output, and the number of bytes read and written.
     pub fn finish(self) -> (Vec<u8>, u64)
         ensures out { result.0 ≡ self.out }
         ensures moved { result.1 ≡ self.moved }

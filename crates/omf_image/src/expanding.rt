@@ -1,4 +1,4 @@
-//! The bytes that blocks stand for.
+//! Expansion of repeated blocks.
 
 ghost use Rattle.std.specs.Prelude.{◌≡◌, ◌≤◌, ◌+◌, ◌-◌, [], length, drop, vec_len, OnOk, IfOk, IsOk};
 ghost use Rattle.omf_records.specs.Inner.FieldReaders.{le_read, name_read};
@@ -14,7 +14,7 @@ use omf_records::Blocks;
 use std::alloc::{AllocError, Global};
 
 impl Copier {
-    /// The number of two bytes at a position, and the position after it.
+    /// Reads a 16-bit number at `pos`. Returns it and the position after it.
     fn word(&mut self, source: BlockBytes<'_>, pos: usize) -> (u32, usize)
         requires { (pos ≤ length source.bytes.now) × IsOk (le_read 2 pos (drop pos source.bytes.now)) }
         ensures { IsRead source.entry.bytes.now pos (le_read 2 pos (drop pos source.entry.bytes.now)) result.0 result.1 self.old.out.items self.old.moved self.new.out.items self.new.moved }
@@ -25,7 +25,7 @@ impl Copier {
         }
     }
 
-    /// The repeat count at a position, of 32 bits or 16, and the position after it.
+    /// Reads a repeat count of 32 or 16 bits at `pos`. Returns it and the position after it.
     fn count(&mut self, source: BlockBytes<'_>, pos: usize) -> (u32, usize)
         requires { (pos ≤ length source.bytes.now) × IsOk (le_read (count_size source.is_wide) pos (drop pos source.bytes.now)) }
         ensures { IsRead source.entry.bytes.now pos (le_read (count_size source.entry.is_wide) pos (drop pos source.entry.bytes.now)) result.0 result.1 self.old.out.items self.old.moved self.new.out.items self.new.moved }
@@ -39,8 +39,7 @@ impl Copier {
         }
     }
 
-    /// Passes over the data at a position, which follow their length byte, and writes them where they are wanted; gives the
-    /// position after them.
+    /// Reads the data at `pos`: a length byte, then the bytes. Writes them if wanted. Returns the position after them.
     fn data(
         &mut self,
         source: BlockBytes<'_>,
@@ -61,8 +60,8 @@ impl Copier {
         }
     }
 
-    /// Repeats what was written from a position on, so that it stands there `count` times. Each copy is of all that stands there
-    /// already, or of what is still to come.
+    /// Repeats the output from `from` on, so that it is there `count` times. Each step copies all that is there so far, or as much
+    /// as is still missing.
     fn repeat(&mut self, from: usize, count: u32) -> Result<(), AllocError>
         requires { (from ≤ vec_len self.old.out) × (1 ≤ count) }
         ensures { OnOk result (IsMoved self.old.out.items self.old.moved self.new.out.items self.new.moved 0 (repeated (count - 1) (drop from self.old.out.items))) }
@@ -82,8 +81,8 @@ impl Copier {
         Ok(())
     }
 
-    /// Passes over the contents of a block, the data at `start` or as many blocks as stated, and writes their bytes where they are
-    /// wanted; gives the position after them.
+    /// Reads the contents of a block at `start`: data if `blocks` is 0, else that many blocks. Writes their bytes if wanted. Returns
+    /// the position after them.
     #[cycle(copies)]
     fn contents(
         &mut self,
@@ -106,8 +105,8 @@ impl Copier {
         Ok(end)
     }
 
-    /// Passes over the block at a position, and writes its bytes where they are wanted; gives the position after it. What is repeated
-    /// 0 times is wanted nowhere.
+    /// Reads the block at `pos`, and writes its bytes if wanted. Returns the position after it. The contents of a block that is
+    /// repeated 0 times are not wanted.
     #[cycle(copies)]
     fn block(
         &mut self,
@@ -131,13 +130,13 @@ impl Copier {
     }
 }
 
-/// The bytes that the blocks of an LIDATA stand for (TIS OMF 1.1, "LIDATA"), and how many bytes of the blocks were read and how many
-/// were written, both together, up to 2^64 - 1. A block's contents are read once and written once, and then copied for its other
-/// repeats; what is repeated 0 times is read and not written.
+/// Expands the blocks of an LIDATA record (TIS OMF 1.1, "LIDATA"). Returns the bytes, and the number of bytes read and written
+/// together, saturating at 2^64 - 1. Each block's contents are read once, written once, and then copied for the other repeats;
+/// those of a block that is repeated 0 times are read but not written.
 ///
 /// # Errors
 ///
-/// `AllocError` where the bytes find no memory.
+/// `AllocError` if out of memory.
 pub fn expand(
     alloc: Global,
     blocks: Blocks<'_>,

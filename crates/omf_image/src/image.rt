@@ -1,4 +1,4 @@
-//! An image in which the last piece laid wins.
+//! A memory image of segments, in which the last piece laid wins.
 
 ghost use Rattle.std.specs.Prelude.{◌≡◌, true, false, ℕ, ◌+◌, ◌-◌, ◌^◌, ◌<◌, ◌≤◌, List, [], ◌∷◌, ◌++◌, length, take, drop, vec_len, slice_get, IfSome, OnOk, OnErr};
 ghost use Rattle.std.specs.Option.{option_copied, option_map};
@@ -9,18 +9,18 @@ use crate::Run;
 use std::alloc::{AllocError, Global};
 use std::marker::Model;
 
-/// How far one segment stands behind another in the line of all places. A segment has half as many places, so that bytes of
-/// different segments never touch.
+/// The distance from one segment to the next in the line of all places: twice the size of a segment, so that runs of different
+/// segments never touch.
 const SEGMENT_STEP: u64 = 8_589_934_592;
 
-/// A place in the line of all places.
+/// The place of an offset of a segment in the line of all places.
 fn place_of(segment: u16, offset: u32) -> u64
     ensures { result ≡ line_place segment offset }
 {
     u64::from(segment) * SEGMENT_STEP + u64::from(offset)
 }
 
-/// A covered interval with its bytes.
+/// A covered interval and its bytes.
 #[derive(Drop)]
 struct Covered {
     segment: u16,
@@ -29,21 +29,21 @@ struct Covered {
 }
 
 impl Covered {
-    /// Where it begins in the line of all places.
+    /// Its start in the line of all places.
     fn low(&self) -> u64
         ensures { result ≡ low (laid_run self.now) }
     {
         place_of(self.segment, self.first)
     }
 
-    /// Where it ends in the line of all places.
+    /// Its end in the line of all places: the place after its last byte.
     fn high(&self) -> u64
         ensures { result ≡ high (laid_run self.now) }
     {
         self.low() + self.bytes.len() as u64
     }
 
-    /// The interval.
+    /// Its interval.
     fn run(&self) -> Run
         ensures { result ≡ span (laid_run self.now) }
     {
@@ -53,7 +53,7 @@ impl Covered {
         }
     }
 
-    /// Takes the bytes of a run that stand behind it.
+    /// Appends the bytes of `run` that follow its own last byte.
     fn extend_over(&mut self, run: &Covered) -> Result<(), AllocError>
         requires { self.old.first + vec_len self.old.bytes ≤ 2 ^ 32 }
         ensures { OnOk result (laid_run self.new ≡ extended (laid_run self.old) (laid_run run.now)) }
@@ -63,7 +63,7 @@ impl Covered {
         Ok(())
     }
 
-    /// Takes the bytes that stand behind it of the last of some runs that it touches. The others of them it covers.
+    /// Appends the bytes of `runs`, all of which it touches, that follow its own last byte. Only the last run can have any.
     fn extend_to(&mut self, runs: &[Covered]) -> Result<(), AllocError>
         requires sorted { AreSorted (low (laid_run self.old)) (laid_runs runs.now) }
         requires touching { Touches (laid_run self.old) (laid_runs runs.now) }
@@ -76,7 +76,7 @@ impl Covered {
         }
     }
 
-    /// Lays a piece over it that touches it.
+    /// Lays `piece`, which touches it, over it.
     fn overlay(&mut self, mut piece: Covered) -> Result<(), AllocError>
         requires segment { self.old.segment ≡ piece.segment }
         requires from { piece.first ≤ self.old.first + vec_len self.old.bytes }
@@ -96,7 +96,7 @@ impl Covered {
         )
     }
 
-    /// Its byte at a place, if it covers the place.
+    /// Its byte at an offset of a segment, if it covers that place.
     fn byte(&self, segment: u16, offset: u32) -> Option<u8>
         ensures { result ≡ byte_of segment offset (laid_run self.now) }
     {
@@ -106,7 +106,7 @@ impl Covered {
         self.bytes.get((offset - self.first) as usize).copied()
     }
 
-    /// Its bytes from an offset of its segment on.
+    /// Its bytes from `offset` of its segment on.
     fn bytes_from(&self, offset: u64) -> &[u8]
         ensures { result.now ≡ drop (offset - self.now.first) self.now.bytes.items }
     {
@@ -115,7 +115,7 @@ impl Covered {
     }
 }
 
-/// Writes bytes over others from one of them on, and further where there are more.
+/// Overwrites `bytes` from `at` on with `new`, and appends what does not fit.
 fn overwrite(bytes: &mut Vec<u8>, at: usize, new: &[u8]) -> Result<(), AllocError>
     requires { at ≤ vec_len bytes.old }
     ensures written { OnOk result (bytes.new.items ≡ take at bytes.old.items ++ (new.now ++ drop (at + length new.now) bytes.old.items)) }
@@ -128,7 +128,7 @@ fn overwrite(bytes: &mut Vec<u8>, at: usize, new: &[u8]) -> Result<(), AllocErro
     Ok(())
 }
 
-/// Whether so many runs, counted from the first, are there and end before a place of the line.
+/// Whether the first `count` runs exist and end before `at`.
 fn end_before(runs: &[Covered], count: usize, at: u64) -> bool
     requires { AreSorted 0 (laid_runs runs.now) }
     ensures { result ≡ true → (count ≤ length runs.now) × EndBefore at (take count (laid_runs runs.now)) }
@@ -142,7 +142,7 @@ fn end_before(runs: &[Covered], count: usize, at: u64) -> bool
     }
 }
 
-/// Whether the runs behind so many end at a place of the line or behind it.
+/// Whether the runs after the first `count` end at `at` or later.
 fn end_from(runs: &[Covered], count: usize, at: u64) -> bool
     requires { AreSorted 0 (laid_runs runs.now) }
     ensures { result ≡ true → EndFrom at (drop count (laid_runs runs.now)) }
@@ -153,7 +153,7 @@ fn end_from(runs: &[Covered], count: usize, at: u64) -> bool
     }
 }
 
-/// Whether so many runs end before a place of the line, and no further ones.
+/// Whether exactly the first `count` runs end before `at`.
 fn ends_before(runs: &[Covered], count: usize, at: u64) -> bool
     requires { AreSorted 0 (laid_runs runs.now) }
     ensures { result ≡ true → (count ≤ length runs.now) × EndBefore at (take count (laid_runs runs.now)) × EndFrom at (drop count (laid_runs runs.now)) }
@@ -161,7 +161,7 @@ fn ends_before(runs: &[Covered], count: usize, at: u64) -> bool
     end_before(runs, count, at) && end_from(runs, count, at)
 }
 
-/// How many runs end before a place of the line.
+/// The number of runs that end before `at`.
 fn ending_before(runs: &[Covered], at: u64) -> usize
     requires { AreSorted 0 (laid_runs runs.now) }
     ensures within { result ≤ length runs.now }
@@ -171,7 +171,7 @@ fn ending_before(runs: &[Covered], at: u64) -> usize
     runs.partition_point(|run| run.high() < at)
 }
 
-/// How many runs end before a place of the line. They are not searched for where they are `near`, or one more or less.
+/// The number of runs that end before `at`. Tries `near`, one more and one less before it searches.
 fn ending_near(runs: &[Covered], near: usize, at: u64) -> usize
     requires { AreSorted 0 (laid_runs runs.now) }
     ensures within { result ≤ length runs.now }
@@ -192,7 +192,7 @@ fn ending_near(runs: &[Covered], near: usize, at: u64) -> usize
     ending_before(runs, at)
 }
 
-/// Whether the runs behind so many begin behind a place of the line.
+/// Whether the runs after the first `count` start after `at`.
 fn begin_after(runs: &[Covered], count: usize, at: u64) -> bool
     requires { AreSorted 0 (laid_runs runs.now) }
     ensures after { result ≡ true → BeginAfter at (drop count (laid_runs runs.now)) }
@@ -204,7 +204,7 @@ fn begin_after(runs: &[Covered], count: usize, at: u64) -> bool
     }
 }
 
-/// How many runs begin up to a place of the line. They are not searched for where there are none or one.
+/// The number of runs that start at `at` or before. Tries 0 and 1 before it searches.
 fn beginning_by(runs: &[Covered], at: u64) -> usize
     requires { AreSorted 0 (laid_runs runs.now) }
     ensures within { result ≤ length runs.now }
@@ -220,7 +220,7 @@ fn beginning_by(runs: &[Covered], at: u64) -> usize
     runs.partition_point(|run| run.low() <= at)
 }
 
-/// The run of a segment with a number, from 0.
+/// The `k`th run of a segment, from 0.
 fn find_run(runs: &[Covered], segment: u16, k: usize) -> Option<&Covered>
     requires { AreSorted 0 (laid_runs runs.now) }
     ensures { option_map laid_run (option_copied result) ≡ slice_get (in_segment segment (laid_runs runs.now)) k }
@@ -234,8 +234,8 @@ fn find_run(runs: &[Covered], segment: u16, k: usize) -> Option<&Covered>
     }
 }
 
-/// The runs that a piece touches: which is the first of them, from 0, and how many they are. They are not searched for where the first is
-/// `near`, or one more or less.
+/// The runs that `piece` touches: the index of the first of them, from 0, and their number. Tries `near`, one more and one less as the
+/// index before it searches.
 fn touched(runs: &[Covered], near: usize, piece: &Covered) -> (usize, usize)
     requires sorted { AreSorted 0 (laid_runs runs.now) }
     requires some { 0 < vec_len piece.now.bytes }
@@ -248,7 +248,7 @@ fn touched(runs: &[Covered], near: usize, piece: &Covered) -> (usize, usize)
     (start, count)
 }
 
-/// Lays a piece over the runs that it touches, and makes them one run.
+/// Lays `piece` over the `count` runs from `start` on, all of which it touches, and joins them to one run.
 fn join_runs(
     runs: &mut Vec<Covered>,
     start: usize,
@@ -273,12 +273,12 @@ fn join_runs(
     Ok(())
 }
 
-/// An image: bytes at offsets of segments, of which the last ones laid stand. It keeps the maximal covered intervals in rising
-/// order, each with its bytes.
+/// A memory image: bytes at offsets of segments, where the last piece laid wins. Holds the maximal covered intervals (runs) in
+/// ascending order, each with its bytes.
 #[derive(Drop)]
 pub struct Image {
     runs: Vec<Covered>,
-    /// How many runs ended before the last piece.
+    /// The number of runs that ended before the last piece laid.
     near: usize,
 }
 
@@ -295,7 +295,7 @@ impl Model for Image {
 }
 
 impl Image {
-    /// An image without bytes.
+    /// An empty image.
     pub fn new(alloc: Global) -> Image
         ensures { result ≡ [] }
     {
@@ -305,7 +305,7 @@ impl Image {
         }
     }
 
-    /// The byte at an offset of a segment, if one was laid there.
+    /// The byte at `offset` of `segment`, if one was laid there.
     pub fn get(&self, segment: u16, offset: u32) -> Option<u8>
         ensures { result ≡ byte_at self.now segment offset }
     {
@@ -313,7 +313,7 @@ impl Image {
         self.runs.get(at)?.byte(segment, offset)
     }
 
-    /// The maximal covered interval of a segment with a number, from 0 in rising order; None beyond the last.
+    /// The `k`th maximal covered interval of a segment, from 0 in ascending order; None after the last.
     pub fn run_at(&self, segment: u16, k: usize) -> Option<Run>
         ensures maximal { IsRunAt (byte_at self.now segment) k result }
         ensures within { IfSome result (λ run. run.first + run.len ≤ 2 ^ 32) }
@@ -321,14 +321,14 @@ impl Image {
         Some(find_run(&self.runs, segment, k)?.run())
     }
 
-    /// The bytes of the maximal covered interval of a segment with a number, from 0 in rising order; None beyond the last.
+    /// The bytes of the `k`th maximal covered interval of a segment, from 0 in ascending order; None after the last.
     pub fn run_bytes(&self, segment: u16, k: usize) -> Option<&[u8]>
         ensures { AreBytesAt (byte_at self.now segment) k (option_copied result) }
     {
         Some(find_run(&self.runs, segment, k)?.bytes.as_slice())
     }
 
-    /// The first offset and the bytes of the maximal covered interval of a segment with a number, from 0 in rising order; None beyond the last.
+    /// The first offset and the bytes of the `k`th maximal covered interval of a segment, from 0 in ascending order; None after the last.
     pub fn run_with_bytes(&self, segment: u16, k: usize) -> Option<(u32, &[u8])>
         ensures { IsRunShown (byte_at self.now segment) k (option_map (λ run. (run.0, run.1.now)) result) }
     {
@@ -336,15 +336,15 @@ impl Image {
         Some((run.first, run.bytes.as_slice()))
     }
 
-    /// Lays bytes at an offset of a segment, over what was there.
+    /// Lays `bytes` at `offset` of `segment`, over what was there. They must end within 2^32 bytes of the segment's start.
     ///
-    /// Where they lie in one run they are only written. A piece that touches no run, or joins some, moves the runs behind it, and one that
-    /// begins in front of a run that it touches copies the run's bytes. So many pieces in rising order take about linear time; in falling
-    /// order, or in gaps between others, quadratic. `painted` covers their places beforehand, so that each lies in one run.
+    /// A piece within one run is only written. A piece that touches no run, or joins several, moves the runs after it, and one that
+    /// starts before a run that it touches copies the run's bytes. So n pieces in ascending order take about linear time; in descending
+    /// order, or in gaps between others, quadratic. `painted` covers their places beforehand, so that each piece is within one run.
     ///
     /// # Errors
     ///
-    /// `AllocError` where a growth is refused: the image is unchanged, and the bytes are dropped.
+    /// `AllocError` if out of memory: the image is unchanged, and the bytes are dropped.
     pub fn lay(&mut self, segment: u16, offset: u32, bytes: Vec<u8>) -> Result<(), AllocError>
         requires { offset + vec_len bytes ≤ 2 ^ 32 }
         ensures laid { OnOk result (IsLaidOver self.old (record { segment = segment; offset = offset; bytes = bytes.items }) self.new) }

@@ -1,54 +1,69 @@
-//! Laws over the definitions, each the contract of a function that does nothing.
+//! Laws of the definitions. Each is the contract of an empty function.
 
-ghost use Rattle.omf_image.specs.Laws.{SizesAreLengths, BlocksAreRead, LengthsAreDecided, LimitsMayGrow, LastPieceWins, RunsAreMaximal, ImagesAreOverlays, NoBytesCoverNothing, CoveredPiecesAreLost, SamePlacesAreLost};
+ghost use Rattle.omf_image.specs.Laws.{SizesAreLengths, BlocksAreRead, LengthsAreDecided, BlocksAreExpanded, BlockFaultsAreLeast, BlocksAreMeasured, LimitsMayGrow, LastPieceWins, RunsAreMaximal, ImagesAreOverlays, NoBytesCoverNothing, CoveredPiecesAreLost, SamePlacesAreLost};
 
-/// Blocks stand for as many bytes as their size says.
+/// The size of blocks is the number of bytes they expand to.
 pub fn sizes_are_lengths()
     ensures { SizesAreLengths }
 {}
 
-/// Bytes spell one list of blocks, or have a least fault, and reading finds it.
+/// Bytes spell exactly one list of blocks, or have a first fault; reading finds it.
 pub fn blocks_are_read()
     ensures { BlocksAreRead }
 {}
 
-/// How many bytes blocks stand for within the limits, or their first fault.
+/// The computed length is the size of blocks within the limits, or their first fault.
 pub fn lengths_are_decided()
     ensures { LengthsAreDecided }
 {}
 
-/// Blocks within some limits are within any larger ones.
+/// The blocks that bytes spell are those computed, without a fault; the bytes computed are those of the blocks.
+pub fn blocks_are_expanded()
+    ensures { BlocksAreExpanded }
+{}
+
+/// No fault of the blocks is computed exactly if the bytes spell blocks; a fault that is computed is the first of the blocks' faults.
+pub fn block_faults_are_least()
+    ensures { BlockFaultsAreLeast }
+{}
+
+/// For bytes that spell blocks, a fault of the length is computed exactly if the blocks expand to more bytes than the limit.
+pub fn blocks_are_measured()
+    ensures { BlocksAreMeasured }
+{}
+
+/// Blocks within some limits are within all larger limits.
 pub fn limits_may_grow()
     ensures { LimitsMayGrow }
 {}
 
-/// One more piece gives the bytes that it covers, and leaves all others as they were.
+/// One more piece sets the bytes that it covers, and leaves all others unchanged.
 pub fn last_piece_wins()
     ensures { LastPieceWins }
 {}
 
-/// The runs that are computed are all the maximal covered intervals, in rising order.
+/// The computed runs are all the maximal covered intervals, in ascending order.
 pub fn runs_are_maximal()
     ensures { RunsAreMaximal }
 {}
 
-/// After any pieces that were laid in turn, the byte at a place is that of the last piece that covers it, and the maximal covered
-/// intervals are those of all the pieces.
+/// In an image made by laying pieces in turn, the byte at a place is that of the last piece that covers it, and the maximal covered
+/// intervals are those of the pieces together.
 pub fn images_are_overlays()
     ensures { ImagesAreOverlays }
 {}
 
-/// A piece without bytes covers nothing.
+/// An empty piece covers nothing.
 pub fn no_bytes_cover_nothing()
     ensures { NoBytesCoverNothing }
 {}
 
-/// Pieces that are laid ahead of others change nothing, neither bytes nor runs, where the others cover all their places.
+/// Pieces laid before others change neither bytes nor runs if the others cover all their places.
 pub fn covered_pieces_are_lost()
     ensures { CoveredPiecesAreLost }
 {}
 
-/// Where pieces are laid ahead of others over the same intervals, the image is one over which the others alone were laid.
+/// If pieces are laid before others over the same intervals, the image is that of the others alone.
 pub fn same_places_are_lost()
     ensures { SamePlacesAreLost }
 {}

@@ -1,4 +1,4 @@
-//! How many bytes blocks stand for.
+//! The number of bytes that blocks expand to.
 
 ghost use Rattle.std.specs.Prelude.{◌≡◌, ◌+◌, ◌<◌, ◌≤◌, length, drop, IfOk, IfErr};
 ghost use Rattle.omf_records.specs.Inner.FieldReaders.{le_read};
@@ -10,7 +10,7 @@ use crate::limits::Limits;
 use omf_frame::{Field, Le16, Le32, Name, Reason};
 use omf_records::{Blocks, LayoutFault};
 
-/// A fault at a position, counted from the first block's byte.
+/// A fault at `pos`, counted from the first block's byte.
 fn fault_at(pos: usize, reason: Reason) -> LayoutFault
     requires { pos < 65536 }
     ensures { result ≡ record { within = pos; reason = reason } }
@@ -21,7 +21,7 @@ fn fault_at(pos: usize, reason: Reason) -> LayoutFault
     }
 }
 
-/// The number of two bytes at `pos`, and the position after it.
+/// The 16-bit number at `pos`, and the position after it.
 fn word_at(bytes: &[u8], pos: usize) -> Result<(u32, usize), LayoutFault>
     requires { (pos ≤ length bytes.now) × (length bytes.now ≤ 65534) }
     ensures read { read_to bytes.now result ≡ le_read 2 pos (drop pos bytes.now) }
@@ -34,7 +34,7 @@ fn word_at(bytes: &[u8], pos: usize) -> Result<(u32, usize), LayoutFault>
     }
 }
 
-/// The repeat count at `pos`, of 32 bits or 16, and the position after it.
+/// The repeat count of 32 or 16 bits at `pos`, and the position after it.
 fn count_at(bytes: &[u8], wide: bool, pos: usize) -> Result<(u32, usize), LayoutFault>
     requires { (pos ≤ length bytes.now) × (length bytes.now ≤ 65534) }
     ensures read { read_to bytes.now result ≡ le_read (count_size wide) pos (drop pos bytes.now) }
@@ -50,7 +50,7 @@ fn count_at(bytes: &[u8], wide: bool, pos: usize) -> Result<(u32, usize), Layout
     }
 }
 
-/// How many bytes of data stand at `pos` after their length byte, and the position after them.
+/// The number of data bytes after the length byte at `pos`, and the position after them.
 fn data_at(bytes: &[u8], pos: usize) -> Result<(u64, usize), LayoutFault>
     requires { (pos ≤ length bytes.now) × (length bytes.now ≤ 65534) }
     ensures read { read_to bytes.now result ≡ len_data pos (drop pos bytes.now) }
@@ -63,8 +63,8 @@ fn data_at(bytes: &[u8], pos: usize) -> Result<(u64, usize), LayoutFault>
     }
 }
 
-/// How many bytes the contents of a block stand for, and the position after them: the data at `start`, or as many blocks as stated,
-/// where `levels` levels are allowed.
+/// The number of bytes that the contents of a block at `start` expand to, and the position after them. The contents are data if
+/// `blocks` is 0, else that many blocks, nested at most `levels` deep.
 #[cycle(lengths)]
 fn contents_len(
     bytes: &[u8],
@@ -91,7 +91,7 @@ fn contents_len(
     Ok((inner, end))
 }
 
-/// How many bytes the block at `pos` stands for, where `levels` levels are allowed, and the position after it.
+/// The number of bytes that the block at `pos` expands to, and the position after it. Blocks may nest `levels` deep, this one included.
 #[cycle(lengths)]
 fn block_len(bytes: &[u8], wide: bool, levels: u32, pos: usize) -> Result<(u64, usize), LayoutFault>
     requires { (pos ≤ length bytes.now) × (length bytes.now ≤ 65534) }
@@ -108,7 +108,7 @@ fn block_len(bytes: &[u8], wide: bool, levels: u32, pos: usize) -> Result<(u64, 
     Ok((u64::from(count).saturating_mul(contents), end))
 }
 
-/// How many bytes blocks stand for, up to 2^64 - 1, where `levels` levels are allowed.
+/// The number of bytes that blocks nested at most `levels` deep expand to, saturating at 2^64 - 1.
 fn blocks_len(bytes: &[u8], wide: bool, levels: u32) -> Result<u64, LayoutFault>
     requires { length bytes.now ≤ 65534 }
     ensures read { result ≡ len_all (len_block (count_size wide) levels) (length bytes.now) 0 0 bytes.now }
@@ -124,13 +124,12 @@ fn blocks_len(bytes: &[u8], wide: bool, levels: u32) -> Result<u64, LayoutFault>
     Ok(total)
 }
 
-/// How many bytes the blocks of an LIDATA stand for (TIS OMF 1.1, "LIDATA"); or their first fault, whose `within` counts from the
-/// first block's byte.
+/// The number of bytes that the blocks of an LIDATA record expand to (TIS OMF 1.1, "LIDATA").
 ///
 /// # Errors
 ///
-/// `Short` or `TooDeep` at the leftmost place that has one, `Short` at a tie; else, where the blocks stand for more bytes than
-/// the limit, `DataTooLong` at 0.
+/// `Short` or `TooDeep` at the leftmost place that has one, `Short` at a tie; otherwise `DataTooLong` at 0 if the blocks expand to
+/// more bytes than the limit. `within` counts from the first block's byte.
 pub fn expanded_len(blocks: Blocks<'_>, limits: Limits) -> Result<u32, LayoutFault>
     requires { (limits.nesting ≤ 64) × (length blocks.bytes.now ≤ 65534) }
     ensures length { result ≡ expanded_length (count_size blocks.entry.wide) limits blocks.entry.bytes.now }

@@ -1,7 +1,7 @@
-//! What data records stand for: repeated blocks as bytes, the numbers that fixups add to them, and the image in which the
-//! last piece laid wins.
+//! The bytes of data records: expansion of repeated blocks, the numbers that fixups add, and the image in which the last piece
+//! laid wins.
 //!
-//! Two pieces that overlap:
+//! Overlapping pieces:
 //!
 //! ```
 //! let mut image = Image::new(alloc);

@@ -1,19 +1,19 @@
-//! The limits on repeated blocks.
+//! Limits on repeated blocks.
 
 ghost use Rattle.std.specs.Prelude.{◌≡◌};
 ghost use Rattle.omf_image.specs.Limits.{profile_limits};
 
-/// How deep the blocks of an LIDATA may nest (an outermost block has depth 1), and how many bytes they may stand for.
+/// Limits on the blocks of an LIDATA record: their nesting depth (an outermost block has depth 1), and the bytes they expand to.
 #[derive(Clone, Copy, Debug, PartialEq, Eq)]
 pub struct Limits {
     /// The greatest depth of a block.
     pub nesting: u32,
-    /// The greatest number of bytes that the blocks of one record stand for.
+    /// The greatest number of bytes that the blocks of one record expand to.
     pub expanded: u32,
 }
 
 impl Limits {
-    /// This profile's limits: 64 levels, and 268,435,456 bytes.
+    /// The limits of this profile: 64 levels, and 268,435,456 (10000000H) bytes.
     pub fn profile() -> Limits
         ensures { result ≡ profile_limits }
     {

@@ -1,4 +1,4 @@
-//! Images of zeros, over which data are laid without a run that grows or moves.
+//! Images of zeros. Data laid over them make no run grow or move.
 
 ghost use Rattle.std.specs.Prelude.{◌≡◌, [], ◌∷◌, ◌+◌, OnOk, IfOk, IfSome, IfNone, All, option_to_list};
 ghost use Rattle.omf_image.specs.Overlay.{IsLaidOver, AreLaidOver};
@@ -7,19 +7,19 @@ ghost use Rattle.omf_image.specs.Painting.{zeros, all_zeros, Fits, AreApart};
 use crate::Image;
 use std::alloc::{AllocError, Global};
 
-/// An interval of places of a segment.
+/// An interval of a segment.
 #[derive(Clone, Copy, Debug, PartialEq, Eq)]
 pub struct Extent {
     /// The segment.
     pub segment: u16,
-    /// The offset in the segment of its first place.
+    /// The offset of its first byte in the segment.
     pub first: u32,
-    /// How many places it has.
+    /// Its length in bytes.
     pub len: u64,
 }
 
 impl Extent {
-    /// The offset behind its last place.
+    /// The offset after its last byte.
     fn end(self) -> u64
         requires { Fits self }
         ensures { result ≡ self.first + self.len }
@@ -28,7 +28,7 @@ impl Extent {
     }
 }
 
-/// Two intervals in one, where they touch.
+/// The two intervals as one, if they touch or overlap.
 fn joined(last: Extent, next: Extent) -> Option<Extent>
     requires { Fits last × Fits next }
     ensures fits { IfSome result Fits }
@@ -47,7 +47,7 @@ fn joined(last: Extent, next: Extent) -> Option<Extent>
     })
 }
 
-/// One interval more, after another, if there is one: both in one, where they touch.
+/// `last` and `next` as one interval, if there is a `last` and they touch or overlap.
 fn joined_to(last: Option<Extent>, next: Extent) -> Option<Extent>
     requires { IfSome last Fits × Fits next }
     ensures fits { IfSome result Fits }
@@ -57,7 +57,7 @@ fn joined_to(last: Option<Extent>, next: Extent) -> Option<Extent>
     joined(last?, next)
 }
 
-/// Lays zeros over an interval, if there is one.
+/// Lays zeros over the interval, if any.
 fn paint(alloc: Global, image: &mut Image, extent: Option<Extent>) -> Result<(), AllocError>
     requires { IfSome extent Fits }
     ensures { OnOk result (AreLaidOver image.old (all_zeros (option_to_list extent)) image.new) }
@@ -72,11 +72,12 @@ fn paint(alloc: Global, image: &mut Image, extent: Option<Extent>) -> Result<(),
     }
 }
 
-/// An image of zeros over intervals, in one run for those that touch. It is made in rising order, so that nothing is moved.
+/// An image of zeros over the intervals; intervals that touch or overlap share a run. The runs are made in ascending order, so none is
+/// moved. Each interval must end within 2^32 bytes of its segment's start.
 ///
 /// # Errors
 ///
-/// `AllocError` where a growth is refused.
+/// `AllocError` if out of memory.
 pub fn painted(alloc: Global, mut extents: Vec<Extent>) -> Result<Image, AllocError>
     requires { All Fits extents.items }
     ensures { IfOk result (λ i. AreLaidOver [] (all_zeros extents.items) i) }

@@ -1,22 +1,22 @@
-//! The numbers that fixups add to their locations.
+//! Addition of numbers to the locations of fixups.
 
 ghost use Rattle.std.specs.Prelude.{◌≡◌, ◌≤◌, ◌+◌, ◌++◌, length, drop};
 ghost use Rattle.omf_image.specs.Parts.{part_size, sum_bytes, add_part};
 
 use byteorder::{ByteOrder, LittleEndian};
 
-/// The size of a number that a fixup adds to its location.
+/// The size of a number that a fixup adds at its location.
 #[derive(Clone, Copy, Debug, PartialEq, Eq)]
 pub enum Part {
     /// One byte.
     Byte,
-    /// Two bytes, low byte first.
+    /// Two bytes, little-endian.
     Word,
-    /// Four bytes, low byte first.
+    /// Four bytes, little-endian.
     Dword,
 }
 
-/// Adds to the byte in front.
+/// Adds `value` to the first byte, modulo 2^8.
 fn add_byte(place: &mut [u8], value: u32)
     requires { 1 ≤ length place.old }
     ensures { place.new ≡ sum_bytes 1 place.old value ++ drop 1 place.old }
@@ -25,7 +25,7 @@ fn add_byte(place: &mut [u8], value: u32)
     place[0] = sum as u8;
 }
 
-/// Adds to the two bytes in front.
+/// Adds `value` to the first two bytes, modulo 2^16.
 fn add_word(place: &mut [u8], value: u32)
     requires { 2 ≤ length place.old }
     ensures { place.new ≡ sum_bytes 2 place.old value ++ drop 2 place.old }
@@ -34,7 +34,7 @@ fn add_word(place: &mut [u8], value: u32)
     LittleEndian::write_u16(place, sum as u16);
 }
 
-/// Adds to the four bytes in front.
+/// Adds `value` to the first four bytes, modulo 2^32.
 fn add_dword(place: &mut [u8], value: u32)
     requires { 4 ≤ length place.old }
     ensures { place.new ≡ sum_bytes 4 place.old value ++ drop 4 place.old }
@@ -43,8 +43,8 @@ fn add_dword(place: &mut [u8], value: u32)
     LittleEndian::write_u32(place, sum);
 }
 
-/// Adds `value`, modulo the part's size, to the number that stands at `pos`, low byte first (TIS OMF 1.1, "FIXUPP", LOCATION).
-/// No other byte changes.
+/// Adds `value` to the little-endian number at `pos`, modulo the part's size (TIS OMF 1.1, "FIXUPP", LOCATION). No other byte
+/// changes. The number must be within `buf`.
 pub fn add_part(buf: &mut [u8], pos: usize, part: Part, value: u32)
     requires { pos + part_size part ≤ length buf.old }
     ensures { buf.new ≡ add_part buf.old pos part value }

@@ -1,4 +1,4 @@
-//! Worked examples, each evaluated by the check.
+//! Worked examples, each evaluated by the prover.
 
 ghost use Rattle.std.specs.Prelude.{◌≡◌, ℕ, [], ◌∷◌, ◌++◌, Ok, Err, Some, None, map, slice_get};
 ghost use Rattle.std.specs.List.{repeat, range_with_len};
@@ -10,12 +10,12 @@ ghost use Rattle.omf_image.specs.Overlay.{byte_at};
 ghost use Rattle.omf_image.specs.Inner.Joined.{runs_of};
 ghost use Rattle.omf_image.specs.Rows.{innermost, lay, five, six, run};
 
-/// A block that is repeated 0 times stands for no bytes.
+/// A block that is repeated 0 times expands to no bytes.
 pub fn repeated_no_times()
     ensures { expanded_length 2 profile_limits (0 ∷ 0 ∷ 0 ∷ 0 ∷ 2 ∷ 0xAA ∷ 0xBB ∷ []) ≡ Ok 0 }
 {}
 
-/// Two bytes of data are stated, and one is there: the length byte and its data are one field.
+/// Two bytes of data are stated but one is present: the fault is at the length byte, as it and its data are one field.
 pub fn short_data()
     ensures { expanded_length 2 profile_limits (1 ∷ 0 ∷ 0 ∷ 0 ∷ 2 ∷ 0xAA ∷ []) ≡ Err (fault 4 reason.Short) }
 {}
@@ -35,41 +35,41 @@ pub fn short_and_too_deep()
     ensures { expanded_length 2 profile_limits (repeat 64 (1 ∷ 0 ∷ 1 ∷ 0 ∷ []) ++ 1 ∷ []) ≡ Err (fault 256 reason.Short) }
 {}
 
-/// Just within the limit on bytes.
+/// Lengths within the limit.
 pub fn long_enough()
     ensures nearly { expanded_length 2 profile_limits (0xFF ∷ 0xFF ∷ 1 ∷ 0 ∷ 0 ∷ 0x10 ∷ 0 ∷ 0 ∷ 1 ∷ 0xAA ∷ []) ≡ Ok 268431360 }
     ensures far { expanded_length 2 profile_limits (0xFF ∷ 0xFF ∷ 1 ∷ 0 ∷ 1 ∷ 1 ∷ 0 ∷ 0 ∷ 1 ∷ 0xAA ∷ []) ≡ Ok 16842495 }
 {}
 
-/// Just past it.
+/// A length just above the limit.
 pub fn too_long()
     ensures { expanded_length 2 profile_limits (0xFF ∷ 0xFF ∷ 1 ∷ 0 ∷ 1 ∷ 0x10 ∷ 0 ∷ 0 ∷ 1 ∷ 0xAA ∷ []) ≡ Err (fault 0 reason.DataTooLong) }
 {}
 
-/// A short block to the right is named before too many bytes.
+/// A truncated block is reported, not the excess length, though it is further right.
 pub fn short_before_too_long()
     ensures { expanded_length 2 profile_limits (0xFF ∷ 0xFF ∷ 1 ∷ 0 ∷ 1 ∷ 0x10 ∷ 0 ∷ 0 ∷ 1 ∷ 0xAA ∷ 1 ∷ []) ≡ Err (fault 10 reason.Short) }
 {}
 
-/// Huge repeat counts inside a block that is repeated 0 times.
+/// Large repeat counts inside a block that is repeated 0 times.
 pub fn none_of_many()
     ensures length { expanded_length 2 profile_limits (0 ∷ 0 ∷ 1 ∷ 0 ∷ 0xFF ∷ 0xFF ∷ 1 ∷ 0 ∷ 0xFF ∷ 0xFF ∷ 0 ∷ 0 ∷ 1 ∷ 0xAA ∷ []) ≡ Ok 0 }
     ensures bytes { expanded 2 profile_limits (0 ∷ 0 ∷ 1 ∷ 0 ∷ 0xFF ∷ 0xFF ∷ 1 ∷ 0 ∷ 0xFF ∷ 0xFF ∷ 0 ∷ 0 ∷ 1 ∷ 0xAA ∷ []) ≡ [] }
 {}
 
-/// 64 huge repeat counts of no bytes.
+/// 64 nested blocks with large repeat counts and no data.
 pub fn many_of_none()
     ensures length { expanded_length 2 profile_limits (repeat 63 (0xFF ∷ 0xFF ∷ 1 ∷ 0 ∷ []) ++ 0xFF ∷ 0xFF ∷ 0 ∷ 0 ∷ 0 ∷ []) ≡ Ok 0 }
     ensures bytes { expanded 2 profile_limits (repeat 63 (0xFF ∷ 0xFF ∷ 1 ∷ 0 ∷ []) ++ 0xFF ∷ 0xFF ∷ 0 ∷ 0 ∷ 0 ∷ []) ≡ [] }
 {}
 
-/// Three times two blocks: two of AA, and BB CC.
+/// Two nested blocks, AA twice and BB CC once, repeated three times.
 pub fn nested_blocks()
     ensures length { expanded_length 2 profile_limits (3 ∷ 0 ∷ 2 ∷ 0 ∷ 2 ∷ 0 ∷ 0 ∷ 0 ∷ 1 ∷ 0xAA ∷ 1 ∷ 0 ∷ 0 ∷ 0 ∷ 2 ∷ 0xBB ∷ 0xCC ∷ []) ≡ Ok 12 }
     ensures bytes { expanded 2 profile_limits (3 ∷ 0 ∷ 2 ∷ 0 ∷ 2 ∷ 0 ∷ 0 ∷ 0 ∷ 1 ∷ 0xAA ∷ 1 ∷ 0 ∷ 0 ∷ 0 ∷ 2 ∷ 0xBB ∷ 0xCC ∷ []) ≡ repeat 3 (0xAA ∷ 0xAA ∷ 0xBB ∷ 0xCC ∷ []) }
 {}
 
-/// A 32-bit repeat count; the block count has 16 bits.
+/// Repeat counts of 32 bits; block counts still have 16.
 pub fn wide_blocks()
     ensures length { expanded_length 4 profile_limits (0xFF ∷ 0xFF ∷ 0xFF ∷ 0xFF ∷ 0 ∷ 0 ∷ 0 ∷ []) ≡ Ok 0 }
     ensures bytes { expanded 4 profile_limits (0xFF ∷ 0xFF ∷ 0xFF ∷ 0xFF ∷ 0 ∷ 0 ∷ 0 ∷ []) ≡ [] }
@@ -77,18 +77,24 @@ pub fn wide_blocks()
     ensures long { expanded_length 4 profile_limits (0 ∷ 0 ∷ 0 ∷ 0x10 ∷ 0 ∷ 0 ∷ 1 ∷ 0xAA ∷ []) ≡ Ok 268435456 }
 {}
 
-/// Pieces that touch are one run.
+/// Repeat counts of 32 bits: AA BB twice; and two nested blocks, CC twice and DD EE once, repeated three times.
+pub fn wide_blocks_with_bytes()
+    ensures one { expanded 4 profile_limits (2 ∷ 0 ∷ 0 ∷ 0 ∷ 0 ∷ 0 ∷ 2 ∷ 0xAA ∷ 0xBB ∷ []) ≡ 0xAA ∷ 0xBB ∷ 0xAA ∷ 0xBB ∷ [] }
+    ensures nested { expanded 4 profile_limits (3 ∷ 0 ∷ 0 ∷ 0 ∷ 2 ∷ 0 ∷ 2 ∷ 0 ∷ 0 ∷ 0 ∷ 0 ∷ 0 ∷ 1 ∷ 0xCC ∷ 1 ∷ 0 ∷ 0 ∷ 0 ∷ 0 ∷ 0 ∷ 2 ∷ 0xDD ∷ 0xEE ∷ []) ≡ repeat 3 (0xCC ∷ 0xCC ∷ 0xDD ∷ 0xEE ∷ []) }
+{}
+
+/// Pieces that touch form one run.
 pub fn two_pieces()
     ensures { runs_of (lay 1 4 (0xAA ∷ []) ∷ lay 1 5 (0xBB ∷ []) ∷ []) 1 ≡ run 4 2 ∷ [] }
 {}
 
-/// The last piece that covers a place gives its byte; an empty piece covers nothing.
+/// The byte at a place is that of the last piece that covers it; an empty piece covers nothing.
 pub fn last_piece_wins()
     ensures runs { runs_of five 1 ≡ run 0 7 ∷ [] }
     ensures bytes { map (byte_at five 1) (range_with_len 0 8) ≡ Some 1 ∷ Some 0xAA ∷ Some 3 ∷ Some 4 ∷ Some 0xBB ∷ Some 0xCC ∷ Some 5 ∷ None ∷ [] }
 {}
 
-/// The last offset of a segment of 2^32 bytes; and a segment that no piece lies in.
+/// A byte at the last offset of a segment of 2^32 bytes; and a segment without pieces.
 pub fn last_offset()
     ensures second { slice_get (runs_of six 1) 1 ≡ Some (run 0xFFFFFFFF 1) }
     ensures others { slice_get (runs_of six 1) 2 ≡ None }

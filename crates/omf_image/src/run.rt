@@ -3,8 +3,8 @@
 /// A maximal covered interval of a segment.
 #[derive(Clone, Copy, Debug, PartialEq, Eq)]
 pub struct Run {
-    /// The offset in the segment of its first byte.
+    /// The offset of its first byte in the segment.
     pub first: u32,
-    /// How many bytes it has: 1 to 2^32.
+    /// Its length in bytes: 1 to 2^32.
     pub len: u64,
 }

@@ -1,4 +1,4 @@
--- Segments that are not absolute lie one after another.
+-- Segments that are not absolute do not overlap.
 use Rattle.std.proofs.Common.{◌≡◌, ℕ, zero, suc, ◌+◌, ◌-◌, ◌/◌, ◌<◌, ◌≤◌, List, [], ◌∷◌, refl, sym, ap, ◌∙◌, subst, arith}
 use Rattle.std.specs.Prelude.{Option, Some, None, slice_get, ◌&&◌, nat_lt, nat_le}
 use Rattle.std.specs.List.{zip}
@@ -26,7 +26,7 @@ no-lower Page n = omega arith
 no-lower Dword n = omega arith
 no-lower LargePage n = omega arith
 
--- A segment lies well from a free address on.
+-- A segment is well placed from a free address on.
 record LiesFrom (frames : Frames) (free : ℕ) (s : SegInfo) (x : Alignment) (p : Placed) : Type 0 where
   pub multiple : IsMultiple (bytes_aligned x) p.address
   pub from : free ≤ p.address
@@ -51,7 +51,7 @@ one-well frames free s x one h a = map_some _ (address_from frames (bytes_aligne
     let w = address-well frames free s.length x b e in
     subst (IsOne frames free s x) g (record { lies = record { multiple = w.0; from = w.1; below = w.2; end = w.3 }; end = refl }))
 
--- What is free goes up.
+-- The free address never falls.
 goes-up : (frames : Frames) (free size : ℕ) (x : Alignment) (a : Option (ℕ × ℕ)) (one : Laid Placed) → segment_at frames (bytes_aligned x) free size a ≡ Some one → free ≤ one.free
 goes-up frames free size x (Some a) one h = subst (λ (k : Laid Placed). free ≤ k.free) (same_Some _ one h) (omega arith)
 goes-up frames free size x None one h = map_some _ (address_from frames (bytes_aligned x) free size) one h (λ b e g.

@@ -7,7 +7,7 @@ use Rattle.std.proofs.lemmas.Fmt.{digits_is_IsNumeral}
 use Rattle.omf_placement.specs.Entries.{IsHexadecimal}
 use Rattle.omf_placement.specs.Quoted.{number}
 
--- A byte of a word: no space, no control byte, no semicolon.
+-- A byte of a field: no space, no control byte, no semicolon.
 abbrev pub is_mark : ℕ → Bool
 is_mark c = nat_le 33 c && not (c == 59)
 
@@ -38,7 +38,7 @@ module _ (base : ℕ) (upper : Bool) (small : (n : ℕ) → n % base < 16) where
   unfolding digits
   marks-digits n = marks-onto 64 n [] refl
 
--- A number below a power of 16 has no more digits than that.
+-- A number below 16 to the power of n has at most n digits.
 few : (fuel k n : ℕ) (acc : List ℕ) → n < 16 ^ suc k → length (digits_onto fuel 16 true n acc) ≤ suc k + length acc
 few zero k n acc h = omega arith
 few (suc fuel) k n acc h =
@@ -57,7 +57,7 @@ few-digits : (k n : ℕ) → n < 16 ^ suc k → length (number n) ≤ suc k
 unfolding digits
 few-digits k n h = omega (arith, few 64 k n [] h)
 
--- So a number is a hexadecimal number, in eight digits or in four.
+-- So a number is a hexadecimal number of at most eight or four digits.
 hexadecimal : (k n : ℕ) → n < 16 ^ suc k → n < 16 ^ 64 → IsHexadecimal (suc k) (number n) n
 hexadecimal k n h l =
     let is = digits_is_IsNumeral 16 true (omega arith) (omega arith) n l in

@@ -1,26 +1,19 @@
--- A layout fits its module.
-use Rattle.std.proofs.Common.{◌≡◌, ℕ, zero, suc, ◌+◌, List, [], ◌∷◌, ◌++◌, length, refl, sym, ap, ◌∙◌, subst, arith}
-use Rattle.std.specs.Prelude.{filter_map, All, Option, Some, None, option_map, slice_get}
+-- A layout has an entry for each segment, group and external of its module.
+use Rattle.std.proofs.Common.{◌≡◌, ℕ, zero, suc, ◌+◌, List, [], ◌∷◌, ◌++◌, length, refl, sym, ap, ◌∙◌, arith}
+use Rattle.std.specs.Prelude.{Option, Some, None, option_map, slice_get}
 use Rattle.std.specs.List.{range_with_len, zip}
 use Rattle.std.proofs.lemmas.List.{length-map}
-use Rattle.std.proofs.lemmas.List.Elements.{All-nil, All-cons, All-head}
 use Rattle.std.proofs.lemmas.Option.{none-some, same_Some, option_and_then_some}
 use Rattle.omf_records.specs.Values.{Rec}
 use Rattle.omf_check.specs.Tables.{segments, groups, externals, entry}
 use Rattle.omf_check.specs.declared.segment.SegInfo.{SegInfo}
-use Rattle.omf_reloc.specs.declared.fault.Cause.{Cause}
-use Rattle.omf_reloc.specs.declared.fault.ReachFault.{ReachFault}
-use Rattle.omf_reloc.specs.declared.fault.ReachFault.TheVariants as fault
 use Rattle.omf_placement.specs.declared.frame.Placed.{Placed}
-use Rattle.omf_placement.specs.Placement.{Places, absolute_place}
-use Rattle.omf_reloc.specs.Plain.{pieces}
-use Rattle.omf_reloc.specs.Reach.{Fits, causes, all_reference_places, far_fault, far_faults, reach_fault}
-use Rattle.omf_reloc.proofs.ReachLaws.{fits-to}
+use Rattle.omf_placement.specs.Placement.{absolute_place}
 use Rattle.omf_layout.specs.declared.alignment.Alignment.{Alignment}
 use Rattle.omf_layout.specs.declared.options.Frames.{Frames}
 use Rattle.omf_layout.specs.declared.options.Options.{Options}
 use Rattle.omf_layout.specs.Layout.{Laid, all_laid, segment_at, segment_laid, segments_laid, group_frame, group_frames, external_laid, externals_laid, spare, behind_communals, LaidOut, laid_out, layout_of}
-use Rattle.omf_layout.specs.Laws.{IsFar, LayoutsFit}
+use Rattle.omf_layout.specs.Laws.{LayoutsKeepAlignments}
 use Rattle.omf_layout.specs.Wants.{bytes_aligned, alignments, rooms}
 use Rattle.omf_layout.proofs.TableLaws.{length-alignments, length-rooms, entry-at}
 
@@ -72,7 +65,7 @@ length-range : (k n : ℕ) → length (range_with_len k n) ≡ n
 length-range k zero = refl
 length-range k (suc n) = ap suc (length-range (k + 1) n)
 
--- Absolute segments lie where they say.
+-- Absolute segments are where their SEGDEFs put them.
 absolute-laid : (frames : Frames) (free : ℕ) (ss : List SegInfo) (xs : List Alignment) (l : Laid (List Placed)) → length xs ≡ length ss → all_laid (segment_laid frames) free (zip ss xs) ≡ Some l
     → (j number offset : ℕ) (s : SegInfo) → slice_get ss j ≡ Some s → s.absolute ≡ Some (number, offset) → slice_get l.what j ≡ Some (absolute_place number offset)
 absolute-laid frames free [] xs l n h j number offset s e a = absurd (none-some s e)
@@ -115,29 +108,12 @@ module _ (o : Options) (m : List Rec) (l : LaidOut) (h : layout_of o m ≡ Some 
   pub room-count : length l.rooms ≡ length (externals m)
   room-count = ap (λ k. length k.rooms) (sym parts.whole) ∙ length-rooms m
 
-  absolute-at : (i number offset : ℕ) (s : SegInfo) → entry (segments m) i ≡ Some s → s.absolute ≡ Some (number, offset) → entry l.places.segments i ≡ Some (absolute_place number offset)
+  pub absolute-at : (i number offset : ℕ) (s : SegInfo) → entry (segments m) i ≡ Some s → s.absolute ≡ Some (number, offset) → entry l.places.segments i ≡ Some (absolute_place number offset)
   absolute-at zero number offset s e a = absurd (none-some s e)
   absolute-at (suc j) number offset s e a =
       let next : suc j ≡ j + 1 = omega arith in
       ap (entry l.places.segments) next ∙ entry-at l.places.segments j ∙ ap (λ xs. slice_get xs j) (sym segments-given)
       ∙ absolute-laid o.frames o.base (segments m) (alignments m) parts.laid_segments as-many parts.segments_are j number offset s (sym (ap (entry (segments m)) next ∙ entry-at (segments m) j) ∙ e) a
 
-  pub layout-fits : Fits l.places m
-  layout-fits = record { segment_count = segment-count; group_count = group-count; external_count = external-count; absolute = absolute-at }
-
--- Where a placement fits, the first fault is a reference's.
-all-far : (xs : List ((ℕ × ℕ) × Option Cause)) → All IsFar (filter_map far_fault xs)
-all-far [] = All-nil IsFar
-all-far ((p, None) ∷ xs) = all-far xs
-all-far ((p, Some c) ∷ xs) = All-cons IsFar (fault.TooFar p.0 p.1 c) (filter_map far_fault xs) tt (all-far xs)
-
-first-far : (xs : List ReachFault) (f : ReachFault) → All IsFar xs → slice_get xs 0 ≡ Some f → IsFar f
-first-far [] f h e = absurd (none-some f e)
-first-far (x ∷ xs) f h e = subst IsFar (same_Some x f e) (All-head IsFar x xs h)
-
-pub no-entry-named : (m : List Rec) (pl : Places) → Fits pl m → (f : ReachFault) → reach_fault pl m ≡ Some f → IsFar f
-no-entry-named m pl fit f e = first-far (far_faults pl m) f (all-far (zip (all_reference_places m) (causes pl (pieces m))))
-    (ap (λ xs. slice_get (xs ++ far_faults pl m) 0) (sym (fits-to pl m fit)) ∙ e)
-
-pub layouts-fit : LayoutsFit
-layouts-fit o m l h = let fit = layout-fits o m l h in record { fits = fit; names_no_entry = no-entry-named m l.places fit }
+pub keep-alignments : LayoutsKeepAlignments
+keep-alignments o m l h = sym (ap (λ (k : LaidOut). k.alignments) (parts o m l h).whole)

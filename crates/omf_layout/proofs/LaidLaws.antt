@@ -1,4 +1,4 @@
--- What is laid one after another.
+-- Items laid one after another.
 use Rattle.std.proofs.Common.{◌≡◌, ℕ, List, [], ◌∷◌, ◌++◌, refl, sym, ap, ap₂, ◌∙◌, append-nil, append_assoc}
 use Rattle.std.specs.Prelude.{Option, Some, None, option_and_then}
 use Rattle.omf_placement.specs.Placement.{Places}
@@ -19,7 +19,7 @@ module _ {A B : Type 0} (lay : ℕ → A → Option (Laid B)) where
       ∙ ap (λ o. and_then_more before (option_and_then (λ k. and_then_more (k.what ∷ []) (all_laid lay k.free xs)) o)) (sym f)
       ∙ ap (λ ys. and_then_more before (all_laid lay free ys)) (sym e) ∙ h
 
-  -- One is not laid, so not all are.
+  -- One does not fit, so not all do.
   pub not-laid : (before : List B) (free : ℕ) (x : A) (left xs : List A) (all : Option (Laid (List B))) → left ≡ x ∷ xs → lay free x ≡ None
       → and_then_more before (all_laid lay free left) ≡ all → all ≡ None
   not-laid before free x left xs all e f h =

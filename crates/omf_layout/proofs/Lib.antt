@@ -4,9 +4,11 @@ pub mod LaidLaws
 pub mod Lines
 pub mod FitLaws
 pub mod ApartLaws
+pub mod CommunalLaws
 pub mod Printed
 pub mod DigitLaws
 pub mod SaidLaws
 pub mod TextLaws
 pub mod LineLaws
 pub mod ReadLaws
+pub mod SeveralLaws

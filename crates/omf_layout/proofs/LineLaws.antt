@@ -1,4 +1,4 @@
--- The lines of a draft, each an entry with a comment behind it.
+-- The lines of a draft, each an entry with a comment.
 use Rattle.std.proofs.Common.{◌≡◌, ℕ, zero, suc, ◌-◌, true, not, ◌&&◌, nat_le, ◌==◌, List, [], ◌∷◌, ◌++◌, length, refl, ap, ap₂, ◌∙◌, arith, codes, inl, inr}
 use Rattle.std.specs.Prelude.{flat_map, replicate, Option, Some, None, unwrap_or, option_map, decimal}
 use Rattle.std.proofs.lemmas.Bool.{cond_both, and_from, and_parts, eqb-true, false≢true}
@@ -22,7 +22,7 @@ use Rattle.omf_layout.proofs.DigitLaws.{is_mark, eight-digits, four-digits, mark
 use Rattle.omf_layout.proofs.TextLaws.{IsLineOf}
 use Rattle.omf_layout.proofs.SaidLaws.{Passes, both-pass, pass-more, is_printed, mark-printed, IsWord, IsTight, tight-word, tight-two, is-said}
 
--- Comments have printed bytes alone: each of their words has.
+-- Comments have printed bytes only, since each of their fields has.
 abbrev pub ArePrinted : List (List ℕ) → Type 0
 ArePrinted [] = Unit {0}
 ArePrinted (w ∷ ws) = Passes is_printed w × ArePrinted ws

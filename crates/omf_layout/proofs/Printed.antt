@@ -1,4 +1,4 @@
--- The lines of a text, one after another: what is written, and the lines of what is left, are the whole text.
+-- The lines of a text, one after another: those printed so far and those left are the whole text.
 use Rattle.std.proofs.Common.{◌≡◌, ℕ, zero, suc, ◌+◌, ◌<◌, ◌≤◌, List, [], ◌∷◌, ◌++◌, length, drop, slice_index_or, refl, sym, ap, ap₂, subst, ◌∙◌, ⊎_elim, arith, append_assoc}
 use Rattle.std.specs.List.{enumerate_from, zip}
 use Rattle.std.specs.Prelude.{flat_map, All, Option, Some, None, option_map, slice_get}
@@ -32,7 +32,7 @@ more-printed f xs i x old now new before here e = record {
 pub all-printed : {A : Type 0} (f : ℕ × A → List ℕ) (xs : List A) (i : ℕ) (old now : List ℕ) → length xs ≤ i → ArePrinted f xs i old now → now ≡ old ++ flat_map f (enumerate_from 1 xs)
 all-printed f xs i old now le h = sym (append-nil now) ∙ ap (λ l. now ++ flat_map f (enumerate_from (i + 1) l)) (sym (drop_all i xs le)) ∙ h.whole
 
--- What holds of each entry so far, and at the end of all.
+-- What holds of each entry so far, and of all at the end.
 pub record HoldsTo {A : Type 0} (P : A → Type 0) (xs : List A) (i : ℕ) : Type 0 where
   pub each : (k : ℕ) (x : A) → k < i → slice_get xs k ≡ Some x → P x
 
@@ -51,7 +51,7 @@ more-hold P xs i x before here h = record {
 pub all-hold : {A : Type 0} (P : A → Type 0) (xs : List A) (i : ℕ) → length xs ≤ i → HoldsTo P xs i → All P xs
 all-hold P xs i end h = λ k d low. h.each k (slice_index_or xs k d) (omega arith) (slice_get-get_or xs k d low)
 
--- The entry of two lists side by side; and how long they are.
+-- The entry of two zipped lists, and their length.
 slice-zip : {A B : Type 0} (xs : List A) (ys : List B) (j : ℕ) (x : A) (y : B) → slice_get xs j ≡ Some x → slice_get ys j ≡ Some y → slice_get (zip xs ys) j ≡ Some (x, y)
 slice-zip [] ys j x y e g = absurd (none-some x e)
 slice-zip (a ∷ xs) [] j x y e g = absurd (none-some y g)
@@ -70,7 +70,7 @@ zip-short (x ∷ xs) (y ∷ ys) = omega (arith, zip-short xs ys)
 pub place-of : (xs : List Placed) (i : ℕ) (place : ℕ × Frame) → option_map (λ p. (p.address, p.frame)) (entry xs i) ≡ Some place → entry xs i ≡ Some (record { address = place.0; frame = place.1 })
 place-of xs i place e = map_some _ (entry xs i) place e (λ p here same. here ∙ ap (λ q. Some (record { address = q.0; frame = q.1 })) same)
 
--- The GRPDEF of a group that is there.
+-- The GRPDEF of a group that exists.
 pub record IsGroup (c : Contents) (o : Option GroupItem) : Type 0 where
   pub group : GroupItem
   pub told : o ≡ Some group

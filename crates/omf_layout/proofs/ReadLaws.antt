@@ -1,4 +1,4 @@
--- A draft is a placement text, which gives its module the places of the layout.
+-- A draft is a placement text, and gives its module the places of the layout.
 use Rattle.std.proofs.Common.{◌≡◌, ℕ, zero, suc, ◌+◌, List, [], ◌∷◌, ◌++◌, length, refl, sym, ap, ap₂, subst, ◌∙◌, append_assoc, append-nil, arith}
 use Rattle.std.specs.Prelude.{flat_map, filter_map, map, All, Option, Some, None, Ok, unwrap_or}
 use Rattle.std.specs.List.{cons_option, enumerate_from, zip, range_with_len}
@@ -26,7 +26,7 @@ use Rattle.omf_layout.proofs.TextLaws.{parts_of, told_from, each-line}
 
 -- ---- lines, one after another
 
--- The entries of so many lines.
+-- The entries of n lines.
 abbrev lines_of : {A : Type 0} → (A → Entry) → ℕ → List A → List (ℕ × Option Entry)
 lines_of entry n xs = map (λ l. (l.0, Some (entry l.1))) (enumerate_from n xs)
 
@@ -46,7 +46,7 @@ all-lines P Q f j [] ys h = All-nil Q
 all-lines P Q f j (x ∷ xs) [] h = All-nil Q
 all-lines P Q f j (x ∷ xs) (y ∷ ys) h = All-cons Q (j, (x, y)) (enumerate_from (j + 1) (zip xs ys)) (f (j, (x, y)) (All-head P y ys h)) (all-lines P Q f (j + 1) xs ys (All-tail P y ys h))
 
--- ---- what is picked of their entries
+-- ---- the entries picked from them
 
 module _ {A C : Type 0} (pick : ℕ × Option Entry → Option C) (entry : A → Entry) where
   picked : (give : ℕ → A → C) → ((n : ℕ) (x : A) → pick (n, Some (entry x)) ≡ Some (give n x)) → (n : ℕ) (xs : List A) → filter_map pick (lines_of entry n xs) ≡ map (λ l. give l.0 l.1) (enumerate_from n xs)

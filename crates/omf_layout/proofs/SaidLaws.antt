@@ -1,4 +1,4 @@
--- What a line says that is an entry with a comment behind it.
+-- The fields of a line with an entry and a comment.
 use Rattle.std.proofs.Common.{◌≡◌, ℕ, suc, ◌+◌, ◌<◌, Bool, true, cond, eqb, not, nat_le, ◌==◌, List, [], ◌∷◌, ◌++◌, length, reverse, take, refl, sym, ap, subst, ◌∙◌, append_assoc, append-nil, arith, codes}
 use Rattle.std.specs.List.{list_all, before_first, prefix_len}
 use Rattle.std.proofs.lemmas.Bool.{le-leb, ne_eqb, and_from, and_parts, cond-false}
@@ -24,7 +24,7 @@ reverse-onto test (c ∷ xs) h =
     let k = and_parts (test c) (list_all test xs) h in
     subst (Passes test) (sym (reverse-append (c ∷ []) xs)) (both-pass test (reverse xs) (c ∷ []) (reverse-onto test xs k.1) (and_from (test c) true k.0 refl))
 
--- A byte that is printed; one that begins no comment.
+-- A printed byte; one that begins no comment.
 abbrev pub is_printed : ℕ → Bool
 is_printed c = nat_le 32 c
 
@@ -37,7 +37,7 @@ mark-printed c h = let low = mark-low c h in le-leb 32 c (omega arith)
 mark-plain : (c : ℕ) → is_mark c ≡ true → is_plain c ≡ true
 mark-plain c h = (and_parts (nat_le 33 c) (not (c == 59)) h).1
 
--- A word has a byte, and only marks; so no space stands at its ends.
+-- A field has a byte, and only marks, so no space is at its ends.
 pub record IsWord (w : List ℕ) : Type 0 where
   pub some : 0 < length w
   pub marks : Passes is_mark w
@@ -48,7 +48,7 @@ stands (c ∷ w) ys h =
     let low = mark-low c (and_parts (is_mark c) (list_all is_mark w) h.marks).0 in
     cond-false (eqb c 32) (without_spaces (w ++ ys)) (c ∷ (w ++ ys)) (ne_eqb c 32 (λ e. absurd (omega arith)))
 
--- What is left by trimming, and has no comment.
+-- What is left by trimming, without a comment.
 pub record IsTight (e : List ℕ) : Type 0 where
   pub front : (ys : List ℕ) → without_spaces (e ++ ys) ≡ e ++ ys
   pub back : (ys : List ℕ) → without_spaces (reverse e ++ ys) ≡ reverse e ++ ys
@@ -76,7 +76,7 @@ tight-two a b h k = record {
   printed = both-pass is_printed a (32 ∷ b) h.printed k.printed;
 }
 
--- The end of a line stays where a comment stands before it.
+-- The end of a line stays if a comment precedes it.
 return-kept : (xs : List ℕ) (d : ℕ) (ys : List ℕ) → without_return (xs ++ 59 ∷ d ∷ ys) ≡ xs ++ without_return (59 ∷ d ∷ ys)
 return-kept [] d ys = refl
 return-kept (x ∷ []) d ys = refl

@@ -1,4 +1,4 @@
--- Attributes, alignments and rooms are as many as the tables have segments and externals.
+-- There are as many attributes and alignments as segments, and as many lengths as externals.
 use Rattle.std.proofs.Common.{◌≡◌, ℕ, zero, suc, ◌+◌, ◌<◌, List, [], ◌∷◌, ◌++◌, length, drop, refl, sym, ap, ap₂, ◌∙◌, arith, length-append, append_assoc, ◌≤◌, ◌-◌}
 use Rattle.std.proofs.Math.Seq.{drop-nil}
 use Rattle.std.specs.Prelude.{map, Some, None, slice_get, cond}

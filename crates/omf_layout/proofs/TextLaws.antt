@@ -1,4 +1,4 @@
--- Lines one after another in a text, whatever each of them is read as.
+-- Lines one after another in a text, whatever each of them is parsed to.
 use Rattle.std.proofs.Common.{◌≡◌, ℕ, ◌+◌, false, List, [], ◌∷◌, ◌++◌, length, refl, sym, ap, ap₂, ◌∙◌, append_assoc, length-append, arith, eqb}
 use Rattle.std.specs.Prelude.{flat_map, map, All, Option, Some, ◌==◌}
 use Rattle.std.specs.List.{enumerate_from, slice_split, list_all}
@@ -18,14 +18,14 @@ abbrev pub parts_of : List ℕ → List (List ℕ)
 parts_of text = slice_split (λ c. c == 10) text
 
 module _ {E : Type 0} (read : List ℕ → Option E) where
-  -- A line: its bytes before the line feed are read so.
+  -- A line: its bytes before the line feed are parsed to this.
   pub record IsLineOf (text : List ℕ) (e : E) : Type 0 where
     pub body : List ℕ
     pub is : text ≡ body ++ 10 ∷ []
     pub unbroken : Passes is_printed body
     pub says : read body ≡ Some e
 
-  -- Lines from a number on, with what each is read as; and values, each on a line of its own.
+  -- Lines from a number on, with what each is parsed to; and values, each on a line of its own.
   abbrev pub read_from : ℕ → List (List ℕ) → List (ℕ × Option E)
   read_from n lines = map (λ l. (l.0, read l.1)) (enumerate_from n lines)
 
@@ -39,7 +39,7 @@ told-append n (x ∷ xs) ys =
     ap (λ ls. (n, Some x) ∷ ls) (told-append (n + 1) xs ys ∙ ap (λ k. told_from (n + 1) xs ++ told_from k ys) next)
 
 module _ {E : Type 0} (read : List ℕ → Option E) where
-  -- A text is whole lines that are read so, whatever stands behind it.
+  -- A text is whole lines that are parsed to these, whatever follows it.
   abbrev pub SpellsLines : List ℕ → List E → Type 0
   SpellsLines text es = (n : ℕ) (rest : List ℕ) → read_from read n (parts_of (text ++ rest)) ≡ told_from n es ++ read_from read (n + length es) (parts_of rest)
 

@@ -1,5 +1,5 @@
--- The placement text of a layout: a line for each segment, each group and each external, with what its SEGDEF, GRPDEF, EXTDEF or COMDEF says in a
--- comment (this profile's rule).
+-- The placement text of a layout: a line for each segment, each group and each external, with a comment from its SEGDEF, GRPDEF, EXTDEF or COMDEF (this
+-- profile's rule).
 use Rattle.std.specs.Prelude.{ℕ, List, [], ◌∷◌, ◌++◌, flat_map, Bool, false, Option, Some, None, ◌==◌, ◌&&◌, codes, decimal, if◌then◌else◌}
 use Rattle.std.specs.List.{enumerate_from, zip}
 use Rattle.omf_records.specs.Values.{Rec, GroupItem}
@@ -16,14 +16,14 @@ use Rattle.omf_layout.specs.Layout.{LaidOut}
 use Rattle.omf_placement.specs.Quoted.{number, quoted, named}
 use Rattle.omf_layout.specs.Wants.{bytes_aligned}
 
--- An entry, and its comment behind a semicolon.
+-- An entry and its comment, after a semicolon.
 abbrev pub line : List ℕ → List (List ℕ) → List ℕ
 line entry comment = entry ++ codes " ; " ++ in_words comment ++ 10 ∷ []
 
 abbrev pub placed_entry : List ℕ → Placed → List ℕ
 placed_entry letter p = in_words (letter ∷ number p.address ∷ number p.frame.base ∷ number p.frame.selector ∷ [])
 
--- A segment in real mode is written by its address alone where its frame is that of its paragraph.
+-- In real mode a segment in the frame of its paragraph is written by its address alone.
 abbrev pub is_same_frame : Option Frame → Frame → Bool
 is_same_frame None f = false
 is_same_frame (Some g) f = (g.base == f.base) && (g.selector == f.selector)
@@ -32,7 +32,7 @@ abbrev pub segment_entry : Frames → Placed → List ℕ
 segment_entry Real p = if is_same_frame (real_frame p.address) p.frame then in_words (codes "S" ∷ number p.address ∷ codes "real" ∷ []) else placed_entry (codes "S") p
 segment_entry (Flat selector) p = placed_entry (codes "S") p
 
--- Its comment: index, name, class, alignment in bytes and length, all numbers decimal.
+-- The comment of a segment: index, name, class, alignment in bytes, length; all numbers decimal.
 abbrev pub alignment_text : Option (ℕ × ℕ) → Alignment → List ℕ
 alignment_text None a = codes "align " ++ decimal (bytes_aligned a)
 alignment_text (Some p) a = codes "absolute"
@@ -43,7 +43,7 @@ segment_comment m i s a = decimal i ∷ named (names m) s.name ∷ codes "class"
 abbrev pub segment_line : Frames → List Rec → ℕ × ((SegInfo × Alignment) × Placed) → List ℕ
 segment_line frames m s = line (segment_entry frames s.1.1) (segment_comment m s.0 s.1.0.0 s.1.0.1)
 
--- A group whose frame is that of its lowest member is left to be found so.
+-- The entry of a group whose frame is that of its lowest member is `G real`.
 abbrev pub frame_entry : Frame → List ℕ
 frame_entry f = in_words (codes "G" ∷ number f.base ∷ number f.selector ∷ [])
 
@@ -58,7 +58,7 @@ group_entry (Flat selector) m xs k f = frame_entry f
 abbrev pub group_line : Frames → List Rec → List Placed → ℕ × (GroupItem × Frame) → List ℕ
 group_line frames m xs g = line (group_entry frames m xs g.0 g.1.1) (decimal g.0 ∷ named (names m) g.1.0.name.item ∷ [])
 
--- An external's comment: index, name, and what it asks for; where it is no communal, that its place is not known.
+-- The comment of an external: index, name, and the length of a communal, or that the place of any other external is to be filled in.
 abbrev pub room_text : Option ℕ → List ℕ
 room_text None = codes "to be filled in"
 room_text (Some size) = codes "communal length " ++ decimal size

@@ -5,4 +5,5 @@ pub mod Draft
 pub mod Reading
 pub mod Rows
 pub mod Laws
+pub mod Several
 pub mod Inner

@@ -1,4 +1,4 @@
--- What the text of a layout says when it is read again (this profile's rule).
+-- What the text of a layout gives when it is read back (this profile's rule).
 use Rattle.std.specs.Prelude.{◌≡◌, ℕ, ◌+◌, ◌<◌, ◌^◌, List, length, map, All, Option, Some, None, Ok}
 use Rattle.std.specs.List.{enumerate_from}
 use Rattle.omf_records.specs.Values.{Rec}
@@ -9,8 +9,7 @@ use Rattle.omf_placement.specs.PlacementText.{Draft, parsed, resolved}
 use Rattle.omf_layout.specs.declared.options.Frames.{Frames}
 use Rattle.omf_layout.specs.declared.options.Frames.TheVariants.{Real, Flat}
 
--- A placement text has eight digits for an address and for a frame's base, and four for its selector. A frame and a place of numbers that
--- these hold.
+-- A placement text has at most eight digits for an address or a frame's base, and four for a selector. Frames and places whose numbers fit.
 pub record IsShortFrame (f : Frame) : Type 0 where
   pub base : f.base < 2 ^ 32
   pub selector : f.selector < 2 ^ 16
@@ -24,7 +23,7 @@ pub record AreShort (pl : Places) : Type 0 where
   pub groups : All IsShortFrame pl.groups
   pub externals : All IsShortPlace pl.externals
 
--- The frame that a group's entry gives, by the group's index: its own; none, in real mode, where its members give it.
+-- The frame in a group's entry, by the group's index: its own; none for `G real`, in real mode.
 abbrev pub unless_by_members : Option Frame → Frame → Option Frame
 unless_by_members None f = Some f
 unless_by_members (Some g) f = None
@@ -33,12 +32,11 @@ abbrev pub frame_given : Frames → List Rec → List Placed → ℕ × Frame �
 frame_given Real m xs g = unless_by_members (real_group m xs g.0) g.1
 frame_given (Flat selector) m xs g = Some g.1
 
--- The entries of a layout: a place for each segment, a frame for each group on the lines behind those of the segments, a place for each
--- external.
+-- The entries of a layout: a place for each segment, a frame for each group with its line number after the segments' lines, a place for each external.
 abbrev pub draft_entries : Frames → List Rec → Places → Draft
 draft_entries frames m pl = record { segments = pl.segments; groups = enumerate_from (length pl.segments + 1) (map (frame_given frames m pl.segments) (enumerate_from 1 pl.groups)); externals = pl.externals }
 
--- A text is a placement text of exactly these entries, no line of it is at fault, and they give the module the layout's places.
+-- A text parses, with no faulty line, to exactly these entries, and they give the module the layout's places.
 pub record IsReadBack (frames : Frames) (m : List Rec) (pl : Places) (text : List ℕ) : Type 0 where
   pub parses : parsed text ≡ Ok (draft_entries frames m pl)
   pub resolves : resolved m (draft_entries frames m pl) ≡ Ok pl

@@ -1,21 +1,32 @@
--- Words of the worked examples.
+-- Definitions for the worked examples.
 use Rattle.std.specs.Prelude.{ℕ, List, [], ◌∷◌, ◌++◌, map, flat_map, Option, option_map}
 use Rattle.omf_records.specs.Values.{alignment}
-use Rattle.omf_reloc.specs.Modules.{module_of}
+use Rattle.omf_records.specs.Values.{Rec}
+use Rattle.omf_check.specs.Inner.Verdict.{Verdict, Accepted}
+use Rattle.omf_check.specs.Rows.{verdict_of}
+use Rattle.omf_check.specs.WellFormed.{recs}
 use Rattle.omf_layout.specs.declared.options.Frames.{Frames}
 use Rattle.omf_layout.specs.Draft.{draft_text}
 use Rattle.omf_layout.specs.Layout.{layout_of}
 use Rattle.omf_layout.specs.Wants.{alignment_named, bytes_aligned}
 
--- What the attribute bytes of SEGDEFs ask for.
+-- The alignments in attribute bytes.
 abbrev pub aligned : List ℕ → List ℕ
 aligned bytes = map (λ a. bytes_aligned (alignment_named (alignment a))) bytes
 
--- lines, each with its line feed
+-- Lines, each with its line feed.
 abbrev pub lines : List (List ℕ) → List ℕ
 lines ls = flat_map (λ l. l ++ 10 ∷ []) ls
 
--- The draft of a module's layout; none where it has none.
+-- The records of a module; none of an input that is refused.
+abbrev pub accepted : Verdict → List Rec
+accepted (Accepted rs) = recs rs
+accepted _ = []
+
+abbrev pub module_of : List ℕ → List Rec
+module_of input = accepted (verdict_of input)
+
+-- The draft of a module's layout; none if it has none.
 abbrev pub drafted : ℕ → Frames → List ℕ → Option (List ℕ)
 drafted base frames bytes = option_map (draft_text frames (module_of bytes)) (layout_of (record { base = base; frames = frames }) (module_of bytes))
 
@@ -23,7 +34,7 @@ drafted base frames bytes = option_map (draft_text frames (module_of bytes)) (la
 abbrev pub between : List ℕ → List ℕ
 between records = 0x80 ∷ 0x03 ∷ 0x00 ∷ 0x01 ∷ 0x41 ∷ 0x3B ∷ 0x96 ∷ 0x04 ∷ 0x00 ∷ 0x00 ∷ 0x01 ∷ 0x54 ∷ 0x11 ∷ [] ++ records ++ 0x8A ∷ 0x02 ∷ 0x00 ∷ 0x00 ∷ 0x74 ∷ []
 
--- A segment of an attribute byte and a length; one of 4 bytes at the byte offset 10H of the frame number B800H.
+-- A segment with this attribute byte and length; an absolute one of 4 bytes at offset 10H of frame number B800H.
 abbrev pub segment : ℕ → ℕ → List ℕ
 segment attribute length = 0x98 ∷ 0x07 ∷ 0x00 ∷ attribute ∷ length ∷ 0x00 ∷ 0x02 ∷ 0x01 ∷ 0x01 ∷ 0x00 ∷ []
 

@@ -4,10 +4,10 @@ ghost use Rattle.std.specs.Prelude.{◌≡◌, ◌≤◌};
 ghost use Rattle.omf_records.specs.Values.{alignment};
 ghost use Rattle.omf_layout.specs.Wants.{alignment_named, bytes_aligned};
 
-/// What the address of a segment is a multiple of (TIS OMF 1.1, "SEGDEF", A).
+/// The alignment of a segment's address (TIS OMF 1.1, "SEGDEF", A field).
 #[derive(Clone, Copy, Debug, PartialEq, Eq)]
 pub enum Alignment {
-    /// Any address; also that of an absolute segment, which asks for none.
+    /// Any address. Absolute segments, which have no alignment, count as this.
     Byte,
     /// A multiple of 2.
     Word,
@@ -22,7 +22,7 @@ pub enum Alignment {
 }
 
 impl Alignment {
-    /// The alignment that a SEGDEF's attribute byte names.
+    /// Returns the alignment in a SEGDEF's attribute byte.
     pub fn named_by(attribute: u8) -> Alignment
         ensures { result ≡ alignment_named (alignment attribute) }
     {
@@ -36,7 +36,7 @@ impl Alignment {
         }
     }
 
-    /// How many bytes an address is a multiple of: 1, 2, 4, 16, 256 or 4,096.
+    /// Returns the alignment in bytes: 1, 2, 4, 16, 256 or 4,096.
     pub fn bytes(self) -> u16
         ensures value { result ≡ bytes_aligned self }
         ensures some { 1 ≤ result }

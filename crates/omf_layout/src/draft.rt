@@ -9,7 +9,6 @@ ghost use Rattle.omf_check.specs.Module.{recs_of};
 ghost use Rattle.omf_check.specs.Tables.{names, segments, groups, externals, entry};
 ghost use Rattle.omf_placement.specs.Entries.{in_words};
 ghost use Rattle.omf_layout.specs.Draft.{segment_comment, segment_line, group_line, group_entry, external_line, draft_text};
-ghost use Rattle.omf_layout.specs.Laws.{FitsModule};
 ghost use Rattle.omf_layout.specs.Layout.{layout_of};
 ghost use Rattle.omf_placement.specs.Quoted.{named};
 ghost use Rattle.omf_layout.specs.Reading.{IsShortFrame, IsShortPlace, IsReadBack};
@@ -23,18 +22,18 @@ use crate::printing::{
 };
 use omf_check::{Checked, SegInfo};
 use omf_frame::Name;
+use omf_placement::{Frame, Placement, real_group};
 use omf_records::Rec;
-use omf_reloc::{Frame, Placement, real_group};
 use std::alloc::{AllocError, Global};
 
-/// The name of an index in a module, in double quotes, or a dash for 0.
+/// Prints the name of an index in double quotes, or a dash for index 0.
 fn print_named(text: &mut String, module: &Checked, index: u16) -> Result<(), AllocError>
     ensures { AddsText result (string_bytes text.old) (string_bytes text.new) (named (names (recs_of «module».now.bytes)) index) }
 {
     print_name(text, module.name(index))
 }
 
-/// The names of a segment and of its class.
+/// Prints the names of a segment and of its class.
 fn print_names(text: &mut String, module: &Checked, segment: SegInfo) -> Result<(), AllocError>
     ensures { AddsText result (string_bytes text.old) (string_bytes text.new) (named (names (recs_of «module».now.bytes)) segment.name ++ codes " class " ++ named (names (recs_of «module».now.bytes)) segment.class) }
 {
@@ -43,7 +42,7 @@ fn print_names(text: &mut String, module: &Checked, segment: SegInfo) -> Result<
     print_named(text, module, segment.class)
 }
 
-/// A segment's comment.
+/// Prints a segment's comment.
 fn print_segment_comment(
     text: &mut String,
     module: &Checked,
@@ -58,7 +57,7 @@ fn print_segment_comment(
     print_segment_room(text, segment.absolute, alignment, segment.length)
 }
 
-/// A segment's line.
+/// Prints a segment's line.
 fn print_segment(
     text: &mut String,
     module: &Checked,
@@ -76,19 +75,19 @@ fn print_segment(
     print_segment_comment(text, module, index, segment, alignment)
 }
 
-/// A segment's alignment, by its index from 1.
+/// Returns a segment's alignment, by its index from 1.
 fn alignment_of(alignments: &[Alignment], index: u16) -> Option<Alignment>
     ensures { result ≡ entry alignments.now index }
 {
     alignments.get(usize::from(index).checked_sub(1)?).copied()
 }
 
-/// Adds a line for each segment of a module, whose alignments these are, where a placement has it, with a comment that says its index, its
-/// name and its class, its alignment and its length.
+/// Adds a line for each segment of a module at its place in a placement, with a comment: its index, its name, its class, its alignment
+/// and its length.
 ///
 /// # Errors
 ///
-/// A growth was refused.
+/// Out of memory.
 pub fn print_segments(
     text: &mut String,
     module: &Checked,
@@ -98,7 +97,7 @@ pub fn print_segments(
 ) -> Result<(), AllocError>
     requires aligned { length alignments.now ≡ length (segments (recs_of «module».now.bytes)) }
     requires placed { length placement.now.segments ≡ length (segments (recs_of «module».now.bytes)) }
-    // The numbers of all are short enough for a placement text.
+    // All numbers are short enough for a placement text.
     ensures short { OnOk result (All IsShortPlace placement.now.segments) }
     ensures lines { AddsText result (string_bytes text.old) (string_bytes text.new) (flat_map (segment_line frames (recs_of «module».now.bytes)) (enumerate_from 1 (zip (zip (segments (recs_of «module».now.bytes)) alignments.now) placement.now.segments))) }
 {
@@ -118,7 +117,7 @@ pub fn print_segments(
     Ok(())
 }
 
-/// A group's entry.
+/// Prints a group's entry.
 fn print_group_place(
     text: &mut String,
     module: &Checked,
@@ -135,7 +134,7 @@ fn print_group_place(
     }
 }
 
-/// A group's comment.
+/// Prints a group's comment.
 fn print_group_comment(
     text: &mut String,
     module: &Checked,
@@ -149,8 +148,8 @@ fn print_group_comment(
     text.push_str("\n")
 }
 
-/// The index of a group's name.
-fn group_name(group: &Rec<'_>) -> u16
+/// Returns the index of a group's name.
+pub(crate) fn group_name(group: &Rec<'_>) -> u16
     requires { (g : GroupItem) × (contents_seen group.now ≡ Group g) }
     ensures { (g : GroupItem) → contents_seen group.now ≡ Group g → result ≡ g.name.item }
 {
@@ -160,7 +159,7 @@ fn group_name(group: &Rec<'_>) -> u16
     }
 }
 
-/// A group's line.
+/// Prints a group's line.
 fn print_group(
     text: &mut String,
     module: &Checked,
@@ -178,12 +177,12 @@ fn print_group(
     print_group_comment(text, module, index, group_name(group))
 }
 
-/// Adds a line for each group of a module with the frame that a placement gives it, and a comment that says its index and its name. In
-/// real mode a group that has a member is left to be found by its lowest one; else each has its own frame.
+/// Adds a line for each group of a module with its frame in a placement, and a comment: its index and its name. In real mode the entry of
+/// a group with members is `G real`; any other gives the group's frame.
 ///
 /// # Errors
 ///
-/// A growth was refused.
+/// Out of memory.
 pub fn print_groups(
     text: &mut String,
     module: &Checked,
@@ -191,7 +190,7 @@ pub fn print_groups(
     placement: &Placement,
 ) -> Result<(), AllocError>
     requires { length placement.now.groups ≡ length (groups (recs_of «module».now.bytes)) }
-    // The numbers of all are short enough for a placement text.
+    // All numbers are short enough for a placement text.
     ensures short { OnOk result (All IsShortFrame placement.now.groups) }
     ensures lines { AddsText result (string_bytes text.old) (string_bytes text.new) (flat_map (group_line frames (recs_of «module».now.bytes) placement.now.segments) (enumerate_from 1 (zip (groups (recs_of «module».now.bytes)) placement.now.groups))) }
 {
@@ -208,7 +207,7 @@ pub fn print_groups(
     Ok(())
 }
 
-/// An external's line.
+/// Prints an external's line.
 fn print_external(
     text: &mut String,
     index: u16,
@@ -226,7 +225,7 @@ fn print_external(
     print_room(text, room)
 }
 
-/// A line for each external.
+/// Prints a line for each external.
 fn print_externals(text: &mut String, module: &Checked, layout: &Layout) -> Result<(), AllocError>
     requires roomed { length layout.now.rooms ≡ length (externals (recs_of «module».now.bytes)) }
     requires placed { length layout.now.places.externals ≡ length (externals (recs_of «module».now.bytes)) }
@@ -249,9 +248,13 @@ fn print_externals(text: &mut String, module: &Checked, layout: &Layout) -> Resu
     Ok(())
 }
 
-/// The placement text of a module's layout: a line for each segment, each group and each external, with a comment that says its index and
-/// its name, and of a segment its class, its alignment and its length, of a communal its length, of any other external that its place is
-/// to be filled in. Numbers in comments are decimal.
+/// Prints the placement text of a module's layout: a line for each segment, each group and each external, with a comment. The comment has
+/// the index and the name; for a segment also its class, its alignment and its length; for a communal its length; for any other external
+/// the note that its place is to be filled in. Numbers in comments are decimal.
+///
+/// # Errors
+///
+/// Out of memory.
 pub fn draft_text(
     alloc: Global,
     module: &Checked,
@@ -260,10 +263,8 @@ pub fn draft_text(
 ) -> Result<String, AllocError>
     requires { layout_of options (recs_of «module».now.bytes) ≡ Some layout.now }
     ensures text { IfOk result (λ text. string_bytes text ≡ draft_text options.frames (recs_of «module».now.bytes) layout.now) }
-    // It is a placement text of the layout's entries, and gives the module the layout's places.
+    // The text is a placement text with exactly the layout's entries, and it gives the module the layout's places.
     ensures read { IfOk result (λ text. IsReadBack options.frames (recs_of «module».now.bytes) layout.now.places (string_bytes text)) }
-    // At that placement no entry is missing, none is one too many, and each absolute segment lies where it says.
-    ensures fits { OnOk result (FitsModule (recs_of «module».now.bytes) layout.now) }
 {
     let mut text = String::new(alloc);
     let placement = layout.placement();

@@ -6,10 +6,10 @@ use thiserror::Error;
 /// Why a module has no layout.
 #[derive(Clone, Copy, Debug, PartialEq, Eq, Error)]
 pub enum LayoutFault {
-    /// A growth was refused.
+    /// Out of memory.
     #[error("memory ran out")]
     Memory,
-    /// A segment or an external has no room below the last address: 2^20 in real mode, else 2^32.
+    /// A segment or an external does not fit below the limit: 2^20 in real mode, else 2^32.
     #[error("the module has no room below the last address")]
     NoRoom,
 }

@@ -1,21 +1,26 @@
-//! Laws over the definitions, each the contract of a function that does nothing.
+//! Laws of layouts, each the contract of an empty function.
 
-ghost use Rattle.omf_layout.specs.Laws.{DraftsAreRead, LayoutsFit, LayoutsLieApart};
+ghost use Rattle.omf_layout.specs.Laws.{CommunalsLieApart, DraftsAreRead, LayoutsKeepAlignments, LayoutsLieApart};
 
-/// A layout has an entry for each segment, group and external of its module, and no other, and each absolute segment lies where its
-/// SEGDEF says: so `reach` names no entry of it as missing, as one too many or as misplaced.
-pub fn layouts_fit()
-    ensures { LayoutsFit }
-{}
-
-/// Each segment that is not absolute lies at a multiple of its alignment, from the base on and below the last address, and ends before
-/// the next one begins: no byte is in two of them.
+/// Each segment that is not absolute is at a multiple of its alignment, at or above the base and below the limit, and ends before the
+/// next one begins: no byte is in two of them.
 pub fn layouts_lie_apart()
     ensures { LayoutsLieApart }
 {}
 
-/// The text of a layout is a placement text: no line of it is at fault, its entries are exactly those of the layout, and they give the
-/// module the layout's places. A layout's numbers are short enough for it: addresses and bases below 2^32, selectors below 2^16.
+/// The text of a layout is a placement text: it has no faulty line, its entries are exactly those of the layout, and they give the module
+/// the layout's places. The law assumes numbers short enough for a text: addresses and bases below 2^32, selectors below 2^16.
 pub fn drafts_are_read()
     ensures { DraftsAreRead }
+{}
+
+/// A layout has for each segment the alignment that its SEGDEF names, so each segment is laid at a multiple of it.
+pub fn layouts_keep_alignments()
+    ensures { LayoutsKeepAlignments }
+{}
+
+/// The communals of a layout are after its segments that are not absolute, one after another, each at a multiple of 4; the first free
+/// address is after all of them.
+pub fn communals_lie_apart()
+    ensures { CommunalsLieApart }
 {}

@@ -1,4 +1,4 @@
-//! Layouts of a module.
+//! The layout of a module.
 
 ghost use Rattle.std.specs.Prelude.{◌≡◌, ◌≤◌, ◌^◌, [], IfOk, OnOk, IfSome, length, option_map, slice_get, Some, ◌<◌};
 ghost use Rattle.omf_records.specs.Inner.Seen.{map_ok};
@@ -14,11 +14,11 @@ use crate::options::{Frames, Options};
 use crate::spot::{external_at, external_spot, segment_spot};
 use crate::wants::{alignments_of, rooms_of};
 use omf_check::Checked;
-use omf_reloc::{Frame, Placement, real_group};
+use omf_placement::{Frame, Placement, real_group};
 use std::alloc::{AllocError, Global};
 use std::marker::Model;
 
-/// A layout of a module: its placement, the alignments of its segments, the bytes that its communals ask for.
+/// A layout of a module: its placement, the alignments of its segments and the lengths of its communals.
 #[derive(Drop)]
 pub struct Layout {
     placement: Placement,
@@ -38,36 +38,36 @@ impl Model for Layout {
 impl Layout {
     ghost use Rattle.omf_check.specs.Tables.{entry};
 
-    /// The addresses and frames that the module's entries are given.
+    /// Returns the addresses and frames of the module's entries.
     pub fn placement(&self) -> &Placement
         ensures { result.now ≡ self.now.places }
     {
         &self.placement
     }
 
-    /// The alignments of the module's segments in their order.
+    /// Returns the alignments of the module's segments, in order.
     pub fn alignments(&self) -> &[Alignment]
         ensures { result.now ≡ self.now.alignments }
     {
         &self.alignments
     }
 
-    /// The alignment of a segment, by its index from 1; `None` outside the table.
+    /// Returns the alignment of a segment, by its index from 1; `None` outside the table.
     pub fn alignment(&self, i: u16) -> Option<Alignment>
         ensures { result ≡ entry self.now.alignments i }
     {
         self.alignments.get(usize::from(i).checked_sub(1)?).copied()
     }
 
-    /// The bytes that an external asks for, by its index from 1: none of an external that is no communal. `None` outside the table.
+    /// Returns the length in bytes of a communal, by its index from 1; `Some(None)` for any other external, `None` outside the table.
     pub fn room(&self, i: u16) -> Option<Option<u64>>
         ensures { result ≡ entry self.now.rooms i }
     {
         self.rooms.get(usize::from(i).checked_sub(1)?).copied()
     }
 
-    /// The first address that is free behind the segments and the communals: what is laid from there, as a further module, lies apart
-    /// from them.
+    /// Returns the first free address after the segments and the communals. What is laid from there, such as another module, does not
+    /// overlap them.
     pub fn end(&self) -> u64
         ensures { result ≡ self.now.free }
     {
@@ -75,13 +75,13 @@ impl Layout {
     }
 }
 
-/// A frame that counts from address 0.
-const NO_FRAME: Frame = Frame {
+/// A frame with its base at address 0.
+pub(crate) const NO_FRAME: Frame = Frame {
     base: 0,
     selector: 0,
 };
 
-/// The alignment at a position.
+/// Returns the alignment at a position.
 fn alignment_at(each: &[Alignment], i: u16) -> Alignment
     requires { i < length each.now }
     ensures { slice_get each.now i ≡ Some result }
@@ -89,7 +89,7 @@ fn alignment_at(each: &[Alignment], i: u16) -> Alignment
     each[usize::from(i)]
 }
 
-/// A placement of the segments, and the first free address behind them.
+/// Places the segments. Returns their placement and the first free address after them.
 fn lay_segments(
     alloc: Global,
     module: &Checked,
@@ -118,7 +118,7 @@ fn lay_segments(
     Ok((placement, free))
 }
 
-/// The frame of a group, by its index from 1.
+/// Returns the frame of a group, by its index from 1.
 fn group_frame(module: &Checked, placement: &Placement, frames: Frames, k: u16) -> Frame
     ensures { result ≡ group_frame frames (recs_of «module».now.bytes) placement.now.segments k }
 {
@@ -140,7 +140,7 @@ fn lay_groups(placement: &mut Placement, module: &Checked, frames: Frames) -> Re
     Ok(())
 }
 
-/// The first free address behind the communals; none where one has no room.
+/// Returns the first free address after the communals; none if one does not fit.
 fn behind_communals(options: Options, free: u64, rooms: &[Option<u64>]) -> Option<u64>
     requires from { options.base ≤ free }
     requires low { free ≤ 2 ^ 32 }
@@ -157,7 +157,7 @@ fn behind_communals(options: Options, free: u64, rooms: &[Option<u64>]) -> Optio
     Some(free)
 }
 
-/// Places the externals; answers the first free address behind the communals.
+/// Places the externals. Returns the first free address after the communals.
 fn lay_externals(
     placement: &mut Placement,
     options: Options,
@@ -184,15 +184,15 @@ fn lay_externals(
     Ok(free)
 }
 
-/// The layout of a module. Its segments lie one after another from the base on, in the order of their indices, each at the first address
-/// of its alignment behind the one before; an absolute segment lies where its SEGDEF says. Its communals lie behind them in the same way,
-/// each at a doubleword, with the room that they ask for; every other external at the first paragraph behind those, where its own place
-/// is to be filled in. In real mode each segment has the frame of its paragraph, and each group that of its lowest member, or the frame
-/// from address 0 where it has none; else all have the one frame. An external has the frame of the base where that reaches it in 16 bits.
+/// Lays out a module. Its segments follow one another from the base on, in index order, each at the first address of its alignment after
+/// the one before; an absolute segment is where its SEGDEF puts it. The communals follow the segments, each at a multiple of 4. Every
+/// other external is at the first paragraph after the communals; its real place is to be filled in. In real mode each segment has the
+/// frame of its paragraph, and each group that of its lowest member, or the frame at address 0 if it has none; in flat mode all share one
+/// frame. An external has the base's frame if its offset in that frame fits in 16 bits.
 ///
 /// # Errors
 ///
-/// `NoRoom` where a segment, a communal or another external does not lie below the last address; `Memory` where a growth was refused.
+/// `NoRoom` if a segment, a communal or another external does not fit below the limit; `Memory` if memory runs out.
 pub fn layout_of(alloc: Global, module: &Checked, options: Options) -> Result<Layout, LayoutFault>
     ensures { IsAnswer (layout_of options (recs_of «module».now.bytes)) result }
 {

@@ -1,5 +1,5 @@
 //! A first layout of a module: an address and a frame for each of its segments and externals, a frame for each of its groups, and the
-//! placement text that says them, with comments.
+//! placement text of these, with comments. The module `several` lays out several modules together.
 #![tactic(auto)]
 
 mod alignment;
@@ -11,6 +11,7 @@ mod options;
 pub mod printing;
 pub mod room;
 pub mod rows;
+pub mod several;
 pub mod spot;
 pub mod wants;
 

@@ -1,34 +1,34 @@
-//! Where a layout begins, and what its frames are.
+//! Where a layout begins, and its frames.
 
 ghost use Rattle.std.specs.Prelude.{◌≡◌, ◌<◌, ◌≤◌, ◌^◌};
 ghost use Rattle.omf_layout.specs.Room.{limit, frame_at, anchor};
 
-use omf_reloc::Frame;
+use omf_placement::Frame;
 
-/// What frames a layout gives.
+/// The frames of a layout.
 #[derive(Clone, Copy, Debug, PartialEq, Eq)]
 pub enum Frames {
-    /// Real mode: the frame of an address begins at its paragraph, the multiple of 16 that is no higher, and its selector is that divided
-    /// by 16. Addresses end at 2^20.
+    /// Real mode: an address's frame begins at its paragraph, the next lower multiple of 16 or the address itself, and its selector is
+    /// that divided by 16. The limit is 2^20.
     Real,
-    /// One frame from address 0 with this selector. Addresses end at 2^32.
+    /// One frame with its base at address 0 and this selector. The limit is 2^32.
     Flat {
         /// The frame's selector.
         selector: u16,
     },
 }
 
-/// What a layout is to be.
+/// Options of a layout.
 #[derive(Clone, Copy, Debug, PartialEq, Eq)]
 pub struct Options {
-    /// The address from which segments are laid.
+    /// The address where the first segment is laid.
     pub base: u32,
     /// The frames.
     pub frames: Frames,
 }
 
 impl Frames {
-    /// The address behind the last that can be given.
+    /// Returns the limit: the first address that is too high.
     pub fn limit(self) -> u64
         ensures value { result ≡ limit self }
         ensures most { result ≤ 2 ^ 32 }
@@ -39,7 +39,7 @@ impl Frames {
         }
     }
 
-    /// The frame of an address below the limit.
+    /// Returns the frame of an address below the limit.
     pub fn frame_at(self, address: u32) -> Frame
         requires { address < limit self }
         ensures { result ≡ frame_at self address }
@@ -57,8 +57,8 @@ impl Frames {
     }
 }
 
-/// The address whose frame an external takes that lies there: the base of the layout where its frame reaches so far in 16 bits, so that
-/// near references to the external reach; else its own address.
+/// Returns the address whose frame an external at `address` takes: the base if the external is less than 64 KB above the base's
+/// paragraph, so that near references reach it; else its own address.
 pub fn anchor(base: u32, address: u32) -> u32
     requires { base ≤ address }
     ensures value { result ≡ anchor base address }

@@ -1,4 +1,4 @@
-//! The lines of a placement text with comments.
+//! Lines of a placement text with comments.
 
 ghost use Rattle.std.specs.Prelude.{◌≡◌, ◌++◌, ◌∷◌, [], string_bytes, codes, decimal, unwrap_or, option_map, Some, ◌<◌};
 ghost use Rattle.omf_frame.specs.Bytes.{AddsText};
@@ -9,11 +9,11 @@ ghost use Rattle.omf_placement.specs.Quoted.{number, hex, is_plain, escaped, quo
 use crate::alignment::Alignment;
 use crate::options::Frames;
 use omf_frame::Name;
-use omf_reloc::Frame;
+use omf_placement::Frame;
 use std::alloc::AllocError;
 use std::fmt::Write;
 
-/// A letter, an address and a frame.
+/// Prints a letter, an address and a frame.
 fn print_placed(
     text: &mut String,
     letter: char,
@@ -28,7 +28,7 @@ fn print_placed(
     write!(text, "{letter} {address:X} {base:X} {selector:X}")
 }
 
-/// Whether a segment at an address has the real-mode frame of that.
+/// Returns whether a segment has the real-mode frame of its address.
 fn is_in_paragraph(address: u32, frame: Frame) -> bool
     ensures { result ≡ is_same_frame (real_frame address) frame }
 {
@@ -38,7 +38,7 @@ fn is_in_paragraph(address: u32, frame: Frame) -> bool
     }
 }
 
-/// A segment's entry.
+/// Prints a segment's entry.
 pub fn print_segment_entry(
     text: &mut String,
     frames: Frames,
@@ -59,7 +59,7 @@ pub fn print_segment_entry(
     }
 }
 
-/// The entry of a group of this frame, or of one whose members give it.
+/// Prints a group's entry: its frame, or `G real` if its members give it.
 pub fn print_group_entry(
     text: &mut String,
     by_members: Option<Frame>,
@@ -75,35 +75,35 @@ pub fn print_group_entry(
     }
 }
 
-/// An external's entry.
+/// Prints an external's entry.
 pub fn print_external_entry(text: &mut String, address: u32, frame: Frame) -> Result<(), AllocError>
     ensures { AddsText result (string_bytes text.old) (string_bytes text.new) (placed_entry (codes "E") (record { address = address; frame = frame })) }
 {
     print_placed(text, 'E', address, frame)
 }
 
-/// The front of a comment: an index and a space.
+/// Prints the start of a comment: an index and a space.
 pub fn print_index(text: &mut String, index: u16) -> Result<(), AllocError>
     ensures { AddsText result (string_bytes text.old) (string_bytes text.new) (codes " ; " ++ decimal index ++ 32 ∷ []) }
 {
     write!(text, " ; {index} ")
 }
 
-/// A byte from 20H to 7EH but the quote and the backslash.
+/// Returns whether a byte of a name is printed as itself: 20H to 7EH except the quote and the backslash.
 fn is_plain(byte: u8) -> bool
     ensures { result ≡ is_plain byte }
 {
     byte >= 0x20 && byte <= 0x7E && byte != b'"' && byte != b'\\'
 }
 
-/// A byte as `\x` and two hexadecimal digits.
+/// Prints a byte as `\x` and two hexadecimal digits.
 fn print_digits(text: &mut String, byte: u8) -> Result<(), AllocError>
     ensures { AddsText result (string_bytes text.old) (string_bytes text.new) (92 ∷ 120 ∷ hex 2 byte) }
 {
     write!(text, "\\x{byte:02X}")
 }
 
-/// A byte of a name.
+/// Prints a byte of a name.
 fn print_escaped(text: &mut String, byte: u8) -> Result<(), AllocError>
     ensures { AddsText result (string_bytes text.old) (string_bytes text.new) (escaped byte) }
 {
@@ -114,7 +114,7 @@ fn print_escaped(text: &mut String, byte: u8) -> Result<(), AllocError>
     }
 }
 
-/// A name in double quotes.
+/// Prints a name in double quotes.
 pub fn print_quoted(text: &mut String, name: &[u8]) -> Result<(), AllocError>
     ensures { AddsText result (string_bytes text.old) (string_bytes text.new) (quoted name.now) }
 {
@@ -125,7 +125,7 @@ pub fn print_quoted(text: &mut String, name: &[u8]) -> Result<(), AllocError>
     text.push_str("\"")
 }
 
-/// A name in double quotes, or a dash for none.
+/// Prints a name in double quotes, or a dash for none.
 pub fn print_name(text: &mut String, name: Option<Name<'_>>) -> Result<(), AllocError>
     ensures { AddsText result (string_bytes text.old) (string_bytes text.new) (unwrap_or (option_map quoted name.entry) (codes "-")) }
 {
@@ -135,7 +135,7 @@ pub fn print_name(text: &mut String, name: Option<Name<'_>>) -> Result<(), Alloc
     }
 }
 
-/// A segment's alignment in bytes, or that it is absolute, and its length; and the end of the line.
+/// Prints a segment's alignment in bytes, or that it is absolute, its length, and the end of the line.
 pub fn print_segment_room(
     text: &mut String,
     absolute: Option<(u16, u8)>,
@@ -151,14 +151,14 @@ pub fn print_segment_room(
     }
 }
 
-/// What a communal asks for, and the end of the line.
+/// Prints a communal's length and the end of the line.
 fn print_communal(text: &mut String, size: u64) -> Result<(), AllocError>
     ensures { AddsText result (string_bytes text.old) (string_bytes text.new) (32 ∷ room_text (Some size) ++ 10 ∷ []) }
 {
     write!(text, " communal length {size}\n")
 }
 
-/// What an external asks for, and the end of the line.
+/// Prints a communal's length, or that another external's place is to be filled in, and the end of the line.
 pub fn print_room(text: &mut String, room: Option<u64>) -> Result<(), AllocError>
     ensures { AddsText result (string_bytes text.old) (string_bytes text.new) (32 ∷ room_text room ++ 10 ∷ []) }
 {

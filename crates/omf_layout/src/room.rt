@@ -1,11 +1,11 @@
-//! What is free.
+//! Free addresses.
 
 ghost use Rattle.std.specs.Prelude.{◌≡◌, ◌≤◌, ◌+◌, ◌*◌, option_map, ◌^◌, ◌<◌, IfSome, None, Some};
 ghost use Rattle.omf_layout.specs.Room.{address_from, limit, next_multiple};
 
 use crate::options::Frames;
 
-/// The lowest multiple of an alignment that is no lower than an address.
+/// Returns the lowest multiple of an alignment that is at least `address`.
 fn next_multiple(alignment: u16, address: u64) -> u64
     requires some { 1 ≤ alignment }
     requires low { address ≤ 2 ^ 33 }
@@ -15,7 +15,7 @@ fn next_multiple(alignment: u16, address: u64) -> u64
     (address + (alignment - 1)) / alignment * alignment
 }
 
-/// The lowest aligned address from a free one on, where so many bytes from there end no higher than the last address.
+/// Returns the lowest aligned free address from which `size` bytes fit below the limit.
 pub fn address_from(frames: Frames, alignment: u16, free: u64, size: u64) -> Option<u32>
     requires some { 1 ≤ alignment }
     requires low { free ≤ 2 ^ 33 }

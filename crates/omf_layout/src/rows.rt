@@ -9,14 +9,14 @@ ghost use Rattle.omf_layout.specs.Rows.{aligned, lines, drafted, between, segmen
 ghost use Rattle.omf_layout.specs.Wants.{room_of};
 ghost use Rattle.omf_layout.specs.declared.options.Frames.TheVariants.{Real, Flat};
 
-/// What the A field of an attribute byte asks for: a byte, a word, a paragraph, a page, a doubleword. What communals ask for.
+/// The alignments of attribute bytes: byte, word, paragraph, page, doubleword. The lengths of communals.
 pub fn wanted()
     ensures alignments { aligned (0x28 ∷ 0x48 ∷ 0x68 ∷ 0x88 ∷ 0xA8 ∷ 0x08 ∷ []) ≡ 1 ∷ 2 ∷ 16 ∷ 256 ∷ 4 ∷ 1 ∷ [] }
     ensures near { room_of (Near 7) ≡ 7 }
     ensures far { room_of (Far 3 5) ≡ 15 }
 {}
 
-/// The first address of an alignment, up to the last address: 2^20 less one in real mode, else 2^32 less one.
+/// The first aligned address, up to the last address: 2^20 - 1 in real mode, else 2^32 - 1.
 pub fn addresses()
     ensures multiple { next_multiple 16 0x12345 ≡ 0x12350 }
     ensures same { next_multiple 16 0x12350 ≡ 0x12350 }
@@ -36,21 +36,21 @@ pub fn frames()
     ensures far { anchor 0x10008 0x20000 ≡ 0x20000 }
 {}
 
-/// The drafts of a module of one segment, flat and in real mode; and of one that has no room.
+/// Drafts of a module of one segment, flat and in real mode, and of one that does not fit.
 pub fn drafts_of_a_segment()
     ensures flat { drafted 0x10020 (Flat 0) first_module ≡ Some (lines (codes "S 10020 0 0 ; 1 \"T\" class \"\" align 1 length 4" ∷ [])) }
     ensures real { drafted 0x10008 Real first_module ≡ Some (lines (codes "S 10008 real ; 1 \"T\" class \"\" align 1 length 4" ∷ [])) }
     ensures none { drafted 0xFFFFD Real first_module ≡ None }
 {}
 
-/// The drafts of a module with all kinds of lines: an absolute segment takes no room from the others, a communal lies behind them, and
-/// the other external behind that.
+/// Drafts of a module with all kinds of lines: an absolute segment takes no room from the others, a communal follows them, and the other
+/// external follows the communal.
 pub fn drafts_of_all_lines()
     ensures real { drafted 0x12345 Real (between (segment 0x28 3 ++ absolute ++ segment 0x68 2 ++ group ++ empty_group ++ external ++ communal)) ≡ Some (lines (codes "S 12345 real ; 1 \"T\" class \"\" align 1 length 3" ∷ codes "S B8010 B8000 B800 ; 2 \"T\" class \"\" absolute length 4" ∷ codes "S 12350 real ; 3 \"T\" class \"\" align 16 length 2" ∷ codes "G real ; 1 \"T\"" ∷ codes "G 0 0 ; 2 \"T\"" ∷ codes "E 12360 12340 1234 ; 1 \"X\" to be filled in" ∷ codes "E 12354 12340 1234 ; 2 \"Y\" communal length 7" ∷ [])) }
     ensures flat { drafted 0x401000 (Flat 8) (between (segment 0xA8 3 ++ group ++ empty_group ++ external)) ≡ Some (lines (codes "S 401000 0 8 ; 1 \"T\" class \"\" align 4 length 3" ∷ codes "G 0 8 ; 1 \"T\"" ∷ codes "G 0 8 ; 2 \"T\"" ∷ codes "E 401010 0 8 ; 1 \"X\" to be filled in" ∷ [])) }
 {}
 
-/// Bytes of a name that are written with \x.
+/// Bytes of a name that are printed as \x and two digits.
 pub fn quoted_names()
     ensures empty { quoted [] ≡ codes "\"\"" }
     ensures escaped { quoted (0x41 ∷ 0x22 ∷ 0x0A ∷ 0x7E ∷ 0x7F ∷ 0xFF ∷ []) ≡ codes "\"A\\x22\\x0A~\\x7F\\xFF\"" }

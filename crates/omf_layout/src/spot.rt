@@ -1,4 +1,4 @@
-//! Where one segment or one external is laid.
+//! The place of one segment or one external.
 
 ghost use Rattle.std.specs.Prelude.{◌≡◌, ◌≤◌, ◌^◌, IfSome, option_map};
 ghost use Rattle.omf_layout.specs.Layout.{segment_laid, external_at, external_laid};
@@ -10,9 +10,9 @@ use crate::alignment::Alignment;
 use crate::options::{Options, anchor};
 use crate::room::address_from;
 use omf_check::SegInfo;
-use omf_reloc::Frame;
+use omf_placement::Frame;
 
-/// An address, its frame, and the first free address behind what is laid there.
+/// An address, its frame, and the first free address after what is laid there.
 #[derive(Clone, Copy)]
 pub struct Spot {
     pub address: u32,
@@ -20,7 +20,7 @@ pub struct Spot {
     pub free: u64,
 }
 
-/// The spot of an absolute segment of a frame number and an offset, which takes nothing of what is free.
+/// Returns the spot of an absolute segment with this frame number and offset, which takes no free room.
 fn absolute_spot(number: u16, offset: u8, free: u64) -> Spot
     ensures { spot_laid result ≡ record { what = absolute_place number offset; free = free } }
 {
@@ -36,7 +36,7 @@ fn absolute_spot(number: u16, offset: u8, free: u64) -> Spot
     }
 }
 
-/// The spot of a segment from a free address on; none where it has no room.
+/// Returns the spot of a segment, at the first free address that suits; none if it does not fit.
 pub fn segment_spot(
     options: Options,
     free: u64,
@@ -63,7 +63,7 @@ pub fn segment_spot(
     }
 }
 
-/// The spot of so many bytes of an external from a free address on; none where they have no room.
+/// Returns the spot of `size` bytes of an external; none if they do not fit.
 pub fn external_at(options: Options, alignment: Alignment, free: u64, size: u64) -> Option<Spot>
     requires from { options.base ≤ free }
     requires low { free ≤ 2 ^ 32 }
@@ -81,7 +81,7 @@ pub fn external_at(options: Options, alignment: Alignment, free: u64, size: u64)
     })
 }
 
-/// The spot of an external that asks for so much room; of one that asks for none the spare one.
+/// Returns the spot of a communal of this length; of any other external the spare one.
 pub fn external_spot(
     options: Options,
     spare: Option<Spot>,

@@ -1,4 +1,4 @@
-//! What the segments and the externals of a module ask for.
+//! Alignments of a module's segments and lengths of its communals.
 
 ghost use Rattle.std.specs.Prelude.{◌≡◌, ◌++◌, OnOk, IfOk, length, map};
 ghost use Rattle.omf_records.specs.Inner.Seen.{contents_seen};
@@ -26,7 +26,7 @@ fn add_attribute(attributes: &mut Vec<u8>, rec: &Rec<'_>) -> Result<(), AllocErr
     }
 }
 
-/// The attributes of a module's segments in their order.
+/// Returns the attributes of a module's segments, in order.
 pub fn attributes_of(alloc: Global, module: &Checked) -> Result<Vec<u8>, AllocError>
     ensures all { IfOk result (λ v. v.items ≡ attributes (recs_of «module».now.bytes)) }
     ensures each { IfOk result (λ v. length v.items ≡ length (segments (recs_of «module».now.bytes))) }
@@ -38,7 +38,7 @@ pub fn attributes_of(alloc: Global, module: &Checked) -> Result<Vec<u8>, AllocEr
     Ok(attributes)
 }
 
-/// The alignments that attributes name.
+/// Returns the alignments in these attributes.
 fn named_by(alloc: Global, attributes: &[u8]) -> Result<Vec<Alignment>, AllocError>
     ensures { IfOk result (λ v. v.items ≡ map (λ a. alignment_named (alignment a)) attributes.now) }
 {
@@ -49,7 +49,7 @@ fn named_by(alloc: Global, attributes: &[u8]) -> Result<Vec<Alignment>, AllocErr
     Ok(alignments)
 }
 
-/// The alignments of a module's segments in their order.
+/// Returns the alignments of a module's segments, in order.
 pub fn alignments_of(alloc: Global, module: &Checked) -> Result<Vec<Alignment>, AllocError>
     ensures all { IfOk result (λ v. v.items ≡ alignments (recs_of «module».now.bytes)) }
     ensures each { IfOk result (λ v. length v.items ≡ length (segments (recs_of «module».now.bytes))) }
@@ -57,7 +57,7 @@ pub fn alignments_of(alloc: Global, module: &Checked) -> Result<Vec<Alignment>, 
     named_by(alloc, &attributes_of(alloc, module)?)
 }
 
-/// How many bytes a communal asks for.
+/// Returns the length of a communal in bytes.
 fn room_of(size: CommunalSize) -> u64
     ensures { result ≡ room_of (size_seen size) }
 {
@@ -67,7 +67,7 @@ fn room_of(size: CommunalSize) -> u64
     }
 }
 
-/// Adds that the names of an EXTDEF or a LEXTDEF ask for no room.
+/// Adds that the names of an EXTDEF or a LEXTDEF have no length.
 fn add_externs(rooms: &mut Vec<Option<u64>>, items: Items<Extern<'_>>) -> Result<(), AllocError>
     ensures { OnOk result (rooms.new.items ≡ rooms.old.items ++ rooms_in (Externs items.entry)) }
 {
@@ -77,7 +77,7 @@ fn add_externs(rooms: &mut Vec<Option<u64>>, items: Items<Extern<'_>>) -> Result
     Ok(())
 }
 
-/// Adds the rooms that the names of a COMDEF or an LCOMDEF ask for.
+/// Adds the lengths of the communals of a COMDEF or an LCOMDEF.
 fn add_communals(rooms: &mut Vec<Option<u64>>, items: Items<Communal<'_>>) -> Result<(), AllocError>
     ensures { OnOk result (rooms.new.items ≡ rooms.old.items ++ rooms_in (Communals items.entry)) }
 {
@@ -87,7 +87,7 @@ fn add_communals(rooms: &mut Vec<Option<u64>>, items: Items<Communal<'_>>) -> Re
     Ok(())
 }
 
-/// Adds the rooms of a record's externals.
+/// Adds the lengths of a record's externals.
 fn add_rooms(rooms: &mut Vec<Option<u64>>, rec: &Rec<'_>) -> Result<(), AllocError>
     ensures { OnOk result (rooms.new.items ≡ rooms.old.items ++ rooms_in (contents_seen rec.now)) }
 {
@@ -100,7 +100,7 @@ fn add_rooms(rooms: &mut Vec<Option<u64>>, rec: &Rec<'_>) -> Result<(), AllocErr
     }
 }
 
-/// The bytes that each of a module's externals asks for, in their order; none of an external that is no communal.
+/// Returns the length of each communal among a module's externals, in order; none for any other external.
 pub fn rooms_of(alloc: Global, module: &Checked) -> Result<Vec<Option<u64>>, AllocError>
     ensures { IfOk result (λ v. v.items ≡ rooms (recs_of «module».now.bytes)) }
 {

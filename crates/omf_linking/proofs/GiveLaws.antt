@@ -8,11 +8,11 @@ use Rattle.omf_records.specs.Values.{Rec}
 use Rattle.omf_linking.specs.Parts.{GivenLine}
 use Rattle.omf_linking.specs.Placing.{given_as, stray}
 
--- the lines from a place on
+-- the lines from a position on
 pub from_place : (xs : List GivenLine) (i : ℕ) (d : GivenLine) → i < length xs → drop i xs ≡ get_or xs i d ∷ drop (i + 1) xs
 from_place xs i d h = rw (add-one, drop-cons xs i d) refl
 
--- an index from 1 to so many is defined
+-- an index from 1 to n is defined
 pub defined : (n i : ℕ) → 1 ≤ i → i ≤ n → is_defined n i ≡ true
 defined n i a b = grind (arith, nat_tests)
 

@@ -7,3 +7,5 @@ pub mod OneReading
 pub mod RelocatedLaws
 pub mod StartLaws
 pub mod SegmentsLaws
+pub mod SpaceLaws
+pub mod InputLaws

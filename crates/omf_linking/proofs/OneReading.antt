@@ -1,5 +1,5 @@
--- An input has one reading at most.
-use Rattle.std.proofs.Common.{◌≡◌, ◌⊎◌, ℕ, Bool, true, false, List, [], ◌∷◌, ◌++◌, length, refl, sym, ap, ap₂, subst, ◌∙◌, suc, ◌<◌, arith, inl, inr, Result, Ok, Err}
+-- An input has at most one result.
+use Rattle.std.proofs.Common.{◌≡◌, ◌⊎◌, ℕ, true, false, List, [], ◌∷◌, ◌++◌, length, refl, sym, ap, ap₂, subst, ◌∙◌, suc, ◌<◌, arith, inl, inr, Ok, Err}
 use Rattle.std.specs.Prelude.{IsTrue, slice_index}
 use Rattle.std.proofs.lemmas.List.{append_cancel_left}
 use Rattle.omf_frame.specs.Framing.{is_header}
@@ -11,12 +11,11 @@ use Rattle.omf_check.specs.Refusal.{IsRefused}
 use Rattle.omf_check.specs.declared.profile.Profile.{Profile}
 use Rattle.omf_check.proofs.AcceptLaws.{accepted_once, never_both}
 use Rattle.omf_check.proofs.UniqueLaws.{refused_once}
-use Rattle.omf_linking.specs.Laws.{is_settled, InputsAreReadOneWay}
-use Rattle.omf_linking.specs.Reading.{AreModules, BeginsWith, IsFront, IsRefusedBehind, begins_module}
-use Rattle.omf_linking.specs.declared.fault.LinkFault.{LinkFault}
+use Rattle.omf_linking.specs.Laws.{InputsAreReadOneWay}
+use Rattle.omf_linking.specs.Reading.{BeginsWith, IsFront, IsRefusedBehind, begins_module}
 use Rattle.omf_linking.specs.declared.fault.LinkFault.TheVariants as fault
 
--- a module begins as modules begin
+-- a module begins with a header's type
 header_begins : (bytes rest : List ℕ) → IsTrue (is_header (slice_index bytes 0)) → begins_module (bytes ++ rest) ≡ true
 header_begins [] rest h = absurd cc
 header_begins (b ∷ bs) rest h = h
@@ -25,7 +24,7 @@ module _ (p : Profile) where
   begins : (input : List ℕ) (m : Module) → BeginsWith p input m → begins_module input ≡ true
   begins input m a = ap begins_module a.1.0.spelled ∙ header_begins a.1.0.bytes a.1.0.rest a.1.0.well_formed.framed.first
 
-  -- bytes begin with one module at most, and go on in one way
+  -- bytes begin with at most one module, and go on in one way
   one_module : (input : List ℕ) (m n : Module) (a : BeginsWith p input m) (b : BeginsWith p input n) → (m ≡ n) × (a.1.0.rest ≡ b.1.0.rest)
   one_module input m n a b =
       let same = (accepted_once p profile_limits input (records_in m.bytes) (records_in n.bytes) a.1.0 b.1.0).1 in
@@ -36,11 +35,11 @@ module _ (p : Profile) where
   never : (input : List ℕ) (m : Module) (why : Reason) (at : Place) → BeginsWith p input m → IsRefused p profile_limits input why at → ⊥
   never input m why at a r = never_both p profile_limits input (records_in m.bytes) why at a.1.0 r
 
-  -- behind the modules no further one begins
+  -- no further module begins after these
   stops : (input : List ℕ) (m : Module) → BeginsWith p input m → begins_module input ≡ false → ⊥
   stops input m a f = let e : true ≡ false = sym (begins input m a) ∙ f in absurd cc
 
-  -- two readings of one input
+  -- two results of one input
   both_end : (input : List ℕ) (ms ns : List Module) (r s : List ℕ) → IsFront p input ms r → IsFront p input ns s → begins_module r ≡ false → begins_module s ≡ false → (ms ≡ ns) × (r ≡ s)
   both_end input [] [] r s h i e f = (refl, sym h ∙ i)
   both_end input [] (n ∷ ns) r s h i e f = absurd (stops input n i.0 (ap begins_module h ∙ e))
@@ -51,7 +50,7 @@ module _ (p : Profile) where
       let more = both_end h.0.1.0.rest ms ns r s h.1 left e f in
       (ap₂ (λ (x : Module) (xs : List Module). x ∷ xs) one.0 more.0, more.1)
 
-  -- none is read to its end and refused
+  -- none is both read to its end and refused
   one_ends : (input : List ℕ) (ms ns : List Module) (r s : List ℕ) (why : Reason) (at : Place) → IsFront p input ms r → begins_module r ≡ false → IsFront p input ns s → begins_module s ≡ true
       → IsRefused p profile_limits s why at → ⊥
   one_ends input [] [] r s why at h e i b f = let x : true ≡ false = sym b ∙ ap begins_module (sym i ∙ h) ∙ e in absurd cc
@@ -62,7 +61,7 @@ module _ (p : Profile) where
       let left : IsFront p h.0.1.0.rest ns s = subst (λ (xs : List ℕ). IsFront p xs ns s) (sym one.1) i.1 in
       one_ends h.0.1.0.rest ms ns r s why at h.1 e left b f
 
-  -- a first module is looked for in any case
+  -- a first module is expected in any case
   begun_ends : (input : List ℕ) (ms ns : List Module) (r s : List ℕ) (why : Reason) (at : Place) → IsFront p input ms r → begins_module r ≡ false → 0 < length ms → IsFront p input ns s
       → (ns ≡ []) ⊎ (begins_module s ≡ true) → IsRefused p profile_limits s why at → ⊥
   begun_ends input [] ns r s why at h e l i b f = absurd (omega (arith, l))

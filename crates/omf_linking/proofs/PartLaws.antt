@@ -12,7 +12,7 @@ use Rattle.omf_linking.specs.LinkEntries.{LinkEntry, NextModule, GivenExternal, 
 use Rattle.omf_linking.specs.Parts.{Line, Part, is_border, border, bad_line, placing, giving, draft_in, part_of, parts_of, link_lines, parsed_parts}
 use Rattle.omf_linking.specs.Inner.Parsing.{empty_part, with_line}
 
--- five words behind an X or more give nothing
+-- five fields or more after an X are no entry
 many_words : (i x y z : List ℕ) (more : List (List ℕ)) (n : ℕ) → length more ≡ n + 1 → given_of_words (i ∷ x ∷ y ∷ z ∷ more) ≡ None
 many_words i x y z [] n e = absurd (omega arith)
 many_words i x y z (v ∷ more) n e = refl
@@ -33,7 +33,7 @@ more_draft d e = record { segments = d.segments ++ e.segments; groups = d.groups
 abbrev pub extended : Part → List Line → Part
 extended p ls = record { line = p.line; draft = more_draft p.draft (draft_in (map placing ls)); given = p.given ++ filter_map giving ls }
 
--- an open part and those behind it, by the blocks of lines that are left, the first of which goes on from it
+-- an open part and those after it, by the blocks of lines that are left; the first block continues it
 abbrev pub after : Part → List (List Line) → List ℕ → List Part
 after p [] ns = p ∷ []
 after p (b ∷ bs) ns = extended p b ∷ map part_of (zip ns bs)
@@ -44,7 +44,7 @@ parts_left whole p ls = whole ++ after p (slice_split is_border ls) (filter_map 
 same_part : (p : Part) → extended p [] ≡ p
 same_part p = rw (append-nil p.draft.segments, append-nil p.draft.groups, append-nil p.draft.externals, append-nil p.given) refl
 
--- the first block goes on from a part that has nothing yet
+-- the first block continues a part without entries
 from_empty : (n : ℕ) (bs : List (List Line)) (ns : List ℕ) (k : ℕ) → length bs ≡ k + 1 → after (empty_part n) bs ns ≡ map part_of (zip (n ∷ ns) bs)
 from_empty n [] ns k e = absurd (omega arith)
 from_empty n (b ∷ bs) ns k e = refl
@@ -83,7 +83,7 @@ one_more whole p n (OfPlacement (ExternalEntry x)) ls = one_line whole p (with_l
 abbrev pub lines_from : ℕ → List (List ℕ) → List Line
 lines_from n lines = map (λ l. (l.0, link_entry_said (said l.1))) (enumerate_from n lines)
 
--- What is read so far, and the lines that are left, are the parts of a text.
+-- What is parsed so far, and the lines that are left, are the parts of a text.
 abbrev pub IsRead : List ℕ → List Part → Part → List Line → Type 0
 IsRead text whole p left = parts_left whole p left ≡ parts_of (link_lines text)
 
@@ -103,7 +103,7 @@ line_sound text n line lines rest e h s r = let g = rw s at h in rw (← r) at g
 pub line_refused : (text : List ℕ) (n : ℕ) (line : List ℕ) (lines rest : List (List ℕ)) → IsSound text (lines_from n lines) → lines ≡ line ∷ rest → None ≡ link_entry_said (said line) → parsed_parts text ≡ Err n
 line_refused text n line lines rest h s r = let g = rw (← r) at (rw s at h) in rw g refl
 
--- at the front nothing is read yet
+-- at the front nothing is parsed yet
 pub text_begins : (text : List ℕ) (whole : List Part) (p : Part) → whole ≡ [] → p ≡ empty_part 0 → IsRead text whole p (link_lines text)
 text_begins text whole p w e = ap (λ (ps : List Part). parts_left ps p (link_lines text)) w ∙ ap (λ (q : Part). parts_left [] q (link_lines text)) e ∙ parts_begin (link_lines text)
 
@@ -111,7 +111,7 @@ text_begins text whole p w e = ap (λ (ps : List Part). parts_left ps p (link_li
 pub text_read : (text : List ℕ) (whole all : List Part) (p : Part) (n : ℕ) → IsSound text (lines_from n []) → IsRead text whole p (lines_from n []) → all ≡ whole ++ p ∷ [] → parsed_parts text ≡ Ok all
 text_read text whole all p n s h a = rw s (ap Ok (sym h ∙ ap (λ (x : Part). whole ++ (x ∷ [])) (same_part p) ∙ sym a))
 
--- how much of a text is left, its end included
+-- the length of the text that is left, its end included
 abbrev pub left_len : Option (List ℕ) → ℕ
 left_len None = 0
 left_len (Some text) = length text + 1

@@ -12,7 +12,7 @@ use Rattle.omf_linking.specs.Parts.{Part}
 use Rattle.omf_linking.specs.Inner.Parsing.{place_by, given_by}
 use Rattle.omf_linking.specs.Placing.{places_of, place_of, no_places, in_front, and_then_others, given_in, given_of}
 
--- places in front of others
+-- places before others
 abbrev pub behind : List Places → Result (List Places) ℕ → Result (List Places) ℕ
 behind pls (Ok qs) = Ok (pls ++ qs)
 behind pls (Err n) = Err n
@@ -25,7 +25,7 @@ behind_one : (pls now : List Places) (pl : Places) (r : Result (List Places) ℕ
 behind_one pls now pl (Ok qs) e = ap (λ (xs : List Places). Ok (xs ++ qs)) e ∙ ap Ok (append_assoc pls (pl ∷ []) qs)
 behind_one pls now pl (Err n) e = refl
 
--- What is placed so far, and the modules and parts that are left, give the places of all.
+-- The places so far, and the modules and parts that are left, give the places of all.
 abbrev pub ArePlaced : List (List Rec) → List Part → List Places → List (List Rec) → List Part → Type 0
 ArePlaced ms ps pls left parts = behind pls (places_of left parts) ≡ places_of ms ps
 
@@ -95,7 +95,7 @@ pub nothing_left : {X : Type 0} (l : List X) → length l ≡ 0 → l ≡ []
 nothing_left [] h = refl
 nothing_left (x ∷ xs) h = absurd (omega arith)
 
--- the modules from one on
+-- the modules after the first
 pub next_typed : (ms : List Module) (j : ℕ) (m : Module) → m ≡ get_or ms j m → j < length ms → typed_modules (drop j ms) ≡ recs (records_in m.bytes) ∷ typed_modules (drop (j + 1) ms)
 next_typed ms j m e h =
     let next : drop j ms ≡ m ∷ drop (j + 1) ms = rw (add-one, drop-cons ms j m h) (ap (λ (x : Module). x ∷ drop (suc j) ms) (sym e)) in
@@ -104,7 +104,7 @@ next_typed ms j m e h =
 pub none_typed : (ms : List Module) (j : ℕ) → length ms ≤ j → typed_modules (drop j ms) ≡ []
 none_typed ms j h = ap typed_modules (drop_all j ms h)
 
--- where there is no next part none is left
+-- if there is no next part none is left
 pub none_left : {A : Type 0} (P : A → Type 0) (o : Option A) (a b : ℕ) → MatchOption o ((a ≡ 0) × (b ≡ 0)) P → o ≡ None → a ≡ 0
 none_left P None a b h e = h.0
 none_left P (Some x) a b h e = absurd cc

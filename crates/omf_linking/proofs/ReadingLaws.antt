@@ -1,4 +1,4 @@
--- Modules one behind another.
+-- Modules one after another.
 use Rattle.std.proofs.Common.{◌≡◌, ◌⊎◌, true, ℕ, ◌+◌, ◌≤◌, List, [], ◌∷◌, ◌++◌, length, drop, refl, sym, ap, subst, ◌∙◌, arith}
 use Rattle.std.proofs.Math.Seq.{drop-append_seam}
 use Rattle.std.proofs.lemmas.List.{length-append}
@@ -29,7 +29,7 @@ pub front_grown : (p : Profile) (input : List ℕ) (ms now : List Module) (rest 
 front_grown p input ms now rest left m n h a e =
     subst (λ (l : List ℕ). IsFront p input now l) (sym e) (subst (λ (xs : List Module). IsFront p input xs a.1.0.rest) (sym n) (front_more p input ms rest m h a))
 
--- a module that is refused behind others
+-- a module that is refused after others
 pub refused_behind : (p : Profile) (input : List ℕ) (ms : List Module) (rest : List ℕ) (number : ℕ) (f : LinkFault) → IsFront p input ms rest → length ms ≡ number → (ms ≡ []) ⊎ (begins_module rest ≡ true) → IsModuleAt p number rest (Err f) → AreModules p input (Err f)
 refused_behind p input ms rest number fault.Memory h c b r = tt
 refused_behind p input ms rest number fault.Read h c b r = absurd r

@@ -14,11 +14,11 @@ use Rattle.omf_check.specs.Module.{Module, records_in}
 use Rattle.omf_check.specs.Tables.{segments, defined_segments}
 use Rattle.omf_check.specs.WellFormed.{recs}
 use Rattle.omf_derive.specs.Derive.{PlacedModule, placed_modules}
-use Rattle.omf_memory.specs.declared.segment.PlacedSegment.{PlacedSegment}
+use Rattle.omf_linking.specs.declared.space.segment.PlacedSegment.{PlacedSegment}
 use Rattle.omf_image.specs.Overlay.{Laid}
-use Rattle.omf_memory.specs.declared.fault.MemoryFault.{MemoryFault}
-use Rattle.omf_memory.specs.declared.fault.MemoryFault.TheVariants as memory
-use Rattle.omf_memory.specs.Segments.{SegmentAt, segments_at, IsMemoryOf, DoOverlap, IsFirstBeyond}
+use Rattle.omf_linking.specs.declared.space.fault.MemoryFault.{MemoryFault}
+use Rattle.omf_linking.specs.declared.space.fault.MemoryFault.TheVariants as memory
+use Rattle.omf_linking.specs.Space.Segments.{SegmentAt, segments_at, IsMemoryOf, DoOverlap, IsFirstBeyond}
 use Rattle.omf_placement.specs.Placement.{Places}
 use Rattle.omf_linking.specs.Faults.{of_memory}
 use Rattle.omf_linking.specs.LinkedMemory.{IsLinkedMemory}
@@ -36,7 +36,7 @@ pub given_all : {A : Type 0} (f : Contents → List A) (number start : ℕ) (rs 
 given_all f number start [] = refl
 given_all f number start (r ∷ rs) = ap (λ xs. f (typed r).contents ++ xs) (given_all f (number + 1) (start + length (raw_bytes r)) rs)
 
--- one part more, behind what is there
+-- one more part at the end
 pub more_given : {A : Type 0} (old new part rest left all : List A) → new ≡ old ++ part → left ≡ part ++ rest → old ++ left ≡ all → new ++ rest ≡ all
 more_given old new part rest left all e f h = ap (λ xs. xs ++ rest) e ∙ append_assoc old part rest ∙ ap (λ xs. old ++ xs) (sym f) ∙ h
 

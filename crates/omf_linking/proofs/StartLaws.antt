@@ -14,7 +14,7 @@ use Rattle.omf_linking.specs.declared.relocated.Relocated.{Relocated}
 abbrev pub Placed : Type 0
 Placed = List Rec × Relocated
 
--- the starts of the modules from one on
+-- the starts of the modules after the first
 abbrev pub starts_from : List Placed → ℕ → List (ℕ × (ℕ × ℕ))
 starts_from ms j = filter_map numbered_start (enumerate_from j (drop j ms))
 

@@ -1,8 +1,8 @@
--- What the faults of a text, of derived places and of segments in memory are to a link.
+-- How faults of a text, of derived places and of segments in memory become faults of a link.
 use Rattle.omf_derive.specs.declared.fault.DeriveFault.{DeriveFault}
 use Rattle.omf_derive.specs.declared.fault.DeriveFault.TheVariants as derive
-use Rattle.omf_memory.specs.declared.fault.MemoryFault.{MemoryFault}
-use Rattle.omf_memory.specs.declared.fault.MemoryFault.TheVariants as memory
+use Rattle.omf_linking.specs.declared.space.fault.MemoryFault.{MemoryFault}
+use Rattle.omf_linking.specs.declared.space.fault.MemoryFault.TheVariants as memory
 use Rattle.omf_placement.specs.declared.fault.TextFault.{TextFault}
 use Rattle.omf_placement.specs.declared.fault.TextFault.TheVariants as text
 use Rattle.omf_linking.specs.declared.fault.LinkFault.{LinkFault}

@@ -1,1 +1,4 @@
 pub mod Parsing
+pub mod Laying
+pub mod Runs
+pub mod Sweeping

@@ -9,4 +9,5 @@ pub mod Segments
 pub mod LinkedMemory
 pub mod Starts
 pub mod Rows
+pub mod Space
 pub mod Inner

@@ -1,4 +1,4 @@
--- The placements that a link's text gives its modules, each external found by hand or by its name (this profile's rule).
+-- The placements of modules by a link's text, each external placed by the text or by its name (this profile's rule).
 use Rattle.std.specs.Prelude.{◌≡◌, ⊤, ℕ, List, [], ◌∷◌, length, map, flat_map, filter_map, zip, Option, Some, None, Result, Ok, Err, if◌then◌else◌}
 use Rattle.std.specs.List.{enumerate_from}
 use Rattle.omf_records.specs.Values.{Rec}
@@ -18,7 +18,7 @@ use Rattle.omf_linking.specs.declared.fault.LinkFault.TheVariants as fault
 abbrev pub stray : List Rec → GivenLine → Option ℕ
 stray m g = if is_defined (length (externals m)) g.1.0 then None else Some g.0
 
--- The place of a module by its part: its segments and groups; or the first line that gives a stray external, or else the first group whose frame is not found.
+-- The place of a module by its part: its segments and groups; or the first line with a stray external, or else the first group whose frame is not found.
 abbrev pub unless_stray : List ℕ → Result Places ℕ → Result Places ℕ
 unless_stray [] r = r
 unless_stray (n ∷ ns) r = Err n
@@ -29,7 +29,7 @@ place_of m p = unless_stray (filter_map (stray m) p.given) (resolved m p.draft)
 abbrev pub no_places : Places
 no_places = record { segments = []; groups = []; externals = [] }
 
--- A place in front of others, or the first fault.
+-- One more place at the front, or the first fault.
 abbrev pub in_front : Places → Result (List Places) ℕ → Result (List Places) ℕ
 in_front pl (Ok pls) = Ok (pl ∷ pls)
 in_front pl (Err n) = Err n
@@ -45,7 +45,7 @@ places_of [] (p ∷ ps) = Err p.line
 places_of (m ∷ ms) [] = in_front no_places (places_of ms [])
 places_of (m ∷ ms) (p ∷ ps) = and_then_others (place_of m p) (places_of ms ps)
 
--- The externals that are given by hand, each in the module of its part.
+-- The externals that the text gives, each in the module of its part.
 abbrev pub given_as : ℕ → GivenLine → Given
 given_as j g = record { «module» = j; external = g.1.0; address = g.1.1.address; frame = g.1.1.frame }
 
@@ -71,7 +71,7 @@ by_parts ms (Err n) = Err (fault.Line n)
 abbrev pub linked : List (List Rec) → List ℕ → Result (List Places) LinkFault
 linked ms text = by_parts ms (parsed_parts text)
 
--- An answer is what is defined: exactly this, or exactly this fault. Want of memory may come at any time.
+-- A result is exactly the defined value or fault. Memory may run out at any time.
 abbrev pub IsOutcome : {A : Type 0} → Result A LinkFault → Result A LinkFault → Type 0
 IsOutcome r (Ok a) = r ≡ Ok a
 IsOutcome r (Err fault.Memory) = ⊤

@@ -16,21 +16,21 @@ pub record IsRelocated (m : PlacedModule) (r : Relocated) : Type 0 where
   pub bytes : (segment x : ℕ) → byte_at r.image segment x ≡ image profile_limits m.1 m.0 segment x
   pub starts : r.start ≡ start m.1 m.0
 
--- A module of a number is relocated, or the first reason why it does not reach is told; want of memory hides no such reason.
+-- The module with this number is relocated, or this is the first reason why it does not reach; running out of memory hides no such reason.
 abbrev pub IsRelocation : ℕ → PlacedModule → Result Relocated LinkFault → Type 0
 IsRelocation j m (Ok r) = (reach_fault m.1 m.0 ≡ None) × IsRelocated m r
 IsRelocation j m (Err fault.Memory) = reach_fault m.1 m.0 ≡ None
 IsRelocation j m (Err (fault.Reach k f)) = (k ≡ j) × (reach_fault m.1 m.0 ≡ Some f)
 IsRelocation j m (Err _) = ⊥
 
--- The modules whose placements do not reach, each with the first reason why.
+-- The modules whose placements do not reach, each with its first fault.
 abbrev pub far_module : ℕ × PlacedModule → Option LinkFault
 far_module m = option_map (λ f. fault.Reach m.0 f) (reach_fault m.1.1 m.1.0)
 
 abbrev pub far_modules : List PlacedModule → List LinkFault
 far_modules ms = filter_map far_module (enumerate_from 0 ms)
 
--- All modules are relocated, or the first that does not reach is told. Want of memory may come at any time.
+-- All modules are relocated, or this is the first that does not reach. Memory may run out at any time.
 abbrev pub AreRelocated : List PlacedModule → Result (List Relocated) LinkFault → Type 0
 AreRelocated ms (Ok rs) = AllZip IsRelocated ms rs
 AreRelocated ms (Err fault.Memory) = ⊤

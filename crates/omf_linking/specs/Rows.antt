@@ -1,42 +1,42 @@
--- Words of the worked examples.
+-- Definitions for the worked examples.
 use Rattle.std.specs.Prelude.{ℕ, List, [], ◌∷◌, Bool, Option, Some, None, slice_get, ◌==◌, if◌then◌else◌}
 use Rattle.std.specs.List.{join_with_byte}
 use Rattle.omf_derive.specs.declared.given.Given.{Given}
 use Rattle.omf_placement.specs.declared.frame.Frame.{Frame}
 use Rattle.omf_placement.specs.declared.frame.Placed.{Placed}
 use Rattle.omf_records.specs.Values.{Rec, ModEnd, Segment}
-use Rattle.omf_memory.specs.Memory.{Share}
+use Rattle.omf_linking.specs.Space.Memory.{Share}
 use Rattle.omf_linking.specs.Parts.{Part, GivenLine}
 use Rattle.omf_linking.specs.Segments.{ModuleBytes}
 use Rattle.omf_linking.specs.declared.relocated.Relocated.{Relocated}
 
--- a text of these lines
+-- A text of these lines.
 abbrev pub lines : List (List ℕ) → List ℕ
 lines ls = join_with_byte 10 ls
 
--- a part behind a line
+-- A part after a line.
 abbrev pub part : ℕ → List Placed → List (ℕ × Option Frame) → List GivenLine → Part
 part n segments groups given = record { line = n; draft = record { segments = segments; groups = groups; externals = [] }; given = given }
 
--- an external of a module that is given by hand, in the frame at 0
+-- An external of a module with its place in the text, in the frame at 0.
 abbrev pub given_at : ℕ → ℕ → ℕ → Given
 given_at j i address = record { «module» = j; external = i; address = address; frame = record { base = 0; selector = 0 } }
 
--- a module that ends with this type byte of its MODEND, and a start
+-- A module with this type byte of its MODEND, and a start.
 abbrev pub ending : ℕ → ℕ × ℕ → List Rec × Relocated
 ending byte start = (record { kind = 0x8A; contents = ModEnd byte None } ∷ [], record { image = []; start = Some start })
 
--- segments of these attribute bytes
+-- Segments with these attribute bytes.
 abbrev pub segment_with : ℕ → Rec
 segment_with attribute = record { kind = 0x98; contents = Segment (record { attribute = attribute; absolute = None; size = 2; name = record { within = 6; item = 1 }; class = record { within = 7; item = 1 }; overlay = 1 }) }
 
--- a module of one segment at an address, which has these bytes
+-- A module of one segment at an address, with these bytes.
 abbrev pub lying : ℕ → ℕ → List ℕ → ModuleBytes
 lying attribute a bs = (
   (segment_with attribute ∷ [], record { segments = record { address = a; frame = record { base = 0; selector = 0 } } ∷ []; groups = []; externals = [] }),
   λ segment x. if segment == 1 then slice_get bs x else None,
 )
 
--- a byte of segment 1 of a module
+-- A byte of segment 1 of a module.
 abbrev pub share : ℕ → Bool → ℕ → Share
 share j common b = record { owner = record { «module» = j; segment = 1 }; common = common; byte = b }

@@ -6,16 +6,16 @@ use Rattle.omf_records.specs.Values.{Rec, Contents, Segment}
 use Rattle.omf_derive.specs.Derive.{PlacedModule}
 use Rattle.omf_image.specs.Limits.{profile_limits}
 use Rattle.omf_image.specs.Overlay.{byte_at}
-use Rattle.omf_memory.specs.Segments.{SegmentAt}
+use Rattle.omf_linking.specs.Space.Segments.{SegmentAt}
 use Rattle.omf_placement.specs.Placement.{Places, placed}
 use Rattle.omf_reloc.specs.Image.{image}
 use Rattle.omf_linking.specs.declared.relocated.Relocated.{Relocated}
 
--- A segment is common where the combination of its SEGDEF, bits 2 to 4 of the attribute byte, is 6 (TIS OMF 1.1, "SEGDEF", C).
+-- A segment is common if the combination of its SEGDEF, bits 2 to 4 of the attribute byte, is 6 (TIS OMF 1.1, "SEGDEF", C field).
 abbrev pub is_common : ℕ → Bool
 is_common attribute = bits attribute 2 3 == 6
 
--- Whether each segment of a module is common, in the order of their indices.
+-- Whether each segment of a module is common, in index order.
 abbrev pub commons_in : Contents → List Bool
 commons_in (Segment s) = is_common s.attribute ∷ []
 commons_in _ = []
@@ -31,7 +31,7 @@ Bytes = ℕ → ℕ → Option ℕ
 abbrev pub ModuleBytes : Type 0
 ModuleBytes = PlacedModule × Bytes
 
--- A segment of module j: its index, and whether it is common. It lies where the placement puts it, with the bytes that the image has of it.
+-- A segment of module j, by its index and whether it is common: it is at its place in the placement, with its bytes in the image.
 abbrev pub module_segment : ℕ → Places → Bytes → ℕ × Bool → SegmentAt
 module_segment j pl bytes s = record {
   owner = record { «module» = j; segment = s.0 };
@@ -40,14 +40,14 @@ module_segment j pl bytes s = record {
   byte = bytes s.0;
 }
 
--- The segments of a module of a number, counted from 1, and those of all modules, counted from 0.
+-- The segments of a module, counted from 1, and those of all modules, counted from 0.
 abbrev pub module_segments : ℕ × ModuleBytes → List SegmentAt
 module_segments m = map (module_segment m.0 m.1.0.1 m.1.1) (enumerate_from 1 (commons m.1.0.0))
 
 abbrev pub all_segments : List ModuleBytes → List SegmentAt
 all_segments ms = flat_map module_segments (enumerate_from 0 ms)
 
--- Modules with the bytes of these images; and with those of the images that their placements give them.
+-- Modules with the bytes of these images; and with those of their images at their placements.
 abbrev pub image_bytes : Relocated → Bytes
 image_bytes r = byte_at r.image
 

@@ -1,4 +1,4 @@
-//! What the lines of a link's text say (this profile's rule).
+//! The entries of lines of a link's text (this profile's rule).
 
 ghost use Rattle.std.specs.Prelude.{◌≡◌, [], ◌∷◌, option_map};
 ghost use Rattle.omf_placement.specs.Inner.EntryReading.{words_of};
@@ -9,18 +9,18 @@ ghost use Rattle.omf_linking.specs.Inner.Parsing.{seen};
 use omf_placement::cut::cut;
 use omf_placement::{Entry, Placed, entry_of, hexadecimal, placed_of};
 
-/// What a line says.
+/// The entry of a line.
 #[derive(Clone, Copy, Debug)]
 pub enum LinkEntry {
     /// `M`: the part of the next module begins.
     Next,
-    /// `X index address frame selector`: the place of an external, by its index.
+    /// `X index address base selector`: the place of an external, by its index.
     Given(u16, Placed),
-    /// Nothing, or what a line of a placement text says of a segment or a group.
+    /// A blank line, or a segment's or a group's entry of a placement text.
     Of(Entry),
 }
 
-/// The entry of a placement text's line, but for that of an external.
+/// Returns the entry of a placement text's line, except an external's.
 fn of_placement(entry: Entry) -> Option<LinkEntry>
     ensures { option_map seen result ≡ of_placement (entry_seen entry) }
 {
@@ -32,7 +32,7 @@ fn of_placement(entry: Entry) -> Option<LinkEntry>
     }
 }
 
-/// An external and its place, of these words.
+/// Returns an external and its place, from these two fields.
 fn given(index: &[u8], address: &[u8], base: &[u8], selector: &[u8]) -> Option<LinkEntry>
     ensures { option_map seen result ≡ given_of_words (index.now ∷ address.now ∷ base.now ∷ selector.now ∷ []) }
 {
@@ -41,7 +41,7 @@ fn given(index: &[u8], address: &[u8], base: &[u8], selector: &[u8]) -> Option<L
     Some(LinkEntry::Given(index, placed))
 }
 
-/// The external and the place that the words behind an `X` say: index, address, frame and selector.
+/// Returns the external and the place in the fields after an `X`: index, address, frame and selector.
 fn given_by(words: &[u8]) -> Option<LinkEntry>
     ensures { option_map seen result ≡ given_of_words (words_of words.now) }
 {
@@ -55,7 +55,7 @@ fn given_by(words: &[u8]) -> Option<LinkEntry>
     given(index, address, base, selector)
 }
 
-/// The entry that a line says; none where it is no entry.
+/// Parses a line; none if it is no entry.
 pub fn link_entry_of(said: &[u8]) -> Option<LinkEntry>
     ensures { option_map seen result ≡ link_entry_said said.now }
 {

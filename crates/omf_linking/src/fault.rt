@@ -1,19 +1,19 @@
-//! Why modules are not linked.
+//! Why modules cannot be linked.
 
 ghost use Rattle.std.specs.Prelude.{◌≡◌};
 ghost use Rattle.omf_linking.specs.Faults.{of_derive, of_memory, of_text};
 ghost use Rattle.omf_linking.specs.declared.fault.LinkFault.TheVariants.{Memory};
 
+use crate::space::{MemoryFault, Owner};
 use omf_frame::{Place, Reason};
-use omf_memory::{MemoryFault, Owner};
 use omf_reloc::{DeriveFault, ReachFault, TextFault};
 use std::alloc::{AllocError, AllocFailed};
 use thiserror::Error;
 
-/// Why modules are not linked.
+/// Why modules cannot be linked.
 #[derive(Clone, Copy, Debug, PartialEq, Eq, Error)]
 pub enum LinkFault {
-    /// A growth was refused.
+    /// Out of memory.
     #[error("memory ran out")]
     Memory,
     /// The reader failed.
@@ -24,27 +24,27 @@ pub enum LinkFault {
     Refused {
         /// The module, from 0.
         module: u32,
-        /// What is wrong with its first record at fault.
+        /// The fault of its first faulty record.
         reason: Reason,
-        /// Where that is: its offset is that in the module.
+        /// The place of the fault; its offset counts from the start of the module.
         place: Place,
     },
-    /// This line of the text, counted from 1, is no entry; or it says `M` where there is no further module, names an external that its
+    /// This line of the text, counted from 1, is not an entry; or it is an `M` without a further module, gives an external that its
     /// module does not have, or is a `G real` of a group whose frame is not found.
     #[error("a line of the text is not understood")]
     Line(u64),
-    /// An external finds no place.
+    /// An external has no place.
     #[error("an external finds no place")]
     External(DeriveFault),
-    /// The placement of a module does not fit it, or a fixup or the start does not reach.
+    /// The placement of a module does not fit it, or a fixup or the start is out of range.
     #[error("a module's placement does not reach")]
     Reach {
         /// The module, from 0.
         module: u32,
-        /// The first reason why.
+        /// The first such fault.
         fault: ReachFault,
     },
-    /// Two main modules name a start.
+    /// Two main modules name a start address.
     #[error("two modules name a start")]
     Starts {
         /// The first of them, from 0.
@@ -52,7 +52,7 @@ pub enum LinkFault {
         /// The next.
         second: u32,
     },
-    /// This segment has a byte beyond the last address, FFFFFFFF.
+    /// This segment has a byte above the last address, FFFFFFFFH.
     #[error("a segment has a byte beyond the last address")]
     Beyond(Owner),
     /// Two segments that are not both common have a byte at one address.
@@ -60,7 +60,7 @@ pub enum LinkFault {
     Overlap {
         /// The first such address.
         address: u32,
-        /// The first of the segments there.
+        /// The first segment with a byte there.
         first: Owner,
         /// The next one that may not share the address with it.
         second: Owner,

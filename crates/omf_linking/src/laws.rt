@@ -1,8 +1,13 @@
-//! Laws over the definitions, each the contract of a function that does nothing.
+//! Laws of the reading of an input, each the contract of an empty function.
 
-ghost use Rattle.omf_linking.specs.Laws.{InputsAreReadOneWay};
+ghost use Rattle.omf_linking.specs.Laws.{InputsAreRead, InputsAreReadOneWay};
 
-/// Each input has one reading at most, want of memory aside: its modules and the text behind them, or the first module that is refused.
+/// Each input has at most one result, apart from `Memory`: its modules and the text after them, or the first module that is refused.
 pub fn inputs_are_read_one_way()
     ensures { InputsAreReadOneWay }
+{}
+
+/// Each input is read as modules and the text after them, or one of its modules is refused; by `inputs_are_read_one_way` in one way only.
+pub fn inputs_are_read()
+    ensures { InputsAreRead }
 {}

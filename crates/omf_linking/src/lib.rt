@@ -1,5 +1,5 @@
-//! Several modules: the modules of an input, their placements by a text and by their public names, what they are at these, and the memory
-//! that they lay together.
+//! Linking several modules: the modules of an input, their placements from a text and from their public names, their images and starts
+//! there, and the memory that they form together.
 #![tactic(auto)]
 
 mod entry;
@@ -12,6 +12,7 @@ mod reading;
 mod relocated;
 pub mod rows;
 mod segments;
+pub mod space;
 
 pub use fault::LinkFault;
 pub use memory::memory_image;

@@ -1,4 +1,4 @@
-//! The memory that modules lay together.
+//! The memory of several modules.
 
 ghost use Rattle.std.specs.Prelude.{◌≡◌, ◌<◌, ◌^◌, length};
 ghost use Rattle.std.specs.List.{AllZip};
@@ -10,21 +10,20 @@ ghost use Rattle.omf_linking.specs.Segments.{all_segments, with_images, with_own
 use crate::fault::LinkFault;
 use crate::relocated::Relocated;
 use crate::segments::segments_of;
+use crate::space::segments_memory;
 use omf_check::Checked;
 use omf_image::Image;
-use omf_memory::segments_memory;
 use omf_placement::Placement;
 use std::alloc::Global;
 
-/// The memory that modules at their placements lay together: an image that has the addresses of memory as the offsets of segment 0. A byte
-/// of a segment lies at the segment's address and its offset. The byte at an address is that of the one segment of a module that has one
-/// there; of common ones, which may lie over one another, that of the last.
+/// Returns the memory of modules at their placements: an image with the addresses of memory as the offsets of segment 0. A byte of a
+/// segment is at the segment's address plus its offset. Common segments may overlap; the byte of the last one counts.
 ///
 /// # Errors
 ///
-/// `Beyond` for the first segment that has a byte beyond the last address. Else `Overlap` where two segments have a byte at one address
-/// and are not both common: the first such address, the first segment there, and the next that may not share the address with it.
-/// `Memory` where a growth was refused.
+/// `Beyond` for the first segment with a byte above the last address. Else `Overlap` if two segments that are not both common have a byte
+/// at one address: the first such address, the first segment there, and the next that may not share the address with it. `Memory` if
+/// memory runs out.
 pub fn memory_image(
     alloc: Global,
     modules: &[Checked],

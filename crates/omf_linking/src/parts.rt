@@ -1,4 +1,4 @@
-//! The text of a link, in parts.
+//! The parts of a link's text.
 
 ghost use Rattle.std.specs.Prelude.{◌≡◌, ◌++◌, OnOk, filter_map};
 ghost use Rattle.omf_records.specs.Inner.Seen.{map_ok};
@@ -17,7 +17,7 @@ use omf_placement::{Draft, Placed, Placement, TextFault, said_by};
 use std::alloc::{AllocError, Global};
 use std::marker::Model;
 
-/// The part of a module: what its lines say of its segments and groups, and the externals that they give by hand.
+/// The part of a module: the entries of its segments and groups, and the external places that it gives.
 #[derive(Drop)]
 pub struct Part {
     line: u64,
@@ -33,7 +33,7 @@ impl Model for Part {
     ghost view = { λ p. record { line = p.line; draft = p.draft; given = p.given.items } };
 }
 
-/// Whether a table of so many entries has this index.
+/// Returns whether a table with `count` entries has this index.
 fn is_listed(count: u16, index: u16) -> bool
     ensures { result ≡ is_defined count index }
 {
@@ -41,7 +41,7 @@ fn is_listed(count: u16, index: u16) -> bool
 }
 
 impl Part {
-    /// A part without entries, behind this line.
+    /// Makes an empty part that follows this line.
     fn new(alloc: Global, line: u64) -> Part
         ensures { result ≡ empty_part line }
     {
@@ -52,18 +52,18 @@ impl Part {
         }
     }
 
-    /// The line that it begins behind.
+    /// Returns the line before the part.
     pub(crate) fn line(&self) -> u64
         ensures { result ≡ self.now.line }
     {
         self.line
     }
 
-    /// Adds the externals that it gives by hand to those of other modules.
+    /// Adds the external places that it gives to those of other modules.
     ///
     /// # Errors
     ///
-    /// `Line` for the first line that names an external that the module does not have. `Memory` where a growth was refused.
+    /// `Line` for the first line with an external that the module does not have. `Memory` if memory runs out.
     pub(crate) fn give(
         &self,
         module: &Checked,
@@ -88,11 +88,11 @@ impl Part {
         Ok(())
     }
 
-    /// The place of the module by this part: that of its segments and groups.
+    /// Returns the placement of the module's segments and groups by this part.
     ///
     /// # Errors
     ///
-    /// `Line` for the first `G real` whose frame is not found. `Memory` where a growth was refused.
+    /// `Line` for the first `G real` whose frame is not found. `Memory` if memory runs out.
     pub(crate) fn resolve(self, alloc: Global, module: &Checked) -> Result<Placement, TextFault>
         ensures { IsAnswer (resolved (recs_of «module».now.bytes) self.draft) result }
     {
@@ -101,7 +101,7 @@ impl Part {
     }
 }
 
-/// The parts of the lines so far, of which the last goes on.
+/// The parts of the lines so far; the last is still open.
 #[derive(Drop)]
 struct Parts {
     whole: Vec<Part>,
@@ -109,7 +109,7 @@ struct Parts {
 }
 
 impl Parts {
-    /// Adds what a line says.
+    /// Adds the entry of a line.
     fn take(&mut self, alloc: Global, number: u64, entry: LinkEntry) -> Result<(), AllocError>
         ensures { OnOk result (with_line self.old.whole.items self.old.current number (seen entry) ≡ (self.new.whole.items, self.new.current)) }
     {
@@ -125,13 +125,14 @@ impl Parts {
     }
 }
 
-/// Reads the text of a link, in lines as those of a placement text: a line says what is left without a carriage return at its end, without
-/// what stands from the first `;` on, without the spaces at both ends. Lines that say `M` separate the parts of the modules. Any other
-/// line says nothing, or what a placement text's line says of a segment or a group (`S address frame selector`, `S address real`,
-/// `G frame selector`, `G real`), or `X index address frame selector`, the place of an external that is given by hand: its index in
-/// 1 to 4 hexadecimal digits, the rest as in an `S` line.
+/// Parses the text of a link. Its lines are read as those of a placement text: a carriage return at the end, everything from the first
+/// `;` on, and spaces at both ends are dropped. Lines `M` separate the parts of the modules. Any other line is blank, has a segment's or
+/// a group's entry of a placement text (`S address base selector`, `S address real`, `G base selector`, `G real`), or is `X index
+/// address base selector`, the place of an external: its index in 1 to 4 hexadecimal digits, the rest as in an `S` line.
 ///
-/// `Line` names the first line, counted from 1 over the whole text, that says anything else. `Memory` where a growth was refused.
+/// # Errors
+///
+/// `Line` for the first line that is none of these, counted from 1 over the whole text. `Memory` if memory runs out.
 pub fn parse_parts(alloc: Global, text: &[u8]) -> Result<Vec<Part>, TextFault>
     ensures { IsAnswer (parsed_parts text.now) (map_ok (λ v. v.items) result) }
 {

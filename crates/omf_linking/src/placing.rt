@@ -14,7 +14,7 @@ use omf_derive::{Given, derive};
 use omf_placement::{Placement, TextFault};
 use std::alloc::Global;
 
-/// The place of a module by its part. The externals that the part gives are added to those of the parts before it.
+/// Returns the placement of a module by its part, and adds the external places that the part gives.
 fn place_of(
     alloc: Global,
     module: &Checked,
@@ -29,7 +29,7 @@ fn place_of(
     part.resolve(alloc, module)
 }
 
-/// The place of a module by its part, if it has one, and else without entries.
+/// Returns the placement of a module by its part, or an empty one if it has none.
 fn next_place(
     alloc: Global,
     module: &Checked,
@@ -46,7 +46,7 @@ fn next_place(
     }
 }
 
-/// The places of modules by the parts of a text. The externals that these give by hand are added.
+/// Returns the placements of modules by the parts of a text, and adds the external places that these give.
 fn places_of(
     alloc: Global,
     modules: &[Checked],
@@ -72,13 +72,13 @@ fn places_of(
     }
 }
 
-/// The placements of modules that a text gives: those of their segments and groups that its parts say; each external has the place
-/// that is given by hand, or that of the one public of its name, as `derive` has it.
+/// Returns the placements of modules by a text: segments and groups by its parts; each external at the place that the text gives, or at
+/// that of the one public of its name, as `derive` finds it.
 ///
 /// # Errors
 ///
-/// The first of: `Line` for a line that is not understood, or which its module has no use for; `External` for an external that finds no
-/// place. `Memory` where a growth was refused.
+/// The first of: `Line` for a line that is not understood or does not fit its module; `External` for an external without a place.
+/// `Memory` if memory runs out.
 pub fn link(alloc: Global, modules: &[Checked], text: &[u8]) -> Result<Vec<Placement>, LinkFault>
     requires { length modules.now < 2 ^ 32 }
     ensures placements { IsOutcome (linked (typed_modules modules.now) text.now) (map_ok (λ v. v.items) result) }

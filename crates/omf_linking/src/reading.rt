@@ -10,19 +10,19 @@ use omf_check::{CheckFault, Checked, Profile, check};
 use omf_frame::{Bytes, Source, pull_piece};
 use std::alloc::Global;
 
-/// How many bytes are asked for at once.
+/// The number of bytes to ask for at once.
 const PIECE: usize = 65_536;
 
-/// All that is left of the input.
+/// Reads the rest of the input.
 ///
 /// # Errors
 ///
-/// `Read` where the reader failed, or was interrupted 1,000 times running. `Memory` where a growth was refused, and the reader did not
-/// fail. A part of the input was read then.
+/// `Read` if the reader failed, or was interrupted 1,000 times in a row. `Memory` if memory ran out and the reader did not fail. Part of
+/// the input was then read.
 pub fn read_all<S: Source>(alloc: Global, source: &mut S) -> Result<Vec<u8>, LinkFault>
     ensures read { IfOk result (λ bytes. Consumes (S.seen source.old).bytes (S.seen source.new).bytes bytes.items) }
     ensures end { IfOk result (λ bytes. IsAtEnd (S.seen source.new).bytes) }
-    // In front of each byte, and of the end, a thousand failures are passed over at most.
+    // At most a thousand failures are passed over before each byte, and before the end.
     ensures bounded { IfOk result (λ bytes. (S.seen source.new).failures ≤ (S.seen source.old).failures + 1000 * (length bytes.items + 1)) }
     ensures part { IfErr result (λ fault. IsPartRead (S.seen source.old).bytes (S.seen source.new).bytes) }
     ensures cause { IsReadCause (S.seen source.old) (S.seen source.new) result }
@@ -41,11 +41,11 @@ pub fn read_all<S: Source>(alloc: Global, source: &mut S) -> Result<Vec<u8>, Lin
     Err(LinkFault::Memory)
 }
 
-/// The module that bytes begin with, which has this number.
+/// Checks the module that bytes begin with; `number` is its number.
 ///
 /// # Errors
 ///
-/// `Refused` where they begin with no well-formed module. `Memory` where a growth was refused.
+/// `Refused` if they do not begin with a well-formed module. `Memory` if memory runs out.
 fn module_at(
     alloc: Global,
     profile: Profile,
@@ -69,7 +69,7 @@ fn module_at(
     }
 }
 
-/// Whether bytes begin with the type of a THEADR or LHEADR, and so with another module.
+/// Returns whether bytes begin with the type of a THEADR or LHEADR, and so with another module.
 fn begins_module(bytes: &[u8]) -> bool
     ensures { result ≡ begins_module bytes.now }
 {
@@ -79,13 +79,13 @@ fn begins_module(bytes: &[u8]) -> bool
     }
 }
 
-/// The modules that an input begins with, one behind another, and the text behind them: one module at least, and a further one as long as
-/// the next byte is 80H or 82H.
+/// Reads the modules that an input begins with, one after another, and returns them with the text after them. There must be at least one
+/// module; more follow as long as the next byte is 80H or 82H.
 ///
 /// # Errors
 ///
-/// `Refused` for the first module that is not well formed. `Memory` where a growth was refused, or where a further module begins behind
-/// 4,294,967,295 of them.
+/// `Refused` for the first module that is not well formed. `Memory` if memory runs out, or if another module follows 4,294,967,295
+/// modules.
 pub fn modules_in(
     alloc: Global,
     profile: Profile,

@@ -15,21 +15,21 @@ use omf_records::Rec;
 use omf_reloc::{RelocateFault, reach_and_relocate, start};
 use std::alloc::Global;
 
-/// A module at its placement: its image, and its start, if it names one.
+/// A module at its placement: its image, and its start if it names one.
 #[derive(Drop)]
 pub struct Relocated {
-    /// Its image, by segments and offsets.
+    /// The image, by segments and offsets.
     pub image: Image,
-    /// The selector and the offset of its start.
+    /// The selector and the offset of the start.
     pub start: Option<(u16, u32)>,
 }
 
 impl Relocated {
-    /// A module of this number at its placement.
+    /// Relocates the module with this number to its placement.
     ///
     /// # Errors
     ///
-    /// `Reach` where the placement does not reach, with the first reason why. `Memory` where a growth was refused.
+    /// `Reach` if the placement does not reach, with the first fault. `Memory` if memory runs out.
     pub fn of(
         alloc: Global,
         number: u32,
@@ -51,7 +51,7 @@ impl Relocated {
     }
 }
 
-/// Whether a module is a main one (TIS OMF 1.1, "MODEND", bit 7 of its type byte).
+/// Returns whether a module is a main one (TIS OMF 1.1, "MODEND", bit 7 of its type byte).
 fn is_main(module: &Checked) -> bool
     ensures { result ≡ is_main (recs_of «module».now.bytes) }
 {
@@ -62,7 +62,7 @@ fn is_main(module: &Checked) -> bool
     }
 }
 
-/// The start of a module, if it is a main one that names one.
+/// Returns the start of a main module, if it names one.
 fn main_start(module: &Checked, relocated: &Relocated) -> Option<(u16, u32)>
     ensures { result ≡ main_start (recs_of «module».now.bytes, relocated.now) }
 {
@@ -73,11 +73,11 @@ fn main_start(module: &Checked, relocated: &Relocated) -> Option<(u16, u32)>
     }
 }
 
-/// Modules, each at its placement.
+/// Relocates modules, each to its placement.
 ///
 /// # Errors
 ///
-/// `Reach` for the first module whose placement does not reach. `Memory` where a growth was refused.
+/// `Reach` for the first module whose placement does not reach. `Memory` if memory runs out.
 pub fn relocate_all(
     alloc: Global,
     modules: &[Checked],
@@ -96,11 +96,11 @@ pub fn relocate_all(
     Ok(relocated)
 }
 
-/// The start of the one main module that names one; none where no main module does.
+/// Returns the start of the one main module that names one; none if no main module does.
 ///
 /// # Errors
 ///
-/// `Starts` where two main modules name a start, or more: the first two of them.
+/// `Starts` if two or more main modules name a start: the first two of them.
 pub fn start_of(
     modules: &[Checked],
     relocated: &[Relocated],

@@ -1,7 +1,7 @@
 //! Worked examples, each evaluated by the check.
 
 ghost use Rattle.std.specs.Prelude.{◌≡◌, [], ◌∷◌, codes, true, false, Some, None, Ok, Err};
-ghost use Rattle.omf_memory.specs.Segments.{segment_shares};
+ghost use Rattle.omf_linking.specs.Space.Segments.{segment_shares};
 ghost use Rattle.omf_placement.specs.Entries.{Blank, SegmentEntry};
 ghost use Rattle.omf_reloc.specs.Rows.{at, frame};
 ghost use Rattle.omf_linking.specs.LinkEntries.{link_entry_said, NextModule, GivenExternal, OfPlacement};
@@ -12,8 +12,7 @@ ghost use Rattle.omf_linking.specs.Segments.{all_segments, is_common};
 ghost use Rattle.omf_linking.specs.Starts.{main_starts, one_start};
 ghost use Rattle.omf_linking.specs.declared.fault.LinkFault.TheVariants.{Starts};
 
-/// What lines say: the next part, an external by hand, a segment, nothing. An `E` line says nothing that is understood, nor does an
-/// index of five digits.
+/// Entries of lines: the next part, an external, a segment, a blank. An `E` line is not understood, nor is an index of five digits.
 pub fn lines_of_a_link()
     ensures next { link_entry_said (codes "M") ≡ Some NextModule }
     ensures given { link_entry_said (codes "X 1 46C 400 40") ≡ Some (GivenExternal 1 (at 0x46C 0x400 0x40)) }
@@ -23,20 +22,20 @@ pub fn lines_of_a_link()
     ensures long { link_entry_said (codes "X 00001 0 0 0") ≡ None }
 {}
 
-/// Texts of two parts: the second begins behind the line that says `M`, and lines count over the whole text.
+/// Texts of two parts: the second begins after the line `M`, and lines count over the whole text.
 pub fn parts_of_a_text()
     ensures parts { parsed_parts (lines (codes "S 20 0 0" ∷ codes "X 1 30 0 0" ∷ codes " M ; next" ∷ codes "G 0 8" ∷ [])) ≡ Ok (part 0 (at 0x20 0 0 ∷ []) [] ((2, (1, at 0x30 0 0)) ∷ []) ∷ part 3 [] ((4, Some (frame 0 8)) ∷ []) [] ∷ []) }
     ensures fault { parsed_parts (lines (codes "M" ∷ codes "E 1 0 0" ∷ codes "q" ∷ [])) ≡ Err 2 }
 {}
 
-/// A part without a module is at fault where it begins; a module without a part has no entries.
+/// A part without a module is at fault at the line that begins it; a module without a part has no entries.
 pub fn parts_and_modules()
     ensures beyond { places_of [] (part 3 [] [] [] ∷ []) ≡ Err 3 }
     ensures none { places_of ([] ∷ []) [] ≡ Ok (record { segments = []; groups = []; externals = [] } ∷ []) }
 {}
 
-/// An `X` line gives a place to an external of its part's module. Where the module has no such external the line is at fault, and is told
-/// before a group without a frame.
+/// An `X` line gives a place to an external of its part's module. If the module has no such external, the line is at fault, ahead of a
+/// group without a frame.
 pub fn externals_given_by_hand()
     ensures given { given_of (part 0 [] [] [] ∷ part 3 [] [] ((4, (2, at 0x30 0 0)) ∷ []) ∷ []) ≡ given_at 1 2 0x30 ∷ [] }
     ensures frame { places_of ([] ∷ []) (part 0 [] ((1, None) ∷ []) [] ∷ []) ≡ Err 1 }
@@ -44,15 +43,15 @@ pub fn externals_given_by_hand()
 {}
 
 /// The start is that of the one main module that names one: bit 7 of the type byte of its MODEND is set. Of two or more the first two are
-/// named.
+/// reported.
 pub fn starts_of_modules()
     ensures none { one_start (main_starts (ending 0x40 (0x1000, 1) ∷ [])) ≡ Ok None }
     ensures one { one_start (main_starts (ending 0x40 (0x1000, 1) ∷ ending 0xC0 (0x2000, 2) ∷ [])) ≡ Ok (Some (0x2000, 2)) }
     ensures two { one_start (main_starts (ending 0x40 (0, 1) ∷ ending 0xC0 (0, 2) ∷ ending 0x80 (0, 3) ∷ ending 0xC1 (0, 4) ∷ [])) ≡ Err (Starts 1 2) }
 {}
 
-/// What modules have at an address: each the bytes of its segment from where that lies on. A segment is common where bits 2 to 4 of its
-/// attribute byte are 6.
+/// The bytes of modules at an address: each segment's bytes follow its address. A segment is common if bits 2 to 4 of its attribute byte
+/// are 6.
 pub fn bytes_of_modules()
     ensures both { segment_shares (all_segments (lying 0x20 0x10 (0xAA ∷ 0xBB ∷ []) ∷ lying 0x38 0x11 (0xCC ∷ []) ∷ [])) 0x11 ≡ share 0 false 0xBB ∷ share 1 true 0xCC ∷ [] }
     ensures first { segment_shares (all_segments (lying 0x20 0x10 (0xAA ∷ 0xBB ∷ []) ∷ lying 0x38 0x11 (0xCC ∷ []) ∷ [])) 0x10 ≡ share 0 false 0xAA ∷ [] }

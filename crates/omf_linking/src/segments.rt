@@ -5,18 +5,18 @@ ghost use Rattle.omf_records.specs.Inner.Seen.{contents_seen};
 ghost use Rattle.omf_check.specs.Module.{recs_of};
 ghost use Rattle.omf_check.specs.Tables.{segments};
 ghost use Rattle.omf_derive.specs.Derive.{placed_modules};
-ghost use Rattle.omf_memory.specs.Segments.{segment_at, segments_at};
+ghost use Rattle.omf_linking.specs.Space.Segments.{segment_at, segments_at};
 ghost use Rattle.omf_placement.specs.Placement.{placed};
 ghost use Rattle.omf_linking.specs.Segments.{all_segments, commons, commons_in, image_bytes, is_common, module_segment, module_segments, with_images};
 
 use crate::relocated::Relocated;
+use crate::space::{Owner, PlacedSegment};
 use omf_check::Checked;
-use omf_memory::{Owner, PlacedSegment};
 use omf_placement::Placement;
 use omf_records::Rec;
 use std::alloc::{AllocError, Global};
 
-/// Whether the combination (C) in a SEGDEF's attribute byte makes the segment a common one.
+/// Returns whether the combination (C field) in a SEGDEF's attribute byte is common.
 fn is_common(attribute: u8) -> bool
     ensures { result ≡ is_common attribute }
 {
@@ -36,7 +36,7 @@ fn add_common(commons: &mut Vec<bool>, rec: &Rec<'_>) -> Result<(), AllocError>
     }
 }
 
-/// Whether each of a module's segments is common, in their order.
+/// Returns whether each of a module's segments is common, in order.
 fn commons_of(alloc: Global, module: &Checked) -> Result<Vec<bool>, AllocError>
     ensures all { IfOk result (λ v. v.items ≡ commons (recs_of «module».now.bytes)) }
     ensures each { IfOk result (λ v. length v.items ≡ length (segments (recs_of «module».now.bytes))) }
@@ -48,7 +48,7 @@ fn commons_of(alloc: Global, module: &Checked) -> Result<Vec<bool>, AllocError>
     Ok(commons)
 }
 
-/// The address of a segment, by its index; 0 where it has no place.
+/// Returns the address of a segment, by its index; 0 if it has no place.
 fn address_of(placement: &Placement, index: u16) -> u32
     ensures { result ≡ (placed placement.now.segments index).address }
 {
@@ -58,7 +58,7 @@ fn address_of(placement: &Placement, index: u16) -> u32
     }
 }
 
-/// A segment of a module at its place.
+/// Returns a segment of a module at its place.
 fn placed_segment<'a>(
     number: u32,
     index: u16,
@@ -98,11 +98,11 @@ fn add_module<'a>(
     Ok(())
 }
 
-/// The segments of modules, each where the placement of its module puts it.
+/// Returns the segments of modules, each at its place in the placement of its module.
 ///
 /// # Errors
 ///
-/// `AllocError` where a growth is refused.
+/// Out of memory.
 pub fn segments_of<'a>(
     alloc: Global,
     modules: &[Checked],

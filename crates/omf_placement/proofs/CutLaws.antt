@@ -1,4 +1,4 @@
--- Texts that are cut at a byte.
+-- Texts split at a byte.
 use Rattle.std.proofs.Common.{◌≡◌, ℕ, ◌<◌, ◌≤◌, Bool, true, false, cond, List, [], ◌∷◌, length, take, drop, get_or, suc, ◌+◌, add-one, drop-cons, length-drop, take_all, refl, sym, ap, ap₂, ◌∙◌, arith}
 use Rattle.std.specs.Prelude.{Option, Some, None, unwrap_or, nat_lt, not}
 use Rattle.std.specs.List.{position_or_len, slice_split}
@@ -6,7 +6,7 @@ use Rattle.std.proofs.lemmas.Bool.{ltb-false}
 use Rattle.std.proofs.lemmas.List.Sums.{prefix_len-le-length}
 use Rattle.std.proofs.lemmas.List.Splits.{slice_split_first}
 
--- the place of the first that passes, or the length where there is none
+-- the position of the first that passes, or the length if there is none
 chosen : (b : Bool) (m n : ℕ) → nat_lt m n ≡ b → m ≤ n → unwrap_or (cond b (Some m) None) n ≡ m
 chosen true m n e h = refl
 chosen false m n e h = omega (arith, ltb-false m n e)
@@ -32,7 +32,7 @@ cut_nowhere p xs first more place e f g z =
     let l : length xs ≤ place = omega (arith, length-drop place xs, ap length g) in
     split_whole p xs (omega arith) ∙ ap (λ t. t ∷ []) (sym (take_all place xs l) ∙ sym f)
 
--- and one with it has a first part and the parts of the rest
+-- a text with it has a first part and the parts of the rest
 pub cut_at : (p : ℕ → Bool) (xs first more rest : List ℕ) (x place : ℕ) → place ≡ position_or_len p xs → first ≡ take place xs → more ≡ drop place xs → more ≡ x ∷ rest → slice_split p xs ≡ first ∷ slice_split p rest
 cut_at p xs first more rest x place e f g h =
     let l : position_or_len p xs < length xs = omega (arith, length-drop place xs, ap length g, ap length h) in

@@ -26,11 +26,11 @@ at_most_eight k h = grows (8 - k) k 8 (omega arith)
 pub digit_fits : (value digit most n : ℕ) → value < 16 ^ (most - n) → digit < 16 → 0 < n → n ≤ most → most ≤ 8 → value * 16 + digit < 2 ^ 32
 digit_fits value digit most n h d p q r = omega (arith, next_below value digit (most - n) h d, at_most_eight (suc (most - n)) (omega arith))
 
--- and stays below the power of 16 that is allowed so far
+-- and is below the power of 16 allowed so far
 pub still_below : (value digit most n rest : ℕ) → value < 16 ^ (most - n) → digit < 16 → rest + 1 ≡ n → n ≤ most → value * 16 + digit < 16 ^ (most - rest)
 still_below value digit most n rest h d e q = let s : suc (most - n) ≡ most - rest = omega arith in subst (λ k. value * 16 + digit < 16 ^ k) s (next_below value digit (most - n) h d)
 
--- The digits that are left go on from the value with one more digit.
+-- The remaining digits continue from the value with one more digit.
 pub next_value : (left rest : List ℕ) (digit char field value total : ℕ) → left ≡ digit ∷ rest → char ≡ digit → field ≡ digit_value char → digits_value_after 16 value left ≡ total → digits_value_after 16 (value * 16 + field) rest ≡ total
 next_value left rest digit char field value total e r f h = rw (f, r) (rw e at h)
 

@@ -1,4 +1,4 @@
--- The entry that is computed is the entry that is spelled.
+-- The computed entry is the entry that the text spells.
 use Rattle.std.proofs.Common.{◌≡◌, ◌⊎◌, ℕ, ◌<◌, List, [], ◌∷◌, ◌++◌, refl, sym, ◌∙◌, ap, ap₂, subst, inl, inr, ⊎_elim, Bool, true, false, cond, length, arith, eqb}
 use Rattle.std.specs.Prelude.{All, Option, Some, None, option_map, option_and_then, ◌&&◌, nat_le, nat_lt, codes, bytes_eq}
 use Rattle.std.specs.List.{list_all}
@@ -42,7 +42,7 @@ hexadecimal-to most cs n h =
     (and_from (nat_lt 0 (length cs)) _ (lt-ltb 0 (length cs) h.numeral.0) (and_from (nat_le (length cs) most) _ (le-leb (length cs) most h.short) (digits-to cs h.numeral.1)))
     ∙ ap Some (sym h.value)
 
--- No space stands in a number, so that words can be told.
+-- A number contains no space, so words can be separated.
 abbrev NoSpace : List ℕ → Type 0
 NoSpace w = All (λ c. eqb c 32 ≡ false) w
 
@@ -57,7 +57,7 @@ last-word w h = slice_split_none (λ c. eqb c 32) w h
 more-words : (w rest : List ℕ) → NoSpace w → words_of (w ++ 32 ∷ rest) ≡ w ∷ words_of rest
 more-words w rest h = slice_split_at (λ c. eqb c 32) w 32 rest h refl
 
--- From what is computed to what is spelled.
+-- From the computed entry to the spelling.
 map_some : {A B P : Type 0} (f : A → B) (o : Option A) (y : B) → option_map f o ≡ Some y → ((x : A) → o ≡ Some x → f x ≡ y → P) → P
 map_some f None y h k = absurd (none-some y h)
 map_some f (Some x) y h k = k x refl (same_Some (f x) y h)

@@ -8,12 +8,12 @@ use Rattle.omf_check.specs.Tables.{entry}
 use Rattle.omf_placement.specs.Placement.{Placed, lower, lowest, members_placed}
 use Rattle.omf_placement.specs.Inner.Lowest.{lower_than}
 
--- the place found so far, or the lowest of those to come, if there is any
+-- the place found so far, or the lowest of the remaining ones, if any
 abbrev lower_of : Option Placed → Option Placed → Option Placed
 lower_of None o = o
 lower_of (Some p) o = Some (lower p o)
 
--- the lowest of the place found so far and those to come; none where one of these has no place
+-- the lowest of the place found so far and the remaining ones; none if one of these has no place
 abbrev pub lowest_after : Option Placed → Option (List Placed) → Option Placed
 lowest_after found None = None
 lowest_after found (Some ps) = lower_of found (lowest ps)
@@ -49,7 +49,7 @@ one_more (Some q) p (Some ps) = ap Some (lower_grouped q p (lowest ps))
 placed_more : (xs : List Placed) (m : At (At ℕ)) (ms : List (At (At ℕ))) (p : Placed) → Some p ≡ entry xs m.item.item → members_placed xs (m ∷ ms) ≡ option_map (λ ps. p ∷ ps) (members_placed xs ms)
 placed_more xs m ms p e = ap (option_and_then (λ q. option_map (λ ps. q ∷ ps) (members_placed xs ms))) (sym e)
 
--- one member more is looked at
+-- one more member
 pub member_more : (xs : List Placed) (found : Option Placed) (p now : Placed) (m : At (At ℕ)) (old rest : List (At (At ℕ))) (all : Option Placed) → now ≡ lower_than found p → Some p ≡ entry xs m.item.item → old ≡ m ∷ rest
     → lowest_after found (members_placed xs old) ≡ all → lowest_after (Some now) (members_placed xs rest) ≡ all
 member_more xs found p now m old rest all n e o h =

@@ -1,9 +1,9 @@
--- What a line says.
+-- The text of a line.
 use Rattle.std.proofs.Common.{◌≡◌, ◌≢◌, ℕ, List, [], ◌∷◌, ◌++◌, refl, sym, ap, false, eqb}
 use Rattle.std.proofs.lemmas.Bool.{ne_eqb}
 use Rattle.omf_placement.specs.Entries.{without_return}
 
--- a carriage return at the end goes
+-- a carriage return at the end is removed
 return_at_end : (front : List ℕ) → without_return (front ++ 13 ∷ []) ≡ front
 return_at_end [] = refl
 return_at_end (c ∷ []) = refl

@@ -1,4 +1,4 @@
--- The lowest place is what the words say.
+-- The computed lowest place is the defined one.
 use Rattle.std.proofs.Common.{◌≡◌, ℕ, ◌<◌, ◌≤◌, List, [], ◌∷◌, ◌++◌, refl, sym, ap, ap₂, ◌∙◌, subst, inl, inr, arith}
 use Rattle.std.specs.Prelude.{All, Option, Some, None, option_map, option_and_then, map}
 use Rattle.std.proofs.lemmas.Bool.{le-leb, lt-leb}
@@ -12,7 +12,7 @@ use Rattle.omf_placement.specs.Laws.{IsLowest, TakesFrame}
 use Rattle.omf_placement.specs.Placement.{Placed, lower, lowest, members_placed, real_group}
 use Rattle.omf_placement.proofs.GroupLaws.{if_low, if_high}
 
--- From what a function answers of some value.
+-- A function's result for some value.
 map_some : {A B P : Type 0} (f : A → B) (o : Option A) (y : B) → option_map f o ≡ Some y → ((x : A) → o ≡ Some x → f x ≡ y → P) → P
 map_some f None y h k = absurd (none-some y h)
 map_some f (Some x) y h k = k x refl (same_Some (f x) y h)
@@ -20,7 +20,7 @@ map_some f (Some x) y h k = k x refl (same_Some (f x) y h)
 abbrev Above : ℕ → List Placed → Type 0
 Above n ps = All (λ q. n ≤ q.address) ps
 
--- no place lies below the lowest
+-- no place is below the lowest
 all_above : (ps : List Placed) (p : Placed) → IsLowest ps p → Above p.address ps
 all_above ps p h =
     All-same (λ q. p.address ≤ q.address) ps _ h.all (All-append (λ q. p.address ≤ q.address) h.before (p ∷ h.after)

@@ -24,13 +24,13 @@ too_many_words f text second third fourth w x y z more a b d e s = sym (ap entry
 abbrev pub entries_from : ℕ → List (List ℕ) → List (ℕ × Option Entry)
 entries_from n lines = map (λ l. (l.0, entry_said (said l.1))) (enumerate_from n lines)
 
--- A text's entries are those of a draft and those of the lines that are left.
+-- A text's entries are those of a draft and those of the remaining lines.
 pub record IsRead (text : List ℕ) (d : Draft) (left : List (ℕ × Option Entry)) : Type 0 where
   pub segments : filter_map segment_entry (line_entries text) ≡ d.segments ++ filter_map segment_entry left
   pub groups : filter_map group_entry (line_entries text) ≡ d.groups ++ filter_map group_entry left
   pub externals : filter_map external_entry (line_entries text) ≡ d.externals ++ filter_map external_entry left
 
--- All lines at fault are among those that are left.
+-- All lines at fault are among the remaining lines.
 abbrev pub IsSound : List ℕ → List (ℕ × Option Entry) → Type 0
 IsSound text left = bad_lines text ≡ filter_map bad_line left
 
@@ -57,7 +57,7 @@ text_read text d n s h = rw (s, h.segments, h.groups, h.externals, append-nil d.
 pub text_sound : (text : List ℕ) (n : ℕ) → IsSound text (entries_from n []) → IsOk (parsed text)
 text_sound text n s = rw s refl
 
--- how much of a text is left, its end included
+-- the length of the remaining text, its end included
 abbrev pub left_len : Option (List ℕ) → ℕ
 left_len None = 0
 left_len (Some text) = length text + 1

@@ -1,4 +1,4 @@
--- The groups of a draft, one after another.
+-- The groups of a draft, in order.
 use Rattle.std.proofs.Common.{◌≡◌, ℕ, ◌+◌, ◌<◌, List, [], ◌∷◌, ◌++◌, length, drop, slice_index_or, add-one, drop-cons, append_assoc, false, refl, sym, ap, ◌∙◌}
 use Rattle.std.specs.Prelude.{filter_map, Option, Some, None, Result, Ok, Err, IsOk, is_ok, if◌then◌else◌}
 use Rattle.std.specs.List.{enumerate_from}
@@ -10,7 +10,7 @@ use Rattle.omf_placement.specs.Placement.{Placed}
 use Rattle.omf_placement.specs.PlacementText.{ok_or_first, resolved_group, unresolved_group}
 use Rattle.omf_placement.specs.Inner.Parsing.{frames_from}
 
--- The frames of group entries, of which the first is the k-th; and the lines of those that have none.
+-- The frames of group entries, of which the first is the k-th; and the lines of those without one.
 abbrev pub frames_in : List Rec → List Placed → ℕ → List (ℕ × Option Frame) → List Frame
 frames_in m xs k groups = filter_map (resolved_group m xs) (enumerate_from k groups)
 
@@ -38,7 +38,7 @@ pub one_sound : (m : List Rec) (xs : List Placed) (k : ℕ) (g : ℕ × Option F
     → lines_in m xs k groups ≡ all → lines_in m xs (k + 1) rest ≡ all
 one_sound m xs k g groups rest frame all e f h = sym (no_line m xs k g rest frame f) ∙ ap (lines_in m xs k) (sym e) ∙ h
 
--- what stands where there is an Ok
+-- the value of an Ok
 pub not_refused : {A B E : Type 0} (r : Result A E) (new old : B) → is_err r ≡ false → (if is_ok r then new else old) ≡ new
 not_refused (Ok a) new old e = refl
 not_refused (Err x) new old e = absurd (true≢false e)
@@ -47,7 +47,7 @@ not_refused (Err x) new old e = absurd (true≢false e)
 pub none_at_fault : (m : List Rec) (xs : List Placed) (k : ℕ) (groups rest : List (ℕ × Option Frame)) → rest ≡ [] → lines_in m xs k rest ≡ lines_in m xs 1 groups → IsOk (frames_from m xs 1 groups)
 none_at_fault m xs k groups rest e h = let none : lines_in m xs 1 groups ≡ [] = sym h ∙ ap (lines_in m xs k) e in rw none refl
 
--- a group whose frame is not found is the first
+-- a group whose frame cannot be found is the first
 pub not_found : (m : List Rec) (xs : List Placed) (k : ℕ) (g : ℕ × Option Frame) (groups rest all : List (ℕ × Option Frame)) → groups ≡ g ∷ rest → resolved_group m xs (k, g) ≡ None
     → lines_in m xs k groups ≡ lines_in m xs 1 all → frames_from m xs 1 all ≡ Err g.0
 not_found m xs k g groups rest all e f h =

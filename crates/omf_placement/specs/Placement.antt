@@ -1,4 +1,4 @@
--- Placements: the addresses and frames that a module's segments, groups and externals are given (TIS OMF 1.1, "FIXUPP", frames and targets).
+-- Placements: the addresses and frames of a module's segments, groups and externals (TIS OMF 1.1, "FIXUPP", frames and targets).
 use Rattle.std.specs.Prelude.{ℕ, ◌+◌, ◌*◌, List, [], ◌∷◌, Option, Some, None, unwrap_or, option_map, option_and_then, if◌then◌else◌, nat_le, nat_lt, ◌/◌, ◌^◌}
 use Rattle.omf_placement.specs.declared.frame.Frame.{Frame}
 pub use Rattle.omf_placement.specs.declared.frame.Placed.{Placed}
@@ -9,27 +9,28 @@ use Rattle.omf_check.specs.declared.method.FrameMethod.TheVariants.{Segment as F
 use Rattle.omf_check.specs.declared.method.TargetMethod.{TargetMethod}
 use Rattle.omf_check.specs.declared.method.TargetMethod.TheVariants.{Segment as T0, Group as T1, External as T2}
 
--- The addresses and frames of the segments, the frames of the groups, the addresses and frames of the externals, in index order.
+-- The places of the segments, the frames of the groups, the places of the externals, in index order.
 pub record Places : Type 0 where
   pub segments : List Placed
   pub groups : List Frame
   pub externals : List Placed
 
+-- The frame that counts in place of one that is missing.
 abbrev pub no_frame : Frame
 no_frame = record { base = 0; selector = 0 }
 
--- What stands for a place that is not listed.
+-- The place that counts in place of one that is missing.
 abbrev pub no_place : Placed
 no_place = record { address = 0; frame = no_frame }
 
--- The entry of an index, from 1; no place outside the list, which a placement that fits has no use for.
+-- The place with index i, from 1; `no_place` outside the list, which does not occur in a placement that fits its module.
 abbrev pub placed : List Placed → ℕ → Placed
 placed xs i = unwrap_or (entry xs i) no_place
 
 abbrev pub group_frame : Places → ℕ → Frame
 group_frame pl i = unwrap_or (entry pl.groups i) no_frame
 
--- The address of a target: of a group, the base of its frame, whatever its selector.
+-- The address of a target. That of a group is the base of its frame.
 abbrev pub target_address : Places → TargetMethod → ℕ
 target_address pl (T0 i) = (placed pl.segments i).address
 target_address pl (T1 i) = (group_frame pl i).base
@@ -41,7 +42,7 @@ target_frame pl (T0 i) = (placed pl.segments i).frame
 target_frame pl (T1 i) = group_frame pl i
 target_frame pl (T2 i) = (placed pl.externals i).frame
 
--- The frame of a method: F4 is that of the segment of the last data record, here `location`; F5 is that of the target itself.
+-- The frame of a frame method. F4 is the frame of the segment of the last data record, here `location`; F5 is that of the target.
 abbrev pub frame_by : Places → ℕ → TargetMethod → FrameMethod → Frame
 frame_by pl location target (F0 i) = (placed pl.segments i).frame
 frame_by pl location target (F1 i) = group_frame pl i
@@ -49,20 +50,20 @@ frame_by pl location target (F2 i) = (placed pl.externals i).frame
 frame_by pl location target F4 = (placed pl.segments location).frame
 frame_by pl location target F5 = target_frame pl target
 
--- An absolute segment lies at its frame number and offset (TIS OMF 1.1, "SEGDEF", frame number and offset).
+-- The place of an absolute segment, by its frame number and offset (TIS OMF 1.1, "SEGDEF", frame number and offset).
 abbrev pub absolute_place : ℕ → ℕ → Placed
 absolute_place number offset = record { address = 16 * number + offset; frame = record { base = 16 * number; selector = number } }
 
--- The real-mode frame of an address below 2^20 (this profile's rule).
+-- The real-mode frame of an address below 2^20 (a rule of this profile).
 abbrev pub real_frame : ℕ → Option Frame
 real_frame address = if nat_lt address (2 ^ 20) then Some (record { base = 16 * (address / 16); selector = address / 16 }) else None
 
--- The places of a group's members, where each has one.
+-- The places of a group's members, if each has one.
 abbrev pub members_placed : List Placed → List (At (At ℕ)) → Option (List Placed)
 members_placed xs [] = Some []
 members_placed xs (m ∷ ms) = option_and_then (λ p. option_map (λ ps. p ∷ ps) (members_placed xs ms)) (entry xs m.item.item)
 
--- The place of the lowest address, the first of them at a tie.
+-- The place with the lowest address, the first at a tie.
 abbrev pub lower : Placed → Option Placed → Placed
 lower p None = p
 lower p (Some q) = if nat_le p.address q.address then p else q
@@ -71,6 +72,6 @@ abbrev pub lowest : List Placed → Option Placed
 lowest [] = None
 lowest (p ∷ ps) = Some (lower p (lowest ps))
 
--- The frame that a group takes from its members: that of its lowest member. None where the group is not there or has no member, or a member has no place.
+-- The frame of a group by its members: that of its lowest member. None if the group does not exist or has no member, or a member has no place.
 abbrev pub real_group : List Rec → List Placed → ℕ → Option Frame
 real_group m placed_segments i = option_map (λ p. p.frame) (option_and_then lowest (option_and_then (λ g. members_placed placed_segments g.members) (entry (groups m) i)))

@@ -1,4 +1,4 @@
--- Placement texts, and the placements that they give a module (this profile's rule).
+-- Placement texts, and the placements that they give a module (a format of this profile).
 use Rattle.std.specs.Prelude.{◌≡◌, ℕ, List, [], ◌∷◌, map, filter_map, Option, Some, None, Result, Ok, Err, IsOk, ◌==◌}
 use Rattle.std.specs.List.{enumerate_from, slice_split}
 use Rattle.omf_placement.specs.declared.fault.TextFault.{TextFault}
@@ -10,14 +10,14 @@ use Rattle.omf_placement.specs.Entries.{Entry, SegmentEntry, GroupEntry, Externa
 -- computed: entries_are_read, places_are_read and numbers_are_read of omf_placement.
 use Rattle.omf_placement.specs.Inner.EntryReading.{entry_said}
 
--- The lines of a text, which end at a line feed or at the end of the text, each with its number from 1 and its entry, if it has one.
+-- The lines of a text, each with its number from 1 and its entry, if any. Lines end at a line feed or at the end of the text.
 abbrev pub numbered_lines : List ℕ → List (ℕ × List ℕ)
 numbered_lines text = enumerate_from 1 (slice_split (λ c. c == 10) text)
 
 abbrev pub line_entries : List ℕ → List (ℕ × Option Entry)
 line_entries text = map (λ l. (l.0, entry_said (said l.1))) (numbered_lines text)
 
--- The numbers of the lines that are neither empty nor an entry.
+-- The numbers of the lines that are neither blank nor an entry.
 abbrev pub bad_line : ℕ × Option Entry → Option ℕ
 bad_line (n, None) = Some n
 bad_line (n, Some e) = None
@@ -25,7 +25,7 @@ bad_line (n, Some e) = None
 abbrev pub bad_lines : List ℕ → List ℕ
 bad_lines text = filter_map bad_line (line_entries text)
 
--- The entries of each letter, in their order; those of groups with the numbers of their lines.
+-- The entries of each letter, in order; those of groups with their line numbers.
 abbrev pub segment_entry : ℕ × Option Entry → Option Placed
 segment_entry (n, Some (SegmentEntry p)) = Some p
 segment_entry _ = None
@@ -50,23 +50,23 @@ abbrev pub ok_or_first : {A : Type 0} → A → List ℕ → Result A ℕ
 ok_or_first a [] = Ok a
 ok_or_first a (n ∷ ns) = Err n
 
--- The draft that a text spells, or the first line at fault. No module is needed for it, so that a line that is not understood is named before a group
--- that is not found.
+-- The draft that a text spells, or the first line at fault. It depends on no module, so a line that is no entry is reported before a group whose frame
+-- cannot be found.
 abbrev pub parsed : List ℕ → Result Draft ℕ
 parsed text = ok_or_first (draft_of text) (bad_lines text)
 
--- An answer is what is defined: exactly this value, or exactly this line at fault. Want of memory is answered only where no line is at fault.
+-- A result is the defined one: exactly this value, or exactly this line at fault. Memory is returned only if no line is at fault.
 abbrev pub IsAnswer : {A : Type 0} → Result A ℕ → Result A TextFault → Type 0
 IsAnswer r (Ok a) = r ≡ Ok a
 IsAnswer r (Err (Line n)) = r ≡ Err n
 IsAnswer r (Err Memory) = IsOk r
 
--- The frame of the k-th group entry, k counted from 1 over all of them without bound: its own, or that of the lowest member of the k-th group.
+-- The frame of the k-th group entry, from 1: its own, or that of the lowest member of the k-th group.
 abbrev pub resolved_group : List Rec → List Placed → ℕ × (ℕ × Option Frame) → Option Frame
 resolved_group m placed_segments (k, (n, Some f)) = Some f
 resolved_group m placed_segments (k, (n, None)) = real_group m placed_segments k
 
--- the line of a group entry whose frame is not found
+-- the line of a group entry whose frame cannot be found
 abbrev pub line_unless : ℕ → Option Frame → Option ℕ
 line_unless n (Some f) = None
 line_unless n None = Some n
@@ -74,7 +74,7 @@ line_unless n None = Some n
 abbrev pub unresolved_group : List Rec → List Placed → ℕ × (ℕ × Option Frame) → Option ℕ
 unresolved_group m placed_segments g = line_unless g.1.0 (resolved_group m placed_segments g)
 
--- The placement that a draft gives a module, or the line of the first group whose frame is not found. All segment entries count, also those after it.
+-- The placement that a draft gives a module, or the line of the first group whose frame cannot be found. All segment entries count, also those after the group's.
 abbrev pub resolved : List Rec → Draft → Result Places ℕ
 resolved m d = let numbered = enumerate_from 1 d.groups in
     ok_or_first (record { segments = d.segments; groups = filter_map (resolved_group m d.segments) numbered; externals = d.externals })

@@ -1,10 +1,10 @@
-//! A text taken apart at a byte.
+//! Splitting a text at a byte.
 
 ghost use Rattle.std.specs.Prelude.{◌≡◌, ◌∷◌, ◌<◌, ◌==◌, length, IfSome, option_map};
 ghost use Rattle.std.specs.List.{before_first, position_or_len, slice_split};
 ghost use Rattle.omf_placement.specs.Inner.Parsing.{parts_after};
 
-/// The place of the first of a byte, or the text's length.
+/// The position of the first `byte` in `text`, or the text's length.
 fn first_of(text: &[u8], byte: u8) -> usize
     ensures { result ≡ position_or_len (λ c. c == byte) text.now }
 {
@@ -12,7 +12,7 @@ fn first_of(text: &[u8], byte: u8) -> usize
     place.unwrap_or(text.len())
 }
 
-/// The first part of a text that is cut at each place of a byte, and the text after that place, if there is one.
+/// Splits `text` at its first `byte`: the text before it, and the text after it, if the byte is present.
 pub fn cut(text: &[u8], byte: u8) -> (&[u8], Option<&[u8]>)
     ensures parts { slice_split (λ c. c == byte) text.now ≡ result.0.now ∷ parts_after byte (option_map (λ t. t.now) result.1) }
     ensures first { result.0.now ≡ before_first (λ c. c == byte) text.now }

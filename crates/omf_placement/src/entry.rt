@@ -1,4 +1,4 @@
-//! The entries of a placement text, one to a line (this profile's rule).
+//! The entries of a placement text, one per line (a format of this profile).
 
 ghost use Rattle.std.specs.Prelude.{◌≡◌, ◌≤◌, ◌<◌, ◌^◌, reverse, IfSome, option_map};
 ghost use Rattle.omf_placement.specs.Entries.{without_return, without_spaces, said};
@@ -8,20 +8,21 @@ ghost use Rattle.omf_placement.specs.Inner.Parsing.{seen};
 use crate::cut::cut;
 use crate::frame::{Frame, Placed};
 
-/// What a line says.
+/// The entry on a line.
 #[derive(Clone, Copy, Debug)]
 pub enum Entry {
-    /// Nothing.
+    /// A blank line.
     Blank,
-    /// The next segment's place.
+    /// The place of the next segment.
     Segment(Placed),
-    /// The next group's frame, or that it is to be found by the group's members.
+    /// The frame of the next group; `None` if it is that of the group's lowest member.
     Group(Option<Frame>),
-    /// The next external's place.
+    /// The place of the next external.
     External(Placed),
 }
 
-/// A line without the one carriage return at its end, without what stands from the first `;` on, without the spaces at both ends.
+/// The text of a line: without a carriage return at its end, then without a comment from the first `;` on, then without spaces at both
+/// ends.
 pub fn said_by(line: &[u8]) -> &[u8]
     ensures { result.now ≡ said line.now }
 {
@@ -29,7 +30,7 @@ pub fn said_by(line: &[u8]) -> &[u8]
     trimmed_end(trimmed_front(before_comment))
 }
 
-/// A line without a carriage return at its end.
+/// The line without a carriage return at its end.
 fn without_return(line: &[u8]) -> &[u8]
     ensures { result.now ≡ without_return line.now }
 {
@@ -39,7 +40,7 @@ fn without_return(line: &[u8]) -> &[u8]
     }
 }
 
-/// A text without the spaces at its front.
+/// The text without the spaces at its start.
 fn trimmed_front(text: &[u8]) -> &[u8]
     ensures { result.now ≡ without_spaces text.now }
 {
@@ -53,7 +54,7 @@ fn trimmed_front(text: &[u8]) -> &[u8]
     left
 }
 
-/// A text without the spaces at its end.
+/// The text without the spaces at its end.
 fn trimmed_end(text: &[u8]) -> &[u8]
     ensures { result.now ≡ reverse (without_spaces (reverse text.now)) }
 {
@@ -67,7 +68,7 @@ fn trimmed_end(text: &[u8]) -> &[u8]
     left
 }
 
-/// A number of 1 to `most` hexadecimal digits, in either case.
+/// Parses a number of 1 to `most` hexadecimal digits, upper or lower case. `most` is at most 8.
 pub fn hexadecimal(word: &[u8], most: usize) -> Option<u32>
     requires { most ≤ 8 }
     ensures value { result ≡ hexadecimal most word.now }
@@ -85,7 +86,7 @@ pub fn hexadecimal(word: &[u8], most: usize) -> Option<u32>
     Some(value)
 }
 
-/// A frame of two words.
+/// Parses a frame: its base and its selector.
 fn frame_of(base: &[u8], selector: &[u8]) -> Option<Frame>
     ensures { result ≡ frame_of base.now selector.now }
 {
@@ -94,7 +95,7 @@ fn frame_of(base: &[u8], selector: &[u8]) -> Option<Frame>
     Some(Frame { base, selector })
 }
 
-/// A place of three words.
+/// Parses a place: its address, and the base and the selector of its frame.
 pub fn placed_of(address: &[u8], base: &[u8], selector: &[u8]) -> Option<Placed>
     ensures { result ≡ placed_of address.now base.now selector.now }
 {
@@ -103,7 +104,7 @@ pub fn placed_of(address: &[u8], base: &[u8], selector: &[u8]) -> Option<Placed>
     Some(Placed { address, frame })
 }
 
-/// A place in the real-mode frame of its address.
+/// Parses a place in the real-mode frame of its address.
 fn real_of(address: &[u8]) -> Option<Placed>
     ensures { result ≡ real_of address.now }
 {
@@ -112,7 +113,7 @@ fn real_of(address: &[u8]) -> Option<Placed>
     Some(Placed { address, frame })
 }
 
-/// The entry of one word, which is none but the empty one.
+/// The entry of a line of one word: only the empty word is one.
 fn one_word(word: &[u8]) -> Option<Entry>
     ensures { option_map seen result ≡ one_word word.now }
 {
@@ -122,7 +123,7 @@ fn one_word(word: &[u8]) -> Option<Entry>
     None
 }
 
-/// The entry of two words: `G real`.
+/// The entry of a line of two words: `G real`.
 fn two_words(letter: &[u8], second: &[u8]) -> Option<Entry>
     ensures { option_map seen result ≡ two_words letter.now second.now }
 {
@@ -132,7 +133,7 @@ fn two_words(letter: &[u8], second: &[u8]) -> Option<Entry>
     None
 }
 
-/// The entry of three words: `S address real`, or `G frame selector`.
+/// The entry of a line of three words: `S address real`, or `G base selector`.
 fn three_words(letter: &[u8], second: &[u8], third: &[u8]) -> Option<Entry>
     ensures { option_map seen result ≡ three_words letter.now second.now third.now }
 {
@@ -145,7 +146,7 @@ fn three_words(letter: &[u8], second: &[u8], third: &[u8]) -> Option<Entry>
     None
 }
 
-/// The entry of four words: `S address frame selector`, or `E address frame selector`.
+/// The entry of a line of four words: `S address base selector`, or `E address base selector`.
 fn four_words(letter: &[u8], second: &[u8], third: &[u8], fourth: &[u8]) -> Option<Entry>
     ensures { option_map seen result ≡ four_words letter.now second.now third.now fourth.now }
 {
@@ -158,7 +159,7 @@ fn four_words(letter: &[u8], second: &[u8], third: &[u8], fourth: &[u8]) -> Opti
     None
 }
 
-/// The entry that a line says, of words with one space between each two; none where it is no entry.
+/// Parses the text of a line, words with one space between each two. Returns `None` if it is no entry.
 pub fn entry_of(said: &[u8]) -> Option<Entry>
     ensures { option_map seen result ≡ entry_said said.now }
 {

@@ -1,16 +1,16 @@
-//! Why a placement is not read.
+//! Faults of placement texts.
 
 use std::alloc::{AllocError, AllocFailed};
 use thiserror::Error;
 
-/// Why a placement text gives no placement. The numbers of the reasons are 1 and 2.
+/// Why a placement text gives no placement. The reasons have the numbers 1 and 2.
 #[derive(Clone, Copy, Debug, PartialEq, Eq, Error)]
 pub enum TextFault {
-    /// 1: a growth was refused.
+    /// 1: out of memory.
     #[error("memory ran out")]
     Memory,
-    /// 2: the first line, numbered from 1, that is neither empty nor an entry; where there is none, the first group whose frame is
-    /// to be found and cannot be.
+    /// 2: the first line, numbered from 1, that is neither blank nor an entry; if there is none, the line of the first `G real` whose frame
+    /// cannot be found.
     #[error("a line of the placement gives no entry")]
     Line(u64),
 }

@@ -1,24 +1,24 @@
-//! Laws over the definitions, each the contract of a function that does nothing.
+//! Laws of the definitions. Each is the contract of an empty function.
 
 ghost use Rattle.omf_placement.specs.Laws.{EntriesAreRead, GroupsTakeTheLowest, NumbersAreRead, PlacesAreRead};
 
-/// What a line of a placement text says is read as the entry that it spells, and as none where it spells none.
+/// The text of a line is parsed as the entry that it spells, and as none if it spells none.
 pub fn entries_are_read()
     ensures { EntriesAreRead }
 {}
 
-/// A hexadecimal number is read of digits exactly where they spell it.
+/// Digits are parsed as a hexadecimal number exactly if they spell it.
 pub fn numbers_are_read()
     ensures { NumbersAreRead }
 {}
 
-/// A place is read of three words exactly where they spell its address, and the base and the selector of its frame.
+/// Three words are parsed as a place exactly if they spell its address, and the base and the selector of its frame.
 pub fn places_are_read()
     ensures { PlacesAreRead }
 {}
 
-/// The frame that a group takes from its members is that of the one that lies lowest, and of several that lie lowest of the first;
-/// there is none exactly where the group is not there, has no member, or has a member without a place.
+/// The frame of a group by its members is that of the lowest member, the first at a tie. There is none exactly if the group does not
+/// exist, has no member, or has a member without a place.
 pub fn groups_take_the_lowest()
     ensures { GroupsTakeTheLowest }
 {}

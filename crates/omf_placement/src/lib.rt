@@ -1,5 +1,5 @@
-//! Placements: the frames and addresses of a module's segments, groups and externals, the frames that groups take from their members, and the texts that
-//! placements are written in.
+//! Placements: the addresses and frames of a module's segments, groups and externals; the frames of groups by their members; and the text
+//! format of placements.
 #![tactic(auto)]
 
 pub mod cut;

@@ -1,4 +1,4 @@
-//! Placement texts (this profile's rule).
+//! Placement texts (a format of this profile).
 
 ghost use Rattle.std.specs.Prelude.{◌≡◌, ℕ, [], OnOk};
 ghost use Rattle.omf_records.specs.Inner.Seen.{map_ok};
@@ -16,7 +16,7 @@ use omf_check::Checked;
 use std::alloc::{AllocError, Global};
 use std::marker::Model;
 
-/// The entries of a placement text. The frames of some groups may be still to be found, by their members.
+/// The entries of a placement text. The frames of groups may still have to be found from their members.
 #[derive(Drop)]
 pub struct Draft {
     segments: Vec<Placed>,
@@ -35,7 +35,7 @@ impl Model for Draft {
 impl Draft {
     ghost use Rattle.omf_placement.specs.Inner.Parsing.{seen, with_entry};
 
-    /// A draft without entries.
+    /// An empty draft.
     pub fn new(alloc: Global) -> Self
         ensures { result ≡ record { segments = []; groups = []; externals = [] } }
     {
@@ -46,7 +46,7 @@ impl Draft {
         }
     }
 
-    /// Adds the entry of a line.
+    /// Adds the entry on a line.
     pub fn push(&mut self, line: u64, entry: Entry) -> Result<(), AllocError>
         ensures { OnOk result (self.new ≡ with_entry self.old line (seen entry)) }
     {
@@ -59,34 +59,35 @@ impl Draft {
         Ok(())
     }
 
-    /// What the `S` lines say, in their order.
+    /// The places on the `S` lines, in order.
     pub fn segments(&self) -> &[Placed]
         ensures { result.now ≡ self.now.segments }
     {
         &self.segments
     }
 
-    /// The number of each `G` line, from 1, and the frame that it gives; `None` where it says `real`.
+    /// The number of each `G` line, from 1, and its frame; `None` for `real`.
     pub fn groups(&self) -> &[(u64, Option<Frame>)]
         ensures { result.now ≡ self.now.groups }
     {
         &self.groups
     }
 
-    /// What the `E` lines say, in their order.
+    /// The places on the `E` lines, in order.
     pub fn externals(&self) -> &[Placed]
         ensures { result.now ≡ self.now.externals }
     {
         &self.externals
     }
 
-    /// The placement of a module that the entries give. Segments and externals lie where the text says. A group has the frame that the
-    /// text gives it, or, at `G real`, the frame of its member that lies lowest, as `real_group` has it. The k-th of all `G` lines
-    /// speaks of the k-th group, and all `S` lines count, also later ones.
+    /// The placement that the entries give a module. The places of segments and externals are those in the text. The frame of a group is
+    /// that in the text, or, for `G real`, that of its lowest member, as in `real_group`. The kth of all `G` lines is for the kth
+    /// group. All `S` lines count, also later ones.
     ///
-    /// `Line` names the line of the first `G real` whose frame is not found: where there is no such group, where it has no member, or
-    /// where a member has no `S` line. A growth that is refused is `Memory`, which hides no such line: it is answered only where the
-    /// frames of all groups are found. At an `Err` the draft is dropped.
+    /// # Errors
+    ///
+    /// `Line` with the line of the first `G real` whose frame cannot be found: there is no such group, it has no member, or a member has
+    /// no `S` line. `Memory` if out of memory, only if the frames of all groups can be found. On an error the draft is dropped.
     pub fn resolve(self, alloc: Global, module: &Checked) -> Result<Placement, TextFault>
         ensures { IsAnswer (resolved (recs_of «module».now.bytes) self) result }
     {
@@ -100,7 +101,7 @@ impl Draft {
     }
 }
 
-/// The frame of the `k`-th group: the one that is given, or else that of its lowest member.
+/// The frame of the `k`th group: the given one, or else that of its lowest member.
 fn group_frame(
     module: &Checked,
     segments: &[Placed],
@@ -115,8 +116,8 @@ fn group_frame(
     }
 }
 
-/// The frames of all groups, or the line of the first whose frame is not found. A growth that is refused hides no such line: the groups
-/// behind it are judged all the same.
+/// The frames of all groups, or the line of the first whose frame cannot be found. If memory runs out, the later groups are still
+/// searched for such a line.
 fn group_frames(
     alloc: Global,
     module: &Checked,
@@ -141,14 +142,14 @@ fn group_frames(
     Ok(frames)
 }
 
-/// Reads a placement text, of lines that end at a line feed or at the end of the text. A line says what is left without a carriage
-/// return at its end, without what stands from the first `;` on, without the spaces at both ends: nothing, or one of
-/// `S address frame selector`, `S address real`, `G frame selector`, `G real`, `E address frame selector`, with one space between
-/// words. Addresses and frames are 1 to 8 hexadecimal digits in either case, selectors 1 to 4. Entries of one letter stand in the
-/// order of their indices.
+/// Parses a placement text. Lines end at a line feed or at the end of the text. A carriage return at the end of a line, a comment from
+/// the first `;` on, and spaces at both ends are ignored. What remains is blank, or one of `S address base selector`,
+/// `S address real`, `G base selector`, `G real`, `E address base selector`, with one space between words. Addresses and frames have
+/// 1 to 8 hexadecimal digits, selectors 1 to 4, in upper or lower case. Entries with the same letter are in index order.
 ///
-/// `Line` names the first line, from 1, that says anything else. A growth that is refused is `Memory`, which hides no such line: it is
-/// answered only where there is none.
+/// # Errors
+///
+/// `Line` with the first line, from 1, that is anything else. `Memory` if out of memory, only if there is no such line.
 pub fn parse_placement(alloc: Global, text: &[u8]) -> Result<Draft, TextFault>
     ensures { IsAnswer (parsed text.now) result }
 {

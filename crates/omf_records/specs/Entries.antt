@@ -1,5 +1,5 @@
--- What records repeat, and what two of them share: the layout of each (TIS OMF 1.1, the page of each record).
--- `wide` says that the fields whose width depends on the record's type have 32 bits. A refused value has the list of its reasons.
+-- The layouts of the items that records repeat, and of references (TIS OMF 1.1, the page of each record).
+-- `wide` is true in 32-bit records. A refused value has the list of its reasons.
 use Rattle.std.specs.Prelude.{ℕ, ◌==◌, ◌||◌, not, nat_lt, Bool, if◌then◌else◌, List, [], ◌∷◌, ◌++◌}
 use Rattle.omf_frame.specs.Bytes.{is_one_of}
 use Rattle.omf_frame.specs.declared.fault.Reason.{Reason}
@@ -11,7 +11,7 @@ use Rattle.omf_records.specs.Layout.{Layout, ◌>>=◌, give, name, index, byte,
 abbrev pub unless : Bool → Reason → List Reason
 unless test r = if test then [] else r ∷ []
 
--- GRPDEF: the component FFH, and the index of a segment (no other component is taken: this profile's rule).
+-- GRPDEF: the component byte FFH, and a segment index (other components are refused: this profile's rule).
 abbrev pub wrong_component : ℕ → List Reason
 wrong_component c = unless (c == 0xFF) reason.GroupComponent
 
@@ -35,7 +35,7 @@ public_item wide = do
   type_index ← index
   give (record { name = text; offset = offset; type_index = type_index })
 
--- COMDEF: a name, a type index, the data type 62H (near) and a length, or 61H (far), a number of elements and their size.
+-- COMDEF: a name, a type index, and the data type 62H (near) and a length, or 61H (far), the number of elements and their size.
 abbrev pub wrong_data_type : ℕ → List Reason
 wrong_data_type t = unless (is_one_of (0x61 ∷ 0x62 ∷ []) t) reason.CommunalType
 
@@ -60,9 +60,9 @@ communal = do
   size ← communal_size
   give (record { name = text; type_index = type_index; size = size })
 
--- The reference of a FIXUP, and of MODEND's start: the fix data byte; a frame datum where it names F0, F1 or F2 and no thread;
--- a target datum where it names no thread; a displacement where its bit P is 0. Frame methods F3, F6, F7 and target method 3
--- are refused, where no thread is named (this profile's rule).
+-- The reference of a FIXUP and of MODEND's start address: the fix data byte; a frame datum if the frame method is F0, F1 or F2; a
+-- target datum if no thread gives the target; a displacement if bit P is 0. Unless a thread is used, frame methods F3, F6, F7 and
+-- target method 3 are refused (this profile's rule).
 abbrev pub is_frame_method : ℕ → Bool
 is_frame_method m = nat_lt m 3 || (m == 4) || (m == 5)
 
@@ -78,7 +78,7 @@ reference wide = do
   displacement ← when (not (has_no_displacement fix.item)) (number_of wide)
   give (record { fix = fix; frame = frame; target = target; displacement = displacement })
 
--- A THREAD: one byte, of which bit 7 is clear, and an index for F0, F1, F2, T0, T1, T2.
+-- A THREAD: one byte with bit 7 clear, and an index for F0, F1, F2, T0, T1, T2.
 abbrev pub wrong_thread : ℕ → List Reason
 wrong_thread b = if thread_is_frame b then unless (is_frame_method (thread_method b)) reason.FrameMethod
     else unless (nat_lt (thread_method b) 3) reason.TargetMethod
@@ -86,8 +86,8 @@ wrong_thread b = if thread_is_frame b then unless (is_frame_method (thread_metho
 abbrev pub thread : ℕ → Layout Subrecord
 thread b = called (when (nat_lt (thread_method b) 3) (with_place index)) (Thread b)
 
--- A FIXUP: two bytes, high byte first, of which bit 15 is set, and a reference. The location type is one of the table, and one
--- that may be self-relative where bit M is 0.
+-- A FIXUP: two bytes, high byte first, with bit 15 set, and a reference. The location type must be defined, and one that may be
+-- self-relative if bit M is 0.
 abbrev pub wrong_location : ℕ → List Reason
 wrong_location locat = if is_location (location_type locat)
     then unless (is_segment_relative locat || may_be_self_relative (location_type locat)) reason.SelfRelative

@@ -1,4 +1,4 @@
--- The contents of each record: its layout, by the record's type (TIS OMF 1.1, the page of each record).
+-- The layout of each record's contents (TIS OMF 1.1, the page of each record).
 use Rattle.std.specs.Prelude.{ℕ, ◌==◌, ◌||◌, not, nat_lt, Bool, List, ◌++◌}
 use Rattle.omf_frame.specs.Bytes.{is_one_of}
 use Rattle.omf_frame.specs.Types.{coment, extdef, pubdef, lnames, segdef, grpdef, fixupp, ledata, lidata, comdef, lextdef, lpubdef, lcomdef, llnames}
@@ -27,7 +27,7 @@ abbrev pub names : Layout Contents
 names = called (many name) Names
 
 -- SEGDEF: attribute byte; frame number and offset of an absolute segment; length; name, class and overlay index. Alignments
--- 6 and 7 are refused (this profile's rule), and a length other than 0 where the segment is Big.
+-- 6 and 7 are refused (this profile's rule), and a length other than 0 if the segment is Big.
 abbrev pub wrong_alignment : ℕ → List Reason
 wrong_alignment attribute = unless (nat_lt (alignment attribute) 6) reason.Alignment
 
@@ -60,7 +60,7 @@ group = do
 abbrev pub externs : Layout Contents
 externs = called (many external) Externs
 
--- PUBDEF, LPUBDEF: group index, segment index, the frame number of the base where the segment index is 0, and public names to the end.
+-- PUBDEF, LPUBDEF: group index; segment index; the base frame number if the segment index is 0; public names to the end.
 abbrev pub publics : Bool → Layout Contents
 publics wide = do
   group ← with_place index
@@ -83,14 +83,14 @@ data_item wide = do
 abbrev pub fixups : Bool → Layout Contents
 fixups wide = called (many (subrecord wide)) Fixups
 
--- MODEND: type byte, and the start where its bit 6 is set.
+-- MODEND: type byte, and the start address if its bit 6 is set.
 abbrev pub mod_end : Bool → Layout Contents
 mod_end wide = do
   type_byte ← byte
   start ← when (has_start type_byte) (reference wide)
   ends (ModEnd type_byte start)
 
--- TYPDEF, LINNUM, LINSYM, ALIAS, VERNUM: any bytes. (No other type comes this far: a module with one is refused by its type byte.)
+-- TYPDEF, LINNUM, LINSYM, ALIAS, VERNUM: any bytes. (Framing refuses a module with any other type.)
 abbrev pub carried : Layout Contents
 carried = called rest Carried
 
@@ -111,6 +111,6 @@ contents kind =
     either (is_end kind) (mod_end (is_wide kind))
     carried)))))))))))
 
--- The contents of a record, which begin at offset 3, spell this typed record.
+-- The contents of a record, which begin at offset 3, encode this typed record.
 abbrev pub IsTyped : Rec → List ℕ → Type 0
 IsTyped r body = (contents r.kind).Spells 3 body r.contents

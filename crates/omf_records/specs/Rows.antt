@@ -1,4 +1,4 @@
--- Worked examples of contents: what they spell, or their first fault, worked out by hand. Each is the contract of a function.
+-- Worked examples of contents: their values or their first faults, worked out by hand. Each is the contract of a function.
 use Rattle.std.specs.Prelude.{◌≡◌, ℕ, List, [], ◌∷◌, Option, Some, None, Ok, Err}
 use Rattle.omf_frame.specs.declared.fault.Reason.{Reason}
 use Rattle.omf_frame.specs.declared.fault.Reason.TheVariants as reason
@@ -13,7 +13,7 @@ Gives kind body c = read_body kind body ≡ Ok c
 abbrev pub Refused : ℕ → List ℕ → ℕ → Reason → Type 0
 Refused kind body at r = read_body kind body ≡ Err (fault at r)
 
--- the contents read from the first bytes are put as the second
+-- the contents read from the first bytes are written as the second
 abbrev pub Shortens : ℕ → List ℕ → Contents → List ℕ → Type 0
 Shortens kind body c short = Gives kind body c × (contents_bytes kind c ≡ short)
 
@@ -34,7 +34,7 @@ pub record SmallModule : Type 0 where
   pub fixup : Gives 0x9C (0xC4 ∷ 0x01 ∷ 0x04 ∷ 0x01 ∷ 0x01 ∷ []) (Fixups (put_at 3 (Fixup 0xC401 (refers (put_at 5 4) (Some (put_at 6 1)) (Some (put_at 7 1)) None)) ∷ []))
   pub last_record : Gives 0x8A (0x00 ∷ []) (ModEnd 0 None)
 
--- Every other record.
+-- All other records.
 pub record OtherRecords : Type 0 where
   pub library_header : Gives 0x82 (0x00 ∷ []) (Header [])
   pub comment : Gives 0x88 (0x00 ∷ 0xAA ∷ []) (Comment 0 0xAA [])
@@ -70,7 +70,7 @@ pub record OtherRecords : Type 0 where
   pub start : Gives 0x8A (0xC1 ∷ 0xA0 ∷ 0x01 ∷ 0x02 ∷ 0x00 ∷ []) (ModEnd 0xC1 (Some (refers (put_at 4 0xA0) None (Some (put_at 5 1)) (Some 2))))
   pub wide_start : Gives 0x8B (0xC1 ∷ 0x50 ∷ 0x01 ∷ 0x02 ∷ 0x00 ∷ 0x00 ∷ 0x01 ∷ []) (ModEnd 0xC1 (Some (refers (put_at 4 0x50) None (Some (put_at 5 1)) (Some 0x01000002))))
 
--- Subrecords: threads and the fixups that use them, a pointer 16:32 and a 32-bit offset, every kind of fix data byte.
+-- Subrecords: threads and the fixups that use them, a 16:32 pointer and a 32-bit offset, every kind of fix data byte.
 pub record Subrecords : Type 0 where
   pub threads : Gives 0x9C (0x50 ∷ 0x00 ∷ 0x01 ∷ 0xC4 ∷ 0x00 ∷ 0x8C ∷ 0x00 ∷ 0x02 ∷ []) (Fixups (
       put_at 3 (Thread 0x50 None) ∷ put_at 4 (Thread 0x00 (Some (put_at 5 1))) ∷ put_at 6 (Fixup 0xC400 (refers (put_at 8 0x8C) None None None))
@@ -79,19 +79,19 @@ pub record Subrecords : Type 0 where
       put_at 3 (Fixup 0xEC00 (refers (put_at 5 0x14) (Some (put_at 6 1)) (Some (put_at 7 1)) None))
       ∷ put_at 8 (Fixup 0xE406 (refers (put_at 10 0x10) (Some (put_at 11 1)) (Some (put_at 12 1)) (Some 4))) ∷ []))
   pub thread_of_segment : Gives 0x9C (0x01 ∷ 0x02 ∷ []) (Fixups (put_at 3 (Thread 0x01 (Some (put_at 4 2))) ∷ []))
-  -- a target thread has two bits of method, and bit 5 of any thread means nothing
+  -- a target thread has two method bits, and bit 5 of a thread is ignored
   pub third_bit : Gives 0x9C (0x10 ∷ 0x05 ∷ 0x14 ∷ 0x05 ∷ 0x18 ∷ 0x05 ∷ 0x20 ∷ 0x05 ∷ []) (Fixups (
       put_at 3 (Thread 0x10 (Some (put_at 4 5))) ∷ put_at 5 (Thread 0x14 (Some (put_at 6 5))) ∷ put_at 7 (Thread 0x18 (Some (put_at 8 5))) ∷ put_at 9 (Thread 0x20 (Some (put_at 10 5))) ∷ []))
   pub third_bit_wrong : Refused 0x9C (0x1C ∷ []) 3 reason.TargetMethod
   -- frame threads: F5 has no index, F2 has one, F7 is refused
   pub frame_threads : Gives 0x9C (0x57 ∷ 0x4A ∷ 0x09 ∷ []) (Fixups (put_at 3 (Thread 0x57 None) ∷ put_at 4 (Thread 0x4A (Some (put_at 5 9))) ∷ []))
   pub frame_thread_wrong : Refused 0x9C (0x57 ∷ 0x5C ∷ []) 4 reason.FrameMethod
-  -- where a thread gives the frame, bit 6 means nothing; where one gives the target, 3 is its number
+  -- if a thread gives the frame, bit 6 is ignored; if one gives the target, 3 is its number
   pub frame_by_thread : Gives 0x9C (0xC4 ∷ 0x01 ∷ 0xF4 ∷ 0x01 ∷ []) (Fixups (put_at 3 (Fixup 0xC401 (refers (put_at 5 0xF4) None (Some (put_at 6 1)) None)) ∷ []))
   pub frame_by_third_thread : Gives 0x9C (0xC4 ∷ 0x01 ∷ 0xB4 ∷ 0x01 ∷ []) (Fixups (put_at 3 (Fixup 0xC401 (refers (put_at 5 0xB4) None (Some (put_at 6 1)) None)) ∷ []))
   pub target_by_thread : Gives 0x9C (0xC4 ∷ 0x01 ∷ 0x0F ∷ 0x01 ∷ []) (Fixups (put_at 3 (Fixup 0xC401 (refers (put_at 5 0x0F) (Some (put_at 6 1)) None None)) ∷ []))
 
--- Spellings that are not the shortest, and the shortest.
+-- Longer encodings, and the shortest.
 pub record ShortestOf : Type 0 where
   pub long_index : Shortens 0xA0 (0x80 ∷ 0x01 ∷ 0x00 ∷ 0x00 ∷ 0xB8 ∷ 0x00 ∷ 0x00 ∷ 0x90 ∷ [])
       (Plain (record { segment = put_at 3 1; offset = put_at 5 0; bytes = 0xB8 ∷ 0 ∷ 0 ∷ 0x90 ∷ [] })) (0x01 ∷ 0x00 ∷ 0x00 ∷ 0xB8 ∷ 0x00 ∷ 0x00 ∷ 0x90 ∷ [])
@@ -103,7 +103,7 @@ pub record ShortestOf : Type 0 where
   pub long_start : Shortens 0x8A (0xC1 ∷ 0x10 ∷ 0x80 ∷ 0x01 ∷ 0x81 ∷ 0x2C ∷ 0x02 ∷ 0x00 ∷ [])
       (ModEnd 0xC1 (Some (refers (put_at 4 0x10) (Some (put_at 5 1)) (Some (put_at 7 300)) (Some 2)))) (0xC1 ∷ 0x10 ∷ 0x01 ∷ 0x81 ∷ 0x2C ∷ 0x02 ∷ 0x00 ∷ [])
 
--- First faults.
+-- Each layout fault once.
 pub record FirstFaults : Type 0 where
   pub communal_length : Refused 0xB0 (0x01 ∷ 0x58 ∷ 0x00 ∷ 0x62 ∷ 0x82 ∷ []) 7 reason.CommunalLength
   pub communal_type : Refused 0xB0 (0x01 ∷ 0x58 ∷ 0x00 ∷ 0x63 ∷ 0x05 ∷ []) 6 reason.CommunalType
@@ -120,9 +120,9 @@ pub record FirstFaults : Type 0 where
   pub short_fixup : Refused 0x9C (0xC4 ∷ []) 3 reason.Short
   pub long_end : Refused 0x8A (0x80 ∷ 0x00 ∷ []) 4 reason.Long
 
--- Which of several comes first.
+-- The first of several faults.
 pub record FaultOrder : Type 0 where
-  -- a method is judged before the datum that would follow, and of two wrong methods the frame's is named
+  -- a method is checked before the datum that would follow; of two wrong methods the frame's is reported
   pub target_before_datum : Refused 0x9C (0xC4 ∷ 0x01 ∷ 0x07 ∷ []) 5 reason.TargetMethod
   pub both_methods : Refused 0x9C (0xC4 ∷ 0x01 ∷ 0x37 ∷ []) 5 reason.FrameMethod
   -- the first two bytes of a FIXUP are one field: one of them is Short, two of a wrong type are not
@@ -131,11 +131,11 @@ pub record FaultOrder : Type 0 where
   pub relative_alone : Refused 0x9C (0x88 ∷ 0x00 ∷ []) 3 reason.SelfRelative
   pub wrong_type_relative : Refused 0x9C (0x9C ∷ 0x00 ∷ []) 3 reason.LocationType
   pub good_location_alone : Refused 0x9C (0xC4 ∷ 0x00 ∷ []) 5 reason.Short
-  -- a wrong mark needs its byte only; a good one without its bytes is Short at the same place
+  -- a wrong first byte of a length is refused by itself; a right one without its bytes is Short at the same offset
   pub mark_at_end : Refused 0xB0 (0x01 ∷ 0x58 ∷ 0x00 ∷ 0x62 ∷ 0xFF ∷ []) 7 reason.CommunalLength
   pub mark_without_bytes : Refused 0xB0 (0x01 ∷ 0x58 ∷ 0x00 ∷ 0x62 ∷ 0x81 ∷ 0x00 ∷ []) 7 reason.Short
   pub second_mark : Refused 0xB0 (0x01 ∷ 0x58 ∷ 0x00 ∷ 0x61 ∷ 0x81 ∷ 0x00 ∷ 0x01 ∷ 0x87 ∷ []) 10 reason.CommunalLength
-  -- the length of a Big segment is judged before a field that is missing on its right; half a length is Short
+  -- the length of a Big segment is checked before a missing field on its right; half a length is Short
   pub big_without_names : Refused 0x98 (0x2A ∷ 0x01 ∷ 0x00 ∷ []) 4 reason.BigLength
   pub big_absolute : Refused 0x98 (0x02 ∷ 0xB8 ∷ 0x00 ∷ 0x04 ∷ 0x01 ∷ 0x00 ∷ []) 7 reason.BigLength
   pub half_length : Refused 0x98 (0x2A ∷ 0x01 ∷ []) 4 reason.Short

@@ -1,4 +1,4 @@
--- The shortest contents of a typed record: each index and communal length in its shortest spelling.
+-- The shortest contents of a typed record: each index and communal length in its shortest encoding.
 use Rattle.std.specs.Prelude.{ℕ, ◌/◌, ◌%◌, List, [], ◌∷◌, ◌++◌, flat_map, Option, Some, None}
 use Rattle.byteorder.specs.Endian.{little_bytes}
 use Rattle.omf_frame.specs.Fields.{index_bytes, name_bytes, communal_length_bytes}
@@ -8,7 +8,7 @@ abbrev pub option_bytes : {A : Type 0} → (A → List ℕ) → Option A → Lis
 option_bytes f None = []
 option_bytes f (Some a) = f a
 
--- an index that stands somewhere
+-- an index
 abbrev pub datum_bytes : At ℕ → List ℕ
 datum_bytes a = index_bytes a.item
 
@@ -23,11 +23,11 @@ abbrev pub size_bytes : CommunalSize → List ℕ
 size_bytes (Near n) = 0x62 ∷ communal_length_bytes n
 size_bytes (Far count size) = 0x61 ∷ (communal_length_bytes count ++ communal_length_bytes size)
 
--- frame number and offset of an absolute segment
+-- the frame number and offset of an absolute segment
 abbrev pub absolute_bytes : ℕ × ℕ → List ℕ
 absolute_bytes a = little_bytes 2 a.0 ++ a.1 ∷ []
 
--- what GRPDEF, EXTDEF, PUBDEF and COMDEF repeat
+-- the items of GRPDEF, EXTDEF, PUBDEF and COMDEF
 abbrev pub member_bytes : At ℕ → List ℕ
 member_bytes m = 0xFF ∷ datum_bytes m
 

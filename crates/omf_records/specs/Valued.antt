@@ -1,4 +1,4 @@
--- References from their values: which fields of a FIXUPP or a MODEND can be written.
+-- The values that the fields of a FIXUPP or a MODEND can have.
 use Rattle.std.specs.Prelude.{◌≡◌, ℕ, ◌*◌, ◌^◌, ◌<◌, ◌≤◌, nat_lt, not, Bool, true, false, List, [], Option, Some, None, All, ⊤}
 use Rattle.omf_frame.specs.Bytes.{is_one_of}
 use Rattle.omf_frame.specs.Framing.{is_end}
@@ -6,7 +6,7 @@ use Rattle.omf_frame.specs.Types.{fixupp}
 use Rattle.omf_records.specs.Values.{At, Contents, Fixups, ModEnd, Reference, Subrecord, Thread, Fixup, width, thread_method, has_frame_datum, has_target_datum, has_no_displacement, has_start}
 use Rattle.omf_records.specs.Entries.{wrong_methods, wrong_head}
 
--- A value stands there exactly if b holds, and is as P says.
+-- The value is present exactly if b holds, and satisfies P.
 abbrev pub IsThere : {A : Type 0} → (A → Type 0) → Bool → Option A → Type 0
 IsThere P true (Some a) = P a
 IsThere P true None = ⊥
@@ -17,7 +17,7 @@ IsThere P false None = ⊤
 abbrev pub IsIndexValue : At ℕ → Type 0
 IsIndexValue a = a.item < 128 * 256
 
--- The fix data byte is not refused, and says which of the other fields are there.
+-- The fix data byte is not refused, and determines which other fields are present.
 pub record IsReferenceValue (kind : ℕ) (r : Reference) : Type 0 where
   pub fix : r.fix.item < 256
   pub methods : wrong_methods r.fix.item ≡ []
@@ -25,7 +25,7 @@ pub record IsReferenceValue (kind : ℕ) (r : Reference) : Type 0 where
   pub target : IsThere IsIndexValue (has_target_datum r.fix.item) r.target
   pub displacement : IsThere (λ d. d < 256 ^ width kind) (not (has_no_displacement r.fix.item)) r.displacement
 
--- So does the first byte of a THREAD; the first two of a FIXUP are 2^15 or more.
+-- A THREAD: its first byte is not refused, and determines whether there is an index. The first two bytes of a FIXUP are at least 2^15.
 pub record IsThreadValue (byte : ℕ) (datum : Option (At ℕ)) : Type 0 where
   pub low : byte < 128
   pub head : wrong_head byte ≡ []
@@ -54,13 +54,13 @@ pub record IsEndValue (kind byte : ℕ) (start : Option Reference) : Type 0 wher
   pub fits : byte < 256
   pub reference : IsThere (IsReferenceValue kind) (has_start byte) start
 
--- The contents of a FIXUPP or of a MODEND, whose values can be written.
+-- Contents of a FIXUPP or of a MODEND, with values in range.
 abbrev pub AreReferenceValues : ℕ → Contents → Type 0
 AreReferenceValues kind (Fixups subs) = AreFixupValues kind subs
 AreReferenceValues kind (ModEnd byte start) = IsEndValue kind byte start
 AreReferenceValues kind _ = ⊥
 
--- The same where they are contents of these.
+-- The values are in range, if they are contents of a FIXUPP or a MODEND.
 abbrev pub HaveReferenceValues : ℕ → Contents → Type 0
 HaveReferenceValues kind (Fixups subs) = AreFixupValues kind subs
 HaveReferenceValues kind (ModEnd byte start) = IsEndValue kind byte start

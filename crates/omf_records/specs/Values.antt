@@ -1,9 +1,9 @@
--- Typed records (TIS OMF 1.1, the page of each record). A byte of packed bits is kept whole, so that no bit is lost;
--- the words at the end of the file read its bits.
+-- Typed records (TIS OMF 1.1, the page of each record). A byte of packed bits is kept whole, so that no bit is lost; definitions
+-- at the end of the file extract its bits.
 use Rattle.std.specs.Prelude.{ℕ, ◌*◌, ◌%◌, ◌==◌, Bool, not, ◌&&◌, ◌||◌, nat_lt, List, map, Option, option_map, if◌then◌else◌}
 use Rattle.omf_frame.specs.Bytes.{bits, has_bit}
 
--- a value, and the offset in its record of its first byte (the type byte stands at 0)
+-- a value, and the offset in the record of its first byte (0 is the type byte)
 pub record At (A : Type 0) : Type 0 where
   pub within : ℕ
   pub item : A
@@ -17,7 +17,7 @@ pub record SegmentItem : Type 0 where
   pub class : At ℕ
   pub overlay : ℕ
 
--- GRPDEF: name, and its members: each stands at its component byte, and holds the index of a segment
+-- GRPDEF: name index, and members; the offset of a member is that of its component byte, its item a segment index
 pub record GroupItem : Type 0 where
   pub name : At ℕ
   pub members : List (At (At ℕ))
@@ -27,7 +27,7 @@ pub record ExternalItem : Type 0 where
   pub name : List ℕ
   pub type_index : ℕ
 
--- PUBDEF, LPUBDEF: a public name, at an offset in the base of its record
+-- PUBDEF, LPUBDEF: a public name, with its offset in the record's base
 pub record PublicItem : Type 0 where
   pub name : List ℕ
   pub offset : ℕ
@@ -39,7 +39,7 @@ pub record PublicItems : Type 0 where
   pub frame : Option ℕ
   pub items : List (At PublicItem)
 
--- COMDEF, LCOMDEF: a communal name; near has a length, far a number of elements and their size
+-- COMDEF, LCOMDEF: the size of a communal: near has a length, far a number of elements and their size
 pub data CommunalSize : Type 0 where
   Near : ℕ → CommunalSize
   Far : ℕ → ℕ → CommunalSize
@@ -55,20 +55,20 @@ pub record DataItem : Type 0 where
   pub offset : At ℕ
   pub bytes : List ℕ
 
--- The reference of a FIXUP or of MODEND's start: fix data byte, frame datum, target datum, displacement.
+-- The reference of a FIXUP or of MODEND's start address: fix data byte, frame datum, target datum, displacement.
 pub record Reference : Type 0 where
   pub fix : At ℕ
   pub frame : Option (At ℕ)
   pub target : Option (At ℕ)
   pub displacement : Option ℕ
 
--- FIXUPP: a THREAD is its first byte and its index, if any; a FIXUP its first two bytes (high byte first) and a reference
+-- FIXUPP: a THREAD has its first byte and an optional index; a FIXUP has its first two bytes (high byte first) and a reference
 pub data Subrecord : Type 0 where
   Thread : ℕ → Option (At ℕ) → Subrecord
   Fixup : ℕ → Reference → Subrecord
 
--- The contents of a record, by its type. Those of LNAMES and LLNAMES, EXTDEF and LEXTDEF, PUBDEF and LPUBDEF, COMDEF and LCOMDEF are
--- the same: only its type tells that a record is local.
+-- The contents of a record, by its type. LNAMES and LLNAMES, EXTDEF and LEXTDEF, PUBDEF and LPUBDEF, COMDEF and LCOMDEF have the
+-- same contents, and differ in the type only.
 pub data Contents : Type 0 where
   Header : List ℕ → Contents
   Comment : ℕ → ℕ → List ℕ → Contents
@@ -89,7 +89,7 @@ pub record Rec : Type 0 where
   pub kind : ℕ
   pub contents : Contents
 
--- The odd types have 32-bit fields where a field's width depends on the type. Its size in bytes, and in bits.
+-- Odd types have 32-bit fields. The size of such a field in bytes, and in bits.
 abbrev pub is_wide : ℕ → Bool
 is_wide kind = kind % 2 == 1
 
@@ -99,7 +99,7 @@ width kind = if is_wide kind then 4 else 2
 abbrev pub width_bits : ℕ → ℕ
 width_bits kind = 8 * width kind
 
--- SEGDEF's attribute byte: alignment, and whether the segment is big.
+-- SEGDEF's attribute byte: the alignment, and whether the segment is Big.
 abbrev pub alignment : ℕ → ℕ
 alignment attribute = bits attribute 5 3
 
@@ -145,25 +145,25 @@ has_no_displacement fix = has_bit fix 2
 abbrev pub target_bits : ℕ → ℕ
 target_bits fix = bits fix 0 2
 
--- The fix data byte is followed by a frame datum, by a target datum.
+-- Whether a frame datum, and a target datum, follows the fix data byte.
 abbrev pub has_frame_datum : ℕ → Bool
 has_frame_datum fix = not (frame_by_thread fix) && nat_lt (frame_bits fix) 3
 
 abbrev pub has_target_datum : ℕ → Bool
 has_target_datum fix = not (target_by_thread fix) && nat_lt (target_bits fix) 3
 
--- MODEND's type byte: whether a start is present.
+-- MODEND's type byte: whether there is a start address.
 abbrev pub has_start : ℕ → Bool
 has_start byte = has_bit byte 6
 
--- The locations of the table "LOCATION": 3 is a pointer 16:16, 11 a pointer 16:32.
+-- The defined location types: 3 is a 16:16 pointer, 11 a 16:32 pointer.
 abbrev pub is_location : ℕ → Bool
 is_location t = nat_lt t 6 || (t == 9) || (t == 11) || (t == 13)
 
 abbrev pub may_be_self_relative : ℕ → Bool
 may_be_self_relative t = nat_lt t 2 || (t == 5) || (t == 9) || (t == 13)
 
--- A record without its places: what two spellings of one record share.
+-- A record with all its offsets set to 0: two encodings of one record differ in offsets only.
 abbrev pub nowhere : {A : Type 0} → A → At A
 nowhere a = record { within = 0; item = a }
 

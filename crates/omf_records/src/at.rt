@@ -1,10 +1,10 @@
-//! Places in a record, and faults of layout.
+//! Places in a record, and layout faults.
 
 use omf_frame::Reason;
 use std::marker::Model;
 
-/// What is wrong with a record's contents, and the offset in the record of the field at fault (the
-/// record's type byte is at 0). Reasons 8 to 20.
+/// A fault of a record's contents: one of the reasons 8 to 20, and the offset in the record of the field at fault (0 is the
+/// type byte).
 #[derive(Clone, Debug, Drop, PartialEq, Eq)]
 pub struct LayoutFault {
     pub reason: Reason,
@@ -21,7 +21,7 @@ impl Model for LayoutFault {
     ghost inverse = { λ v. record { reason = v.reason; within = v.within } };
 }
 
-/// An item and the offset in the record of its first byte (the record's type byte is at 0).
+/// An item, and the offset in the record of its first byte (0 is the type byte).
 #[derive(Clone, Copy, Debug, Drop)]
 pub struct At<T> {
     pub within: u32,

@@ -1,4 +1,4 @@
-//! What the bits of packed fields say (TIS OMF 1.1, "FIXUPP", "SEGDEF").
+//! The bits of packed fields (TIS OMF 1.1, "FIXUPP", "SEGDEF").
 ghost use Rattle.std.specs.Prelude.{◌≡◌};
 ghost use Rattle.omf_records.specs.Values.{thread_is_frame, thread_method, thread_number, is_segment_relative, location_type, location_offset};
 ghost use Rattle.omf_records.specs.Location.{location_size};
@@ -6,7 +6,7 @@ ghost use Rattle.omf_records.specs.Location.{location_size};
 use crate::record::Segment;
 use crate::subrecord::Reference;
 
-/// A THREAD's first byte sets a frame thread; else a target thread.
+/// Whether a THREAD's first byte sets a frame thread; otherwise it sets a target thread.
 #[inline(always)]
 pub fn is_frame_thread(first: u8) -> bool
     ensures { result ≡ thread_is_frame first }
@@ -14,7 +14,7 @@ pub fn is_frame_thread(first: u8) -> bool
     first / 64 % 2 == 1
 }
 
-/// The method of a THREAD. A target thread uses the low two bits of it.
+/// The method in a THREAD's first byte: 0 to 7 of a frame thread, 0 to 3 of a target thread.
 #[inline(always)]
 pub fn thread_method(first: u8) -> u8
     ensures { result ≡ thread_method first }
@@ -26,7 +26,7 @@ pub fn thread_method(first: u8) -> u8
     }
 }
 
-/// The number of a THREAD, 0 to 3.
+/// The thread number in a THREAD's first byte, 0 to 3.
 #[inline(always)]
 pub fn thread_number(first: u8) -> u8
     ensures { result ≡ thread_number first }
@@ -34,7 +34,7 @@ pub fn thread_number(first: u8) -> u8
     first % 4
 }
 
-/// A FIXUP's first two bytes say that it is relative to its segment; else it is relative to itself.
+/// Whether a FIXUP is segment-relative, by its first two bytes; otherwise it is self-relative.
 #[inline(always)]
 pub fn is_segment_relative(location: u16) -> bool
     ensures { result ≡ is_segment_relative location }
@@ -42,7 +42,7 @@ pub fn is_segment_relative(location: u16) -> bool
     location / 16384 % 2 == 1
 }
 
-/// The location's type, 0 to 15.
+/// The location type in a FIXUP's first two bytes, 0 to 15.
 #[inline(always)]
 pub fn location_type(location: u16) -> u8
     ensures { result ≡ location_type location }
@@ -50,7 +50,7 @@ pub fn location_type(location: u16) -> u8
     (location / 1024 % 16) as u8
 }
 
-/// The location's offset into the data, 0 to 1023.
+/// The location's offset into the data in a FIXUP's first two bytes, 0 to 1,023.
 #[inline(always)]
 pub fn location_offset(location: u16) -> u16
     ensures { result ≡ location_offset location }
@@ -58,7 +58,7 @@ pub fn location_offset(location: u16) -> u16
     location % 1024
 }
 
-/// The bytes at a location of a type: 1, 2, 4 or 6.
+/// The size in bytes of a location of this type: 1, 2, 4 or 6.
 #[inline(always)]
 pub fn location_size(kind: u8) -> u8
     ensures { result ≡ location_size kind }
@@ -75,7 +75,7 @@ impl Reference {
     ghost use Rattle.std.specs.Prelude.{◌≡◌, Some, None, if◌then◌else◌};
     ghost use Rattle.omf_records.specs.Values.{frame_by_thread, frame_bits, frame_thread, target_by_thread, target_bits};
 
-    /// The number of the thread that gives the frame, if one does.
+    /// The number of the frame thread, 0 to 3, if the frame is given by a thread.
     #[inline(always)]
     pub fn frame_thread(&self) -> Option<u8>
         ensures { result ≡ (if frame_by_thread self.now.fix.item then Some (frame_thread self.now.fix.item) else None) }
@@ -88,7 +88,7 @@ impl Reference {
         }
     }
 
-    /// The frame's method, where no thread gives it: 0, 1, 2, 4 or 5.
+    /// The frame method, if no thread gives the frame: 0, 1, 2, 4 or 5.
     #[inline(always)]
     pub fn frame_method(&self) -> u8
         ensures { result ≡ frame_bits self.now.fix.item }
@@ -96,7 +96,7 @@ impl Reference {
         self.fix.item / 16 % 8
     }
 
-    /// The number of the thread that gives the target, if one does.
+    /// The number of the target thread, 0 to 3, if the target is given by a thread.
     #[inline(always)]
     pub fn target_thread(&self) -> Option<u8>
         ensures { result ≡ (if target_by_thread self.now.fix.item then Some (target_bits self.now.fix.item) else None) }
@@ -109,7 +109,7 @@ impl Reference {
         }
     }
 
-    /// The target's method, where no thread gives it: 0, 1 or 2.
+    /// The target method, if no thread gives the target: 0, 1 or 2.
     #[inline(always)]
     pub fn target_method(&self) -> u8
         ensures { result ≡ target_bits self.now.fix.item }
@@ -122,7 +122,7 @@ impl Segment {
     ghost use Rattle.std.specs.Prelude.{◌≡◌};
     ghost use Rattle.omf_records.specs.Values.{alignment, is_big};
 
-    /// Its alignment: 0 absolute, 1 byte, 2 word, 3 paragraph, 4 page, 5 dword.
+    /// The alignment: 0 absolute, 1 byte, 2 word, 3 paragraph, 4 page, 5 dword.
     #[inline(always)]
     pub fn alignment(&self) -> u8
         ensures { result ≡ alignment self.now.attribute }
@@ -130,7 +130,7 @@ impl Segment {
         self.attribute / 32
     }
 
-    /// It is as long as its record's width allows: 65,536 bytes, or 2^32 in a wide record.
+    /// Whether the segment has the largest size: 65,536 bytes, or 2^32 in a 32-bit record.
     #[inline(always)]
     pub fn is_big(&self) -> bool
         ensures { result ≡ is_big self.now.attribute }

@@ -1,4 +1,4 @@
-//! FIXUPs that name no thread and have no displacement of 0, put from their bytes without their values (TIS OMF 1.1, "FIXUPP").
+//! Copying a FIXUP without decoding it, if it uses no thread and has no displacement of 0 (TIS OMF 1.1, "FIXUPP").
 ghost use Rattle.std.specs.Prelude.{◌≡◌, ◌+◌, ◌≤◌, ⊤, true, false, length, vec_len, vec_capacity, IfSome, IsOk};
 ghost use Rattle.byteorder.specs.Endian.{little_bytes};
 ghost use Rattle.omf_records.specs.Inner.Begins.{Begins};
@@ -14,7 +14,7 @@ use crate::here::Here;
 use crate::subrecord::{Subrecord, datum, has_displacement, has_frame_datum};
 use crate::unread::Unread;
 
-/// Bytes begin with the first two of a FIXUP, and with a fix data byte that names no thread.
+/// Whether the bytes begin a FIXUP that uses no thread.
 #[inline(always)]
 fn begins_direct(bytes: &[u8]) -> bool
     ensures { result ≡ begins_direct bytes.now }
@@ -25,7 +25,7 @@ fn begins_direct(bytes: &[u8]) -> bool
     }
 }
 
-/// Puts the index that stands here. There is room for it.
+/// Appends the index at `here`. The room for it is reserved.
 #[inline(always)]
 fn copy_index<'a>(here: Here<'a>, out: &mut Vec<u8>) -> Here<'a>
     requires room { vec_len out.old + 2 ≤ vec_capacity out.old }
@@ -43,7 +43,7 @@ fn copy_index<'a>(here: Here<'a>, out: &mut Vec<u8>) -> Here<'a>
     }
 }
 
-/// Puts the index that stands here, if there is one. There is room for it.
+/// Appends the index at `here`, if there is one. The room for it is reserved.
 #[inline(always)]
 fn copy_datum<'a>(here: Here<'a>, is_there: bool, out: &mut Vec<u8>) -> Here<'a>
     requires room { vec_len out.old + 2 ≤ vec_capacity out.old }
@@ -59,7 +59,7 @@ fn copy_datum<'a>(here: Here<'a>, is_there: bool, out: &mut Vec<u8>) -> Here<'a>
     }
 }
 
-/// Puts the displacement that stands here in a record of a type, if there is one, unless it is 0. There is room for it.
+/// Appends the displacement at `here`, if there is one. Returns `None` if it is 0. The room for it is reserved.
 #[inline(always)]
 #[tactic(auto, using(crate::specs::Inner::Begins::begins_itself, crate::specs::Inner::Begins::begins_more))]
 fn copy_displacement<'a>(
@@ -88,7 +88,7 @@ fn copy_displacement<'a>(
     }
 }
 
-/// Puts the FIXUP that stands here and names no thread, unless its displacement is 0. There is room for it.
+/// Appends the FIXUP at `here`, which uses no thread. Returns `None` if its displacement is 0. The room for it is reserved.
 #[inline(always)]
 fn copy_direct<'a>(here: Here<'a>, kind: u8, out: &mut Vec<u8>) -> Option<Here<'a>>
     requires begins { begins_direct here.bytes.now ≡ true }
@@ -110,7 +110,7 @@ fn copy_direct<'a>(here: Here<'a>, kind: u8, out: &mut Vec<u8>) -> Option<Here<'
     }
 }
 
-/// Puts the FIXUP that stands here, if it names no thread and has no displacement of 0. There is room for it.
+/// Appends the FIXUP at `here`, if it uses no thread and has no displacement of 0. The room for it is reserved.
 #[inline(always)]
 #[tactic(auto, using(crate::specs::Inner::Begins::begins_itself))]
 fn copy_fixup<'a>(here: Here<'a>, kind: u8, out: &mut Vec<u8>) -> Option<Here<'a>>
@@ -129,8 +129,9 @@ fn copy_fixup<'a>(here: Here<'a>, kind: u8, out: &mut Vec<u8>) -> Option<Here<'a
 }
 
 impl<'a> Unread<Subrecord<'a>> {
-    /// Appends the shortest bytes of the subrecord that is to be read next, in a record of the type `kind`, passes it and says so, if it is
-    /// a FIXUP that names no thread and has no displacement of 0, and there is room for `FIXUP_LIMIT` bytes. Else all stays as it was.
+    /// Appends the next subrecord in its shortest encoding, in a FIXUPP of type `kind`, and goes on after it. Returns false, and
+    /// changes nothing, unless it is a FIXUP that uses no thread and has no displacement of 0, and `out` has room for
+    /// `FIXUP_LIMIT` bytes.
     #[inline(always)]
     #[tactic(auto, using(crate::specs::Inner::Begins::begins_front))]
     pub fn put_direct(&mut self, kind: u8, out: &mut Vec<u8>) -> bool

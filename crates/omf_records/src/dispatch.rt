@@ -1,4 +1,4 @@
-//! A record's contents, by the record's type.
+//! Reading a record's contents by its type.
 ghost use Rattle.std.specs.Prelude.{◌≡◌, ◌≤◌, length, IfOk, IfSome, Ok, is_ok, is_some, true, IsTrue, ◌++◌};
 ghost use Rattle.omf_frame.specs.Bytes.{is_one_of};
 ghost use Rattle.omf_frame.specs.Framing.{is_taken};
@@ -22,7 +22,7 @@ use crate::viewing::{
 };
 use omf_frame::RawRecord;
 
-/// Local records, and records that are carried unread.
+/// Reads the contents of a local record, or of one that is not interpreted.
 fn local_or_carried<'a>(kind: u8, body: &'a [u8], known: bool) -> Result<Rec<'a>, LayoutFault>
     requires taken { IsTrue (is_one_of (local_types ++ types_of carried) kind) }
     requires short { length body.now ≤ 65534 }
@@ -46,12 +46,12 @@ fn local_or_carried<'a>(kind: u8, body: &'a [u8], known: bool) -> Result<Rec<'a>
         0xC5 => carried_at(0xC5, body),
         0xC6 => carried_at(0xC6, body),
         0xCC => carried_at(0xCC, body),
-        // No other type is asked for.
+        // The precondition excludes other types.
         _ => carried_at(kind, body),
     }
 }
 
-/// The contents of a record. What repeats in them is not read where they are known to be well spelled.
+/// Reads the contents of a record. If they are known to be valid, their items are not read.
 #[inline(always)]
 fn contents_of<'a>(kind: u8, body: &'a [u8], known: bool) -> Result<Rec<'a>, LayoutFault>
     requires taken { IsTrue (is_taken kind) }
@@ -96,9 +96,10 @@ fn view_body<'a>(kind: u8, body: &'a [u8]) -> Result<Rec<'a>, LayoutFault>
     contents_of(kind, body, false)
 }
 
-/// A record's contents: the one typed record that they spell, or the least fault of their layout, by place and
-/// then by number (reasons 8 to 18; TIS OMF 1.1, the page of each record). The record's type is one that is read
-/// or carried, and its body has at most 65,534 bytes, as in every record that a `Framer` shows.
+/// Decodes the contents of a record (TIS OMF 1.1, the page of each record). The type must be one that a module may have, and the
+/// contents at most 65,534 bytes, as in every record that a `Framer` shows.
+///
+/// Errors: the least layout fault, by offset and then by number (reasons 8 to 18).
 pub fn view<'a>(raw: RawRecord<'a>) -> Result<Rec<'a>, LayoutFault>
     requires taken { IsTrue (is_taken raw.kind) }
     requires short { length raw.body.now ≤ 65534 }
@@ -109,7 +110,7 @@ pub fn view<'a>(raw: RawRecord<'a>) -> Result<Rec<'a>, LayoutFault>
     view_body(raw.kind, raw.body)
 }
 
-/// The subrecords of a FIXUPP, unread: `view` would give them, or their first fault. `None` of another record.
+/// The subrecords of a FIXUPP, to be decoded one by one. `None` for a record of another type.
 pub fn unread_fixups<'a>(raw: &RawRecord<'a>) -> Option<Unread<Subrecord<'a>>>
     requires { length raw.now.body.now ≤ 65534 }
     ensures read { IfSome result (λ u. read_body raw.now.kind raw.now.body.now ≡ fixups_read u.items) }
@@ -122,7 +123,7 @@ pub fn unread_fixups<'a>(raw: &RawRecord<'a>) -> Option<Unread<Subrecord<'a>>>
     }
 }
 
-/// The record that `view` would answer, where the contents are known to be well spelled: what repeats in the record is not read.
+/// Like `view`, for contents that are known to be valid. The items of the record are not read.
 pub fn view_known<'a>(raw: RawRecord<'a>) -> Rec<'a>
     requires taken { IsTrue (is_taken raw.kind) }
     requires short { length raw.body.now ≤ 65534 }
@@ -130,7 +131,7 @@ pub fn view_known<'a>(raw: RawRecord<'a>) -> Rec<'a>
     ensures read { Ok (contents_seen result) ≡ read_body raw.entry.kind raw.entry.body.now }
     ensures kind { kind_seen result ≡ raw.entry.kind }
 {
-    // A module has many FIXUPPs, each with nothing but its subrecords.
+    // The fast path: FIXUPPs are frequent.
     if let Some(subrecords) = unread_fixups(&raw) {
         let wide = raw.kind % 2 == 1;
         let subrecords = subrecords.known();

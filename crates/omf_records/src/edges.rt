@@ -1,11 +1,11 @@
-//! Worked examples at the edges of the layouts, worked out by hand and evaluated by the check. Contents begin at offset 3.
+//! Worked examples at the limits of the layouts, worked out by hand and evaluated by the check. Contents begin at offset 3.
 
 ghost use Rattle.std.specs.Prelude.{ℕ, [], ◌∷◌, Some, None};
 ghost use Rattle.omf_frame.specs.declared.fault.Reason.TheVariants as reason;
 ghost use Rattle.omf_records.specs.Values.{Near, Thread, Fixup, Names, Segment, Externs, Publics, Communals, Plain, Fixups, ModEnd, Carried};
 ghost use Rattle.omf_records.specs.Rows.{Gives, Refused, put_at, refers};
 
-/// Contents of no bytes: lists may be empty, and any other first field is missing.
+/// Empty contents: lists may be empty; any other first field is missing.
 pub fn no_bytes()
     ensures names { Gives 0x96 [] (Names []) }
     ensures externals { Gives 0x8C [] (Externs []) }
@@ -21,7 +21,7 @@ pub fn no_bytes()
     ensures end { Refused 0x8B [] 3 reason.Short }
 {}
 
-/// The location types that are not in the table, each at the FIXUP's first byte; 7 stands among the first faults.
+/// Undefined location types, reported at the FIXUP's first byte. Type 7 is among the first faults.
 pub fn location_types()
     ensures six { Refused 0x9C (0xD8 ∷ 0x00 ∷ 0x54 ∷ 0x01 ∷ []) 3 reason.LocationType }
     ensures eight { Refused 0x9C (0xE0 ∷ 0x00 ∷ 0x54 ∷ 0x01 ∷ []) 3 reason.LocationType }
@@ -32,7 +32,7 @@ pub fn location_types()
     ensures later { Refused 0x9C (0x50 ∷ 0x00 ∷ 0x01 ∷ 0xDC ∷ 0x00 ∷ []) 6 reason.LocationType }
 {}
 
-/// Bases, pointers and high bytes are not self-relative; offsets and low bytes may be. An offset into the data has ten bits.
+/// Bases, pointers and high bytes are never self-relative; offsets and low bytes may be. The data offset has ten bits.
 pub fn self_relative_types()
     ensures pointer { Refused 0x9C (0x8C ∷ 0x00 ∷ 0x54 ∷ 0x01 ∷ []) 3 reason.SelfRelative }
     ensures high { Refused 0x9C (0x90 ∷ 0x00 ∷ 0x54 ∷ 0x01 ∷ []) 3 reason.SelfRelative }
@@ -42,7 +42,7 @@ pub fn self_relative_types()
     ensures thirteen { Gives 0x9D (0xB7 ∷ 0xFF ∷ 0x54 ∷ 0x01 ∷ []) (Fixups (put_at 3 (Fixup 0xB7FF (refers (put_at 5 0x54) None (Some (put_at 6 1)) None)) ∷ [])) }
 {}
 
-/// A method that is refused is named at the fix data byte, and none is where a thread gives the frame or the target.
+/// A refused method is reported at the fix data byte. If a thread gives the frame or the target, there is no method.
 pub fn methods()
     ensures six { Refused 0x9C (0xC4 ∷ 0x01 ∷ 0x64 ∷ []) 5 reason.FrameMethod }
     ensures seven { Refused 0x9C (0xC4 ∷ 0x01 ∷ 0x74 ∷ []) 5 reason.FrameMethod }
@@ -53,7 +53,7 @@ pub fn methods()
     ensures target_thread { Refused 0x9C (0x3F ∷ []) 3 reason.TargetMethod }
 {}
 
-/// An index that is missing, or half there, is named at its own place.
+/// A missing or incomplete index is reported at its own offset.
 pub fn short_indices()
     ensures thread { Refused 0x9C (0x00 ∷ []) 4 reason.Short }
     ensures half_thread { Refused 0x9C (0x40 ∷ 0x80 ∷ []) 4 reason.Short }
@@ -64,7 +64,7 @@ pub fn short_indices()
     ensures second_name { Refused 0x96 (0x01 ∷ 0x41 ∷ 0x02 ∷ 0x42 ∷ []) 5 reason.Short }
 {}
 
-/// What follows an index in two bytes stands one byte further right. 0 in two bytes is 0.
+/// A 2-byte index moves the fields after it by one byte. 0 in two bytes is 0.
 pub fn long_indices()
     ensures segment { Gives 0x98 (0x28 ∷ 0x04 ∷ 0x00 ∷ 0x80 ∷ 0x02 ∷ 0x80 ∷ 0x01 ∷ 0x81 ∷ 0x2C ∷ []) (Segment (record { attribute = 0x28; absolute = None; size = 4; name = put_at 6 2; class = put_at 8 1; overlay = 300 })) }
     ensures data { Gives 0xA0 (0x80 ∷ 0x00 ∷ 0x00 ∷ 0x00 ∷ []) (Plain (record { segment = put_at 3 0; offset = put_at 5 0; bytes = [] })) }
@@ -72,7 +72,7 @@ pub fn long_indices()
     ensures type_index { Gives 0x8C (0x01 ∷ 0x58 ∷ 0x81 ∷ 0x2C ∷ []) (Externs (put_at 3 (record { name = 0x58 ∷ []; type_index = 300 }) ∷ [])) }
 {}
 
-/// The odd type has 32 bits where the even one has 16; a base frame has 16 in both.
+/// The odd type has 32-bit fields where the even one has 16; a base frame has 16 bits in both.
 pub fn widths()
     ensures offset { Refused 0xA1 (0x01 ∷ 0x00 ∷ 0x00 ∷ 0x00 ∷ []) 4 reason.Short }
     ensures public_offset { Refused 0x91 (0x00 ∷ 0x01 ∷ 0x01 ∷ 0x58 ∷ 0x02 ∷ 0x00 ∷ []) 7 reason.Short }
@@ -84,7 +84,7 @@ pub fn widths()
     ensures absolute { Refused 0x99 (0x08 ∷ 0x00 ∷ 0xB8 ∷ []) 6 reason.Short }
 {}
 
-/// Communal lengths: 80H is 128, and of the bytes above it only 81H, 84H and 88H begin one. A wrong data type hides what follows it.
+/// Communal lengths: 80H is 128, and above it only 81H, 84H and 88H begin a length. A wrong data type hides the fields after it.
 pub fn communal_lengths()
     ensures last_short { Gives 0xB0 (0x00 ∷ 0x00 ∷ 0x62 ∷ 0x80 ∷ []) (Communals (put_at 3 (record { name = []; type_index = 0; size = Near 128 }) ∷ [])) }
     ensures four_bytes { Gives 0xB0 (0x00 ∷ 0x00 ∷ 0x62 ∷ 0x88 ∷ 0xFF ∷ 0xFF ∷ 0xFF ∷ 0xFF ∷ []) (Communals (put_at 3 (record { name = []; type_index = 0; size = Near 0xFFFFFFFF }) ∷ [])) }
@@ -96,7 +96,7 @@ pub fn communal_lengths()
     ensures type_missing { Refused 0xB0 (0x00 ∷ 0x00 ∷ []) 5 reason.Short }
 {}
 
-/// MODEND's bit 6 alone says whether there is a start, and its displacement may be absent.
+/// Bit 6 of MODEND's type byte alone determines whether there is a start address. Its displacement may be absent.
 pub fn ends()
     ensures other_bits { Gives 0x8A (0xBF ∷ []) (ModEnd 0xBF None) }
     ensures no_start { Refused 0x8A (0x01 ∷ 0x54 ∷ 0x01 ∷ []) 4 reason.Long }

@@ -1,4 +1,4 @@
-//! What records repeat: names, members, external, public and communal names.
+//! The items that records repeat: names, members, external, public and communal names.
 ghost use Rattle.std.specs.Prelude.{◌≡◌, ◌++◌, OnOk, OnErr};
 ghost use Rattle.omf_records.specs.Inner.Begins.{Begins};
 ghost use Rattle.omf_records.specs.Shortest.{size_bytes};
@@ -40,7 +40,7 @@ impl<'a> Item for Name<'a> {
     }
 }
 
-/// A member of a GRPDEF: the segment's index. The item's own offset is that of the component byte.
+/// A member of a GRPDEF: its segment index. The offset of the item is that of the component byte FFH.
 #[derive(Drop)]
 pub struct Member<'a> {
     pub segment: At<Index>,
@@ -56,7 +56,7 @@ impl<'a> Model for Member<'a> {
     ghost view = { λ m. m.segment };
 }
 
-/// The byte FFH before each member.
+/// Reads the component byte FFH.
 #[inline(always)]
 fn component<'a>(here: Here<'a>) -> Result<(u8, Here<'a>), LayoutFault>
     ensures { Gives here.entry.wide result (component_reader.read here.entry.within here.entry.bytes.now) }
@@ -142,7 +142,7 @@ impl<'a> Item for Extern<'a> {
     }
 }
 
-/// A public name of a PUBDEF, at an offset in the record's base.
+/// A public name of a PUBDEF, with its offset in the record's base.
 #[derive(Drop)]
 pub struct Public<'a> {
     pub name: Name<'a>,
@@ -196,7 +196,7 @@ impl<'a> Item for Public<'a> {
     }
 }
 
-/// The size of a communal: of near data its length, of far data the number of elements and the size of one.
+/// The size of a communal in bytes: the length if it is near; the number of elements and the size of one if it is far.
 #[derive(Clone, Copy, Debug, Drop, PartialEq, Eq)]
 pub enum CommunalSize {
     Near(u32),
@@ -220,7 +220,7 @@ impl<'a> Model for Communal<'a> {
     ghost view = { λ c. record { name = c.name; type_index = c.type_index; size = size_seen c.size } };
 }
 
-/// The data type: 61H far, 62H near.
+/// Reads the data type: 61H far, 62H near.
 fn data_type<'a>(here: Here<'a>) -> Result<(u8, Here<'a>), LayoutFault>
     ensures { Gives here.entry.wide result (data_type_reader.read here.entry.within here.entry.bytes.now) }
 {

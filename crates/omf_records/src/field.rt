@@ -1,4 +1,4 @@
-//! Fields at a place of a record's contents.
+//! Reading fields of a record's contents.
 ghost use Rattle.std.specs.Prelude.{◌≡◌, ℕ, ◌+◌, ◌-◌, ◌*◌, ◌<◌, ◌≤◌, length, drop, take, List, cond};
 ghost use Rattle.omf_records.specs.Inner.Gives.{Gives, GivesField};
 ghost use Rattle.omf_records.specs.Inner.FieldReaders.{name_read, index_read, byte_read, le_read, length_read, number_reader};
@@ -9,7 +9,7 @@ use crate::at::{At, LayoutFault};
 use crate::here::Here;
 use omf_frame::{CommunalLength, Field, Index, Le16, Le32, Name, Reason};
 
-/// A field, and what comes after it.
+/// Reads a field.
 #[inline(always)]
 fn field<'a, F: Field<'a>>(here: Here<'a>) -> Result<(F, Here<'a>), LayoutFault>
     ensures { GivesField F.spells here.entry.wide here.entry.within here.entry.bytes.now result }
@@ -34,7 +34,7 @@ pub(crate) fn index<'a>(here: Here<'a>) -> Result<(Index, Here<'a>), LayoutFault
     field::<Index>(here)
 }
 
-/// A number of two bytes.
+/// Reads a number of 2 bytes.
 #[inline(always)]
 pub(crate) fn le16<'a>(here: Here<'a>) -> Result<(u16, Here<'a>), LayoutFault>
     ensures { Gives here.entry.wide result (le_read 2 here.entry.within here.entry.bytes.now) }
@@ -45,7 +45,7 @@ pub(crate) fn le16<'a>(here: Here<'a>) -> Result<(u16, Here<'a>), LayoutFault>
     }
 }
 
-/// A number of four bytes.
+/// Reads a number of 4 bytes.
 #[inline(always)]
 fn le32<'a>(here: Here<'a>) -> Result<(u32, Here<'a>), LayoutFault>
     ensures { Gives here.entry.wide result (le_read 4 here.entry.within here.entry.bytes.now) }
@@ -56,7 +56,7 @@ fn le32<'a>(here: Here<'a>) -> Result<(u32, Here<'a>), LayoutFault>
     }
 }
 
-/// A number of the record's width: 32 bits, or 16.
+/// Reads a number of the record's width: 32 bits, or 16.
 #[inline(always)]
 pub(crate) fn number<'a>(here: Here<'a>) -> Result<(u32, Here<'a>), LayoutFault>
     ensures { Gives here.entry.wide result ((number_reader here.entry.wide).read here.entry.within here.entry.bytes.now) }
@@ -68,7 +68,7 @@ pub(crate) fn number<'a>(here: Here<'a>) -> Result<(u32, Here<'a>), LayoutFault>
     Ok((u32::from(value), after))
 }
 
-/// Why no communal length stands at the front.
+/// The fault of bytes that do not begin with a communal length.
 fn length_fault(bytes: &[u8]) -> Reason
     ensures { result ≡ length_reason bytes.now }
 {
@@ -87,7 +87,7 @@ pub(crate) fn communal_length<'a>(here: Here<'a>) -> Result<(u32, Here<'a>), Lay
     }
 }
 
-/// An index, with its place.
+/// Reads an index, with its offset in the record.
 #[inline(always)]
 pub(crate) fn index_here<'a>(here: Here<'a>) -> Result<(At<Index>, Here<'a>), LayoutFault>
     ensures { Gives here.entry.wide result (index_at.read here.entry.within here.entry.bytes.now) }
@@ -97,7 +97,7 @@ pub(crate) fn index_here<'a>(here: Here<'a>) -> Result<(At<Index>, Here<'a>), La
     Ok((At { within, item }, after))
 }
 
-/// A number of the record's width, with its place.
+/// Reads a number of the record's width, with its offset in the record.
 pub(crate) fn number_here<'a>(here: Here<'a>) -> Result<(At<u32>, Here<'a>), LayoutFault>
     ensures { Gives here.entry.wide result ((number_at here.entry.wide).read here.entry.within here.entry.bytes.now) }
 {
@@ -106,7 +106,7 @@ pub(crate) fn number_here<'a>(here: Here<'a>) -> Result<(At<u32>, Here<'a>), Lay
     Ok((At { within, item }, after))
 }
 
-/// One byte.
+/// Reads one byte.
 #[inline(always)]
 pub(crate) fn byte<'a>(here: Here<'a>) -> Result<(u8, Here<'a>), LayoutFault>
     ensures { Gives here.entry.wide result (byte_read here.entry.within here.entry.bytes.now) }

@@ -1,4 +1,4 @@
-//! The bytes of fixups and of references, for which room is taken once (TIS OMF 1.1, "FIXUPP").
+//! Writing fixups and references, with one allocation for each (TIS OMF 1.1, "FIXUPP").
 ghost use Rattle.std.specs.Prelude.{◌≡◌, ◌++◌, ◌+◌, ◌≤◌, OnOk, OnErr, length, vec_len, vec_capacity};
 ghost use Rattle.byteorder.specs.Endian.{little_bytes};
 ghost use Rattle.omf_records.specs.Inner.Begins.{Begins};
@@ -10,13 +10,13 @@ use crate::subrecord::Reference;
 use omf_frame::Index;
 use std::alloc::AllocError;
 
-/// A reference has at most so many bytes: the fix data byte, two indices and a displacement.
+/// The largest size of a reference in bytes: the fix data byte, two indices and a displacement.
 const REFERENCE_LIMIT: usize = 9;
 
-/// A fixup has at most so many bytes: two of its location, and its reference.
+/// The largest size of a FIXUP in bytes: 2 of the location, and the reference.
 pub const FIXUP_LIMIT: usize = 11;
 
-/// Appends bytes. There is room for them.
+/// Appends bytes. The room for them is reserved.
 #[inline(always)]
 pub(crate) fn push_bytes(out: &mut Vec<u8>, bytes: &[u8])
     requires { vec_len out.old + length bytes.now ≤ vec_capacity out.old }
@@ -30,7 +30,7 @@ pub(crate) fn push_bytes(out: &mut Vec<u8>, bytes: &[u8])
     }
 }
 
-/// Appends an index, if there is one. There is room for it.
+/// Appends an index, if there is one. The room for it is reserved.
 #[inline(always)]
 pub(crate) fn push_index(out: &mut Vec<u8>, index: &Option<At<Index>>)
     requires { vec_len out.old + 2 ≤ vec_capacity out.old }
@@ -66,7 +66,7 @@ pub(crate) fn push_displacement(out: &mut Vec<u8>, kind: u8, displacement: &Opti
     }
 }
 
-/// Appends a reference in a record of a type. There is room for it.
+/// Appends a reference in a record of type `kind`. The room for it is reserved.
 #[inline(always)]
 fn push_reference(out: &mut Vec<u8>, kind: u8, reference: &Reference)
     requires { vec_len out.old + 9 ≤ vec_capacity out.old }
@@ -78,7 +78,7 @@ fn push_reference(out: &mut Vec<u8>, kind: u8, reference: &Reference)
     push_displacement(out, kind, &reference.displacement);
 }
 
-/// Appends a fixup in a FIXUPP of a type. There is room for it.
+/// Appends a fixup in a FIXUPP of type `kind`. The room for it is reserved.
 #[inline(always)]
 fn push_fixup(out: &mut Vec<u8>, kind: u8, location: u16, reference: &Reference)
     requires { vec_len out.old + 11 ≤ vec_capacity out.old }
@@ -89,11 +89,11 @@ fn push_fixup(out: &mut Vec<u8>, kind: u8, location: u16, reference: &Reference)
     push_reference(out, kind, reference);
 }
 
-/// Appends the bytes of a reference in a record of a type, its indices in their shortest spellings.
+/// Appends a reference in its shortest encoding, in a record of type `kind`.
 ///
 /// # Errors
 ///
-/// `AllocError` where a growth is refused: nothing is appended then.
+/// `AllocError` if out of memory. Nothing is appended then.
 #[tactic(auto, using(crate::specs::Inner::Begins::begins_itself, crate::specs::Inner::Begins::begins_more))]
 pub fn put_reference(out: &mut Vec<u8>, kind: u8, reference: &Reference) -> Result<(), AllocError>
     ensures put { OnOk result (out.new.items ≡ out.old.items ++ reference_bytes kind reference.now) }
@@ -105,11 +105,11 @@ pub fn put_reference(out: &mut Vec<u8>, kind: u8, reference: &Reference) -> Resu
     Ok(())
 }
 
-/// Appends the bytes of a fixup of a location in a FIXUPP of a type, its indices in their shortest spellings.
+/// Appends a fixup in its shortest encoding, in a FIXUPP of type `kind`. `location` is its first two bytes, high byte first.
 ///
 /// # Errors
 ///
-/// `AllocError` where a growth is refused: nothing is appended then.
+/// `AllocError` if out of memory. Nothing is appended then.
 #[inline(always)]
 #[tactic(auto, using(crate::specs::Inner::Begins::begins_itself, crate::specs::Inner::Begins::begins_more))]
 pub fn put_fixup(

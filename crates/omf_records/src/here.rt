@@ -1,18 +1,18 @@
-//! A place in a record's contents.
+//! A position in a record's contents.
 ghost use Rattle.std.specs.Prelude.{◌≡◌, ℕ, ◌+◌, ◌≤◌, length, drop};
 ghost use Rattle.omf_frame.specs.Bytes.{AreBytes};
 
 use crate::at::LayoutFault;
 use omf_frame::Reason;
 
-/// The bytes from a place in a record to the end of its contents.
+/// A position in a record, and the bytes from there to the end of the contents.
 #[derive(Clone, Copy, Drop)]
 pub struct Here<'a> {
     within: u32,
-    /// Whether the fields whose width depends on the record's type have 32 bits.
+    /// Whether the record has 32-bit fields.
     wide: bool,
     bytes: &'a [u8],
-    /// No record is longer.
+    /// The largest record.
     ghost fits: { within + length bytes.now ≤ 65537 },
     ghost are_bytes: { AreBytes bytes.now },
 }
@@ -23,7 +23,7 @@ impl<'a> Here<'a> {
     ghost use Rattle.omf_records.specs.Layout.{fault};
     ghost use Rattle.omf_records.specs.Inner.Readers.{ends_read};
 
-    /// The start of a record's contents, at offset 3.
+    /// The start of the contents, at offset 3.
     #[inline(always)]
     pub(crate) fn start(wide: bool, body: &'a [u8]) -> Here<'a>
         requires { length body.now ≤ 65534 }
@@ -56,7 +56,7 @@ impl<'a> Here<'a> {
         self.bytes
     }
 
-    /// The field here is at fault.
+    /// A fault of the field at this position.
     #[inline(always)]
     pub(crate) fn fault(self, reason: Reason) -> LayoutFault
         ensures { result ≡ fault self.entry.within reason }
@@ -67,7 +67,7 @@ impl<'a> Here<'a> {
         }
     }
 
-    /// Nothing may be left.
+    /// Fails with `Long` unless this is the end of the contents.
     pub(crate) fn end(self) -> Result<(), LayoutFault>
         ensures { result ≡ ends_read tt self.entry.within self.entry.bytes.now }
     {
@@ -77,7 +77,7 @@ impl<'a> Here<'a> {
         Err(self.fault(Reason::Long))
     }
 
-    /// The first `n` bytes are passed.
+    /// The position `n` bytes further on.
     #[inline(always)]
     pub(crate) fn pass(self, n: usize) -> Here<'a>
         requires { n ≤ length self.bytes.now }

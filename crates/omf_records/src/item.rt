@@ -1,4 +1,4 @@
-//! Items one after another, to the end of a record's contents.
+//! The items that a record repeats up to the end of its contents.
 ghost use Rattle.std.specs.Prelude.{◌≡◌, ℕ, ◌+◌, ◌-◌, ◌*◌, ◌<◌, ◌≤◌, ◌↔◌, ◌++◌, IsTrue, OnOk, OnErr, flat_map, length, drop, take, List, [], Bool};
 ghost use Rattle.std.specs.Iterator.{YieldsFirst, item_count};
 ghost use Rattle.omf_records.specs.Inner.Begins.{Begins};
@@ -10,7 +10,7 @@ use crate::here::Here;
 use std::alloc::AllocError;
 use std::marker::Model;
 
-/// A place in a record's contents, and the bytes from there on.
+/// A position in a record, and the bytes from there on.
 pub trait Cursor: Copy + Drop {
     ghost place: { Self → ℕ };
 
@@ -18,11 +18,11 @@ pub trait Cursor: Copy + Drop {
 
     ghost wide: { Self → Bool };
 
-    /// The offset in the record (its type byte is at 0).
+    /// The offset in the record (0 is the type byte).
     fn offset(self) -> u32
         ensures { result ≡ place self };
 
-    /// No bytes are left.
+    /// Whether this is the end of the contents.
     fn is_end(self) -> bool
         ensures { IsTrue result ↔ rest self ≡ [] };
 }
@@ -43,34 +43,33 @@ impl<'a> Cursor for Here<'a> {
     }
 }
 
-/// What a record repeats.
+/// An item that a record repeats.
 pub trait Item: Sized + Drop {
     type From: Cursor;
 
-    /// How it is spelled, in a record of either width.
+    /// Its layout, in a 16-bit or a 32-bit record.
     ghost layout: { Bool → Layout Self };
 
-    /// How it is read.
+    /// The reading of the layout.
     ghost reader: { (w : Bool) → Reader (layout w) };
 
-    /// The first item of the bytes, and what comes after it.
+    /// Decodes the first item, and returns it with the position after it.
     fn read(from: Self::From) -> Result<(Self, Self::From), LayoutFault>
         ensures { GivesFrom Self.From.place Self.From.rest Self.From.wide (Self.From.wide from) result ((reader (Self.From.wide from)).read (Self.From.place from) (Self.From.rest from)) };
 
-    /// Its shortest spelling, in a record of a type.
+    /// Its shortest encoding, in a record of the given type.
     ghost shortest: { ℕ → Self → List ℕ };
 
-    /// Appends the shortest spelling, in a record of the type `kind`.
+    /// Appends the shortest encoding, in a record of type `kind`.
     fn put(&self, kind: u8, out: &mut Vec<u8>) -> Result<(), AllocError>
         ensures put { OnOk result (out.new.items ≡ out.old.items ++ shortest kind self.now) }
         ensures grows { Begins out.old.items out.new.items };
 
-    /// None is spelled by no bytes.
+    /// Every item has at least one byte.
     ghost shrinks: { (w : Bool) → Shrinks (reader w).read };
 }
 
-/// Items that are known to be well spelled, each with its offset in the record. It is seen as the list of
-/// those that are still to come.
+/// An iterator over valid items, each with its offset in the record.
 #[derive(Drop)]
 pub struct Items<T: Item> {
     from: T::From,
@@ -93,7 +92,7 @@ impl<T: Item> Items<T> {
     ghost use Rattle.omf_records.specs.Inner.Reads.{each};
     ghost use Rattle.omf_records.specs.Inner.Unread.{IsKnown};
 
-    /// All of the bytes, as items.
+    /// Checks that the bytes are valid items.
     pub(crate) fn new(from: T::From) -> Result<Items<T>, LayoutFault>
         ensures { result ≡ each (T.reader (T.From.wide from)).read (T.From.place from) (T.From.rest from) }
     {
@@ -105,7 +104,7 @@ impl<T: Item> Items<T> {
         Ok(Items { from })
     }
 
-    /// All of the bytes, as items that are known to be well spelled.
+    /// Items that are known to be valid.
     pub(crate) fn known(from: T::From) -> Items<T>
         requires { is_ok (each (T.reader (T.From.wide from)).read (T.From.place from) (T.From.rest from)) ≡ true }
         ensures { Ok result ≡ each (T.reader (T.From.wide from)).read (T.From.place from) (T.From.rest from) }
@@ -113,7 +112,7 @@ impl<T: Item> Items<T> {
         Items { from }
     }
 
-    /// All of the bytes, as items. None is read where they are known to be well spelled.
+    /// Checks that the bytes are valid items, unless they are known to be.
     #[inline(always)]
     pub(crate) fn all(from: T::From, known: bool) -> Result<Items<T>, LayoutFault>
         requires { IsKnown known (each (T.reader (T.From.wide from)).read (T.From.place from) (T.From.rest from)) }
@@ -125,7 +124,7 @@ impl<T: Item> Items<T> {
         Items::new(from)
     }
 
-    /// The same items, from the first of them on.
+    /// A copy of the iterator.
     pub fn iter(&self) -> Items<T>
         ensures { result ≡ self.now }
     {
@@ -159,7 +158,7 @@ impl<T: Item> Iterator for Items<T> {
     }
 }
 
-/// Appends the shortest spellings of items, in a record of the type `kind`.
+/// Appends items in their shortest encodings, in a record of type `kind`.
 #[tactic(auto, using(crate::specs::Inner::Begins::begins_then, crate::specs::Inner::Begins::begins_itself))]
 pub(crate) fn put_items<T: Item>(
     out: &mut Vec<u8>,

@@ -7,52 +7,52 @@ pub fn typed_records_are_unique()
     ensures { AreUnique }
 {}
 
-/// What is read of contents is the one value that they spell, or the least of their faults.
+/// Reading contents gives the one value they encode, or the least of their faults.
 pub fn readings_meet_layouts()
     ensures { ReadingsMeet }
 {}
 
-/// A record has no fault of layout exactly where its contents are typed.
+/// A record has no layout fault exactly if its contents encode a typed record.
 pub fn layouts_are_decided()
     ensures { AreDecided }
 {}
 
-/// Contents that are typed are so as one record.
+/// Contents encode at most one typed record.
 pub fn contents_are_typed_once()
     ensures { AreTyped }
 {}
 
-/// The fault of layout is the least one.
+/// The reported layout fault is the least one.
 pub fn layout_faults_are_least()
     ensures { FaultsAreLeast }
 {}
 
-/// No fault stands in front of the contents.
+/// No layout fault is at an offset before the contents.
 pub fn faults_stand_behind()
     ensures { FaultsStandBehind }
 {}
 
-/// The shortest contents of a typed record are contents of exactly that record, and no longer than any other.
+/// The shortest contents of a typed record encode exactly that record, and no other encoding is shorter.
 pub fn shortest_contents_are_typed()
     ensures { ShortestAreTyped }
 {}
 
-/// Typed records of one type have the same shortest contents exactly where they are equal but for their places.
+/// Typed records of one type have the same shortest contents exactly if they are equal up to offsets.
 pub fn shortest_contents_decide()
     ensures { ShortestDecide }
 {}
 
-/// References whose fields are in range are what their shortest contents spell, but for their places.
+/// A FIXUPP or MODEND whose fields are in range is encoded by its shortest contents, up to offsets.
 pub fn values_are_typed()
     ensures { ValuesAreTyped }
 {}
 
-/// The fields of typed references are in range.
+/// The fields of an encoded FIXUPP or MODEND are in range.
 pub fn typed_have_values()
     ensures { TypedHaveValues }
 {}
 
-/// The shortest contents do not depend on places.
+/// The shortest contents do not depend on offsets.
 pub fn places_do_not_count()
     ensures { PlacesDoNotCount }
 {}

@@ -1,9 +1,9 @@
-//! The contents of the records of an object module: each is one typed record, or has a first fault of layout.
+//! Typed contents of the records of an object module.
 //!
-//! `view` reads a record's contents and borrows from them; `put_rec` writes them in shortest spellings. What
-//! repeats in a record is an iterator, `Items`, over items that tell their offset in the record. Match a `Rec` by
-//! reference, and go over `items.iter()`. `view_known` shows contents that were judged before, as those of a checked
-//! module's records: it reads the fields in front of the items alone.
+//! `view` decodes a record's contents and borrows from them, or returns their first layout fault. `put_rec` writes contents in
+//! their shortest encoding. The items that a record repeats are an iterator, `Items`, which gives each with its offset in the
+//! record: match a `Rec` by reference, and iterate over `items.iter()`. `view_known` decodes contents that were checked before: it
+//! reads only the fields before the items.
 //!
 //! ```
 //! let raw = RawRecord { kind: 0x96, body: b"\x00\x01T", number: 1, start: 6 };
@@ -14,11 +14,10 @@
 //! }
 //! ```
 //!
-//! `specs/Values` has the values, `specs/Records` and `specs/Entries` the layout of each record in the words of
-//! `specs/Layout`, and `specs/Shortest` the shortest contents. The readings of the same names (`RecordReaders`,
-//! `EntryReaders`, `FieldReaders`) compute what the layouts say, and `laws` has what is proved of both. A further
-//! record type needs a layout and its reading, a case of `Contents` and of `Rec`, a function in `viewing` with its
-//! arm in `dispatch`, and one in `writing`.
+//! `specs/Values` defines the values, `specs/Records` and `specs/Entries` the layout of each record by means of `specs/Layout`, and
+//! `specs/Shortest` the shortest contents. The readings of the same names (`RecordReaders`, `EntryReaders`, `FieldReaders`) compute
+//! the layouts, and `laws` relates both. A new record type needs a layout and its reading, a case of `Contents` and of `Rec`, a
+//! function in `viewing` with its arm in `dispatch`, and one in `writing`.
 #![tactic(auto)]
 
 mod at;

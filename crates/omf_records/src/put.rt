@@ -1,4 +1,4 @@
-//! Fields at the end of a vector, in their shortest spellings.
+//! Writing fields in their shortest encodings.
 ghost use Rattle.std.specs.Prelude.{◌≡◌, ◌++◌, ◌∷◌, [], OnOk, OnErr, Option};
 ghost use Rattle.byteorder.specs.Endian.{little_bytes};
 ghost use Rattle.omf_records.specs.Inner.Begins.{Begins};
@@ -9,7 +9,7 @@ use crate::at::At;
 use omf_frame::{Field, Index, Le16, Le32};
 use std::alloc::AllocError;
 
-/// A field in its shortest spelling.
+/// Appends a field.
 #[tactic(auto, using(crate::specs::Inner::Begins::begins_itself, crate::specs::Inner::Begins::begins_more))]
 pub(crate) fn put_field<'a, F: Field<'a>>(out: &mut Vec<u8>, field: &F) -> Result<(), AllocError>
     ensures put { OnOk result (out.new.items ≡ out.old.items ++ F.shortest field.now) }
@@ -33,7 +33,7 @@ pub(crate) fn put_byte(out: &mut Vec<u8>, byte: u8) -> Result<(), AllocError>
     put_bytes(out, &[byte])
 }
 
-/// A number as wide as records of a type have it: 32 bits in an odd type, the low 16 in an even one.
+/// Appends a number: 32 bits in a record of odd type, the low 16 in one of even type.
 pub(crate) fn put_number(out: &mut Vec<u8>, kind: u8, value: u32) -> Result<(), AllocError>
     ensures put { OnOk result (out.new.items ≡ out.old.items ++ little_bytes (width kind) value) }
     ensures grows { Begins out.old.items out.new.items }
@@ -44,7 +44,7 @@ pub(crate) fn put_number(out: &mut Vec<u8>, kind: u8, value: u32) -> Result<(), 
     put_field(out, &Le16((value % 0x1_0000) as u16))
 }
 
-/// An index that stands somewhere.
+/// Appends an index.
 pub(crate) fn put_datum(out: &mut Vec<u8>, datum: &At<Index>) -> Result<(), AllocError>
     ensures put { OnOk result (out.new.items ≡ out.old.items ++ datum_bytes datum.now) }
     ensures grows { Begins out.old.items out.new.items }
@@ -52,7 +52,7 @@ pub(crate) fn put_datum(out: &mut Vec<u8>, datum: &At<Index>) -> Result<(), Allo
     put_field(out, &datum.item)
 }
 
-/// The same, if it is there.
+/// Appends an index, if there is one.
 #[tactic(auto, using(crate::specs::Inner::Begins::begins_itself))]
 pub(crate) fn put_datum_if(out: &mut Vec<u8>, datum: &Option<At<Index>>) -> Result<(), AllocError>
     ensures put { OnOk result (out.new.items ≡ out.old.items ++ option_bytes datum_bytes datum.now) }

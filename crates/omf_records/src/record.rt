@@ -1,4 +1,4 @@
-//! The typed records, which borrow from the record's bytes.
+//! Typed records, which borrow from the record's bytes.
 
 use crate::at::At;
 use crate::entry::{Communal, Extern, Member, Public};
@@ -10,11 +10,11 @@ use std::marker::Model;
 /// The contents of a SEGDEF (TIS OMF 1.1, "SEGDEF").
 #[derive(Drop)]
 pub struct Segment {
-    /// Alignment in bits 7 to 5, combination in bits 4 to 2, Big in bit 1, Use32 in bit 0.
+    /// The attribute byte (ACBP): alignment in bits 7 to 5, combination in bits 4 to 2, Big in bit 1, Use32 in bit 0.
     pub attribute: u8,
-    /// The frame number of an absolute segment, and its offset in the frame.
+    /// The frame number of an absolute segment, and its offset in the frame in bytes.
     pub absolute: Option<(u16, u8)>,
-    /// The length field: 0 where the segment is Big.
+    /// The length in bytes; 0 if the segment is Big.
     pub size: u32,
     pub name: At<Index>,
     pub class: At<Index>,
@@ -29,15 +29,14 @@ impl Model for Segment {
     ghost view = { λ s. record { attribute = s.attribute; absolute = s.absolute; size = s.size; name = s.name; class = s.class; overlay = s.overlay } };
 }
 
-/// Repeated blocks as bytes, and whether their repeat counts have 32 bits.
+/// The repeated blocks of an LIDATA as bytes, and whether their repeat counts have 32 bits.
 #[derive(Clone, Copy, Debug, Drop, PartialEq, Eq)]
 pub struct Blocks<'a> {
     pub bytes: &'a [u8],
     pub wide: bool,
 }
 
-/// A record's contents. `wide` is set for the odd one of two types, which has 32-bit fields. Names, data and
-/// blocks are those of the record's bytes.
+/// The contents of a record. `wide` is set for the odd one of two types, which has 32-bit fields.
 #[derive(Drop)]
 pub enum Rec<'a> {
     /// THEADR or LHEADR: `kind` is 80H or 82H.
@@ -65,7 +64,7 @@ pub enum Rec<'a> {
     },
     /// EXTDEF.
     Externs(Items<Extern<'a>>),
-    /// PUBDEF: its base, and the public names. The base frame's number stands there where the segment index is 0.
+    /// PUBDEF: its base, and the public names. `frame` is the base frame's number, present if the segment index is 0.
     Publics {
         wide: bool,
         group: At<Index>,
@@ -75,14 +74,14 @@ pub enum Rec<'a> {
     },
     /// COMDEF.
     Communals(Items<Communal<'a>>),
-    /// LEDATA: data at an offset in a segment.
+    /// LEDATA: data at an offset in a segment, in bytes.
     Plain {
         wide: bool,
         segment: At<Index>,
         offset: At<u32>,
         data: &'a [u8],
     },
-    /// LIDATA: repeated blocks at an offset in a segment. Its type is the odd one where the blocks are wide.
+    /// LIDATA: repeated blocks at an offset in a segment, in bytes. Its type is odd if the blocks are wide.
     Iterated {
         segment: At<Index>,
         offset: At<u32>,
@@ -93,7 +92,7 @@ pub enum Rec<'a> {
         wide: bool,
         subrecords: Items<Subrecord<'a>>,
     },
-    /// MODEND: its type byte, and the start where bit 6 of that is set.
+    /// MODEND: its type byte, and the start address, present if bit 6 of the type byte is set.
     ModEnd {
         wide: bool,
         type_byte: u8,
@@ -101,12 +100,12 @@ pub enum Rec<'a> {
     },
     /// LLNAMES.
     LocalNames(Items<Name<'a>>),
-    /// LEXTDEF: `odd` is set for its type B5H.
+    /// LEXTDEF: `odd` is set for type B5H.
     LocalExterns {
         odd: bool,
         externs: Items<Extern<'a>>,
     },
-    /// LPUBDEF: its base, and the local public names, as in a PUBDEF.
+    /// LPUBDEF: as PUBDEF.
     LocalPublics {
         wide: bool,
         group: At<Index>,
@@ -116,7 +115,7 @@ pub enum Rec<'a> {
     },
     /// LCOMDEF.
     LocalCommunals(Items<Communal<'a>>),
-    /// TYPDEF, LINNUM, LINSYM, ALIAS or VERNUM, carried unread.
+    /// TYPDEF, LINNUM, LINSYM, ALIAS or VERNUM, not interpreted.
     Carried {
         kind: u8,
         contents: &'a [u8],

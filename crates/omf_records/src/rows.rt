@@ -1,4 +1,4 @@
-//! Worked examples, which the check evaluates: the contents of each record, and first faults, worked out by hand.
+//! Worked examples: the contents of each record, and first faults, worked out by hand and evaluated by the check.
 
 ghost use Rattle.omf_records.specs.Rows.{SmallModule, OtherRecords, Subrecords, ShortestOf, FirstFaults, FaultOrder};
 
@@ -7,7 +7,7 @@ pub fn small_module()
     ensures { SmallModule }
 {}
 
-/// Every other record, in both widths.
+/// All other records, in both widths.
 pub fn other_records()
     ensures { OtherRecords }
 {}
@@ -17,17 +17,17 @@ pub fn subrecords()
     ensures { Subrecords }
 {}
 
-/// The shortest contents of records that have others.
+/// Contents with longer encodings, and their shortest ones.
 pub fn shortest_contents()
     ensures { ShortestOf }
 {}
 
-/// A first fault for every reason of layout.
+/// Each layout fault once.
 pub fn first_faults()
     ensures { FirstFaults }
 {}
 
-/// Which of several faults comes first.
+/// The first of several faults.
 pub fn fault_order()
     ensures { FaultOrder }
 {}

@@ -1,4 +1,4 @@
-//! Subrecords of a FIXUPP, and the reference that a FIXUP and MODEND's start share.
+//! The subrecords of a FIXUPP, and the references of FIXUPs and of MODEND's start address.
 ghost use Rattle.std.specs.Prelude.{◌≡◌, ◌<◌, not, List, Option, IfOk};
 ghost use Rattle.omf_records.specs.Values.{is_location, may_be_self_relative, thread_method, frame_by_thread, frame_bits, target_by_thread, target_bits, has_frame_datum, has_target_datum, has_no_displacement};
 ghost use Rattle.omf_records.specs.Inner.Parts.{first_reason};
@@ -17,8 +17,8 @@ use omf_frame::{Index, Reason};
 use std::alloc::AllocError;
 use std::marker::{Model, PhantomData};
 
-/// What a FIXUP says after its first two bytes, and MODEND's start (TIS OMF 1.1, "FIXUPP"): the fix data byte,
-/// the index of an explicit frame F0, F1 or F2, the index of an explicit target, the displacement if bit P is 0.
+/// The reference of a FIXUP, after its first two bytes, or of MODEND's start address (TIS OMF 1.1, "FIXUPP"): the fix data byte; the
+/// frame datum of an explicit frame F0, F1 or F2; the target datum of an explicit target; the displacement in bytes if bit P is 0.
 #[derive(Drop)]
 pub struct Reference {
     pub fix: At<u8>,
@@ -35,14 +35,14 @@ impl Model for Reference {
     ghost view = { λ r. record { fix = r.fix; frame = r.frame; target = r.target; displacement = r.displacement } };
 }
 
-/// A THREAD by its first byte, or a FIXUP by its first two, the high byte first.
+/// A THREAD with its first byte, or a FIXUP with its first two, high byte first.
 #[derive(Drop)]
 pub enum Part {
     Thread { first: u8, index: Option<At<Index>> },
     Fixup { location: u16, reference: Reference },
 }
 
-/// A subrecord of a FIXUPP whose bytes are lent for `'a`.
+/// A subrecord of a FIXUPP, for the lifetime of the record's bytes.
 #[derive(Drop)]
 pub struct Subrecord<'a> {
     pub part: Part,
@@ -58,14 +58,14 @@ impl<'a> Model for Subrecord<'a> {
     ghost view = { λ s. part_seen s.part };
 }
 
-/// F0, F1, F2, F4 or F5.
+/// Whether the frame method is F0, F1, F2, F4 or F5.
 fn is_frame_method(method: u8) -> bool
     ensures { result ≡ is_frame_method method }
 {
     method < 3 || method == 4 || method == 5
 }
 
-/// What is wrong with the first byte of a THREAD.
+/// The fault of a THREAD's first byte.
 fn thread_fault(first: u8) -> Option<Reason>
     ensures { first_reason result ≡ wrong_thread first }
 {
@@ -84,7 +84,7 @@ fn thread_fault(first: u8) -> Option<Reason>
     }
 }
 
-/// One of the location types.
+/// Whether the location type is defined.
 fn is_location(kind: u8) -> bool
     ensures { result ≡ is_location kind }
 {
@@ -97,7 +97,7 @@ fn may_be_self_relative(kind: u8) -> bool
     kind < 2 || kind == 5 || kind == 9 || kind == 13
 }
 
-/// What is wrong with the first two bytes of a FIXUP.
+/// The fault of a FIXUP's first two bytes.
 fn location_fault(location: u16) -> Option<Reason>
     ensures { first_reason result ≡ wrong_location location }
 {
@@ -111,7 +111,7 @@ fn location_fault(location: u16) -> Option<Reason>
     Some(Reason::SelfRelative)
 }
 
-/// The fix data byte.
+/// Reads the fix data byte.
 #[inline(always)]
 fn fix<'a>(here: Here<'a>) -> Result<(At<u8>, Here<'a>), LayoutFault>
     ensures read { Gives here.entry.wide result (fix_reader.read here.entry.within here.entry.bytes.now) }
@@ -128,14 +128,14 @@ fn fix<'a>(here: Here<'a>) -> Result<(At<u8>, Here<'a>), LayoutFault>
     Ok((At { within, item: fix }, after))
 }
 
-/// An index follows for the frame.
+/// Whether a frame datum follows.
 pub(crate) fn has_frame_datum(fix: u8) -> bool
     ensures { result ≡ has_frame_datum fix }
 {
     fix / 128 == 0 && fix / 16 % 8 < 3
 }
 
-/// An index follows for the target, where no thread gives it: each target method takes one.
+/// Whether a target datum follows: unless a thread gives the target, each method has one.
 fn has_target_datum(fix: u8) -> bool
     requires { has_target_datum fix ≡ not (target_by_thread fix) }
     ensures { result ≡ has_target_datum fix }
@@ -149,7 +149,7 @@ pub(crate) fn has_displacement(fix: u8) -> bool
     fix / 4 % 2 == 0
 }
 
-/// An index that stands there only if `is_there`.
+/// Reads an index, if there is one.
 #[inline(always)]
 pub(crate) fn datum<'a>(
     here: Here<'a>,
@@ -195,7 +195,7 @@ pub(crate) fn read_reference<'a>(here: Here<'a>) -> Result<(Reference, Here<'a>)
     ))
 }
 
-/// What comes after the first byte of a THREAD.
+/// Reads a THREAD after its first byte.
 #[inline(always)]
 fn thread<'a>(here: Here<'a>, first: u8) -> Result<(Subrecord<'a>, Here<'a>), LayoutFault>
     ensures { Gives here.entry.wide result ((thread_reader first).read here.entry.within here.entry.bytes.now) }
@@ -206,7 +206,7 @@ fn thread<'a>(here: Here<'a>, first: u8) -> Result<(Subrecord<'a>, Here<'a>), La
     Ok((Subrecord { part, of }, here))
 }
 
-/// What comes after the first two bytes of a FIXUP.
+/// Reads a FIXUP after its first two bytes.
 #[inline(always)]
 fn fixup<'a>(here: Here<'a>, location: u16) -> Result<(Subrecord<'a>, Here<'a>), LayoutFault>
     ensures { Gives here.entry.wide result ((fixup_reader here.entry.wide location).read here.entry.within here.entry.bytes.now) }

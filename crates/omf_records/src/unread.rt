@@ -1,4 +1,4 @@
-//! Items whose spelling is judged as they are read.
+//! Items that are checked as they are read.
 ghost use Rattle.std.specs.Prelude.{◌≡◌, ◌<◌, ◌≤◌, Ok, [], true, false, length};
 ghost use Rattle.std.specs.Prelude.{is_ok};
 ghost use Rattle.omf_records.specs.Inner.Reads.{each};
@@ -8,8 +8,8 @@ use crate::at::{At, LayoutFault};
 use crate::item::{Cursor, Item, Items};
 use std::marker::Model;
 
-/// Items that may be ill spelled, each with its offset in the record. It is seen as those that are still to come, or the first
-/// fault among them, and how many bytes they have.
+/// Items that may have faults, each with its offset in the record. Its model is the remaining items, or the first fault among them,
+/// and the number of their bytes.
 #[derive(Drop)]
 pub struct Unread<T: Item> {
     from: T::From,
@@ -26,7 +26,7 @@ impl<T: Item> Model for Unread<T> {
 }
 
 impl<T: Item> Unread<T> {
-    /// All of the bytes, as items.
+    /// The bytes from this position on, as items.
     #[inline(always)]
     pub(crate) fn new(from: T::From) -> Unread<T>
         ensures items { result.items ≡ each (T.reader (T.From.wide from)).read (T.From.place from) (T.From.rest from) }
@@ -35,7 +35,7 @@ impl<T: Item> Unread<T> {
         Unread { from }
     }
 
-    /// Where the item stands that is to be read next.
+    /// The position of the next item.
     #[inline(always)]
     pub(crate) fn place(&self) -> T::From
         ensures items { self.now.items ≡ each (T.reader (T.From.wide result)).read (T.From.place result) (T.From.rest result) }
@@ -44,14 +44,14 @@ impl<T: Item> Unread<T> {
         self.from
     }
 
-    /// The same items, from the one on that is to be read next.
+    /// A copy, at the same position.
     pub fn again(&self) -> Unread<T>
         ensures { result ≡ self.now }
     {
         Unread { from: self.from }
     }
 
-    /// The items, which are known to be well spelled: none of them is read.
+    /// The remaining items, if they are known to be valid. None is read.
     pub fn known(self) -> Items<T>
         requires { is_ok self.items ≡ true }
         ensures { self.items ≡ Ok result }
@@ -59,7 +59,7 @@ impl<T: Item> Unread<T> {
         Items::known(self.from)
     }
 
-    /// No bytes are left.
+    /// Whether no items remain.
     pub fn is_end(&self) -> bool
         ensures ends { result ≡ true → self.now.items ≡ Ok [] }
         ensures some { result ≡ false → (xs : _) → self.now.items ≡ Ok xs → 1 ≤ length xs }
@@ -67,7 +67,7 @@ impl<T: Item> Unread<T> {
         self.from.is_end()
     }
 
-    /// The next item, if there is one. After a fault it stands where it stood.
+    /// Reads the next item, if there is one. After a fault the position is unchanged.
     #[inline(always)]
     pub fn read_next(&mut self) -> Result<Option<At<T>>, LayoutFault>
         ensures { NextGives self.old result self.new }

@@ -1,15 +1,12 @@
-//! A record's contents as a typed record. What repeats in it is not read where it is known to be well spelled.
+//! Reading the contents of each record. Items that are known to be valid are not read.
 ghost use Rattle.std.specs.Prelude.{◌≡◌, ◌==◌, ℕ, ◌≤◌, length, IfOk, Bool, cond, if◌then◌else◌};
 ghost use Rattle.omf_records.specs.Inner.Gives.{Gives};
-ghost use Rattle.omf_records.specs.Inner.Reads.{each};
 ghost use Rattle.omf_records.specs.Inner.Unread.{IsKnown};
-ghost use Rattle.omf_records.specs.Inner.EntryReaders.{public_reader};
 ghost use Rattle.omf_records.specs.Inner.Seen.{contents_seen, kind_seen, odd_if, map_ok};
 ghost use Rattle.omf_records.specs.Values.{alignment, has_start};
 ghost use Rattle.omf_records.specs.Inner.RecordReaders.{header_whole, comment_whole, names_whole, attribute_reader, absolute_reader, size_reader, segment_whole, group_whole, externs_whole, base_reader, publics_whole, communals_whole, plain_whole, iterated_whole, fixups_whole, start_reader, mod_end_whole, carried_whole};
 
 use crate::at::{At, LayoutFault};
-use crate::entry::Public;
 use crate::field::{byte, index, index_here, le16, name, number, number_here};
 use crate::here::Here;
 use crate::item::Items;
@@ -60,7 +57,7 @@ pub(crate) fn local_names_at<'a>(here: Here<'a>, known: bool) -> Result<Rec<'a>,
     Ok(Rec::LocalNames(Items::all(here, known)?))
 }
 
-/// SEGDEF's attribute byte.
+/// Reads SEGDEF's attribute byte.
 fn attribute<'a>(here: Here<'a>) -> Result<(u8, Here<'a>), LayoutFault>
     ensures { Gives here.entry.wide result (attribute_reader.read here.entry.within here.entry.bytes.now) }
 {
@@ -71,7 +68,7 @@ fn attribute<'a>(here: Here<'a>) -> Result<(u8, Here<'a>), LayoutFault>
     Ok((attribute, after))
 }
 
-/// The frame number and offset of an absolute segment.
+/// Reads the frame number and offset of an absolute segment.
 fn absolute<'a>(here: Here<'a>, attribute: u8) -> Result<(Option<(u16, u8)>, Here<'a>), LayoutFault>
     ensures { Gives here.entry.wide result ((absolute_reader attribute).read here.entry.within here.entry.bytes.now) }
 {
@@ -83,7 +80,7 @@ fn absolute<'a>(here: Here<'a>, attribute: u8) -> Result<(Option<(u16, u8)>, Her
     Ok((Some((number, offset)), here))
 }
 
-/// SEGDEF's length field.
+/// Reads SEGDEF's length field.
 fn size<'a>(here: Here<'a>, attribute: u8) -> Result<(u32, Here<'a>), LayoutFault>
     ensures { Gives here.entry.wide result ((size_reader here.entry.wide attribute).read here.entry.within here.entry.bytes.now) }
 {
@@ -149,7 +146,7 @@ pub(crate) fn local_externs_at<'a>(here: Here<'a>, known: bool) -> Result<Rec<'a
     Ok(Rec::LocalExterns { odd, externs })
 }
 
-/// The base frame's number in a PUBDEF, which stands there only if the segment index is 0.
+/// Reads the base frame's number of a PUBDEF, which is present if the segment index is 0.
 fn base_frame<'a>(
     here: Here<'a>,
     segment: &At<Index>,
@@ -161,19 +158,6 @@ fn base_frame<'a>(
     }
     let (number, here) = le16(here)?;
     Ok((Some(number), here))
-}
-
-/// The public names of a PUBDEF.
-fn public_names<'a>(
-    here: Here<'a>,
-    wide: bool,
-    known: bool,
-) -> Result<Items<Public<'a>>, LayoutFault>
-    requires width { here.wide ≡ wide }
-    requires spelled { IsKnown known (each (public_reader wide).read here.within here.bytes.now) }
-    ensures { result ≡ each (public_reader wide).read here.entry.within here.entry.bytes.now }
-{
-    Items::all(here, known)
 }
 
 /// PUBDEF, LPUBDEF.
@@ -190,7 +174,7 @@ pub(crate) fn publics_at<'a>(
     let (group, here) = index_here(here)?;
     let (segment, here) = index_here(here)?;
     let (frame, here) = base_frame(here, &segment)?;
-    match public_names(here, wide, known) {
+    match Items::all(here, known) {
         Ok(publics) if is_local => Ok(Rec::LocalPublics {
             wide,
             group,
@@ -271,7 +255,7 @@ pub(crate) fn fixups_at<'a>(here: Here<'a>, known: bool) -> Result<Rec<'a>, Layo
     Ok(Rec::Fixups { wide, subrecords })
 }
 
-/// MODEND's start, which stands there only if bit 6 of the type byte is set.
+/// Reads MODEND's start address, which is present if bit 6 of the type byte is set.
 fn start<'a>(here: Here<'a>, type_byte: u8) -> Result<(Option<Reference>, Here<'a>), LayoutFault>
     ensures { Gives here.entry.wide result ((start_reader here.entry.wide type_byte).read here.entry.within here.entry.bytes.now) }
 {
@@ -298,7 +282,7 @@ pub(crate) fn mod_end_at<'a>(here: Here<'a>) -> Result<Rec<'a>, LayoutFault>
     })
 }
 
-/// A record that is carried unread.
+/// TYPDEF, LINNUM, LINSYM, ALIAS, VERNUM.
 pub(crate) fn carried_at<'a>(kind: u8, contents: &'a [u8]) -> Result<Rec<'a>, LayoutFault>
     ensures contents { map_ok contents_seen result ≡ carried_whole.read 3 contents.now }
     ensures kind { IfOk result (λ r. kind_seen r ≡ kind) }

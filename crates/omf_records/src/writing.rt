@@ -1,4 +1,4 @@
-//! A typed record's contents at the end of a vector, in shortest spellings.
+//! Writing the contents of typed records in their shortest encoding.
 ghost use Rattle.std.specs.Prelude.{◌≡◌, ◌++◌, ◌∷◌, [], OnOk, OnErr, flat_map};
 ghost use Rattle.byteorder.specs.Endian.{little_bytes};
 ghost use Rattle.omf_frame.specs.Fields.{index_bytes};
@@ -17,7 +17,7 @@ use crate::subrecord::Reference;
 use omf_frame::{Index, Le16};
 use std::alloc::AllocError;
 
-/// The frame number and offset of an absolute segment.
+/// Appends the frame number and offset of an absolute segment.
 #[tactic(auto, using(crate::specs::Inner::Begins::begins_then, crate::specs::Inner::Begins::begins_itself))]
 fn put_absolute(out: &mut Vec<u8>, absolute: Option<(u16, u8)>) -> Result<(), AllocError>
     ensures put { OnOk result (out.new.items ≡ out.old.items ++ option_bytes absolute_bytes absolute) }
@@ -32,7 +32,7 @@ fn put_absolute(out: &mut Vec<u8>, absolute: Option<(u16, u8)>) -> Result<(), Al
     }
 }
 
-/// The three indices of a SEGDEF.
+/// Appends the three indices of a SEGDEF.
 #[tactic(auto, using(crate::specs::Inner::Begins::begins_then))]
 fn put_indices(out: &mut Vec<u8>, segment: &Segment) -> Result<(), AllocError>
     ensures put { OnOk result (out.new.items ≡ out.old.items ++ (datum_bytes segment.now.name ++ (datum_bytes segment.now.class ++ index_bytes segment.now.overlay))) }
@@ -43,7 +43,7 @@ fn put_indices(out: &mut Vec<u8>, segment: &Segment) -> Result<(), AllocError>
     put_field(out, &segment.overlay)
 }
 
-/// The length of a SEGDEF, and what follows it.
+/// Appends the length of a SEGDEF and its indices.
 #[tactic(auto, using(crate::specs::Inner::Begins::begins_then))]
 fn put_size(out: &mut Vec<u8>, kind: u8, segment: &Segment) -> Result<(), AllocError>
     ensures put { OnOk result (out.new.items ≡ out.old.items ++ (little_bytes (width kind) segment.now.size ++ (datum_bytes segment.now.name ++ (datum_bytes segment.now.class ++ index_bytes segment.now.overlay)))) }
@@ -63,7 +63,7 @@ fn put_segment(out: &mut Vec<u8>, kind: u8, segment: &Segment) -> Result<(), All
     put_size(out, kind, segment)
 }
 
-/// The base frame's number of a PUBDEF, if there is one.
+/// Appends the base frame's number of a PUBDEF, if there is one.
 #[tactic(auto, using(crate::specs::Inner::Begins::begins_itself))]
 fn put_frame(out: &mut Vec<u8>, frame: Option<u16>) -> Result<(), AllocError>
     ensures put { OnOk result (out.new.items ≡ out.old.items ++ option_bytes (little_bytes 2) frame) }
@@ -75,7 +75,7 @@ fn put_frame(out: &mut Vec<u8>, frame: Option<u16>) -> Result<(), AllocError>
     }
 }
 
-/// Data or blocks, behind their segment and offset.
+/// Appends a segment index, an offset, and data or blocks.
 #[tactic(auto, using(crate::specs::Inner::Begins::begins_then))]
 fn put_data(
     out: &mut Vec<u8>,
@@ -92,7 +92,7 @@ fn put_data(
     put_bytes(out, bytes)
 }
 
-/// The type byte of a MODEND, and its start if there is one.
+/// Appends the type byte of a MODEND, and its start address if there is one.
 #[tactic(auto, using(crate::specs::Inner::Begins::begins_then))]
 fn put_end(
     out: &mut Vec<u8>,
@@ -110,7 +110,7 @@ fn put_end(
     }
 }
 
-/// The type byte, class byte and text of a COMENT.
+/// Appends the type byte, class byte and text of a COMENT.
 #[tactic(auto, using(crate::specs::Inner::Begins::begins_then))]
 fn put_comment(out: &mut Vec<u8>, type_byte: u8, class: u8, text: &[u8]) -> Result<(), AllocError>
     ensures put { OnOk result (out.new.items ≡ out.old.items ++ type_byte ∷ class ∷ text.now) }
@@ -120,7 +120,7 @@ fn put_comment(out: &mut Vec<u8>, type_byte: u8, class: u8, text: &[u8]) -> Resu
     put_bytes(out, text)
 }
 
-/// The group and segment indices of a PUBDEF's base, its frame, and the public names.
+/// Appends the group and segment indices of a PUBDEF, its base frame, and its public names.
 #[tactic(auto, using(crate::specs::Inner::Begins::begins_then))]
 fn put_publics<'a>(
     out: &mut Vec<u8>,
@@ -139,7 +139,7 @@ fn put_publics<'a>(
     put_items(out, kind, publics)
 }
 
-/// The index of a name, and items.
+/// Appends the name index of a GRPDEF, and its members.
 #[tactic(auto, using(crate::specs::Inner::Begins::begins_then))]
 fn put_group<'a>(
     out: &mut Vec<u8>,
@@ -213,8 +213,8 @@ fn put_contents(out: &mut Vec<u8>, rec: &Rec<'_>) -> Result<(), AllocError>
     }
 }
 
-/// Appends the contents of a typed record in shortest spellings: each index and communal length in its shortest
-/// one. Numbers of a narrow record keep their low 16 bits. An `Err` changes nothing.
+/// Appends the contents of a typed record in their shortest encoding: each index and communal length as short as possible.
+/// In a 16-bit record only the low 16 bits of offsets and lengths are written. After an error `out` is unchanged.
 #[tactic(auto, using(crate::specs::Inner::Begins::begins_front))]
 pub fn put_rec(out: &mut Vec<u8>, rec: &Rec<'_>) -> Result<(), AllocError>
     ensures ok { OnOk result (out.new.items ≡ out.old.items ++ contents_bytes (kind_seen rec.now) (contents_seen rec.now)) }

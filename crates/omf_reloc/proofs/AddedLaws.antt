@@ -1,4 +1,4 @@
--- Where a placement reaches, every fixup has something to add.
+-- If a placement reaches, every fixup has something to add.
 use Rattle.std.proofs.Common.{◌≡◌, ℕ, List, [], ◌∷◌, ◌++◌, refl, sym, subst}
 use Rattle.std.specs.Prelude.{All, map, Option, Some, None, Result, Ok, Err, IsOk}
 use Rattle.std.proofs.lemmas.List.Elements.{All-nil, All-cons, All-head, All-tail}
@@ -33,7 +33,7 @@ fine-all pl d (f ∷ fs) h =
     All-cons (λ g. IsOk (outcome pl d g)) f fs (fine-ok (outcome pl d f) (All-head IsFine (cause_of (outcome pl d f)) rest h)) (fine-all pl d fs (All-tail IsFine (cause_of (outcome pl d f)) rest h))
 
 module _ (pl : Places) where
-  -- What holds of all causes holds of those of one piece.
+  -- What holds for all causes holds for those of one piece.
   of-piece : (before after : List Piece) (p : Piece) → All IsFine (causes pl (before ++ p ∷ after)) → All IsFine (piece_causes pl p after)
   of-piece [] after p h = left (piece_causes pl p after) (causes pl after) h
   of-piece (q ∷ before) after p h = of-piece before after p (right (piece_causes pl q (before ++ p ∷ after)) (causes pl (before ++ p ∷ after)) h)

@@ -1,4 +1,4 @@
--- No entry of a derived placement is missing or one too many.
+-- A derived placement has no missing and no extra entry.
 use Rattle.std.proofs.Common.{◌≡◌, ℕ, ◌+◌, true, false, List, [], ◌∷◌, ◌++◌, length, refl, ap, ◌∙◌, subst, arith}
 use Rattle.std.specs.Prelude.{All, flat_map, filter_map, zip, slice_get, cond, Bool, Option, Some, None, ⊤}
 use Rattle.std.specs.List.{AllZip, enumerate_from}
@@ -20,7 +20,7 @@ use Rattle.omf_reloc.specs.Plain.{pieces}
 use Rattle.omf_reloc.specs.Reach.{missing, extra, misplaced, lies_at, causes, all_reference_places, far_fault, far_faults, reach_faults}
 use Rattle.omf_derive.proofs.DeriveLaws.{derived-fit}
 
--- Faults that speak of no entry's lack.
+-- Faults other than missing and extra entries.
 abbrev IsOther : ReachFault → Type 0
 IsOther (fault.Missing k i) = ⊥
 IsOther (fault.Extra k i) = ⊥

@@ -1,4 +1,4 @@
--- What stands before a record or a subrecord: the threads in force, what holds there, and that a MODEND is the last record.
+-- What precedes a record or a subrecord: the threads in force, what holds there, and that a MODEND is the last record.
 use Rattle.std.proofs.Common.{◌≡◌, List, [], ◌∷◌, ◌++◌, refl, sym, ◌∙◌, ap, ap₂, subst, true, false, length, map, arith, append_assoc, length-append}
 use Rattle.std.specs.Prelude.{All, Option, Some, None, IsSome, option_map, unwrap_or}
 use Rattle.std.proofs.lemmas.Bool.{true≢false}
@@ -16,13 +16,17 @@ use Rattle.omf_check.specs.declared.method.TargetMethod.TheVariants.{Segment as 
 use Rattle.omf_check.specs.declared.threads.Threads.{Threads}
 use Rattle.omf_check.proofs.ThreadLaws.{threads_kept}
 use Rattle.omf_reloc.specs.Inner.Walking.{plain_by, threads_after}
+use Rattle.omf_reloc.specs.Laws.{ThreadsGiveReferences}
 use Rattle.omf_reloc.proofs.GatherLaws.{subrecords-more}
 
--- The threads in force make the same plain reference as a search backwards.
+-- Resolving by the threads in force gives the same reference as searching backward.
 pub plain-by : (threads : Threads) (earlier : List Subrecord) (r : Reference) → HasThreads threads earlier → plain earlier r ≡ plain_by threads r
 plain-by threads earlier r h =
     ap₂ (λ f t. let x : PlainReference = record { frame = unwrap_or f F5; target = unwrap_or t (T0 0); displacement = unwrap_or r.displacement 0 } in x)
     (sym (threads_kept.frame threads earlier r h)) (sym (threads_kept.target threads earlier r h))
+
+pub give-references : ThreadsGiveReferences
+give-references threads earlier r h = sym (plain-by threads earlier r h)
 
 -- A thread that was set is in force.
 some_made : {A B : Type 0} (f : A → B) (o : Option A) → IsSome o → IsSome (option_map f o)

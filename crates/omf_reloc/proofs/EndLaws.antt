@@ -38,7 +38,7 @@ use Rattle.omf_reloc.proofs.WalkLaws.{last-end}
 abbrev IsNoEnd : Rec → Type 0
 IsNoEnd r = is_module_end r.contents ≡ false
 
--- The pieces with one record more behind the others.
+-- The pieces with one more record at the end.
 pieces-behind : (before front : List Rec) (r : Rec) → pieces_from before (front ++ r ∷ []) ≡ pieces_from before front ++ piece_of (subrecords (before ++ front)) r.kind r.contents ∷ []
 pieces-behind before [] r = ap (λ b. piece_of (subrecords b) r.kind r.contents ∷ []) (sym (append-nil before))
 pieces-behind before (x ∷ front) r =
@@ -53,7 +53,7 @@ through-kept threads before (r ∷ rest) h =
     subst (λ rs. HasThreads (threads_through threads (r ∷ rest)) (subrecords rs)) (append_assoc before (r ∷ []) rest)
     (through-kept (threads_after threads r.contents) (before ++ r ∷ []) rest (threads-more threads before r h))
 
--- A record that is no MODEND names no start.
+-- A record that is not a MODEND names no start.
 no-start : (pl : Places) (earlier : List Subrecord) (kind : ℕ) (c : Contents) → is_module_end c ≡ false → piece_start pl (piece_of earlier kind c) ≡ []
 no-start pl earlier kind (Fixups subs) e = refl
 no-start pl earlier kind (ModEnd byte s) e = absurd (true≢false e)

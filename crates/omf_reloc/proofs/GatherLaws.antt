@@ -1,4 +1,4 @@
--- The data records of a module with their fixups, gathered from left to right: what a walk over the records has in hand, and what it has laid.
+-- The data records of a module with their fixups, gathered from left to right, as a walk over the records has them.
 use Rattle.std.proofs.Common.{◌≡◌, ℕ, List, [], ◌∷◌, ◌++◌, append_assoc, refl, sym, ap, ap₂, ◌∙◌}
 use Rattle.std.specs.Prelude.{All, map, Option, Some, None, option_map, option_to_list, IsOk}
 use Rattle.std.proofs.lemmas.List.{append-nil, map-append}
@@ -30,7 +30,7 @@ abbrev pub fixups_of : Gathered → List (ℕ × PlainFixup)
 fixups_of (Once d fs) = fs
 fixups_of (Repeated kind d fs) = fs
 
--- with more fixups behind those that it has
+-- with more fixups after its own
 abbrev pub more : List (ℕ × PlainFixup) → Gathered → Gathered
 more fs (Once d gs) = Once d (gs ++ fs)
 more fs (Repeated kind d gs) = Repeated kind d (gs ++ fs)
@@ -57,7 +57,7 @@ gathered_piece (End kind byte s) after = []
 abbrev pub gathered : List Piece → List Gathered
 gathered ps = with_after gathered_piece ps
 
--- From left to right: a data record closes the open one and is open itself, and fixups are those of the open one.
+-- From left to right: a data record closes the open one and is open itself; fixups belong to the open one.
 abbrev pub tagged : ℕ → List PlainFixup → List (ℕ × PlainFixup)
 tagged kind fs = map (λ f. (kind, f)) fs
 
@@ -119,7 +119,7 @@ gather-from before (r ∷ rs) open_one =
 pub gathered-all : (m : List Rec) → gathered (pieces m) ≡ gathered_from [] None m
 gathered-all m = gather-from [] m None
 
--- What each lays.
+-- The bytes that each lays.
 module _ (limits : Limits) (pl : Places) where
   abbrev pub laid_of : Gathered → Laid
   laid_of (Once d fs) = record { segment = d.segment.item; offset = d.offset.item; bytes = patched pl d fs }

@@ -1,5 +1,5 @@
--- What the pieces of a well-formed module may rely on: each fixup has an LEDATA before it and lies in its data, each index is in its table, each data record lies
--- in its segment, and the end is the last piece.
+-- What is known of the pieces of a well-formed module: each fixup follows an LEDATA and is inside its data, each index is in its table,
+-- each data record is inside its segment, and the end is the last piece.
 use Rattle.std.proofs.Common.{◌≡◌, ◌≢◌, ℕ, ◌+◌, ◌≤◌, List, [], ◌∷◌, ◌++◌, length, true, refl, ◌∙◌, ap, subst}
 use Rattle.std.specs.Prelude.{flat_map, Option, Some, None, option_map, IsOk, ⊤}
 use Rattle.std.proofs.lemmas.List.{append-nil}

@@ -1,4 +1,4 @@
--- What is laid lies in its segment, and what fixups change in the data of their LEDATA.
+-- What is laid is inside its segment, and what fixups change is inside the data of their LEDATA.
 use Rattle.std.proofs.Common.{◌≡◌, ℕ, ◌≤◌, List, [], ◌∷◌, ◌++◌, length, sym, subst}
 use Rattle.std.specs.Prelude.{All, map, Ok}
 use Rattle.std.proofs.lemmas.List.Elements.{All-nil, All-cons, All-head, All-tail}

@@ -1,4 +1,4 @@
--- Where a placement's lists are as long as a well-formed module's tables, each of its references can be judged.
+-- If a placement's lists are as long as a well-formed module's tables, each of its references can be checked.
 use Rattle.std.proofs.Common.{◌≡◌, ℕ, ◌≤◌, List, [], ◌∷◌, refl, sym, ◌∙◌, ap, subst, true, length, arith}
 use Rattle.std.specs.Prelude.{Option, Some, None, ⊤}
 use Rattle.omf_image.specs.declared.limits.Limits.{Limits}

@@ -1,4 +1,4 @@
--- The data records of a module lie where they are laid.
+-- The extents of a module's data records are those of what is laid.
 use Rattle.std.proofs.Common.{Bool, true, false, ◌≡◌, ℕ, List, [], ◌∷◌, ◌++◌, append_assoc, length, refl, sym, ap, ap₂, subst, ◌∙◌, arith}
 use Rattle.std.specs.Prelude.{All, map, flat_map, IsOk, Option, Some, None, option_map, option_to_list, Result, Ok, Err}
 use Rattle.std.proofs.lemmas.List.{append-nil, map-append, length-replicate}
@@ -28,7 +28,7 @@ use Rattle.omf_reloc.proofs.PatchLaws.{stays_inside}
 use Rattle.omf_reloc.proofs.WalkLaws.{Lies, all-lie, length-short, next-split}
 use Rattle.omf_reloc.proofs.WalkedLaws.{laid-on}
 
--- The length that is computed of blocks is that of their bytes.
+-- The computed length of blocks is that of their bytes.
 length-by : (n k : ℕ) (o : Option Fault) → Ok n ≡ length_or k o → n ≡ k
 length-by n k None e = cc
 length-by n k (Some f) e = absurd cc
@@ -58,7 +58,7 @@ measures-from m before (r ∷ rest) holds e =
 pub all-measure : (m : List Rec) → ModuleHolds profile_limits m → All CanMeasure m
 all-measure m holds = measures-from m [] m holds refl
 
--- What is gathered lies where the records do.
+-- What is gathered has the extents of the records.
 abbrev place_of : Gathered → Extent
 place_of (Once d fs) = record { segment = d.segment.item; first = d.offset.item; len = length d.bytes }
 place_of (Repeated kind d fs) = record { segment = d.segment.item; first = d.offset.item; len = length (expanded (width kind) profile_limits d.bytes) }
@@ -112,7 +112,7 @@ module _ (pl : Places) (m : List Rec) (holds : ModuleHolds profile_limits m) whe
   pub all-fit : All Fits (flat_map measured m)
   all-fit = subst (All Fits) places-are (fits-each (laid profile_limits pl (pieces m)) (all-inside pl m holds).each_piece)
 
-  -- Zeros that are laid where they lie are lost.
+  -- Zeros laid at the same extents are overwritten.
   extent-zeros : (es : List Extent) → map extent (all_zeros es) ≡ es
   extent-zeros [] = refl
   extent-zeros (e ∷ es) =

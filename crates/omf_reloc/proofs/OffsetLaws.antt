@@ -1,4 +1,4 @@
--- Outcomes and start offsets, put together from what the steps of the code answer.
+-- Outcomes and start offsets, from what the steps of the code return.
 use Rattle.std.proofs.Common.{◌≡◌, ℕ, ◌+◌, List, [], ◌∷◌, Bool, true, false, cond, Option, refl, ◌∙◌, ap}
 use Rattle.std.specs.Prelude.{slice_get}
 use Rattle.std.specs.Option.{ok_or}

@@ -27,7 +27,7 @@ length-sum_bytes n bytes v = length-bytes_low_first 0 n _
 length-three : (a b c : List ℕ) → length (a ++ b ++ c) ≡ length a + length b + length c
 length-three a b c = omega (arith, length-append (a ++ b) c, length-append a b)
 
--- A part that lies inside keeps the length.
+-- A part inside the data keeps the length.
 length-add_part : (bytes : List ℕ) (pos : ℕ) (p : Part) (v : ℕ) → pos + part_size p ≤ length bytes → length (add_part bytes pos p v) ≡ length bytes
 length-add_part bytes pos p v h = omega (
   arith,
@@ -123,7 +123,7 @@ fit-outcome_at pl segment offset f =
 fit-outcome : (pl : Places) (d : DataItem) (f : ℕ × PlainFixup) → Fit (location_type f.1.locat) (outcome pl d f)
 fit-outcome pl d f = fit-outcome_at pl d.segment.item d.offset.item f
 
--- Each part of what a fixup adds stands inside data that its location stands inside.
+-- Each part that a fixup adds to is inside the data if its location is.
 abbrev Inside : ℕ → ℕ → Addition → Type 0
 Inside pos size a = pos + a.offset + part_size a.part ≤ size
 

@@ -69,7 +69,7 @@ listed-from before threads (x ∷ xs) h =
 pub pieces-listed : (m : List Rec) (xs : List (Place × Rec)) → map (λ x. x.1) xs ≡ m → without_places (placed_pieces xs) ≡ single_pieces m
 pieces-listed m xs e = listed-from [] no_threads xs threads_kept.none ∙ ap (λ rs. flat_map one_by_one (pieces_from [] rs)) e
 
--- Their references stand where those of the records do.
+-- Their references are at the places of the records' references.
 abbrev at_number : ℕ → List ℕ → List (ℕ × ℕ)
 at_number number ps = map (λ within. (number, within)) ps
 

@@ -1,4 +1,4 @@
--- A placement reaches exactly where no fault of reach is named.
+-- A placement reaches exactly if it has no fault of reach.
 use Rattle.std.proofs.Common.{◌≡◌, ℕ, zero, suc, ◌+◌, ◌-◌, ◌<◌, ◌≤◌, List, [], ◌∷◌, ◌++◌, refl, sym, ◌∙◌, ap, ap₂, Bool, true, false, cond, length, arith, length-append}
 use Rattle.std.specs.Prelude.{All, map, flat_map, filter_map, zip, slice_get, option_to_list, unwrap_or, Option, Some, None, ◌==◌, ◌&&◌, nat_le, nat_lt}
 use Rattle.std.specs.List.{enumerate_from, cons_option}
@@ -38,7 +38,7 @@ abbrev total : List Piece → ℕ
 total [] = 0
 total (p ∷ ps) = refs p + total ps
 
--- There is a cause, or none, for each fixup behind a data record and for the start.
+-- There is a cause, or none, for each fixup after a data record and for the start.
 module _ (pl : Places) where
   data-causes : (r : Rec) (c : Contents) (ps : List Piece)
       → length (causes_at pl (data_contents c) ps) + length (flat_map fixups_in (cond (is_data_contents c) [] (Kept r ∷ up_to is_data ps))) ≤ length (fixups_of_data ps)

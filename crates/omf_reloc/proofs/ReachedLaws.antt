@@ -1,4 +1,4 @@
--- The first fault of a list in parts, and the parts that reach judges one after another.
+-- The first fault of a list in parts, and the parts that reach checks in order.
 use Rattle.std.proofs.Common.{◌≡◌, ℕ, zero, suc, ◌+◌, ◌-◌, ◌≤◌, List, [], ◌∷◌, ◌++◌, refl, sym, ◌∙◌, ap, subst, arith, length, drop, true, false}
 use Rattle.std.specs.Prelude.{Option, Some, None, slice_get, is_some, ◌↔◌}
 use Rattle.std.proofs.lemmas.Bool.{true≢false, false≢true}
@@ -102,7 +102,7 @@ module _ (pl : Places) (m : List Rec) where
         externals = same-count kinds.External kinds.External ne ge (nil-right (a ++ b) c h3) (nil-right (a ++ b ++ c ++ d ++ e) f h6);
       }
 
-  -- An answer of Ok or Err is right.
+  -- The results Ok and Err are right.
   pub refused : (x : ReachFault) → reach_fault pl m ≡ Some x → (false ≡ true) ↔ Reaches pl m
   refused x h = (λ e. absurd (false≢true e), λ r. absurd (none-some x (sym ((reach-decided pl m).decided.1 r) ∙ h)))
 
@@ -135,7 +135,7 @@ module _ (pl : Places) (m : List Rec) where
   pub fitting-entries : None ≡ slice_get (misfits pl m) 0 → HasEntries pl m
   fitting-entries h = entries-there (sym (ap (λ l. slice_get l 0) (nil-left counts moved (first-none (counts ++ moved) (sym h)))))
 
-  -- Where a placement reaches, its lists are as long as the tables, and no reference is too far.
+  -- If a placement reaches, its lists are as long as the tables, and every reference reaches.
   pub reached-entries : Reaches pl m → HasEntries pl m
   reached-entries r = record { segments = r.fits.segment_count; groups = r.fits.group_count; externals = r.fits.external_count }
 

@@ -1,4 +1,4 @@
--- A walk over the records of a module that holds, by a placement that reaches, can take every record, and its image is that of the module.
+-- A walk over the records of a well-formed module, at a placement that reaches, can take every record, and its image is that of the module.
 use Rattle.std.proofs.Common.{◌≡◌, ℕ, zero, suc, ◌+◌, ◌-◌, ◌^◌, ◌<◌, ◌≤◌, Bool, true, false, cond, List, [], ◌∷◌, ◌++◌, append_assoc, length, length-append, refl, sym, ap, subst, ◌∙◌, arith}
 use Rattle.std.specs.Prelude.{All, map, flat_map, Option, Some, None, option_map, option_to_list, unwrap_or, IfSome, slice_get, nat_le}
 use Rattle.std.specs.List.{last_or}
@@ -104,7 +104,7 @@ abbrev pub Lies : List Rec → Gathered → Type 0
 Lies m (Once d fs) = LiesInSegment m d.segment.item d.offset.item (length d.bytes) × AreInside (length d.bytes) fs
 Lies m (Repeated kind d fs) = LiesInSegment m d.segment.item d.offset.item (length (expanded (width kind) profile_limits d.bytes))
 
--- What is open is the last data record, where that is an LEDATA.
+-- The open data record is the last one, if that is an LEDATA.
 abbrev pub Tells : Option Gathered → Option Contents → Type 0
 Tells o l = (d : DataItem) → l ≡ Some (Plain d) → (fs : List (ℕ × PlainFixup)) × (o ≡ Some (Once (bare d) fs))
 
@@ -224,7 +224,7 @@ module _ (m : List Rec) (holds : ModuleHolds profile_limits m) where
       none-there : (d : DataItem) → None ≡ Some (Plain d) → ⊥
       none-there d e = cc
 
-  -- So all data lie in their segments, and all fixups in their data.
+  -- So all data are inside their segments, and all fixups inside their data.
   lies-open : (o : Option Gathered) → IfSome o (Lies m) → All (Lies m) (option_to_list o)
   lies-open None h = All-nil (Lies m)
   lies-open (Some g) h = All-cons (Lies m) g [] h (All-nil (Lies m))

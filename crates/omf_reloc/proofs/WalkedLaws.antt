@@ -1,4 +1,4 @@
--- What is known while a module's pieces are walked over: the image holds what the data records that are closed lay, and the others are still to be laid.
+-- What is known during a walk over a module's pieces: the image has what the closed data records lay, and the others are still to be laid.
 use Rattle.std.proofs.Common.{◌≡◌, ℕ, ◌+◌, ◌≤◌, List, [], ◌∷◌, ◌++◌, append_assoc, length, refl, sym, ap, subst, ◌∙◌, arith}
 use Rattle.std.specs.Prelude.{All, map, slice_get, Option, Some, None, option_map, option_to_list, IfSome}
 use Rattle.std.proofs.lemmas.Grind.{fold-append}
@@ -37,7 +37,7 @@ use Rattle.omf_reloc.proofs.WalkLaws.{Lies, length-short}
 pub first-walk : (image : List Laid) (w : Walk) → w ≡ record { image = image; open_data = None } → w ≡ record { image = w.image; open_data = None }
 first-walk image w e = e ∙ ap (λ (i : List Laid). let v : Walk = record { image = i; open_data = None } in v) (sym (ap (λ (v : Walk). v.image) e))
 
--- What is laid in two turns is laid in one.
+-- What is laid in two steps is laid in one.
 pub laid-on : (old next new : List Laid) (ls ms : List Laid) → AreLaidOver old ls next → AreLaidOver next ms new → AreLaidOver old (ls ++ ms) new
 laid-on old next new [] ms h k = subst (λ x. AreLaidOver x ms new) (sym h) k
 laid-on old next new (l ∷ ls) ms (first, one, h) k = (first, one, laid-on first next new ls ms h k)
@@ -81,7 +81,7 @@ along-all o (p ∷ ps) = along-step p o ps ∙ ap (λ t. closed_at p o ++ t) (al
 abbrev laid_now : Places → Gathered → Laid
 laid_now pl g = laid_of profile_limits pl g
 
--- What is open is the last data record, where that is an LEDATA.
+-- The open data record is the last one, if that is an LEDATA.
 abbrev Tells : Option Gathered → Option Contents → Type 0
 Tells o l = (d : DataItem) → l ≡ Some (Plain d) → (fs : List (ℕ × PlainFixup)) × (o ≡ Some (Once d fs))
 
@@ -114,7 +114,7 @@ module _ (start : List Laid) (pl : Places) (m : List Rec) (holds : ModuleHolds p
         lies = tt;
       }))
 
-  -- what is open lies in a segment, which has no more than 2^32 bytes
+  -- what is open is inside a segment, which has at most 2^32 bytes
   offsets-of : (o : Option Gathered) → IfSome o (Lies m) → IfSome (option_map (laid_now pl) o) HasOffsets
   offsets-of None h = tt
   offsets-of (Some (Once d fs)) h =
@@ -130,7 +130,7 @@ module _ (start : List Laid) (pl : Places) (m : List Rec) (holds : ModuleHolds p
   pub has-offsets : (w : Walk) (ps : List Piece) → IsWalked start pl m w ps → IfSome w.open_data HasOffsets
   has-offsets w ps h = subst (λ o. IfSome o HasOffsets) (sym h.open_data) (offsets-of h.open_one h.lies)
 
-  -- A fixup can be added to the LEDATA before it, and what is open then has it behind those that it had.
+  -- A fixup can be applied to the LEDATA before it, and is the last of the fixups of what is open then.
   module _ (kind : ℕ) (f : PlainFixup) (d : DataItem) (fs : List (ℕ × PlainFixup)) (lies : Lies m (Once d fs)) (low : location_end (kind, f) ≤ length d.bytes) where
     can-add : CanAdd f (laid_now pl (Once d fs))
     can-add = let size = (stays_inside pl d fs lies.1).size in omega (arith, size, low)
@@ -240,7 +240,7 @@ module _ (start : List Laid) (pl : Places) (m : List Rec) (holds : ModuleHolds p
       subst (λ ls. AreLaidOver start ls image) (sym (map-append (laid_now pl) h.done (option_to_list h.open_one)) ∙ sym h.all)
       (laid-on start w.image image (map (laid_now pl) h.done) (map (laid_now pl) (option_to_list h.open_one)) h.image (subst (λ ls. AreLaidOver w.image ls image) closing last))
 
--- Where the data record that is open lies is the same for whoever judges the next piece.
+-- The place of the open data record is the same for the next piece's check.
 place-kept : (kind : ℕ) (c : Contents) (l : Option Laid) → open_place (opened_by kind c l) ≡ data_place c (open_place l)
 place-kept kind (Plain d) l = refl
 place-kept kind (Iterated d) l = refl
@@ -257,7 +257,8 @@ place-opened pl (Fixed kind []) l = refl
 place-opened pl (Fixed kind (f ∷ fs)) l = place-fixed pl kind f l
 place-opened pl (End kind byte s) l = refl
 
--- What is known while a module is walked over and the first reference that does not reach is looked for: the first fault of the pieces to come is the first of all.
+-- What is known during the walk that looks for the first reference that does not reach: the first fault of the pieces to come is the first
+-- of all.
 pub record IsGoing (start : List Laid) (pl : Places) (m : List Rec) (w : Walk) (left : List (Place × Piece)) : Type 0 where
   pub walked : IsWalked start pl m w (without_places left)
   pub can : CanJudgeAll pl (open_place w.open_data) (without_places left)

@@ -1,4 +1,4 @@
--- The image and the start address that a placement gives a module.
+-- The image and the start address of a module at a placement.
 use Rattle.std.specs.Prelude.{ℕ, List, [], ◌∷◌, fold, Option, Some, Result, Ok, Err}
 use Rattle.omf_image.specs.declared.limits.Limits.{Limits}
 use Rattle.omf_reloc.specs.declared.fault.Cause.{Cause}
@@ -13,16 +13,17 @@ use Rattle.omf_reloc.specs.Plain.{Piece, Kept, Fixed, End, PlainFixup, pieces, f
 use Rattle.omf_placement.specs.Placement.{Places, frame_by}
 use Rattle.omf_reloc.specs.Offsets.{outcome, start_offset}
 
--- Data with what one fixup adds at its location; a fixup that does not reach adds nothing, and a placement that reaches has none such.
+-- The data after one fixup is applied at its location. A fixup that does not reach changes nothing; at a placement that reaches there is
+-- none.
 abbrev pub added : ℕ → Result (List Addition) Cause → List ℕ → List ℕ
 added pos (Ok parts) bytes = add_parts pos parts bytes
 added pos (Err c) bytes = bytes
 
--- The data of an LEDATA with what its fixups add, one after another in file order: they may overlap, and each adds to what stands there.
+-- The data of an LEDATA after its fixups are applied in file order. Locations may overlap: each fixup adds to the current bytes.
 abbrev pub patched : Places → DataItem → List (ℕ × PlainFixup) → List ℕ
 patched pl d fixups = fold (λ bytes f. added (location_offset f.1.locat) (outcome pl d f) bytes) d.bytes fixups
 
--- What each data record lays in its segment: the patched data of an LEDATA, the bytes of an LIDATA's blocks.
+-- The bytes that each data record lays in its segment: the patched data of an LEDATA, the expanded blocks of an LIDATA.
 abbrev pub laid_contents : Limits → Places → ℕ → Contents → List Piece → List Laid
 laid_contents limits pl kind (Plain d) after = record { segment = d.segment.item; offset = d.offset.item; bytes = patched pl d (fixups_of_data after) } ∷ []
 laid_contents limits pl kind (Iterated d) after = record { segment = d.segment.item; offset = d.offset.item; bytes = expanded (width kind) limits d.bytes } ∷ []
@@ -40,7 +41,7 @@ laid limits pl ps = with_after (laid_piece limits pl) ps
 abbrev pub image : Limits → Places → List Rec → ℕ → ℕ → Option ℕ
 image limits pl m segment x = byte_at (laid limits pl (pieces m)) segment x
 
--- The start (TIS OMF 1.1, "MODEND"): the selector of its frame, and its offset.
+-- The start address (TIS OMF 1.1, "MODEND"): the selector of its frame, and its offset.
 abbrev pub start_at : Places → PlainReference → Result ℕ Cause → List (ℕ × ℕ)
 start_at pl r (Ok o) = ((frame_by pl 0 r.target r.frame).selector, o) ∷ []
 start_at pl r (Err c) = []

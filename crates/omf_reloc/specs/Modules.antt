@@ -1,4 +1,4 @@
--- Modules of the worked examples, besides those of the checker.
+-- The modules of the worked examples, besides those of omf_check.
 use Rattle.std.specs.Prelude.{ℕ, List, [], ◌∷◌, ◌++◌, Some, None}
 use Rattle.std.specs.List.{repeat}
 use Rattle.omf_frame.specs.Framing.{Raw}
@@ -52,11 +52,11 @@ with_blocks = repeated nested_blocks
 abbrev pub big_end : List ℕ
 big_end = big (0xA0 ∷ 0x06 ∷ 0x00 ∷ 0x01 ∷ 0xFE ∷ 0xFF ∷ 0xAB ∷ 0xCD ∷ 0xE4 ∷ [])
 
--- A start in the segment, whose frame is that of a group, by a thread.
+-- A start in the segment; its frame is that of a group, by a thread.
 abbrev pub with_start : List ℕ
 with_start = started (0x8A ∷ 0x06 ∷ 0x00 ∷ 0xC1 ∷ 0xA0 ∷ 0x01 ∷ 0x02 ∷ 0x00 ∷ 0x0C ∷ [])
 
--- A thread that names the second segment before it is there.
+-- A thread that names the second segment before its SEGDEF.
 abbrev pub early_thread : List ℕ
 early_thread = thread_ahead S
 
@@ -72,7 +72,7 @@ many_fixups = with_fixup (0x9C ∷ 0x02 ∷ 0x04 ∷ repeat 205 (0xC4 ∷ 0x01 �
 abbrev pub using : List ℕ
 using = H ++ N ++ S ++ 0x8C ∷ 0x04 ∷ 0x00 ∷ 0x01 ∷ 0x58 ∷ 0x00 ∷ 0x17 ∷ L ++ 0x9C ∷ 0x05 ∷ 0x00 ∷ 0xC4 ∷ 0x01 ∷ 0x56 ∷ 0x01 ∷ 0x43 ∷ M
 
--- The same by a local external, behind it these records.
+-- The same by a local external, followed by these records.
 abbrev pub using_locally : List ℕ → List ℕ
 using_locally records = H ++ N ++ S ++ 0xB4 ∷ 0x04 ∷ 0x00 ∷ 0x01 ∷ 0x58 ∷ 0x00 ∷ 0xEF ∷ records ++ L ++ 0x9C ∷ 0x05 ∷ 0x00 ∷ 0xC4 ∷ 0x01 ∷ 0x56 ∷ 0x01 ∷ 0x43 ∷ M
 

@@ -1,4 +1,4 @@
--- Whether a placement has the places that a reference names, and the types of the records that references stand in.
+-- Whether a placement has the entries that a reference names.
 use Rattle.std.specs.Prelude.{◌≡◌, ℕ, length, true, List}
 use Rattle.omf_check.specs.Tables.{is_defined, segments, groups, externals}
 use Rattle.omf_check.specs.Threads.{PlainReference}
@@ -9,13 +9,13 @@ use Rattle.omf_check.specs.declared.method.TargetMethod.TheVariants.{Segment as 
 use Rattle.omf_placement.specs.Placement.{Places}
 use Rattle.omf_records.specs.Values.{Rec}
 
--- The target's entry is there.
+-- The placement has the target's entry.
 abbrev pub HasTarget : Places → TargetMethod → Type 0
 HasTarget pl (T0 i) = is_defined (length pl.segments) i ≡ true
 HasTarget pl (T1 i) = is_defined (length pl.groups) i ≡ true
 HasTarget pl (T2 i) = is_defined (length pl.externals) i ≡ true
 
--- The frame's entry is there: F4 asks it of the segment of the last data record, here `location`; F5 asks nothing beyond what the target does.
+-- The placement has the frame's entry: of F4 that of the segment of the last data record, here `location`; of F5 none beyond the target's.
 abbrev pub HasFrame : Places → ℕ → FrameMethod → Type 0
 HasFrame pl location (F0 i) = is_defined (length pl.segments) i ≡ true
 HasFrame pl location (F1 i) = is_defined (length pl.groups) i ≡ true
@@ -23,7 +23,7 @@ HasFrame pl location (F2 i) = is_defined (length pl.externals) i ≡ true
 HasFrame pl location F4 = is_defined (length pl.segments) location ≡ true
 HasFrame pl location F5 = Unit
 
--- The entries of a reference's frame and target are there. Segment 0, which no data record has, rules out F4.
+-- The placement has the entries of a reference's frame and target. No data record has segment 0, so `location` 0 rules out F4.
 pub record HasPlaces (pl : Places) (location : ℕ) (r : PlainReference) : Type 0 where
   pub frame : HasFrame pl location r.frame
   pub target : HasTarget pl r.target

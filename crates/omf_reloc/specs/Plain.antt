@@ -1,22 +1,23 @@
--- A module with plain references, record by record: what reach, the image, the start and the canonical bytes rest on.
+-- A module's records with their threads resolved, on which reach, the image, the start and the canonical bytes rest.
 use Rattle.std.specs.Prelude.{ℕ, ◌+◌, ◌*◌, List, [], ◌∷◌, map, flat_map, Bool, false, Option, Some, None, is_some, option_map}
 use Rattle.omf_frame.specs.Bytes.{bits, with_before, up_to}
 use Rattle.omf_records.specs.Values.{At, Rec, alone, Contents, Plain, Iterated, DataItem, Fixups, ModEnd, Subrecord, Thread, Fixup}
 use Rattle.omf_check.specs.Tables.{subrecords}
 use Rattle.omf_check.specs.Threads.{PlainReference, plain}
 
--- A fixup with a plain reference (no thread, and a displacement of 0 where none is given): its first two bytes, and the reference.
+-- A fixup with its threads resolved: its first two bytes (LOCAT) and its reference, with displacement 0 if the record gives none.
 pub record PlainFixup : Type 0 where
   pub locat : ℕ
   pub reference : PlainReference
 
--- A FIXUPP keeps its type and its fixups; a MODEND its type, its type byte and its start; any other record is kept without its places.
+-- A FIXUPP with its type and its fixups; a MODEND with its type, its module type byte and its start; any other record, without its places.
 pub data Piece : Type 0 where
   Kept : Rec → Piece
   Fixed : ℕ → List PlainFixup → Piece
   End : ℕ → ℕ → Option PlainReference → Piece
 
--- The fixups of a FIXUPP, each after all the subrecords before it in the module (TIS OMF 1.1, "FIXUPP": a thread holds until it is set anew).
+-- The fixups of a FIXUPP, each resolved by all the subrecords before it in the module (TIS OMF 1.1, "FIXUPP": a thread stays in force until
+-- it is set again).
 abbrev pub plain_fixup : List Subrecord → Subrecord → List PlainFixup
 plain_fixup earlier (Thread byte datum) = []
 plain_fixup earlier (Fixup locat r) = record { locat = locat; reference = plain earlier r } ∷ []
@@ -24,7 +25,8 @@ plain_fixup earlier (Fixup locat r) = record { locat = locat; reference = plain 
 abbrev pub plain_fixups : List Subrecord → List (At Subrecord) → List PlainFixup
 plain_fixups earlier subs = with_before plain_fixup earlier (map (λ s. s.item) subs)
 
--- MODEND's type byte (TIS OMF 1.1, "MODEND"): bits 7 and 6 as they stand, bit 0 as bit 6, the ignored ones 0 (this profile's rule).
+-- MODEND's module type byte, normalized (TIS OMF 1.1, "MODEND"): bits 7 and 6 are kept, bit 0 is a copy of bit 6, and the ignored bits are
+-- 0 (this profile's rule).
 abbrev pub end_byte : ℕ → ℕ
 end_byte byte = 128 * bits byte 7 1 + 64 * bits byte 6 1 + bits byte 6 1
 
@@ -37,7 +39,7 @@ piece_of earlier kind c = Kept (alone (record { kind = kind; contents = c }))
 abbrev pub pieces : List Rec → List Piece
 pieces m = with_before (λ before r. piece_of (subrecords before) r.kind r.contents ∷ []) [] m
 
--- What a data record says: an LEDATA or an LIDATA.
+-- The data of a data record, LEDATA or LIDATA.
 abbrev pub data_contents : Contents → Option DataItem
 data_contents (Plain d) = Some d
 data_contents (Iterated d) = Some d
@@ -58,6 +60,6 @@ fixups_in (Kept r) = []
 fixups_in (Fixed kind fixups) = map (λ f. (kind, f)) fixups
 fixups_in (End kind byte start) = []
 
--- The fixups of a data record, in file order: those of all FIXUPPs between it and the next data record.
+-- The fixups of a data record, in file order: those of all FIXUPPs before the next data record.
 abbrev pub fixups_of_data : List Piece → List (ℕ × PlainFixup)
 fixups_of_data after = flat_map fixups_in (up_to is_data after)

@@ -15,7 +15,7 @@ use Rattle.omf_placement.specs.declared.frame.Placed.{Placed}
 use Rattle.omf_placement.specs.Placement.{Places, placed, absolute_place}
 use Rattle.omf_reloc.specs.Offsets.{outcome, start_offset, cause_of}
 
--- Whether each fixup of a data record reaches, in file order: none, or the cause.
+-- Why each fixup of a data record does not reach, in file order; None for one that reaches.
 abbrev pub causes_at : Places → Option DataItem → List Piece → List (Option Cause)
 causes_at pl None after = []
 causes_at pl (Some d) after = map (λ f. cause_of (outcome pl d f)) (fixups_of_data after)
@@ -26,11 +26,12 @@ piece_causes pl (Fixed kind fixups) after = []
 piece_causes pl (End kind byte None) after = []
 piece_causes pl (End kind byte (Some r)) after = cause_of (start_offset pl kind r) ∷ []
 
--- Whether each fixup reaches, in file order, and last the start.
+-- The same for each fixup of the module, in file order, and for the start, last.
 abbrev pub causes : Places → List Piece → List (Option Cause)
 causes pl ps = with_after (piece_causes pl) ps
 
--- Where each of them stands: its record's number, and the offset in the record of the fixup's first byte, or of the start's fix data byte.
+-- The places of these references: the record's number, and the offset in the record of the fixup's first byte, or of the start's fix data
+-- byte.
 abbrev pub fixup_place : ℕ → Subrecord → Option ℕ
 fixup_place within (Thread byte datum) = None
 fixup_place within (Fixup locat r) = Some within
@@ -43,18 +44,18 @@ reference_places _ = []
 abbrev pub all_reference_places : List Rec → List (ℕ × ℕ)
 all_reference_places m = flat_map (λ p. map (λ within. (p.0, within)) (reference_places p.1.contents)) (enumerate_from 0 m)
 
--- a reference at its place, where it does not reach
+-- the fault of a reference at its place, if it does not reach
 abbrev pub far_fault : (ℕ × ℕ) × Option Cause → Option ReachFault
 far_fault p = option_map (λ c. fault.TooFar p.0.0 p.0.1 c) p.1
 
--- A table of n entries against a list of the placement: the first index without an entry, the first entry without an index.
+-- A table of n entries against a list of the placement: the first index without an entry, and the first entry without an index.
 abbrev pub missing : Kind → ℕ → ℕ → List ReachFault
 missing k n given = if nat_lt given n then fault.Missing k (given + 1) ∷ [] else []
 
 abbrev pub extra : Kind → ℕ → ℕ → List ReachFault
 extra k n given = if nat_lt n given then fault.Extra k (n + 1) ∷ [] else []
 
--- An absolute segment that does not lie where it says: its address, its frame's base and its selector all count.
+-- An absolute segment that is not placed where its SEGDEF puts it. Its address, its frame's base and its selector all count.
 abbrev pub lies_at : Placed → Placed → Bool
 lies_at p q = (p.address == q.address) && (p.frame.base == q.frame.base) && (p.frame.selector == q.frame.selector)
 
@@ -62,8 +63,8 @@ abbrev pub misplaced : Places → ℕ → Option (ℕ × ℕ) → List ReachFaul
 misplaced pl i None = []
 misplaced pl i (Some a) = if lies_at (placed pl.segments i) (absolute_place a.0 a.1) then [] else fault.Absolute i ∷ []
 
--- Every reason why the placement does not fit a module with these segments and so many groups and externals: its lists are not as long as the tables,
--- or an absolute segment is misplaced.
+-- All faults of the fit between the placement and a module with these segments and these numbers of groups and externals: lists that are
+-- not as long as the tables, and absolute segments that are misplaced.
 abbrev pub misfits_of : Places → List SegInfo → ℕ → ℕ → List ReachFault
 misfits_of pl infos group_count external_count =
     missing kinds.Segment (length infos) (length pl.segments)
@@ -77,19 +78,19 @@ misfits_of pl infos group_count external_count =
 abbrev pub misfits : Places → List Rec → List ReachFault
 misfits pl m = misfits_of pl (segments m) (length (groups m)) (length (externals m))
 
--- Every reference that does not reach.
+-- The faults of all references that do not reach.
 abbrev pub far_faults : Places → List Rec → List ReachFault
 far_faults pl m = filter_map far_fault (zip (all_reference_places m) (causes pl (pieces m)))
 
--- Every reason why a placement does not reach, in the order in which they are named.
+-- All faults of reach, in the order in which they are reported.
 abbrev pub reach_faults : Places → List Rec → List ReachFault
 reach_faults pl m = misfits pl m ++ far_faults pl m
 
--- The first of them, if there is one.
+-- The first fault of reach, if there is one.
 abbrev pub reach_fault : Places → List Rec → Option ReachFault
 reach_fault pl m = slice_get (reach_faults pl m) 0
 
--- A placement fits a module: its lists are as long as the tables, and each absolute segment lies where its SEGDEF says.
+-- A placement fits a module: its lists are as long as the tables, and each absolute segment is placed where its SEGDEF puts it.
 pub record Fits (pl : Places) (m : List Rec) : Type 0 where
   pub segment_count : length pl.segments ≡ length (segments m)
   pub group_count : length pl.groups ≡ length (groups m)
@@ -97,7 +98,7 @@ pub record Fits (pl : Places) (m : List Rec) : Type 0 where
   pub absolute : (i number offset : ℕ) (info : SegInfo) → entry (segments m) i ≡ Some info → info.absolute ≡ Some (number, offset)
       → entry pl.segments i ≡ Some (absolute_place number offset)
 
--- It reaches: it fits, and every fixup and the start reach. That is so exactly where there is no reason why not.
+-- A placement reaches: it fits, and every fixup and the start reach. That is so exactly if there is no fault of reach.
 pub record Reaches (pl : Places) (m : List Rec) : Type 0 where
   pub fits : Fits pl m
   pub each : All (λ c. c ≡ None) (causes pl (pieces m))

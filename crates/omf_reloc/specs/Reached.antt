@@ -1,4 +1,4 @@
--- Why a placement gives a module no image: it does not reach, and this is the first reason why; or it reaches, and there is no memory.
+-- Why a module has no image at a placement: the first fault of reach; or memory ran out, and the placement reaches.
 use Rattle.std.specs.Prelude.{◌≡◌, List, Some, None}
 use Rattle.omf_records.specs.Values.{Rec}
 use Rattle.omf_placement.specs.Placement.{Places}

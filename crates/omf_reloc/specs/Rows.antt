@@ -1,4 +1,4 @@
--- Words of the worked examples.
+-- Definitions of the worked examples.
 use Rattle.std.specs.Prelude.{ℕ, List, [], ◌∷◌, map, flat_map, Option, Some, None, option_to_list, Result, Ok, Err}
 use Rattle.std.specs.List.{range_with_len}
 use Rattle.omf_image.specs.declared.run.Run.{Run}
@@ -41,7 +41,7 @@ only p = places (p ∷ []) [] []
 abbrev pub low : Places
 low = only (at 0x10020 0x10000 0x1000)
 
--- The runs of a segment, each with the offset of its first byte and its bytes; or why the placement does not reach.
+-- The runs of a segment, each with the offset of its first byte and its bytes; or the fault of reach.
 abbrev pub run_bytes : Places → List Rec → ℕ → Run → ℕ × List ℕ
 run_bytes pl m segment r = (r.first, flat_map (λ x. option_to_list (image profile_limits pl m segment x)) (range_with_len r.first r.len))
 
@@ -59,14 +59,14 @@ relocated bytes pl segment = relocated_records pl (module_of bytes) segment
 abbrev pub run_from_0 : List ℕ → Result (List (ℕ × List ℕ)) ReachFault
 run_from_0 bytes = Ok ((0, bytes) ∷ [])
 
--- The start; or why the placement does not reach.
+-- The start address; or the fault of reach.
 abbrev pub start_records : Places → List Rec → Result (Option (ℕ × ℕ)) ReachFault
 start_records pl m = unless_far (reach_fault pl m) (start pl m)
 
 abbrev pub started : List ℕ → Places → Result (Option (ℕ × ℕ)) ReachFault
 started bytes pl = start_records pl (module_of bytes)
 
--- The placement of a module that a text spells, or the line at fault.
+-- The placement that a text gives a module, or the number of the line at fault.
 abbrev pub and_resolved : List Rec → Result Draft ℕ → Result Places ℕ
 and_resolved m (Ok d) = resolved m d
 and_resolved m (Err n) = Err n
@@ -90,14 +90,15 @@ derived_image ms given = first_image (joined ms) (derived (joined ms) given)
 abbrev pub lies : List ℕ → ℕ → ℕ → ℕ → List ℕ × Places
 lies bytes address base selector = (bytes, only (at address base selector))
 
--- The references of a module, each with its record's number and its place there.
+-- The references of a module, each with the number of its record and its offset in the record.
 abbrev pub referred : Place × Piece → List ((ℕ × ℕ) × Piece)
 referred p = map (λ at. (at, p.1)) (references_at p.0 p.1)
 
 abbrev pub references : List ℕ → List ((ℕ × ℕ) × Piece)
 references bytes = flat_map referred (placed_pieces (placed_from 0 0 (raws_of bytes)))
 
--- A fixup of a FIXUPP of a type, by its first two bytes, its frame, its target and its displacement; and the end of a module, with a start.
+-- A fixup in a FIXUPP of this type, from its first two bytes, its frame, its target and its displacement; and the end of a module with a
+-- start.
 abbrev pub plain_reference : FrameMethod → TargetMethod → ℕ → PlainReference
 plain_reference frame_method target displacement = record { frame = frame_method; target = target; displacement = displacement }
 

@@ -1,4 +1,4 @@
-//! What a fixup adds at its location.
+//! The numbers that a fixup adds at its location (TIS OMF 1.1, "FIXUPP").
 
 ghost use Rattle.std.specs.Prelude.{◌≡◌, ◌+◌, ◌≤◌, ◌<◌, ◌^◌, ◌∷◌, [], All, length};
 ghost use Rattle.omf_image.specs.Parts.{part_size, add_part, add_parts};
@@ -8,7 +8,7 @@ use omf_image::{Part, add_part};
 use omf_records::location_size;
 use std::marker::Model;
 
-/// A number that is added at an offset of a location, modulo the size of its part.
+/// A number to add at an offset within a location, modulo 2^8, 2^16 or 2^32 by the size of its part.
 #[derive(Clone, Copy, Debug)]
 struct Addition {
     offset: usize,
@@ -17,7 +17,7 @@ struct Addition {
 }
 
 impl Addition {
-    /// Adds to the bytes at a location.
+    /// Adds the number to the bytes of the location at `position`.
     fn add_to(self, bytes: &mut [u8], position: usize)
         requires { position + self.offset + part_size self.part ≤ length bytes.old }
         ensures { bytes.new ≡ add_part bytes.old (position + self.offset) self.part self.value }
@@ -45,7 +45,7 @@ impl Model for Additions {
     ghost view = { λ a. all_added a.first a.second };
 }
 
-/// The part of so many bytes; the largest where there is none.
+/// The part with this size in bytes; the largest part for any other size.
 fn part_of_size(size: u8) -> Part
     ensures { result ≡ part_of_size size }
 {
@@ -56,7 +56,7 @@ fn part_of_size(size: u8) -> Part
     }
 }
 
-/// The distance from the byte behind a location to an offset, both in one frame, modulo the location's size.
+/// The distance from the byte after a location to an offset in the same frame, modulo 2^(8 * size). `size` is the location's size in bytes.
 fn self_relative_value(size: u8, offset: u32, location: u32) -> u64
     requires { size ≤ 6 }
     ensures { result ≡ self_relative_value size offset location }
@@ -67,7 +67,7 @@ fn self_relative_value(size: u8, offset: u32, location: u32) -> u64
 }
 
 impl Additions {
-    /// One number, at the front of the location.
+    /// One number at the start of the location.
     fn one(part: Part, value: u64) -> Additions
         ensures { result ≡ addition 0 part value ∷ [] }
     {
@@ -82,7 +82,7 @@ impl Additions {
         }
     }
 
-    /// An offset at the front of the location, and a selector behind it.
+    /// A pointer: an offset at the start of the location, followed by a selector.
     fn pointer(part: Part, value: u64, offset: usize, selector: u16) -> Additions
         ensures { result ≡ addition 0 part value ∷ addition offset Part.Word selector ∷ [] }
     {
@@ -100,7 +100,7 @@ impl Additions {
         }
     }
 
-    /// What a segment-relative fixup adds at a location of this type.
+    /// The additions of a segment-relative fixup at a location of this type.
     pub(crate) fn in_frame(kind: u8, offset: u32, selector: u16) -> Additions
         ensures { result ≡ additions kind offset selector }
     {
@@ -116,7 +116,7 @@ impl Additions {
         }
     }
 
-    /// What a self-relative fixup adds at a location of this type, for its target's offset and its own.
+    /// The additions of a self-relative fixup at a location of this type, from the offsets of its target and of its location.
     pub(crate) fn from_location(kind: u8, offset: u32, location: u32) -> Additions
         ensures { result ≡ self_relative_additions kind offset location }
     {
@@ -127,7 +127,7 @@ impl Additions {
         )
     }
 
-    /// Adds them at a position, one after another, each modulo its size and without a carry into the next.
+    /// Adds the numbers at a position, in order. Each wraps at the size of its part and carries nothing into the next one.
     pub(crate) fn add_to(&self, bytes: &mut [u8], position: usize)
         requires { All (λ a. position + a.offset + part_size a.part ≤ length bytes.old) self.now }
         ensures { bytes.new ≡ add_parts position self.now bytes.old }

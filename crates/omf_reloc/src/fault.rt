@@ -2,7 +2,7 @@
 
 use thiserror::Error;
 
-/// What a placement has entries for.
+/// The kind of a placement's entry.
 #[derive(Clone, Copy, Debug, PartialEq, Eq)]
 pub enum Kind {
     /// A segment of a SEGDEF.
@@ -16,48 +16,47 @@ pub enum Kind {
 /// Why a fixup or the start does not reach.
 #[derive(Clone, Copy, Debug, PartialEq, Eq)]
 pub enum Cause {
-    /// No reading of the displacement puts the target's offset in the frame into the range of the location's offset.
+    /// No reading of the displacement gives the target an offset in the frame that fits the location's width.
     Target,
-    /// The location of a self-relative fixup lies outside the range of offsets in the frame.
+    /// The location of a self-relative fixup is outside the offsets of the frame.
     Location,
-    /// A short jump's target is more than 128 bytes before, or 127 after, the byte behind the location.
+    /// A short jump's target is more than 128 bytes before the byte after the location, or more than 127 bytes after that byte.
     Distance,
 }
 
 /// The first reason why a placement does not reach. The numbers of the reasons are 1 to 4.
 ///
-/// An entry that is missing is named before one too many, and each of them in the order segment, group, external; then an absolute
-/// segment, then a reference.
+/// Missing entries are reported before extra ones, both in the order segment, group, external; then absolute segments, then references.
 #[derive(Clone, Copy, Debug, PartialEq, Eq, Error)]
 pub enum ReachFault {
-    /// 1: the placement has no entry for this index, the first without one.
+    /// 1: the placement has no entry for this index. It is the first such index.
     #[error("the placement has an entry too few")]
     Missing(Kind, u16),
-    /// 2: the placement has an entry for this index, the first beyond the module's table.
+    /// 2: the placement has an entry for this index. It is the first one beyond the module's table.
     #[error("the placement has an entry too many")]
     Extra(Kind, u16),
-    /// 3: this absolute segment, the first such, is not placed at its own frame number and offset.
+    /// 3: this absolute segment is not placed at its own frame number and offset. It is the first such segment.
     #[error("an absolute segment is placed elsewhere")]
     Absolute(u16),
-    /// 4: the first fixup, in the order of the file with MODEND's start last, that does not reach.
+    /// 4: this fixup does not reach. It is the first such fixup, in file order with MODEND's start last.
     #[error("a fixup or the start does not reach")]
     TooFar {
         /// The number of its record, from 0.
         number: u32,
-        /// The offset in its record of the fixup's first byte, or of the fix data byte of MODEND's start; the type byte stands at 0.
+        /// The offset in its record of the fixup's first byte, or of the fix data byte of MODEND's start. The type byte is at offset 0.
         within: u32,
-        /// Why it does not.
+        /// Why it does not reach.
         cause: Cause,
     },
 }
 
-/// Why a placement gives a module no image.
+/// Why a module has no image at a placement.
 #[derive(Clone, Copy, Debug, PartialEq, Eq, Error)]
 pub enum RelocateFault {
     /// 1: the placement does not reach.
     #[error("the placement does not reach")]
     Reach(ReachFault),
-    /// 2: it reaches, and a growth was refused.
+    /// 2: the placement reaches, but memory ran out.
     #[error("memory ran out")]
     Memory,
 }

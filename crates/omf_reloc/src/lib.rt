@@ -1,6 +1,6 @@
-//! What a placement makes of a module: whether every fixup reaches, the image and the start.
+//! Relocation of a checked module at a placement: whether every fixup reaches, the image, and the start address.
 //!
-//! A module of one segment, placed in code:
+//! A module with one segment at a placement built in code:
 //!
 //! ```
 //! let mut placement = Placement::new(alloc);
@@ -10,7 +10,7 @@
 //! // image.run_bytes(1, 0) are the bytes of its first covered interval
 //! ```
 //!
-//! `relocate` and `start` ask that `reach` answered Ok for the same module and placement. `reach_and_relocate` does both in one walk.
+//! `relocate` and `start` require that `reach` returned Ok for the same module and placement. `reach_and_relocate` does both in one pass.
 #![tactic(auto)]
 
 mod addition;

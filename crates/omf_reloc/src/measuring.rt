@@ -1,4 +1,4 @@
-//! Where the data records of a module lie.
+//! The extents of a module's data records.
 
 ghost use Rattle.std.specs.Prelude.{◌≡◌, ◌++◌, length, flat_map, IfOk, OnOk, option_to_list};
 ghost use Rattle.omf_records.specs.Inner.Seen.{odd_if, rec_seen};
@@ -16,7 +16,7 @@ use omf_image::{Extent, Limits, expanded_len};
 use omf_records::{At, Blocks, Rec};
 use std::alloc::{AllocError, Global};
 
-/// How many bytes the blocks of an LIDATA stand for.
+/// The expanded length of an LIDATA's blocks, in bytes.
 fn blocks_len(blocks: Blocks<'_>) -> u64
     requires { Expands (odd_if blocks.wide 0xA2) blocks.bytes.now }
     ensures { result ≡ length (expanded (width (odd_if blocks.entry.wide 0xA2)) profile_limits blocks.entry.bytes.now) }
@@ -27,7 +27,7 @@ fn blocks_len(blocks: Blocks<'_>) -> u64
     }
 }
 
-/// So many places from an offset of a segment on.
+/// The extent of `len` bytes at an offset of a segment.
 fn extent_from(segment: &At<Index>, offset: &At<u32>, len: u64) -> Extent
     ensures { result ≡ record { segment = segment.now.item; first = offset.now.item; len = len } }
 {
@@ -38,7 +38,7 @@ fn extent_from(segment: &At<Index>, offset: &At<u32>, len: u64) -> Extent
     }
 }
 
-/// Where a data record lies; None of any other record.
+/// The extent of a data record; None for any other record.
 fn measure(rec: &Rec<'_>) -> Option<Extent>
     requires { CanMeasure (rec_seen rec.now) }
     ensures { option_to_list result ≡ measured (rec_seen rec.now) }
@@ -59,7 +59,7 @@ fn measure(rec: &Rec<'_>) -> Option<Extent>
     }
 }
 
-/// Where one record more lies, behind those before it.
+/// Appends the extent of a data record. Other records add nothing.
 fn push_measured(extents: &mut Vec<Extent>, rec: &Rec<'_>) -> Result<(), AllocError>
     requires { CanMeasure (rec_seen rec.now) }
     ensures { OnOk result (extents.new.items ≡ extents.old.items ++ measured (rec_seen rec.now)) }
@@ -73,7 +73,7 @@ fn push_measured(extents: &mut Vec<Extent>, rec: &Rec<'_>) -> Result<(), AllocEr
     }
 }
 
-/// Where the data records of a module lie, in file order.
+/// The extents of a module's data records, in file order.
 pub(crate) fn extents(alloc: Global, module: &Checked) -> Result<Vec<Extent>, AllocError>
     ensures listed { IfOk result (λ v. v.items ≡ flat_map measured (recs_of «module».now.bytes)) }
     ensures holds { ModuleHolds profile_limits (recs_of «module».now.bytes) }

@@ -20,7 +20,7 @@ use omf_placement::{Frame, Placement};
 use omf_records::{is_segment_relative, location_offset, location_type};
 use std::marker::Model;
 
-/// The offsets that the readings of a displacement give, each where it is in range: without a sign, and with one.
+/// The offsets from the unsigned and from the signed reading of a displacement, each if it is in range.
 #[derive(Drop)]
 struct Offsets {
     unsigned: Option<u32>,
@@ -36,7 +36,7 @@ impl Model for Offsets {
     ghost view = { λ o. option_to_list o.unsigned ++ option_to_list o.signed };
 }
 
-/// The address of a target: of a group, the base of its frame.
+/// The address of a target. A group's address is the base of its frame.
 fn target_address(placement: &Placement, target: &TargetMethod) -> u32
     requires { HasTarget placement.now target.now }
     ensures { result ≡ target_address placement.now target.now }
@@ -60,7 +60,7 @@ fn target_frame(placement: &Placement, target: &TargetMethod) -> Frame
     }
 }
 
-/// The frame of a reference that is used in a data record of this segment.
+/// The frame of a reference in a data record of this segment.
 pub(crate) fn frame_of(placement: &Placement, segment: u16, reference: &PlainReference) -> Frame
     requires { HasPlaces placement.now segment reference.now }
     ensures { result ≡ frame_by placement.now segment reference.now.target reference.now.frame }
@@ -74,21 +74,21 @@ pub(crate) fn frame_of(placement: &Placement, segment: u16, reference: &PlainRef
     }
 }
 
-/// The offset at a location of this type has 32 bits; else 16.
+/// Whether the offset at a location of this type has 32 bits; otherwise it has 16.
 fn has_wide_offset(kind: u8) -> bool
     ensures { number_bits result ≡ offset_bits kind }
 {
     matches!(kind, 9 | 11 | 13)
 }
 
-/// The offset of a self-relative fixup of a location of this type has 32 bits; else 16.
+/// Whether a self-relative fixup at a location of this type has 32-bit offsets; otherwise they have 16 bits.
 fn has_wide_reach(kind: u8) -> bool
     ensures { number_bits result ≡ self_relative_bits kind }
 {
     kind == 0 || has_wide_offset(kind)
 }
 
-/// How far an address lies behind another, where it does and that fits in 32 bits, or else 16.
+/// The difference `to - from`, if it is not negative and fits in 32 bits, or in 16 if `is_wide` is false.
 fn offset_between(from: u64, to: u64, is_wide: bool) -> Option<u32>
     ensures { result ≡ in_bits (number_bits is_wide) (difference to from) }
 {
@@ -100,8 +100,8 @@ fn offset_between(from: u64, to: u64, is_wide: bool) -> Option<u32>
     }
 }
 
-/// The offsets in a frame with this base that the readings of a reference's displacement give its target: the displacement as it
-/// stands, and, where its top bit is set, as a number below 0.
+/// The target's offsets in a frame with this base, one for each reading of the reference's displacement: unsigned, and, if its top bit is
+/// set, signed.
 fn offsets_of(
     placement: &Placement,
     reference: &PlainReference,
@@ -131,7 +131,8 @@ fn offsets_of(
     }
 }
 
-/// A short jump reaches from 128 bytes before the byte behind its location to 127 after it; others everywhere.
+/// Whether an offset is near enough to a location. A short jump (type 0) reaches from 128 bytes before the byte after its location to 127
+/// bytes after that byte; the other types reach any offset.
 fn is_near(kind: u8, location: u32, offset: u32) -> bool
     ensures { result ≡ is_near kind location offset }
 {
@@ -141,14 +142,14 @@ fn is_near(kind: u8, location: u32, offset: u32) -> bool
 }
 
 impl Offsets {
-    /// The first of them.
+    /// The first offset, if there is one.
     fn first(&self) -> Option<u32>
         ensures { result ≡ slice_get self.now 0 }
     {
         self.unsigned.or(self.signed)
     }
 
-    /// The first of them that is near enough to a location of this type.
+    /// The first offset that is near enough to a location of this type.
     fn first_near(&self, kind: u8, location: u32) -> Option<u32>
         ensures { result ≡ slice_get (filter (is_near kind location) self.now) 0 }
     {
@@ -160,7 +161,7 @@ impl Offsets {
         }
     }
 
-    /// What a segment-relative fixup adds. A base reaches whatever the offset.
+    /// The additions of a segment-relative fixup. A base (type 2) reaches whatever its target's offset.
     fn in_frame(&self, kind: u8, selector: u16) -> Result<Additions, Cause>
         ensures { result ≡ in_frame kind selector self.now }
     {
@@ -171,7 +172,7 @@ impl Offsets {
         Ok(Additions::in_frame(kind, offset, selector))
     }
 
-    /// What a self-relative fixup adds: its target is judged first, then its location, and then how far they are apart.
+    /// The additions of a self-relative fixup. Its target is checked first, then its location, then their distance.
     fn from_location(&self, kind: u8, location: Option<u32>) -> Result<Additions, Cause>
         ensures { result ≡ from_location kind self.now location }
     {
@@ -193,7 +194,7 @@ fn location_address(placement: &Placement, segment: u16, offset: u32, location: 
     u64::from(segment.address) + u64::from(offset) + u64::from(location_offset(location))
 }
 
-/// What a fixup of a FIXUPP, wide or not, adds to a data record that lies at an offset of this segment, or why it does not reach.
+/// The additions of a fixup in a data record at an offset of this segment, or why it does not reach. `is_wide`: its FIXUPP is of type 9DH.
 pub(crate) fn outcome(
     placement: &Placement,
     segment: u16,
@@ -224,7 +225,8 @@ pub(crate) fn outcome(
     offsets_of(placement, reference, frame.base, is_wide, reach).from_location(kind, location)
 }
 
-/// The offset of the start of a MODEND, wide or not, in its frame, or that it does not reach. The frame is not that of a data record.
+/// The offset of MODEND's start in its frame, or why it does not reach. `is_wide`: the MODEND is of type 8BH. The frame is never that of a
+/// data record.
 pub(crate) fn start_offset(
     placement: &Placement,
     is_wide: bool,

@@ -1,4 +1,4 @@
-//! The pieces of a checked module, one after another: what reach, the image and the start go over.
+//! The pieces of a checked module: its records and its fixups, with threads resolved.
 
 ghost use Rattle.std.specs.Prelude.{◌≡◌, ◌∷◌, map, None, option_map};
 ghost use Rattle.omf_image.specs.Limits.{profile_limits};
@@ -21,17 +21,17 @@ use omf_frame::Place;
 use omf_records::{At, Items, Part, Rec, Reference, Subrecord};
 use std::marker::Model;
 
-/// A piece of a module, with no thread in it.
+/// A piece of a module. It refers to no thread.
 #[derive(Drop)]
 pub enum Piece<'a> {
     /// A record that is neither a FIXUPP nor a MODEND.
     Kept(Rec<'a>),
-    /// A fixup of a FIXUPP, wide or not.
+    /// A fixup. `wide`: its FIXUPP is of type 9DH.
     Fixed {
         wide: bool,
         fixup: PlainFixup,
     },
-    /// The MODEND, wide or not: its type byte, of which bit 0 is as bit 6 and the ignored bits are 0, and its start.
+    /// The MODEND: its module type byte, normalized by `end_byte`, and its start. `wide`: it is of type 8BH.
     End {
         wide: bool,
         type_byte: u8,
@@ -39,7 +39,7 @@ pub enum Piece<'a> {
     },
 }
 
-/// A FIXUPP some of whose subrecords are still to come.
+/// A FIXUPP with subrecords left to read.
 #[derive(Drop)]
 struct OpenFixups<'a> {
     place: Place,
@@ -56,7 +56,7 @@ impl<'a> Model for OpenFixups<'a> {
     ghost view = { λ o. record { place = o.place; kind = fixupp_type o.wide; left = o.left } };
 }
 
-/// What a subrecord of a FIXUPP gives, wide or not, that stands at a place: a fixup at its first byte, a THREAD nothing.
+/// The piece of a subrecord in the FIXUPP at this place: a fixup, at its first byte; None for a THREAD.
 fn subrecord_step<'a>(
     threads: &Threads,
     at: Place,
@@ -82,7 +82,7 @@ fn subrecord_step<'a>(
     }
 }
 
-/// MODEND's type byte: bits 7 and 6 as they stand, bit 0 as bit 6, the ignored ones 0.
+/// MODEND's module type byte, normalized: bits 7 and 6 are kept, bit 0 is a copy of bit 6, and the ignored bits are 0.
 pub fn end_byte(type_byte: u8) -> u8
     ensures { result ≡ end_byte type_byte }
 {
@@ -90,7 +90,7 @@ pub fn end_byte(type_byte: u8) -> u8
     128 * (type_byte / 128) + 64 * has_start + has_start
 }
 
-/// The end of a module, of a MODEND that stands at a place.
+/// The piece of the MODEND at this place.
 fn end_piece<'a>(
     threads: &Threads,
     at: Place,
@@ -126,11 +126,11 @@ fn end_piece<'a>(
     }
 }
 
-/// Records and the subrecords of FIXUPPs, step by step: each gives a piece, or nothing.
+/// A walk over the records and the subrecords of FIXUPPs. Each step gives a piece or nothing.
 #[derive(Drop)]
 struct Steps<'a> {
     records: Records<'a>,
-    /// The FIXUPP that is open.
+    /// The FIXUPP being read.
     fixups: Option<OpenFixups<'a>>,
     /// The threads in force.
     threads: Threads,
@@ -149,7 +149,7 @@ impl<'a> Model for Steps<'a> {
     ghost invariant = { λ s. AreSet s.threads s.fixups s.records };
 }
 
-/// What a record at its place gives: a FIXUPP nothing but what its subrecords give.
+/// The piece of a record. A FIXUPP has none; its subrecords come next.
 fn record_step<'a>(
     threads: &Threads,
     at: Place,
@@ -179,7 +179,7 @@ fn record_step<'a>(
 }
 
 impl<'a> Steps<'a> {
-    /// No record is read.
+    /// A walk from the first record on.
     fn new(records: Records<'a>) -> Steps<'a>
         requires { RecordsAreSet no_threads records }
         ensures { result ≡ steps_from no_threads records.entry }
@@ -218,8 +218,8 @@ impl<'a> Iterator for Steps<'a> {
     }
 }
 
-/// The pieces of a module that are still to come, each with its place: a record at its type byte, a fixup at its first byte, and the
-/// MODEND at the fix data byte of its start, or at its type byte where it names none.
+/// An iterator over a module's pieces, each with its place: a record is at its type byte, a fixup at its first byte, and the MODEND at the
+/// fix data byte of its start, or at its type byte if it names no start.
 #[derive(Drop)]
 pub struct Pieces<'a> {
     steps: Steps<'a>,
@@ -256,7 +256,7 @@ impl<'a> Iterator for Pieces<'a> {
     }
 }
 
-/// The pieces of a module, in the order of the file.
+/// The pieces of a module, in file order.
 pub fn pieces_of(module: &Checked) -> Pieces<'_>
     ensures walked { result ≡ placed_pieces (placed_from 0 0 (records_in «module».now.bytes)) }
     ensures listed { map (λ p. p.1) result ≡ single_pieces (recs_of «module».now.bytes) }

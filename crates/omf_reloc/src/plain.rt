@@ -8,12 +8,12 @@ use omf_check::{FrameMethod, TargetMethod, Threads};
 use omf_records::Reference;
 use std::marker::Model;
 
-/// A reference whose threads are resolved.
+/// A reference with its threads resolved.
 #[derive(Drop)]
 pub struct PlainReference {
     pub frame: FrameMethod,
     pub target: TargetMethod,
-    /// What is added to the target's address; 0 where nothing is given.
+    /// The displacement from the target's address; 0 if the record gives none.
     pub displacement: u32,
 }
 
@@ -25,7 +25,7 @@ impl Model for PlainReference {
     ghost view = { λ r. record { frame = r.frame; target = r.target; displacement = r.displacement } };
 }
 
-/// A fixup whose threads are resolved: its first two bytes, the high byte first, and its reference.
+/// A fixup with its threads resolved: its LOCAT, whose two bytes are big-endian, and its reference.
 #[derive(Drop)]
 pub struct PlainFixup {
     pub location: u16,
@@ -40,7 +40,7 @@ impl Model for PlainFixup {
     ghost view = { λ f. record { locat = f.location; reference = f.reference } };
 }
 
-/// The reference without threads: each of frame and target is its own, or what its thread keeps.
+/// Resolves a reference: its frame and its target are its own, or those of the threads that it names.
 #[inline(always)]
 pub fn plain_reference(threads: &Threads, reference: &Reference) -> PlainReference
     requires frame { IsSome (frame_cell threads.now reference.now) }

@@ -1,4 +1,4 @@
-//! The image of a module at a placement of which it is not known that it reaches.
+//! The image of a module at a placement that may not reach.
 
 ghost use Rattle.std.specs.Prelude.{◌≡◌, [], None, IfOk, IfErr};
 ghost use Rattle.omf_image.specs.Limits.{profile_limits};
@@ -17,7 +17,7 @@ use omf_image::Image;
 use omf_placement::Placement;
 use std::alloc::Global;
 
-/// Why there is no image where memory ran out: the placement does not reach, or else that.
+/// The fault to report if memory ran out: the fault of reach, if there is one, or else `Memory`.
 fn without_memory(module: &Checked, placement: &Placement) -> RelocateFault
     ensures { IsRelocateFault placement.now (recs_of «module».now.bytes) result }
 {
@@ -27,12 +27,11 @@ fn without_memory(module: &Checked, placement: &Placement) -> RelocateFault
     }
 }
 
-/// What `relocate` gives where `reach` answers Ok, and else what `reach` answers: each reference is judged once, in the walk that adds
-/// what it adds.
+/// Does `reach` and `relocate` in one pass: each reference is checked when it is applied.
 ///
 /// # Errors
 ///
-/// `Reach` where the placement does not reach, whatever memory there is; else `Memory` where a growth is refused.
+/// `Reach` if the placement does not reach, however little memory there is; or else `Memory` if memory runs out.
 pub fn reach_and_relocate(
     alloc: Global,
     module: &Checked,

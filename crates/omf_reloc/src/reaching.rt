@@ -15,7 +15,7 @@ use omf_check::Checked;
 use omf_placement::Placement;
 use omf_records::Rec;
 
-/// The first index, from 1, of a table of so many entries for which the placement gives none.
+/// A missing entry: the first index, from 1, of a table with this number of entries that is not in the placement.
 fn missing(kind: Kind, entries: u16, given: usize) -> Option<ReachFault>
     ensures { result ≡ slice_get (missing kind entries given) 0 }
 {
@@ -26,7 +26,7 @@ fn missing(kind: Kind, entries: u16, given: usize) -> Option<ReachFault>
     }
 }
 
-/// The first index that the placement gives beyond a table of so many entries.
+/// An extra entry: the first index of the placement beyond a table with this number of entries.
 fn extra(kind: Kind, entries: u16, given: usize) -> Option<ReachFault>
     requires { entries ≤ 32767 }
     ensures { result ≡ slice_get (extra kind entries given) 0 }
@@ -38,7 +38,7 @@ fn extra(kind: Kind, entries: u16, given: usize) -> Option<ReachFault>
     }
 }
 
-/// The first entry that is missing, or else the first one too many: segments first, then groups, then externals.
+/// The first missing entry, or else the first extra one: segments first, then groups, then externals.
 fn count_fault(module: &Checked, placement: &Placement) -> Option<ReachFault>
     ensures { result ≡ slice_get (miscounts placement.now (recs_of «module».now.bytes)) 0 }
 {
@@ -53,7 +53,7 @@ fn count_fault(module: &Checked, placement: &Placement) -> Option<ReachFault>
         .or(extra(Kind::External, module.externals(), externals))
 }
 
-/// A segment that is absolute, at an offset in the frame of a number, and is placed elsewhere.
+/// The fault of an absolute segment that is not placed at its frame number and offset.
 fn misplaced(placement: &Placement, index: u16, absolute: Option<(u16, u8)>) -> Option<ReachFault>
     requires { is_defined (length placement.now.segments) index ≡ true }
     ensures { result ≡ slice_get (misplaced placement.now index absolute) 0 }
@@ -71,7 +71,7 @@ fn misplaced(placement: &Placement, index: u16, absolute: Option<(u16, u8)>) -> 
     }
 }
 
-/// The first absolute segment that is placed elsewhere than its SEGDEF says.
+/// The first absolute segment that is not placed where its SEGDEF puts it.
 fn absolute_fault(module: &Checked, placement: &Placement) -> Option<ReachFault>
     requires { length placement.now.segments ≡ length (segments (recs_of «module».now.bytes)) }
     ensures { result ≡ slice_get (misplaced_from placement.now 1 (segments (recs_of «module».now.bytes))) 0 }
@@ -99,7 +99,7 @@ pub(crate) fn misfit(module: &Checked, placement: &Placement) -> Option<ReachFau
     absolute_fault(module, placement)
 }
 
-/// Why a piece does not reach. The last data record before it lies at an offset of a segment.
+/// Why a piece does not reach, if it does not. `last` is the segment and the offset of the last data record before it.
 fn piece_cause(placement: &Placement, last: Option<(u16, u32)>, piece: &Piece<'_>) -> Option<Cause>
     requires { CanJudge placement.now last (piece_seen piece.now) }
     ensures { result ≡ piece_cause placement.now last (piece_seen piece.now) }
@@ -118,7 +118,7 @@ fn piece_cause(placement: &Placement, last: Option<(u16, u32)>, piece: &Piece<'_
     }
 }
 
-/// Where the last data record lies after one piece more: its segment, and its offset there.
+/// The segment and the offset of the last data record, up to and including this piece.
 fn data_after(piece: &Piece<'_>, last: Option<(u16, u32)>) -> Option<(u16, u32)>
     ensures { result ≡ place_behind (piece_seen piece.now) last }
 {
@@ -141,7 +141,7 @@ fn data_after(piece: &Piece<'_>, last: Option<(u16, u32)>) -> Option<(u16, u32)>
     }
 }
 
-/// The first reference of a module that does not reach, in the order of the file.
+/// The first reference of a module that does not reach, in file order.
 fn far_fault(module: &Checked, placement: &Placement) -> Option<ReachFault>
     requires { HasEntries placement.now (recs_of «module».now.bytes) }
     ensures { result ≡ slice_get (far_faults placement.now (recs_of «module».now.bytes)) 0 }
@@ -162,14 +162,14 @@ fn far_fault(module: &Checked, placement: &Placement) -> Option<ReachFault>
     None
 }
 
-/// Whether a placement reaches: its lists are as long as the module's tables, each absolute segment lies where its SEGDEF says, and
-/// every fixup and the start reach.
+/// Checks that a placement reaches: its lists are as long as the module's tables, each absolute segment is placed where its SEGDEF puts it,
+/// and every fixup and the start reach (TIS OMF 1.1, "SEGDEF", "FIXUPP", "MODEND").
 ///
 /// # Errors
 ///
-/// The first reason why it does not: the first index that has no entry, or else the first entry without an index, each of segments
-/// first, then of groups, then of externals; then the absolute segment of the lowest index that is placed elsewhere; then the first
-/// reference that does not reach, in the order of the file, the start last.
+/// The first fault: the first index without an entry, or else the first entry without an index, both in the order segments, groups,
+/// externals; then the lowest absolute segment that is misplaced; then the first reference that does not reach, in file order with the
+/// start last.
 pub fn reach(module: &Checked, placement: &Placement) -> Result<(), ReachFault>
     ensures reaches { IsOk result ↔ Reaches placement.now (recs_of «module».now.bytes) }
     ensures ok { IsOk result ↔ (reach_fault placement.now (recs_of «module».now.bytes) ≡ None) }

@@ -1,4 +1,4 @@
-//! The image that a placement gives a module.
+//! The image of a module at a placement.
 
 ghost use Rattle.std.specs.Prelude.{◌≡◌, ◌↔◌, ℕ, [], ◌∷◌, true, length, IfSome, OnOk, IfOk, IfErr, None, Some, Option, slice_get, option_map, option_to_list};
 ghost use Rattle.omf_records.specs.Inner.Seen.{odd_if, kind_seen, contents_seen};
@@ -35,7 +35,7 @@ use omf_records::{At, Blocks, Rec, location_offset};
 use std::alloc::{AllocError, Global};
 use std::marker::Model;
 
-/// A data record that is open: its bytes, with what the fixups so far add, at an offset of a segment.
+/// The last data record: its bytes at an offset of a segment, with the fixups so far applied.
 #[derive(Drop)]
 struct Open {
     segment: u16,
@@ -63,7 +63,7 @@ impl Open {
         }
     }
 
-    /// Adds what a fixup of a FIXUPP, wide or not, adds at its location. Where it does not reach nothing is added: why it does not.
+    /// Applies a fixup. Returns why it is out of range, if it is; the data are then unchanged.
     fn add(&mut self, placement: &Placement, is_wide: bool, fixup: &PlainFixup) -> Option<Cause>
         requires segment { is_defined (length placement.now.segments) self.old.segment ≡ true }
         requires places { HasPlaces placement.now self.old.segment fixup.now.reference }
@@ -85,9 +85,9 @@ impl Open {
 /// A walk over a module's pieces.
 #[derive(Drop)]
 struct Walk {
-    /// What the data records that are closed give.
+    /// The image of the data records before the last.
     image: Image,
-    /// The last data record.
+    /// The last data record, which is not in the image yet.
     open_data: Option<Open>,
 }
 
@@ -99,7 +99,7 @@ impl Model for Walk {
     ghost view = { λ w. record { image = w.image; open_data = w.open_data } };
 }
 
-/// The bytes that the blocks of an LIDATA stand for.
+/// The expanded bytes of an LIDATA's blocks.
 fn expanded(alloc: Global, blocks: Blocks<'_>) -> Result<Vec<u8>, AllocError>
     requires { Expands (odd_if blocks.wide 0xA2) blocks.bytes.now }
     ensures { IfOk result (λ v. v.items ≡ expanded (width (odd_if blocks.entry.wide 0xA2)) profile_limits blocks.entry.bytes.now) }
@@ -120,7 +120,7 @@ fn lay(image: &mut Image, last: Option<Open>) -> Result<(), AllocError>
 }
 
 impl Walk {
-    /// No piece is walked over.
+    /// A walk from the first piece on, over this image.
     fn new(image: Image) -> Walk
         ensures { result ≡ record { image = image; open_data = None } }
     {
@@ -130,7 +130,7 @@ impl Walk {
         }
     }
 
-    /// Lays the data record that is open, if there is one, and gives up its bytes.
+    /// Lays the last data record, if there is one, and frees its bytes.
     fn close(&mut self) -> Result<(), AllocError>
         requires { IfSome self.old.open_data HasOffsets }
         ensures image { OnOk result (AreLaidOver self.old.image (option_to_list self.old.open_data) self.new.image) }
@@ -139,7 +139,7 @@ impl Walk {
         lay(&mut self.image, last)
     }
 
-    /// Opens a data record.
+    /// Makes a data record the last one.
     fn open(&mut self, next: Open)
         ensures image { self.new.image ≡ self.old.image }
         ensures open_data { self.new.open_data ≡ Some next }
@@ -147,7 +147,7 @@ impl Walk {
         self.open_data = Some(next);
     }
 
-    /// Adds what a fixup of a FIXUPP, wide or not, adds to the data record that is open; or why it does not reach.
+    /// Applies a fixup to the last data record. Returns why it does not reach, if it does not.
     fn fix(&mut self, placement: &Placement, is_wide: bool, fixup: &PlainFixup) -> Option<Cause>
         requires judge { CanJudge placement.now (open_place self.old.open_data) (Fixed (fixupp_type is_wide) (fixup.now ∷ [])) }
         requires add { IfSome self.old.open_data (CanAdd fixup.now) }
@@ -161,8 +161,8 @@ impl Walk {
         }
     }
 
-    /// Walks over a record: a data record is open then, and any other changes nothing. The bytes of the one that was open are given up
-    /// before the next one's are made, so that there are never two.
+    /// Takes the next record. A data record becomes the last one; any other record changes nothing. The bytes of the previous data record
+    /// are freed first, so that two are never in memory together.
     fn take_record(&mut self, alloc: Global, rec: &Rec<'_>) -> Result<(), AllocError>
         requires offsets { IfSome self.old.open_data HasOffsets }
         requires expands { CanExpand (kind_seen rec.now) (contents_seen rec.now) }
@@ -193,7 +193,7 @@ impl Walk {
         }
     }
 
-    /// Walks over the next piece: why it does not reach, if it does not.
+    /// Takes the next piece. Returns why it does not reach, if it does not.
     fn take(
         &mut self,
         alloc: Global,
@@ -220,7 +220,7 @@ impl Walk {
         }
     }
 
-    /// Lays the data record that is open, and gives the image.
+    /// Lays the last data record and returns the image.
     fn finish(self) -> Result<Image, AllocError>
         requires { IfSome self.open_data HasOffsets }
         ensures { IfOk result (λ image. AreLaidOver self.image (option_to_list self.open_data) image) }
@@ -231,8 +231,8 @@ impl Walk {
     }
 }
 
-/// The image that a placement gives a module, or the first reference that does not reach, in the order of the file. The places of all
-/// data records are covered first, so that no run grows or moves while they are laid.
+/// The image of a module at a placement, or the first reference that does not reach, in file order. The extents of all data records are
+/// filled with zeros first, so that no run grows or moves later.
 pub(crate) fn walked(
     alloc: Global,
     module: &Checked,
@@ -260,13 +260,13 @@ pub(crate) fn walked(
     Ok(Ok(walk.finish()?))
 }
 
-/// The image that a placement gives a module: what each LEDATA gives, with what its fixups add, and what the blocks of each LIDATA
-/// stand for. Where data records overlap the last one stands. Every byte lies in its segment, and every byte that a fixup changes in the
-/// data of its LEDATA.
+/// The image of a module at a placement: the data of each LEDATA with its fixups applied, and the expanded blocks of each LIDATA (TIS OMF
+/// 1.1, "LEDATA", "LIDATA", "FIXUPP"). Where data records overlap, the last one wins. Every byte is inside its segment, and every byte that
+/// a fixup changes is inside the data of its LEDATA.
 ///
 /// # Errors
 ///
-/// `AllocError` where a growth is refused.
+/// `AllocError` if memory runs out.
 pub fn relocate(alloc: Global, module: &Checked, placement: &Placement) -> Result<Image, AllocError>
     requires { Reaches placement.now (recs_of «module».now.bytes) }
     ensures laid { IfOk result (λ i. AreLaidOver [] (laid profile_limits placement.now (pieces (recs_of «module».now.bytes))) i) }

@@ -1,4 +1,4 @@
-//! Worked examples, each evaluated by the check.
+//! Worked examples, each evaluated during the proof.
 
 ghost use Rattle.std.specs.Prelude.{◌≡◌, ℕ, [], ◌∷◌, ◌++◌, Ok, Err, Some, None, codes};
 ghost use Rattle.omf_reloc.specs.declared.fault.Cause.TheVariants as cause;
@@ -18,7 +18,7 @@ pub fn first_image()
     ensures missing { relocated first_module (places [] [] []) 1 ≡ Err (fault.Missing kind.Segment 1) }
 {}
 
-/// Threads stay in force across FIXUPPs and data records until they are set anew.
+/// Threads stay in force across FIXUPPs and data records until they are set again.
 pub fn threads_hold()
     ensures first { relocated with_threads (places (at 0x20 0x10 1 ∷ at 0x50 0x40 4 ∷ []) [] []) 1 ≡ run_from_0 (0x10 ∷ 0 ∷ 0x40 ∷ 0 ∷ []) }
     ensures second { relocated with_threads (places (at 0x20 0x10 1 ∷ at 0x50 0x40 4 ∷ []) [] []) 2 ≡ run_from_0 (0x10 ∷ 0 ∷ []) }
@@ -29,18 +29,18 @@ pub fn later_data_wins()
     ensures { relocated overlaid low 1 ≡ run_from_0 (0xB8 ∷ 0x25 ∷ 0 ∷ 0x90 ∷ []) }
 {}
 
-/// Fixups that overlap add in file order.
+/// Overlapping fixups add in file order.
 pub fn overlapping_fixups()
     ensures { relocated overlapping low 1 ≡ run_from_0 (0x10 ∷ 0x20 ∷ 0 ∷ 0 ∷ []) }
 {}
 
-/// The last offset of 16 bits, and the first beyond.
+/// The last 16-bit offset, and the first beyond it.
 pub fn ends_of_reach()
     ensures last { relocated first_module (only (at 0x1FFFF 0x10000 0x1000)) 1 ≡ run_from_0 (0xB8 ∷ 0xFF ∷ 0xFF ∷ 0x90 ∷ []) }
     ensures beyond { relocated first_module (only (at 0x20000 0x10000 0x1000)) 1 ≡ Err (fault.TooFar 4 3 cause.Target) }
 {}
 
-/// A displacement is read without a sign first, and then with one.
+/// A displacement is read as unsigned first, and then as signed.
 pub fn both_readings()
     ensures signed { relocated displaced low 1 ≡ run_from_0 (0xB8 ∷ 0x1C ∷ 0 ∷ 0x90 ∷ []) }
     ensures unsigned { relocated displaced (only (at 0x10002 0x10000 0x1000)) 1 ≡ run_from_0 (0xB8 ∷ 0xFE ∷ 0xFF ∷ 0x90 ∷ []) }
@@ -61,7 +61,7 @@ pub fn short_jump()
     ensures missing { relocated jump low 1 ≡ Err (fault.Missing kind.External 1) }
 {}
 
-/// A 32-bit offset in a flat group, and a pointer of 16:32.
+/// A 32-bit offset in a flat group, and a 16:32 pointer.
 pub fn flat_group()
     ensures { relocated flat (places (at 0x401000 0 0x1B ∷ []) (frame 0 0x23 ∷ []) []) 1 ≡ run_from_0 (0 ∷ 0x10 ∷ 0x40 ∷ 0 ∷ 0x23 ∷ 0 ∷ 4 ∷ 0x10 ∷ 0x40 ∷ 0 ∷ []) }
 {}
@@ -71,13 +71,13 @@ pub fn repeats()
     ensures { relocated with_blocks low 1 ≡ run_from_0 (0xAA ∷ 0xAA ∷ 0xBB ∷ 0xCC ∷ 0xAA ∷ 0xAA ∷ 0xBB ∷ 0xCC ∷ 0xAA ∷ 0xAA ∷ 0xBB ∷ 0xCC ∷ []) }
 {}
 
-/// A location that ends with the data, and data that end with the segment.
+/// A location at the end of its data, and data at the end of their segment.
 pub fn last_bytes()
     ensures fixup { relocated (with_fixup (0x9C ∷ 6 ∷ 0 ∷ 0xC4 ∷ 2 ∷ 4 ∷ 1 ∷ 1 ∷ 0x92 ∷ [])) low 1 ≡ run_from_0 (0xB8 ∷ 0 ∷ 0x20 ∷ 0x90 ∷ []) }
     ensures data_end { relocated big_end low 1 ≡ Ok ((0xFFFE, 0xAB ∷ 0xCD ∷ []) ∷ []) }
 {}
 
-/// A start in the frame of a group, whose frame stands in the text, or is taken from its lowest member.
+/// A start in the frame of a group, which the text gives, or which is that of its lowest member.
 pub fn start_address()
     ensures text { placed_by with_start (codes "S 10020 10000 1000" ++ 10 ∷ codes "G 10010 1001") ≡ Ok (places (at 0x10020 0x10000 0x1000 ∷ []) (frame 0x10010 0x1001 ∷ []) []) }
     ensures start { started with_start (places (at 0x10020 0x10000 0x1000 ∷ []) (frame 0x10010 0x1001 ∷ []) []) ≡ Ok (Some (0x1001, 0x12)) }
@@ -85,7 +85,7 @@ pub fn start_address()
     ensures real_start { started with_start (places (at 0x10020 0x10020 0x1002 ∷ []) (frame 0x10020 0x1002 ∷ []) []) ≡ Ok (Some (0x1002, 2)) }
 {}
 
-/// A text's lines: comments, one space between words, addresses of real segments below 2^20, groups that are there.
+/// The lines of a text: comments, one space between fields, addresses of real segments below 2^20, groups that exist.
 pub fn placement_lines()
     ensures comment { placed_by first_module (codes "S 10020 real ; x") ≡ Ok (only (at 0x10020 0x10020 0x1002)) }
     ensures image { relocated first_module (only (at 0x10020 0x10020 0x1002)) 1 ≡ run_from_0 (0xB8 ∷ 0 ∷ 0 ∷ 0x90 ∷ []) }
@@ -98,19 +98,19 @@ pub fn placement_lines()
     ensures lower_case { placed_by first_module (codes "s 10020 10000 1000") ≡ Err 1 }
 {}
 
-/// An absolute segment lies where it says, and nowhere else.
+/// An absolute segment is placed at its own address and nowhere else.
 pub fn absolute_segment()
     ensures text { placed_by absolute (codes "S B8000 real") ≡ Ok (only (at 0xB8000 0xB8000 0xB800)) }
     ensures there { relocated absolute (only (at 0xB8000 0xB8000 0xB800)) 1 ≡ run_from_0 (0xB8 ∷ 0 ∷ 0 ∷ 0x90 ∷ []) }
     ensures elsewhere { relocated absolute (only (at 0xB8010 0xB8010 0xB801)) 1 ≡ Err (fault.Absolute 1) }
 {}
 
-/// A thread's index counts where a fixup uses it.
+/// A thread's index is looked up where a fixup uses it.
 pub fn index_at_its_use()
     ensures { relocated early_thread (places (at 0x10020 0x10000 0x1000 ∷ at 0x10040 0x10000 0x1000 ∷ []) [] []) 1 ≡ run_from_0 (0xB8 ∷ 0x40 ∷ 0 ∷ 0x90 ∷ []) }
 {}
 
-/// A pointer of 16:16, a high byte, and the base of a target that is a group.
+/// A 16:16 pointer, a high byte, and the base of a target that is a group.
 pub fn other_locations()
     ensures pointer { relocated (with_fixup (0x9C ∷ 6 ∷ 0 ∷ 0xCC ∷ 0 ∷ 4 ∷ 1 ∷ 1 ∷ 0x8C ∷ [])) low 1 ≡ run_from_0 (0xD8 ∷ 0 ∷ 0 ∷ 0xA0 ∷ []) }
     ensures high_byte { relocated (with_fixup (0x9C ∷ 6 ∷ 0 ∷ 0xD0 ∷ 0 ∷ 4 ∷ 1 ∷ 1 ∷ 0x88 ∷ [])) (only (at 0x10420 0x10000 0x1000)) 1 ≡ run_from_0 (0xBC ∷ 0 ∷ 0 ∷ 0x90 ∷ []) }
@@ -122,26 +122,26 @@ pub fn many_additions()
     ensures { relocated many_fixups low 1 ≡ run_from_0 (0xB8 ∷ 0xA0 ∷ 0x19 ∷ 0x90 ∷ []) }
 {}
 
-/// An external takes the place of the one public of its name.
+/// An external gets the place of the only public of its name.
 pub fn derived_place()
     ensures { derived_image (lies using 0x10020 0x10000 0x1000 ∷ lies public 0x20040 0x20000 0x2000 ∷ []) [] ≡ Ok (at 0x20042 0x20000 0x2000 ∷ [], run_from_0 (0xB8 ∷ 0x42 ∷ 0 ∷ 0x90 ∷ [])) }
 {}
 
-/// None, two, or one that lies too high.
+/// No such public, two of them, or one at too high an address.
 pub fn not_derived()
     ensures none { derived_image (lies using 0x10020 0x10000 0x1000 ∷ []) [] ≡ Err (derive.Undefined 0 1) }
     ensures two { derived_image (lies using 0x10020 0x10000 0x1000 ∷ lies public 0x20040 0x20000 0x2000 ∷ lies public 0x20040 0x20000 0x2000 ∷ []) [] ≡ Err (derive.Twice 0 1) }
     ensures high { derived_image (lies using 0x10020 0x10000 0x1000 ∷ lies public 0xFFFFFFFF 0xFFFF0000 1 ∷ []) [] ≡ Err (derive.TooHigh 0 1) }
 {}
 
-/// A local external takes the place of a local public of its module, and of no other public.
+/// A local external gets the place of a local public of its module, and never that of another public.
 pub fn local_place()
     ensures own { derived_image (lies (using_locally local_public) 0x10020 0x10000 0x1000 ∷ lies public 0x20040 0x20000 0x2000 ∷ []) [] ≡ Ok (at 0x10023 0x10000 0x1000 ∷ [], run_from_0 (0xB8 ∷ 0x23 ∷ 0 ∷ 0x90 ∷ [])) }
     ensures none { derived_image (lies (using_locally []) 0x10020 0x10000 0x1000 ∷ lies public 0x20040 0x20000 0x2000 ∷ []) [] ≡ Err (derive.Undefined 0 1) }
     ensures hidden { derived_image (lies using 0x10020 0x10000 0x1000 ∷ lies (using_locally local_public) 0x20040 0x20000 0x2000 ∷ []) [] ≡ Err (derive.Undefined 0 1) }
 {}
 
-/// A given place counts before any public.
+/// A given place takes precedence over any public.
 pub fn given_place_counts()
     ensures { derived_image (lies using 0x10020 0x10000 0x1000 ∷ lies public 0x20040 0x20000 0x2000 ∷ lies public 0x20040 0x20000 0x2000 ∷ []) (record { «module» = 0; external = 1; address = 0x30000; frame = frame 0x30000 0x3000 } ∷ []) ≡ Ok (at 0x30000 0x30000 0x3000 ∷ [], run_from_0 (0xB8 ∷ 0 ∷ 0 ∷ 0x90 ∷ [])) }
 {}
@@ -152,17 +152,17 @@ pub fn public_bases()
     ensures constant { derived_image (lies using 0x10020 0x10000 0x1000 ∷ lies constant_public 0x20040 0x20000 0x2000 ∷ []) [] ≡ Ok (at 0xB8002 0xB8000 0xB800 ∷ [], run_from_0 (0xB8 ∷ 2 ∷ 0 ∷ 0x90 ∷ [])) }
 {}
 
-/// A thread counts from where it is set to where it is set anew, over FIXUPPs and data records; not in front of it.
+/// A thread is in force from where it is set to where it is set again, across FIXUPPs and data records, and not before.
 pub fn references_by_threads()
     ensures { references with_threads ≡ ((5, 6), fixup 0x9C 0xC400 (plain_reference F4 (T0 1) 0)) ∷ ((6, 3), fixup 0x9C 0xC402 (plain_reference F4 (T0 2) 0)) ∷ ((8, 3), fixup 0x9C 0xC400 (plain_reference F4 (T0 2) 0)) ∷ [] }
 {}
 
-/// A FIXUPP of 32 bits: two fixups in the frame of a group, the second with a displacement.
+/// A 32-bit FIXUPP: two fixups in the frame of a group, the second with a displacement.
 pub fn wide_references()
     ensures { references flat ≡ ((5, 3), fixup 0x9D 0xEC00 (plain_reference (F1 1) (T0 1) 0)) ∷ ((5, 8), fixup 0x9D 0xE406 (plain_reference (F1 1) (T0 1) 4)) ∷ [] }
 {}
 
-/// The start stands at its fix data byte; its frame is a thread's.
+/// The place of a start is its fix data byte; here its frame comes from a thread.
 pub fn start_by_a_thread()
     ensures { references with_start ≡ ((5, 4), End 0x8A 0xC1 (Some (plain_reference (F1 1) (T0 1) 2))) ∷ [] }
 {}

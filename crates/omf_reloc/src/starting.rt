@@ -1,4 +1,4 @@
-//! The start address that a placement gives a module.
+//! The start address of a module at a placement.
 
 ghost use Rattle.std.specs.Prelude.{◌≡◌, [], ◌∷◌};
 ghost use Rattle.omf_records.specs.Inner.Seen.{contents_seen};
@@ -17,7 +17,7 @@ use omf_check::{Checked, Threads};
 use omf_placement::Placement;
 use omf_records::{Rec, Reference};
 
-/// The start that a MODEND, wide or not, names: the selector of its frame, and its offset.
+/// The start address named by a MODEND: the selector of its frame, and its offset. `is_wide`: the MODEND is of type 8BH.
 fn named_start(placement: &Placement, is_wide: bool, reference: &PlainReference) -> (u16, u32)
     requires { HasStart placement.now (modend_type is_wide) reference.now }
     ensures { result ∷ [] ≡ start_at placement.now reference.now (start_offset placement.now (modend_type is_wide) reference.now) }
@@ -29,7 +29,7 @@ fn named_start(placement: &Placement, is_wide: bool, reference: &PlainReference)
     }
 }
 
-/// Sets the threads that a record sets.
+/// Sets the threads of a FIXUPP; other records set none.
 fn set_threads(threads: &mut Threads, rec: &Rec<'_>)
     ensures { threads.new ≡ threads_after threads.old (contents_seen rec.now) }
 {
@@ -49,7 +49,7 @@ fn threads_at_end(module: &Checked) -> Threads
     threads
 }
 
-/// Threads by which a reference of a module's end is what it is by those in force there. Where it names none, none is looked for.
+/// The threads needed to resolve MODEND's reference; empty if it names none.
 fn threads_of(module: &Checked, reference: &Reference) -> Threads
     ensures frame { frame_cell result reference.now ≡ frame_cell (threads_through no_threads (recs_of «module».now.bytes)) reference.now }
     ensures target { target_cell result reference.now ≡ target_cell (threads_through no_threads (recs_of «module».now.bytes)) reference.now }
@@ -61,8 +61,8 @@ fn threads_of(module: &Checked, reference: &Reference) -> Threads
     }
 }
 
-/// The start address that a placement gives a module: the selector of the frame that its MODEND names, and the offset in that frame.
-/// None where the MODEND names no start. The records before it are read for their threads alone, and only where it names one.
+/// The start address of a module at a placement (TIS OMF 1.1, "MODEND"): the selector of the frame that MODEND names, and the offset in
+/// that frame. None if MODEND names no start. The records before MODEND are read only if the start refers to a thread.
 pub fn start(module: &Checked, placement: &Placement) -> Option<(u16, u32)>
     requires { Reaches placement.now (recs_of «module».now.bytes) }
     ensures { result ≡ start placement.now (recs_of «module».now.bytes) }

@@ -1,4 +1,4 @@
-//! A module is relocated by a placement that is built in code.
+//! Relocation by a placement built in code.
 
 ghost use Rattle.std.specs.Prelude.{◌≡◌, IfOk};
 ghost use Rattle.omf_check.specs.Module.{recs_of};
@@ -10,7 +10,7 @@ use omf_image::Image;
 use omf_reloc::{Frame, Placement, reach, relocate};
 use std::alloc::{AllocError, Global};
 
-/// One segment, at 7C00H in the frame at 0.
+/// A placement of one segment at 7C00H, in the frame with base 0.
 fn boot_place(alloc: Global) -> Result<Placement, AllocError>
     ensures { IfOk result (λ placement. placement ≡ boot_place) }
 {
@@ -23,11 +23,11 @@ fn boot_place(alloc: Global) -> Result<Placement, AllocError>
     Ok(placement)
 }
 
-/// The image of a boot sector: a module of one segment, which lies at 7C00H in the frame at 0, and which names no group and no external.
+/// The image of a boot sector: a module with one segment, at 7C00H in the frame with base 0, and with no groups and no externals.
 ///
 /// # Errors
 ///
-/// `Reach` where it is another kind of module, or a reference does not reach. `Memory` where a growth was refused.
+/// `Reach` if the module is of another form or a reference does not reach. `Memory` if memory runs out.
 pub fn boot_image(alloc: Global, module: &Checked) -> Result<Image, RunFault>
     ensures { IsBootImage (recs_of «module».now.bytes) result }
 {

@@ -1,4 +1,4 @@
-//! A file is judged.
+//! The verdict on a file.
 
 ghost use Rattle.std.specs.Prelude.{◌≡◌, List, ℕ, Some, IfOk, string_bytes};
 ghost use Rattle.omf_uses.specs.Uses.{IsVerdict};
@@ -8,7 +8,7 @@ use omf_cmd::{RunFault, fault_line};
 use omf_frame::Source;
 use std::alloc::{AllocError, Global};
 
-/// What is said of a file: `OK` where it begins with a well-formed module, or else why it does not, and where.
+/// The verdict on a file: `OK` if it begins with a well-formed module, or else the reason and the place of the fault.
 pub fn verdict<S: Source>(alloc: Global, file: &mut S) -> Result<String, AllocError>
     ensures { (input : List ℕ) → (S.seen file.old).bytes ≡ Some input → IfOk result (λ line. IsVerdict (S.seen file.old) (S.seen file.new) input (string_bytes line)) }
 {

@@ -10,14 +10,14 @@ use omf_check::Checked;
 use omf_reloc::{DeriveFault, Placement, derive};
 use std::alloc::Global;
 
-/// The placements of two modules whose segments and groups lie where their places say: each external has the address and the frame of
-/// the one public of its name, in either module; an external that is local to its module (LEXTDEF, LCOMDEF) those of the one local
-/// public (LPUBDEF) of its name there.
+/// The placements of two modules whose segments and groups are placed already: each external gets the address and the frame of the only
+/// public of its name, in either module; a local external (LEXTDEF, LCOMDEF) gets those of the only local public (LPUBDEF) of its name in
+/// its own module.
 ///
 /// # Errors
 ///
-/// `Undefined`, `Twice` or `TooHigh`, with the module from 0 and the external, for the first external that has no such public. `Memory`
-/// where a growth was refused.
+/// `Undefined`, `Twice` or `TooHigh` for the first external without exactly one such public, or with one at too high an address: with its
+/// module, from 0, and its index. `Memory` if memory runs out.
 pub fn link(
     alloc: Global,
     modules: &[Checked; 2],

@@ -10,8 +10,8 @@ use omf_check::Checked;
 use sha2::{Digest, Sha256};
 use std::alloc::{AllocError, Global};
 
-/// The SHA-256 of a module's canonical bytes. Modules that differ in spellings, checksums, threads or the cuts of their FIXUPPs alone have
-/// one key.
+/// The SHA-256 of a module's canonical bytes. Modules that differ only in encodings, checksums, threads or the division of fixups into
+/// FIXUPPs have the same key.
 pub fn key(alloc: Global, module: &Checked) -> Result<[u8; 32], AllocError>
     ensures { IfOk result (λ key. key ≡ sha256 (canonical (recs_of «module».now.bytes))) }
 {

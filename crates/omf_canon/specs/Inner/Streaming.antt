@@ -1,4 +1,4 @@
--- Canonical records made in one walk over pieces, with at most one group of fixups open: what a writer does step by step.
+-- Canonical records in one walk over the pieces, with at most one group of fixups open: the steps of a writer.
 use Rattle.std.specs.Prelude.{ℕ, List, [], ◌∷◌, ◌++◌, flat_map, Option, Some, None, ◌==◌, nat_le, if◌then◌else◌}
 use Rattle.omf_frame.specs.Framing.{Raw, raw_of}
 use Rattle.omf_reloc.specs.Plain.{Piece, Kept, Fixed, End, PlainFixup}
@@ -9,7 +9,7 @@ use Rattle.omf_canon.specs.PlainBytes.{fixup_bytes}
 abbrev pub group_raw : ℕ → List PlainFixup → Raw
 group_raw kind g = raw_of kind (flat_map (fixup_bytes kind) g)
 
--- The type and the fixups of the open group, if there is one; the record that closes it.
+-- The open group, if there is one: its type and its fixups. And the record that closes it.
 abbrev pub Open : Type 0
 Open = Option (ℕ × List PlainFixup)
 
@@ -17,7 +17,7 @@ abbrev pub close : Open → List Raw
 close None = []
 close (Some (kind, g)) = group_raw kind g ∷ []
 
--- A fixup joins the open group if that has its type and room for it; else it closes it and opens the next.
+-- A fixup joins the open group if the group has its type and room for it; otherwise it closes the group and opens the next.
 abbrev pub open_with : ℕ → Open → PlainFixup → Open
 open_with kind None f = Some (kind, f ∷ [])
 open_with kind (Some (k, g)) f = if k == kind then (if nat_le (fixups_size k (g ++ f ∷ [])) body_limit then Some (k, g ++ f ∷ []) else Some (kind, f ∷ [])) else Some (kind, f ∷ [])

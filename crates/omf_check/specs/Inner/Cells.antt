@@ -1,14 +1,14 @@
--- The threads in force, as cells: a setting for each kind and number, of which a THREAD sets one.
+-- The threads in force as cells: one setting for each kind and number. A THREAD sets one cell.
 use Rattle.std.specs.Prelude.{ℕ, List, fold, Bool, Option, None}
 use Rattle.std.specs.Option.{option_or}
 use Rattle.omf_records.specs.Values.{Subrecord}
 use Rattle.omf_check.specs.Threads.{Setting, setting_of}
 
--- frame threads and target threads, by their numbers
+-- the setting of each frame and target thread, by number
 abbrev pub Cells : Type 0
 Cells = Bool → ℕ → Option Setting
 
--- no thread was set
+-- no thread is set
 abbrev pub no_cells : Cells
 no_cells is_frame k = None
 

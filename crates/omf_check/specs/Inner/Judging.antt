@@ -1,4 +1,4 @@
--- The least fault of a record, computed from what is kept of the records before it.
+-- The first fault of a record, computed from the state kept of the records before it.
 use Rattle.std.specs.Prelude.{ℕ, ◌+◌, ◌-◌, List, [], ◌∷◌, length, Bool, false, not, ◌||◌, ◌==◌, nat_le, nat_lt, Option, Some, None, unwrap_or, option_map, Result, Ok, Err, if◌then◌else◌, ◌≤◌, ⊤}
 use Rattle.omf_frame.specs.Fault.{Fault, is_before}
 use Rattle.omf_frame.specs.declared.fault.Reason.{Reason}
@@ -19,17 +19,17 @@ use Rattle.omf_check.specs.declared.threads.Threads.{Threads as CodeThreads}
 use Rattle.omf_check.specs.declared.last_data.LastData.{LastData}
 use Rattle.omf_check.specs.declared.last_data.LastData.TheVariants as last
 
--- the fault of a rule
+-- the fault of a rule, if it does not hold
 abbrev pub fault_unless : Bool → ℕ → Reason → Option Fault
 fault_unless holds within r = if holds then None else Some (record { within = within; reason = r })
 
--- the lesser of two faults, where there are any
+-- the lesser of two faults, if any
 abbrev pub lesser : Option Fault → Option Fault → Option Fault
 lesser None other = other
 lesser (Some f) None = Some f
 lesser (Some f) (Some g) = if is_before f g then Some f else Some g
 
--- entries at these places, of which so many have room
+-- entries at these places, with room for `left` of them
 abbrev pub room_fault : ℕ → List ℕ → Option Fault
 room_fault left [] = None
 room_fault left (p ∷ ps) = lesser (fault_unless (nat_lt 0 left) p reason.TooMany) (room_fault (left - 1) ps)
@@ -51,7 +51,7 @@ abbrev pub data_fault : Kept → At ℕ → At ℕ → ℕ → Option Fault
 data_fault kept segment offset size = lesser (entry_fault (length kept.segments) reason.UndefinedSegment segment)
     (fault_unless (nat_le (offset.item + size) (kept_length kept.segments segment.item)) offset.within reason.OutsideSegment)
 
--- the entry that a target names
+-- the entry that a target refers to
 abbrev pub index_fault : Kept → ℕ → TargetMethod → Option Fault
 index_fault kept at (T0 i) = fault_unless (is_defined (length kept.segments) i) at reason.UndefinedSegment
 index_fault kept at (T1 i) = fault_unless (is_defined (length kept.groups) i) at reason.UndefinedGroup
@@ -112,7 +112,7 @@ abbrev pub base_fault : Kept → At ℕ → At ℕ → Option Fault
 base_fault kept group segment = lesser (optional_fault (length kept.groups) reason.UndefinedGroup group)
     (optional_fault (length kept.segments) reason.UndefinedSegment segment)
 
--- by the record's contents; data records with so many bytes of data
+-- by the record's contents; a data record has `size` bytes of data
 abbrev pub contents_fault : Profile → Kept → ℕ → Contents → Option Fault
 contents_fault profile kept size (Comment byte class text) = comment_fault profile class
 contents_fault profile kept size (Names items) = room_fault (table_limit - length kept.names) (places items)
@@ -127,7 +127,7 @@ contents_fault profile kept size (Fixups subs) = subrecords_fault kept kept.thre
 contents_fault profile kept size (ModEnd byte start) = start_fault kept start
 contents_fault profile kept size _ = None
 
--- How many bytes of data a data record has; or the first fault of its blocks, at its place in the record.
+-- The number of bytes of data of a data record, or the first fault of its blocks at its place in the record.
 abbrev pub fault_moved : ℕ → Result ℕ Fault → Result ℕ Fault
 fault_moved at (Ok n) = Ok n
 fault_moved at (Err f) = Err (fault_from at f)
@@ -144,17 +144,17 @@ judged_by_size profile kept c (Ok size) = lesser (room_fault (item_limit - kept.
 abbrev pub record_fault : Profile → Limits → Kept → Rec → Option Fault
 record_fault profile limits kept r = judged_by_size profile kept r.contents (data_size limits r.kind r.contents)
 
--- The blocks of an LIDATA lie in a record, which has at most 65,538 bytes.
+-- The blocks of an LIDATA are within a record, which has at most 65,538 bytes.
 abbrev pub IsShort : Contents → Type 0
 IsShort (Iterated d) = (d.offset.within ≤ 65537) × (length d.bytes ≤ 65534)
 IsShort _ = ⊤
 
--- A FIXUPP is judged while it is read, all other records afterwards.
+-- Not a FIXUPP. A FIXUPP is checked while it is read, every other record afterward.
 abbrev pub IsNoFixupp : Contents → Type 0
 IsNoFixupp (Fixups subs) = ⊥
 IsNoFixupp _ = ⊤
 
--- by what its contents spell
+-- by the reading of its contents
 abbrev pub read_fault : Profile → Limits → Kept → ℕ → Result Contents Fault → Option Fault
 read_fault profile limits kept kind (Ok c) = record_fault profile limits kept (record { kind = kind; contents = c })
 read_fault profile limits kept kind (Err f) = Some f

@@ -1,4 +1,4 @@
--- What a checker keeps of the records so far, in place of the records themselves.
+-- The state that a checker keeps of the records so far.
 use Rattle.std.specs.Prelude.{◌≡◌, ◌<◌, ◌≤◌, ℕ, ◌+◌, List, [], ◌∷◌, ◌++◌, length, map, get_or, set, Bool, true, false, Option, Some, None, option_map, if◌then◌else◌}
 use Rattle.omf_frame.specs.Types.{is_local}
 use Rattle.omf_records.specs.Values.{At, Rec, Contents, Names, Segment, Group, Externs, Communals, Plain, Iterated, Fixups, Subrecord, Thread, Fixup, thread_is_frame, thread_method, thread_number}
@@ -9,18 +9,18 @@ use Rattle.omf_check.specs.declared.last_data.LastData.{LastData}
 use Rattle.omf_check.specs.declared.last_data.LastData.TheVariants as last
 use Rattle.omf_check.specs.declared.threads.Threads.{Threads}
 
--- what the frame thread of a number keeps, and the target thread
+-- the method of the frame thread with a number, and of the target thread
 abbrev pub kept_frame : Threads → ℕ → Option FrameMethod
 kept_frame threads k = get_or threads.frames k None
 
 abbrev pub kept_target : Threads → ℕ → Option TargetMethod
 kept_target threads k = get_or threads.targets k None
 
--- no thread was set
+-- no thread is set
 abbrev pub no_threads : Threads
 no_threads = record { frames = None ∷ None ∷ None ∷ None ∷ []; targets = None ∷ None ∷ None ∷ None ∷ [] }
 
--- after one more subrecord
+-- the threads after one more subrecord; after some
 abbrev pub set_thread : Threads → Subrecord → Threads
 set_thread threads (Thread byte datum) =
     if thread_is_frame byte then record threads { frames = set threads.frames (thread_number byte) (Some (frame_from (setting (thread_method byte) datum))) }
@@ -31,8 +31,8 @@ abbrev pub set_threads : Threads → List (At Subrecord) → Threads
 set_threads threads [] = threads
 set_threads threads (s ∷ subs) = set_threads (set_thread threads s.item) subs
 
--- where each name, GRPDEF record and external name stands in the module; whether each external is local; the segments; how many items
--- there were; the last data record; the threads
+-- the offsets of the names, GRPDEF records and external names in the module; whether each external is local; the segments; the number
+-- of items; the last data record; the threads
 pub record Kept : Type 0 where
   pub names : List ℕ
   pub segments : List SegInfo
@@ -46,11 +46,11 @@ pub record Kept : Type 0 where
 abbrev pub nothing_kept : Kept
 nothing_kept = record { names = []; segments = []; groups = []; externals = []; locals = []; items = 0; last = None; threads = no_threads }
 
--- after one more record, which begins at some offset in the module
+-- the offsets of items whose record starts at offset `at` of the module
 abbrev pub starts : {A : Type 0} → ℕ → List (At A) → List ℕ
 starts at items = map (λ a. at + a.within) items
 
--- the same for each item
+-- one value for each item
 abbrev pub alike : {A : Type 0} → Bool → List A → List Bool
 alike b items = map (λ a. b) items
 
@@ -68,19 +68,19 @@ with_contents kept at kind _ = kept
 abbrev pub with_record : Kept → ℕ → Rec → Kept
 with_record kept at r = with_contents (record kept { items = kept.items + items_in r.contents }) at r.kind r.contents
 
--- what is kept of the last data record
+-- the state kept of the last data record
 abbrev pub last_kept : Contents → LastData
 last_kept (Plain d) = last.Plain (length d.bytes)
 last_kept _ = last.Iterated
 
--- The cells are the threads in force after these subrecords.
+-- The threads are those in force after these subrecords.
 pub record HasThreads (threads : Threads) (subs : List Subrecord) : Type 0 where
   pub frames : length threads.frames ≡ 4
   pub targets : length threads.targets ≡ 4
   pub same_frames : (k : ℕ) → k < 4 → kept_frame threads k ≡ option_map frame_from (thread true k subs)
   pub same_targets : (k : ℕ) → k < 4 → kept_target threads k ≡ option_map target_from (thread false k subs)
 
--- What is kept tells all that the rules ask of the records before.
+-- The state determines all that the rules depend on in the records before.
 pub record Tells (kept : Kept) (before : List Rec) : Type 0 where
   pub names : length kept.names ≡ length (names before)
   pub segments : kept.segments ≡ segments before
@@ -91,7 +91,7 @@ pub record Tells (kept : Kept) (before : List Rec) : Type 0 where
   pub last : kept.last ≡ option_map last_kept (last_data before)
   pub threads : HasThreads kept.threads (subrecords before)
 
--- No table is passed its limit.
+-- No table is above its limit.
 pub record IsBounded (kept : Kept) : Type 0 where
   pub names : length kept.names ≤ 32767
   pub segments : length kept.segments ≤ 32767

@@ -1,4 +1,4 @@
--- What is true of every checked module, by its parts.
+-- The invariant of a checked module, by its parts.
 use Rattle.std.specs.Prelude.{◌≡◌, ℕ, List, length}
 use Rattle.omf_image.specs.Limits.{profile_limits}
 use Rattle.omf_check.specs.Inner.Kept.{Kept, Tells, IsBounded}
@@ -7,7 +7,7 @@ use Rattle.omf_check.specs.WellFormed.{IsWellFormed, recs}
 use Rattle.omf_check.specs.declared.profile.Profile.{Profile}
 use Rattle.omf_check.specs.Module.{records_in}
 
--- What is true of every checked module, by its parts.
+-- The invariant of a checked module, by its parts.
 pub record IsChecked (profile : Profile) (bytes : List ℕ) (kept : Kept) (count : ℕ) : Type 0 where
   pub well_formed : IsWellFormed profile profile_limits bytes (records_in bytes)
   pub tells : Tells kept (recs (records_in bytes))

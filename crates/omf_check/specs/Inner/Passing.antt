@@ -1,4 +1,4 @@
--- What is true of every session, by its parts, and what its steps do.
+-- The invariant of a session, by its parts, and its steps.
 use Rattle.std.specs.Prelude.{◌≡◌, ◌≢◌, ◌≤◌, IsTrue, ℕ, Bool, true, false, not, ◌==◌, min, if◌then◌else◌, List, [], ◌∷◌, ◌++◌, length, take, flat_map, All, Option, Some, None, option_map}
 use Rattle.omf_frame.specs.Bytes.{AreBytes}
 use Rattle.omf_frame.specs.Fault.{Fault}
@@ -17,17 +17,17 @@ use Rattle.omf_check.specs.declared.fault.CheckFault.TheVariants.{Memory, Read, 
 use Rattle.omf_check.specs.declared.profile.Profile.{Profile}
 use Rattle.omf_check.specs.Session.{Seen, IsCause}
 
--- What a record of a number and a start is refused for.
+-- The refusal of the record with this number and start for a fault.
 abbrev pub refused_at : ℕ → ℕ → Fault → CheckFault
 refused_at number start f = Refused f.reason (record { number = number; start = start; within = f.within })
 
--- Why a record, whose least fault this is, is not passed.
+-- The fault for a record whose first fault is `found`: its refusal, or Memory if it has none.
 abbrev pub IsStopped : Option Fault → ℕ → ℕ → CheckFault → Type 0
 IsStopped found number start Memory = found ≡ None
 IsStopped found number start Read = ⊥
 IsStopped found number start (Refused why at) = option_map (refused_at number start) found ≡ Some (Refused why at)
 
--- The records passed so far, and the bytes at hand.
+-- The records accepted so far, and the bytes of the current record.
 pub record IsPassing (profile : Profile) (held : Held) (taken : List ℕ) (kept : Kept) : Type 0 where
   pub before : List Raw
   pub spelled : taken ≡ flat_map raw_bytes before ++ held.bytes
@@ -46,13 +46,13 @@ pub record IsPassing (profile : Profile) (held : Held) (taken : List ℕ) (kept 
   pub bounded : IsBounded kept
   pub short : length held.bytes ≤ 65538
 
--- What is true of every session, by its parts.
+-- The invariant of a session, by its parts.
 abbrev pub IsState : Profile → Held → List ℕ → Kept → Option CheckFault → Type 0
 IsState profile held taken kept None = IsPassing profile held taken kept
 IsState profile held taken kept (Some fault) = (held.ended ≡ false) × (fault ≢ Read)
 
--- A step of a session, by its framer and the bytes taken: it takes what the record at hand still lacks, or the whole piece, and
--- passes a record that is whole then.
+-- A step of a session, by its framer and the bytes taken: it takes the bytes that the current record still lacks, or the whole piece,
+-- and accepts a record that is now complete.
 pub record Moves (old : Held) (bytes piece : List ℕ) (count : ℕ) (whole : Bool) (new : Held) (now : List ℕ) : Type 0 where
   pub bound : count ≤ length piece
   pub all_wanted : min (framer_want old) (length piece) ≤ count
@@ -61,14 +61,14 @@ pub record Moves (old : Held) (bytes piece : List ℕ) (count : ℕ) (whole : Bo
   pub at_hand : new.bytes ≡ (if whole then [] else next_of old piece)
   pub whole_is : whole ≡ is_whole (next_of old piece)
 
--- Why a step fails, as a feed does.
+-- The cause of a step's fault, which is that of a feed.
 abbrev pub here : Profile → Held → List ℕ → Seen
 here profile held taken = record { profile = profile; taken = taken; at_hand = held.bytes; ended = held.ended; fault = None }
 
 abbrev pub Fails : Profile → Held → List ℕ → List ℕ → CheckFault → Type 0
 Fails profile held taken piece fault = IsCause (here profile held taken) piece fault
 
--- What a framer's fault is to a session.
+-- A framing fault as a fault of a check.
 abbrev pub framing_fault : FrameFault → CheckFault
 framing_fault frame.Memory = Memory
 framing_fault (frame.Refused why at) = Refused why at

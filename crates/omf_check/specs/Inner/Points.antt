@@ -1,4 +1,4 @@
--- Where names stand in a module.
+-- The offsets of names and groups in a module.
 use Rattle.std.specs.Prelude.{◌≡◌, ◌<◌, ℕ, List, [], ◌∷◌, ◌++◌, length, Option, Some, None, ⊤}
 use Rattle.omf_frame.specs.Framing.{Raw, raw_bytes}
 use Rattle.omf_records.specs.Inner.Reading.{typed}
@@ -7,7 +7,7 @@ use Rattle.omf_check.specs.Listed.{IsReadable}
 use Rattle.omf_check.specs.Inner.Kept.{Kept}
 use Rattle.omf_check.specs.Tables.{names, groups, externals}
 
--- A name stands at an offset: its length byte, and then its bytes.
+-- A name at an offset: its length byte, and then its bytes.
 pub record NameAt (bytes : List ℕ) (at : ℕ) (name : List ℕ) : Type 0 where
   pub front : List ℕ
   pub rest : List ℕ
@@ -15,11 +15,11 @@ pub record NameAt (bytes : List ℕ) (at : ℕ) (name : List ℕ) : Type 0 where
   pub place : at ≡ length front
   pub short : length name < 256
 
--- Some name stands there.
+-- There is a name at the offset.
 abbrev pub HasName : List ℕ → ℕ → Type 0
 HasName bytes at = (name : List ℕ) × NameAt bytes at name
 
--- A record of a group stands at an offset.
+-- The record of a group at an offset.
 pub record GroupAt (bytes : List ℕ) (at : ℕ) (g : GroupItem) : Type 0 where
   pub front : List ℕ
   pub rest : List ℕ
@@ -29,25 +29,25 @@ pub record GroupAt (bytes : List ℕ) (at : ℕ) (g : GroupItem) : Type 0 where
   pub readable : IsReadable one
   pub is : (typed one).contents ≡ Group g
 
--- Some group's record stands there.
+-- There is the record of a group at the offset.
 abbrev pub HasGroup : List ℕ → ℕ → Type 0
 HasGroup bytes at = (g : GroupItem) × GroupAt bytes at g
 
--- Each item stands at its place, and there are no others.
+-- Each item is at its place, and there are as many places as items.
 abbrev pub AllAt : {A : Type 0} → (ℕ → A → Type 0) → List ℕ → List A → Type 0
 AllAt Stands [] [] = ⊤
 AllAt Stands (p ∷ ps) (x ∷ xs) = Stands p x × AllAt Stands ps xs
 AllAt Stands [] (x ∷ xs) = ⊥
 AllAt Stands (p ∷ ps) [] = ⊥
 
--- An item stands at the place, if there is one.
+-- The item is at the place, if there is one.
 abbrev pub IsItemAt : {A : Type 0} → (ℕ → A → Type 0) → Option ℕ → Option A → Type 0
 IsItemAt Stands (Some p) (Some x) = Stands p x
 IsItemAt Stands None None = ⊤
 IsItemAt Stands (Some p) None = ⊥
 IsItemAt Stands None (Some x) = ⊥
 
--- What is kept of names, groups and external names says where they stand.
+-- The offsets kept of names, groups and external names are right.
 pub record PointsTo (bytes : List ℕ) (kept : Kept) (before : List Rec) : Type 0 where
   pub names : AllAt (NameAt bytes) kept.names (names before)
   pub groups : AllAt (GroupAt bytes) kept.groups (groups before)

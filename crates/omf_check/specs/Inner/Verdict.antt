@@ -8,7 +8,7 @@ use Rattle.omf_image.specs.declared.limits.Limits.{Limits}
 use Rattle.omf_check.specs.Refusal.{faults_after, place_after}
 use Rattle.omf_check.specs.declared.profile.Profile.{Profile}
 
--- Accepted with these records, or refused; `Unknown` is never answered.
+-- Accepted with these records, or refused. `Unknown` does not occur.
 pub data Verdict : Type 0 where
   Accepted : List Raw → Verdict
   Refused : Reason → Place → Verdict

@@ -1,4 +1,4 @@
--- What one walk over the subrecords of a FIXUPP finds: the fault of their layout, else the least fault of their rules.
+-- The result of one pass over the subrecords of a FIXUPP: the fault of their layout, else the first fault of their rules.
 use Rattle.std.specs.Prelude.{◌-◌, List, Option, Some, Result, Ok, Err}
 use Rattle.omf_frame.specs.Fault.{Fault}
 use Rattle.omf_records.specs.Values.{At, Subrecord, Fixups}
@@ -10,7 +10,7 @@ abbrev pub walk_fault : Kept → Result (List (At Subrecord)) Fault → Option F
 walk_fault kept (Ok subs) = lesser (room_fault (item_limit - kept.items) (places subs)) (subrecords_fault kept kept.threads subs)
 walk_fault kept (Err f) = Some f
 
--- where there is none, the record itself is an item
+-- a FIXUPP without subrecords is one item
 abbrev pub fixups_fault : Kept → Result (List (At Subrecord)) Fault → Option Fault
 fixups_fault kept (Ok subs) = lesser (room_fault (item_limit - kept.items) (item_places (Fixups subs))) (subrecords_fault kept kept.threads subs)
 fixups_fault kept (Err f) = Some f

@@ -1,4 +1,4 @@
-//! What is kept, looked up by its number.
+//! Lookups in the state kept.
 
 ghost use Rattle.std.specs.Prelude.{◌≡◌, ◌≤◌, length};
 ghost use Rattle.omf_check.specs.Tables.{entry};
@@ -6,18 +6,15 @@ ghost use Rattle.omf_check.specs.Tables.{entry};
 use crate::segment::SegInfo;
 use crate::table::Tables;
 
-/// The entry of an index from 1.
-fn entry_of<T: Copy>(entries: &[T], i: u16) -> Option<T>
+/// The entry of a table with index `i`, from 1; `None` outside the table.
+pub fn entry_of<T: Copy>(entries: &[T], i: usize) -> Option<T>
     ensures { result ≡ entry entries.now i }
 {
-    if i == 0 {
-        return None;
-    }
-    entries.get(usize::from(i) - 1).copied()
+    entries.get(i.checked_sub(1)?).copied()
 }
 
 impl Tables {
-    /// How many names there are.
+    /// The number of names.
     pub fn name_count(&self) -> u16
         requires { length self.now.names ≤ 32767 }
         ensures { result ≡ length self.now.names }
@@ -25,7 +22,7 @@ impl Tables {
         self.names.len() as u16
     }
 
-    /// How many segments there are.
+    /// The number of segments.
     pub fn segment_count(&self) -> u16
         requires { length self.now.segments ≤ 32767 }
         ensures { result ≡ length self.now.segments }
@@ -33,7 +30,7 @@ impl Tables {
         self.segments.len() as u16
     }
 
-    /// How many groups there are.
+    /// The number of groups.
     pub fn group_count(&self) -> u16
         requires { length self.now.groups ≤ 32767 }
         ensures { result ≡ length self.now.groups }
@@ -41,7 +38,7 @@ impl Tables {
         self.groups.len() as u16
     }
 
-    /// How many external names there are.
+    /// The number of external names.
     pub fn external_count(&self) -> u16
         requires { length self.now.externals ≤ 32767 }
         ensures { result ≡ length self.now.externals }
@@ -49,38 +46,38 @@ impl Tables {
         self.externals.len() as u16
     }
 
-    /// A segment, by its index from 1.
+    /// The segment with index `i`, from 1.
     pub fn segment(&self, i: u16) -> Option<SegInfo>
         ensures { result ≡ entry self.now.segments i }
     {
-        entry_of(&self.segments, i)
+        entry_of(&self.segments, usize::from(i))
     }
 
-    /// Where the name of an index from 1 stands in the module.
+    /// The offset in the module of the name with index `i`, from 1.
     pub fn name_place(&self, i: u16) -> Option<u64>
         ensures { result ≡ entry self.now.names i }
     {
-        entry_of(&self.names, i)
+        entry_of(&self.names, usize::from(i))
     }
 
-    /// Where the external name of an index from 1 stands in the module.
+    /// The offset in the module of the external name with index `i`, from 1.
     pub fn external_place(&self, i: u16) -> Option<u64>
         ensures { result ≡ entry self.now.externals i }
     {
-        entry_of(&self.externals, i)
+        entry_of(&self.externals, usize::from(i))
     }
 
-    /// Whether the external of an index from 1 is local.
+    /// Whether the external with index `i`, from 1, is local.
     pub fn is_local(&self, i: u16) -> Option<bool>
         ensures { result ≡ entry self.now.locals i }
     {
-        entry_of(&self.locals, i)
+        entry_of(&self.locals, usize::from(i))
     }
 
-    /// Where the GRPDEF of an index from 1 stands in the module.
+    /// The offset in the module of the GRPDEF with index `i`, from 1.
     pub fn group_place(&self, i: u16) -> Option<u64>
         ensures { result ≡ entry self.now.groups i }
     {
-        entry_of(&self.groups, i)
+        entry_of(&self.groups, usize::from(i))
     }
 }

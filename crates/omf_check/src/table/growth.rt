@@ -1,4 +1,4 @@
-//! A record is taken: judged, and what it defines kept.
+//! Checking a record, and keeping what it defines.
 
 ghost use Rattle.std.specs.Prelude.{◌≡◌, ◌≤◌, ◌<◌, ◌+◌, ◌^◌, ◌++◌, length, OnOk, IsTrue, IfErr, None, Ok};
 ghost use Rattle.omf_check.specs.Rules.{item_limit};
@@ -15,14 +15,14 @@ ghost use Rattle.omf_check.specs.Inner.Walking.{fixups_fault};
 use crate::fault::CheckFault;
 use crate::last_data::LastData;
 use crate::profile::Profile;
-use crate::rule::fault_unless;
+use crate::rule::fault;
 use crate::segment::SegInfo;
 use crate::table::{ITEM_LIMIT, Tables};
 use omf_frame::{Place, RawRecord, Reason};
 use omf_records::{Item, Items, LayoutFault, Rec, Segment, Subrecord, Unread, unread_fixups, view};
 use std::alloc::AllocError;
 
-/// What a SEGDEF says of its segment.
+/// The segment that a SEGDEF defines.
 fn segment_info(wide: bool, segment: &Segment) -> SegInfo
     ensures { result ≡ segment_info (odd_if wide 0x98) segment.now }
 {
@@ -39,7 +39,7 @@ fn segment_info(wide: bool, segment: &Segment) -> SegInfo
     }
 }
 
-/// Appends where each item stands in the module, in which their record begins at this offset.
+/// Appends the offset of each item in the module; their record starts at `at`.
 fn add_starts<T: Item>(places: &mut Vec<u64>, at: u64, items: Items<T>) -> Result<(), AllocError>
     requires { at < 2 ^ 40 }
     ensures { OnOk result (places.new.items ≡ places.old.items ++ starts at items) }
@@ -50,7 +50,7 @@ fn add_starts<T: Item>(places: &mut Vec<u64>, at: u64, items: Items<T>) -> Resul
     Ok(())
 }
 
-/// Appends a value for each item.
+/// Appends `value` once for each item.
 fn add_alike<T: Item>(
     values: &mut Vec<bool>,
     value: bool,
@@ -64,7 +64,7 @@ fn add_alike<T: Item>(
     Ok(())
 }
 
-/// The refusal of a record of this number, which begins at this offset of the module.
+/// The refusal of the record with this number that starts at this offset of the module.
 fn refused(number: u32, start: u64, fault: LayoutFault) -> CheckFault
     ensures { result ≡ refused_at number start fault }
 {
@@ -79,7 +79,7 @@ fn refused(number: u32, start: u64, fault: LayoutFault) -> CheckFault
 }
 
 impl Tables {
-    /// Keeps where external names stand, all of them local or none.
+    /// Keeps the offsets of external names, either all local or none.
     fn add_externals<T: Item>(
         &mut self,
         at: u64,
@@ -93,7 +93,7 @@ impl Tables {
         add_alike(&mut self.locals, is_local, items)
     }
 
-    /// Keeps what a record that is no FIXUPP defines. It begins at this offset of the module.
+    /// Keeps what a record other than a FIXUPP defines. The record starts at offset `at` of the module.
     fn add_contents(&mut self, at: u64, rec: &Rec<'_>) -> Result<(), AllocError>
         requires start { at < 2 ^ 40 }
         requires other { IsNoFixupp (contents_seen rec.now) }
@@ -126,7 +126,7 @@ impl Tables {
         }
     }
 
-    /// Keeps what a record that is no FIXUPP tells later ones. It begins at this offset of the module.
+    /// Keeps all that later records need of a record other than a FIXUPP. The record starts at offset `at` of the module.
     fn add(&mut self, at: u64, rec: &Rec<'_>) -> Result<(), AllocError>
         requires start { at < 2 ^ 40 }
         requires other { IsNoFixupp (contents_seen rec.now) }
@@ -137,7 +137,7 @@ impl Tables {
         self.add_contents(at, rec)
     }
 
-    /// Judges a FIXUPP of these subrecords, and keeps what it tells later records where it has no fault.
+    /// Checks a FIXUPP with these subrecords. Keeps what later records need of it if it has no fault.
     fn take_fixups(&mut self, subrecords: Unread<Subrecord<'_>>) -> Option<LayoutFault>
         requires { self.old.items ≤ item_limit }
         ensures found { result ≡ fixups_fault self.old subrecords.entry.items }
@@ -145,7 +145,7 @@ impl Tables {
     {
         if subrecords.is_end() {
             if self.items == ITEM_LIMIT {
-                return fault_unless(false, 0, Reason::TooMany);
+                return Some(fault(0, Reason::TooMany));
             }
             self.items += 1;
             return None;
@@ -157,7 +157,7 @@ impl Tables {
         self.subrecords_fault(judged)
     }
 
-    /// Judges a record after those of these tables, and keeps what it defines.
+    /// Checks the next record, and keeps what it defines.
     pub fn take(&mut self, profile: Profile, raw: RawRecord<'_>) -> Result<(), CheckFault>
         requires taken { IsTrue (is_taken raw.kind) }
         requires short { length raw.body.now ≤ 65534 }

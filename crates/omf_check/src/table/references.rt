@@ -1,4 +1,4 @@
-//! The faults of references: those of the subrecords of a FIXUPP, and that of the start of a MODEND.
+//! The faults of references: in the subrecords of a FIXUPP, and in the start of a MODEND.
 
 ghost use Rattle.std.specs.Prelude.{◌≡◌, Some};
 ghost use Rattle.omf_check.specs.Rules.{judged_at};
@@ -8,14 +8,14 @@ ghost use Rattle.omf_check.specs.Inner.Walking.{walk_fault};
 
 use crate::last_data::LastData;
 use crate::method::{FrameMethod, TargetMethod};
-use crate::rule::{fault_unless, is_defined, lesser};
+use crate::rule::{fault, fault_unless, is_defined, lesser};
 use crate::table::sound::ends_within;
 use crate::table::{ITEM_LIMIT, Tables};
 use crate::threads::Threads;
 use omf_frame::{Index, Reason};
 use omf_records::{At, LayoutFault, Part, Reference, Subrecord, Unread};
 
-/// Why a fixup of this location does not lie in the data of the last data record.
+/// Rule: the fixup's location is within the data of the last data record, which is an LEDATA.
 fn location_fault(last: Option<LastData>, within: u32, location: u16) -> Option<LayoutFault>
     ensures { result ≡ location_fault last within location }
 {
@@ -23,12 +23,12 @@ fn location_fault(last: Option<LastData>, within: u32, location: u16) -> Option<
         Some(LastData::Plain(len)) => {
             fault_unless(ends_within(location, len), within, Reason::OutsideRecord)
         }
-        Some(LastData::Iterated) => fault_unless(false, within, Reason::FixupOnIterated),
-        None => fault_unless(false, within, Reason::NoDataRecord),
+        Some(LastData::Iterated) => Some(fault(within, Reason::FixupOnIterated)),
+        None => Some(fault(within, Reason::NoDataRecord)),
     }
 }
 
-/// Where a frame or a target is judged: at its own datum, or at the fix data byte.
+/// The place of a fault of a frame or a target: its own datum, or the fix data byte if it has none.
 fn judged_at(reference: &Reference, datum: &Option<At<Index>>) -> u32
     ensures { result ≡ judged_at reference.now datum.now }
 {
@@ -39,6 +39,7 @@ fn judged_at(reference: &Reference, datum: &Option<At<Index>>) -> u32
 }
 
 impl Tables {
+    /// Rule: the segment exists.
     fn undefined_segment(&self, at: u32, index: u16) -> Option<LayoutFault>
         ensures { result ≡ index_fault self.now at (T0 index) }
     {
@@ -46,6 +47,7 @@ impl Tables {
         fault_unless(is_there, at, Reason::UndefinedSegment)
     }
 
+    /// Rule: the group exists.
     fn undefined_group(&self, at: u32, index: u16) -> Option<LayoutFault>
         ensures { result ≡ index_fault self.now at (T1 index) }
     {
@@ -53,6 +55,7 @@ impl Tables {
         fault_unless(is_there, at, Reason::UndefinedGroup)
     }
 
+    /// Rule: the external exists.
     fn undefined_external(&self, at: u32, index: u16) -> Option<LayoutFault>
         ensures { result ≡ index_fault self.now at (T2 index) }
     {
@@ -60,7 +63,7 @@ impl Tables {
         fault_unless(is_there, at, Reason::UndefinedExternal)
     }
 
-    /// The entry that a target names, judged at a place.
+    /// Rule: the entry that a target refers to exists. A fault is at `at`.
     fn index_fault(&self, at: u32, target: TargetMethod) -> Option<LayoutFault>
         ensures { result ≡ index_fault self.now at target }
     {
@@ -71,7 +74,7 @@ impl Tables {
         }
     }
 
-    /// The entry that a frame names, if it names one, judged at a place.
+    /// Rule: the entry that a frame refers to, if any, exists. A fault is at `at`.
     fn frame_index_fault(&self, at: u32, frame: FrameMethod) -> Option<LayoutFault>
         ensures { result ≡ frame_fault self.now at (Some frame) }
     {
@@ -84,25 +87,27 @@ impl Tables {
         }
     }
 
+    /// Rule: the frame is set, and its entry exists. A fault is at `at`.
     fn frame_fault(&self, at: u32, frame: Option<FrameMethod>) -> Option<LayoutFault>
         ensures { result ≡ frame_fault self.now at frame }
     {
         match frame {
-            None => fault_unless(false, at, Reason::UndefinedThread),
+            None => Some(fault(at, Reason::UndefinedThread)),
             Some(frame) => self.frame_index_fault(at, frame),
         }
     }
 
+    /// Rule: the target is set, and its entry exists. A fault is at `at`.
     fn target_fault(&self, at: u32, target: Option<TargetMethod>) -> Option<LayoutFault>
         ensures { result ≡ target_fault self.now at target }
     {
         match target {
-            None => fault_unless(false, at, Reason::UndefinedThread),
+            None => Some(fault(at, Reason::UndefinedThread)),
             Some(target) => self.index_fault(at, target),
         }
     }
 
-    /// The frame and the target of a reference, with these threads in force.
+    /// The rules of a reference's frame and target, with these threads in force.
     fn reference_fault(&self, threads: &Threads, reference: &Reference) -> Option<LayoutFault>
         ensures { result ≡ reference_fault self.now threads.now reference.now }
     {
@@ -114,7 +119,7 @@ impl Tables {
         )
     }
 
-    /// The least fault of a subrecord, with these threads in force.
+    /// The first fault of a subrecord, with these threads in force.
     fn subrecord_fault(
         &self,
         threads: &Threads,
@@ -135,7 +140,7 @@ impl Tables {
         }
     }
 
-    /// The least fault of the subrecords of a FIXUPP. One of their layout comes first.
+    /// The first fault of the subrecords of a FIXUPP. A fault of their layout precedes all others.
     #[cold]
     pub(super) fn subrecords_fault(&self, subrecords: Unread<Subrecord<'_>>) -> Option<LayoutFault>
         ensures { result ≡ walk_fault self.now subrecords.entry.items }
@@ -165,7 +170,7 @@ impl Tables {
         lesser(beyond, found)
     }
 
-    /// The start of a MODEND: its frame is not that of a location.
+    /// The rules of the start of a MODEND: those of a reference, and that its frame method is not F4.
     pub(super) fn start_fault(&self, start: &Option<Reference>) -> Option<LayoutFault>
         ensures { result ≡ start_fault self.now start.now }
     {

@@ -1,4 +1,4 @@
-//! The rules of the records that are no FIXUPP.
+//! The rules of all records but FIXUPP.
 
 ghost use Rattle.std.specs.Prelude.{◌≡◌, ◌≤◌, ◌+◌, length, ◌-◌, [], ◌∷◌};
 ghost use Rattle.omf_check.specs.Rules.{item_limit};
@@ -17,7 +17,7 @@ use omf_frame::{Index, Reason};
 use omf_image::{Limits, expanded_len};
 use omf_records::{At, Blocks, Items, LayoutFault, Member, Rec, Segment};
 
-/// How many bytes the blocks of an LIDATA stand for, whose offset stands at this place; or their first fault.
+/// The number of bytes that the blocks of an LIDATA expand to, or their first fault. The LIDATA's offset field is at `at`.
 fn blocks_size(at: u32, blocks: Blocks<'_>) -> Result<usize, LayoutFault>
     requires place { at ≤ 65537 }
     requires short { length blocks.bytes.now ≤ 65534 }
@@ -33,7 +33,7 @@ fn blocks_size(at: u32, blocks: Blocks<'_>) -> Result<usize, LayoutFault>
     }
 }
 
-/// How many bytes of data a data record has; or the first fault of its blocks.
+/// The number of bytes of data of a data record, or the first fault of its blocks. 0 for other records.
 fn data_size(rec: &Rec<'_>) -> Result<usize, LayoutFault>
     requires { IsShort (contents_seen rec.now) }
     ensures { result ≡ data_size profile_limits (kind_seen rec.now) (contents_seen rec.now) }
@@ -46,7 +46,7 @@ fn data_size(rec: &Rec<'_>) -> Result<usize, LayoutFault>
 }
 
 impl Tables {
-    /// How many bytes a segment has; 0 where there is none.
+    /// The length of a segment in bytes; 0 if it does not exist.
     fn segment_length(&self, index: u16) -> u64
         ensures { result ≡ kept_length self.now.segments index }
     {
@@ -56,7 +56,7 @@ impl Tables {
         }
     }
 
-    /// So many bytes of data lie in their segment.
+    /// Rule: the segment exists, and `size` bytes of data from `offset` on are within it.
     fn data_fault(&self, segment: &At<Index>, offset: &At<u32>, size: usize) -> Option<LayoutFault>
         ensures { result ≡ data_fault self.now segment.now offset.now size }
     {
@@ -69,6 +69,7 @@ impl Tables {
         )
     }
 
+    /// The rules of a SEGDEF.
     fn segment_fault(&self, segment: &Segment) -> Option<LayoutFault>
         ensures { result ≡ segment_fault self.now segment.now }
     {
@@ -82,6 +83,7 @@ impl Tables {
         )
     }
 
+    /// The rules of a GRPDEF.
     fn group_fault(&self, name: &At<Index>, members: Items<Member<'_>>) -> Option<LayoutFault>
         ensures { result ≡ group_fault self.now (record { name = name.now; members = members.entry }) }
     {
@@ -94,7 +96,7 @@ impl Tables {
         )
     }
 
-    /// The base of a PUBDEF.
+    /// The rules of the base of a PUBDEF or an LPUBDEF.
     fn base_fault(&self, group: &At<Index>, segment: &At<Index>) -> Option<LayoutFault>
         ensures { result ≡ base_fault self.now group.now segment.now }
     {
@@ -104,7 +106,7 @@ impl Tables {
         )
     }
 
-    /// The rules of a record that is no FIXUPP. Data records have so many bytes of data.
+    /// The rules of a record other than a FIXUPP. A data record has `size` bytes of data.
     fn contents_fault(&self, profile: Profile, size: usize, rec: &Rec<'_>) -> Option<LayoutFault>
         requires { IsNoFixupp (contents_seen rec.now) }
         ensures { result ≡ contents_fault profile self.now size (contents_seen rec.now) }
@@ -139,14 +141,14 @@ impl Tables {
         }
     }
 
-    /// One item more has room, which stands at the record's start.
+    /// Rule: the module has room for one more item. A fault is at the record's start.
     fn item_fault(&self) -> Option<LayoutFault>
         ensures { result ≡ room_fault (item_limit - self.now.items) (0 ∷ []) }
     {
         fault_unless(self.items < ITEM_LIMIT, 0, Reason::TooMany)
     }
 
-    /// The least fault of a record that is no FIXUPP, after the records of these tables: that of its blocks, else that of its rules.
+    /// The first fault of a record other than a FIXUPP: that of its blocks, else that of its rules.
     pub(super) fn record_fault(&self, profile: Profile, rec: &Rec<'_>) -> Option<LayoutFault>
         requires other { IsNoFixupp (contents_seen rec.now) }
         requires short { IsShort (contents_seen rec.now) }

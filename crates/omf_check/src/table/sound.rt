@@ -1,4 +1,5 @@
-//! The subrecords of a FIXUPP, judged and kept in one walk where none has a fault.
+//! The fast path for a FIXUPP without fault: reads, checks and keeps its subrecords in one pass. Only a FIXUPP that fails here is read
+//! again for its fault.
 
 ghost use Rattle.std.specs.Prelude.{◌≡◌, ◌≤◌, ◌<◌, ◌+◌, ℕ, length, Some, Ok, true, false, nat_le, is_none, get_or};
 ghost use Rattle.omf_check.specs.Rules.{item_limit};
@@ -21,16 +22,16 @@ use omf_records::{
     At, Part, Reference, Subrecord, Unread, location_offset, location_size, location_type,
 };
 
-/// The bytes of a pointer 16:32, the largest location.
+/// The size in bytes of the largest location, a 16:32 pointer.
 const LARGEST_LOCATION: u16 = 6;
 
-/// How many entries the table of each method has: segments, groups, externals; and externals once more, so that the two bits of a
-/// target method find a length without a test.
+/// The number of entries of the table of each method: segments, groups, externals, and externals again, so that each value of the two
+/// method bits has a length.
 #[derive(Clone, Copy)]
 struct TableLengths([usize; 4]);
 
 impl TableLengths {
-    /// The table of a method has an entry of this index.
+    /// Whether the table of a method has an entry with this index.
     #[inline(always)]
     fn has_entry(&self, method: u8, index: u16) -> bool
         requires { method < 4 }
@@ -40,13 +41,13 @@ impl TableLengths {
     }
 }
 
-/// The bytes at a location end within so many bytes of data.
+/// Whether the bytes at a location end within `len` bytes of data.
 #[inline(always)]
 pub(super) fn ends_within(location: u16, len: usize) -> bool
     ensures { result ≡ nat_le (location_offset location + location_size (location_type location)) len }
 {
     let offset = location_offset(location);
-    // Wherever the largest location ends within them, all do.
+    // If the largest location fits, all do.
     if usize::from(offset + LARGEST_LOCATION) <= len {
         return true;
     }
@@ -54,7 +55,7 @@ pub(super) fn ends_within(location: u16, len: usize) -> bool
     usize::from(offset + u16::from(size)) <= len
 }
 
-/// A fixup of this location lies in the data of the last data record, which is an LEDATA.
+/// Whether a location is within the data of the last data record, which is an LEDATA.
 #[inline(always)]
 fn has_location(last: Option<LastData>, location: u16) -> bool
     ensures { (within : ℕ) → result ≡ is_none (location_fault last within location) }
@@ -67,7 +68,7 @@ fn has_location(last: Option<LastData>, location: u16) -> bool
 }
 
 impl Tables {
-    /// How many entries the table of each method has.
+    /// The number of entries of the table of each method.
     fn lengths(&self) -> TableLengths
         ensures { result.0 ≡ table_lengths self.now }
     {
@@ -75,7 +76,7 @@ impl Tables {
         TableLengths([self.segments.len(), self.groups.len(), externals, externals])
     }
 
-    /// The table of a method's code has the entry of an index, if the index is there.
+    /// Whether the table of a method has the entry that `datum` refers to.
     #[inline(always)]
     #[tactic(auto, using(crate::proofs::LengthLaws::entry_counted))]
     fn has_datum(&self, lengths: &TableLengths, method: u8, datum: &Option<At<Index>>) -> bool
@@ -89,7 +90,7 @@ impl Tables {
         }
     }
 
-    /// The entry that a target names is there.
+    /// Whether the entry that a target refers to exists.
     #[inline(always)]
     fn has_entry(&self, target: TargetMethod) -> bool
         ensures { (at : ℕ) → result ≡ is_none (index_fault self.now at target) }
@@ -101,7 +102,7 @@ impl Tables {
         }
     }
 
-    /// The entry that a frame names is there, if it names one.
+    /// Whether the entry that a frame refers to, if any, exists.
     fn has_frame_entry(&self, frame: FrameMethod) -> bool
         ensures { (at : ℕ) → result ≡ is_none (frame_fault self.now at (Some frame)) }
     {
@@ -114,7 +115,7 @@ impl Tables {
         }
     }
 
-    /// A frame that a thread gives is there, and so is the entry that it names.
+    /// Whether a frame thread is set, and its entry exists.
     fn has_set_frame(&self, frame: Option<FrameMethod>) -> bool
         ensures { (at : ℕ) → result ≡ is_none (frame_fault self.now at frame) }
     {
@@ -124,7 +125,7 @@ impl Tables {
         }
     }
 
-    /// A target that a thread gives is there, and so is the entry that it names.
+    /// Whether a target thread is set, and its entry exists.
     fn has_set_target(&self, target: Option<TargetMethod>) -> bool
         ensures { (at : ℕ) → result ≡ is_none (target_fault self.now at target) }
     {
@@ -134,7 +135,7 @@ impl Tables {
         }
     }
 
-    /// The frame of a reference has no fault, with these threads in force.
+    /// Whether the frame of a reference has no fault, with these threads in force.
     #[inline(always)]
     #[tactic(auto, using(crate::proofs::LengthLaws::frame_by_table, crate::proofs::LengthLaws::frame_by_none))]
     fn has_frame(&self, lengths: &TableLengths, threads: &Threads, reference: &Reference) -> bool
@@ -148,7 +149,7 @@ impl Tables {
         method > 2 || self.has_datum(lengths, method, &reference.frame)
     }
 
-    /// The target of a reference has no fault, with these threads in force.
+    /// Whether the target of a reference has no fault, with these threads in force.
     #[inline(always)]
     fn has_target(&self, lengths: &TableLengths, threads: &Threads, reference: &Reference) -> bool
         requires { lengths.now.0 ≡ table_lengths self.now }
@@ -160,7 +161,7 @@ impl Tables {
         self.has_datum(lengths, reference.target_method(), &reference.target)
     }
 
-    /// The frame and the target of a reference have no fault, with these threads in force.
+    /// Whether the frame and the target of a reference have no fault, with these threads in force.
     #[inline(always)]
     fn has_reference(
         &self,
@@ -174,7 +175,7 @@ impl Tables {
         self.has_frame(lengths, threads, reference) && self.has_target(lengths, threads, reference)
     }
 
-    /// A FIXUP has no fault, with these threads in force.
+    /// Whether a FIXUP has no fault, with these threads in force.
     #[inline(always)]
     fn has_fixup(
         &self,
@@ -189,7 +190,7 @@ impl Tables {
         has_location(self.last, location) && self.has_reference(lengths, threads, reference)
     }
 
-    /// A subrecord has no fault, with these threads in force. A THREAD's index is judged where it is used.
+    /// Whether a subrecord has no fault, with these threads in force. The index of a THREAD is checked where the thread is used.
     #[inline(always)]
     fn is_sound(&self, lengths: &TableLengths, threads: &Threads, subrecord: &Subrecord<'_>) -> bool
         requires { lengths.now.0 ≡ table_lengths self.now }
@@ -204,8 +205,8 @@ impl Tables {
         }
     }
 
-    /// Reads and judges the subrecords of a FIXUPP in one walk. Where none has a fault, it keeps what they set, and counts as many
-    /// items more; else it keeps nothing.
+    /// Reads and checks the subrecords of a FIXUPP in one pass. If none has a fault, keeps their threads, counts them as items, and returns
+    /// true. Otherwise keeps nothing.
     pub(super) fn pass_subrecords(&mut self, subrecords: Unread<Subrecord<'_>>) -> bool
         requires { self.old.items ≤ item_limit }
         ensures sound { result ≡ is_none (walk_fault self.old subrecords.entry.items) }

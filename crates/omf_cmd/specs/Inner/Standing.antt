@@ -1,8 +1,8 @@
--- Where a record stands in the bytes of a module.
+-- The offset of a record in the bytes of a module.
 use Rattle.std.specs.Prelude.{◌≡◌, ◌<◌, ℕ, ◌+◌, List, ◌++◌, length}
 use Rattle.omf_frame.specs.Framing.{Raw, raw_bytes}
 
--- This record stands at an offset.
+-- This record is at the offset.
 pub record StandsAt (bytes : List ℕ) (start : ℕ) (r : Raw) : Type 0 where
   pub front : List ℕ
   pub rest : List ℕ
@@ -10,6 +10,6 @@ pub record StandsAt (bytes : List ℕ) (start : ℕ) (r : Raw) : Type 0 where
   pub place : start ≡ length front
   pub short : length r.body + 1 < 65536
 
--- Some record stands there.
+-- Some record is at the offset.
 abbrev pub HasRecord : List ℕ → ℕ → Type 0
 HasRecord bytes start = (r : Raw) × StandsAt bytes start r

@@ -1,4 +1,4 @@
--- A table of given places, by module and external: it has the first of each.
+-- A table of given places by module and external: it holds the first of each.
 use Rattle.std.specs.Prelude.{◌≡◌, ℕ, List}
 use Rattle.std.specs.BTreeMap.{BTreeMap, get}
 use Rattle.std.specs.Ordering.{nat_cmp, ordering_then}

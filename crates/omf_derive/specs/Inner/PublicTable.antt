@@ -1,4 +1,4 @@
--- A table of publics by name: what it has of each name sums up the publics of that name.
+-- A table of publics by name. Its entry for a name sums up the publics with that name.
 use Rattle.std.specs.Prelude.{◌≡◌, ℕ, List, [], ◌∷◌, ◌++◌, filter_map, Option, Some, None}
 use Rattle.std.specs.Ordering.{nat_cmp}
 use Rattle.std.specs.BTreeMap.{BTreeMap, get_by}
@@ -10,21 +10,21 @@ use Rattle.omf_derive.specs.Derive.{PlacedPublic}
 use Rattle.omf_derive.specs.Inner.Derived.{of_name}
 use Rattle.omf_placement.specs.declared.frame.Placed.{Placed}
 
--- No public of a name, the one, or that there are several.
+-- No public, the only one, or several.
 abbrev pub summed : List Placed → Option Found
 summed [] = None
 summed (p ∷ []) = Some (One p.address p.frame)
 summed (p ∷ q ∷ ps) = Some Several
 
--- With one more public of the name at this place.
+-- The entry after one more public at this place.
 abbrev pub found_after : Placed → Option Found → Found
 found_after p None = One p.address p.frame
 found_after p (Some f) = Several
 
--- The table of these publics.
+-- A table holds these publics.
 abbrev pub IsTable : BTreeMap (Bor (List ℕ)) Found → List PlacedPublic → Type 0
 IsTable m among = (name : List ℕ) → get_by (λ k. slice_cmp nat_cmp name k.now) m ≡ summed (filter_map (of_name name) among)
 
--- A table has these publics more than another.
+-- The second table holds these publics in addition to those of the first.
 abbrev pub HasMore : BTreeMap (Bor (List ℕ)) Found → BTreeMap (Bor (List ℕ)) Found → List PlacedPublic → Type 0
 HasMore m n more = (among : List PlacedPublic) → IsTable m among → IsTable n (among ++ more)

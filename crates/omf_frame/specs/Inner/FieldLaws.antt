@@ -1,4 +1,4 @@
--- No spelling of a field begins another, and the shortest is one.
+-- No encoding of a field is a prefix of another, and `shortest` is an encoding.
 use Rattle.std.proofs.Common.{◌≡◌, inl, inr, ℕ, zero, suc, ◌+◌, ◌*◌, ◌/◌, ◌%◌, ◌^◌, ◌<◌, ◌≤◌, List, [], ◌∷◌, ◌++◌, length, take, refl, sym, ap, ◌∙◌, arith, cond, ltb, leb, Bool, true, false}
 use borrow.Author.Tests.{ltb-true, ltb-false, leb-true, leb-false}
 use Rattle.std.proofs.Math.Nat.{mod-lt}
@@ -9,7 +9,7 @@ use Rattle.byteorder.specs.Numbers.{little_number-reads_back, little_from-lt, le
 use Rattle.omf_frame.specs.Bytes.{AreBytes}
 use Rattle.omf_frame.specs.Fields.{IsIndex, index_bytes, IsName, IsLittle, IsCommunalLength, communal_length_bytes}
 
--- fronts of one length are one
+-- prefixes of equal length are equal
 pub same_front : {A : Type 0} (a b r s : List A) → length a ≡ length b → a ++ r ≡ b ++ s → a ≡ b
 same_front a b r s n e = sym (take_at a r (length b) n) ∙ ap (take (length b)) e ∙ take_at b s (length b) refl
 
@@ -28,7 +28,7 @@ are_bytes_low_first : (j k x : ℕ) → AreBytes (bytes_low_first j k x)
 are_bytes_low_first j zero x = are_bytes_none
 are_bytes_low_first j (suc k) x = are_bytes_cons (byte_at j x) (bytes_low_first (suc j) k x) (byte_at-lt j x) (are_bytes_low_first (suc j) k x)
 
--- k bytes, the lowest first
+-- little-endian numbers
 pub little_free : (k x y : ℕ) (a b r s : List ℕ) → IsLittle k x a → IsLittle k y b → a ++ r ≡ b ++ s → (a ≡ b) × (x ≡ y)
 little_free k x y a b r s h g e =
     let same = same_front a b r s (h.count ∙ sym g.count) e in
@@ -48,7 +48,7 @@ pub little_shortest : (k x : ℕ) (a : List ℕ) → IsLittle k x a → IsLittle
 little_shortest k x a h =
     (little_spelled k x (little_fits k x a h), omega (arith, length-bytes_low_first 0 k x, h.count))
 
--- both ways that a test may go
+-- the two results of a test
 pub by_lt : (m n : ℕ) (P : Bool → Type 0) → (m < n → P true) → (n ≤ m → P false) → P (ltb m n)
 by_lt m n P low high =
     let cases : (b : Bool) → ltb m n ≡ b → P b = elim [ true ↦ λ e. low (ltb-true m n e) | false ↦ λ e. high (ltb-false m n e) ] in
@@ -97,7 +97,7 @@ name_free x y a b r s h g e =
 pub name_shortest : (x a : List ℕ) → IsName x a → IsName x (length x ∷ x) × (length (length x ∷ x) ≤ length a)
 name_shortest x a h = ((h.0, refl), rw (h.1) (omega arith))
 
--- behind one first byte
+-- after the first byte
 communal_same : (x y p q : ℕ) (a b r s : List ℕ) → p ≡ q → a ++ r ≡ b ++ s → IsCommunalLength x (p ∷ a) → IsCommunalLength y (q ∷ b) → (a ≡ b) × (x ≡ y)
 communal_same x y p q a b r s f e (inl h) (inl g) = (h.1 ∙ sym g.1, omega arith)
 communal_same x y p q a b r s f e (inr (inl h)) (inr (inl g)) = little_free 2 x y a b r s h.1 g.1 e
@@ -116,7 +116,7 @@ communal_same x y p q a b r s f e (inr (inr (inr h))) (inl g) = absurd (omega ar
 communal_same x y p q a b r s f e (inr (inr (inr h))) (inr (inl g)) = absurd (omega arith)
 communal_same x y p q a b r s f e (inr (inr (inr h))) (inr (inr (inl g))) = absurd (omega arith)
 
--- a length of communal data
+-- a communal length
 pub communal_free : (x y : ℕ) (a b r s : List ℕ) → IsCommunalLength x a → IsCommunalLength y b → a ++ r ≡ b ++ s → (a ≡ b) × (x ≡ y)
 communal_free x y [] b r s h g e = absurd h
 communal_free x y (p ∷ a) [] r s h g e = absurd g

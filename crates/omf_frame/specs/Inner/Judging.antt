@@ -1,4 +1,4 @@
--- The faults of framing as they are computed: tests one after another. proofs/Judged.antt ties them to `standing_fault`.
+-- The framing fault as the code computes it. proofs/Judged.antt shows that it is `standing_fault`.
 use Rattle.std.specs.Prelude.{ℕ, ◌+◌, ◌*◌, ◌%◌, Bool, not, ◌||◌, ◌==◌, nat_le, if◌then◌else◌, List, [], ◌∷◌, length, sum, slice_index, Option, Some, None}
 use Rattle.std.specs.Option.{option_or}
 use Rattle.omf_frame.specs.declared.fault.Reason.{Reason}
@@ -6,7 +6,7 @@ use Rattle.omf_frame.specs.declared.fault.Reason.TheVariants.{UnknownType, Unsup
 use Rattle.omf_frame.specs.Fault.{Fault}
 use Rattle.omf_frame.specs.Framing.{is_taken, is_unsupported, is_header}
 
--- a reason, and the offset in the record
+-- a reason and an offset in the record, as a fault
 abbrev pub found : Reason × ℕ → Fault
 found f = record { within = f.1; reason = f.0 }
 
@@ -16,7 +16,7 @@ type_fault [] = None
 type_fault (t ∷ rest) =
     if is_unsupported t then Some (UnsupportedType, 0) else if is_taken t then None else Some (UnknownType, 0)
 
--- the fault of a whole record whose type is good
+-- the fault of a complete record of a supported type
 unfoldable pub whole_fault : Bool → List ℕ → Option (Reason × ℕ)
 whole_fault is_first [] = None
 whole_fault is_first (t ∷ []) = None
@@ -30,6 +30,6 @@ whole_fault is_first (t ∷ lo ∷ hi ∷ rest) =
     else if not (not is_first || is_header t) then Some (NoHeader, 0)
     else None
 
--- the first fault, as far as the bytes tell
+-- the first fault of the bytes present
 abbrev pub fault_of : Bool → List ℕ → Option (Reason × ℕ)
 fault_of is_first bytes = option_or (type_fault bytes) (whole_fault is_first bytes)

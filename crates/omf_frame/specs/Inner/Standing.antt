@@ -1,14 +1,14 @@
--- What is true of every framer.
+-- The invariant of a framer.
 use Rattle.std.specs.Prelude.{◌≡◌, ◌≤◌, ◌<◌, ℕ, ◌*◌, true, ◌==◌, is_some, [], length, None}
 use Rattle.omf_frame.specs.Framing.{standing_fault, record_len}
 use Rattle.omf_frame.specs.Framer.{Held}
 
--- The most bytes of a record: its type, its length, and what two length bytes can say.
+-- The largest size of a record in bytes.
 abbrev pub longest_record : ℕ
 longest_record = 65538
 
--- What is true of every framer whose buffer has room for so many bytes: it has no room for every record only where it has taken no
--- byte yet, or was refused its first.
+-- The invariant of a framer whose buffer has a capacity of `room` bytes. The capacity is below the largest record only before the
+-- first byte, or if memory for it was refused.
 pub record IsState (room : ℕ) (held : Held) : Type 0 where
   pub roomy : room < longest_record → (held.number ≡ 0) × (held.bytes ≡ [])
   pub bounded : held.start ≤ held.number * 65538

@@ -1,4 +1,4 @@
--- The readings of blocks.
+-- Readers of blocks.
 use Rattle.std.proofs.Common.{ℕ, zero, suc, [], arith}
 use Rattle.std.specs.Prelude.{map, ◌==◌}
 use Rattle.omf_records.specs.Layout.{le, name, checked, called, many, times}
@@ -29,7 +29,7 @@ abbrev pub block_reader : (width levels : ℕ) → Reader (block width levels)
 block_reader width zero = called_reader (checked (le width) too_deep) (λ count. Repeat count []) (deep_reader width)
 block_reader width (suc levels) = counts_reader width levels (block_reader width levels)
 
--- What is read has a byte: no block is read where no level is left.
+-- A reading that succeeds consumes a byte: with no level left none succeeds.
 never_deep : (width : ℕ) → Shrinks (deep_reader width).read
 never_deep width at bytes a e = let q = and_then_ok (le_read width at bytes) (λ a. refuse_first (too_deep a.value) at a) a e in let e2 = q.2 in absurd cc
 

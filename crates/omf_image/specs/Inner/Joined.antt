@@ -1,4 +1,4 @@
--- The runs of laid pieces, computed: each piece is joined with the runs that it touches.
+-- The runs of laid pieces, computed by joining each piece with the runs it touches.
 use Rattle.std.specs.Prelude.{ℕ, ◌+◌, ◌-◌, List, [], ◌∷◌, length, fold, true, false, ◌&&◌, ◌==◌, nat_lt, min, max, if◌then◌else◌}
 use Rattle.omf_image.specs.declared.run.Run.{Run}
 use Rattle.omf_image.specs.Overlay.{Laid}
@@ -6,11 +6,11 @@ use Rattle.omf_image.specs.Overlay.{Laid}
 abbrev pub run_end : Run → ℕ
 run_end r = r.first + r.len
 
--- the interval from the first place of both to the last
+-- the smallest interval that holds both
 abbrev pub hull : Run → Run → Run
 hull r s = record { first = min r.first s.first; len = max (run_end r) (run_end s) - min r.first s.first }
 
--- one more interval among runs in rising order
+-- runs in ascending order with one more interval
 abbrev pub join_run : Run → List Run → List Run
 join_run r [] = r ∷ []
 join_run r (s ∷ runs) = elim (nat_lt (run_end r) s.first) [

@@ -1,4 +1,4 @@
--- The length of blocks, computed without their trees. Lengths stop at 2^64 - 1: what passes it passes every limit.
+-- The length of blocks, computed without their trees. Lengths saturate at 2^64 - 1, which is above every limit.
 use Rattle.std.specs.Prelude.{ℕ, ◌+◌, ◌-◌, ◌*◌, ◌^◌, List, length, drop, min, Result, Ok, Err}
 use Rattle.omf_frame.specs.Fault.{Fault}
 use Rattle.omf_records.specs.Inner.FieldReaders.{name_read}
@@ -8,16 +8,16 @@ use Rattle.omf_image.specs.Inner.Folding.{Folded, fold_times, fold_contents, fol
 abbrev pub capped : ℕ → ℕ
 capped n = min n (2 ^ 64 - 1)
 
--- a length, and the position in the bytes after what it was read of
+-- a result with the position after it, as a reading with the rest of the bytes
 abbrev pub read_to : {A : Type 0} → List ℕ → Result (A × ℕ) Fault → Result (After A) Fault
 read_to bytes (Ok x) = Ok (after x.0 x.1 (drop x.1 bytes))
 read_to bytes (Err e) = Err e
 
--- the data of a block
+-- the length of a block's data
 abbrev pub len_data : Reading ℕ
 len_data at bytes = and_then (name_read at bytes) (λ a. Ok (after (length a.value) a.within a.rest))
 
--- the lengths of blocks
+-- the readings fold to lengths
 abbrev pub lengths : Folded ℕ
 lengths = record { none = 0; join = λ sum n. capped (sum + n); text = len_data; again = λ count n. capped (count * n) }
 

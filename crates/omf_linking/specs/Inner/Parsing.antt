@@ -1,4 +1,4 @@
--- What the steps of parsing the text of a link do.
+-- The steps of parsing the text of a link.
 use Rattle.std.specs.Prelude.{◌≡◌, ⊤, ℕ, List, [], ◌∷◌, ◌++◌, Result, Ok, Err, slice_get, Option, Some, None}
 use Rattle.omf_placement.specs.declared.fault.TextFault.{TextFault}
 use Rattle.omf_placement.specs.declared.fault.TextFault.TheVariants as fault
@@ -12,23 +12,23 @@ use Rattle.omf_linking.specs.Placing.{place_of, no_places, given_in}
 use Rattle.omf_linking.specs.declared.entry.LinkEntry.TheVariants as code
 use Rattle.omf_linking.specs.declared.entry.LinkEntry as written
 
--- a part without entries, behind a line
+-- An empty part after a line.
 abbrev pub empty_part : ℕ → Part
 empty_part n = record { line = n; draft = record { segments = []; groups = []; externals = [] }; given = [] }
 
--- the whole parts and the open one, with what one more line says
+-- The closed parts and the open one, after one more line.
 abbrev pub with_line : List Part → Part → ℕ → LinkEntry → List Part × Part
 with_line whole p n NextModule = (whole ++ p ∷ [], empty_part n)
 with_line whole p n (GivenExternal i q) = (whole, record { line = p.line; draft = p.draft; given = p.given ++ (n, (i, q)) ∷ [] })
 with_line whole p n (OfPlacement e) = (whole, record { line = p.line; draft = with_entry p.draft n e; given = p.given })
 
--- A walk over lines finds none that is stray, or the first; or memory ran out.
+-- A walk over lines finds no stray one, or the first; or memory runs out.
 abbrev pub IsStray : List ℕ → Result (Unit {0}) TextFault → Type 0
 IsStray strays (Ok done) = strays ≡ []
 IsStray strays (Err (fault.Line n)) = slice_get strays 0 ≡ Some n
 IsStray strays (Err fault.Memory) = ⊤
 
--- the place of a module by its part, if there is one, and the externals that the part of a number gives
+-- The place of a module by its part, if it has one, and the externals that it gives.
 abbrev pub place_by : List Rec → Option Part → Result Places ℕ
 place_by m None = Ok no_places
 place_by m (Some p) = place_of m p
@@ -37,7 +37,7 @@ abbrev pub given_by : ℕ → Option Part → List Given
 given_by j None = []
 given_by j (Some p) = given_in (j, p)
 
--- an entry of the code
+-- An entry of the code.
 abbrev pub seen : written.LinkEntry → LinkEntry
 seen code.Next = NextModule
 seen (code.Given i p) = GivenExternal i p

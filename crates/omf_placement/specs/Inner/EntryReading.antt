@@ -1,4 +1,4 @@
--- The entry that is said, computed.
+-- The entry on a line, computed.
 use Rattle.std.specs.Prelude.{ℕ, List, [], ◌∷◌, length, Option, Some, None, option_map, option_and_then, ◌==◌, ◌&&◌, nat_le, nat_lt, codes, if◌then◌else◌, bytes_eq}
 use Rattle.std.specs.List.{slice_split, list_all}
 use Rattle.std.specs.Char.{is_digit}
@@ -19,7 +19,7 @@ placed_of address base selector = option_and_then (λ a. option_map (λ f. recor
 abbrev pub real_of : List ℕ → Option Placed
 real_of address = option_and_then (λ a. option_map (λ f. record { address = a; frame = f }) (real_frame a)) (hexadecimal 8 address)
 
--- The entry of so many words; none where they are no entry.
+-- The entry of one to four words; none if they are no entry.
 abbrev pub one_word : List ℕ → Option Entry
 one_word [] = Some Blank
 one_word (c ∷ cs) = None
@@ -45,6 +45,6 @@ entry_of_words _ = None
 abbrev pub words_of : List ℕ → List (List ℕ)
 words_of text = slice_split (λ c. c == 32) text
 
--- What is said, as an entry.
+-- The entry of a line's text.
 abbrev pub entry_said : List ℕ → Option Entry
 entry_said text = entry_of_words (words_of text)

@@ -1,4 +1,4 @@
--- What the steps of finding a group's lowest member do.
+-- The steps of finding a group's lowest member.
 use Rattle.std.specs.Prelude.{List, Option, Some, None, option_and_then, nat_le, if◌then◌else◌}
 use Rattle.omf_records.specs.Values.{Contents, Group}
 use Rattle.omf_placement.specs.Placement.{Placed, lowest, members_placed}

@@ -1,4 +1,4 @@
--- A list begins another: what was there before is kept in front.
+-- A list is a prefix of another.
 use Rattle.std.proofs.Common.{◌≡◌, ℕ, List, [], ◌++◌, length, take, refl, sym, ap, ◌∙◌, append_assoc}
 use Rattle.std.proofs.lemmas.List.{take_at, append-nil}
 
@@ -15,6 +15,6 @@ begins_more old more new e = record { more = more; is = e }
 pub begins_then : (old mid new : List ℕ) → Begins old mid → Begins mid new → Begins old new
 begins_then old mid new a b = record { more = a.more ++ b.more; is = b.is ∙ ap (λ (x : List ℕ). x ++ b.more) a.is ∙ append_assoc old a.more b.more }
 
--- what is kept in front is all that was there
+-- the prefix is the old list
 pub begins_front : (old new : List ℕ) → Begins old new → take (length old) new ≡ old
 begins_front old new a = ap (take (length old)) a.is ∙ take_at old a.more (length old) refl

@@ -1,4 +1,4 @@
--- Items to the end, one after another: what a cursor over them does at each turn.
+-- Items to the end: the steps of a cursor over them.
 use Rattle.std.proofs.Common.{◌≡◌, ℕ, zero, suc, ◌<◌, ◌≤◌, ◌≢◌, Bool, true, false, List, [], ◌∷◌, length, Some, None, Result, Ok, Err, refl, ap, arith, is_ok, IsTrue, ◌↔◌, rules}
 use Rattle.std.specs.Prelude.{⊤}
 use Rattle.std.specs.Iterator.{MakesProgress, item_count}
@@ -19,7 +19,7 @@ abbrev pub item_at : {A : Type 0} → ℕ → After A → At A
 item_at at a = record { within = at; item = a.value }
 
 module _ {A : Type 0} (read : Reading A) (shrinks : Shrinks read) where
-  -- more than the number of the bytes changes nothing
+  -- a larger bound changes nothing
   pub each_enough : (n m at : ℕ) (bytes : List ℕ) → length bytes ≤ n → length bytes ≤ m → each_read read n at bytes ≡ each_read read m at bytes
   each_enough n m at [] hn hm = refl
   each_enough zero m at (b ∷ bytes) hn hm = absurd (omega arith)
@@ -36,7 +36,7 @@ module _ {A : Type 0} (read : Reading A) (shrinks : Shrinks read) where
   each_refused at [] f h e = absurd (h refl)
   each_refused at (b ∷ bytes) f h e = rw e refl
 
--- where bytes are left, an item is
+-- if bytes remain, so does an item
 pub each_some : {A : Type 0} (read : Reading A) (at : ℕ) (bytes : List ℕ) (xs : List (At A)) → bytes ≢ [] → each read at bytes ≡ Ok xs → 1 ≤ length xs
 each_some read at [] xs h e = absurd (h refl)
 each_some read at (b ∷ bytes) xs h e =

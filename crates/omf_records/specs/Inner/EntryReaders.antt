@@ -1,4 +1,4 @@
--- The readings of what records repeat. Each is put together as its layout in Entries.
+-- The readings of items. Each is built as its layout in Entries.
 use Rattle.std.proofs.Common.{ℕ, ◌≤◌, Bool, true, false, cond, List, [], ◌∷◌, ◌++◌, arith, inl, inr}
 use Rattle.std.specs.Prelude.{◌==◌, ◌||◌, not, nat_lt}
 use Rattle.omf_frame.specs.Fault.{reason_number}
@@ -11,7 +11,7 @@ use Rattle.omf_records.specs.Inner.FieldReaders.{name_reader, name_shrinks, inde
 use Rattle.omf_records.specs.Inner.Readers.{◌>=>◌, then_shrinks, checked_reader, checked_shrinks, choose_reader, when_reader, placed_reader, index_at, called_reader, give_reader, InOrder}
 use Rattle.omf_records.specs.Entries.{unless, wrong_component, member, external, public_item, wrong_data_type, near_size, far_size, communal_size, communal, is_frame_method, wrong_methods, reference, wrong_thread, thread, wrong_location, fixup, wrong_head, subrecord}
 
--- ---- at one place the reasons stand in the order of their numbers
+-- ---- reasons at one offset are in the order of their numbers
 
 pub one_reason : (test : Bool) (r : Reason) → InOrder (unless test r)
 one_reason true r = tt

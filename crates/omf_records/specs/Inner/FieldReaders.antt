@@ -258,7 +258,7 @@ number_shrinks false = le_shrinks 2 (omega arith)
 
 -- ---- a communal length
 
--- the number behind the mark of a length; where it does not fit, the length does not
+-- the number after the first byte of a length; if it does not fit, the length does not
 abbrev pub marked_read : ℕ → Reading ℕ
 marked_read k at bytes = if nat_lt (length bytes) k then Err (fault at reason.Short) else Ok (after (little_number k (take k bytes)) (at + suc k) (drop k bytes))
 
@@ -316,7 +316,7 @@ mark a =
       ]
     ]
 
--- what is read of each
+-- the reading of each case
 length_itself : (at a : ℕ) (bytes : List ℕ) → a ≤ 128 → length_read at (a ∷ bytes) ≡ Ok (after a (at + 1) bytes)
 length_itself at a bytes le = rw (le-leb a 128 le) refl
 

@@ -1,4 +1,4 @@
--- What the functions that read answer.
+-- The results of the functions that read.
 use Rattle.std.specs.Prelude.{◌≡◌, ℕ, ◌+◌, ◌≤◌, Bool, List, length, take, drop, Result, Ok, Err}
 use Rattle.omf_frame.specs.Fault.{Fault}
 use Rattle.omf_frame.specs.Fields.{IsUnspelled}
@@ -7,12 +7,12 @@ use Rattle.omf_records.specs.declared.here.Here.{Here}
 use Rattle.omf_records.specs.Layout.{fault}
 use Rattle.omf_records.specs.Inner.Reads.{After}
 
--- What a function answered is what reading gives, and the place that it left is in a record of the same width.
+-- The result of a function is that of the reading, and the position after it is in a record of the same width.
 abbrev pub Gives : {A : Type 0} → Bool → Result (A × Here) Fault → Result (After A) Fault → Type 0
 Gives w (Ok x) read = (read ≡ Ok (record { value = x.0; within = x.1.within; rest = x.1.bytes.now })) × (x.1.wide ≡ w)
 Gives w (Err e) read = read ≡ Err e
 
--- What a function answered is a field that is spelled at the front, or Short where none is.
+-- The result of a function is the field at the front, or Short if there is none.
 abbrev pub GivesField : {A : Type 0} → (A → List ℕ → Type 0) → Bool → ℕ → List ℕ → Result (A × Here) Fault → Type 0
 GivesField spells w at bytes (Ok x) =
     (n : ℕ) × (n ≤ length bytes) × spells x.0 (take n bytes) × (x.1.within ≡ at + n) × (x.1.bytes.now ≡ drop n bytes) × (x.1.wide ≡ w)

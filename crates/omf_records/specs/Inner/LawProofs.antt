@@ -1,5 +1,6 @@
 -- The proofs of the laws of typed records.
-use Rattle.std.proofs.Common.{◌≡◌, ℕ, List, [], ◌∷◌, Result, Ok, Err, refl, sym, ap, subst, ◌∙◌}
+use Rattle.std.proofs.Common.{◌≡◌, ℕ, zero, suc, List, [], ◌∷◌, Result, Ok, Err, refl, sym, ap, subst, ◌∙◌, arith}
+use Rattle.std.specs.Prelude.{Contains}
 use Rattle.omf_frame.specs.Fault.{Fault}
 use Rattle.omf_frame.specs.Framing.{Raw}
 use Rattle.omf_records.specs.Values.{Rec, Contents}
@@ -22,7 +23,7 @@ unique r s body k p q =
 pub meet : ReadingsMeet
 meet kind body h = whole_meets (contents_whole kind) 3 body h
 
--- what is read of a record's contents
+-- the reading of encoded contents
 given : (r : Raw) (c : Contents) → (contents r.kind).Spells 3 r.body c → read_body r.kind r.body ≡ Ok c
 given r c sp = (contents_whole r.kind).again 3 r.body c sp
 
@@ -50,15 +51,16 @@ are_typed r t k p =
       none_when_read (read_body r.kind r.body) t.contents e,
     )
 
-fault_when_one : (q : Result Contents Fault) (f : Fault) → fault_list q ≡ f ∷ [] → q ≡ Err f
-fault_when_one (Ok c) f e = absurd cc
-fault_when_one (Err g) f e = cc
+-- the fault that a reading reports
+reported : (q : Result Contents Fault) (f : Fault) → Contains (fault_list q) f → q ≡ Err f
+reported (Ok c) f (k, low, is) = absurd (omega (arith, low))
+reported (Err g) f (zero, low, is) = ap (λ (x : Fault). Err x) is
+reported (Err g) f (suc k, low, is) = absurd (omega (arith, low))
 
 pub least_of_faults : FaultsAreLeast
 least_of_faults r f h e =
     let m = meet r.kind r.body h in
-    let is = fault_when_one (read_body r.kind r.body) f e in
-    let n = subst (λ (q : Result Contents Fault). Meets (contents r.kind) 3 r.body q) is m in
+    let n = subst (λ (q : Result Contents Fault). Meets (contents r.kind) 3 r.body q) (reported (read_body r.kind r.body) f e) m in
     (n.faulty, n.first)
 
 pub stand_behind : FaultsStandBehind

@@ -1,4 +1,4 @@
--- Subrecords, and the reasons that functions answer, as the specification has them.
+-- Subrecords and reasons of the code, as those of the specification.
 use Rattle.std.specs.Prelude.{List, [], ◌∷◌, Option, Some, None}
 use Rattle.omf_frame.specs.declared.fault.Reason.{Reason}
 use Rattle.omf_records.specs.declared.subrecord.Part.{Part}

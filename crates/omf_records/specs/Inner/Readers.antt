@@ -1,4 +1,4 @@
--- The readings of layouts that are put together from others.
+-- The readings of the layout combinators.
 use Rattle.std.proofs.Common.{◌≡◌, ℕ, zero, suc, ◌+◌, ◌<◌, ◌≤◌, inl, inr, Bool, true, false, cond, List, [], ◌∷◌, ◌++◌, length, Some, None, Result, Ok, Err, refl, sym, ap, subst, ◌∙◌, append_assoc, arith, add-zero}
 use Rattle.std.specs.Prelude.{⊤}
 use Rattle.std.proofs.lemmas.List.{length-append}
@@ -76,7 +76,7 @@ module _ {A B : Type 0} (p : Layout A) (f : A → Layout B) (behind : Behind p) 
   then_behind at bytes e (inl q) = behind at bytes e q
   then_behind at bytes e (inr (front, back, x, parts, sp, q)) = omega (arith, behinds x (at + length front) back e q)
 
--- What comes after a field stands further right than the field, so a fault of the field comes first.
+-- The fields after a field are further right, so a fault of the field comes first.
 pub hidden_right : {A B : Type 0} (p : Layout A) (f : A → Layout B) (r : Reader p) → Shrinks r.read → ((x : A) → Behind (f x))
     → (at : ℕ) (front back : List ℕ) (x : A) (e : Fault) → p.Spells at front x → (f x).Faults (at + length front) back e → at < e.within
 hidden_right p f r shrinks behinds at front back x e sp q =
@@ -98,7 +98,7 @@ abbrev pub ◌>=>◌ : {A B : Type 0} {p : Layout A} {f : A → Layout B} → Re
   falls = then_falls p f r s;
 }
 
--- ---- nothing more to read
+-- ---- no bytes
 
 abbrev pub done : {A : Type 0} → A → Result A Fault
 done x = Ok x
@@ -122,7 +122,7 @@ module _ {A : Type 0} (x : A) where
   abbrev pub give_reader : Reader (give x)
   give_reader = record { read = λ at bytes. Ok (after x at bytes); ok = give_ok; again = give_again; err = give_err; refuses = give_refuses; behind = λ at bytes e q. absurd q; falls = give_falls }
 
--- ---- a field with its place
+-- ---- a field with its offset
 
 abbrev pub at_place : {A : Type 0} → ℕ → After A → After (At A)
 at_place at a = after (record { within = at; item = a.value }) a.within a.rest
@@ -170,15 +170,15 @@ module _ {A : Type 0} (p : Layout A) (r : Reader p) where
       let is : at_place at q.0 ≡ b = let e2 = q.2 in cc in
       subst (λ (x : After (At A)). length x.rest < length bytes) is h
 
--- an index and its place
+-- an index and its offset
 abbrev pub index_at : Reader (with_place index)
 index_at = placed_reader index index_reader
 
--- a number of a record's width and its place
+-- a number of the record's width and its offset
 abbrev pub number_at : (wide : Bool) → Reader (with_place (number_of wide))
 number_at wide = placed_reader (number_of wide) (number_reader wide)
 
--- ---- a field some of whose values are refused
+-- ---- a field with refused values
 
 abbrev pub refuse_first : {A : Type 0} → List Reason → ℕ → A → Result A Fault
 refuse_first [] at a = Ok a
@@ -297,7 +297,7 @@ module _ {A : Type 0} (p q : Layout A) (r : Reader p) (s : Reader q) where
   abbrev pub choose_reader : (b : Bool) → Reader (choose b p q)
   choose_reader b = record { read = choose_read b; ok = choose_ok b; again = choose_again b; err = choose_err b; refuses = choose_refuses b; behind = choose_behind b; falls = choose_falls b }
 
--- ---- a value by another name
+-- ---- a function of the value
 
 abbrev pub renamed : {A B : Type 0} → (A → B) → After A → After B
 renamed f a = after (f a.value) a.within a.rest
@@ -348,7 +348,7 @@ abbrev pub times_reader : {A : Type 0} (n : ℕ) (p : Layout A) → Reader p →
 times_reader zero p r = give_reader []
 times_reader (suc n) p r = r >=> λ x. times_reader n p r >=> λ xs. give_reader (x ∷ xs)
 
--- ---- all the bytes that are left
+-- ---- all remaining bytes
 
 abbrev pub taken_whole : List ℕ → Result (List ℕ) Fault
 taken_whole bytes = Ok bytes
@@ -368,7 +368,7 @@ rest_refuses at bytes f h q = absurd q
 abbrev pub rest_whole : Whole rest
 rest_whole = record { read = λ at bytes. taken_whole bytes; ok = rest_ok; again = rest_again; err = rest_err; refuses = rest_refuses; behind = λ at bytes e q. absurd q }
 
--- ---- nothing may be left
+-- ---- no bytes, and none may remain
 
 module _ {A : Type 0} (x : A) where
   abbrev pub ends_read : ℕ → List ℕ → Result A Fault
@@ -487,7 +487,7 @@ module _ {A : Type 0} (p q : Layout A) (r : Whole p) (s : Whole q) where
   abbrev pub choose_whole : (b : Bool) → Whole (choose b p q)
   choose_whole b = record { read = choose_whole_read b; ok = choose_whole_ok b; again = choose_whole_again b; err = choose_whole_err b; refuses = choose_whole_refuses b; behind = choose_whole_behind b }
 
--- one of two layouts, by a test that is known
+-- one of two layouts, by a literal test
 abbrev pub either_whole : {A : Type 0} {p q : Layout A} (b : Bool) → Whole p → Whole q → Whole (either b p q)
 either_whole true r s = r
 either_whole false r s = s

@@ -1,4 +1,4 @@
--- What contents spell, or the least of their faults: the layouts of Records, computed. The contents begin at offset 3.
+-- Reading contents: the layouts of Records, computed. Contents begin at offset 3.
 use Rattle.std.specs.Prelude.{ℕ, List, [], ◌∷◌, Result, Ok, Err}
 use Rattle.omf_frame.specs.Fault.{Fault}
 use Rattle.omf_frame.specs.Framing.{Raw}
@@ -8,7 +8,7 @@ use Rattle.omf_records.specs.Inner.RecordReaders.{contents_whole}
 abbrev pub read_body : ℕ → List ℕ → Result Contents Fault
 read_body kind body = (contents_whole kind).read 3 body
 
--- The fault of layout of a record, if it has one, and its contents; a body with a fault is kept as it is.
+-- The layout fault of a record, if it has one, and its contents; contents with a fault are kept as bytes.
 abbrev pub fault_list : Result Contents Fault → List Fault
 fault_list (Ok c) = []
 fault_list (Err f) = f ∷ []

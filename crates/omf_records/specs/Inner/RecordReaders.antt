@@ -1,4 +1,4 @@
--- The readings of contents. Each is put together as its layout in Records.
+-- The readings of contents. Each is built as its layout in Records.
 use Rattle.std.proofs.Common.{ℕ, Bool}
 use Rattle.std.specs.Prelude.{◌==◌, ◌||◌, not, nat_lt, ◌++◌}
 use Rattle.omf_frame.specs.Bytes.{is_one_of}

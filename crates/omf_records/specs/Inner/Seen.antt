@@ -1,4 +1,4 @@
--- A record as the specification has it.
+-- A record of the code, as one of the specification.
 use Rattle.std.specs.Prelude.{ℕ, ◌+◌, Bool, if◌then◌else◌, Result, Ok, Err}
 use Rattle.omf_records.specs.declared.record.Rec.{Rec as CodeRec}
 use Rattle.omf_records.specs.declared.record.Rec.TheVariants as code
@@ -46,7 +46,7 @@ kind_seen (code.LocalPublics wide group segment frame publics) = odd_if wide 0xB
 kind_seen (code.LocalCommunals items) = 0xB8
 kind_seen (code.Carried kind bytes) = kind
 
--- the typed record that a record is
+-- the typed record of a record of the code
 abbrev pub rec_seen : CodeRec → Rec
 rec_seen r = record { kind = kind_seen r; contents = contents_seen r }
 

@@ -1,4 +1,4 @@
--- Steps of the proofs about readings, which say nothing of layouts.
+-- Lemmas for the proofs about readings.
 use Rattle.std.proofs.Common.{◌≡◌, ℕ, zero, suc, ◌≤◌, ◌⊎◌, inl, inr, Bool, true, false, cond, List, [], ◌∷◌, ◌++◌, take, drop, Result, Ok, Err, refl, sym, subst, arith}
 use Rattle.std.specs.Prelude.{IsTrue, nat_lt}
 use Rattle.std.proofs.lemmas.Bool.{eq-eqb, le-leb, or_right, and_from}
@@ -45,7 +45,7 @@ AreBytes-rest bytes front rest e h = AreBytes-back front rest (subst AreBytes e 
 pub AreBytes-take : (n : ℕ) (bytes : List ℕ) → AreBytes bytes → AreBytes (take n bytes)
 AreBytes-take n bytes h = AreBytes-front (take n bytes) (drop n bytes) (subst AreBytes (sym (take-append-drop n bytes)) h)
 
--- at one place the smaller number stands first
+-- at one offset the smaller number comes first
 pub before_here : (e f : Fault) → e.within ≡ f.within → reason_number e.reason ≤ reason_number f.reason → IsTrue (is_before e f)
 before_here e f same le = or_right (nat_lt e.within f.within) _ (and_from _ _ (eq-eqb e.within f.within same) (le-leb _ _ le))
 

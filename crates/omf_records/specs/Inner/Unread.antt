@@ -1,25 +1,25 @@
--- Items whose spelling is judged as they are read.
+-- Items that are checked as they are read.
 use Rattle.std.specs.Prelude.{◌≡◌, ◌<◌, ℕ, List, [], Bool, true, is_ok, Option, Some, None, Result, Ok, Err}
 use Rattle.omf_frame.specs.Fault.{Fault}
 use Rattle.omf_records.specs.Values.{At, Subrecord, Contents, Fixups}
 use Rattle.omf_records.specs.Inner.Reads.{and_then}
 use Rattle.omf_records.specs.Inner.Each.{with_first}
 
--- the items that are still to come or the first fault among them, and how many bytes they have
+-- the remaining items or the first fault among them, and the number of their bytes
 pub record Pending (A : Type 0) : Type 0 where
   pub items : Result (List (At A)) Fault
   pub size : ℕ
 
--- what is read next: the first item, in front of the others; or their end, or the fault, and then all is as it was
+-- the next reading: the first item, before the others; or the end, or the fault, and then nothing changes
 abbrev pub NextGives : {A : Type 0} → Pending A → Result (Option (At A)) Fault → Pending A → Type 0
 NextGives old (Ok None) new = (old.items ≡ Ok []) × (new ≡ old)
 NextGives old (Ok (Some x)) new = (old.items ≡ with_first x new.items) × (new.size < old.size)
 NextGives old (Err f) new = (old.items ≡ Err f) × (new ≡ old)
 
--- the contents that subrecords are
+-- contents from subrecords
 abbrev pub fixups_read : Result (List (At Subrecord)) Fault → Result Contents Fault
 fixups_read r = and_then r (λ subs. Ok (Fixups subs))
 
--- what is said to be known to have no fault has none
+-- if `known`, the result has no fault
 abbrev pub IsKnown : {A : Type 0} → Bool → Result A Fault → Type 0
 IsKnown known r = known ≡ true → is_ok r ≡ true

@@ -1,4 +1,4 @@
--- The code's pieces, as the definitions have them.
+-- The pieces of the code as pieces of the definitions.
 use Rattle.std.specs.Prelude.{[], ◌∷◌, Option, option_map}
 use Rattle.omf_frame.specs.declared.fault.Place.{Place}
 use Rattle.omf_records.specs.Inner.Seen.{rec_seen}

@@ -1,4 +1,4 @@
--- The pieces of a module, one after another and one fixup at a time, each at its place: what an iterator gives that has the threads in force at hand.
+-- The pieces of a module in order, one fixup at a time and each at its place, as an iterator gives them that keeps the threads in force.
 use Rattle.std.specs.Prelude.{ℕ, List, [], ◌∷◌, ◌++◌, map, flat_map, filter_map, Option, Some, None, option_map, IsSome, ⊤}
 use Rattle.omf_frame.specs.declared.fault.Place.{Place}
 use Rattle.omf_records.specs.Values.{At, Rec, alone, Contents, Fixups, ModEnd, Subrecord, Thread, Fixup, Reference}
@@ -17,7 +17,7 @@ one_by_one (End kind byte start) = End kind byte start ∷ []
 abbrev pub single_pieces : List Rec → List Piece
 single_pieces m = flat_map one_by_one (pieces m)
 
--- Where the references of a piece stand: the numbers of their record, and their offsets in it.
+-- The places of a piece's references: the number of the record, and the offset in it.
 abbrev pub references_at : Place → Piece → List (ℕ × ℕ)
 references_at at (Kept r) = []
 references_at at (Fixed kind fixups) = map (λ f. (at.number, at.within)) fixups
@@ -27,7 +27,7 @@ references_at at (End kind byte (Some r)) = (at.number, at.within) ∷ []
 abbrev pub reference_places : List (Place × Piece) → List (ℕ × ℕ)
 reference_places ps = flat_map (λ p. references_at p.0 p.1) ps
 
--- What each subrecord gives, by the threads in force at it: a fixup at its first byte, a THREAD nothing.
+-- The step of each subrecord, by the threads in force there: a fixup, at its first byte; nothing for a THREAD.
 abbrev pub subrecord_step : Threads → Place → ℕ → ℕ → Subrecord → Option (Place × Piece)
 subrecord_step threads at kind within (Thread byte datum) = None
 subrecord_step threads at kind within (Fixup locat r) = Some (record at { within = within }, Fixed kind (plain_fixup_by threads locat r ∷ []))
@@ -36,12 +36,12 @@ abbrev pub subrecord_steps : Threads → Place → ℕ → List (At Subrecord) �
 subrecord_steps threads at kind [] = []
 subrecord_steps threads at kind (s ∷ subs) = subrecord_step threads at kind s.within s.item ∷ subrecord_steps (set_thread threads s.item) at kind subs
 
--- Where a MODEND stands: at its type byte, or at the fix data byte of its start.
+-- The place of a MODEND: its type byte, or the fix data byte of its start.
 abbrev pub end_at : Place → Option Reference → Place
 end_at at None = at
 end_at at (Some r) = record at { within = r.fix.within }
 
--- What each record gives: a FIXUPP nothing but what its subrecords give.
+-- The steps of each record. A FIXUPP gives only the steps of its subrecords.
 abbrev pub contents_steps : Threads → Place → ℕ → Contents → List (Option (Place × Piece))
 contents_steps threads at kind (Fixups subs) = None ∷ subrecord_steps threads at kind subs
 contents_steps threads at kind (ModEnd byte start) = Some (end_at at start, End kind (end_byte byte) (option_map (plain_by threads) start)) ∷ []
@@ -51,7 +51,7 @@ abbrev pub steps_from : Threads → List (Place × Rec) → List (Option (Place 
 steps_from threads [] = []
 steps_from threads (x ∷ xs) = contents_steps threads x.0 x.1.kind x.1.contents ++ steps_from (threads_after threads x.1.contents) xs
 
--- A FIXUPP some of whose subrecords are still to come.
+-- A FIXUPP with subrecords left to read.
 pub record OpenFixups : Type 0 where
   pub place : Place
   pub kind : ℕ
@@ -65,7 +65,7 @@ abbrev pub threads_behind : Threads → Option OpenFixups → Threads
 threads_behind threads None = threads
 threads_behind threads (Some o) = set_threads threads o.left
 
--- What is still to come of the FIXUPP that is open, and of the records after it; and the pieces among it.
+-- The steps left: those of the FIXUPP being read, then those of the records after it. And the pieces among the steps.
 abbrev pub steps_left : Threads → Option OpenFixups → List (Place × Rec) → List (Option (Place × Piece))
 steps_left threads o xs = open_steps threads o ++ steps_from (threads_behind threads o) xs
 
@@ -75,7 +75,7 @@ given steps = filter_map (λ s. s) steps
 abbrev pub placed_pieces : List (Place × Rec) → List (Place × Piece)
 placed_pieces xs = given (steps_from no_threads xs)
 
--- Each thread that is named is set where it is named.
+-- Each thread that a reference names is set at that point.
 pub record IsSet (threads : Threads) (r : Reference) : Type 0 where
   pub frame : IsSome (frame_cell threads r)
   pub target : IsSome (target_cell threads r)

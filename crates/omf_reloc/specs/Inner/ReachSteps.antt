@@ -1,5 +1,5 @@
--- What each step of a walk over a module's pieces judges of a placement, and what it may rely on. Private functions speak in these words; the public one
--- says what is judged by its definition (Reach), and a law says that the faults of the steps, one after another, are those (FaultsAreWalked).
+-- The steps of a walk over a module's pieces that checks a placement, and what each step may rely on. Only private functions use these
+-- definitions; the contract of the public function uses Reach, and the law FaultsAreWalked shows that both give the same faults.
 use Rattle.std.specs.Prelude.{◌≡◌, ⊤, ℕ, List, [], ◌∷◌, ◌++◌, length, true, Option, Some, None, option_map, option_to_list, flat_map}
 use Rattle.std.specs.List.{enumerate_from}
 use Rattle.omf_frame.specs.declared.fault.Place.{Place}
@@ -16,7 +16,7 @@ use Rattle.omf_reloc.specs.Placed.{HasPlaces}
 use Rattle.omf_placement.specs.Placement.{Places}
 use Rattle.omf_reloc.specs.Plain.{Piece, Kept, Fixed, End}
 
--- The faults of the counts; and those of absolute segments, of which the first has this index.
+-- The faults of the counts, and those of absolute segments, the first of which has this index.
 abbrev pub miscounts : Places → List Rec → List ReachFault
 miscounts pl m =
     missing kinds.Segment (length (segments m)) (length pl.segments)
@@ -29,7 +29,7 @@ miscounts pl m =
 abbrev pub misplaced_from : Places → ℕ → List SegInfo → List ReachFault
 misplaced_from pl k infos = flat_map (λ s. misplaced pl s.0 s.1.absolute) (enumerate_from k infos)
 
--- The segment and the offset of the last data record, if there is one, after one more record; and after one more piece.
+-- The segment and the offset of the last data record, if there is one, after one more record, and after one more piece.
 abbrev pub data_place : Contents → Option (ℕ × ℕ) → Option (ℕ × ℕ)
 data_place (Plain d) old = Some (d.segment.item, d.offset.item)
 data_place (Iterated d) old = Some (d.segment.item, d.offset.item)
@@ -40,7 +40,7 @@ place_behind (Kept r) old = data_place r.contents old
 place_behind (Fixed kind fixups) old = old
 place_behind (End kind byte start) old = old
 
--- Why a piece of one fixup at most does not reach, after a data record that lies at an offset of a segment.
+-- Why a piece with at most one fixup does not reach, if it does not. The last data record before it is at this offset of this segment.
 abbrev pub piece_cause : Places → Option (ℕ × ℕ) → Piece → Option Cause
 piece_cause pl place (Kept r) = None
 piece_cause pl None (Fixed kind fixups) = None
@@ -49,7 +49,8 @@ piece_cause pl (Some p) (Fixed kind (f ∷ fixups)) = cause_of (outcome_at pl p.
 piece_cause pl place (End kind byte None) = None
 piece_cause pl place (End kind byte (Some r)) = cause_of (start_offset pl kind r)
 
--- A reference that stands there in the record of this number, where it does not reach; and all of those among the pieces from one on.
+-- The fault of a reference at an offset of the record with this number, if it does not reach; and all such faults of the pieces from one
+-- on.
 abbrev pub far_at : ℕ → ℕ → Option Cause → List ReachFault
 far_at number within c = option_to_list (option_map (λ x. fault.TooFar number within x) c)
 
@@ -57,7 +58,8 @@ abbrev pub pieces_far : Places → Option (ℕ × ℕ) → List (Place × Piece)
 pieces_far pl place [] = []
 pieces_far pl place (x ∷ xs) = far_at x.0.number x.0.within (piece_cause pl place x.1) ++ pieces_far pl (place_behind x.1 place) xs
 
--- A piece can be judged: a fixup has data before it, whose segment the placement has, and the placement has the places that its reference names.
+-- A piece can be checked: a fixup follows a data record whose segment has an entry in the placement, and so has all that its reference
+-- names.
 abbrev pub CanJudge : Places → Option (ℕ × ℕ) → Piece → Type 0
 CanJudge pl place (Kept r) = ⊤
 CanJudge pl None (Fixed kind fixups) = ⊥
@@ -66,7 +68,7 @@ CanJudge pl (Some p) (Fixed kind (f ∷ fixups)) = (is_defined (length pl.segmen
 CanJudge pl place (End kind byte None) = ⊤
 CanJudge pl place (End kind byte (Some r)) = HasPlaces pl 0 r
 
--- So can all pieces from one on.
+-- All pieces from one on can be checked.
 abbrev pub CanJudgeAll : Places → Option (ℕ × ℕ) → List Piece → Type 0
 CanJudgeAll pl place [] = ⊤
 CanJudgeAll pl place (p ∷ ps) = CanJudge pl place p × CanJudgeAll pl (place_behind p place) ps

@@ -1,4 +1,4 @@
--- What the code's additions stand for.
+-- The additions of the code as additions of the definitions.
 use Rattle.std.specs.Prelude.{List, ◌∷◌, Option, option_map}
 use Rattle.std.specs.Option.{option_to_list}
 use Rattle.omf_image.specs.Parts.{Addition}

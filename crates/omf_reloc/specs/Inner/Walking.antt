@@ -1,5 +1,5 @@
--- References by the threads in force; and what each step of a walk over a module's pieces makes of the image and of the data record that is open. Private
--- functions speak in these words; public ones say what the image is by its definition.
+-- References resolved by the threads in force, and the steps of a walk over a module's pieces: the image so far and the last data record.
+-- Only private functions use these definitions; the contracts of public functions use the definition of the image.
 use Rattle.std.specs.Prelude.{◌≡◌, ◌≤◌, ◌+◌, ◌^◌, ⊤, ℕ, List, [], ◌∷◌, length, Option, Some, option_map, option_to_list, unwrap_or, IfSome, IsOk}
 use Rattle.omf_records.specs.Location.{location_size}
 use Rattle.omf_records.specs.Values.{Rec, Contents, Plain, Iterated, Fixups, Reference, width, location_type, location_offset}
@@ -18,7 +18,7 @@ use Rattle.omf_reloc.specs.Placed.{HasPlaces}
 use Rattle.omf_placement.specs.Placement.{Places}
 use Rattle.omf_reloc.specs.Plain.{Piece, Kept, Fixed, End, PlainFixup}
 
--- A reference without threads, by the threads in force.
+-- A reference resolved by the threads in force.
 abbrev pub plain_by : Threads → Reference → PlainReference
 plain_by threads r = record {
   frame = unwrap_or (frame_cell threads r) F5;
@@ -34,32 +34,32 @@ abbrev pub threads_after : Threads → Contents → Threads
 threads_after threads (Fixups subs) = set_threads threads subs
 threads_after threads _ = threads
 
--- And after all of these.
+-- The threads in force after all of these records.
 abbrev pub threads_through : Threads → List Rec → Threads
 threads_through threads [] = threads
 threads_through threads (r ∷ rs) = threads_through (threads_after threads r.contents) rs
 
--- Data with what a fixup adds at its location, in a FIXUPP of this type.
+-- The last data record after a fixup, in a FIXUPP of this type, is applied to it.
 abbrev pub with_fixup : Places → ℕ → PlainFixup → Laid → Laid
 with_fixup pl kind f l = record l { bytes = added (location_offset f.locat) (outcome_at pl l.segment l.offset (kind, f)) l.bytes }
 
--- A fixup can be added: its location lies inside the data.
+-- A fixup can be applied: its location is inside the data.
 abbrev pub CanAdd : PlainFixup → Laid → Type 0
 CanAdd f l = location_offset f.locat + location_size (location_type f.locat) ≤ length l.bytes
 
--- Where the data record that is open lies: its segment, and its offset there.
+-- The segment and the offset of the last data record.
 abbrev pub laid_place : Laid → ℕ × ℕ
 laid_place l = (l.segment, l.offset)
 
 abbrev pub open_place : Option Laid → Option (ℕ × ℕ)
 open_place l = option_map laid_place l
 
--- The image so far, and the data record that is open.
+-- The image of the data records before the last, and the last data record.
 pub record Walk : Type 0 where
   pub image : List Laid
   pub open_data : Option Laid
 
--- A data record closes the open one, which is laid, and is open itself.
+-- A data record lays the one before it and becomes the last one.
 abbrev pub closed_by : Contents → Option Laid → List Laid
 closed_by (Plain d) l = option_to_list l
 closed_by (Iterated d) l = option_to_list l
@@ -70,7 +70,7 @@ opened_by kind (Plain d) l = Some (record { segment = d.segment.item; offset = d
 opened_by kind (Iterated d) l = Some (record { segment = d.segment.item; offset = d.offset.item; bytes = expanded (width kind) profile_limits d.bytes })
 opened_by kind _ l = l
 
--- So does a piece, of which a FIXUPP has one fixup, that is added to the open one.
+-- The same for a piece. A FIXUPP here has one fixup, which is applied to the last data record.
 abbrev pub closed : Piece → Option Laid → List Laid
 closed (Kept r) l = closed_by r.contents l
 closed (Fixed kind fixups) l = []
@@ -82,12 +82,13 @@ opened pl (Fixed kind []) l = l
 opened pl (Fixed kind (f ∷ fixups)) l = option_map (with_fixup pl kind f) l
 opened pl (End kind byte start) l = l
 
--- One piece more.
+-- The walk after one more piece.
 pub record IsNext (pl : Places) (p : Piece) (old new : Walk) : Type 0 where
   pub image : AreLaidOver old.image (closed p old.open_data) new.image
   pub open_data : new.open_data ≡ opened pl p old.open_data
 
--- A piece can be walked over: what is open has offsets of 32 bits; the blocks of an LIDATA expand; a fixup can be added to what is open.
+-- A piece can be taken: the last data record's offsets have 32 bits, the blocks of an LIDATA expand, and a fixup can be applied to the last
+-- data record.
 abbrev pub HasOffsets : Laid → Type 0
 HasOffsets l = l.offset + length l.bytes ≤ 2 ^ 32
 
@@ -109,7 +110,7 @@ pub record CanWalk (p : Piece) (w : Walk) : Type 0 where
   pub offsets : IfSome w.open_data HasOffsets
   pub piece : CanTake p w.open_data
 
--- A start can be given: the placement has the places that it needs, and it reaches.
+-- A start has an address: the placement has the entries that it names, and it reaches.
 pub record HasStart (pl : Places) (kind : ℕ) (r : PlainReference) : Type 0 where
   pub places : HasPlaces pl 0 r
   pub reaches : IsOk (start_offset pl kind r)

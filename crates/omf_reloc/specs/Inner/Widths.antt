@@ -1,7 +1,7 @@
--- The types of the records that references stand in, and the bits of their numbers, by whether they are wide.
+-- The types of records with references, and the widths of their numbers, by whether they are the 32-bit form.
 use Rattle.std.specs.Prelude.{ℕ, Bool, if◌then◌else◌}
 
--- The type of a FIXUPP, and of a MODEND, by whether it is the wide one.
+-- The type of a FIXUPP and of a MODEND, by whether it is the 32-bit form.
 abbrev pub fixupp_type : Bool → ℕ
 fixupp_type is_wide = if is_wide then 0x9D else 0x9C
 

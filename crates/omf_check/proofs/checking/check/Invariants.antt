@@ -3,7 +3,7 @@ use Rattle.std.specs.Io.KnownBytes.{Consumes}
 use Rattle.omf_check.specs.Session.{IsOpen}
 use Rattle.omf_check.proofs.checking.check.Given as goal
 
--- the session has all that was read
+-- the session has all bytes read
 abbrev pub invariant-loop-buffer : goal.invariant-loop-buffer
 invariant-loop-buffer g l = record {
   is_open : IsOpen l.session;

@@ -2,7 +2,7 @@ use Rattle.std.proofs.Common.{length}
 use Rattle.omf_check.proofs.LastLaws.{IsLeft}
 use Rattle.omf_check.proofs.records.last_record.Given as goal
 
--- what is left ends with the same record
+-- the remaining bytes end with the same record
 abbrev pub invariant-loop-rest : goal.invariant-loop-rest
 invariant-loop-rest l = IsLeft l.bytes l.left
 

@@ -7,7 +7,7 @@ use Rattle.omf_check.specs.Module.{Module, records_in, typed_modules}
 use Rattle.omf_check.specs.WellFormed.{recs}
 use Rattle.omf_placement.specs.Placement.{Places}
 use Rattle.omf_layout.specs.Layout.{Laid}
-use Rattle.omf_arrange.specs.Laying.{laid}
+use Rattle.omf_layout.specs.Several.Laying.{laid}
 use Rattle.omf_draft.specs.Reading.{HasEntries, IsReadBack}
 use Rattle.omf_draft.proofs.DraftLaws.{link-text-read}
 use Rattle.omf_draft.proofs.PlacesLaws.{all-have}

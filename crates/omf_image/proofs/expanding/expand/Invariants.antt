@@ -4,7 +4,7 @@ use Rattle.omf_image.specs.Inner.Lengths.{capped}
 use Rattle.omf_image.specs.Inner.Copying.{bytes_block, bytes_all}
 use Rattle.omf_image.proofs.expanding.expand.Given as goal
 
--- the blocks that are left, after those that were written, are all the blocks
+-- the blocks written and the remaining ones are all the blocks
 abbrev pub invariant-loop-pos : goal.invariant-loop-pos
 invariant-loop-pos l = record {
   inside : l.pos ≤ length l.source.bytes.now;

@@ -9,7 +9,7 @@ decreases-contents_len l = 2 * l.levels + 1
 abbrev pub decreases-block_len : goal.decreases-block_len
 decreases-block_len l = 2 * l.levels
 
--- the blocks that are left, after those that were read, are all the blocks
+-- the blocks read and the remaining ones are all the blocks
 abbrev pub invariant-contents_len-loop : goal.invariant-contents_len-loop
 invariant-contents_len-loop l = record {
   from : l.start ≤ l.end;

@@ -3,7 +3,7 @@ use Rattle.omf_image.specs.Blocks.{count_size}
 use Rattle.omf_image.specs.Inner.Lengths.{len_block, len_all}
 use Rattle.omf_image.proofs.length.blocks_len.Given as goal
 
--- the blocks that are left, after those that were counted, are all the blocks
+-- the blocks counted and the remaining ones are all the blocks
 abbrev pub invariant-loop-pos : goal.invariant-loop-pos
 invariant-loop-pos l = record {
   inside : l.pos ≤ length l.bytes;

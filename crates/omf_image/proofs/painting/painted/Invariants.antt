@@ -5,7 +5,7 @@ use Rattle.omf_image.specs.Overlay.{AreLaidOver}
 use Rattle.omf_image.specs.Painting.{all_zeros, Fits}
 use Rattle.omf_image.proofs.painting.painted.Given as goal
 
--- what was laid, with what is still to be laid, is zeros over the intervals so far
+-- the zeros laid, with those still to be laid, cover the intervals so far
 abbrev pub invariant-loop-next : goal.invariant-loop-next
 invariant-loop-next l = record {
   fits : IfSome l.last Fits;

@@ -2,7 +2,7 @@ use Rattle.std.proofs.Common.{◌≡◌, ◌∙◌, ap, length, sym, subst, rule
 use Rattle.std.specs.Prelude.{All, string_bytes}
 use Rattle.omf_check.specs.Module.{records_in}
 use Rattle.omf_check.specs.WellFormed.{recs}
-use Rattle.omf_layout.proofs.FitLaws.{segment-count, group-count, external-count, alignment-count, room-count, layouts-fit}
+use Rattle.omf_layout.proofs.FitLaws.{segment-count, group-count, external-count, alignment-count, room-count}
 use Rattle.omf_layout.proofs.ReadLaws.{drafts-are-read}
 use Rattle.omf_layout.specs.Draft.{draft_text}
 use Rattle.omf_layout.specs.Reading.{IsReadBack, IsShortFrame, IsShortPlace}
@@ -34,6 +34,3 @@ returns-clause-read c =
       groups = subst (λ pl. All IsShortFrame pl.groups) c.placement-placement.ensures c.in_ok-print_groups.ensures.short;
       externals = c.in_ok-print_externals.ensures.short;
     }))
-
-pub returns-clause-fits : goal.returns-clause-fits
-returns-clause-fits c = layouts-fit c.args.options (recs (records_in c.args.«module».now.bytes)) c.args.layout.now c.requires

@@ -2,7 +2,7 @@ use Rattle.std.proofs.Common.{◌≡◌, ◌≤◌, ◌^◌, drop}
 use Rattle.omf_layout.specs.Layout.{behind_communals}
 use Rattle.omf_layout.proofs.laying.behind_communals.Given as goal
 
--- what is free behind those that are left is what is free behind all
+-- the free address after those that are left is the one after all
 abbrev pub invariant-loop-room : goal.invariant-loop-room
 invariant-loop-room l = record {
   same : behind_communals l.options l.free (drop l.room-index l.rooms) ≡ behind_communals l.options l.fn.free l.rooms;

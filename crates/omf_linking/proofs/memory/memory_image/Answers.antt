@@ -1,7 +1,7 @@
 use Rattle.std.proofs.Common.{◌≡◌, List, ap, sym, subst, rules, ◌∙◌}
 use Rattle.std.specs.Prelude.{Ok, Err}
 use Rattle.omf_derive.specs.Derive.{placed_modules}
-use Rattle.omf_memory.specs.Segments.{SegmentAt, AreLaid, segments_at}
+use Rattle.omf_linking.specs.Space.Segments.{SegmentAt, AreLaid, segments_at}
 use Rattle.omf_linking.specs.Faults.{of_memory}
 use Rattle.omf_linking.specs.LinkedMemory.{IsLinkedMemory}
 use Rattle.omf_linking.specs.Segments.{all_segments, with_images, with_own_images}

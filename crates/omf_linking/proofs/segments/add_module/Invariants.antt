@@ -1,6 +1,6 @@
 use Rattle.std.proofs.Common.{◌++◌, drop, map}
 use Rattle.std.specs.List.{enumerate_from}
-use Rattle.omf_memory.specs.Segments.{segments_at}
+use Rattle.omf_linking.specs.Space.Segments.{segments_at}
 use Rattle.omf_linking.specs.Segments.{image_bytes, module_segment}
 use Rattle.omf_linking.proofs.SegmentsLaws.{AreFrom}
 use Rattle.omf_linking.proofs.segments.add_module.Given as goal

@@ -4,7 +4,7 @@ use Rattle.std.specs.List.{list_all}
 use Rattle.std.specs.Str.Parse.{digits_value, digits_value_after}
 use Rattle.omf_placement.proofs.entry.hexadecimal.Given as goal
 
--- the value of the digits so far, which the digits that are left go on from
+-- the value of the digits so far, from which the remaining digits continue
 abbrev pub invariant-loop-digit : goal.invariant-loop-digit
 invariant-loop-digit l = record {
   value : digits_value_after 16 l.value l.left ≡ digits_value 16 l.word;

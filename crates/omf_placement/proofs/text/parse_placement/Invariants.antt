@@ -4,7 +4,7 @@ use Rattle.omf_placement.specs.Inner.Parsing.{parts_after}
 use Rattle.omf_placement.proofs.ParsingLaws.{IsRead, IsSound, entries_from, left_len}
 use Rattle.omf_placement.proofs.text.parse_placement.Given as goal
 
--- the lines so far are in the draft, unless a growth was refused, and the others are left; no line so far is at fault
+-- the lines so far are in the draft, unless memory ran out, and the others remain; no line so far is at fault
 abbrev pub invariant-loop-rest : goal.invariant-loop-rest
 invariant-loop-rest l = record {
   read : l.is_short ≡ false → IsRead l.text l.draft (entries_from (l.number + 1) (parts_after 10 (option_map (λ t. t.now) l.rest)));

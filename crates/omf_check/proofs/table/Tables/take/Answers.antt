@@ -10,7 +10,7 @@ use Rattle.omf_check.proofs.ShortLaws.{spelled_short}
 use Rattle.omf_check.proofs.Walked.{walked_bounded}
 use Rattle.omf_check.proofs.table.Tables.take.Goals as goal
 
--- what is no FIXUPP has none
+-- a record other than a FIXUPP has none
 other : (given : Bool) (kind : ℕ) (rec : CodeRec) → given ≡ false → given ≡ is_fixupp kind → kind_seen rec ≡ kind → IsNoFixupp (contents_seen rec)
 other given kind rec none is same = not_fixupp rec (ap is_fixupp same ∙ sym is ∙ none)
 

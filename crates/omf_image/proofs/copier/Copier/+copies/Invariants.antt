@@ -9,7 +9,7 @@ decreases-block l = 2 * l.levels
 abbrev pub decreases-contents : goal.decreases-contents
 decreases-contents l = 2 * l.levels + 1
 
--- the blocks that are left, after those that were written, are all the blocks
+-- the blocks written and the remaining ones are all the blocks
 abbrev pub invariant-contents-loop : goal.invariant-contents-loop
 invariant-contents-loop l = record {
   from : l.start ≤ l.end;

@@ -3,7 +3,7 @@ use Rattle.omf_image.specs.Blocks.{repeated}
 use Rattle.omf_image.specs.Inner.Copying.{IsMoved}
 use Rattle.omf_image.proofs.copier.Copier.repeat.Given as goal
 
--- so often it stands there
+-- the number of copies so far
 abbrev pub invariant-loop-done : goal.invariant-loop-done
 invariant-loop-done l = record {
   some : 1 ≤ l.done;

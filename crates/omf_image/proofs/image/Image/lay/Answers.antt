@@ -6,7 +6,7 @@ use Rattle.omf_image.specs.Inner.Sorted.{laid_run, laid_runs, AreSorted, IsTouch
 use Rattle.omf_image.proofs.OverLaws.{inserted_are, kept_sorted, ok_then, either_way}
 use Rattle.omf_image.proofs.image.Image.lay.Goals as goal
 
--- the runs that the piece touches, by the runs' own name
+-- the runs that the piece touches
 of_runs : (cs runs : List Covered) (piece : Laid) (start count : ℕ) → runs ≡ cs → IsTouched (laid_runs runs) piece start count → IsTouched (laid_runs cs) piece start count
 of_runs cs runs piece start count e h = subst (λ xs. IsTouched (laid_runs xs) piece start count) e h
 

@@ -7,7 +7,7 @@ use Rattle.omf_reloc.specs.declared.addition.Addition.{Addition as CodeAddition}
 use Rattle.omf_reloc.specs.Inner.Seen.{seen_addition, all_added}
 use Rattle.omf_reloc.proofs.addition.Additions.add_to.Goals as goal
 
--- an addition stays inside so many bytes
+-- an addition stays inside data of this length
 abbrev Fits : ℕ → ℕ → Addition → Type 0
 Fits position size a = position + a.offset + part_size a.part ≤ size
 

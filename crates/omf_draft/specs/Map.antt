@@ -1,0 +1,2 @@
+pub mod MapText
+pub mod Rows

@@ -1,0 +1,142 @@
+//! Segments of several modules.
+
+ghost use Rattle.std.specs.Prelude.{◌≡◌, ◌++◌, ◌<◌, ◌^◌, OnOk, IfOk, length, map, slice_get, Some};
+ghost use Rattle.omf_check.specs.Module.{recs_of, typed_modules};
+ghost use Rattle.omf_check.specs.Tables.{segments};
+ghost use Rattle.omf_layout.specs.Wants.{attributes};
+ghost use Rattle.omf_layout.specs.Several.Portions.{combination_named, name_at, portion, portions, portions_in, with_names};
+
+use crate::Alignment;
+use crate::wants::attributes_of;
+use omf_check::{Checked, SegInfo};
+use std::alloc::{AllocError, Global};
+
+/// How a segment combines with others of its class and name (TIS OMF 1.1, "SEGDEF", C field).
+#[derive(Clone, Copy, Debug, PartialEq, Eq)]
+pub enum Combination {
+    /// One after another in one frame: public (2, 4 and 7) and stack (5).
+    Joined,
+    /// All at one address: common (6).
+    Common,
+    /// By itself: private (0) and the reserved values 1 and 3.
+    Alone,
+}
+
+impl Combination {
+    /// Returns the combination in a SEGDEF's attribute byte.
+    fn named_by(attribute: u8) -> Combination
+        ensures { result ≡ combination_named attribute }
+    {
+        match attribute / 4 % 8 {
+            2 => Combination::Joined,
+            4 => Combination::Joined,
+            5 => Combination::Joined,
+            6 => Combination::Common,
+            7 => Combination::Joined,
+            _ => Combination::Alone,
+        }
+    }
+}
+
+/// A segment of one of several modules.
+#[derive(Clone, Copy, Debug, PartialEq, Eq)]
+pub struct Portion {
+    /// The module, from 0.
+    pub module: u32,
+    /// The segment's index, from 1.
+    pub index: u16,
+    /// Its length, names and absolute address in the SEGDEF.
+    pub segment: SegInfo,
+    /// Its alignment.
+    pub alignment: Alignment,
+    /// Its combination in the SEGDEF.
+    pub combination: Combination,
+}
+
+impl Portion {
+    ghost use Rattle.omf_layout.specs.Several.Order.{lies_by};
+
+    /// Returns how it combines: an absolute segment is alone, whatever its SEGDEF's C field.
+    pub fn lies(&self) -> Combination
+        ensures { result ≡ lies_by self.now.segment.absolute self.now.combination }
+    {
+        match self.segment.absolute {
+            Some(_) => Combination::Alone,
+            None => self.combination,
+        }
+    }
+}
+
+/// Returns the portion of a segment with this attribute.
+fn portion_of(module: u32, index: u16, segment: SegInfo, attribute: u8) -> Portion
+    ensures { result ≡ portion «module» index segment attribute }
+{
+    Portion {
+        module,
+        index,
+        segment,
+        alignment: Alignment::named_by(attribute),
+        combination: Combination::named_by(attribute),
+    }
+}
+
+/// Returns the name of an index; the empty name for index 0.
+pub fn name_at(module: &Checked, index: u16) -> &[u8]
+    ensures { result.now ≡ name_at (recs_of «module».now.bytes) index }
+{
+    match module.name(index) {
+        Some(name) => name.0,
+        None => &[],
+    }
+}
+
+/// Returns the attribute at a position.
+fn attribute_at(each: &[u8], before: u16) -> u8
+    requires { before < length each.now }
+    ensures { slice_get each.now before ≡ Some result }
+{
+    each[usize::from(before)]
+}
+
+/// A portion with the names of its class and its segment.
+pub type Classed<'a> = (&'a [u8], (&'a [u8], Portion));
+
+/// Adds the segments of a module with these attributes.
+fn add_portions<'a>(
+    portions: &mut Vec<Classed<'a>>,
+    module: &'a Checked,
+    number: u32,
+    each: &[u8],
+) -> Result<(), AllocError>
+    requires all { each.now ≡ attributes (recs_of «module».now.bytes) }
+    requires as_many { length each.now ≡ length (segments (recs_of «module».now.bytes)) }
+    ensures { OnOk result (map with_names portions.new.items ≡ map with_names portions.old.items ++ portions_in (number, recs_of «module».entry.now.bytes)) }
+{
+    for before in 0..module.segments() {
+        let index = before + 1;
+        let Some(segment) = module.segment(index) else {
+            unreachable!()
+        };
+        let portion = portion_of(number, index, segment, attribute_at(each, before));
+        let class = name_at(module, segment.class);
+        let name = name_at(module, segment.name);
+        portions.push((class, (name, portion)))?;
+    }
+    Ok(())
+}
+
+/// Returns the segments of all modules, module by module, with their class names and their own.
+pub fn portions_of<'a>(
+    alloc: Global,
+    modules: &'a [Checked],
+) -> Result<Vec<Classed<'a>>, AllocError>
+    requires { length modules.now < 2 ^ 32 }
+    ensures { IfOk result (λ v. map with_names v.items ≡ portions (typed_modules modules.entry.now)) }
+{
+    let mut portions = Vec::new(alloc);
+    for (number, module) in modules.iter().enumerate() {
+        let each = attributes_of(alloc, module)?;
+        add_portions(&mut portions, module, number as u32, &each)?;
+    }
+    Ok(portions)
+}

@@ -1,0 +1,7 @@
+pub mod ArgLaws
+pub mod LinkLines
+pub mod LinkRuns
+pub mod LinkWords
+pub mod LinkedModules
+pub mod PlaceRuns
+pub mod PlaceWords

@@ -1,0 +1,241 @@
+-- A run of `omf-link`, from its steps.
+use Rattle.std.proofs.Common.{◌≡◌, ℕ, List, [], ◌∷◌, Result, Ok, Err, Vec, Global, sym, ap, subst, ◌∙◌, ◌++◌, inl, inr}
+use Rattle.std.specs.Io.KnownBytes.{Consumes, IsAtEnd}
+use Rattle.std.specs.Prelude.{⊤, Option, Some, None, IfSome, filter_map, option_map, slice_get, zip}
+use Rattle.std.proofs.KnownBytes.{Consumes-whole}
+use Rattle.std.specs.List.{cons_option, enumerate_from}
+use Rattle.omf_frame.specs.Device.{Device}
+use Rattle.omf_derive.specs.Derive.{PlacedModule}
+use Rattle.omf_derive.specs.Inner.Derived.{derived}
+use Rattle.omf_derive.specs.declared.fault.DeriveFault.{DeriveFault}
+use Rattle.omf_derive.specs.declared.fault.DeriveFault.TheVariants as derive
+use Rattle.omf_layout.specs.declared.options.Options.{Options}
+use Rattle.omf_placement.specs.Placement.{Places}
+use Rattle.omf_records.specs.Values.{Rec}
+use Rattle.omf_reloc.specs.Reach.{reach_fault}
+use Rattle.omf_reloc.specs.declared.fault.ReachFault.{ReachFault}
+use Rattle.omf_linking.specs.Faults.{of_derive}
+use Rattle.omf_linking.specs.Parts.{Part, parsed_parts}
+use Rattle.omf_linking.specs.Placing.{by_parts, derived_or, found, given_of, places_of}
+use Rattle.omf_check.specs.Module.{typed_modules}
+use Rattle.omf_linking.specs.Reading.{AreModules, IsPartRead, IsReadCause}
+use Rattle.omf_linking.specs.Relocated.{far_module}
+use Rattle.omf_linking.specs.Starts.{main_starts, one_start}
+use Rattle.omf_linking.specs.declared.fault.LinkFault.{LinkFault}
+use Rattle.omf_linking.specs.declared.fault.LinkFault.TheVariants as link
+use Rattle.omf_cmd.specs.Runs.{IsUnbroken}
+use Rattle.omf_linker.specs.Link.Faults.{IsNamed, IsUnnamed, name_of}
+use Rattle.omf_linker.specs.Link.Drafted.{IsDrafted}
+use Rattle.omf_linker.specs.Link.Linked.{any, IsFirstFault, IsLinked}
+use Rattle.omf_linker.specs.Link.Mapped.{IsMapped}
+use Rattle.omf_linker.specs.Link.Runs.{IsShowCause, Shows}
+use Rattle.omf_linker.specs.Link.Shown.{AreShown, AreShownIn, IsNamedAs, IsNoModule, IsShownOf}
+use Rattle.omf_linker.specs.declared.link.fault.ImageFault.{ImageFault}
+use Rattle.omf_linker.specs.declared.link.fault.ImageFault.TheVariants as fault
+use Rattle.omf_linker.specs.declared.link.words.Task.{Task}
+use Rattle.omf_linker.specs.declared.link.words.Task.TheVariants as task
+
+-- ---- a fault with its name
+
+pub with_name : (Is : Result (List ℕ) LinkFault → Type 0) (ms : List (List Rec)) (f : LinkFault) (e : ImageFault) → Is (Err f) → IsNamed ms f e → IsNamedAs Is ms (Err e)
+with_name Is ms f (fault.Link g name) h (inl same) = inl (subst (λ (x : LinkFault). Is (Err x)) (sym same.0) h, same.1 ∙ ap (name_of ms) (sym same.0))
+with_name Is ms f (fault.Link g name) h (inr memory) = inr memory
+with_name Is ms f fault.NoRoom h n = absurd n
+with_name Is ms f fault.Write h n = absurd n
+
+pub no_module : (t : Task) (input : List ℕ) (f : LinkFault) (e : ImageFault) → AreModules any input (Err f) → IsUnnamed f e → IsShownOf t input (Err e)
+no_module t input f (fault.Link g name) h n = inl (subst (λ (x : LinkFault). AreModules any input (Err x)) (sym n.0) h, n.1)
+no_module t input f fault.NoRoom h n = absurd n
+no_module t input f fault.Write h n = absurd n
+
+-- out of memory for a draft
+pub no_memory : (o : Options) (ms : List (List Rec)) (e : ImageFault) → IsUnnamed link.Memory e → IsDrafted o ms (Err e)
+no_memory o ms (fault.Link link.Memory name) n = n.1
+no_memory o ms (fault.Link link.Read name) n = let is = n.0 in absurd cc
+no_memory o ms (fault.Link (link.Refused j why at) name) n = let is = n.0 in absurd cc
+no_memory o ms (fault.Link (link.Line k) name) n = let is = n.0 in absurd cc
+no_memory o ms (fault.Link (link.External f) name) n = let is = n.0 in absurd cc
+no_memory o ms (fault.Link (link.Reach j f) name) n = let is = n.0 in absurd cc
+no_memory o ms (fault.Link (link.Starts j k) name) n = let is = n.0 in absurd cc
+no_memory o ms (fault.Link (link.Beyond w) name) n = let is = n.0 in absurd cc
+no_memory o ms (fault.Link (link.Overlap a s t) name) n = let is = n.0 in absurd cc
+no_memory o ms fault.NoRoom n = absurd n
+no_memory o ms fault.Write n = absurd n
+
+-- the result for modules is the result for their input
+pub in_input : (t : Task) (input : List ℕ) (r : Result (List ℕ) ImageFault) → AreShownIn t input r → IsShownOf t input r
+in_input t input r h = inr h
+
+-- ---- a result for bytes names no reader
+
+not_derived : (f : DeriveFault) → of_derive f ≡ link.Read → ⊥
+not_derived derive.Memory e = absurd cc
+not_derived (derive.Undefined j i) e = absurd cc
+not_derived (derive.Twice j i) e = absurd cc
+not_derived (derive.TooHigh j i) e = absurd cc
+
+not_found : (r : Result (List Places) DeriveFault) → derived_or r ≡ Err link.Read → ⊥
+not_found (Ok pls) e = absurd cc
+not_found (Err f) e = let same : of_derive f ≡ link.Read = cc in not_derived f same
+
+not_placed : (ms : List (List Rec)) (ps : List Part) (r : Result (List Places) ℕ) → found ms ps r ≡ Err link.Read → ⊥
+not_placed ms ps (Ok pls) e = not_found (derived (zip ms pls) (given_of ps)) e
+not_placed ms ps (Err n) e = absurd cc
+
+not_parsed : (ms : List (List Rec)) (r : Result (List Part) ℕ) → by_parts ms r ≡ Err link.Read → ⊥
+not_parsed ms (Ok ps) e = not_placed ms ps (places_of ms ps) e
+not_parsed ms (Err n) e = absurd cc
+
+far_first : (j : ℕ) (o : Option ReachFault) (fs : List LinkFault) → (slice_get fs 0 ≡ Some link.Read → ⊥) → slice_get (cons_option (option_map (λ f. link.Reach j f) o) fs) 0 ≡ Some link.Read → ⊥
+far_first j None fs h e = h e
+far_first j (Some f) fs h e = absurd cc
+
+not_far : (ms : List (ℕ × PlacedModule)) → slice_get (filter_map far_module ms) 0 ≡ Some link.Read → ⊥
+not_far [] e = absurd cc
+not_far (m ∷ ms) e = far_first m.0 (reach_fault m.1.1 m.1.0) (filter_map far_module ms) (not_far ms) e
+
+not_started : (ss : List (ℕ × (ℕ × ℕ))) → one_start ss ≡ Err link.Read → ⊥
+not_started [] e = absurd cc
+not_started (s ∷ []) e = absurd cc
+not_started (s ∷ t ∷ more) e = absurd cc
+
+not_first : (ms : List (List Rec)) (text : List ℕ) → IsFirstFault ms text link.Read → ⊥
+not_first ms text (inl h) = not_parsed ms (parsed_parts text) h
+not_first ms text (inr (inl h)) = not_far (enumerate_from 0 (zip ms h.0)) h.2
+not_first ms text (inr (inr (inl h))) = h.1
+not_first ms text (inr (inr (inr h))) = not_started (main_starts (zip ms h.0.relocated)) h.2
+
+-- a result that names no device, and in which out of memory has no name
+abbrev pub IsNoDevice : Result (List ℕ) ImageFault → Type 0
+IsNoDevice (Err (fault.Link link.Read name)) = ⊥
+IsNoDevice (Err (fault.Link link.Memory name)) = name.items ≡ []
+IsNoDevice (Err fault.Write) = ⊥
+IsNoDevice _ = ⊤
+
+not_told : (Is : Result (List ℕ) LinkFault → Type 0) (ms : List (List Rec)) (r : Result (List ℕ) ImageFault) → (Is (Err link.Read) → ⊥) → IsNamedAs Is ms r → IsNoDevice r
+not_told Is ms (Ok shown) not h = tt
+not_told Is ms (Err (fault.Link link.Memory name)) not (inl h) = h.1
+not_told Is ms (Err (fault.Link link.Memory name)) not (inr h) = h.1
+not_told Is ms (Err (fault.Link link.Read name)) not (inl h) = not h.0
+not_told Is ms (Err (fault.Link link.Read name)) not (inr h) = let is = h.0 in absurd cc
+not_told Is ms (Err (fault.Link (link.Refused j why at) name)) not h = tt
+not_told Is ms (Err (fault.Link (link.Line n) name)) not h = tt
+not_told Is ms (Err (fault.Link (link.External f) name)) not h = tt
+not_told Is ms (Err (fault.Link (link.Reach j f) name)) not h = tt
+not_told Is ms (Err (fault.Link (link.Starts j k) name)) not h = tt
+not_told Is ms (Err (fault.Link (link.Beyond o) name)) not h = tt
+not_told Is ms (Err (fault.Link (link.Overlap a s t) name)) not h = tt
+not_told Is ms (Err fault.NoRoom) not h = tt
+not_told Is ms (Err fault.Write) not h = h
+
+not_drafted : (o : Options) (ms : List (List Rec)) (r : Result (List ℕ) ImageFault) → IsDrafted o ms r → IsNoDevice r
+not_drafted o ms (Ok shown) h = tt
+not_drafted o ms (Err (fault.Link link.Memory name)) h = h
+not_drafted o ms (Err (fault.Link link.Read name)) h = h
+not_drafted o ms (Err (fault.Link (link.Refused j why at) name)) h = tt
+not_drafted o ms (Err (fault.Link (link.Line n) name)) h = tt
+not_drafted o ms (Err (fault.Link (link.External f) name)) h = tt
+not_drafted o ms (Err (fault.Link (link.Reach j f) name)) h = tt
+not_drafted o ms (Err (fault.Link (link.Starts j k) name)) h = tt
+not_drafted o ms (Err (fault.Link (link.Beyond w) name)) h = tt
+not_drafted o ms (Err (fault.Link (link.Overlap a s t) name)) h = tt
+not_drafted o ms (Err fault.NoRoom) h = tt
+not_drafted o ms (Err fault.Write) h = h
+
+not_shown : (t : Task) (ms : List (List Rec)) (text : List ℕ) (r : Result (List ℕ) ImageFault) → AreShown t ms text r → IsNoDevice r
+not_shown task.Image ms text r h = not_told (IsLinked ms text) ms r (not_first ms text) h
+not_shown task.Map ms text r h = not_told (IsMapped ms text) ms r (not_parsed ms (parsed_parts text)) h
+not_shown (task.Draft o) ms text r h = not_drafted o ms r h
+
+not_refused : (input : List ℕ) (r : Result (List ℕ) ImageFault) → IsNoModule input r → IsNoDevice r
+not_refused input (Ok shown) h = tt
+not_refused input (Err (fault.Link link.Memory name)) h = h.1
+not_refused input (Err (fault.Link link.Read name)) h = h.0
+not_refused input (Err (fault.Link (link.Refused j why at) name)) h = tt
+not_refused input (Err (fault.Link (link.Line n) name)) h = tt
+not_refused input (Err (fault.Link (link.External f) name)) h = tt
+not_refused input (Err (fault.Link (link.Reach j f) name)) h = tt
+not_refused input (Err (fault.Link (link.Starts j k) name)) h = tt
+not_refused input (Err (fault.Link (link.Beyond o) name)) h = tt
+not_refused input (Err (fault.Link (link.Overlap a s t) name)) h = tt
+not_refused input (Err fault.NoRoom) h = tt
+not_refused input (Err fault.Write) h = h
+
+no_device : (t : Task) (input : List ℕ) (r : Result (List ℕ) ImageFault) → IsShownOf t input r → IsNoDevice r
+no_device t input r (inl h) = not_refused input r h
+no_device t input r (inr h) = not_shown t (typed_modules h.modules) h.text r h.shown
+
+-- ---- an input that is read
+
+module _ (old new : Device) where
+  -- whole
+  unbroken : (r : Result (List ℕ) ImageFault) → IsUnbroken old new → IsNoDevice r → IsShowCause old new r
+  unbroken (Ok shown) h n = h
+  unbroken (Err (fault.Link link.Memory name)) h n = (h, n)
+  unbroken (Err (fault.Link link.Read name)) h n = absurd n
+  unbroken (Err (fault.Link (link.Refused j why at) name)) h n = h
+  unbroken (Err (fault.Link (link.Line k) name)) h n = h
+  unbroken (Err (fault.Link (link.External f) name)) h n = h
+  unbroken (Err (fault.Link (link.Reach j f) name)) h n = h
+  unbroken (Err (fault.Link (link.Starts j k) name)) h n = h
+  unbroken (Err (fault.Link (link.Beyond o) name)) h n = h
+  unbroken (Err (fault.Link (link.Overlap a s t) name)) h n = h
+  unbroken (Err fault.NoRoom) h n = h
+  unbroken (Err fault.Write) h n = n
+
+  pub whole_cause : (t : Task) (input : List ℕ) (r : Result (List ℕ) ImageFault) → IsUnbroken old new → IsShownOf t input r → IsShowCause old new r
+  whole_cause t input r h i = unbroken r h (no_device t input r i)
+
+  -- in part
+  told_cause : (A : Type 0) (f : LinkFault) (name : Vec ℕ Global) → name.items ≡ [] → IsReadCause {A = A} old new (Err f) → IsShowCause old new (Err (fault.Link f name))
+  told_cause A link.Memory name e h = (h, e)
+  told_cause A link.Read name e h = (h, e)
+  told_cause A (link.Refused j why at) name e h = absurd h
+  told_cause A (link.Line k) name e h = absurd h
+  told_cause A (link.External d) name e h = absurd h
+  told_cause A (link.Reach j d) name e h = absurd h
+  told_cause A (link.Starts j k) name e h = absurd h
+  told_cause A (link.Beyond o) name e h = absurd h
+  told_cause A (link.Overlap a s t) name e h = absurd h
+
+  pub part_cause : (A : Type 0) (f : LinkFault) (e : ImageFault) → IsReadCause {A = A} old new (Err f) → IsUnnamed f e → IsShowCause old new (Err e)
+  part_cause A f (fault.Link g name) c n = subst (λ (x : LinkFault). IsShowCause old new (Err (fault.Link x name))) (sym n.0) (told_cause A f name n.1 c)
+  part_cause A f fault.NoRoom c n = absurd n
+  part_cause A f fault.Write c n = absurd n
+
+read_whole : (t : Task) (input : List ℕ) (old new : Option (List ℕ)) (r : Result (List ℕ) ImageFault) → Consumes old new input → IsShownOf t input r → Shows t input old new r
+read_whole t input old new (Ok shown) c i = (c, i)
+read_whole t input old new (Err (fault.Link link.Memory name)) c i = (input, c)
+read_whole t input old new (Err (fault.Link link.Read name)) c i = (input, c)
+read_whole t input old new (Err (fault.Link (link.Refused j why at) name)) c i = (c, i)
+read_whole t input old new (Err (fault.Link (link.Line n) name)) c i = (c, i)
+read_whole t input old new (Err (fault.Link (link.External f) name)) c i = (c, i)
+read_whole t input old new (Err (fault.Link (link.Reach j f) name)) c i = (c, i)
+read_whole t input old new (Err (fault.Link (link.Starts j k) name)) c i = (c, i)
+read_whole t input old new (Err (fault.Link (link.Beyond o) name)) c i = (c, i)
+read_whole t input old new (Err (fault.Link (link.Overlap a s s') name)) c i = (c, i)
+read_whole t input old new (Err fault.NoRoom) c i = (c, i)
+read_whole t input old new (Err fault.Write) c i = (c, i)
+
+pub all_read : (t : Task) (old new : Option (List ℕ)) (bytes input : List ℕ) (r : Result (List ℕ) ImageFault) → old ≡ Some input → Consumes old new bytes → IsAtEnd new → IsShownOf t bytes r → Shows t input old new r
+all_read t old new bytes input r told c end i =
+    let h : IfSome old (λ xs. Shows t xs old new r) = Consumes-whole old new bytes (λ xs. Shows t xs old new r) c end (read_whole t bytes old new r c i) in
+    subst (λ (o : Option (List ℕ)). IfSome o (λ xs. Shows t xs old new r)) told h
+
+part_of : (t : Task) (A : Type 0) (input : List ℕ) (before after : Device) (old new : Option (List ℕ)) (f : LinkFault) (name : Vec ℕ Global) → IsReadCause {A = A} before after (Err f) → IsPartRead old new
+    → Shows t input old new (Err (fault.Link f name))
+part_of t A input before after old new link.Memory name h p = p
+part_of t A input before after old new link.Read name h p = p
+part_of t A input before after old new (link.Refused j why at) name h p = absurd h
+part_of t A input before after old new (link.Line k) name h p = absurd h
+part_of t A input before after old new (link.External d) name h p = absurd h
+part_of t A input before after old new (link.Reach j d) name h p = absurd h
+part_of t A input before after old new (link.Starts j k) name h p = absurd h
+part_of t A input before after old new (link.Beyond o) name h p = absurd h
+part_of t A input before after old new (link.Overlap a s s') name h p = absurd h
+
+pub part_read : (t : Task) (A : Type 0) (input : List ℕ) (before after : Device) (old new : Option (List ℕ)) (f : LinkFault) (e : ImageFault) → IsReadCause {A = A} before after (Err f) → IsPartRead old new → IsUnnamed f e
+    → Shows t input old new (Err e)
+part_read t A input before after old new f (fault.Link g name) h p n = subst (λ (x : LinkFault). Shows t input old new (Err (fault.Link x name))) (sym n.0) (part_of t A input before after old new f name h p)
+part_read t A input before after old new f fault.NoRoom h p n = absurd n
+part_read t A input before after old new f fault.Write h p n = absurd n

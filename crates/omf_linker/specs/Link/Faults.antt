@@ -1,0 +1,110 @@
+-- The faults of `omf-link`: the name of the external, the printed line, and what is reported (a rule of this profile).
+use Rattle.std.specs.Prelude.{◌≡◌, ◌⊎◌, Bool, true, false, ℕ, ◌+◌, List, [], ◌∷◌, ◌++◌, option_and_then, unwrap_or, slice_get, codes, decimal}
+use Rattle.omf_check.specs.Tables.{entry, externals}
+use Rattle.omf_derive.specs.declared.fault.DeriveFault.{DeriveFault}
+use Rattle.omf_derive.specs.declared.fault.DeriveFault.TheVariants as derive
+use Rattle.omf_linking.specs.declared.space.stretch.Owner.{Owner}
+use Rattle.omf_placement.specs.Entries.{in_words}
+use Rattle.omf_records.specs.Values.{Rec}
+use Rattle.omf_linking.specs.declared.fault.LinkFault.{LinkFault}
+use Rattle.omf_linking.specs.declared.fault.LinkFault.TheVariants as link
+use Rattle.omf_cmd.specs.FaultLine.{fault_words as run_words}
+use Rattle.omf_placement.specs.Quoted.{hex, quoted}
+use Rattle.omf_cmd.specs.Programs.{FaultReport}
+use Rattle.omf_cmd.specs.declared.fault.RunFault.TheVariants as run
+use Rattle.omf_linker.specs.declared.link.fault.ImageFault.{ImageFault}
+use Rattle.omf_linker.specs.declared.link.fault.ImageFault.TheVariants as fault
+
+-- ---- the name
+
+-- The name of an external: modules are counted from 0, externals from 1. Empty if there is none.
+abbrev pub external_name : List (List Rec) → ℕ → ℕ → List ℕ
+external_name ms j i = unwrap_or (option_and_then (λ m. entry (externals m) i) (slice_get ms j)) []
+
+-- The name of the external that a fault is about; empty if it is about none.
+abbrev pub name_of : List (List Rec) → LinkFault → List ℕ
+name_of ms (link.External (derive.Undefined j i)) = external_name ms j i
+name_of ms (link.External (derive.Twice j i)) = external_name ms j i
+name_of ms (link.External (derive.TooHigh j i)) = external_name ms j i
+name_of ms _ = []
+
+-- A link fault without a name.
+abbrev pub IsUnnamed : LinkFault → ImageFault → Type 0
+IsUnnamed f (fault.Link g name) = (g ≡ f) × (name.items ≡ [])
+IsUnnamed f _ = ⊥
+
+-- A link fault with the name of its external, or out of memory for the name.
+abbrev pub IsNamed : List (List Rec) → LinkFault → ImageFault → Type 0
+IsNamed ms f (fault.Link g name) = ((g ≡ f) × (name.items ≡ name_of ms f)) ⊎ ((g ≡ link.Memory) × (name.items ≡ []))
+IsNamed ms f _ = ⊥
+
+-- ---- the line
+
+-- A module, counted from 1.
+abbrev pub module_words : ℕ → List (List ℕ)
+module_words j = codes "module" ∷ decimal (j + 1) ∷ []
+
+-- A segment of a module.
+abbrev pub owner_words : Owner → List (List ℕ)
+owner_words o = module_words o.«module» ++ codes "segment" ∷ decimal o.segment ∷ []
+
+-- An external without a place: why, and its name.
+abbrev pub external_words : ℕ → ℕ → List ℕ → List ℕ → List (List ℕ)
+external_words j i why name = module_words j ++ codes "external" ∷ decimal i ∷ why ∷ quoted name ∷ []
+
+-- The line of an external's fault.
+abbrev pub derive_words : DeriveFault → List ℕ → List (List ℕ)
+derive_words derive.Memory name = run_words run.Memory
+derive_words (derive.Undefined j i) name = external_words j i (codes "Undefined") name
+derive_words (derive.Twice j i) name = external_words j i (codes "Twice") name
+derive_words (derive.TooHigh j i) name = external_words j i (codes "TooHigh") name
+
+-- The line of a link fault. Refusals, lines and placements that do not reach have the words of `omf`; refusals and reach faults follow the number of their module.
+abbrev pub link_words : LinkFault → List ℕ → List (List ℕ)
+link_words link.Memory name = run_words run.Memory
+link_words link.Read name = run_words run.Read
+link_words (link.Refused j why at) name = module_words j ++ run_words (run.Refused why at)
+link_words (link.Line n) name = run_words (run.Line n)
+link_words (link.External f) name = derive_words f name
+link_words (link.Reach j f) name = module_words j ++ run_words (run.Reach f)
+link_words (link.Starts j k) name = codes "starts" ∷ module_words j ++ module_words k
+link_words (link.Beyond o) name = codes "beyond" ∷ owner_words o
+link_words (link.Overlap a s t) name = codes "overlap" ∷ hex 8 a ∷ owner_words s ++ owner_words t
+
+-- The line if a draft has no room, as for `omf-place`.
+abbrev pub no_room : List ℕ
+no_room = codes "no room below the last address"
+
+-- The line of a fault, in words.
+abbrev pub fault_words : ImageFault → List (List ℕ)
+fault_words (fault.Link f name) = link_words f name.items
+fault_words fault.NoRoom = no_room ∷ []
+fault_words fault.Write = run_words run.Write
+
+-- The line, without its line feed.
+abbrev pub fault_line : ImageFault → List ℕ
+fault_line f = in_words (fault_words f)
+
+-- ---- the report
+
+-- The exit status of a link fault: 3 for memory and the reader, else 1.
+abbrev pub link_status : LinkFault → ℕ
+link_status link.Memory = 3
+link_status link.Read = 3
+link_status _ = 1
+
+-- A line with numbers is built at run time, which takes memory.
+abbrev pub link_takes_memory : LinkFault → Bool
+link_takes_memory link.Memory = false
+link_takes_memory link.Read = false
+link_takes_memory _ = true
+
+-- What is reported of a fault: the exit status, the line and its line feed, and whether building that takes memory. Nothing is printed if the writer failed.
+abbrev pub report : ImageFault → FaultReport
+report (fault.Link f name) = record { status = link_status f; text = fault_line (fault.Link f name) ++ 10 ∷ []; takes_memory = link_takes_memory f }
+report fault.NoRoom = record { status = 1; text = fault_line fault.NoRoom ++ 10 ∷ []; takes_memory = false }
+report fault.Write = record { status = 3; text = []; takes_memory = false }
+
+-- The usage.
+abbrev pub usage : List ℕ
+usage = codes "usage: omf-link image | map | draft [--base ADDRESS] [--real | --flat SELECTOR]" ++ 10 ∷ []

@@ -1,0 +1,44 @@
+-- The text that a task prints for an input, or the first fault, with the name of its external.
+use Rattle.std.specs.Prelude.{◌≡◌, ◌⊎◌, ℕ, List, [], Result, Ok, Err}
+use Rattle.omf_check.specs.Module.{Module, typed_modules}
+use Rattle.omf_records.specs.Values.{Rec}
+use Rattle.omf_linking.specs.Reading.{AreModules}
+use Rattle.omf_linking.specs.declared.fault.LinkFault.{LinkFault}
+use Rattle.omf_linking.specs.declared.fault.LinkFault.TheVariants as link
+use Rattle.omf_linker.specs.Link.Drafted.{IsDrafted}
+use Rattle.omf_linker.specs.Link.Faults.{name_of}
+use Rattle.omf_linker.specs.Link.Linked.{any, IsLinked}
+use Rattle.omf_linker.specs.Link.Mapped.{IsMapped}
+use Rattle.omf_linker.specs.declared.link.fault.ImageFault.{ImageFault}
+use Rattle.omf_linker.specs.declared.link.fault.ImageFault.TheVariants as fault
+use Rattle.omf_linker.specs.declared.link.words.Task.{Task}
+use Rattle.omf_linker.specs.declared.link.words.Task.TheVariants as task
+
+-- A result for modules, where a fault has the name of its external. Out of memory is possible at any time.
+abbrev pub IsNamedAs : (Result (List ℕ) LinkFault → Type 0) → List (List Rec) → Result (List ℕ) ImageFault → Type 0
+IsNamedAs Is ms (Ok shown) = Is (Ok shown)
+IsNamedAs Is ms (Err (fault.Link f name)) = (Is (Err f) × (name.items ≡ name_of ms f)) ⊎ ((f ≡ link.Memory) × (name.items ≡ []))
+IsNamedAs Is ms (Err _) = ⊥
+
+-- The result of a task for modules and a link text: their image as text, or their map; or their draft, whatever the text is.
+abbrev pub AreShown : Task → List (List Rec) → List ℕ → Result (List ℕ) ImageFault → Type 0
+AreShown task.Image ms text r = IsNamedAs (IsLinked ms text) ms r
+AreShown task.Map ms text r = IsNamedAs (IsMapped ms text) ms r
+AreShown (task.Draft o) ms text r = IsDrafted o ms r
+
+-- An input is modules and a link text, and this is the result for them.
+pub record AreShownIn (t : Task) (input : List ℕ) (r : Result (List ℕ) ImageFault) : Type 0 where
+  pub modules : List Module
+  pub text : List ℕ
+  pub spelled : AreModules any input (Ok (modules, text))
+  pub shown : AreShown t (typed_modules modules) text r
+
+-- A module of the input is refused, and this is the fault of the first. It has no name.
+abbrev pub IsNoModule : List ℕ → Result (List ℕ) ImageFault → Type 0
+IsNoModule input (Ok shown) = ⊥
+IsNoModule input (Err (fault.Link f name)) = AreModules any input (Err f) × (name.items ≡ [])
+IsNoModule input (Err _) = ⊥
+
+-- The result of a task for an input: the first refused module, or the result for its modules and its text.
+abbrev pub IsShownOf : Task → List ℕ → Result (List ℕ) ImageFault → Type 0
+IsShownOf t input r = IsNoModule input r ⊎ AreShownIn t input r

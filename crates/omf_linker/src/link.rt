@@ -1,0 +1,18 @@
+//! The program `omf-link`: prints the memory image of several modules, their map, or a draft of a link text for them.
+
+mod fault;
+mod linking;
+mod naming;
+mod printed;
+mod printing;
+mod program;
+mod running;
+mod words;
+
+pub use fault::ImageFault;
+pub use linking::{modules_map, modules_text};
+pub use printed::fault_line;
+pub use printing::{image_text, memory_text};
+pub use program::Link;
+pub use running::{run_draft, run_image, run_map, run_task, shown_text};
+pub use words::{Task, task_of};

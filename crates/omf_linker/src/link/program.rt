@@ -1,0 +1,48 @@
+//! The program `omf-link`.
+
+ghost use Rattle.omf_linker.specs.Link.Faults.{usage};
+ghost use Rattle.omf_linker.specs.Link.Runs.{IsRun};
+ghost use Rattle.omf_linker.specs.Link.Words.{IsFound};
+
+use crate::link::fault::ImageFault;
+use crate::link::running::run_task;
+use crate::link::words;
+use crate::link::words::task_of;
+use omf_cmd::Program;
+use omf_frame::{Sink, Source};
+use std::alloc::{AllocError, Global};
+
+/// The program `omf-link`.
+///
+/// It ends with status 0 when done, 1 if the input or its text is refused or has no room, 2 if the arguments are not understood, and 3 if
+/// memory runs out, or the reader or the writer fails.
+pub struct Link;
+
+impl Program for Link {
+    type Task = words::Task;
+
+    type Fault = ImageFault;
+
+    ghost asks = { IsFound };
+
+    ghost performs = { IsRun };
+
+    ghost called = { usage };
+
+    fn task(alloc: Global, arguments: &[String]) -> Result<Option<words::Task>, AllocError> {
+        task_of(alloc, arguments)
+    }
+
+    fn perform<S: Source, K: Sink>(
+        alloc: Global,
+        task: words::Task,
+        reader: &mut S,
+        writer: &mut K,
+    ) -> Result<(), ImageFault> {
+        run_task(alloc, task, reader, writer)
+    }
+
+    fn usage() -> &'static [u8] {
+        b"usage: omf-link image | map | draft [--base ADDRESS] [--real | --flat SELECTOR]\n"
+    }
+}

@@ -1,0 +1,79 @@
+//! Why a run of `omf-place` fails.
+
+ghost use Rattle.std.specs.Prelude.{◌≡◌};
+ghost use Rattle.omf_cmd.specs.Reports.{of_check};
+ghost use Rattle.omf_cmd.specs.declared.fault.RunFault.TheVariants.{Memory};
+ghost use Rattle.omf_linker.specs.Place.Faults.{of_layout, report};
+ghost use Rattle.omf_linker.specs.declared.place.fault.PlaceFault.TheVariants.{Run};
+
+use omf_check::CheckFault;
+use omf_cmd::{Fault, RunFault};
+use omf_layout::LayoutFault;
+use std::alloc::{AllocError, Global};
+use thiserror::Error;
+
+/// Why a run fails.
+#[derive(Clone, Copy, Debug, PartialEq, Eq, Error)]
+pub enum PlaceFault {
+    /// The same faults as a run of `omf check`: no well-formed module, out of memory, or a failing device.
+    #[error(transparent)]
+    Run(RunFault),
+    /// A segment or an external has no room below the last address.
+    #[error("the module has no room below the last address")]
+    NoRoom,
+}
+
+impl From<AllocError> for PlaceFault {
+    ghost from_gives = { λ _ e. e ≡ Run Memory };
+
+    fn from(_error: AllocError) -> Self {
+        PlaceFault::Run(RunFault::Memory)
+    }
+}
+
+impl From<CheckFault> for PlaceFault {
+    ghost from_gives = { λ f e. e ≡ Run (of_check f) };
+
+    fn from(fault: CheckFault) -> Self {
+        PlaceFault::Run(RunFault::from(fault))
+    }
+}
+
+impl From<LayoutFault> for PlaceFault {
+    ghost from_gives = { λ f e. e ≡ of_layout f };
+
+    fn from(fault: LayoutFault) -> Self {
+        match fault {
+            LayoutFault::Memory => PlaceFault::Run(RunFault::Memory),
+            LayoutFault::NoRoom => PlaceFault::NoRoom,
+        }
+    }
+}
+
+/// What is printed if something has no room.
+const NO_ROOM: &str = "no room below the last address\n";
+
+impl Fault for PlaceFault {
+    ghost report = { report };
+
+    fn status(&self) -> u8 {
+        match self {
+            PlaceFault::Run(fault) => fault.status(),
+            PlaceFault::NoRoom => 1,
+        }
+    }
+
+    fn fixed_text(&self) -> Option<&'static str> {
+        match self {
+            PlaceFault::Run(fault) => fault.fixed_text(),
+            PlaceFault::NoRoom => Some(NO_ROOM),
+        }
+    }
+
+    fn built_text(&self, alloc: Global) -> Result<String, AllocError> {
+        match self {
+            PlaceFault::Run(fault) => fault.built_text(alloc),
+            PlaceFault::NoRoom => String::from_str(alloc, NO_ROOM),
+        }
+    }
+}

@@ -1,0 +1,77 @@
+//! Worked examples, each evaluated by the check.
+
+ghost use Rattle.std.specs.Prelude.{◌≡◌, ◌++◌, [], ◌∷◌, codes, true, false, None, replicate, Some};
+ghost use Rattle.clap.specs.Words.{Text, fault_of, subcommand_of};
+ghost use Rattle.omf_frame.specs.declared.fault.Reason.TheVariants as reason;
+ghost use Rattle.omf_check.specs.Rows.{place};
+ghost use Rattle.omf_derive.specs.declared.fault.DeriveFault.TheVariants as derive;
+ghost use Rattle.omf_reloc.specs.declared.fault.Kind.TheVariants as kind;
+ghost use Rattle.omf_reloc.specs.declared.fault.ReachFault.TheVariants as reach;
+ghost use Rattle.omf_layout.specs.declared.options.Frames.TheVariants.{Real, Flat};
+ghost use Rattle.omf_linking.specs.declared.fault.LinkFault.TheVariants as link;
+ghost use Rattle.omf_linker.specs.Options.{options_named};
+ghost use Rattle.omf_linker.specs.Link.Rows.{bytes_at, line_of, segment_of, started_text, text_of};
+ghost use Rattle.omf_linker.specs.Link.Words.{IsAsked as AsksLink, link_app};
+ghost use Rattle.omf_linker.specs.Place.Words.{IsAsked as AsksPlace};
+ghost use Rattle.omf_linker.specs.declared.link.words.Task.TheVariants.{Image, Map, Draft};
+
+/// Values that give no options: too many digits, no number, a sign, a selector too high; and a flat frame in real mode.
+pub fn options_not_understood()
+    ensures long { options_named (Some (codes "000000001")) false None ≡ None }
+    ensures no_number { options_named (Some (codes "7G00")) false None ≡ None }
+    ensures signed { options_named (Some (codes "+1")) false None ≡ None }
+    ensures selector { options_named None false (Some (codes "10000")) ≡ None }
+    ensures both { options_named None true (Some (codes "8")) ≡ None }
+{}
+
+/// What arguments of `omf-place` ask for: none but the program's own name, a base in real mode, a base and a selector.
+pub fn place_asked()
+    ensures none { (program : Text) → AsksPlace (program ∷ []) (record { base = 0x10000; frames = Flat 0 }) }
+    ensures real { (program : Text) → AsksPlace (program ∷ codes "--base" ∷ codes "7C00" ∷ codes "--real" ∷ []) (record { base = 0x7C00; frames = Real }) }
+    ensures flat { (program : Text) → AsksPlace (program ∷ codes "--flat" ∷ codes "1b" ∷ codes "--base=401000" ∷ []) (record { base = 0x401000; frames = Flat 0x1B }) }
+{}
+
+/// Two bytes at 7C00H are one line, as is one byte at the last address. A run of 17 bytes is two lines.
+pub fn texts_of_memories()
+    ensures none { text_of [] ≡ [] }
+    ensures two { text_of (bytes_at 0x7C00 (0xEB ∷ 0x0A ∷ []) ∷ bytes_at 0xFFFFFFFF (0xF4 ∷ []) ∷ []) ≡ codes "00007C00: EB 0A\nFFFFFFFF: F4\n" }
+    ensures long { text_of (bytes_at 0xFFF8 (replicate 17 0xCC) ∷ []) ≡ codes "0000FFF8: CC CC CC CC CC CC CC CC CC CC CC CC CC CC CC CC\n00010008: CC\n" }
+{}
+
+/// The start address comes after the bytes.
+pub fn texts_with_a_start()
+    ensures start { started_text (bytes_at 0x7C00 (0xF4 ∷ []) ∷ []) (Some (0x7C0, 0x1F)) ≡ codes "00007C00: F4\nSTART 07C0:0000001F\n" }
+    ensures none { started_text (bytes_at 0x7C00 (0xF4 ∷ []) ∷ []) None ≡ codes "00007C00: F4\n" }
+{}
+
+/// The line of each fault. Modules are counted from 1.
+pub fn fault_lines()
+    ensures memory { line_of link.Memory [] ≡ codes "memory" }
+    ensures read { line_of link.Read [] ≡ codes "read" }
+    ensures refused { line_of (link.Refused 1 reason.Cut (place 4 34 2)) [] ≡ codes "module 2 refused 2 Cut record 4 at 34 within 2" }
+    ensures text { line_of (link.Line 3) [] ≡ codes "placement line 3" }
+    ensures undefined { line_of (link.External (derive.Undefined 0 2)) (codes "_main") ≡ codes "module 1 external 2 Undefined \"_main\"" }
+    ensures twice { line_of (link.External (derive.Twice 2 1)) (0x22 ∷ 0xFF ∷ []) ≡ codes "module 3 external 1 Twice \"\\x22\\xFF\"" }
+    ensures high { line_of (link.External (derive.TooHigh 0 1)) [] ≡ codes "module 1 external 1 TooHigh \"\"" }
+    ensures reach { line_of (link.Reach 2 (reach.Missing kind.Segment 1)) [] ≡ codes "module 3 reach 1 Missing segment 1" }
+    ensures starts { line_of (link.Starts 0 2) [] ≡ codes "starts module 1 module 3" }
+    ensures beyond { line_of (link.Beyond (segment_of 1 3)) [] ≡ codes "beyond module 2 segment 3" }
+    ensures overlap { line_of (link.Overlap 0x10020 (segment_of 0 2) (segment_of 2 1)) [] ≡ codes "overlap 00010020 module 1 segment 2 module 3 segment 1" }
+{}
+
+/// What arguments of `omf-link` ask for: a subcommand after the program's own name, alone; and `draft` with options.
+pub fn link_asked()
+    ensures image { (program : Text) → AsksLink (program ∷ codes "image" ∷ []) Image }
+    ensures map { (program : Text) → AsksLink (program ∷ codes "map" ∷ []) Map }
+    ensures draft { (program : Text) → AsksLink (program ∷ codes "draft" ∷ []) (Draft (record { base = 0x10000; frames = Flat 0 })) }
+    ensures real { (program : Text) → AsksLink (program ∷ codes "draft" ∷ codes "--base" ∷ codes "7C00" ∷ codes "--real" ∷ []) (Draft (record { base = 0x7C00; frames = Real })) }
+    ensures flat { (program : Text) → AsksLink (program ∷ codes "draft" ∷ codes "--flat=1b" ∷ []) (Draft (record { base = 0x10000; frames = Flat 0x1B })) }
+{}
+
+/// Arguments without a subcommand, and arguments that clap refuses: another subcommand, two of them, an option of another subcommand.
+pub fn link_not_understood()
+    ensures none { (program : Text) → subcommand_of link_app (program ∷ []) ≡ None }
+    ensures other { (program : Text) → fault_of link_app (program ∷ codes "list" ∷ []) ≡ [] → ⊥ }
+    ensures two { (program : Text) → fault_of link_app (program ∷ codes "image" ∷ codes "map" ∷ []) ≡ [] → ⊥ }
+    ensures option { (program : Text) → fault_of link_app (program ∷ codes "map" ∷ codes "--real" ∷ []) ≡ [] → ⊥ }
+{}

@@ -1,0 +1,15 @@
+//! Segments in one memory: which may share addresses, and the image that they form together.
+
+mod fault;
+mod memory;
+pub mod rows;
+mod runs;
+mod segment;
+mod stretch;
+mod sweep;
+
+pub use fault::MemoryFault;
+pub use memory::memory_of;
+pub use runs::segments_memory;
+pub use segment::PlacedSegment;
+pub use stretch::{Owner, Stretch};

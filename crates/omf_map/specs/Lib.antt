@@ -1,3 +1,0 @@
-pub mod MapText
-pub mod Rows
-pub mod Inner

@@ -1,8 +1,0 @@
-use Rattle.std.proofs.Common.{◌≡◌, ◌++◌, drop}
-use Rattle.omf_memory.specs.Memory.{pieces}
-use Rattle.omf_memory.specs.Inner.Sweeping.{intervals}
-use Rattle.omf_memory.proofs.sweep.intervals_of.Given as goal
-
--- the intervals so far, and those of the stretches that are left
-abbrev pub invariant-loop-stretch : goal.invariant-loop-stretch
-invariant-loop-stretch l = l.intervals.items ++ intervals (pieces (drop l.stretch-index l.stretches)) ≡ intervals (pieces l.stretches)

@@ -1,4 +1,0 @@
-pub mod Memory
-pub mod Segments
-pub mod Rows
-pub mod Inner

@@ -1,0 +1,15 @@
+//! `modules` has the modules, `tools` the programs, `scarce` memory that runs out, `calls` how a call is tested against it.
+
+mod blocks;
+mod calls;
+mod changes;
+mod derived;
+mod devices;
+mod large;
+mod memory;
+mod modules;
+mod printing;
+mod scarce;
+mod spelled;
+mod tools;
+mod verdicts;

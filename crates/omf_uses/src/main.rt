@@ -1,0 +1,47 @@
+//! `omf-uses`: four uses of the library on sample modules, each in a dozen lines, and then the last of them on two modules from standard
+//! input.
+//!
+//! The uses: a file is judged, a boot sector is relocated, a module gets a key, and two modules are linked by their public names. Each
+//! prints a line or two. The modules from standard input call one another, and the first is a boot sector (`examples/pair`). For each,
+//! the program prints its placement and the listing of its image there.
+#![tactic(auto)]
+
+mod boot;
+mod judging;
+mod linking;
+mod naming;
+mod placing;
+mod printing;
+mod reporting;
+
+use anyhow::Result;
+use linking::link;
+use omf_check::{CheckFault, Checked, Profile, check};
+use omf_frame::{Reading, Source, Writing, push_all};
+use placing::places;
+use printing::print_pair;
+use reporting::report;
+use std::alloc::Global;
+use std::io::{BufReader, Write};
+
+/// Reads the two modules of an input.
+fn modules<S: Source>(alloc: Global, reader: &mut S) -> Result<[Checked; 2], CheckFault> {
+    let any = Profile {
+        refuse_vendor_comments: false,
+    };
+    let first = check(alloc, reader, any)?;
+    let second = check(alloc, reader, any)?;
+    Ok([first, second])
+}
+
+fn main(rt: HostRuntime) -> Result<()> {
+    let alloc = rt.alloc();
+    let mut output = rt.stdout();
+    push_all(&mut Writing::new(&mut output), report(alloc)?.as_bytes())?;
+    let input = BufReader::new(alloc, rt.reader())?;
+    let modules = modules(alloc, &mut Reading::new(input))?;
+    let placements = link(alloc, &modules, &places(alloc)?)?;
+    print_pair(alloc, &modules, &placements, &mut Writing::new(&mut output))?;
+    output.flush()?;
+    Ok(())
+}
