@@ -1,45 +1,52 @@
-# make first            proves the program, builds it, and relocates examples/first.omf
-# make look             the same without any proof
-# make try FILE=x.obj   runs the program on a file of your own, without any proof: JOB=list, JOB=reloc or JOB=canon in place of
-#                       JOB=check, for reloc with PLACE=x.place, and FLAG=--refuse-vendor-comments
-# make draft FILE=x.obj runs omf-place on a file of your own, without any proof; WORDS=--real, or WORDS="--base 7C00 --flat 1B"
+# make first            proves and builds crates/omf/out/omf, and relocates examples/first.omf
+# make try FILE=x.obj   checks your file by a program built without its proofs; JOB=list, JOB=reloc PLACE=x.place or JOB=canon runs
+#                       another subcommand, FLAG=--refuse-vendor-comments passes the flag. The first run builds it (a minute) and keeps
+#                       it in build/unproved/
+# make draft FILE=x.obj drafts a placement the same way; WORDS=--real, or WORDS="--base 7C00 --flat 1B", has the options
+# make look             the first example the same way
 # make library          proves and builds the library for C: build/libomf.a, build/libomf.so
-# make try-c            tries the library for C: tests/c/run.sh over examples/ and the folder MODULES
+# make try-c            tests the library for C (tests/c/run.sh) over examples/ and the folder MODULES
 # make install          builds the programs and the library, and installs them under PREFIX: bin/omf, bin/omf-place, bin/omf-link,
 #                       share/man/man1/omf.1, omf-place.1 and omf-link.1, lib/libomf.a, lib/libomf.so, include/omf.h,
 #                       lib/pkgconfig/omf.pc
-# make shown            runs the commands that README.md, docs/REASONS.md, docs/PLACEMENT.md and docs/LINK.md show, by the installed
-#                       programs, and compares what they print
-# make ci               the gate: the commands of docs/REASONS.md from the sources, and then `rt ci`, which proves and tests everything
+# make shown            runs the commands that the pages show with the installed programs, and compares what they print; OMF, OMF_PLACE,
+#                       OMF_LINK, OMF_USES and LIBOMF name others (tests/reasons.sh)
+# make docs             writes docs/CALLS.md and the tables of docs/ARCHITECTURE.md and docs/GATE.md from the sources
+# make ci               the gate: the documents, the commands of docs/REASONS.md, and then `rt ci`, which proves and tests everything
 
 PREFIX ?= /usr/local
 CC ?= cc
 MODULES ?=
 JOB ?= check
 WORDS ?=
+export FILE PLACE
 
-.PHONY: first look try draft build library try-c install shown ci
+.PHONY: first look try draft build library try-c install shown docs ci
 
 first:
 	@cd crates/omf && cat ../../examples/first.omf ../../examples/first.place | rt run -- reloc
+	@echo "the program is crates/omf/out/omf; make install puts it on the path" >&2
 
 look:
-	@cd crates/omf && cat ../../examples/first.omf ../../examples/first.place | rt try -- reloc
+	@program=$$(tests/unproved.sh omf) && cat examples/first.omf examples/first.place | "$$program" reloc
 
 try:
-	@test -n "$(FILE)" || { echo "usage: make try FILE=x.obj [JOB=check|list|reloc|canon] [PLACE=x.place] [FLAG=--refuse-vendor-comments]"; exit 2; }
-	@cat "$(FILE)" $(PLACE) | (cd crates/omf && rt try -- $(JOB) $(FLAG))
+	@test -n "$$FILE" || { echo "usage: make try FILE=x.obj [JOB=check|list|reloc|canon] [PLACE=x.place] [FLAG=--refuse-vendor-comments]"; exit 2; }
+	@test -f "$$FILE" || { echo "no such file: $$FILE"; exit 2; }
+	@test -z "$$PLACE" || test -f "$$PLACE" || { echo "no such file: $$PLACE"; exit 2; }
+	@program=$$(tests/unproved.sh omf) && cat "$$FILE" $${PLACE:+"$$PLACE"} | "$$program" "$(JOB)" $(FLAG)
 
 draft:
-	@test -n "$(FILE)" || { echo "usage: make draft FILE=x.obj [WORDS=\"--base 7C00 --real\"]"; exit 2; }
-	@cat "$(FILE)" | (cd crates/omf_place && rt try -- $(WORDS))
+	@test -n "$$FILE" || { echo "usage: make draft FILE=x.obj [WORDS=\"--base 7C00 --real\"]"; exit 2; }
+	@test -f "$$FILE" || { echo "no such file: $$FILE"; exit 2; }
+	@program=$$(tests/unproved.sh omf_place) && "$$program" $(WORDS) < "$$FILE"
 
 build:
 	@cat examples/first.omf examples/first.place | (cd crates/omf && rt run -- reloc) > /dev/null
 	@(cd crates/omf_place && rt run) < examples/first.omf > /dev/null
-	@(cd crates/omf_link && rt run -- image < stdin) > /dev/null
+	@cat examples/link/start.obj examples/link/say.obj examples/link/mark.obj examples/link/program.link | (cd crates/omf_link && rt run -- image) > /dev/null
 
-# The archive has the library and the three functions of the kit by which it asks malloc for memory.
+# The archive has the library and three functions of the kit that call malloc, realloc and free.
 library:
 	cd crates/omf_c && rt lib
 	rm -rf build
@@ -65,7 +72,11 @@ install: build library
 	sed 's|@PREFIX@|$(PREFIX)|' include/omf.pc.in > $(DESTDIR)$(PREFIX)/lib/pkgconfig/omf.pc
 
 shown:
-	tests/reasons.sh README.md docs/REASONS.md docs/PLACEMENT.md docs/LINK.md
+	tests/reasons.sh README.md docs/*.md
+
+docs:
+	tests/calls.py
+	tests/house.py --write
 
 ci:
 	.ci/run

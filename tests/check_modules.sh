@@ -1,6 +1,6 @@
 #!/usr/bin/env bash
 # Checks and lists every module of a folder: check_modules.sh FOLDER. OMF names the program.
-# Says how many are accepted, and prints each refusal. Its status is 0 where `list` agrees with `check` on every module.
+# Counts those accepted, and prints each refusal. Its status is 0 where `list` agrees with `check` on every module.
 set -uo pipefail
 omf=${OMF:-omf}
 folder=${1:?usage: check_modules.sh FOLDER}

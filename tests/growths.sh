@@ -1,7 +1,7 @@
 #!/usr/bin/env bash
 # Refuses each growth in turn, until a run meets none: of the tests that hold whichever growth is refused, and of the program.
-# It takes the programs that `rt test` left in crates/omf_check_tests and crates/omf_derive_tests, and OMF, the program `omf`
-# (crates/omf/out/omf, which `make build` makes); what is not there is skipped. It needs a C compiler.
+# It takes the programs that `rt test` left in the crates of these tests, and OMF, the program `omf` (crates/omf/out/omf, which
+# `make build` makes); what is not there is skipped. It needs a C compiler.
 # Its status is 0 where every run passed.
 set -uo pipefail
 root=$(cd "$(dirname "$0")/.." && pwd)
@@ -17,20 +17,27 @@ if ! command -v cc > /dev/null; then
 fi
 cc -O1 -shared -fPIC -o "$work/refuse_growth.so" "$root/tests/refuse_growth.c" || exit 1
 
-# refusing NUMBER COMMAND..: runs it with that growth refused. Its output is in out, what it says besides in err.
+# refusing NUMBER COMMAND..: runs it with that growth refused. Its output is in out, its standard error in err.
 refusing() {
     local number=$1
     shift
     LD_PRELOAD=$work/refuse_growth.so REFUSE_GROWTH=$number "$@" > "$work/out" 2> "$work/err"
 }
 
-# A test that holds whichever growth is refused.
+# refuse_each_of_test TEST: a test that holds whichever growth is refused, of the crate that has it.
 refuse_each_of_test() {
-    local name=$1 test=$2 program=$root/crates/$1/out/$1_tests number
+    local test=$1 file name program number
+    file=$(cd "$root/crates" && grep -rl --include='*.rt' "fn $test(" -- */src | head -n 1)
+    if [ -z "$file" ]; then
+        echo "skipped: there is no test $test"
+        return
+    fi
+    name=${file%%/*} program=$root/crates/${file%%/*}/out/${file%%/*}_tests
     if [ ! -x "$program" ]; then
         echo "skipped: $name $test (run rt test in crates/$name)"
         return
     fi
+    test=$(sed 's|^[^/]*/src/||; s|\.rt$||; s|/|::|g' <<< "$file")::$test
     for ((number = 1; number <= most; number++)); do
         if ! refusing $number "$program" "$test"; then
             echo "FAILED: $name $test, growth $number"
@@ -74,16 +81,16 @@ refuse_each_of_run() {
     echo "omf $job, $(basename "$input"): $((number - 1)) growths"
 }
 
-# input NAME HEX TEXT: a module, written in hexadecimal, and the text behind it.
+# input NAME HEX TEXT: a module, written in hexadecimal, and the text after it.
 input() {
     printf "$(printf '%s' "$2" | tr -d ' \n' | sed 's/../\\x&/g')" > "$work/$1"
     printf '%s' "$3" >> "$work/$1"
 }
 
-for test in a_refused_growth_is_kept a_refused_growth_ends_a_check a_type_is_refused_without_memory; do
-    refuse_each_of_test omf_check_tests "tests::memory::$test"
+# Such tests are named a_refused_growth_..
+for test in $(grep -rhoE --include='*.rt' 'fn a_refused_growth_\w+' "$root"/crates/*_tests/src | sed 's/^fn //' | sort -u); do
+    refuse_each_of_test "$test"
 done
-refuse_each_of_test omf_derive_tests tests::table::a_refused_growth_is_memory_or_the_answer
 
 if [ ! -x "$omf" ]; then
     echo "skipped: the program (run make build, or name it in OMF)"

@@ -1,24 +1,36 @@
 #!/usr/bin/env python3
-"""Tables of docs/ARCHITECTURE.md: house.py counts the lines of each crate; house.py laws has what is believed of computed words; house.py
-calls has the inner words in contracts of public calls.
+"""Makes the tables of docs/ARCHITECTURE.md and docs/GATE.md from the sources.
 
-Lines that are empty, a comment alone, or an import are not counted. Believed are the definitions in specs/, less the worked examples
-that are evaluated (Rows.antt, and the modules that they are about), which stand under tests, as does samples.rt; inner are those of specs/Inner/, which
-nobody needs to believe; proofs are proofs/; code is src/ with the contracts in it; tests are the test functions and what they stand on.
+house.py --write   writes each table between its two marks in the page: `<!-- house.py: NAME -->` and `<!-- end -->`
+house.py --check   compares them: status 1 where one differs
+house.py NAME      prints one: layers, files, lines, cited, laws, inner or costs
 
-A file of specs/ may import a word of an Inner only below a line that names the law which ties the word to its definition:
-`-- computed: LAW.` Where one does not, house.py laws ends with status 1.
+layers  the crates by the length of the chain below each
+files   the files of specs/ that a reader has to believe, each with its first comment
+lines   the lines of each crate. Empty lines, comments and imports are not counted. Believed are the definitions of specs/ without the
+        worked examples (Rows.antt, Modules.antt), which count as tests; inner are those of specs/Inner/, which nobody has to believe;
+        proofs are proofs/; code is src/ with its contracts; tests are the test functions and the records that they use
+cited   how many lines of definitions contracts cite, followed to the end (believed.py)
+laws    the laws of computed definitions. A file of specs/ may import a definition of an Inner only below a line that names the law which
+        ties it to what is believed: `-- computed: LAW.` Where one does not, this ends with status 1
+inner   the inner definitions in contracts of public calls
+costs   the gate's cost by crate: functions, edits and the crates above are counted; the seconds are kept as the page has them, or
+        taken from a file of lines `CRATE PROOF EDITS` (--times FILE with --write)
 """
-import pathlib
 import re
 import sys
 
-ROOT = pathlib.Path(__file__).resolve().parent.parent / "crates"
+import believed
+from tree import CRATES, ROOT, crates, exported, is_for_tests, needs
+
+# Files of specs/ that import a computed definition without naming its law.
+UNTIED = []
 KINDS = ["believed", "inner", "proofs", "code", "tests"]
+PAGES = {"layers": "ARCHITECTURE", "files": "ARCHITECTURE", "lines": "ARCHITECTURE", "cited": "ARCHITECTURE", "laws": "ARCHITECTURE", "inner": "ARCHITECTURE", "costs": "GATE"}
 
 
 def lines_of(path):
-    """The lines that say something: no import, no comment, nothing empty."""
+    """How many lines of a file are neither empty nor a comment nor an import."""
     count, inside = 0, False
     for line in path.read_text(encoding="utf-8").splitlines():
         text = line.strip()
@@ -31,51 +43,118 @@ def lines_of(path):
     return count
 
 
-def kind_of(crate, path):
-    parts = path.relative_to(crate).parts
-    is_test = crate.name.endswith("_tests") or crate.name == "omf_trials"
-    if is_test or path.stem in ("tests", "rows", "samples", "Rows", "Modules") or "tests" in parts:
+def sources(crate):
+    """The source files of a crate, without what a build leaves."""
+    for path in sorted((CRATES / crate).rglob("*")):
+        inside = path.relative_to(CRATES / crate).parts
+        if path.suffix in (".rt", ".antt") and inside[0] in ("src", "specs", "proofs"):
+            yield path, inside
+
+
+def kind_of(crate, path, inside):
+    if is_for_tests(crate) or path.stem in ("tests", "rows", "edges", "samples", "Rows", "Modules") or "tests" in inside:
         return "tests"
-    if parts[:2] == ("specs", "Inner"):
+    if inside[:2] == ("specs", "Inner"):
         return "inner"
-    return {"specs": "believed", "proofs": "proofs", "src": "code"}.get(parts[0])
+    return {"specs": "believed", "proofs": "proofs", "src": "code"}[inside[0]]
+
+
+def lines():
+    rows, sums = [], dict.fromkeys(KINDS, 0)
+    for crate in crates():
+        counts = dict.fromkeys(KINDS, 0)
+        for path, inside in sources(crate):
+            counts[kind_of(crate, path, inside)] += lines_of(path)
+        rows.append((f"`{crate}`", counts))
+        sums = {it: sums[it] + counts[it] for it in KINDS}
+    table = ["| Crate | " + " | ".join(KINDS) + " |", "|---|" + "---|" * len(KINDS)]
+    for name, counts in [*rows, ("all", sums)]:
+        table.append(f"| {name} | " + " | ".join(f"{counts[it]:,}" for it in KINDS) + " |")
+    return table
+
+
+def below():
+    """For each crate all crates of this repository that it needs, directly or not."""
+    own = set(crates())
+    direct = {name: [it for it in found if it in own] for name, found in needs().items() if name in own}
+
+    def reach(name, seen):
+        for it in direct.get(name, []):
+            if it not in seen:
+                seen.add(it)
+                reach(it, seen)
+        return seen
+
+    return {name: reach(name, set()) for name in direct}
+
+
+def layers():
+    """Each crate with what it needs directly, without what that needs itself."""
+    under = below()
+    depth = {}
+    for name in sorted(under, key=lambda it: len(under[it])):
+        depth[name] = 1 + max((depth[it] for it in under[name]), default=0)
+    table = ["| Layer | Crate | Built directly on |", "|---|---|---|"]
+    for name in sorted(under, key=lambda it: (depth[it], is_for_tests(it), it)):
+        nearest = [it for it in under[name] if not any(it in under[other] for other in under[name])]
+        table.append(f"| {depth[name]} | `{name}` | {', '.join(f'`{it}`' for it in sorted(nearest)) or 'the kit'} |")
+    return table
+
+
+def files():
+    """Each file of specs/ with the first sentence of its head, but for Inner, laws and worked examples."""
+    table = ["| Crate | File of specs/ | Has |", "|---|---|---|"]
+    for crate in crates():
+        for path in sorted((CRATES / crate / "specs").rglob("*.antt")):
+            head = []
+            for line in path.read_text(encoding="utf-8").splitlines():
+                if not line.startswith("--"):
+                    break
+                head.append(line[2:].strip())
+            named = path.relative_to(CRATES / crate / "specs").with_suffix("")
+            if head and "Inner" not in named.parts and path.stem not in ("Rows", "Modules") and not is_for_tests(crate):
+                text = " ".join(head)
+                said = re.match(r"(.*?[.!?])(?= [A-Z`(]|$)", text)
+                table.append(f"| `{crate}` | {named} | {(said[1] if said else text).replace('|', chr(92) + '|')} |")
+    return table
+
+
+def joined(texts):
+    """Names of laws, each text as `A, B and C of CRATE; D of CRATE`, in one such text with each law once."""
+    by_crate = {}
+    for part in "; ".join(sorted(texts)).split("; "):
+        names, crate = part.rsplit(" of ", 1)
+        found = by_crate.setdefault(crate, [])
+        found += [it for it in re.split(r", | and ", names) if it not in found]
+    return "; ".join(f"{' and '.join(filter(None, [', '.join(names[:-1]), names[-1]]))} of {crate}" for crate, names in by_crate.items())
 
 
 def laws():
-    """Each computed word that a definition is given by, with the law that ties it to what is believed; whether all are tied."""
     tied, untied = {}, []
-    for path in sorted(ROOT.glob("*/specs/*.antt")):
-        law = None
-        for line in path.read_text(encoding="utf-8").splitlines():
-            named = re.match(r"-- computed: (.*)\.$", line)
-            used = re.match(r"use Rattle\.(omf_\w+)\.specs\.Inner\.(\w+)\.\{(.*)\}", line)
-            if named:
-                law = named[1]
-            elif used:
-                user = f"`{path.parts[-3]}` {path.stem}"
-                if law is None and path.stem not in ("Rows", "Modules"):
-                    untied.append(user)
-                for word in used[3].split(", ") if law else []:
-                    tied.setdefault((used[1], used[2], word), []).append((law, user))
-            else:
-                law = None
-    print("| Word | Of | By the law | Used in |")
-    print("|---|---|---|---|")
+    for crate in crates():
+        for path in sorted((CRATES / crate / "specs").rglob("*.antt")):
+            if "Inner" in path.parts:
+                continue
+            law = None
+            for line in path.read_text(encoding="utf-8").splitlines():
+                named = re.match(r"-- computed(?:, [^:]*)?: (.*)\.$", line)
+                used = re.match(r"use Rattle\.(omf_\w+)\.specs\.Inner\.([\w.]+)\.\{(.*)\}", line)
+                if named:
+                    law = named[1]
+                elif used:
+                    user = f"`{crate}` {path.relative_to(CRATES / crate / 'specs').with_suffix('')}"
+                    if law is None and path.stem not in ("Rows", "Modules"):
+                        untied.append(user)
+                    for word in used[3].split(", ") if law else []:
+                        tied.setdefault((used[1], used[2], word), []).append((law, user))
+                else:
+                    law = None
+    table = ["| Definition | Of | By the law | Used in |", "|---|---|---|---|"]
     for (crate, module, word), found in sorted(tied.items()):
-        by = "; ".join(sorted({law for law, _ in found}))
-        print(f"| `{word}` | `{crate}` {module} | {by} | {', '.join(user for _, user in found)} |")
-    for user in untied:
-        print(f"without a law: {user}", file=sys.stderr)
-    return not untied
-
-
-def exported(crate):
-    """The names that a crate's root file makes public, and its public modules, but for those of laws and of worked examples."""
-    root = next(path for name in ("lib.rt", "main.rt") if (path := crate / "src" / name).exists())
-    text = root.read_text(encoding="utf-8")
-    uses = re.findall(r"^pub use ([^;]*);", text, re.M)
-    names = {name for use in uses for name in re.findall(r"\w+", use)}
-    return names, set(re.findall(r"^pub mod (\w+);", text, re.M)) - {"laws", "rows"}
+        by = joined({law for law, _ in found})
+        table.append(f"| `{word}` | `{crate}` {module} | {by} | {', '.join(sorted({user for _, user in found}))} |")
+    UNTIED.extend(untied)
+    return table
 
 
 def contracts(path):
@@ -95,46 +174,103 @@ def contracts(path):
             name = None
 
 
-def calls():
-    """The words of an Inner that contracts of public calls name, with these calls."""
+def inner():
     found = {}
-    for crate in sorted(it for it in ROOT.iterdir() if it.is_dir() and not it.name.endswith(("_tests", "_trials"))):
+    for crate in crates():
+        if is_for_tests(crate):
+            continue
         public, modules = exported(crate)
-        for path in sorted(crate.glob("src/**/*.rt")):
+        for path in sorted((CRATES / crate / "src").rglob("*.rt")):
             text = path.read_text(encoding="utf-8")
-            uses = re.findall(r"ghost use Rattle\.(omf_\w+)\.specs\.Inner\.(\w+)\.\{(.*)\}", text)
+            uses = re.findall(r"ghost use Rattle\.(omf_\w+)\.specs\.Inner\.([\w.]+)\.\{(.*)\}", text)
             words = {word.split(" as ")[-1]: use[:2] for use in uses for word in use[2].split(", ")}
             for owner, name, clauses in contracts(path):
                 if (owner or name) in public or path.stem in modules:
                     for word in words.keys() & set(re.findall(r"\w+", clauses)):
                         call = f"`{owner}::{name}`" if owner else f"`{name}`"
-                        found.setdefault((*words[word], word), set()).add(call + f" of {crate.name}")
-    print("| Word | Of | In the contracts of |")
-    print("|---|---|---|")
+                        found.setdefault((*words[word], word), set()).add(call + f" of {crate}")
+    table = ["| Definition | Of | In the contracts of |", "|---|---|---|"]
     for (crate, module, word), users in sorted(found.items()):
-        print(f"| `{word}` | `{crate}` {module} | {', '.join(sorted(users))} |")
+        table.append(f"| `{word}` | `{crate}` {module} | {', '.join(sorted(users))} |")
+    return table
+
+
+def functions(crate):
+    """How many functions with a body a crate's src/ has, tests and worked examples among them."""
+    return sum(len(re.findall(r"^ *(?:pub(?:\([a-z]+\))? )?(?:extern \"C\" )?fn \w+", path.read_text(encoding="utf-8"), re.M))
+               for path in (CRATES / crate / "src").rglob("*.rt"))
+
+
+def seconds(given):
+    """Seconds of proof and of edits by crate: those that the page has, and over them those of a file."""
+    page = (ROOT / "docs" / "GATE.md").read_text(encoding="utf-8")
+    found = dict((name, (proof, edits)) for name, proof, edits in re.findall(r"^\| `(omf\w*)` \| [^|]* \| [^|]* \| ([^|]*) \| ([^|]*) \|", page, re.M))
+    for line in given.read_text(encoding="utf-8").splitlines() if given else []:
+        parts = line.split()
+        if len(parts) >= 2 and not line.startswith("#"):
+            found[parts[0]] = (parts[1], parts[2] if len(parts) > 2 else "-")
+    return found
+
+
+def summed(values):
+    return f"{sum(int(it.replace(',', '')) for it in values if it.replace(',', '').isdigit()):,}" if "NN" not in values else "NN"
+
+
+def costs(given=None):
+    under, kept = below(), seconds(given)
+    table = ["| Crate | Functions | Edits | Proof, s | Edits, s | A change here proves anew |", "|---|---|---|---|---|---|"]
+    totals = []
+    for crate in crates():
+        above = [it for it in crates() if crate in under[it]]
+        edits = len(list((CRATES / crate / "must-fail").glob("*.edit")))
+        proof, tried = kept.get(crate, ("NN", "NN"))
+        tried = tried if edits else "-"
+        libraries = [it for it in above if not is_for_tests(it)]
+        anew = f"it and {len(above)} crates above, {len(above) - len(libraries)} of them for tests" if above else "it alone"
+        totals.append((functions(crate), edits, proof, tried))
+        table.append(f"| `{crate}` | {functions(crate)} | {edits} | {proof} | {tried} | {anew} |")
+    table.append(f"| all | {sum(it[0] for it in totals):,} | {sum(it[1] for it in totals)} | {summed([it[2] for it in totals])} | {summed([it[3] for it in totals])} | |")
+    return table
+
+
+def with_table(text, name, table):
+    """A page with the table of this name between its marks, and whether it has these marks."""
+    marked = re.compile(rf"(<!-- house\.py: {name} -->\n).*?(\n<!-- end -->)", re.S)
+    return marked.sub(lambda found: f"{found[1]}\n" + "\n".join(table) + f"\n{found[2]}", text), bool(marked.search(text))
+
+
+def tables(given=None):
+    return {"layers": layers(), "files": files(), "lines": lines(), "cited": believed.table(), "laws": laws(), "inner": inner(), "costs": costs(given)}
 
 
 def main():
-    if sys.argv[1:] == ["laws"]:
-        sys.exit(0 if laws() else 1)
-    if sys.argv[1:] == ["calls"]:
-        calls()
+    words = sys.argv[1:]
+    given = None
+    if "--times" in words:
+        at = words.index("--times")
+        given = ROOT.__class__(words[at + 1])
+        del words[at : at + 2]
+    if len(words) == 1 and words[0] in PAGES:
+        print("\n".join(tables(given)[words[0]]))
         return
-    print("| Crate | " + " | ".join(KINDS) + " |")
-    print("|---|" + "---|" * len(KINDS))
-    sums = dict.fromkeys(KINDS, 0)
-    for crate in sorted(it for it in ROOT.iterdir() if it.is_dir()):
-        counts = dict.fromkeys(KINDS, 0)
-        for path in sorted(crate.rglob("*")):
-            if path.suffix in (".rt", ".antt") and "out" not in path.relative_to(crate).parts:
-                kind = kind_of(crate, path)
-                if kind:
-                    counts[kind] += lines_of(path)
-        print(f"| `{crate.name}` | " + " | ".join(f"{counts[it]:,}" for it in KINDS) + " |")
-        for it in KINDS:
-            sums[it] += counts[it]
-    print("| all | " + " | ".join(f"{sums[it]:,}" for it in KINDS) + " |")
+    if words not in (["--write"], ["--check"]):
+        sys.exit(__doc__)
+    differing = []
+    for name, table in tables(given).items():
+        path = ROOT / "docs" / f"{PAGES[name]}.md"
+        text = path.read_text(encoding="utf-8")
+        made, found = with_table(text, name, table)
+        if not found:
+            sys.exit(f"docs/{PAGES[name]}.md has no marks for the table {name}")
+        if words == ["--write"]:
+            path.write_text(made, encoding="utf-8")
+        elif made != text:
+            differing.append(f"{name} of docs/{PAGES[name]}.md")
+    if UNTIED:
+        print("computed definitions without a law (a line `-- computed: LAW.` above the import): " + ", ".join(UNTIED), file=sys.stderr)
+    if differing:
+        sys.exit("not as the sources have it, run tests/house.py --write: " + "; ".join(differing))
+    sys.exit(1 if UNTIED else 0)
 
 
 main()

@@ -1,17 +1,23 @@
 #!/usr/bin/env bash
-# Runs the commands that a page shows, and compares what they print: reasons.sh [PAGE ..]   (docs/REASONS.md)
+# Runs the commands that pages show, and compares what they print: reasons.sh [PAGE ..]   (docs/REASONS.md)
 #
 # A command is a line `$ ..` in a block ```console of the page; the lines after it, up to the next command or the end of the
 # block, are what it must print. Bytes that the page shows before the command are compared with the file that the command reads.
-# OMF names the program (omf, if it is not set). Where there is none, or OMF is empty, `rt try` runs the program from its sources,
-# without any proof; commands that need the system's own files are then left out. So are commands whose tools are not installed. It says
-# how many were left out.
+# OMF, OMF_PLACE and OMF_LINK name the programs (omf, omf-place and omf-link, if they are not set), OMF_USES the program of crates/omf_uses,
+# and LIBOMF the shared library (crates/omf_uses/out/omf_uses and build/libomf.so). Where there is no omf, or OMF is empty, `rt try` runs it
+# from its sources, without any proof; commands that need the system's own files or another program are then left out. So are commands
+# whose tools are not installed, and those on files that are not part of the repository. The last line has how many were left out.
 set -euo pipefail
 cd "$(dirname "$0")/.."
 omf=${OMF-omf}
+uses=$(realpath -m "${OMF_USES:-crates/omf_uses/out/omf_uses}")
+library=$(realpath -m "${LIBOMF:-build/libomf.so}")
 work=$(mktemp -d)
-trap 'rm -rf "$work"' EXIT
+# A page compiles a program `list`.
+made=$([ -e list ] || echo list)
+trap 'rm -rf "$work" ${made:+"$made"}' EXIT
 mkdir "$work/bin" "$work/cases"
+export PAIR=$uses
 [ $# -gt 0 ] || set -- docs/REASONS.md
 
 # In $work: N.command and N.said for the N-th command, and N.bytes where bytes are shown before it.
@@ -29,18 +35,39 @@ awk -v work="$work" '
     inside == "console" && number { print > said }
 ' "$@"
 
-# Whether a command names a tool that is not installed, or the object that such a tool would have made.
+# Whether a command names a tool that is not installed, what such a tool would have made, or files that are not part of the repository.
 lacks_tool() {
-    grep -q 'nasm\|/tmp/lamp\.obj' <<< "$1" && ! command -v nasm > /dev/null && return
+    grep -q 'nasm\|/tmp/\(lamp\|far\)\.obj' <<< "$1" && ! command -v nasm > /dev/null && return
     grep -q 'omf-place' <<< "$1" && ! command -v omf-place > /dev/null && return
-    grep -q 'omf-link' <<< "$1" && ! command -v omf-link > /dev/null && return
+    grep -q 'omf-link\|examples/link/run' <<< "$1" && ! command -v omf-link > /dev/null && return
+    grep -q 'examples/pair/run\|out/omf_uses' <<< "$1" && ! [ -x "$uses" ] && return
+    grep -q '/srv/\|FOLDER\|< slow' <<< "$1" && return
+    grep -q 'pkg-config\|\./list' <<< "$1" && ! pkg-config --exists omf 2> /dev/null && return
+    grep -q 'build/libomf' <<< "$1" && ! [ -e "$library" ] && return
     grep -q '^xxd' <<< "$1" && ! command -v xxd > /dev/null
+}
+
+# link_program NAME GIVEN: the program that the pages call by this name.
+link_program() {
+    local found
+    found=$(command -v "$2") && ln -sf "$(realpath "$found")" "$work/bin/$1"
+}
+
+# What `make install` puts under a PREFIX for C, of the library that LIBOMF names.
+install_library() {
+    mkdir -p "$work/include" "$work/lib/pkgconfig"
+    cp include/omf.h "$work/include"
+    ln -s "$library" "$work/lib/libomf.so"
+    sed "s|@PREFIX@|$work|" include/omf.pc.in > "$work/lib/pkgconfig/omf.pc"
+    export PKG_CONFIG_PATH=$work/lib/pkgconfig LD_LIBRARY_PATH=$work/lib
 }
 
 commands=$(find "$work" -maxdepth 1 -name '*.command' | wc -l)
 failed=0 left_out=0
-if command -v "$omf" > /dev/null; then
-    ln -s "$(realpath "$(command -v "$omf")")" "$work/bin/omf"
+link_program omf-place "${OMF_PLACE:-omf-place}" || true
+link_program omf-link "${OMF_LINK:-omf-link}" || true
+[ -z "${LIBOMF:-}" ] || ! [ -e "$library" ] || install_library
+if link_program omf "$omf"; then
     collects=no
 else
     # A program that keeps its words and its input as a case for `rt try`.
@@ -49,9 +76,11 @@ else
     chmod +x "$work/bin/omf"
 fi
 PATH=$work/bin:$PATH
+# The examples' scripts find the programs on the path.
+unset OMF OMF_PLACE OMF_LINK
 
 for number in $(seq "$commands"); do
-    command=$(cat "$work/$number.command")
+    command=$(sed "s|crates/omf_uses/out/omf_uses|$uses|; s|build/libomf\\.so|$library|" "$work/$number.command")
     if [ -e "$work/$number.bytes" ]; then
         file=$(grep -o "examples/[^ ;|]*\.omf" <<< "$command" | head -1 || true)
         shown=$(tr -d ' \n' < "$work/$number.bytes")
@@ -60,12 +89,12 @@ for number in $(seq "$commands"); do
             failed=$((failed + 1))
         fi
     fi
-    if lacks_tool "$command"; then
+    if lacks_tool "$(cat "$work/$number.command")"; then
         left_out=$((left_out + 1))
         continue
     elif [ $collects = no ]; then
         bash -c "$command" > "$work/got" 2>&1 || true
-    elif grep -q '/dev/full\|< examples$\|check examples/' <<< "$command"; then
+    elif grep -q '/dev/full\|< examples$\|check examples/\|omf-\|omf_uses\|libomf\|\./list\|run\.sh' <<< "$command"; then
         left_out=$((left_out + 1))
         continue
     elif grep -q omf <<< "$command" && ! grep -q '^cat [^|]*$' <<< "$command"; then
@@ -75,7 +104,9 @@ for number in $(seq "$commands"); do
     else
         bash -c "$command" > "$work/got" 2>&1 || true
     fi
-    if ! cmp -s "$work/got" "$work/$number.said"; then
+    if head -n 1 "$work/got" | grep -q '^skipped: '; then
+        left_out=$((left_out + 1))
+    elif ! cmp -s "$work/got" "$work/$number.said"; then
         echo "not as shown: $command"
         diff "$work/$number.said" "$work/got" || true
         failed=$((failed + 1))

@@ -1,5 +1,5 @@
 /* Loaded in front of the C library (LD_PRELOAD), it refuses one growth: the call of malloc, calloc or realloc that has the number
-   REFUSE_GROWTH, counted from 1. It says so on standard error. */
+   REFUSE_GROWTH, counted from 1. It reports that on standard error. */
 #include <errno.h>
 #include <stdlib.h>
 #include <unistd.h>

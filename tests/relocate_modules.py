@@ -2,8 +2,8 @@
 """Relocates every module of a folder that `omf check` accepts: relocate_modules.py FOLDER
 
 Each module gets a placement for all its segments, groups and externals: one frame at 10000H for all of them, segments one after
-another from there, those of 16 bits first, externals in the same 64 KB, absolute segments where they say. So 16-bit offsets reach
-in modules of less than 64 KB, and 32-bit offsets always. It says how many reach, and prints each that does not. OMF names the
+another from there, those of 16 bits first, externals in the same 64 KB, absolute segments at their addresses. So 16-bit offsets reach
+in modules of less than 64 KB, and 32-bit offsets always. It counts those that reach, and prints each that does not. OMF names the
 program.
 """
 import os

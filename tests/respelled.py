@@ -1,6 +1,6 @@
 """A module in another spelling: it means the same, and has the same canonical bytes.
 
-Every checksum byte is 0, every index of a data record and of a fixup has two bytes, each fixup stands in a FIXUPP of its own, names
+Every checksum byte is 0, every index of a data record and of a fixup has two bytes, each fixup is in a FIXUPP of its own, names
 its frame and its target by threads, and has a displacement. Bits that mean nothing are set.
 """
 
@@ -23,7 +23,7 @@ def record(kind, contents):
 
 
 def index(data, at):
-    """An index and the offset behind it."""
+    """An index and the offset after it."""
     if data[at] < 0x80:
         return data[at], at + 1
     return (data[at] & 0x7F) * 256 + data[at + 1], at + 2
@@ -39,7 +39,7 @@ def thread(kind, number, method, datum):
 
 
 def fixup(data, at, count, wide):
-    """The fixup at an offset as a FIXUPP's contents, and the offset behind it. It uses the threads of the number count modulo 4."""
+    """The fixup at an offset as a FIXUPP's contents, and the offset after it. It uses the threads of the number count modulo 4."""
     place, fix, number = data[at:at + 2], data[at + 2], count % 4
     at += 3
     threads, new = b"", fix & ~4

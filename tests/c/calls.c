@@ -2,7 +2,7 @@
  *
  * Without words it makes each call on modules that are written out below, and compares the whole answer and the whole buffer with what
  * is expected. With a job and files it prints for each file what the program would print for that job: run.sh compares the two. A buffer
- * is exactly as large as the room that is told, so that valgrind sees a byte too many. */
+ * is exactly as large as the room that is reported, so that valgrind sees a byte too many. */
 #include <omf.h>
 #include <stdio.h>
 #include <stdlib.h>
@@ -65,7 +65,7 @@ static struct omf_answer reloc(const uint8_t *bytes, size_t length, const char *
 
 static void check_calls(void) {
     expect("check", omf_check(first, sizeof first, false), (struct omf_answer){.size = 48, .record_count = 6});
-    expect("check: bytes behind the module", omf_check(spelled, sizeof spelled, false), (struct omf_answer){.size = 49, .record_count = 6});
+    expect("check: bytes after the module", omf_check(spelled, sizeof spelled, false), (struct omf_answer){.size = 49, .record_count = 6});
     expect("check: nothing", omf_check(NULL, 0, false), (struct omf_answer){.status = OMF_REFUSED, .reason = OMF_NO_END});
     expect("check: cut", omf_check(first, 36, false),
            (struct omf_answer){.status = OMF_REFUSED, .reason = OMF_CUT, .number = 4, .start = 34, .within = 2});
@@ -238,7 +238,7 @@ static void print_job(enum job job, const uint8_t *bytes, size_t length, const u
     }
 }
 
-/* Does a job on a file; its placement is the file of the same name with .place behind it. */
+/* Does a job on a file; its placement is the file of the same name with .place at its end. */
 static void do_job(enum job job, const char *path) {
     size_t length = 0, place_length = 0;
     uint8_t *bytes = contents(path, &length), *place = NULL;

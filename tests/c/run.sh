@@ -45,7 +45,7 @@ for job in "${jobs[@]}"; do
     for module in "${modules[@]}"; do
         echo "== $module"
         if [ "$job" = reloc ]; then
-            # What stands behind the module's end is no placement: the module alone is given to the program.
+            # What follows the module's end is no placement: the module alone is given to the program.
             size=$("$omf" check < "$module" | sed -n 's/^OK .* records, \(.*\) bytes$/\1/p')
             head -c "${size:-$(stat -c %s "$module")}" "$module" | cat - "$module.place" | "$omf" reloc
         else
@@ -92,7 +92,17 @@ if ! command -v python3 > /dev/null || ! command -v gcc > /dev/null; then
 else
     gcc -shared -o "$work/libomf.so" -Wl,--whole-archive "$library" -Wl,--no-whole-archive || fail "no shared library is made"
     export LIBOMF=$work/libomf.so
-    compare python python3 "$here/../../examples/python/omf.py"
+    by_python() { # by_python JOB MODULE..: the Python example, each module's placement in the file of its name with .place at its end
+        local job=$1 files=() status=0
+        shift
+        for module in "$@"; do
+            files+=("$module")
+            if [ "$job" = reloc ]; then files+=("$module.place"); fi
+        done
+        python3 "$here/../../examples/python/omf.py" "$job" "${files[@]}" || status=$?
+        [ "$status" -le 1 ]
+    }
+    compare python by_python
     echo "python: ${jobs[*]} as the program, on $count modules"
 fi
 exit $((failures > 0))

@@ -4,7 +4,7 @@
 
 int LLVMFuzzerTestOneInput(const uint8_t *bytes, size_t length);
 
-/* The part of a list behind the lines of the records. */
+/* The part of a list after the lines of the records. */
 static struct text tables(struct text list) {
     size_t at = 0;
     while (at < list.size && list.bytes[at] == 'R') {

@@ -1,4 +1,4 @@
-/* One verdict: what was read decides it, whatever stands behind; with the flag a module is accepted, or refused for a comment or as
+/* One verdict: what was read decides it, whatever follows it; with the flag a module is accepted, or refused for a comment or as
  * without it; what is accepted is listed. */
 #include "fuzz.h"
 

@@ -82,7 +82,7 @@ static inline struct omf_answer ask(enum job job, const uint8_t *bytes, size_t l
     return answer;
 }
 
-/* Asks for the room, and then for the text, which has exactly that size and stands alone in the buffer. */
+/* Asks for the room, and then for the text, which has exactly that size and is alone in the buffer. */
 static inline struct text text_of(enum job job, const uint8_t *bytes, size_t length, const uint8_t *placement, size_t placement_length) {
     struct text text = {ask(job, bytes, length, placement, placement_length, NULL, 0), NULL, 0};
     if (text.answer.status != OMF_ROOM) {

@@ -1,4 +1,4 @@
-/* A module, and behind it a placement text, as the program reads them: a listing, or a fault that is one of those of the call. The
+/* A module, and after it a placement text, as the program reads them: a listing, or a fault that is one of those of the call. The
  * canonical bytes have the same listing at that placement, or the same fault but for the record and the place of what does not reach. */
 #include "fuzz.h"
 

@@ -46,7 +46,7 @@ fi
 code=${LIBRARY:-$work/covered.o}
 [ -n "${LIBRARY:-}" ] || "$kit/toolchain/bin/clang" -w -c -x ir "$kept" -O2 -fPIE -fsanitize-coverage=inline-8bit-counters,pc-table -o "$work/covered.o"
 
-# The first inputs: the examples and local.omf, which has every local record, each with its placement behind it.
+# The first inputs: the examples and local.omf, which has every local record, each with its placement after it.
 mkdir -p "$work/seeds"
 for module in "$root"/examples/*.omf "$root"/examples/*/*.omf "$root"/tests/fuzz/*.omf; do
     name=$(basename "$(dirname "$module")")-$(basename "$module")
