@@ -1,7 +1,7 @@
 #!/usr/bin/env python3
 """Writes the modules of a large program for measuring: link_modules.py FOLDER COUNT
 
-  modules.omf  COUNT modules of some 10 KB, one behind another: each has two segments, 20 publics, 20 externals that other
+  modules.omf  COUNT modules of some 10 KB, one after another: each has two segments, 20 publics, 20 externals that other
                modules define, and 8,000 bytes of data with 440 fixups of 32-bit offsets, every third to an external
   one.omf      the first of them
 """

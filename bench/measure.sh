@@ -3,8 +3,8 @@
 # older one that is measured beside it. The modules are written to FOLDER, or to one that is removed again.
 #
 # Each number is processor time on one core, the least of RUNS runs (5), as a ratio to `sha256sum` of the same bytes in the same
-# run, so that it says little of the machine. The peak of memory is the program's own, in megabytes. Where rabin2 or objconv are
-# installed, their times stand behind `list` and `canon`.
+# run, so that it depends little on the machine. The peak of memory is the program's own, in megabytes. Where rabin2 or objconv are
+# installed, their times follow `list` and `canon`.
 set -euo pipefail
 here=$(cd "$(dirname "$0")" && pwd)
 omf=${OMF:-omf}

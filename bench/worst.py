@@ -106,7 +106,7 @@ def publics():
 
 
 def repeated(count, length, step):
-    """LIDATAs that stand for so many bytes each."""
+    """LIDATAs that expand to `length` bytes each."""
     one = struct.pack("<IH", length, 0) + b"\x01\xAA"
     return FRONT + b"".join(iterated(step * k, one) for k in range(count)) + END
 
@@ -138,11 +138,11 @@ SHAPES = {
     "4 MB of spaces": (lambda: SMALL, " " * 4_000_000 + ONE),
     "500,000 S lines": (lambda: SMALL, ONE * 500_000),
     "590,000 G real lines": (lambda: SMALL, ONE + "G real\n" * 590_000),
-    f"8 LIDATAs of {LONG:,} bytes, one behind another": (lambda: repeated(8, LONG, LONG), ONE),
-    f"64 LIDATAs of {LONG:,} bytes, one over another": (lambda: repeated(64, LONG, 0), ONE),
+    f"8 LIDATAs of {LONG:,} bytes, one after another": (lambda: repeated(8, LONG, LONG), ONE),
+    f"64 LIDATAs of {LONG:,} bytes, at one offset": (lambda: repeated(64, LONG, 0), ONE),
     f"an LIDATA of {LONGEST:,} bytes": (lambda: repeated(1, LONGEST, 0), ONE),
     f"an LIDATA of {LONGEST:,} bytes, doubled level by level": (doubled, ONE),
-    f"8 LIDATAs of {LONGEST:,} bytes, one over another": (lambda: repeated(8, LONGEST, 0), ONE),
+    f"8 LIDATAs of {LONGEST:,} bytes, at one offset": (lambda: repeated(8, LONGEST, 0), ONE),
 }
 
 

@@ -1,7 +1,7 @@
 #!/usr/bin/env python3
 """Makes a raw image of what `omf reloc` prints: image.py PLACEMENT ADDRESS SIZE < listing > image
 
-Each segment lies at the address of its S line in the placement. The image begins at ADDRESS (hexadecimal) and has SIZE bytes
+Each segment is at the address of its S line in the placement. The image begins at ADDRESS (hexadecimal) and has SIZE bytes
 (decimal); a byte that no line covers is 0.
 """
 import sys

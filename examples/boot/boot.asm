@@ -1,4 +1,4 @@
-; A boot sector in four segments. What it says goes to the first serial port; then it ends the emulator.
+; A boot sector in four segments. Its output goes to the first serial port; then it ends the emulator.
 ; It has a fixup of each common kind: a base, an offset, a self-relative call, a far pointer, and a start.
 ;
 ;       nasm -f obj boot.asm -o boot.omf

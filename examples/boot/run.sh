@@ -1,5 +1,5 @@
 #!/usr/bin/env bash
-# Relocates the boot sector, boots it in an emulator, and compares what it says with said.txt. OMF names the program.
+# Relocates the boot sector, boots it in an emulator, and compares what it prints with said.txt. OMF names the program.
 #
 # Debian's packages: nasm (to assemble the source anew and compare), qemu-system-x86, python3.
 set -euo pipefail

@@ -2,7 +2,8 @@
 # From a listing of `omf reloc` to what a programmer of memory chips takes: convert.sh PLACEMENT NAME < listing
 #
 # Writes NAME.bin, NAME.hex (Intel HEX) and NAME.srec (Motorola S-records) by srec_cat (Debian's package: srecord).
-# Each segment lies at the address of its S line in the placement; bytes that no line covers are FF, as an erased chip has them.
+# Each segment is at the address of its S line in the placement; bytes that no line covers are FF, as in an erased chip. The listing is
+# that of one module: lines of `omf-link image` have addresses and no segments, and go to srec_cat as they are (docs/LINK.md).
 # The binary begins at the lowest address, or at BEGIN (hexadecimal). S-records end with a start address, which programmers of chips
 # ignore: START (hexadecimal), or where the binary begins. Bytes that two segments both claim are refused by srec_cat.
 set -euo pipefail
@@ -24,6 +25,7 @@ awk -v placement="$placement" -v range="$work/range" '
         }
     }
     $1 == "START" { next }
+    $1 !~ /^[0-9A-F]+:[0-9A-F]+$/ { print "not a line of `omf reloc`: " $0 > "/dev/stderr"; failed = 1; exit 1 }
     {
         split($1, place, ":")
         address = base[number(place[1])] + number(place[2])
@@ -33,7 +35,7 @@ awk -v placement="$placement" -v range="$work/range" '
         for (i = 2; i <= NF; i++) printf " %s", $i
         print ""
     }
-    END { printf "%.0f %.0f\n", lowest, end > range }' > "$work/dump"
+    END { if (!failed) printf "%.0f %.0f\n", lowest, end > range }' > "$work/dump"
 
 read -r lowest end < "$work/range"
 begin=$([ -n "${BEGIN:-}" ] && echo $((16#$BEGIN)) || echo "$lowest")

@@ -1,4 +1,4 @@
-; The third of three modules: the mark of a boot sector, which lies at its end.
+; The third of three modules: the mark of a boot sector, which is at its end.
 ;
 ;       nasm -f obj mark.asm -o mark.obj
 

@@ -1,6 +1,6 @@
 #!/usr/bin/env bash
-# Links the three modules of a boot sector's program at the places of program.link, makes the sector, boots it in an emulator, and compares
-# what it says with said.txt. OMF_LINK names the program.
+# Links the three modules of a boot sector's program at the addresses of program.link, makes the sector, boots it in an emulator, and
+# compares what it prints with said.txt. OMF_LINK names the program.
 #
 # Debian's packages: nasm (to assemble the sources anew and compare), srecord, qemu-system-x86.
 set -euo pipefail
@@ -27,13 +27,14 @@ fi
 cat start.obj say.obj mark.obj program.link | "$link" image > "$work/shown"
 cat "$work/shown"
 
-# The draft of their text, with the code in the frame of base 0 and the mark at the end of the sector, says the same as program.link.
+# The draft of their text, with the code in the frame of base 0 and the mark at the end of the sector, gives the same as program.link.
 cat start.obj say.obj mark.obj | "$link" draft --base 7C00 --real > "$work/draft"
-sed 's/^S 7C00 real/S 7C00 0 0/; s/^S 7C35 7C00 7C0/S 7C35 0 0/; s/^S 7CA6 real/S 7DFE 0 0/' "$work/draft" > "$work/drafted"
+# The lines are found by the names in their comments, since addresses move with each change of the sources.
+sed -E '/"text"/s/^S ([0-9A-F]+) .*;/S \1 0 0 ;/; /"mark"/s/^S .*;/S 7DFE 0 0 ;/' "$work/draft" > "$work/drafted"
 cat start.obj say.obj mark.obj "$work/drafted" | "$link" image | cmp - "$work/shown"
 echo "the draft, with three lines changed, gives the same"
 
-# srec_cat reads the lines as they are, but for the start. The sector begins at 7C00H and has 512 bytes; those that no line covers are 0.
+# srec_cat reads the lines as they are, without the start. The sector begins at 7C00H and has 512 bytes; those that no line covers are 0.
 sed '/^START/d' "$work/shown" | srec_cat - -hex-dump -offset -0x7C00 -fill 0 0 512 -o "$work/sector.img" -binary
 
 # The sector ends the emulator by port F4H, which makes the status odd.

@@ -1,4 +1,4 @@
-; The second of three modules: it says texts by the first module's `put`, counts the bytes, and has a text of its own.
+; The second of three modules: it prints texts by the first module's `put`, counts the bytes, and has a text of its own.
 ;
 ;       nasm -f obj say.asm -o say.obj
 
@@ -10,7 +10,7 @@
         group   dgroup data
 
         segment text public align=1 class=CODE
-say:    lodsb                           ; the bytes at DS:SI, to the 0 behind them
+say:    lodsb                           ; the bytes at DS:SI, to the 0 after them
         or      al, al
         jz      .said
         call    put                     ; near, back into the first module

@@ -1,5 +1,5 @@
-; The first of three modules: a boot sector's program. It has the second module say two texts, shows how many bytes were put, and ends
-; the emulator. What it says goes to the first serial port.
+; The first of three modules: a boot sector's program. It has the second module print two texts, shows how many bytes were put, and ends
+; the emulator. Its output goes to the first serial port.
 ;
 ;       nasm -f obj start.asm -o start.obj
 

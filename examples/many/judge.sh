@@ -1,9 +1,8 @@
 #!/usr/bin/env bash
-# Judges modules: judge.sh MODULE ..   OMF names the program, and LIMITS gives the words of `ulimit` for each run of it.
+# Judges modules: judge.sh MODULE ..   OMF names the program, and LIMITS gives the arguments of `ulimit` for each run of it.
 #
 # A line for each: its status, its key, its name and its verdict, with tabs between. The key of an accepted module is the SHA-256
-# of its canonical bytes: two modules have one key where they are the same but for spelling. It is `-` where the module is
-# refused.
+# of its canonical bytes: two modules have one key if they differ only in encoding. It is `-` if the module is refused.
 # The status of the script is 3 where a module could not be judged (memory, reading, writing, a limit), so that it is tried again.
 set -uo pipefail
 omf=${OMF:-omf}

@@ -3,8 +3,9 @@
 #
 # OUT/names has the modules, OUT/log a line for each batch of 50, OUT/results the lines of judge.sh. If it is stopped, the same
 # command goes on with the batches that are not done, and with those in which a module could not be judged. A new OUT begins anew.
-# OMF names the program, LIMITS the words of `ulimit` for each of its runs. HOSTS, a file of GNU parallel's `--sshloginfile`, names hosts that work too: each needs the program,
-# this folder and the modules under the same paths. A batch that fails on one is tried on another, three times in all.
+# OMF names the program, LIMITS the arguments of `ulimit` for each of its runs. HOSTS, a file of GNU parallel's `--sshloginfile`, names
+# hosts that work too: each needs the program, this folder and the modules under the same paths. A batch that fails on one is tried on
+# another, three times in all.
 set -euo pipefail
 here=$(cd "$(dirname "$0")" && pwd)
 folder=${1:?usage: run.sh FOLDER OUT} out=${2:?usage: run.sh FOLDER OUT}

@@ -1,4 +1,4 @@
-; The second of two modules that call one another: it says a text by the first module's `put`, and has a text of its own.
+; The second of two modules that call one another: it prints a text by the first module's `put`, and has a text of its own.
 ;
 ;       nasm -f obj callee.asm -o callee.obj
 
@@ -8,7 +8,7 @@
         extern  put
 
         segment callee align=16 class=CODE
-say:    lodsb                           ; the bytes at DS:SI, to the 0 behind them
+say:    lodsb                           ; the bytes at DS:SI, to the 0 after them
         or      al, al
         jz      .said
         call    far put                 ; a far pointer back into the first module

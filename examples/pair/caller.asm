@@ -1,5 +1,5 @@
-; The first of two modules that call one another: a boot sector, which has the other module say a text, and has `put` for it.
-; What they say goes to the first serial port; then this one ends the emulator.
+; The first of two modules that call one another: a boot sector, which has the other module print a text, and has `put` for it.
+; Their output goes to the first serial port; then this one ends the emulator.
 ;
 ;       nasm -f obj caller.asm -o caller.obj
 

@@ -1,11 +1,11 @@
 #!/usr/bin/env bash
 # Derives the placements of two modules that call one another, lays their images into a boot sector, boots it in an emulator, and
-# compares what it says with said.txt. PAIR names the program omf-pair (crates/omf_pair, which `rt run` there builds).
+# compares what it prints with said.txt. PAIR names the program (crates/omf_uses, which `rt run` there builds).
 #
 # Debian's packages: nasm (to assemble the sources anew and compare), qemu-system-x86, python3.
 set -euo pipefail
 cd "$(dirname "$0")"
-pair=${PAIR:-../../crates/omf_pair/out/omf_pair}
+pair=${PAIR:-../../crates/omf_uses/out/omf_uses}
 
 for tool in "$pair" python3 qemu-system-i386; do
     command -v "$tool" > /dev/null || { echo "skipped: $tool is not installed"; exit 0; }
@@ -24,7 +24,8 @@ if command -v nasm > /dev/null; then
     done
 fi
 
-cat caller.obj callee.obj | "$pair" > "$work/shown"
+# Before the placements and the images the program prints what its samples show.
+cat caller.obj callee.obj | "$pair" | grep -E '^(S|E|START|[0-9A-F]{4}:)' > "$work/shown"
 cat "$work/shown"
 python3 sector.py < "$work/shown" > "$work/sector.img"
 

@@ -1,7 +1,7 @@
 #!/usr/bin/env python3
 """Lays the images of several modules into a boot sector: sector.py < shown > image
 
-`shown` has for each module its placement, of S and E lines, and then its listing. An S line behind a listing begins another module.
+`shown` has for each module its placement, of S and E lines, and then its listing. An S line after a listing begins another module.
 The sector begins at 7C00H and has 512 bytes; a byte that no line covers is 0.
 """
 import sys

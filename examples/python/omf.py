@@ -1,6 +1,7 @@
-"""The library from Python: omf.py check|list|canon FILE.. or omf.py reloc FILE PLACEMENT ..
+"""The library from Python: omf.py check|list|canon FILE .. or omf.py reloc FILE PLACEMENT FILE PLACEMENT ..
 
-It prints what the program prints. LIBOMF names the shared library (libomf.so).
+It prints what the program prints. The status is 0, 1 where a file is refused, and 2 on a usage error. LIBOMF names the shared library
+(libomf.so).
 """
 import ctypes
 import os
@@ -17,7 +18,7 @@ CAUSES = "Target Location Distance".split()
 
 
 class Answer(ctypes.Structure):
-    """What a call answers (struct omf_answer)."""
+    """The answer of a call (struct omf_answer)."""
 
     _fields_ = [(name, ctypes.c_uint32) for name in "status reason kind index number within".split()] + [
         (name, ctypes.c_uint64) for name in "start line size record_count".split()
@@ -37,7 +38,7 @@ class Answer(ctypes.Structure):
 
 
 class Fault(Exception):
-    """A call was not done; the answer says why."""
+    """A call was not done; the answer has the reason."""
 
     def __init__(self, answer):
         super().__init__(answer.line_of_fault())
@@ -85,22 +86,31 @@ def relocated(module, placement, refuse_vendor_comments=False):
     return text_of(library.omf_reloc, module, len(module), placement, len(placement), refuse_vendor_comments)
 
 
-def run(job, path):
-    """What the program prints for a job on a file."""
+def run(job, path, placement=None):
+    """What the program prints for a job on a file, and whether it was done."""
     module = pathlib.Path(path).read_bytes()
     try:
         if job == "check":
-            return b"OK %d records, %d bytes\n" % check(module)
+            return b"OK %d records, %d bytes\n" % check(module), True
         if job == "reloc":
-            return relocated(module, pathlib.Path(path + ".place").read_bytes())
-        return {"list": listing, "canon": canonical}[job](module)
+            return relocated(module, pathlib.Path(placement).read_bytes()), True
+        return {"list": listing, "canon": canonical}[job](module), True
     except Fault as fault:
-        return f"{fault}\n".encode()
+        return f"{fault}\n".encode(), False
 
 
 def main():
-    for path in sys.argv[2:]:
-        sys.stdout.buffer.write(f"== {path}\n".encode() + run(sys.argv[1], path))
+    job, files = (sys.argv[1], sys.argv[2:]) if len(sys.argv) > 2 else ("", [])
+    if job not in ("check", "list", "canon", "reloc") or job == "reloc" and len(files) % 2:
+        print(__doc__, file=sys.stderr)
+        sys.exit(2)
+    pairs = zip(files[::2], files[1::2]) if job == "reloc" else ((path, None) for path in files)
+    done = True
+    for path, placement in pairs:
+        text, is_done = run(job, path, placement)
+        sys.stdout.buffer.write(f"== {path}\n".encode() + text)
+        done = done and is_done
+    sys.exit(0 if done else 1)
 
 
 if __name__ == "__main__":
