@@ -1,11 +1,11 @@
 -- The tests that the code makes find the fault of framing.
-use Rattle.std.proofs.Common.{◌≡◌, ℕ, ◌+◌, ◌*◌, ◌%◌, ◌<◌, Bool, true, false, cond, not, ◌||◌, Option, Some, None, List, [], ◌∷◌, length, sum, refl, sym, ap, ◌∙◌, arith}
+use Rattle.std.proofs.Common.{◌≡◌, ℕ, ◌+◌, ◌*◌, ◌%◌, ◌<◌, Bool, true, false, cond, not, ◌||◌, Option, Some, None, List, [], ◌∷◌, length, sum, refl, sym, ap, ◌∙◌, arith, subst, lit<}
 use Rattle.std.specs.Prelude.{◌==◌, nat_le, slice_index, option_map}
 use Rattle.std.specs.Option.{option_or}
 use Rattle.omf_frame.specs.declared.fault.Reason.{Reason}
 use Rattle.omf_frame.specs.declared.fault.Reason.TheVariants as reason
-use Rattle.omf_frame.specs.Fault.{Fault, rule, broken, least, first_step}
-use Rattle.omf_frame.specs.Framing.{is_taken, is_unsupported, is_header, type_faults, lasting, standing_fault}
+use Rattle.omf_frame.specs.Fault.{Fault, reason_number, rule, broken, least, first_step}
+use Rattle.omf_frame.specs.Framing.{is_taken, is_unsupported, is_header, type_faults, lasting, standing_fault, frame_fault, is_nonempty, is_whole, stated_length}
 use Rattle.omf_frame.specs.Inner.Judging.{found, type_fault, whole_fault, fault_of}
 
 -- the steps, over the outcomes of the tests
@@ -106,3 +106,23 @@ by_whole f bytes r w e n g = standing_is f bytes ∙ ap (λ t. option_map found 
 
 pub empty_sound : (f : Bool) → standing_fault f [] ≡ None
 empty_sound f = refl
+
+-- the number of a fault's reason, 0 if there is no fault
+abbrev number_of : Option Fault → ℕ
+number_of None = 0
+number_of (Some f) = reason_number f.reason
+
+few : (s t u w e c h : Bool) (len at : ℕ) → number_of (least (first_step (steps s t u w e c h len at))) < 8
+few false t u w e c h len at = lit< tt
+few true true true w e c h len at = lit< tt
+few true false true w e c h len at = lit< tt
+few true false false w e c h len at = lit< tt
+few true true false false e c h len at = lit< tt
+few true true false true true c h len at = lit< tt
+few true true false true false false h len at = lit< tt
+few true true false true false true false len at = lit< tt
+few true true false true false true true len at = lit< tt
+
+-- a framing fault has one of the framing reasons
+pub framing_reason : (is_first : Bool) (bytes : List ℕ) (fault : Fault) → frame_fault is_first bytes ≡ Some fault → reason_number fault.reason < 8
+framing_reason f bytes fault h = subst (λ o. number_of o < 8) h (few (is_nonempty bytes) (is_taken (slice_index bytes 0)) (is_unsupported (slice_index bytes 0)) (is_whole bytes) (stated_length bytes == 0) _ _ _ _)

@@ -7,3 +7,4 @@ pub mod Device
 pub mod Framer
 pub mod Runs
 pub mod Inner
+pub mod Rows

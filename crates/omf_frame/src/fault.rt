@@ -71,7 +71,7 @@ pub enum Reason {
     /// 20: an LIDATA expands to more bytes than the limit.
     #[error("repeated data are too long")]
     DataTooLong,
-    /// 21: a name index of a SEGDEF or GRPDEF has no LNAMES or LLNAMES entry so far.
+    /// 21: a name index of a SEGDEF (its name or class; the overlay is not checked) or GRPDEF has no LNAMES or LLNAMES entry so far.
     #[error("the name is not defined")]
     UndefinedName,
     /// 22: a segment index has no SEGDEF so far.

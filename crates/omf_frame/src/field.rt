@@ -1,6 +1,6 @@
 //! Self-delimiting fields of records (TIS OMF 1.1, "Frequently used fields").
 
-ghost use Rattle.std.specs.Prelude.{◌≡◌, ◌≤◌, ◌<◌, ◌++◌, ◌∷◌, ℕ, List, drop, length, IfSome, IfNone, OnOk, OnErr};
+ghost use Rattle.std.specs.Prelude.{◌≡◌, ◌≤◌, ◌<◌, ◌+◌, ◌++◌, ◌∷◌, ℕ, List, drop, length, vec_len, vec_capacity, IfSome, IfNone, OnOk, OnErr};
 ghost use Rattle.omf_frame.specs.Fields.{IsSpelledAt, IsUnspelled, IsPrefixFree, IsShortest, IsLittle, IsIndex, index_bytes, IsName, name_bytes, IsCommunalLength, communal_length_bytes};
 ghost use Rattle.omf_frame.specs.Inner.FieldLaws.{little_free, little_spelled, little_shortest, index_free, index_shortest, name_free, name_shortest, communal_free, communal_shortest};
 ghost use Rattle.byteorder.specs.Endian.{little_bytes};
@@ -28,7 +28,9 @@ pub trait Field<'a>: Sized {
     fn put(&self, out: &mut Vec<u8>) -> Result<(), AllocError>
         ensures spelled { spells self.now (shortest self.now) }
         ensures ok { OnOk result (out.new.items ≡ out.old.items ++ shortest self.now) }
-        ensures err { OnErr result (out.new.items ≡ out.old.items) };
+        ensures err { OnErr result (out.new.items ≡ out.old.items) }
+        // Memory is asked for only if the capacity does not hold the encoding.
+        ensures full { OnErr result (vec_capacity out.old < vec_len out.old + length (shortest self.now)) };
 
     /// No encoding is a prefix of another.
     ghost prefix_free: { IsPrefixFree spells };

@@ -5,7 +5,7 @@ ghost use Rattle.omf_frame.specs.declared.fault.Reason.{Reason};
 ghost use Rattle.omf_frame.specs.declared.fault.Place.{Place};
 ghost use Rattle.omf_frame.specs.declared.fault.FrameFault.TheVariants.{Refused};
 ghost use Rattle.omf_frame.specs.Bytes.{AreBytes};
-ghost use Rattle.omf_frame.specs.Fault.{Fault, IsLeast, least, least_or, Rule, AreKept, broken};
+ghost use Rattle.omf_frame.specs.Fault.{Fault, reason_number, IsLeast, least, least_or, Rule, AreKept, broken};
 ghost use Rattle.omf_frame.specs.Framing.{Raw, IsRecord, IsFramed, HasFront, raw_bytes, present, after_front, front_record, is_taken, is_header, frame_fault, standing_fault};
 ghost use Rattle.omf_frame.specs.Framer.{Held, at_start, Takes, FailsAs};
 ghost use Rattle.omf_frame.specs.Runs.{Run, run_over, settled, IsFed, IsOpen, IsFramingOf, before_all};
@@ -27,6 +27,11 @@ pub fn pieces_do_not_matter()
 /// A framing fault remains whatever bytes follow.
 pub fn standing_faults_stay()
     ensures { (is_first : Bool) (bytes more : List ℕ) (fault : Fault) → standing_fault is_first (present bytes) ≡ Some fault → standing_fault is_first (present (bytes ++ more)) ≡ Some fault }
+{}
+
+/// A framing fault has one of the reasons 1 to 7.
+pub fn framing_reasons()
+    ensures { (is_first : Bool) (bytes : List ℕ) (fault : Fault) → frame_fault is_first bytes ≡ Some fault → reason_number fault.reason < 8 }
 {}
 
 /// A run over an input shows the records, and ends in the state, that the definitions give for the whole input.

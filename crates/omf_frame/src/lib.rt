@@ -24,6 +24,7 @@ mod framing;
 mod kinds;
 mod laws;
 mod pull;
+mod rows;
 mod sums;
 mod write;
 
@@ -33,8 +34,8 @@ pub use field::{CommunalLength, Field, Index, Le16, Le32, Name};
 pub use framer::{Fed, Framer, RawRecord};
 pub use kinds::is_header;
 pub use laws::{
-    faults_are_least, modules_are_read, modules_are_unique, pieces_do_not_matter, records_delimit,
-    runs_are_framings, standing_faults_stay,
+    faults_are_least, framing_reasons, modules_are_read, modules_are_unique, pieces_do_not_matter,
+    records_delimit, runs_are_framings, standing_faults_stay,
 };
 pub use pull::pull_piece;
 pub use sums::checksum;
