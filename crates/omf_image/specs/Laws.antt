@@ -1,11 +1,12 @@
 -- Laws of the definitions, each the contract of a function of the same name.
 use Rattle.std.specs.Prelude.{◌≡◌, ◌↔◌, ◌<◌, ◌≤◌, IsTrue, Contains, ℕ, List, [], ◌∷◌, ◌++◌, length, map, slice_get, Option, None, IsSome, Ok, Err}
+use Rattle.std.specs.List.{repeat}
 use Rattle.std.specs.Option.{option_or}
 use Rattle.omf_frame.specs.Bytes.{AreBytes}
 use Rattle.omf_frame.specs.Fault.{Fault, is_before}
 use Rattle.omf_frame.specs.declared.fault.Reason.TheVariants as reason
 use Rattle.omf_records.specs.Layout.{fault, Meets}
-use Rattle.omf_image.specs.Blocks.{Blocks, blocks, blocks_bytes, blocks_size, AreBlocks, IsFirstFault}
+use Rattle.omf_image.specs.Blocks.{Blocks, Repeat, Nest, blocks, block_bytes, blocks_bytes, blocks_size, AreBlocks, IsFirstFault}
 -- computed: blocks_are_read, lengths_are_decided, blocks_are_expanded, block_faults_are_least and blocks_are_measured of omf_image.
 use Rattle.omf_image.specs.Inner.Expanding.{read_blocks, expanded_length, block_faults, blocks_of, expanded, length_faults}
 -- computed: runs_are_maximal of omf_image.
@@ -14,6 +15,11 @@ use Rattle.omf_image.specs.Overlay.{Laid, byte_of, byte_at, AreRuns, IsRunAt, Ar
 use Rattle.omf_image.specs.Painting.{extent}
 use Rattle.omf_image.specs.declared.run.Run.{Run}
 use Rattle.omf_image.specs.declared.limits.Limits.{Limits}
+
+-- The bytes of a block are those of its contents, taken as often as its repeat count says.
+abbrev pub BlocksAreRepeated : Type 0
+BlocksAreRepeated = ((count : ℕ) (bytes : List ℕ) → block_bytes (Repeat count bytes) ≡ repeat count bytes)
+    × ((count : ℕ) (trees : Blocks) → block_bytes (Nest count trees) ≡ repeat count (blocks_bytes trees))
 
 -- The size of blocks is the number of bytes they expand to.
 abbrev pub SizesAreLengths : Type 0

@@ -1,6 +1,11 @@
 //! Laws of the definitions. Each is the contract of an empty function.
 
-ghost use Rattle.omf_image.specs.Laws.{SizesAreLengths, BlocksAreRead, LengthsAreDecided, BlocksAreExpanded, BlockFaultsAreLeast, BlocksAreMeasured, LimitsMayGrow, LastPieceWins, RunsAreMaximal, ImagesAreOverlays, NoBytesCoverNothing, CoveredPiecesAreLost, SamePlacesAreLost};
+ghost use Rattle.omf_image.specs.Laws.{BlocksAreRepeated, SizesAreLengths, BlocksAreRead, LengthsAreDecided, BlocksAreExpanded, BlockFaultsAreLeast, BlocksAreMeasured, LimitsMayGrow, LastPieceWins, RunsAreMaximal, ImagesAreOverlays, NoBytesCoverNothing, CoveredPiecesAreLost, SamePlacesAreLost};
+
+/// The bytes of a block are those of its contents, taken as often as its repeat count says.
+pub fn blocks_are_repeated()
+    ensures { BlocksAreRepeated }
+{}
 
 /// The size of blocks is the number of bytes they expand to.
 pub fn sizes_are_lengths()
