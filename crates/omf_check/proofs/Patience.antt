@@ -1,5 +1,5 @@
 -- A check retries only interruptions of its reader.
-use Rattle.std.proofs.Common.{◌≡◌, ◌⊎◌, ◌∙◌, ℕ, List, ap, inl, inr}
+use Rattle.std.proofs.Common.{◌≡◌, ◌⊎◌, ◌∙◌, ◌≤◌, ◌<◌, ◌+◌, ◌*◌, ◌-◌, ◌^◌, ℕ, List, length, ap, inl, inr, sym, subst, arith}
 use Rattle.std.specs.Prelude.{Some, None, Result, Ok, Err, IfOk}
 use Rattle.omf_frame.specs.Device.{Device}
 use Rattle.omf_check.specs.declared.fault.CheckFault.{CheckFault}
@@ -41,3 +41,14 @@ module _ (s : Seen) (fault : s.fault ≡ None) (old new : Device) (same : new.br
 pub finish_profile : (s : Seen) (profile : Profile) (result : Result Module CheckFault) → s.profile ≡ profile → Finishes s result → IfOk result (λ m. m.profile ≡ profile)
 finish_profile s profile (Ok m) same f = ap (λ (x : Module). x.profile) f.2 ∙ same
 finish_profile s profile (Err why) same f = tt
+
+-- one more pull, of at most a thousand failures, before the end or before bytes are taken
+pub one_pull_more : (old mid new : ℕ) (taken : List ℕ) → mid ≤ old + 1000 * length taken → new ≤ mid + 1000 → new ≤ old + 1000 * (length taken + 1)
+one_pull_more old mid new taken passed bounded = omega (arith, passed, bounded)
+
+pub pulls_later : (old mid new : ℕ) (taken more : List ℕ) → mid ≤ old + 1000 * length taken → new ≤ mid + 1000 → 2 ^ 37 - length more < 2 ^ 37 - length taken → new ≤ old + 1000 * length more
+pulls_later old mid new taken more passed bounded fewer = omega (arith, passed, bounded, fewer)
+
+pub finish_passed : (s : Seen) (old new : ℕ) (result : Result Module CheckFault) → new ≤ old + 1000 * (length s.taken + 1) → Finishes s result → IfOk result (λ m. new ≤ old + 1000 * (length m.bytes + 1))
+finish_passed s old new (Ok m) le f = subst (λ (x : Module). new ≤ old + 1000 * (length x.bytes + 1)) (sym f.2) le
+finish_passed s old new (Err why) le f = tt

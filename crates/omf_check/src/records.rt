@@ -18,6 +18,8 @@ pub fn split_record<'a>(bytes: &'a [u8]) -> (RawRecord<'a>, &'a [u8])
     requires { StartsWithRecord bytes.now }
     ensures kind { result.0.kind ≡ (front_record (present bytes.entry.now)).kind }
     ensures body { result.0.body.now ≡ (front_record (present bytes.entry.now)).body }
+    ensures number { result.0.number ≡ 0 }
+    ensures start { result.0.start ≡ 0 }
     ensures rest { result.1.now ≡ after_front bytes.entry.now }
 {
     match bytes {

@@ -1,9 +1,9 @@
-use Rattle.std.proofs.Common.{◌∙◌, take, arith}
+use Rattle.std.proofs.Common.{◌∙◌, refl, take, arith}
 use Rattle.std.proofs.lemmas.Result.{err_from_is_err_and}
 use Rattle.omf_frame.proofs.Tries.{failed_later}
 use Rattle.omf_check.specs.Session.{want_with}
 use Rattle.omf_check.proofs.CheckLaws.{none_wanted, piece_low, some_given, no_want, runs, fewer_left, consumes_none, finish_ended, finish_no_fault, finish_decides, finish_err, read_failed, feed_decides, feed_cause, feed_consumes}
-use Rattle.omf_check.proofs.Patience.{finish_patient, feed_patient, finish_profile}
+use Rattle.omf_check.proofs.Patience.{finish_patient, feed_patient, finish_profile, finish_passed, one_pull_more, pulls_later}
 use Rattle.omf_check.proofs.checking.check.Goals as goal
 
 pub returns-then-want-eq0-clause-verdict : goal.returns-then-want-eq0-clause-verdict
@@ -11,7 +11,7 @@ returns-then-want-eq0-clause-verdict g c =
     let i = c.loop-buffer.invariant in
     let s = c.loop-buffer.session in
     finish_ended c.args.profile s i.is_open i.no_fault i.profile c.finish.result (g.S.Source.seen c.args.reader.now).bytes (g.S.Source.seen c.loop-buffer.reader).bytes
-    (no_want c.args.profile s i.is_open i.no_fault i.profile c.ahead.result.now (none_wanted c.min-want.result c.want_with.result (want_with s c.ahead.result.now) c.if-want-eq0.true c.min-want.ensures c.want_with.ensures.same)) c.finish.ensures i.consumed
+    (no_want c.args.profile s i.is_open i.no_fault i.profile c.ahead.result.now (none_wanted c.next_len-want.result (want_with s c.ahead.result.now) (want_with s c.ahead.result.now) c.if-want-eq0.true c.next_len-want.ensures refl)) c.finish.ensures i.consumed
 
 pub returns-then-want-eq0-clause-cause : goal.returns-then-want-eq0-clause-cause
 returns-then-want-eq0-clause-cause g c =
@@ -19,14 +19,14 @@ returns-then-want-eq0-clause-cause g c =
     let s = c.loop-buffer.session in
     finish_no_fault c.args.profile s i.is_open i.no_fault i.profile c.finish.result (g.S.Source.seen c.args.reader.now).bytes (g.S.Source.seen c.loop-buffer.reader).bytes
     (g.S.Source.seen c.args.reader.now).failures (g.S.Source.seen c.loop-buffer.reader).failures
-    (no_want c.args.profile s i.is_open i.no_fault i.profile c.ahead.result.now (none_wanted c.min-want.result c.want_with.result (want_with s c.ahead.result.now) c.if-want-eq0.true c.min-want.ensures c.want_with.ensures.same)) c.finish.ensures
+    (no_want c.args.profile s i.is_open i.no_fault i.profile c.ahead.result.now (none_wanted c.next_len-want.result (want_with s c.ahead.result.now) (want_with s c.ahead.result.now) c.if-want-eq0.true c.next_len-want.ensures refl)) c.finish.ensures
 
 pub loop-buffer-smaller : goal.loop-buffer-smaller
 loop-buffer-smaller g c =
     let i = c.loop-buffer.invariant in
     let s = c.loop-buffer.session in
     fewer_left c.args.profile s i.is_open i.no_fault i.profile (take c.in-Ok.count c.pull_piece.new.buffer) c.in_ok-feed.field-0.taken c.in_ok-feed.field-0.whole c.feed.new.self
-    (runs c.args.profile s i.is_open i.no_fault i.profile c.ahead.result.now c.min-want.result c.want_with.result c.if-want-eq0.false c.min-want.ensures c.want_with.ensures.same)
+    (runs c.args.profile s i.is_open i.no_fault i.profile c.ahead.result.now c.next_len-want.result (want_with s c.ahead.result.now) c.if-want-eq0.false c.next_len-want.ensures refl)
     (some_given c.in-Ok.count c.pull_piece.new.buffer c.if-count-eq0.false c.in-Ok.ensures.bound) c.in_ok-feed.ensures.ok
 
 pub returns-then-count-eq0-clause-verdict : goal.returns-then-count-eq0-clause-verdict
@@ -58,8 +58,8 @@ loop-buffer-preserved g c =
     let s = c.loop-buffer.session in
     let t = c.in_ok-feed.ensures.ok in
     let piece = take c.in-Ok.count c.pull_piece.new.buffer in
-    let low = piece_low c.pull_piece.new.buffer c.loop-buffer.buffer c.in-Ok.count c.min-want.result c.want_with.result (want_with s c.ahead.result.now) c.pull_piece.auto.buffer c.min-want.ensures c.want_with.ensures.same in
-    let running = runs c.args.profile s i.is_open i.no_fault i.profile c.ahead.result.now c.min-want.result c.want_with.result c.if-want-eq0.false c.min-want.ensures c.want_with.ensures.same in
+    let low = piece_low c.pull_piece.new.buffer c.loop-buffer.buffer c.in-Ok.count c.next_len-want.result (want_with s c.ahead.result.now) (want_with s c.ahead.result.now) c.pull_piece.auto.buffer c.next_len-want.ensures refl in
+    let running = runs c.args.profile s i.is_open i.no_fault i.profile c.ahead.result.now c.next_len-want.result (want_with s c.ahead.result.now) c.if-want-eq0.false c.next_len-want.ensures refl in
     let first = c.loop-buffer.invariant.grows in
     let second = c.in-Ok.ensures.grows in
     record {
@@ -69,6 +69,9 @@ loop-buffer-preserved g c =
       consumed = feed_consumes c.args.profile s i.is_open i.no_fault i.profile piece c.ahead.result.now c.in_ok-feed.field-0.taken c.in_ok-feed.field-0.whole c.feed.new.self
           (g.S.Source.seen c.args.reader.now).bytes (g.S.Source.seen c.loop-buffer.reader).bytes (g.S.Source.seen c.pull_piece.new.source).bytes running c.ahead.ensures low t i.consumed c.in-Ok.ensures.bytes;
       grows = omega (arith, first, second);
+      passed = pulls_later (g.S.Source.seen c.args.reader.now).failures (g.S.Source.seen c.loop-buffer.reader).failures (g.S.Source.seen c.pull_piece.new.source).failures s.taken c.feed.new.self.taken i.passed c.in-Ok.ensures.bounded
+          (fewer_left c.args.profile s i.is_open i.no_fault i.profile piece c.in_ok-feed.field-0.taken c.in_ok-feed.field-0.whole c.feed.new.self running
+          (some_given c.in-Ok.count c.pull_piece.new.buffer c.if-count-eq0.false c.in-Ok.ensures.bound) t);
       unbroken = c.in-Ok.ensures.tried ∙ i.unbroken;
     }
 
@@ -85,7 +88,7 @@ pub returns-in_err-feed-clause-cause : goal.returns-in_err-feed-clause-cause
 returns-in_err-feed-clause-cause g c =
     let i = c.loop-buffer.invariant in
     let s = c.loop-buffer.session in
-    let low = piece_low c.pull_piece.new.buffer c.loop-buffer.buffer c.in-Ok.count c.min-want.result c.want_with.result (want_with s c.ahead.result.now) c.pull_piece.auto.buffer c.min-want.ensures c.want_with.ensures.same in
+    let low = piece_low c.pull_piece.new.buffer c.loop-buffer.buffer c.in-Ok.count c.next_len-want.result (want_with s c.ahead.result.now) (want_with s c.ahead.result.now) c.pull_piece.auto.buffer c.next_len-want.ensures refl in
     let e = err_from_is_err_and c.from_residual.result c.from_residual.ensures.1 in
     rw (e.1, e.2) (
     feed_cause c.args.profile s i.is_open i.no_fault i.profile c.in_err-feed.field-0.0 (take c.in-Ok.count c.pull_piece.new.buffer) c.ahead.result.now c.feed.new.self
@@ -113,3 +116,17 @@ returns-then-want-eq0-clause-profile g c = finish_profile c.loop-buffer.session 
 
 pub returns-then-count-eq0-clause-profile : goal.returns-then-count-eq0-clause-profile
 returns-then-count-eq0-clause-profile g c = finish_profile c.loop-buffer.session c.args.profile c.finish-then-count-eq0.result c.loop-buffer.invariant.profile c.finish-then-count-eq0.ensures
+
+pub returns-then-want-eq0-clause-bounded : goal.returns-then-want-eq0-clause-bounded
+returns-then-want-eq0-clause-bounded g c =
+    let i = c.loop-buffer.invariant in
+    let s = c.loop-buffer.session in
+    let l = i.passed in
+    finish_passed s (g.S.Source.seen c.args.reader.now).failures (g.S.Source.seen c.loop-buffer.reader).failures c.finish.result (omega (arith, l)) c.finish.ensures
+
+pub returns-then-count-eq0-clause-bounded : goal.returns-then-count-eq0-clause-bounded
+returns-then-count-eq0-clause-bounded g c =
+    let i = c.loop-buffer.invariant in
+    let s = c.loop-buffer.session in
+    finish_passed s (g.S.Source.seen c.args.reader.now).failures (g.S.Source.seen c.pull_piece.new.source).failures c.finish-then-count-eq0.result
+    (one_pull_more (g.S.Source.seen c.args.reader.now).failures (g.S.Source.seen c.loop-buffer.reader).failures (g.S.Source.seen c.pull_piece.new.source).failures s.taken i.passed c.in-Ok.ensures.bounded) c.finish-then-count-eq0.ensures

@@ -1,4 +1,4 @@
-use Rattle.std.proofs.Common.{◌≡◌, ◌≤◌, ◌-◌, ◌^◌, length, None}
+use Rattle.std.proofs.Common.{◌≡◌, ◌≤◌, ◌+◌, ◌*◌, ◌-◌, ◌^◌, length, None}
 use Rattle.std.specs.Io.KnownBytes.{Consumes}
 use Rattle.omf_check.specs.Session.{IsOpen}
 use Rattle.omf_check.proofs.checking.check.Given as goal
@@ -11,6 +11,7 @@ invariant-loop-buffer g l = record {
   profile : l.session.profile ≡ l.fn.profile;
   consumed : Consumes (g.S.Source.seen l.initial.reader).bytes (g.S.Source.seen l.reader).bytes l.session.taken;
   grows : (g.S.Source.seen l.initial.reader).failures ≤ (g.S.Source.seen l.reader).failures;
+  passed : (g.S.Source.seen l.reader).failures ≤ (g.S.Source.seen l.initial.reader).failures + 1000 * length l.session.taken;
   unbroken : (g.S.Source.seen l.reader).breaks ≡ (g.S.Source.seen l.initial.reader).breaks;
 }
 
