@@ -7,3 +7,4 @@ pub mod Filling
 pub mod TableLaws
 pub mod PairTableLaws
 pub mod LinkageLaws
+pub mod SearchLaws

@@ -5,14 +5,14 @@ use Rattle.std.specs.List.{enumerate_from}
 use Rattle.std.proofs.Math.Seq.{drop-nil}
 use Rattle.std.proofs.lemmas.Option.{none-some, same_Some}
 use Rattle.omf_check.specs.Tables.{externals, entry}
-use Rattle.omf_derive.specs.Derivation.{External, IsDerived}
+use Rattle.omf_derive.specs.Derivation.{External}
 use Rattle.omf_records.specs.Values.{Rec}
 use Rattle.omf_derive.specs.declared.fault.DeriveFault.{DeriveFault}
 use Rattle.omf_derive.specs.declared.fault.DeriveFault.TheVariants as fault
 use Rattle.omf_derive.specs.declared.given.Given.{Given}
 use Rattle.omf_derive.specs.Derive.{PlacedModule, PlacedPublic, seen_publics, named_externals}
 use Rattle.omf_derive.specs.Inner.Derived.{external_place, external_places, ok_of, err_of, with_externals, unless_fault, derived}
-use Rattle.omf_derive.specs.Inner.Deriving.{IsFound, IsFirstErr}
+use Rattle.omf_derive.specs.Inner.Deriving.{IsFound, IsFirstErr, IsTried}
 use Rattle.omf_placement.specs.declared.frame.Placed.{Placed}
 use Rattle.omf_placement.specs.Placement.{Places}
 use Rattle.omf_derive.proofs.NamedLaws.{entry-suc, named-count}
@@ -130,5 +130,5 @@ module _ (ms : List PlacedModule) (given : List Given) where
       let all : placements_from 0 ≡ pls = sym h.placements ∙ ap (λ xs. pls ++ map (with_externals ms given) (enumerate_from j xs)) e ∙ append-nil pls in
       ap₂ (λ fs ps. unless_fault fs ps) none all
 
-pub err-derived : (d r : Result (List Places) DeriveFault) (f : DeriveFault) → r ≡ Err f → (f ≡ fault.Memory) ⊎ (d ≡ Err f) → IsDerived d r
-err-derived d r f e h = subst (IsDerived d) (sym e) h
+pub err-derived : (d r : Result (List Places) DeriveFault) (f : DeriveFault) → r ≡ Err f → (f ≡ fault.Memory) ⊎ (d ≡ Err f) → IsTried d r
+err-derived d r f e h = subst (IsTried d) (sym e) h

@@ -26,7 +26,7 @@ use Rattle.omf_placement.specs.declared.frame.Placed.{Placed}
 use Rattle.omf_placement.specs.Placement.{Places}
 use Rattle.omf_derive.specs.Inner.PublicTable.{summed, found_after, IsTable, HasMore}
 
-summed-more : (ps : List Placed) (p : Placed) → summed (ps ++ p ∷ []) ≡ Some (found_after p (summed ps))
+pub summed-more : (ps : List Placed) (p : Placed) → summed (ps ++ p ∷ []) ≡ Some (found_after p (summed ps))
 summed-more [] p = refl
 summed-more (q ∷ []) p = refl
 summed-more (q ∷ r ∷ ps) p = refl

@@ -1,6 +1,6 @@
 -- The place of each external, and the first external at fault, stated without computing them. The law derived_is_taken shows that the computed
 -- placements (Inner/Derived) agree.
-use Rattle.std.specs.Prelude.{◌≡◌, ◌≢◌, ◌⊎◌, ◌↔◌, ℕ, ◌<◌, ◌≤◌, ◌^◌, All, List, ◌∷◌, ◌++◌, length, Bool, Some, Result, Ok, Err}
+use Rattle.std.specs.Prelude.{◌≡◌, ◌≢◌, ◌⊎◌, ◌↔◌, ℕ, ◌<◌, ◌≤◌, ◌^◌, All, List, ◌∷◌, ◌++◌, length, Bool, Some, Result, Ok, Err, IsOk}
 use Rattle.std.specs.List.{AllZip, enumerate_from}
 use Rattle.omf_records.specs.Values.{Rec, Publics, PublicItems}
 use Rattle.omf_image.specs.declared.limits.Limits.{Limits}
@@ -165,7 +165,7 @@ pub record KeepsPlace (m : PlacedModule) (pl : Places) : Type 0 where
 abbrev pub DerivedFit : Type 0
 DerivedFit = (ms : List PlacedModule) (given : List Given) (pls : List Places) → derived ms given ≡ Ok pls → AllZip KeepsPlace ms pls
 
--- A result is the defined one: exactly these placements, or exactly this fault. Memory may be returned at any time.
+-- A result is the defined one: exactly these placements, or exactly this fault. Memory is returned only where there is no other fault.
 abbrev pub IsDerived : Result (List Places) DeriveFault → Result (List Places) DeriveFault → Type 0
 IsDerived r (Ok pls) = r ≡ Ok pls
-IsDerived r (Err f) = (f ≡ fault.Memory) ⊎ (r ≡ Err f)
+IsDerived r (Err f) = ((f ≡ fault.Memory) × IsOk r) ⊎ (r ≡ Err f)

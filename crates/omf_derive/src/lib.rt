@@ -6,6 +6,7 @@ mod given;
 pub mod laws;
 mod linkage;
 mod publics;
+mod search;
 
 pub use fault::DeriveFault;
 pub use given::Given;

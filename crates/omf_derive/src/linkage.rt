@@ -8,12 +8,13 @@ ghost use Rattle.omf_derive.specs.Derive.{PlacedPublic, placed_modules};
 ghost use Rattle.omf_derive.specs.Inner.Derived.{external_place, external_places, derived};
 ghost use Rattle.omf_derive.specs.Inner.GivenTable.{IsGivenTable};
 ghost use Rattle.omf_derive.specs.Derivation.{IsDerived};
-ghost use Rattle.omf_derive.specs.Inner.Deriving.{IsFound};
+ghost use Rattle.omf_derive.specs.Inner.Deriving.{IsFound, IsTried};
 ghost use Rattle.omf_derive.specs.Inner.PublicTable.{IsTable};
 
 use crate::fault::DeriveFault;
 use crate::given::{Given, GivenTable};
 use crate::publics::PublicTable;
+use crate::search::first_fault;
 use omf_check::Checked;
 use omf_placement::{Placed, Placement};
 use std::alloc::Global;
@@ -77,19 +78,8 @@ fn external_places<'a>(
     Ok(places)
 }
 
-/// Derives the placement of each module: the segments and groups of its placement in `places`, and a place for each of its externals.
-/// That is the place of its first entry in `given`, or else the address and the frame of the only public with its name, among those of
-/// the PUBDEF records of all modules, or for a local external those of the LPUBDEF records of its own module. There must be as many
-/// `places` as modules, and fewer than 2^32.
-///
-/// The address of a public is that of its segment plus its offset; without a segment, 16 times its base frame number plus its offset.
-/// Its frame is that of its group; without a group, that of its segment or base frame (TIS OMF 1.1, "PUBDEF").
-///
-/// # Errors
-///
-/// `Undefined`, `Twice` or `TooHigh` with the first external, by module, then by index, whose name no public has, two or more publics
-/// have, or a public at an address of 2^32 or more has. `Memory` if out of memory.
-pub fn derive(
+/// The derived placements, by tables of the publics and of the given places. Out of memory, it may hide a fault.
+fn try_derive(
     alloc: Global,
     modules: &[Checked],
     places: &[Placement],
@@ -97,7 +87,7 @@ pub fn derive(
 ) -> Result<Vec<Placement>, DeriveFault>
     requires few { length modules.now < 2 ^ 32 }
     requires placed { length places.now ≡ length modules.now }
-    ensures { IsDerived (derived (placed_modules modules.now places.now) given.now) (map_ok (λ v. v.items) result) }
+    ensures { IsTried (derived (placed_modules modules.now places.now) given.now) (map_ok (λ v. v.items) result) }
 {
     let table = PublicTable::of(alloc, modules, places)?;
     let first_given = GivenTable::of(alloc, given)?;
@@ -110,4 +100,35 @@ pub fn derive(
         placements.push(placement)?;
     }
     Ok(placements)
+}
+
+/// Derives the placement of each module: the segments and groups of its placement in `places`, and a place for each of its externals.
+/// That is the place of its first entry in `given`, or else the address and the frame of the only public with its name, among those of
+/// the PUBDEF records of all modules, or for a local external those of the LPUBDEF records of its own module. There must be as many
+/// `places` as modules, and fewer than 2^32.
+///
+/// The address of a public is that of its segment plus its offset; without a segment, 16 times its base frame number plus its offset.
+/// Its frame is that of its group; without a group, that of its segment or base frame (TIS OMF 1.1, "PUBDEF").
+///
+/// # Errors
+///
+/// `Undefined`, `Twice` or `TooHigh` with the first external, by module, then by index, whose name no public has, two or more publics
+/// have, or a public at an address of 2^32 or more has. `Memory` if out of memory, only if each external has a place; to see that, the
+/// publics are searched for each external, which is slow.
+pub fn derive(
+    alloc: Global,
+    modules: &[Checked],
+    places: &[Placement],
+    given: &[Given],
+) -> Result<Vec<Placement>, DeriveFault>
+    requires few { length modules.now < 2 ^ 32 }
+    requires placed { length places.now ≡ length modules.now }
+    ensures { IsDerived (derived (placed_modules modules.now places.now) given.now) (map_ok (λ v. v.items) result) }
+{
+    match try_derive(alloc, modules, places, given) {
+        Err(DeriveFault::Memory) => {
+            Err(first_fault(modules, places, given).unwrap_or(DeriveFault::Memory))
+        }
+        answer => answer,
+    }
 }

@@ -8,7 +8,8 @@ ghost use Rattle.omf_records.specs.Values.{Contents};
 ghost use Rattle.omf_placement.specs.Placement.{Places};
 ghost use Rattle.omf_derive.specs.Derive.{PlacedPublic, paragraph, base_of, public_at, publics_at, placed_publics, record_publics, publics, all_publics, placed_modules};
 ghost use Rattle.omf_derive.specs.Inner.Derived.{of_name, one_public};
-ghost use Rattle.omf_derive.specs.Inner.PublicTable.{IsTable, HasMore, found_after};
+ghost use Rattle.omf_derive.specs.Inner.PublicTable.{IsTable, HasMore, found_after, summed};
+ghost use Rattle.omf_placement.specs.declared.frame.Placed.{Placed as Place};
 
 use crate::fault::DeriveFault;
 use omf_check::Checked;
@@ -48,7 +49,12 @@ fn paragraph(number: u16) -> Placed
 }
 
 /// The base of a PUBDEF with these indices of its group and its segment, and, if the segment is 0, this number of its base frame.
-fn base_of(placement: &Placement, group: Index, segment: Index, number: Option<u16>) -> Placed
+pub(crate) fn base_of(
+    placement: &Placement,
+    group: Index,
+    segment: Index,
+    number: Option<u16>,
+) -> Placed
     ensures { result ≡ base_of placement.now group segment number }
 {
     let base = if segment.0 == 0 {
@@ -77,7 +83,7 @@ pub struct PublicTable<'a> {
 }
 
 /// The publics with one name after one more is added.
-fn with_one_more(found: Option<Found>, address: u64, frame: Frame) -> Found
+pub(crate) fn with_one_more(found: Option<Found>, address: u64, frame: Frame) -> Found
     ensures { result ≡ found_after (record { address = address; frame = frame }) found }
 {
     match found {
@@ -94,7 +100,7 @@ fn is_local(kind: u8) -> bool
 }
 
 /// Whether the publics of a record of this type are local, if `local` is set, or not local otherwise.
-fn has_asked(local: bool, kind: u8) -> bool
+pub(crate) fn has_asked(local: bool, kind: u8) -> bool
     ensures some { result ≡ true → (pl : Places) (c : Contents) → record_publics local pl kind c ≡ placed_publics pl c }
     ensures none { result ≡ false → (pl : Places) (c : Contents) → record_publics local pl kind c ≡ [] }
 {
@@ -231,19 +237,25 @@ impl<'a> PublicTable<'a> {
     ) -> Result<Placed, DeriveFault>
         ensures { (among : List PlacedPublic) → IsTable self.now.by_name among → result ≡ one_public «module» external (filter_map (of_name name.now) among) }
     {
-        match self.by_name.get(&name) {
-            None => Err(DeriveFault::Undefined { module, external }),
-            Some(Found::Several) => Err(DeriveFault::Twice { module, external }),
-            Some(Found::One { address, frame }) => {
-                if *address < 1 << 32 {
-                    Ok(Placed {
-                        address: *address as u32,
-                        frame: *frame,
-                    })
-                } else {
-                    Err(DeriveFault::TooHigh { module, external })
-                }
-            }
-        }
+        place_found(self.by_name.get(&name).copied(), module, external)
+    }
+}
+
+/// The place of the only public of a name, or the fault of an external with that name.
+pub(crate) fn place_found(
+    found: Option<Found>,
+    module: u32,
+    external: u16,
+) -> Result<Placed, DeriveFault>
+    ensures { (ps : List Place) → found ≡ summed ps → result ≡ one_public «module» external ps }
+{
+    match found {
+        None => Err(DeriveFault::Undefined { module, external }),
+        Some(Found::Several) => Err(DeriveFault::Twice { module, external }),
+        Some(Found::One { address, frame }) if address < 1 << 32 => Ok(Placed {
+            address: address as u32,
+            frame,
+        }),
+        Some(Found::One { .. }) => Err(DeriveFault::TooHigh { module, external }),
     }
 }

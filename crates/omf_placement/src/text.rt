@@ -1,6 +1,6 @@
 //! Placement texts (a format of this profile).
 
-ghost use Rattle.std.specs.Prelude.{◌≡◌, ℕ, [], OnOk};
+ghost use Rattle.std.specs.Prelude.{◌≡◌, ℕ, [], OnOk, OnErr};
 ghost use Rattle.omf_records.specs.Inner.Seen.{map_ok};
 ghost use Rattle.omf_check.specs.Module.{recs_of};
 ghost use Rattle.omf_placement.specs.Inner.Parsing.{frames_from};
@@ -47,8 +47,13 @@ impl Draft {
     }
 
     /// Adds the entry on a line.
+    ///
+    /// # Errors
+    ///
+    /// `AllocError` if out of memory: the draft is unchanged.
     pub fn push(&mut self, line: u64, entry: Entry) -> Result<(), AllocError>
-        ensures { OnOk result (self.new ≡ with_entry self.old line (seen entry)) }
+        ensures ok { OnOk result (self.new ≡ with_entry self.old line (seen entry)) }
+        ensures err { OnErr result (self.new ≡ self.old) }
     {
         match entry {
             Entry::Blank => (),

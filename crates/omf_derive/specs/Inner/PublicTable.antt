@@ -1,5 +1,5 @@
 -- A table of publics by name. Its entry for a name sums up the publics with that name.
-use Rattle.std.specs.Prelude.{◌≡◌, ℕ, List, [], ◌∷◌, ◌++◌, filter_map, Option, Some, None}
+use Rattle.std.specs.Prelude.{◌≡◌, ℕ, List, [], ◌∷◌, ◌++◌, filter_map, Option, Some, None, bytes_eq, if◌then◌else◌}
 use Rattle.std.specs.Ordering.{nat_cmp}
 use Rattle.std.specs.BTreeMap.{BTreeMap, get_by}
 use Rattle.std.specs.Cmp.Lexicographic.{slice_cmp}
@@ -28,3 +28,15 @@ IsTable m among = (name : List ℕ) → get_by (λ k. slice_cmp nat_cmp name k.n
 -- The second table holds these publics in addition to those of the first.
 abbrev pub HasMore : BTreeMap (Bor (List ℕ)) Found → BTreeMap (Bor (List ℕ)) Found → List PlacedPublic → Type 0
 HasMore m n more = (among : List PlacedPublic) → IsTable m among → IsTable n (among ++ more)
+
+-- What is found for a name after one more public, and after these.
+abbrev pub found_with : List ℕ → Option Found → PlacedPublic → Option Found
+found_with name found p = if bytes_eq name p.name then Some (found_after p.place found) else found
+
+abbrev pub found_over : List ℕ → Option Found → List PlacedPublic → Option Found
+found_over name found [] = found
+found_over name found (p ∷ ps) = found_over name (found_with name found p) ps
+
+-- What is found for a name among these publics.
+abbrev pub found_among : List ℕ → List PlacedPublic → Option Found
+found_among name ps = found_over name None ps

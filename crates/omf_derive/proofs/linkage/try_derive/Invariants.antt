@@ -1,6 +1,6 @@
 use Rattle.omf_derive.specs.Derive.{placed_modules}
 use Rattle.omf_derive.proofs.LinkageLaws.{IsReached}
-use Rattle.omf_derive.proofs.linkage.derive.Given as goal
+use Rattle.omf_derive.proofs.linkage.try_derive.Given as goal
 
 -- the modules so far have these placements
 abbrev pub invariant-loop-j : goal.invariant-loop-j

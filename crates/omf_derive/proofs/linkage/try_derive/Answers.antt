@@ -7,7 +7,7 @@ use Rattle.omf_derive.specs.Derive.{PlacedModule, seen_publics, placed_modules}
 use Rattle.omf_derive.specs.Inner.Derived.{derived}
 use Rattle.omf_derive.proofs.LinkageLaws.{module-placed, module-ends, modules-placed, err-derived}
 use Rattle.omf_derive.proofs.TableLaws.{next-placed, none-left}
-use Rattle.omf_derive.proofs.linkage.derive.Goals as goal
+use Rattle.omf_derive.proofs.linkage.try_derive.Goals as goal
 
 pub returns-in_err-externals : goal.returns-in_err-externals
 returns-in_err-externals c =
