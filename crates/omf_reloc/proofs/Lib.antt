@@ -17,3 +17,4 @@ pub mod MeasureLaws
 pub mod PieceLaws
 pub mod SingleLaws
 pub mod HoldLaws
+pub mod HeadlineLaws

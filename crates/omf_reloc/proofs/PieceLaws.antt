@@ -1,6 +1,6 @@
 -- The pieces that records give by the threads in force are those of the definition, each at its place.
-use Rattle.std.proofs.Common.{◌≡◌, ℕ, ◌+◌, List, [], ◌∷◌, ◌++◌, refl, sym, ◌∙◌, ap, ap₂, subst, length}
-use Rattle.std.specs.Prelude.{map, flat_map, filter_map, Option, Some, None, IsSome}
+use Rattle.std.proofs.Common.{◌≡◌, ℕ, ◌+◌, List, [], ◌∷◌, ◌++◌, refl, sym, ◌∙◌, ap, ap₂, length}
+use Rattle.std.specs.Prelude.{map, flat_map, filter_map, Option, Some, None}
 use Rattle.std.specs.List.{enumerate_from}
 use Rattle.std.proofs.lemmas.Grind.{flat_map-append}
 use Rattle.std.proofs.lemmas.List.{map-append}

@@ -1,6 +1,6 @@
 -- What is known during a walk over a module's pieces: the image has what the closed data records lay, and the others are still to be laid.
 use Rattle.std.proofs.Common.{◌≡◌, ℕ, ◌+◌, ◌≤◌, List, [], ◌∷◌, ◌++◌, append_assoc, length, refl, sym, ap, subst, ◌∙◌, arith}
-use Rattle.std.specs.Prelude.{All, map, slice_get, Option, Some, None, option_map, option_to_list, IfSome}
+use Rattle.std.specs.Prelude.{map, slice_get, Option, Some, None, option_map, option_to_list, IfSome}
 use Rattle.std.proofs.lemmas.Grind.{fold-append}
 use Rattle.std.proofs.lemmas.List.{append-nil, map-append}
 use Rattle.std.proofs.lemmas.List.Elements.{All-nil, All-cons, All-append}
@@ -13,7 +13,6 @@ use Rattle.omf_image.specs.Limits.{profile_limits}
 use Rattle.omf_image.specs.Overlay.{Laid, AreLaidOver}
 use Rattle.omf_check.specs.Listed.{placed_from}
 use Rattle.omf_check.specs.Sound.{ModuleHolds}
-use Rattle.omf_check.specs.Tables.{segments, groups, externals}
 use Rattle.omf_check.specs.WellFormed.{recs}
 use Rattle.omf_reloc.specs.declared.fault.Cause.{Cause}
 use Rattle.omf_reloc.specs.Image.{added, laid}

@@ -3,13 +3,13 @@ use Rattle.std.specs.Prelude.{◌≡◌, ◌≢◌, ◌⊎◌, ◌↔◌, ℕ, �
 use Rattle.std.specs.List.{AllZip}
 use Rattle.omf_frame.specs.declared.fault.Place.{Place}
 use Rattle.omf_records.specs.Location.{location_size}
-use Rattle.omf_records.specs.Values.{At, DataItem, GroupItem, Rec, Plain, Fixups, ModEnd, Subrecord, Fixup, Reference, location_type, location_offset}
+use Rattle.omf_records.specs.Values.{At, DataItem, Rec, Plain, Fixups, ModEnd, Subrecord, Fixup, Reference, location_type, location_offset}
 use Rattle.omf_image.specs.Limits.{profile_limits}
 use Rattle.omf_image.specs.declared.limits.Limits.{Limits}
 use Rattle.omf_image.specs.Parts.{Addition, part_size}
 use Rattle.omf_check.specs.Rules.{length_of_segment}
 use Rattle.omf_check.specs.Sound.{ModuleHolds}
-use Rattle.omf_check.specs.Tables.{groups, segments, externals, entry, is_defined, subrecords, last_data}
+use Rattle.omf_check.specs.Tables.{segments, is_defined, subrecords, last_data}
 use Rattle.omf_check.specs.Threads.{PlainReference, frame_setting, target_setting, plain}
 -- computed: threads_are_kept of omf_check.
 use Rattle.omf_check.specs.Inner.Kept.{HasThreads}

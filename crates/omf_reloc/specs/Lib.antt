@@ -8,4 +8,6 @@ pub mod Image
 pub mod Modules
 pub mod Rows
 pub mod Laws
+pub mod Headline
+pub mod HeadlineLaws
 pub mod Inner

@@ -1,5 +1,10 @@
 //! Why a placement does not reach.
 
+ghost use Rattle.std.specs.Prelude.{◌≡◌};
+ghost use Rattle.omf_reloc.specs.declared.fault.ReachFault.TheVariants.{TooFar};
+
+use omf_frame::Place;
+use std::alloc::AllocError;
 use thiserror::Error;
 
 /// The kind of a placement's entry.
@@ -59,4 +64,26 @@ pub enum RelocateFault {
     /// 2: the placement reaches, but memory ran out.
     #[error("memory ran out")]
     Memory,
+}
+
+impl From<AllocError> for RelocateFault {
+    ghost use Rattle.std.specs.Prelude.{◌≡◌};
+    ghost use Rattle.omf_reloc.specs.declared.fault.RelocateFault.TheVariants.{Memory};
+
+    ghost from_gives = { λ _ e. e ≡ Memory };
+
+    fn from(_error: AllocError) -> Self {
+        RelocateFault::Memory
+    }
+}
+
+/// The fault of the reference at this place.
+pub(crate) fn too_far(place: Place, cause: Cause) -> ReachFault
+    ensures { result ≡ TooFar place.number place.within cause }
+{
+    ReachFault::TooFar {
+        number: place.number,
+        within: place.within,
+        cause,
+    }
 }

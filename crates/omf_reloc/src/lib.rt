@@ -16,6 +16,7 @@
 mod addition;
 pub mod edges;
 mod fault;
+pub mod headline;
 pub mod laws;
 mod measuring;
 mod offset;
@@ -28,9 +29,12 @@ pub mod rows;
 mod starting;
 
 pub use fault::{Cause, Kind, ReachFault, RelocateFault};
+pub use headline::{Answer, NoAnswer, check_and_relocate};
 pub use omf_check::{FrameMethod, TargetMethod};
 pub use omf_derive::{DeriveFault, Given, derive};
-pub use omf_placement::{Draft, Frame, Placement, TextFault, parse_placement, real_group};
+pub use omf_placement::{
+    Draft, Entry, Frame, Placed, Placement, TextFault, parse_placement, real_group,
+};
 pub use pieces::{Piece, Pieces, end_byte, pieces_of};
 pub use plain::{PlainFixup, PlainReference, plain_reference};
 pub use reached::reach_and_relocate;

@@ -46,8 +46,8 @@ pub fn reach_and_relocate(
         return Err(RelocateFault::Reach(fault));
     }
     match walked(alloc, module, placement) {
-        Ok(Ok(image)) => Ok(image),
-        Ok(Err(fault)) => Err(RelocateFault::Reach(fault)),
-        Err(_) => Err(without_memory(module, placement)),
+        Ok(image) => Ok(image),
+        Err(RelocateFault::Reach(fault)) => Err(RelocateFault::Reach(fault)),
+        Err(RelocateFault::Memory) => Err(without_memory(module, placement)),
     }
 }

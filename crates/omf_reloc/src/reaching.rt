@@ -8,7 +8,7 @@ ghost use Rattle.omf_reloc.specs.Reach.{missing, extra, misplaced, misfits, far_
 ghost use Rattle.omf_reloc.specs.Inner.ReachSteps.{miscounts, misplaced_from, place_behind, piece_cause, CanJudge};
 ghost use Rattle.omf_reloc.specs.Placed.{HasEntries};
 
-use crate::fault::{Cause, Kind, ReachFault};
+use crate::fault::{Cause, Kind, ReachFault, too_far};
 use crate::offset::{outcome, start_offset};
 use crate::pieces::{Piece, pieces_of};
 use omf_check::Checked;
@@ -149,13 +149,7 @@ fn far_fault(module: &Checked, placement: &Placement) -> Option<ReachFault>
     let mut last = None;
     for (place, piece) in pieces_of(module) {
         if let Some(cause) = piece_cause(placement, last, &piece) {
-            let number = place.number;
-            let within = place.within;
-            return Some(ReachFault::TooFar {
-                number,
-                within,
-                cause,
-            });
+            return Some(too_far(place, cause));
         }
         last = data_after(&piece, last);
     }

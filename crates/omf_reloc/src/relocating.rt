@@ -1,6 +1,6 @@
 //! The image of a module at a placement.
 
-ghost use Rattle.std.specs.Prelude.{◌≡◌, ◌↔◌, ℕ, [], ◌∷◌, true, length, IfSome, OnOk, IfOk, IfErr, None, Some, Option, slice_get, option_map, option_to_list};
+ghost use Rattle.std.specs.Prelude.{◌≡◌, ◌↔◌, ℕ, [], ◌∷◌, true, length, flat_map, IfSome, OnOk, IfOk, IfErr, None, Some, Option, slice_get, option_map, option_to_list};
 ghost use Rattle.omf_records.specs.Inner.Seen.{odd_if, kind_seen, contents_seen};
 ghost use Rattle.omf_records.specs.Values.{width, contents_alone};
 ghost use Rattle.omf_image.specs.Inner.Expanding.{expanded};
@@ -8,6 +8,7 @@ ghost use Rattle.omf_image.specs.Limits.{profile_limits};
 ghost use Rattle.omf_image.specs.Inner.Joined.{runs_of};
 ghost use Rattle.omf_image.specs.Overlay.{AreLaidOver, IsRunAt, byte_at};
 ghost use Rattle.omf_image.specs.declared.run.Run.{Run};
+ghost use Rattle.omf_image.specs.Painting.{all_zeros};
 ghost use Rattle.omf_check.specs.Module.{recs_of};
 ghost use Rattle.omf_check.specs.Sound.{ModuleHolds};
 ghost use Rattle.omf_check.specs.Tables.{is_defined};
@@ -19,10 +20,11 @@ ghost use Rattle.omf_reloc.specs.Placed.{HasPlaces, HasEntries};
 ghost use Rattle.omf_reloc.specs.Inner.Widths.{fixupp_type};
 ghost use Rattle.omf_reloc.specs.Plain.{Fixed, pieces};
 ghost use Rattle.omf_reloc.specs.Reach.{Reaches, far_faults};
-ghost use Rattle.omf_reloc.specs.Inner.ReachSteps.{CanJudge, piece_cause};
+ghost use Rattle.omf_reloc.specs.Inner.ReachSteps.{CanJudge, IsFirstFar, piece_cause};
+ghost use Rattle.omf_reloc.specs.Inner.Measuring.{measured};
 ghost use Rattle.omf_reloc.specs.Inner.Walking.{with_fixup, closed_by, opened_by, CanAdd, Expands, CanExpand, HasOffsets, IsNext, CanWalk, open_place};
 
-use crate::fault::{Cause, ReachFault};
+use crate::fault::{Cause, RelocateFault, too_far};
 use crate::measuring::extents;
 use crate::offset::{outcome, start_offset};
 use crate::pieces::{Piece, pieces_of};
@@ -231,33 +233,40 @@ impl Walk {
     }
 }
 
-/// The image of a module at a placement, or the first reference that does not reach, in file order. The extents of all data records are
-/// filled with zeros first, so that no run grows or moves later.
+/// The image of a module with zeros at each byte that a data record covers.
+fn zeros_of(alloc: Global, module: &Checked) -> Result<Image, AllocError>
+    ensures zeros { IfOk result (AreLaidOver [] (all_zeros (flat_map measured (recs_of «module».now.bytes)))) }
+    ensures holds { ModuleHolds profile_limits (recs_of «module».now.bytes) }
+{
+    let covered = extents(alloc, module)?;
+    painted(alloc, covered)
+}
+
+/// The image of a module at a placement. The bytes that data records cover are filled with zeros first, so that no run grows or moves
+/// later.
+///
+/// # Errors
+///
+/// `Reach` with the first reference that does not reach, in file order; `Memory` if out of memory.
 pub(crate) fn walked(
     alloc: Global,
     module: &Checked,
     placement: &Placement,
-) -> Result<Result<Image, ReachFault>, AllocError>
+) -> Result<Image, RelocateFault>
     requires { HasEntries placement.now (recs_of «module».now.bytes) }
-    ensures laid { IfOk result (λ r. IfOk r (λ i. AreLaidOver [] (laid profile_limits placement.now (pieces (recs_of «module».now.bytes))) i)) }
-    ensures reaches { IfOk result (λ r. IfOk r (λ i. slice_get (far_faults placement.now (recs_of «module».now.bytes)) 0 ≡ None)) }
-    ensures far { IfOk result (λ r. IfErr r (λ f. slice_get (far_faults placement.now (recs_of «module».now.bytes)) 0 ≡ Some f)) }
+    ensures laid { IfOk result (λ i. AreLaidOver [] (laid profile_limits placement.now (pieces (recs_of «module».now.bytes))) i) }
+    ensures reaches { IfOk result (λ i. slice_get (far_faults placement.now (recs_of «module».now.bytes)) 0 ≡ None) }
+    ensures far { IfErr result (IsFirstFar (slice_get (far_faults placement.now (recs_of «module».now.bytes)) 0)) }
     ensures holds { ModuleHolds profile_limits (recs_of «module».now.bytes) }
 {
-    let zeros = painted(alloc, extents(alloc, module)?)?;
+    let zeros = zeros_of(alloc, module)?;
     let mut walk = Walk::new(zeros);
     for (place, piece) in pieces_of(module) {
         if let Some(cause) = walk.take(alloc, placement, &piece)? {
-            let number = place.number;
-            let within = place.within;
-            return Ok(Err(ReachFault::TooFar {
-                number,
-                within,
-                cause,
-            }));
+            return Err(RelocateFault::Reach(too_far(place, cause)));
         }
     }
-    Ok(Ok(walk.finish()?))
+    Ok(walk.finish()?)
 }
 
 /// The image of a module at a placement: the data of each LEDATA with its fixups applied, and the expanded blocks of each LIDATA (TIS OMF
@@ -275,8 +284,9 @@ pub fn relocate(alloc: Global, module: &Checked, placement: &Placement) -> Resul
         ↔ (run ≡ slice_get (runs_of (laid profile_limits placement.now (pieces (recs_of «module».now.bytes))) segment) k)) }
     ensures inside { AllLieInside placement.now (recs_of «module».now.bytes) }
 {
-    match walked(alloc, module, placement)? {
+    match walked(alloc, module, placement) {
         Ok(image) => Ok(image),
-        Err(_) => unreachable!(),
+        Err(RelocateFault::Memory) => Err(AllocError),
+        Err(RelocateFault::Reach(_fault)) => unreachable!(),
     }
 }

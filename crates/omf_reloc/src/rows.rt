@@ -6,7 +6,7 @@ ghost use Rattle.omf_derive.specs.declared.fault.DeriveFault.TheVariants as deri
 ghost use Rattle.omf_reloc.specs.declared.fault.Kind.TheVariants as kind;
 ghost use Rattle.omf_reloc.specs.declared.fault.ReachFault.TheVariants as fault;
 ghost use Rattle.omf_check.specs.Rows.{first_module, with_fixup, flat, absolute, public};
-ghost use Rattle.omf_reloc.specs.Modules.{with_threads, overlaid, overlapping, displaced, call, jump, with_blocks, big_end, with_start, early_thread, group_base, many_fixups, using, group_public, constant_public, using_locally, local_public};
+ghost use Rattle.omf_reloc.specs.Modules.{with_threads, overlaid, overlapping, displaced, call, jump, with_blocks, big_end, with_start, early_thread, group_base, by_external, many_fixups, using, group_public, constant_public, using_locally, local_public};
 ghost use Rattle.omf_check.specs.declared.method.FrameMethod.TheVariants.{Segment as F0, Group as F1, Location as F4};
 ghost use Rattle.omf_check.specs.declared.method.TargetMethod.TheVariants.{Segment as T0};
 ghost use Rattle.omf_reloc.specs.Plain.{End};
@@ -115,6 +115,11 @@ pub fn other_locations()
     ensures pointer { relocated (with_fixup (0x9C ∷ 6 ∷ 0 ∷ 0xCC ∷ 0 ∷ 4 ∷ 1 ∷ 1 ∷ 0x8C ∷ [])) low 1 ≡ run_from_0 (0xD8 ∷ 0 ∷ 0 ∷ 0xA0 ∷ []) }
     ensures high_byte { relocated (with_fixup (0x9C ∷ 6 ∷ 0 ∷ 0xD0 ∷ 0 ∷ 4 ∷ 1 ∷ 1 ∷ 0x88 ∷ [])) (only (at 0x10420 0x10000 0x1000)) 1 ≡ run_from_0 (0xBC ∷ 0 ∷ 0 ∷ 0x90 ∷ []) }
     ensures base { relocated group_base (places (at 0x10020 0x10000 0x1000 ∷ []) (frame 0x10010 0x1001 ∷ []) []) 1 ≡ run_from_0 (0xB8 ∷ 1 ∷ 0x10 ∷ 0x90 ∷ []) }
+{}
+
+/// The frame of an external (F2) is that of its own entry, not that of the target or of the location.
+pub fn frame_of_an_external()
+    ensures { relocated by_external (places (at 0x10020 0x10010 0x1001 ∷ []) [] (at 0x30000 0x10000 0x1000 ∷ [])) 1 ≡ run_from_0 (0xB8 ∷ 0x20 ∷ 0 ∷ 0x90 ∷ []) }
 {}
 
 /// 205 fixups of one location add up.

@@ -9,6 +9,8 @@ use Rattle.omf_check.specs.declared.segment.SegInfo.{SegInfo}
 use Rattle.omf_reloc.specs.declared.fault.Cause.{Cause}
 use Rattle.omf_reloc.specs.declared.fault.ReachFault.{ReachFault}
 use Rattle.omf_reloc.specs.declared.fault.ReachFault.TheVariants as fault
+use Rattle.omf_reloc.specs.declared.fault.RelocateFault.{RelocateFault}
+use Rattle.omf_reloc.specs.declared.fault.RelocateFault.TheVariants as relocate
 use Rattle.omf_reloc.specs.declared.fault.Kind.TheVariants as kinds
 use Rattle.omf_reloc.specs.Reach.{missing, extra, misplaced}
 use Rattle.omf_reloc.specs.Offsets.{outcome_at, start_offset, cause_of}
@@ -72,3 +74,8 @@ CanJudge pl place (End kind byte (Some r)) = HasPlaces pl 0 r
 abbrev pub CanJudgeAll : Places → Option (ℕ × ℕ) → List Piece → Type 0
 CanJudgeAll pl place [] = ⊤
 CanJudgeAll pl place (p ∷ ps) = CanJudge pl place p × CanJudgeAll pl (place_behind p place) ps
+
+-- A fault of the walk over the pieces: the first reference that does not reach; or Memory.
+abbrev pub IsFirstFar : Option ReachFault → RelocateFault → Type 0
+IsFirstFar first (relocate.Reach f) = first ≡ Some f
+IsFirstFar first relocate.Memory = ⊤

@@ -1,23 +1,19 @@
-use Rattle.std.proofs.Common.{◌∙◌, ap, sym, subst, [], List, None}
-use Rattle.std.specs.Prelude.{All, map, slice_get}
+use Rattle.std.proofs.Common.{◌∙◌, ap, sym, subst, refl, [], None}
+use Rattle.std.specs.Prelude.{flat_map, slice_get}
 use Rattle.omf_image.specs.Overlay.{AreLaidOver}
 use Rattle.omf_image.specs.Limits.{profile_limits}
-use Rattle.omf_image.specs.Painting.{all_zeros, Fits}
+use Rattle.omf_image.specs.Painting.{all_zeros}
 use Rattle.omf_check.specs.Module.{records_in}
 use Rattle.omf_check.specs.WellFormed.{recs}
+use Rattle.omf_reloc.specs.Inner.Measuring.{measured}
 use Rattle.omf_reloc.specs.Inner.PieceSeen.{piece_seen}
 use Rattle.omf_reloc.specs.Inner.ReachSteps.{CanJudgeAll, pieces_far}
 use Rattle.omf_reloc.specs.Inner.Walking.{Walk, open_place}
 use Rattle.omf_reloc.proofs.FarLaws.{without_places, far-walked}
 use Rattle.omf_reloc.proofs.JudgeLaws.{judged-all}
-use Rattle.omf_reloc.proofs.MeasureLaws.{all-fit, zeros-lost}
-use Rattle.omf_reloc.proofs.ReachedLaws.{can-here}
+use Rattle.omf_reloc.proofs.MeasureLaws.{zeros-lost}
 use Rattle.omf_reloc.proofs.WalkedLaws.{IsWalked, first-walk, walk-first, can-walk, go-on, walk-last, has-offsets}
 use Rattle.omf_reloc.proofs.relocating.walked.Goals as goal
-
-pub painted-requires : goal.painted-requires
-painted-requires c =
-    subst (All Fits) (sym c.in_ok-extents.ensures.listed) (all-fit c.args.placement.now (recs (records_in c.args.module.now.bytes)) c.extents.ensures.holds)
 
 pub loop-place-init : goal.loop-place-init
 loop-place-init c =
@@ -63,6 +59,6 @@ returns-clause-laid c =
     let w = c.loop-place.walk in
     let start = c.new-walk.result.image in
     let ended = subst (λ xs. IsWalked start pl m w (without_places xs)) c.in-None.ensures.steps.0 c.loop-place.invariant.walked in
-    let zeros = subst (AreLaidOver [] (all_zeros c.in_ok-extents.field-0.items)) (sym (ap (λ (v : Walk). v.image) c.new-walk.ensures)) c.in_ok-zeros.ensures in
-    zeros-lost pl m c.extents.ensures.holds c.in_ok-extents.field-0.items start c.in_ok-finish.field-0 c.in_ok-extents.ensures.listed zeros
+    let zeros = subst (AreLaidOver [] (all_zeros (flat_map measured m))) (sym (ap (λ (v : Walk). v.image) c.new-walk.ensures)) c.in_ok-zeros.ensures.zeros in
+    zeros-lost pl m c.zeros_of.ensures.holds (flat_map measured m) start c.in_ok-finish.field-0 refl zeros
     (walk-last start pl m c.pieces_of-place-items.ensures.holds w c.in_ok-finish.field-0 ended c.in_ok-finish.ensures)

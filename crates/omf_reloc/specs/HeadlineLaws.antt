@@ -1,0 +1,22 @@
+-- Laws of the headline, each the contract of a function.
+use Rattle.std.specs.Prelude.{◌≡◌, ℕ, List}
+use Rattle.omf_frame.specs.Bytes.{AreBytes}
+use Rattle.omf_image.specs.Overlay.{byte_at}
+use Rattle.omf_check.specs.declared.profile.Profile.{Profile}
+use Rattle.omf_placement.specs.Placement.{Places}
+use Rattle.omf_reloc.specs.Headline.{Headline}
+use Rattle.omf_reloc.specs.declared.headline.Answer.{Answer}
+use Rattle.omf_reloc.specs.declared.headline.Answer.TheVariants.{Relocated}
+
+-- Every input and placement have an answer.
+abbrev pub AnswersAreThere : Type 0
+AnswersAreThere = (profile : Profile) (input : List ℕ) (pl : Places) → AreBytes input → (answer : Answer) × Headline profile input pl answer
+
+-- Two answers are the same: images by their bytes at each offset of each segment.
+abbrev pub IsSame : Answer → Answer → Type 0
+IsSame (Relocated laid begin) (Relocated other there) = ((segment offset : ℕ) → byte_at laid segment offset ≡ byte_at other segment offset) × (begin ≡ there)
+IsSame answer other = answer ≡ other
+
+-- They have no other.
+abbrev pub AnswersAreUnique : Type 0
+AnswersAreUnique = (profile : Profile) (input : List ℕ) (pl : Places) (answer other : Answer) → Headline profile input pl answer → Headline profile input pl other → IsSame answer other
