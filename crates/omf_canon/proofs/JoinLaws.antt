@@ -10,7 +10,7 @@ use Rattle.omf_canon.specs.Joined.{IsJoined, parts, cut_pieces}
 use Rattle.omf_canon.specs.Skeleton.{is_kept, join_front, skeleton_of}
 use Rattle.omf_canon.proofs.CutLaws.{cut-greedy}
 
--- The same by recursion: what stands in front of the next piece.
+-- The same by recursion: what comes before the next piece.
 abbrev Behind : ℕ → List Piece → Type 0
 Behind kind (Fixed other gs ∷ ps) = kind ≢ other
 Behind kind _ = ⊤

@@ -1,4 +1,4 @@
--- Modules of equal skeletons are answered alike by reach, but for where a reference stands that does not.
+-- Modules of equal skeletons get the same answer from reach, except for the place of a reference that is out of range.
 use Rattle.std.proofs.Common.{◌≡◌, ℕ, ◌≤◌, List, [], ◌∷◌, ◌++◌, refl, sym, ◌∙◌, ap, ap₂, Bool, true, false, cond, length, arith, length-append}
 use Rattle.std.specs.Prelude.{map, flat_map, filter_map, zip, slice_get, option_map, Option, Some, None, ◌==◌}
 use Rattle.std.proofs.lemmas.List.{length-map, map-append}
