@@ -1,12 +1,14 @@
 -- The texts made of the module at the start of some bytes. Memory may run out at any time; no device is involved.
 use Rattle.std.specs.Prelude.{◌≡◌, ⊤, ℕ, List, length, Result, Ok, Err}
 use Rattle.omf_frame.specs.Framing.{Raw}
+use Rattle.omf_records.specs.Values.{Rec}
 use Rattle.omf_image.specs.Limits.{profile_limits}
 use Rattle.omf_check.specs.Module.{Module, records_in}
 use Rattle.omf_check.specs.Refusal.{IsRefused}
 use Rattle.omf_check.specs.WellFormed.{IsAccepted, recs}
 use Rattle.omf_check.specs.declared.profile.Profile.{Profile}
 use Rattle.omf_cmd.specs.Outcome.{reloc_outcome}
+use Rattle.omf_cmd.specs.Relocating.{IsOutcome}
 use Rattle.omf_cmd.specs.declared.fault.RunFault.{RunFault}
 use Rattle.omf_cmd.specs.declared.fault.RunFault.TheVariants as fault
 use Rattle.omf_c.specs.Answers.{done, of_fault}
@@ -27,6 +29,17 @@ IsModule profile bytes (Err f) = IsNoModule profile bytes f
 abbrev pub IsTextOf : (List Raw → List ℕ) → Profile → List ℕ → Result (List ℕ) RunFault → Type 0
 IsTextOf text profile bytes (Ok shown) = (records : List Raw) × IsAccepted profile profile_limits bytes records × (shown ≡ text records)
 IsTextOf text profile bytes (Err f) = IsNoModule profile bytes f
+
+-- The outcome for a module and a placement text, as far as it is made: memory may also run out while the listing is written.
+abbrev pub IsMade : List Rec → List ℕ → Result (List ℕ) RunFault → Type 0
+IsMade m given (Ok text) = IsOutcome m given (Ok text)
+IsMade m given (Err fault.Memory) = ⊤
+IsMade m given (Err fault.Read) = ⊥
+IsMade m given (Err fault.Write) = ⊥
+IsMade m given (Err (fault.Refused why at)) = ⊥
+IsMade m given (Err (fault.Line n)) = IsOutcome m given (Err (fault.Line n))
+IsMade m given (Err fault.TooLong) = IsOutcome m given (Err fault.TooLong)
+IsMade m given (Err (fault.Reach f)) = IsOutcome m given (Err (fault.Reach f))
 
 -- The outcome for the module at the start of the bytes and a placement text: the listing, or the first fault.
 abbrev pub HasOutcome : Profile → List ℕ → List ℕ → Result (List ℕ) RunFault → Type 0

@@ -5,10 +5,9 @@ ghost use Rattle.omf_canon.specs.Canonical.{canonical};
 ghost use Rattle.omf_check.specs.Module.{recs_of, records_in};
 ghost use Rattle.omf_check.specs.WellFormed.{recs};
 ghost use Rattle.omf_cmd.specs.Listing.{list_text};
-ghost use Rattle.omf_cmd.specs.Relocating.{IsOutcome};
 ghost use Rattle.omf_records.specs.Inner.Seen.{map_ok};
 ghost use Rattle.omf_cmd.specs.declared.fault.RunFault.TheVariants.{Memory};
-ghost use Rattle.omf_c.specs.Making.{IsModule, IsTextOf, IsPlacedText};
+ghost use Rattle.omf_c.specs.Making.{IsMade, IsModule, IsTextOf, IsPlacedText};
 
 use omf_canon::canon;
 use omf_check::{CheckFault, Checked, Profile, check};
@@ -67,7 +66,7 @@ pub(crate) fn canonical(alloc: Global, profile: Profile, bytes: &[u8]) -> Result
 
 /// The listing of a module's image at the placement that a text gives.
 fn relocated_module(alloc: Global, checked: &Checked, text: &[u8]) -> Result<Vec<u8>, RunFault>
-    ensures { IsOutcome (recs_of checked.now.bytes) text.now (map_ok (λ v. v.items) result) }
+    ensures { IsMade (recs_of checked.now.bytes) text.now (map_ok (λ v. v.items) result) }
 {
     let listing = Listing::of(alloc, checked, text)?;
     let mut gathered = Gathered::new(alloc);

@@ -1,75 +1,177 @@
-//! The calls, as C makes them.
+//! The calls, as C makes them, with ample memory.
 
 use crate::answer::NOTHING;
 use crate::{Answer, omf_canon, omf_check, omf_list, omf_reloc};
 use omf_samples::{DATA, HEADER, MODULE, NAMES, SEGMENT, joined};
-use std::test::Fail;
+use std::alloc::Global;
 
-const PLACED: &[u8] = b"S 10020 10000 1000";
+/// A call; of `omf_reloc` with the text of a placement.
+enum Call {
+    Check,
+    List,
+    Reloc(&'static [u8]),
+    Canon,
+}
 
-const LISTED: &[u8] =
-    b"R 0 00000000 80 2 THEADR\nR 1 00000006 96 3 LNAMES\nR 2 0000000D 98 6 SEGDEF\nR 3 00000017 A0 7 LEDATA\nR 4 00000022 9C 5 FIXUPP\nR 5 0000002B 8A 1 MODEND\nS 1 4 \"T\"\n";
+/// A call, the records of its input, the room in its buffer, its answer, and the text that is then in the buffer.
+struct Case {
+    call: Call,
+    rows: &'static [&'static str],
+    room: usize,
+    answer: Answer,
+    text: &'static [u8],
+}
 
-const RELOCATED: &[u8] = b"0001:00000000 B8 20 00 90\n";
+const PLACED: Call = Call::Reloc(b"S 10020 10000 1000");
 
-/// The result for a text of this size.
-fn text_of(size: u64) -> Answer {
-    Answer { size, ..NOTHING }
+/// An input that ends within its record 4.
+const CUT: &[&str] = &[HEADER, NAMES, SEGMENT, DATA, "9C 06"];
+
+const REFUSED: Answer = Answer {
+    status: 4,
+    reason: 2,
+    number: 4,
+    start: 34,
+    within: 2,
+    ..NOTHING
+};
+
+static FILLED: [Case; 4] = [
+    Case {
+        call: Call::Check,
+        rows: MODULE,
+        room: 0,
+        answer: Answer {
+            size: 48,
+            record_count: 6,
+            ..NOTHING
+        },
+        text: b"",
+    },
+    Case {
+        call: Call::List,
+        rows: MODULE,
+        room: 160,
+        answer: Answer {
+            size: 160,
+            ..NOTHING
+        },
+        text: b"R 0 00000000 80 2 THEADR\nR 1 00000006 96 3 LNAMES\nR 2 0000000D 98 6 SEGDEF\nR 3 00000017 A0 7 LEDATA\n\
+            R 4 00000022 9C 5 FIXUPP\nR 5 0000002B 8A 1 MODEND\nS 1 4 \"T\"\n",
+    },
+    Case {
+        call: PLACED,
+        rows: MODULE,
+        room: 26,
+        answer: Answer {
+            size: 26,
+            ..NOTHING
+        },
+        text: b"0001:00000000 B8 20 00 90\n",
+    },
+    Case {
+        call: Call::Canon,
+        rows: MODULE,
+        room: 48,
+        answer: Answer {
+            size: 48,
+            ..NOTHING
+        },
+        text: b"\x80\x03\x00\x01\x41\x3B\x96\x04\x00\x00\x01\x54\x11\x98\x07\x00\x28\x04\x00\x02\x01\x01\x31\
+            \xA0\x08\x00\x01\x00\x00\xB8\x00\x00\x90\x0F\x9C\x06\x00\xC4\x01\x04\x01\x01\x93\x8A\x02\x00\x00\x74",
+    },
+];
+
+static UNCHANGED: [Case; 4] = [
+    Case {
+        call: PLACED,
+        rows: MODULE,
+        room: 25,
+        answer: Answer {
+            status: 8,
+            size: 26,
+            ..NOTHING
+        },
+        text: b"",
+    },
+    Case {
+        call: Call::Reloc(b""),
+        rows: MODULE,
+        room: 26,
+        answer: Answer {
+            status: 7,
+            reason: 1,
+            kind: 1,
+            index: 1,
+            ..NOTHING
+        },
+        text: b"",
+    },
+    Case {
+        call: Call::List,
+        rows: CUT,
+        room: 26,
+        answer: REFUSED,
+        text: b"",
+    },
+    Case {
+        call: Call::Canon,
+        rows: CUT,
+        room: 26,
+        answer: REFUSED,
+        text: b"",
+    },
+];
+
+/// Makes a call.
+fn called(alloc: Global, call: &Call, bytes: &[u8], out: &mut [u8]) -> Answer {
+    match call {
+        Call::Check => omf_check(alloc, bytes, true),
+        Call::List => omf_list(alloc, bytes, true, out),
+        Call::Reloc(text) => omf_reloc(alloc, bytes, *text, true, out),
+        Call::Canon => omf_canon(alloc, bytes, true, out),
+    }
+}
+
+/// Whether each of some bytes is 7.
+fn are_sevens(bytes: &[u8]) -> bool {
+    for byte in bytes {
+        if *byte != 7 {
+            return false;
+        }
+    }
+    true
+}
+
+/// Whether a call has its answer and leaves its text at the front of a buffer of bytes of 7, and the rest as it was.
+fn is_answered(alloc: Global, bytes: &[u8], case: &Case) -> bool {
+    let mut buffer = [7; 160];
+    let (room, _rest) = buffer.split_at_mut(case.room.min(160));
+    let answer = called(alloc, &case.call, bytes, room);
+    match buffer.split_at_checked(case.text.len()) {
+        Some((text, rest)) => answer == case.answer && text == case.text && are_sevens(rest),
+        None => false,
+    }
+}
+
+/// Whether a case is answered.
+fn is_right(alloc: Global, case: &Case) -> bool {
+    match joined(alloc, case.rows) {
+        Ok(bytes) => is_answered(alloc, &bytes, case),
+        Err(_) => false,
+    }
 }
 
 #[test]
-fn texts_fill_buffers_of_their_size(rt: HostRuntime) -> Result<(), Fail> {
-    let alloc = rt.alloc();
-    let bytes = joined(alloc, MODULE)?;
-    let accepted = Answer {
-        record_count: 6,
-        ..text_of(48)
-    };
-    assert_eq!(&rt; omf_check(alloc, &bytes, true), accepted);
-    let mut listed = [7; 160];
-    assert_eq!(&rt; omf_list(alloc, &bytes, true, &mut listed), text_of(160));
-    assert_eq!(&rt; listed.as_slice(), LISTED);
-    let mut relocated = [7; 26];
-    assert_eq!(&rt;
-        omf_reloc(alloc, &bytes, PLACED, true, &mut relocated),
-        text_of(26)
-    );
-    assert_eq!(&rt; relocated.as_slice(), RELOCATED);
-    let mut canonical = [7; 48];
-    assert_eq!(&rt; omf_canon(alloc, &bytes, true, &mut canonical), text_of(48));
-    assert_eq!(&rt; canonical.as_slice(), bytes.as_slice());
-    Ok(())
+fn texts_fill_buffers_of_their_size(rt: HostRuntime) {
+    for (at, case) in FILLED.iter().enumerate() {
+        assert!(rt; is_right(rt.alloc(), case), "{at}");
+    }
 }
 
 #[test]
-fn short_buffers_and_faults_change_nothing(rt: HostRuntime) -> Result<(), Fail> {
-    let alloc = rt.alloc();
-    let bytes = joined(alloc, MODULE)?;
-    let mut room = [7; 25];
-    let short = Answer {
-        status: 8,
-        ..text_of(26)
-    };
-    assert_eq!(&rt; omf_reloc(alloc, &bytes, PLACED, false, &mut room), short);
-    let misplaced = Answer {
-        status: 7,
-        reason: 1,
-        kind: 1,
-        index: 1,
-        ..NOTHING
-    };
-    assert_eq!(&rt; omf_reloc(alloc, &bytes, b"", false, &mut room), misplaced);
-    let front = joined(alloc, &[HEADER, NAMES, SEGMENT, DATA, "9C 06"])?;
-    let cut = Answer {
-        status: 4,
-        reason: 2,
-        number: 4,
-        start: 34,
-        within: 2,
-        ..NOTHING
-    };
-    assert_eq!(&rt; omf_list(alloc, &front, false, &mut room), cut);
-    assert_eq!(&rt; omf_canon(alloc, &front, false, &mut room), cut);
-    assert_eq!(&rt; room, [7; 25]);
-    Ok(())
+fn short_buffers_and_faults_change_nothing(rt: HostRuntime) {
+    for (at, case) in UNCHANGED.iter().enumerate() {
+        assert!(rt; is_right(rt.alloc(), case), "{at}");
+    }
 }

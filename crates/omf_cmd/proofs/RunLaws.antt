@@ -3,10 +3,9 @@ use Rattle.std.proofs.Common.{◌≡◌, ◌≤◌, arith, ℕ, List, [], ◌∷
 use Rattle.std.proofs.lemmas.List.{append-nil}
 use Rattle.std.proofs.KnownBytes.{Appends-nil}
 use Rattle.std.specs.Io.KnownBytes.{Consumes, Keeps}
-use Rattle.std.specs.Prelude.{Option, Some, None, IfErr, IsTrue}
+use Rattle.std.specs.Prelude.{Option, Some, None, IfErr}
 use Rattle.omf_frame.specs.Device.{Device}
 use Rattle.omf_frame.specs.Framing.{Raw}
-use Rattle.omf_frame.proofs.FaultLaws.{untrue}
 use Rattle.omf_records.specs.Values.{Rec}
 use Rattle.omf_image.specs.Limits.{profile_limits}
 use Rattle.omf_placement.specs.Placement.{Places}
@@ -18,7 +17,6 @@ use Rattle.omf_check.specs.Module.{Module, records_in}
 use Rattle.omf_check.specs.declared.fault.CheckFault.{CheckFault}
 use Rattle.omf_check.specs.declared.fault.CheckFault.TheVariants as check
 use Rattle.omf_check.specs.declared.profile.Profile.{Profile}
-use Rattle.omf_cmd.specs.FaultLine.{fault_line, fault_text, takes_memory}
 use Rattle.omf_cmd.specs.HowFar.{IsReadFrom}
 use Rattle.omf_cmd.specs.Reports.{of_check, IsModuleFault, Judges, ReportsBy}
 use Rattle.omf_cmd.specs.Runs.{IsCausedBy, IsPart, IsPrintCause, IsReadCause, IsUnbroken, Prints, PrintsInPieces}
@@ -167,13 +165,3 @@ module _ (prints_by : Printing) (text : List Raw → List ℕ) (profile : Profil
         fault = print_fault writer writer' r cause;
         prints = (records_in m.bytes, p, λ input told. one_judged profile input (records_in m.bytes) reader.bytes reader'.bytes writer writer' r cause (from input told));
       }
-
--- of a fault whose line takes memory, the line is printed
-pub shown : (f : RunFault) → IsTrue (takes_memory f) → fault_line f ++ 10 ∷ [] ≡ fault_text f
-shown fault.Write h = absurd (untrue h)
-shown fault.Memory h = refl
-shown fault.Read h = refl
-shown (fault.Refused why at) h = refl
-shown (fault.Line n) h = refl
-shown fault.TooLong h = refl
-shown (fault.Reach f) h = refl

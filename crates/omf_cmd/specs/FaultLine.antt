@@ -1,5 +1,5 @@
 -- The line printed for a fault (this profile's rule).
-use Rattle.std.specs.Prelude.{ℕ, List, [], ◌∷◌, ◌++◌, Bool, true, false, codes, decimal}
+use Rattle.std.specs.Prelude.{ℕ, List, [], ◌∷◌, ◌++◌, codes, decimal}
 use Rattle.omf_frame.specs.Fault.{reason_number}
 use Rattle.omf_frame.specs.declared.fault.Reason.{Reason}
 use Rattle.omf_frame.specs.declared.fault.Reason.TheVariants as reason
@@ -83,10 +83,3 @@ fault_line f = in_words (fault_words f)
 abbrev pub fault_text : RunFault → List ℕ
 fault_text fault.Write = []
 fault_text f = fault_line f ++ 10 ∷ []
-
--- Whether the line has numbers, so that it is built at run time, which takes memory. The other lines are fixed.
-abbrev pub takes_memory : RunFault → Bool
-takes_memory (fault.Refused r p) = true
-takes_memory (fault.Line n) = true
-takes_memory (fault.Reach f) = true
-takes_memory _ = false

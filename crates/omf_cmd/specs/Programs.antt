@@ -1,22 +1,18 @@
 -- How a program answers its arguments: it runs the task that they ask for, prints its usage, or runs out of memory.
-use Rattle.std.specs.Prelude.{◌≡◌, ◌⊎◌, IsTrue, ℕ, Bool, List, [], ◌∷◌, ◌++◌, Option, Some, None, Result, Ok, Err, codes}
+use Rattle.std.specs.Prelude.{◌≡◌, ◌⊎◌, ℕ, Bool, not, ◌==◌, ◌&&◌, if◌then◌else◌, List, [], ◌∷◌, ◌++◌, Option, Some, None, Result, Ok, Err, codes}
+use Rattle.std.specs.Io.KnownBytes.{Keeps}
 use Rattle.omf_frame.specs.Device.{Device}
 use Rattle.omf_cmd.specs.Runs.{IsWritten}
 
--- What a program reports of a fault: the exit status, and the text that is printed. Whether that text is built at run time, which takes memory.
+-- What a program reports of a fault: the exit status, and the text that is printed.
 pub record FaultReport : Type 0 where
   pub status : ℕ
   pub text : List ℕ
-  pub takes_memory : Bool
 
--- What is written of a fault: its whole text, or a front of it if the writer failed. It may be nothing where the text takes memory.
-abbrev pub IsReported : Device → Device → FaultReport → Type 0
-IsReported old new report = IsWritten old new report.text ⊎ (IsTrue report.takes_memory × (new ≡ old))
-
--- How a program ends after a run: with status 0, or with that of the fault, which is reported.
+-- How a program ends after a run: with status 0, or with that of the fault, whose text is printed.
 abbrev pub Ends : {F : Type 0} → (F → FaultReport) → Device → Device → Result (Unit {0}) F → ℕ → Type 0
 Ends report old new (Ok done) status = (status ≡ 0) × (new ≡ old)
-Ends report old new (Err f) status = (status ≡ (report f).status) × IsReported old new (report f)
+Ends report old new (Err f) status = (status ≡ (report f).status) × IsWritten old new (report f).text
 
 -- A run of a task, and the end after it. `between` is the writer after the run.
 pub record RunsAndEnds {F : Type 0} (performs : Device → Device → Device → Device → Result (Unit {0}) F → Type 0) (report : F → FaultReport) (reader reader' writer writer' : Device) (status : ℕ) : Type 0 where
@@ -46,6 +42,18 @@ ProgramAnswers asks performs report usage arguments reader reader' writer writer
 -- The answer to arguments that are not understood: the usage, or out of memory. Nothing is read.
 abbrev pub Misuses : List ℕ → Device → Device → Device → Device → ℕ → Type 0
 Misuses usage reader reader' writer writer' status = PrintsUsage usage reader reader' writer writer' status ⊎ IsOutOfMemory reader reader' writer writer' status
+
+-- The exit status after the output was flushed, or could not be: 3 if the program was done but the flush failed.
+abbrev pub status_after : ℕ → Bool → ℕ
+status_after ended flushed = if ended == 0 && not flushed then 3 else ended
+
+-- A run whose output is flushed at its end. `between` is the writer before the flush, and `ended` the program's own status.
+pub record EndsFlushed (answers : Device → ℕ → Type 0) (writer' : Device) (flushed : Bool) (status : ℕ) : Type 0 where
+  pub between : Device
+  pub ended : ℕ
+  pub answer : answers between ended
+  pub kept : Keeps between.bytes writer'.bytes
+  pub is : status ≡ status_after ended flushed
 
 -- A program ran, on some arguments and devices, and ended with this status. The status is 3 also if memory ran out before, and if the output
 -- could not be flushed.

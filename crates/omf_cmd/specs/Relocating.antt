@@ -45,10 +45,11 @@ pub record HasOutcome (profile : Profile) (input : List ℕ) (outcome : Result (
   pub accepted : IsAccepted profile profile_limits input records
   pub is : reloc_outcome profile_limits (recs records) accepted.rest ≡ outcome
 
--- The outcome for a module and a placement text: the text to print, or the first fault. Memory may run out at any time; no device takes part.
+-- The outcome for a module and a placement text: the text to print, or the first fault. Memory runs out only if the text is not too long and
+-- each of its lines is empty or an entry. No device is involved.
 abbrev pub IsOutcome : List Rec → List ℕ → Result (List ℕ) RunFault → Type 0
 IsOutcome m given (Ok text) = reloc_outcome profile_limits m given ≡ Ok text
-IsOutcome m given (Err fault.Memory) = ⊤
+IsOutcome m given (Err fault.Memory) = (length given ≤ text_limit) × IsOk (parsed given)
 IsOutcome m given (Err fault.Read) = ⊥
 IsOutcome m given (Err fault.Write) = ⊥
 IsOutcome m given (Err (fault.Refused why at)) = ⊥

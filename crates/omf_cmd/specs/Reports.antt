@@ -9,7 +9,7 @@ use Rattle.omf_check.specs.Refusal.{IsRefused}
 use Rattle.omf_check.specs.declared.fault.CheckFault.{CheckFault}
 use Rattle.omf_check.specs.declared.fault.CheckFault.TheVariants as check
 use Rattle.omf_check.specs.declared.profile.Profile.{Profile}
-use Rattle.omf_cmd.specs.FaultLine.{fault_text, takes_memory}
+use Rattle.omf_cmd.specs.FaultLine.{fault_text}
 use Rattle.omf_cmd.specs.HowFar.{EndsAtRefusal, IsReadFrom, IsUnrefused}
 use Rattle.omf_cmd.specs.Listing.{canonical_text, check_text, list_text}
 use Rattle.omf_cmd.specs.Relocating.{IsRelocation}
@@ -75,7 +75,7 @@ IsNamedBy _ ran = IfErr ran IsModuleFault
 
 -- What `omf` reports of a fault.
 abbrev pub report : RunFault → FaultReport
-report f = record { status = status_of f; text = fault_text f; takes_memory = takes_memory f }
+report f = record { status = status_of f; text = fault_text f }
 
 -- A run of a job with a profile: its result, what it reads and writes, and which device failed.
 pub record IsPerformed (asked : Job × Profile) (reader reader' writer writer' : Device) (ran : Result (Unit {0}) RunFault) : Type 0 where

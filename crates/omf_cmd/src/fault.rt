@@ -1,17 +1,17 @@
 //! Why a run of `omf` fails.
 
-ghost use Rattle.std.specs.Prelude.{◌≡◌, ◌++◌, ◌∷◌, [], IfOk, string_bytes};
-ghost use Rattle.omf_cmd.specs.FaultLine.{fault_line};
+ghost use Rattle.std.specs.Prelude.{◌≡◌};
 ghost use Rattle.omf_cmd.specs.declared.fault.RunFault.TheVariants.{Memory, Reach};
 ghost use Rattle.omf_cmd.specs.Relocating.{of_text, of_relocate};
 ghost use Rattle.omf_cmd.specs.Reports.{of_check, report};
 
-use crate::printed::fault_line;
+use crate::line::print_words;
+use crate::printed::{print_reach, print_refused, print_text_line};
 use crate::program::Fault;
 use omf_check::CheckFault;
-use omf_frame::{Place, Reason};
+use omf_frame::{Place, Reason, Sink};
 use omf_reloc::{ReachFault, RelocateFault, TextFault};
-use std::alloc::{AllocError, AllocFailed, Global};
+use std::alloc::{AllocError, AllocFailed};
 use thiserror::Error;
 
 /// Why a run of `omf` fails, with the number of each.
@@ -104,15 +104,6 @@ impl From<CheckFault> for RunFault {
     }
 }
 
-/// The text of a fault: its line and a line feed.
-fn line_text(alloc: Global, fault: &RunFault) -> Result<String, AllocError>
-    ensures { IfOk result (λ text. string_bytes text ≡ fault_line fault.now ++ 10 ∷ []) }
-{
-    let mut text = fault_line(alloc, fault)?;
-    text.push_str("\n")?;
-    Ok(text)
-}
-
 impl Fault for RunFault {
     ghost report = { report };
 
@@ -126,17 +117,15 @@ impl Fault for RunFault {
         }
     }
 
-    fn fixed_text(&self) -> Option<&'static str> {
-        match self {
-            RunFault::Memory => Some("memory\n"),
-            RunFault::Read => Some("read\n"),
-            RunFault::Write => Some(""),
-            RunFault::TooLong => Some("placement too long\n"),
-            RunFault::Refused { .. } | RunFault::Line(_) | RunFault::Reach(_) => None,
+    fn print<K: Sink>(&self, writer: &mut K) {
+        match *self {
+            RunFault::Memory => print_words(writer, &["memory"]),
+            RunFault::Read => print_words(writer, &["read"]),
+            RunFault::Write => {}
+            RunFault::Refused { reason, place } => print_refused(writer, reason, place),
+            RunFault::Line(number) => print_text_line(writer, number),
+            RunFault::TooLong => print_words(writer, &["placement", "too", "long"]),
+            RunFault::Reach(fault) => print_reach(writer, fault),
         }
-    }
-
-    fn built_text(&self, alloc: Global) -> Result<String, AllocError> {
-        line_text(alloc, self)
     }
 }

@@ -1,6 +1,6 @@
 //! A sink in memory.
 
-ghost use Rattle.std.specs.Prelude.{◌≡◌, ◌≤◌, [], Some, length, IfOk};
+ghost use Rattle.std.specs.Prelude.{◌≡◌, ◌<◌, ◌≤◌, ◌+◌, [], Some, length, vec_capacity, vec_len, IfOk, OnErr};
 ghost use Rattle.omf_frame.specs.Device.{Device, Pushes, push_fails, push_breaks, counted};
 ghost use Rattle.omf_cmd.specs.Programs.{in_memory};
 
@@ -41,6 +41,8 @@ impl Sink for Gathered {
         ensures breaks { (⟦<Gathered as Sink>⟧.seen self.new).breaks ≡ counted (push_breaks result bytes.now) (⟦<Gathered as Sink>⟧.seen self.old).breaks }
         // It takes all or fails.
         ensures whole { IfOk result (λ n. n ≡ length bytes.now) }
+        // It fails only if its capacity does not hold them.
+        ensures full { OnErr result (vec_capacity self.old.text < vec_len self.old.text + length bytes.now) }
     {
         match self.text.extend_from_slice(bytes) {
             Ok(()) => Ok(bytes.len()),

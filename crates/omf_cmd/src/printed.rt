@@ -1,11 +1,16 @@
-//! The line printed for a fault.
+//! The line printed for a fault: as a string, and written word by word.
 
 ghost use Rattle.std.specs.Prelude.{◌≡◌, ◌++◌, IfOk, string_bytes};
-ghost use Rattle.omf_cmd.specs.FaultLine.{reason_name, kind_name, cause_name, fault_line};
-ghost use Rattle.omf_cmd.specs.declared.fault.RunFault.TheVariants.{Refused, Reach};
+ghost use Rattle.omf_cmd.specs.FaultLine.{reason_name, kind_name, cause_name, fault_line, fault_words};
+ghost use Rattle.omf_cmd.specs.Printed.{line};
+ghost use Rattle.omf_cmd.specs.Runs.{IsWritten};
+ghost use Rattle.omf_cmd.specs.declared.fault.RunFault.TheVariants.{Line, Refused, Reach};
+ghost use Rattle.omf_reloc.specs.declared.fault.ReachFault.TheVariants.{TooFar};
 
 use crate::fault::RunFault;
-use omf_frame::{Place, Reason};
+use crate::line::print_words;
+use itoa::Buffer;
+use omf_frame::{Place, Reason, Sink};
 use omf_reloc::{Cause, Kind, ReachFault};
 use std::alloc::{AllocError, Global};
 
@@ -121,5 +126,80 @@ pub fn fault_line(alloc: Global, fault: &RunFault) -> Result<String, AllocError>
         RunFault::Line(number) => format!(in alloc; "placement line {number}"),
         RunFault::TooLong => String::from_str(alloc, "placement too long"),
         RunFault::Reach(fault) => reach_line(alloc, fault),
+    }
+}
+
+/// Prints the line of a refused module.
+pub(crate) fn print_refused<K: Sink>(writer: &mut K, reason: Reason, place: Place)
+    ensures { IsWritten (K.seen writer.old) (K.seen writer.new) (line (fault_words (Refused reason place))) }
+{
+    let (mut number, mut record) = (Buffer::new(), Buffer::new());
+    let (mut start, mut within) = (Buffer::new(), Buffer::new());
+    print_words(
+        writer,
+        &[
+            "refused",
+            number.format(reason.number()),
+            reason_name(reason),
+            "record",
+            record.format(place.number),
+            "at",
+            start.format(place.start),
+            "within",
+            within.format(place.within),
+        ],
+    );
+}
+
+/// Prints the line of a line of the placement text that gives no entry.
+pub(crate) fn print_text_line<K: Sink>(writer: &mut K, number: u64)
+    ensures { IsWritten (K.seen writer.old) (K.seen writer.new) (line (fault_words (Line number))) }
+{
+    let mut digits = Buffer::new();
+    print_words(writer, &["placement", "line", digits.format(number)]);
+}
+
+/// Prints the line of a fixup out of range.
+fn print_too_far<K: Sink>(writer: &mut K, number: u32, within: u32, cause: Cause)
+    ensures { IsWritten (K.seen writer.old) (K.seen writer.new) (line (fault_words (Reach (TooFar number within cause)))) }
+{
+    let (mut record, mut place) = (Buffer::new(), Buffer::new());
+    print_words(
+        writer,
+        &[
+            "reach",
+            "4",
+            "TooFar",
+            cause_name(cause),
+            "record",
+            record.format(number),
+            "within",
+            place.format(within),
+        ],
+    );
+}
+
+/// Prints the line of a placement that does not fit, or of a fixup out of range.
+pub(crate) fn print_reach<K: Sink>(writer: &mut K, fault: ReachFault)
+    ensures { IsWritten (K.seen writer.old) (K.seen writer.new) (line (fault_words (Reach fault))) }
+{
+    let mut digits = Buffer::new();
+    match fault {
+        ReachFault::Missing(kind, index) => {
+            let index = digits.format(index);
+            print_words(writer, &["reach", "1", "Missing", kind_name(kind), index]);
+        }
+        ReachFault::Extra(kind, index) => {
+            let index = digits.format(index);
+            print_words(writer, &["reach", "2", "Extra", kind_name(kind), index]);
+        }
+        ReachFault::Absolute(index) => {
+            print_words(writer, &["reach", "3", "Absolute", digits.format(index)]);
+        }
+        ReachFault::TooFar {
+            number,
+            within,
+            cause,
+        } => print_too_far(writer, number, within, cause),
     }
 }

@@ -130,7 +130,7 @@ pub fn print_record(
 }
 
 /// Whether a byte is printed as it is: 20H to 7EH without the quote and the backslash.
-fn is_plain(byte: u8) -> bool
+pub(crate) fn is_plain(byte: u8) -> bool
     ensures { result ≡ is_plain byte }
 {
     byte >= 0x20 && byte <= 0x7E && byte != b'"' && byte != b'\\'

@@ -1,7 +1,7 @@
 //! Programs: arguments, a reader and a writer to an exit status.
 
-ghost use Rattle.std.specs.Prelude.{◌≡◌, ◌≤◌, ◌++◌, ◌∷◌, [], ℕ, List, Option, None, Result, codes, map, string_bytes, IfOk, IfSome, IsTrue};
-ghost use Rattle.omf_cmd.specs.Programs.{Acts, FaultReport, IsReported, ProgramAnswers};
+ghost use Rattle.std.specs.Prelude.{◌≡◌, ◌≤◌, ◌++◌, ◌∷◌, [], ℕ, List, Option, None, Result, codes, map, string_bytes, IfOk};
+ghost use Rattle.omf_cmd.specs.Programs.{Acts, FaultReport, ProgramAnswers};
 ghost use Rattle.omf_cmd.specs.Runs.{IsWritten};
 ghost use Rattle.omf_frame.specs.Device.{Device};
 
@@ -11,7 +11,7 @@ use std::alloc::{AllocError, Global};
 
 /// Why a program fails: what it prints, and the exit status it ends with.
 pub trait Fault {
-    /// The status, the text, and whether building the text takes memory.
+    /// The status and the text.
     ghost report: { Self → FaultReport };
 
     /// The exit status, at most 3.
@@ -19,14 +19,9 @@ pub trait Fault {
         ensures known { result ≤ 3 }
         ensures status { result ≡ (report self.now).status };
 
-    /// The text printed, if it is always the same; empty for a fault of the writer, of which nothing can be printed.
-    fn fixed_text(&self) -> Option<&'static str>
-        ensures text { IfSome result (λ text. text.now ≡ (report self.now).text) }
-        ensures none { result ≡ None → IsTrue (report self.now).takes_memory };
-
-    /// Builds the text printed, where `fixed_text` has none: a line and its line feed.
-    fn built_text(&self, alloc: Global) -> Result<String, AllocError>
-        ensures { IsTrue (report self.now).takes_memory → IfOk result (λ text. string_bytes text ≡ (report self.now).text) };
+    /// Prints the text: a line and its line feed, or nothing for a fault of the writer. It takes no memory. A failing writer is ignored.
+    fn print<K: Sink>(&self, writer: &mut K)
+        ensures { IsWritten (K.seen writer.old) (K.seen writer.new) (report self.now).text };
 }
 
 /// A program: what its arguments ask for, how that is done, and how the program is called.
@@ -61,27 +56,13 @@ pub trait Program {
         ensures { result.now ≡ called };
 }
 
-/// Prints a fault's text, if there is memory for it. A failing writer is ignored.
-fn print_fault<F: Fault, K: Sink>(alloc: Global, fault: &F, writer: &mut K)
-    ensures { IsReported (K.seen writer.old) (K.seen writer.new) (F.report fault.now) }
-{
-    match fault.fixed_text() {
-        Some(text) => tell(writer, text.as_bytes()),
-        None => {
-            if let Ok(text) = fault.built_text(alloc) {
-                tell(writer, text.as_bytes());
-            }
-        }
-    }
-}
-
 /// Prints a fault's text, and returns its exit status.
-pub(crate) fn fail<F: Fault, K: Sink>(alloc: Global, fault: &F, writer: &mut K) -> u8
+pub(crate) fn fail<F: Fault, K: Sink>(fault: &F, writer: &mut K) -> u8
     ensures known { result ≤ 3 }
     ensures status { result ≡ (F.report fault.now).status }
-    ensures prints { IsReported (K.seen writer.old) (K.seen writer.new) (F.report fault.now) }
+    ensures prints { IsWritten (K.seen writer.old) (K.seen writer.new) (F.report fault.now).text }
 {
-    print_fault(alloc, fault, writer);
+    fault.print(writer);
     fault.status()
 }
 
@@ -110,7 +91,7 @@ fn act<P: Program, S: Source, K: Sink>(
     };
     match P::perform(alloc, task, reader, writer) {
         Ok(()) => 0,
-        Err(fault) => fail(alloc, &fault, writer),
+        Err(fault) => fail(&fault, writer),
     }
 }
 

@@ -30,10 +30,10 @@ fn contents_length(bytes: &[u8], start: u64) -> usize
     ensures { (r : Raw) → StandsAt bytes.now start r → result ≡ length r.body }
 {
     let (_front, record) = bytes.split_at(start as usize);
-    match record {
-        [_kind, low, high, ..] => usize::from(*low) + 256 * usize::from(*high) - 1,
-        _ => unreachable!(),
-    }
+    let [_kind, low, high, ..] = record else {
+        unreachable!()
+    };
+    usize::from(*low) + 256 * usize::from(*high) - 1
 }
 
 /// Prints a line for each record.
@@ -84,10 +84,10 @@ fn print_group_of(
     requires { (g : GroupItem) × (contents_seen group.now ≡ Group g) }
     ensures { (g : GroupItem) → contents_seen group.now ≡ Group g → AddsText result text.old.items text.new.items (line (codes "G" ∷ decimal index ∷ named (names (recs_of checked.now.bytes)) g.name.item ∷ [])) }
 {
-    match group {
-        Rec::Group { name, .. } => print_group(text, index, checked.name(name.item.0)),
-        _ => unreachable!(),
-    }
+    let Rec::Group { name, .. } = group else {
+        unreachable!()
+    };
+    print_group(text, index, checked.name(name.item.0))
 }
 
 /// Prints a line for each group.
@@ -183,7 +183,21 @@ fn print_publics_of<K: Sink>(
             publics,
             ..
         } => print_items(writer, text, group.item.0, segment.item.0, publics),
-        _ => Ok(()),
+        Rec::Header { .. }
+        | Rec::Comment { .. }
+        | Rec::Names(_)
+        | Rec::Segment { .. }
+        | Rec::Group { .. }
+        | Rec::Externs(_)
+        | Rec::Communals(_)
+        | Rec::Plain { .. }
+        | Rec::Iterated { .. }
+        | Rec::Fixups { .. }
+        | Rec::ModEnd { .. }
+        | Rec::LocalNames(_)
+        | Rec::LocalExterns { .. }
+        | Rec::LocalCommunals(_)
+        | Rec::Carried { .. } => Ok(()),
     }
 }
 

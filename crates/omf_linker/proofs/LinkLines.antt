@@ -1,27 +1,33 @@
--- Lines of faults.
-use Rattle.std.proofs.Common.{◌≡◌, ℕ, List, [], ◌∷◌, ◌++◌, refl}
-use Rattle.std.specs.Prelude.{IsTrue}
-use Rattle.omf_placement.specs.Entries.{in_words}
-use Rattle.omf_frame.proofs.FaultLaws.{untrue}
-use Rattle.omf_cmd.specs.FaultLine.{fault_line, fault_words}
-use Rattle.omf_cmd.specs.declared.fault.RunFault.{RunFault}
+-- Lines of faults, in two parts.
+use Rattle.std.proofs.Common.{◌≡◌, ℕ, ◌+◌, ◌<◌, List, [], ◌∷◌, ◌++◌, arith, length, codes}
+use Rattle.std.specs.Prelude.{decimal, flat_map}
+use Rattle.omf_frame.specs.declared.fault.Place.{Place}
+use Rattle.omf_frame.specs.declared.fault.Reason.{Reason}
+use Rattle.omf_linking.specs.declared.fault.LinkFault.TheVariants as link
+use Rattle.omf_linking.specs.declared.space.stretch.Owner.{Owner}
+use Rattle.omf_placement.specs.Quoted.{hex, quoted}
+use Rattle.omf_reloc.specs.declared.fault.ReachFault.{ReachFault}
+use Rattle.omf_cmd.specs.FaultLine.{fault_text, fault_words as run_words}
+use Rattle.omf_cmd.specs.Printed.{line, spaced}
 use Rattle.omf_cmd.specs.declared.fault.RunFault.TheVariants as run
-use Rattle.omf_linker.specs.Link.Faults.{report, fault_line as image_line}
-use Rattle.omf_linker.specs.declared.link.fault.ImageFault.{ImageFault}
-use Rattle.omf_linker.specs.declared.link.fault.ImageFault.TheVariants as image
+use Rattle.omf_cmd.proofs.Written.{front_words}
+use Rattle.omf_linker.specs.Link.Faults.{external_words, link_words, module_words, owner_words}
 
--- a fault's line after two words
-pub behind : (a b : List ℕ) (f : RunFault) → in_words (a ∷ b ∷ fault_words f) ≡ a ++ 32 ∷ (b ++ 32 ∷ fault_line f)
-behind a b run.Memory = refl
-behind a b run.Read = refl
-behind a b run.Write = refl
-behind a b (run.Refused why at) = refl
-behind a b (run.Line n) = refl
-behind a b run.TooLong = refl
-behind a b (run.Reach f) = refl
+after_front : (front ws : List (List ℕ)) → 0 < length ws → line (front ++ ws) ≡ flat_map spaced front ++ line ws
+after_front front [] some = absurd (omega (arith, some))
+after_front front (w ∷ ws) some = front_words front w ws
 
--- a text that is built at run time is the fault's line and a line feed
-pub built : (f : ImageFault) → IsTrue (report f).takes_memory → image_line f ++ 10 ∷ [] ≡ (report f).text
-built (image.Link f name) takes = refl
-built image.NoRoom takes = refl
-built image.Write takes = absurd (untrue takes)
+-- the line of `omf` after a module
+pub refused_line : (j : ℕ) (why : Reason) (at : Place) (name : List ℕ) → line (link_words (link.Refused j why at) name) ≡ flat_map spaced (module_words j) ++ fault_text (run.Refused why at)
+refused_line j why at name = after_front (module_words j) (run_words (run.Refused why at)) (omega arith)
+
+pub reach_line : (j : ℕ) (f : ReachFault) (name : List ℕ) → line (link_words (link.Reach j f) name) ≡ flat_map spaced (module_words j) ++ fault_text (run.Reach f)
+reach_line j f name = after_front (module_words j) (run_words (run.Reach f)) (omega arith)
+
+-- a name at the end
+pub named_line : (j i : ℕ) (why name : List ℕ) → line (external_words j i why name) ≡ flat_map spaced (module_words j ++ codes "external" ∷ decimal i ∷ why ∷ []) ++ line (quoted name ∷ [])
+named_line j i why name = front_words (codes "module" ∷ decimal (j + 1) ∷ codes "external" ∷ decimal i ∷ why ∷ []) (quoted name) []
+
+-- two owners at the end
+pub overlap_line : (a : ℕ) (s t : Owner) (name : List ℕ) → line (link_words (link.Overlap a s t) name) ≡ flat_map spaced (codes "overlap" ∷ hex 8 a ∷ []) ++ line (owner_words s ++ owner_words t)
+overlap_line a s t name = after_front (codes "overlap" ∷ hex 8 a ∷ []) (owner_words s ++ owner_words t) (omega arith)

@@ -17,7 +17,7 @@ mod reporting;
 use anyhow::Result;
 use linking::link;
 use omf_check::{CheckFault, Checked, Profile, check};
-use omf_frame::{Reading, Source, Writing, push_all};
+use omf_frame::{Reading, Sink, Source, Writing, push_all};
 use placing::places;
 use printing::print_pair;
 use reporting::report;
@@ -34,14 +34,22 @@ fn modules<S: Source>(alloc: Global, reader: &mut S) -> Result<[Checked; 2], Che
     Ok([first, second])
 }
 
+/// Links the two modules of an input, and prints them.
+fn print_linked<S: Source, K: Sink>(alloc: Global, reader: &mut S, writer: &mut K) -> Result<()> {
+    let modules = modules(alloc, reader)?;
+    let placements = link(alloc, &modules, &places(alloc)?)?;
+    Ok(print_pair(alloc, &modules, &placements, writer)?)
+}
+
 fn main(rt: HostRuntime) -> Result<()> {
     let alloc = rt.alloc();
     let mut output = rt.stdout();
     push_all(&mut Writing::new(&mut output), report(alloc)?.as_bytes())?;
     let input = BufReader::new(alloc, rt.reader())?;
-    let modules = modules(alloc, &mut Reading::new(input))?;
-    let placements = link(alloc, &modules, &places(alloc)?)?;
-    print_pair(alloc, &modules, &placements, &mut Writing::new(&mut output))?;
-    output.flush()?;
-    Ok(())
+    print_linked(
+        alloc,
+        &mut Reading::new(input),
+        &mut Writing::new(&mut output),
+    )?;
+    Ok(output.flush()?)
 }

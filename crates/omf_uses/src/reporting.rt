@@ -40,78 +40,123 @@ fn place(alloc: Global, address: u32) -> Result<Placement, AllocError> {
 fn report_verdict(alloc: Global, text: &mut String, records: &[&str]) -> Result<()> {
     let bytes = joined(alloc, records)?;
     let line = verdict(alloc, &mut Reading::new(bytes.as_slice()))?;
-    writeln!(text, "verdict: {line}")?;
-    Ok(())
+    Ok(writeln!(text, "verdict: {line}")?)
+}
+
+/// Bytes as hexadecimal numbers, each after a space.
+fn bytes_line(alloc: Global, bytes: &[u8]) -> Result<String, AllocError> {
+    let mut line = String::new(alloc);
+    for byte in bytes {
+        write!(line, " {byte:02X}")?;
+    }
+    Ok(line)
+}
+
+/// The image of a boot sector, or why it has none.
+fn boot_line(alloc: Global, module: &Checked) -> Result<String, AllocError> {
+    match boot_image(alloc, module) {
+        Ok(image) => bytes_line(alloc, image.run_bytes(1, 0).unwrap_or(&[])),
+        Err(fault) => {
+            let line = fault_line(alloc, &fault)?;
+            format!(in alloc; " {line}")
+        }
+    }
 }
 
 /// Reports the image of a boot sector with these records, or why it has none.
 fn report_boot(alloc: Global, text: &mut String, records: &[&str]) -> Result<()> {
-    match boot_image(alloc, &module(alloc, records)?) {
-        Ok(image) => {
-            write!(text, "boot:")?;
-            for byte in image.run_bytes(1, 0).unwrap_or(&[]) {
-                write!(text, " {byte:02X}")?;
-            }
-            writeln!(text)?;
-        }
-        Err(fault) => {
-            let line = fault_line(alloc, &fault)?;
-            writeln!(text, "boot: {line}")?;
-        }
-    }
-    Ok(())
+    let line = boot_line(alloc, &module(alloc, records)?)?;
+    Ok(writeln!(text, "boot:{line}")?)
 }
 
-/// Reports the key of a module with these records, as `sha256sum` prints it.
-fn report_key(alloc: Global, text: &mut String, records: &[&str]) -> Result<()> {
-    write!(text, "key: ")?;
-    for byte in key(alloc, &module(alloc, records)?)? {
+/// Writes a key as `sha256sum` prints it.
+fn write_key(text: &mut String, key: &[u8; 32]) -> Result<(), AllocError> {
+    for byte in key {
         write!(text, "{byte:02x}")?;
     }
-    writeln!(text)?;
+    writeln!(text)
+}
+
+/// Reports the key of a module with these records.
+fn report_key(alloc: Global, text: &mut String, records: &[&str]) -> Result<()> {
+    let key = key(alloc, &module(alloc, records)?)?;
+    write!(text, "key: ")?;
+    Ok(write_key(text, &key)?)
+}
+
+/// A module with an external, and one with these records.
+fn pair(alloc: Global, records: &[&str]) -> Result<[Checked; 2]> {
+    let caller = module(alloc, &[HEADER, NAMES, SEGMENT, EXTERNAL, END])?;
+    let callee = module(alloc, records)?;
+    Ok([caller, callee])
+}
+
+/// The places of both.
+fn places(alloc: Global) -> Result<[Placement; 2], AllocError> {
+    Ok([place(alloc, 0x10020)?, place(alloc, 0x10100)?])
+}
+
+/// Writes the place of external 1 of each module that has one.
+fn write_externals(text: &mut String, placements: &[Placement]) -> Result<(), AllocError> {
+    for placement in placements {
+        if let Some((address, frame)) = placement.external(1) {
+            let base = frame.base;
+            let selector = frame.selector;
+            writeln!(text, "link: E {address:X} {base:X} {selector:X}")?;
+        }
+    }
     Ok(())
 }
 
 /// Reports the place of the first module's external, which the second module, with these records, may define.
 fn report_link(alloc: Global, text: &mut String, records: &[&str]) -> Result<()> {
-    let caller = module(alloc, &[HEADER, NAMES, SEGMENT, EXTERNAL, END])?;
-    let callee = module(alloc, records)?;
-    let places = [place(alloc, 0x10020)?, place(alloc, 0x10100)?];
-    match link(alloc, &[caller, callee], &places) {
-        Ok(placements) => {
-            for placement in &placements {
-                if let Some((address, frame)) = placement.external(1) {
-                    let base = frame.base;
-                    let selector = frame.selector;
-                    writeln!(text, "link: E {address:X} {base:X} {selector:X}")?;
-                }
-            }
-        }
-        Err(DeriveFault::Undefined { module, external }) => {
-            writeln!(
-                text,
-                "link: external {external} of module {module} is undefined"
-            )?;
-        }
-        Err(fault) => return Err(fault.into()),
+    let modules = pair(alloc, records)?;
+    match link(alloc, &modules, &places(alloc)?) {
+        Ok(placements) => Ok(write_externals(text, &placements)?),
+        Err(DeriveFault::Undefined { module, external }) => Ok(writeln!(
+            text,
+            "link: external {external} of module {module} is undefined"
+        )?),
+        Err(fault) => Err(fault.into()),
     }
-    Ok(())
+}
+
+/// A use of the library.
+#[derive(Clone, Copy)]
+enum Use {
+    Verdict,
+    Boot,
+    Key,
+    Link,
+}
+
+/// The uses, each with the records of a module.
+static USES: [(Use, &[&str]); 8] = [
+    (Use::Verdict, MODULE),
+    (Use::Verdict, &[HEADER, NAMES, SEGMENT, DATA, "9C 06"]),
+    (Use::Boot, MODULE),
+    (Use::Boot, &[HEADER, NAMES, SEGMENT, EXTERNAL, END]),
+    (Use::Key, MODULE),
+    (Use::Key, &[HEADER, NAMES, SEGMENT, LONG_DATA, FIXUP, END]),
+    (Use::Link, &[HEADER, NAMES, SEGMENT, PUBLIC, END]),
+    (Use::Link, &[HEADER, NAMES, SEGMENT, END]),
+];
+
+/// Reports a use.
+fn report_use(alloc: Global, text: &mut String, what: Use, records: &[&str]) -> Result<()> {
+    match what {
+        Use::Verdict => report_verdict(alloc, text, records),
+        Use::Boot => report_boot(alloc, text, records),
+        Use::Key => report_key(alloc, text, records),
+        Use::Link => report_link(alloc, text, records),
+    }
 }
 
 /// The lines of the four uses.
 pub fn report(alloc: Global) -> Result<String> {
     let mut text = String::new(alloc);
-    report_verdict(alloc, &mut text, MODULE)?;
-    report_verdict(alloc, &mut text, &[HEADER, NAMES, SEGMENT, DATA, "9C 06"])?;
-    report_boot(alloc, &mut text, MODULE)?;
-    report_boot(alloc, &mut text, &[HEADER, NAMES, SEGMENT, EXTERNAL, END])?;
-    report_key(alloc, &mut text, MODULE)?;
-    report_key(
-        alloc,
-        &mut text,
-        &[HEADER, NAMES, SEGMENT, LONG_DATA, FIXUP, END],
-    )?;
-    report_link(alloc, &mut text, &[HEADER, NAMES, SEGMENT, PUBLIC, END])?;
-    report_link(alloc, &mut text, &[HEADER, NAMES, SEGMENT, END])?;
+    for (what, records) in &USES {
+        report_use(alloc, &mut text, *what, *records)?;
+    }
     Ok(text)
 }

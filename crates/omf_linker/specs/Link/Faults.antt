@@ -1,5 +1,5 @@
 -- The faults of `omf-link`: the name of the external, the printed line, and what is reported (a rule of this profile).
-use Rattle.std.specs.Prelude.{◌≡◌, ◌⊎◌, Bool, true, false, ℕ, ◌+◌, List, [], ◌∷◌, ◌++◌, option_and_then, unwrap_or, slice_get, codes, decimal}
+use Rattle.std.specs.Prelude.{◌≡◌, ◌⊎◌, ℕ, ◌+◌, List, [], ◌∷◌, ◌++◌, option_and_then, unwrap_or, slice_get, codes, decimal}
 use Rattle.omf_check.specs.Tables.{entry, externals}
 use Rattle.omf_derive.specs.declared.fault.DeriveFault.{DeriveFault}
 use Rattle.omf_derive.specs.declared.fault.DeriveFault.TheVariants as derive
@@ -93,17 +93,11 @@ link_status link.Memory = 3
 link_status link.Read = 3
 link_status _ = 1
 
--- A line with numbers is built at run time, which takes memory.
-abbrev pub link_takes_memory : LinkFault → Bool
-link_takes_memory link.Memory = false
-link_takes_memory link.Read = false
-link_takes_memory _ = true
-
--- What is reported of a fault: the exit status, the line and its line feed, and whether building that takes memory. Nothing is printed if the writer failed.
+-- What is reported of a fault: the exit status, and the line and its line feed. Nothing is printed if the writer failed.
 abbrev pub report : ImageFault → FaultReport
-report (fault.Link f name) = record { status = link_status f; text = fault_line (fault.Link f name) ++ 10 ∷ []; takes_memory = link_takes_memory f }
-report fault.NoRoom = record { status = 1; text = fault_line fault.NoRoom ++ 10 ∷ []; takes_memory = false }
-report fault.Write = record { status = 3; text = []; takes_memory = false }
+report (fault.Link f name) = record { status = link_status f; text = fault_line (fault.Link f name) ++ 10 ∷ [] }
+report fault.NoRoom = record { status = 1; text = fault_line fault.NoRoom ++ 10 ∷ [] }
+report fault.Write = record { status = 3; text = [] }
 
 -- The usage.
 abbrev pub usage : List ℕ

@@ -1,5 +1,5 @@
 -- The faults of `omf-place`: how a layout's fault converts, and what is reported.
-use Rattle.std.specs.Prelude.{ℕ, List, [], ◌∷◌, ◌++◌, false, codes}
+use Rattle.std.specs.Prelude.{ℕ, List, [], ◌∷◌, ◌++◌, codes}
 use Rattle.omf_layout.specs.declared.fault.LayoutFault.{LayoutFault}
 use Rattle.omf_layout.specs.declared.fault.LayoutFault.TheVariants as layout
 use Rattle.omf_cmd.specs.Programs.{FaultReport}
@@ -20,7 +20,7 @@ no_room = codes "no room below the last address" ++ 10 ∷ []
 -- What is reported of a fault: what `omf` reports, or status 1 and that there is no room.
 abbrev pub report : PlaceFault → FaultReport
 report (fault.Run f) = run_report f
-report fault.NoRoom = record { status = 1; text = no_room; takes_memory = false }
+report fault.NoRoom = record { status = 1; text = no_room }
 
 -- The usage.
 abbrev pub usage : List ℕ

@@ -1,12 +1,11 @@
 //! Why a run of `omf-link` fails.
 
-ghost use Rattle.std.specs.Prelude.{◌≡◌, ◌++◌, ◌∷◌, [], IfOk, string_bytes};
-ghost use Rattle.omf_linker.specs.Link.Faults.{fault_line, report};
+ghost use Rattle.omf_linker.specs.Link.Faults.{report};
 
-use crate::link::printed::fault_line;
-use omf_cmd::Fault;
+use crate::link::printed::print_link;
+use omf_cmd::{Fault, print_words};
+use omf_frame::Sink;
 use omf_linking::LinkFault;
-use std::alloc::{AllocError, Global};
 use thiserror::Error;
 
 /// Why a run fails.
@@ -26,15 +25,6 @@ pub enum ImageFault {
     /// The writer failed, or took nothing.
     #[error("the output could not be written")]
     Write,
-}
-
-/// The text of a fault: its line and a line feed.
-fn line_text(alloc: Global, fault: &ImageFault) -> Result<String, AllocError>
-    ensures { IfOk result (λ text. string_bytes text ≡ fault_line fault.now ++ 10 ∷ []) }
-{
-    let mut text = fault_line(alloc, fault)?;
-    text.push_str("\n")?;
-    Ok(text)
 }
 
 impl Fault for ImageFault {
@@ -58,25 +48,11 @@ impl Fault for ImageFault {
         }
     }
 
-    fn fixed_text(&self) -> Option<&'static str> {
+    fn print<K: Sink>(&self, writer: &mut K) {
         match self {
-            ImageFault::NoRoom => Some("no room below the last address\n"),
-            ImageFault::Write => Some(""),
-            ImageFault::Link { fault, .. } => match *fault {
-                LinkFault::Memory => Some("memory\n"),
-                LinkFault::Read => Some("read\n"),
-                LinkFault::Refused { .. } => None,
-                LinkFault::Line(_) => None,
-                LinkFault::External(_) => None,
-                LinkFault::Reach { .. } => None,
-                LinkFault::Starts { .. } => None,
-                LinkFault::Beyond(_) => None,
-                LinkFault::Overlap { .. } => None,
-            },
+            ImageFault::Link { fault, name } => print_link(writer, *fault, name),
+            ImageFault::NoRoom => print_words(writer, &["no room below the last address"]),
+            ImageFault::Write => {}
         }
-    }
-
-    fn built_text(&self, alloc: Global) -> Result<String, AllocError> {
-        line_text(alloc, self)
     }
 }

@@ -1,6 +1,6 @@
 //! The memory image of several modules as text, and their map.
 
-ghost use Rattle.std.specs.Prelude.{◌≡◌, ◌<◌, ◌^◌, length, string_bytes};
+ghost use Rattle.std.specs.Prelude.{◌<◌, ◌^◌, length, string_bytes};
 ghost use Rattle.omf_records.specs.Inner.Seen.{map_ok};
 ghost use Rattle.omf_check.specs.Module.{typed_modules};
 ghost use Rattle.omf_linker.specs.Link.Linked.{IsLinked};

@@ -1,6 +1,6 @@
 //! Adds the name of the external to a fault.
 
-ghost use Rattle.std.specs.Prelude.{◌≡◌, ◌∷◌, []};
+ghost use Rattle.std.specs.Prelude.{◌≡◌, []};
 ghost use Rattle.omf_check.specs.Module.{typed_modules};
 ghost use Rattle.omf_linker.specs.Link.Faults.{IsNamed, IsUnnamed, external_name, name_of};
 

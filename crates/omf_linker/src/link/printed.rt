@@ -1,15 +1,22 @@
-//! The line printed for a fault.
+//! The line printed for a fault: as a string, and written word by word.
 
-ghost use Rattle.std.specs.Prelude.{◌≡◌, ◌++◌, [], IfOk, string_bytes};
+ghost use Rattle.std.specs.Prelude.{◌≡◌, ◌++◌, ◌∷◌, [], Ok, IfOk, codes, decimal, flat_map, string_bytes};
 ghost use Rattle.omf_frame.specs.Bytes.{AddsText};
-ghost use Rattle.omf_cmd.specs.FaultLine.{fault_words as run_words};
+ghost use Rattle.omf_cmd.specs.FaultLine.{fault_text, fault_words as run_words};
+ghost use Rattle.omf_cmd.specs.Printed.{line, spaced};
+ghost use Rattle.omf_cmd.specs.Runs.{IsWritten, PrintsOr};
+ghost use Rattle.omf_cmd.specs.declared.fault.RunFault.TheVariants.{Write};
 ghost use Rattle.omf_placement.specs.Quoted.{hex, quoted};
 ghost use Rattle.omf_placement.specs.Entries.{in_words};
-ghost use Rattle.omf_linker.specs.Link.Faults.{derive_words, external_words, fault_line, link_words, module_words};
+ghost use Rattle.omf_linker.specs.Link.Faults.{derive_words, external_words, fault_line, link_words, module_words, owner_words};
 ghost use Rattle.omf_linking.specs.declared.fault.LinkFault.TheVariants.{Beyond, Overlap, Starts};
 
 use crate::link::fault::ImageFault;
-use omf_cmd::RunFault;
+use itoa::Buffer;
+use omf_cmd::{
+    Fault, RunFault, eight_digits, print_all, print_words, write_last_name, write_words,
+};
+use omf_frame::Sink;
 use omf_layout::printing::print_quoted;
 use omf_linking::LinkFault;
 use omf_linking::space::Owner;
@@ -159,5 +166,162 @@ pub fn fault_line(alloc: Global, fault: &ImageFault) -> Result<String, AllocErro
         ImageFault::Link { fault, name } => link_line(alloc, *fault, name),
         ImageFault::NoRoom => String::from_str(alloc, "no room below the last address"),
         ImageFault::Write => omf_cmd::fault_line(alloc, &RunFault::Write),
+    }
+}
+
+/// Writes the front of a line: a module.
+fn write_module<K: Sink>(writer: &mut K, module: u32) -> Result<(), RunFault>
+    ensures { PrintsOr Write (K.seen writer.old) (K.seen writer.new) (Ok (flat_map spaced (module_words «module»))) result }
+{
+    let mut number = Buffer::new();
+    write_words(writer, &["module", number.format(u64::from(module) + 1)])
+}
+
+/// Prints the line of a module's fault: the module, then the line of `omf`.
+fn print_in_module<K: Sink>(writer: &mut K, module: u32, fault: &RunFault)
+    ensures { IsWritten (K.seen writer.old) (K.seen writer.new) (flat_map spaced (module_words «module») ++ fault_text fault.now) }
+{
+    if let Ok(()) = write_module(writer, module) {
+        fault.print(writer);
+    }
+}
+
+/// Writes the front of the line of an external without a place: all but its name.
+fn write_external<K: Sink>(
+    writer: &mut K,
+    module: u32,
+    external: u16,
+    why: &str,
+) -> Result<(), RunFault>
+    ensures { PrintsOr Write (K.seen writer.old) (K.seen writer.new) (Ok (flat_map spaced (module_words «module» ++ codes "external" ∷ decimal external ∷ why.now ∷ []))) result }
+{
+    let (mut number, mut index) = (Buffer::new(), Buffer::new());
+    let number = number.format(u64::from(module) + 1);
+    let index = index.format(external);
+    write_words(writer, &["module", number, "external", index, why])
+}
+
+/// Writes the line of an external without a place.
+fn write_named<K: Sink>(
+    writer: &mut K,
+    module: u32,
+    external: u16,
+    why: &str,
+    name: &[u8],
+) -> Result<(), RunFault>
+    ensures { PrintsOr Write (K.seen writer.old) (K.seen writer.new) (Ok (line (external_words «module» external why.now name.now))) result }
+{
+    write_external(writer, module, external, why)?;
+    write_last_name(writer, name)
+}
+
+/// Prints the line of an external without a place.
+fn print_external<K: Sink>(writer: &mut K, module: u32, external: u16, why: &str, name: &[u8])
+    ensures { IsWritten (K.seen writer.old) (K.seen writer.new) (line (external_words «module» external why.now name.now)) }
+{
+    let _ = write_named(writer, module, external, why, name);
+}
+
+/// Prints the line of an external's fault, with the external's name.
+fn print_derive<K: Sink>(writer: &mut K, fault: DeriveFault, name: &[u8])
+    ensures { IsWritten (K.seen writer.old) (K.seen writer.new) (line (derive_words fault name.now)) }
+{
+    match fault {
+        DeriveFault::Memory => RunFault::Memory.print(writer),
+        DeriveFault::Undefined { module, external } => {
+            print_external(writer, module, external, "Undefined", name);
+        }
+        DeriveFault::Twice { module, external } => {
+            print_external(writer, module, external, "Twice", name);
+        }
+        DeriveFault::TooHigh { module, external } => {
+            print_external(writer, module, external, "TooHigh", name);
+        }
+    }
+}
+
+/// Prints the line of two modules that both have a start address.
+fn print_starts<K: Sink>(writer: &mut K, first: u32, second: u32)
+    ensures { IsWritten (K.seen writer.old) (K.seen writer.new) (line (link_words (Starts first second) [])) }
+{
+    let (mut before, mut after) = (Buffer::new(), Buffer::new());
+    let first = before.format(u64::from(first) + 1);
+    let second = after.format(u64::from(second) + 1);
+    print_words(writer, &["starts", "module", first, "module", second]);
+}
+
+/// Prints the line of a segment with a byte beyond the last address.
+fn print_beyond<K: Sink>(writer: &mut K, owner: Owner)
+    ensures { IsWritten (K.seen writer.old) (K.seen writer.new) (line (link_words (Beyond owner) [])) }
+{
+    let (mut number, mut index) = (Buffer::new(), Buffer::new());
+    let number = number.format(u64::from(owner.module) + 1);
+    let index = index.format(owner.segment);
+    print_words(writer, &["beyond", "module", number, "segment", index]);
+}
+
+/// Writes the front of the line of two segments with a byte at the same address: the address in eight hexadecimal digits.
+fn write_overlap<K: Sink>(writer: &mut K, address: u32) -> Result<(), RunFault>
+    ensures { PrintsOr Write (K.seen writer.old) (K.seen writer.new) (Ok (flat_map spaced (codes "overlap" ∷ hex 8 address ∷ []))) result }
+{
+    print_all(writer, b"overlap ", RunFault::Write)?;
+    print_all(writer, &eight_digits(address), RunFault::Write)?;
+    print_all(writer, b" ", RunFault::Write)
+}
+
+/// Prints the end of a line: two segments and their modules.
+fn print_owners<K: Sink>(writer: &mut K, first: Owner, second: Owner)
+    ensures { IsWritten (K.seen writer.old) (K.seen writer.new) (line (owner_words first ++ owner_words second)) }
+{
+    let (mut before, mut segment) = (Buffer::new(), Buffer::new());
+    let (mut after, mut other) = (Buffer::new(), Buffer::new());
+    print_words(
+        writer,
+        &[
+            "module",
+            before.format(u64::from(first.module) + 1),
+            "segment",
+            segment.format(first.segment),
+            "module",
+            after.format(u64::from(second.module) + 1),
+            "segment",
+            other.format(second.segment),
+        ],
+    );
+}
+
+/// Prints the line of two segments with a byte at the same address.
+fn print_overlap<K: Sink>(writer: &mut K, address: u32, first: Owner, second: Owner)
+    ensures { IsWritten (K.seen writer.old) (K.seen writer.new) (line (link_words (Overlap address first second) [])) }
+{
+    if let Ok(()) = write_overlap(writer, address) {
+        print_owners(writer, first, second);
+    }
+}
+
+/// Prints the line of a link fault, with the name of its external.
+pub fn print_link<K: Sink>(writer: &mut K, fault: LinkFault, name: &[u8])
+    ensures { IsWritten (K.seen writer.old) (K.seen writer.new) (line (link_words fault name.now)) }
+{
+    match fault {
+        LinkFault::Memory => RunFault::Memory.print(writer),
+        LinkFault::Read => RunFault::Read.print(writer),
+        LinkFault::Refused {
+            module,
+            reason,
+            place,
+        } => print_in_module(writer, module, &RunFault::Refused { reason, place }),
+        LinkFault::Line(number) => RunFault::Line(number).print(writer),
+        LinkFault::External(fault) => print_derive(writer, fault, name),
+        LinkFault::Reach { module, fault } => {
+            print_in_module(writer, module, &RunFault::Reach(fault));
+        }
+        LinkFault::Starts { first, second } => print_starts(writer, first, second),
+        LinkFault::Beyond(owner) => print_beyond(writer, owner),
+        LinkFault::Overlap {
+            address,
+            first,
+            second,
+        } => print_overlap(writer, address, first, second),
     }
 }

@@ -7,9 +7,10 @@ ghost use Rattle.omf_linker.specs.Place.Faults.{of_layout, report};
 ghost use Rattle.omf_linker.specs.declared.place.fault.PlaceFault.TheVariants.{Run};
 
 use omf_check::CheckFault;
-use omf_cmd::{Fault, RunFault};
+use omf_cmd::{Fault, RunFault, print_words};
+use omf_frame::Sink;
 use omf_layout::LayoutFault;
-use std::alloc::{AllocError, Global};
+use std::alloc::AllocError;
 use thiserror::Error;
 
 /// Why a run fails.
@@ -50,9 +51,6 @@ impl From<LayoutFault> for PlaceFault {
     }
 }
 
-/// What is printed if something has no room.
-const NO_ROOM: &str = "no room below the last address\n";
-
 impl Fault for PlaceFault {
     ghost report = { report };
 
@@ -63,17 +61,10 @@ impl Fault for PlaceFault {
         }
     }
 
-    fn fixed_text(&self) -> Option<&'static str> {
+    fn print<K: Sink>(&self, writer: &mut K) {
         match self {
-            PlaceFault::Run(fault) => fault.fixed_text(),
-            PlaceFault::NoRoom => Some(NO_ROOM),
-        }
-    }
-
-    fn built_text(&self, alloc: Global) -> Result<String, AllocError> {
-        match self {
-            PlaceFault::Run(fault) => fault.built_text(alloc),
-            PlaceFault::NoRoom => String::from_str(alloc, NO_ROOM),
+            PlaceFault::Run(fault) => fault.print(writer),
+            PlaceFault::NoRoom => print_words(writer, &["no room below the last address"]),
         }
     }
 }

@@ -1,0 +1,27 @@
+use Rattle.std.proofs.Common.{List, ℕ, subst, sym}
+use Rattle.omf_cmd.specs.Runs.{IsWritten}
+use Rattle.omf_linker.proofs.LinkLines.{reach_line, refused_line}
+use Rattle.omf_linker.proofs.link.printed.print_link.Goals as goal
+
+pub returns-in-Refused : goal.returns-in-Refused
+returns-in-Refused g c =
+    rw c.in-Refused.is (subst (λ (t : List ℕ). IsWritten (g.K.Sink.seen c.args.writer.now) (g.K.Sink.seen c.print_in_module.new.writer) t) (sym (refused_line c.in-Refused.«module» c.in-Refused.reason c.in-Refused.place c.args.name.now)) c.print_in_module.ensures)
+
+pub returns-in-Reach : goal.returns-in-Reach
+returns-in-Reach g c =
+    rw c.in-Reach.is (subst (λ (t : List ℕ). IsWritten (g.K.Sink.seen c.args.writer.now) (g.K.Sink.seen c.print_in_module-in-Reach.new.writer) t) (sym (reach_line c.in-Reach.«module» c.in-Reach.fault c.args.name.now)) c.print_in_module-in-Reach.ensures)
+
+pub returns-in-Read : goal.returns-in-Read
+returns-in-Read g c = rw c.in-Read.is c.print-in-Read.ensures
+
+pub returns-in-Line : goal.returns-in-Line
+returns-in-Line g c = rw c.in-Line.is c.print-in-Line.ensures
+
+pub returns-in-Starts : goal.returns-in-Starts
+returns-in-Starts g c = rw c.in-Starts.is c.print_starts.ensures
+
+pub returns-in-Beyond : goal.returns-in-Beyond
+returns-in-Beyond g c = rw c.in-Beyond.is c.print_beyond.ensures
+
+pub returns-in-Overlap : goal.returns-in-Overlap
+returns-in-Overlap g c = rw c.in-Overlap.is c.print_overlap.ensures
