@@ -70,7 +70,21 @@ impl<'a> NameTable<'a> {
         match rec {
             Rec::Publics { publics, .. } => self.add_items(publics.iter()),
             Rec::LocalPublics { publics, .. } => self.add_items(publics.iter()),
-            _ => Ok(()),
+            Rec::Header { .. }
+            | Rec::Comment { .. }
+            | Rec::Names(_)
+            | Rec::Segment { .. }
+            | Rec::Group { .. }
+            | Rec::Externs(_)
+            | Rec::Communals(_)
+            | Rec::Plain { .. }
+            | Rec::Iterated { .. }
+            | Rec::Fixups { .. }
+            | Rec::ModEnd { .. }
+            | Rec::LocalNames(_)
+            | Rec::LocalExterns { .. }
+            | Rec::LocalCommunals(_)
+            | Rec::Carried { .. } => Ok(()),
         }
     }
 

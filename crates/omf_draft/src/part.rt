@@ -5,7 +5,7 @@ ghost use Rattle.std.specs.List.{enumerate_from};
 ghost use Rattle.omf_frame.specs.Bytes.{AddsText};
 ghost use Rattle.omf_records.specs.Inner.Seen.{contents_seen};
 ghost use Rattle.omf_check.specs.Module.{recs_of};
-ghost use Rattle.omf_check.specs.Tables.{entry, externals, groups, segments};
+ghost use Rattle.omf_check.specs.Tables.{externals, groups, segments};
 ghost use Rattle.omf_derive.specs.Derive.{named_externals};
 ghost use Rattle.omf_placement.specs.Quoted.{quoted};
 ghost use Rattle.omf_layout.specs.Reading.{IsShortFrame, IsShortPlace};
@@ -14,7 +14,7 @@ ghost use Rattle.omf_draft.specs.Names.{IsNameTable, has_name, public_names};
 ghost use Rattle.omf_draft.specs.Text.{external_text, group_lines, header_name, module_name, name_line, part_text, segment_lines, wanted_entry, wanted_line, wanted_lines};
 
 use crate::names::NameTable;
-use omf_check::Checked;
+use omf_check::{Checked, entry_of};
 use omf_frame::Name;
 use omf_layout::printing::{print_index, print_quoted, print_room};
 use omf_layout::wants::{alignments_of, rooms_of};
@@ -28,10 +28,10 @@ use std::fmt::Write;
 fn print_header(text: &mut String, rec: &Rec<'_>) -> Result<(), AllocError>
     ensures { AddsText result (string_bytes text.old) (string_bytes text.new) (quoted (header_name (contents_seen rec.now))) }
 {
-    match rec {
-        Rec::Header { name, .. } => print_quoted(text, name.0),
-        _ => print_quoted(text, &[]),
-    }
+    let Rec::Header { name, .. } = rec else {
+        return print_quoted(text, &[]);
+    };
+    print_quoted(text, name.0)
 }
 
 /// Prints the name of a module in double quotes.
@@ -131,13 +131,6 @@ fn print_external<'a>(
     print_wanted(text, index, name, room)
 }
 
-/// Returns the length of a communal, by its index from 1; `Some(None)` for any other external.
-fn room_of(rooms: &[Option<u64>], index: u16) -> Option<Option<u64>>
-    ensures { result ≡ entry rooms.now index }
-{
-    rooms.get(usize::from(index).checked_sub(1)?).copied()
-}
-
 /// Prints a line for each external that sees no public of its name; `asked` has the lengths of the communals.
 fn print_wanted_lines<'a>(
     text: &mut String,
@@ -155,7 +148,7 @@ fn print_wanted_lines<'a>(
         let Some(name) = module.external(index) else {
             unreachable!()
         };
-        let Some(room) = room_of(asked, index) else {
+        let Some(room) = entry_of(asked, usize::from(index)) else {
             unreachable!()
         };
         let local = module.local(index).unwrap_or(false);

@@ -5,7 +5,7 @@ ghost use Rattle.omf_records.specs.Values.{alignment};
 ghost use Rattle.omf_layout.specs.Wants.{alignment_named, bytes_aligned};
 
 /// The alignment of a segment's address (TIS OMF 1.1, "SEGDEF", A field).
-#[derive(Clone, Copy, Debug, PartialEq, Eq)]
+#[derive(Clone, Copy)]
 pub enum Alignment {
     /// Any address. Absolute segments, which have no alignment, count as this.
     Byte,
@@ -32,7 +32,7 @@ impl Alignment {
             4 => Alignment::Page,
             5 => Alignment::Dword,
             6 => Alignment::LargePage,
-            _ => Alignment::Byte,
+            0 | 1 | 7.. => Alignment::Byte,
         }
     }
 

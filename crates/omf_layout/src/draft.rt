@@ -6,7 +6,7 @@ ghost use Rattle.omf_frame.specs.Bytes.{AddsText};
 ghost use Rattle.omf_records.specs.Inner.Seen.{contents_seen};
 ghost use Rattle.omf_records.specs.Values.{Group, GroupItem};
 ghost use Rattle.omf_check.specs.Module.{recs_of};
-ghost use Rattle.omf_check.specs.Tables.{names, segments, groups, externals, entry};
+ghost use Rattle.omf_check.specs.Tables.{names, segments, groups, externals};
 ghost use Rattle.omf_placement.specs.Entries.{in_words};
 ghost use Rattle.omf_layout.specs.Draft.{segment_comment, segment_line, group_line, group_entry, external_line, draft_text};
 ghost use Rattle.omf_layout.specs.Layout.{layout_of};
@@ -20,7 +20,7 @@ use crate::printing::{
     print_external_entry, print_group_entry, print_index, print_name, print_quoted, print_room,
     print_segment_entry, print_segment_room,
 };
-use omf_check::{Checked, SegInfo};
+use omf_check::{Checked, SegInfo, entry_of};
 use omf_frame::Name;
 use omf_placement::{Frame, Placement, real_group};
 use omf_records::Rec;
@@ -75,13 +75,6 @@ fn print_segment(
     print_segment_comment(text, module, index, segment, alignment)
 }
 
-/// Returns a segment's alignment, by its index from 1.
-fn alignment_of(alignments: &[Alignment], index: u16) -> Option<Alignment>
-    ensures { result ≡ entry alignments.now index }
-{
-    alignments.get(usize::from(index).checked_sub(1)?).copied()
-}
-
 /// Adds a line for each segment of a module at its place in a placement, with a comment: its index, its name, its class, its alignment
 /// and its length.
 ///
@@ -106,7 +99,7 @@ pub fn print_segments(
         let Some(segment) = module.segment(index) else {
             unreachable!()
         };
-        let Some(alignment) = alignment_of(alignments, index) else {
+        let Some(alignment) = entry_of(alignments, usize::from(index)) else {
             unreachable!()
         };
         let Some(place) = placement.segment(usize::from(index)) else {
@@ -153,10 +146,10 @@ pub(crate) fn group_name(group: &Rec<'_>) -> u16
     requires { (g : GroupItem) × (contents_seen group.now ≡ Group g) }
     ensures { (g : GroupItem) → contents_seen group.now ≡ Group g → result ≡ g.name.item }
 {
-    match group {
-        Rec::Group { name, .. } => name.item.0,
-        _ => unreachable!(),
-    }
+    let Rec::Group { name, .. } = group else {
+        unreachable!()
+    };
+    name.item.0
 }
 
 /// Prints a group's line.
@@ -248,7 +241,7 @@ fn print_externals(text: &mut String, module: &Checked, layout: &Layout) -> Resu
     Ok(())
 }
 
-/// Prints the placement text of a module's layout: a line for each segment, each group and each external, with a comment. The comment has
+/// Returns the placement text of a module's layout: a line for each segment, each group and each external, with a comment. The comment has
 /// the index and the name; for a segment also its class, its alignment and its length; for a communal its length; for any other external
 /// the note that its place is to be filled in. Numbers in comments are decimal.
 ///

@@ -75,12 +75,6 @@ impl Layout {
     }
 }
 
-/// A frame with its base at address 0.
-pub(crate) const NO_FRAME: Frame = Frame {
-    base: 0,
-    selector: 0,
-};
-
 /// Returns the alignment at a position.
 fn alignment_at(each: &[Alignment], i: u16) -> Alignment
     requires { i < length each.now }
@@ -123,7 +117,7 @@ fn group_frame(module: &Checked, placement: &Placement, frames: Frames, k: u16) 
     ensures { result ≡ group_frame frames (recs_of «module».now.bytes) placement.now.segments k }
 {
     match frames {
-        Frames::Real => real_group(module, placement, k).unwrap_or(NO_FRAME),
+        Frames::Real => real_group(module, placement, k).unwrap_or(Frame::NONE),
         Frames::Flat { selector } => Frame { base: 0, selector },
     }
 }

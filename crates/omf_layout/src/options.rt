@@ -21,7 +21,7 @@ pub enum Frames {
 /// Options of a layout.
 #[derive(Clone, Copy, Debug, PartialEq, Eq)]
 pub struct Options {
-    /// The address where the first segment is laid.
+    /// The lowest address: the first segment that is not absolute is at the first address of its alignment from here on.
     pub base: u32,
     /// The frames.
     pub frames: Frames,

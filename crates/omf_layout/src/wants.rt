@@ -17,13 +17,10 @@ use std::alloc::{AllocError, Global};
 fn add_attribute(attributes: &mut Vec<u8>, rec: &Rec<'_>) -> Result<(), AllocError>
     ensures { OnOk result (attributes.new.items ≡ attributes.old.items ++ attributes_in (contents_seen rec.now)) }
 {
-    match rec {
-        Rec::Segment { segment, .. } => {
-            attributes.push(segment.attribute)?;
-            Ok(())
-        }
-        _ => Ok(()),
+    if let Rec::Segment { segment, .. } = rec {
+        attributes.push(segment.attribute)?;
     }
+    Ok(())
 }
 
 /// Returns the attributes of a module's segments, in order.
@@ -96,7 +93,19 @@ fn add_rooms(rooms: &mut Vec<Option<u64>>, rec: &Rec<'_>) -> Result<(), AllocErr
         Rec::LocalExterns { externs, .. } => add_externs(rooms, externs.iter()),
         Rec::Communals(items) => add_communals(rooms, items.iter()),
         Rec::LocalCommunals(items) => add_communals(rooms, items.iter()),
-        _ => Ok(()),
+        Rec::Header { .. }
+        | Rec::Comment { .. }
+        | Rec::Names(_)
+        | Rec::Segment { .. }
+        | Rec::Group { .. }
+        | Rec::Publics { .. }
+        | Rec::Plain { .. }
+        | Rec::Iterated { .. }
+        | Rec::Fixups { .. }
+        | Rec::ModEnd { .. }
+        | Rec::LocalNames(_)
+        | Rec::LocalPublics { .. }
+        | Rec::Carried { .. } => Ok(()),
     }
 }
 

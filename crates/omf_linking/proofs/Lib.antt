@@ -1,6 +1,5 @@
 pub mod PartLaws
 pub mod PlacesLaws
-pub mod GiveLaws
 pub mod LinkLaws
 pub mod ReadingLaws
 pub mod OneReading

@@ -1,7 +1,7 @@
 -- The text of a link, line by line.
 use denote.Ref.{Bor}
 use Rattle.std.proofs.Common.{◌≡◌, ℕ, ◌+◌, ◌<◌, ◌≤◌, List, [], ◌∷◌, ◌++◌, length, append_assoc, append-nil, refl, sym, ap, ◌∙◌, arith}
-use Rattle.std.specs.Prelude.{map, filter_map, is_some, true, Option, Some, None, option_map, Ok, Err, IfSome, ◌==◌}
+use Rattle.std.specs.Prelude.{map, filter_map, is_some, true, Option, Some, None, option_map, Ok, Err, IfSome, IsOk, ◌==◌}
 use Rattle.std.specs.List.{enumerate_from, slice_split, zip, onto_first}
 use Rattle.std.proofs.lemmas.List.Splits.{length-slice_split}
 use Rattle.omf_placement.specs.Entries.{Blank, SegmentEntry, GroupEntry, ExternalEntry, said}
@@ -110,6 +110,10 @@ text_begins text whole p w e = ap (λ (ps : List Part). parts_left ps p (link_li
 -- at the end the parts are the text's, and no line is at fault
 pub text_read : (text : List ℕ) (whole all : List Part) (p : Part) (n : ℕ) → IsSound text (lines_from n []) → IsRead text whole p (lines_from n []) → all ≡ whole ++ p ∷ [] → parsed_parts text ≡ Ok all
 text_read text whole all p n s h a = rw s (ap Ok (sym h ∙ ap (λ (x : Part). whole ++ (x ∷ [])) (same_part p) ∙ sym a))
+
+-- at the end no line is at fault
+pub text_sound : (text : List ℕ) (n : ℕ) → IsSound text (lines_from n []) → IsOk (parsed_parts text)
+text_sound text n s = rw s refl
 
 -- the length of the text that is left, its end included
 abbrev pub left_len : Option (List ℕ) → ℕ

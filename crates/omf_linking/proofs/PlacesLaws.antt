@@ -1,16 +1,20 @@
 -- The places of modules by the parts of a text, module by module.
-use Rattle.std.proofs.Common.{◌≡◌, ℕ, suc, ◌+◌, ◌<◌, ◌≤◌, List, [], ◌∷◌, ◌++◌, length, drop, get_or, add-one, drop-cons, append_assoc, append-nil, refl, sym, ap, subst, ◌∙◌, arith}
-use Rattle.std.specs.Prelude.{flat_map, option_to_list, Option, Some, None, MatchOption, Result, Ok, Err}
+use Rattle.std.proofs.Common.{◌≡◌, ℕ, suc, ◌+◌, ◌<◌, ◌≤◌, List, [], ◌∷◌, ◌++◌, length, drop, get_or, add-one, drop-cons, append_assoc, append-nil, refl, sym, ap, ap₂, subst, Bool, true, false, ◌∙◌, arith}
+use Rattle.std.specs.Prelude.{flat_map, option_to_list, Option, Some, None, MatchOption, Result, Ok, Err, IsOk, OnOk, is_err, filter_map, map}
 use Rattle.std.specs.List.{enumerate_from}
 use Rattle.std.proofs.lemmas.List.{drop_all}
 use Rattle.omf_check.specs.Module.{Module, records_in, typed_modules}
 use Rattle.omf_check.specs.WellFormed.{recs}
 use Rattle.omf_derive.specs.declared.given.Given.{Given}
 use Rattle.omf_placement.specs.Placement.{Places}
+use Rattle.omf_placement.specs.PlacementText.{IsAnswer}
+use Rattle.omf_placement.specs.declared.fault.TextFault.{TextFault}
+use Rattle.omf_placement.specs.declared.fault.TextFault.TheVariants as text
 use Rattle.omf_records.specs.Values.{Rec}
-use Rattle.omf_linking.specs.Parts.{Part}
-use Rattle.omf_linking.specs.Inner.Parsing.{place_by, given_by}
-use Rattle.omf_linking.specs.Placing.{places_of, place_of, no_places, in_front, and_then_others, given_in, given_of}
+use Rattle.omf_check.specs.Tables.{externals, is_defined}
+use Rattle.omf_linking.specs.Parts.{Part, GivenLine}
+use Rattle.omf_linking.specs.Inner.Parsing.{IsKept, place_by, given_by}
+use Rattle.omf_linking.specs.Placing.{places_of, place_of, no_places, in_front, and_then_others, given_as, given_in, given_of, stray}
 
 -- places before others
 abbrev pub behind : List Places → Result (List Places) ℕ → Result (List Places) ℕ
@@ -108,3 +112,58 @@ none_typed ms j h = ap typed_modules (drop_all j ms h)
 pub none_left : {A : Type 0} (P : A → Type 0) (o : Option A) (a b : ℕ) → MatchOption o ((a ≡ 0) × (b ≡ 0)) P → o ≡ None → a ≡ 0
 none_left P None a b h e = h.0
 none_left P (Some x) a b h e = absurd cc
+
+-- ---- places so far, of which some may be lost where memory ran out
+
+-- a result that is no line at fault has a place
+pub has_place : (r : Result Places ℕ) (place : Result Places TextFault) → IsAnswer r place → ((n : ℕ) → place ≡ Err (text.Line n) → ⊥) → (pl : Places) × (r ≡ Ok pl)
+has_place r (Ok pl) h none = (pl, h)
+has_place r (Err text.Memory) h none = by r h
+  where
+    by : (q : Result Places ℕ) → IsOk q → (pl : Places) × (q ≡ Ok pl)
+    by (Ok pl) k = (pl, refl)
+    by (Err n) k = absurd cc
+has_place r (Err (text.Line n)) h none = absurd (none n refl)
+
+differ : (pl : Places) (n : ℕ) → ◌≡◌ {A = Result Places TextFault} (Ok pl) (Err (text.Line n)) → ⊥
+differ pl n e = cc
+
+ok_same : (p q : Places) → ◌≡◌ {A = Result Places ℕ} (Ok p) (Ok q) → p ≡ q
+ok_same p q e = cc
+
+pub no_line : (place : Result Places TextFault) (short now : Bool) (old new : List Places) → IsKept place short old new (Ok now) → (n : ℕ) → place ≡ Err (text.Line n) → ⊥
+no_line place short true old new h n e = h n e
+no_line place short false old new h n e = differ h.1 n (sym h.2 ∙ e)
+
+-- the place of one more module
+pub kept_as : (r : Result Places ℕ) (place : Result Places TextFault) (pl : Places) (short : Bool) (old new pls : List Places) → IsAnswer r place → r ≡ Ok pl → (short ≡ false → old ≡ pls) → IsKept place short old new (Ok false) → new ≡ pls ++ pl ∷ []
+kept_as r place pl short old new pls h e same k =
+    let mine : r ≡ Ok k.1 = subst (IsAnswer r) k.2 h in
+    let one : k.1 ≡ pl = ok_same k.1 pl (sym mine ∙ e) in
+    k.3 ∙ ap₂ (λ (xs : List Places) (x : Places). xs ++ x ∷ []) (same k.0) one
+
+pub on_place : {P : Type 0} (place : Result Places TextFault) (pl : Places) → place ≡ Ok pl → OnOk place P → P
+on_place {P} place pl e h = subst (λ (r : Result Places TextFault). OnOk r P) e h
+
+-- ---- the externals that a part gives, line by line
+
+pub ok_gives : {A E P : Type 0} (r : Result A E) → is_err r ≡ false → OnOk r P → P
+ok_gives (Ok a) e h = h
+ok_gives (Err x) e h = absurd cc
+
+module _ (gs : List GivenLine) (i : ℕ) (d : GivenLine) (inside : i < length gs) where
+  next_line : drop i gs ≡ get_or gs i d ∷ drop (i + 1) gs
+  next_line = rw (add-one, drop-cons gs i d inside) refl
+
+  pub line_fine : (m : List Rec) (n : ℕ) (b : Bool) (all : List ℕ) → n ≡ length (externals m) → b ≡ is_defined n (get_or gs i d).1.0 → b ≡ true → filter_map (stray m) (drop i gs) ≡ all → filter_map (stray m) (drop (i + 1) gs) ≡ all
+  line_fine m n b all count e is h =
+      let defined : is_defined (length (externals m)) (get_or gs i d).1.0 ≡ true = ap (λ (k : ℕ). is_defined k (get_or gs i d).1.0) (sym count) ∙ sym e ∙ is in
+      let none : stray m (get_or gs i d) ≡ None = rw defined refl in
+      let same : filter_map (stray m) (get_or gs i d ∷ drop (i + 1) gs) ≡ filter_map (stray m) (drop (i + 1) gs) = rw none refl in
+      sym same ∙ ap (λ (xs : List GivenLine). filter_map (stray m) xs) (sym next_line) ∙ h
+
+  pub line_given : (j : ℕ) (given now all : List Given) (g : Given) → now ≡ given ++ g ∷ [] → g ≡ given_as j (get_or gs i d) → given ++ map (given_as j) (drop i gs) ≡ all → now ++ map (given_as j) (drop (i + 1) gs) ≡ all
+  line_given j given now all g n e h =
+      let rest : List Given = map (given_as j) (drop (i + 1) gs) in
+      ap (λ (xs : List Given). xs ++ rest) n ∙ append_assoc given (g ∷ []) rest ∙ ap (λ (x : Given). given ++ x ∷ rest) e
+      ∙ ap (λ (xs : List GivenLine). given ++ map (given_as j) xs) (sym next_line) ∙ h

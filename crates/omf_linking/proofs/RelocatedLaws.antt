@@ -1,7 +1,7 @@
 -- Modules at their placements, one after another.
 use Rattle.std.proofs.Common.{◌≡◌, ℕ, zero, suc, ◌+◌, List, [], ◌∷◌, ◌++◌, take, drop, refl, sym, ap, subst, ◌∙◌, arith}
 use Rattle.std.proofs.lemmas.List.{append-nil, take-append-drop}
-use Rattle.std.specs.Prelude.{filter_map, slice_get, Some, None, Err}
+use Rattle.std.specs.Prelude.{filter_map, slice_get, Some, None}
 use Rattle.std.specs.List.{AllZip, enumerate_from}
 use Rattle.omf_derive.specs.Derive.{PlacedModule}
 use Rattle.omf_reloc.specs.declared.fault.ReachFault.{ReachFault}
@@ -9,7 +9,7 @@ use Rattle.omf_reloc.specs.Reach.{reach_fault}
 use Rattle.omf_linking.specs.declared.fault.LinkFault.{LinkFault}
 use Rattle.omf_linking.specs.declared.fault.LinkFault.TheVariants as fault
 use Rattle.omf_linking.specs.declared.relocated.Relocated.{Relocated}
-use Rattle.omf_linking.specs.Relocated.{AreRelocated, IsRelocated, IsRelocation, far_module, far_modules}
+use Rattle.omf_linking.specs.Relocated.{IsRelocated, far_module, far_modules}
 
 take_next : {A : Type 0} (i : ℕ) (xs : List A) (x : A) (rest : List A) → drop i xs ≡ x ∷ rest → take (i + 1) xs ≡ take i xs ++ x ∷ []
 take_next zero [] x rest e = absurd cc
@@ -51,13 +51,5 @@ all_relocated ms j rs e h =
     let whole : take j ms ≡ ms = sym (append-nil (take j ms)) ∙ ap (λ (xs : List PlacedModule). take j ms ++ xs) (sym e) ∙ take-append-drop j ms in
     subst (λ (xs : List PlacedModule). AllZip IsRelocated xs rs) whole h
 
-pub far_told : (ms : List PlacedModule) (j : ℕ) (m : PlacedModule) → drop j ms ≡ m ∷ drop (j + 1) ms → (f : LinkFault) → IsRelocation j m (Err f) → filter_map far_module (enumerate_from j (drop j ms)) ≡ far_modules ms → AreRelocated ms (Err f)
-far_told ms j m next fault.Memory r h = tt
-far_told ms j m next (fault.Reach k f) r h = one_far ms j m next (far_modules ms) f r.1 h ∙ ap (λ (n : ℕ). Some (fault.Reach n f)) (sym r.0)
-far_told ms j m next fault.Read r h = absurd r
-far_told ms j m next (fault.Refused k why at) r h = absurd r
-far_told ms j m next (fault.Line n) r h = absurd r
-far_told ms j m next (fault.External f) r h = absurd r
-far_told ms j m next (fault.Starts i k) r h = absurd r
-far_told ms j m next (fault.Beyond o) r h = absurd r
-far_told ms j m next (fault.Overlap a s t) r h = absurd r
+pub none_far : (ms : List PlacedModule) (j : ℕ) → drop j ms ≡ [] → filter_map far_module (enumerate_from j (drop j ms)) ≡ far_modules ms → far_modules ms ≡ []
+none_far ms j e h = sym h ∙ ap (λ (xs : List PlacedModule). filter_map far_module (enumerate_from j xs)) e

@@ -2,3 +2,4 @@ pub mod Parsing
 pub mod Laying
 pub mod Runs
 pub mod Sweeping
+pub mod Searching

@@ -1,8 +1,6 @@
 -- The text of a link in parts, one for each module (this profile's rule).
-use Rattle.std.specs.Prelude.{◌≡◌, ⊤, ℕ, List, ◌∷◌, map, filter_map, Bool, true, false, Option, Some, None, Result, Ok, Err}
+use Rattle.std.specs.Prelude.{ℕ, List, ◌∷◌, map, filter_map, Bool, true, false, Option, Some, None, Result}
 use Rattle.std.specs.List.{slice_split, zip}
-use Rattle.omf_placement.specs.declared.fault.TextFault.{TextFault}
-use Rattle.omf_placement.specs.declared.fault.TextFault.TheVariants as fault
 use Rattle.omf_placement.specs.Entries.{Entry, said}
 use Rattle.omf_placement.specs.declared.frame.Placed.{Placed}
 use Rattle.omf_placement.specs.PlacementText.{Draft, numbered_lines, segment_entry, group_entry, external_entry, ok_or_first}
@@ -60,9 +58,3 @@ parts_of ls = map part_of (zip (0 ∷ filter_map border ls) (slice_split is_bord
 -- The parts that a text spells, or the first line at fault. This does not depend on the modules.
 abbrev pub parsed_parts : List ℕ → Result (List Part) ℕ
 parsed_parts text = ok_or_first (parts_of (link_lines text)) (filter_map bad_line (link_lines text))
-
--- A result is exactly the defined value, or exactly the line at fault. Memory may run out at any time.
-abbrev pub IsAnswer : {A : Type 0} → Result A ℕ → Result A TextFault → Type 0
-IsAnswer r (Ok a) = r ≡ Ok a
-IsAnswer r (Err (fault.Line n)) = r ≡ Err n
-IsAnswer r (Err fault.Memory) = ⊤

@@ -1,5 +1,5 @@
 -- Modules at their placements (this profile's rule).
-use Rattle.std.specs.Prelude.{◌≡◌, ⊤, ℕ, List, filter_map, Option, Some, None, option_map, Result, Ok, Err, slice_get}
+use Rattle.std.specs.Prelude.{◌≡◌, ℕ, List, [], filter_map, Option, Some, None, option_map, Result, Ok, Err, slice_get}
 use Rattle.std.specs.List.{AllZip, enumerate_from}
 use Rattle.omf_derive.specs.Derive.{PlacedModule}
 use Rattle.omf_image.specs.Limits.{profile_limits}
@@ -30,8 +30,8 @@ far_module m = option_map (λ f. fault.Reach m.0 f) (reach_fault m.1.1 m.1.0)
 abbrev pub far_modules : List PlacedModule → List LinkFault
 far_modules ms = filter_map far_module (enumerate_from 0 ms)
 
--- All modules are relocated, or this is the first that does not reach. Memory may run out at any time.
+-- All modules are relocated, or this is the first that does not reach; running out of memory hides none.
 abbrev pub AreRelocated : List PlacedModule → Result (List Relocated) LinkFault → Type 0
 AreRelocated ms (Ok rs) = AllZip IsRelocated ms rs
-AreRelocated ms (Err fault.Memory) = ⊤
+AreRelocated ms (Err fault.Memory) = far_modules ms ≡ []
 AreRelocated ms (Err f) = slice_get (far_modules ms) 0 ≡ Some f

@@ -10,7 +10,7 @@ use omf_placement::cut::cut;
 use omf_placement::{Entry, Placed, entry_of, hexadecimal, placed_of};
 
 /// The entry of a line.
-#[derive(Clone, Copy, Debug)]
+#[derive(Clone, Copy)]
 pub enum LinkEntry {
     /// `M`: the part of the next module begins.
     Next,
@@ -32,7 +32,7 @@ fn of_placement(entry: Entry) -> Option<LinkEntry>
     }
 }
 
-/// Returns an external and its place, from these two fields.
+/// Returns an external and its place, from these four fields.
 fn given(index: &[u8], address: &[u8], base: &[u8], selector: &[u8]) -> Option<LinkEntry>
     ensures { option_map seen result ≡ given_of_words (index.now ∷ address.now ∷ base.now ∷ selector.now ∷ []) }
 {
@@ -41,7 +41,7 @@ fn given(index: &[u8], address: &[u8], base: &[u8], selector: &[u8]) -> Option<L
     Some(LinkEntry::Given(index, placed))
 }
 
-/// Returns the external and the place in the fields after an `X`: index, address, frame and selector.
+/// Returns the external and the place in the fields after an `X`: index, address, base and selector.
 fn given_by(words: &[u8]) -> Option<LinkEntry>
     ensures { option_map seen result ≡ given_of_words (words_of words.now) }
 {

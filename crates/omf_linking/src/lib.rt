@@ -17,6 +17,6 @@ pub mod space;
 pub use fault::LinkFault;
 pub use memory::memory_image;
 pub use parts::{Part, parse_parts};
-pub use placing::link;
+pub use placing::{link, link_parts};
 pub use reading::{modules_in, read_all};
 pub use relocated::{Relocated, relocate_all, start_of};

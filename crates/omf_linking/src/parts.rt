@@ -1,13 +1,13 @@
 //! The parts of a link's text.
 
-ghost use Rattle.std.specs.Prelude.{◌≡◌, ◌++◌, OnOk, filter_map};
+ghost use Rattle.std.specs.Prelude.{◌≡◌, ◌++◌, ℕ, OnOk, filter_map};
 ghost use Rattle.omf_records.specs.Inner.Seen.{map_ok};
 ghost use Rattle.omf_check.specs.Module.{recs_of};
 ghost use Rattle.omf_check.specs.Tables.{is_defined};
-ghost use Rattle.omf_placement.specs.PlacementText.{resolved};
+ghost use Rattle.omf_placement.specs.PlacementText.{IsAnswer, resolved};
 ghost use Rattle.omf_linking.specs.Inner.Parsing.{seen, IsStray, empty_part, with_line};
-ghost use Rattle.omf_linking.specs.Parts.{IsAnswer, parsed_parts};
-ghost use Rattle.omf_linking.specs.Placing.{given_in, stray};
+ghost use Rattle.omf_linking.specs.Parts.{parsed_parts};
+ghost use Rattle.omf_linking.specs.Placing.{given_as, given_in, stray};
 
 use crate::entry::{LinkEntry, link_entry_of};
 use omf_check::Checked;
@@ -40,6 +40,18 @@ fn is_listed(count: u16, index: u16) -> bool
     1 <= index && index <= count
 }
 
+/// Returns an external of a module, given at a place.
+fn given_as(module: u32, external: u16, placed: Placed) -> Given
+    ensures { (line : ℕ) → result ≡ given_as «module» (line, (external, placed)) }
+{
+    Given {
+        module,
+        external,
+        address: placed.address,
+        frame: placed.frame,
+    }
+}
+
 impl Part {
     /// Makes an empty part that follows this line.
     fn new(alloc: Global, line: u64) -> Part
@@ -63,7 +75,8 @@ impl Part {
     ///
     /// # Errors
     ///
-    /// `Line` for the first line with an external that the module does not have. `Memory` if memory runs out.
+    /// `Line` for the first line with an external that the module does not have. `Memory` if memory runs out, only if there is no such
+    /// line.
     pub(crate) fn give(
         &self,
         module: &Checked,
@@ -73,17 +86,18 @@ impl Part {
         ensures line { IsStray (filter_map (stray (recs_of «module».now.bytes)) self.now.given) result }
         ensures given { OnOk result (given.new.items ≡ given.old.items ++ given_in (number, self.now)) }
     {
+        let mut is_short = false;
         for entry in &self.given {
             let (line, (index, placed)) = *entry;
             if !is_listed(module.externals(), index) {
                 return Err(TextFault::Line(line));
             }
-            given.push(Given {
-                module: number,
-                external: index,
-                address: placed.address,
-                frame: placed.frame,
-            })?;
+            if !is_short {
+                is_short = given.push(given_as(number, index, placed)).is_err();
+            }
+        }
+        if is_short {
+            return Err(TextFault::Memory);
         }
         Ok(())
     }
@@ -92,7 +106,7 @@ impl Part {
     ///
     /// # Errors
     ///
-    /// `Line` for the first `G real` whose frame is not found. `Memory` if memory runs out.
+    /// `Line` for the first `G real` whose frame is not found. `Memory` if memory runs out, only if there is none.
     pub(crate) fn resolve(self, alloc: Global, module: &Checked) -> Result<Placement, TextFault>
         ensures { IsAnswer (resolved (recs_of «module».now.bytes) self.draft) result }
     {
@@ -132,7 +146,8 @@ impl Parts {
 ///
 /// # Errors
 ///
-/// `Line` for the first line that is none of these, counted from 1 over the whole text. `Memory` if memory runs out.
+/// `Line` for the first line that is none of these, counted from 1 over the whole text. `Memory` if memory runs out, only if there is no
+/// such line.
 pub fn parse_parts(alloc: Global, text: &[u8]) -> Result<Vec<Part>, TextFault>
     ensures { IsAnswer (parsed_parts text.now) (map_ok (λ v. v.items) result) }
 {
@@ -140,6 +155,7 @@ pub fn parse_parts(alloc: Global, text: &[u8]) -> Result<Vec<Part>, TextFault>
         whole: Vec::new(alloc),
         current: Part::new(alloc, 0),
     };
+    let mut is_short = false;
     let mut rest = Some(text);
     let mut number = 0u64;
     while let Some(lines) = rest {
@@ -148,8 +164,13 @@ pub fn parse_parts(alloc: Global, text: &[u8]) -> Result<Vec<Part>, TextFault>
         let Some(entry) = link_entry_of(said_by(line)) else {
             return Err(TextFault::Line(number));
         };
-        parts.take(alloc, number, entry)?;
+        if !is_short {
+            is_short = parts.take(alloc, number, entry).is_err();
+        }
         rest = more;
+    }
+    if is_short {
+        return Err(TextFault::Memory);
     }
     let Parts { mut whole, current } = parts;
     whole.push(current)?;

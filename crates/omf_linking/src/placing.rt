@@ -1,11 +1,13 @@
 //! The placements of several modules.
 
-ghost use Rattle.std.specs.Prelude.{◌≡◌, ◌++◌, ◌<◌, ◌^◌, [], OnOk, IfOk, length};
+ghost use Rattle.std.specs.Prelude.{◌≡◌, ◌++◌, ◌<◌, ◌^◌, [], Ok, OnOk, IfErr, IfOk, IsOk, length};
 ghost use Rattle.omf_check.specs.Module.{recs_of, typed_modules};
 ghost use Rattle.omf_records.specs.Inner.Seen.{map_ok};
-ghost use Rattle.omf_linking.specs.Parts.{IsAnswer};
-ghost use Rattle.omf_linking.specs.Inner.Parsing.{given_by, place_by};
-ghost use Rattle.omf_linking.specs.Placing.{IsOutcome, given_in, given_of, linked, place_of, places_of};
+ghost use Rattle.omf_placement.specs.PlacementText.{IsAnswer};
+ghost use Rattle.omf_linking.specs.Parts.{parsed_parts};
+ghost use Rattle.omf_linking.specs.declared.fault.LinkFault.TheVariants.{Memory};
+ghost use Rattle.omf_linking.specs.Inner.Parsing.{IsKept, given_by, place_by};
+ghost use Rattle.omf_linking.specs.Placing.{IsOutcome, by_parts, given_in, given_of, linked, place_of, places_of};
 
 use crate::fault::LinkFault;
 use crate::parts::{Part, parse_parts};
@@ -25,8 +27,16 @@ fn place_of(
     ensures place { IsAnswer (place_of (recs_of «module».now.bytes) part) result }
     ensures given { OnOk result (given.new.items ≡ given.old.items ++ given_in (number, part)) }
 {
-    part.give(module, number, given)?;
-    part.resolve(alloc, module)
+    let is_short = match part.give(module, number, given) {
+        Ok(()) => false,
+        Err(TextFault::Memory) => true,
+        Err(TextFault::Line(line)) => return Err(TextFault::Line(line)),
+    };
+    let placement = part.resolve(alloc, module)?;
+    if is_short {
+        return Err(TextFault::Memory);
+    }
+    Ok(placement)
 }
 
 /// Returns the placement of a module by its part, or an empty one if it has none.
@@ -46,7 +56,27 @@ fn next_place(
     }
 }
 
-/// Returns the placements of modules by the parts of a text, and adds the external places that these give.
+/// Adds a module's placement to those before it, unless memory ran out before. Returns whether memory ran out before or now.
+fn keep(
+    places: &mut Vec<Placement>,
+    place: Result<Placement, TextFault>,
+    was_short: bool,
+) -> Result<bool, TextFault>
+    ensures { IsKept place was_short places.old.items places.new.items result }
+{
+    let place = match place {
+        Ok(place) => place,
+        Err(TextFault::Memory) => return Ok(true),
+        Err(TextFault::Line(line)) => return Err(TextFault::Line(line)),
+    };
+    if was_short || places.push(place).is_err() {
+        return Ok(true);
+    }
+    Ok(false)
+}
+
+/// Returns the placements of modules by the parts of a text, and adds the external places that these give. If memory runs out, the later
+/// parts are still searched for a line at fault.
 fn places_of(
     alloc: Global,
     modules: &[Checked],
@@ -61,15 +91,42 @@ fn places_of(
 {
     let mut places = Vec::new(alloc);
     let mut left = parts.into_iter();
+    let mut is_short = false;
     for (j, module) in modules.iter().enumerate() {
         let part = left.next();
-        let place = next_place(alloc, module, j as u32, part, given)?;
-        places.push(place)?;
+        let place = next_place(alloc, module, j as u32, part, given);
+        is_short = keep(&mut places, place, is_short)?;
     }
-    match left.next() {
-        Some(part) => Err(TextFault::Line(part.line())),
-        None => Ok(places),
+    if let Some(part) = left.next() {
+        return Err(TextFault::Line(part.line()));
     }
+    if is_short {
+        return Err(TextFault::Memory);
+    }
+    Ok(places)
+}
+
+/// Returns the placements of modules by the parts of a text: segments and groups by its part of each module; each external at the place
+/// that the text gives, or at that of the one public of its name, as `derive` finds it.
+///
+/// # Errors
+///
+/// The first of: `Line` for a line that does not fit its module; `External` for an external without a place. `Memory` if memory runs out,
+/// only if every line fits its module.
+pub fn link_parts(
+    alloc: Global,
+    modules: &[Checked],
+    parts: Vec<Part>,
+) -> Result<Vec<Placement>, LinkFault>
+    requires { length modules.now < 2 ^ 32 }
+    ensures placements { IsOutcome (by_parts (typed_modules modules.now) (Ok parts.items)) (map_ok (λ v. v.items) result) }
+    ensures lines { IfErr result (λ fault. fault ≡ Memory → IsOk (places_of (typed_modules modules.now) parts.items)) }
+    ensures each { IfOk result (λ v. length v.items ≡ length modules.now) }
+{
+    let mut given = Vec::new(alloc);
+    let places = places_of(alloc, modules, parts, &mut given)?;
+    let placements = derive(alloc, modules, &places, &given)?;
+    Ok(placements)
 }
 
 /// Returns the placements of modules by a text: segments and groups by its parts; each external at the place that the text gives, or at
@@ -78,15 +135,13 @@ fn places_of(
 /// # Errors
 ///
 /// The first of: `Line` for a line that is not understood or does not fit its module; `External` for an external without a place.
-/// `Memory` if memory runs out.
+/// `Memory` if memory runs out, only if every line is understood.
 pub fn link(alloc: Global, modules: &[Checked], text: &[u8]) -> Result<Vec<Placement>, LinkFault>
     requires { length modules.now < 2 ^ 32 }
     ensures placements { IsOutcome (linked (typed_modules modules.now) text.now) (map_ok (λ v. v.items) result) }
+    ensures lines { IfErr result (λ fault. fault ≡ Memory → IsOk (parsed_parts text.now)) }
     ensures each { IfOk result (λ v. length v.items ≡ length modules.now) }
 {
     let parts = parse_parts(alloc, text)?;
-    let mut given = Vec::new(alloc);
-    let places = places_of(alloc, modules, parts, &mut given)?;
-    let placements = derive(alloc, modules, &places, &given)?;
-    Ok(placements)
+    link_parts(alloc, modules, parts)
 }

@@ -1,6 +1,6 @@
 //! Modules at their placements.
 
-ghost use Rattle.std.specs.Prelude.{◌≡◌, ◌<◌, ◌^◌, IfOk, length, zip};
+ghost use Rattle.std.specs.Prelude.{◌≡◌, ◌<◌, ◌^◌, Err, IfOk, length, zip};
 ghost use Rattle.omf_check.specs.Module.{recs_of, typed_modules};
 ghost use Rattle.omf_derive.specs.Derive.{placed_modules};
 ghost use Rattle.omf_records.specs.Inner.Seen.{map_ok};
@@ -12,7 +12,7 @@ use omf_check::Checked;
 use omf_image::Image;
 use omf_placement::Placement;
 use omf_records::Rec;
-use omf_reloc::{RelocateFault, reach_and_relocate, start};
+use omf_reloc::{RelocateFault, reach, reach_and_relocate, start};
 use std::alloc::Global;
 
 /// A module at its placement: its image, and its start if it names one.
@@ -55,11 +55,10 @@ impl Relocated {
 fn is_main(module: &Checked) -> bool
     ensures { result ≡ is_main (recs_of «module».now.bytes) }
 {
-    let end = module.end();
-    match &end {
-        Rec::ModEnd { type_byte, .. } => *type_byte >= 128,
-        _ => false,
-    }
+    let Rec::ModEnd { type_byte, .. } = module.end() else {
+        return false;
+    };
+    type_byte >= 128
 }
 
 /// Returns the start of a main module, if it names one.
@@ -73,11 +72,26 @@ fn main_start(module: &Checked, relocated: &Relocated) -> Option<(u16, u32)>
     }
 }
 
+/// Returns why modules are not all relocated: the first whose placement does not reach, or else that memory ran out.
+fn fault_of(modules: &[Checked], placements: &[Placement]) -> LinkFault
+    requires few { length modules.now < 2 ^ 32 }
+    requires placed { length placements.now ≡ length modules.now }
+    ensures { AreRelocated (placed_modules modules.now placements.now) (Err result) }
+{
+    for (j, module) in modules.iter().enumerate() {
+        if let Err(fault) = reach(module, &placements[j]) {
+            let module = j as u32;
+            return LinkFault::Reach { module, fault };
+        }
+    }
+    LinkFault::Memory
+}
+
 /// Relocates modules, each to its placement.
 ///
 /// # Errors
 ///
-/// `Reach` for the first module whose placement does not reach. `Memory` if memory runs out.
+/// `Reach` for the first module whose placement does not reach, however little memory there is; or else `Memory` if memory runs out.
 pub fn relocate_all(
     alloc: Global,
     modules: &[Checked],
@@ -90,8 +104,12 @@ pub fn relocate_all(
 {
     let mut relocated = Vec::new(alloc);
     for (j, module) in modules.iter().enumerate() {
-        let at = Relocated::of(alloc, j as u32, module, &placements[j])?;
-        relocated.push(at)?;
+        let Ok(at) = Relocated::of(alloc, j as u32, module, &placements[j]) else {
+            return Err(fault_of(modules, placements));
+        };
+        let Ok(()) = relocated.push(at) else {
+            return Err(fault_of(modules, placements));
+        };
     }
     Ok(relocated)
 }

@@ -1,6 +1,6 @@
 //! The segments of modules at their placements.
 
-ghost use Rattle.std.specs.Prelude.{◌≡◌, ◌++◌, ◌<◌, ◌^◌, IfOk, OnOk, length};
+ghost use Rattle.std.specs.Prelude.{◌≡◌, ◌++◌, ◌<◌, ◌^◌, IfOk, OnOk, Some, length, option_to_list, slice_get};
 ghost use Rattle.omf_records.specs.Inner.Seen.{contents_seen};
 ghost use Rattle.omf_check.specs.Module.{recs_of};
 ghost use Rattle.omf_check.specs.Tables.{segments};
@@ -10,7 +10,7 @@ ghost use Rattle.omf_placement.specs.Placement.{placed};
 ghost use Rattle.omf_linking.specs.Segments.{all_segments, commons, commons_in, image_bytes, is_common, module_segment, module_segments, with_images};
 
 use crate::relocated::Relocated;
-use crate::space::{Owner, PlacedSegment};
+use crate::space::{Owner, PlacedSegment, SegmentList};
 use omf_check::Checked;
 use omf_placement::Placement;
 use omf_records::Rec;
@@ -23,17 +23,24 @@ fn is_common(attribute: u8) -> bool
     attribute / 4 % 8 == 6
 }
 
+/// Returns whether a record's segment is common; none if it is no SEGDEF.
+fn common_in(rec: &Rec<'_>) -> Option<bool>
+    ensures { option_to_list result ≡ commons_in (contents_seen rec.now) }
+{
+    let Rec::Segment { segment, .. } = rec else {
+        return None;
+    };
+    Some(is_common(segment.attribute))
+}
+
 /// Adds whether a record's segment is common.
 fn add_common(commons: &mut Vec<bool>, rec: &Rec<'_>) -> Result<(), AllocError>
     ensures { OnOk result (commons.new.items ≡ commons.old.items ++ commons_in (contents_seen rec.now)) }
 {
-    match rec {
-        Rec::Segment { segment, .. } => {
-            commons.push(is_common(segment.attribute))?;
-            Ok(())
-        }
-        _ => Ok(()),
+    if let Some(common) = common_in(rec) {
+        commons.push(common)?;
     }
+    Ok(())
 }
 
 /// Returns whether each of a module's segments is common, in order.
@@ -126,4 +133,66 @@ pub fn segments_of<'a>(
         )?;
     }
     Ok(segments)
+}
+
+/// Returns whether a segment of a module is common, by its number from 0.
+fn common_at(module: &Checked, n: u16) -> bool
+    requires { n < length (segments (recs_of «module».now.bytes)) }
+    ensures { slice_get (commons (recs_of «module».now.bytes)) n ≡ Some result }
+{
+    let mut left = n;
+    for (_, rec) in module.records() {
+        let Some(common) = common_in(&rec) else {
+            continue;
+        };
+        if left == 0 {
+            return common;
+        }
+        left -= 1;
+    }
+    unreachable!()
+}
+
+/// The segments of modules, each at its place in the placement of its module: a list that takes no memory.
+#[derive(Clone, Copy)]
+pub(crate) struct ModuleSegments<'a> {
+    /// The modules, fewer than 2^32.
+    pub modules: &'a [Checked],
+    /// Their placements.
+    pub placements: &'a [Placement],
+    /// Their images.
+    pub relocated: &'a [Relocated],
+}
+
+impl<'a> SegmentList for ModuleSegments<'a> {
+    ghost use Rattle.std.specs.Prelude.{◌≡◌, ◌<◌, ◌^◌, length};
+    ghost use Rattle.omf_derive.specs.Derive.{placed_modules};
+    ghost use Rattle.omf_linking.specs.Segments.{all_segments, with_images};
+
+    ghost listed = { λ s. all_segments (with_images (placed_modules s.modules.now s.placements.now) s.relocated.now) };
+
+    ghost holds = { λ s. (length s.modules.now < 2 ^ 32) × (length s.placements.now ≡ length s.modules.now) × (length s.relocated.now ≡ length s.modules.now) };
+
+    fn count(&self) -> usize {
+        let mut count = 0;
+        for module in self.modules {
+            count += usize::from(module.segments());
+        }
+        count
+    }
+
+    fn segment(&self, n: usize) -> PlacedSegment<'_> {
+        let mut left = n;
+        for (j, module) in self.modules.iter().enumerate() {
+            let count = usize::from(module.segments());
+            if left < count {
+                let common = common_at(module, left as u16);
+                let index = left as u16 + 1;
+                let place = &self.placements[j];
+                return placed_segment(j as u32, index, common, place, &self.relocated[j]);
+            }
+            left -= count;
+        }
+        unreachable!()
+    }
 }

@@ -133,18 +133,17 @@ fn print_record(
 ) -> Result<(), AllocError>
     ensures { AddsText result (string_bytes text.old) (string_bytes text.new) (flat_map (public_line number) (record_publics false placement.now (kind_seen rec.now) (contents_seen rec.now))) }
 {
-    match rec {
-        Rec::Publics {
-            segment,
-            frame,
-            publics,
-            ..
-        } => {
-            let base = base_address(placement, segment.item.0, *frame);
-            print_items(text, number, base, publics)
-        }
-        _ => Ok(()),
-    }
+    let Rec::Publics {
+        segment,
+        frame,
+        publics,
+        ..
+    } = rec
+    else {
+        return Ok(());
+    };
+    let base = base_address(placement, segment.item.0, *frame);
+    print_items(text, number, base, publics)
 }
 
 /// Prints a line for each public of a module that is not local.

@@ -1,5 +1,6 @@
 -- Segments laid one after another.
-use Rattle.std.proofs.Common.{◌≡◌, ℕ, zero, suc, ◌+◌, ◌<◌, ◌≤◌, List, [], ◌∷◌, ◌++◌, length, drop, get_or, refl, sym, ap, ◌∙◌, arith, append_assoc, Vec, Global}
+use Rattle.std.proofs.Common.{◌≡◌, ℕ, zero, suc, ◌+◌, ◌<◌, ◌≤◌, List, [], ◌∷◌, ◌++◌, length, drop, get_or, refl, sym, ap, ◌∙◌, arith, append_assoc, add-one, Vec, Global}
+use Rattle.std.proofs.Math.Seq.{drop-cons}
 use Rattle.std.specs.Prelude.{map, max, Option, Some, None, option_and_then}
 use Rattle.std.proofs.lemmas.Option.{none-some, same_Some}
 use Rattle.omf_layout.specs.Layout.{Laid, and_then_more, all_laid}
@@ -21,6 +22,21 @@ module _ {A : Type 0} where
   then-behind before mid free (Some l) rest h =
       let e = same_Some _ (laid mid free) h in
       more-more before l.what (rest l.free) ∙ ap (λ (k : Laid (List A)). and_then_more k.what (rest k.free)) e
+
+-- One more segment is laid after those before; or it has no room.
+module _ {B : Type 0} (lay : ℕ → Portion → Option (Laid B)) (free i : ℕ) (ps : List Portion) (d : Portion) (inside : i < length ps) (old : List B) (whole : Option (Laid (List B)))
+    (h : and_then_more old (all_laid lay free (drop i ps)) ≡ whole) where
+  there : (o : Option (Laid B)) → lay free (get_or ps i d) ≡ o → and_then_more old (option_and_then (λ l. and_then_more (l.what ∷ []) (all_laid lay l.free (drop (i + 1) ps))) o) ≡ whole
+  there o e =
+      let next : drop i ps ≡ get_or ps i d ∷ drop (i + 1) ps = rw (add-one, drop-cons ps i d inside) refl in
+      sym (ap (λ p. and_then_more old (option_and_then (λ l. and_then_more (l.what ∷ []) (all_laid lay l.free (drop (i + 1) ps))) p)) e) ∙ sym (ap (λ xs. and_then_more old (all_laid lay free xs)) next) ∙ h
+
+  pub next-laid : (b : B) (behind : ℕ) (new : List B) → lay free (get_or ps i d) ≡ Some (laid b behind) → new ≡ old ++ b ∷ [] → and_then_more new (all_laid lay behind (drop (i + 1) ps)) ≡ whole
+  next-laid b behind new e n =
+      ap (λ xs. and_then_more xs (all_laid lay behind (drop (i + 1) ps))) n ∙ sym (more-more old (b ∷ []) (all_laid lay behind (drop (i + 1) ps))) ∙ there (Some (laid b behind)) e
+
+  pub no-room : lay free (get_or ps i d) ≡ None → whole ≡ None
+  no-room e = sym (there None e)
 
 -- The strictest alignment of segments is no lower than that of none.
 pub some-strictest : (ps : List Portion) → max 1 (strictest ps) ≡ strictest ps

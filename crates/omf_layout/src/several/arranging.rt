@@ -14,7 +14,7 @@ use omf_check::Checked;
 use std::alloc::Global;
 
 /// Returns the segments of all modules in the order in which they are laid, each with its place, and the first free address after them.
-/// The first is at the base. Joined segments follow one another in the frame of the first, each at the first address of its own
+/// The first that is not absolute is at the first address of its alignment from the base on. Joined segments follow one another in the frame of the first, each at the first address of its own
 /// alignment. Common segments of one class and name share one address, at the strictest of their alignments, and take the room of the
 /// longest. A segment that is alone has a frame of its own; an absolute one is where its SEGDEF puts it and takes no room.
 ///

@@ -9,7 +9,6 @@ ghost use Rattle.omf_layout.specs.Several.Portions.{Named};
 
 use crate::Frames;
 use crate::draft::group_name;
-use crate::laying::NO_FRAME;
 use crate::several::portion::name_at;
 use omf_check::Checked;
 use omf_placement::{Frame, Placed, lower, lowest_member};
@@ -88,7 +87,7 @@ impl<'a> LowTable<'a> {
             Frames::Flat { selector } => Frame { base: 0, selector },
             Frames::Real => match self.by_name.get(&name) {
                 Some(place) => place.frame,
-                None => NO_FRAME,
+                None => Frame::NONE,
             },
         }
     }

@@ -5,18 +5,11 @@ ghost use Rattle.omf_check.specs.Module.{recs_of, typed_modules};
 ghost use Rattle.omf_layout.specs.Several.Laying.{Lying};
 ghost use Rattle.omf_layout.specs.Several.Placing.{IsPlaceTable, all_segments_in, place_or_none, segments_in};
 
-use crate::laying::NO_FRAME;
 use crate::several::laying::Lying;
 use omf_check::Checked;
 use omf_placement::Placed;
 use std::alloc::{AllocError, Global};
 use std::collections::BTreeMap;
-
-/// The place of a segment that is not laid.
-const NO_PLACE: Placed = Placed {
-    address: 0,
-    frame: NO_FRAME,
-};
 
 /// Places of segments, by module and index.
 #[derive(Drop)]
@@ -47,7 +40,7 @@ impl PlaceTable {
         self.by_segment
             .get(&(module, index))
             .copied()
-            .unwrap_or(NO_PLACE)
+            .unwrap_or(Placed::NONE)
     }
 
     /// Returns the places of a module's segments.

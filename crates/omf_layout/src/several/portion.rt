@@ -12,7 +12,7 @@ use omf_check::{Checked, SegInfo};
 use std::alloc::{AllocError, Global};
 
 /// How a segment combines with others of its class and name (TIS OMF 1.1, "SEGDEF", C field).
-#[derive(Clone, Copy, Debug, PartialEq, Eq)]
+#[derive(Clone, Copy, PartialEq, Eq)]
 pub enum Combination {
     /// One after another in one frame: public (2, 4 and 7) and stack (5).
     Joined,
@@ -28,18 +28,15 @@ impl Combination {
         ensures { result ≡ combination_named attribute }
     {
         match attribute / 4 % 8 {
-            2 => Combination::Joined,
-            4 => Combination::Joined,
-            5 => Combination::Joined,
+            2 | 4 | 5 | 7 => Combination::Joined,
             6 => Combination::Common,
-            7 => Combination::Joined,
-            _ => Combination::Alone,
+            0 | 1 | 3 | 8.. => Combination::Alone,
         }
     }
 }
 
 /// A segment of one of several modules.
-#[derive(Clone, Copy, Debug, PartialEq, Eq)]
+#[derive(Clone, Copy)]
 pub struct Portion {
     /// The module, from 0.
     pub module: u32,

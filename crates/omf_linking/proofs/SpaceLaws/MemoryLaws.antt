@@ -1,6 +1,8 @@
 -- What is laid in memory, and which two segments overlap.
 use Rattle.std.proofs.Common.{◌≡◌, ℕ, ◌+◌, ◌-◌, ◌<◌, ◌≤◌, List, [], ◌∷◌, ◌++◌, length, take, drop, get_or, add-one, map, refl, sym, ap, subst, ◌∙◌, Bool, true, false, ◌&&◌, arith, nat_le, Option, Some, None, if◌then◌else◌, append_assoc}
-use Rattle.std.specs.Prelude.{◌==◌, All, Ok, filter_map, option_map, slice_get, is_some, replicate}
+use Rattle.omf_linking.specs.declared.space.fault.MemoryFault.{MemoryFault}
+use Rattle.omf_linking.specs.declared.space.fault.MemoryFault.TheVariants as memory
+use Rattle.std.specs.Prelude.{◌==◌, All, Ok, Err, Result, filter_map, option_map, slice_get, is_some, replicate}
 use Rattle.std.specs.Option.{option_or}
 use Rattle.std.specs.List.{last_or, cons_option}
 use Rattle.std.proofs.lemmas.Bool.{eqb-true}
@@ -44,7 +46,7 @@ skip a s rest first h =
     let same : shares (pieces (s ∷ rest)) a ≡ shares (pieces rest) a = rw (share_gone (share_of a (piece s)) h) refl in
     ap (overlap_with first) (sym same)
 
-one_known : (s : Share) (ss : List Share) (first : Option (Owner × Bool)) → excluded first s.owner s.common ≡ None → overlap_with (option_or first (Some (s.owner, s.common))) ss ≡ overlap_with first (s ∷ ss)
+pub one_known : (s : Share) (ss : List Share) (first : Option (Owner × Bool)) → excluded first s.owner s.common ≡ None → overlap_with (option_or first (Some (s.owner, s.common))) ss ≡ overlap_with first (s ∷ ss)
 one_known s ss None h = refl
 one_known s ss (Some o) h = by (o.1 && s.common) refl h
   where

@@ -24,24 +24,24 @@ not_le a b h = elim (leb_tells a b) [ inl t ↦ absurd (omega (arith, t.1, h)) |
 is_le : (a b : ℕ) → a ≤ b → nat_le a b ≡ true
 is_le a b h = elim (leb_tells a b) [ inl t ↦ t.0 | inr t ↦ absurd (omega (arith, t.1, h)) ]
 
-none_is : {A : Type 0} (o : Option A) → IsNone o → o ≡ None
+pub none_is : {A : Type 0} (o : Option A) → IsNone o → o ≡ None
 none_is None h = refl
 none_is (Some x) h = absurd cc
 
-none_some : {A : Type 0} (o : Option A) → o ≡ None → IsSome o → ⊥
+pub none_some : {A : Type 0} (o : Option A) → o ≡ None → IsSome o → ⊥
 none_some None e h = cc
 none_some (Some x) e h = cc
 
 no_element : (bs : List ℕ) (i : ℕ) → length bs ≤ i → slice_get bs i ≡ None
 no_element bs i h = none_is (slice_get bs i) (some_or_none (slice_get bs i) (λ e. let low = some_within bs i e in omega (arith, low, h)))
 
-abbrev share : SegmentAt → ℕ → Share
+abbrev pub share : SegmentAt → ℕ → Share
 share s b = record { owner = s.owner; common = s.common; byte = b }
 
-in_from : (a : ℕ) (s : SegmentAt) → s.address ≤ a → share_in a s ≡ option_map (share s) (s.byte (a - s.address))
+pub in_from : (a : ℕ) (s : SegmentAt) → s.address ≤ a → share_in a s ≡ option_map (share s) (s.byte (a - s.address))
 in_from a s h = rw (is_le s.address a h) refl
 
-in_below : (a : ℕ) (s : SegmentAt) → a < s.address → share_in a s ≡ None
+pub in_below : (a : ℕ) (s : SegmentAt) → a < s.address → share_in a s ≡ None
 in_below a s h = rw (not_le s.address a h) refl
 
 module _ (a : ℕ) (s : SegmentAt) (first : ℕ) (bytes : List ℕ) where
@@ -62,7 +62,7 @@ front_in e x s h = rw (is_le (suc x) e h) refl
 front_out : (e x : ℕ) (s : SegmentAt) → e ≤ x → (front e s).byte x ≡ None
 front_out e x s h = let past : e < suc x = omega (arith, h) in rw (not_le (suc x) e past) refl
 
-mapped : {A B : Type 0} (f : A → B) (o p : Option A) → o ≡ p → option_map f o ≡ option_map f p
+pub mapped : {A B : Type 0} (f : A → B) (o p : Option A) → o ≡ p → option_map f o ≡ option_map f p
 mapped f o p e = ap (option_map f) e
 
 module _ (a e : ℕ) (s : SegmentAt) (from : s.address ≤ a) where

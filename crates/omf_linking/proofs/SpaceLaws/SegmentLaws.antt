@@ -13,7 +13,7 @@ use Rattle.omf_linking.specs.Space.Memory.{Share, pieces, shares}
 use Rattle.omf_linking.specs.Inner.Runs.{HasMore, IsAdded, AreStretches}
 use Rattle.omf_linking.specs.Space.Segments.{SegmentAt, segment_at, segments_at, share_in, segment_shares, IsWithin, IsBeyond, IsFirstBeyond}
 
-all_more : {A : Type 0} (P : A → Type 0) (xs : List A) (x : A) → All P xs → P x → All P (xs ++ x ∷ [])
+pub all_more : {A : Type 0} (P : A → Type 0) (xs : List A) (x : A) → All P xs → P x → All P (xs ++ x ∷ [])
 all_more P [] x h p = All-cons P x [] p (All-nil P)
 all_more P (y ∷ xs) x h p = All-cons P y (xs ++ x ∷ []) (All-head P y xs h) (all_more P xs x (All-tail P y xs h) p)
 

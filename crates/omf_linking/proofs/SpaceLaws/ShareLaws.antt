@@ -13,13 +13,13 @@ use Rattle.omf_linking.specs.declared.space.sweep.Interval.{Interval}
 use Rattle.omf_linking.proofs.SpaceLaws.SweepLaws.{within, own, own_at, all_at, Clash, NoClash, IsFirst}
 
 -- the number of those that are not common
-abbrev owns : List Share → ℕ
+abbrev pub owns : List Share → ℕ
 owns [] = 0
 owns (s ∷ ss) = cond s.common 0 1 + owns ss
 
 -- ---- one piece at an address: nothing, or a byte
 
-abbrev IsAt : ℕ → Piece → Option Share → Type 0
+abbrev pub IsAt : ℕ → Piece → Option Share → Type 0
 IsAt a p None = within a (interval p) ≡ 0
 IsAt a p (Some s) = (within a (interval p) ≡ 1) × (s.common ≡ p.common)
 
@@ -34,7 +34,7 @@ piece_at a p true e (Some x) f =
     let one : within a (interval p) ≡ 1 = rw (e, there) refl in
     rw (e, f) (one, refl)
 
-at : (a : ℕ) (p : Piece) → IsAt a p (share_of a p)
+pub at : (a : ℕ) (p : Piece) → IsAt a p (share_of a p)
 at a p = piece_at a p (nat_le p.address a) refl (slice_get p.bytes (a - p.address)) refl
 
 -- ---- pieces at an address
@@ -133,11 +133,11 @@ some_behind s ss true e h two = some_mapped (pair s) (find (excludes s) ss) (som
 some_behind s [] false e h two = absurd (omega (arith, two))
 some_behind s (t ∷ ss) false e h two = some_mapped (pair s) (find (excludes s) (t ∷ ss)) (subst IsSome (sym (next_other s t ss (and_left s.common t.common e))) refl)
 
-no_overlap : (ss : List Share) → NoClash (owns ss) (length ss) → IsNone (overlap ss)
+pub no_overlap : (ss : List Share) → NoClash (owns ss) (length ss) → IsNone (overlap ss)
 no_overlap [] h = refl
 no_overlap (s ∷ ss) h = none_behind s ss s.common refl (λ one. let x = h one in omega (arith, x))
 
-some_overlap : (ss : List Share) → Clash (owns ss) (length ss) → IsSome (overlap ss)
+pub some_overlap : (ss : List Share) → Clash (owns ss) (length ss) → IsSome (overlap ss)
 some_overlap [] h = absurd (omega (arith, h.0))
 some_overlap (s ∷ ss) h = some_behind s ss s.common refl h.0 (omega (arith, h.1))
 

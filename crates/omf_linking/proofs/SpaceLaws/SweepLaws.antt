@@ -44,17 +44,17 @@ same_first p q c d e f (Some x) h = (
 
 -- ---- one interval
 
-before : (a : ℕ) (i : Interval) → a < i.first → within a i ≡ 0
+pub before : (a : ℕ) (i : Interval) → a < i.first → within a i ≡ 0
 before a i h = let e : nat_le i.first a ≡ false = grind (arith, nat_tests) in rw e refl
 
 and_false : (b : Bool) → cond {A = ℕ} (b && false) 1 0 ≡ 0
 and_false true = refl
 and_false false = refl
 
-after : (a : ℕ) (i : Interval) → i.end ≤ a → within a i ≡ 0
+pub after : (a : ℕ) (i : Interval) → i.end ≤ a → within a i ≡ 0
 after a i h = let e : nat_lt a i.end ≡ false = grind (arith, nat_tests) in rw e (and_false (nat_le i.first a))
 
-inside : (a : ℕ) (i : Interval) → i.first ≤ a → a < i.end → within a i ≡ 1
+pub inside : (a : ℕ) (i : Interval) → i.first ≤ a → a < i.end → within a i ≡ 1
 inside a i h k = let e : nat_le i.first a ≡ true = grind (arith, nat_tests) in let f : nat_lt a i.end ≡ true = grind (arith, nat_tests) in rw (e, f) refl
 
 -- ---- the intervals so far, by the numbers at each address

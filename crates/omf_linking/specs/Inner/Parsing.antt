@@ -1,5 +1,5 @@
 -- The steps of parsing the text of a link.
-use Rattle.std.specs.Prelude.{◌≡◌, ⊤, ℕ, List, [], ◌∷◌, ◌++◌, Result, Ok, Err, slice_get, Option, Some, None}
+use Rattle.std.specs.Prelude.{◌≡◌, ℕ, Bool, true, false, List, [], ◌∷◌, ◌++◌, Result, Ok, Err, slice_get, Option, Some, None}
 use Rattle.omf_placement.specs.declared.fault.TextFault.{TextFault}
 use Rattle.omf_placement.specs.declared.fault.TextFault.TheVariants as fault
 use Rattle.omf_placement.specs.Inner.Parsing.{with_entry, seen as entry_seen}
@@ -22,11 +22,11 @@ with_line whole p n NextModule = (whole ++ p ∷ [], empty_part n)
 with_line whole p n (GivenExternal i q) = (whole, record { line = p.line; draft = p.draft; given = p.given ++ (n, (i, q)) ∷ [] })
 with_line whole p n (OfPlacement e) = (whole, record { line = p.line; draft = with_entry p.draft n e; given = p.given })
 
--- A walk over lines finds no stray one, or the first; or memory runs out.
+-- A walk over lines finds no stray one, or the first; memory runs out only if there is none.
 abbrev pub IsStray : List ℕ → Result (Unit {0}) TextFault → Type 0
 IsStray strays (Ok done) = strays ≡ []
 IsStray strays (Err (fault.Line n)) = slice_get strays 0 ≡ Some n
-IsStray strays (Err fault.Memory) = ⊤
+IsStray strays (Err fault.Memory) = strays ≡ []
 
 -- The place of a module by its part, if it has one, and the externals that it gives.
 abbrev pub place_by : List Rec → Option Part → Result Places ℕ
@@ -36,6 +36,13 @@ place_by m (Some p) = place_of m p
 abbrev pub given_by : ℕ → Option Part → List Given
 given_by j None = []
 given_by j (Some p) = given_in (j, p)
+
+-- A place was added to others, or memory ran out before or now (`Ok true`), or there is no place for a line at fault.
+abbrev pub IsKept : Result Places TextFault → Bool → List Places → List Places → Result Bool TextFault → Type 0
+IsKept place short old new (Ok true) = (n : ℕ) → place ≡ Err (fault.Line n) → ⊥
+IsKept place short old new (Ok false) = (short ≡ false) × (p : Places) × (place ≡ Ok p) × (new ≡ old ++ p ∷ [])
+IsKept place short old new (Err fault.Memory) = ⊥
+IsKept place short old new (Err (fault.Line n)) = place ≡ Err (fault.Line n)
 
 -- An entry of the code.
 abbrev pub seen : written.LinkEntry → LinkEntry

@@ -1,10 +1,12 @@
 -- Runs of a segment as stretches (the steps of the code).
-use Rattle.std.specs.Prelude.{◌≡◌, ⊤, Result, Ok, Err, ℕ, ◌+◌, ◌<◌, ◌^◌, List, [], ◌∷◌, ◌++◌, All, length}
+use Rattle.std.specs.Prelude.{◌≡◌, ⊤, Result, Ok, Err, ℕ, ◌+◌, ◌<◌, ◌^◌, List, [], ◌∷◌, ◌++◌, All, length, Option, Some, None}
+use Rattle.omf_image.specs.Overlay.{Laid}
 use Rattle.omf_linking.specs.declared.space.fault.MemoryFault.{MemoryFault}
 use Rattle.omf_linking.specs.declared.space.fault.MemoryFault.TheVariants as fault
+use Rattle.omf_linking.specs.declared.space.stretch.Owner.{Owner}
 use Rattle.omf_linking.specs.declared.space.stretch.Stretch.{Stretch}
 use Rattle.omf_linking.specs.Space.Memory.{Piece, piece, pieces, Lies, shares}
-use Rattle.omf_linking.specs.Space.Segments.{SegmentAt, segment_shares, IsWithin, IsBeyond, IsFirstBeyond}
+use Rattle.omf_linking.specs.Space.Segments.{SegmentAt, segment_shares, IsWithin, IsBeyond, IsFirstBeyond, IsMemoryOf}
 
 -- Bytes of a segment from an offset on as a stretch; or they reach beyond the last address.
 abbrev pub run_piece : SegmentAt → ℕ → List ℕ → Piece
@@ -32,3 +34,14 @@ AreStretches ss (Ok ts) = All IsWithin ss × ((a : ℕ) → shares (pieces ts) a
 AreStretches ss (Err fault.Memory) = ⊤
 AreStretches ss (Err (fault.Beyond o)) = IsFirstBeyond ss o
 AreStretches ss (Err (fault.Overlap a first second)) = ⊥
+
+-- All bytes of segments have addresses; or this is the owner of the first that has one beyond the last address.
+abbrev pub IsFoundBeyond : List SegmentAt → Option Owner → Type 0
+IsFoundBeyond ss None = All IsWithin ss
+IsFoundBeyond ss (Some o) = IsFirstBeyond ss o
+
+-- The memory of segments, where running out of memory may hide a fault.
+abbrev pub IsTried : List SegmentAt → Result (List Laid) MemoryFault → Type 0
+IsTried ss (Ok image) = IsMemoryOf ss (Ok image)
+IsTried ss (Err fault.Memory) = ⊤
+IsTried ss (Err f) = IsMemoryOf ss (Err f)

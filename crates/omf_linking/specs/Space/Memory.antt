@@ -61,9 +61,9 @@ abbrev pub HasNoOther : List Laid → Type 0
 HasNoOther image = (segment a : ℕ) → 0 < segment → byte_at image segment a ≡ None
 
 -- The memory of these bytes at each address, as segment 0 of an image without other segments; or the first address at which two segments overlap, and which
--- two. Memory may run out at any time.
+-- two. Memory is returned only if no two overlap.
 abbrev pub IsMemory : (ℕ → List Share) → Result (List Laid) MemoryFault → Type 0
 IsMemory at (Ok image) = ((a : ℕ) → IsNone (overlap (at a))) × ((a : ℕ) → byte_at image 0 a ≡ memory_byte (at a)) × HasNoOther image
-IsMemory at (Err fault.Memory) = ⊤
+IsMemory at (Err fault.Memory) = (a : ℕ) → IsNone (overlap (at a))
 IsMemory at (Err (fault.Beyond o)) = ⊥
 IsMemory at (Err (fault.Overlap a s t)) = (overlap (at a) ≡ Some (s, t)) × ((b : ℕ) → b < a → IsNone (overlap (at b)))

@@ -59,10 +59,14 @@ pub record DoOverlap (segments : List SegmentAt) (address : ℕ) (first second :
   pub here : overlap (segment_shares segments address) ≡ Some (first, second)
   pub before : (a : ℕ) → a < address → IsNone (overlap (segment_shares segments a))
 
--- The memory of segments, as segment 0 of an image; or the first segment with a byte beyond the last address; or else the first overlap. Memory may run out
--- at any time.
+-- All bytes have 32-bit addresses, and no two segments overlap.
+abbrev pub LieWell : List SegmentAt → Type 0
+LieWell ss = All IsWithin ss × ((a : ℕ) → IsNone (overlap (segment_shares ss a)))
+
+-- The memory of segments, as segment 0 of an image; or the first segment with a byte beyond the last address; or else the first overlap. Memory is returned only
+-- if there is no such fault.
 abbrev pub IsMemoryOf : List SegmentAt → Result (List Laid) MemoryFault → Type 0
 IsMemoryOf ss (Ok image) = AreLaid ss image
-IsMemoryOf ss (Err fault.Memory) = ⊤
+IsMemoryOf ss (Err fault.Memory) = LieWell ss
 IsMemoryOf ss (Err (fault.Beyond o)) = IsFirstBeyond ss o
 IsMemoryOf ss (Err (fault.Overlap a s t)) = DoOverlap ss a s t

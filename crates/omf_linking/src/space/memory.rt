@@ -1,13 +1,14 @@
 //! The image of several segments in memory.
 
-ghost use Rattle.std.specs.Prelude.{◌≡◌, [], All, IfOk, is_some};
+ghost use Rattle.std.specs.Prelude.{◌≡◌, [], All, Err, IfOk, is_some};
 ghost use Rattle.omf_image.specs.Overlay.{AreLaidOver};
-ghost use Rattle.omf_linking.specs.Space.Memory.{piece, pieces, Lies, share_of, shares, overlap, IsMemory};
-ghost use Rattle.omf_linking.specs.Inner.Laying.{excluded, extents_in, laid_pieces};
+ghost use Rattle.omf_linking.specs.Space.Memory.{piece, pieces, Lies, share_of, shares, overlap, IsFirstOverlap, IsMemory};
+ghost use Rattle.omf_linking.specs.Inner.Laying.{extents_in, laid_pieces};
 
 use crate::space::fault::MemoryFault;
+use crate::space::search::{excluded, lower};
 use crate::space::stretch::{Owner, Stretch};
-use crate::space::sweep::first_overlap;
+use crate::space::sweep::{first_overlap, intervals_of};
 use omf_image::{Extent, Image, painted};
 use std::alloc::{AllocError, Global};
 
@@ -21,17 +22,6 @@ fn has(stretch: &Stretch<'_>, address: u32) -> bool
     ((address - stretch.address) as usize) < stretch.bytes.len()
 }
 
-/// Returns the first segment with a byte at an address and one more, if there is a first and they may not share it.
-fn excluded(first: Option<(Owner, bool)>, stretch: &Stretch<'_>) -> Option<(Owner, Owner)>
-    ensures { result ≡ excluded first stretch.now.owner stretch.now.common }
-{
-    let (owner, common) = first?;
-    if common && stretch.common {
-        return None;
-    }
-    Some((owner, stretch.owner))
-}
-
 /// Returns the first two segments with a byte at an address that may not share it.
 fn owners_at(stretches: &[Stretch<'_>], address: u32) -> Option<(Owner, Owner)>
     ensures { result ≡ overlap (shares (pieces stretches.now) address) }
@@ -41,7 +31,7 @@ fn owners_at(stretches: &[Stretch<'_>], address: u32) -> Option<(Owner, Owner)>
         if !has(stretch, address) {
             continue;
         }
-        if let Some(both) = excluded(first, stretch) {
+        if let Some(both) = excluded(first, stretch.owner, stretch.common) {
             return Some(both);
         }
         first = first.or(Some((stretch.owner, stretch.common)));
@@ -76,26 +66,57 @@ fn laid(alloc: Global, stretches: &[Stretch<'_>]) -> Result<Image, AllocError>
     Ok(image)
 }
 
+/// Returns the first address at which two stretches overlap that may not. It takes no memory, and time in proportion to the square of the
+/// number of stretches.
+fn lowest_overlap(stretches: &[Stretch<'_>]) -> Option<u32>
+    requires { All Lies stretches.now }
+    ensures { IsFirstOverlap (shares (pieces stretches.now)) result }
+{
+    let mut lowest = None;
+    for stretch in stretches {
+        if owners_at(stretches, stretch.address).is_some() {
+            lowest = Some(lower(lowest, stretch.address));
+        }
+    }
+    lowest
+}
+
+/// Returns why stretches have no memory: the overlap at this address, or else that memory ran out.
+fn fault_at(stretches: &[Stretch<'_>], overlap: Option<u32>) -> MemoryFault
+    requires { IsFirstOverlap (shares (pieces stretches.now)) overlap }
+    ensures { IsMemory (shares (pieces stretches.now)) (Err result) }
+{
+    let Some(address) = overlap else {
+        return MemoryFault::Memory;
+    };
+    match owners_at(stretches, address) {
+        Some((first, second)) => MemoryFault::Overlap {
+            address,
+            first,
+            second,
+        },
+        None => unreachable!(),
+    }
+}
+
 /// Returns the memory of stretches: an image with the addresses of memory as the offsets of segment 0. Common segments may overlap; the
 /// byte of the last one counts.
 ///
 /// # Errors
 ///
 /// `Overlap` if two segments that are not both common have a byte at one address: the first such address, the first segment there, and
-/// the next that may not share the address with it. `Memory` if memory runs out.
+/// the next that may not share the address with it. `Memory` if memory runs out, only if no two segments overlap that may not; to see
+/// that, each stretch may be compared with each other, which is slow.
 pub fn memory_of(alloc: Global, stretches: &[Stretch<'_>]) -> Result<Image, MemoryFault>
     requires { All Lies stretches.now }
     ensures { IsMemory (shares (pieces stretches.now)) result }
 {
-    let Some(address) = first_overlap(alloc, stretches)? else {
-        return Ok(laid(alloc, stretches)?);
+    let overlap = match intervals_of(alloc, stretches) {
+        Ok(intervals) => first_overlap(stretches, intervals),
+        Err(_) => return Err(fault_at(stretches, lowest_overlap(stretches))),
     };
-    match owners_at(stretches, address) {
-        Some((first, second)) => Err(MemoryFault::Overlap {
-            address,
-            first,
-            second,
-        }),
-        None => unreachable!(),
+    if overlap.is_some() {
+        return Err(fault_at(stretches, overlap));
     }
+    Ok(laid(alloc, stretches)?)
 }

@@ -5,11 +5,13 @@ ghost use Rattle.omf_records.specs.Inner.Seen.{map_ok};
 ghost use Rattle.omf_image.specs.Inner.Joined.{runs_of};
 ghost use Rattle.omf_image.specs.Overlay.{byte_at};
 ghost use Rattle.omf_linking.specs.Space.Memory.{Lies};
-ghost use Rattle.omf_linking.specs.Inner.Runs.{AreStretches, HasMore, IsAdded, IsStretchAt};
+ghost use Rattle.omf_linking.specs.Inner.Runs.{AreStretches, HasMore, IsAdded, IsStretchAt, IsTried};
 ghost use Rattle.omf_linking.specs.Space.Segments.{IsMemoryOf, segment_at, segments_at};
 
 use crate::space::fault::MemoryFault;
+use crate::space::list::Listed;
 use crate::space::memory::memory_of;
+use crate::space::search::judged;
 use crate::space::segment::PlacedSegment;
 use crate::space::stretch::Stretch;
 use omf_image::Image;
@@ -19,7 +21,7 @@ use std::alloc::Global;
 const ADDRESSES: u64 = 4_294_967_296;
 
 /// Returns bytes of a segment, from an offset on, at their address.
-fn stretch_at<'a>(
+pub(crate) fn stretch_at<'a>(
     segment: &PlacedSegment<'a>,
     first: u32,
     bytes: &'a [u8],
@@ -73,6 +75,17 @@ fn stretches_of<'a>(
     Ok(stretches)
 }
 
+/// Returns the memory of segments. Out of memory, it may hide a fault.
+pub(crate) fn try_memory(
+    alloc: Global,
+    segments: &[PlacedSegment<'_>],
+) -> Result<Image, MemoryFault>
+    ensures { IsTried (segments_at segments.now) result }
+{
+    let stretches = stretches_of(alloc, segments)?;
+    memory_of(alloc, &stretches)
+}
+
 /// Returns the memory of segments of images at their addresses: an image with the addresses of memory as the offsets of segment 0. Common
 /// segments may overlap; the byte of the last one counts.
 ///
@@ -80,10 +93,11 @@ fn stretches_of<'a>(
 ///
 /// `Beyond` for the first segment with a byte above the last address, FFFFFFFFH. Else `Overlap` if two segments that are not both common
 /// have a byte at one address: the first such address, the first segment there, and the next that may not share the address with it.
-/// `Memory` if memory runs out.
+/// `Memory` if memory runs out, only if there is no such fault; to see that, each run of bytes may be compared with each segment, which is
+/// slow.
 pub fn segments_memory(alloc: Global, segments: &[PlacedSegment<'_>]) -> Result<Image, MemoryFault>
     ensures { IsMemoryOf (segments_at segments.now) result }
 {
-    let stretches = stretches_of(alloc, segments)?;
-    memory_of(alloc, &stretches)
+    let tried = try_memory(alloc, segments);
+    judged(&Listed { segments }, tried)
 }

@@ -10,7 +10,7 @@ pub struct Owner {
 }
 
 /// Bytes of a segment at an address.
-#[derive(Clone, Copy, Debug)]
+#[derive(Clone, Copy)]
 pub struct Stretch<'a> {
     /// The segment.
     pub owner: Owner,

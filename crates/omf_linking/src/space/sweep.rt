@@ -8,8 +8,8 @@ use crate::space::stretch::Stretch;
 use std::alloc::{AllocError, Global};
 
 /// The addresses of a stretch.
-#[derive(Clone, Copy, Debug)]
-struct Interval {
+#[derive(Clone, Copy)]
+pub(crate) struct Interval {
     common: bool,
     first: u32,
     end: u64,
@@ -29,7 +29,10 @@ fn interval_of(stretch: &Stretch<'_>) -> Interval
 }
 
 /// Returns the addresses of stretches.
-fn intervals_of(alloc: Global, stretches: &[Stretch<'_>]) -> Result<Vec<Interval>, AllocError>
+pub(crate) fn intervals_of(
+    alloc: Global,
+    stretches: &[Stretch<'_>],
+) -> Result<Vec<Interval>, AllocError>
     requires { All Lies stretches.now }
     ensures { IfOk result (λ v. v.items ≡ intervals (pieces stretches.now)) }
 {
@@ -59,16 +62,13 @@ fn sweep(intervals: &[Interval]) -> Option<u32>
     None
 }
 
-/// Returns the first address at which two segments overlap that may not.
-///
-/// # Errors
-///
-/// Out of memory.
-pub fn first_overlap(alloc: Global, stretches: &[Stretch<'_>]) -> Result<Option<u32>, AllocError>
-    requires { All Lies stretches.now }
-    ensures { IfOk result (IsFirstOverlap (shares (pieces stretches.now))) }
+/// Returns the first address at which two segments overlap that may not, by the addresses of their stretches.
+pub(crate) fn first_overlap(stretches: &[Stretch<'_>], spans: Vec<Interval>) -> Option<u32>
+    requires lies { All Lies stretches.now }
+    requires of { spans.items ≡ intervals (pieces stretches.now) }
+    ensures { IsFirstOverlap (shares (pieces stretches.now)) result }
 {
-    let mut intervals = intervals_of(alloc, stretches)?;
-    intervals.sort_unstable_by_key(|interval| interval.first);
-    Ok(sweep(&intervals))
+    let mut sorted = spans;
+    sorted.sort_unstable_by_key(|interval| interval.first);
+    sweep(&sorted)
 }

@@ -20,7 +20,7 @@ loop-before-preserved c =
     let local = unwrap_or (entry (locals m) (j + 1)) false in
     let same_local : c.unwrap_or-local.result ≡ local = search rules in
     let told : entry (externals m) (j + 1) ≡ Some c.in-Some.name = search rules in
-    let roomed : entry (rooms m) (j + 1) ≡ Some c.in-Some-room_of.room = search rules in
+    let roomed : entry (rooms m) (j + 1) ≡ Some c.in-Some-entry_of.room = search rules in
     let named : entry (named_externals m) (j + 1) ≡ Some (c.in-Some.name, local) = named-entry m (j + 1) c.in-Some.name (omega arith) told in
     record {
       end = c.loop-before.invariant.end;

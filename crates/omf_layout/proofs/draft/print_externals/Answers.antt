@@ -1,4 +1,4 @@
-use Rattle.std.proofs.Common.{◌≡◌, ◌+◌, refl, arith, rules}
+use Rattle.std.proofs.Common.{◌≡◌, ◌+◌, refl, sym, arith, rules}
 use Rattle.std.specs.Prelude.{Some, option_map}
 use Rattle.std.specs.List.{zip}
 use Rattle.omf_check.specs.Module.{records_in}
@@ -17,11 +17,11 @@ loop-before-preserved c =
     let m = recs (records_in c.args.«module».now.bytes) in
     let l = c.args.layout.now in
     let j = c.loop-before.before in
-    let told : entry (externals m) (j + 1) ≡ Some c.in-Some.name = search rules in
-    let roomed : entry l.rooms (j + 1) ≡ Some c.in-Some-room.room = search rules in
+    let told : entry (externals m) (j + 1) ≡ Some c.in-Some.name = sym c.in-Some.ensures in
+    let roomed : entry l.rooms (j + 1) ≡ Some c.in-Some-room.room = sym c.in-Some-room.ensures in
     let placed : option_map (λ p. (p.address, p.frame)) (entry l.places.externals (j + 1)) ≡ Some c.in-Some-external.place = search rules in
     let here = place-of l.places.externals (j + 1) c.in-Some-external.place placed in
-    let short : IsShortPlace (record { address = c.in-Some-external.place.0; frame = c.in-Some-external.place.1 }) = search rules in
+    let short : IsShortPlace (record { address = c.in-Some-external.place.0; frame = c.in-Some-external.place.1 }) = c.in_ok-print_external.ensures.short in
     record {
       lines = more-printed external_line (zip (zip (externals m) l.rooms) l.places.externals) j _ _ _ _ c.loop-before.invariant.lines
           (entry-zip (zip (externals m) l.rooms) l.places.externals j _ _ (entry-zip (externals m) l.rooms j _ _ told roomed) here)

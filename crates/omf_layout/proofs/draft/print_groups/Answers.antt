@@ -1,4 +1,4 @@
-use Rattle.std.proofs.Common.{◌≡◌, ◌+◌, refl, arith, rules}
+use Rattle.std.proofs.Common.{◌≡◌, ◌+◌, refl, sym, arith, rules}
 use Rattle.std.specs.Prelude.{Some, option_map}
 use Rattle.std.specs.List.{zip}
 use Rattle.omf_check.specs.Module.{records_in}
@@ -19,10 +19,10 @@ loop-before-preserved c =
     let m = recs (records_in c.args.«module».now.bytes) in
     let pl = c.args.placement.now in
     let j = c.loop-before.before in
-    let there : Some (contents_seen c.in-Some.group) ≡ option_map Group (entry (groups m) (j + 1)) = search rules in
+    let there : Some (contents_seen c.in-Some.group) ≡ option_map Group (entry (groups m) (j + 1)) = c.in-Some.ensures in
     let here = group-here (contents_seen c.in-Some.group) (entry (groups m) (j + 1)) there in
     let framed : entry pl.groups (j + 1) ≡ Some c.in-Some-group.frame = search rules in
-    let short : IsShortFrame c.in-Some-group.frame = search rules in
+    let short : IsShortFrame c.in-Some-group.frame = c.in_ok-print_group.ensures.short in
     record {
       lines = more-printed (group_line c.args.frames m pl.segments) (zip (groups m) pl.groups) j _ _ _ _ c.loop-before.invariant.lines
           (entry-zip (groups m) pl.groups j _ _ here.told framed)

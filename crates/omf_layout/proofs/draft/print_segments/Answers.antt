@@ -1,4 +1,4 @@
-use Rattle.std.proofs.Common.{◌≡◌, ◌+◌, refl, arith, rules}
+use Rattle.std.proofs.Common.{◌≡◌, ◌+◌, refl, sym, arith, rules}
 use Rattle.std.specs.Prelude.{Some, option_map}
 use Rattle.std.specs.List.{zip}
 use Rattle.omf_check.specs.Module.{records_in}
@@ -18,11 +18,11 @@ loop-before-preserved c =
     let pl = c.args.placement.now in
     let xs = c.args.alignments.now in
     let j = c.loop-before.before in
-    let told : entry (segments m) (j + 1) ≡ Some c.in-Some.segment = search rules in
-    let aligned : entry xs (j + 1) ≡ Some c.in-Some-alignment_of.alignment = search rules in
+    let told : entry (segments m) (j + 1) ≡ Some c.in-Some.segment = sym c.in-Some.ensures in
+    let aligned : entry xs (j + 1) ≡ Some c.in-Some-entry_of.alignment = search rules in
     let placed : option_map (λ p. (p.address, p.frame)) (entry pl.segments (j + 1)) ≡ Some c.in-Some-segment.place = search rules in
     let here = place-of pl.segments (j + 1) c.in-Some-segment.place placed in
-    let short : IsShortPlace (record { address = c.in-Some-segment.place.0; frame = c.in-Some-segment.place.1 }) = search rules in
+    let short : IsShortPlace (record { address = c.in-Some-segment.place.0; frame = c.in-Some-segment.place.1 }) = c.in_ok-print_segment.ensures.short in
     record {
       lines = more-printed (segment_line c.args.frames m) (zip (zip (segments m) xs) pl.segments) j _ _ _ _ c.loop-before.invariant.lines
           (entry-zip (zip (segments m) xs) pl.segments j _ _ (entry-zip (segments m) xs j _ _ told aligned) here)

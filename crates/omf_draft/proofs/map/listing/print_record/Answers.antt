@@ -5,8 +5,8 @@ use Rattle.omf_draft.specs.Inner.Steps.{item_line}
 use Rattle.omf_draft.proofs.MapLaws.{pubdef_printed, shown_of}
 use Rattle.omf_draft.proofs.map.listing.print_record.Goals as goal
 
-pub returns-in-Publics : goal.returns-in-Publics
-returns-in-Publics c =
+pub returns : goal.returns
+returns c =
     let p = c.in-Publics in
     let pl = c.args.placement.now in
     let n = c.args.number in

@@ -1,5 +1,9 @@
+use Rattle.std.proofs.Common.{◌∙◌, sym}
+use Rattle.omf_linking.proofs.SpaceLaws.LowestLaws.{gone}
 use Rattle.omf_linking.proofs.SpaceLaws.MemoryLaws.{is_memory}
 use Rattle.omf_linking.proofs.space.memory.memory_of.Goals as goal
 
-pub returns-in_default : goal.returns-in_default
-returns-in_default c = is_memory c.args.stretches.now c.in_ok-address.field-0 c.in_ok-laid.field-0 c.in_default.is c.in_ok-address.ensures c.in_ok-laid.ensures
+pub returns : goal.returns
+returns c =
+    let o = c.first_overlap-overlap.result in
+    is_memory c.args.stretches.now o c.in_ok-laid.field-0 (gone o (sym c.is_some.ensures ∙ c.if-is_some.false)) c.first_overlap-overlap.ensures c.in_ok-laid.ensures

@@ -1,6 +1,6 @@
 use Rattle.std.proofs.Common.{◌∙◌, ap, length}
 use Rattle.omf_linking.proofs.LinkLaws.{derived_as_many}
-use Rattle.omf_linking.proofs.placing.link.Goals as goal
+use Rattle.omf_linking.proofs.placing.link_parts.Goals as goal
 
 pub returns-clause-each : goal.returns-clause-each
 returns-clause-each c =
