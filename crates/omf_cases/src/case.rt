@@ -40,16 +40,18 @@ impl Program {
     }
 }
 
-/// A case.
+/// A case, by the fields of its line.
 #[derive(Drop)]
 pub struct Case<'a> {
     name: &'a str,
     program: Program,
-    /// The arguments, the program's own name first.
-    arguments: Vec<&'a str>,
-    input: Vec<u8>,
+    /// The program's own name, and the arguments.
+    call: &'a str,
+    /// The input: records in hexadecimal, and a text after them.
+    records: &'a str,
+    text: &'a str,
     status: u8,
-    printed: Vec<u8>,
+    printed: &'a str,
 }
 
 /// The arguments of a call: words with a space between each two; `""` is an empty argument.
@@ -77,63 +79,80 @@ fn printed_of(alloc: Global, printed: &str) -> Result<Vec<u8>, LineFault> {
     }
 }
 
+/// The field before the first bar of a line, and what follows the bar.
+fn field(line: &str) -> Result<(&str, &str), LineFault> {
+    match line.split_once('|') {
+        Some((field, rest)) => Ok((field.trim(), rest)),
+        None => Err(LineFault::Fields),
+    }
+}
+
+/// The last field of a line.
+fn last_field(line: &str) -> Result<&str, LineFault> {
+    if line.contains('|') {
+        return Err(LineFault::Fields);
+    }
+    Ok(line.trim())
+}
+
+/// A line about a program that ended or printed otherwise.
+fn described(alloc: Global, name: &str, ended: Ended) -> Result<String, AllocError> {
+    let status = ended.status;
+    match String::from_utf8(ended.text) {
+        Ok(text) => format!(in alloc; "{name}: status {status}, {text:?}"),
+        Err(_) => format!(in alloc; "{name}: status {status}, other bytes"),
+    }
+}
+
 impl<'a> Case<'a> {
     /// Reads a line: name, call, records, text, status and output, with a bar between each two.
     ///
     /// # Errors
     ///
-    /// `Fields` if there are not six, `Name` if the first is empty, `Program`, `Bytes`, `Escape` and `Status` if that field is wrong, `Memory`.
-    pub fn parse(alloc: Global, line: &'a str) -> Result<Case<'a>, LineFault> {
-        let mut fields = line.split('|');
-        let (Some(name), Some(call), Some(records), Some(text), Some(status), Some(printed), None) =
-            (
-                fields.next(),
-                fields.next(),
-                fields.next(),
-                fields.next(),
-                fields.next(),
-                fields.next(),
-                fields.next(),
-            ) else {
-            return Err(LineFault::Fields);
-        };
-        let name = name.trim();
+    /// `Fields` if there are not six, `Name` if the first is empty, `Program` and `Status` if that field is wrong.
+    pub fn parse(line: &'a str) -> Result<Case<'a>, LineFault> {
+        let (name, rest) = field(line)?;
+        let (call, rest) = field(rest)?;
+        let (records, rest) = field(rest)?;
+        let (text, rest) = field(rest)?;
+        let (status, rest) = field(rest)?;
+        let printed = last_field(rest)?;
         if name.is_empty() {
             return Err(LineFault::Name);
         }
-        let arguments = arguments_of(alloc, call.trim())?;
-        let Some(program) = arguments.first() else {
-            return Err(LineFault::Program);
-        };
-        let Ok(status) = status.trim().parse::<u8>() else {
+        let Ok(status) = status.parse::<u8>() else {
             return Err(LineFault::Status);
         };
+        let program = Program::named(call.split(' ').next().unwrap_or(""))?;
         Ok(Case {
             name,
-            program: Program::named(*program)?,
-            input: input_of(alloc, records.trim(), text.trim())?,
+            program,
+            call,
+            records,
+            text,
             status,
-            printed: printed_of(alloc, printed.trim())?,
-            arguments,
+            printed,
         })
+    }
+
+    /// Runs the program.
+    fn run(&self, alloc: Global) -> Result<Ended, LineFault> {
+        let arguments = arguments_of(alloc, self.call)?;
+        let input = input_of(alloc, self.records, self.text)?;
+        Ok(self.program.run(alloc, &arguments, &input)?)
     }
 
     /// Runs the program. Returns `None` if it ends and prints as expected, else a line with its name, its status and its output.
     ///
     /// # Errors
     ///
-    /// `Memory`.
+    /// `Bytes` and `Escape` if the records, the text or the output are wrong, `Memory`.
     pub fn difference(&self, alloc: Global) -> Result<Option<String>, LineFault> {
-        let ended = self.program.run(alloc, &self.arguments, &self.input)?;
-        if ended.is(self.status, &self.printed) {
+        let printed = printed_of(alloc, self.printed)?;
+        let ended = self.run(alloc)?;
+        if ended.is(self.status, &printed) {
             return Ok(None);
         }
-        let name = self.name;
-        let status = ended.status;
-        let line = match String::from_utf8(ended.text) {
-            Ok(text) => format!(in alloc; "{name}: status {status}, {text:?}")?,
-            Err(_) => format!(in alloc; "{name}: status {status}, other bytes")?,
-        };
-        Ok(Some(line))
+        Ok(Some(described(alloc, self.name, ended)?))
     }
 }

@@ -10,6 +10,7 @@ use anyhow::{Result, bail};
 use case::Case;
 use fault::LineFault;
 use std::alloc::Global;
+use std::fmt::Write;
 use std::io::{BufRead, BufReader};
 
 /// Whether a line holds no case: it is empty or a comment.
@@ -17,36 +18,50 @@ fn is_skipped(line: &str) -> bool {
     line.is_empty() || line.starts_with('#')
 }
 
-/// The difference between what a case on a line expects and what it gives; `None` if there is none.
-fn difference(alloc: Global, line: &str) -> Result<Option<String>, LineFault> {
-    let case = Case::parse(alloc, line)?;
-    case.difference(alloc)
+/// The numbers of cases that go right and wrong, and a line for each of the second.
+#[derive(Drop)]
+struct Report {
+    right: u64,
+    wrong: u64,
+    text: String,
+}
+
+/// Runs the case on a line.
+fn run_line(alloc: Global, line: &str, number: u64, report: &mut Report) -> Result<(), LineFault> {
+    if is_skipped(line) {
+        return Ok(());
+    }
+    match Case::parse(line)?.difference(alloc)? {
+        Some(text) => {
+            report.wrong = report.wrong.saturating_add(1);
+            writeln!(report.text, "line {number}: {text}")?;
+        }
+        None => report.right = report.right.saturating_add(1),
+    }
+    Ok(())
+}
+
+/// Runs the cases on the lines of an input.
+fn run_lines<R: BufRead + Drop>(alloc: Global, input: R) -> Result<Report> {
+    let mut report = Report {
+        right: 0,
+        wrong: 0,
+        text: String::new(alloc),
+    };
+    for (at, line) in input.lines(alloc).enumerate() {
+        let number = (at as u64).saturating_add(1);
+        if let Err(fault) = run_line(alloc, &line?, number, &mut report) {
+            bail!("line {number}: {fault}");
+        }
+    }
+    Ok(report)
 }
 
 fn main(rt: HostRuntime) -> Result<()> {
     let alloc = rt.alloc();
-    let mut number = 0_u64;
-    let mut right = 0_u64;
-    let mut wrong = 0_u64;
-    for line in BufReader::new(alloc, rt.reader())?.lines(alloc) {
-        number = number.saturating_add(1);
-        let line = match line {
-            Ok(line) => line,
-            Err(error) => bail!("line {number}: {error}"),
-        };
-        if is_skipped(&line) {
-            continue;
-        }
-        match difference(alloc, &line) {
-            Ok(None) => right = right.saturating_add(1),
-            Ok(Some(text)) => {
-                wrong = wrong.saturating_add(1);
-                println!(rt; "line {number}: {text}")?;
-            }
-            Err(fault) => bail!("line {number}: {fault}"),
-        }
-    }
-    println!(rt; "{right} right, {wrong} wrong")?;
+    let report = run_lines(alloc, BufReader::new(alloc, rt.reader())?)?;
+    let Report { right, wrong, text } = report;
+    println!(rt; "{text}{right} right, {wrong} wrong")?;
     if wrong > 0 || right == 0 {
         bail!("a case is wrong, or there are none");
     }

@@ -3,7 +3,6 @@
 mod blocks;
 mod calls;
 mod changes;
-mod derived;
 mod devices;
 mod large;
 mod memory;

@@ -2,140 +2,140 @@
 
 use super::failure;
 use omf_frame::faulty::{Full, Script, Taker, Then};
-use omf_frame::{
-    Buffered, Bytes, Reading, Sink, Source, Writing, checksum, pull_piece, push_all, write_record,
+use omf_frame::{Buffered, Bytes, Reading, Source, pull_piece, write_record};
+use std::alloc::{AllocError, Global};
+use std::io::{BufReader, ErrorKind};
+
+/// The bytes of a piece, or the kind of its error.
+type Answer = Result<&'static [u8], ErrorKind>;
+
+/// A reader of some bytes by pieces, which is interrupted before each answer and may fail once after some answers; and the answers when
+/// pieces are read.
+struct Reads {
+    bytes: &'static [u8],
+    then: Then,
+    piece: usize,
+    interruptions: u64,
+    fails_after: Option<u64>,
+    answers: &'static [Answer],
+}
+
+const OTHER: Answer = Err(ErrorKind::Other);
+
+/// All bytes in one piece, and no interruption.
+const PLAIN: Reads = Reads {
+    bytes: b"\x80\x03\x00\x01\x41\x3B",
+    then: Then::Ends,
+    piece: usize::MAX,
+    interruptions: 0,
+    fails_after: None,
+    answers: &[],
 };
-use omf_samples::{HEADER, bytes_of};
-use std::io;
-use std::io::{BufReader, ErrorKind, Write};
-use std::test::Fail;
 
-/// The bytes of a pull, or the kind of its error.
-type Answer<'a> = Result<&'a [u8], ErrorKind>;
+static READS: [Reads; 9] = [
+    Reads {
+        answers: &[Ok(b"\x80\x03\x00\x01\x41\x3B"), Ok(b""), Ok(b"")],
+        ..PLAIN
+    },
+    Reads {
+        piece: 4,
+        answers: &[Ok(b"\x80\x03\x00\x01"), Ok(b"\x41\x3B"), Ok(b"")],
+        ..PLAIN
+    },
+    Reads {
+        piece: 4,
+        fails_after: Some(1),
+        answers: &[Ok(b"\x80\x03\x00\x01"), OTHER, Ok(b"\x41\x3B"), Ok(b"")],
+        ..PLAIN
+    },
+    Reads {
+        bytes: b"\x80\x03",
+        then: Then::Fails,
+        answers: &[Ok(b"\x80\x03"), OTHER, OTHER],
+        ..PLAIN
+    },
+    Reads {
+        bytes: b"\x80\x03",
+        then: Then::Repeats(0x20),
+        piece: 3,
+        answers: &[Ok(b"\x80\x03"), Ok(b"   "), Ok(b"   ")],
+        ..PLAIN
+    },
+    Reads {
+        interruptions: 1,
+        fails_after: Some(0),
+        answers: &[OTHER, Ok(b"\x80\x03\x00\x01\x41\x3B")],
+        ..PLAIN
+    },
+    // The 1,000th interruption in a row is a failure.
+    Reads {
+        interruptions: 999,
+        answers: &[Ok(b"\x80\x03\x00\x01\x41\x3B")],
+        ..PLAIN
+    },
+    Reads {
+        interruptions: 1000,
+        answers: &[Err(ErrorKind::Interrupted)],
+        ..PLAIN
+    },
+    Reads {
+        bytes: b"\x80\x03\x00\x01",
+        piece: 2,
+        interruptions: 2,
+        fails_after: Some(1),
+        answers: &[Ok(b"\x80\x03"), OTHER, Ok(b"\x00\x01")],
+        ..PLAIN
+    },
+];
 
-/// Whether the result of a pull is this answer, with its bytes at the front of the buffer.
-fn is_answer(pulled: io::Result<usize>, buffer: &[u8], answer: Answer<'_>) -> bool {
-    match pulled {
-        Ok(count) => answer.is_ok() && buffer.get(..count) == answer.ok(),
+/// The reader, if its pieces have bytes.
+fn script_of(reads: &Reads) -> Option<Script<'static>> {
+    if reads.piece == 0 {
+        return None;
+    }
+    let script = Script::new(reads.bytes, reads.then)
+        .in_pieces(reads.piece)
+        .interrupted(reads.interruptions);
+    match reads.fails_after {
+        Some(after) => Some(script.failing_once(after)),
+        None => Some(script),
+    }
+}
+
+/// Whether the next piece of at most 8 bytes is this answer.
+fn gives(script: &mut Script<'_>, answer: Answer) -> bool {
+    let mut buffer = [0; 8];
+    match pull_piece(script, &mut buffer) {
+        Ok(count) => buffer.get(..count) == answer.ok(),
         Err(error) => answer.err() == Some(error.kind()),
     }
 }
 
-/// The first of these answers, by its number from 0, that pulls of at most `room` bytes, up to 8, do not give.
-fn first_wrong(script: Script<'_>, room: usize, answers: &[Answer<'_>]) -> Option<usize> {
-    let mut script = script;
-    let mut buffer = [0; 8];
-    if room == 0 || room > 8 {
-        return Some(0);
-    }
-    for (number, answer) in answers.iter().enumerate() {
-        let pulled = script.pull(&mut buffer[..room]);
-        if !is_answer(pulled, &buffer, *answer) {
-            return Some(number);
+/// Whether a reader gives its answers.
+fn gives_answers(reads: &Reads) -> bool {
+    let Some(mut script) = script_of(reads) else {
+        return false;
+    };
+    for answer in reads.answers {
+        if !gives(&mut script, *answer) {
+            return false;
         }
     }
-    None
+    true
 }
 
-/// The same of `pull_piece`, with room for 4 bytes.
-fn first_wrong_piece(script: Script<'_>, answers: &[Answer<'_>]) -> Option<usize> {
-    let mut script = script;
-    let mut buffer = [0; 4];
-    for (number, answer) in answers.iter().enumerate() {
-        let pulled = pull_piece(&mut script, &mut buffer);
-        if !is_answer(pulled, &buffer, *answer) {
-            return Some(number);
-        }
+#[test]
+fn pieces_are_read_until_a_reader_fails(rt: HostRuntime) {
+    for (at, reads) in READS.iter().enumerate() {
+        assert!(rt; gives_answers(reads), "{at}");
     }
-    None
-}
-
-/// A script of these bytes, which then ends.
-fn ends(bytes: &[u8]) -> Script<'_> {
-    Script::new(bytes, Then::Ends)
-}
-
-const OTHER: Answer<'static> = Err(ErrorKind::Other);
-
-const INTERRUPTED: Answer<'static> = Err(ErrorKind::Interrupted);
-
-#[test]
-fn a_script_gives_pieces(rt: HostRuntime) -> Result<(), Fail> {
-    let header = bytes_of(rt.alloc(), HEADER)?;
-    let (four, two) = header.split_at(4.min(header.len()));
-    assert_eq!(rt;
-        first_wrong(ends(&header), 8, &[Ok(&header), Ok(&[]), Ok(&[])]),
-        None
-    );
-    let pieces = [Ok(four), Ok(two), Ok([].as_slice())];
-    assert_eq!(rt; first_wrong(ends(&header).in_pieces(4), 8, &pieces), None);
-    assert_eq!(rt;
-        first_wrong(ends(&header).in_pieces(4), 1, &[Ok(&[0x80]), Ok(&[0x03])]),
-        None
-    );
-    let once = [Ok(four), OTHER, Ok(two), Ok([].as_slice())];
-    assert_eq!(rt;
-        first_wrong(ends(&header).in_pieces(4).failing_once(1), 8, &once),
-        None
-    );
-    Ok(())
-}
-
-#[test]
-fn a_script_ends_fails_or_repeats(rt: HostRuntime) -> Result<(), Fail> {
-    let front = [0x80, 0x03];
-    let script = Script::new(&front, Then::Fails);
-    assert_eq!(rt; first_wrong(script, 8, &[Ok(&front), OTHER, OTHER]), None);
-    let script = Script::new(&front, Then::Repeats(0x20)).in_pieces(3);
-    let spaces = [0x20, 0x20, 0x20];
-    assert_eq!(rt;
-        first_wrong(script, 8, &[Ok(&front), Ok(&spaces), Ok(&spaces)]),
-        None
-    );
-    let script = Script::new(&front, Then::Ends).in_pieces(1).interrupted(1);
-    let answers = [
-        INTERRUPTED,
-        Ok([0x80].as_slice()),
-        INTERRUPTED,
-        Ok([0x03].as_slice()),
-        INTERRUPTED,
-        Ok([].as_slice()),
-    ];
-    assert_eq!(rt; first_wrong(script, 8, &answers), None);
-    let script = Script::new(&front, Then::Ends)
-        .interrupted(1)
-        .failing_once(0);
-    let answers = [INTERRUPTED, OTHER, INTERRUPTED, Ok(front.as_slice())];
-    assert_eq!(rt; first_wrong(script, 8, &answers), None);
-    Ok(())
-}
-
-#[test]
-fn a_piece_is_pulled_past_interruptions(rt: HostRuntime) -> Result<(), Fail> {
-    let front = [0x80, 0x03, 0x00, 0x01];
-    assert_eq!(rt;
-        first_wrong_piece(ends(&front).interrupted(999), &[Ok(&front)]),
-        None
-    );
-    assert_eq!(rt;
-        first_wrong_piece(ends(&front).interrupted(1000), &[INTERRUPTED]),
-        None
-    );
-    let script = ends(&front).in_pieces(2).interrupted(2).failing_once(1);
-    let answers = [
-        Ok([0x80, 0x03].as_slice()),
-        OTHER,
-        Ok([0x00, 0x01].as_slice()),
-    ];
-    assert_eq!(rt; first_wrong_piece(script, &answers), None);
-    Ok(())
 }
 
 /// A taker with room, and what it does when it is full; its interruptions and its one failure; the error of writing a record, and the
 /// number of bytes written.
 type Writes = (usize, Full, u64, Option<u64>, Option<ErrorKind>, usize);
 
-const WRITES: [Writes; 11] = [
+static WRITES: [Writes; 11] = [
     (6, Full::Fails, 0, None, None, 6),
     (6, Full::Fails, 999, None, None, 6),
     (6, Full::Fails, 1000, None, Some(ErrorKind::Interrupted), 0),
@@ -149,154 +149,64 @@ const WRITES: [Writes; 11] = [
     (6, Full::Fails, 3, Some(4), None, 6),
 ];
 
-#[test]
-fn a_record_is_written_until_a_taker_fails(rt: HostRuntime) -> Result<(), Fail> {
-    let header = bytes_of(rt.alloc(), HEADER)?;
-    assert_eq!(rt; checksum(0x80, &[0x01, 0x41]), 0x3B);
-    for (room, full, interruptions, after, kind, written) in WRITES {
-        let taker = Taker::new(rt.alloc(), room, full)?.in_pieces(2);
-        let mut taker = taker.interrupted(interruptions);
-        if let Some(after) = after {
-            taker = taker.failing_once(after);
-        }
-        let error = failure(write_record(&mut taker, 0x80, &[0x01, 0x41]));
-        assert_eq!(rt; (error, Some(taker.bytes())), (kind, header.get(..written)));
+/// A taker by pieces of 2.
+fn taker_of(alloc: Global, writes: &Writes) -> Result<Taker, AllocError> {
+    let (room, full, interruptions, fails_after, _kind, _written) = *writes;
+    let taker = Taker::new(alloc, room, full)?
+        .in_pieces(2)
+        .interrupted(interruptions);
+    match fails_after {
+        Some(after) => Ok(taker.failing_once(after)),
+        None => Ok(taker),
     }
-    Ok(())
 }
 
-#[test]
-fn a_taker_takes_pieces_until_it_is_full(rt: HostRuntime) -> Result<(), Fail> {
-    let mut taker = Taker::new(rt.alloc(), 5, Full::Fails)?.in_pieces(3);
-    assert_eq!(rt; taker.push(&[1, 2, 3, 4, 5, 6])?, 3);
-    assert_eq!(rt; taker.push(&[4, 5, 6])?, 2);
-    assert_eq!(rt; failure(taker.push(&[6])), Some(ErrorKind::Other));
-    assert_eq!(rt; taker.push(&[])?, 0);
-    assert_eq!(rt; taker.bytes(), [1, 2, 3, 4, 5].as_slice());
-    Ok(())
+/// The record whose type is 80H and whose contents are 01 41, with its checksum.
+const RECORD: &[u8] = &[0x80, 0x03, 0x00, 0x01, 0x41, 0x3B];
+
+/// Whether the record is written to a taker as a row has it.
+fn is_taken(taker: &mut Taker, writes: &Writes) -> bool {
+    failure(write_record(taker, 0x80, &[0x01, 0x41])) == writes.4
+        && Some(taker.bytes()) == RECORD.get(..writes.5)
 }
 
-#[test]
-fn a_taker_goes_on_after_a_failure(rt: HostRuntime) -> Result<(), Fail> {
-    let mut taker = Taker::new(rt.alloc(), 5, Full::Fails)?
-        .in_pieces(3)
-        .failing_once(1);
-    for (bytes, kind) in [
-        ([1, 2, 3, 4].as_slice(), Some(ErrorKind::Other)),
-        ([].as_slice(), None),
-        ([4, 5].as_slice(), None),
-        ([6].as_slice(), Some(ErrorKind::Other)),
-    ] {
-        assert_eq!(rt; failure(push_all(&mut taker, bytes)), kind);
-    }
-    assert_eq!(rt; taker.bytes(), [1, 2, 3, 4, 5].as_slice());
-    assert_eq!(rt; taker.push(&[])?, 0);
-    Ok(())
-}
-
-/// A writer that takes one byte at a time, each after some interruptions. When it is full, it fails or takes 0 bytes.
-#[derive(Drop)]
-struct Slow {
-    bytes: Vec<u8>,
-    room: usize,
-    interruptions: u32,
-    left: u32,
-    fails: bool,
-}
-
-impl Write for &mut Slow {
-    fn write(&mut self, buf: &[u8]) -> io::Result<usize> {
-        if self.left > 0 {
-            self.left -= 1;
-            return Err(io::Error::from(ErrorKind::Interrupted));
-        }
-        self.left = self.interruptions;
-        if self.room == 0 && self.fails {
-            return Err(io::Error::from(ErrorKind::BrokenPipe));
-        }
-        let [byte, ..] = buf else {
-            return Ok(0);
-        };
-        if self.room == 0 {
-            return Ok(0);
-        }
-        if self.bytes.push(*byte).is_err() {
-            return Err(io::Error::from(ErrorKind::OutOfMemory));
-        }
-        self.room -= 1;
-        Ok(1)
-    }
-
-    fn flush(&mut self) -> io::Result<()> {
-        Ok(())
+/// Whether the record is written as a row has it.
+fn is_written(alloc: Global, writes: &Writes) -> bool {
+    match taker_of(alloc, writes) {
+        Ok(mut taker) => is_taken(&mut taker, writes),
+        Err(AllocError) => false,
     }
 }
 
 #[test]
-fn a_record_is_written_to_a_slow_writer(rt: HostRuntime) -> Result<(), Fail> {
-    let header = bytes_of(rt.alloc(), HEADER)?;
-    for (room, interruptions, fails, kind, written) in [
-        (10, 0, true, None, 6),
-        (10, 999, true, None, 6),
-        (10, 1000, true, Some(ErrorKind::Interrupted), 0),
-        (4, 0, true, Some(ErrorKind::BrokenPipe), 4),
-        (4, 0, false, Some(ErrorKind::WriteZero), 4),
-        (0, 0, false, Some(ErrorKind::WriteZero), 0),
-    ] {
-        let mut slow = Slow {
-            bytes: Vec::new(rt.alloc()),
-            room,
-            interruptions,
-            left: interruptions,
-            fails,
-        };
-        let error = failure(write_record(&mut Writing::new(&mut slow), 0x80, &[0x01, 0x41]));
-        assert_eq!(rt;
-            (error, Some(slow.bytes.as_slice())),
-            (kind, header.get(..written))
-        );
+fn a_record_is_written_until_a_taker_fails(rt: HostRuntime) {
+    for (at, writes) in WRITES.iter().enumerate() {
+        assert!(rt; is_written(rt.alloc(), writes), "{at}");
     }
-    Ok(())
 }
 
-/// The bytes that a source shows ahead, by their number, before and after a pull of one byte.
-fn ahead_of_one<S: Source>(source: &mut S) -> io::Result<(usize, usize, usize)> {
+/// The number of bytes that a source shows ahead before a pull of one byte, the number of bytes pulled, and the number ahead then.
+type Ahead = Option<(usize, usize, usize)>;
+
+fn ahead_of_one<S: Source>(source: &mut S) -> Ahead {
     let before = source.ahead().len();
-    let pulled = source.pull(&mut [0; 1])?;
-    Ok((before, pulled, source.ahead().len()))
-}
-
-#[test]
-fn sources_show_what_is_ahead(rt: HostRuntime) -> Result<(), Fail> {
-    let header = bytes_of(rt.alloc(), HEADER)?;
-    let input = BufReader::with_capacity(rt.alloc(), 4, header.as_slice())?;
-    assert_eq!(rt; ahead_of_one(&mut Buffered::new(input))?, (0, 1, 3));
-    assert_eq!(rt;
-        ahead_of_one(&mut Reading::new(header.as_slice()))?,
-        (0, 1, 0)
-    );
-    let mut source = Bytes::new(&header);
-    assert_eq!(rt; ahead_of_one(&mut source)?, (6, 1, 5));
-    assert_eq!(rt; Some(source.ahead()), header.get(1..));
-    Ok(())
-}
-
-/// Whether a source gives these bytes to buffers of 4 bytes, and then ends.
-fn gives<S: Source>(source: &mut S, bytes: &[u8]) -> io::Result<bool> {
-    let mut buffer = [0; 4];
-    for piece in bytes.chunks(4) {
-        let count = source.pull(&mut buffer)?;
-        if buffer.get(..count) != Some(piece) {
-            return Ok(false);
-        }
+    match source.pull(&mut [0; 1]) {
+        Ok(count) => Some((before, count, source.ahead().len())),
+        Err(_) => None,
     }
-    Ok(source.pull(&mut buffer)? == 0)
+}
+
+/// The same of a reader with a buffer of 4 bytes.
+fn ahead_in_buffer(alloc: Global, bytes: &[u8]) -> Ahead {
+    match BufReader::with_capacity(alloc, 4, bytes) {
+        Ok(input) => ahead_of_one(&mut Buffered::new(input)),
+        Err(_) => None,
+    }
 }
 
 #[test]
-fn sources_give_their_bytes(rt: HostRuntime) -> Result<(), Fail> {
-    let header = bytes_of(rt.alloc(), HEADER)?;
-    assert!(rt; gives(&mut Reading::new(header.as_slice()), &header)?);
-    assert!(rt; gives(&mut Bytes::new(&header), &header)?);
-    Ok(())
+fn sources_show_what_is_ahead(rt: HostRuntime) {
+    assert!(rt; ahead_in_buffer(rt.alloc(), RECORD) == Some((0, 1, 3)));
+    assert!(rt; ahead_of_one(&mut Reading::new(RECORD)) == Some((0, 1, 0)));
+    assert!(rt; ahead_of_one(&mut Bytes::new(RECORD)) == Some((6, 1, 5)));
 }

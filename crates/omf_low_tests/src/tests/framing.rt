@@ -1,48 +1,24 @@
-//! Records of whole modules, in pieces; faults of framing.
+//! Records of inputs, and faults of framing, with ample memory.
+
+ghost use Rattle.std.specs.Prelude.{◌<◌};
 
 use super::pass;
 use omf_frame::{FrameFault, Framer, Place, Reason};
-use omf_samples::{HEADER, MODULE, bytes_of, joined};
-use std::alloc::{AllocError, Global};
-use std::test::Fail;
+use omf_samples::{DATA, FIXUP, HEADER, MODULE, NAMES, SEGMENT, joined};
+use std::alloc::Global;
 
-/// A record's type, number and start, and the length and first byte of its contents.
-type Seen = (u8, u32, u64, usize, Option<u8>);
-
-const RECORDS: [Seen; 6] = [
-    (0x80, 0, 0, 2, Some(0x01)),
-    (0x96, 1, 6, 3, Some(0x00)),
-    (0x98, 2, 13, 6, Some(0x28)),
-    (0xA0, 3, 23, 7, Some(0x01)),
-    (0x9C, 4, 34, 5, Some(0xC4)),
-    (0x8A, 5, 43, 1, Some(0x00)),
-];
-
-/// Notes the record at hand, if it is complete, and goes on after it.
-fn note(framer: &mut Framer, records: &mut Vec<Seen>) -> Result<(), AllocError> {
-    if let Some(raw) = framer.raw() {
-        let first = raw.body.first().copied();
-        records.push((raw.kind, raw.number, raw.start, raw.body.len(), first))?;
+/// Feeds a piece in which at most 7 records end, and goes on after each.
+fn feed_all(framer: &mut Framer, piece: &[u8]) -> Result<(), FrameFault> {
+    let mut rest = piece;
+    for _ in 0..8 {
+        let fed = framer.feed(rest)?;
+        pass(framer);
+        rest = rest.get(fed.taken..).unwrap_or(&[]);
     }
-    pass(framer);
     Ok(())
 }
 
-/// The records of the bytes, fed one by one, and the result of the end of the input.
-fn read_singly(alloc: Global, bytes: &[u8]) -> Result<(Vec<Seen>, Option<FrameFault>), Fail> {
-    let mut framer = Framer::new(alloc);
-    let mut records = Vec::new(alloc);
-    for byte in bytes {
-        if let Err(fault) = framer.feed(&[*byte]) {
-            return Ok((records, Some(fault)));
-        }
-        note(&mut framer, &mut records)?;
-    }
-    let end = stopped(&framer);
-    Ok((records, end))
-}
-
-/// The fault of the end of the input.
+/// The fault at the end of the input.
 fn stopped(framer: &Framer) -> Option<FrameFault> {
     if framer.raw().is_some() {
         return None;
@@ -50,141 +26,134 @@ fn stopped(framer: &Framer) -> Option<FrameFault> {
     framer.stop().err()
 }
 
-fn refused(reason: Reason, number: u32, start: u64, within: u32) -> FrameFault {
-    let place = Place {
-        number,
-        start,
-        within,
-    };
-    FrameFault::Refused(reason, place)
-}
-
-/// The number of bytes that a framer takes of a piece, and whether its record is then complete.
-fn takes(framer: &mut Framer, piece: &[u8]) -> Result<(usize, bool), FrameFault> {
-    let fed = framer.feed(piece)?;
-    Ok((fed.taken, fed.whole))
-}
-
-#[test]
-fn a_module_is_framed(rt: HostRuntime) -> Result<(), Fail> {
-    let module = joined(rt.alloc(), MODULE)?;
-    let mut framer = Framer::new(rt.alloc());
-    let mut records = Vec::new(rt.alloc());
-    let mut rest = module.as_slice();
-    for length in [6, 7, 10, 11, 9, 5] {
-        assert_eq!(rt; takes(&mut framer, rest)?, (length, true));
-        assert_eq!(rt; takes(&mut framer, rest)?, (0, true));
-        assert_eq!(rt; framer.want(), 0);
-        rest = rest.get(length..).unwrap_or(&[]);
-        note(&mut framer, &mut records)?;
-    }
-    assert_eq!(rt; records.as_slice(), RECORDS.as_slice());
-    assert!(rt; rest.is_empty() && framer.ended() && framer.want() == 0);
-    assert_eq!(rt; takes(&mut framer, &[0xDE, 0xAD])?, (0, false));
-    Ok(())
-}
-
-#[test]
-fn single_bytes_are_framed(rt: HostRuntime) -> Result<(), Fail> {
-    let mut module = joined(rt.alloc(), MODULE)?;
-    let (records, end) = read_singly(rt.alloc(), &module)?;
-    assert_eq!(rt; records.as_slice(), RECORDS.as_slice());
-    assert_eq!(rt; end, None);
-    for place in [5, 12, 22, 33, 42, 47] {
-        if let Some(checksum) = module.get_mut(place) {
-            *checksum = 0;
+/// The fault of an input that is fed in pieces of one size.
+fn fault_of(framer: &mut Framer, bytes: &[u8], size: usize) -> Option<FrameFault>
+    requires { 0 < size }
+{
+    for piece in bytes.chunks(size) {
+        if let Err(fault) = feed_all(framer, piece) {
+            return Some(fault);
         }
     }
-    let (records, end) = read_singly(rt.alloc(), &module)?;
-    assert_eq!(rt; records.as_slice(), RECORDS.as_slice());
-    assert_eq!(rt; end, None);
-    Ok(())
+    stopped(framer)
 }
 
-#[test]
-fn a_cut_module_is_refused(rt: HostRuntime) -> Result<(), Fail> {
-    let module = joined(rt.alloc(), MODULE)?;
-    for (count, fault) in [
-        (0, refused(Reason::NoEnd, 0, 0, 0)),
-        (36, refused(Reason::Cut, 4, 34, 2)),
-        (43, refused(Reason::NoEnd, 5, 43, 0)),
-    ] {
-        let front = module.get(..count).unwrap_or(&[]);
-        assert_eq!(rt;
-            read_singly(rt.alloc(), front)?.1,
-            Some(fault),
-            "after {count} bytes"
-        );
-    }
-    Ok(())
+/// The number of records of an input that is fed in pieces of one size, and its fault.
+fn framed_by(alloc: Global, bytes: &[u8], size: usize) -> (u32, Option<FrameFault>)
+    requires { 0 < size }
+{
+    let mut framer = Framer::new(alloc);
+    let fault = fault_of(&mut framer, bytes, size);
+    (framer.number(), fault)
 }
 
-/// The bytes of an input, and its fault: the reason, the record's number and start, and the offset in it.
-type Refusal = (&'static [&'static str], Reason, u32, u64, u32);
+/// The module with checksums of 0, which are right whatever the sums.
+const UNSUMMED: &[&str] = &[
+    "80 03 00 01 41 00",
+    "96 04 00 00 01 54 00",
+    "98 07 00 28 04 00 02 01 01 00",
+    "A0 08 00 01 00 00 B8 00 00 90 00",
+    "9C 06 00 C4 01 04 01 01 00",
+    "8A 02 00 00 00",
+];
 
-const REFUSALS: [Refusal; 11] = [
-    (&[HEADER, "C2"], Reason::UnsupportedType, 1, 6, 0),
-    (&[HEADER, "BC"], Reason::UnsupportedType, 1, 6, 0),
-    (&[HEADER, "B9"], Reason::UnknownType, 1, 6, 0),
-    (&["F0"], Reason::UnsupportedType, 0, 0, 0),
-    (&["00"], Reason::UnknownType, 0, 0, 0),
+/// An input, the number of its records, and its fault in the record after these: the reason, the record's start, and the offset in it.
+type Input = (&'static [&'static str], u32, Option<(Reason, u64, u32)>);
+
+static INPUTS: [Input; 16] = [
+    (MODULE, 6, None),
+    (UNSUMMED, 6, None),
+    (&[], 0, Some((Reason::NoEnd, 0, 0))),
+    (
+        &[HEADER, NAMES, SEGMENT, DATA, "9C 06"],
+        4,
+        Some((Reason::Cut, 34, 2)),
+    ),
+    (
+        &[HEADER, NAMES, SEGMENT, DATA, FIXUP],
+        5,
+        Some((Reason::NoEnd, 43, 0)),
+    ),
+    (&[HEADER, "C2"], 1, Some((Reason::UnsupportedType, 6, 0))),
+    (&[HEADER, "BC"], 1, Some((Reason::UnsupportedType, 6, 0))),
+    (&[HEADER, "B9"], 1, Some((Reason::UnknownType, 6, 0))),
+    (&["F0"], 0, Some((Reason::UnsupportedType, 0, 0))),
+    (&["00"], 0, Some((Reason::UnknownType, 0, 0))),
     // A module may have this record after its header.
-    (&["CA 01 00 00"], Reason::NoHeader, 0, 0, 0),
-    (&["8A 02 00 00 74"], Reason::NoHeader, 0, 0, 0),
-    (&[HEADER, "96 00 00"], Reason::EmptyRecord, 1, 6, 1),
-    (&["96 00 00"], Reason::EmptyRecord, 0, 0, 1),
-    (&["96 02 00 00 01"], Reason::Checksum, 0, 0, 4),
+    (&["CA 01 00 00"], 0, Some((Reason::NoHeader, 0, 0))),
+    (&["8A 02 00 00 74"], 0, Some((Reason::NoHeader, 0, 0))),
+    (&[HEADER, "96 00 00"], 1, Some((Reason::EmptyRecord, 6, 1))),
+    (&["96 00 00"], 0, Some((Reason::EmptyRecord, 0, 1))),
+    (&["96 02 00 00 01"], 0, Some((Reason::Checksum, 0, 4))),
     (
         &[HEADER, "A0 08 00 01 00 00 B8 00 00 90 10"],
-        Reason::Checksum,
         1,
-        6,
-        10,
+        Some((Reason::Checksum, 6, 10)),
     ),
 ];
 
-#[test]
-fn faults_of_framing_are_refused(rt: HostRuntime) -> Result<(), Fail> {
-    for (rows, reason, number, start, within) in REFUSALS {
-        let input = joined(rt.alloc(), rows)?;
-        let fault = refused(reason, number, start, within);
-        assert_eq!(rt; read_singly(rt.alloc(), &input)?.1, Some(fault));
+/// The number of records and the fault of a row.
+fn wanted(input: &Input) -> (u32, Option<FrameFault>) {
+    let (_rows, number, fault) = *input;
+    match fault {
+        Some((reason, start, within)) => {
+            let place = Place {
+                number,
+                start,
+                within,
+            };
+            (number, Some(FrameFault::Refused(reason, place)))
+        }
+        None => (number, None),
     }
-    Ok(())
+}
+
+/// Whether an input has its records and its fault, byte by byte and as a whole.
+fn is_framed(alloc: Global, input: &Input) -> bool {
+    match joined(alloc, input.0) {
+        Ok(bytes) => {
+            framed_by(alloc, &bytes, 1) == wanted(input)
+                && framed_by(alloc, &bytes, 64) == wanted(input)
+        }
+        Err(_) => false,
+    }
 }
 
 #[test]
-fn a_fault_is_kept(rt: HostRuntime) -> Result<(), Fail> {
-    let header = bytes_of(rt.alloc(), HEADER)?;
-    let mut framer = Framer::new(rt.alloc());
-    assert_eq!(rt; stopped(&framer), Some(refused(Reason::NoEnd, 0, 0, 0)));
-    assert_eq!(rt; takes(&mut framer, &header)?, (6, true));
-    pass(&mut framer);
-    let fault = refused(Reason::UnknownType, 1, 6, 0);
-    for piece in [[0x01].as_slice(), header.as_slice()] {
-        assert_eq!(rt; takes(&mut framer, piece), Err(fault));
+fn an_input_has_its_records_and_its_fault(rt: HostRuntime) {
+    for (at, input) in INPUTS.iter().enumerate() {
+        assert!(rt; is_framed(rt.alloc(), input), "{at}");
     }
-    assert!(rt; framer.raw().is_none() && !framer.ended() && framer.want() == 0);
-    assert_eq!(rt; stopped(&framer), Some(fault));
-    Ok(())
+}
+
+/// Bytes that a framer has taken, and how many more it wants; bytes that are ahead, and how many more it wants with these.
+type Wants = (&'static [u8], usize, &'static [u8], usize);
+
+const RECORD: &[u8] = &[0x80, 0x03, 0x00, 0x01, 0x41, 0x3B];
+
+static WANTS: [Wants; 10] = [
+    (&[], 1, &[], 1),
+    (&[], 1, RECORD, 6),
+    (&[], 1, &[0x80, 0x03], 3),
+    (&[], 1, &[0xC2, 0x04, 0x00], 1),
+    (&[0x80], 2, RECORD, 2),
+    (&[0x80, 0x03], 1, RECORD, 1),
+    (&[0x80, 0x03, 0x00], 3, RECORD, 3),
+    (&[0x80, 0x03, 0x00, 0x01], 2, RECORD, 2),
+    (&[0x80, 0x03, 0x00, 0x01, 0x41], 1, RECORD, 1),
+    (RECORD, 0, RECORD, 0),
+];
+
+/// Whether a framer wants as a row has it.
+fn is_wanted(alloc: Global, wants: &Wants) -> bool {
+    let (bytes, want, ahead, with) = *wants;
+    let mut framer = Framer::new(alloc);
+    framer.feed(bytes).is_ok() && framer.want() == want && framer.want_with(ahead) == with
 }
 
 #[test]
-fn a_framer_wants_the_missing_bytes(rt: HostRuntime) -> Result<(), Fail> {
-    let header = bytes_of(rt.alloc(), HEADER)?;
-    let mut framer = Framer::new(rt.alloc());
-    for (ahead, want) in [
-        ([].as_slice(), 1),
-        (header.as_slice(), 6),
-        ([0x80, 0x03].as_slice(), 3),
-        ([0xC2, 0x04, 0x00].as_slice(), 1),
-    ] {
-        assert_eq!(rt; framer.want_with(ahead), want);
+fn a_framer_wants_the_missing_bytes(rt: HostRuntime) {
+    for (at, wants) in WANTS.iter().enumerate() {
+        assert!(rt; is_wanted(rt.alloc(), wants), "{at}");
     }
-    assert_eq!(rt; framer.want(), 1);
-    for (byte, want) in header.iter().zip([2, 1, 3, 2, 1, 0]) {
-        assert_eq!(rt; takes(&mut framer, &[*byte])?.0, 1);
-        assert_eq!(rt; (framer.want(), framer.want_with(&header)), (want, want));
-    }
-    Ok(())
 }

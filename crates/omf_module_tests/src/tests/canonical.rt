@@ -1,18 +1,14 @@
 //! Canonical bytes of modules, and writers that take them.
 
-use super::verdicts::{ANY, bytes_in};
-use super::{bytes_of, module_of};
+use super::module_of;
 use omf_canon::{CanonFault, canon, canon_to};
-use omf_check::{Checked, check};
-use omf_frame::Reading;
+use omf_check::Checked;
 use omf_frame::faulty::{Full, Taker};
 use omf_samples::{
-    BadHex, DATA, END, FIXUP, GROUP, GROUP_THREAD, HEADER, LOCAL_EXTERNAL_32, LOCAL_NAMES,
-    LOCAL_SEGMENT, LONG_DATA, MODULE, NAMES, SEGMENT, SHORT_SEGMENT, START, THREADS, VENDOR,
-    push_row,
+    DATA, END, FIXUP, GROUP, GROUP_THREAD, HEADER, LOCAL_EXTERNAL_32, LOCAL_NAMES, LOCAL_SEGMENT,
+    LONG_DATA, MODULE, NAMES, SEGMENT, SHORT_SEGMENT, START, THREADS, VENDOR, joined,
 };
 use std::alloc::{AllocError, Global};
-use std::test::Fail;
 
 /// A module by its records, and its canonical records.
 struct Case {
@@ -21,7 +17,38 @@ struct Case {
     form: &'static [&'static str],
 }
 
-static CASES: [Case; 8] = [
+/// One fixup of FIXUP, and 17 of these.
+const ONE: &str = "C4 01 04 01 01";
+
+const SOME: &str =
+    "C4 01 04 01 01 C4 01 04 01 01 C4 01 04 01 01 C4 01 04 01 01 C4 01 04 01 01 C4 01 04 01 01 \
+    C4 01 04 01 01 C4 01 04 01 01 C4 01 04 01 01 C4 01 04 01 01 C4 01 04 01 01 C4 01 04 01 01 \
+    C4 01 04 01 01 C4 01 04 01 01 C4 01 04 01 01 C4 01 04 01 01 C4 01 04 01 01";
+
+/// A canonical FIXUPP has 1,024 bytes at most, so 204 of these fixups.
+const DIVIDED: &[&str] = &[
+    HEADER, NAMES, SEGMENT, DATA, "9C FD 03", SOME, SOME, SOME, SOME, SOME, SOME, SOME, SOME, SOME,
+    SOME, SOME, SOME, "A0", "9C 06 00", ONE, "93", END,
+];
+
+static CASES: [Case; 10] = [
+    Case {
+        name: "205 fixups in one record",
+        rows: &[
+            HEADER, NAMES, SEGMENT, DATA, "9C 02 04", SOME, SOME, SOME, SOME, SOME, SOME, SOME,
+            SOME, SOME, SOME, SOME, SOME, ONE, "CF", END,
+        ],
+        form: DIVIDED,
+    },
+    // FIXUPPs that follow one another are joined first.
+    Case {
+        name: "205 fixups in three records",
+        rows: &[
+            HEADER, NAMES, SEGMENT, DATA, "9C FF 01", SOME, SOME, SOME, SOME, SOME, SOME, "00",
+            "9C FF 01", SOME, SOME, SOME, SOME, SOME, SOME, "00", "9C 06 00", ONE, "00", END,
+        ],
+        form: DIVIDED,
+    },
     Case {
         name: "canonical records",
         rows: MODULE,
@@ -115,180 +142,101 @@ static CASES: [Case; 8] = [
     },
 ];
 
-/// The module of these bytes.
-fn module_in(alloc: Global, bytes: &[u8]) -> Result<Checked, Fail> {
-    Ok(check(alloc, &mut Reading::new(bytes), ANY)?)
+/// Whether the canonical bytes of the module of these records are these.
+fn is_form(alloc: Global, rows: &[&str], form: &[u8]) -> bool {
+    match module_of(alloc, rows) {
+        Some(module) => match canon(alloc, &module) {
+            Ok(bytes) => bytes.as_slice() == form,
+            Err(AllocError) => false,
+        },
+        None => false,
+    }
 }
 
-/// The canonical bytes of a module.
-fn form_of(alloc: Global, module: &Checked) -> Result<Vec<u8>, AllocError> {
-    canon(alloc, module)
-}
-
-/// Whether the canonical bytes of the module of some bytes are these.
-fn is_form(alloc: Global, bytes: &[u8], form: &[u8]) -> Result<bool, Fail> {
-    let module = module_in(alloc, bytes)?;
-    Ok(form_of(alloc, &module)?.as_slice() == form)
-}
-
-/// The same, and whether they are their own.
-fn has_form(alloc: Global, bytes: &[u8], form: &[u8]) -> Result<bool, Fail> {
-    Ok(is_form(alloc, bytes, form)? && is_form(alloc, form, form)?)
-}
-
-/// Whether the records of a case have their canonical records.
-fn is_right(alloc: Global, case: &Case) -> Result<bool, Fail> {
-    let bytes = bytes_of(alloc, case.rows)?;
-    let form = bytes_of(alloc, case.form)?;
-    has_form(alloc, &bytes, &form)
+/// Whether the records of a case have their canonical records, and these are their own.
+fn is_right(alloc: Global, case: &Case) -> bool {
+    match joined(alloc, case.form) {
+        Ok(form) => is_form(alloc, case.rows, &form) && is_form(alloc, case.form, &form),
+        Err(_) => false,
+    }
 }
 
 #[test]
-fn a_module_has_its_canonical_records(rt: HostRuntime) -> Result<(), Fail> {
+fn a_module_has_its_canonical_records(rt: HostRuntime) {
     for case in &CASES {
-        assert!(rt; is_right(rt.alloc(), case)?, "{}", case.name);
+        assert!(rt; is_right(rt.alloc(), case), "{}", case.name);
     }
-    Ok(())
 }
 
-/// Appends a record, or a part of one.
-fn add(bytes: &mut Vec<u8>, row: &str) -> Result<(), BadHex> {
-    push_row(bytes, row)
-}
+/// A writer with room, and what it does when it is full; the bytes that it takes at a time, its interruptions before each answer, and the
+/// answers after which it fails once, if it does; whether a canonical module of 48 bytes is written, and how much of it.
+type Writing = (usize, Full, usize, u64, Option<u64>, bool, usize);
 
-/// A FIXUPP: its type and length, how many fixups it has, and its checksum.
-type Fixupp = (&'static str, usize, &'static str);
-
-/// Appends a FIXUPP, each of whose fixups is that of FIXUP.
-fn add_fixupp(bytes: &mut Vec<u8>, fixupp: &Fixupp) -> Result<(), BadHex> {
-    let (head, count, checksum) = *fixupp;
-    add(bytes, head)?;
-    for _ in 0..count {
-        add(bytes, "C4 01 04 01 01")?;
-    }
-    add(bytes, checksum)
-}
-
-/// A module with these FIXUPPs.
-fn module_with(alloc: Global, fixupps: &[Fixupp]) -> Result<Vec<u8>, BadHex> {
-    let mut bytes = bytes_of(alloc, &[HEADER, NAMES, SEGMENT, DATA])?;
-    for fixupp in fixupps {
-        add_fixupp(&mut bytes, fixupp)?;
-    }
-    add(&mut bytes, END)?;
-    Ok(bytes)
-}
-
-/// Whether a module with some FIXUPPs has the canonical bytes of one with others.
-fn are_divided(alloc: Global, fixupps: &[Fixupp], form: &[Fixupp]) -> Result<bool, Fail> {
-    let bytes = module_with(alloc, fixupps)?;
-    let canonical = module_with(alloc, form)?;
-    has_form(alloc, &bytes, &canonical)
-}
-
-/// A canonical FIXUPP has 1,024 bytes at most, so 204 of these fixups.
-static DIVIDED: [Fixupp; 2] = [("9C FD 03", 204, "A0"), ("9C 06 00", 1, "93")];
-
-static WHOLE: [Fixupp; 1] = [("9C 02 04", 205, "CF")];
-
-/// FIXUPPs that follow one another are joined first.
-static APART: [Fixupp; 3] = [
-    ("9C FF 01", 102, "00"),
-    ("9C FF 01", 102, "00"),
-    ("9C 06 00", 1, "00"),
+static WRITINGS: [Writing; 15] = [
+    (0, Full::Fails, 48, 0, None, false, 0),
+    (0, Full::TakesNone, 48, 0, None, false, 0),
+    (1, Full::Fails, 48, 0, None, false, 1),
+    (6, Full::TakesNone, 48, 0, None, false, 6),
+    (23, Full::Fails, 48, 0, None, false, 23),
+    (47, Full::Fails, 48, 0, None, false, 47),
+    (47, Full::TakesNone, 48, 0, None, false, 47),
+    (48, Full::Fails, 48, 0, None, true, 48),
+    (49, Full::TakesNone, 48, 0, None, true, 48),
+    (48, Full::Fails, 7, 3, Some(0), false, 0),
+    (48, Full::Fails, 7, 3, Some(1), false, 7),
+    (48, Full::Fails, 7, 3, Some(6), false, 42),
+    (48, Full::Fails, 7, 3, Some(7), true, 48),
+    (48, Full::Fails, 7, 999, None, true, 48),
+    (48, Full::Fails, 7, 1000, None, false, 0),
 ];
 
-#[test]
-fn long_fixupps_are_divided(rt: HostRuntime) -> Result<(), Fail> {
-    assert!(rt; are_divided(rt.alloc(), &WHOLE, &DIVIDED)?);
-    assert!(rt; are_divided(rt.alloc(), &APART, &DIVIDED)?);
-    Ok(())
-}
-
-/// The answer of `canon_to`.
-fn written(alloc: Global, module: &Checked, writer: &mut Taker) -> Result<(), CanonFault> {
-    canon_to(alloc, module, writer)
-}
-
-/// How many bytes a writer has, and whether they are the front of these.
-fn front_of(writer: &Taker, bytes: &[u8]) -> Option<usize> {
-    if bytes.starts_with(writer.bytes()) {
-        Some(writer.bytes().len())
-    } else {
-        None
+/// The writer, if it takes bytes and finds memory.
+fn taker_of(alloc: Global, writing: &Writing) -> Option<Taker> {
+    let (room, full, piece, times, fails_after, _done, _count) = *writing;
+    if piece == 0 {
+        return None;
+    }
+    let taker = match Taker::new(alloc, room, full) {
+        Ok(taker) => taker.in_pieces(piece).interrupted(times),
+        Err(AllocError) => return None,
+    };
+    match fails_after {
+        Some(answers) => Some(taker.failing_once(answers)),
+        None => Some(taker),
     }
 }
 
-/// The answer, and how many bytes of a canonical module are written.
-type Written = (Result<(), CanonFault>, Option<usize>);
-
-/// What becomes of a canonical module by a writer.
-fn written_to(alloc: Global, module: &Checked, writer: Taker) -> Written {
-    let mut writer = writer;
-    let answer = written(alloc, module, &mut writer);
-    (answer, front_of(&writer, bytes_in(module)))
+/// Whether a writer takes the front of a canonical module.
+fn takes_front(alloc: Global, module: &Checked, taker: &mut Taker, writing: &Writing) -> bool {
+    let answer = canon_to(alloc, module, taker);
+    let wanted = if writing.5 {
+        Ok(())
+    } else {
+        Err(CanonFault::Write)
+    };
+    answer == wanted && Some(taker.bytes()) == module.bytes().get(..writing.6)
 }
 
-/// What becomes of the module by a writer with room for this many bytes.
-fn written_to_room(
-    alloc: Global,
-    module: &Checked,
-    room: usize,
-    full: Full,
-) -> Result<Written, AllocError> {
-    let writer = Taker::new(alloc, room, full)?;
-    Ok(written_to(alloc, module, writer))
+/// Whether a module is written as a row has it.
+fn is_written(alloc: Global, module: &Checked, writing: &Writing) -> bool {
+    match taker_of(alloc, writing) {
+        Some(mut taker) => takes_front(alloc, module, &mut taker, writing),
+        None => false,
+    }
 }
 
-#[test]
-fn a_full_writer_has_the_first_bytes(rt: HostRuntime) -> Result<(), Fail> {
-    let module = module_of(rt.alloc(), MODULE)?;
-    for room in 0..50 {
-        let expected = if room < 48 {
-            (Err(CanonFault::Write), Some(room))
-        } else {
-            (Ok(()), Some(48))
-        };
-        for full in [Full::Fails, Full::TakesNone] {
-            let found = written_to_room(rt.alloc(), &module, room, full)?;
-            assert!(rt; found == expected, "{room}");
+/// The first row in which the module is not written so; `None` if it finds no memory.
+fn first_unlike(alloc: Global) -> Option<usize> {
+    let module = module_of(alloc, MODULE)?;
+    for (at, writing) in WRITINGS.iter().enumerate() {
+        if !is_written(alloc, &module, writing) {
+            return Some(at);
         }
     }
-    Ok(())
+    Some(WRITINGS.len())
 }
-
-/// What becomes of the module by a writer that takes 7 bytes at a time, is interrupted `times` times before each answer, and fails once
-/// after some answers or never.
-fn written_slowly(
-    alloc: Global,
-    module: &Checked,
-    times: u64,
-    fails_after: Option<u64>,
-) -> Result<Written, AllocError> {
-    let writer = Taker::new(alloc, 48, Full::Fails)?;
-    let slow = writer.in_pieces(7).interrupted(times);
-    match fails_after {
-        Some(answers) => Ok(written_to(alloc, module, slow.failing_once(answers))),
-        None => Ok(written_to(alloc, module, slow)),
-    }
-}
-
-/// How often a writer is interrupted, the answers after which it fails, and what becomes of the module.
-static WRITINGS: [(u64, Option<u64>, Written); 6] = [
-    (3, Some(0), (Err(CanonFault::Write), Some(0))),
-    (3, Some(1), (Err(CanonFault::Write), Some(7))),
-    (3, Some(6), (Err(CanonFault::Write), Some(42))),
-    (3, Some(7), (Ok(()), Some(48))),
-    (999, None, (Ok(()), Some(48))),
-    (1000, None, (Err(CanonFault::Write), Some(0))),
-];
 
 #[test]
-fn a_writer_may_be_interrupted_but_not_fail(rt: HostRuntime) -> Result<(), Fail> {
-    let module = module_of(rt.alloc(), MODULE)?;
-    for (times, fails_after, expected) in &WRITINGS {
-        let found = written_slowly(rt.alloc(), &module, *times, *fails_after)?;
-        assert!(rt; found == *expected, "{times}");
-    }
-    Ok(())
+fn a_writer_may_be_interrupted_but_not_fail_and_has_the_first_bytes(rt: HostRuntime) {
+    assert_eq!(rt; first_unlike(rt.alloc()), Some(15));
 }

@@ -1,14 +1,12 @@
 //! Layouts of one module and of several.
 
 use super::module_of;
-use super::placing::{are_same, placed};
-use omf_check::{CheckFault, Checked};
+use omf_check::Checked;
 use omf_layout::several::{Combination, Lying, arrange, order_of, place_segments};
-use omf_layout::{Frames, Layout, LayoutFault, Options, draft_text, layout_of};
-use omf_placement::TextFault;
+use omf_layout::{Frames, LayoutFault, Options, draft_text, layout_of};
+use omf_placement::{Frame, Placement};
 use omf_samples::{ABSOLUTE, END, EXTERNAL, GROUP, HEADER, NAMES};
 use std::alloc::Global;
-use std::test::Fail;
 
 // A near communal Y of 7 bytes, and a far communal Z of 3 times 5.
 const NEAR: &str = "B0 06 00 01 59 00 62 07 00";
@@ -113,89 +111,42 @@ static DRAFTS: [Draft; 4] = [
     },
 ];
 
-/// The layout of a module and its draft.
-fn drafted(
-    alloc: Global,
-    module: &Checked,
-    options: Options,
-) -> Result<(Layout, String), LayoutFault> {
+/// The draft of a module at its layout.
+fn drafted(alloc: Global, module: &Checked, options: Options) -> Result<String, LayoutFault> {
     let layout = layout_of(alloc, module, options)?;
-    let text = draft_text(alloc, module, options, &layout)?;
-    Ok((layout, text))
+    Ok(draft_text(alloc, module, options, &layout)?)
 }
 
-/// Whether a layout places a module as a text does.
-fn is_layout(
-    alloc: Global,
-    module: &Checked,
-    layout: &Layout,
-    text: &str,
-) -> Result<bool, TextFault> {
-    let read = placed(alloc, module, text)?;
-    Ok(are_same(layout.placement(), &read))
-}
-
-#[test]
-fn a_module_has_its_layout_and_draft(rt: HostRuntime) -> Result<(), Fail> {
-    for draft in &DRAFTS {
-        let module = module_of(rt.alloc(), draft.rows)?;
-        let (layout, text) = drafted(rt.alloc(), &module, draft.options)?;
-        assert!(rt; text.as_bytes() == draft.text.as_bytes(), "{}", draft.text);
-        assert!(rt; is_layout(rt.alloc(), &module, &layout, draft.text)?);
-    }
-    Ok(())
-}
-
-/// Whether a growth was refused, or this is the text of a draft.
-fn is_draft_or_memory(drafted: Result<(Layout, String), LayoutFault>, text: &str) -> bool {
-    match drafted {
-        Ok((_layout, draft)) => draft.as_bytes() == text.as_bytes(),
-        Err(fault) => fault == LayoutFault::Memory,
+/// Whether a module has its draft, or a growth is refused and it `may_fail`.
+fn is_drafted(alloc: Global, draft: &Draft, may_fail: bool) -> bool {
+    let Some(module) = module_of(alloc, draft.rows) else {
+        return may_fail;
+    };
+    match drafted(alloc, &module, draft.options) {
+        Ok(text) => text.as_bytes() == draft.text.as_bytes(),
+        Err(fault) => may_fail && fault == LayoutFault::Memory,
     }
 }
 
-/// tests/growths.sh refuses each growth in turn. Where the module finds no memory it has no layout.
-#[test]
-fn a_refused_growth_gives_no_other_draft(rt: HostRuntime) {
+/// The text of the first draft that a module does not have, if there is one.
+fn first_wrong(alloc: Global, may_fail: bool) -> Option<&'static str> {
     for draft in &DRAFTS {
-        if let Ok(module) = module_of(rt.alloc(), draft.rows) {
-            let drafted = drafted(rt.alloc(), &module, draft.options);
-            assert!(rt; is_draft_or_memory(drafted, draft.text), "{}", draft.text);
+        if !is_drafted(alloc, draft, may_fail) {
+            return Some(draft.text);
         }
     }
-}
-
-/// A base, frames, an external or none, and whether a segment of 4 bytes and the external have room from the base on.
-type Room = (u32, Frames, &'static str, bool);
-
-static ROOMS: [Room; 8] = [
-    (0xFFFFC, Frames::Real, "", true),
-    (0xFFFFD, Frames::Real, "", false),
-    (0xFFFF_FFFC, FLAT, "", true),
-    (0xFFFF_FFFD, FLAT, "", false),
-    (0xFFFF_FFE0, FLAT, EXTERNAL, true),
-    (0xFFFF_FFEE, FLAT, EXTERNAL, false),
-    (0xFFFF_FFF4, FLAT, NEAR, true),
-    (0xFFFF_FFF5, FLAT, NEAR, false),
-];
-
-/// Whether a module has room as a row has it.
-fn is_room(alloc: Global, row: &Room) -> Result<bool, CheckFault> {
-    let (base, frames, external, room) = *row;
-    let segment = "98 07 00 28 04 00 02 01 01 00";
-    let module = module_of(alloc, &[HEADER, NAMES, segment, external, END])?;
-    match drafted(alloc, &module, Options { base, frames }) {
-        Ok(_drafted) => Ok(room),
-        Err(fault) => Ok(!room && fault == LayoutFault::NoRoom),
-    }
+    None
 }
 
 #[test]
-fn a_layout_ends_at_the_last_address(rt: HostRuntime) -> Result<(), Fail> {
-    for row in &ROOMS {
-        assert!(rt; is_room(rt.alloc(), row)?, "{}", row.0);
-    }
-    Ok(())
+fn a_module_has_its_draft(rt: HostRuntime) {
+    assert_eq!(rt; first_wrong(rt.alloc(), false), None);
+}
+
+/// tests/growths.sh refuses each growth in turn.
+#[test]
+fn a_refused_growth_gives_no_other_draft(rt: HostRuntime) {
+    assert_eq!(rt; first_wrong(rt.alloc(), true), None);
 }
 
 /// The names "", A, B and C, which have the indices 1 to 4.
@@ -204,23 +155,15 @@ const LETTERS: &str = "96 08 00 00 01 41 01 42 01 43 00";
 /// Modules by their records.
 type Modules = &'static [&'static [&'static str]];
 
-pub fn modules_of(alloc: Global, modules: &[&[&str]]) -> Result<Vec<Checked>, CheckFault> {
+/// The modules of these records; `None` where one is refused, or memory runs out.
+pub fn modules_of(alloc: Global, modules: &[&[&str]]) -> Option<Vec<Checked>> {
     let mut checked = Vec::new(alloc);
     for rows in modules {
         if checked.push(module_of(alloc, *rows)?).is_err() {
-            return Err(CheckFault::Memory);
+            return None;
         }
     }
-    Ok(checked)
-}
-
-/// Whether the segments of modules have this order: each by its module, from 0, and its index.
-fn has_order(alloc: Global, modules: Modules, order: &[(u32, u16)]) -> Result<bool, Fail> {
-    let modules = modules_of(alloc, modules)?;
-    if modules.len() > 8 {
-        return Ok(false);
-    }
-    Ok(order_of(alloc, &modules)?.as_slice() == order)
+    Some(checked)
 }
 
 /// Public segments of one byte. First a B of class C and an A of class B; then an A and a B of class C and a C of class B; then an A of
@@ -284,77 +227,59 @@ const COMBINED: Modules = &[
     ],
 ];
 
+/// Modules, and the order of their segments: each by its module, from 0, and its index.
+static ORDERS: [(Modules, &[(u32, u16)]); 3] = [
+    (
+        CLASSES,
+        &[
+            (0, 1),
+            (1, 2),
+            (1, 1),
+            (2, 3),
+            (0, 2),
+            (2, 1),
+            (1, 3),
+            (2, 2),
+        ],
+    ),
+    (OTHER_INDICES, &[(0, 1), (1, 2), (1, 1)]),
+    (COMBINED, &[(0, 4), (1, 2), (0, 2), (1, 1), (0, 1), (0, 3)]),
+];
+
+/// Whether the segments of modules have this order.
+fn is_order(alloc: Global, modules: &[Checked], order: &[(u32, u16)]) -> bool {
+    if modules.len() > 8 {
+        return false;
+    }
+    match order_of(alloc, modules) {
+        Ok(found) => found.as_slice() == order,
+        Err(_) => false,
+    }
+}
+
+/// The same of the modules of these records.
+fn has_order(alloc: Global, modules: Modules, order: &[(u32, u16)]) -> bool {
+    match modules_of(alloc, modules) {
+        Some(modules) => is_order(alloc, &modules, order),
+        None => false,
+    }
+}
+
 #[test]
-fn segments_of_several_modules_have_an_order(rt: HostRuntime) -> Result<(), Fail> {
-    let a = rt.alloc();
-    let by_class = [
-        (0, 1),
-        (1, 2),
-        (1, 1),
-        (2, 3),
-        (0, 2),
-        (2, 1),
-        (1, 3),
-        (2, 2),
-    ];
-    assert!(&rt; has_order(a, CLASSES, &by_class)?);
-    assert!(&rt; has_order(a, OTHER_INDICES, &[(0, 1), (1, 2), (1, 1)])?);
-    let combined = [(0, 4), (1, 2), (0, 2), (1, 1), (0, 1), (0, 3)];
-    assert!(&rt; has_order(a, COMBINED, &combined)?);
-    Ok(())
+fn segments_of_several_modules_have_an_order(rt: HostRuntime) {
+    for (at, (modules, order)) in ORDERS.iter().enumerate() {
+        assert!(rt; has_order(rt.alloc(), *modules, *order), "{at}");
+    }
 }
 
 /// A segment by its module and its index, its address, its frame's base and selector, and how it lies.
 type Place = (u32, u16, u32, (u32, u16), Combination);
 
-fn place_of(lying: &Lying) -> Place {
-    let (portion, place) = lying;
-    (
-        portion.module,
-        portion.index,
-        place.address,
-        (place.frame.base, place.frame.selector),
-        portion.lies(),
-    )
-}
-
-/// Whether segments lie at these places.
-fn lie_at(lying: &[Lying], places: &[Place]) -> bool {
-    for (at, place) in places.iter().enumerate() {
-        match lying.get(at) {
-            Some(one) => {
-                if place_of(one) != *place {
-                    return false;
-                }
-            }
-            None => return false,
-        }
-    }
-    lying.len() == places.len()
-}
-
-/// Whether the segments of modules lie at these places, up to this end; or have no room.
-fn is_arranged(
-    alloc: Global,
-    modules: Modules,
-    options: Options,
-    wanted: Option<(&[Place], u64)>,
-) -> Result<bool, Fail> {
-    let modules = modules_of(alloc, modules)?;
-    if modules.len() > 8 {
-        return Ok(false);
-    }
-    match arrange(alloc, &modules, options) {
-        Ok((lying, end)) => Ok(match wanted {
-            Some((places, last)) => lie_at(&lying, places) && end == last,
-            None => false,
-        }),
-        Err(fault) => Ok(fault == LayoutFault::NoRoom && wanted.is_none()),
-    }
-}
+/// Modules and options, and their segments and the first address after these; or `None` where they have no room.
+type Arranged = (Modules, Options, Option<(&'static [Place], u64)>);
 
 // In real mode from 10008H on: the joined segments from the paragraph 10000H, the common ones from 10020H.
-static COMBINED_PLACES: [Place; 6] = [
+const COMBINED_PLACES: &[Place] = &[
     (0, 4, 0x10008, (0x10000, 0x1000), Combination::Joined),
     (1, 2, 0x10010, (0x10000, 0x1000), Combination::Joined),
     (0, 2, 0x10020, (0x10020, 0x1002), Combination::Common),
@@ -374,6 +299,11 @@ const TOO_FULL: Modules = &[
     &[HEADER, LETTERS, "98 07 00 38 11 00 02 02 01 00", END],
 ];
 
+const FULL_PLACES: &[Place] = &[
+    (0, 1, 0xFFFF0, (0xFFFF0, 0xFFFF), Combination::Common),
+    (1, 1, 0xFFFF0, (0xFFFF0, 0xFFFF), Combination::Common),
+];
+
 const REAL: Options = Options {
     base: 0x10008,
     frames: Frames::Real,
@@ -385,85 +315,96 @@ const LAST: Options = Options {
     frames: Frames::Real,
 };
 
-#[test]
-fn segments_of_several_modules_are_arranged(rt: HostRuntime) -> Result<(), Fail> {
-    let a = rt.alloc();
-    let combined: (&[Place], u64) = (&COMBINED_PLACES, 0x10024);
-    assert!(&rt; is_arranged(a, COMBINED, REAL, Some(combined))?);
-    let common = [
-        (0, 1, 0xFFFF0, (0xFFFF0, 0xFFFF), Combination::Common),
-        (1, 1, 0xFFFF0, (0xFFFF0, 0xFFFF), Combination::Common),
-    ];
-    assert!(&rt; is_arranged(a, FULL, LAST, Some((&common, 0x100000)))?);
-    assert!(&rt; is_arranged(a, TOO_FULL, LAST, None)?);
-    Ok(())
-}
-
-/// The first has of one name and class a public segment of 5 bytes and a common one of 3, and an absolute one by another name; the second
-/// a common one of 2 bytes at a paragraph, a public one of 4 at a word, and a private one of another class. A group B is in both, with the
-/// first's public segment and the second's; a group C has no member.
-const GROUPED: Modules = &[
-    &[
-        HEADER,
-        LETTERS,
-        "98 07 00 28 05 00 02 02 01 00",
-        "98 07 00 38 03 00 02 02 01 00",
-        "98 0A 00 08 00 B8 00 04 00 03 02 01 00",
-        "9A 04 00 03 FF 01 00",
-        END,
-    ],
-    &[
-        HEADER,
-        LETTERS,
-        "98 07 00 78 02 00 02 02 01 00",
-        "98 07 00 48 04 00 02 02 01 00",
-        "98 07 00 20 01 00 02 04 01 00",
-        "9A 02 00 04 00",
-        "9A 04 00 03 FF 02 00",
-        END,
-    ],
+static ARRANGED: [Arranged; 3] = [
+    (COMBINED, REAL, Some((COMBINED_PLACES, 0x10024))),
+    (FULL, LAST, Some((FULL_PLACES, 0x100000))),
+    (TOO_FULL, LAST, None),
 ];
 
-/// Whether modules are placed as these texts have it, up to this end.
-fn are_placed(
-    alloc: Global,
-    modules: Modules,
-    options: Options,
-    texts: &[&str],
-    last: u64,
-) -> Result<bool, Fail> {
-    let modules = modules_of(alloc, modules)?;
-    if modules.len() > 8 {
-        return Ok(false);
-    }
-    let (placements, end) = place_segments(alloc, &modules, options)?;
-    for (at, text) in texts.iter().enumerate() {
-        let (Some(module), Some(placement)) = (modules.get(at), placements.get(at)) else {
-            return Ok(false);
-        };
-        if !are_same(placement, &placed(alloc, module, *text)?) {
-            return Ok(false);
+fn place_of(lying: &Lying) -> Place {
+    let (portion, place) = lying;
+    (
+        portion.module,
+        portion.index,
+        place.address,
+        (place.frame.base, place.frame.selector),
+        portion.lies(),
+    )
+}
+
+/// Whether segments lie at these places.
+fn lie_at(lying: &[Lying], places: &[Place]) -> bool {
+    for (lying, place) in lying.iter().zip(places) {
+        if place_of(lying) != *place {
+            return false;
         }
     }
-    Ok(placements.len() == texts.len() && end == last)
+    lying.len() == places.len()
+}
+
+/// Whether placements have a place.
+fn has(placements: &[Placement], place: &Place) -> bool {
+    let (module, index, address, (base, selector), _lies) = *place;
+    match placements.get(module as usize) {
+        Some(placement) => {
+            let frame = Frame { base, selector };
+            placement.segment(usize::from(index)) == Some((address, frame))
+        }
+        None => false,
+    }
+}
+
+/// Whether placements have these places.
+fn have(placements: &[Placement], places: &[Place]) -> bool {
+    for place in places {
+        if !has(placements, place) {
+            return false;
+        }
+    }
+    true
+}
+
+/// Whether the segments of modules lie at these places, or have no room.
+fn are_arranged(alloc: Global, modules: &[Checked], arranged: &Arranged) -> bool {
+    if modules.len() > 8 {
+        return false;
+    }
+    match arrange(alloc, modules, arranged.1) {
+        Ok((lying, end)) => match arranged.2 {
+            Some((places, last)) => lie_at(&lying, places) && end == last,
+            None => false,
+        },
+        Err(fault) => fault == LayoutFault::NoRoom && arranged.2.is_none(),
+    }
+}
+
+/// Whether modules have placements with these places, or no room.
+fn are_placed(alloc: Global, modules: &[Checked], arranged: &Arranged) -> bool {
+    if modules.len() > 8 {
+        return false;
+    }
+    match place_segments(alloc, modules, arranged.1) {
+        Ok((placements, end)) => match arranged.2 {
+            Some((places, last)) => have(&placements, places) && end == last,
+            None => false,
+        },
+        Err(fault) => fault == LayoutFault::NoRoom && arranged.2.is_none(),
+    }
+}
+
+/// Whether a row is arranged and placed.
+fn is_right(alloc: Global, arranged: &Arranged) -> bool {
+    match modules_of(alloc, arranged.0) {
+        Some(modules) => {
+            are_arranged(alloc, &modules, arranged) && are_placed(alloc, &modules, arranged)
+        }
+        None => false,
+    }
 }
 
 #[test]
-fn several_modules_are_placed(rt: HostRuntime) -> Result<(), Fail> {
-    let a = rt.alloc();
-    let real = [
-        "S 10008 10000 1000\nS 10020 10020 1002\nS B8000 B8000 B800\nG 10000 1000",
-        "S 10020 10020 1002\nS 1000E 10000 1000\nS 10023 10020 1002\nG 0 0\nG 10000 1000",
-    ];
-    assert!(&rt; are_placed(a, GROUPED, REAL, &real, 0x10024)?);
-    let flat = [
-        "S 401001 0 8\nS 401010 0 8\nS B8000 B8000 B800\nG 0 8",
-        "S 401010 0 8\nS 401006 0 8\nS 401013 0 8\nG 0 8\nG 0 8",
-    ];
-    let options = Options {
-        base: 0x401001,
-        frames: FLAT,
-    };
-    assert!(&rt; are_placed(a, GROUPED, options, &flat, 0x401014)?);
-    Ok(())
+fn segments_of_several_modules_are_arranged(rt: HostRuntime) {
+    for (at, arranged) in ARRANGED.iter().enumerate() {
+        assert!(rt; is_right(rt.alloc(), arranged), "{at}");
+    }
 }

@@ -1,8 +1,6 @@
 //! Modules of one input, linked to one memory by a text; drafts and maps of links.
 
-use super::bytes_of;
 use super::layouts::modules_of;
-use super::readers::{interrupted, script};
 use super::relocating::run_of;
 use super::verdicts::ANY;
 use omf_check::Checked;
@@ -16,9 +14,8 @@ use omf_linking::{
     LinkFault, Relocated, link, memory_image, modules_in, read_all, relocate_all, start_of,
 };
 use omf_placement::Placement;
-use omf_samples::{BadHex, END, HEADER, NAMES};
+use omf_samples::{BadHex, END, HEADER, NAMES, joined};
 use std::alloc::Global;
-use std::test::Fail;
 
 // Ends: of a main module with a start at offset 1 of its segment, and of one that is not main and names that start.
 const MAIN: &str = "8A 06 00 C1 50 01 01 00 00";
@@ -39,15 +36,12 @@ const SECOND: &str = "A0 06 00 01 00 00 CC DD 00";
 
 const THIRD: &str = "A0 06 00 01 00 00 EE FF 00";
 
-/// A module: its segment, its data and its end.
-type Module = [&'static str; 3];
+/// The addresses and the bytes of the runs in memory, and the start; or the fault.
+type Linked = Result<(&'static [(u32, &'static [u8])], Option<(u16, u32)>), LinkFault>;
 
-/// The address and the bytes of the one run in memory, and the start; or the fault.
-type Linked = Result<(u32, &'static [u8], Option<(u16, u32)>), LinkFault>;
-
-/// Modules, the text of their link, and what is linked.
+/// The records of modules, the text of their link, and what is linked.
 struct Case {
-    modules: &'static [Module],
+    rows: &'static [&'static str],
     text: &'static str,
     linked: Linked,
 }
@@ -64,40 +58,106 @@ const OVERLAP: LinkFault = LinkFault::Overlap {
     },
 };
 
-static CASES: [Case; 8] = [
+/// A segment of 8 bytes, with data at offsets 4 and 0.
+const GAP: &str = "98 07 00 28 08 00 02 01 01 00";
+
+const HIGH: &str = "A0 06 00 01 04 00 CC DD 00";
+
+static CASES: [Case; 12] = [
     // Segments side by side are one run.
     Case {
-        modules: &[[PUBLIC, SECOND, NOT_MAIN], [PRIVATE, FIRST, MAIN]],
+        rows: &[
+            HEADER, NAMES, PUBLIC, SECOND, NOT_MAIN, HEADER, NAMES, PRIVATE, FIRST, MAIN,
+        ],
         text: "S 10002 10000 1000\nM\nS 10000 10000 1000\n",
-        linked: Ok((0x10000, b"\xAA\xBB\xCC\xDD", Some((0x1000, 1)))),
+        linked: Ok((&[(0x10000, b"\xAA\xBB\xCC\xDD")], Some((0x1000, 1)))),
     },
     // Common segments lie over one another.
     Case {
-        modules: &[[COMMON, FIRST, END], [COMMON, SECOND, END]],
+        rows: &[
+            HEADER, NAMES, COMMON, FIRST, END, HEADER, NAMES, COMMON, SECOND, END,
+        ],
         text: "S 10001 10000 1000\nM\nS 10000 10000 1000\n",
-        linked: Ok((0x10000, b"\xCC\xDD\xBB", None)),
+        linked: Ok((&[(0x10000, b"\xCC\xDD\xBB")], None)),
     },
     Case {
-        modules: &[[PUBLIC, FIRST, END]],
+        rows: &[HEADER, NAMES, PUBLIC, FIRST, END],
         text: "S FFFFFFFE 0 0\n",
-        linked: Ok((0xFFFF_FFFE, b"\xAA\xBB", None)),
+        linked: Ok((&[(0xFFFF_FFFE, b"\xAA\xBB")], None)),
+    },
+    // The last address and the first are apart.
+    Case {
+        rows: &[
+            HEADER, NAMES, PUBLIC, FIRST, END, HEADER, NAMES, PUBLIC, SECOND, END,
+        ],
+        text: "S FFFFFFFE 0 0\nM\nS 0 0 0\n",
+        linked: Ok((&[(0, b"\xCC\xDD"), (0xFFFF_FFFE, b"\xAA\xBB")], None)),
+    },
+    // The runs of two segments, the last at the last address.
+    Case {
+        rows: &[
+            HEADER, NAMES, GAP, HIGH, FIRST, END, HEADER, NAMES, GAP, HIGH, FIRST, END,
+        ],
+        text: "S 7C04 0 0\nM\nS FFFFFFFA 0 0\n",
+        linked: Ok((
+            &[
+                (0x7C04, b"\xAA\xBB"),
+                (0x7C08, b"\xCC\xDD"),
+                (0xFFFF_FFFA, b"\xAA\xBB"),
+                (0xFFFF_FFFE, b"\xCC\xDD"),
+            ],
+            None,
+        )),
     },
     Case {
-        modules: &[[PRIVATE, FIRST, END], [PUBLIC, SECOND, END]],
+        rows: &[
+            HEADER, NAMES, PRIVATE, FIRST, END, HEADER, NAMES, PUBLIC, SECOND, END,
+        ],
         text: "S 10000 10000 1000\nM\nS 10001 10000 1000\n",
         linked: Err(OVERLAP),
     },
     Case {
-        modules: &[[COMMON, FIRST, END], [PRIVATE, SECOND, END]],
+        rows: &[
+            HEADER, NAMES, COMMON, FIRST, END, HEADER, NAMES, PRIVATE, SECOND, END,
+        ],
         text: "S 10000 10000 1000\nM\nS 10001 10000 1000\n",
         linked: Err(OVERLAP),
+    },
+    // Of two overlaps the lower one.
+    Case {
+        rows: &[
+            HEADER, NAMES, PUBLIC, FIRST, END, HEADER, NAMES, COMMON, FIRST, END, HEADER, NAMES,
+            PUBLIC, FIRST, END, HEADER, NAMES, COMMON, FIRST, END,
+        ],
+        text: "S 30 0 0\nM\nS 31 0 0\nM\nS 21 0 0\nM\nS 20 0 0\n",
+        linked: Err(LinkFault::Overlap {
+            address: 0x21,
+            first: Owner {
+                module: 2,
+                segment: 1,
+            },
+            second: Owner {
+                module: 3,
+                segment: 1,
+            },
+        }),
     },
     // A byte past the last address comes before an overlap.
     Case {
-        modules: &[
-            [PUBLIC, FIRST, END],
-            [PUBLIC, SECOND, END],
-            [PUBLIC, THIRD, END],
+        rows: &[
+            HEADER, NAMES, PUBLIC, FIRST, END, HEADER, NAMES, PUBLIC, SECOND, END, HEADER, NAMES,
+            GAP, HIGH, FIRST, END,
+        ],
+        text: "S 0 0 0\nM\nS 0 0 0\nM\nS FFFFFFFB 0 0\n",
+        linked: Err(LinkFault::Beyond(Owner {
+            module: 2,
+            segment: 1,
+        })),
+    },
+    Case {
+        rows: &[
+            HEADER, NAMES, PUBLIC, FIRST, END, HEADER, NAMES, PUBLIC, SECOND, END, HEADER, NAMES,
+            PUBLIC, THIRD, END,
         ],
         text: "S 0 0 0\nM\nS 0 0 0\nM\nS FFFFFFFF 0 0\n",
         linked: Err(LinkFault::Beyond(Owner {
@@ -106,10 +166,9 @@ static CASES: [Case; 8] = [
         })),
     },
     Case {
-        modules: &[
-            [PUBLIC, FIRST, END],
-            [PUBLIC, SECOND, MAIN],
-            [PUBLIC, THIRD, MAIN],
+        rows: &[
+            HEADER, NAMES, PUBLIC, FIRST, END, HEADER, NAMES, PUBLIC, SECOND, MAIN, HEADER, NAMES,
+            PUBLIC, THIRD, MAIN,
         ],
         text: "S 0 0 0\nM\nS 2 0 0\nM\nS 4 0 0\n",
         linked: Err(LinkFault::Starts {
@@ -118,20 +177,16 @@ static CASES: [Case; 8] = [
         }),
     },
     Case {
-        modules: &[[PUBLIC, FIRST, END]],
+        rows: &[HEADER, NAMES, PUBLIC, FIRST, END],
         text: "S 0 0 0\nM\n",
         linked: Err(LinkFault::Line(2)),
     },
 ];
 
 /// The bytes of modules, and then a text.
-fn input_of(alloc: Global, modules: &[Module], text: &str) -> Result<Vec<u8>, BadHex> {
-    let mut input = Vec::new(alloc);
-    for [segment, data, end] in modules {
-        let module = bytes_of(alloc, &[HEADER, NAMES, *segment, *data, *end])?;
-        input.extend_from_slice(&module)?;
-    }
-    input.extend_from_slice(text.as_bytes())?;
+fn input_of(alloc: Global, case: &Case) -> Result<Vec<u8>, BadHex> {
+    let mut input = joined(alloc, case.rows)?;
+    input.extend_from_slice(case.text.as_bytes())?;
     Ok(input)
 }
 
@@ -153,16 +208,17 @@ fn memory_in(
     Ok((memory, start))
 }
 
-/// Modules at their placements.
-fn relocated(
+/// The same, of modules that are relocated first.
+fn memory_at(
     alloc: Global,
     modules: &[Checked],
     placements: &[Placement],
-) -> Result<Vec<Relocated>, LinkFault> {
+) -> Result<Memory, LinkFault> {
     if modules.len() > 8 || placements.len() != modules.len() {
         return Err(LinkFault::Read);
     }
-    relocate_all(alloc, modules, placements)
+    let relocated = relocate_all(alloc, modules, placements)?;
+    memory_in(alloc, modules, placements, &relocated)
 }
 
 /// The placements that a text gives modules.
@@ -173,92 +229,112 @@ fn linked(alloc: Global, modules: &[Checked], text: &[u8]) -> Result<Vec<Placeme
     link(alloc, modules, text)
 }
 
+/// The memory and the start of modules that a text links.
+fn memory_by(alloc: Global, modules: &[Checked], text: &[u8]) -> Result<Memory, LinkFault> {
+    let placements = linked(alloc, modules, text)?;
+    memory_at(alloc, modules, &placements)
+}
+
 /// The memory and the start of the modules of an input.
 fn memory_of(alloc: Global, input: &[u8]) -> Result<Memory, LinkFault> {
     let (modules, text) = modules_in(alloc, ANY, input)?;
-    let placements = linked(alloc, &modules, text)?;
-    let relocated = relocated(alloc, &modules, &placements)?;
-    memory_in(alloc, &modules, &placements, &relocated)
+    memory_by(alloc, &modules, text)
 }
 
-/// Whether a memory has one run, and it and the start are those that are linked.
-fn is_memory(memory: &Image, start: Option<(u16, u32)>, linked: &Linked) -> bool {
-    match *linked {
-        Ok((address, bytes, wanted)) => {
-            run_of(memory, 0, 0) == Some((address, bytes))
-                && run_of(memory, 0, 1) == None
-                && start == wanted
+/// Whether a memory has these runs and no other.
+fn has_runs(memory: &Image, runs: &[(u32, &[u8])]) -> bool {
+    for (at, run) in runs.iter().enumerate() {
+        if run_of(memory, 0, at) != Some(*run) {
+            return false;
         }
-        Err(_) => false,
+    }
+    run_of(memory, 0, runs.len()) == None
+}
+
+/// Whether a memory and a start are those that are linked, or the fault is; or a growth is refused and it `may_fail`.
+fn is_linked(found: Result<Memory, LinkFault>, linked: &Linked, may_fail: bool) -> bool {
+    match found {
+        Ok((memory, start)) => match *linked {
+            Ok((runs, wanted)) => has_runs(&memory, runs) && start == wanted,
+            Err(_) => false,
+        },
+        Err(LinkFault::Memory) => may_fail,
+        Err(fault) => linked.err() == Some(fault),
     }
 }
 
 /// Whether a case is linked as it is to be, or a growth is refused and it `may_fail`.
 fn is_right(alloc: Global, case: &Case, may_fail: bool) -> bool {
-    let Ok(input) = input_of(alloc, case.modules, case.text) else {
-        return may_fail;
-    };
-    match memory_of(alloc, &input) {
-        Ok((memory, start)) => is_memory(&memory, start, &case.linked),
-        Err(LinkFault::Memory) => may_fail,
-        Err(fault) => case.linked.err() == Some(fault),
+    match input_of(alloc, case) {
+        Ok(input) => is_linked(memory_of(alloc, &input), &case.linked, may_fail),
+        Err(_) => may_fail,
     }
 }
 
-#[test]
-fn modules_are_linked_to_one_memory(rt: HostRuntime) {
+/// The text of the first case that is not linked so, if there is one.
+fn first_wrong(alloc: Global, may_fail: bool) -> Option<&'static str> {
     for case in &CASES {
-        assert!(rt; is_right(rt.alloc(), case, false), "{}", case.text);
-    }
-}
-
-/// All that a source has left.
-fn all_of(alloc: Global, source: Script<'_>) -> Result<Vec<u8>, LinkFault> {
-    let mut source = source;
-    read_all(alloc, &mut source)
-}
-
-/// Whether all that a source has left is these bytes.
-fn reads(alloc: Global, source: Script<'_>, bytes: &[u8]) -> bool {
-    match all_of(alloc, source) {
-        Ok(all) => all.as_slice() == bytes,
-        Err(_) => false,
-    }
-}
-
-/// A reader of these bytes by pieces of 5, with this many interruptions before each.
-fn slow(bytes: &[u8], interruptions: u64) -> Script<'_> {
-    interrupted(bytes, interruptions).in_pieces(5)
-}
-
-/// How many bytes there are before a reader that then fails is not named.
-fn first_unnamed(alloc: Global, bytes: &[u8]) -> Option<usize> {
-    for count in 0..=bytes.len() {
-        let front = bytes.get(..count).unwrap_or(bytes);
-        if all_of(alloc, script(front, Then::Fails)).err() != Some(LinkFault::Read) {
-            return Some(count);
+        if !is_right(alloc, case, may_fail) {
+            return Some(case.text);
         }
     }
     None
 }
 
 #[test]
-fn an_input_is_read_to_its_end(rt: HostRuntime) -> Result<(), Fail> {
-    let a = rt.alloc();
-    let long = vec![in a; 0xA5; 70_000]?;
-    assert!(&rt; reads(a, script(&long, Then::Ends), &long));
-    assert!(&rt; reads(a, script(&[], Then::Ends), &[]));
-    let short = bytes_of(a, &[HEADER, NAMES])?;
-    // 600 interruptions before each of three pieces: more than 999 in all, but not one after another.
-    for interruptions in [0, 2, 600] {
-        assert!(&rt;
-            reads(a, slow(&short, interruptions), &short),
-            "{interruptions}"
-        );
+fn modules_are_linked_to_one_memory(rt: HostRuntime) {
+    assert_eq!(rt; first_wrong(rt.alloc(), false), None);
+}
+
+/// Bytes, what comes after them, and the interruptions of a reader before each 5 of them; and whether they are read to their end.
+type Reads = (&'static [u8], Then, u64, bool);
+
+const BYTES: &[u8] = b"\x80\x03\x00\x01\x41\x3B\x96\x04\x00\x00\x01\x54\x11";
+
+static READS: [Reads; 10] = [
+    (b"", Then::Ends, 0, true),
+    (BYTES, Then::Ends, 0, true),
+    (BYTES, Then::Ends, 2, true),
+    // More than 999 interruptions in all, but not in a row.
+    (BYTES, Then::Ends, 600, true),
+    (BYTES, Then::Ends, 999, true),
+    (BYTES, Then::Ends, 1000, false),
+    (b"", Then::Fails, 0, false),
+    (b"\x80", Then::Fails, 0, false),
+    (b"\x80\x03\x00\x01\x41", Then::Fails, 0, false),
+    (BYTES, Then::Fails, 0, false),
+];
+
+/// Whether all bytes of a reader are these, or it fails.
+fn is_read(alloc: Global, script: Script<'_>, wanted: Option<&[u8]>) -> bool {
+    let mut source = script;
+    match read_all(alloc, &mut source) {
+        Ok(bytes) => Some(bytes.as_slice()) == wanted,
+        Err(fault) => fault == LinkFault::Read && wanted.is_none(),
     }
-    assert!(&rt; all_of(a, slow(&short, 1000)).err() == Some(LinkFault::Read));
-    assert_eq!(&rt; first_unnamed(a, &short), None);
-    Ok(())
+}
+
+/// Whether a reader is read as a row has it.
+fn reads(alloc: Global, row: &Reads) -> bool {
+    let (bytes, then, times, reads) = *row;
+    let script = Script::new(bytes, then).interrupted(times).in_pieces(5);
+    is_read(alloc, script, if reads { Some(bytes) } else { None })
+}
+
+/// Whether a reader of 70,000 bytes is read to its end.
+fn reads_many(alloc: Global) -> bool {
+    match vec![in alloc; 0xA5; 70_000] {
+        Ok(many) => is_read(alloc, Script::new(&many, Then::Ends), Some(&many)),
+        Err(_) => false,
+    }
+}
+
+#[test]
+fn an_input_is_read_to_its_end(rt: HostRuntime) {
+    for (at, row) in READS.iter().enumerate() {
+        assert!(rt; reads(rt.alloc(), row), "{at}");
+    }
+    assert!(rt; reads_many(rt.alloc()));
 }
 
 /// The names "", A, B and C, which have the indices 1 to 4.
@@ -295,17 +371,6 @@ fn draft_of(alloc: Global, modules: &[Checked], options: Options) -> Result<Stri
     link_draft(alloc, modules, options)
 }
 
-/// Whether this is the draft of modules.
-fn is_draft(
-    alloc: Global,
-    modules: &[Checked],
-    options: Options,
-    text: &str,
-) -> Result<bool, LayoutFault> {
-    let draft = draft_of(alloc, modules, options)?;
-    Ok(draft.as_bytes() == text.as_bytes())
-}
-
 // Flat, and in real mode, where the joined second segment keeps the frame of the first.
 const FLAT_DRAFT: &str =
     "; module \"M\"\nS 401000 0 8 ; 1 \"A\" class \"A\" align 1 length 5\nG 0 8 ; 1 \"B\"\n\
@@ -332,6 +397,13 @@ const REAL: Options = Options {
 };
 
 // Nine bytes from FFFF7H on end at the last address.
+const LAST_DRAFT: &str =
+    "; module \"M\"\nS FFFF7 real ; 1 \"A\" class \"A\" align 1 length 5\nG FFFF0 FFFF ; 1 \"B\"\n\
+     ; X 2 address base selector ; 2 \"Y\" to be filled in\n\
+     ; X 3 address base selector ; 3 \"Z\" communal length 7\n\
+     M\n; module \"N\"\nS FFFFC real ; 1 \"A\" class \"A\" align 1 length 4\n\
+     ; X 1 address base selector ; 1 \"X\" to be filled in\n";
+
 const LAST: Options = Options {
     base: 0xFFFF7,
     frames: Frames::Real,
@@ -342,16 +414,48 @@ const BEYOND: Options = Options {
     frames: Frames::Real,
 };
 
-#[test]
-fn a_link_has_a_draft(rt: HostRuntime) -> Result<(), Fail> {
-    let modules = modules_of(rt.alloc(), UNLINKED)?;
-    for (options, text) in [(FLAT, FLAT_DRAFT), (REAL, REAL_DRAFT)] {
-        assert!(rt; is_draft(rt.alloc(), &modules, options, text)?, "{text}");
+/// Options, and the draft at these or the fault.
+static DRAFTS: [(Options, Result<&str, LayoutFault>); 4] = [
+    (FLAT, Ok(FLAT_DRAFT)),
+    (REAL, Ok(REAL_DRAFT)),
+    (LAST, Ok(LAST_DRAFT)),
+    (BEYOND, Err(LayoutFault::NoRoom)),
+];
+
+/// Whether modules have a draft, or a growth is refused and it `may_fail`.
+fn is_drafted(
+    drafted: Result<String, LayoutFault>,
+    wanted: Result<&str, LayoutFault>,
+    may_fail: bool,
+) -> bool {
+    match drafted {
+        Ok(text) => wanted.ok() == Some(text.as_str()),
+        Err(LayoutFault::Memory) => may_fail,
+        Err(fault) => wanted.err() == Some(fault),
     }
-    assert!(rt; draft_of(rt.alloc(), &modules, LAST).is_ok());
-    let fault = draft_of(rt.alloc(), &modules, BEYOND).err();
-    assert!(rt; fault == Some(LayoutFault::NoRoom));
-    Ok(())
+}
+
+/// Whether the modules have their draft, or a growth is refused and it `may_fail`.
+fn has_draft(
+    alloc: Global,
+    options: Options,
+    wanted: Result<&str, LayoutFault>,
+    may_fail: bool,
+) -> bool {
+    match modules_of(alloc, UNLINKED) {
+        Some(modules) => is_drafted(draft_of(alloc, &modules, options), wanted, may_fail),
+        None => may_fail,
+    }
+}
+
+#[test]
+fn a_link_has_a_draft(rt: HostRuntime) {
+    for (options, wanted) in &DRAFTS {
+        assert!(rt;
+            has_draft(rt.alloc(), *options, *wanted, false),
+            "{wanted:?}"
+        );
+    }
 }
 
 // The names T, CODE and an empty one; a segment T of class CODE with 16 bytes; one of 2^32 bytes without a name.
@@ -426,48 +530,43 @@ static MAPS: [Map; 3] = [
     ),
 ];
 
-/// The map of modules at their placements.
-fn map_of(
-    alloc: Global,
-    modules: &[Checked],
-    placements: &[Placement],
-) -> Result<String, LinkFault> {
+/// Whether modules at their placements have this map.
+fn is_map(alloc: Global, modules: &[Checked], placements: &[Placement], map: &str) -> bool {
     if modules.len() != placements.len() {
-        return Err(LinkFault::Read);
+        return false;
     }
-    Ok(map_text(alloc, modules, placements)?)
+    match map_text(alloc, modules, placements) {
+        Ok(text) => text.as_bytes() == map.as_bytes(),
+        Err(_) => false,
+    }
 }
 
 /// Whether modules that a text links have this map.
-fn is_map(
-    alloc: Global,
-    modules: &[Checked],
-    text: &str,
-    expected: &str,
-) -> Result<bool, LinkFault> {
-    let placements = linked(alloc, modules, text.as_bytes())?;
-    let map = map_of(alloc, modules, &placements)?;
-    Ok(map.as_bytes() == expected.as_bytes())
+fn is_mapped(alloc: Global, modules: &[Checked], text: &str, map: &str) -> bool {
+    match linked(alloc, modules, text.as_bytes()) {
+        Ok(placements) => is_map(alloc, modules, &placements, map),
+        Err(_) => false,
+    }
+}
+
+/// Whether a row has its map.
+fn has_map(alloc: Global, row: &Map) -> bool {
+    match modules_of(alloc, row.0) {
+        Some(modules) => is_mapped(alloc, &modules, row.1, row.2),
+        None => false,
+    }
 }
 
 #[test]
-fn a_link_has_a_map(rt: HostRuntime) -> Result<(), Fail> {
-    for (modules, text, expected) in MAPS {
-        let modules = modules_of(rt.alloc(), modules)?;
-        assert!(rt; is_map(rt.alloc(), &modules, text, expected)?, "{expected}");
+fn a_link_has_a_map(rt: HostRuntime) {
+    for map in &MAPS {
+        assert!(rt; has_map(rt.alloc(), map), "{}", map.2);
     }
-    assert_eq!(rt; map_of(rt.alloc(), &[], &[])?.len(), 0);
-    Ok(())
 }
 
 /// tests/growths.sh refuses each growth in turn.
 #[test]
 fn a_refused_growth_gives_no_other_link(rt: HostRuntime) {
-    for case in &CASES {
-        assert!(rt; is_right(rt.alloc(), case, true), "{}", case.text);
-    }
-    if let Ok(modules) = modules_of(rt.alloc(), UNLINKED) {
-        let drafted = is_draft(rt.alloc(), &modules, FLAT, FLAT_DRAFT);
-        assert!(rt; drafted == Ok(true) || drafted == Err(LayoutFault::Memory));
-    }
+    assert_eq!(rt; first_wrong(rt.alloc(), true), None);
+    assert!(rt; has_draft(rt.alloc(), FLAT, Ok(FLAT_DRAFT), true));
 }

@@ -2,13 +2,11 @@
 
 ghost use Rattle.std.specs.Prelude.{◌<◌};
 
-use super::bytes_of;
-use super::verdicts::{ANY, Answer, Verdict, by_check, finished, length_of, opened, taken};
+use super::verdicts::{ANY, Answer, Verdict, feed_pieces, left_by, length_of, taken};
 use omf_check::{CheckFault, Profile, Session};
 use omf_frame::{Place, Reason};
-use omf_samples::{BadHex, DATA, END, FIXUP, HEADER, MODULE, NAMES, SEGMENT};
+use omf_samples::{DATA, END, FIXUP, HEADER, MODULE, NAMES, SEGMENT, joined};
 use std::alloc::Global;
-use std::test::Fail;
 
 /// How many bytes a session wants, and whether it has passed the end of the module.
 fn state_of(session: &Session) -> (usize, bool) {
@@ -22,26 +20,8 @@ type Step = (
     (usize, bool),
 );
 
-/// Whether a session takes a step.
-fn takes(session: &mut Session, piece: &[u8], step: &Step) -> bool {
-    let (_row, answer, state) = *step;
-    taken(session, piece) == answer && state_of(session) == state
-}
-
-/// The answer of a session with this profile after these steps; `None` if it takes one otherwise.
-fn answer_after(alloc: Global, profile: Profile, steps: &[Step]) -> Result<Option<Answer>, BadHex> {
-    let mut session = opened(alloc, profile);
-    for step in steps {
-        let piece = bytes_of(alloc, step.0)?;
-        if !takes(&mut session, &piece, step) {
-            return Ok(None);
-        }
-    }
-    Ok(Some(length_of(finished(session))))
-}
-
 /// A session wants the type byte, then the length, then the rest of a record. Of a piece it takes one record at most.
-static STEPS: [Step; 9] = [
+const STEPS: &[Step] = &[
     (&[], Ok((0, false)), (1, false)),
     (&["80"], Ok((1, false)), (2, false)),
     (&["03 00"], Ok((2, false)), (3, false)),
@@ -54,7 +34,7 @@ static STEPS: [Step; 9] = [
 ];
 
 /// Each piece is all that is left of a module and two bytes after it.
-static WHOLE_STEPS: [Step; 7] = [
+const WHOLE_STEPS: &[Step] = &[
     (
         &[HEADER, NAMES, SEGMENT, DATA, FIXUP, END, "DE AD"],
         Ok((6, true)),
@@ -86,7 +66,7 @@ const UNSUPPORTED: CheckFault = CheckFault::Refused {
 };
 
 /// A fault is the answer from then on.
-static FAULTY_STEPS: [Step; 4] = [
+const FAULTY_STEPS: &[Step] = &[
     (&[HEADER], Ok((6, true)), (1, false)),
     (&["C2"], Err(UNSUPPORTED), (0, false)),
     (&[END], Err(UNSUPPORTED), (0, false)),
@@ -108,57 +88,61 @@ const VENDOR_COMMENT: CheckFault = CheckFault::Refused {
 };
 
 /// The class of a comment is judged at the comment's end.
-static STRICT_STEPS: [Step; 4] = [
+const STRICT_STEPS: &[Step] = &[
     (&[HEADER], Ok((6, true)), (1, false)),
     (&["88 03 00 00 E9"], Ok((5, false)), (1, false)),
     (&["8C"], Err(VENDOR_COMMENT), (0, false)),
     (&[END], Err(VENDOR_COMMENT), (0, false)),
 ];
 
-#[test]
-fn a_session_takes_one_record_at_a_time_and_keeps_a_fault(rt: HostRuntime) -> Result<(), Fail> {
-    assert_eq!(rt; answer_after(rt.alloc(), ANY, &STEPS)?, Some(Ok(28)));
-    assert_eq!(rt; answer_after(rt.alloc(), ANY, &WHOLE_STEPS)?, Some(Ok(48)));
-    assert_eq!(rt;
-        answer_after(rt.alloc(), ANY, &FAULTY_STEPS)?,
-        Some(Err(UNSUPPORTED))
-    );
-    assert_eq!(rt;
-        answer_after(rt.alloc(), STRICT, &STRICT_STEPS)?,
-        Some(Err(VENDOR_COMMENT))
-    );
-    Ok(())
+/// A profile, steps, and the answer after them.
+type Steps = (Profile, &'static [Step], Answer);
+
+static SESSIONS: [Steps; 4] = [
+    (ANY, STEPS, Ok(28)),
+    (ANY, WHOLE_STEPS, Ok(48)),
+    (ANY, FAULTY_STEPS, Err(UNSUPPORTED)),
+    (STRICT, STRICT_STEPS, Err(VENDOR_COMMENT)),
+];
+
+/// Whether a session takes a step.
+fn takes(alloc: Global, session: &mut Session, step: &Step) -> bool {
+    match joined(alloc, step.0) {
+        Ok(piece) => taken(session, &piece) == step.1 && state_of(session) == step.2,
+        Err(_) => false,
+    }
 }
 
-/// Whether a session gives this fault from now on, and takes nothing.
-fn keeps(session: Session, fault: CheckFault, bytes: &[u8]) -> bool {
-    let mut session = session;
-    taken(&mut session, bytes) == Err(fault)
-        && state_of(&session) == (0, false)
-        && length_of(finished(session)) == Err(fault)
-}
-
-/// The answer of a session to pieces of one size, each with at most 7 records; `None` if it does not keep a fault.
-fn lasting_answer(alloc: Global, bytes: &[u8], size: usize) -> Option<Answer>
-    requires { 0 < size }
-{
-    let mut session = opened(alloc, ANY);
-    for piece in bytes.chunks(size) {
-        let mut rest = piece;
-        for _ in 0..8 {
-            match taken(&mut session, rest) {
-                Ok((count, _whole)) => rest = rest.get(count..).unwrap_or(&[]),
-                Err(fault) => {
-                    return if keeps(session, fault, bytes) {
-                        Some(Err(fault))
-                    } else {
-                        None
-                    };
-                }
-            }
+/// Whether a session takes these steps.
+fn takes_all(alloc: Global, session: &mut Session, steps: &[Step]) -> bool {
+    for step in steps {
+        if !takes(alloc, session, step) {
+            return false;
         }
     }
-    Some(length_of(finished(session)))
+    true
+}
+
+/// Whether a session takes its steps and has its answer.
+fn is_right(alloc: Global, steps: &Steps) -> bool {
+    let mut session = Session::new(alloc, steps.0);
+    let takes = takes_all(alloc, &mut session, steps.1);
+    length_of(session.finish()) == steps.2 && takes
+}
+
+#[test]
+fn a_session_takes_one_record_at_a_time_and_keeps_a_fault(rt: HostRuntime) {
+    for (at, steps) in SESSIONS.iter().enumerate() {
+        assert!(rt; is_right(rt.alloc(), steps), "{at}");
+    }
+}
+
+/// Whether a session gives a fault from now on, and takes nothing.
+fn keeps(session: &mut Session, fed: Result<(), CheckFault>, bytes: &[u8]) -> bool {
+    match fed {
+        Ok(()) => true,
+        Err(fault) => taken(session, bytes) == Err(fault) && state_of(session) == (0, false),
+    }
 }
 
 /// Whether a module of 48 bytes is accepted, or a growth was refused.
@@ -166,17 +150,34 @@ fn is_either(answer: Answer) -> bool {
     answer == Ok(48) || answer == Err(CheckFault::Memory)
 }
 
+/// Whether a session that is fed pieces of one size accepts a module, or has and keeps the fault of a refused growth.
+fn lasts(alloc: Global, bytes: &[u8], size: usize) -> bool
+    requires { 0 < size }
+{
+    let mut session = Session::new(alloc, ANY);
+    let fed = feed_pieces(&mut session, bytes, size);
+    let kept = keeps(&mut session, fed, bytes);
+    let answer = length_of(session.finish());
+    is_either(answer) && kept && (fed.is_ok() || answer.err() == fed.err())
+}
+
+/// Whether a module is accepted in each of these ways, or a growth is refused.
+fn is_kept(alloc: Global) -> bool {
+    match joined(alloc, MODULE) {
+        Ok(bytes) => {
+            lasts(alloc, &bytes, 1)
+                && lasts(alloc, &bytes, 5)
+                && lasts(alloc, &bytes, 48)
+                && is_either(left_by(alloc, &bytes).0)
+        }
+        Err(_) => true,
+    }
+}
+
 /// tests/growths.sh refuses each growth in turn. A type byte is refused without any memory.
 #[test]
 fn a_refused_growth_is_kept(rt: HostRuntime) {
-    let Ok(bytes) = bytes_of(rt.alloc(), MODULE) else {
-        return;
-    };
-    for size in [1, 5, 48] {
-        let answer = lasting_answer(rt.alloc(), &bytes, size);
-        assert!(rt; answer.is_some_and(is_either), "{size}");
-    }
-    assert!(rt; is_either(by_check(rt.alloc(), &bytes)));
+    assert!(rt; is_kept(rt.alloc()));
     let unsupported = Verdict::Refuses(Reason::UnsupportedType, 0, 0, 0).answer();
-    assert_eq!(rt; by_check(rt.alloc(), &[0xC2]), unsupported);
+    assert!(rt; left_by(rt.alloc(), &[0xC2]) == (unsupported, 0));
 }

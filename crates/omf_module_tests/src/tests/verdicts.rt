@@ -1,9 +1,9 @@
-//! Verdicts of `check` over readers and of `Session` over pieces.
+//! Verdicts of `check` over bytes and of `Session` over pieces.
 
 ghost use Rattle.std.specs.Prelude.{◌<◌};
 
 use omf_check::{CheckFault, Checked, Profile, Session, check};
-use omf_frame::{Place, Reading, Reason, Source};
+use omf_frame::{Bytes, Place, Reason, Source};
 use std::alloc::Global;
 
 /// Accepts comments of vendors.
@@ -38,15 +38,10 @@ impl Verdict {
     }
 }
 
-/// The bytes of a module.
-pub fn bytes_in(module: &Checked) -> &[u8] {
-    module.bytes()
-}
-
 /// The length of an accepted module.
 pub fn length_of(verdict: Result<Checked, CheckFault>) -> Answer {
     match verdict {
-        Ok(module) => Ok(bytes_in(&module).len()),
+        Ok(module) => Ok(module.bytes().len()),
         Err(fault) => Err(fault),
     }
 }
@@ -56,14 +51,11 @@ pub fn read_by<S: Source + Drop>(alloc: Global, source: &mut S) -> Answer {
     length_of(check(alloc, source, ANY))
 }
 
-/// The answer of `check` over a reader of these bytes.
-pub fn by_check(alloc: Global, bytes: &[u8]) -> Answer {
-    read_by(alloc, &mut Reading::new(bytes))
-}
-
-/// A session with this profile.
-pub fn opened(alloc: Global, profile: Profile) -> Session {
-    Session::new(alloc, profile)
+/// The answer of `check` over bytes, and how many it leaves.
+pub fn left_by(alloc: Global, bytes: &[u8]) -> (Answer, usize) {
+    let mut source = Bytes::new(bytes);
+    let answer = read_by(alloc, &mut source);
+    (answer, source.ahead().len())
 }
 
 /// How many bytes a session takes of a piece, and whether it has taken a whole record.
@@ -87,25 +79,31 @@ fn feed_all(session: &mut Session, piece: &[u8]) -> Result<(), CheckFault> {
     Ok(())
 }
 
-/// The verdict of a session at the end of its input.
-pub fn finished(session: Session) -> Result<Checked, CheckFault> {
-    session.finish()
-}
-
-/// The module of a session that is fed pieces of one size.
-pub fn fed_by(alloc: Global, bytes: &[u8], size: usize) -> Result<Checked, CheckFault>
+/// Feeds pieces of one size, each with at most 7 records.
+pub fn feed_pieces(session: &mut Session, bytes: &[u8], size: usize) -> Result<(), CheckFault>
     requires { 0 < size }
 {
-    let mut session = opened(alloc, ANY);
     for piece in bytes.chunks(size) {
-        feed_all(&mut session, piece)?;
+        feed_all(session, piece)?;
     }
-    finished(session)
+    Ok(())
 }
 
 /// The answer of a session that is fed pieces of one size.
-pub fn by_pieces(alloc: Global, bytes: &[u8], size: usize) -> Answer
+fn by_pieces(alloc: Global, bytes: &[u8], size: usize) -> Answer
     requires { 0 < size }
 {
-    length_of(fed_by(alloc, bytes, size))
+    let mut session = Session::new(alloc, ANY);
+    match feed_pieces(&mut session, bytes, size) {
+        Ok(()) => length_of(session.finish()),
+        Err(fault) => Err(fault),
+    }
+}
+
+/// Whether `check` gives a verdict over bytes and leaves this number of them, and a session in pieces of one size gives it too.
+pub fn is_answered(alloc: Global, bytes: &[u8], verdict: Verdict, left: usize, size: usize) -> bool
+    requires { 0 < size }
+{
+    let answer = verdict.answer();
+    left_by(alloc, bytes) == (answer, left) && by_pieces(alloc, bytes, size) == answer
 }

@@ -1,17 +1,26 @@
 //! Blocks that are expanded, and images that are laid, while memory runs out.
 
-use super::calls::{Call, Tried, hold, refused_if, right_if};
+use super::calls::{Call, Tried, first_failing, first_wrong, refused_if, right_if};
 use omf_image::{Image, Limits, expand, expanded_len};
 use omf_records::Blocks;
 use std::alloc::{AllocError, Global};
-use std::test::Fail;
 
 /// 16-bit blocks, and their expanded bytes.
-#[derive(Clone, Copy)]
 struct Swelling {
     blocks: &'static [u8],
     bytes: &'static [u8],
 }
+
+static SWELLINGS: [Swelling; 2] = [
+    Swelling {
+        blocks: b"\x03\0\x02\0\x02\0\0\0\x01\xAA\x01\0\0\0\x02\xBB\xCC",
+        bytes: b"\xAA\xAA\xBB\xCC\xAA\xAA\xBB\xCC\xAA\xAA\xBB\xCC",
+    },
+    Swelling {
+        blocks: b"\x01\0\0\0\x02\xAA\xBB\x02\0\0\0\x01\xCC",
+        bytes: b"\xAA\xBB\xCC\xCC",
+    },
+];
 
 /// The expanded bytes; None if the blocks have a fault, or there are too many.
 fn expanded(alloc: Global, bytes: &[u8]) -> Option<Result<(Vec<u8>, u64), AllocError>> {
@@ -28,150 +37,126 @@ fn expanded(alloc: Global, bytes: &[u8]) -> Option<Result<(Vec<u8>, u64), AllocE
 impl Call for Swelling {
     fn run(&self, alloc: Global) -> Tried {
         match expanded(alloc, self.blocks) {
-            Some(Ok((bytes, _))) => right_if(bytes.as_slice() == self.bytes),
+            Some(Ok((bytes, _moved))) => right_if(bytes.as_slice() == self.bytes),
             Some(Err(AllocError)) => Tried::Refused,
             None => Tried::Wrong,
         }
     }
 }
 
-#[test]
-fn expands_blocks(rt: HostRuntime) -> Result<(), Fail> {
-    let repeats: &[u8] = &[
-        0x03, 0x00, 0x02, 0x00, 0x02, 0x00, 0x00, 0x00, 0x01, 0xAA, 0x01, 0x00, 0x00, 0x00, 0x02,
-        0xBB, 0xCC,
-    ];
-    let calls = [
-        Swelling {
-            blocks: repeats,
-            bytes: b"\xAA\xAA\xBB\xCC\xAA\xAA\xBB\xCC\xAA\xAA\xBB\xCC",
-        },
-        Swelling {
-            blocks: b"\x01\x00\x00\x00\x02\xAA\xBB\x02\x00\x00\x00\x01\xCC",
-            bytes: b"\xAA\xBB\xCC\xCC",
-        },
-    ];
-    hold(&rt, &calls)
+/// A piece of equal bytes: its offset in segment 1, its length and its byte.
+type Piece = (u32, u32, u8);
+
+/// A run of segment 1: its first offset, its length, and the bytes at some offsets.
+type Run = (u32, usize, &'static [(u32, u8)]);
+
+/// A piece that is laid, and the runs before it.
+type Step = (&'static [Run], Piece);
+
+/// Pieces that are laid one after another, and the runs after all.
+struct Laying {
+    steps: &'static [Step],
+    runs: &'static [Run],
 }
 
-/// The bytes in a piece: those of the system's smallest block, so that a piece that grows needs another.
+/// The bytes in a piece that is alone: those of the system's smallest block, so that a piece that grows needs another.
 const PIECE: u32 = 24;
 
-/// Three pieces, of which the last joins the others.
-#[derive(Drop)]
-struct Laying;
+/// Of three pieces the last joins the others; of two the second follows the first.
+static LAYINGS: [Laying; 2] = [
+    Laying {
+        steps: &[
+            (&[], (0, PIECE, 0xAA)),
+            (&[(0, 24, &[(0, 0xAA), (23, 0xAA)])], (48, PIECE, 0xCC)),
+            (
+                &[
+                    (0, 24, &[(0, 0xAA), (23, 0xAA)]),
+                    (48, 24, &[(48, 0xCC), (71, 0xCC)]),
+                ],
+                (24, PIECE, 0xBB),
+            ),
+        ],
+        runs: &[(
+            0,
+            72,
+            &[
+                (0, 0xAA),
+                (23, 0xAA),
+                (24, 0xBB),
+                (47, 0xBB),
+                (48, 0xCC),
+                (71, 0xCC),
+            ],
+        )],
+    },
+    Laying {
+        steps: &[(&[], (4, 1, 0xAA)), (&[(4, 1, &[(4, 0xAA)])], (5, 1, 0xBB))],
+        runs: &[(4, 2, &[(4, 0xAA), (5, 0xBB)])],
+    },
+];
 
-/// A piece of equal bytes.
-fn piece(alloc: Global, byte: u8) -> Result<Vec<u8>, AllocError> {
-    let mut bytes = Vec::with_capacity(alloc, PIECE as usize)?;
-    for _ in 0..PIECE {
-        bytes.push(byte)?;
+/// Lays a piece that ends below 1000.
+fn lay(alloc: Global, image: &mut Image, piece: &Piece) -> Result<(), AllocError> {
+    let (offset, len, byte) = *piece;
+    let bytes = vec![in alloc; byte; len as usize]?;
+    if offset < 1000 && bytes.len() < 1000 {
+        image.lay(1, offset, bytes)?;
     }
-    Ok(bytes)
+    Ok(())
 }
 
-/// A run of segment 1: its first offset, its length, and the number of its bytes.
-fn run_of(image: &Image, k: usize) -> Option<(u32, u64, usize)> {
-    match (image.run_at(1, k), image.run_bytes(1, k)) {
-        (Some(run), Some(bytes)) => Some((run.first, run.len, bytes.len())),
-        _ => None,
+/// The first offset of a run of segment 1, and the number of its bytes.
+fn run_of(image: &Image, k: usize) -> Option<(u32, usize)> {
+    match image.run_with_bytes(1, k) {
+        Some((first, bytes)) => Some((first, bytes.len())),
+        None => None,
     }
 }
 
-fn has_run_at(image: &Image, segment: u16, k: usize) -> bool {
-    image.run_at(segment, k).is_some()
-}
-
-/// A byte of segment 1.
-fn byte_of(image: &Image, offset: u32) -> Option<u8> {
-    image.get(1, offset)
-}
-
-/// Whether the image has this run, and the bytes at its two ends.
-fn has_run(image: &Image, k: usize, first: u32, len: u32, bytes: [u8; 2]) -> bool {
-    let last = first.saturating_add(len).saturating_sub(1);
-    run_of(image, k) == Some((first, u64::from(len), len as usize))
-        && byte_of(image, first) == Some(bytes[0])
-        && byte_of(image, last) == Some(bytes[1])
-}
-
-/// Whether the image has the first `pieces` of the pieces.
-fn is_laid(image: &Image, pieces: u32) -> bool {
-    match pieces {
-        0 => !has_run_at(image, 1, 0),
-        1 => has_run(image, 0, 0, PIECE, [0xAA, 0xAA]) && !has_run_at(image, 1, 1),
-        2 => {
-            has_run(image, 0, 0, PIECE, [0xAA, 0xAA])
-                && has_run(image, 1, 2 * PIECE, PIECE, [0xCC, 0xCC])
-                && !has_run_at(image, 1, 2)
+/// Whether segment 1 has these bytes.
+fn has_bytes(image: &Image, bytes: &[(u32, u8)]) -> bool {
+    for (offset, byte) in bytes {
+        if image.get(1, *offset) != Some(*byte) {
+            return false;
         }
-        _ => {
-            has_run(image, 0, 0, 3 * PIECE, [0xAA, 0xCC])
-                && byte_of(image, PIECE) == Some(0xBB)
-                && !has_run_at(image, 1, 1)
+    }
+    true
+}
+
+/// Whether segment 1 has these runs, and no others.
+fn has_runs(image: &Image, runs: &[Run]) -> bool {
+    for (k, (first, len, bytes)) in runs.iter().enumerate() {
+        if run_of(image, k) != Some((*first, *len)) || !has_bytes(image, *bytes) {
+            return false;
         }
     }
-}
-
-/// Lays bytes at an offset of segment 1.
-fn lay_at(image: &mut Image, offset: u32, bytes: Vec<u8>) -> Result<(), AllocError> {
-    if offset > 1000 || bytes.len() > 1000 {
-        return Ok(());
-    }
-    image.lay(1, offset, bytes)
-}
-
-/// Lays a piece at an offset of segment 1.
-fn lay_one(alloc: Global, image: &mut Image, offset: u32, byte: u8) -> Result<(), AllocError> {
-    lay_at(image, offset, piece(alloc, byte)?)
+    run_of(image, runs.len()) == None
 }
 
 impl Call for Laying {
     fn run(&self, alloc: Global) -> Tried {
         let mut image = Image::new(alloc);
-        if lay_one(alloc, &mut image, 0, 0xAA).is_err() {
-            return refused_if(is_laid(&image, 0));
+        for (runs, piece) in self.steps {
+            if lay(alloc, &mut image, piece).is_err() {
+                return refused_if(has_runs(&image, *runs));
+            }
         }
-        if lay_one(alloc, &mut image, 2 * PIECE, 0xCC).is_err() {
-            return refused_if(is_laid(&image, 1));
-        }
-        if lay_one(alloc, &mut image, PIECE, 0xBB).is_err() {
-            return refused_if(is_laid(&image, 2));
-        }
-        right_if(is_laid(&image, 3))
+        right_if(has_runs(&image, self.runs))
     }
 }
 
 #[test]
-fn lays_pieces(rt: HostRuntime) -> Result<(), Fail> {
-    hold(&rt, &[Laying])
-}
-
-/// Two pieces of a byte each, of which the second follows the first.
-#[derive(Drop)]
-struct Following;
-
-/// Lays a byte at an offset of segment 1.
-fn lay_byte(alloc: Global, image: &mut Image, offset: u32, byte: u8) -> Result<(), AllocError> {
-    let mut bytes = Vec::new(alloc);
-    bytes.push(byte)?;
-    lay_at(image, offset, bytes)
-}
-
-impl Call for Following {
-    fn run(&self, alloc: Global) -> Tried {
-        let mut image = Image::new(alloc);
-        if lay_byte(alloc, &mut image, 4, 0xAA).is_err() {
-            return refused_if(!has_run_at(&image, 1, 0));
-        }
-        if lay_byte(alloc, &mut image, 5, 0xBB).is_err() {
-            return refused_if(has_run(&image, 0, 4, 1, [0xAA; 2]) && !has_run_at(&image, 1, 1));
-        }
-        right_if(has_run(&image, 0, 4, 2, [0xAA, 0xBB]) && !has_run_at(&image, 1, 1))
-    }
+fn expands_blocks(rt: HostRuntime) {
+    assert!(rt; first_failing(rt.alloc(), &SWELLINGS) == Ok(None));
 }
 
 #[test]
-fn lays_a_piece_after_another(rt: HostRuntime) -> Result<(), Fail> {
-    hold(&rt, &[Following])
+fn lays_pieces(rt: HostRuntime) {
+    assert!(rt; first_failing(rt.alloc(), &LAYINGS) == Ok(None));
+}
+
+#[test]
+fn a_refused_growth_expands_and_lays_nothing_else(rt: HostRuntime) {
+    let blocks = first_wrong(rt.alloc(), &SWELLINGS);
+    assert!(rt; blocks.or(first_wrong(rt.alloc(), &LAYINGS)).is_none());
 }

@@ -1,12 +1,10 @@
-//! Testing a call while memory runs out.
+//! Testing calls while memory runs out.
 
 use super::scarce::{ROOM, STEP, Scarce};
-use std::alloc::Global;
-use std::process::Abort;
-use std::test::Fail;
+use std::alloc::{AllocError, Global};
 
 /// The result of a call, compared with what is expected.
-#[derive(Clone, Copy, Debug, PartialEq, Eq)]
+#[derive(Clone, Copy, PartialEq, Eq)]
 pub enum Tried {
     /// It is what is expected.
     Right,
@@ -32,25 +30,33 @@ pub trait Call {
     fn run(&self, alloc: Global) -> Tried;
 }
 
-/// The least free bytes, in steps, with which the call succeeds. With less it runs out of memory.
-fn least_room<C: Call>(
-    rt: &(impl Abort + AllocGlobal),
-    scarce: &mut Scarce,
-    call: &C,
-) -> Result<Option<usize>, Fail> {
+/// Whether a call runs out of memory with no free bytes, and so with 16 bytes more, and so on, until it succeeds.
+fn runs_out_first<C: Call>(alloc: Global, scarce: &mut Scarce, call: &C) -> bool {
     for step in 0..ROOM / STEP {
-        scarce.set_free(step * STEP)?;
-        let tried = call.run(rt.alloc());
-        assert!(rt; tried != Tried::Wrong, "{} bytes are free", step * STEP);
-        if tried == Tried::Right {
-            return Ok(Some(step));
+        if scarce.set_free(step * STEP).is_err() {
+            return false;
+        }
+        match call.run(alloc) {
+            Tried::Right => return step > 0,
+            Tried::Refused => {}
+            Tried::Wrong => return false,
         }
     }
-    Ok(None)
+    false
 }
 
-/// The first of these calls that is not `Right`.
-fn first_wrong<C: Call>(alloc: Global, calls: &[C]) -> Option<usize> {
+/// The first of these calls that does not run out of memory until it succeeds, each in the next room.
+fn first_never_refused<C: Call>(alloc: Global, scarce: &mut Scarce, calls: &[C]) -> Option<usize> {
+    for (at, call) in calls.iter().enumerate() {
+        if scarce.next_room().is_err() || !runs_out_first(alloc, scarce, call) {
+            return Some(at);
+        }
+    }
+    None
+}
+
+/// The first of these calls that does not succeed.
+fn first_not_right<C: Call>(alloc: Global, calls: &[C]) -> Option<usize> {
     for (at, call) in calls.iter().enumerate() {
         if call.run(alloc) != Tried::Right {
             return Some(at);
@@ -59,17 +65,23 @@ fn first_wrong<C: Call>(alloc: Global, calls: &[C]) -> Option<usize> {
     None
 }
 
-/// Every call succeeds with ample memory. With none it runs out, and so with 16 bytes more, and so on, until it succeeds. With ample memory it
-/// succeeds again.
-pub fn hold<C: Call>(rt: &(impl Abort + AllocGlobal), calls: &[C]) -> Result<(), Fail> {
-    assert_eq!(rt; first_wrong(rt.alloc(), calls), None);
-    let mut scarce = Scarce::new(rt.alloc(), calls.len())?;
+/// The first of these calls that neither succeeds nor runs out of memory. `tests/growths.sh` refuses each growth in turn.
+pub fn first_wrong<C: Call>(alloc: Global, calls: &[C]) -> Option<usize> {
     for (at, call) in calls.iter().enumerate() {
-        scarce.next_room()?;
-        let least = least_room(rt, &mut scarce, call)?;
-        assert!(rt; least.is_some_and(|step| step > 0), "call {at}: {least:?}");
+        if call.run(alloc) == Tried::Wrong {
+            return Some(at);
+        }
     }
+    None
+}
+
+/// The first of these calls that does not succeed with ample memory, or does not run out of memory with none, with 16 bytes, and so on, until
+/// it succeeds, or does not succeed with ample memory again.
+pub fn first_failing<C: Call>(alloc: Global, calls: &[C]) -> Result<Option<usize>, AllocError> {
+    let ample = first_not_right(alloc, calls);
+    let mut scarce = Scarce::new(alloc, calls.len())?;
+    let less = first_never_refused(alloc, &mut scarce, calls);
     drop(scarce);
-    assert_eq!(rt; first_wrong(rt.alloc(), calls), None);
-    Ok(())
+    let again = first_not_right(alloc, calls);
+    Ok(ample.or(less).or(again))
 }

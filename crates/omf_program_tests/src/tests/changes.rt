@@ -1,86 +1,84 @@
 //! Modules that are cut, and modules of which one byte is changed.
 
-use super::modules::{Plan, Sample, module_of, place_of, samples};
+use super::modules::{Plan, Sample, checked, place_of, samples};
 use super::verdicts::{agree, by_check, by_pieces, is_refused};
 use omf_canon::canon;
 use omf_check::{CheckFault, Checked};
-use omf_cmd::{Listing, RunFault};
-use omf_frame::{Place, Reason, Writing};
+use omf_cmd::{Gathered, Listing, RunFault};
+use omf_frame::Reason;
 use omf_reloc::{Cause, Placement, ReachFault};
 use std::alloc::{AllocError, Global};
-use std::process::Abort;
-use std::test::Fail;
 
-/// A module that is cut between two records has no end; one that is cut in a record is cut there.
-#[test]
-fn modules_cut_to_every_length(rt: HostRuntime) -> Result<(), Fail> {
-    let a = rt.alloc();
-    for sample in &samples(a)? {
-        for (count, _) in sample.bytes.iter().enumerate() {
-            let (place, _) = place_of(&sample.plan, count).expect(&rt, "a record");
-            let reason = if place.within == 0 {
-                Reason::NoEnd
-            } else {
-                Reason::Cut
-            };
-            let front = sample.bytes.as_slice().split_at(count).0;
-            for verdict in [by_check(a, front), by_pieces(a, front, 1)] {
-                assert!(rt;
-                    is_refused(&verdict, reason, place),
-                    "{}: the first {count} bytes",
-                    sample.plan.name
-                );
-            }
-        }
-    }
-    Ok(())
+/// Whether a module that is cut here is refused: between two records it has no end, and in a record it is cut there.
+fn is_cut(alloc: Global, sample: &Sample, count: usize) -> bool {
+    let Some((place, _len)) = place_of(sample.plan, count) else {
+        return false;
+    };
+    let reason = if place.within == 0 {
+        Reason::NoEnd
+    } else {
+        Reason::Cut
+    };
+    let front = sample.bytes.get(..count).unwrap_or(&[]);
+    is_refused(&by_check(alloc, front), reason, place)
+        && is_refused(&by_pieces(alloc, front, 1), reason, place)
 }
 
-/// What is wrong with an accepted module.
-#[derive(Clone, Copy, Debug, PartialEq, Eq)]
-enum Broken {
-    /// A reader and a session do not agree, or ran out of memory.
-    Verdict,
-    /// The canonical bytes are refused, or are not their own canonical bytes.
-    Canonical,
-    /// The image, the start or the fault at the placement is not that of the canonical bytes.
-    Meaning,
+/// The first length to which a module can be cut without being refused so.
+fn first_uncut(alloc: Global, sample: &Sample) -> Option<usize> {
+    for count in 0..sample.bytes.len() {
+        if !is_cut(alloc, sample, count) {
+            return Some(count);
+        }
+    }
+    None
+}
+
+/// The first module that can be cut so, and the length.
+fn first_uncut_module(alloc: Global) -> Result<Option<(&'static str, usize)>, AllocError> {
+    for sample in &samples(alloc)? {
+        if let Some(count) = first_uncut(alloc, sample) {
+            return Ok(Some((sample.plan.name, count)));
+        }
+    }
+    Ok(None)
+}
+
+#[test]
+fn modules_cut_to_every_length(rt: HostRuntime) {
+    assert!(rt; first_uncut_module(rt.alloc()) == Ok(None));
 }
 
 /// What is found of some bytes.
-#[derive(Clone, Copy, Debug, PartialEq, Eq)]
+#[derive(Clone, Copy, Debug)]
 enum Found {
     Refused,
     /// Accepted, but the placement does not reach.
     Unplaced,
     Relocated,
-}
-
-/// Prints a listing.
-fn printed(alloc: Global, listing: &Listing) -> Result<Vec<u8>, Fail> {
-    let mut text = Vec::new(alloc);
-    listing.print(alloc, &mut Writing::new(&mut text))?;
-    Ok(text)
+    /// A reader and a session do not agree.
+    OtherVerdict,
+    /// The canonical bytes are refused, or are not their own canonical bytes.
+    NotCanonical,
+    /// The image, the start or the fault at the placement is not that of the canonical bytes.
+    OtherMeaning,
+    Memory,
 }
 
 /// The text of a module at a placement, or why the placement does not reach.
-fn text_at(
-    alloc: Global,
-    module: &Checked,
-    placement: &Placement,
-) -> Result<Result<Vec<u8>, RunFault>, Fail> {
-    match Listing::at(alloc, module, placement) {
-        Ok(listing) => Ok(Ok(printed(alloc, &listing)?)),
-        Err(fault) => Ok(Err(fault)),
-    }
+fn text_at(alloc: Global, module: &Checked, placement: &Placement) -> Result<Vec<u8>, RunFault> {
+    let listing = Listing::at(alloc, module, placement)?;
+    let mut writer = Gathered::new(alloc);
+    listing.print(alloc, &mut writer)?;
+    Ok(writer.text)
 }
 
 /// The cause of a fixup out of range.
 fn cause_of(fault: RunFault) -> Option<Cause> {
-    match fault {
-        RunFault::Reach(ReachFault::TooFar { cause, .. }) => Some(cause),
-        _ => None,
+    if let RunFault::Reach(ReachFault::TooFar { cause, .. }) = fault {
+        return Some(cause);
     }
+    None
 }
 
 /// Whether two faults at one placement are the same but for number and place.
@@ -91,83 +89,102 @@ fn are_alike(fault: RunFault, other: RunFault) -> bool {
     }
 }
 
-/// Compares a module and its canonical one at a placement.
-fn compared(
-    alloc: Global,
-    module: &Checked,
-    other: &Checked,
-    placement: &Placement,
-) -> Result<Result<Found, Broken>, Fail> {
-    let first = text_at(alloc, module, placement)?;
-    let second = text_at(alloc, other, placement)?;
-    Ok(match first {
-        Ok(text) => match second {
-            Ok(again) if text == again => Ok(Found::Relocated),
-            _ => Err(Broken::Meaning),
+/// What is found of a module and its canonical one, by their texts or faults at a placement.
+fn compared(text: Result<Vec<u8>, RunFault>, other: Result<Vec<u8>, RunFault>) -> Found {
+    match text {
+        Err(RunFault::Memory) => Found::Memory,
+        Ok(text) => match other {
+            Ok(again) if text == again => Found::Relocated,
+            _ => Found::OtherMeaning,
         },
-        Err(fault) => match second {
-            Err(again) if are_alike(fault, again) => Ok(Found::Unplaced),
-            _ => Err(Broken::Meaning),
+        Err(fault) => match other {
+            Err(again) if are_alike(fault, again) => Found::Unplaced,
+            _ => Found::OtherMeaning,
         },
-    })
-}
-
-/// An accepted module: its canonical bytes are accepted, are their own canonical bytes, and mean the same.
-fn judge_accepted(
-    alloc: Global,
-    module: &Checked,
-    placement: &Placement,
-) -> Result<Result<Found, Broken>, Fail> {
-    let form = canon(alloc, module)?;
-    let Ok(formed) = by_check(alloc, &form) else {
-        return Ok(Err(Broken::Canonical));
-    };
-    if canon(alloc, &formed)? != form {
-        return Ok(Err(Broken::Canonical));
     }
-    compared(alloc, module, &formed, placement)
 }
 
-/// What is found of some bytes, or what is wrong with them.
-fn judge(
-    alloc: Global,
-    bytes: &[u8],
-    placement: &Placement,
-) -> Result<Result<Found, Broken>, Fail> {
+/// The module of some canonical bytes that are their own; None if they are not.
+fn canonical(alloc: Global, form: &[u8]) -> Option<Checked> {
+    let Ok(module) = checked(alloc, form) else {
+        return None;
+    };
+    match canon(alloc, &module) {
+        Ok(again) if again.as_slice() == form => Some(module),
+        _ => None,
+    }
+}
+
+/// What is found of an accepted module.
+fn judge_accepted(alloc: Global, module: &Checked, placement: &Placement) -> Found {
+    let Ok(form) = canon(alloc, module) else {
+        return Found::Memory;
+    };
+    match canonical(alloc, &form) {
+        Some(other) => compared(
+            text_at(alloc, module, placement),
+            text_at(alloc, &other, placement),
+        ),
+        None => Found::NotCanonical,
+    }
+}
+
+/// What is found of some bytes.
+fn judge(alloc: Global, bytes: &[u8], placement: &Placement) -> Found {
     let verdict = by_check(alloc, bytes);
     if !agree(&verdict, &by_pieces(alloc, bytes, 1)) {
-        return Ok(Err(Broken::Verdict));
+        return Found::OtherVerdict;
     }
     match verdict {
         Ok(module) => judge_accepted(alloc, &module, placement),
-        Err(CheckFault::Memory) => Ok(Err(Broken::Verdict)),
-        Err(_) => Ok(Ok(Found::Refused)),
+        Err(CheckFault::Memory) => Found::Memory,
+        Err(_) => Found::Refused,
     }
 }
 
-/// Judges a module with each byte replaced by each other value. Returns how many of these the placement relocates.
-fn try_each_byte(
-    rt: &(impl Abort + AllocGlobal),
-    sample: &Sample,
-    bytes: &[u8],
-) -> Result<usize, Fail> {
+/// Replaces a byte, if there is one here.
+fn replace(bytes: &mut [u8], at: usize, value: u8) {
+    if let Some(byte) = bytes.get_mut(at) {
+        *byte = value;
+    }
+}
+
+/// Judges a module with one byte replaced by each other value. The fault has the value.
+fn try_byte(
+    alloc: Global,
+    changed: &mut [u8],
+    at: usize,
+    placement: &Placement,
+) -> Result<usize, (u8, Found)> {
     let mut relocated = 0usize;
-    let mut changed = Vec::from_slice(rt.alloc(), bytes)?;
-    for (at, byte) in bytes.iter().enumerate() {
-        for difference in 1..=255u8 {
-            changed[at] = *byte ^ difference;
-            let found = judge(rt.alloc(), &changed, &sample.placement)?;
-            assert!(rt;
-                found.is_ok(),
-                "{}: byte {at} is {:02X}: {found:?}",
-                sample.plan.name,
-                changed[at]
-            );
-            if found == Ok(Found::Relocated) {
-                relocated = relocated.saturating_add(1);
-            }
+    let Some(byte) = changed.get(at).copied() else {
+        return Ok(0);
+    };
+    for difference in 1..=255u8 {
+        let value = byte ^ difference;
+        replace(changed, at, value);
+        match judge(alloc, changed, placement) {
+            Found::Refused | Found::Unplaced => {}
+            Found::Relocated => relocated = relocated.saturating_add(1),
+            found => return Err((value, found)),
         }
-        changed[at] = *byte;
+    }
+    replace(changed, at, byte);
+    Ok(relocated)
+}
+
+/// How many modules the placement relocates, or the first byte, its value and what is wrong with it.
+type Tally = Result<usize, (usize, u8, Found)>;
+
+/// Judges a module with each byte replaced by each other value.
+fn try_bytes(alloc: Global, bytes: Vec<u8>, placement: &Placement) -> Tally {
+    let mut changed = bytes;
+    let mut relocated = 0usize;
+    for at in 0..changed.len() {
+        match try_byte(alloc, &mut changed, at, placement) {
+            Ok(count) => relocated = relocated.saturating_add(count),
+            Err((value, found)) => return Err((at, value, found)),
+        }
     }
     Ok(relocated)
 }
@@ -184,67 +201,54 @@ fn is_checksum(plan: &Plan, at: usize) -> bool {
 fn unchecked(alloc: Global, sample: &Sample) -> Result<Vec<u8>, AllocError> {
     let mut bytes = Vec::new(alloc);
     for (at, byte) in sample.bytes.iter().enumerate() {
-        let is_zero = is_checksum(&sample.plan, at);
+        let is_zero = is_checksum(sample.plan, at);
         bytes.push(if is_zero { 0 } else { *byte })?;
     }
     Ok(bytes)
 }
 
-/// With checksums at least the modules with a checksum byte of 00 are relocated; without, so that layout and meaning are judged, at least those
-/// with another header name.
-#[test]
-fn each_byte_replaced(rt: HostRuntime) -> Result<(), Fail> {
-    for sample in &samples(rt.alloc())? {
-        let count = try_each_byte(&rt, sample, &sample.bytes)?;
-        assert!(rt; count >= sample.plan.records.len(), "{}", sample.plan.name);
-        let bytes = unchecked(rt.alloc(), sample)?;
-        let count = try_each_byte(&rt, sample, &bytes)?;
-        assert!(rt; count >= 255, "{}", sample.plan.name);
+/// A module whose bytes are replaced, and what is found of it.
+type Outcome = (&'static str, Tally);
+
+/// Judges a module with each byte replaced, and whether at least `least` of these are relocated. Returns what is found if not.
+fn other_outcome(alloc: Global, sample: &Sample, bytes: Vec<u8>, least: usize) -> Option<Outcome> {
+    match try_bytes(alloc, bytes, &sample.placement) {
+        Ok(count) if count >= least => None,
+        tally => Some((sample.plan.name, tally)),
     }
-    Ok(())
 }
 
-/// A changed byte of the contents is refused at the checksum byte; so is a changed checksum byte, unless it becomes 00.
-#[test]
-fn checksums_find_each_change(rt: HostRuntime) -> Result<(), Fail> {
-    let a = rt.alloc();
-    for sample in &samples(a)? {
-        let mut changed = sample.bytes.clone()?;
-        for (at, byte) in sample.bytes.iter().enumerate() {
-            let (place, len) = place_of(&sample.plan, at).expect(&rt, "a record");
-            let within = len.saturating_sub(1);
-            let checksum = Place { within, ..place };
-            for difference in 1..=255u8 {
-                changed[at] = *byte ^ difference;
-                let verdict = by_check(a, &changed);
-                let holds = if place.within < 3 {
-                    true
-                } else if place == checksum && changed[at] == 0 {
-                    verdict.is_ok()
-                } else {
-                    is_refused(&verdict, Reason::Checksum, checksum)
-                };
-                assert!(rt;
-                    holds,
-                    "{}: byte {at} is {:02X}",
-                    sample.plan.name, changed[at]
-                );
-            }
-            changed[at] = *byte;
+/// At least the modules with a checksum byte of 00 are relocated.
+fn first_other(alloc: Global) -> Result<Option<Outcome>, AllocError> {
+    for sample in &samples(alloc)? {
+        let bytes = sample.bytes.clone()?;
+        let other = other_outcome(alloc, sample, bytes, sample.plan.records.len());
+        if other.is_some() {
+            return Ok(other);
         }
     }
-    Ok(())
+    Ok(None)
 }
 
-/// The canonical bytes of each module are those worked out by hand, and are their own.
 #[test]
-fn modules_have_canonical_bytes(rt: HostRuntime) -> Result<(), Fail> {
-    let a = rt.alloc();
-    for sample in &samples(a)? {
-        let form = canon(a, &sample.module)?;
-        assert!(rt; form == sample.canonical, "{}", sample.plan.name);
-        let again = canon(a, &module_of(a, &form)?)?;
-        assert!(rt; again == form, "{}", sample.plan.name);
+fn each_byte_replaced(rt: HostRuntime) {
+    let other = first_other(rt.alloc());
+    assert!(rt; matches!(other, Ok(None)), "{other:?}");
+}
+
+/// Without checksums layout and meaning are judged. At least the modules with another header name are relocated.
+fn first_other_unchecked(alloc: Global) -> Result<Option<Outcome>, AllocError> {
+    for sample in &samples(alloc)? {
+        let other = other_outcome(alloc, sample, unchecked(alloc, sample)?, 255);
+        if other.is_some() {
+            return Ok(other);
+        }
     }
-    Ok(())
+    Ok(None)
+}
+
+#[test]
+fn each_byte_replaced_without_checksums(rt: HostRuntime) {
+    let other = first_other_unchecked(rt.alloc());
+    assert!(rt; matches!(other, Ok(None)), "{other:?}");
 }

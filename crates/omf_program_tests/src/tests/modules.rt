@@ -1,28 +1,30 @@
 //! The modules of the tests, each with a placement at which it reaches, and with answers worked out by hand.
+//!
+//! Memory that runs out is the only error of what makes them: rows that are not hexadecimal, a module that is refused and a text that gives it no
+//! placement are answered so too.
 
 use omf_check::{Checked, Profile, check};
 use omf_frame::{Place, Reading};
 use omf_reloc::{Placement, parse_placement};
 use omf_samples::{
-    END, FLAT_GROUP, GROUP, HEADER, JUMP, JUMP_DATA, LOCAL_EXTERNAL, LOCAL_EXTERNAL_32,
-    LOCAL_NAMES, LOCAL_PUBLIC, LOCAL_PUBLIC_32, LOCAL_RECORDS, LOCAL_SEGMENT, MODULE, NAMES,
-    NEAR_CALL, NESTED_BLOCKS, SEGMENT, SHORT_JUMP, SHORT_SEGMENT, START_BY_THREAD, THREADS, joined,
+    DATA, END, EXTERNAL, FLAT_GROUP, GROUP, HEADER, JUMP, JUMP_DATA, LOCAL_EXTERNAL,
+    LOCAL_EXTERNAL_32, LOCAL_NAMES, LOCAL_PUBLIC, LOCAL_PUBLIC_32, LOCAL_RECORDS, LOCAL_SEGMENT,
+    MODULE, NAMES, NEAR_CALL, NESTED_BLOCKS, PUBLIC, SEGMENT, SHORT_JUMP, SHORT_SEGMENT,
+    START_BY_THREAD, THREADS, joined,
 };
-use std::alloc::Global;
-use std::test::Fail;
+use std::alloc::{AllocError, Global};
 
 pub const ANY: Profile = Profile {
     refuse_vendor_comments: false,
 };
 
 /// The records of a module, its placement text, its canonical records, the bytes of its segments from offset 0, and its start.
-#[derive(Clone, Copy)]
 pub struct Plan {
     pub name: &'static str,
     pub records: &'static [&'static str],
     pub placement: &'static str,
     pub canonical: &'static [&'static str],
-    pub images: &'static [&'static str],
+    pub images: &'static [&'static [u8]],
     pub start: Option<(u16, u32)>,
 }
 
@@ -66,13 +68,13 @@ const LOCAL_SHORTENED: &[&str] = &[
 const LOW: &str = "S 10020 10000 1000";
 
 /// In real mode the frame of a group is that of its member.
-pub const PLANS: [Plan; 10] = [
+static PLANS: [Plan; 10] = [
     Plan {
         name: "one fixup",
         records: MODULE,
         placement: LOW,
         canonical: MODULE,
-        images: &["B8 20 00 90"],
+        images: &[b"\xB8\x20\x00\x90"],
         start: None,
     },
     Plan {
@@ -80,7 +82,7 @@ pub const PLANS: [Plan; 10] = [
         records: THREADS,
         placement: "S 20 10 1\nS 50 40 4",
         canonical: THREADS_WRITTEN_OUT,
-        images: &["10 00 40 00", "10 00"],
+        images: &[b"\x10\x00\x40\x00", b"\x10\x00"],
         start: None,
     },
     Plan {
@@ -88,7 +90,7 @@ pub const PLANS: [Plan; 10] = [
         records: NEAR_CALL,
         placement: LOW,
         canonical: NEAR_CALL,
-        images: &["E8 FD FF 90"],
+        images: &[b"\xE8\xFD\xFF\x90"],
         start: None,
     },
     Plan {
@@ -96,7 +98,7 @@ pub const PLANS: [Plan; 10] = [
         records: SHORT_JUMP,
         placement: "S 10020 10000 1000\nE 100A1 10000 1000",
         canonical: SHORT_JUMP,
-        images: &["EB 7F 00 90"],
+        images: &[b"\xEB\x7F\x00\x90"],
         start: None,
     },
     Plan {
@@ -104,7 +106,7 @@ pub const PLANS: [Plan; 10] = [
         records: FLAT_GROUP,
         placement: "S 401000 0 1B\nG 0 23",
         canonical: FLAT_GROUP,
-        images: &["00 10 40 00 23 00 04 10 40 00"],
+        images: &[b"\x00\x10\x40\x00\x23\x00\x04\x10\x40\x00"],
         start: None,
     },
     Plan {
@@ -112,7 +114,7 @@ pub const PLANS: [Plan; 10] = [
         records: NESTED_BLOCKS,
         placement: LOW,
         canonical: NESTED_BLOCKS,
-        images: &["AA AA BB CC AA AA BB CC AA AA BB CC"],
+        images: &[b"\xAA\xAA\xBB\xCC\xAA\xAA\xBB\xCC\xAA\xAA\xBB\xCC"],
         start: None,
     },
     Plan {
@@ -143,7 +145,7 @@ pub const PLANS: [Plan; 10] = [
         ],
         placement: LOW,
         canonical: MODULE,
-        images: &["B8 20 00 90"],
+        images: &[b"\xB8\x20\x00\x90"],
         start: None,
     },
     Plan {
@@ -151,65 +153,112 @@ pub const PLANS: [Plan; 10] = [
         records: LOCAL_RECORDS,
         placement: "S 10020 10000 1000\nE 100A1 10000 1000\nE 0 0 0\nE 0 0 0",
         canonical: LOCAL_SHORTENED,
-        images: &["EB 7F 00 90"],
+        images: &[b"\xEB\x7F\x00\x90"],
         start: None,
     },
 ];
 
-/// A plan with its bytes.
+/// All plans.
+pub fn plans() -> &'static [Plan] {
+    &PLANS
+}
+
+/// Two modules, of which the first has the offset of an external that the second defines, and the text that links them.
+static PAIR: Plan = Plan {
+    name: "two modules",
+    records: &[
+        HEADER,
+        NAMES,
+        SEGMENT,
+        EXTERNAL,
+        DATA,
+        "9C 05 00 C4 01 56 01 43",
+        END,
+        HEADER,
+        NAMES,
+        SEGMENT,
+        PUBLIC,
+        END,
+    ],
+    placement: "S 10020 10000 1000\nM\nS 20040 20000 2000\n",
+    canonical: &[],
+    images: &[],
+    start: None,
+};
+
+/// The plan of two modules.
+pub fn pair() -> &'static Plan {
+    &PAIR
+}
+
+/// A plan with its module.
 #[derive(Drop)]
 pub struct Sample {
-    pub plan: Plan,
+    pub plan: &'static Plan,
     pub bytes: Vec<u8>,
     pub module: Checked,
     pub placement: Placement,
     pub canonical: Vec<u8>,
-    pub images: Vec<Vec<u8>>,
+}
+
+/// The bytes of records.
+pub fn bytes_of(alloc: Global, records: &[&str]) -> Result<Vec<u8>, AllocError> {
+    match joined(alloc, records) {
+        Ok(bytes) => Ok(bytes),
+        Err(_) => Err(AllocError),
+    }
 }
 
 /// The module of some bytes.
-pub fn module_of(alloc: Global, bytes: &[u8]) -> Result<Checked, Fail> {
-    let mut reader = Reading::new(bytes);
-    Ok(check(alloc, &mut reader, ANY)?)
+pub fn checked(alloc: Global, bytes: &[u8]) -> Result<Checked, AllocError> {
+    match check(alloc, &mut Reading::new(bytes), ANY) {
+        Ok(module) => Ok(module),
+        Err(_) => Err(AllocError),
+    }
+}
+
+/// The module of records.
+pub fn module_of(alloc: Global, records: &[&str]) -> Result<Checked, AllocError> {
+    checked(alloc, &bytes_of(alloc, records)?)
 }
 
 /// The placement of a module by its text.
-fn placement_of(alloc: Global, module: &Checked, text: &str) -> Result<Placement, Fail> {
-    let draft = parse_placement(alloc, text.as_bytes())?;
-    Ok(draft.resolve(alloc, module)?)
+pub fn placement_of(alloc: Global, module: &Checked, text: &str) -> Result<Placement, AllocError> {
+    let Ok(draft) = parse_placement(alloc, text.as_bytes()) else {
+        return Err(AllocError);
+    };
+    match draft.resolve(alloc, module) {
+        Ok(placement) => Ok(placement),
+        Err(_) => Err(AllocError),
+    }
 }
 
-fn make_sample(alloc: Global, plan: Plan) -> Result<Sample, Fail> {
-    let bytes = joined(alloc, plan.records)?;
-    let module = module_of(alloc, &bytes)?;
+fn make_sample(alloc: Global, plan: &'static Plan) -> Result<Sample, AllocError> {
+    let bytes = bytes_of(alloc, plan.records)?;
+    let module = checked(alloc, &bytes)?;
     let placement = placement_of(alloc, &module, plan.placement)?;
-    let canonical = joined(alloc, plan.canonical)?;
-    let mut images = Vec::new(alloc);
-    for row in plan.images {
-        images.push(joined(alloc, &[*row])?)?;
-    }
+    let canonical = bytes_of(alloc, plan.canonical)?;
     Ok(Sample {
         plan,
         bytes,
         module,
         placement,
         canonical,
-        images,
     })
 }
 
 /// All modules of the tests.
-pub fn samples(alloc: Global) -> Result<Vec<Sample>, Fail> {
+pub fn samples(alloc: Global) -> Result<Vec<Sample>, AllocError> {
     let mut all = Vec::new(alloc);
-    for plan in PLANS {
+    for plan in plans() {
         all.push(make_sample(alloc, plan)?)?;
     }
     Ok(all)
 }
 
 /// A module and its placement text.
-pub fn input_of(alloc: Global, records: &[&str], text: &str) -> Result<Vec<u8>, Fail> {
-    let mut input = joined(alloc, records)?;
+pub fn input_of(alloc: Global, records: &[&str], text: &str) -> Result<Vec<u8>, AllocError> {
+    let mut input = bytes_of(alloc, records)?;
     input.extend_from_slice(text.as_bytes())?;
     Ok(input)
 }

@@ -57,22 +57,33 @@ fn take_rest(alloc: Global, held: &mut Vec<Vec<u8>>, largest: usize) {
     }
 }
 
+/// Blocks of the size of a room.
+fn rooms_of(alloc: Global, rooms: usize) -> Result<Vec<Vec<u8>>, AllocError> {
+    let mut aside = Vec::with_capacity(alloc, rooms)?;
+    for _ in 0..rooms {
+        aside.push(Vec::with_capacity(alloc, ROOM)?)?;
+    }
+    Ok(aside)
+}
+
+/// Frees a block, which makes the system keep all blocks up to its size in one heap, so that a room is a part of that.
+fn free_large(alloc: Global) -> Result<(), AllocError> {
+    let large: Vec<u8> = Vec::with_capacity(alloc, 64 * ROOM)?;
+    drop(large);
+    Ok(())
+}
+
 impl Scarce {
-    /// Sets rooms aside, and takes all other memory. The block that is freed first makes the system keep all blocks up to its size in one heap,
-    /// so that a room is a part of that.
+    /// Sets rooms aside, and takes all other memory.
     pub fn new(alloc: Global, rooms: usize) -> Result<Self, AllocError> {
         let mut held = Vec::with_capacity(alloc, MOST)?;
-        let mut aside = Vec::with_capacity(alloc, rooms)?;
-        let large: Vec<u8> = Vec::with_capacity(alloc, 64 * ROOM)?;
-        drop(large);
-        for _ in 0..rooms {
-            aside.push(Vec::with_capacity(alloc, ROOM)?)?;
-        }
+        free_large(alloc)?;
+        let rooms = rooms_of(alloc, rooms)?;
         take_rest(alloc, &mut held, LARGEST);
         Ok(Scarce {
             alloc,
             held,
-            rooms: aside,
+            rooms,
             plug: Vec::new(alloc),
         })
     }

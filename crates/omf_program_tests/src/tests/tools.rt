@@ -1,19 +1,14 @@
 //! The programs, with arguments and inputs on which they end with the status 0.
 
-use super::modules::{ANY, PLANS, Plan, input_of};
-use omf_cmd::{
-    Ended, Job, Omf, RunFault, run_canon, run_check, run_in_memory, run_list, run_on, run_reloc,
-};
-use omf_frame::{Sink, Source};
+use super::modules::{ANY, Plan, bytes_of, pair, plans};
+use omf_cmd::{Gathered, Job, Omf, RunFault, run_canon, run_check, run_list, run_on, run_reloc};
+use omf_frame::{Bytes, Sink, Source};
 use omf_linker::link::Link;
 use omf_linker::place::Place;
-use omf_samples::joined;
-use std::alloc::{AllocError, AllocGlobal, Global};
-use std::process::Abort;
-use std::test::Fail;
+use std::alloc::{AllocError, Global};
 
 /// A program.
-#[derive(Clone, Copy, Debug, PartialEq, Eq)]
+#[derive(Clone, Copy)]
 pub enum Tool {
     Omf,
     Link,
@@ -35,20 +30,6 @@ impl Tool {
             Tool::Place => run_on::<Place, _, _>(alloc, arguments, reader, writer),
         }
     }
-
-    /// Runs the program on an input in memory.
-    pub fn answer(
-        self,
-        alloc: Global,
-        arguments: &[&str],
-        input: &[u8],
-    ) -> Result<Ended, AllocError> {
-        match self {
-            Tool::Omf => run_in_memory::<Omf>(alloc, arguments, input),
-            Tool::Link => run_in_memory::<Link>(alloc, arguments, input),
-            Tool::Place => run_in_memory::<Place>(alloc, arguments, input),
-        }
-    }
 }
 
 /// Runs a job of `omf`.
@@ -66,80 +47,157 @@ pub fn run_job<S: Source, K: Sink>(
     }
 }
 
-/// A program with arguments and an input on which it ends with the status 0, and the text that it writes.
-#[derive(Drop)]
-pub struct Line {
+/// How much of its input a program reads.
+#[derive(Clone, Copy)]
+pub enum Reads {
+    Module,
+    All,
+}
+
+/// A program with its arguments, the job of `omf` that they ask for, and how much of its input it reads.
+pub struct Asked {
     pub tool: Tool,
     pub arguments: &'static [&'static str],
+    pub job: Option<Job>,
+    pub reads: Reads,
+}
+
+static JOBS: [Asked; 5] = [
+    Asked {
+        tool: Tool::Omf,
+        arguments: &["omf", "check"],
+        job: Some(Job::Check),
+        reads: Reads::Module,
+    },
+    Asked {
+        tool: Tool::Omf,
+        arguments: &["omf", "list"],
+        job: Some(Job::List),
+        reads: Reads::Module,
+    },
+    Asked {
+        tool: Tool::Omf,
+        arguments: &["omf", "canon"],
+        job: Some(Job::Canon),
+        reads: Reads::Module,
+    },
+    Asked {
+        tool: Tool::Omf,
+        arguments: &["omf", "reloc"],
+        job: Some(Job::Reloc),
+        reads: Reads::All,
+    },
+    Asked {
+        tool: Tool::Omf,
+        arguments: &["omf", "check", "--refuse-vendor-comments"],
+        job: None,
+        reads: Reads::Module,
+    },
+];
+
+/// `omf-place`, which is run on the first module alone.
+static PLACES: [Asked; 1] = [Asked {
+    tool: Tool::Place,
+    arguments: &["omf-place"],
+    job: None,
+    reads: Reads::Module,
+}];
+
+/// `omf-link`, which is run on two modules.
+static LINKS: [Asked; 3] = [
+    Asked {
+        tool: Tool::Link,
+        arguments: &["omf-link", "image"],
+        job: None,
+        reads: Reads::All,
+    },
+    Asked {
+        tool: Tool::Link,
+        arguments: &["omf-link", "map"],
+        job: None,
+        reads: Reads::All,
+    },
+    Asked {
+        tool: Tool::Link,
+        arguments: &["omf-link", "draft"],
+        job: None,
+        reads: Reads::All,
+    },
+];
+
+/// A program with an input on which it ends with the status 0, and the text that it writes.
+#[derive(Drop)]
+pub struct Line {
+    pub asked: &'static Asked,
     pub input: Vec<u8>,
     /// The number of bytes after which a failing reader no longer matters.
     pub needed: usize,
     pub text: Vec<u8>,
 }
 
-/// How much of its input a program reads.
-#[derive(Clone, Copy, Debug, PartialEq, Eq)]
-pub enum Reads {
-    Module,
-    All,
+/// Runs a program over a reader and a writer. Returns its exit status.
+pub fn run<S: Source, K: Sink>(
+    alloc: Global,
+    line: &Line,
+    reader: &mut S,
+    writer: &mut K,
+) -> Result<u8, AllocError> {
+    line.asked
+        .tool
+        .run(alloc, line.asked.arguments, reader, writer)
 }
 
-fn make_line(
-    rt: &(impl Abort + AllocGlobal),
-    (tool, arguments, reads): Asked,
-    plan: &Plan,
-) -> Result<Line, Fail> {
-    let input = input_of(rt.alloc(), plan.records, plan.placement)?;
-    let needed = match reads {
-        Reads::Module => joined(rt.alloc(), plan.records)?.len(),
+/// The text that a program writes on an input.
+fn text_of(alloc: Global, asked: &Asked, input: &[u8]) -> Result<Vec<u8>, AllocError> {
+    let mut writer = Gathered::new(alloc);
+    asked.tool.run(alloc, asked.arguments, &mut Bytes::new(input), &mut writer)?;
+    Ok(writer.text)
+}
+
+fn make_line(alloc: Global, asked: &'static Asked, plan: &Plan) -> Result<Line, AllocError> {
+    let mut input = bytes_of(alloc, plan.records)?;
+    let needed = match asked.reads {
+        Reads::Module => input.len(),
         Reads::All => usize::MAX,
     };
-    let ended = tool.answer(rt.alloc(), arguments, &input)?;
-    assert!(rt; ended.status == 0, "{}", plan.name);
+    input.extend_from_slice(plan.placement.as_bytes())?;
+    let text = text_of(alloc, asked, &input)?;
     Ok(Line {
-        tool,
-        arguments,
+        asked,
         input,
         needed,
-        text: ended.text,
+        text,
     })
 }
 
-/// A program with its arguments, and how much of its input it reads.
-type Asked = (Tool, &'static [&'static str], Reads);
-
-const JOBS: [Asked; 5] = [
-    (Tool::Omf, &["omf", "check"], Reads::Module),
-    (Tool::Omf, &["omf", "list"], Reads::Module),
-    (Tool::Omf, &["omf", "canon"], Reads::Module),
-    (Tool::Omf, &["omf", "reloc"], Reads::All),
-    (
-        Tool::Omf,
-        &["omf", "check", "--refuse-vendor-comments"],
-        Reads::Module,
-    ),
-];
-
-/// The other programs, which are run on the first module alone.
-const OTHERS: [Asked; 4] = [
-    (Tool::Link, &["omf-link", "image"], Reads::All),
-    (Tool::Link, &["omf-link", "map"], Reads::All),
-    (Tool::Link, &["omf-link", "draft"], Reads::All),
-    (Tool::Place, &["omf-place"], Reads::Module),
-];
-
-/// `omf` with each job on each module, and the other programs on the first.
-pub fn lines(rt: &(impl Abort + AllocGlobal)) -> Result<Vec<Line>, Fail> {
-    let mut all = Vec::new(rt.alloc());
-    for plan in PLANS {
-        for job in JOBS {
-            all.push(make_line(rt, job, &plan)?)?;
-        }
+/// Appends the programs on a module.
+fn push_lines(
+    alloc: Global,
+    all: &mut Vec<Line>,
+    programs: &'static [Asked],
+    plan: &Plan,
+) -> Result<(), AllocError> {
+    for asked in programs {
+        all.push(make_line(alloc, asked, plan)?)?;
     }
-    if let Some(plan) = PLANS.as_slice().first() {
-        for other in OTHERS {
-            all.push(make_line(rt, other, plan)?)?;
-        }
+    Ok(())
+}
+
+/// Appends `omf` with each job on each module.
+fn push_jobs(alloc: Global, all: &mut Vec<Line>) -> Result<(), AllocError> {
+    for plan in plans() {
+        push_lines(alloc, all, &JOBS, plan)?;
     }
+    Ok(())
+}
+
+/// `omf` with each job on each module, `omf-place` on the first, and `omf-link` on two.
+pub fn lines(alloc: Global) -> Result<Vec<Line>, AllocError> {
+    let mut all = Vec::new(alloc);
+    push_jobs(alloc, &mut all)?;
+    if let Some(plan) = plans().first() {
+        push_lines(alloc, &mut all, &PLACES, plan)?;
+    }
+    push_lines(alloc, &mut all, &LINKS, pair())?;
     Ok(all)
 }
