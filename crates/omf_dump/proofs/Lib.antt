@@ -1,0 +1,10 @@
+pub mod AnswerLaws
+pub mod ExpandedLaws
+pub mod Hexadecimal
+pub mod ItemLaws
+pub mod KnownLaws
+pub mod Lines
+pub mod Rows
+pub mod SubrecordLaws
+pub mod WalkLaws
+pub mod WindowLaws

@@ -1,0 +1,4 @@
+pub mod Keeping
+pub mod Resolving
+pub mod Showing
+pub mod Walking

@@ -1,0 +1,24 @@
+-- What is shown of a record, and what is kept of it, computed from what is kept of the records before it.
+use Rattle.std.specs.Prelude.{◌≡◌, Bool}
+use Rattle.omf_records.specs.Values.{Contents, Fixups}
+use Rattle.omf_check.specs.Inner.Kept.{set_threads}
+use Rattle.omf_check.specs.declared.threads.Threads.{Threads}
+use Rattle.omf_dump.specs.Contents.{shown_with}
+use Rattle.omf_dump.specs.Fields.{Shown}
+use Rattle.omf_dump.specs.Inner.Keeping.{data_after, with_contents}
+use Rattle.omf_dump.specs.Inner.Resolving.{start_items_by, subrecord_items_by}
+use Rattle.omf_dump.specs.declared.known.Known.{Known}
+
+abbrev pub shown_by : Known → Bool → Contents → Shown
+shown_by known wide c = shown_with (subrecord_items_by known.tables known.fixed wide known.threads) (start_items_by known.tables wide known.threads) known.tables wide c
+
+-- the threads after one more record
+abbrev pub threads_after : Threads → Contents → Threads
+threads_after threads (Fixups subs) = set_threads threads subs
+threads_after threads _ = threads
+
+-- what is kept after one more record
+pub record Keeps (old : Known) (c : Contents) (new : Known) : Type 0 where
+  pub tables : new.tables ≡ with_contents old.tables c
+  pub threads : new.threads ≡ threads_after old.threads c
+  pub fixed : new.fixed ≡ data_after old.fixed c

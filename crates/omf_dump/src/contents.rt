@@ -1,0 +1,323 @@
+//! The fields of records other than FIXUPPs.
+
+ghost use Rattle.std.specs.Prelude.{◌≡◌, ◌+◌, ◌++◌, codes, length};
+ghost use Rattle.omf_frame.specs.Bytes.{AddsText, has_bit};
+ghost use Rattle.omf_records.specs.Inner.Sizes.{size_seen};
+ghost use Rattle.omf_dump.specs.Contents.{absolute_if, attribute_fields, base_fields, comment_fields, communal_fields, end_fields, expanded_if, external_fields, group_fields, header_fields, indexed_fields, length_field, length_if, length_of, member_fields, name_fields, place_fields, public_fields, segment_fields, segment_names, size_fields};
+ghost use Rattle.omf_dump.specs.Fields.{Flag, Hex, Word};
+ghost use Rattle.omf_dump.specs.Render.{fields_text, value_text};
+ghost use Rattle.omf_dump.specs.Words.{class_word};
+
+use crate::entry::Entry;
+use crate::field::{characters, flag, hexadecimal, named, number, small, word};
+use crate::format::Format;
+use crate::known::Tables;
+use crate::words::{alignment_word, class_word, combination_word};
+use omf_frame::{Index, Name};
+use omf_image::{Limits, expanded_len};
+use omf_records::{At, Blocks, Communal, CommunalSize, Extern, LayoutFault, Public, Segment};
+use std::alloc::AllocError;
+
+/// THEADR, LHEADR.
+pub(crate) fn put_header(
+    text: &mut Vec<u8>,
+    format: Format,
+    name: &Name<'_>,
+) -> Result<(), AllocError>
+    ensures { AddsText result text.old.items text.new.items (fields_text format (header_fields name.now)) }
+{
+    characters(text, format, "name", name.0)
+}
+
+/// The class of a comment, and its name.
+fn put_class(text: &mut Vec<u8>, format: Format, class: u8) -> Result<(), AllocError>
+    ensures { AddsText result text.old.items text.new.items (value_text format (codes "class") (Hex 2 class) ++ value_text format (codes "meaning") (Word (class_word class))) }
+{
+    small(text, format, "class", class)?;
+    word(text, format, "meaning", class_word(class))
+}
+
+/// The type byte of a comment.
+fn put_comment_flags(text: &mut Vec<u8>, format: Format, type_byte: u8) -> Result<(), AllocError>
+    ensures { AddsText result text.old.items text.new.items (value_text format (codes "flags") (Hex 2 type_byte) ++ (value_text format (codes "no-purge") (Flag (has_bit type_byte 7)) ++ value_text format (codes "no-list") (Flag (has_bit type_byte 6)))) }
+{
+    small(text, format, "flags", type_byte)?;
+    flag(text, format, "no-purge", type_byte / 128 % 2 == 1)?;
+    flag(text, format, "no-list", type_byte / 64 % 2 == 1)
+}
+
+/// COMENT.
+pub(crate) fn put_comment(
+    text: &mut Vec<u8>,
+    format: Format,
+    type_byte: u8,
+    class: u8,
+    comment: &[u8],
+) -> Result<(), AllocError>
+    ensures { AddsText result text.old.items text.new.items (fields_text format (comment_fields type_byte class comment.now)) }
+{
+    put_class(text, format, class)?;
+    put_comment_flags(text, format, type_byte)?;
+    characters(text, format, "text", comment)
+}
+
+/// The index that a SEGDEF defines, its name, class and overlay.
+fn put_segment_names(
+    text: &mut Vec<u8>,
+    format: Format,
+    tables: &Tables<'_>,
+    segment: &Segment,
+) -> Result<(), AllocError>
+    ensures { AddsText result text.old.items text.new.items (fields_text format (segment_names tables.now (length tables.now.segments + 1) segment.now)) }
+{
+    number(text, format, "segment", tables.next_segment())?;
+    named(text, format, "name", tables.name(segment.name.item.0))?;
+    named(text, format, "class", tables.name(segment.class.item.0))?;
+    named(text, format, "overlay", tables.name(segment.overlay.0))
+}
+
+/// The attributes of a SEGDEF.
+fn put_attributes(text: &mut Vec<u8>, format: Format, attribute: u8) -> Result<(), AllocError>
+    ensures { AddsText result text.old.items text.new.items (fields_text format (attribute_fields attribute)) }
+{
+    let bits = if attribute % 2 == 1 { 32 } else { 16 };
+    word(text, format, "align", alignment_word(attribute / 32))?;
+    word(text, format, "combine", combination_word(attribute / 4 % 8))?;
+    number(text, format, "use", bits)?;
+    flag(text, format, "big", attribute / 2 % 2 == 1)
+}
+
+/// The place of an absolute segment.
+fn put_absolute(
+    text: &mut Vec<u8>,
+    format: Format,
+    absolute: Option<(u16, u8)>,
+) -> Result<(), AllocError>
+    ensures { AddsText result text.old.items text.new.items (fields_text format (absolute_if absolute)) }
+{
+    let Some((frame, offset)) = absolute else {
+        return Ok(());
+    };
+    hexadecimal(text, format, "frame", false, u64::from(frame))?;
+    small(text, format, "offset", offset)
+}
+
+/// The length of a segment in bytes.
+fn length_of(wide: bool, segment: &Segment) -> u64
+    ensures { result ≡ length_of wide segment.now }
+{
+    match (segment.is_big(), wide) {
+        (true, true) => 4_294_967_296,
+        (true, false) => 65_536,
+        (false, _) => u64::from(segment.size),
+    }
+}
+
+/// A length in bytes.
+pub(crate) fn put_length(
+    text: &mut Vec<u8>,
+    format: Format,
+    wide: bool,
+    length: u64,
+) -> Result<(), AllocError>
+    ensures { AddsText result text.old.items text.new.items (fields_text format (length_field wide length)) }
+{
+    hexadecimal(text, format, "length", wide, length)
+}
+
+/// SEGDEF.
+pub(crate) fn put_segment(
+    text: &mut Vec<u8>,
+    format: Format,
+    tables: &Tables<'_>,
+    wide: bool,
+    segment: &Segment,
+) -> Result<(), AllocError>
+    ensures { AddsText result text.old.items text.new.items (fields_text format (segment_fields tables.now (length tables.now.segments + 1) wide segment.now)) }
+{
+    put_segment_names(text, format, tables, segment)?;
+    put_attributes(text, format, segment.attribute)?;
+    put_absolute(text, format, segment.absolute)?;
+    put_length(text, format, wide, length_of(wide, segment))
+}
+
+/// The index that a GRPDEF defines, and its name.
+pub(crate) fn put_group(
+    text: &mut Vec<u8>,
+    format: Format,
+    tables: &Tables<'_>,
+    name: &At<Index>,
+) -> Result<(), AllocError>
+    ensures { AddsText result text.old.items text.new.items (fields_text format (group_fields tables.now (length tables.now.groups + 1) name.now)) }
+{
+    number(text, format, "group", tables.next_group())?;
+    named(text, format, "name", tables.name(name.item.0))
+}
+
+/// A member of a GRPDEF.
+pub(crate) fn put_member(
+    text: &mut Vec<u8>,
+    format: Format,
+    tables: &Tables<'_>,
+    segment: &At<Index>,
+) -> Result<(), AllocError>
+    ensures { AddsText result text.old.items text.new.items (fields_text format (member_fields tables.now segment.now)) }
+{
+    named(text, format, "segment", tables.segment(segment.item.0))
+}
+
+/// A name of an LNAMES or an LLNAMES.
+pub(crate) fn put_name(
+    text: &mut Vec<u8>,
+    format: Format,
+    index: u64,
+    name: &Name<'_>,
+) -> Result<(), AllocError>
+    ensures { AddsText result text.old.items text.new.items (fields_text format (name_fields index name.now)) }
+{
+    let name = Some(Name(name.0));
+    named(text, format, "name", Entry { index, name })
+}
+
+/// An external name with its index and type index.
+fn put_external(
+    text: &mut Vec<u8>,
+    format: Format,
+    index: u64,
+    name: &Name<'_>,
+    type_index: Index,
+) -> Result<(), AllocError>
+    ensures { AddsText result text.old.items text.new.items (fields_text format (indexed_fields index name.now type_index)) }
+{
+    let name = Some(Name(name.0));
+    named(text, format, "external", Entry { index, name })?;
+    number(text, format, "type", u64::from(type_index.0))
+}
+
+/// An external name of an EXTDEF or a LEXTDEF.
+pub(crate) fn put_extern(
+    text: &mut Vec<u8>,
+    format: Format,
+    index: u64,
+    external: &Extern<'_>,
+) -> Result<(), AllocError>
+    ensures { AddsText result text.old.items text.new.items (fields_text format (external_fields index external.now)) }
+{
+    put_external(text, format, index, &external.name, external.type_index)
+}
+
+/// The size of a communal.
+fn put_size(text: &mut Vec<u8>, format: Format, size: CommunalSize) -> Result<(), AllocError>
+    ensures { AddsText result text.old.items text.new.items (fields_text format (size_fields (size_seen size))) }
+{
+    match size {
+        CommunalSize::Near(length) => {
+            word(text, format, "communal", "near")?;
+            hexadecimal(text, format, "length", false, u64::from(length))
+        }
+        CommunalSize::Far { count, size } => {
+            word(text, format, "communal", "far")?;
+            hexadecimal(text, format, "count", false, u64::from(count))?;
+            hexadecimal(text, format, "size", false, u64::from(size))
+        }
+    }
+}
+
+/// A communal of a COMDEF or an LCOMDEF.
+pub(crate) fn put_communal(
+    text: &mut Vec<u8>,
+    format: Format,
+    index: u64,
+    communal: &Communal<'_>,
+) -> Result<(), AllocError>
+    ensures { AddsText result text.old.items text.new.items (fields_text format (communal_fields index communal.now)) }
+{
+    put_external(text, format, index, &communal.name, communal.type_index)?;
+    put_size(text, format, communal.size)
+}
+
+/// The base of a PUBDEF or an LPUBDEF.
+pub(crate) fn put_base(
+    text: &mut Vec<u8>,
+    format: Format,
+    group: Entry<'_>,
+    segment: Entry<'_>,
+    frame: Option<u16>,
+) -> Result<(), AllocError>
+    ensures { AddsText result text.old.items text.new.items (fields_text format (base_fields group.entry segment.entry frame)) }
+{
+    named(text, format, "group", group)?;
+    named(text, format, "segment", segment)?;
+    match frame {
+        Some(frame) => hexadecimal(text, format, "frame", false, u64::from(frame)),
+        None => Ok(()),
+    }
+}
+
+/// A public name of a PUBDEF or an LPUBDEF.
+pub(crate) fn put_public(
+    text: &mut Vec<u8>,
+    format: Format,
+    wide: bool,
+    public: &Public<'_>,
+) -> Result<(), AllocError>
+    ensures { AddsText result text.old.items text.new.items (fields_text format (public_fields wide public.now)) }
+{
+    characters(text, format, "public", public.name.0)?;
+    hexadecimal(text, format, "offset", wide, u64::from(public.offset))?;
+    number(text, format, "type", u64::from(public.type_index.0))
+}
+
+/// The segment and the offset of an LEDATA or an LIDATA.
+pub(crate) fn put_place(
+    text: &mut Vec<u8>,
+    format: Format,
+    wide: bool,
+    segment: Entry<'_>,
+    offset: u32,
+) -> Result<(), AllocError>
+    ensures { AddsText result text.old.items text.new.items (fields_text format (place_fields wide segment.entry offset)) }
+{
+    named(text, format, "segment", segment)?;
+    hexadecimal(text, format, "offset", wide, u64::from(offset))
+}
+
+/// A length in bytes, if there is one.
+fn put_length_if(
+    text: &mut Vec<u8>,
+    format: Format,
+    wide: bool,
+    length: &Result<u32, LayoutFault>,
+) -> Result<(), AllocError>
+    ensures { AddsText result text.old.items text.new.items (fields_text format (length_if wide length.now)) }
+{
+    match length {
+        Ok(length) => put_length(text, format, wide, u64::from(*length)),
+        Err(_) => Ok(()),
+    }
+}
+
+/// The length that the blocks of an LIDATA expand to, if it is within the limits.
+pub(crate) fn put_expanded(
+    text: &mut Vec<u8>,
+    format: Format,
+    blocks: Blocks<'_>,
+) -> Result<(), AllocError>
+    ensures { AddsText result text.old.items text.new.items (fields_text format (expanded_if blocks.entry.wide blocks.entry.bytes.now)) }
+{
+    if blocks.bytes.len() > 65_534 {
+        return Ok(());
+    }
+    let wide = blocks.wide;
+    let length = expanded_len(blocks, Limits::profile());
+    put_length_if(text, format, wide, &length)
+}
+
+/// The module type byte of a MODEND.
+pub(crate) fn put_end(text: &mut Vec<u8>, format: Format, type_byte: u8) -> Result<(), AllocError>
+    ensures { AddsText result text.old.items text.new.items (fields_text format (end_fields type_byte)) }
+{
+    small(text, format, "flags", type_byte)?;
+    flag(text, format, "main", type_byte / 128 % 2 == 1)?;
+    flag(text, format, "has-start", type_byte / 64 % 2 == 1)
+}

@@ -1,0 +1,160 @@
+//! Fields: a name and a value, as text or as JSON.
+
+ghost use Rattle.std.specs.Prelude.{◌≡◌};
+ghost use Rattle.omf_frame.specs.Bytes.{AddsText};
+ghost use Rattle.omf_dump.specs.Fields.{Number, Hex, Word, Characters, Bytes, Named, Method, Flag};
+ghost use Rattle.omf_dump.specs.Render.{digits, opened, value_text};
+
+use crate::entry::Entry;
+use crate::format::Format;
+use crate::value::{
+    put_decimal, put_list, put_method, put_named, put_number, put_quoted, put_small, put_word,
+};
+use std::alloc::AllocError;
+
+/// Appends the name of a field, up to its value.
+fn open(text: &mut Vec<u8>, format: Format, name: &str) -> Result<(), AllocError>
+    ensures { AddsText result text.old.items text.new.items (opened format name.now) }
+{
+    match format {
+        Format::Text => {
+            text.extend_from_slice(b"  ")?;
+            text.extend_from_slice(name.as_bytes())?;
+            text.push(b' ')?;
+            Ok(())
+        }
+        Format::Json => {
+            text.extend_from_slice(b",\"")?;
+            text.extend_from_slice(name.as_bytes())?;
+            text.extend_from_slice(b"\":")
+        }
+    }
+}
+
+/// Appends a decimal number.
+pub(crate) fn number(
+    text: &mut Vec<u8>,
+    format: Format,
+    name: &str,
+    number: u64,
+) -> Result<(), AllocError>
+    ensures { AddsText result text.old.items text.new.items (value_text format name.now (Number number)) }
+{
+    open(text, format, name)?;
+    put_decimal(text, number)
+}
+
+/// Appends a number of a 16-bit or a 32-bit field, in text in at least four or eight hexadecimal digits.
+pub(crate) fn hexadecimal(
+    text: &mut Vec<u8>,
+    format: Format,
+    name: &str,
+    wide: bool,
+    number: u64,
+) -> Result<(), AllocError>
+    ensures { AddsText result text.old.items text.new.items (value_text format name.now (Hex (digits wide) number)) }
+{
+    open(text, format, name)?;
+    put_number(text, format, wide, number)
+}
+
+/// Appends a byte, in text in two hexadecimal digits.
+pub(crate) fn small(
+    text: &mut Vec<u8>,
+    format: Format,
+    name: &str,
+    byte: u8,
+) -> Result<(), AllocError>
+    ensures { AddsText result text.old.items text.new.items (value_text format name.now (Hex 2 byte)) }
+{
+    open(text, format, name)?;
+    put_small(text, format, byte)
+}
+
+/// Appends a word.
+pub(crate) fn word(
+    text: &mut Vec<u8>,
+    format: Format,
+    name: &str,
+    word: &str,
+) -> Result<(), AllocError>
+    ensures { AddsText result text.old.items text.new.items (value_text format name.now (Word word.now)) }
+{
+    open(text, format, name)?;
+    put_word(text, format, word)
+}
+
+/// Appends bytes as characters.
+pub(crate) fn characters(
+    text: &mut Vec<u8>,
+    format: Format,
+    name: &str,
+    bytes: &[u8],
+) -> Result<(), AllocError>
+    ensures { AddsText result text.old.items text.new.items (value_text format name.now (Characters bytes.now)) }
+{
+    open(text, format, name)?;
+    put_quoted(text, format, bytes)
+}
+
+/// Appends bytes as numbers.
+pub(crate) fn bytes(
+    text: &mut Vec<u8>,
+    format: Format,
+    name: &str,
+    bytes: &[u8],
+) -> Result<(), AllocError>
+    ensures { AddsText result text.old.items text.new.items (value_text format name.now (Bytes bytes.now)) }
+{
+    open(text, format, name)?;
+    put_list(text, format, bytes)
+}
+
+/// Appends an entry of a table.
+pub(crate) fn named(
+    text: &mut Vec<u8>,
+    format: Format,
+    name: &str,
+    entry: Entry<'_>,
+) -> Result<(), AllocError>
+    ensures { AddsText result text.old.items text.new.items (value_text format name.now (Named entry.entry)) }
+{
+    open(text, format, name)?;
+    put_named(text, format, entry)
+}
+
+/// Appends a frame or target method, with its entry if it has one.
+pub(crate) fn method(
+    text: &mut Vec<u8>,
+    format: Format,
+    name: &str,
+    method: &str,
+    entry: Option<Entry<'_>>,
+) -> Result<(), AllocError>
+    ensures { AddsText result text.old.items text.new.items (value_text format name.now (Method method.now entry.entry)) }
+{
+    open(text, format, name)?;
+    put_method(text, format, method, entry)
+}
+
+/// Appends a flag: in text its name if it is set, in JSON true or false.
+pub(crate) fn flag(
+    text: &mut Vec<u8>,
+    format: Format,
+    name: &str,
+    is_set: bool,
+) -> Result<(), AllocError>
+    ensures { AddsText result text.old.items text.new.items (value_text format name.now (Flag is_set)) }
+{
+    match format {
+        Format::Text if is_set => {
+            text.extend_from_slice(b"  ")?;
+            text.extend_from_slice(name.as_bytes())
+        }
+        Format::Text => Ok(()),
+        Format::Json => {
+            open(text, format, name)?;
+            text.extend_from_slice(if is_set { b"true" } else { b"false" })
+        }
+    }
+}

@@ -1,0 +1,10 @@
+//! The two renderings.
+
+/// How records are rendered.
+#[derive(Clone, Copy, Debug, PartialEq, Eq)]
+pub enum Format {
+    /// Lines of text: one for each record and each of its items, and one for each 16 bytes of data.
+    Text,
+    /// One line of JSON for each record.
+    Json,
+}

@@ -1,0 +1,30 @@
+//! `omf-dump`: the records of object modules as a person reads them: every field of every record, as text or as JSON.
+//!
+//! A record is shown as named fields, the items that it repeats, and bytes (`specs/Fields`); text and JSON are two renderings of these
+//! (`specs/Render`). `specs/Contents` has the fields of each record, `specs/Dump` the whole text, `specs/Refused` that of a refused module.
+#![tactic(auto)]
+
+mod answer;
+mod contents;
+mod digits;
+mod entry;
+mod field;
+mod format;
+mod host;
+mod item;
+mod items;
+mod known;
+mod options;
+mod record;
+mod reference;
+mod refused;
+mod subrecord;
+mod value;
+mod walk;
+mod words;
+
+use std::process::ExitCode;
+
+fn main(rt: HostRuntime) -> ExitCode {
+    host::run(&rt)
+}

@@ -1,0 +1,309 @@
+//! Values: numbers, words, bytes and entries, as text or as JSON.
+
+ghost use Rattle.std.specs.Prelude.{◌≡◌, ◌++◌, ◌∷◌, [], flat_map, decimal, string_bytes, if◌then◌else◌};
+ghost use Rattle.omf_frame.specs.Bytes.{AddsText};
+ghost use Rattle.omf_placement.specs.Quoted.{hex, is_plain};
+ghost use Rattle.omf_dump.specs.Render.{bytes_text, digits, entry_text, escape, escaped, hexadecimal, index_text, method_entry, method_text, name_beside, named_text, quoted, spaced, word_text};
+
+use crate::digits::{eight_digits, four_digits, two_digits};
+use crate::entry::Entry;
+use crate::format::Format;
+use itoa::Buffer;
+use omf_frame::Name;
+use std::alloc::AllocError;
+use std::fmt::Write;
+
+/// Appends a decimal number.
+pub(crate) fn put_decimal(text: &mut Vec<u8>, number: u64) -> Result<(), AllocError>
+    ensures { AddsText result text.old.items text.new.items (decimal number) }
+{
+    let mut buffer = Buffer::new();
+    text.extend_from_slice(buffer.format(number).as_bytes())
+}
+
+/// Appends a byte in two hexadecimal digits.
+pub(crate) fn put_byte(text: &mut Vec<u8>, byte: u8) -> Result<(), AllocError>
+    ensures { AddsText result text.old.items text.new.items (hex 2 byte) }
+{
+    text.extend_from_slice(&two_digits(byte))
+}
+
+/// Writes a number in at least eight hexadecimal digits.
+fn write_eight(text: &mut String, number: u64) -> Result<(), AllocError>
+    ensures { AddsText result (string_bytes text.old) (string_bytes text.new) (hex 8 number) }
+{
+    write!(text, "{number:08X}")
+}
+
+/// Writes a number in at least four hexadecimal digits.
+fn write_four(text: &mut String, number: u64) -> Result<(), AllocError>
+    ensures { AddsText result (string_bytes text.old) (string_bytes text.new) (hex 4 number) }
+{
+    write!(text, "{number:04X}")
+}
+
+/// Appends a number in at least eight hexadecimal digits. Those of more than 32 bits are rare.
+pub(crate) fn put_eight(text: &mut Vec<u8>, number: u64) -> Result<(), AllocError>
+    ensures { AddsText result text.old.items text.new.items (hex 8 number) }
+{
+    if let Ok(number) = u32::try_from(number) {
+        return text.extend_from_slice(&eight_digits(number));
+    }
+    let mut shown = String::new(*text.allocator());
+    write_eight(&mut shown, number)?;
+    text.extend_from_slice(shown.as_bytes())
+}
+
+/// Appends a number in at least four hexadecimal digits. Those of more than 16 bits are rare.
+pub(crate) fn put_four(text: &mut Vec<u8>, number: u64) -> Result<(), AllocError>
+    ensures { AddsText result text.old.items text.new.items (hex 4 number) }
+{
+    if let Ok(number) = u16::try_from(number) {
+        return text.extend_from_slice(&four_digits(number));
+    }
+    let mut shown = String::new(*text.allocator());
+    write_four(&mut shown, number)?;
+    text.extend_from_slice(shown.as_bytes())
+}
+
+/// Appends a number of a 16-bit or a 32-bit field.
+pub(crate) fn put_number(
+    text: &mut Vec<u8>,
+    format: Format,
+    wide: bool,
+    number: u64,
+) -> Result<(), AllocError>
+    ensures { AddsText result text.old.items text.new.items (hexadecimal format (digits wide) number) }
+{
+    match format {
+        Format::Json => put_decimal(text, number),
+        Format::Text if wide => put_eight(text, number),
+        Format::Text => put_four(text, number),
+    }
+}
+
+/// Appends a number of one byte.
+pub(crate) fn put_small(text: &mut Vec<u8>, format: Format, number: u8) -> Result<(), AllocError>
+    ensures { AddsText result text.old.items text.new.items (hexadecimal format 2 number) }
+{
+    match format {
+        Format::Text => put_byte(text, number),
+        Format::Json => put_decimal(text, u64::from(number)),
+    }
+}
+
+/// Appends a word, in JSON in quotes.
+pub(crate) fn put_word(text: &mut Vec<u8>, format: Format, word: &str) -> Result<(), AllocError>
+    ensures { AddsText result text.old.items text.new.items (word_text format word.now) }
+{
+    match format {
+        Format::Text => text.extend_from_slice(word.as_bytes()),
+        Format::Json => {
+            text.push(b'"')?;
+            text.extend_from_slice(word.as_bytes())?;
+            text.push(b'"')?;
+            Ok(())
+        }
+    }
+}
+
+/// Whether a byte is printed as it is: 20H to 7EH without the quote and the backslash.
+pub(crate) fn is_plain(byte: u8) -> bool
+    ensures { result ≡ is_plain byte }
+{
+    byte >= 0x20 && byte <= 0x7E && byte != b'"' && byte != b'\\'
+}
+
+/// What comes before the two digits of a byte that is not printed as it is.
+fn escape(format: Format) -> &'static [u8]
+    ensures { result.now ≡ escape format }
+{
+    match format {
+        Format::Text => b"\\x",
+        Format::Json => b"\\u00",
+    }
+}
+
+/// Appends a byte of a name, as it is or by its digits.
+fn put_escaped(text: &mut Vec<u8>, format: Format, byte: u8) -> Result<(), AllocError>
+    ensures { AddsText result text.old.items text.new.items (escaped format byte) }
+{
+    if is_plain(byte) {
+        text.push(byte)?;
+        Ok(())
+    } else {
+        text.extend_from_slice(escape(format))?;
+        put_byte(text, byte)
+    }
+}
+
+/// Appends bytes in double quotes.
+pub(crate) fn put_quoted(text: &mut Vec<u8>, format: Format, bytes: &[u8]) -> Result<(), AllocError>
+    ensures { AddsText result text.old.items text.new.items (quoted format bytes.now) }
+{
+    text.push(b'"')?;
+    for byte in bytes {
+        put_escaped(text, format, *byte)?;
+    }
+    text.push(b'"')?;
+    Ok(())
+}
+
+/// Appends bytes, each as two hexadecimal digits.
+pub(crate) fn put_bytes(text: &mut Vec<u8>, bytes: &[u8]) -> Result<(), AllocError>
+    ensures { AddsText result text.old.items text.new.items (flat_map (hex 2) bytes.now) }
+{
+    for byte in bytes {
+        put_byte(text, *byte)?;
+    }
+    Ok(())
+}
+
+/// Appends bytes, each as a space and two hexadecimal digits.
+pub(crate) fn put_after_spaces(text: &mut Vec<u8>, bytes: &[u8]) -> Result<(), AllocError>
+    ensures { AddsText result text.old.items text.new.items (flat_map (λ c. 32 ∷ hex 2 c) bytes.now) }
+{
+    for byte in bytes {
+        text.push(b' ')?;
+        put_byte(text, *byte)?;
+    }
+    Ok(())
+}
+
+/// Appends bytes, each as two hexadecimal digits, with a space between each two.
+fn put_spaced(text: &mut Vec<u8>, bytes: &[u8]) -> Result<(), AllocError>
+    ensures { AddsText result text.old.items text.new.items (spaced bytes.now) }
+{
+    match bytes {
+        [] => Ok(()),
+        [first, rest @ ..] => {
+            put_byte(text, *first)?;
+            put_after_spaces(text, rest)
+        }
+    }
+}
+
+/// Appends bytes as numbers.
+pub(crate) fn put_list(text: &mut Vec<u8>, format: Format, bytes: &[u8]) -> Result<(), AllocError>
+    ensures { AddsText result text.old.items text.new.items (bytes_text format bytes.now) }
+{
+    match format {
+        Format::Text => put_spaced(text, bytes),
+        Format::Json => {
+            text.push(b'"')?;
+            put_bytes(text, bytes)?;
+            text.push(b'"')?;
+            Ok(())
+        }
+    }
+}
+
+/// Appends the name beside an index, if there is one.
+fn put_name_beside(
+    text: &mut Vec<u8>,
+    format: Format,
+    name: Option<Name<'_>>,
+) -> Result<(), AllocError>
+    ensures { AddsText result text.old.items text.new.items (name_beside format name.entry) }
+{
+    let Some(name) = name else {
+        return Ok(());
+    };
+    match format {
+        Format::Text => {
+            text.push(b' ')?;
+            put_quoted(text, format, name.0)
+        }
+        Format::Json => {
+            text.extend_from_slice(b",\"name\":")?;
+            put_quoted(text, format, name.0)
+        }
+    }
+}
+
+/// Appends an index, or a dash for 0; in JSON as a member of an object.
+fn put_index(text: &mut Vec<u8>, format: Format, index: u64) -> Result<(), AllocError>
+    ensures { AddsText result text.old.items text.new.items (index_text format index) }
+{
+    match format {
+        Format::Text if index == 0 => {
+            text.push(b'-')?;
+            Ok(())
+        }
+        Format::Text => put_decimal(text, index),
+        Format::Json => {
+            text.extend_from_slice(b"\"index\":")?;
+            put_decimal(text, index)
+        }
+    }
+}
+
+/// Appends an index with its name.
+fn put_entry(text: &mut Vec<u8>, format: Format, entry: Entry<'_>) -> Result<(), AllocError>
+    ensures { AddsText result text.old.items text.new.items (entry_text format entry.entry) }
+{
+    put_index(text, format, entry.index)?;
+    put_name_beside(text, format, entry.name)
+}
+
+/// Appends an entry, in JSON as an object.
+pub(crate) fn put_named(
+    text: &mut Vec<u8>,
+    format: Format,
+    entry: Entry<'_>,
+) -> Result<(), AllocError>
+    ensures { AddsText result text.old.items text.new.items (named_text format entry.entry) }
+{
+    match format {
+        Format::Text => put_entry(text, format, entry),
+        Format::Json => {
+            text.push(b'{')?;
+            put_entry(text, format, entry)?;
+            text.push(b'}')?;
+            Ok(())
+        }
+    }
+}
+
+/// Appends the entry of a method, if it has one.
+fn put_method_entry(
+    text: &mut Vec<u8>,
+    format: Format,
+    entry: Option<Entry<'_>>,
+) -> Result<(), AllocError>
+    ensures { AddsText result text.old.items text.new.items (method_entry format entry.entry) }
+{
+    let Some(entry) = entry else {
+        return Ok(());
+    };
+    match format {
+        Format::Text => text.push(b' ')?,
+        Format::Json => text.push(b',')?,
+    }
+    put_entry(text, format, entry)
+}
+
+/// Appends a frame or target method, with its entry if it has one.
+pub(crate) fn put_method(
+    text: &mut Vec<u8>,
+    format: Format,
+    method: &str,
+    entry: Option<Entry<'_>>,
+) -> Result<(), AllocError>
+    ensures { AddsText result text.old.items text.new.items (method_text format method.now entry.entry) }
+{
+    match format {
+        Format::Text => {
+            text.extend_from_slice(method.as_bytes())?;
+            put_method_entry(text, format, entry)
+        }
+        Format::Json => {
+            text.extend_from_slice(b"{\"method\":\"")?;
+            text.extend_from_slice(method.as_bytes())?;
+            text.push(b'"')?;
+            put_method_entry(text, format, entry)?;
+            text.push(b'}')?;
+            Ok(())
+        }
+    }
+}
