@@ -7,11 +7,11 @@
 # make library          proves and builds the library for C: build/libomf.a, build/libomf.so
 # make try-c            tests the library for C (tests/c/run.sh) over examples/ and the folder MODULES
 # make install          builds the programs and the library, and installs them under PREFIX: bin/omf, bin/omf-place, bin/omf-link,
-#                       share/man/man1/omf.1, omf-place.1 and omf-link.1, lib/libomf.a, lib/libomf.so, include/omf.h,
-#                       lib/pkgconfig/omf.pc
+#                       bin/omf-dump, share/man/man1/omf.1, omf-place.1, omf-link.1 and omf-dump.1, lib/libomf.a, lib/libomf.so,
+#                       include/omf.h, lib/pkgconfig/omf.pc
 # make shown            runs the commands that the pages show with the installed programs, and compares what they print; OMF, OMF_PLACE,
-#                       OMF_LINK, OMF_USES and LIBOMF name others (tests/reasons.sh)
-# make docs             writes docs/CALLS.md and the tables of docs/ARCHITECTURE.md and docs/GATE.md from the sources
+#                       OMF_LINK, OMF_DUMP, OMF_USES and LIBOMF name others (tests/reasons.sh)
+# make docs             writes docs/CALLS.md, docs/BELIEVE.md and the tables of docs/ARCHITECTURE.md and docs/GATE.md from the sources
 # make ci               the gate: the documents, the commands of docs/REASONS.md, and then `rt ci`, which proves and tests everything
 
 PREFIX ?= /usr/local
@@ -45,6 +45,7 @@ build:
 	@cat examples/first.omf examples/first.place | (cd crates/omf && rt run -- reloc) > /dev/null
 	@(cd crates/omf_place && rt run) < examples/first.omf > /dev/null
 	@cat examples/link/start.obj examples/link/say.obj examples/link/mark.obj examples/link/program.link | (cd crates/omf_link && rt run -- image) > /dev/null
+	@(cd crates/omf_dump && rt run) < examples/first.omf > /dev/null
 
 # The archive has the library and three functions of the kit that call malloc, realloc and free.
 library:
@@ -63,9 +64,11 @@ install: build library
 	install -m 755 crates/omf/out/omf $(DESTDIR)$(PREFIX)/bin/omf
 	install -m 755 crates/omf_place/out/omf_place $(DESTDIR)$(PREFIX)/bin/omf-place
 	install -m 755 crates/omf_link/out/omf_link $(DESTDIR)$(PREFIX)/bin/omf-link
+	install -m 755 crates/omf_dump/out/omf_dump $(DESTDIR)$(PREFIX)/bin/omf-dump
 	install -m 644 man/omf.1 $(DESTDIR)$(PREFIX)/share/man/man1/omf.1
 	install -m 644 man/omf-place.1 $(DESTDIR)$(PREFIX)/share/man/man1/omf-place.1
 	install -m 644 man/omf-link.1 $(DESTDIR)$(PREFIX)/share/man/man1/omf-link.1
+	install -m 644 man/omf-dump.1 $(DESTDIR)$(PREFIX)/share/man/man1/omf-dump.1
 	install -m 644 include/omf.h $(DESTDIR)$(PREFIX)/include/omf.h
 	install -m 644 build/libomf.a $(DESTDIR)$(PREFIX)/lib/libomf.a
 	install -m 755 build/libomf.so $(DESTDIR)$(PREFIX)/lib/libomf.so
@@ -76,6 +79,7 @@ shown:
 
 docs:
 	tests/calls.py
+	tests/believe.py
 	tests/house.py --write
 
 ci:

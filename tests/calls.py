@@ -17,15 +17,15 @@ from tree import CRATES, ROOT, crates, exported, is_for_tests, root_file
 PAGE = ROOT / "docs" / "CALLS.md"
 HEAD = """# The calls and their clauses
 
-Made from the sources by `tests/calls.py`; the gate compares. docs/PROOFS.md has the headline sentence by sentence, and what is only tested.
+Made from the sources by `tests/calls.py`; the gate compares. docs/PROOFS.md has the headline phrase by phrase, and what is only tested.
 
-A call's row has the first sentence of its comment. Each clause of its contract has a row: its name (a dash where it has none), the definition
-that it cites first with the first sentence of that definition's comment, or the clause itself where it cites no definition of `specs/`. A
-definition is in `crates/CRATE/specs/FILE.antt`, as shown. What a call asks of its caller is a row `requires`.
+The row of a call has the first sentence of its comment. Then each clause of its contract has a row: the clause's name (a dash if it has none);
+the definition that it cites first, with the first sentence of that definition's comment; or the clause itself, if it cites no definition of
+`specs/`. A definition is in `crates/CRATE/specs/FILE.antt`, as shown. A row `requires` is what the caller must have.
 
-What a program does with its arguments and what it prints of a fault is in its `impl Program` and `impl Fault`: the task that arguments ask
+What a program does with its arguments, and what it prints for a fault, is in its `impl Program` and `impl Fault`: the task that arguments ask
 for (`asks`), a run of a task (`performs`), the usage (`called`), and the status and line of a fault (`report`). `run_program`, `run_with`,
-`run_on` and `run_in_memory` of omf_cmd promise these for each program. The definitions of the usage, statuses and lines are shown with their
+`run_on` and `run_in_memory` of omf_cmd promise these for each program but omf_dump. The definitions of the usage, statuses and lines are shown with their
 equations.
 """
 # The traits whose ghosts are what a program promises, and the ghosts whose definitions are shown whole.

@@ -1,11 +1,11 @@
 #!/usr/bin/env python3
 """Writes the canonical bytes of every module of a folder that `omf check` accepts: canon_modules.py FOLDER
 
-Of each it is seen that the canonical bytes are accepted, that they are their own canonical bytes, and that `omf reloc` prints the
-same of both at one placement, byte for byte (where the placement does not reach: the same fault, but for the record and the place
-in it). The same module is written in another spelling (respelled.py), and is seen to be accepted and to have the same canonical
-bytes. A module that is refused is refused by `omf canon` with the same line, and nothing else is written. Each module of which one
-of these does not hold is printed, and then the status is 1. OMF names the program.
+For each it tests that the canonical bytes are accepted, that they are their own canonical bytes, and that `omf reloc` prints the
+same for both at one placement, byte for byte (if the placement does not reach, the same fault, but for the record and the place
+in it). It also writes the module in another encoding (respelled.py), and tests that this is accepted and has the same canonical
+bytes. It tests that `omf canon` refuses a refused module with the same line, and writes nothing else. It prints each module for which
+one of these does not hold, and then the status is 1. OMF names the program.
 """
 import os
 import subprocess

@@ -1,84 +1,123 @@
 #!/usr/bin/env bash
-# Refuses each growth in turn, until a run meets none: of the tests that hold whichever growth is refused, and of the program.
-# It takes the programs that `rt test` left in the crates of these tests, and OMF, the program `omf` (crates/omf/out/omf, which
-# `make build` makes); what is not there is skipped. It needs a C compiler.
+# Refuses exactly one growth, each in turn, until a run meets none: of the tests that hold whichever growth is refused, and of the programs.
+#
+# usage: tests/growths.sh [--all]
+#   It takes the programs that `rt ci` or `rt test` left in the crates: those of the tests, omf, omf-link and omf-place. OMF, OMF_LINK and
+#   OMF_PLACE name other ones. What is not there is skipped, or with --all is a failure.
+#
+# It needs a C compiler; without one it tries nothing. After LIMIT seconds (120) it begins no other run, and prints what was not tried.
 # Its status is 0 where every run passed.
 set -uo pipefail
 root=$(cd "$(dirname "$0")/.." && pwd)
+needed=${1:-}
+limit=${LIMIT:-120}
 omf=${OMF:-$root/crates/omf/out/omf}
-most=20000
+link=${OMF_LINK:-$root/crates/omf_link/out/omf_link}
+place=${OMF_PLACE:-$root/crates/omf_place/out/omf_place}
 work=$(mktemp -d)
 trap 'rm -rf "$work"' EXIT
-failed=0
+failed=0 running=()
 
 if ! command -v cc > /dev/null; then
-    echo "skipped: there is no C compiler"
+    echo "growths: skipped, there is no C compiler"
     exit 0
 fi
 cc -O1 -shared -fPIC -o "$work/refuse_growth.so" "$root/tests/refuse_growth.c" || exit 1
 
-# refusing NUMBER COMMAND..: runs it with that growth refused. Its output is in out, its standard error in err.
+# fails TEXT: prints what failed.
+fails() {
+    echo "FAILED: $1"
+    failed=1
+}
+
+# skips TEXT: prints what is not there.
+skips() {
+    if [ "$needed" = --all ]; then
+        fails "$1: it is not there"
+    else
+        echo "skipped: $1"
+    fi
+}
+
+# refusing NUMBER COMMAND..: runs it with that growth refused. Its output is in the file out, its status in status; it is false where no
+# growth had that number.
 refusing() {
-    local number=$1
+    local number=$1 said=
     shift
-    LD_PRELOAD=$work/refuse_growth.so REFUSE_GROWTH=$number "$@" > "$work/out" 2> "$work/err"
+    LD_PRELOAD=$work/refuse_growth.so REFUSE_GROWTH=$number "$@" > "$here/out" 2> "$here/err"
+    status=$?
+    read -r -d '' said < "$here/err"
+    [[ $said == *'growth refused'* ]]
+}
+
+# apart COMMAND..: runs a function below beside the others, in a folder of its own.
+apart() {
+    (
+        here=$(mktemp -d "$work/XXXXXX")
+        "$@"
+        exit $failed
+    ) &
+    running+=($!)
+}
+
+# is_late NAME NUMBER: whether the time is over.
+is_late() {
+    ((SECONDS >= limit)) && echo "$1: not tried from growth $2 on, $limit seconds are over"
 }
 
 # refuse_each_of_test TEST: a test that holds whichever growth is refused, of the crate that has it.
 refuse_each_of_test() {
-    local test=$1 file name program number
+    local test=$1 file name program number status
     file=$(cd "$root/crates" && grep -rl --include='*.rt' "fn $test(" -- */src | head -n 1)
-    if [ -z "$file" ]; then
-        echo "skipped: there is no test $test"
-        return
-    fi
     name=${file%%/*} program=$root/crates/${file%%/*}/out/${file%%/*}_tests
     if [ ! -x "$program" ]; then
-        echo "skipped: $name $test (run rt test in crates/$name)"
+        skips "$name $test (run rt test in crates/$name)"
         return
     fi
     test=$(sed 's|^[^/]*/src/||; s|\.rt$||; s|/|::|g' <<< "$file")::$test
-    for ((number = 1; number <= most; number++)); do
-        if ! refusing $number "$program" "$test"; then
-            echo "FAILED: $name $test, growth $number"
-            cat "$work/out" "$work/err"
-            failed=1
+    for ((number = 1; ; number++)); do
+        is_late "$name $test" $number && return
+        refusing $number "$program" "$test"
+        local refused=$?
+        if [ $status -ne 0 ]; then
+            fails "$name $test, growth $number"
+            cat "$here/out" "$here/err"
         fi
-        grep -q 'growth refused' "$work/err" || break
+        [ $refused -eq 0 ] || break
     done
     echo "$name $test: $((number - 1)) growths"
 }
 
-# refuse_each_of_run STATUS JOB INPUT: a run of the program is as without a refusal; or it prints `memory` with status 3; or, where the
-# line of its fault finds no memory, it prints nothing.
+# is_memory: whether a run ended for lack of memory.
+is_memory() {
+    local text=
+    [ $status -eq 3 ] || return
+    read -r -d '' text < "$here/out"
+    [ "$text" = memory ]
+}
+
+# refuse_each_of_run STATUS INPUT PROGRAM ARGUMENT..: a run is as without a refusal, or it prints `memory` and ends with the status 3.
 refuse_each_of_run() {
-    local wanted=$1 job=$2 input=$3 number status
-    "$omf" "$job" < "$input" > "$work/wanted"
+    local wanted=$1 input=$2 program=$3 name number status
+    shift 3
+    name="$(basename "$program") $* of $(basename "$input")"
+    if [ ! -x "$program" ]; then
+        skips "$name"
+        return
+    fi
+    "$program" "$@" < "$input" > "$here/wanted"
     status=$?
-    if [ $status -ne "$wanted" ]; then
-        echo "FAILED: $job of $(basename "$input") ends with $status"
-        failed=1
-    fi
-    for ((number = 1; number <= most; number++)); do
-        refusing $number "$omf" "$job" < "$input"
-        status=$?
-        grep -q 'growth refused' "$work/err" || break
-        if [ $status -eq "$wanted" ] && cmp -s "$work/out" "$work/wanted"; then
-            continue
-        elif [ $status -eq 3 ] && [ "$(cat "$work/out")" = memory ]; then
-            continue
-        elif [ $status -eq "$wanted" ] && [ "$wanted" -ne 0 ] && [ ! -s "$work/out" ]; then
-            continue
-        fi
-        echo "FAILED: $job of $(basename "$input"), growth $number: status $status"
-        cat "$work/out"
-        failed=1
+    [ $status -eq "$wanted" ] || fails "$name ends with $status"
+    for ((number = 1; ; number++)); do
+        is_late "$name" $number && return
+        refusing $number "$program" "$@" < "$input" || break
+        is_memory && continue
+        [ $status -eq "$wanted" ] && cmp -s "$here/out" "$here/wanted" && continue
+        fails "$name, growth $number: status $status"
+        cat "$here/out"
     done
-    if ! cmp -s "$work/out" "$work/wanted"; then
-        echo "FAILED: $job of $(basename "$input"): the run that meets no refusal"
-        failed=1
-    fi
-    echo "omf $job, $(basename "$input"): $((number - 1)) growths"
+    cmp -s "$here/out" "$here/wanted" || fails "$name: the run that meets no refusal"
+    echo "$name: $((number - 1)) growths"
 }
 
 # input NAME HEX TEXT: a module, written in hexadecimal, and the text after it.
@@ -87,15 +126,6 @@ input() {
     printf '%s' "$3" >> "$work/$1"
 }
 
-# Such tests are named a_refused_growth_..
-for test in $(grep -rhoE --include='*.rt' 'fn a_refused_growth_\w+' "$root"/crates/*_tests/src | sed 's/^fn //' | sort -u); do
-    refuse_each_of_test "$test"
-done
-
-if [ ! -x "$omf" ]; then
-    echo "skipped: the program (run make build, or name it in OMF)"
-    exit $failed
-fi
 header='80 03 00 01 41 3B' names='96 04 00 00 01 54 11' segment='98 07 00 28 04 00 02 01 01 31'
 data='A0 08 00 01 00 00 B8 00 00 90 0F' fixup='9C 06 00 C4 01 04 01 01 93' end='8A 02 00 00 74'
 placed='S 10020 10000 1000'
@@ -112,15 +142,35 @@ input repeats "$header $names 98 07 00 28 0C 00 02 01 01 29
     A2 15 00 01 00 00 03 00 02 00 02 00 00 00 01 AA 01 00 00 00 02 BB CC 0C $end" "$placed"
 input start "$header $names $segment 9A 04 00 02 FF 01 60 9C 03 00 46 01 1A 8A 06 00 C1 A0 01 02 00 0C" "$(
     printf 'S 10020 real\nG real')"
-for module in offset threads jump flat repeats start; do
+
+# refuse_each_on MODULE: the programs on a module.
+refuse_each_on() {
+    local job
     for job in check list canon reloc; do
-        refuse_each_of_run 0 $job "$work/$module"
+        refuse_each_of_run 0 "$1" "$omf" $job
     done
+    refuse_each_of_run 0 "$1" "$place" --real
+}
+
+for module in offset threads jump flat repeats start; do
+    apart refuse_each_on "$work/$module"
 done
 input empty '' ''
 input no_line "$header $names $segment $data $fixup $end" 'T 1'
 input missing "$header $names $segment $data $fixup $end" ''
-refuse_each_of_run 1 check "$work/empty"
-refuse_each_of_run 1 reloc "$work/no_line"
-refuse_each_of_run 1 reloc "$work/missing"
+apart refuse_each_of_run 1 "$work/empty" "$omf" check
+apart refuse_each_of_run 1 "$work/no_line" "$omf" reloc
+apart refuse_each_of_run 1 "$work/missing" "$omf" reloc
+(cd "$root/examples/link" && cat start.obj say.obj mark.obj program.link) > "$work/program"
+for task in image map draft; do
+    apart refuse_each_of_run 0 "$work/program" "$link" $task
+done
+
+# Such tests are named a_refused_growth_..
+for test in $(grep -rhoE --include='*.rt' 'fn a_refused_growth_\w+' "$root"/crates/*_tests/src | sed 's/^fn //' | sort -u); do
+    apart refuse_each_of_test "$test"
+done
+for one in "${running[@]}"; do
+    wait "$one" || failed=1
+done
 exit $failed

@@ -1,8 +1,8 @@
 #!/usr/bin/env bash
-# Drafts a placement for every module of a folder that `omf check` accepts, and relocates the module by it: place_modules.sh FOLDER [WORDS..]
+# Drafts a placement for every module of a folder that `omf check` accepts, and relocates the module at it: place_modules.sh FOLDER [OPTIONS..]
 #
-# The arguments after the folder are those of `omf-place`, such as --real. A draft is in order where `omf reloc` reads it and names no entry of it: it may find
-# that a fixup does not reach. It counts the drafts in order, and those of them that reach, and prints each other answer. OMF and OMF_PLACE name
+# The arguments after the folder are those of `omf-place`, such as --real. A draft is in order if `omf reloc` finds no line of
+# it at fault; a fixup may still not reach. It counts the drafts in order, and those of them that reach, and prints each other answer. OMF and OMF_PLACE name
 # the programs.
 set -u
 folder=$1
