@@ -2,12 +2,7 @@
 """Whether what the documents name exists: the target of each relative link with its heading, each file of this repository that is named in
 code quotes or by its path, each crate, and each Rattle function that docs/LIBRARY.md quotes. Status 1 where one is missing.
 
-CHANGELOG.md, which names what was there at its time, and 'Planted once' in docs/PROOFS.md are read for their links alone; an edit that is
-listed there must not be one that the gate tries.
-
-links.py            checks
-links.py --planted  removes such edits from the list
-"""
+CHANGELOG.md, which names what was there at its time, and 'Planted once' in docs/PROOFS.md are read for their links alone."""
 import pathlib
 import re
 import sys
@@ -72,27 +67,8 @@ def missing_code(text):
             yield "code that no source has: " + re.search(r"^pub fn (\w+)", block, re.M)[1]
 
 
-def planted(keeps):
-    """The lines of 'Planted once' without those of edits that the gate tries, and these edits."""
-    page = ROOT / "docs" / "PROOFS.md"
-    crate, kept, tried = None, [], []
-    for line in page.read_text(encoding="utf-8").splitlines(keepends=True):
-        heading, edit = re.match(r"- \*\*(\w+)\*\*$", line), re.match(r"  - `(\w+)`: ", line)
-        crate = heading[1] if heading else crate
-        if edit and crate and (ROOT / "crates" / crate / "must-fail" / f"{edit[1]}.edit").exists():
-            tried.append(f"{crate} {edit[1]}")
-        else:
-            kept.append(line)
-    if keeps:
-        page.write_text("".join(kept), encoding="utf-8")
-    return tried
-
-
 def main():
-    if sys.argv[1:] == ["--planted"]:
-        print("\n".join(planted(True)))
-        return
-    own, faults = set(needs()), [f"docs/PROOFS.md: {it} is listed as planted once, and the gate tries it" for it in planted(False)]
+    own, faults = set(needs()), []
     pages = [ROOT / "README.md", ROOT / "CONTRIBUTING.md", ROOT / "CHANGELOG.md", *sorted((ROOT / "docs").glob("*.md"))]
     for page in pages:
         text = page.read_text(encoding="utf-8")
