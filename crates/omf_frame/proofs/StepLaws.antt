@@ -7,8 +7,10 @@ use Rattle.omf_frame.specs.declared.fault.Reason.{Reason}
 use Rattle.omf_frame.specs.declared.fault.Reason.TheVariants as reason
 use Rattle.omf_frame.specs.Bytes.{AreBytes, is_one_of}
 use Rattle.omf_frame.specs.Fault.{Fault, least, first_step, broken, rule}
-use Rattle.omf_frame.specs.Types.{read, carried, types_of}
-use Rattle.omf_frame.specs.Framing.{Raw, raw_bytes, IsRecord, is_read, is_carried, is_taken, is_unsupported, is_header, is_nonempty, is_whole, stated_length, front_record, frame_steps, frame_fault, present, HasFront}
+use Rattle.omf_frame.specs.Types.{is_some_treatment, treatment_of}
+use Rattle.omf_frame.specs.declared.kinds.Treatment.{Treatment}
+use Rattle.omf_frame.specs.declared.kinds.Treatment.TheVariants.{Read, Carried, Refused}
+use Rattle.omf_frame.specs.Framing.{Raw, raw_bytes, IsRecord, is_taken, is_unsupported, is_header, is_nonempty, is_whole, stated_length, front_record, frame_steps, frame_fault, present, HasFront}
 use Rattle.omf_frame.proofs.FaultLaws.{untrue}
 use Rattle.omf_frame.proofs.FramingLaws.{stated, size, checksum_raw, raw_front, body_length}
 
@@ -74,11 +76,13 @@ or_right false y h = h
 
 -- no type is both known and unsupported
 pub known_supported : (kind : ℕ) → IsTrue (is_taken kind) → IsTrue (not (is_unsupported kind))
-unfolding all_of
-known_supported kind h = elim (or_cases (is_read kind) (is_carried kind) h) [
-  | inl t ↦ any_all (λ k. not (is_unsupported k)) (types_of read) kind t refl
-  | inr t ↦ any_all (λ k. not (is_unsupported k)) (types_of carried) kind t refl
-]
+known_supported kind h = by (treatment_of kind) h
+  where
+    by : (t : Option Treatment) → IsTrue (is_some_treatment Read t || is_some_treatment Carried t) → IsTrue (not (is_some_treatment Refused t))
+    by None h = refl
+    by (Some Read) h = refl
+    by (Some Carried) h = refl
+    by (Some Refused) h = absurd (untrue h)
 
 two_kept : (a b : Bool) (v w : ℕ) (r s : Reason) → broken (rule a v r ∷ rule b w s ∷ []) ≡ [] → IsTrue a × IsTrue b
 two_kept true b v w r s h = (refl, one_kept b w s h)

@@ -1,7 +1,8 @@
 -- Records, and how they form a module (TIS OMF 1.1, "Object record format" and "Order of records").
 use Rattle.std.specs.Prelude.{◌≡◌, ℕ, ◌+◌, ◌*◌, ◌-◌, ◌/◌, ◌%◌, ◌<◌, ◌⊎◌, List, [], ◌∷◌, ◌++◌, length, sum, take, drop, All, flat_map, Bool, true, false, not, ◌||◌, ◌==◌, nat_le, IsTrue, slice_index, Option, Some, None, if◌then◌else◌}
 use Rattle.omf_frame.specs.Bytes.{is_one_of}
-use Rattle.omf_frame.specs.Types.{theadr, lheadr, modend, read, carried, refused, types_of}
+use Rattle.omf_frame.specs.Types.{theadr, lheadr, modend, is_treated}
+use Rattle.omf_frame.specs.declared.kinds.Treatment.TheVariants.{Read, Carried, Refused}
 use Rattle.omf_frame.specs.Fault.{Fault, rule, broken, least, first_step}
 use Rattle.omf_frame.specs.declared.fault.Reason.{Reason}
 use Rattle.omf_frame.specs.declared.fault.Reason.TheVariants as reason
@@ -28,21 +29,13 @@ checksum_of kind body = (256 - sum (raw_bytes (record { kind = kind; body = body
 abbrev pub raw_of : ℕ → List ℕ → Raw
 raw_of kind body = record { kind = kind; body = body; checksum = checksum_of kind body }
 
--- The type is supported.
-abbrev pub is_read : ℕ → Bool
-is_read kind = is_one_of (types_of read) kind
-
--- Records of the type are kept but not interpreted.
-abbrev pub is_carried : ℕ → Bool
-is_carried kind = is_one_of (types_of carried) kind
-
--- The type is known and refused.
-abbrev pub is_unsupported : ℕ → Bool
-is_unsupported kind = is_one_of (types_of refused) kind
-
--- A module may have records of this type.
+-- A module may have records of this type: they are read, or kept but not read.
 abbrev pub is_taken : ℕ → Bool
-is_taken kind = is_read kind || is_carried kind
+is_taken kind = is_treated Read kind || is_treated Carried kind
+
+-- The type is known, and a module with such a record is refused.
+abbrev pub is_unsupported : ℕ → Bool
+is_unsupported kind = is_treated Refused kind
 
 -- A module begins with a THEADR or an LHEADR, and ends with a MODEND.
 abbrev pub is_header : ℕ → Bool

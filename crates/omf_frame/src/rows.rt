@@ -3,7 +3,9 @@
 ghost use Rattle.std.specs.Prelude.{◌≡◌, ℕ, [], ◌∷◌, ◌++◌, true, false, Some, None, codes, filter};
 ghost use Rattle.std.specs.List.{range_with_len};
 ghost use Rattle.omf_frame.specs.declared.fault.Reason.TheVariants as reason;
-ghost use Rattle.omf_frame.specs.Framing.{is_read, is_carried, is_unsupported, frame_fault};
+ghost use Rattle.omf_frame.specs.declared.kinds.Treatment.TheVariants as treatment;
+ghost use Rattle.omf_frame.specs.Types.{is_treated};
+ghost use Rattle.omf_frame.specs.Framing.{frame_fault};
 ghost use Rattle.omf_frame.specs.Rows.{hex};
 
 /// Bytes in hexadecimal.
@@ -13,10 +15,10 @@ pub fn notation()
 
 /// The known types, among all 256.
 pub fn types()
-    ensures read { filter is_read (range_with_len 0 256)
+    ensures read { filter (is_treated treatment.Read) (range_with_len 0 256)
         ≡ hex (codes "80 82 88 8A 8B 8C 90 91 96 98 99 9A 9C 9D A0 A1 A2 A3 B0 B4 B5 B6 B7 B8 CA") }
-    ensures carried { filter is_carried (range_with_len 0 256) ≡ hex (codes "8E 94 95 C4 C5 C6 CC") }
-    ensures refused { filter is_unsupported (range_with_len 0 256) ≡ hex (codes "B2 B3 BC C2 C3 C8 C9 CE F0 F1") }
+    ensures carried { filter (is_treated treatment.Carried) (range_with_len 0 256) ≡ hex (codes "8E 94 95 C4 C5 C6 CC") }
+    ensures refused { filter (is_treated treatment.Refused) (range_with_len 0 256) ≡ hex (codes "B2 B3 BC C2 C3 C8 C9 CE F0 F1") }
 {}
 
 /// Each framing reason, 1 to 7, and its place.
