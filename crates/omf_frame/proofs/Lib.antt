@@ -12,3 +12,4 @@ pub mod ModuleLaws
 pub mod StepLaws
 pub mod FaultyLaws
 pub mod Tries
+pub mod TypeLaws

@@ -5,13 +5,13 @@ use Rattle.std.proofs.lemmas.Bool.{leb-true, le-leb, eqb-true, eq-eqb}
 use Rattle.std.proofs.lemmas.List.{length-take, take-append-drop}
 use Rattle.omf_frame.specs.declared.fault.Reason.{Reason}
 use Rattle.omf_frame.specs.declared.fault.Reason.TheVariants as reason
-use Rattle.omf_frame.specs.Bytes.{AreBytes, is_one_of}
+use Rattle.omf_frame.specs.Bytes.{AreBytes}
+use Rattle.omf_frame.specs.Types.{types_treated, types_of, is_treated}
+use Rattle.omf_frame.specs.declared.kinds.Treatment.TheVariants.{Read, Carried}
 use Rattle.omf_frame.specs.Fault.{Fault, least, first_step, broken, rule}
-use Rattle.omf_frame.specs.Types.{is_some_treatment, treatment_of}
-use Rattle.omf_frame.specs.declared.kinds.Treatment.{Treatment}
-use Rattle.omf_frame.specs.declared.kinds.Treatment.TheVariants.{Read, Carried, Refused}
 use Rattle.omf_frame.specs.Framing.{Raw, raw_bytes, IsRecord, is_taken, is_unsupported, is_header, is_nonempty, is_whole, stated_length, front_record, frame_steps, frame_fault, present, HasFront}
 use Rattle.omf_frame.proofs.FaultLaws.{untrue}
+use Rattle.omf_frame.proofs.TypeLaws.{all_of, any_all}
 use Rattle.omf_frame.proofs.FramingLaws.{stated, size, checksum_raw, raw_front, body_length}
 
 pub some_none : (f : Fault) (fs : List Fault) → f ∷ fs ≡ [] → ⊥
@@ -44,24 +44,6 @@ one_none : (b : Bool) (w : ℕ) (r : Reason) → IsTrue b → broken (rule b w r
 one_none true w r h = refl
 one_none false w r h = absurd (untrue h)
 
--- what all of a list pass
-all_of : (ℕ → Bool) → List ℕ → Bool
-all_of test [] = true
-all_of test (n ∷ ns) = test n && all_of test ns
-
-and_parts : (x y : Bool) → IsTrue (x && y) → IsTrue x × IsTrue y
-and_parts true y h = (refl, h)
-and_parts false y h = absurd (untrue h)
-
-any_all : (test : ℕ → Bool) (ns : List ℕ) (k : ℕ) → IsTrue (is_one_of ns k) → IsTrue (all_of test ns) → IsTrue (test k)
-unfolding all_of
-any_all test [] k h a = absurd (untrue h)
-any_all test (n ∷ ns) k h a = by (n == k) refl h (λ t. any_all test ns k t (and_parts (test n) (all_of test ns) a).1)
-  where
-    by : (b : Bool) → n == k ≡ b → IsTrue (b || is_one_of ns k) → (IsTrue (is_one_of ns k) → IsTrue (test k)) → IsTrue (test k)
-    by true e t others = subst (λ j. IsTrue (test j)) (eqb-true n k e) (and_parts (test n) (all_of test ns) a).0
-    by false e t others = others t
-
 or_cases : (x y : Bool) → IsTrue (x || y) → IsTrue x ⊎ IsTrue y
 or_cases true y h = inl refl
 or_cases false y h = inr h
@@ -76,13 +58,12 @@ or_right false y h = h
 
 -- no type is both known and unsupported
 pub known_supported : (kind : ℕ) → IsTrue (is_taken kind) → IsTrue (not (is_unsupported kind))
-known_supported kind h = by (treatment_of kind) h
+unfolding all_of
+known_supported kind h = by (is_treated Read kind) refl h
   where
-    by : (t : Option Treatment) → IsTrue (is_some_treatment Read t || is_some_treatment Carried t) → IsTrue (not (is_some_treatment Refused t))
-    by None h = refl
-    by (Some Read) h = refl
-    by (Some Carried) h = refl
-    by (Some Refused) h = absurd (untrue h)
+    by : (b : Bool) → is_treated Read kind ≡ b → IsTrue (b || is_treated Carried kind) → IsTrue (not (is_unsupported kind))
+    by true e t = any_all (λ k. not (is_unsupported k)) (types_of (types_treated Read)) kind e refl
+    by false e t = any_all (λ k. not (is_unsupported k)) (types_of (types_treated Carried)) kind t refl
 
 two_kept : (a b : Bool) (v w : ℕ) (r s : Reason) → broken (rule a v r ∷ rule b w s ∷ []) ≡ [] → IsTrue a × IsTrue b
 two_kept true b v w r s h = (refl, one_kept b w s h)

@@ -1,10 +1,38 @@
 -- The types of records by their names in the standard, and what this profile does with their records; the width of their fields
 -- (TIS OMF 1.1, "Record types").
-use Rattle.std.specs.Prelude.{ℕ, List, [], ◌∷◌, ◌++◌, flat_map, find, unwrap_or, option_map, Option, Some, None, Bool, true, false, codes, ◌%◌, ◌==◌, if◌then◌else◌}
+use Rattle.std.specs.Prelude.{ℕ, List, [], ◌∷◌, ◌++◌, flat_map, filter, find, unwrap_or, option_map, Option, Bool, true, false, codes, ◌%◌, ◌==◌, if◌then◌else◌}
 use Rattle.omf_frame.specs.Bytes.{is_one_of}
 use Rattle.omf_frame.specs.declared.kinds.RecordType.{RecordType}
-use Rattle.omf_frame.specs.declared.kinds.RecordType.TheVariants.{Theadr, Lheadr, Coment, Modend, Extdef, Pubdef, Lnames, Segdef, Grpdef, Fixupp, Ledata, Lidata, Comdef,
-    Lextdef, Lpubdef, Lcomdef, Llnames, Typdef, Linnum, Linsym, Alias, Vernum, Bakpat, Cextdef, Comdat, Nbkpat, Vendext, Library}
+use Rattle.omf_frame.specs.declared.kinds.RecordType.TheVariants.{
+  Theadr,
+  Lheadr,
+  Coment,
+  Modend,
+  Extdef,
+  Pubdef,
+  Lnames,
+  Segdef,
+  Grpdef,
+  Fixupp,
+  Ledata,
+  Lidata,
+  Comdef,
+  Lextdef,
+  Lpubdef,
+  Lcomdef,
+  Llnames,
+  Typdef,
+  Linnum,
+  Linsym,
+  Alias,
+  Vernum,
+  Bakpat,
+  Cextdef,
+  Comdat,
+  Nbkpat,
+  Vendext,
+  Library,
+}
 use Rattle.omf_frame.specs.declared.kinds.Treatment.{Treatment}
 use Rattle.omf_frame.specs.declared.kinds.Treatment.TheVariants.{Read, Carried, Refused}
 use Rattle.omf_frame.specs.declared.kinds.Width.{Width}
@@ -61,23 +89,29 @@ record_types = Theadr ∷ Lheadr ∷ Coment ∷ Modend ∷ Extdef ∷ Pubdef ∷
 abbrev pub type_of : ℕ → Option RecordType
 type_of kind = find (λ t. is_one_of (row t).bytes kind) record_types
 
--- What this profile does with the records of a known type.
-abbrev pub treatment_of : ℕ → Option Treatment
-treatment_of kind = option_map (λ t. (row t).treatment) (type_of kind)
-
 -- The name of a known type.
 abbrev pub type_name : ℕ → List ℕ
 type_name kind = unwrap_or (option_map (λ t. (row t).name) (type_of kind)) []
 
-abbrev pub is_some_treatment : Treatment → Option Treatment → Bool
-is_some_treatment Read (Some Read) = true
-is_some_treatment Carried (Some Carried) = true
-is_some_treatment Refused (Some Refused) = true
-is_some_treatment _ _ = false
+abbrev pub is_same : Treatment → Treatment → Bool
+is_same Read Read = true
+is_same Carried Carried = true
+is_same Refused Refused = true
+is_same _ _ = false
+
+-- The types whose records are treated so, and the type bytes of some types.
+abbrev pub types_treated : Treatment → List RecordType
+types_treated treatment = filter (λ t. is_same treatment (row t).treatment) record_types
+
+abbrev pub types_of : List RecordType → List ℕ
+types_of types = flat_map (λ t. (row t).bytes) types
 
 -- The type is known, and its records are treated so.
 abbrev pub is_treated : Treatment → ℕ → Bool
-is_treated treatment kind = is_some_treatment treatment (treatment_of kind)
+is_treated treatment kind = is_one_of (types_of (types_treated treatment)) kind
+
+abbrev pub carried : List RecordType
+carried = types_treated Carried
 
 -- The type bytes of each type that is read.
 abbrev pub theadr : List ℕ

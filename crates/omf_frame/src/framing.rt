@@ -5,7 +5,7 @@ ghost use Rattle.omf_frame.specs.Framing.{is_whole, record_len};
 ghost use Rattle.omf_frame.specs.Inner.Judging.{type_fault, whole_fault};
 
 use crate::fault::Reason;
-use crate::kinds::{RecordType, Treatment, is_header};
+use crate::kinds::{is_header, is_taken, is_unsupported};
 use crate::sums::byte_sum;
 
 /// The number of bytes after the two length bytes.
@@ -52,11 +52,9 @@ pub fn type_fault(bytes: &[u8]) -> Option<(Reason, u32)>
 {
     match bytes {
         [] => None,
-        [kind, ..] => match RecordType::of(*kind).map(RecordType::treatment) {
-            None => Some((Reason::UnknownType, 0)),
-            Some(Treatment::Read | Treatment::Carried) => None,
-            Some(Treatment::Refused) => Some((Reason::UnsupportedType, 0)),
-        },
+        [kind, ..] if is_unsupported(*kind) => Some((Reason::UnsupportedType, 0)),
+        [kind, ..] if is_taken(*kind) => None,
+        _ => Some((Reason::UnknownType, 0)),
     }
 }
 

@@ -1,8 +1,8 @@
 //! The types of records, and the width of their fields (TIS OMF 1.1, "Record types").
 
 ghost use Rattle.std.specs.Prelude.{◌≡◌};
-ghost use Rattle.omf_frame.specs.Types.{row, type_of, type_name, width_of, width_bytes};
-ghost use Rattle.omf_frame.specs.Framing.{is_taken, is_header, is_end};
+ghost use Rattle.omf_frame.specs.Types.{row, type_of, type_name, is_local, is_same, is_treated, width_of, width_bytes};
+ghost use Rattle.omf_frame.specs.Framing.{is_taken, is_unsupported, is_header, is_end};
 
 use std::fmt;
 
@@ -15,6 +15,18 @@ pub enum Treatment {
     Carried,
     /// A module with one is refused.
     Refused,
+}
+
+impl Treatment {
+    fn is(self, other: Treatment) -> bool
+        ensures { result ≡ is_same self other }
+    {
+        match self {
+            Treatment::Read => matches!(other, Treatment::Read),
+            Treatment::Carried => matches!(other, Treatment::Carried),
+            Treatment::Refused => matches!(other, Treatment::Refused),
+        }
+    }
 }
 
 /// The type of a record (TIS OMF 1.1, "Record types"). A type has one or two type bytes.
@@ -205,17 +217,35 @@ pub fn type_name(kind: u8) -> &'static str
     }
 }
 
+/// Whether the type is known, and its records are treated so.
+fn is_treated(treatment: Treatment, kind: u8) -> bool
+    ensures { result ≡ is_treated treatment kind }
+{
+    match RecordType::of(kind) {
+        Some(record_type) => treatment.is(record_type.treatment()),
+        None => false,
+    }
+}
+
 /// Whether a module may have records of this type.
 pub fn is_taken(kind: u8) -> bool
     ensures { result ≡ is_taken kind }
 {
-    match RecordType::of(kind) {
-        Some(record_type) => match record_type.treatment() {
-            Treatment::Read | Treatment::Carried => true,
-            Treatment::Refused => false,
-        },
-        None => false,
-    }
+    is_treated(Treatment::Read, kind) || is_treated(Treatment::Carried, kind)
+}
+
+/// Whether the type is known, and a module with such a record is refused.
+pub fn is_unsupported(kind: u8) -> bool
+    ensures { result ≡ is_unsupported kind }
+{
+    is_treated(Treatment::Refused, kind)
+}
+
+/// Whether records of this type are local: LEXTDEF, LPUBDEF, LCOMDEF and LLNAMES.
+pub fn is_local(kind: u8) -> bool
+    ensures { result ≡ is_local kind }
+{
+    matches!(kind, 0xB4..=0xB8 | 0xCA)
 }
 
 /// Whether a record of this type begins a module: THEADR (80H) or LHEADR (82H).

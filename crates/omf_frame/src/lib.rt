@@ -32,7 +32,7 @@ pub use device::{Buffered, Bytes, Reading, Sink, Source, Writing};
 pub use fault::{FrameFault, Place, Reason};
 pub use field::{CommunalLength, Field, Index, Le16, Le32, Name};
 pub use framer::{Fed, Framer, RawRecord};
-pub use kinds::{RecordType, Treatment, Width, is_header, type_name};
+pub use kinds::{RecordType, Treatment, Width, is_header, is_local, type_name};
 pub use laws::{
     faults_are_least, framing_reasons, modules_are_read, modules_are_unique, pieces_do_not_matter,
     records_delimit, runs_are_framings, standing_faults_stay,
