@@ -59,6 +59,15 @@ all_hold true false true false false h len at q n = cc
 all_hold true false true false true false len at q n = cc
 all_hold true false true false true true len at q n = (refl, refl, refl, refl)
 
+-- what the tests say where no fault stands and the record is not whole
+pub cut_tests : (t u w e c h : Bool) (len at : ℕ) → w ≡ false → lasting (least (first_step (steps true t u w e c h len at))) ≡ None
+    → least (first_step (steps true t u w e c h len at)) ≡ Some (record { within = len; reason = reason.Cut })
+cut_tests t u true e c h len at q n = cc
+cut_tests true true false e c h len at q n = cc
+cut_tests false true false e c h len at q n = cc
+cut_tests false false false e c h len at q n = cc
+cut_tests true false false e c h len at q n = refl
+
 -- what the tests say where no step has a fault
 pub clean_tests : (t u w e c h : Bool) (len at : ℕ) → least (first_step (steps true t u w e c h len at)) ≡ None → (t ≡ true) × (h ≡ true)
 clean_tests true true w e c h len at n = cc

@@ -1,10 +1,15 @@
 -- The record that a whole record's bytes are.
-use Rattle.std.proofs.Common.{◌≡◌, ◌⊎◌, inl, inr, ℕ, suc, ◌+◌, ◌*◌, ◌-◌, ◌%◌, ◌<◌, ◌≤◌, Bool, true, false, not, ◌||◌, get_or, List, [], ◌∷◌, None, length, sum, refl, arith}
+use Rattle.std.proofs.Common.{◌≡◌, ◌⊎◌, inl, inr, ℕ, suc, ◌+◌, ◌*◌, ◌-◌, ◌%◌, ◌<◌, ◌≤◌, Bool, true, false, not, ◌||◌, get_or, List, [], ◌∷◌, Option, Some, None, Err, length, sum, refl, arith}
 use Rattle.std.specs.Prelude.{◌==◌, nat_le, slice_index}
 use borrow.Author.Tests.{eqb-true, eqb-false, leb-true}
+use Rattle.omf_frame.specs.declared.fault.Reason.TheVariants.{NoEnd, Cut}
 use Rattle.omf_frame.specs.Bytes.{AreBytes}
+use Rattle.omf_frame.specs.Fault.{Fault}
+use Rattle.omf_frame.specs.declared.fault.Reason.{Reason}
+use Rattle.omf_frame.specs.declared.fault.FrameFault.TheVariants.{Refused}
+use Rattle.omf_frame.specs.Framer.{Held, stop_of}
 use Rattle.omf_frame.specs.Framing.{IsRecord, raw_bytes, front_record, is_whole, is_taken, is_unsupported, is_header, frame_fault, standing_fault, record_len}
-use Rattle.omf_frame.proofs.Judged.{all_hold}
+use Rattle.omf_frame.proofs.Judged.{all_hold, cut_tests}
 use Rattle.omf_frame.proofs.FramingLaws.{raw_front, body_length}
 
 pub small : (bytes : List ℕ) → AreBytes bytes → length bytes ≤ record_len bytes → length bytes ≤ 65538
@@ -42,3 +47,25 @@ record_at f (t ∷ lo ∷ hi ∷ rest) fit short whole sound =
     let checked : (get_or rest (n - 1) 0 ≡ 0) ⊎ (sum bytes % 256 ≡ 0) = rw last at (checked_is (slice_index bytes (2 + n)) bytes tests.2) in
     let fits : length (front_record bytes).body + 1 < 65536 = omega arith in
     ((fits, rw spelled checked), spelled, tests.3)
+
+-- a part of a record that has no permanent fault is cut
+pub cut_at : (f : Bool) (bytes : List ℕ) (within : ℕ) → within ≡ length bytes → 0 < within → is_whole bytes ≡ false → standing_fault f bytes ≡ None
+    → frame_fault f bytes ≡ Some (record { within = within; reason = Cut })
+cut_at f [] within e some w sound = absurd (omega arith)
+cut_at f (t ∷ []) within e some w sound =
+    rw e (cut_tests (is_taken t) (is_unsupported t) false true ((slice_index (t ∷ []) 2 == 0) || (sum (t ∷ []) % 256 == 0)) (not f || is_header t) 1 2 refl sound)
+cut_at f (t ∷ lo ∷ []) within e some w sound =
+    rw e (cut_tests (is_taken t) (is_unsupported t) false true ((slice_index (t ∷ lo ∷ []) 2 == 0) || (sum (t ∷ lo ∷ []) % 256 == 0)) (not f || is_header t) 2 2 refl sound)
+cut_at f (t ∷ lo ∷ hi ∷ rest) within e some w sound =
+    rw e (cut_tests (is_taken t) (is_unsupported t) (nat_le (lo + 256 * hi) (length rest)) (lo + 256 * hi == 0) _ _ _ _ w sound)
+
+-- where no byte is there, the input has ended
+pub empty_at : (f : Bool) (bytes : List ℕ) (within : ℕ) → within ≡ length bytes → within ≡ 0 → frame_fault f bytes ≡ Some (record { within = within; reason = NoEnd })
+empty_at f [] within e z = rw z refl
+empty_at f (b ∷ bytes) within e z = absurd (omega arith)
+
+-- an input that ends there has this fault
+pub stops_with : (held now : Held) (r : Reason) (fault : Fault) → held ≡ now → r ≡ fault.reason → held.fault ≡ None → held.ended ≡ false
+    → frame_fault (held.number == 0) held.bytes ≡ Some fault
+    → Err (Refused r (record { number = held.number; start = held.start; within = fault.within })) ≡ stop_of now
+stops_with held now r fault v q n e h = rw (← v, q, n, e, h) refl

@@ -11,7 +11,7 @@ use Rattle.omf_frame.specs.declared.kinds.Treatment.TheVariants.{Read, Carried, 
 use Rattle.omf_frame.proofs.FaultLaws.{untrue}
 
 -- what all of a list pass
-pub all_of : {A : Type 0} → (A → Bool) → List A → Bool
+unfoldable pub all_of : {A : Type 0} → (A → Bool) → List A → Bool
 all_of test [] = true
 all_of test (n ∷ ns) = test n && all_of test ns
 

@@ -10,7 +10,7 @@ use std::io::ErrorKind;
 use std::marker::Model;
 
 /// What a script does after its bytes.
-#[derive(Clone, Copy, Debug, PartialEq, Eq)]
+#[derive(Clone, Copy)]
 pub enum Then {
     /// The input ends.
     Ends,
@@ -21,7 +21,7 @@ pub enum Then {
 }
 
 /// What a taker does when it is full.
-#[derive(Clone, Copy, Debug, PartialEq, Eq)]
+#[derive(Clone, Copy)]
 pub enum Full {
     /// Each push fails with `Other`.
     Fails,

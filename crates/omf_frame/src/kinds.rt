@@ -7,7 +7,7 @@ ghost use Rattle.omf_frame.specs.Framing.{is_taken, is_unsupported, is_header, i
 use std::fmt;
 
 /// What this profile does with the records of a type.
-#[derive(Clone, Copy, Debug, PartialEq, Eq)]
+#[derive(Clone, Copy)]
 pub enum Treatment {
     /// They are read.
     Read,

@@ -12,6 +12,10 @@ pub returns-in-len4-up-clause-spelled : goal.returns-in-len4-up-clause-spelled
 returns-in-len4-up-clause-spelled c =
     (record_at (c.args.number == 0) c.args.bytes.now (λ i. omega (arith, c.type_inv.bytes i)) c.requires.short (sym (sym c.if-not-is_whole.false ∙ c.is_whole.ensures)) c.requires.sound).1
 
+pub returns-in-len4-up-clause-sound : goal.returns-in-len4-up-clause-sound
+returns-in-len4-up-clause-sound c =
+    (record_at (c.args.number == 0) c.args.bytes.now (λ i. omega (arith, c.type_inv.bytes i)) c.requires.short (sym (sym c.if-not-is_whole.false ∙ c.is_whole.ensures)) c.requires.sound).2
+
 pub returns-in-len4-up-clause-small : goal.returns-in-len4-up-clause-small
 returns-in-len4-up-clause-small c =
     let b = c.args.bytes.now in
