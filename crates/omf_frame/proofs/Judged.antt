@@ -8,6 +8,12 @@ use Rattle.omf_frame.specs.Fault.{Fault, reason_number, rule, broken, least, fir
 use Rattle.omf_frame.specs.Framing.{is_taken, is_unsupported, is_header, type_faults, lasting, standing_fault, frame_fault, is_nonempty, is_whole, stated_length}
 use Rattle.omf_frame.specs.Inner.Judging.{found, type_fault, whole_fault, fault_of}
 
+no_some : {A : Type 0} (x : A) → Some x ≡ None → ⊥
+no_some x e = cc
+
+untrue_is : true ≡ false → ⊥
+untrue_is e = cc
+
 -- the steps, over the outcomes of the tests
 abbrev steps : Bool → Bool → Bool → Bool → Bool → Bool → Bool → ℕ → ℕ → List (List Fault)
 steps some taken unsupported whole empty checked header len at =
@@ -50,33 +56,33 @@ standing_is f (t ∷ lo ∷ hi ∷ rest) = tests_find (is_taken t) (is_unsupport
 -- what the tests say where no fault stands and the record is whole
 pub all_hold : (t u w e c h : Bool) (len at : ℕ) → w ≡ true → lasting (least (first_step (steps true t u w e c h len at))) ≡ None
     → (t ≡ true) × (e ≡ false) × (c ≡ true) × (least (first_step (steps true t u w e c h len at)) ≡ None)
-all_hold t u false e c h len at q n = cc
-all_hold true true true e c h len at q n = cc
-all_hold false true true e c h len at q n = cc
-all_hold false false true e c h len at q n = cc
-all_hold true false true true c h len at q n = cc
-all_hold true false true false false h len at q n = cc
-all_hold true false true false true false len at q n = cc
+all_hold t u false e c h len at q n = absurd (untrue_is (sym q))
+all_hold true true true e c h len at q n = absurd (no_some _ n)
+all_hold false true true e c h len at q n = absurd (no_some _ n)
+all_hold false false true e c h len at q n = absurd (no_some _ n)
+all_hold true false true true c h len at q n = absurd (no_some _ n)
+all_hold true false true false false h len at q n = absurd (no_some _ n)
+all_hold true false true false true false len at q n = absurd (no_some _ n)
 all_hold true false true false true true len at q n = (refl, refl, refl, refl)
 
 -- what the tests say where no fault stands and the record is not whole
 pub cut_tests : (t u w e c h : Bool) (len at : ℕ) → w ≡ false → lasting (least (first_step (steps true t u w e c h len at))) ≡ None
     → least (first_step (steps true t u w e c h len at)) ≡ Some (record { within = len; reason = reason.Cut })
-cut_tests t u true e c h len at q n = cc
-cut_tests true true false e c h len at q n = cc
-cut_tests false true false e c h len at q n = cc
-cut_tests false false false e c h len at q n = cc
+cut_tests t u true e c h len at q n = absurd (untrue_is q)
+cut_tests true true false e c h len at q n = absurd (no_some _ n)
+cut_tests false true false e c h len at q n = absurd (no_some _ n)
+cut_tests false false false e c h len at q n = absurd (no_some _ n)
 cut_tests true false false e c h len at q n = refl
 
 -- what the tests say where no step has a fault
 pub clean_tests : (t u w e c h : Bool) (len at : ℕ) → least (first_step (steps true t u w e c h len at)) ≡ None → (t ≡ true) × (h ≡ true)
-clean_tests true true w e c h len at n = cc
-clean_tests false true w e c h len at n = cc
-clean_tests false false w e c h len at n = cc
-clean_tests true false false e c h len at n = cc
-clean_tests true false true true c h len at n = cc
-clean_tests true false true false false h len at n = cc
-clean_tests true false true false true false len at n = cc
+clean_tests true true w e c h len at n = absurd (no_some _ n)
+clean_tests false true w e c h len at n = absurd (no_some _ n)
+clean_tests false false w e c h len at n = absurd (no_some _ n)
+clean_tests true false false e c h len at n = absurd (no_some _ n)
+clean_tests true false true true c h len at n = absurd (no_some _ n)
+clean_tests true false true false false h len at n = absurd (no_some _ n)
+clean_tests true false true false true false len at n = absurd (no_some _ n)
 clean_tests true false true false true true len at n = (refl, refl)
 
 pub some_none : {A B : Type 0} (x : A) (f : A → B) (o : Option A) → o ≡ Some x → option_map f o ≡ None → ⊥
