@@ -8,7 +8,7 @@ use Rattle.omf_frame.specs.declared.faulty.Then.TheVariants.{Ends, Fails, Repeat
 use Rattle.std.specs.declared.io.ErrorKind.{ErrorKind}
 use Rattle.std.specs.declared.io.ErrorKind.TheVariants.{Interrupted, Other}
 use Rattle.omf_frame.specs.Device.{one_more, counted, is_interruption}
-use Rattle.omf_frame.specs.Inner.Faulty.{Taking, Answer, Interrupts, Refuses, told, kind_once, kind_due, next_due, next_failing, unless_failing, taken, passed_on, is_push_failure, is_push_break, after_push}
+use Rattle.omf_frame.specs.Inner.Faulty.{Scripted, Taking, Answer, Interrupts, Refuses, told, kind_once, kind_due, next_due, next_failing, unless_failing, taken, passed_on, is_push_failure, is_push_break, after_push, given, is_failure, is_break, after_pull}
 
 -- bytes that are given from the front are consumed
 pub gives_front : (after : Then) (bytes rest front : List ℕ) (count : ℕ) → bytes ≡ front ++ rest → 0 < count → Consumes (told after bytes) (told after rest) front × (count ≡ 0 → IsAtEnd (told after rest))
@@ -30,16 +30,18 @@ pub record IsTurn (answer : Answer) (kind : ErrorKind) (bytes : List ℕ) : Type
   pub none : passed_on answer ≡ []
   pub fails : is_push_failure answer bytes ≡ true
   pub breaks : is_push_break answer bytes ≡ not (is_interruption kind)
+  pub pull_fails : is_failure answer ≡ true
+  pub pull_breaks : is_break answer ≡ not (is_interruption kind)
 
 none_due : (kind : ErrorKind) → None ≡ Some kind → ⊥
 none_due kind e = cc
 
 once : (is_turn : Bool) (answer : Answer) (kind : ErrorKind) (bytes : List ℕ) → (if is_turn then Some Other else None) ≡ Some kind → IsTurn (if is_turn then Refuses else answer) kind bytes
-once true answer kind bytes e = let k : kind ≡ Other = cc in rw k (record { none = refl; fails = refl; breaks = refl })
+once true answer kind bytes e = let k : kind ≡ Other = cc in rw k (record { none = refl; fails = refl; breaks = refl; pull_fails = refl; pull_breaks = refl })
 once false answer kind bytes e = absurd (none_due kind e)
 
 turn : (is_due : Bool) (fails_in : Option ℕ) (answer : Answer) (kind : ErrorKind) (bytes : List ℕ) → (if is_due then Some Interrupted else kind_once fails_in) ≡ Some kind → IsTurn (if is_due then Interrupts else unless_failing fails_in answer) kind bytes
-turn true fails_in answer kind bytes e = let k : kind ≡ Interrupted = cc in rw k (record { none = refl; fails = refl; breaks = refl })
+turn true fails_in answer kind bytes e = let k : kind ≡ Interrupted = cc in rw k (record { none = refl; fails = refl; breaks = refl; pull_fails = refl; pull_breaks = refl })
 turn false (Some n) answer kind bytes e = once (n == 0) answer kind bytes e
 turn false None answer kind bytes e = absurd (none_due kind e)
 
@@ -50,3 +52,10 @@ failed_by_turn t bytes kind due fails_in failures breaks e d f n k =
     let h = turn (nat_lt 0 t.due) t.fails_in (taken t.full t.piece t.room bytes) kind bytes (sym e) in
     let whole : t.room - length {A = ℕ} [] ≡ t.room = omega arith in
     rw (h.none, h.fails, h.breaks, d, f, n, k, append-nil t.held, whole) refl
+
+-- what a script is after a failure that comes by its turn
+pub pull_failed_by_turn : (s : Scripted) (room : ℕ) (kind : ErrorKind) (due : ℕ) (fails_in : Option ℕ) (failures breaks : ℕ) → Some kind ≡ kind_due s.due s.fails_in → due ≡ next_due s.due s.interruptions → fails_in ≡ next_failing s.due s.fails_in → failures ≡ one_more s.failures → breaks ≡ counted (not (is_interruption kind)) s.breaks
+    → record { bytes = s.bytes; after = s.after; piece = s.piece; interruptions = s.interruptions; due = due; fails_in = fails_in; failures = failures; breaks = breaks } ≡ after_pull s room
+pull_failed_by_turn s room kind due fails_in failures breaks e d f n k =
+    let h = turn (nat_lt 0 s.due) s.fails_in (given s.after (min room s.piece) s.bytes) kind [] (sym e) in
+    rw (h.none, h.pull_fails, h.pull_breaks, d, f, n, k) refl
