@@ -1,4 +1,4 @@
--- The numbers behind the mark of a communal length.
+-- The numbers after the mark of a communal length.
 use Rattle.std.proofs.Common.{◌≡◌, inl, inr, ℕ, zero, suc, ◌+◌, ◌-◌, ◌^◌, ◌<◌, ◌≤◌, List, [], ◌∷◌, ◌++◌, length, take, drop, get_or, arith, drop-cons, add-one}
 use Rattle.std.proofs.Math.Nat.{pow-le-pow_right}
 use Rattle.byteorder.specs.Endian.{little_number}
@@ -42,7 +42,7 @@ four x p a e (inr (inl h)) = absurd (omega arith)
 four x p a e (inr (inr (inl h))) = absurd (omega arith)
 four x p a e (inr (inr (inr h))) = h.1
 
--- behind the mark no number is spelled
+-- after the mark no number is spelled
 pub none_behind : (k mark : ℕ) (src : List ℕ) (pos : ℕ) → pos < length src → get_or src pos 0 ≡ mark → ((x p : ℕ) (a : List ℕ) → p ≡ mark → IsCommunalLength x (p ∷ a) → IsLittle k x a)
     → IsUnspelled (λ n bytes. IsLittle k n bytes) (drop (pos + 1) src) → (x : ℕ) (front back : List ℕ) → IsCommunalLength x front → drop pos src ≡ front ++ back → ⊥
 none_behind k mark src pos lt is form none x [] back h e = h

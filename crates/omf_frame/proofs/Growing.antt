@@ -22,7 +22,7 @@ short_joined (k ∷ l ∷ []) [] h = h
 short_joined (k ∷ l ∷ []) (g ∷ b) h = omega arith
 short_joined (k ∷ l ∷ g ∷ a) b h = h
 
--- behind one byte
+-- after one byte
 pub short_behind_one : (a b : List ℕ) → length a ≡ 1 → length b < 2 → 3 ≡ record_len (a ++ b)
 short_behind_one [] b h g = absurd (omega arith)
 short_behind_one (k ∷ []) [] h g = refl

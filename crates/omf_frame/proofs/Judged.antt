@@ -45,7 +45,7 @@ tests_find true false true false false h len at = refl
 tests_find true false true false true false len at = refl
 tests_find true false true false true true len at = refl
 
--- the fault that stands is the one that is computed
+-- the permanent fault is the one that is computed
 pub standing_is : (is_first : Bool) (bytes : List ℕ) → standing_fault is_first bytes ≡ option_map found (fault_of is_first bytes)
 unfolding type_fault whole_fault
 standing_is f [] = refl
@@ -53,7 +53,7 @@ standing_is f (t ∷ []) = tests_find (is_taken t) (is_unsupported t) false true
 standing_is f (t ∷ lo ∷ []) = tests_find (is_taken t) (is_unsupported t) false true ((slice_index (t ∷ lo ∷ []) 2 == 0) || (sum (t ∷ lo ∷ []) % 256 == 0)) (not f || is_header t) 2 2
 standing_is f (t ∷ lo ∷ hi ∷ rest) = tests_find (is_taken t) (is_unsupported t) (nat_le (lo + 256 * hi) (length rest)) (lo + 256 * hi == 0) _ _ _ _
 
--- what the tests say where no fault stands and the record is whole
+-- what the tests say where there is no permanent fault and the record is whole
 pub all_hold : (t u w e c h : Bool) (len at : ℕ) → w ≡ true → lasting (least (first_step (steps true t u w e c h len at))) ≡ None
     → (t ≡ true) × (e ≡ false) × (c ≡ true) × (least (first_step (steps true t u w e c h len at)) ≡ None)
 all_hold t u false e c h len at q n = absurd (untrue_is (sym q))
@@ -65,7 +65,7 @@ all_hold true false true false false h len at q n = absurd (no_some _ n)
 all_hold true false true false true false len at q n = absurd (no_some _ n)
 all_hold true false true false true true len at q n = (refl, refl, refl, refl)
 
--- what the tests say where no fault stands and the record is not whole
+-- what the tests say where there is no permanent fault and the record is not whole
 pub cut_tests : (t u w e c h : Bool) (len at : ℕ) → w ≡ false → lasting (least (first_step (steps true t u w e c h len at))) ≡ None
     → least (first_step (steps true t u w e c h len at)) ≡ Some (record { within = len; reason = reason.Cut })
 cut_tests t u true e c h len at q n = absurd (untrue_is q)
@@ -97,7 +97,7 @@ first_none : {A : Type 0} (a b : Option A) → option_or a b ≡ None → a ≡ 
 first_none None b e = refl
 first_none (Some x) b e = cc
 
--- where no fault stands, the type byte has none
+-- where there is no permanent fault, the type byte has none
 pub sound_type : (f : Bool) (bytes : List ℕ) → standing_fault f bytes ≡ None → type_fault bytes ≡ None
 sound_type f bytes h = first_none (type_fault bytes) (whole_fault f bytes) (map_none found (fault_of f bytes) (sym (standing_is f bytes) ∙ h))
 
@@ -112,7 +112,7 @@ type_none (t ∷ bytes) some h = by_tests (is_taken t) (is_unsupported t) h
     by_tests false false e = cc
     by_tests true false e = refl
 
--- the fault that stands, where the type's is computed, or the record's
+-- the permanent fault, where the type's is computed, or the record's
 pub by_type : (f : Bool) (bytes : List ℕ) (r : Option (Reason × ℕ)) (fault : Reason × ℕ) → r ≡ type_fault bytes → r ≡ Some fault → standing_fault f bytes ≡ Some (found fault)
 by_type f bytes r fault e g = standing_is f bytes ∙ ap (λ t. option_map found (option_or t (whole_fault f bytes))) (sym e ∙ g)
 

@@ -37,7 +37,7 @@ all_none P k d h = absurd (nowhere k h)
 pub all_one : {A : Type 0} (P : A → Type 0) (x : A) → P x → All P (x ∷ [])
 all_one P x p = all_cons P x [] p (all_none P)
 
--- bytes behind others
+-- bytes after others
 pub bytes_behind : (a b : List ℕ) → AreBytes (a ++ b) → AreBytes b
 bytes_behind [] b h = h
 bytes_behind (x ∷ a) b h = bytes_behind a b (λ i. h (suc i))
@@ -74,7 +74,7 @@ framed_of records r s none e = record {
     header [] s = let some : 0 < length (r ∷ []) = omega arith in (clean_record true r (s 0 r some).1).1 refl
     header (x ∷ xs) s = let some : 0 < length (x ∷ xs ++ r ∷ []) = omega arith in (clean_record true x (s 0 x some).1).1 refl
 
--- one byte more behind a part of a record
+-- one byte more after a part of a record
 module _ (input : List ℕ) (shown : List Raw) (rest : List ℕ) (b number start : ℕ) where
   abbrev a : List ℕ
   a = rest ++ b ∷ []
@@ -82,7 +82,7 @@ module _ (input : List ℕ) (shown : List Raw) (rest : List ℕ) (b number start
   abbrev r : Raw
   r = front_record a
 
-  -- the record stands, and is passed
+  -- the record is complete, and is passed
   pub going_whole : AreBytes a → input ++ b ∷ [] ≡ flat_map raw_bytes shown ++ a → AreSound shown → number ≡ length shown → start ≡ length (flat_map raw_bytes shown)
       → HasNoEnd shown → is_whole rest ≡ false → standing_fault (number == 0) a ≡ None → is_whole a ≡ true
       → IsFramingOf (input ++ b ∷ []) (record { shown = shown ++ r ∷ []; held = passed (open_at a number start) })
@@ -277,7 +277,7 @@ framed_once a b x y rs ss f g e =
 
 -- A module is read to its end.
 module _ (shown : List Raw) (number start : ℕ) where
-  -- a record that may stand here is shown and passed
+  -- a record that may be here is shown and passed
   read_one : (r : Raw) → IsRecord r → IsTrue (is_taken r.kind) → IsTrue (not (number == 0) || is_header r.kind)
       → run_over (going shown number start []) (raw_bytes r) ≡ record { shown = shown ++ r ∷ []; held = passed (open_at (raw_bytes r) number start) }
   read_one r is known headed =

@@ -25,7 +25,7 @@ either_of false b h = inr h
 checked_is : (c : ℕ) (bytes : List ℕ) → (c == 0) || (sum bytes % 256 == 0) ≡ true → (c ≡ 0) ⊎ (sum bytes % 256 ≡ 0)
 checked_is c bytes h = elim (either_of (c == 0) (sum bytes % 256 == 0) h) [ inl a ↦ inl (eqb-true _ _ a) | inr b ↦ inr (eqb-true _ _ b) ]
 
--- what stands whole and without fault is a record, and the bytes are its bytes
+-- what is whole and without fault is a record, and the bytes are its bytes
 pub record_at : (f : Bool) (bytes : List ℕ) → AreBytes bytes → length bytes ≤ record_len bytes → is_whole bytes ≡ true → standing_fault f bytes ≡ None
     → IsRecord (front_record bytes) × (raw_bytes (front_record bytes) ≡ bytes) × (frame_fault f bytes ≡ None)
 record_at f [] fit short whole sound = cc

@@ -97,7 +97,7 @@ and_false : (x : Bool) → x && false ≡ false
 and_false true = refl
 and_false false = refl
 
--- where no whole record stands, none is passed
+-- where no record is complete, none is passed
 pub settled_part : (run : Run) → is_whole run.held.bytes ≡ false → settled run ≡ run
 settled_part run h =
     ap (λ (w : Bool). cond w (record { shown = run.shown ++ front_record run.held.bytes ∷ []; held = passed run.held }) run) (ap (λ w. is_none run.held.fault && w) h ∙ and_false (is_none run.held.fault))

@@ -20,7 +20,7 @@ part_none f (t ∷ []) h = refl
 part_none f (t ∷ lo ∷ []) h = refl
 part_none f (t ∷ lo ∷ hi ∷ bytes) h = rw h refl
 
--- one byte more behind a part of a record is of that record
+-- one byte more after a part of a record is of that record
 pub present_one : (a : List ℕ) (b : ℕ) → is_whole a ≡ false → present (a ++ b ∷ []) ≡ a ++ b ∷ []
 present_one [] b h = refl
 present_one (t ∷ []) b h = refl
@@ -47,7 +47,7 @@ nothing : (y : List ℕ) → length y ≡ 0 → y ≡ []
 nothing [] h = refl
 nothing (b ∷ y) h = absurd (omega arith)
 
--- behind a whole record there is nothing of it
+-- after a whole record there is nothing of it
 pub whole_nothing_more : (x y : List ℕ) → is_whole x ≡ true → present (x ++ y) ≡ x ++ y → y ≡ []
 whole_nothing_more [] y h e = cc
 whole_nothing_more (t ∷ []) y h e = cc
@@ -74,7 +74,7 @@ type_alone : (o w : Option (Reason × ℕ)) (g : Fault) → option_map found (op
 type_alone None w g e = cc
 type_alone (Some p) w g e = e
 
--- a fault that stands in some bytes of a record stands in more of them
+-- a permanent fault of some bytes of a record is one of more of them
 pub standing_stays : (f : Bool) (x y : List ℕ) (g : Fault) → present x ≡ x → standing_fault f x ≡ Some g → standing_fault f (present (x ++ y)) ≡ Some g
 standing_stays f [] y g e h = cc
 standing_stays f (t ∷ x) y g e h = by_whole (is_whole (t ∷ x)) refl
@@ -85,7 +85,7 @@ standing_stays f (t ∷ x) y g e h = by_whole (is_whole (t ∷ x)) refl
         let alone : option_map found (option_or (type_fault (t ∷ x)) None) ≡ Some g = ap (λ o. option_map found (option_or (type_fault (t ∷ x)) o)) (sym (part_none f (t ∷ x) w)) ∙ sym (standing_is f (t ∷ x)) ∙ h in
         standing_is f (present (t ∷ x ++ y)) ∙ ap (λ o. option_map found (option_or o (whole_fault f (present (t ∷ x ++ y))))) (type_front t x (x ++ y)) ∙ type_alone (type_fault (t ∷ x)) (whole_fault f (present (t ∷ x ++ y))) g alone
 
--- where no fault stands, none stood before
+-- where there is no permanent fault, there was none before
 pub sound_front : (f : Bool) (x y : List ℕ) → present (x ++ y) ≡ x ++ y → standing_fault f (x ++ y) ≡ None → standing_fault f x ≡ None
 sound_front f x y e h = by_fault (standing_fault f x) refl
   where
@@ -100,7 +100,7 @@ sound_front f x y e h = by_fault (standing_fault f x) refl
 pub present_twice : (x : List ℕ) → present (present x) ≡ present x
 present_twice x = ap present (sym (append-nil (present x))) ∙ present-append x [] ∙ ap present (append-nil x)
 
--- a fault that stands is the fault of framing
+-- a permanent fault is the fault of framing
 pub lasting_some : (o : Option Fault) (f : Fault) → lasting o ≡ Some f → o ≡ Some f
 lasting_some None f e = cc
 lasting_some (Some g) f e = by_reason (is_end_of_input g.reason) e

@@ -12,7 +12,7 @@ use thiserror::Error;
 /// docs/REASONS.md gives the usual cause of each, the remedy, and an example in bytes.
 #[derive(Clone, Copy, PartialEq, Eq)]
 pub enum Reason {
-    /// 1: the input ends after a record, before any MODEND.
+    /// 1: the input ends between records, before any MODEND. So does an empty input.
     NoEnd = 1,
     /// 2: the input ends inside a record. The place counts the bytes present.
     Cut,

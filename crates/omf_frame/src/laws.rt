@@ -41,8 +41,8 @@ pub fn runs_are_framings()
 
 /// A module at the front of an input is read to its end, and no byte after it is taken.
 pub fn modules_are_read()
-    ensures { (bytes behind : List ℕ) (records : List Raw) → IsFramed bytes records
-        → run_over before_all (bytes ++ behind)
+    ensures { (bytes rest : List ℕ) (records : List Raw) → IsFramed bytes records
+        → run_over before_all (bytes ++ rest)
         ≡ record { shown = records; held = record { bytes = []; number = length records; start = length bytes; ended = true; fault = None } } }
 {}
 
