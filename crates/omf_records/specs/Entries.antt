@@ -4,7 +4,8 @@ use Rattle.std.specs.Prelude.{ℕ, ◌==◌, ◌||◌, not, nat_lt, Bool, if◌t
 use Rattle.omf_frame.specs.Bytes.{is_one_of}
 use Rattle.omf_frame.specs.declared.fault.Reason.{Reason}
 use Rattle.omf_frame.specs.declared.fault.Reason.TheVariants as reason
-use Rattle.omf_records.specs.Values.{At, ExternalItem, PublicItem, CommunalSize, Near, Far, CommunalItem, Reference, Subrecord, Thread, Fixup, thread_is_frame, thread_method, is_segment_relative, location_type, frame_by_thread, frame_bits, target_by_thread, target_bits, has_no_displacement, has_frame_datum, has_target_datum, is_location, may_be_self_relative}
+use Rattle.omf_records.specs.Values.{At, ExternalItem, PublicItem, CommunalSize, Near, Far, CommunalItem, Reference, Subrecord, Thread, Fixup, thread_is_frame, thread_method, is_segment_relative, location_type, frame_by_thread, frame_bits, target_by_thread, target_bits, has_no_displacement, has_frame_datum, has_target_datum}
+use Rattle.omf_records.specs.Location.{is_location, may_be_self_relative}
 use Rattle.omf_records.specs.Layout.{Layout, ◌>>=◌, give, name, index, byte, number_of, communal_length, head, checked, with_place, called, choose, when}
 
 -- the reason, unless the test holds

@@ -1,5 +1,6 @@
 pub mod Values
 pub mod Location
+pub mod Methods
 pub mod Shortest
 pub mod Layout
 pub mod Entries

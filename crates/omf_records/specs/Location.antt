@@ -1,16 +1,62 @@
--- The sizes of locations and of the offsets in them (TIS OMF 1.1, "FIXUPP", LOCATION; the widths are this profile's rule).
-use Rattle.std.specs.Prelude.{ℕ, [], ◌∷◌, ◌==◌, if◌then◌else◌}
-use Rattle.omf_frame.specs.Bytes.{is_one_of}
+-- The types of locations (TIS OMF 1.1, "FIXUPP", LOCATION; the widths are this profile's rule).
+use Rattle.std.specs.Prelude.{ℕ, List, [], ◌∷◌, ◌==◌, Bool, true, false, Option, find, is_some, option_map, unwrap_or}
+use Rattle.omf_records.specs.declared.location.LocationType.{LocationType}
+use Rattle.omf_records.specs.declared.location.LocationType.TheVariants.{LowByte, Offset16, Base, Pointer16, HighByte, LoaderOffset16, Offset32, Pointer32, LoaderOffset32}
+
+-- A type of location: its number, its size in bytes, the bits of the offset in it, the bits of a self-relative offset, and whether a
+-- self-relative fixup may have it.
+pub record LocationRow : Type 0 where
+  pub number : ℕ
+  pub size : ℕ
+  pub offset_bits : ℕ
+  pub self_relative_bits : ℕ
+  pub may_be_self_relative : Bool
+
+abbrev pub location_row : ℕ → ℕ → ℕ → ℕ → Bool → LocationRow
+location_row n s o r b = record { number = n; size = s; offset_bits = o; self_relative_bits = r; may_be_self_relative = b }
+
+-- The table of location types. A short jump, of type 0, is computed in 32 bits.
+abbrev pub location : LocationType → LocationRow
+location LowByte = location_row 0 1 16 32 true
+location Offset16 = location_row 1 2 16 16 true
+location Base = location_row 2 2 16 16 false
+location Pointer16 = location_row 3 4 16 16 false
+location HighByte = location_row 4 1 16 16 false
+location LoaderOffset16 = location_row 5 2 16 16 true
+location Offset32 = location_row 9 4 32 32 true
+location Pointer32 = location_row 11 6 32 32 false
+location LoaderOffset32 = location_row 13 4 32 32 true
+
+-- All location types.
+abbrev pub location_types : List LocationType
+location_types = LowByte ∷ Offset16 ∷ Base ∷ Pointer16 ∷ HighByte ∷ LoaderOffset16 ∷ Offset32 ∷ Pointer32 ∷ LoaderOffset32 ∷ []
+
+abbrev pub location_number : LocationType → ℕ
+location_number t = (location t).number
+
+-- The type with a number, if it is defined.
+abbrev pub location_of : ℕ → Option LocationType
+location_of n = find (λ t. location_number t == n) location_types
+
+abbrev pub is_location : ℕ → Bool
+is_location n = is_some (location_of n)
+
+-- The row of a number. A valid FIXUP has a defined type; a number that is not defined counts as the largest type.
+abbrev pub row_of : ℕ → LocationRow
+row_of n = location (unwrap_or (location_of n) Pointer32)
 
 -- The size in bytes of a location of a type.
 abbrev pub location_size : ℕ → ℕ
-location_size t = if is_one_of (0 ∷ 4 ∷ []) t then 1 else (if is_one_of (1 ∷ 2 ∷ 5 ∷ []) t then 2
-    else (if is_one_of (3 ∷ 9 ∷ 13 ∷ []) t then 4 else 6))
+location_size n = (row_of n).size
 
 -- The number of bits of the offset in a location.
 abbrev pub offset_bits : ℕ → ℕ
-offset_bits t = if is_one_of (9 ∷ 11 ∷ 13 ∷ []) t then 32 else 16
+offset_bits n = (row_of n).offset_bits
 
--- The number of bits of a self-relative offset. A short jump is computed in 32 bits.
+-- The number of bits of a self-relative offset.
 abbrev pub self_relative_bits : ℕ → ℕ
-self_relative_bits t = if t == 0 then 32 else offset_bits t
+self_relative_bits n = (row_of n).self_relative_bits
+
+-- Whether a self-relative fixup may have the type.
+abbrev pub may_be_self_relative : ℕ → Bool
+may_be_self_relative n = (row_of n).may_be_self_relative

@@ -99,12 +99,18 @@ width kind = if is_wide kind then 4 else 2
 abbrev pub width_bits : ℕ → ℕ
 width_bits kind = 8 * width kind
 
--- SEGDEF's attribute byte: the alignment, and whether the segment is Big.
+-- SEGDEF's attribute byte: the alignment, the combination, whether the segment is Big, and whether its code has 32 bits.
 abbrev pub alignment : ℕ → ℕ
 alignment attribute = bits attribute 5 3
 
+abbrev pub combination : ℕ → ℕ
+combination attribute = bits attribute 2 3
+
 abbrev pub is_big : ℕ → Bool
 is_big attribute = has_bit attribute 1
+
+abbrev pub is_use32 : ℕ → Bool
+is_use32 attribute = has_bit attribute 0
 
 -- THREAD: whether it sets a frame thread, its method, its number.
 abbrev pub thread_is_frame : ℕ → Bool
@@ -155,13 +161,6 @@ has_target_datum fix = not (target_by_thread fix) && nat_lt (target_bits fix) 3
 -- MODEND's type byte: whether there is a start address.
 abbrev pub has_start : ℕ → Bool
 has_start byte = has_bit byte 6
-
--- The defined location types: 3 is a 16:16 pointer, 11 a 16:32 pointer.
-abbrev pub is_location : ℕ → Bool
-is_location t = nat_lt t 6 || (t == 9) || (t == 11) || (t == 13)
-
-abbrev pub may_be_self_relative : ℕ → Bool
-may_be_self_relative t = nat_lt t 2 || (t == 5) || (t == 9) || (t == 13)
 
 -- A record with all its offsets set to 0: two encodings of one record differ in offsets only.
 abbrev pub nowhere : {A : Type 0} → A → At A

@@ -2,7 +2,7 @@
 ghost use Rattle.std.specs.Prelude.{◌≡◌, ◌≤◌, length, IfOk, IfSome, Ok, is_ok, is_some, true, IsTrue, ◌++◌};
 ghost use Rattle.omf_frame.specs.Bytes.{is_one_of};
 ghost use Rattle.omf_frame.specs.Framing.{is_taken};
-ghost use Rattle.omf_frame.specs.Types.{local_types, carried, types_of};
+ghost use Rattle.omf_frame.specs.Types.{local_types};
 ghost use Rattle.omf_records.specs.Inner.Seen.{contents_seen, kind_seen, map_ok};
 ghost use Rattle.omf_records.specs.Inner.Reading.{read_body};
 ghost use Rattle.omf_records.specs.Layout.{Meets};
@@ -20,11 +20,11 @@ use crate::viewing::{
     local_communals_at, local_externs_at, local_names_at, mod_end_at, names_at, plain_at,
     publics_at, segment_at,
 };
-use omf_frame::RawRecord;
+use omf_frame::{RawRecord, Width};
 
 /// Reads the contents of a local record, or of one that is not interpreted.
 fn local_or_carried<'a>(kind: u8, body: &'a [u8], known: bool) -> Result<Rec<'a>, LayoutFault>
-    requires taken { IsTrue (is_one_of (local_types ++ types_of carried) kind) }
+    requires taken { IsTrue (is_one_of local_types kind || is_treated Carried kind) }
     requires short { length body.now ≤ 65534 }
     requires spelled { IsKnown known (read_body kind body.now) }
     ensures contents { map_ok contents_seen result ≡ read_body kind body.now }
@@ -133,9 +133,9 @@ pub fn view_known<'a>(raw: RawRecord<'a>) -> Rec<'a>
 {
     // The fast path: FIXUPPs are frequent.
     if let Some(subrecords) = unread_fixups(&raw) {
-        let wide = raw.kind % 2 == 1;
+        let width = Width::of(raw.kind);
         let subrecords = subrecords.known();
-        return Rec::Fixups { wide, subrecords };
+        return Rec::Fixups { width, subrecords };
     }
     match contents_of(raw.kind, raw.body, true) {
         Ok(rec) => rec,

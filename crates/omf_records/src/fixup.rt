@@ -6,6 +6,7 @@ ghost use Rattle.omf_records.specs.Shortest.{option_bytes, datum_bytes, referenc
 ghost use Rattle.omf_records.specs.Values.{Fixup, width};
 
 use crate::at::At;
+use crate::bits::Locat;
 use crate::subrecord::Reference;
 use omf_frame::Index;
 use std::alloc::AllocError;
@@ -72,7 +73,7 @@ fn push_reference(out: &mut Vec<u8>, kind: u8, reference: &Reference)
     requires { vec_len out.old + 9 ≤ vec_capacity out.old }
     ensures { out.new.items ≡ out.old.items ++ reference_bytes kind reference.now }
 {
-    out.push_reserved(reference.fix.item);
+    out.push_reserved(reference.fix.item.byte());
     push_index(out, &reference.frame);
     push_index(out, &reference.target);
     push_displacement(out, kind, &reference.displacement);
@@ -80,12 +81,13 @@ fn push_reference(out: &mut Vec<u8>, kind: u8, reference: &Reference)
 
 /// Appends a fixup in a FIXUPP of type `kind`. The room for it is reserved.
 #[inline(always)]
-fn push_fixup(out: &mut Vec<u8>, kind: u8, location: u16, reference: &Reference)
+fn push_fixup(out: &mut Vec<u8>, kind: u8, location: Locat, reference: &Reference)
     requires { vec_len out.old + 11 ≤ vec_capacity out.old }
     ensures { out.new.items ≡ out.old.items ++ subrecord_bytes kind (Fixup location reference.now) }
 {
-    out.push_reserved((location / 256) as u8);
-    out.push_reserved((location % 256) as u8);
+    let number = location.number();
+    out.push_reserved((number / 256) as u8);
+    out.push_reserved((number % 256) as u8);
     push_reference(out, kind, reference);
 }
 
@@ -105,7 +107,7 @@ pub fn put_reference(out: &mut Vec<u8>, kind: u8, reference: &Reference) -> Resu
     Ok(())
 }
 
-/// Appends a fixup in its shortest encoding, in a FIXUPP of type `kind`. `location` is its first two bytes, high byte first.
+/// Appends a fixup in its shortest encoding, in a FIXUPP of type `kind`.
 ///
 /// # Errors
 ///
@@ -115,7 +117,7 @@ pub fn put_reference(out: &mut Vec<u8>, kind: u8, reference: &Reference) -> Resu
 pub fn put_fixup(
     out: &mut Vec<u8>,
     kind: u8,
-    location: u16,
+    location: Locat,
     reference: &Reference,
 ) -> Result<(), AllocError>
     ensures put { OnOk result (out.new.items ≡ out.old.items ++ subrecord_bytes kind (Fixup location reference.now)) }

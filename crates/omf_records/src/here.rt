@@ -3,7 +3,7 @@ ghost use Rattle.std.specs.Prelude.{◌≡◌, ℕ, ◌+◌, ◌≤◌, length, 
 ghost use Rattle.omf_frame.specs.Bytes.{AreBytes};
 
 use crate::at::LayoutFault;
-use omf_frame::Reason;
+use omf_frame::{Reason, Width};
 
 /// A position in a record, and the bytes from there to the end of the contents.
 #[derive(Clone, Copy, Drop)]
@@ -22,6 +22,7 @@ impl<'a> Here<'a> {
     ghost use Rattle.omf_frame.specs.declared.fault.Reason.TheVariants.{Short};
     ghost use Rattle.omf_records.specs.Layout.{fault};
     ghost use Rattle.omf_records.specs.Inner.Readers.{ends_read};
+    ghost use Rattle.omf_records.specs.Inner.Seen.{width_if};
 
     /// The start of the contents, at offset 3.
     #[inline(always)]
@@ -48,6 +49,18 @@ impl<'a> Here<'a> {
         ensures { result ≡ self.entry.wide }
     {
         self.wide
+    }
+
+    /// The width of the record's fields.
+    #[inline(always)]
+    pub(crate) fn width(self) -> Width
+        ensures { result ≡ width_if self.entry.wide }
+    {
+        if self.wide {
+            Width::Bits32
+        } else {
+            Width::Bits16
+        }
     }
 
     pub(crate) fn bytes(self) -> &'a [u8]

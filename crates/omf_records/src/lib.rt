@@ -20,6 +20,7 @@
 //! function in `viewing` with its arm in `dispatch`, and one in `writing`.
 #![tactic(auto)]
 
+mod acbp;
 mod at;
 mod bits;
 mod direct;
@@ -31,6 +32,8 @@ mod fixup;
 mod here;
 mod item;
 pub mod laws;
+mod location;
+mod method;
 mod put;
 mod record;
 pub mod rows;
@@ -39,16 +42,16 @@ mod unread;
 mod viewing;
 mod writing;
 
+pub use acbp::{Acbp, Alignment, Combination};
 pub use at::{At, LayoutFault};
-pub use bits::{
-    is_frame_thread, is_segment_relative, location_offset, location_size, location_type,
-    thread_method, thread_number,
-};
+pub use bits::{FixByte, Locat, ThreadByte};
 pub use dispatch::{unread_fixups, view, view_known};
 pub use entry::{Communal, CommunalSize, Extern, Member, Public};
 pub use fixup::{FIXUP_LIMIT, put_fixup, put_reference};
 pub use here::Here;
 pub use item::{Cursor, Item, Items};
+pub use location::LocationType;
+pub use method::{FrameCode, Kind};
 pub use record::{Blocks, Rec, Segment};
 pub use subrecord::{Part, Reference, Subrecord};
 pub use unread::Unread;

@@ -1,17 +1,20 @@
 //! Typed records, which borrow from the record's bytes.
+ghost use Rattle.std.specs.Prelude.{◌≡◌, ◌<◌};
+ghost use Rattle.omf_records.specs.Inner.Seen.{odd_if};
 
+use crate::acbp::Acbp;
 use crate::at::At;
 use crate::entry::{Communal, Extern, Member, Public};
 use crate::item::Items;
 use crate::subrecord::{Reference, Subrecord};
-use omf_frame::{Index, Name};
+use omf_frame::{Index, Name, Width};
 use std::marker::Model;
 
 /// The contents of a SEGDEF (TIS OMF 1.1, "SEGDEF").
 #[derive(Drop)]
 pub struct Segment {
-    /// The attribute byte (ACBP): alignment in bits 7 to 5, combination in bits 4 to 2, Big in bit 1, Use32 in bit 0.
-    pub attribute: u8,
+    /// The attribute byte: alignment, combination, Big, Use32.
+    pub attribute: Acbp,
     /// The frame number of an absolute segment, and its offset in the frame in bytes.
     pub absolute: Option<(u16, u8)>,
     /// The length in bytes; 0 if the segment is Big.
@@ -29,14 +32,14 @@ impl Model for Segment {
     ghost view = { λ s. record { attribute = s.attribute; absolute = s.absolute; size = s.size; name = s.name; class = s.class; overlay = s.overlay } };
 }
 
-/// The repeated blocks of an LIDATA as bytes, and whether their repeat counts have 32 bits.
+/// The repeated blocks of an LIDATA as bytes, and the width of their repeat counts.
 #[derive(Clone, Copy, Debug, Drop, PartialEq, Eq)]
 pub struct Blocks<'a> {
     pub bytes: &'a [u8],
-    pub wide: bool,
+    pub width: Width,
 }
 
-/// The contents of a record. `wide` is set for the odd one of two types, which has 32-bit fields.
+/// The contents of a record. `width` is that of its offsets, lengths and displacements: the odd one of two types has 32 bits.
 #[derive(Drop)]
 pub enum Rec<'a> {
     /// THEADR or LHEADR: `kind` is 80H or 82H.
@@ -54,7 +57,7 @@ pub enum Rec<'a> {
     Names(Items<Name<'a>>),
     /// SEGDEF.
     Segment {
-        wide: bool,
+        width: Width,
         segment: Segment,
     },
     /// GRPDEF: the index of its name, and its members.
@@ -66,7 +69,7 @@ pub enum Rec<'a> {
     Externs(Items<Extern<'a>>),
     /// PUBDEF: its base, and the public names. `frame` is the base frame's number, present if the segment index is 0.
     Publics {
-        wide: bool,
+        width: Width,
         group: At<Index>,
         segment: At<Index>,
         frame: Option<u16>,
@@ -76,12 +79,12 @@ pub enum Rec<'a> {
     Communals(Items<Communal<'a>>),
     /// LEDATA: data at an offset in a segment, in bytes.
     Plain {
-        wide: bool,
+        width: Width,
         segment: At<Index>,
         offset: At<u32>,
         data: &'a [u8],
     },
-    /// LIDATA: repeated blocks at an offset in a segment, in bytes. Its type is odd if the blocks are wide.
+    /// LIDATA: repeated blocks at an offset in a segment, in bytes. Its type is odd if repeat counts have 32 bits.
     Iterated {
         segment: At<Index>,
         offset: At<u32>,
@@ -89,25 +92,25 @@ pub enum Rec<'a> {
     },
     /// FIXUPP.
     Fixups {
-        wide: bool,
+        width: Width,
         subrecords: Items<Subrecord<'a>>,
     },
     /// MODEND: its type byte, and the start address, present if bit 6 of the type byte is set.
     ModEnd {
-        wide: bool,
+        width: Width,
         type_byte: u8,
         start: Option<Reference>,
     },
     /// LLNAMES.
     LocalNames(Items<Name<'a>>),
-    /// LEXTDEF: `odd` is set for type B5H.
+    /// LEXTDEF. Types B4H and B5H differ in nothing else.
     LocalExterns {
         odd: bool,
         externs: Items<Extern<'a>>,
     },
     /// LPUBDEF: as PUBDEF.
     LocalPublics {
-        wide: bool,
+        width: Width,
         group: At<Index>,
         segment: At<Index>,
         frame: Option<u16>,
@@ -122,6 +125,17 @@ pub enum Rec<'a> {
     },
 }
 
+/// The type byte `even`, or the odd one after it for 32-bit fields.
+fn odd_if(width: Width, even: u8) -> u8
+    requires { even < 255 }
+    ensures { result ≡ odd_if width even }
+{
+    match width {
+        Width::Bits16 => even,
+        Width::Bits32 => even + 1,
+    }
+}
+
 impl<'a> Rec<'a> {
     ghost use Rattle.std.specs.Prelude.{◌≡◌};
     ghost use Rattle.omf_records.specs.Inner.Seen.{kind_seen};
@@ -134,18 +148,18 @@ impl<'a> Rec<'a> {
             Rec::Header { kind, .. } | Rec::Carried { kind, .. } => *kind,
             Rec::Comment { .. } => 0x88,
             Rec::Names(_) => 0x96,
-            Rec::Segment { wide, .. } => 0x98 + u8::from(*wide),
+            Rec::Segment { width, .. } => odd_if(*width, 0x98),
             Rec::Group { .. } => 0x9A,
             Rec::Externs(_) => 0x8C,
-            Rec::Publics { wide, .. } => 0x90 + u8::from(*wide),
+            Rec::Publics { width, .. } => odd_if(*width, 0x90),
             Rec::Communals(_) => 0xB0,
-            Rec::Plain { wide, .. } => 0xA0 + u8::from(*wide),
-            Rec::Iterated { blocks, .. } => 0xA2 + u8::from(blocks.wide),
-            Rec::Fixups { wide, .. } => 0x9C + u8::from(*wide),
-            Rec::ModEnd { wide, .. } => 0x8A + u8::from(*wide),
+            Rec::Plain { width, .. } => odd_if(*width, 0xA0),
+            Rec::Iterated { blocks, .. } => odd_if(blocks.width, 0xA2),
+            Rec::Fixups { width, .. } => odd_if(*width, 0x9C),
+            Rec::ModEnd { width, .. } => odd_if(*width, 0x8A),
             Rec::LocalNames(_) => 0xCA,
             Rec::LocalExterns { odd, .. } => 0xB4 + u8::from(*odd),
-            Rec::LocalPublics { wide, .. } => 0xB6 + u8::from(*wide),
+            Rec::LocalPublics { width, .. } => odd_if(*width, 0xB6),
             Rec::LocalCommunals(_) => 0xB8,
         }
     }

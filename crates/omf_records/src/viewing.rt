@@ -2,10 +2,11 @@
 ghost use Rattle.std.specs.Prelude.{◌≡◌, ◌==◌, ℕ, ◌≤◌, length, IfOk, Bool, cond, if◌then◌else◌};
 ghost use Rattle.omf_records.specs.Inner.Gives.{Gives};
 ghost use Rattle.omf_records.specs.Inner.Unread.{IsKnown};
-ghost use Rattle.omf_records.specs.Inner.Seen.{contents_seen, kind_seen, odd_if, map_ok};
+ghost use Rattle.omf_records.specs.Inner.Seen.{contents_seen, kind_seen, odd_if, width_if, map_ok};
 ghost use Rattle.omf_records.specs.Values.{alignment, has_start};
 ghost use Rattle.omf_records.specs.Inner.RecordReaders.{header_whole, comment_whole, names_whole, attribute_reader, absolute_reader, size_reader, segment_whole, group_whole, externs_whole, base_reader, publics_whole, communals_whole, plain_whole, iterated_whole, fixups_whole, start_reader, mod_end_whole, carried_whole};
 
+use crate::acbp::Acbp;
 use crate::at::{At, LayoutFault};
 use crate::field::{byte, index, index_here, le16, name, number, number_here};
 use crate::here::Here;
@@ -58,21 +59,21 @@ pub(crate) fn local_names_at<'a>(here: Here<'a>, known: bool) -> Result<Rec<'a>,
 }
 
 /// Reads SEGDEF's attribute byte.
-fn attribute<'a>(here: Here<'a>) -> Result<(u8, Here<'a>), LayoutFault>
+fn attribute<'a>(here: Here<'a>) -> Result<(Acbp, Here<'a>), LayoutFault>
     ensures { Gives here.entry.wide result (attribute_reader.read here.entry.within here.entry.bytes.now) }
 {
-    let (attribute, after) = byte(here)?;
-    if attribute / 32 > 5 {
-        return Err(here.fault(Reason::Alignment));
+    let (byte, after) = byte(here)?;
+    match Acbp::new(byte) {
+        Ok(attribute) => Ok((attribute, after)),
+        Err(reason) => Err(here.fault(reason)),
     }
-    Ok((attribute, after))
 }
 
 /// Reads the frame number and offset of an absolute segment.
-fn absolute<'a>(here: Here<'a>, attribute: u8) -> Result<(Option<(u16, u8)>, Here<'a>), LayoutFault>
+fn absolute<'a>(here: Here<'a>, attribute: Acbp) -> Result<(Option<(u16, u8)>, Here<'a>), LayoutFault>
     ensures { Gives here.entry.wide result ((absolute_reader attribute).read here.entry.within here.entry.bytes.now) }
 {
-    if attribute / 32 != 0 {
+    if attribute.byte() / 32 != 0 {
         return Ok((None, here));
     }
     let (number, here) = le16(here)?;
@@ -81,11 +82,11 @@ fn absolute<'a>(here: Here<'a>, attribute: u8) -> Result<(Option<(u16, u8)>, Her
 }
 
 /// Reads SEGDEF's length field.
-fn size<'a>(here: Here<'a>, attribute: u8) -> Result<(u32, Here<'a>), LayoutFault>
+fn size<'a>(here: Here<'a>, attribute: Acbp) -> Result<(u32, Here<'a>), LayoutFault>
     ensures { Gives here.entry.wide result ((size_reader here.entry.wide attribute).read here.entry.within here.entry.bytes.now) }
 {
     let (size, after) = number(here)?;
-    if attribute / 2 % 2 == 1 && size != 0 {
+    if attribute.is_big() && size != 0 {
         return Err(here.fault(Reason::BigLength));
     }
     Ok((size, after))
@@ -94,9 +95,9 @@ fn size<'a>(here: Here<'a>, attribute: u8) -> Result<(u32, Here<'a>), LayoutFaul
 /// SEGDEF.
 pub(crate) fn segment_at<'a>(here: Here<'a>) -> Result<Rec<'a>, LayoutFault>
     ensures contents { map_ok contents_seen result ≡ (segment_whole here.entry.wide).read here.entry.within here.entry.bytes.now }
-    ensures kind { IfOk result (λ r. kind_seen r ≡ odd_if here.entry.wide 0x98) }
+    ensures kind { IfOk result (λ r. kind_seen r ≡ odd_if (width_if here.entry.wide) 0x98) }
 {
-    let wide = here.is_wide();
+    let width = here.width();
     let (attribute, here) = attribute(here)?;
     let (absolute, here) = absolute(here, attribute)?;
     let (size, here) = size(here, attribute)?;
@@ -112,7 +113,7 @@ pub(crate) fn segment_at<'a>(here: Here<'a>) -> Result<Rec<'a>, LayoutFault>
         class,
         overlay,
     };
-    Ok(Rec::Segment { wide, segment })
+    Ok(Rec::Segment { width, segment })
 }
 
 /// GRPDEF.
@@ -139,7 +140,7 @@ pub(crate) fn externs_at<'a>(here: Here<'a>, known: bool) -> Result<Rec<'a>, Lay
 pub(crate) fn local_externs_at<'a>(here: Here<'a>, known: bool) -> Result<Rec<'a>, LayoutFault>
     requires { IsKnown known (externs_whole.read here.within here.bytes.now) }
     ensures contents { map_ok contents_seen result ≡ externs_whole.read here.entry.within here.entry.bytes.now }
-    ensures kind { IfOk result (λ r. kind_seen r ≡ odd_if here.entry.wide 0xB4) }
+    ensures kind { IfOk result (λ r. kind_seen r ≡ odd_if (width_if here.entry.wide) 0xB4) }
 {
     let odd = here.is_wide();
     let externs = Items::all(here, known)?;
@@ -168,22 +169,22 @@ pub(crate) fn publics_at<'a>(
 ) -> Result<Rec<'a>, LayoutFault>
     requires { IsKnown known ((publics_whole here.wide).read here.within here.bytes.now) }
     ensures contents { map_ok contents_seen result ≡ (publics_whole here.entry.wide).read here.entry.within here.entry.bytes.now }
-    ensures kind { IfOk result (λ r. kind_seen r ≡ odd_if here.entry.wide (if is_local then 0xB6 else 0x90)) }
+    ensures kind { IfOk result (λ r. kind_seen r ≡ odd_if (width_if here.entry.wide) (if is_local then 0xB6 else 0x90)) }
 {
-    let wide = here.is_wide();
+    let width = here.width();
     let (group, here) = index_here(here)?;
     let (segment, here) = index_here(here)?;
     let (frame, here) = base_frame(here, &segment)?;
     match Items::all(here, known) {
         Ok(publics) if is_local => Ok(Rec::LocalPublics {
-            wide,
+            width,
             group,
             segment,
             frame,
             publics,
         }),
         Ok(publics) => Ok(Rec::Publics {
-            wide,
+            width,
             group,
             segment,
             frame,
@@ -214,14 +215,14 @@ pub(crate) fn local_communals_at<'a>(here: Here<'a>, known: bool) -> Result<Rec<
 /// LEDATA.
 pub(crate) fn plain_at<'a>(here: Here<'a>) -> Result<Rec<'a>, LayoutFault>
     ensures contents { map_ok contents_seen result ≡ (plain_whole here.entry.wide).read here.entry.within here.entry.bytes.now }
-    ensures kind { IfOk result (λ r. kind_seen r ≡ odd_if here.entry.wide 0xA0) }
+    ensures kind { IfOk result (λ r. kind_seen r ≡ odd_if (width_if here.entry.wide) 0xA0) }
 {
-    let wide = here.is_wide();
+    let width = here.width();
     let (segment, here) = index_here(here)?;
     let (offset, here) = number_here(here)?;
     let data = here.bytes();
     Ok(Rec::Plain {
-        wide,
+        width,
         segment,
         offset,
         data,
@@ -231,16 +232,16 @@ pub(crate) fn plain_at<'a>(here: Here<'a>) -> Result<Rec<'a>, LayoutFault>
 /// LIDATA.
 pub(crate) fn iterated_at<'a>(here: Here<'a>) -> Result<Rec<'a>, LayoutFault>
     ensures contents { map_ok contents_seen result ≡ (iterated_whole here.entry.wide).read here.entry.within here.entry.bytes.now }
-    ensures kind { IfOk result (λ r. kind_seen r ≡ odd_if here.entry.wide 0xA2) }
+    ensures kind { IfOk result (λ r. kind_seen r ≡ odd_if (width_if here.entry.wide) 0xA2) }
 {
-    let wide = here.is_wide();
+    let width = here.width();
     let (segment, here) = index_here(here)?;
     let (offset, here) = number_here(here)?;
     let bytes = here.bytes();
     Ok(Rec::Iterated {
         segment,
         offset,
-        blocks: Blocks { bytes, wide },
+        blocks: Blocks { bytes, width },
     })
 }
 
@@ -248,11 +249,11 @@ pub(crate) fn iterated_at<'a>(here: Here<'a>) -> Result<Rec<'a>, LayoutFault>
 pub(crate) fn fixups_at<'a>(here: Here<'a>, known: bool) -> Result<Rec<'a>, LayoutFault>
     requires { IsKnown known ((fixups_whole here.wide).read here.within here.bytes.now) }
     ensures contents { map_ok contents_seen result ≡ (fixups_whole here.entry.wide).read here.entry.within here.entry.bytes.now }
-    ensures kind { IfOk result (λ r. kind_seen r ≡ odd_if here.entry.wide 0x9C) }
+    ensures kind { IfOk result (λ r. kind_seen r ≡ odd_if (width_if here.entry.wide) 0x9C) }
 {
-    let wide = here.is_wide();
+    let width = here.width();
     let subrecords = Items::all(here, known)?;
-    Ok(Rec::Fixups { wide, subrecords })
+    Ok(Rec::Fixups { width, subrecords })
 }
 
 /// Reads MODEND's start address, which is present if bit 6 of the type byte is set.
@@ -269,14 +270,14 @@ fn start<'a>(here: Here<'a>, type_byte: u8) -> Result<(Option<Reference>, Here<'
 /// MODEND.
 pub(crate) fn mod_end_at<'a>(here: Here<'a>) -> Result<Rec<'a>, LayoutFault>
     ensures contents { map_ok contents_seen result ≡ (mod_end_whole here.entry.wide).read here.entry.within here.entry.bytes.now }
-    ensures kind { IfOk result (λ r. kind_seen r ≡ odd_if here.entry.wide 0x8A) }
+    ensures kind { IfOk result (λ r. kind_seen r ≡ odd_if (width_if here.entry.wide) 0x8A) }
 {
-    let wide = here.is_wide();
+    let width = here.width();
     let (type_byte, here) = byte(here)?;
     let (start, here) = start(here, type_byte)?;
     here.end()?;
     Ok(Rec::ModEnd {
-        wide,
+        width,
         type_byte,
         start,
     })

@@ -58,7 +58,7 @@ fn put_segment(out: &mut Vec<u8>, kind: u8, segment: &Segment) -> Result<(), All
     ensures put { OnOk result (out.new.items ≡ out.old.items ++ segment_bytes kind segment.now) }
     ensures grows { Begins out.old.items out.new.items }
 {
-    put_byte(out, segment.attribute)?;
+    put_byte(out, segment.attribute.byte())?;
     put_absolute(out, segment.absolute)?;
     put_size(out, kind, segment)
 }

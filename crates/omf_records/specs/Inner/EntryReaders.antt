@@ -4,7 +4,8 @@ use Rattle.std.specs.Prelude.{◌==◌, ◌||◌, not, nat_lt}
 use Rattle.omf_frame.specs.Fault.{reason_number}
 use Rattle.omf_frame.specs.declared.fault.Reason.{Reason}
 use Rattle.omf_frame.specs.declared.fault.Reason.TheVariants as reason
-use Rattle.omf_records.specs.Values.{Near, Thread, Fixup, thread_is_frame, thread_method, location_type, is_location, frame_by_thread, frame_bits, target_by_thread, target_bits, has_no_displacement, has_frame_datum, has_target_datum}
+use Rattle.omf_records.specs.Values.{Near, Thread, Fixup, thread_is_frame, thread_method, location_type, frame_by_thread, frame_bits, target_by_thread, target_bits, has_no_displacement, has_frame_datum, has_target_datum}
+use Rattle.omf_records.specs.Location.{is_location}
 use Rattle.omf_records.specs.Layout.{checked, byte, head, with_place, index, number_of, IsIn, when, choose, communal_length}
 use Rattle.omf_records.specs.Inner.Reads.{Reader, Shrinks}
 use Rattle.omf_records.specs.Inner.FieldReaders.{name_reader, name_shrinks, index_reader, byte_reader, byte_shrinks, number_reader, head_reader, head_shrinks, communal_length_reader}
