@@ -1,13 +1,16 @@
 -- How contents lie in the bytes that spell them: one look at the record's type for all laws that go by the kind of contents.
-use Rattle.std.proofs.Common.{◌≡◌, ℕ, Bool, true, false, List, ◌++◌, refl, sym, subst}
+use Rattle.std.proofs.Common.{◌≡◌, ℕ, Bool, true, false, List, ◌++◌, Option, Some, None, refl, sym, subst}
 use Rattle.std.specs.Prelude.{⊤}
 use Rattle.omf_frame.specs.Bytes.{is_one_of}
-use Rattle.omf_frame.specs.Types.{coment, extdef, pubdef, lnames, segdef, grpdef, fixupp, ledata, lidata, comdef, lextdef, lpubdef, lcomdef, llnames}
-use Rattle.omf_frame.specs.Framing.{is_header, is_end}
+use Rattle.omf_frame.specs.Types.{fixupp, type_of}
+use Rattle.omf_frame.specs.declared.kinds.RecordType.{RecordType}
+use Rattle.omf_frame.specs.declared.kinds.RecordType.TheVariants.{Theadr, Lheadr, Coment, Lnames, Llnames, Segdef, Grpdef, Extdef, Lextdef, Pubdef, Lpubdef, Comdef, Lcomdef, Ledata, Lidata, Fixupp, Modend, Typdef, Linnum, Linsym, Alias, Vernum, Bakpat, Cextdef, Comdat, Nbkpat, Vendext, Library}
+use Rattle.omf_frame.specs.Framing.{is_end}
 use Rattle.omf_records.specs.Values.{Contents, Names, Segment, Externs, Publics, Communals, Plain, Iterated, Fixups, ModEnd, is_wide}
-use Rattle.omf_records.specs.Layout.{Layout, SpellsEach, called, either, name}
+use Rattle.omf_records.specs.Layout.{Layout, SpellsEach, called, name}
 use Rattle.omf_records.specs.Entries.{external, communal, subrecord}
-use Rattle.omf_records.specs.Records.{contents, header, comment, names, segment, group, externs, publics, communals, data_item, fixups, mod_end, carried}
+use Rattle.omf_records.specs.Records.{contents, header, comment, names, segment, group, externs, publics, communals, data_item, fixups, mod_end, carried, layout_of, layout_if}
+use Rattle.omf_records.proofs.TypeBytes.{type_holds}
 
 abbrev pub IsLaidOut : ℕ → ℕ → List ℕ → Contents → Type 0
 IsLaidOut kind at bytes (Names items) = SpellsEach name at bytes items
@@ -27,10 +30,6 @@ module _ (kind : ℕ) where
 
   by : (at : ℕ) (bytes : List ℕ) (c d : Contents) → c ≡ d → IsLaidOut kind at bytes d → IsLaidOut kind at bytes c
   by at bytes c d e h = subst (IsLaidOut kind at bytes) (sym e) h
-
-  if_type : (b : Bool) (p q : Layout Contents) → (b ≡ true → LaysOut p) → LaysOut q → LaysOut (either b p q)
-  if_type true p q h k = h refl
-  if_type false p q h k = k
 
   of_header : LaysOut header
   of_header at bytes c (f, b, x, p, s, (none, e)) = by at bytes c _ e tt
@@ -73,17 +72,39 @@ module _ (kind : ℕ) where
   of_carried : LaysOut carried
   of_carried at bytes c (x, s, e) = by at bytes c _ e tt
 
+  by_type : (t : RecordType) → type_of kind ≡ Some t → LaysOut (layout_of t (is_wide kind))
+  by_type Theadr e = of_header
+  by_type Lheadr e = of_header
+  by_type Coment e = of_comment
+  by_type Lnames e = of_names
+  by_type Llnames e = of_names
+  by_type Segdef e = of_segment
+  by_type Grpdef e = of_group
+  by_type Extdef e = of_externs
+  by_type Lextdef e = of_externs
+  by_type Pubdef e = of_publics
+  by_type Lpubdef e = of_publics
+  by_type Comdef e = of_communals
+  by_type Lcomdef e = of_communals
+  by_type Ledata e = of_plain
+  by_type Lidata e = of_iterated
+  by_type Fixupp e = of_fixups (type_holds kind Fixupp e)
+  by_type Modend e = of_end (type_holds kind Modend e)
+  by_type Typdef e = of_carried
+  by_type Linnum e = of_carried
+  by_type Linsym e = of_carried
+  by_type Alias e = of_carried
+  by_type Vernum e = of_carried
+  by_type Bakpat e = of_carried
+  by_type Cextdef e = of_carried
+  by_type Comdat e = of_carried
+  by_type Nbkpat e = of_carried
+  by_type Vendext e = of_carried
+  by_type Library e = of_carried
+
+  by_option : (o : Option RecordType) → type_of kind ≡ o → LaysOut (layout_if o (is_wide kind))
+  by_option (Some t) e = by_type t e
+  by_option None e = of_carried
+
   pub laid-out : LaysOut (contents kind)
-  laid-out =
-      if_type (is_header kind) _ _ (λ is. of_header) (
-      if_type (is_one_of coment kind) _ _ (λ is. of_comment) (
-      if_type (is_one_of (lnames ++ llnames) kind) _ _ (λ is. of_names) (
-      if_type (is_one_of segdef kind) _ _ (λ is. of_segment) (
-      if_type (is_one_of grpdef kind) _ _ (λ is. of_group) (
-      if_type (is_one_of (extdef ++ lextdef) kind) _ _ (λ is. of_externs) (
-      if_type (is_one_of (pubdef ++ lpubdef) kind) _ _ (λ is. of_publics) (
-      if_type (is_one_of (comdef ++ lcomdef) kind) _ _ (λ is. of_communals) (
-      if_type (is_one_of ledata kind) _ _ (λ is. of_plain) (
-      if_type (is_one_of lidata kind) _ _ (λ is. of_iterated) (
-      if_type (is_one_of fixupp kind) _ _ of_fixups (
-      if_type (is_end kind) _ _ of_end of_carried)))))))))))
+  laid-out = by_option (type_of kind) refl

@@ -1,6 +1,7 @@
 pub mod FieldGives
 pub mod Publics
 pub mod AtStart
+pub mod TypeBytes
 pub mod Shorter
 pub mod Recast
 pub mod ShortestLaws

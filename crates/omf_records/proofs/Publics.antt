@@ -4,7 +4,6 @@ use Rattle.std.specs.Prelude.{◌==◌}
 use Rattle.omf_frame.specs.Fault.{Fault}
 use Rattle.omf_records.specs.Values.{At, PublicItem, Contents, Publics}
 use Rattle.omf_records.specs.Inner.Reads.{after, and_then, each}
-use Rattle.omf_records.specs.Inner.Unread.{IsKnown}
 use Rattle.omf_records.specs.Inner.Readers.{index_at}
 use Rattle.omf_records.specs.Inner.EntryReaders.{public_reader}
 use Rattle.omf_records.specs.Inner.RecordReaders.{base_reader, publics_whole}
@@ -22,19 +21,3 @@ pub publics_read : (wide odd : Bool) (at a1 a2 a3 : ℕ) (bytes b1 b2 b3 : List 
 publics_read wide odd at a1 a2 a3 bytes b1 b2 b3 g s f r e1 e2 e3 same e4 =
     let e5 : r ≡ each (public_reader wide).read a3 b3 = subst (λ (w : Bool). r ≡ each (public_reader w).read a3 b3) same e4 in
     rw (e1, e2, e3, e5) refl
-
-names_ok : (g s : At ℕ) (f : Option ℕ) (r : Result (List (At PublicItem)) Fault) → is_ok (with_base g s f r) ≡ true → is_ok r ≡ true
-names_ok g s f (Ok ps) h = refl
-names_ok g s f (Err e) h = absurd cc
-
--- what is known of a PUBDEF is known of its names
-pub publics_known : (known wide odd : Bool) (at a1 a2 a3 : ℕ) (bytes b1 b2 b3 : List ℕ) (g s : At ℕ) (f : Option ℕ)
-    → index_at.read at bytes ≡ Ok (after g a1 b1)
-    → index_at.read a1 b1 ≡ Ok (after s a2 b2)
-    → (base_reader (s.item == 0)).read a2 b2 ≡ Ok (after f a3 b3)
-    → odd ≡ wide
-    → IsKnown known ((publics_whole wide).read at bytes)
-    → IsKnown known (each (public_reader odd).read a3 b3)
-publics_known known wide odd at a1 a2 a3 bytes b1 b2 b3 g s f e1 e2 e3 same spelled so =
-    let names = each (public_reader odd).read a3 b3 in
-    names_ok g s f names (ap is_ok (publics_read wide odd at a1 a2 a3 bytes b1 b2 b3 g s f names e1 e2 e3 same refl) ∙ spelled so)

@@ -1,21 +1,22 @@
 -- The shortest contents of each typed record are contents of that record.
-use Rattle.std.proofs.Common.{◌≡◌, ℕ, ◌+◌, ◌/◌, ◌%◌, ◌⊎◌, inl, inr, Bool, true, false, cond, List, [], ◌∷◌, ◌++◌, length, map, flat_map, Option, refl, sym, ap, subst, ◌∙◌, arith}
+use Rattle.std.proofs.Common.{◌≡◌, ℕ, ◌+◌, ◌/◌, ◌%◌, ◌⊎◌, inl, inr, Bool, true, false, cond, List, [], ◌∷◌, ◌++◌, length, map, flat_map, Option, Some, None, refl, sym, ap, subst, ◌∙◌, arith}
 use Rattle.std.specs.Prelude.{option_map, ◌==◌, not, nat_lt}
 use Rattle.std.proofs.lemmas.Bool.{eqb-true, lt-ltb, le-ltb, or_cases}
 use Rattle.std.proofs.lemmas.List.{append-nil}
 use Rattle.byteorder.specs.Endian.{little_bytes}
 use Rattle.omf_frame.specs.Bytes.{is_one_of}
-use Rattle.omf_frame.specs.Types.{coment, extdef, pubdef, lnames, segdef, grpdef, fixupp, ledata, lidata, comdef, lextdef, lpubdef, lcomdef, llnames}
-use Rattle.omf_frame.specs.Framing.{is_header, is_end}
+use Rattle.omf_frame.specs.Types.{type_of}
+use Rattle.omf_frame.specs.declared.kinds.RecordType.{RecordType}
+use Rattle.omf_frame.specs.declared.kinds.RecordType.TheVariants.{Theadr, Lheadr, Coment, Lnames, Llnames, Segdef, Grpdef, Extdef, Lextdef, Pubdef, Lpubdef, Comdef, Lcomdef, Ledata, Lidata, Fixupp, Modend, Typdef, Linnum, Linsym, Alias, Vernum, Bakpat, Cextdef, Comdat, Nbkpat, Vendext, Library}
 use Rattle.omf_frame.specs.Fields.{index_bytes, name_bytes, communal_length_bytes}
 use Rattle.omf_frame.specs.declared.fault.Reason.{Reason}
 use Rattle.omf_frame.specs.declared.fault.Reason.TheVariants as reason
 use Rattle.omf_records.specs.Values.{At, PublicItem, CommunalSize, Near, Far, DataItem, Thread, Fixup, Contents, Header, Comment, Names, Segment, Group, Externs, Publics, Communals, Plain, Iterated, Fixups, ModEnd, Carried, is_wide, width, alignment, thread_method, has_frame_datum, has_target_datum, has_no_displacement, has_start, nowhere, unplaced, reference_alone, subrecord_alone, contents_alone}
 use Rattle.omf_records.specs.Shortest.{option_bytes, datum_bytes, absolute_bytes, member_bytes, external_bytes, public_bytes, size_bytes, communal_bytes, reference_bytes, subrecord_bytes, data_bytes, contents_bytes}
-use Rattle.omf_records.specs.Layout.{Layout, many, index, name, le, number_of, with_place, called, choose, when, either}
+use Rattle.omf_records.specs.Layout.{Layout, many, index, name, le, number_of, with_place, called, choose, when}
 use Rattle.omf_records.specs.Entries.{unless, wrong_component, member, external, public_item, wrong_data_type, near_size, far_size, communal_size, communal, reference, thread, fixup, subrecord}
-use Rattle.omf_records.specs.Records.{header, comment, names, absolute, segment, group, externs, publics, communals, data_item, fixups, mod_end, carried, contents}
-use Rattle.omf_records.proofs.Shorter.{Shorter, shorter_itself, shorter_then, shorter_last, Recasts, Plainly, itself, recast_plainly, plain_byte, plain_name, plain_index, plain_le, plain_length, recast_placed, recast_index, recast_called, recast_when, plain_when, recast_either, recast_many}
+use Rattle.omf_records.specs.Records.{header, comment, names, absolute, segment, group, externs, publics, communals, data_item, fixups, mod_end, carried, layout_of, layout_if, contents}
+use Rattle.omf_records.proofs.Shorter.{Shorter, shorter_itself, shorter_then, shorter_last, Recasts, Plainly, itself, recast_plainly, plain_byte, plain_name, plain_index, plain_le, plain_length, recast_placed, recast_index, recast_called, recast_when, plain_when, recast_many}
 
 -- a test whose reason is not given holds
 not_refused : (b : Bool) (r : Reason) → unless b r ≡ [] → b ≡ true
@@ -368,18 +369,39 @@ shortens_mod_end kind at there body c (f1, b1, t, p1, s1, (f2, b2, r, p2, s2, (n
 shortens_carried : (kind : ℕ) → Shortens kind carried
 shortens_carried kind at there body c (x, sp, is) = rw is (record { value = Carried x; spelled = (x, refl, refl); same = refl; shorter = subst (λ (w : List ℕ). Shorter body w) (sym sp) (shorter_itself body) })
 
+by_type : (kind : ℕ) (t : RecordType) → Shortens kind (layout_of t (is_wide kind))
+by_type kind Theadr = shortens_header kind
+by_type kind Lheadr = shortens_header kind
+by_type kind Coment = shortens_comment kind
+by_type kind Lnames = shortens_names kind
+by_type kind Llnames = shortens_names kind
+by_type kind Segdef = shortens_segment kind
+by_type kind Grpdef = shortens_group kind
+by_type kind Extdef = shortens_externs kind
+by_type kind Lextdef = shortens_externs kind
+by_type kind Pubdef = shortens_publics kind
+by_type kind Lpubdef = shortens_publics kind
+by_type kind Comdef = shortens_communals kind
+by_type kind Lcomdef = shortens_communals kind
+by_type kind Ledata = shortens_plain kind
+by_type kind Lidata = shortens_iterated kind
+by_type kind Fixupp = shortens_fixups kind
+by_type kind Modend = shortens_mod_end kind
+by_type kind Typdef = shortens_carried kind
+by_type kind Linnum = shortens_carried kind
+by_type kind Linsym = shortens_carried kind
+by_type kind Alias = shortens_carried kind
+by_type kind Vernum = shortens_carried kind
+by_type kind Bakpat = shortens_carried kind
+by_type kind Cextdef = shortens_carried kind
+by_type kind Comdat = shortens_carried kind
+by_type kind Nbkpat = shortens_carried kind
+by_type kind Vendext = shortens_carried kind
+by_type kind Library = shortens_carried kind
+
+by_option : (kind : ℕ) (o : Option RecordType) → Shortens kind (layout_if o (is_wide kind))
+by_option kind (Some t) = by_type kind t
+by_option kind None = shortens_carried kind
+
 pub shortens : (kind : ℕ) → Shortens kind (contents kind)
-shortens kind =
-    let both : (b : Bool) (p q : Layout Contents) → Shortens kind p → Shortens kind q → Shortens kind (either b p q) = λ b p q. recast_either b p q contents_alone (contents_bytes kind) in
-    both (is_header kind) _ _ (shortens_header kind) (
-    both (is_one_of coment kind) _ _ (shortens_comment kind) (
-    both (is_one_of (lnames ++ llnames) kind) _ _ (shortens_names kind) (
-    both (is_one_of segdef kind) _ _ (shortens_segment kind) (
-    both (is_one_of grpdef kind) _ _ (shortens_group kind) (
-    both (is_one_of (extdef ++ lextdef) kind) _ _ (shortens_externs kind) (
-    both (is_one_of (pubdef ++ lpubdef) kind) _ _ (shortens_publics kind) (
-    both (is_one_of (comdef ++ lcomdef) kind) _ _ (shortens_communals kind) (
-    both (is_one_of ledata kind) _ _ (shortens_plain kind) (
-    both (is_one_of lidata kind) _ _ (shortens_iterated kind) (
-    both (is_one_of fixupp kind) _ _ (shortens_fixups kind) (
-    both (is_end kind) _ _ (shortens_mod_end kind) (shortens_carried kind))))))))))))
+shortens kind = by_option kind (type_of kind)

@@ -9,7 +9,7 @@ use Rattle.omf_frame.specs.Inner.FieldLaws.{index_shortest, little_shortest, com
 use Rattle.omf_frame.specs.declared.fault.Reason.{Reason}
 use Rattle.omf_records.specs.Values.{At, nowhere, unplaced}
 use Rattle.omf_records.specs.Shortest.{option_bytes, datum_bytes}
-use Rattle.omf_records.specs.Layout.{Layout, many, index, name, byte, le, communal_length, checked, with_place, called, when, either}
+use Rattle.omf_records.specs.Layout.{Layout, many, index, name, byte, le, communal_length, checked, with_place, called, when}
 use Rattle.omf_records.specs.Inner.Steps.{AreBytes-back, AreBytes-front, AreBytes-none}
 
 -- not longer, and made of bytes if the other is
@@ -117,10 +117,6 @@ recast_when false p alone short r at there body y (none, is) = rw is (record { v
 pub plain_when : {A : Type 0} (b : Bool) (p : Layout A) (short : A → List ℕ) → Plainly p short → Plainly (when b p) (option_bytes short)
 plain_when true p short h at there body y (x, sp, is) = let q = h at there body x sp in rw is ((x, q.0, refl), q.1)
 plain_when false p short h at there body y (none, is) = rw is ((refl, refl), shorter_none body)
-
-pub recast_either : {A : Type 0} (b : Bool) (p q : Layout A) (alone : A → A) (short : A → List ℕ) → Recasts p alone short → Recasts q alone short → Recasts (either b p q) alone short
-recast_either true p q alone short r s = r
-recast_either false p q alone short r s = s
 
 -- ---- items to the end
 

@@ -16,6 +16,7 @@ use Rattle.omf_records.specs.Entries.{reference, thread, fixup, subrecord}
 use Rattle.omf_records.specs.Records.{fixups, mod_end, contents, IsTyped}
 use Rattle.omf_records.specs.Inner.Steps.{AreBytes-none}
 use Rattle.omf_records.specs.Laws.{ValuesAreTyped, TypedHaveValues}
+use Rattle.omf_records.proofs.TypeBytes.{one_of_two}
 use Rattle.omf_records.specs.Valued.{IsThere, IsIndexValue, IsReferenceValue, IsSubrecordValue, is_fixupp, AreReferenceValues, HaveReferenceValues}
 use Rattle.omf_records.proofs.Shorter.{are_bytes_append, index_fits}
 use Rattle.omf_records.proofs.Recast.{alone_same}
@@ -119,13 +120,6 @@ module _ {A : Type 0} (p : Layout A) (alone : A → A) (short : A → List ℕ) 
       }
 
 -- the layout of a FIXUPP, of a MODEND
-one_of_two : (a b kind : ℕ) → is_one_of (a ∷ b ∷ []) kind ≡ true → (kind ≡ a) ⊎ (kind ≡ b)
-one_of_two a b kind e =
-    elim (or_cases (a == kind) (is_one_of (b ∷ []) kind) e) [
-      | inl q ↦ inl (sym (eqb-true a kind q))
-      | inr q ↦ elim (or_cases (b == kind) false q) [ inl z ↦ inr (sym (eqb-true b kind z)) | inr z ↦ absurd cc ]
-    ]
-
 at-fixupp : (kind : ℕ) → is_fixupp kind ≡ true → (body : List ℕ) (c : Contents) → (fixups (is_wide kind)).Spells 3 body c → (contents kind).Spells 3 body c
 at-fixupp kind e body c h = elim (one_of_two 0x9C 0x9D kind e) [
   | inl q ↦ subst (λ (k : ℕ). (fixups (is_wide k)).Spells 3 body c → (contents k).Spells 3 body c) (sym q) (λ x. x) h

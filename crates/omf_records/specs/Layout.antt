@@ -18,7 +18,6 @@
 --   checked p refused  p, some values of which are refused         checked_reader
 --   called p f         p, with f applied to its value              called_reader, called_whole
 --   choose b p q       p if b, else q                              choose_reader, choose_whole
---   either b p q       the same, if b is a literal                 either_whole
 --   when b p           p if b, else nothing                        when_reader
 --   byte, le k, number_of wide, index, name, communal_length, head byte_reader, le_reader, number_reader, ..
 use Rattle.std.specs.Prelude.{◌≡◌, ℕ, zero, suc, ◌+◌, ◌/◌, ◌%◌, ◌<◌, ◌≤◌, ◌⊎◌, ◌≢◌, ◌||◌, Bool, true, false, cond, nat_le, if◌then◌else◌, Option, Some, None, List, [], ◌∷◌, ◌++◌, length, Result, Ok, IsTrue, IfOk, IfErr}
@@ -154,11 +153,6 @@ choose b p q = record {
   Spells = λ at bytes x. cond b (p.Spells at bytes x) (q.Spells at bytes x);
   Faults = λ at bytes e. cond b (p.Faults at bytes e) (q.Faults at bytes e);
 }
-
--- one of two, by a literal test
-abbrev pub either : {A : Type 0} → Bool → Layout A → Layout A → Layout A
-either true p q = p
-either false p q = q
 
 -- a layout if b, else nothing
 abbrev pub when : {A : Type 0} → Bool → Layout A → Layout (Option A)

@@ -1,12 +1,12 @@
 -- The layout of each record's contents (TIS OMF 1.1, the page of each record).
-use Rattle.std.specs.Prelude.{ℕ, ◌==◌, ◌||◌, not, nat_lt, Bool, List, ◌++◌}
-use Rattle.omf_frame.specs.Bytes.{is_one_of}
-use Rattle.omf_frame.specs.Types.{coment, extdef, pubdef, lnames, segdef, grpdef, fixupp, ledata, lidata, comdef, lextdef, lpubdef, lcomdef, llnames}
-use Rattle.omf_frame.specs.Framing.{is_header, is_end}
+use Rattle.std.specs.Prelude.{ℕ, ◌==◌, ◌||◌, not, nat_lt, Bool, List, Option, Some, None}
+use Rattle.omf_frame.specs.Types.{type_of}
+use Rattle.omf_frame.specs.declared.kinds.RecordType.{RecordType}
+use Rattle.omf_frame.specs.declared.kinds.RecordType.TheVariants.{Theadr, Lheadr, Coment, Lnames, Llnames, Segdef, Grpdef, Extdef, Lextdef, Pubdef, Lpubdef, Comdef, Lcomdef, Ledata, Lidata, Fixupp, Modend}
 use Rattle.omf_frame.specs.declared.fault.Reason.{Reason}
 use Rattle.omf_frame.specs.declared.fault.Reason.TheVariants as reason
 use Rattle.omf_records.specs.Values.{DataItem, Contents, Header, Comment, Names, Segment, Group, Externs, Publics, Communals, Plain, Iterated, Fixups, ModEnd, Carried, Rec, is_wide, alignment, is_big, has_start}
-use Rattle.omf_records.specs.Layout.{Layout, ◌>>=◌, give, ends, rest, many, name, index, byte, le, number_of, checked, with_place, called, when, either}
+use Rattle.omf_records.specs.Layout.{Layout, ◌>>=◌, give, ends, rest, many, name, index, byte, le, number_of, checked, with_place, called, when}
 use Rattle.omf_records.specs.Entries.{unless, member, external, public_item, communal, reference, subrecord}
 
 -- THEADR, LHEADR: a name.
@@ -94,22 +94,34 @@ mod_end wide = do
 abbrev pub carried : Layout Contents
 carried = called rest Carried
 
--- The contents of a record of each type.
+-- The layout of the records of a type; `wide` is true if they have 32-bit fields. Records that are carried are any bytes.
+abbrev pub layout_of : RecordType → Bool → Layout Contents
+layout_of Theadr wide = header
+layout_of Lheadr wide = header
+layout_of Coment wide = comment
+layout_of Lnames wide = names
+layout_of Llnames wide = names
+layout_of Segdef wide = segment wide
+layout_of Grpdef wide = group
+layout_of Extdef wide = externs
+layout_of Lextdef wide = externs
+layout_of Pubdef wide = publics wide
+layout_of Lpubdef wide = publics wide
+layout_of Comdef wide = communals
+layout_of Lcomdef wide = communals
+layout_of Ledata wide = called (data_item wide) Plain
+layout_of Lidata wide = called (data_item wide) Iterated
+layout_of Fixupp wide = fixups wide
+layout_of Modend wide = mod_end wide
+layout_of _ wide = carried
+
+abbrev pub layout_if : Option RecordType → Bool → Layout Contents
+layout_if (Some t) wide = layout_of t wide
+layout_if None wide = carried
+
+-- The contents of a record with a type byte. (Framing refuses a module with an unknown type.)
 abbrev pub contents : ℕ → Layout Contents
-contents kind =
-    either (is_header kind) header (
-    either (is_one_of coment kind) comment (
-    either (is_one_of (lnames ++ llnames) kind) names (
-    either (is_one_of segdef kind) (segment (is_wide kind)) (
-    either (is_one_of grpdef kind) group (
-    either (is_one_of (extdef ++ lextdef) kind) externs (
-    either (is_one_of (pubdef ++ lpubdef) kind) (publics (is_wide kind)) (
-    either (is_one_of (comdef ++ lcomdef) kind) communals (
-    either (is_one_of ledata kind) (called (data_item (is_wide kind)) Plain) (
-    either (is_one_of lidata kind) (called (data_item (is_wide kind)) Iterated) (
-    either (is_one_of fixupp kind) (fixups (is_wide kind)) (
-    either (is_end kind) (mod_end (is_wide kind))
-    carried)))))))))))
+contents kind = layout_if (type_of kind) (is_wide kind)
 
 -- The contents of a record, which begin at offset 3, encode this typed record.
 abbrev pub IsTyped : Rec → List ℕ → Type 0

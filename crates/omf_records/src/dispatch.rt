@@ -1,13 +1,13 @@
 //! Reading a record's contents by its type.
-ghost use Rattle.std.specs.Prelude.{◌≡◌, ◌≤◌, length, IfOk, IfSome, Ok, is_ok, is_some, true, IsTrue, ◌++◌};
-ghost use Rattle.omf_frame.specs.Bytes.{is_one_of};
+ghost use Rattle.std.specs.Prelude.{◌≡◌, ◌≤◌, length, IfOk, IfSome, Some, Ok, is_ok, is_some, true, IsTrue};
 ghost use Rattle.omf_frame.specs.Framing.{is_taken};
-ghost use Rattle.omf_frame.specs.Types.{local_types};
-ghost use Rattle.omf_records.specs.Inner.Seen.{contents_seen, kind_seen, map_ok};
+ghost use Rattle.omf_frame.specs.Types.{type_of};
+ghost use Rattle.omf_records.specs.Inner.Seen.{contents_seen, kind_seen, map_ok, type_byte};
 ghost use Rattle.omf_records.specs.Inner.Reading.{read_body};
+ghost use Rattle.omf_records.specs.Inner.RecordReaders.{whole_of};
 ghost use Rattle.omf_records.specs.Layout.{Meets};
 ghost use Rattle.omf_records.specs.Records.{contents};
-ghost use Rattle.omf_records.specs.Inner.Unread.{IsKnown, fixups_read};
+ghost use Rattle.omf_records.specs.Inner.Unread.{fixups_read};
 ghost use Rattle.omf_records.specs.Valued.{is_fixupp};
 
 use crate::at::LayoutFault;
@@ -20,80 +20,68 @@ use crate::viewing::{
     local_communals_at, local_externs_at, local_names_at, mod_end_at, names_at, plain_at,
     publics_at, segment_at,
 };
-use omf_frame::{RawRecord, Width};
+use omf_frame::{RawRecord, RecordType, Width};
 
-/// Reads the contents of a local record, or of one that is not interpreted.
-fn local_or_carried<'a>(kind: u8, body: &'a [u8], known: bool) -> Result<Rec<'a>, LayoutFault>
-    requires taken { IsTrue (is_one_of local_types kind || is_treated Carried kind) }
-    requires short { length body.now ≤ 65534 }
-    requires spelled { IsKnown known (read_body kind body.now) }
-    ensures contents { map_ok contents_seen result ≡ read_body kind body.now }
-    ensures kind { IfOk result (λ r. kind_seen r ≡ kind) }
+/// Reads the contents at `here` of a record of a type, whose byte is `kind`.
+fn contents_at<'a>(
+    record_type: RecordType,
+    kind: u8,
+    here: Here<'a>,
+) -> Result<Rec<'a>, LayoutFault>
+    requires { kind ≡ type_byte record_type here.wide }
+    ensures contents { map_ok contents_seen result ≡ (whole_of record_type here.entry.wide).read here.entry.within here.entry.bytes.now }
+    ensures kind { IfOk result (λ r. kind_seen r ≡ type_byte record_type here.entry.wide) }
 {
-    let narrow = Here::start(false, body);
-    let wide = Here::start(true, body);
-    match kind {
-        0xB4 => local_externs_at(narrow, known),
-        0xB5 => local_externs_at(wide, known),
-        0xB6 => publics_at(true, narrow, known),
-        0xB7 => publics_at(true, wide, known),
-        0xB8 => local_communals_at(narrow, known),
-        0xCA => local_names_at(narrow, known),
-        0x8E => carried_at(0x8E, body),
-        0x94 => carried_at(0x94, body),
-        0x95 => carried_at(0x95, body),
-        0xC4 => carried_at(0xC4, body),
-        0xC5 => carried_at(0xC5, body),
-        0xC6 => carried_at(0xC6, body),
-        0xCC => carried_at(0xCC, body),
-        // The precondition excludes other types.
-        _ => carried_at(kind, body),
+    match record_type {
+        RecordType::Theadr | RecordType::Lheadr => header_at(kind, here),
+        RecordType::Coment => comment_at(here),
+        RecordType::Lnames => names_at(here),
+        RecordType::Llnames => local_names_at(here),
+        RecordType::Segdef => segment_at(here),
+        RecordType::Grpdef => group_at(here),
+        RecordType::Extdef => externs_at(here),
+        RecordType::Lextdef => local_externs_at(here),
+        RecordType::Pubdef => publics_at(false, here),
+        RecordType::Lpubdef => publics_at(true, here),
+        RecordType::Comdef => communals_at(here),
+        RecordType::Lcomdef => local_communals_at(here),
+        RecordType::Ledata => plain_at(here),
+        RecordType::Lidata => iterated_at(here),
+        RecordType::Fixupp => fixups_at(here),
+        RecordType::Modend => mod_end_at(here),
+        RecordType::Typdef
+        | RecordType::Linnum
+        | RecordType::Linsym
+        | RecordType::Alias
+        | RecordType::Vernum
+        | RecordType::Bakpat
+        | RecordType::Cextdef
+        | RecordType::Comdat
+        | RecordType::Nbkpat
+        | RecordType::Vendext
+        | RecordType::Library => carried_at(kind, here),
     }
 }
 
-/// Reads the contents of a record. If they are known to be valid, their items are not read.
-#[inline(always)]
-fn contents_of<'a>(kind: u8, body: &'a [u8], known: bool) -> Result<Rec<'a>, LayoutFault>
-    requires taken { IsTrue (is_taken kind) }
-    requires short { length body.now ≤ 65534 }
-    requires spelled { IsKnown known (read_body kind body.now) }
+fn contents_of<'a>(kind: u8, body: &'a [u8]) -> Result<Rec<'a>, LayoutFault>
+    requires { length body.now ≤ 65534 }
     ensures contents { map_ok contents_seen result ≡ read_body kind body.now }
     ensures kind { IfOk result (λ r. kind_seen r ≡ kind) }
 {
-    let narrow = Here::start(false, body);
-    let wide = Here::start(true, body);
-    match kind {
-        0x80 => header_at(0x80, narrow),
-        0x82 => header_at(0x82, narrow),
-        0x88 => comment_at(narrow),
-        0x8A => mod_end_at(narrow),
-        0x8B => mod_end_at(wide),
-        0x8C => externs_at(narrow, known),
-        0x90 => publics_at(false, narrow, known),
-        0x91 => publics_at(false, wide, known),
-        0x96 => names_at(narrow, known),
-        0x98 => segment_at(narrow),
-        0x99 => segment_at(wide),
-        0x9A => group_at(narrow, known),
-        0x9C => fixups_at(narrow, known),
-        0x9D => fixups_at(wide, known),
-        0xA0 => plain_at(narrow),
-        0xA1 => plain_at(wide),
-        0xA2 => iterated_at(narrow),
-        0xA3 => iterated_at(wide),
-        0xB0 => communals_at(narrow, known),
-        _ => local_or_carried(kind, body, known),
+    let here = Here::start(kind, body);
+    match RecordType::of(kind) {
+        Some(record_type) => contents_at(record_type, kind, here),
+        None => carried_at(kind, here),
     }
 }
 
 fn view_body<'a>(kind: u8, body: &'a [u8]) -> Result<Rec<'a>, LayoutFault>
-    requires taken { IsTrue (is_taken kind) }
-    requires short { length body.now ≤ 65534 }
+    requires { length body.now ≤ 65534 }
     ensures read { map_ok contents_seen result ≡ read_body kind body.now }
     ensures kind { IfOk result (λ r. kind_seen r ≡ kind) }
     ensures meets { Meets (contents kind) 3 body.now (map_ok contents_seen result) }
 {
-    contents_of(kind, body, false)
+    contents_of(kind, body)
 }
 
 /// Decodes the contents of a record (TIS OMF 1.1, the page of each record). The type must be one that a module may have, and the
@@ -116,14 +104,13 @@ pub fn unread_fixups<'a>(raw: &RawRecord<'a>) -> Option<Unread<Subrecord<'a>>>
     ensures read { IfSome result (λ u. read_body raw.now.kind raw.now.body.now ≡ fixups_read u.items) }
     ensures given { is_some result ≡ is_fixupp raw.now.kind }
 {
-    match raw.kind {
-        0x9C => Some(Unread::new(Here::start(false, raw.body))),
-        0x9D => Some(Unread::new(Here::start(true, raw.body))),
-        _ => None,
+    if raw.kind != 0x9C && raw.kind != 0x9D {
+        return None;
     }
+    Some(Unread::new(Here::start(raw.kind, raw.body)))
 }
 
-/// Like `view`, for contents that are known to be valid. The items of the record are not read.
+/// Like `view`, for contents that are known to be valid. The subrecords of a FIXUPP are not read: FIXUPPs are frequent.
 pub fn view_known<'a>(raw: RawRecord<'a>) -> Rec<'a>
     requires taken { IsTrue (is_taken raw.kind) }
     requires short { length raw.body.now ≤ 65534 }
@@ -131,13 +118,12 @@ pub fn view_known<'a>(raw: RawRecord<'a>) -> Rec<'a>
     ensures read { Ok (contents_seen result) ≡ read_body raw.entry.kind raw.entry.body.now }
     ensures kind { kind_seen result ≡ raw.entry.kind }
 {
-    // The fast path: FIXUPPs are frequent.
     if let Some(subrecords) = unread_fixups(&raw) {
         let width = Width::of(raw.kind);
         let subrecords = subrecords.known();
         return Rec::Fixups { width, subrecords };
     }
-    match contents_of(raw.kind, raw.body, true) {
+    match contents_of(raw.kind, raw.body) {
         Ok(rec) => rec,
         Err(_) => unreachable!(),
     }

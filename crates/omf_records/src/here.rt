@@ -23,18 +23,19 @@ impl<'a> Here<'a> {
     ghost use Rattle.omf_records.specs.Layout.{fault};
     ghost use Rattle.omf_records.specs.Inner.Readers.{ends_read};
     ghost use Rattle.omf_records.specs.Inner.Seen.{width_if};
+    ghost use Rattle.omf_records.specs.Values.{is_wide};
 
-    /// The start of the contents, at offset 3.
+    /// The start of the contents of a record of type `kind`, at offset 3.
     #[inline(always)]
-    pub(crate) fn start(wide: bool, body: &'a [u8]) -> Here<'a>
+    pub(crate) fn start(kind: u8, body: &'a [u8]) -> Here<'a>
         requires { length body.now ≤ 65534 }
         ensures place { result.within ≡ 3 }
-        ensures width { result.wide ≡ wide }
+        ensures width { result.wide ≡ is_wide kind }
         ensures bytes { result.bytes.now ≡ body.now }
     {
         Here {
             within: 3,
-            wide,
+            wide: kind % 2 == 1,
             bytes: body,
         }
     }

@@ -90,7 +90,6 @@ impl<T: Item> Model for Items<T> {
 impl<T: Item> Items<T> {
     ghost use Rattle.std.specs.Prelude.{◌≡◌, is_ok, true, Ok};
     ghost use Rattle.omf_records.specs.Inner.Reads.{each};
-    ghost use Rattle.omf_records.specs.Inner.Unread.{IsKnown};
 
     /// Checks that the bytes are valid items.
     pub(crate) fn new(from: T::From) -> Result<Items<T>, LayoutFault>
@@ -110,18 +109,6 @@ impl<T: Item> Items<T> {
         ensures { Ok result ≡ each (T.reader (T.From.wide from)).read (T.From.place from) (T.From.rest from) }
     {
         Items { from }
-    }
-
-    /// Checks that the bytes are valid items, unless they are known to be.
-    #[inline(always)]
-    pub(crate) fn all(from: T::From, known: bool) -> Result<Items<T>, LayoutFault>
-        requires { IsKnown known (each (T.reader (T.From.wide from)).read (T.From.place from) (T.From.rest from)) }
-        ensures { result ≡ each (T.reader (T.From.wide from)).read (T.From.place from) (T.From.rest from) }
-    {
-        if known {
-            return Ok(Items::known(from));
-        }
-        Items::new(from)
     }
 
     /// A copy of the iterator.

@@ -1,7 +1,6 @@
-//! Reading the contents of each record. Items that are known to be valid are not read.
+//! Reading the contents of each record.
 ghost use Rattle.std.specs.Prelude.{◌≡◌, ◌==◌, ℕ, ◌≤◌, length, IfOk, Bool, cond, if◌then◌else◌};
 ghost use Rattle.omf_records.specs.Inner.Gives.{Gives};
-ghost use Rattle.omf_records.specs.Inner.Unread.{IsKnown};
 ghost use Rattle.omf_records.specs.Inner.Seen.{contents_seen, kind_seen, odd_if, width_if, map_ok};
 ghost use Rattle.omf_records.specs.Values.{alignment, has_start};
 ghost use Rattle.omf_records.specs.Inner.RecordReaders.{header_whole, comment_whole, names_whole, attribute_reader, absolute_reader, size_reader, segment_whole, group_whole, externs_whole, base_reader, publics_whole, communals_whole, plain_whole, iterated_whole, fixups_whole, start_reader, mod_end_whole, carried_whole};
@@ -41,21 +40,19 @@ pub(crate) fn comment_at<'a>(here: Here<'a>) -> Result<Rec<'a>, LayoutFault>
 }
 
 /// LNAMES.
-pub(crate) fn names_at<'a>(here: Here<'a>, known: bool) -> Result<Rec<'a>, LayoutFault>
-    requires { IsKnown known (names_whole.read here.within here.bytes.now) }
+pub(crate) fn names_at<'a>(here: Here<'a>) -> Result<Rec<'a>, LayoutFault>
     ensures contents { map_ok contents_seen result ≡ names_whole.read here.entry.within here.entry.bytes.now }
     ensures kind { IfOk result (λ r. kind_seen r ≡ 0x96) }
 {
-    Ok(Rec::Names(Items::all(here, known)?))
+    Ok(Rec::Names(Items::new(here)?))
 }
 
 /// LLNAMES.
-pub(crate) fn local_names_at<'a>(here: Here<'a>, known: bool) -> Result<Rec<'a>, LayoutFault>
-    requires { IsKnown known (names_whole.read here.within here.bytes.now) }
+pub(crate) fn local_names_at<'a>(here: Here<'a>) -> Result<Rec<'a>, LayoutFault>
     ensures contents { map_ok contents_seen result ≡ names_whole.read here.entry.within here.entry.bytes.now }
     ensures kind { IfOk result (λ r. kind_seen r ≡ 0xCA) }
 {
-    Ok(Rec::LocalNames(Items::all(here, known)?))
+    Ok(Rec::LocalNames(Items::new(here)?))
 }
 
 /// Reads SEGDEF's attribute byte.
@@ -117,33 +114,30 @@ pub(crate) fn segment_at<'a>(here: Here<'a>) -> Result<Rec<'a>, LayoutFault>
 }
 
 /// GRPDEF.
-pub(crate) fn group_at<'a>(here: Here<'a>, known: bool) -> Result<Rec<'a>, LayoutFault>
-    requires { IsKnown known (group_whole.read here.within here.bytes.now) }
+pub(crate) fn group_at<'a>(here: Here<'a>) -> Result<Rec<'a>, LayoutFault>
     ensures contents { map_ok contents_seen result ≡ group_whole.read here.entry.within here.entry.bytes.now }
     ensures kind { IfOk result (λ r. kind_seen r ≡ 0x9A) }
 {
     let (name, here) = index_here(here)?;
-    let members = Items::all(here, known)?;
+    let members = Items::new(here)?;
     Ok(Rec::Group { name, members })
 }
 
 /// EXTDEF.
-pub(crate) fn externs_at<'a>(here: Here<'a>, known: bool) -> Result<Rec<'a>, LayoutFault>
-    requires { IsKnown known (externs_whole.read here.within here.bytes.now) }
+pub(crate) fn externs_at<'a>(here: Here<'a>) -> Result<Rec<'a>, LayoutFault>
     ensures contents { map_ok contents_seen result ≡ externs_whole.read here.entry.within here.entry.bytes.now }
     ensures kind { IfOk result (λ r. kind_seen r ≡ 0x8C) }
 {
-    Ok(Rec::Externs(Items::all(here, known)?))
+    Ok(Rec::Externs(Items::new(here)?))
 }
 
 /// LEXTDEF.
-pub(crate) fn local_externs_at<'a>(here: Here<'a>, known: bool) -> Result<Rec<'a>, LayoutFault>
-    requires { IsKnown known (externs_whole.read here.within here.bytes.now) }
+pub(crate) fn local_externs_at<'a>(here: Here<'a>) -> Result<Rec<'a>, LayoutFault>
     ensures contents { map_ok contents_seen result ≡ externs_whole.read here.entry.within here.entry.bytes.now }
     ensures kind { IfOk result (λ r. kind_seen r ≡ odd_if (width_if here.entry.wide) 0xB4) }
 {
     let odd = here.is_wide();
-    let externs = Items::all(here, known)?;
+    let externs = Items::new(here)?;
     Ok(Rec::LocalExterns { odd, externs })
 }
 
@@ -162,12 +156,7 @@ fn base_frame<'a>(
 }
 
 /// PUBDEF, LPUBDEF.
-pub(crate) fn publics_at<'a>(
-    is_local: bool,
-    here: Here<'a>,
-    known: bool,
-) -> Result<Rec<'a>, LayoutFault>
-    requires { IsKnown known ((publics_whole here.wide).read here.within here.bytes.now) }
+pub(crate) fn publics_at<'a>(is_local: bool, here: Here<'a>) -> Result<Rec<'a>, LayoutFault>
     ensures contents { map_ok contents_seen result ≡ (publics_whole here.entry.wide).read here.entry.within here.entry.bytes.now }
     ensures kind { IfOk result (λ r. kind_seen r ≡ odd_if (width_if here.entry.wide) (if is_local then 0xB6 else 0x90)) }
 {
@@ -175,7 +164,7 @@ pub(crate) fn publics_at<'a>(
     let (group, here) = index_here(here)?;
     let (segment, here) = index_here(here)?;
     let (frame, here) = base_frame(here, &segment)?;
-    match Items::all(here, known) {
+    match Items::new(here) {
         Ok(publics) if is_local => Ok(Rec::LocalPublics {
             width,
             group,
@@ -195,21 +184,19 @@ pub(crate) fn publics_at<'a>(
 }
 
 /// COMDEF.
-pub(crate) fn communals_at<'a>(here: Here<'a>, known: bool) -> Result<Rec<'a>, LayoutFault>
-    requires { IsKnown known (communals_whole.read here.within here.bytes.now) }
+pub(crate) fn communals_at<'a>(here: Here<'a>) -> Result<Rec<'a>, LayoutFault>
     ensures contents { map_ok contents_seen result ≡ communals_whole.read here.entry.within here.entry.bytes.now }
     ensures kind { IfOk result (λ r. kind_seen r ≡ 0xB0) }
 {
-    Ok(Rec::Communals(Items::all(here, known)?))
+    Ok(Rec::Communals(Items::new(here)?))
 }
 
 /// LCOMDEF.
-pub(crate) fn local_communals_at<'a>(here: Here<'a>, known: bool) -> Result<Rec<'a>, LayoutFault>
-    requires { IsKnown known (communals_whole.read here.within here.bytes.now) }
+pub(crate) fn local_communals_at<'a>(here: Here<'a>) -> Result<Rec<'a>, LayoutFault>
     ensures contents { map_ok contents_seen result ≡ communals_whole.read here.entry.within here.entry.bytes.now }
     ensures kind { IfOk result (λ r. kind_seen r ≡ 0xB8) }
 {
-    Ok(Rec::LocalCommunals(Items::all(here, known)?))
+    Ok(Rec::LocalCommunals(Items::new(here)?))
 }
 
 /// LEDATA.
@@ -246,13 +233,12 @@ pub(crate) fn iterated_at<'a>(here: Here<'a>) -> Result<Rec<'a>, LayoutFault>
 }
 
 /// FIXUPP.
-pub(crate) fn fixups_at<'a>(here: Here<'a>, known: bool) -> Result<Rec<'a>, LayoutFault>
-    requires { IsKnown known ((fixups_whole here.wide).read here.within here.bytes.now) }
+pub(crate) fn fixups_at<'a>(here: Here<'a>) -> Result<Rec<'a>, LayoutFault>
     ensures contents { map_ok contents_seen result ≡ (fixups_whole here.entry.wide).read here.entry.within here.entry.bytes.now }
     ensures kind { IfOk result (λ r. kind_seen r ≡ odd_if (width_if here.entry.wide) 0x9C) }
 {
     let width = here.width();
-    let subrecords = Items::all(here, known)?;
+    let subrecords = Items::new(here)?;
     Ok(Rec::Fixups { width, subrecords })
 }
 
@@ -283,10 +269,11 @@ pub(crate) fn mod_end_at<'a>(here: Here<'a>) -> Result<Rec<'a>, LayoutFault>
     })
 }
 
-/// TYPDEF, LINNUM, LINSYM, ALIAS, VERNUM.
-pub(crate) fn carried_at<'a>(kind: u8, contents: &'a [u8]) -> Result<Rec<'a>, LayoutFault>
-    ensures contents { map_ok contents_seen result ≡ carried_whole.read 3 contents.now }
+/// TYPDEF, LINNUM, LINSYM, ALIAS, VERNUM, of type `kind`.
+pub(crate) fn carried_at<'a>(kind: u8, here: Here<'a>) -> Result<Rec<'a>, LayoutFault>
+    ensures contents { map_ok contents_seen result ≡ carried_whole.read here.entry.within here.entry.bytes.now }
     ensures kind { IfOk result (λ r. kind_seen r ≡ kind) }
 {
+    let contents = here.bytes();
     Ok(Rec::Carried { kind, contents })
 }

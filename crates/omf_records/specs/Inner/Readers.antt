@@ -7,7 +7,7 @@ use Rattle.omf_frame.specs.Fault.{Fault, reason_number}
 use Rattle.omf_frame.specs.declared.fault.Reason.{Reason}
 use Rattle.omf_frame.specs.declared.fault.Reason.TheVariants as reason
 use Rattle.omf_records.specs.Values.{At}
-use Rattle.omf_records.specs.Layout.{Layout, fault, ◌>>=◌, give, ends, rest, times, checked, IsIn, index, number_of, with_place, called, choose, when, either, Behind}
+use Rattle.omf_records.specs.Layout.{Layout, fault, ◌>>=◌, give, ends, rest, times, checked, IsIn, index, number_of, with_place, called, choose, when, Behind}
 use Rattle.omf_records.specs.Inner.Reads.{After, after, Reading, and_then, Takes, Refuses, Reader, Whole, Falls, Shrinks}
 use Rattle.omf_records.specs.Inner.Steps.{and_then_ok, and_then_err, AreBytes-rest, before_here, refused_by}
 use Rattle.omf_records.specs.Inner.FieldReaders.{index_reader, number_reader}
@@ -488,6 +488,3 @@ module _ {A : Type 0} (p q : Layout A) (r : Whole p) (s : Whole q) where
   choose_whole b = record { read = choose_whole_read b; ok = choose_whole_ok b; again = choose_whole_again b; err = choose_whole_err b; refuses = choose_whole_refuses b; behind = choose_whole_behind b }
 
 -- one of two layouts, by a literal test
-abbrev pub either_whole : {A : Type 0} {p q : Layout A} (b : Bool) → Whole p → Whole q → Whole (either b p q)
-either_whole true r s = r
-either_whole false r s = s

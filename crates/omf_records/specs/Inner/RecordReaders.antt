@@ -1,19 +1,19 @@
 -- The readings of contents. Each is built as its layout in Records.
 use Rattle.std.proofs.Common.{ℕ, Bool}
-use Rattle.std.specs.Prelude.{◌==◌, ◌||◌, not, nat_lt, ◌++◌}
-use Rattle.omf_frame.specs.Bytes.{is_one_of}
-use Rattle.omf_frame.specs.Types.{coment, extdef, pubdef, lnames, segdef, grpdef, fixupp, ledata, lidata, comdef, lextdef, lpubdef, lcomdef, llnames}
-use Rattle.omf_frame.specs.Framing.{is_header, is_end}
+use Rattle.std.specs.Prelude.{◌==◌, ◌||◌, not, nat_lt, Option, Some, None}
+use Rattle.omf_frame.specs.Types.{type_of}
+use Rattle.omf_frame.specs.declared.kinds.RecordType.{RecordType}
+use Rattle.omf_frame.specs.declared.kinds.RecordType.TheVariants.{Theadr, Lheadr, Coment, Lnames, Llnames, Segdef, Grpdef, Extdef, Lextdef, Pubdef, Lpubdef, Comdef, Lcomdef, Ledata, Lidata, Fixupp, Modend, Typdef, Linnum, Linsym, Alias, Vernum, Bakpat, Cextdef, Comdat, Nbkpat, Vendext, Library}
 use Rattle.omf_frame.specs.declared.fault.Reason.TheVariants as reason
 use Rattle.omf_records.specs.Values.{Comment, Names, Group, Externs, Publics, Communals, Plain, Iterated, Fixups, Carried, is_wide, alignment, is_big, has_start}
 use Rattle.omf_records.specs.Layout.{checked, byte, le, number_of, many, name, when, rest, called}
 use Rattle.omf_records.specs.Inner.Reads.{Reader, Whole}
 use Rattle.omf_records.specs.Inner.FieldReaders.{name_reader, name_shrinks, byte_reader, index_reader, le_reader, number_reader}
-use Rattle.omf_records.specs.Inner.Readers.{◌>=>◌, ◌>=>|◌, checked_reader, when_reader, index_at, number_at, give_reader, ends_whole, rest_whole, called_whole, either_whole}
+use Rattle.omf_records.specs.Inner.Readers.{◌>=>◌, ◌>=>|◌, checked_reader, when_reader, index_at, number_at, give_reader, ends_whole, rest_whole, called_whole}
 use Rattle.omf_records.specs.Inner.Many.{each_whole}
 use Rattle.omf_records.specs.Entries.{member, external, public_item, communal, reference, subrecord}
 use Rattle.omf_records.specs.Inner.EntryReaders.{one_reason, member_reader, member_shrinks, external_reader, external_shrinks, public_reader, public_shrinks, communal_reader, communal_shrinks, reference_reader, subrecord_reader, subrecord_shrinks}
-use Rattle.omf_records.specs.Records.{header, comment, names, wrong_alignment, wrong_size, absolute, segment, group, externs, publics, communals, data_item, fixups, mod_end, carried, contents}
+use Rattle.omf_records.specs.Records.{header, comment, names, wrong_alignment, wrong_size, absolute, segment, group, externs, publics, communals, data_item, fixups, mod_end, carried, layout_of, layout_if, contents}
 
 abbrev pub header_whole : Whole header
 header_whole = name_reader >=>| λ n. ends_whole _
@@ -83,18 +83,39 @@ mod_end_whole wide = byte_reader >=>| λ b. start_reader wide b >=>| λ s. ends_
 abbrev pub carried_whole : Whole carried
 carried_whole = called_whole rest Carried rest_whole
 
+abbrev pub whole_of : (t : RecordType) (wide : Bool) → Whole (layout_of t wide)
+whole_of Theadr wide = header_whole
+whole_of Lheadr wide = header_whole
+whole_of Coment wide = comment_whole
+whole_of Lnames wide = names_whole
+whole_of Llnames wide = names_whole
+whole_of Segdef wide = segment_whole wide
+whole_of Grpdef wide = group_whole
+whole_of Extdef wide = externs_whole
+whole_of Lextdef wide = externs_whole
+whole_of Pubdef wide = publics_whole wide
+whole_of Lpubdef wide = publics_whole wide
+whole_of Comdef wide = communals_whole
+whole_of Lcomdef wide = communals_whole
+whole_of Ledata wide = plain_whole wide
+whole_of Lidata wide = iterated_whole wide
+whole_of Fixupp wide = fixups_whole wide
+whole_of Modend wide = mod_end_whole wide
+whole_of Typdef wide = carried_whole
+whole_of Linnum wide = carried_whole
+whole_of Linsym wide = carried_whole
+whole_of Alias wide = carried_whole
+whole_of Vernum wide = carried_whole
+whole_of Bakpat wide = carried_whole
+whole_of Cextdef wide = carried_whole
+whole_of Comdat wide = carried_whole
+whole_of Nbkpat wide = carried_whole
+whole_of Vendext wide = carried_whole
+whole_of Library wide = carried_whole
+
+abbrev pub whole_if : (t : Option RecordType) (wide : Bool) → Whole (layout_if t wide)
+whole_if (Some t) wide = whole_of t wide
+whole_if None wide = carried_whole
+
 abbrev pub contents_whole : (kind : ℕ) → Whole (contents kind)
-contents_whole kind =
-    either_whole (is_header kind) header_whole (
-    either_whole (is_one_of coment kind) comment_whole (
-    either_whole (is_one_of (lnames ++ llnames) kind) names_whole (
-    either_whole (is_one_of segdef kind) (segment_whole (is_wide kind)) (
-    either_whole (is_one_of grpdef kind) group_whole (
-    either_whole (is_one_of (extdef ++ lextdef) kind) externs_whole (
-    either_whole (is_one_of (pubdef ++ lpubdef) kind) (publics_whole (is_wide kind)) (
-    either_whole (is_one_of (comdef ++ lcomdef) kind) communals_whole (
-    either_whole (is_one_of ledata kind) (plain_whole (is_wide kind)) (
-    either_whole (is_one_of lidata kind) (iterated_whole (is_wide kind)) (
-    either_whole (is_one_of fixupp kind) (fixups_whole (is_wide kind)) (
-    either_whole (is_end kind) (mod_end_whole (is_wide kind))
-    carried_whole)))))))))))
+contents_whole kind = whole_if (type_of kind) (is_wide kind)

@@ -1,5 +1,7 @@
 -- A record of the code, as one of the specification.
-use Rattle.std.specs.Prelude.{ℕ, ◌+◌, Bool, if◌then◌else◌, Result, Ok, Err}
+use Rattle.std.specs.Prelude.{ℕ, ◌+◌, List, [], ◌∷◌, Bool, if◌then◌else◌, Result, Ok, Err}
+use Rattle.omf_frame.specs.Types.{row}
+use Rattle.omf_frame.specs.declared.kinds.RecordType.{RecordType}
 use Rattle.omf_frame.specs.declared.kinds.Width.{Width}
 use Rattle.omf_frame.specs.declared.kinds.Width.TheVariants.{Bits16, Bits32}
 use Rattle.omf_records.specs.declared.record.Rec.{Rec as CodeRec}
@@ -33,6 +35,15 @@ odd_if Bits32 kind = kind + 1
 -- 32 bits, or 16
 abbrev pub width_if : Bool → Width
 width_if wide = if wide then Bits32 else Bits16
+
+-- the byte of a type in a record of a width; the only one, if it has one
+abbrev pub byte_in : Width → List ℕ → ℕ
+byte_in width [] = 0
+byte_in width (a ∷ []) = a
+byte_in width (a ∷ b ∷ _) = odd_if width a
+
+abbrev pub type_byte : RecordType → Bool → ℕ
+type_byte t wide = byte_in (width_if wide) (row t).bytes
 
 abbrev pub kind_seen : CodeRec → ℕ
 kind_seen (code.Header kind name) = kind

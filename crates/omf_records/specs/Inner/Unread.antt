@@ -1,5 +1,5 @@
 -- Items that are checked as they are read.
-use Rattle.std.specs.Prelude.{◌≡◌, ◌<◌, ℕ, List, [], Bool, true, is_ok, Option, Some, None, Result, Ok, Err}
+use Rattle.std.specs.Prelude.{◌≡◌, ◌<◌, ℕ, List, [], Option, Some, None, Result, Ok, Err}
 use Rattle.omf_frame.specs.Fault.{Fault}
 use Rattle.omf_records.specs.Values.{At, Subrecord, Contents, Fixups}
 use Rattle.omf_records.specs.Inner.Reads.{and_then}
@@ -19,7 +19,3 @@ NextGives old (Err f) new = (old.items ≡ Err f) × (new ≡ old)
 -- contents from subrecords
 abbrev pub fixups_read : Result (List (At Subrecord)) Fault → Result Contents Fault
 fixups_read r = and_then r (λ subs. Ok (Fixups subs))
-
--- if `known`, the result has no fault
-abbrev pub IsKnown : {A : Type 0} → Bool → Result A Fault → Type 0
-IsKnown known r = known ≡ true → is_ok r ≡ true
