@@ -1,19 +1,29 @@
 -- What is read at the start of a body by the layout of its type.
-use Rattle.std.proofs.Common.{◌≡◌, ℕ, Bool, List, Result, refl, sym, subst, ◌∙◌}
+use Rattle.std.proofs.Common.{◌≡◌, ℕ, Bool, true, List, Option, Some, Result, refl, sym, subst, inl, inr}
 use Rattle.omf_frame.specs.Fault.{Fault}
+use Rattle.omf_frame.specs.Types.{type_of}
+use Rattle.omf_frame.specs.declared.kinds.RecordType.{RecordType}
+use Rattle.omf_frame.specs.declared.kinds.RecordType.TheVariants.{Fixupp}
 use Rattle.omf_records.specs.declared.here.Here.{Here}
-use Rattle.omf_records.specs.Values.{Contents}
+use Rattle.omf_records.specs.Values.{Contents, is_wide}
+use Rattle.omf_records.specs.Valued.{is_fixupp}
 use Rattle.omf_records.specs.Inner.Reading.{read_body}
-use Rattle.omf_records.specs.Inner.Unread.{IsKnown}
+use Rattle.omf_records.specs.Inner.RecordReaders.{whole_of, whole_if}
+use Rattle.omf_records.proofs.TypeBytes.{one_of_two}
 
-pub at_start : (read : Bool → ℕ → List ℕ → Result Contents Fault) (k : ℕ) (r : Result Contents Fault) (kind : ℕ) (w : Bool) (h : Here) (body : List ℕ)
-    → h.within ≡ 3 → h.wide ≡ w → h.bytes.now ≡ body → kind ≡ k → ((bs : List ℕ) → read w 3 bs ≡ read_body k bs)
-    → r ≡ read h.wide h.within h.bytes.now → r ≡ read_body kind body
-at_start read k r kind w h body place width bytes is same e = rw is (subst (λ (x : ℕ). r ≡ read w x body) place (subst (λ (x : Bool). r ≡ read x h.within body) width (subst (λ (x : List ℕ). r ≡ read h.wide h.within x) bytes e)) ∙ same body)
+pub at_start : (o : Option RecordType) (r : Result Contents Fault) (kind : ℕ) (h : Here) (body : List ℕ)
+    → h.within ≡ 3 → h.wide ≡ is_wide kind → h.bytes.now ≡ body → type_of kind ≡ o
+    → r ≡ (whole_if o h.wide).read h.within h.bytes.now → r ≡ read_body kind body
+at_start o r kind h body place width bytes is e =
+    let a = subst (λ (w : Bool). r ≡ (whole_if o w).read h.within h.bytes.now) width e in
+    let b = subst (λ (n : ℕ). r ≡ (whole_if o (is_wide kind)).read n h.bytes.now) place a in
+    let c = subst (λ (bs : List ℕ). r ≡ (whole_if o (is_wide kind)).read 3 bs) bytes b in
+    subst (λ (x : Option RecordType). r ≡ (whole_if x (is_wide kind)).read 3 body) (sym is) c
 
--- what is known of the body is known of what is read at its start
-pub known_start : (read : Bool → ℕ → List ℕ → Result Contents Fault) (k : ℕ) (known : Bool) (kind : ℕ) (w : Bool) (h : Here) (body : List ℕ)
-    → h.within ≡ 3 → h.wide ≡ w → h.bytes.now ≡ body → kind ≡ k → ((bs : List ℕ) → read w 3 bs ≡ read_body k bs)
-    → IsKnown known (read_body kind body) → IsKnown known (read h.wide h.within h.bytes.now)
-known_start read k known kind w h body place width bytes is same spelled =
-    subst (IsKnown known) (sym (at_start read k (read h.wide h.within h.bytes.now) kind w h body place width bytes is same refl)) spelled
+-- what is read by a type is read by one that equals it
+pub by_its_type : (t u : RecordType) (r : Result Contents Fault) (h : Here) → t ≡ u
+    → r ≡ (whole_of u h.wide).read h.within h.bytes.now → r ≡ (whole_of t h.wide).read h.within h.bytes.now
+by_its_type t u r h is e = subst (λ (x : RecordType). r ≡ (whole_of x h.wide).read h.within h.bytes.now) (sym is) e
+
+pub fixupp_type : (kind : ℕ) → is_fixupp kind ≡ true → type_of kind ≡ Some Fixupp
+fixupp_type kind e = elim (one_of_two 0x9C 0x9D kind e) [ inl q ↦ subst (λ (k : ℕ). type_of k ≡ Some Fixupp) (sym q) refl | inr q ↦ subst (λ (k : ℕ). type_of k ≡ Some Fixupp) (sym q) refl ]

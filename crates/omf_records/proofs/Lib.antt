@@ -8,3 +8,4 @@ pub mod ShortestLaws
 pub mod ValueLaws
 pub mod DirectLaws
 pub mod LaidOut
+pub mod ReasonLaws

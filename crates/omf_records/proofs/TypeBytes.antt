@@ -1,5 +1,5 @@
 -- The type bytes of a record type.
-use Rattle.std.proofs.Common.{◌≡◌, ℕ, ◌⊎◌, inl, inr, Bool, true, false, cond, List, [], ◌∷◌, Option, Some, None, refl, sym, ap, subst, ◌∙◌}
+use Rattle.std.proofs.Common.{◌≡◌, ℕ, ◌⊎◌, inl, inr, Bool, true, false, List, [], ◌∷◌, Option, Some, None, refl, sym, ap, subst, ◌∙◌}
 use Rattle.std.specs.Prelude.{find, ◌==◌}
 use Rattle.std.proofs.lemmas.Bool.{eqb-true, or_cases}
 use Rattle.omf_frame.specs.Bytes.{is_one_of}
@@ -8,17 +8,17 @@ use Rattle.omf_frame.specs.declared.kinds.RecordType.{RecordType}
 use Rattle.omf_frame.specs.declared.kinds.RecordType.TheVariants.{Theadr, Lheadr, Coment, Lnames, Llnames, Segdef, Grpdef, Extdef, Lextdef, Pubdef, Lpubdef, Comdef, Lcomdef, Ledata, Lidata, Fixupp, Modend, Typdef, Linnum, Linsym, Alias, Vernum, Bakpat, Cextdef, Comdat, Nbkpat, Vendext, Library}
 use Rattle.omf_records.specs.Values.{is_wide}
 use Rattle.omf_records.specs.Inner.Seen.{type_byte}
+use Rattle.omf_records.specs.Inner.Steps.{chosen}
 
 same_some : {A : Type 0} (x y : A) → ◌≡◌ {A = Option A} (Some x) (Some y) → x ≡ y
 same_some x y e = cc
 
 found : {A : Type 0} (test : A → Bool) (xs : List A) (x : A) → find test xs ≡ Some x → test x ≡ true
 found test [] x e = absurd cc
-found test (y ∷ ys) x e = by (test y) refl e
-  where
-    by : (b : Bool) → test y ≡ b → cond b (Some y) (find test ys) ≡ Some x → test x ≡ true
-    by true h q = ap test (sym (same_some y x q)) ∙ h
-    by false h q = found test ys x q
+found test (y ∷ ys) x e = elim (chosen (test y) (Some y) (find test ys) (Some x) e) [
+  | inl (h, q) ↦ ap test (sym (same_some y x q)) ∙ h
+  | inr (h, q) ↦ found test ys x q
+]
 
 -- a byte of a type is one of its type bytes
 pub type_holds : (kind : ℕ) (t : RecordType) → type_of kind ≡ Some t → is_one_of (row t).bytes kind ≡ true

@@ -1,7 +1,7 @@
 -- Laws of typed records, each the contract of a function.
 use Rattle.std.specs.Prelude.{◌≡◌, ℕ, ◌≤◌, List, [], ◌∷◌, length, ◌↔◌, IsTrue, Contains}
 use Rattle.omf_frame.specs.Bytes.{AreBytes}
-use Rattle.omf_frame.specs.Fault.{Fault, is_before}
+use Rattle.omf_frame.specs.Fault.{Fault, reason_number, is_before}
 use Rattle.omf_frame.specs.Framing.{Raw}
 use Rattle.omf_records.specs.Values.{Rec, Contents, contents_alone, alone}
 use Rattle.omf_records.specs.Shortest.{contents_bytes}
@@ -35,6 +35,10 @@ FaultsAreLeast = (r : Raw) (f : Fault) → AreBytes r.body → Contains (layout_
 -- No layout fault is at an offset before the contents.
 abbrev pub FaultsStandBehind : Type 0
 FaultsStandBehind = (kind : ℕ) → Behind (contents kind)
+
+-- The reasons of layout faults are 8 to 18.
+abbrev pub LayoutReasons : Type 0
+LayoutReasons = (kind at : ℕ) (bytes : List ℕ) (f : Fault) → (contents kind).Faults at bytes f → (8 ≤ reason_number f.reason) × (reason_number f.reason ≤ 18)
 
 -- The shortest contents of a typed record encode that record, up to offsets. They are no longer than its contents, and consist of
 -- bytes if those do.

@@ -49,6 +49,11 @@ combination_number combination.Stack = 5
 combination_number combination.Common = 6
 combination_number combination.Public7 = 7
 
+-- The reason that a constructor gives.
+abbrev pub refusal : Result ℕ Reason → List Reason
+refusal (Ok n) = []
+refusal (Err r) = r ∷ []
+
 -- A number of packed bits, or the first of the reasons to refuse it.
 abbrev pub judged : List Reason → ℕ → Result ℕ Reason
 judged [] n = Ok n

@@ -1,6 +1,6 @@
 //! The attribute byte of a SEGDEF (TIS OMF 1.1, "SEGDEF", ACBP).
-ghost use Rattle.std.specs.Prelude.{◌≡◌};
-ghost use Rattle.omf_records.specs.Methods.{alignment_number, combination_number, judged};
+ghost use Rattle.std.specs.Prelude.{◌≡◌, IfOk};
+ghost use Rattle.omf_records.specs.Methods.{alignment_number, combination_number, refusal};
 ghost use Rattle.omf_records.specs.Records.{wrong_alignment};
 ghost use Rattle.omf_records.specs.Values.{alignment, combination, is_big, is_use32};
 
@@ -8,7 +8,7 @@ use omf_frame::Reason;
 use std::marker::Model;
 
 /// The alignment of a segment: the A field.
-#[derive(Clone, Copy, Debug, PartialEq, Eq)]
+#[derive(Clone, Copy)]
 pub enum Alignment {
     /// 0: none, since the segment is absolute.
     Absolute,
@@ -25,7 +25,7 @@ pub enum Alignment {
 }
 
 /// How a segment is combined with others of its name: the C field.
-#[derive(Clone, Copy, Debug, PartialEq, Eq)]
+#[derive(Clone, Copy)]
 pub enum Combination {
     /// 0: not at all.
     Private,
@@ -66,7 +66,8 @@ impl Acbp {
     /// The attribute byte, unless its alignment is refused.
     #[inline(always)]
     pub fn new(byte: u8) -> Result<Acbp, Reason>
-        ensures { result ≡ judged (wrong_alignment byte) byte }
+        ensures reason { refusal result ≡ wrong_alignment byte }
+        ensures ok { IfOk result (λ a. a ≡ byte) }
     {
         if byte / 32 > 5 {
             Err(Reason::Alignment)

@@ -1,8 +1,8 @@
 //! The packed bits of THREADs and FIXUPs (TIS OMF 1.1, "FIXUPP"). Each type keeps all bits of its field.
-ghost use Rattle.std.specs.Prelude.{◌≡◌, ◌<◌, ◌≤◌, ◌+◌, ◌*◌, if◌then◌else◌};
+ghost use Rattle.std.specs.Prelude.{◌≡◌, ◌<◌, ◌≤◌, ◌+◌, ◌*◌, IfOk, if◌then◌else◌};
 ghost use Rattle.omf_records.specs.Entries.{is_frame_method, wrong_methods, wrong_thread, wrong_location};
 ghost use Rattle.omf_records.specs.Location.{location_number};
-ghost use Rattle.omf_records.specs.Methods.{frame_code, frame_number, judged, kind_number, kind_of};
+ghost use Rattle.omf_records.specs.Methods.{frame_code, frame_number, judged, kind_number, kind_of, refusal};
 ghost use Rattle.omf_records.specs.Values.{thread_is_frame, thread_method, thread_number, is_segment_relative, location_type, location_offset};
 
 use crate::location::LocationType;
@@ -91,7 +91,8 @@ impl ThreadByte {
     #[inline(always)]
     pub fn new(byte: u8) -> Result<ThreadByte, Reason>
         requires { byte < 128 }
-        ensures { result ≡ judged (wrong_thread byte) byte }
+        ensures reason { refusal result ≡ wrong_thread byte }
+        ensures ok { IfOk result (λ t. t ≡ byte) }
     {
         if byte / 64 % 2 == 1 {
             if !is_frame_method(byte / 4 % 8) {
@@ -179,11 +180,14 @@ impl Locat {
     #[inline(always)]
     pub fn new(number: u16) -> Result<Locat, Reason>
         requires { 32768 ≤ number }
-        ensures { result ≡ judged (wrong_location number) number }
+        ensures reason { refusal result ≡ wrong_location number }
+        ensures ok { IfOk result (λ l. l ≡ number) }
     {
         match LocationType::of(number / 1024 % 16) {
             None => Err(Reason::LocationType),
-            Some(kind) if number / 16384 % 2 == 1 || kind.may_be_self_relative() => Ok(Locat(number)),
+            Some(kind) if number / 16384 % 2 == 1 || kind.may_be_self_relative() => Ok(Locat(
+                number,
+            )),
             Some(_) => Err(Reason::SelfRelative),
         }
     }
@@ -262,7 +266,11 @@ impl FixByte {
         ensures { result ≡ 16 * frame_number frame + kind_number target + (if has_displacement then 0 else 4) }
     {
         let methods = 16 * frame_number(frame) + kind_number(target);
-        FixByte(if has_displacement { methods } else { methods + 4 })
+        FixByte(if has_displacement {
+            methods
+        } else {
+            methods + 4
+        })
     }
 
     /// The byte.

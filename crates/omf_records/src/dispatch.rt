@@ -33,7 +33,8 @@ fn contents_at<'a>(
     ensures kind { IfOk result (λ r. kind_seen r ≡ type_byte record_type here.entry.wide) }
 {
     match record_type {
-        RecordType::Theadr | RecordType::Lheadr => header_at(kind, here),
+        RecordType::Theadr => header_at(kind, here),
+        RecordType::Lheadr => header_at(kind, here),
         RecordType::Coment => comment_at(here),
         RecordType::Lnames => names_at(here),
         RecordType::Llnames => local_names_at(here),
@@ -98,16 +99,23 @@ pub fn view<'a>(raw: RawRecord<'a>) -> Result<Rec<'a>, LayoutFault>
     view_body(raw.kind, raw.body)
 }
 
+fn is_fixupp(kind: u8) -> bool
+    ensures { result ≡ is_fixupp kind }
+{
+    kind == 0x9C || kind == 0x9D
+}
+
 /// The subrecords of a FIXUPP, to be decoded one by one. `None` for a record of another type.
 pub fn unread_fixups<'a>(raw: &RawRecord<'a>) -> Option<Unread<Subrecord<'a>>>
     requires { length raw.now.body.now ≤ 65534 }
     ensures read { IfSome result (λ u. read_body raw.now.kind raw.now.body.now ≡ fixups_read u.items) }
     ensures given { is_some result ≡ is_fixupp raw.now.kind }
 {
-    if raw.kind != 0x9C && raw.kind != 0x9D {
-        return None;
+    if is_fixupp(raw.kind) {
+        Some(Unread::new(Here::start(raw.kind, raw.body)))
+    } else {
+        None
     }
-    Some(Unread::new(Here::start(raw.kind, raw.body)))
 }
 
 /// Like `view`, for contents that are known to be valid. The subrecords of a FIXUPP are not read: FIXUPPs are frequent.

@@ -1,5 +1,5 @@
 //! Writing fixups and references, with one allocation for each (TIS OMF 1.1, "FIXUPP").
-ghost use Rattle.std.specs.Prelude.{◌≡◌, ◌++◌, ◌+◌, ◌≤◌, OnOk, OnErr, length, vec_len, vec_capacity};
+ghost use Rattle.std.specs.Prelude.{◌≡◌, ◌++◌, ◌+◌, ◌<◌, ◌≤◌, OnOk, OnErr, length, vec_len, vec_capacity};
 ghost use Rattle.byteorder.specs.Endian.{little_bytes};
 ghost use Rattle.omf_records.specs.Inner.Begins.{Begins};
 ghost use Rattle.omf_records.specs.Shortest.{option_bytes, datum_bytes, reference_bytes, subrecord_bytes};
@@ -95,11 +95,12 @@ fn push_fixup(out: &mut Vec<u8>, kind: u8, location: Locat, reference: &Referenc
 ///
 /// # Errors
 ///
-/// `AllocError` if out of memory. Nothing is appended then.
+/// `AllocError` if out of memory and `out` has no room for the largest size. Nothing is appended then.
 #[tactic(auto, using(crate::specs::Inner::Begins::begins_itself, crate::specs::Inner::Begins::begins_more))]
 pub fn put_reference(out: &mut Vec<u8>, kind: u8, reference: &Reference) -> Result<(), AllocError>
     ensures put { OnOk result (out.new.items ≡ out.old.items ++ reference_bytes kind reference.now) }
     ensures err { OnErr result (out.new.items ≡ out.old.items) }
+    ensures full { OnErr result (vec_capacity out.old < vec_len out.old + 9) }
     ensures grows { Begins out.old.items out.new.items }
 {
     out.reserve(REFERENCE_LIMIT)?;
@@ -111,7 +112,7 @@ pub fn put_reference(out: &mut Vec<u8>, kind: u8, reference: &Reference) -> Resu
 ///
 /// # Errors
 ///
-/// `AllocError` if out of memory. Nothing is appended then.
+/// `AllocError` if out of memory and `out` has no room for the largest size. Nothing is appended then.
 #[inline(always)]
 #[tactic(auto, using(crate::specs::Inner::Begins::begins_itself, crate::specs::Inner::Begins::begins_more))]
 pub fn put_fixup(
@@ -122,6 +123,7 @@ pub fn put_fixup(
 ) -> Result<(), AllocError>
     ensures put { OnOk result (out.new.items ≡ out.old.items ++ subrecord_bytes kind (Fixup location reference.now)) }
     ensures err { OnErr result (out.new.items ≡ out.old.items) }
+    ensures full { OnErr result (vec_capacity out.old < vec_len out.old + 11) }
     ensures grows { Begins out.old.items out.new.items }
 {
     out.reserve(FIXUP_LIMIT)?;

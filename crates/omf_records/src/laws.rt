@@ -1,6 +1,6 @@
 //! Laws of typed records.
 
-ghost use Rattle.omf_records.specs.Laws.{AreUnique, ReadingsMeet, AreDecided, AreTyped, FaultsAreLeast, FaultsStandBehind, ShortestAreTyped, ShortestDecide, ValuesAreTyped, TypedHaveValues, PlacesDoNotCount};
+ghost use Rattle.omf_records.specs.Laws.{AreUnique, ReadingsMeet, AreDecided, AreTyped, FaultsAreLeast, FaultsStandBehind, LayoutReasons, ShortestAreTyped, ShortestDecide, ValuesAreTyped, TypedHaveValues, PlacesDoNotCount};
 
 /// Two typed records of one type with the same contents are equal.
 pub fn typed_records_are_unique()
@@ -30,6 +30,11 @@ pub fn layout_faults_are_least()
 /// No layout fault is at an offset before the contents.
 pub fn faults_stand_behind()
     ensures { FaultsStandBehind }
+{}
+
+/// A layout fault has one of the reasons 8 to 18.
+pub fn layout_reasons()
+    ensures { LayoutReasons }
 {}
 
 /// The shortest contents of a typed record encode exactly that record, and no other encoding is shorter.

@@ -3,7 +3,7 @@ ghost use Rattle.std.specs.Prelude.{◌≡◌};
 ghost use Rattle.omf_records.specs.Location.{location_of, location_number, location_size, offset_bits, self_relative_bits, may_be_self_relative};
 
 /// What a fixup changes: the type of its location.
-#[derive(Clone, Copy, Debug, PartialEq, Eq)]
+#[derive(Clone, Copy)]
 pub enum LocationType {
     /// 0: the low byte of an offset.
     LowByte,

@@ -12,7 +12,7 @@ pub enum Kind {
 }
 
 /// A frame method without its datum.
-#[derive(Clone, Copy, Debug, PartialEq, Eq)]
+#[derive(Clone, Copy)]
 pub enum FrameCode {
     /// F0, F1, F2: the frame of this segment, group or external.
     Of(Kind),

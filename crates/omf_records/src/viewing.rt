@@ -67,7 +67,10 @@ fn attribute<'a>(here: Here<'a>) -> Result<(Acbp, Here<'a>), LayoutFault>
 }
 
 /// Reads the frame number and offset of an absolute segment.
-fn absolute<'a>(here: Here<'a>, attribute: Acbp) -> Result<(Option<(u16, u8)>, Here<'a>), LayoutFault>
+fn absolute<'a>(
+    here: Here<'a>,
+    attribute: Acbp,
+) -> Result<(Option<(u16, u8)>, Here<'a>), LayoutFault>
     ensures { Gives here.entry.wide result ((absolute_reader attribute).read here.entry.within here.entry.bytes.now) }
 {
     if attribute.byte() / 32 != 0 {
