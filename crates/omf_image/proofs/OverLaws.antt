@@ -9,10 +9,10 @@ use Rattle.std.proofs.lemmas.Bool.{eqb-true, eq-eqb, le-leb}
 use Rattle.std.proofs.lemmas.Bool.Decides.{leb_tells}
 use Rattle.std.proofs.lemmas.List.{append-nil, length-take, take_all, drop_all, take-append-le, drop-drop, take-append-drop, drop_at, take_at, drop-map, take-map, drop_more, take_more_set, drop-set-lt, map-append, map-set, get_or-map, set-get_or}
 use Rattle.omf_image.specs.declared.image.Covered.{Covered}
-use Rattle.omf_image.specs.Overlay.{Laid, byte_of, byte_at}
-use Rattle.omf_image.specs.Inner.Sorted.{laid_run, laid_runs, line_place, low, high, AreSorted, EndBefore, EndFrom, BeginBy, BeginAfter, Touches, IsTouched, extended, over, over_all}
+use Rattle.omf_image.specs.Overlay.{Laid, byte_of, byte_at, IsCovered}
+use Rattle.omf_image.specs.Inner.Sorted.{laid_run, laid_runs, line_place, low, high, AreSorted, EndBefore, EndFrom, BeginBy, BeginAfter, Touches, IsTouched, IsPartOf, extended, over, over_all}
 use Rattle.omf_image.proofs.RunLaws.{within_some, byte_some}
-use Rattle.omf_image.proofs.SortedLaws.{some_is, sorted_from, sorted_drop, byte_first, byte_append, covered_place, none_low, no_byte, option_or-none, option_or-some, option_or-assoc}
+use Rattle.omf_image.proofs.SortedLaws.{some_is, sorted_from, sorted_drop, byte_first, byte_append, covered_place, none_low, none_high, none_before, no_byte, option_or-none, option_or-some, option_or-assoc}
 
 -- ---- bytes written over others
 
@@ -340,6 +340,16 @@ module _ (cs : List Covered) (start count : ℕ) (p : Laid) (t : Covered) (withi
       → (over_all p (laid_runs (slice_range cs (start + 1) (start + count)))).offset + length (over_all p (laid_runs (slice_range cs (start + 1) (start + count)))).bytes ≤ 4294967296
   rest_fits le = fits_all (low p) p (laid_runs (slice_range cs (start + 1) (start + count))) rest_sorted rest_touches le
 
+-- a piece that lies in one run touches no other
+pub part_alone : (cs : List Covered) (start count : ℕ) (t : Covered) (p : Laid) → start + count ≤ length cs → 0 < count → t ≡ get_or cs start t
+    → IsPartOf p (take count (drop start (laid_runs cs)))
+    → (laid_runs (slice_range cs (start + 1) (start + count)) ≡ []) × (t.first ≤ p.offset) × (p.offset + length p.bytes ≤ t.first + length t.bytes.items)
+part_alone cs start count t p within some e part =
+    let q : laid_run t ∷ laid_runs (slice_range cs (start + 1) (start + count)) ≡ part.run ∷ [] = sym (split_touched cs start count t within some e) ∙ part.one in
+    let rest : laid_runs (slice_range cs (start + 1) (start + count)) ≡ [] = cc in
+    let same : part.run ≡ laid_run t = cc in
+    (rest, subst (λ r. r.offset ≤ p.offset) same part.from, subst (λ r. p.offset + length p.bytes ≤ r.offset + length r.bytes) same part.to)
+
 pub joined_are : (cs items : List Covered) (start count : ℕ) (t u : Covered) (p q : Laid) → start + count ≤ length cs → 0 < count → t ≡ get_or cs start t
     → items ≡ remove_range (set cs start u) (start + 1) (start + count) → laid_run u ≡ over q (laid_run t) → q ≡ over_all p (laid_runs (slice_range cs (start + 1) (start + count)))
     → laid_runs items ≡ take start (laid_runs cs) ++ over_all p (take count (drop start (laid_runs cs))) ∷ drop count (drop start (laid_runs cs))
@@ -347,6 +357,48 @@ joined_are cs items start count t u p q within some e ei eu eq =
     ap laid_runs ei ∙ joined_runs cs start count t u within some
     ∙ ap (λ z. take start (laid_runs cs) ++ z ∷ drop count (drop start (laid_runs cs)))
     (eu ∙ ap (λ z. over z (laid_run t)) eq ∙ sym (ap (over_all p) (split_touched cs start count t within some e)))
+
+-- ---- a piece whose places all have a byte
+
+none_ended : (at segment x : ℕ) (ls : List Laid) → EndBefore at ls → at ≤ line_place segment x → byte_at ls segment x ≡ None
+none_ended at segment x [] h le = refl
+none_ended at segment x (l ∷ ls) (e, es) le =
+    byte_first l ls segment x ∙ ap (λ o. option_or o (byte_of segment x l)) (none_ended at segment x ls es le) ∙ none_high segment x l (omega (arith, e, le))
+
+none_begun : (at segment x : ℕ) (ls : List Laid) → BeginAfter at ls → line_place segment x ≤ at → byte_at ls segment x ≡ None
+none_begun at segment x [] h le = refl
+none_begun at segment x (l ∷ ls) (b, bs) le =
+    byte_first l ls segment x ∙ ap (λ o. option_or o (byte_of segment x l)) (none_begun at segment x ls bs le) ∙ none_low segment x l (omega (arith, b, le))
+
+only_touched : (segment x : ℕ) (front ts back : List Laid) → byte_at front segment x ≡ None → byte_at back segment x ≡ None
+    → byte_at (front ++ (ts ++ back)) segment x ≡ byte_at ts segment x
+only_touched segment x front ts back f b =
+    byte_append front (ts ++ back) segment x ∙ ap (option_or (byte_at (ts ++ back) segment x)) f ∙ option_or-none (byte_at (ts ++ back) segment x)
+    ∙ byte_append ts back segment x ∙ ap (λ o. option_or o (byte_at ts segment x)) b
+
+nothing_there : {A : Type 0} (o : Option A) → o ≡ None → IsSome o → ⊥
+nothing_there None e h = absurd cc
+nothing_there (Some x) e h = absurd cc
+
+-- it lies in one of the runs that it touches, and touches no other
+part_of : (m : ℕ) (p : Laid) (ts : List Laid) → AreSorted m ts → Touches p ts → 0 < length p.bytes
+    → ((x : ℕ) → p.offset ≤ x → x < p.offset + length p.bytes → IsSome (byte_at ts p.segment x)) → IsPartOf p ts
+part_of m p [] h t some c = absurd (nothing_there (byte_at [] p.segment p.offset) refl (c p.offset (omega arith) (omega (arith, some))))
+part_of m p (r ∷ []) h (same, low_end, high_end, rest) some c =
+    let n = length p.bytes in
+    let here : (x : ℕ) → p.offset ≤ x → x < p.offset + n → IsSome (byte_of p.segment x r) = λ x lo hi. subst IsSome (byte_first r [] p.segment x) (c x lo hi) in
+    let first = covered_place p.segment p.offset r (here p.offset (omega arith) (omega (arith, some))) in
+    let final = covered_place p.segment (p.offset + n - 1) r (here (p.offset + n - 1) (omega (arith, some)) (omega (arith, some))) in
+    record { run = r; one = refl; from = omega (arith, same, first); to = omega (arith, same, final, some) }
+part_of m p (r ∷ s ∷ ts) (at, nonempty, fits, others) (same, low_end, high_end, (next, next_low, next_high, rest)) some c =
+    let x = r.offset + length r.bytes in
+    let gap = others.0 in
+    let inside : x < p.offset + length p.bytes = omega (arith, gap, same, next, next_low) in
+    let past : line_place p.segment x < high r + 1 = omega (arith, same) in
+    let over : high r ≤ line_place p.segment x = omega (arith, same) in
+    absurd (nothing_there (byte_at (r ∷ s ∷ ts) p.segment x)
+    (byte_first r (s ∷ ts) p.segment x ∙ ap (λ o. option_or o (byte_of p.segment x r)) (none_before (high r + 1) (s ∷ ts) p.segment x others past) ∙ none_high p.segment x r over)
+    (c x high_end inside))
 
 -- ---- a piece laid
 
@@ -380,6 +432,15 @@ module _ (cs rest : List Covered) (start count : ℕ) (p : Laid) (is : rest ≡ 
       (subst (λ z. BeginAfter (high p) (drop count z)) same_rest after)
       ∙ ap (λ z. option_or (byte_of segment x p) (byte_at z segment x)) all_back
 
+  pub lay_inside : IsCovered (laid_runs cs) p → IsPartOf p (take count (drop start (laid_runs cs)))
+  lay_inside c = part_of 0 p (take count (drop start (laid_runs cs))) (sorted_take 0 count (drop start (laid_runs cs)) (sorted_drop 0 start (laid_runs cs) h)) lay_touches some
+      (λ x lo hi. subst IsSome
+      (ap (λ z. byte_at z p.segment x) (sym all_back)
+      ∙ only_touched p.segment x (take start (laid_runs cs)) (take count (drop start (laid_runs cs))) (drop count (drop start (laid_runs cs)))
+      (none_ended (low p) p.segment x (take start (laid_runs cs)) before (omega (arith, lo)))
+      (none_begun (high p) p.segment x (drop count (drop start (laid_runs cs))) (subst (λ z. BeginAfter (high p) (drop count z)) same_rest after) (omega (arith, hi))))
+      (c x lo hi))
+
 pub laying : (cs rest : List Covered) (start count at to : ℕ) (p : Laid) → rest ≡ drop start cs → at ≡ low p → to ≡ high p → AreSorted 0 (laid_runs cs)
     → 0 < length p.bytes → p.offset + length p.bytes ≤ 4294967296 → EndBefore at (take start (laid_runs cs)) → EndFrom at (drop start (laid_runs cs))
     → BeginBy to (take count (laid_runs rest)) → BeginAfter to (drop count (laid_runs rest)) → IsTouched (laid_runs cs) p start count
@@ -392,6 +453,7 @@ laying cs rest start count at to p is ea et h some fits before from by after =
       touches = lay_touches cs rest start count p is h some fits before' from' by' after';
       sorted = lay_sorted cs rest start count p is h some fits before' from' by' after';
       bytes = lay_bytes cs rest start count p is h some fits before' from' by' after';
+      inside = lay_inside cs rest start count p is h some fits before' from' by' after';
     }
 
 pub inserted_are : (cs items : List Covered) (start count : ℕ) (piece : Covered) → count ≡ 0 → items ≡ take start cs ++ piece ∷ drop start cs
@@ -413,6 +475,10 @@ ok_then (Err e) p f = tt
 pub either_way : {A E : Type 0} {P Q C : Type 0} (r : Result A E) → OnOk r P → OnErr r Q → (P → C) → (Q → C) → C
 either_way (Ok x) p q f g = f p
 either_way (Err e) p q f g = g q
+
+pub err_then : {A E : Type 0} {P Q : Type 0} (r : Result A E) → OnErr r P → (P → Q) → OnErr r Q
+err_then (Ok x) p f = tt
+err_then (Err e) p f = f p
 
 pub on_err : {A E : Type 0} {Q : Type 0} (r : Result A E) → Q → OnErr r Q
 on_err (Ok x) q = tt

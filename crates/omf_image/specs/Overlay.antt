@@ -64,6 +64,10 @@ abbrev pub IsRunShown : (ℕ → Option ℕ) → ℕ → Option (ℕ × List ℕ
 IsRunShown byte k None = IsRunAt byte k None
 IsRunShown byte k (Some shown) = IsRunAt byte k (Some (spanned shown.0 shown.1)) × AreBytesOver byte (spanned shown.0 shown.1) shown.1 × (shown.0 + length shown.1 ≤ 2 ^ 32)
 
+-- Every place of a piece has a byte already.
+abbrev pub IsCovered : List Laid → Laid → Type 0
+IsCovered laid l = (x : ℕ) → l.offset ≤ x → x < l.offset + length l.bytes → IsSome (byte_at laid l.segment x)
+
 -- A piece was laid over what was there: it sets the bytes that it covers, and all others are unchanged.
 abbrev pub IsLaidOver : List Laid → Laid → List Laid → Type 0
 IsLaidOver old l new = (segment x : ℕ) → byte_at new segment x ≡ option_or (byte_of segment x l) (byte_at old segment x)

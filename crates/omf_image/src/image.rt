@@ -1,9 +1,9 @@
 //! A memory image of segments, in which the last piece laid wins.
 
-ghost use Rattle.std.specs.Prelude.{◌≡◌, true, false, ℕ, ◌+◌, ◌-◌, ◌^◌, ◌<◌, ◌≤◌, List, [], ◌∷◌, ◌++◌, length, take, drop, vec_len, slice_get, IfSome, OnOk, OnErr};
+ghost use Rattle.std.specs.Prelude.{◌≡◌, ◌⊎◌, true, false, ℕ, ◌+◌, ◌-◌, ◌^◌, ◌<◌, ◌≤◌, List, [], ◌∷◌, ◌++◌, length, take, drop, vec_len, slice_get, IfSome, OnOk, OnErr};
 ghost use Rattle.std.specs.Option.{option_copied, option_map};
-ghost use Rattle.omf_image.specs.Overlay.{byte_of, byte_at, IsRunAt, IsRunShown, AreBytesAt, IsLaidOver};
-ghost use Rattle.omf_image.specs.Inner.Sorted.{laid_run, laid_runs, span, in_segment, line_place, low, high, AreSorted, EndBefore, EndFrom, BeginBy, BeginAfter, Touches, IsTouched, joined, extended, over, over_all};
+ghost use Rattle.omf_image.specs.Overlay.{byte_of, byte_at, IsRunAt, IsRunShown, AreBytesAt, IsLaidOver, IsCovered};
+ghost use Rattle.omf_image.specs.Inner.Sorted.{laid_run, laid_runs, span, in_segment, line_place, low, high, AreSorted, EndBefore, EndFrom, BeginBy, BeginAfter, Touches, IsTouched, IsPartOf, joined, extended, over, over_all};
 
 use crate::Run;
 use std::alloc::{AllocError, Global};
@@ -68,7 +68,8 @@ impl Covered {
         requires sorted { AreSorted (low (laid_run self.old)) (laid_runs runs.now) }
         requires touching { Touches (laid_run self.old) (laid_runs runs.now) }
         requires fits { self.old.first + vec_len self.old.bytes ≤ 2 ^ 32 }
-        ensures { OnOk result (laid_run self.new ≡ over_all (laid_run self.old) (laid_runs runs.now)) }
+        ensures laid { OnOk result (laid_run self.new ≡ over_all (laid_run self.old) (laid_runs runs.now)) }
+        ensures full { OnErr result (0 < length runs.now) }
     {
         match runs.last() {
             Some(run) => self.extend_over(run),
@@ -83,6 +84,7 @@ impl Covered {
         requires fits { piece.first + vec_len piece.bytes ≤ 2 ^ 32 }
         ensures laid { OnOk result (laid_run self.new ≡ over (laid_run piece) (laid_run self.old)) }
         ensures unchanged { OnErr result (laid_run self.new ≡ laid_run self.old) }
+        ensures full { OnErr result ((piece.first < self.old.first) ⊎ (self.old.first + vec_len self.old.bytes < piece.first + vec_len piece.bytes)) }
     {
         if piece.first < self.first {
             piece.extend_over(self)?;
@@ -120,6 +122,7 @@ fn overwrite(bytes: &mut Vec<u8>, at: usize, new: &[u8]) -> Result<(), AllocErro
     requires { at ≤ vec_len bytes.old }
     ensures written { OnOk result (bytes.new.items ≡ take at bytes.old.items ++ (new.now ++ drop (at + length new.now) bytes.old.items)) }
     ensures unchanged { OnErr result (bytes.new.items ≡ bytes.old.items) }
+    ensures full { OnErr result (vec_len bytes.old < at + length new.now) }
 {
     let inside = new.len().min(bytes.len() - at);
     let (front, back) = new.split_at(inside);
@@ -262,6 +265,7 @@ fn join_runs(
     requires fits { piece.first + vec_len piece.bytes ≤ 2 ^ 32 }
     ensures joined { OnOk result (laid_runs runs.new.items ≡ joined (laid_runs runs.old.items) (laid_run piece) start count) }
     ensures unchanged { OnErr result (laid_runs runs.new.items ≡ laid_runs runs.old.items) }
+    ensures full { OnErr result (IsPartOf (laid_run piece) (take count (drop start (laid_runs runs.old.items))) → ⊥) }
 {
     piece.extend_to(&runs[start + 1..start + count])?;
     let first = &mut runs[start];
@@ -344,11 +348,13 @@ impl Image {
     ///
     /// # Errors
     ///
-    /// `AllocError` if out of memory: the image is unchanged, and the bytes are dropped.
+    /// `AllocError` if out of memory: the image is unchanged, and the bytes are dropped. Never where each place of the piece has a
+    /// byte already.
     pub fn lay(&mut self, segment: u16, offset: u32, bytes: Vec<u8>) -> Result<(), AllocError>
         requires { offset + vec_len bytes ≤ 2 ^ 32 }
         ensures laid { OnOk result (IsLaidOver self.old (record { segment = segment; offset = offset; bytes = bytes.items }) self.new) }
         ensures unchanged { OnErr result (self.new ≡ self.old) }
+        ensures full { OnErr result (IsCovered self.old (record { segment = segment; offset = offset; bytes = bytes.items }) → ⊥) }
     {
         if bytes.is_empty() {
             return Ok(());

@@ -2,7 +2,7 @@
 use Rattle.std.specs.Prelude.{◌≡◌, ℕ, ◌+◌, ◌-◌, ◌*◌, ◌<◌, ◌≤◌, List, [], ◌∷◌, ◌++◌, length, map, filter, take, drop, min, ◌==◌}
 use Rattle.omf_image.specs.declared.image.Covered.{Covered}
 use Rattle.omf_image.specs.declared.run.Run.{Run}
-use Rattle.omf_image.specs.Overlay.{Laid, IsLaidOver}
+use Rattle.omf_image.specs.Overlay.{Laid, IsLaidOver, IsCovered}
 
 abbrev pub laid_run : Covered → Laid
 laid_run c = record { segment = c.segment; offset = c.first; bytes = c.bytes.items }
@@ -74,12 +74,21 @@ abbrev pub over_all : Laid → List Laid → Laid
 over_all l [] = l
 over_all l (r ∷ runs) = over (over_all l runs) r
 
+-- these runs are one, and the piece lies in it
+pub record IsPartOf (l : Laid) (runs : List Laid) : Type 0 where
+  pub run : Laid
+  pub one : runs ≡ run ∷ []
+  pub from : run.offset ≤ l.offset
+  pub to : l.offset + length l.bytes ≤ run.offset + length run.bytes
+
 -- The runs after a piece is laid over `count` of them, from `start` on, and joined with them.
 abbrev pub joined : List Laid → Laid → ℕ → ℕ → List Laid
 joined runs l start count = take start runs ++ over_all l (take count (drop start runs)) ∷ drop count (drop start runs)
 
 -- A piece touches `count` runs from `start` on: the runs joined with it are sorted, and are the piece laid over all runs.
+-- If all its places have a byte, it lies in one run.
 pub record IsTouched (runs : List Laid) (l : Laid) (start count : ℕ) : Type 0 where
   pub touches : Touches l (take count (drop start runs))
   pub sorted : AreSorted 0 (joined runs l start count)
   pub bytes : IsLaidOver runs l (joined runs l start count)
+  pub inside : IsCovered runs l → IsPartOf l (take count (drop start runs))

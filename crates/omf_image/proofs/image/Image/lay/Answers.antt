@@ -1,9 +1,9 @@
 use Rattle.std.proofs.Common.{◌≡◌, ◌∙◌, ℕ, List, refl, sym, ap, subst, arith}
 use Rattle.std.specs.Option.{option_or}
 use Rattle.omf_image.specs.declared.image.Covered.{Covered}
-use Rattle.omf_image.specs.Overlay.{Laid, byte_of, byte_at}
+use Rattle.omf_image.specs.Overlay.{Laid, byte_of, byte_at, IsCovered}
 use Rattle.omf_image.specs.Inner.Sorted.{laid_run, laid_runs, AreSorted, IsTouched}
-use Rattle.omf_image.proofs.OverLaws.{inserted_are, kept_sorted, ok_then, either_way}
+use Rattle.omf_image.proofs.OverLaws.{inserted_are, kept_sorted, ok_then, err_then, either_way}
 use Rattle.omf_image.proofs.image.Image.lay.Goals as goal
 
 -- the runs that the piece touches
@@ -42,3 +42,9 @@ returns-clause-laid c =
     ap (λ ls. byte_at ls segment x) (inserted_are cs c.insert.new.self.items c.touched-start.result.0 c.touched-start.result.1 piece none c.in_ok-insert.ensures.items)
     ∙ laid.bytes segment x
     ∙ ap (λ ls. option_or (byte_of segment x (laid_run piece)) (byte_at ls segment x)) c.self.view_is
+
+pub returns-then-count-gt0-clause-full : goal.returns-then-count-gt0-clause-full
+returns-then-count-gt0-clause-full c =
+    let piece : Laid = record { segment = c.args.segment; offset = c.args.offset; bytes = c.args.bytes.items } in
+    let laid = of_runs c.self.inside.runs.items _ _ _ _ c.deref.ensures.value c.touched-start.ensures.touched in
+    err_then c.join_runs.result c.join_runs.ensures.full (λ no all. no (laid.inside (subst (λ ls. IsCovered ls piece) (sym c.self.view_is) all)))
