@@ -16,11 +16,12 @@ use Rattle.omf_image.specs.declared.limits.Limits.{Limits}
 use Rattle.omf_check.specs.declared.profile.Profile.{Profile}
 use Rattle.omf_check.specs.declared.threads.Threads.{Threads}
 use Rattle.omf_check.specs.declared.segment.SegInfo.{SegInfo}
-use Rattle.omf_check.specs.Tables.{names, segments, groups, externals, item_count, subrecords, last_data, is_defined, is_none_or_defined}
-use Rattle.omf_check.specs.Threads.{FrameMethod, F0, F1, F2, F4, F5, TargetMethod, T0, T1, T2, frame_of, target_of}
-use Rattle.omf_check.specs.Rules.{table_limit, item_limit, room, places, item_places, names_entry, names_entry_or_none, data_rules, frame_rules, target_rules, judged_at, reference_rules, location_rule, subrecord_rules, subrecord_rules_at, is_location_frame, start_rules, contents_rules, rules}
+use Rattle.omf_check.specs.Tables.{names, segments, groups, externals, item_count, subrecords, last_data, entries, is_defined, is_none_or_defined}
+use Rattle.omf_check.specs.Threads.{Kind, FrameMethod, Of, F4, F5, TargetMethod, frame_of, target_of}
+use Rattle.omf_check.specs.declared.method.Kind.TheVariants as kinds
+use Rattle.omf_check.specs.Rules.{table_limit, item_limit, room, places, item_places, names_entry, names_entry_or_none, data_rules, frame_rules, target_rules, judged_at, reference_rules, location_rule, subrecord_rules, subrecord_rules_at, is_location_frame, start_rules, contents_rules, rules, undefined}
 use Rattle.omf_check.specs.Inner.Kept.{Kept, Tells, HasThreads, set_thread, last_kept}
-use Rattle.omf_check.specs.Inner.Judging.{fault_unless, lesser, room_fault, optional_fault, kept_length, data_fault, frame_fault, target_fault, frame_cell, reference_fault, location_fault, subrecord_fault, subrecords_fault, start_fault, members_fault, contents_fault}
+use Rattle.omf_check.specs.Inner.Judging.{fault_unless, lesser, room_fault, optional_fault, kept_length, data_fault, kept_entries, frame_fault, target_fault, frame_cell, reference_fault, location_fault, subrecord_fault, subrecords_fault, start_fault, members_fault, contents_fault}
 use Rattle.omf_check.proofs.Lesser.{fault_of, fault_append, fault_one, fault_cons}
 use Rattle.omf_check.proofs.KeptLaws.{threads_more}
 use Rattle.omf_check.proofs.ThreadLaws.{frame_kept, target_kept}
@@ -58,28 +59,21 @@ module _ (kept : Kept) (before : List Rec) (tells : Tells kept before) where
   segments_same : length (segments before) ≡ length kept.segments
   segments_same = ap length (sym tells.segments)
 
-  segment_one : (at i : ℕ) → fault_of (rule (is_defined (length (segments before)) i) at reason.UndefinedSegment ∷ []) ≡ fault_unless (is_defined (length kept.segments) i) at reason.UndefinedSegment
-  segment_one at i = fault_one (is_defined (length (segments before)) i) at reason.UndefinedSegment ∙ ap (λ n. fault_unless (is_defined n i) at reason.UndefinedSegment) segments_same
-
-  group_one : (at i : ℕ) → fault_of (rule (is_defined (length (groups before)) i) at reason.UndefinedGroup ∷ []) ≡ fault_unless (is_defined (length kept.groups) i) at reason.UndefinedGroup
-  group_one at i = fault_one (is_defined (length (groups before)) i) at reason.UndefinedGroup ∙ ap (λ n. fault_unless (is_defined n i) at reason.UndefinedGroup) (sym tells.groups)
-
-  external_one : (at i : ℕ) → fault_of (rule (is_defined (length (externals before)) i) at reason.UndefinedExternal ∷ []) ≡ fault_unless (is_defined (length kept.externals) i) at reason.UndefinedExternal
-  external_one at i = fault_one (is_defined (length (externals before)) i) at reason.UndefinedExternal ∙ ap (λ n. fault_unless (is_defined n i) at reason.UndefinedExternal) (sym tells.externals)
-
-  frame_law : (at : ℕ) (o : Option FrameMethod) → fault_of (frame_rules before at o) ≡ frame_fault kept at o
-  frame_law at None = refl
-  frame_law at (Some (F0 i)) = segment_one at i
-  frame_law at (Some (F1 i)) = group_one at i
-  frame_law at (Some (F2 i)) = external_one at i
-  frame_law at (Some F4) = refl
-  frame_law at (Some F5) = refl
+  entries_same : (k : Kind) → entries before k ≡ kept_entries kept k
+  entries_same kinds.Segment = segments_same
+  entries_same kinds.Group = sym tells.groups
+  entries_same kinds.External = sym tells.externals
 
   target_law : (at : ℕ) (o : Option TargetMethod) → fault_of (target_rules before at o) ≡ target_fault kept at o
   target_law at None = refl
-  target_law at (Some (T0 i)) = segment_one at i
-  target_law at (Some (T1 i)) = group_one at i
-  target_law at (Some (T2 i)) = external_one at i
+  target_law at (Some t) = fault_one (is_defined (entries before t.kind) t.index) at (undefined t.kind)
+      ∙ ap (λ n. fault_unless (is_defined n t.index) at (undefined t.kind)) (entries_same t.kind)
+
+  frame_law : (at : ℕ) (o : Option FrameMethod) → fault_of (frame_rules before at o) ≡ frame_fault kept at o
+  frame_law at None = refl
+  frame_law at (Some (Of t)) = target_law at (Some t)
+  frame_law at (Some F4) = refl
+  frame_law at (Some F5) = refl
 
   reference_law : (cells : Threads) (earlier : List Subrecord) (r : Reference) → HasThreads cells earlier → fault_of (reference_rules before earlier r) ≡ reference_fault kept cells r
   reference_law cells earlier r h =

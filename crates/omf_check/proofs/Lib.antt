@@ -30,4 +30,3 @@ pub mod SoundLaws
 pub mod ThreadLaws
 pub mod Walked
 pub mod Patience
-pub mod LengthLaws

@@ -24,8 +24,9 @@ use Rattle.omf_check.specs.declared.threads.Threads.{Threads}
 use Rattle.omf_check.specs.Inner.Judging.{fault_moved as placed_at}
 use Rattle.omf_check.specs.Inner.Judging.{fault_unless, lesser, room_fault, entry_fault, members_fault, index_fault, frame_fault, target_fault, frame_cell, target_cell, reference_fault, location_fault, subrecord_fault, subrecords_fault, start_fault, contents_fault, data_size, judged_by_size, raw_fault, read_fault}
 use Rattle.omf_check.specs.Inner.Kept.{Kept, set_thread}
-use Rattle.omf_check.specs.Rules.{table_limit, item_limit, places, item_places}
-use Rattle.omf_check.specs.Threads.{FrameMethod, F0, F1, F2, F4, F5, TargetMethod, T0, T1, T2}
+use Rattle.omf_check.specs.Rules.{undefined, table_limit, item_limit, places, item_places}
+use Rattle.omf_check.specs.Threads.{Kind, FrameMethod, Of, F4, F5, TargetMethod}
+use Rattle.omf_check.specs.declared.method.Kind.TheVariants as kinds
 use Rattle.omf_check.proofs.ShortLaws.{HasBytes, spelled_bytes}
 
 abbrev pub IsInner : Reason → Type 0
@@ -306,18 +307,19 @@ unfolding FaultInner
 members_inner n [] = tt
 members_inner n (m ∷ members) = lesser_inner (entry_fault n reason.UndefinedSegment m.item) (members_fault n members) (rule_inner _ _ reason.UndefinedSegment (lit< tt)) (members_inner n members)
 
+undefined_inner : (k : Kind) → IsInner (undefined k)
+undefined_inner kinds.Segment = lit< tt
+undefined_inner kinds.Group = lit< tt
+undefined_inner kinds.External = lit< tt
+
 module _ (kept : Kept) where
   index_fault_inner : (at : ℕ) (t : TargetMethod) → FaultInner (index_fault kept at t)
-  index_fault_inner at (T0 i) = rule_inner _ at reason.UndefinedSegment (lit< tt)
-  index_fault_inner at (T1 i) = rule_inner _ at reason.UndefinedGroup (lit< tt)
-  index_fault_inner at (T2 i) = rule_inner _ at reason.UndefinedExternal (lit< tt)
+  index_fault_inner at t = rule_inner _ at (undefined t.kind) (undefined_inner t.kind)
 
   frame_inner : (at : ℕ) (f : Option FrameMethod) → FaultInner (frame_fault kept at f)
   unfolding FaultInner
   frame_inner at None = lit< tt
-  frame_inner at (Some (F0 i)) = index_fault_inner at (T0 i)
-  frame_inner at (Some (F1 i)) = index_fault_inner at (T1 i)
-  frame_inner at (Some (F2 i)) = index_fault_inner at (T2 i)
+  frame_inner at (Some (Of t)) = index_fault_inner at t
   frame_inner at (Some F4) = tt
   frame_inner at (Some F5) = tt
 

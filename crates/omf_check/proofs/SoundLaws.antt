@@ -24,7 +24,7 @@ use Rattle.omf_records.proofs.LaidOut.{IsLaidOut, laid-out}
 use Rattle.omf_check.specs.Rules.{contents_rules, room, item_limit, item_places, data_rules, names_entry, names_entry_or_none, frame_rules, target_rules, reference_rules, judged_at, location_rule, subrecord_rules, start_rules, is_location_frame, length_of_segment}
 use Rattle.omf_check.specs.Sound.{FrameIsDefined, TargetIsDefined, ReferenceHolds, FixupHolds, SubrecordHolds, SubrecordsHold, StartHolds, DataHolds, BlocksHold, PublicsHold, ContentsHold, is_module_end, ModuleHolds}
 use Rattle.omf_check.specs.Tables.{segments, groups, item_count, subrecords, last_data, segment_length}
-use Rattle.omf_check.specs.Threads.{FrameMethod, F0, F1, F2, F4, F5, TargetMethod, T0, T1, T2, frame_from, target_from, frame_setting, target_setting, frame_of, target_of}
+use Rattle.omf_check.specs.Threads.{FrameMethod, Of, F4, F5, TargetMethod, T0, frame_from, target_from, frame_setting, target_setting, frame_of, target_of}
 use Rattle.omf_check.specs.WellFormed.{IsWellFormed, HasTrees, recs}
 use Rattle.omf_check.specs.declared.profile.Profile.{Profile}
 use Rattle.omf_check.proofs.AcceptLaws.{all_left, all_right, all_middle}
@@ -39,17 +39,13 @@ first_kept r rs h = all_first IsKept r rs h
 -- Frames and targets.
 by_frame : (before : List Rec) (at : ℕ) (o : Option FrameMethod) → AreKept (frame_rules before at o) → IsSome o × FrameIsDefined before (unwrap_or o F5)
 by_frame before at None h = absurd (untrue (first_kept _ [] h))
-by_frame before at (Some (F0 i)) h = (refl, first_kept _ [] h)
-by_frame before at (Some (F1 i)) h = (refl, first_kept _ [] h)
-by_frame before at (Some (F2 i)) h = (refl, first_kept _ [] h)
+by_frame before at (Some (Of t)) h = (refl, first_kept _ [] h)
 by_frame before at (Some F4) h = (refl, tt)
 by_frame before at (Some F5) h = (refl, tt)
 
 by_target : (before : List Rec) (at : ℕ) (o : Option TargetMethod) → AreKept (target_rules before at o) → IsSome o × TargetIsDefined before (unwrap_or o (T0 0))
 by_target before at None h = absurd (untrue (first_kept _ [] h))
-by_target before at (Some (T0 i)) h = (refl, first_kept _ [] h)
-by_target before at (Some (T1 i)) h = (refl, first_kept _ [] h)
-by_target before at (Some (T2 i)) h = (refl, first_kept _ [] h)
+by_target before at (Some t) h = (refl, first_kept _ [] h)
 
 some_from : {A B : Type 0} (f : A → B) (o : Option A) → IsSome (option_map f o) → IsSome o
 some_from f (Some x) h = refl

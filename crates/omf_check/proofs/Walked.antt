@@ -15,8 +15,9 @@ use Rattle.omf_check.specs.Inner.Walking.{walk_fault, fixups_fault}
 use Rattle.omf_image.specs.declared.limits.Limits.{Limits}
 use Rattle.omf_check.specs.declared.profile.Profile.{Profile}
 use Rattle.omf_check.specs.Tables.{items_in}
-use Rattle.omf_check.proofs.RecordLaws.{fits_on}
-use Rattle.omf_check.proofs.Lesser.{lesser_none, lesser_is_none, room_more}
+use Rattle.std.proofs.lemmas.List.{length-map}
+use Rattle.omf_check.proofs.RecordLaws.{fits_on, room_none, none_both}
+use Rattle.omf_check.proofs.Lesser.{lesser_none, room_more}
 use Rattle.omf_check.proofs.Found.{subrecords_more, threads_more}
 
 -- the faults of the subrecords so far, and those of the remaining ones
@@ -70,81 +71,55 @@ walks_fault kept left threads beyond found now (Ok whole) f e h = absurd (clash 
     clash p q = cc
 walks_fault kept left threads beyond found now (Err g) f e h = let q : Some g ≡ Some f = sym h.fault ∙ ap result_err e in let same : g ≡ f = cc in ap (λ (x : Fault). Err x) same
 
--- those before have no fault, and are counted and kept
-pub record Passes (kept : Kept) (items : ℕ) (threads : Threads) (now all : Result (List (At Subrecord)) Fault) : Type 0 where
-  pub walks : Walks kept (item_limit - items) threads None None now all
+-- those before are counted, and their threads are kept
+pub record Takes (kept : Kept) (left : ℕ) (threads : Threads) (beyond found : Option Fault) (now all : Result (List (At Subrecord)) Fault) : Type 0 where
+  pub walks : Walks kept left threads beyond found now all
   pub set_all : (subs whole : List (At Subrecord)) → now ≡ Ok subs → all ≡ Ok whole → set_threads threads subs ≡ set_threads kept.threads whole
-  pub counted : (subs whole : List (At Subrecord)) → now ≡ Ok subs → all ≡ Ok whole → items + length subs ≡ kept.items + length whole
-  pub room : items ≤ item_limit
+  pub counted : (subs whole : List (At Subrecord)) → now ≡ Ok subs → all ≡ Ok whole → (done : ℕ) × (done + length subs ≡ length whole) × (left ≡ item_limit - kept.items - done)
+  pub few : left ≤ item_limit
 
-pub passes_start : (kept : Kept) (all : Result (List (At Subrecord)) Fault) → kept.items ≤ item_limit → Passes kept kept.items kept.threads all all
-passes_start kept all le = record {
-  walks = walks_start kept (item_limit - kept.items) all refl;
+pub takes_start : (kept : Kept) (left : ℕ) (all : Result (List (At Subrecord)) Fault) → left ≡ item_limit - kept.items → Takes kept left kept.threads None None all all
+takes_start kept left all e = record {
+  walks = walks_start kept left all e;
   set_all = λ subs whole h k. let same : subs ≡ whole = cc in ap (set_threads kept.threads) same;
-  counted = λ subs whole h k. let same : subs ≡ whole = cc in ap (λ (xs : List (At Subrecord)). kept.items + length xs) same;
-  room = le;
+  counted = λ subs whole h k. let same : subs ≡ whole = cc in (0, omega (arith, ap length same), omega (arith, e));
+  few = omega (arith, e);
 }
 
-one_more : (items more : ℕ) (xs ys : List (At Subrecord)) (n : ℕ) → more ≡ items + 1 → length ys ≡ suc (length xs) → items + length ys ≡ n → more + length xs ≡ n
-one_more items more xs ys n e l h = omega (arith, e, l, h)
+one_more : (done : ℕ) (xs ys : List (At Subrecord)) (n : ℕ) → length ys ≡ suc (length xs) → done + length ys ≡ n → suc done + length xs ≡ n
+one_more done xs ys n l h = omega (arith, l, h)
 
-left_fewer : (limit items more : ℕ) → more ≡ items + 1 → limit - more ≡ limit - items - 1
-left_fewer limit items more e = omega (arith, e)
+left_fewer : (limit done left fewer : ℕ) → left ≡ limit - done → fewer ≡ left - 1 → fewer ≡ limit - suc done
+left_fewer limit done left fewer e f = omega (arith, e, f)
 
-has_left : (items : ℕ) → items ≤ item_limit → items ≢ item_limit → nat_lt 0 (item_limit - items) ≡ true
-has_left items le other = let low : 1 ≤ item_limit - items = omega (arith, le, other) in le-leb 1 (item_limit - items) low
-
-pub nothing : (o : Option Fault) → is_none o ≡ true → o ≡ None
-nothing None h = refl
-nothing (Some f) h = absurd cc
-
--- one subrecord more, which has room and no fault
-pub passes_more : (kept : Kept) (items more : ℕ) (threads next : Threads) (s : At Subrecord) (now then all : Result (List (At Subrecord)) Fault)
-    → items ≢ item_limit → more ≡ items + 1 → is_none (subrecord_fault kept threads s.within s.item) ≡ true → next ≡ set_thread threads s.item
-    → now ≡ with_first s then → Passes kept items threads now all → Passes kept more next then all
-passes_more kept items more threads next s now then all other m sound x e h = record {
-  walks = walks_more kept (item_limit - items) (item_limit - more) threads next None None None None None None s now then all
-      refl (ap (λ b. fault_unless b s.within TooMany) (sym (has_left items h.room other))) (left_fewer item_limit items more m)
-      refl (sym (nothing (subrecord_fault kept threads s.within s.item) sound)) x e h.walks;
+-- one subrecord more
+pub takes_more : (kept : Kept) (left fewer : ℕ) (threads next : Threads) (beyond past one found now_found two : Option Fault) (s : At Subrecord) (now then all : Result (List (At Subrecord)) Fault)
+    → past ≡ lesser beyond one → one ≡ fault_unless (nat_lt 0 left) s.within TooMany → fewer ≡ left - 1
+    → now_found ≡ lesser found two → two ≡ subrecord_fault kept threads s.within s.item → next ≡ set_thread threads s.item
+    → now ≡ with_first s then → Takes kept left threads beyond found now all → Takes kept fewer next past now_found then all
+takes_more kept left fewer threads next beyond past one found now_found two s now then all p o f n t x e h = record {
+  walks = walks_more kept left fewer threads next beyond past one found now_found two s now then all p o f n t x e h.walks;
   set_all = λ subs whole q k. threads_more threads next _ s (s ∷ subs) subs x refl (h.set_all (s ∷ subs) whole (e ∙ ap (with_first s) q) k);
-  counted = λ subs whole q k. one_more items more subs (s ∷ subs) _ m refl (h.counted (s ∷ subs) whole (e ∙ ap (with_first s) q) k);
-  room = let le = h.room in omega (arith, le, other, m);
+  counted = λ subs whole q k.
+      let c = h.counted (s ∷ subs) whole (e ∙ ap (with_first s) q) k in
+      (suc c.0, one_more c.0 subs (s ∷ subs) (length whole) refl c.1, left_fewer (item_limit - kept.items) c.0 left fewer c.2 f);
+  few = let le = h.few in omega (arith, le, f);
 }
 
-first_fault : (a b o : Option Fault) → lesser a b ≡ o → is_none a ≡ false → is_none o ≡ false
-first_fault a b o e h = ap is_none (sym e) ∙ lesser_is_none a b ∙ ap (λ x. x && is_none b) h
+-- at the end, all of them are counted
+all_left : (limit items left n : ℕ) → items ≤ limit → n ≤ limit - items → left ≡ limit - items - n → limit - left ≡ items + n
+all_left limit items left n low few e = omega (arith, low, few, e)
 
-second_fault : (a b : Option Fault) → is_none b ≡ false → is_none (lesser a b) ≡ false
-second_fault a b h = lesser_is_none a b ∙ ap (λ x. is_none a && x) h ∙ never (is_none a)
-  where
-    never : (x : Bool) → x && false ≡ false
-    never true = refl
-    never false = refl
-
-some_none : (e : Fault) → ◌≡◌ {A = Option Fault} (Some e) None → ⊥
-some_none e q = cc
-
-module _ (kept : Kept) (items : ℕ) (threads : Threads) (s : At Subrecord) (now : Result (List (At Subrecord)) Fault) where
-  -- a subrecord without room is a fault
-  pub passes_full : (then all : Result (List (At Subrecord)) Fault) → items ≡ item_limit → now ≡ with_first s then → Passes kept items threads now all → is_none (walk_fault kept all) ≡ false
-  passes_full then (Err f) full e h = refl
-  passes_full (Err g) (Ok whole) full e h = absurd (some_none g (sym (ap result_err e) ∙ h.walks.fault))
-  passes_full (Ok subs) (Ok whole) full e h =
-      let w = h.walks.walked (s ∷ subs) whole e refl in
-      let none : item_limit - items ≡ 0 = omega (arith, full) in
-      let here : is_none (fault_unless (nat_lt 0 (item_limit - items)) s.within TooMany) ≡ false = ap (λ n. is_none (fault_unless (nat_lt 0 n) s.within TooMany)) none in
-      first_fault (room_fault (item_limit - kept.items) (places whole)) (subrecords_fault kept kept.threads whole) _ refl
-      (first_fault (fault_unless (nat_lt 0 (item_limit - items)) s.within TooMany) (room_fault (item_limit - items - 1) (places subs)) _ w.room here)
-
-  -- and so is one that has a fault
-  pub passes_unsound : (then all : Result (List (At Subrecord)) Fault) → is_none (subrecord_fault kept threads s.within s.item) ≡ false → now ≡ with_first s then → Passes kept items threads now all
-      → is_none (walk_fault kept all) ≡ false
-  passes_unsound then (Err f) unsound e h = refl
-  passes_unsound (Err g) (Ok whole) unsound e h = absurd (some_none g (sym (ap result_err e) ∙ h.walks.fault))
-  passes_unsound (Ok subs) (Ok whole) unsound e h =
-      let w = h.walks.walked (s ∷ subs) whole e refl in
-      second_fault (room_fault (item_limit - kept.items) (places whole)) (subrecords_fault kept kept.threads whole)
-      (first_fault (subrecord_fault kept threads s.within s.item) (subrecords_fault kept (set_thread threads s.item) subs) _ w.judged unsound)
+pub takes_all : (kept : Kept) (left : ℕ) (threads : Threads) (beyond found : Option Fault) (now all : Result (List (At Subrecord)) Fault) (subs : List (At Subrecord)) → kept.items ≤ item_limit
+    → now ≡ Ok [] → all ≡ Ok subs → walk_fault kept all ≡ None → Takes kept left threads beyond found now all
+    → (item_limit - left ≡ kept.items + length subs) × (threads ≡ set_threads kept.threads subs)
+takes_all kept left threads beyond found now all subs low e q none h =
+    let c = h.counted [] subs e q in
+    let room = none_both (room_fault (item_limit - kept.items) (places subs)) (subrecords_fault kept kept.threads subs) (ap (walk_fault kept) (sym q) ∙ none) in
+    let few : length subs ≤ item_limit - kept.items
+    = let le = room_none (item_limit - kept.items) (places subs) room.0 in let same = length-map subs (λ a. a.within) in omega (arith, le, same) in
+    let done : c.0 ≡ length subs = let d = c.1 in omega (arith, d) in
+    (all_left item_limit kept.items left (length subs) low few (c.2 ∙ ap (λ d. item_limit - kept.items - d) done), h.set_all [] subs e q)
 
 -- a FIXUPP that has a subrecord
 pub some_fixups : (kept : Kept) (all : Result (List (At Subrecord)) Fault) → ((subs : List (At Subrecord)) → all ≡ Ok subs → 1 ≤ length subs) → walk_fault kept all ≡ fixups_fault kept all

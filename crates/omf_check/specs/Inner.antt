@@ -4,6 +4,5 @@ pub mod Kept
 pub mod Parts
 pub mod Passing
 pub mod Points
-pub mod TableLengths
 pub mod Verdict
 pub mod Walking

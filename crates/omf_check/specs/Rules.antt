@@ -11,8 +11,9 @@ use Rattle.omf_image.specs.Blocks.{blocks_size}
 -- computed: blocks_are_read and lengths_are_decided of omf_image.
 use Rattle.omf_image.specs.Inner.Expanding.{blocks_of}
 use Rattle.omf_image.specs.declared.limits.Limits.{Limits}
-use Rattle.omf_check.specs.Tables.{names, segments, groups, externals, is_defined, is_none_or_defined, entry, item_count, subrecords, last_data}
-use Rattle.omf_check.specs.Threads.{FrameMethod, F0, F1, F2, F4, F5, TargetMethod, T0, T1, T2, frame_of, target_of}
+use Rattle.omf_check.specs.Tables.{names, segments, groups, externals, is_defined, is_none_or_defined, entry, item_count, subrecords, last_data, entries}
+use Rattle.omf_check.specs.Threads.{Kind, FrameMethod, Of, F4, F5, TargetMethod, frame_of, target_of}
+use Rattle.omf_check.specs.declared.method.Kind.TheVariants as kinds
 use Rattle.omf_check.specs.declared.profile.Profile.{Profile}
 
 -- The limits of this profile: entries of each table, and items of a module.
@@ -54,21 +55,23 @@ abbrev pub data_rules : List Rec → DataItem → ℕ → List Rule
 data_rules before d size = names_entry (length (segments before)) reason.UndefinedSegment d.segment
     ∷ rule (nat_le (d.offset.item + size) (length_of_segment before d.segment.item)) d.offset.within reason.OutsideSegment ∷ []
 
--- A frame, with the place of a fault: if a thread gives it, the thread is set; its index is defined.
-abbrev pub frame_rules : List Rec → ℕ → Option FrameMethod → List Rule
-frame_rules before at None = rule false at reason.UndefinedThread ∷ []
-frame_rules before at (Some (F0 i)) = rule (is_defined (length (segments before)) i) at reason.UndefinedSegment ∷ []
-frame_rules before at (Some (F1 i)) = rule (is_defined (length (groups before)) i) at reason.UndefinedGroup ∷ []
-frame_rules before at (Some (F2 i)) = rule (is_defined (length (externals before)) i) at reason.UndefinedExternal ∷ []
-frame_rules before at (Some F4) = []
-frame_rules before at (Some F5) = []
+-- The reason of an index that is not that of an entry of a table.
+abbrev pub undefined : Kind → Reason
+undefined kinds.Segment = reason.UndefinedSegment
+undefined kinds.Group = reason.UndefinedGroup
+undefined kinds.External = reason.UndefinedExternal
 
--- A target, in the same way.
+-- A target, with the place of a fault: if a thread gives it, the thread is set; its index is defined.
 abbrev pub target_rules : List Rec → ℕ → Option TargetMethod → List Rule
 target_rules before at None = rule false at reason.UndefinedThread ∷ []
-target_rules before at (Some (T0 i)) = rule (is_defined (length (segments before)) i) at reason.UndefinedSegment ∷ []
-target_rules before at (Some (T1 i)) = rule (is_defined (length (groups before)) i) at reason.UndefinedGroup ∷ []
-target_rules before at (Some (T2 i)) = rule (is_defined (length (externals before)) i) at reason.UndefinedExternal ∷ []
+target_rules before at (Some t) = rule (is_defined (entries before t.kind) t.index) at (undefined t.kind) ∷ []
+
+-- A frame, in the same way.
+abbrev pub frame_rules : List Rec → ℕ → Option FrameMethod → List Rule
+frame_rules before at None = rule false at reason.UndefinedThread ∷ []
+frame_rules before at (Some (Of t)) = target_rules before at (Some t)
+frame_rules before at (Some F4) = []
+frame_rules before at (Some F5) = []
 
 -- The place of a fault of a frame or a target: its own datum, or the fix data byte if it has none.
 abbrev pub judged_at : Reference → Option (At ℕ) → ℕ

@@ -6,22 +6,18 @@ use Rattle.omf_records.specs.Values.{At, Rec, Contents, Segment, Publics, Public
 use Rattle.omf_image.specs.Inner.Expanding.{expanded, expanded_length}
 use Rattle.omf_image.specs.declared.limits.Limits.{Limits}
 use Rattle.omf_check.specs.Rules.{length_of_segment}
-use Rattle.omf_check.specs.Tables.{segments, groups, externals, is_defined, is_none_or_defined, subrecords, last_data, segment_length}
-use Rattle.omf_check.specs.Threads.{FrameMethod, F0, F1, F2, F4, F5, TargetMethod, T0, T1, T2, frame_setting, target_setting, plain}
-
--- The entry that a frame refers to is in its table after these records; F4 and F5 refer to none.
-abbrev pub FrameIsDefined : List Rec → FrameMethod → Type 0
-FrameIsDefined before (F0 i) = is_defined (length (segments before)) i ≡ true
-FrameIsDefined before (F1 i) = is_defined (length (groups before)) i ≡ true
-FrameIsDefined before (F2 i) = is_defined (length (externals before)) i ≡ true
-FrameIsDefined before F4 = ⊤
-FrameIsDefined before F5 = ⊤
+use Rattle.omf_check.specs.Tables.{segments, groups, entries, is_defined, is_none_or_defined, subrecords, last_data, segment_length}
+use Rattle.omf_check.specs.Threads.{FrameMethod, Of, F4, F5, TargetMethod, frame_setting, target_setting, plain}
 
 -- The entry that a target refers to is in its table after these records.
 abbrev pub TargetIsDefined : List Rec → TargetMethod → Type 0
-TargetIsDefined before (T0 i) = is_defined (length (segments before)) i ≡ true
-TargetIsDefined before (T1 i) = is_defined (length (groups before)) i ≡ true
-TargetIsDefined before (T2 i) = is_defined (length (externals before)) i ≡ true
+TargetIsDefined before t = is_defined (entries before t.kind) t.index ≡ true
+
+-- The entry that a frame refers to is in its table after these records; F4 and F5 refer to none.
+abbrev pub FrameIsDefined : List Rec → FrameMethod → Type 0
+FrameIsDefined before (Of t) = TargetIsDefined before t
+FrameIsDefined before F4 = ⊤
+FrameIsDefined before F5 = ⊤
 
 -- A reference after these records and subrecords: its threads are set, and its frame and its target are defined.
 pub record ReferenceHolds (before : List Rec) (earlier : List Subrecord) (r : Reference) : Type 0 where

@@ -4,6 +4,8 @@ use Rattle.std.specs.Prelude.{ℕ, ◌-◌, ◌^◌, List, [], ◌∷◌, length
 use Rattle.omf_frame.specs.Bytes.{last}
 use Rattle.omf_frame.specs.Types.{is_local}
 use Rattle.omf_records.specs.Values.{Rec, Contents, Names, Segment, Group, Externs, Communals, Fixups, Plain, Iterated, SegmentItem, GroupItem, Subrecord, is_big, width_bits}
+use Rattle.omf_check.specs.declared.method.Kind.{Kind}
+use Rattle.omf_check.specs.declared.method.Kind.TheVariants as kinds
 use Rattle.omf_check.specs.declared.segment.SegInfo.{SegInfo}
 
 -- The length of a segment in bytes: 2^16 for a big segment of 98H, 2^32 for one of 99H, else the length field.
@@ -47,6 +49,12 @@ externals rs = flat_map (λ r. defined_externals r.contents) rs
 -- Whether each external is local.
 abbrev pub locals : List Rec → List Bool
 locals rs = flat_map (λ r. map (λ e. is_local r.kind) (defined_externals r.contents)) rs
+
+-- The number of entries of the table of a kind.
+abbrev pub entries : List Rec → Kind → ℕ
+entries rs kinds.Segment = length (segments rs)
+entries rs kinds.Group = length (groups rs)
+entries rs kinds.External = length (externals rs)
 
 -- Whether an index is that of an entry of a table of n entries; whether it is, or is 0 for none.
 abbrev pub is_defined : ℕ → ℕ → Bool

@@ -2,29 +2,64 @@
 use Rattle.std.specs.Prelude.{ℕ, List, filter_map, Bool, true, false, ◌&&◌, ◌==◌, Option, Some, None, unwrap_or, option_map, if◌then◌else◌}
 use Rattle.omf_frame.specs.Bytes.{last}
 use Rattle.omf_records.specs.Values.{At, Subrecord, Thread, Fixup, Reference, thread_is_frame, thread_method, thread_number, frame_by_thread, frame_bits, frame_thread, target_by_thread, target_bits}
--- Frame methods: the frame of a segment, of a group, of an external, of the segment of the last data record, or of the target.
-pub use Rattle.omf_check.specs.declared.method.FrameMethod.{FrameMethod}
-pub use Rattle.omf_check.specs.declared.method.FrameMethod.TheVariants.{Segment as F0, Group as F1, External as F2, Location as F4, Target as F5}
--- Target methods: a segment, a group, or an external.
+-- The tables that methods refer to, and the codes of frame methods.
+pub use Rattle.omf_check.specs.declared.method.Kind.{Kind}
+use Rattle.omf_check.specs.declared.method.Kind.TheVariants as kinds
+pub use Rattle.omf_check.specs.declared.method.FrameCode.{FrameCode}
+use Rattle.omf_check.specs.declared.method.FrameCode.TheVariants as codes
+-- A target: the entry of a table. A frame: that of a segment, a group or an external; of the segment of the last data record; or of the target.
 pub use Rattle.omf_check.specs.declared.method.TargetMethod.{TargetMethod}
-pub use Rattle.omf_check.specs.declared.method.TargetMethod.TheVariants.{Segment as T0, Group as T1, External as T2}
+pub use Rattle.omf_check.specs.declared.method.FrameMethod.{FrameMethod}
+pub use Rattle.omf_check.specs.declared.method.FrameMethod.TheVariants.{Of, Location as F4, Target as F5}
+
+abbrev pub kind_of : ℕ → Kind
+kind_of code = if code == 0 then kinds.Segment else (if code == 1 then kinds.Group else kinds.External)
+
+abbrev pub frame_code : ℕ → FrameCode
+frame_code code = if code == 0 then codes.Of kinds.Segment else (if code == 1 then codes.Of kinds.Group
+    else (if code == 2 then codes.Of kinds.External else (if code == 4 then codes.Location else codes.Target)))
+
+abbrev pub T0 : ℕ → TargetMethod
+T0 i = record { kind = kinds.Segment; index = i }
+
+abbrev pub T1 : ℕ → TargetMethod
+T1 i = record { kind = kinds.Group; index = i }
+
+abbrev pub T2 : ℕ → TargetMethod
+T2 i = record { kind = kinds.External; index = i }
+
+abbrev pub F0 : ℕ → FrameMethod
+F0 i = Of (T0 i)
+
+abbrev pub F1 : ℕ → FrameMethod
+F1 i = Of (T1 i)
+
+abbrev pub F2 : ℕ → FrameMethod
+F2 i = Of (T2 i)
 
 -- The setting of a THREAD or a reference: the code of a method and, if the method has one, an index.
 pub record Setting : Type 0 where
   pub method : ℕ
   pub datum : Option ℕ
 
+-- The index of a datum; 0 if there is none.
+abbrev pub index_or_none : Option (At ℕ) → ℕ
+index_or_none datum = unwrap_or (option_map (λ a. a.item) datum) 0
+
 abbrev pub setting : ℕ → Option (At ℕ) → Setting
 setting method datum = record { method = method; datum = option_map (λ a. a.item) datum }
 
 -- The frame or target method of a setting. A record with any other code has a fault of layout.
+abbrev pub frame_by : FrameCode → ℕ → FrameMethod
+frame_by (codes.Of k) i = Of (record { kind = k; index = i })
+frame_by codes.Location i = F4
+frame_by codes.Target i = F5
+
 abbrev pub frame_from : Setting → FrameMethod
-frame_from s = let i = unwrap_or s.datum 0 in
-    if s.method == 0 then F0 i else (if s.method == 1 then F1 i else (if s.method == 2 then F2 i else (if s.method == 4 then F4 else F5)))
+frame_from s = frame_by (frame_code s.method) (unwrap_or s.datum 0)
 
 abbrev pub target_from : Setting → TargetMethod
-target_from s = let i = unwrap_or s.datum 0 in
-    if s.method == 0 then T0 i else (if s.method == 1 then T1 i else T2 i)
+target_from s = record { kind = kind_of s.method; index = unwrap_or s.datum 0 }
 
 -- whether two truth values are equal
 abbrev pub same : Bool → Bool → Bool

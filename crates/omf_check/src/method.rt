@@ -1,41 +1,86 @@
 //! Frame and target methods (TIS OMF 1.1, "FIXUPP").
 
 ghost use Rattle.std.specs.Prelude.{◌≡◌, unwrap_or, option_map};
-ghost use Rattle.omf_check.specs.Threads.{setting, frame_from, target_from};
+ghost use Rattle.omf_check.specs.Rules.{undefined};
+ghost use Rattle.omf_check.specs.Threads.{kind_of, frame_code, frame_by, index_or_none};
 
-use omf_frame::Index;
+use omf_frame::{Index, Reason};
 use omf_records::At;
 
-/// The source of a reference's frame. Indices count from 1.
+/// The tables that a frame or a target method refers to.
+#[derive(Clone, Copy, Debug, PartialEq, Eq)]
+pub enum Kind {
+    Segment,
+    Group,
+    External,
+}
+
+/// The code of a frame method.
+#[derive(Clone, Copy, Debug, PartialEq, Eq)]
+pub enum FrameCode {
+    Of(Kind),
+    Location,
+    Target,
+}
+
+pub fn kind_of(code: u8) -> Kind
+    ensures { result ≡ kind_of code }
+{
+    match code {
+        0 => Kind::Segment,
+        1 => Kind::Group,
+        _ => Kind::External,
+    }
+}
+
+pub fn frame_code(code: u8) -> FrameCode
+    ensures { result ≡ frame_code code }
+{
+    match code {
+        0 => FrameCode::Of(Kind::Segment),
+        1 => FrameCode::Of(Kind::Group),
+        2 => FrameCode::Of(Kind::External),
+        4 => FrameCode::Location,
+        _ => FrameCode::Target,
+    }
+}
+
+impl Kind {
+    /// The reason of an index that is not that of an entry of this table.
+    pub(crate) fn undefined(self) -> Reason
+        ensures { result ≡ undefined self }
+    {
+        match self {
+            Kind::Segment => Reason::UndefinedSegment,
+            Kind::Group => Reason::UndefinedGroup,
+            Kind::External => Reason::UndefinedExternal,
+        }
+    }
+}
+
+/// The target of a reference: the entry of a table. T0 is a segment, T1 a group, T2 an external.
+#[derive(Clone, Copy, Debug, Drop)]
+pub struct TargetMethod {
+    pub kind: Kind,
+    /// Counts from 1.
+    pub index: Index,
+}
+
+/// The source of a reference's frame.
 #[derive(Clone, Copy, Debug, Drop)]
 pub enum FrameMethod {
-    /// F0: the frame of this segment.
-    Segment(Index),
-    /// F1: the frame of this group.
-    Group(Index),
-    /// F2: the frame of this external.
-    External(Index),
+    /// F0, F1, F2: the frame of this segment, group or external.
+    Of(TargetMethod),
     /// F4: the frame of the segment of the last data record.
     Location,
     /// F5: the frame of the target.
     Target,
 }
 
-/// The target of a reference. Indices count from 1.
-#[derive(Clone, Copy, Debug, Drop)]
-pub enum TargetMethod {
-    /// T0: this segment.
-    Segment(Index),
-    /// T1: this group.
-    Group(Index),
-    /// T2: this external.
-    External(Index),
-}
-
 /// The index in a thread's or a reference's datum; 0 if it has none.
 #[inline(always)]
 fn index_of(datum: &Option<At<Index>>) -> Index
-    ensures { result ≡ unwrap_or (option_map (λ a. a.item) datum.now) 0 }
+    ensures { result ≡ index_or_none datum.now }
 {
     match datum {
         Some(index) => index.item,
@@ -43,32 +88,27 @@ fn index_of(datum: &Option<At<Index>>) -> Index
     }
 }
 
-impl FrameMethod {
-    /// The frame method with this code and index. Codes other than 0, 1, 2, 4 and 5 do not pass the layout check.
+impl TargetMethod {
+    /// The target method with this code and index.
     #[inline(always)]
-    pub(crate) fn new(code: u8, datum: &Option<At<Index>>) -> FrameMethod
-        ensures { result ≡ frame_from (setting code datum.now) }
+    pub(crate) fn new(kind: Kind, datum: &Option<At<Index>>) -> TargetMethod
+        ensures { result ≡ record { kind = kind; index = index_or_none datum.now } }
     {
-        match code {
-            0 => FrameMethod::Segment(index_of(datum)),
-            1 => FrameMethod::Group(index_of(datum)),
-            2 => FrameMethod::External(index_of(datum)),
-            4 => FrameMethod::Location,
-            _ => FrameMethod::Target,
-        }
+        let index = index_of(datum);
+        TargetMethod { kind, index }
     }
 }
 
-impl TargetMethod {
-    /// The target method with this code and index. Codes other than 0, 1 and 2 do not pass the layout check.
+impl FrameMethod {
+    /// The frame method with this code and index.
     #[inline(always)]
-    pub(crate) fn new(code: u8, datum: &Option<At<Index>>) -> TargetMethod
-        ensures { result ≡ target_from (setting code datum.now) }
+    pub(crate) fn new(code: FrameCode, datum: &Option<At<Index>>) -> FrameMethod
+        ensures { result ≡ frame_by code (index_or_none datum.now) }
     {
         match code {
-            0 => TargetMethod::Segment(index_of(datum)),
-            1 => TargetMethod::Group(index_of(datum)),
-            _ => TargetMethod::External(index_of(datum)),
+            FrameCode::Of(kind) => FrameMethod::Of(TargetMethod::new(kind, datum)),
+            FrameCode::Location => FrameMethod::Location,
+            FrameCode::Target => FrameMethod::Target,
         }
     }
 }

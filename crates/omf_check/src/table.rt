@@ -7,7 +7,6 @@ mod entries;
 mod growth;
 mod references;
 mod rules;
-mod sound;
 
 use crate::last_data::LastData;
 use crate::segment::SegInfo;

@@ -4,7 +4,7 @@ ghost use Rattle.std.specs.Prelude.{◌≡◌, ◌<◌};
 ghost use Rattle.omf_check.specs.Inner.Kept.{kept_frame, kept_target, set_thread, set_threads, no_threads};
 ghost use Rattle.omf_check.specs.Inner.Judging.{frame_cell, target_cell};
 
-use crate::method::{FrameMethod, TargetMethod};
+use crate::method::{FrameMethod, TargetMethod, frame_code, kind_of};
 use omf_records::{
     Items, Part, Reference, Subrecord, is_frame_thread, thread_method, thread_number,
 };
@@ -54,7 +54,7 @@ impl Threads {
     {
         match reference.frame_thread() {
             Some(number) => self.frame_thread(number),
-            None => Some(FrameMethod::new(reference.frame_method(), &reference.frame)),
+            None => Some(FrameMethod::new(frame_code(reference.frame_method()), &reference.frame)),
         }
     }
 
@@ -65,7 +65,7 @@ impl Threads {
     {
         match reference.target_thread() {
             Some(number) => self.target_thread(number),
-            None => Some(TargetMethod::new(reference.target_method(), &reference.target)),
+            None => Some(TargetMethod::new(kind_of(reference.target_method()), &reference.target)),
         }
     }
 
@@ -78,9 +78,9 @@ impl Threads {
             let number = usize::from(thread_number(*first));
             let method = thread_method(*first);
             if is_frame_thread(*first) {
-                self.frames[number] = Some(FrameMethod::new(method, index));
+                self.frames[number] = Some(FrameMethod::new(frame_code(method), index));
             } else {
-                self.targets[number] = Some(TargetMethod::new(method, index));
+                self.targets[number] = Some(TargetMethod::new(kind_of(method), index));
             }
         }
     }

@@ -9,8 +9,9 @@ use Rattle.omf_records.specs.Values.{At, Rec, Contents, Comment, Names, Segment,
 use Rattle.omf_image.specs.Inner.Expanding.{expanded_length}
 use Rattle.omf_image.specs.declared.limits.Limits.{Limits}
 use Rattle.omf_check.specs.Tables.{is_defined, is_none_or_defined, entry}
-use Rattle.omf_check.specs.Threads.{FrameMethod, F0, F1, F2, F4, F5, TargetMethod, T0, T1, T2, setting, frame_from, target_from}
-use Rattle.omf_check.specs.Rules.{table_limit, item_limit, item_places, places, judged_at, is_location_frame}
+use Rattle.omf_check.specs.Threads.{Kind, FrameMethod, Of, F4, F5, TargetMethod, setting, frame_from, target_from}
+use Rattle.omf_check.specs.declared.method.Kind.TheVariants as kinds
+use Rattle.omf_check.specs.Rules.{table_limit, item_limit, item_places, places, judged_at, is_location_frame, undefined}
 use Rattle.omf_check.specs.Refusal.{fault_from}
 use Rattle.omf_check.specs.Inner.Kept.{Kept, kept_frame, kept_target, set_thread}
 use Rattle.omf_check.specs.declared.profile.Profile.{Profile}
@@ -51,17 +52,19 @@ abbrev pub data_fault : Kept → At ℕ → At ℕ → ℕ → Option Fault
 data_fault kept segment offset size = lesser (entry_fault (length kept.segments) reason.UndefinedSegment segment)
     (fault_unless (nat_le (offset.item + size) (kept_length kept.segments segment.item)) offset.within reason.OutsideSegment)
 
+-- the number of entries of the table of a kind
+abbrev pub kept_entries : Kept → Kind → ℕ
+kept_entries kept kinds.Segment = length kept.segments
+kept_entries kept kinds.Group = length kept.groups
+kept_entries kept kinds.External = length kept.externals
+
 -- the entry that a target refers to
 abbrev pub index_fault : Kept → ℕ → TargetMethod → Option Fault
-index_fault kept at (T0 i) = fault_unless (is_defined (length kept.segments) i) at reason.UndefinedSegment
-index_fault kept at (T1 i) = fault_unless (is_defined (length kept.groups) i) at reason.UndefinedGroup
-index_fault kept at (T2 i) = fault_unless (is_defined (length kept.externals) i) at reason.UndefinedExternal
+index_fault kept at t = fault_unless (is_defined (kept_entries kept t.kind) t.index) at (undefined t.kind)
 
 abbrev pub frame_fault : Kept → ℕ → Option FrameMethod → Option Fault
 frame_fault kept at None = fault_unless false at reason.UndefinedThread
-frame_fault kept at (Some (F0 i)) = index_fault kept at (T0 i)
-frame_fault kept at (Some (F1 i)) = index_fault kept at (T1 i)
-frame_fault kept at (Some (F2 i)) = index_fault kept at (T2 i)
+frame_fault kept at (Some (Of t)) = index_fault kept at t
 frame_fault kept at (Some F4) = None
 frame_fault kept at (Some F5) = None
 

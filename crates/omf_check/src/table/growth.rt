@@ -1,25 +1,22 @@
 //! Checking a record, and keeping what it defines.
 
-ghost use Rattle.std.specs.Prelude.{◌≡◌, ◌≤◌, ◌<◌, ◌+◌, ◌^◌, ◌++◌, length, OnOk, IsTrue, IfErr, None, Ok};
+ghost use Rattle.std.specs.Prelude.{◌≡◌, ◌≤◌, ◌<◌, ◌+◌, ◌^◌, ◌++◌, length, OnOk, IsTrue, IfErr, None};
 ghost use Rattle.omf_check.specs.Rules.{item_limit};
 ghost use Rattle.omf_image.specs.Limits.{profile_limits};
-ghost use Rattle.omf_check.specs.Inner.Kept.{starts, alike, with_record, with_contents, set_threads, IsBounded};
+ghost use Rattle.omf_check.specs.Inner.Kept.{starts, alike, with_record, with_contents, IsBounded};
 ghost use Rattle.omf_check.specs.Inner.Judging.{IsNoFixupp, raw_fault, rec_of};
 ghost use Rattle.omf_check.specs.Inner.Passing.{refused_at, IsStopped};
 ghost use Rattle.omf_frame.specs.Framing.{is_taken};
-ghost use Rattle.omf_check.specs.Tables.{segment_info, items_in};
+ghost use Rattle.omf_check.specs.Tables.{segment_info};
 ghost use Rattle.omf_records.specs.Inner.Seen.{contents_seen, kind_seen, odd_if, rec_seen};
-ghost use Rattle.omf_records.specs.Values.{Fixups};
-ghost use Rattle.omf_check.specs.Inner.Walking.{fixups_fault};
 
 use crate::fault::CheckFault;
 use crate::last_data::LastData;
 use crate::profile::Profile;
-use crate::rule::fault;
 use crate::segment::SegInfo;
-use crate::table::{ITEM_LIMIT, Tables};
-use omf_frame::{Place, RawRecord, Reason};
-use omf_records::{Item, Items, LayoutFault, Rec, Segment, Subrecord, Unread, unread_fixups, view};
+use crate::table::Tables;
+use omf_frame::{Place, RawRecord};
+use omf_records::{Item, Items, LayoutFault, Rec, Segment, unread_fixups, view};
 use std::alloc::AllocError;
 
 /// The segment that a SEGDEF defines.
@@ -135,26 +132,6 @@ impl Tables {
     {
         self.items += 1;
         self.add_contents(at, rec)
-    }
-
-    /// Checks a FIXUPP with these subrecords. Keeps what later records need of it if it has no fault.
-    fn take_fixups(&mut self, subrecords: Unread<Subrecord<'_>>) -> Option<LayoutFault>
-        requires { self.old.items ≤ item_limit }
-        ensures found { result ≡ fixups_fault self.old subrecords.entry.items }
-        ensures kept { (subs : _) → subrecords.entry.items ≡ Ok subs → result ≡ None → self.new ≡ record self.old { items = self.old.items + items_in (Fixups subs); threads = set_threads self.old.threads subs } }
-    {
-        if subrecords.is_end() {
-            if self.items == ITEM_LIMIT {
-                return Some(fault(0, Reason::TooMany));
-            }
-            self.items += 1;
-            return None;
-        }
-        let judged = subrecords.again();
-        if self.pass_subrecords(subrecords) {
-            return None;
-        }
-        self.subrecords_fault(judged)
     }
 
     /// Checks the next record, and keeps what it defines.

@@ -1,19 +1,31 @@
 //! The faults of references: in the subrecords of a FIXUPP, and in the start of a MODEND.
 
-ghost use Rattle.std.specs.Prelude.{◌≡◌, Some};
-ghost use Rattle.omf_check.specs.Rules.{judged_at};
-ghost use Rattle.omf_check.specs.Inner.Judging.{index_fault, frame_fault, target_fault, reference_fault, location_fault, subrecord_fault, start_fault};
-ghost use Rattle.omf_check.specs.Threads.{T0, T1, T2};
-ghost use Rattle.omf_check.specs.Inner.Walking.{walk_fault};
+ghost use Rattle.std.specs.Prelude.{◌≡◌, ◌≤◌, ◌+◌, length, nat_le, Ok, None};
+ghost use Rattle.omf_check.specs.Rules.{item_limit, judged_at};
+ghost use Rattle.omf_check.specs.Inner.Judging.{kept_entries, index_fault, frame_fault, target_fault, reference_fault, location_fault, subrecord_fault, start_fault};
+ghost use Rattle.omf_check.specs.Inner.Kept.{set_threads};
+ghost use Rattle.omf_check.specs.Inner.Walking.{walk_fault, fixups_fault};
+ghost use Rattle.omf_check.specs.Tables.{items_in};
+ghost use Rattle.omf_records.specs.Location.{location_size};
+ghost use Rattle.omf_records.specs.Values.{Fixups, location_type, location_offset};
 
 use crate::last_data::LastData;
-use crate::method::{FrameMethod, TargetMethod};
+use crate::method::{FrameMethod, Kind, TargetMethod};
 use crate::rule::{fault, fault_unless, is_defined, lesser};
-use crate::table::sound::ends_within;
 use crate::table::{ITEM_LIMIT, Tables};
 use crate::threads::Threads;
 use omf_frame::{Index, Reason};
-use omf_records::{At, LayoutFault, Part, Reference, Subrecord, Unread};
+use omf_records::{
+    At, LayoutFault, Part, Reference, Subrecord, Unread, location_offset, location_size, location_type,
+};
+
+/// Whether a location ends within `len` bytes of data.
+fn ends_within(location: u16, len: usize) -> bool
+    ensures { result ≡ nat_le (location_offset location + location_size (location_type location)) len }
+{
+    let size = location_size(location_type(location));
+    usize::from(location_offset(location) + u16::from(size)) <= len
+}
 
 /// Rule: the fixup's location is within the data of the last data record, which is an LEDATA.
 fn location_fault(last: Option<LastData>, within: u32, location: u16) -> Option<LayoutFault>
@@ -39,67 +51,40 @@ fn judged_at(reference: &Reference, datum: &Option<At<Index>>) -> u32
 }
 
 impl Tables {
-    /// Rule: the segment exists.
-    fn undefined_segment(&self, at: u32, index: u16) -> Option<LayoutFault>
-        ensures { result ≡ index_fault self.now at (T0 index) }
+    /// The number of entries of the table of this kind.
+    fn entries(&self, kind: Kind) -> usize
+        ensures { result ≡ kept_entries self.now kind }
     {
-        let is_there = is_defined(self.segments.len(), index);
-        fault_unless(is_there, at, Reason::UndefinedSegment)
-    }
-
-    /// Rule: the group exists.
-    fn undefined_group(&self, at: u32, index: u16) -> Option<LayoutFault>
-        ensures { result ≡ index_fault self.now at (T1 index) }
-    {
-        let is_there = is_defined(self.groups.len(), index);
-        fault_unless(is_there, at, Reason::UndefinedGroup)
-    }
-
-    /// Rule: the external exists.
-    fn undefined_external(&self, at: u32, index: u16) -> Option<LayoutFault>
-        ensures { result ≡ index_fault self.now at (T2 index) }
-    {
-        let is_there = is_defined(self.externals.len(), index);
-        fault_unless(is_there, at, Reason::UndefinedExternal)
+        match kind {
+            Kind::Segment => self.segments.len(),
+            Kind::Group => self.groups.len(),
+            Kind::External => self.externals.len(),
+        }
     }
 
     /// Rule: the entry that a target refers to exists. A fault is at `at`.
-    fn index_fault(&self, at: u32, target: TargetMethod) -> Option<LayoutFault>
-        ensures { result ≡ index_fault self.now at target }
+    fn index_fault(&self, at: u32, target: &TargetMethod) -> Option<LayoutFault>
+        ensures { result ≡ index_fault self.now at target.now }
     {
-        match target {
-            TargetMethod::Segment(index) => self.undefined_segment(at, index.0),
-            TargetMethod::Group(index) => self.undefined_group(at, index.0),
-            TargetMethod::External(index) => self.undefined_external(at, index.0),
-        }
+        let is_there = is_defined(self.entries(target.kind), target.index.0);
+        fault_unless(is_there, at, target.kind.undefined())
     }
 
-    /// Rule: the entry that a frame refers to, if any, exists. A fault is at `at`.
-    fn frame_index_fault(&self, at: u32, frame: FrameMethod) -> Option<LayoutFault>
-        ensures { result ≡ frame_fault self.now at (Some frame) }
-    {
-        match frame {
-            FrameMethod::Segment(index) => self.undefined_segment(at, index.0),
-            FrameMethod::Group(index) => self.undefined_group(at, index.0),
-            FrameMethod::External(index) => self.undefined_external(at, index.0),
-            FrameMethod::Location => None,
-            FrameMethod::Target => None,
-        }
-    }
-
-    /// Rule: the frame is set, and its entry exists. A fault is at `at`.
-    fn frame_fault(&self, at: u32, frame: Option<FrameMethod>) -> Option<LayoutFault>
-        ensures { result ≡ frame_fault self.now at frame }
+    /// Rule: the frame is set, and the entry that it refers to, if any, exists. A fault is at `at`.
+    fn frame_fault(&self, at: u32, frame: &Option<FrameMethod>) -> Option<LayoutFault>
+        ensures { result ≡ frame_fault self.now at frame.now }
     {
         match frame {
             None => Some(fault(at, Reason::UndefinedThread)),
-            Some(frame) => self.frame_index_fault(at, frame),
+            Some(FrameMethod::Of(entry)) => self.index_fault(at, entry),
+            Some(FrameMethod::Location) => None,
+            Some(FrameMethod::Target) => None,
         }
     }
 
     /// Rule: the target is set, and its entry exists. A fault is at `at`.
-    fn target_fault(&self, at: u32, target: Option<TargetMethod>) -> Option<LayoutFault>
-        ensures { result ≡ target_fault self.now at target }
+    fn target_fault(&self, at: u32, target: &Option<TargetMethod>) -> Option<LayoutFault>
+        ensures { result ≡ target_fault self.now at target.now }
     {
         match target {
             None => Some(fault(at, Reason::UndefinedThread)),
@@ -114,8 +99,8 @@ impl Tables {
         let frame_at = judged_at(reference, &reference.frame);
         let target_at = judged_at(reference, &reference.target);
         lesser(
-            self.frame_fault(frame_at, threads.frame(reference)),
-            self.target_fault(target_at, threads.target(reference)),
+            self.frame_fault(frame_at, &threads.frame(reference)),
+            self.target_fault(target_at, &threads.target(reference)),
         )
     }
 
@@ -140,13 +125,15 @@ impl Tables {
         }
     }
 
-    /// The first fault of the subrecords of a FIXUPP. A fault of their layout precedes all others.
-    #[cold]
-    pub(super) fn subrecords_fault(&self, subrecords: Unread<Subrecord<'_>>) -> Option<LayoutFault>
-        ensures { result ≡ walk_fault self.now subrecords.entry.items }
+    /// Reads and checks the subrecords of a FIXUPP. If none has a fault, counts them as items and keeps their threads. A fault of their
+    /// layout precedes all others.
+    fn take_subrecords(&mut self, subrecords: Unread<Subrecord<'_>>) -> Option<LayoutFault>
+        requires { self.old.items ≤ item_limit }
+        ensures found { result ≡ walk_fault self.old subrecords.entry.items }
+        ensures kept { (subs : _) → subrecords.entry.items ≡ Ok subs → result ≡ None → self.new ≡ record self.old { items = self.old.items + length subs; threads = set_threads self.old.threads subs } }
     {
         let mut subrecords = subrecords;
-        let mut left = ITEM_LIMIT.saturating_sub(self.items);
+        let mut left = ITEM_LIMIT - self.items;
         let mut in_force = self.threads;
         let mut beyond = None;
         let mut found = None;
@@ -156,10 +143,8 @@ impl Tables {
                 Ok(None) => break,
                 Err(fault) => return Some(fault),
             };
-            beyond = lesser(
-                beyond,
-                fault_unless(left > 0, subrecord.within, Reason::TooMany),
-            );
+            let fits = fault_unless(left > 0, subrecord.within, Reason::TooMany);
+            beyond = lesser(beyond, fits);
             left = left.saturating_sub(1);
             found = lesser(
                 found,
@@ -167,7 +152,31 @@ impl Tables {
             );
             in_force.set(&subrecord.item);
         }
-        lesser(beyond, found)
+        let fault = lesser(beyond, found);
+        if fault.is_none() {
+            self.items = ITEM_LIMIT - left;
+            self.threads = in_force;
+        }
+        fault
+    }
+
+    /// Checks a FIXUPP with these subrecords. Keeps what later records need of it if it has no fault.
+    pub(super) fn take_fixups(
+        &mut self,
+        subrecords: Unread<Subrecord<'_>>,
+    ) -> Option<LayoutFault>
+        requires { self.old.items ≤ item_limit }
+        ensures found { result ≡ fixups_fault self.old subrecords.entry.items }
+        ensures kept { (subs : _) → subrecords.entry.items ≡ Ok subs → result ≡ None → self.new ≡ record self.old { items = self.old.items + items_in (Fixups subs); threads = set_threads self.old.threads subs } }
+    {
+        if !subrecords.is_end() {
+            return self.take_subrecords(subrecords);
+        }
+        if self.items == ITEM_LIMIT {
+            return Some(fault(0, Reason::TooMany));
+        }
+        self.items += 1;
+        None
     }
 
     /// The rules of the start of a MODEND: those of a reference, and that its frame method is not F4.
