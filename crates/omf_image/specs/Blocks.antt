@@ -21,11 +21,7 @@ abbrev pub gathered : List Block → Blocks
 gathered [] = NoBlocks
 gathered (b ∷ bs) = First b (gathered bs)
 
--- A repeat count has four bytes in a record of odd type (A3H), two in one of even type (A2H).
-abbrev pub count_size : Bool → ℕ
-count_size wide = if wide then 4 else 2
-
--- A repeat count of `width` bytes and a block count of two; then a length byte and that many bytes if the block count is 0, else that
+-- A repeat count of `width` bytes (four in a record of odd type, A3H; two in one of even type, A2H) and a block count of two; then a length byte and that many bytes if the block count is 0, else that
 -- many blocks. Blocks nest at most `levels` deep; with no level left, the repeat count is refused.
 abbrev pub too_deep : ℕ → List Reason
 too_deep count = reason.TooDeep ∷ []

@@ -1,11 +1,12 @@
 -- Definitions of the worked examples.
-use Rattle.std.specs.Prelude.{ℕ, List, [], ◌∷◌, ◌++◌}
+use Rattle.std.specs.Prelude.{ℕ, List, [], ◌∷◌, ◌++◌, codes}
+use Rattle.omf_frame.specs.Rows.{hex}
 use Rattle.omf_image.specs.declared.run.Run.{Run}
 use Rattle.omf_image.specs.Overlay.{Laid}
 
 -- a block of one byte, repeated once
 abbrev pub innermost : List ℕ
-innermost = 1 ∷ 0 ∷ 0 ∷ 0 ∷ 1 ∷ 0xAA ∷ []
+innermost = hex (codes "01 00 00 00 01 AA")
 
 abbrev pub lay : ℕ → ℕ → List ℕ → Laid
 lay segment offset bytes = record { segment = segment; offset = offset; bytes = bytes }
@@ -14,7 +15,8 @@ abbrev pub run : ℕ → ℕ → Run
 run first len = record { first = first; len = len }
 
 abbrev pub five : List Laid
-five = lay 1 0 (1 ∷ 2 ∷ 3 ∷ 4 ∷ []) ∷ lay 1 1 (0xAA ∷ []) ∷ lay 1 6 (5 ∷ []) ∷ lay 1 4 (0xBB ∷ 0xCC ∷ []) ∷ lay 1 2 [] ∷ []
+five = lay 1 0 (hex (codes "01 02 03 04")) ∷ lay 1 1 (hex (codes "AA")) ∷ lay 1 6 (hex (codes "05"))
+    ∷ lay 1 4 (hex (codes "BB CC")) ∷ lay 1 2 [] ∷ []
 
 abbrev pub six : List Laid
-six = five ++ lay 1 0xFFFFFFFF (0xEE ∷ []) ∷ []
+six = five ++ lay 1 0xFFFFFFFF (hex (codes "EE")) ∷ []

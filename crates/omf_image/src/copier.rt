@@ -6,7 +6,7 @@ ghost use Rattle.omf_frame.specs.Bytes.{AreBytes};
 ghost use Rattle.omf_frame.specs.Fields.{IsSpelledAt, IsUnspelled};
 ghost use Rattle.omf_image.specs.Inner.Copying.{IsMoved};
 
-use omf_frame::Field;
+use omf_frame::{Field, Width};
 use omf_records::Blocks;
 use std::alloc::{AllocError, Global};
 
@@ -14,8 +14,8 @@ use std::alloc::{AllocError, Global};
 #[derive(Clone, Copy)]
 pub struct BlockBytes<'b> {
     bytes: &'b [u8],
-    /// Whether repeat counts have 32 bits, not 16.
-    is_wide: bool,
+    /// The width of repeat counts.
+    width: Width,
     ghost are_bytes: { AreBytes bytes.now },
 }
 
@@ -23,24 +23,24 @@ impl<'b> BlockBytes<'b> {
     /// The bytes of `blocks`.
     pub fn new(blocks: Blocks<'b>) -> BlockBytes<'b>
         ensures bytes { result.bytes.now ≡ blocks.entry.bytes.now }
-        ensures width { result.is_wide ≡ blocks.entry.wide }
+        ensures width { result.width ≡ blocks.entry.width }
     {
-        BlockBytes::of(blocks.bytes, blocks.wide)
+        BlockBytes::of(blocks.bytes, blocks.width)
     }
 
     /// `bytes` as the bytes of blocks. A function of its own: each byte is known to be below 256 only in a slice parameter.
-    fn of(bytes: &'b [u8], is_wide: bool) -> BlockBytes<'b>
+    fn of(bytes: &'b [u8], width: Width) -> BlockBytes<'b>
         ensures bytes { result.bytes.now ≡ bytes.now }
-        ensures width { result.is_wide ≡ is_wide }
+        ensures width { result.width ≡ width }
     {
-        BlockBytes { bytes, is_wide }
+        BlockBytes { bytes, width }
     }
 
-    /// Whether repeat counts have 32 bits, not 16.
-    pub fn is_wide(self) -> bool
-        ensures { result ≡ self.entry.is_wide }
+    /// The width of repeat counts.
+    pub fn width(self) -> Width
+        ensures { result ≡ self.entry.width }
     {
-        self.is_wide
+        self.width
     }
 
     /// The number of bytes.

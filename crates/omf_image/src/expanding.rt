@@ -2,14 +2,15 @@
 
 ghost use Rattle.std.specs.Prelude.{◌≡◌, ◌≤◌, ◌+◌, ◌-◌, [], length, drop, vec_len, OnOk, IfOk, IsOk};
 ghost use Rattle.omf_records.specs.Inner.FieldReaders.{le_read, name_read};
-ghost use Rattle.omf_image.specs.Blocks.{count_size, repeated};
+ghost use Rattle.omf_frame.specs.Types.{width_bytes};
+ghost use Rattle.omf_image.specs.Blocks.{repeated};
 ghost use Rattle.omf_image.specs.Inner.Expanding.{expanded_length, expanded};
 ghost use Rattle.omf_image.specs.Inner.Lengths.{capped};
 ghost use Rattle.omf_image.specs.Inner.Copying.{IsMoved, IsRead, IsPassed, bytes_block, bytes_contents, bytes_all};
 
 use crate::copier::{BlockBytes, Copier};
 use crate::limits::Limits;
-use omf_frame::{Le16, Le32, Name};
+use omf_frame::{Le16, Le32, Name, Width};
 use omf_records::Blocks;
 use std::alloc::{AllocError, Global};
 
@@ -25,17 +26,25 @@ impl Copier {
         }
     }
 
-    /// Reads a repeat count of 32 or 16 bits at `pos`. Returns it and the position after it.
-    fn count(&mut self, source: BlockBytes<'_>, pos: usize) -> (u32, usize)
-        requires { (pos ≤ length source.bytes.now) × IsOk (le_read (count_size source.is_wide) pos (drop pos source.bytes.now)) }
-        ensures { IsRead source.entry.bytes.now pos (le_read (count_size source.entry.is_wide) pos (drop pos source.entry.bytes.now)) result.0 result.1 self.old.out.items self.old.moved self.new.out.items self.new.moved }
+    /// Reads a 32-bit number at `pos`. Returns it and the position after it.
+    fn dword(&mut self, source: BlockBytes<'_>, pos: usize) -> (u32, usize)
+        requires { (pos ≤ length source.bytes.now) × IsOk (le_read 4 pos (drop pos source.bytes.now)) }
+        ensures { IsRead source.entry.bytes.now pos (le_read 4 pos (drop pos source.entry.bytes.now)) result.0 result.1 self.old.out.items self.old.moved self.new.out.items self.new.moved }
     {
-        if !source.is_wide() {
-            return self.word(source, pos);
-        }
         match self.read::<Le32>(source, pos) {
             Some((Le32(value), end)) => (value, end),
             None => unreachable!(),
+        }
+    }
+
+    /// Reads a repeat count at `pos`. Returns it and the position after it.
+    fn count(&mut self, source: BlockBytes<'_>, pos: usize) -> (u32, usize)
+        requires { (pos ≤ length source.bytes.now) × IsOk (le_read (width_bytes source.width) pos (drop pos source.bytes.now)) }
+        ensures { IsRead source.entry.bytes.now pos (le_read (width_bytes source.entry.width) pos (drop pos source.entry.bytes.now)) result.0 result.1 self.old.out.items self.old.moved self.new.out.items self.new.moved }
+    {
+        match source.width() {
+            Width::Bits16 => self.word(source, pos),
+            Width::Bits32 => self.dword(source, pos),
         }
     }
 
@@ -92,8 +101,8 @@ impl Copier {
         start: usize,
         is_wanted: bool,
     ) -> Result<usize, AllocError>
-        requires { (start ≤ length source.bytes.now) × IsOk (bytes_contents (bytes_block (count_size source.is_wide) levels) blocks start (drop start source.bytes.now)) }
-        ensures { IfOk result (IsPassed source.entry.bytes.now start (bytes_contents (bytes_block (count_size source.entry.is_wide) levels) blocks start (drop start source.entry.bytes.now)) is_wanted self.old.out.items self.old.moved self.new.out.items self.new.moved) }
+        requires { (start ≤ length source.bytes.now) × IsOk (bytes_contents (bytes_block (width_bytes source.width) levels) blocks start (drop start source.bytes.now)) }
+        ensures { IfOk result (IsPassed source.entry.bytes.now start (bytes_contents (bytes_block (width_bytes source.entry.width) levels) blocks start (drop start source.entry.bytes.now)) is_wanted self.old.out.items self.old.moved self.new.out.items self.new.moved) }
     {
         if blocks == 0 {
             return self.data(source, start, is_wanted);
@@ -115,8 +124,8 @@ impl Copier {
         pos: usize,
         is_wanted: bool,
     ) -> Result<usize, AllocError>
-        requires { (pos ≤ length source.bytes.now) × IsOk (bytes_block (count_size source.is_wide) levels pos (drop pos source.bytes.now)) }
-        ensures { IfOk result (IsPassed source.entry.bytes.now pos (bytes_block (count_size source.entry.is_wide) levels pos (drop pos source.entry.bytes.now)) is_wanted self.old.out.items self.old.moved self.new.out.items self.new.moved) }
+        requires { (pos ≤ length source.bytes.now) × IsOk (bytes_block (width_bytes source.width) levels pos (drop pos source.bytes.now)) }
+        ensures { IfOk result (IsPassed source.entry.bytes.now pos (bytes_block (width_bytes source.entry.width) levels pos (drop pos source.entry.bytes.now)) is_wanted self.old.out.items self.old.moved self.new.out.items self.new.moved) }
     {
         let (count, after_count) = self.count(source, pos);
         let (blocks, start) = self.word(source, after_count);
@@ -143,8 +152,8 @@ pub fn expand(
     limits: Limits,
 ) -> Result<(Vec<u8>, u64), AllocError>
     requires sized { (limits.nesting ≤ 64) × (length blocks.bytes.now ≤ 65534) }
-    requires fits { IsOk (expanded_length (count_size blocks.wide) limits blocks.bytes.now) }
-    ensures bytes { IfOk result (λ r. r.0.items ≡ expanded (count_size blocks.entry.wide) limits blocks.entry.bytes.now) }
+    requires fits { IsOk (expanded_length (width_bytes blocks.width) limits blocks.bytes.now) }
+    ensures bytes { IfOk result (λ r. r.0.items ≡ expanded (width_bytes blocks.entry.width) limits blocks.entry.bytes.now) }
     ensures least { IfOk result (λ r. vec_len r.0 ≤ r.1) }
     ensures most { IfOk result (λ r. r.1 ≤ length blocks.entry.bytes.now + vec_len r.0) }
     ensures all { IfOk result (λ r. capped (length blocks.entry.bytes.now + vec_len r.0) ≤ r.1) }

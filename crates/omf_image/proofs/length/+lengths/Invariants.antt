@@ -1,5 +1,5 @@
 use Rattle.std.proofs.Common.{◌≡◌, ◌≤◌, ◌+◌, ◌*◌, ◌-◌, length, drop}
-use Rattle.omf_image.specs.Blocks.{count_size}
+use Rattle.omf_frame.specs.Types.{width_bytes}
 use Rattle.omf_image.specs.Inner.Lengths.{len_block, len_times}
 use Rattle.omf_image.proofs.length.+lengths.Given as goal
 
@@ -14,6 +14,6 @@ abbrev pub invariant-contents_len-loop : goal.invariant-contents_len-loop
 invariant-contents_len-loop l = record {
   from : l.start ≤ l.end;
   to : l.end ≤ length l.bytes;
-  same : len_times (len_block (count_size l.wide) l.levels) (l.blocks - l.counter) l.inner l.end (drop l.end l.bytes)
-      ≡ len_times (len_block (count_size l.wide) l.levels) l.blocks 0 l.start (drop l.start l.bytes);
+  same : len_times (len_block (width_bytes l.width) l.levels) (l.blocks - l.counter) l.inner l.end (drop l.end l.bytes)
+      ≡ len_times (len_block (width_bytes l.width) l.levels) l.blocks 0 l.start (drop l.start l.bytes);
 }

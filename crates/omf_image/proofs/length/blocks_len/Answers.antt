@@ -1,13 +1,13 @@
 use Rattle.std.proofs.Common.{◌<◌, ◌∙◌, ap, length, length-drop, drop, ℕ, arith, rules}
 use Rattle.omf_records.specs.Inner.Reads.{after}
-use Rattle.omf_image.specs.Blocks.{count_size}
+use Rattle.omf_frame.specs.Types.{width_bytes}
 use Rattle.omf_image.specs.Inner.Lengths.{len_block, len_all}
 use Rattle.omf_image.proofs.Counting.{size_step}
 use Rattle.omf_image.proofs.length.blocks_len.Goals as goal
 
 pub loop-pos-preserved : goal.loop-pos-preserved
 loop-pos-preserved c =
-    let w : ℕ = count_size c.args.wide in
+    let w : ℕ = width_bytes c.args.width in
     let bytes = c.args.bytes.now in
     let left = drop c.loop-pos.pos bytes in
     let low : c.loop-pos.pos < length bytes = search rules in

@@ -2,7 +2,8 @@ use Rattle.std.proofs.Common.{◌≡◌, refl, ◌∙◌, ◌<◌, ◌-◌, ◌+
 use Rattle.std.specs.Prelude.{IsOk}
 use Rattle.std.proofs.lemmas.Result.{IfOk-weaker}
 use Rattle.omf_records.specs.Inner.Reads.{Reading}
-use Rattle.omf_image.specs.Blocks.{count_size, repeated}
+use Rattle.omf_frame.specs.Types.{width_bytes}
+use Rattle.omf_image.specs.Blocks.{repeated}
 use Rattle.omf_image.specs.Inner.Copying.{copies, bytes_block, bytes_times}
 use Rattle.omf_image.proofs.FoldSteps.{block_ok, times_contents, times_step}
 use Rattle.omf_image.proofs.CopySteps.{block_some, block_levels, block_counts, block_words, contents_are, moves_then, moves_as, moves_none, times_ok, written_again, back_part, wanted_more, wanted_all, wanted_nothing, unwanted}
@@ -10,17 +11,17 @@ use Rattle.omf_image.proofs.copier.Copier.+copies.Goals as goal
 
 pub block-count-count-requires : goal.block-count-count-requires
 block-count-count-requires t c =
-    (c.requires.0, block_counts (count_size c.args.source.is_wide) c.args.levels c.args.pos (drop c.args.pos c.args.source.bytes.now) c.requires.1)
+    (c.requires.0, block_counts (width_bytes c.args.source.width) c.args.levels c.args.pos (drop c.args.pos c.args.source.bytes.now) c.requires.1)
 
 pub block-word-blocks-requires : goal.block-word-blocks-requires
 block-word-blocks-requires t c =
     let q = c.count-count.ensures in
-    (q.to, block_words (count_size c.args.source.is_wide) c.args.levels c.args.pos (drop c.args.pos c.args.source.bytes.now) c.requires.1 c.count-count.result.0 c.count-count.result.1 _ q.is)
+    (q.to, block_words (width_bytes c.args.source.width) c.args.levels c.args.pos (drop c.args.pos c.args.source.bytes.now) c.requires.1 c.count-count.result.0 c.count-count.result.1 _ q.is)
 
 pub block-contents-requires : goal.block-contents-requires
 block-contents-requires t c =
     let rest = drop c.args.pos c.args.source.bytes.now in
-    let w = count_size c.args.source.is_wide in
+    let w = width_bytes c.args.source.width in
     let some = block_levels w c.args.levels c.args.pos rest c.requires.1 in (
       omega (arith, some),
       (
@@ -33,7 +34,7 @@ block-contents-requires t c =
 pub block-contents-requires-2 : goal.block-contents-requires-2
 block-contents-requires-2 t c =
     let rest = drop c.args.pos c.args.source.bytes.now in
-    let w = count_size c.args.source.is_wide in
+    let w = width_bytes c.args.source.width in
     let some = block_levels w c.args.levels c.args.pos rest c.requires.1 in (
       omega (arith, some),
       (
@@ -46,7 +47,7 @@ block-contents-requires-2 t c =
 pub block-returns-then-not-is_wanted : goal.block-returns-then-not-is_wanted
 block-returns-then-not-is_wanted t c =
     let rest = drop c.args.pos c.args.source.bytes.now in
-    let w = count_size c.args.source.is_wide in
+    let w = width_bytes c.args.source.width in
     let count : ℕ = c.count-count.result.0 in
     IfOk-weaker c.contents.result _ _ (λ end h. record {
       value = repeated count h.value;
@@ -60,7 +61,7 @@ block-returns-then-not-is_wanted t c =
 pub block-returns : goal.block-returns
 block-returns t c =
     let rest = drop c.args.pos c.args.source.bytes.now in
-    let w = count_size c.args.source.is_wide in
+    let w = width_bytes c.args.source.width in
     let count : ℕ = c.count-count.result.0 in
     let x : List ℕ = c.in_ok-end.ensures.value in
     let old : List ℕ = c.word-blocks.new.self.out.items in
@@ -84,14 +85,14 @@ contents-loop-init t c = record {
   to = c.requires.0;
   written = (
     [],
-    ap (λ k. bytes_times (bytes_block (count_size c.args.source.is_wide) c.args.levels) k [] c.args.start (drop c.args.start c.args.source.bytes.now)) (omega arith),
+    ap (λ k. bytes_times (bytes_block (width_bytes c.args.source.width) c.args.levels) k [] c.args.start (drop c.args.start c.args.source.bytes.now)) (omega arith),
     moves_as (moves_none _ _ _ (omega arith)) refl (wanted_nothing c.args.is_wanted),
   );
 }
 
 pub contents-block-requires : goal.contents-block-requires
 contents-block-requires t c =
-    let block : Reading (List ℕ) = bytes_block (count_size c.args.source.is_wide) c.args.levels in
+    let block : Reading (List ℕ) = bytes_block (width_bytes c.args.source.width) c.args.levels in
     let low : c.loop.counter < c.args.blocks = search rules in
     let whole : IsOk (bytes_times block c.args.blocks [] c.args.start (drop c.args.start c.args.source.bytes.now))
     = subst (λ r. IsOk (r c.args.start (drop c.args.start c.args.source.bytes.now))) (times_contents copies block c.args.blocks c.if-blocks-eq0.false) c.requires.1 in
@@ -100,7 +101,7 @@ contents-block-requires t c =
 
 pub contents-loop-preserved : goal.contents-loop-preserved
 contents-loop-preserved t c =
-    let block : Reading (List ℕ) = bytes_block (count_size c.args.source.is_wide) c.args.levels in
+    let block : Reading (List ℕ) = bytes_block (width_bytes c.args.source.width) c.args.levels in
     let low : c.loop.counter < c.args.blocks = search rules in
     let w = c.in_ok-end.ensures in
     let front : List ℕ = c.loop.invariant.written.0 in

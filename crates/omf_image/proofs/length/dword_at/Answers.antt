@@ -1,13 +1,11 @@
-use Rattle.std.proofs.Common.{◌∙◌, sym, ap, drop, Err}
+use Rattle.std.proofs.Common.{◌∙◌, sym, ap, Err}
 use Rattle.omf_frame.specs.Fault.{Fault}
 use Rattle.omf_frame.specs.Fields.{IsLittle}
 use Rattle.omf_records.specs.Inner.FieldReaders.{le_read, le_ok, le_short}
-use Rattle.omf_image.specs.Blocks.{count_size}
 use Rattle.omf_image.proofs.FieldSteps.{unread}
-use Rattle.omf_image.proofs.length.count_at.Goals as goal
+use Rattle.omf_image.proofs.length.dword_at.Goals as goal
 
 pub returns-in-None-clause-read : goal.returns-in-None-clause-read
 returns-in-None-clause-read c =
     ap (λ (e : Fault). Err e) c.fault_at.ensures
     ∙ sym (unread (IsLittle 4) (le_read 4) (le_ok 4) (le_short 4) c.args.pos c.args.bytes.now (λ i. (c.type_inv.bytes i).fits) (λ v front back sp parts. c.in-None.ensures.none (record { 0 = v }) front back sp parts))
-    ∙ ap (λ b. le_read (count_size b) c.args.pos (drop c.args.pos c.args.bytes.now)) (sym c.if-not-wide.false)
