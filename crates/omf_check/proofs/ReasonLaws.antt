@@ -1,18 +1,15 @@
 -- Faults of layouts, of blocks and of rules have reasons from 8 on: those of 1 to 7 are of framing alone.
-use Rattle.std.proofs.Common.{◌≡◌, ℕ, zero, suc, ◌+◌, ◌-◌, ◌<◌, Bool, true, false, cond, List, [], ◌∷◌, ◌++◌, Option, Some, None, Result, Ok, Err, refl, sym, subst, inl, inr, length, lit<}
-use Rattle.std.specs.Prelude.{⊤, ◌==◌, ◌||◌, not, nat_lt, nat_le}
-use Rattle.omf_frame.specs.Bytes.{AreBytes, is_one_of}
+use Rattle.std.proofs.Common.{◌≡◌, ℕ, zero, suc, ◌+◌, ◌-◌, ◌<◌, Bool, true, false, cond, List, [], ◌∷◌, ◌++◌, Option, Some, None, Result, Ok, Err, refl, sym, subst, inl, inr, length, lit<, arith}
+use Rattle.std.specs.Prelude.{⊤, ◌==◌, nat_lt, nat_le}
+use Rattle.omf_frame.specs.Bytes.{AreBytes}
 use Rattle.omf_frame.specs.Fault.{Fault, reason_number, is_before, rule, broken, least, first_step}
-use Rattle.omf_frame.specs.Types.{coment, extdef, pubdef, lnames, segdef, grpdef, fixupp, ledata, lidata, comdef, lextdef, lpubdef, lcomdef, llnames}
-use Rattle.omf_frame.specs.Framing.{is_header, is_end}
 use Rattle.omf_frame.specs.declared.fault.Reason.{Reason}
 use Rattle.omf_frame.specs.declared.fault.Reason.TheVariants as reason
-use Rattle.omf_records.specs.Entries.{unless, wrong_component, member, external, public_item, wrong_data_type, far_size, communal_size, communal, wrong_methods, is_frame_method, reference, wrong_thread, thread, wrong_location, fixup, wrong_head, subrecord}
-use Rattle.omf_records.specs.Layout.{Layout, ◌>>=◌, give, ends, rest, many, times, field, field_or, name, index, byte, le, number_of, begins_length, length_reason, communal_length, head, IsIn, checked, with_place, called, choose, either, when}
+use Rattle.omf_records.specs.Layout.{Layout, ◌>>=◌, give, many, times, field, field_or, name, le, IsIn, checked, called, choose}
 use Rattle.omf_records.specs.Inner.Reading.{read_body}
 use Rattle.omf_records.specs.Inner.RecordReaders.{contents_whole}
-use Rattle.omf_records.specs.Records.{header, comment, names, wrong_alignment, wrong_size, absolute, segment, group, externs, publics, communals, data_item, fixups, mod_end, carried, contents}
-use Rattle.omf_records.specs.Values.{At, Contents, Comment, Names, Segment, Group, Externs, Publics, Communals, Plain, Iterated, Fixups, ModEnd, Header, Near, Subrecord, Thread, Fixup, Reference, thread_is_frame, thread_method, is_segment_relative, location_type, frame_by_thread, frame_bits, target_by_thread, target_bits, is_location, may_be_self_relative, is_wide, alignment, is_big, has_start, has_frame_datum, has_target_datum, has_no_displacement, width}
+use Rattle.omf_records.proofs.ReasonLaws.{layout_inner}
+use Rattle.omf_records.specs.Values.{At, Contents, Comment, Names, Segment, Group, Externs, Publics, Communals, Plain, Iterated, Fixups, ModEnd, Header, Subrecord, Thread, Fixup, Reference, width}
 use Rattle.omf_image.specs.Blocks.{Blocks, too_deep, block, blocks, Repeat, Nest, gathered, blocks_size}
 use Rattle.omf_image.specs.Inner.BlockReaders.{blocks_whole}
 use Rattle.omf_image.specs.Inner.Expanding.{read_blocks, blocks_of, faults_of, length_or, expanded_length}
@@ -26,7 +23,7 @@ use Rattle.omf_check.specs.Inner.Judging.{fault_unless, lesser, room_fault, entr
 use Rattle.omf_check.specs.Inner.Kept.{Kept, set_thread}
 use Rattle.omf_check.specs.Rules.{undefined, table_limit, item_limit, places, item_places}
 use Rattle.omf_check.specs.Threads.{Kind, FrameMethod, Of, F4, F5, TargetMethod}
-use Rattle.omf_check.specs.declared.method.Kind.TheVariants as kinds
+use Rattle.omf_records.specs.declared.method.Kind.TheVariants as kinds
 use Rattle.omf_check.proofs.ShortLaws.{HasBytes, spelled_bytes}
 
 abbrev pub IsInner : Reason → Type 0
@@ -35,26 +32,10 @@ IsInner r = 7 < reason_number r
 AllInner : List Reason → Type 0
 AllInner rs = (r : Reason) → IsIn r rs → IsInner r
 
-unless_inner : (b : Bool) (r : Reason) → IsInner r → AllInner (unless b r)
-unfolding AllInner
-unless_inner true r h s i = absurd i
-unless_inner false r h s (inl e) = subst IsInner (sym e) h
-unless_inner false r h s (inr i) = absurd i
-
 one_inner : (r : Reason) → IsInner r → AllInner (r ∷ [])
 unfolding AllInner
 one_inner r h s (inl e) = subst IsInner (sym e) h
 one_inner r h s (inr i) = absurd i
-
-both_inner : (xs ys : List Reason) → AllInner xs → AllInner ys → AllInner (xs ++ ys)
-unfolding AllInner
-both_inner [] ys h k s i = k s i
-both_inner (x ∷ xs) ys h k s (inl e) = h s (inl e)
-both_inner (x ∷ xs) ys h k s (inr i) = both_inner xs ys (λ r j. h r (inr j)) k s i
-
-if_inner : (b : Bool) (xs ys : List Reason) → AllInner xs → AllInner ys → AllInner (cond b xs ys)
-if_inner true xs ys h k = h
-if_inner false xs ys h k = k
 
 -- Layouts.
 Inner : {A : Type 0} → Layout A → Type 0
@@ -68,14 +49,6 @@ then_inner p f h k at bytes e (inr (front, back, x, parts, sp, q)) = k x (at + l
 give_inner : {A : Type 0} (x : A) → Inner (give x)
 unfolding Inner
 give_inner x at bytes e q = absurd q
-
-ends_inner : {A : Type 0} (x : A) → Inner (ends x)
-unfolding Inner
-ends_inner x at bytes e (some, is) = subst (λ (f : Fault). IsInner f.reason) (sym is) (lit< tt)
-
-rest_inner : Inner rest
-unfolding Inner
-rest_inner at bytes e q = absurd q
 
 many_inner : {A : Type 0} (p : Layout A) → Inner p → Inner (many p)
 unfolding Inner
@@ -93,10 +66,6 @@ unfolding Inner AllInner
 checked_inner p refused h k at bytes e (inl q) = h at bytes e q
 checked_inner p refused h k at bytes e (inr (front, back, x, parts, sp, w, i)) = k x e.reason i
 
-placed_inner : {A : Type 0} (p : Layout A) → Inner p → Inner (with_place p)
-unfolding Inner
-placed_inner p h = h
-
 called_inner : {A B : Type 0} (p : Layout A) (f : A → B) → Inner p → Inner (called p f)
 unfolding Inner
 called_inner p f h = h
@@ -106,13 +75,6 @@ unfolding Inner
 choose_inner true p q h k = h
 choose_inner false p q h k = k
 
-either_inner : {A : Type 0} (b : Bool) (p q : Layout A) → Inner p → Inner q → Inner (either b p q)
-either_inner true p q h k = h
-either_inner false p q h k = k
-
-when_inner : {A : Type 0} (b : Bool) (p : Layout A) → Inner p → Inner (when b p)
-when_inner b p h = choose_inner b (called p (λ x. Some x)) (give None) (called_inner p (λ x. Some x) h) (give_inner None)
-
 times_inner : {A : Type 0} (n : ℕ) (p : Layout A) → Inner p → Inner (times n p)
 times_inner zero p h = give_inner []
 times_inner (suc n) p h = then_inner p _ h (λ x. then_inner (times n p) _ (times_inner n p h) (λ xs. give_inner (x ∷ xs)))
@@ -121,120 +83,8 @@ times_inner (suc n) p h = then_inner p _ h (λ x. then_inner (times n p) _ (time
 name_inner : Inner name
 name_inner = short_inner _
 
-index_inner : Inner index
-index_inner = short_inner _
-
-byte_inner : Inner byte
-byte_inner = short_inner _
-
 le_inner : (k : ℕ) → Inner (le k)
 le_inner k = short_inner _
-
-index_at_inner : Inner (with_place index)
-index_at_inner = placed_inner index index_inner
-
-length_inner : (bytes : List ℕ) → IsInner (length_reason bytes)
-length_inner [] = lit< tt
-length_inner (a ∷ bytes) = by (begins_length a)
-  where
-    by : (b : Bool) → IsInner (cond b reason.Short reason.CommunalLength)
-    by true = lit< tt
-    by false = lit< tt
-
-communal_length_inner : Inner communal_length
-communal_length_inner = field_inner length_reason _ length_inner
-
-member_inner : Inner member
-member_inner = then_inner _ _ (checked_inner byte wrong_component byte_inner (λ c. unless_inner (c == 0xFF) reason.GroupComponent (lit< tt))) (λ c. index_at_inner)
-
-external_inner : Inner external
-external_inner = then_inner _ _ name_inner (λ n. then_inner _ _ index_inner (λ i. give_inner _))
-
-public_inner : (wide : Bool) → Inner (public_item wide)
-public_inner wide = then_inner _ _ name_inner (λ n. then_inner _ _ (le_inner _) (λ o. then_inner _ _ index_inner (λ i. give_inner _)))
-
-far_inner : Inner far_size
-far_inner = then_inner _ _ communal_length_inner (λ c. then_inner _ _ communal_length_inner (λ s. give_inner _))
-
-size_inner : Inner communal_size
-size_inner =
-    then_inner _ _ (checked_inner byte wrong_data_type byte_inner (λ t. unless_inner (is_one_of (0x61 ∷ 0x62 ∷ []) t) reason.CommunalType (lit< tt)))
-    (λ t. choose_inner (t == 0x62) _ _ (called_inner communal_length Near communal_length_inner) far_inner)
-
-communal_inner : Inner communal
-communal_inner = then_inner _ _ name_inner (λ n. then_inner _ _ index_inner (λ i. then_inner _ _ size_inner (λ s. give_inner _)))
-
-methods_inner : (fix : ℕ) → AllInner (wrong_methods fix)
-methods_inner fix =
-    both_inner _ _ (unless_inner (frame_by_thread fix || is_frame_method (frame_bits fix)) reason.FrameMethod (lit< tt))
-    (unless_inner (target_by_thread fix || nat_lt (target_bits fix) 3) reason.TargetMethod (lit< tt))
-
-reference_inner : (wide : Bool) → Inner (reference wide)
-reference_inner wide =
-    then_inner _ _ (placed_inner _ (checked_inner byte wrong_methods byte_inner methods_inner)) (λ f.
-    then_inner _ _ (when_inner (has_frame_datum f.item) (with_place index) index_at_inner) (λ d.
-    then_inner _ _ (when_inner (has_target_datum f.item) (with_place index) index_at_inner) (λ t.
-    then_inner _ _ (when_inner (not (has_no_displacement f.item)) (number_of wide) (le_inner _)) (λ u. give_inner _))))
-
-thread_reasons : (b : ℕ) → AllInner (wrong_thread b)
-thread_reasons b =
-    if_inner (thread_is_frame b) _ _ (unless_inner (is_frame_method (thread_method b)) reason.FrameMethod (lit< tt))
-    (unless_inner (nat_lt (thread_method b) 3) reason.TargetMethod (lit< tt))
-
-location_reasons : (l : ℕ) → AllInner (wrong_location l)
-location_reasons l =
-    if_inner (is_location (location_type l)) _ _ (unless_inner (is_segment_relative l || may_be_self_relative (location_type l)) reason.SelfRelative (lit< tt))
-    (one_inner reason.LocationType (lit< tt))
-
-subrecord_inner : (wide : Bool) → Inner (subrecord wide)
-subrecord_inner wide =
-    then_inner _ _ (checked_inner head wrong_head (short_inner _) (λ h. if_inner (nat_lt h 128) _ _ (thread_reasons h) (location_reasons h)))
-    (λ h. choose_inner (nat_lt h 128) (thread h) (fixup wide h) (called_inner _ (Thread h) (when_inner (nat_lt (thread_method h) 3) (with_place index) index_at_inner))
-    (called_inner (reference wide) (Fixup h) (reference_inner wide)))
-
--- Contents.
-header_inner : Inner header
-header_inner = then_inner _ _ name_inner (λ n. ends_inner _)
-
-comment_inner : Inner comment
-comment_inner = then_inner _ _ byte_inner (λ t. then_inner _ _ byte_inner (λ c. called_inner rest (Comment t c) rest_inner))
-
-segment_inner : (wide : Bool) → Inner (segment wide)
-segment_inner wide =
-    then_inner _ _ (checked_inner byte wrong_alignment byte_inner (λ a. unless_inner (nat_lt (alignment a) 6) reason.Alignment (lit< tt))) (λ a.
-    then_inner _ _ (when_inner (alignment a == 0) absolute (then_inner _ _ (le_inner 2) (λ f. then_inner _ _ byte_inner (λ o. give_inner _)))) (λ p.
-    then_inner _ _ (checked_inner (number_of wide) (wrong_size a) (le_inner _) (λ s. unless_inner (not (is_big a) || (s == 0)) reason.BigLength (lit< tt))) (λ s.
-    then_inner _ _ index_at_inner (λ n. then_inner _ _ index_at_inner (λ c. then_inner _ _ index_inner (λ o. ends_inner _))))))
-
-group_inner : Inner group
-group_inner = then_inner _ _ index_at_inner (λ n. called_inner _ _ (many_inner member member_inner))
-
-publics_inner : (wide : Bool) → Inner (publics wide)
-publics_inner wide =
-    then_inner _ _ index_at_inner (λ g. then_inner _ _ index_at_inner (λ s. then_inner _ _ (when_inner (s.item == 0) (le 2) (le_inner 2)) (λ f.
-    called_inner _ _ (many_inner (public_item wide) (public_inner wide)))))
-
-data_inner : (wide : Bool) → Inner (data_item wide)
-data_inner wide = then_inner _ _ index_at_inner (λ s. then_inner _ _ (placed_inner _ (le_inner _)) (λ o. called_inner rest _ rest_inner))
-
-end_inner : (wide : Bool) → Inner (mod_end wide)
-end_inner wide = then_inner _ _ byte_inner (λ t. then_inner _ _ (when_inner (has_start t) (reference wide) (reference_inner wide)) (λ s. ends_inner _))
-
-contents_inner : (kind : ℕ) → Inner (contents kind)
-contents_inner kind =
-    let wide = is_wide kind in
-    either_inner (is_header kind) header _ header_inner (
-    either_inner (is_one_of coment kind) comment _ comment_inner (
-    either_inner (is_one_of (lnames ++ llnames) kind) names _ (called_inner (many name) Names (many_inner name name_inner)) (
-    either_inner (is_one_of segdef kind) (segment wide) _ (segment_inner wide) (
-    either_inner (is_one_of grpdef kind) group _ group_inner (
-    either_inner (is_one_of (extdef ++ lextdef) kind) externs _ (called_inner (many external) Externs (many_inner external external_inner)) (
-    either_inner (is_one_of (pubdef ++ lpubdef) kind) (publics wide) _ (publics_inner wide) (
-    either_inner (is_one_of (comdef ++ lcomdef) kind) communals _ (called_inner (many communal) Communals (many_inner communal communal_inner)) (
-    either_inner (is_one_of ledata kind) (called (data_item wide) Plain) _ (called_inner (data_item wide) Plain (data_inner wide)) (
-    either_inner (is_one_of lidata kind) (called (data_item wide) Iterated) _ (called_inner (data_item wide) Iterated (data_inner wide)) (
-    either_inner (is_one_of fixupp kind) (fixups wide) _ (called_inner (many (subrecord wide)) Fixups (many_inner (subrecord wide) (subrecord_inner wide))) (
-    either_inner (is_end kind) (mod_end wide) carried (end_inner wide) (called_inner rest _ rest_inner))))))))))))
 
 -- Blocks.
 block_inner : (width levels : ℕ) → Inner (block width levels)
@@ -389,7 +239,7 @@ module _ (kept : Kept) where
   unfolding Inner FaultInner
   by_read profile limits kind body small (Ok c) e =
       by_data profile c (data_size limits kind c) (by_bytes profile limits kind c (spelled_bytes kind body c small ((contents_whole kind).ok 3 body c small e)))
-  by_read profile limits kind body small (Err f) e = contents_inner kind 3 body f ((contents_whole kind).err 3 body f small e)
+  by_read profile limits kind body small (Err f) e = let inner = layout_inner kind 3 body f ((contents_whole kind).err 3 body f small e) in omega (arith, inner)
 
   -- The refusal of a framed record.
   pub raw_inner : (profile : Profile) (limits : Limits) (kind : ℕ) (body : List ℕ) → AreBytes body → FaultInner (raw_fault profile limits kept kind body)

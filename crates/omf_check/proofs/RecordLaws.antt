@@ -9,6 +9,8 @@ use Rattle.omf_frame.specs.declared.fault.Reason.TheVariants as reason
 use Rattle.omf_records.specs.Values.{At, Rec, Contents, Names, Segment, Group, Externs, Communals, Plain, Iterated, Fixups, width}
 use Rattle.omf_records.specs.declared.record.Rec.{Rec as CodeRec}
 use Rattle.omf_records.specs.declared.record.Rec.TheVariants as code
+use Rattle.omf_frame.specs.declared.kinds.Width.{Width}
+use Rattle.omf_frame.specs.declared.kinds.Width.TheVariants.{Bits16, Bits32}
 use Rattle.omf_records.specs.Inner.Seen.{contents_seen, kind_seen, odd_if}
 use Rattle.omf_records.specs.Valued.{is_fixupp}
 use Rattle.omf_records.specs.Inner.Reading.{read_body, fault_list, contents_or}
@@ -100,11 +102,11 @@ item_lengths _ = refl
 
 -- A record other than a FIXUPP is one item, at its start.
 pub not_fixupp : (r : CodeRec) → is_fixupp (kind_seen r) ≡ false → IsNoFixupp (contents_seen r)
-not_fixupp (code.Fixups wide subs) h = absurd (by wide h)
+not_fixupp (code.Fixups width subs) h = absurd (by width h)
   where
-    by : (wide : Bool) → is_fixupp (odd_if wide 0x9C) ≡ false → ⊥
-    by true h = cc
-    by false h = cc
+    by : (width : Width) → is_fixupp (odd_if width 0x9C) ≡ false → ⊥
+    by Bits16 h = cc
+    by Bits32 h = cc
 not_fixupp (code.Names items) h = tt
 not_fixupp _ h = tt
 

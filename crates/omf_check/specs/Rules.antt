@@ -13,7 +13,7 @@ use Rattle.omf_image.specs.Inner.Expanding.{blocks_of}
 use Rattle.omf_image.specs.declared.limits.Limits.{Limits}
 use Rattle.omf_check.specs.Tables.{names, segments, groups, externals, is_defined, is_none_or_defined, entry, item_count, subrecords, last_data, entries}
 use Rattle.omf_check.specs.Threads.{Kind, FrameMethod, Of, F4, F5, TargetMethod, frame_of, target_of}
-use Rattle.omf_check.specs.declared.method.Kind.TheVariants as kinds
+use Rattle.omf_records.specs.declared.method.Kind.TheVariants as kinds
 use Rattle.omf_check.specs.declared.profile.Profile.{Profile}
 
 -- The limits of this profile: entries of each table, and items of a module.

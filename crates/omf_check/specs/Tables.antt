@@ -4,8 +4,8 @@ use Rattle.std.specs.Prelude.{ℕ, ◌-◌, ◌^◌, List, [], ◌∷◌, length
 use Rattle.omf_frame.specs.Bytes.{last}
 use Rattle.omf_frame.specs.Types.{is_local}
 use Rattle.omf_records.specs.Values.{Rec, Contents, Names, Segment, Group, Externs, Communals, Fixups, Plain, Iterated, SegmentItem, GroupItem, Subrecord, is_big, width_bits}
-use Rattle.omf_check.specs.declared.method.Kind.{Kind}
-use Rattle.omf_check.specs.declared.method.Kind.TheVariants as kinds
+use Rattle.omf_records.specs.declared.method.Kind.{Kind}
+use Rattle.omf_records.specs.declared.method.Kind.TheVariants as kinds
 use Rattle.omf_check.specs.declared.segment.SegInfo.{SegInfo}
 
 -- The length of a segment in bytes: 2^16 for a big segment of 98H, 2^32 for one of 99H, else the length field.

@@ -2,22 +2,16 @@
 use Rattle.std.specs.Prelude.{ℕ, List, filter_map, Bool, true, false, ◌&&◌, ◌==◌, Option, Some, None, unwrap_or, option_map, if◌then◌else◌}
 use Rattle.omf_frame.specs.Bytes.{last}
 use Rattle.omf_records.specs.Values.{At, Subrecord, Thread, Fixup, Reference, thread_is_frame, thread_method, thread_number, frame_by_thread, frame_bits, frame_thread, target_by_thread, target_bits}
--- The tables that methods refer to, and the codes of frame methods.
-pub use Rattle.omf_check.specs.declared.method.Kind.{Kind}
-use Rattle.omf_check.specs.declared.method.Kind.TheVariants as kinds
-pub use Rattle.omf_check.specs.declared.method.FrameCode.{FrameCode}
-use Rattle.omf_check.specs.declared.method.FrameCode.TheVariants as codes
+-- The tables that methods refer to, and frame methods without their index.
+pub use Rattle.omf_records.specs.declared.method.Kind.{Kind}
+use Rattle.omf_records.specs.declared.method.Kind.TheVariants as kinds
+use Rattle.omf_records.specs.declared.method.FrameCode.{FrameCode}
+use Rattle.omf_records.specs.declared.method.FrameCode.TheVariants as codes
+use Rattle.omf_records.specs.Methods.{kind_of, frame_code}
 -- A target: the entry of a table. A frame: that of a segment, a group or an external; of the segment of the last data record; or of the target.
 pub use Rattle.omf_check.specs.declared.method.TargetMethod.{TargetMethod}
 pub use Rattle.omf_check.specs.declared.method.FrameMethod.{FrameMethod}
 pub use Rattle.omf_check.specs.declared.method.FrameMethod.TheVariants.{Of, Location as F4, Target as F5}
-
-abbrev pub kind_of : ℕ → Kind
-kind_of code = if code == 0 then kinds.Segment else (if code == 1 then kinds.Group else kinds.External)
-
-abbrev pub frame_code : ℕ → FrameCode
-frame_code code = if code == 0 then codes.Of kinds.Segment else (if code == 1 then codes.Of kinds.Group
-    else (if code == 2 then codes.Of kinds.External else (if code == 4 then codes.Location else codes.Target)))
 
 abbrev pub T0 : ℕ → TargetMethod
 T0 i = record { kind = kinds.Segment; index = i }

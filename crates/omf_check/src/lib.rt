@@ -36,7 +36,7 @@ mod threads;
 pub use checked::Checked;
 pub use checking::check;
 pub use fault::CheckFault;
-pub use method::{FrameMethod, Kind, TargetMethod};
+pub use method::{FrameMethod, TargetMethod};
 pub use profile::Profile;
 pub use records::{Records, split_record};
 pub use segment::SegInfo;

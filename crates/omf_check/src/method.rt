@@ -1,62 +1,10 @@
 //! Frame and target methods (TIS OMF 1.1, "FIXUPP").
 
-ghost use Rattle.std.specs.Prelude.{◌≡◌, unwrap_or, option_map};
-ghost use Rattle.omf_check.specs.Rules.{undefined};
-ghost use Rattle.omf_check.specs.Threads.{kind_of, frame_code, frame_by, index_or_none};
+ghost use Rattle.std.specs.Prelude.{◌≡◌};
+ghost use Rattle.omf_check.specs.Threads.{frame_by, index_or_none};
 
-use omf_frame::{Index, Reason};
-use omf_records::At;
-
-/// The tables that a frame or a target method refers to.
-#[derive(Clone, Copy, Debug, PartialEq, Eq)]
-pub enum Kind {
-    Segment,
-    Group,
-    External,
-}
-
-/// The code of a frame method.
-#[derive(Clone, Copy, Debug, PartialEq, Eq)]
-pub enum FrameCode {
-    Of(Kind),
-    Location,
-    Target,
-}
-
-pub fn kind_of(code: u8) -> Kind
-    ensures { result ≡ kind_of code }
-{
-    match code {
-        0 => Kind::Segment,
-        1 => Kind::Group,
-        _ => Kind::External,
-    }
-}
-
-pub fn frame_code(code: u8) -> FrameCode
-    ensures { result ≡ frame_code code }
-{
-    match code {
-        0 => FrameCode::Of(Kind::Segment),
-        1 => FrameCode::Of(Kind::Group),
-        2 => FrameCode::Of(Kind::External),
-        4 => FrameCode::Location,
-        _ => FrameCode::Target,
-    }
-}
-
-impl Kind {
-    /// The reason of an index that is not that of an entry of this table.
-    pub(crate) fn undefined(self) -> Reason
-        ensures { result ≡ undefined self }
-    {
-        match self {
-            Kind::Segment => Reason::UndefinedSegment,
-            Kind::Group => Reason::UndefinedGroup,
-            Kind::External => Reason::UndefinedExternal,
-        }
-    }
-}
+use omf_frame::Index;
+use omf_records::{At, FrameCode, Kind};
 
 /// The target of a reference: the entry of a table. T0 is a segment, T1 a group, T2 an external.
 #[derive(Clone, Copy, Debug, Drop)]

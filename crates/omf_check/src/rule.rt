@@ -3,13 +3,13 @@
 ghost use Rattle.std.specs.Prelude.{◌≡◌, ℕ};
 ghost use Rattle.omf_frame.specs.Fault.{is_before};
 ghost use Rattle.omf_check.specs.Inner.Judging.{fault_unless, lesser, room_fault, entry_fault, optional_fault, members_fault, comment_fault};
-ghost use Rattle.omf_check.specs.Rules.{places};
+ghost use Rattle.omf_check.specs.Rules.{places, undefined};
 ghost use Rattle.omf_check.specs.Tables.{is_defined};
 ghost use Rattle.omf_frame.specs.declared.fault.Reason.TheVariants.{UndefinedSegment};
 
 use crate::profile::Profile;
 use omf_frame::{Index, Reason};
-use omf_records::{At, Item, Items, LayoutFault, Member};
+use omf_records::{At, Item, Items, Kind, LayoutFault, Member};
 
 /// The fault with this place in the record and this reason.
 #[inline(always)]
@@ -77,6 +77,17 @@ pub fn is_defined(count: usize, index: u16) -> bool
     ensures { result ≡ is_defined count index }
 {
     1 <= index && usize::from(index) <= count
+}
+
+/// The reason of an index that is not that of an entry of the table of this kind.
+pub fn undefined(kind: Kind) -> Reason
+    ensures { result ≡ undefined kind }
+{
+    match kind {
+        Kind::Segment => Reason::UndefinedSegment,
+        Kind::Group => Reason::UndefinedGroup,
+        Kind::External => Reason::UndefinedExternal,
+    }
 }
 
 /// Rule: the index is that of an entry of a table of `count` entries.

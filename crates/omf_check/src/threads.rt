@@ -4,10 +4,8 @@ ghost use Rattle.std.specs.Prelude.{◌≡◌, ◌<◌};
 ghost use Rattle.omf_check.specs.Inner.Kept.{kept_frame, kept_target, set_thread, set_threads, no_threads};
 ghost use Rattle.omf_check.specs.Inner.Judging.{frame_cell, target_cell};
 
-use crate::method::{FrameMethod, TargetMethod, frame_code, kind_of};
-use omf_records::{
-    Items, Part, Reference, Subrecord, is_frame_thread, thread_method, thread_number,
-};
+use crate::method::{FrameMethod, TargetMethod};
+use omf_records::{Items, Part, Reference, Subrecord};
 
 /// The frame threads 0 to 3 and target threads 0 to 3 in force at a place of a module. Kept while walking over its records.
 #[derive(Clone, Copy, Debug, Drop)]
@@ -54,7 +52,7 @@ impl Threads {
     {
         match reference.frame_thread() {
             Some(number) => self.frame_thread(number),
-            None => Some(FrameMethod::new(frame_code(reference.frame_method()), &reference.frame)),
+            None => Some(FrameMethod::new(reference.frame_method(), &reference.frame)),
         }
     }
 
@@ -65,7 +63,7 @@ impl Threads {
     {
         match reference.target_thread() {
             Some(number) => self.target_thread(number),
-            None => Some(TargetMethod::new(kind_of(reference.target_method()), &reference.target)),
+            None => Some(TargetMethod::new(reference.target_method(), &reference.target)),
         }
     }
 
@@ -75,12 +73,11 @@ impl Threads {
         ensures { self.new ≡ set_thread self.old subrecord.now }
     {
         if let Part::Thread { first, index } = &subrecord.part {
-            let number = usize::from(thread_number(*first));
-            let method = thread_method(*first);
-            if is_frame_thread(*first) {
-                self.frames[number] = Some(FrameMethod::new(frame_code(method), index));
+            let number = usize::from(first.number());
+            if first.is_frame() {
+                self.frames[number] = Some(FrameMethod::new(first.frame_method(), index));
             } else {
-                self.targets[number] = Some(TargetMethod::new(kind_of(method), index));
+                self.targets[number] = Some(TargetMethod::new(first.target_method(), index));
             }
         }
     }

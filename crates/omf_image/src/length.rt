@@ -103,7 +103,12 @@ fn contents_len(
 
 /// The number of bytes that the block at `pos` expands to, and the position after it. Blocks may nest `levels` deep, this one included.
 #[cycle(lengths)]
-fn block_len(bytes: &[u8], width: Width, levels: u32, pos: usize) -> Result<(u64, usize), LayoutFault>
+fn block_len(
+    bytes: &[u8],
+    width: Width,
+    levels: u32,
+    pos: usize,
+) -> Result<(u64, usize), LayoutFault>
     requires { (pos ≤ length bytes.now) × (length bytes.now ≤ 65534) }
     ensures read { read_to bytes.now result ≡ len_block (width_bytes width) levels pos (drop pos bytes.now) }
     ensures bound { IfOk result (λ r. (pos < r.1) × (r.1 ≤ length bytes.now)) }

@@ -10,7 +10,7 @@ use Rattle.omf_image.specs.Inner.Expanding.{expanded_length}
 use Rattle.omf_image.specs.declared.limits.Limits.{Limits}
 use Rattle.omf_check.specs.Tables.{is_defined, is_none_or_defined, entry}
 use Rattle.omf_check.specs.Threads.{Kind, FrameMethod, Of, F4, F5, TargetMethod, setting, frame_from, target_from}
-use Rattle.omf_check.specs.declared.method.Kind.TheVariants as kinds
+use Rattle.omf_records.specs.declared.method.Kind.TheVariants as kinds
 use Rattle.omf_check.specs.Rules.{table_limit, item_limit, item_places, places, judged_at, is_location_frame, undefined}
 use Rattle.omf_check.specs.Refusal.{fault_from}
 use Rattle.omf_check.specs.Inner.Kept.{Kept, kept_frame, kept_target, set_thread}

@@ -15,18 +15,18 @@ use crate::last_data::LastData;
 use crate::profile::Profile;
 use crate::segment::SegInfo;
 use crate::table::Tables;
-use omf_frame::{Place, RawRecord};
+use omf_frame::{Place, RawRecord, Width};
 use omf_records::{Item, Items, LayoutFault, Rec, Segment, unread_fixups, view};
 use std::alloc::AllocError;
 
 /// The segment that a SEGDEF defines.
-fn segment_info(wide: bool, segment: &Segment) -> SegInfo
-    ensures { result ≡ segment_info (odd_if wide 0x98) segment.now }
+fn segment_info(width: Width, segment: &Segment) -> SegInfo
+    ensures { result ≡ segment_info (odd_if width 0x98) segment.now }
 {
-    let length = match (segment.is_big(), wide) {
-        (true, false) => 65_536,
-        (true, true) => 4_294_967_296,
-        (false, _) => u64::from(segment.size),
+    let length = match (segment.attribute.is_big(), width) {
+        (true, Width::Bits16) => 65_536,
+        (true, Width::Bits32) => 4_294_967_296,
+        (false, Width::Bits16 | Width::Bits32) => u64::from(segment.size),
     };
     SegInfo {
         length,
@@ -99,7 +99,9 @@ impl Tables {
         match rec {
             Rec::Names(items) => add_starts(&mut self.names, at, items.iter()),
             Rec::LocalNames(items) => add_starts(&mut self.names, at, items.iter()),
-            Rec::Segment { wide, segment } => Ok(self.segments.push(segment_info(*wide, segment))?),
+            Rec::Segment { width, segment } => {
+                Ok(self.segments.push(segment_info(*width, segment))?)
+            }
             Rec::Group { .. } => Ok(self.groups.push(at)?),
             Rec::Externs(items) => self.add_externals(at, false, items.iter()),
             Rec::LocalExterns { externs, .. } => self.add_externals(at, true, externs.iter()),

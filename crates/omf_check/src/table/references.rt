@@ -10,25 +10,23 @@ ghost use Rattle.omf_records.specs.Location.{location_size};
 ghost use Rattle.omf_records.specs.Values.{Fixups, location_type, location_offset};
 
 use crate::last_data::LastData;
-use crate::method::{FrameMethod, Kind, TargetMethod};
-use crate::rule::{fault, fault_unless, is_defined, lesser};
+use crate::method::{FrameMethod, TargetMethod};
+use crate::rule::{fault, fault_unless, is_defined, lesser, undefined};
 use crate::table::{ITEM_LIMIT, Tables};
 use crate::threads::Threads;
 use omf_frame::{Index, Reason};
-use omf_records::{
-    At, LayoutFault, Part, Reference, Subrecord, Unread, location_offset, location_size, location_type,
-};
+use omf_records::{At, Kind, LayoutFault, Locat, Part, Reference, Subrecord, Unread};
 
 /// Whether a location ends within `len` bytes of data.
-fn ends_within(location: u16, len: usize) -> bool
+fn ends_within(location: Locat, len: usize) -> bool
     ensures { result ≡ nat_le (location_offset location + location_size (location_type location)) len }
 {
-    let size = location_size(location_type(location));
-    usize::from(location_offset(location) + u16::from(size)) <= len
+    let size = location.location_type().size();
+    usize::from(location.offset() + u16::from(size)) <= len
 }
 
 /// Rule: the fixup's location is within the data of the last data record, which is an LEDATA.
-fn location_fault(last: Option<LastData>, within: u32, location: u16) -> Option<LayoutFault>
+fn location_fault(last: Option<LastData>, within: u32, location: Locat) -> Option<LayoutFault>
     ensures { result ≡ location_fault last within location }
 {
     match last {
@@ -67,7 +65,7 @@ impl Tables {
         ensures { result ≡ index_fault self.now at target.now }
     {
         let is_there = is_defined(self.entries(target.kind), target.index.0);
-        fault_unless(is_there, at, target.kind.undefined())
+        fault_unless(is_there, at, undefined(target.kind))
     }
 
     /// Rule: the frame is set, and the entry that it refers to, if any, exists. A fault is at `at`.
@@ -161,10 +159,7 @@ impl Tables {
     }
 
     /// Checks a FIXUPP with these subrecords. Keeps what later records need of it if it has no fault.
-    pub(super) fn take_fixups(
-        &mut self,
-        subrecords: Unread<Subrecord<'_>>,
-    ) -> Option<LayoutFault>
+    pub(super) fn take_fixups(&mut self, subrecords: Unread<Subrecord<'_>>) -> Option<LayoutFault>
         requires { self.old.items ≤ item_limit }
         ensures found { result ≡ fixups_fault self.old subrecords.entry.items }
         ensures kept { (subs : _) → subrecords.entry.items ≡ Ok subs → result ≡ None → self.new ≡ record self.old { items = self.old.items + items_in (Fixups subs); threads = set_threads self.old.threads subs } }

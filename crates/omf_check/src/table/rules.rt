@@ -4,7 +4,7 @@ ghost use Rattle.std.specs.Prelude.{◌≡◌, ◌≤◌, ◌+◌, length, ◌-�
 ghost use Rattle.omf_check.specs.Rules.{item_limit};
 ghost use Rattle.omf_image.specs.Limits.{profile_limits};
 ghost use Rattle.omf_check.specs.Inner.Judging.{kept_length, data_fault, contents_fault, segment_fault, group_fault, base_fault, room_fault, data_size, fault_moved, record_fault, IsShort, IsNoFixupp};
-ghost use Rattle.omf_image.specs.Blocks.{count_size};
+ghost use Rattle.omf_frame.specs.Types.{width_bytes};
 ghost use Rattle.omf_image.specs.Inner.Expanding.{expanded_length};
 ghost use Rattle.omf_records.specs.Inner.Seen.{contents_seen, kind_seen, rec_seen};
 
@@ -21,9 +21,9 @@ use omf_records::{At, Blocks, Items, LayoutFault, Member, Rec, Segment};
 fn blocks_size(at: u32, blocks: Blocks<'_>) -> Result<usize, LayoutFault>
     requires place { at ≤ 65537 }
     requires short { length blocks.bytes.now ≤ 65534 }
-    ensures { result ≡ fault_moved (at + count_size blocks.entry.wide) (expanded_length (count_size blocks.entry.wide) profile_limits blocks.entry.bytes.now) }
+    ensures { result ≡ fault_moved (at + width_bytes blocks.entry.width) (expanded_length (width_bytes blocks.entry.width) profile_limits blocks.entry.bytes.now) }
 {
-    let first = if blocks.wide { at + 4 } else { at + 2 };
+    let first = at + blocks.width.bytes() as u32;
     match expanded_len(blocks, Limits::profile()) {
         Ok(size) => Ok(size as usize),
         Err(fault) => Err(LayoutFault {
@@ -41,7 +41,21 @@ fn data_size(rec: &Rec<'_>) -> Result<usize, LayoutFault>
     match rec {
         Rec::Plain { data, .. } => Ok(data.len()),
         Rec::Iterated { offset, blocks, .. } => blocks_size(offset.within, *blocks),
-        _ => Ok(0),
+        Rec::Header { .. }
+        | Rec::Comment { .. }
+        | Rec::Names(_)
+        | Rec::LocalNames(_)
+        | Rec::Segment { .. }
+        | Rec::Group { .. }
+        | Rec::Externs(_)
+        | Rec::LocalExterns { .. }
+        | Rec::Publics { .. }
+        | Rec::LocalPublics { .. }
+        | Rec::Communals(_)
+        | Rec::LocalCommunals(_)
+        | Rec::Fixups { .. }
+        | Rec::ModEnd { .. }
+        | Rec::Carried { .. } => Ok(0),
     }
 }
 
