@@ -1,5 +1,5 @@
 -- How contents lie in the bytes that spell them: one look at the record's type for all laws that go by the kind of contents.
-use Rattle.std.proofs.Common.{◌≡◌, ℕ, Bool, true, false, List, ◌++◌, Option, Some, None, refl, sym, subst}
+use Rattle.std.proofs.Common.{◌≡◌, ℕ, true, List, Option, Some, None, refl, sym, subst}
 use Rattle.std.specs.Prelude.{⊤}
 use Rattle.omf_frame.specs.Bytes.{is_one_of}
 use Rattle.omf_frame.specs.Types.{fixupp, type_of}

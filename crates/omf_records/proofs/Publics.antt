@@ -1,5 +1,5 @@
 -- What is read of a PUBDEF, from what is read of its parts.
-use Rattle.std.proofs.Common.{◌≡◌, ℕ, Bool, true, List, Option, Result, Ok, Err, is_ok, refl, ap, subst, ◌∙◌}
+use Rattle.std.proofs.Common.{◌≡◌, ℕ, Bool, List, Option, Result, Ok, refl, subst}
 use Rattle.std.specs.Prelude.{◌==◌}
 use Rattle.omf_frame.specs.Fault.{Fault}
 use Rattle.omf_records.specs.Values.{At, PublicItem, Contents, Publics}

@@ -1,5 +1,5 @@
 -- Laws of typed records, each the contract of a function.
-use Rattle.std.specs.Prelude.{◌≡◌, ℕ, ◌≤◌, List, [], ◌∷◌, length, ◌↔◌, IsTrue, Contains}
+use Rattle.std.specs.Prelude.{◌≡◌, ℕ, ◌≤◌, List, [], length, ◌↔◌, IsTrue, Contains}
 use Rattle.omf_frame.specs.Bytes.{AreBytes}
 use Rattle.omf_frame.specs.Fault.{Fault, reason_number, is_before}
 use Rattle.omf_frame.specs.Framing.{Raw}

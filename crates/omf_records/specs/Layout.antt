@@ -20,7 +20,7 @@
 --   choose b p q       p if b, else q                              choose_reader, choose_whole
 --   when b p           p if b, else nothing                        when_reader
 --   byte, le k, number_of wide, index, name, communal_length, head byte_reader, le_reader, number_reader, ..
-use Rattle.std.specs.Prelude.{◌≡◌, ℕ, zero, suc, ◌+◌, ◌/◌, ◌%◌, ◌<◌, ◌≤◌, ◌⊎◌, ◌≢◌, ◌||◌, Bool, true, false, cond, nat_le, if◌then◌else◌, Option, Some, None, List, [], ◌∷◌, ◌++◌, length, Result, Ok, IsTrue, IfOk, IfErr}
+use Rattle.std.specs.Prelude.{◌≡◌, ℕ, zero, suc, ◌+◌, ◌/◌, ◌%◌, ◌<◌, ◌≤◌, ◌⊎◌, ◌≢◌, ◌||◌, Bool, cond, nat_le, if◌then◌else◌, Option, Some, None, List, [], ◌∷◌, ◌++◌, length, Result, Ok, IsTrue, IfOk, IfErr}
 use Rattle.omf_frame.specs.Bytes.{is_one_of}
 use Rattle.omf_frame.specs.Fault.{Fault, is_before}
 use Rattle.omf_frame.specs.Fields.{IsIndex, IsName, IsLittle, IsCommunalLength}

@@ -1,6 +1,6 @@
 -- Typed records (TIS OMF 1.1, the page of each record). A byte of packed bits is kept whole, so that no bit is lost; definitions
 -- at the end of the file extract its bits.
-use Rattle.std.specs.Prelude.{ℕ, ◌*◌, ◌%◌, ◌==◌, Bool, not, ◌&&◌, ◌||◌, nat_lt, List, map, Option, option_map, if◌then◌else◌}
+use Rattle.std.specs.Prelude.{ℕ, ◌*◌, ◌%◌, ◌==◌, Bool, not, ◌&&◌, nat_lt, List, map, Option, option_map, if◌then◌else◌}
 use Rattle.omf_frame.specs.Bytes.{bits, has_bit}
 
 -- a value, and the offset in the record of its first byte (0 is the type byte)

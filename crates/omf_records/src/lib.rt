@@ -3,7 +3,7 @@
 //! `view` decodes a record's contents and borrows from them, or returns their first layout fault. `put_rec` writes contents in
 //! their shortest encoding. The items that a record repeats are an iterator, `Items`, which gives each with its offset in the
 //! record: match a `Rec` by reference, and iterate over `items.iter()`. `view_known` decodes contents that were checked before: it
-//! reads only the fields before the items.
+//! does not read the subrecords of a FIXUPP.
 //!
 //! ```
 //! let raw = RawRecord { kind: 0x96, body: b"\x00\x01T", number: 1, start: 6 };
@@ -16,8 +16,8 @@
 //!
 //! `specs/Values` defines the values, `specs/Records` and `specs/Entries` the layout of each record by means of `specs/Layout`, and
 //! `specs/Shortest` the shortest contents. The readings of the same names (`RecordReaders`, `EntryReaders`, `FieldReaders`) compute
-//! the layouts, and `laws` relates both. A new record type needs a layout and its reading, a case of `Contents` and of `Rec`, a
-//! function in `viewing` with its arm in `dispatch`, and one in `writing`.
+//! the layouts, and `laws` relates both. A new record type needs a layout and its reading, a row in `layout_of` and `whole_of`, a case
+//! of `Contents` and of `Rec`, a function in `viewing` with its arm in `dispatch`, and one in `writing`.
 #![tactic(auto)]
 
 mod acbp;
