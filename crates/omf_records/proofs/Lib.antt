@@ -7,5 +7,6 @@ pub mod Recast
 pub mod ShortestLaws
 pub mod ValueLaws
 pub mod DirectLaws
+pub mod Heads
 pub mod LaidOut
 pub mod ReasonLaws
