@@ -1,5 +1,5 @@
 -- Placements: the addresses and frames of a module's segments, groups and externals (TIS OMF 1.1, "FIXUPP", frames and targets).
-use Rattle.std.specs.Prelude.{ℕ, ◌+◌, ◌*◌, List, [], ◌∷◌, Option, Some, None, unwrap_or, option_map, option_and_then, if◌then◌else◌, nat_le, nat_lt, ◌/◌, ◌^◌}
+use Rattle.std.specs.Prelude.{ℕ, ◌+◌, ◌*◌, List, [], ◌∷◌, Option, Some, None, option_map, option_and_then, if◌then◌else◌, nat_le, nat_lt, ◌/◌, ◌^◌}
 use Rattle.omf_placement.specs.declared.frame.Frame.{Frame}
 pub use Rattle.omf_placement.specs.declared.frame.Placed.{Placed}
 use Rattle.omf_records.specs.Values.{At, Rec}
@@ -15,40 +15,26 @@ pub record Places : Type 0 where
   pub groups : List Frame
   pub externals : List Placed
 
--- The frame that counts in place of one that is missing.
-abbrev pub no_frame : Frame
-no_frame = record { base = 0; selector = 0 }
+-- The place of a segment, a group or an external, if it has an entry. The address of a group is the base of its frame.
+abbrev pub group_place : Frame → Placed
+group_place f = record { address = f.base; frame = f }
 
--- The place that counts in place of one that is missing.
-abbrev pub no_place : Placed
-no_place = record { address = 0; frame = no_frame }
+abbrev pub place_of : Places → TargetMethod → Option Placed
+place_of pl (T0 i) = entry pl.segments i
+place_of pl (T1 i) = option_map group_place (entry pl.groups i)
+place_of pl (T2 i) = entry pl.externals i
 
--- The place with index i, from 1; `no_place` outside the list, which does not occur in a placement that fits its module.
-abbrev pub placed : List Placed → ℕ → Placed
-placed xs i = unwrap_or (entry xs i) no_place
+-- The frame of a frame method, if it has an entry. F4 is the frame of the segment of the last data record, here `location`; F5 is that of
+-- the target.
+abbrev pub frame_of_place : Option Placed → Option Frame
+frame_of_place p = option_map (λ x. x.frame) p
 
-abbrev pub group_frame : Places → ℕ → Frame
-group_frame pl i = unwrap_or (entry pl.groups i) no_frame
-
--- The address of a target. That of a group is the base of its frame.
-abbrev pub target_address : Places → TargetMethod → ℕ
-target_address pl (T0 i) = (placed pl.segments i).address
-target_address pl (T1 i) = (group_frame pl i).base
-target_address pl (T2 i) = (placed pl.externals i).address
-
--- The frame of a target.
-abbrev pub target_frame : Places → TargetMethod → Frame
-target_frame pl (T0 i) = (placed pl.segments i).frame
-target_frame pl (T1 i) = group_frame pl i
-target_frame pl (T2 i) = (placed pl.externals i).frame
-
--- The frame of a frame method. F4 is the frame of the segment of the last data record, here `location`; F5 is that of the target.
-abbrev pub frame_by : Places → ℕ → TargetMethod → FrameMethod → Frame
-frame_by pl location target (F0 i) = (placed pl.segments i).frame
-frame_by pl location target (F1 i) = group_frame pl i
-frame_by pl location target (F2 i) = (placed pl.externals i).frame
-frame_by pl location target F4 = (placed pl.segments location).frame
-frame_by pl location target F5 = target_frame pl target
+abbrev pub frame_by : Places → ℕ → TargetMethod → FrameMethod → Option Frame
+frame_by pl location target (F0 i) = frame_of_place (place_of pl (T0 i))
+frame_by pl location target (F1 i) = frame_of_place (place_of pl (T1 i))
+frame_by pl location target (F2 i) = frame_of_place (place_of pl (T2 i))
+frame_by pl location target F4 = frame_of_place (place_of pl (T0 location))
+frame_by pl location target F5 = frame_of_place (place_of pl target)
 
 -- The place of an absolute segment, by its frame number and offset (TIS OMF 1.1, "SEGDEF", frame number and offset).
 abbrev pub absolute_place : ℕ → ℕ → Placed

@@ -16,12 +16,6 @@ pub struct Frame {
 impl Frame {
     ghost use Rattle.omf_placement.specs.Placement.{real_frame};
 
-    /// The frame with base 0 and selector 0.
-    pub const NONE: Frame = Frame {
-        base: 0,
-        selector: 0,
-    };
-
     /// The real-mode frame of an address below 2^20: its selector is the address divided by 16, and its base is 16 times the selector (a
     /// rule of this profile). `None` for any other address.
     pub fn real(address: u32) -> Option<Frame>
@@ -43,12 +37,4 @@ impl Frame {
 pub struct Placed {
     pub address: u32,
     pub frame: Frame,
-}
-
-impl Placed {
-    /// Address 0 in the frame with base 0.
-    pub const NONE: Placed = Placed {
-        address: 0,
-        frame: Frame::NONE,
-    };
 }

@@ -49,7 +49,22 @@ pub fn lowest_member(rec: &Rec<'_>, segments: &[Placed]) -> Option<Placed>
 {
     match rec {
         Rec::Group { members, .. } => lowest_of(members.iter(), segments),
-        _ => None,
+        Rec::Header { .. }
+        | Rec::Comment { .. }
+        | Rec::Names(_)
+        | Rec::Segment { .. }
+        | Rec::Externs(_)
+        | Rec::Publics { .. }
+        | Rec::Communals(_)
+        | Rec::Plain { .. }
+        | Rec::Iterated { .. }
+        | Rec::Fixups { .. }
+        | Rec::ModEnd { .. }
+        | Rec::LocalNames(_)
+        | Rec::LocalExterns { .. }
+        | Rec::LocalPublics { .. }
+        | Rec::LocalCommunals(_)
+        | Rec::Carried { .. } => None,
     }
 }
 

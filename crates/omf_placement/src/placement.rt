@@ -1,12 +1,24 @@
 //! Placements of modules.
 
-ghost use Rattle.std.specs.Prelude.{◌≡◌, ◌++◌, [], ◌∷◌, true, length, OnOk, OnErr, IfOk, option_map};
-ghost use Rattle.omf_check.specs.Tables.{entry, is_defined};
+ghost use Rattle.std.specs.Prelude.{◌≡◌, ◌++◌, [], ◌∷◌, length, OnOk, OnErr, IfOk};
+ghost use Rattle.omf_check.specs.Tables.{entry};
+ghost use Rattle.omf_placement.specs.Placement.{group_place};
 
 use crate::frame::{Frame, Placed};
-use omf_check::entry_of;
+use omf_check::{FrameMethod, TargetMethod, entry_of};
+use omf_frame::Index;
 use std::alloc::{AllocError, Global};
 use std::marker::Model;
+
+/// The place of a group: the base of its frame, in this frame.
+fn group_place(frame: Frame) -> Placed
+    ensures { result ≡ group_place frame }
+{
+    Placed {
+        address: frame.base,
+        frame,
+    }
+}
 
 /// A placement of a module: the places of its segments and externals, and the frames of its groups, each in index order.
 #[derive(Drop)]
@@ -25,7 +37,7 @@ impl Model for Placement {
 }
 
 impl Placement {
-    ghost use Rattle.omf_placement.specs.Placement.{Places, placed, group_frame};
+    ghost use Rattle.omf_placement.specs.Placement.{Places, place_of, frame_by};
 
     /// An empty placement.
     pub fn new(alloc: Global) -> Self
@@ -106,11 +118,11 @@ impl Placement {
         Ok(())
     }
 
-    /// The address and the frame of the segment with index `i`, from 1; `None` if it has no entry.
-    pub fn segment(&self, i: usize) -> Option<(u32, Frame)>
-        ensures { result ≡ option_map (λ p. (p.address, p.frame)) (entry self.now.segments i) }
+    /// The place of the segment with index `i`, from 1; `None` if it has no entry.
+    pub fn segment(&self, i: usize) -> Option<Placed>
+        ensures { result ≡ entry self.now.segments i }
     {
-        entry_of(&self.segments, i).map(|placed| (placed.address, placed.frame))
+        entry_of(&self.segments, i)
     }
 
     /// The frame of the group with index `i`, from 1; `None` if it has no entry.
@@ -120,11 +132,42 @@ impl Placement {
         entry_of(&self.groups, i)
     }
 
-    /// The address and the frame of the external with index `i`, from 1; `None` if it has no entry.
-    pub fn external(&self, i: usize) -> Option<(u32, Frame)>
-        ensures { result ≡ option_map (λ p. (p.address, p.frame)) (entry self.now.externals i) }
+    /// The place of the external with index `i`, from 1; `None` if it has no entry.
+    pub fn external(&self, i: usize) -> Option<Placed>
+        ensures { result ≡ entry self.now.externals i }
     {
-        entry_of(&self.externals, i).map(|placed| (placed.address, placed.frame))
+        entry_of(&self.externals, i)
+    }
+
+    /// The place of a target; `None` if it has no entry. The address of a group is the base of its frame.
+    pub fn place_of(&self, target: &TargetMethod) -> Option<Placed>
+        ensures { result ≡ place_of self.now target.now }
+    {
+        match target {
+            TargetMethod::Segment(Index(i)) => self.segment(usize::from(*i)),
+            TargetMethod::Group(Index(i)) => self.group(usize::from(*i)).map(group_place),
+            TargetMethod::External(Index(i)) => self.external(usize::from(*i)),
+        }
+    }
+
+    /// The frame of a frame method; `None` if it has no entry. `segment` is the segment of the last data record, whose frame F4 is; F5 is the
+    /// frame of `target` (TIS OMF 1.1, "FIXUPP").
+    pub fn frame_by(
+        &self,
+        segment: u16,
+        target: &TargetMethod,
+        method: &FrameMethod,
+    ) -> Option<Frame>
+        ensures { result ≡ frame_by self.now segment target.now method.now }
+    {
+        let place = match method {
+            FrameMethod::Segment(Index(i)) => self.segment(usize::from(*i)),
+            FrameMethod::Group(Index(i)) => self.group(usize::from(*i)).map(group_place),
+            FrameMethod::External(Index(i)) => self.external(usize::from(*i)),
+            FrameMethod::Location => self.segment(usize::from(segment)),
+            FrameMethod::Target => self.place_of(target),
+        };
+        place.map(|place| place.frame)
     }
 
     /// The number of segments with an entry.
@@ -146,29 +189,5 @@ impl Placement {
         ensures { result ≡ length self.now.externals }
     {
         self.externals.len()
-    }
-
-    /// The place of the segment with index `i`, from 1, which must have an entry.
-    pub fn segment_at(&self, i: usize) -> Placed
-        requires { is_defined (length self.now.segments) i ≡ true }
-        ensures { result ≡ placed self.now.segments i }
-    {
-        self.segments[i - 1]
-    }
-
-    /// The frame of the group with index `i`, from 1, which must have an entry.
-    pub fn group_at(&self, i: usize) -> Frame
-        requires { is_defined (length self.now.groups) i ≡ true }
-        ensures { result ≡ group_frame self.now i }
-    {
-        self.groups[i - 1]
-    }
-
-    /// The place of the external with index `i`, from 1, which must have an entry.
-    pub fn external_at(&self, i: usize) -> Placed
-        requires { is_defined (length self.now.externals) i ≡ true }
-        ensures { result ≡ placed self.now.externals i }
-    {
-        self.externals[i - 1]
     }
 }
