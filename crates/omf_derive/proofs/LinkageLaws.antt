@@ -1,11 +1,12 @@
 -- Externals of a module, and modules, in order, until one has no place.
 use Rattle.std.proofs.Common.{◌≡◌, ℕ, zero, suc, ◌+◌, ◌-◌, ◌≤◌, List, [], ◌∷◌, ◌++◌, length, drop, refl, sym, ap, ap₂, ◌∙◌, subst, inl, inr, append-nil, append_assoc, arith}
 use Rattle.std.specs.Prelude.{◌⊎◌, Bool, map, flat_map, filter_map, slice_get, Some, Result, Ok, Err}
-use Rattle.std.specs.List.{enumerate_from}
+use Rattle.std.specs.List.{AllZip, enumerate_from}
 use Rattle.std.proofs.Math.Seq.{drop-nil}
 use Rattle.std.proofs.lemmas.Option.{none-some, same_Some}
+use Rattle.omf_check.specs.Module.{Module, typed_modules}
 use Rattle.omf_check.specs.Tables.{externals, entry}
-use Rattle.omf_derive.specs.Derivation.{External}
+use Rattle.omf_derive.specs.Derivation.{External, IsPlaceOf}
 use Rattle.omf_records.specs.Values.{Rec}
 use Rattle.omf_derive.specs.declared.fault.DeriveFault.{DeriveFault}
 use Rattle.omf_derive.specs.declared.fault.DeriveFault.TheVariants as fault
@@ -16,6 +17,13 @@ use Rattle.omf_derive.specs.Inner.Deriving.{IsFound, IsFirstErr, IsTried}
 use Rattle.omf_placement.specs.declared.frame.Placed.{Placed}
 use Rattle.omf_placement.specs.Placement.{Places}
 use Rattle.omf_derive.proofs.NamedLaws.{entry-suc, named-count}
+
+-- There is a placement for each module.
+pub same-length : (ms : List Module) (pls : List Places) → AllZip IsPlaceOf (typed_modules ms) pls → length pls ≡ length ms
+same-length [] [] h = refl
+same-length [] (p ∷ pls) h = absurd h
+same-length (m ∷ ms) [] h = absurd h
+same-length (m ∷ ms) (p ∷ pls) h = ap (λ n. suc n) (same-length ms pls h.1)
 
 -- The entries of a table from one on.
 drop-some : {A : Type 0} (xs : List A) (k : ℕ) (x : A) → slice_get xs k ≡ Some x → drop k xs ≡ x ∷ drop (k + 1) xs

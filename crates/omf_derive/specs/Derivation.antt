@@ -1,18 +1,17 @@
 -- The place of each external, and the first external at fault, stated without computing them. The law derived_is_taken shows that the computed
 -- placements (Inner/Derived) agree.
-use Rattle.std.specs.Prelude.{◌≡◌, ◌≢◌, ◌⊎◌, ◌↔◌, ℕ, ◌<◌, ◌≤◌, ◌^◌, All, List, ◌∷◌, ◌++◌, length, Bool, Some, Result, Ok, Err, IsOk}
+use Rattle.std.specs.Prelude.{◌≡◌, ◌≢◌, ◌⊎◌, ◌↔◌, ℕ, ◌<◌, ◌≤◌, ◌^◌, All, List, ◌∷◌, ◌++◌, length, Bool, IsSome, Result, Ok, Err, IsOk}
 use Rattle.std.specs.List.{AllZip, enumerate_from}
 use Rattle.omf_records.specs.Values.{Rec, Publics, PublicItems}
 use Rattle.omf_image.specs.declared.limits.Limits.{Limits}
 use Rattle.omf_check.specs.Sound.{ModuleHolds}
-use Rattle.omf_check.specs.Tables.{segments, groups, externals, entry}
+use Rattle.omf_check.specs.Tables.{segments, groups, externals}
 use Rattle.omf_derive.specs.declared.fault.DeriveFault.{DeriveFault}
 use Rattle.omf_derive.specs.declared.fault.DeriveFault.TheVariants as fault
 use Rattle.omf_derive.specs.declared.given.Given.{Given}
-use Rattle.omf_derive.specs.Derive.{PlacedModule, PlacedPublic, paragraph, base_of, seen_publics, named_externals, place_in}
+use Rattle.omf_derive.specs.Derive.{PlacedModule, PlacedPublic, base_of, seen_publics, named_externals, place_in}
 -- computed: derived_is_taken of omf_derive.
 use Rattle.omf_derive.specs.Inner.Derived.{derived}
-use Rattle.omf_placement.specs.declared.frame.Frame.{Frame}
 use Rattle.omf_placement.specs.declared.frame.Placed.{Placed}
 use Rattle.omf_placement.specs.Placement.{Places}
 
@@ -132,29 +131,15 @@ pub record DerivedIsTaken (ms : List PlacedModule) (given : List Given) : Type 0
   pub fault : (f : DeriveFault) → (derived ms given ≡ Err f) ↔ IsFirstFault ms given f
 
 -- The placement of a module has an entry for each of its segments and groups, and no other.
-pub record IsPlaceOf (m : PlacedModule) : Type 0 where
-  pub segments : length m.1.segments ≡ length (segments m.0)
-  pub groups : length m.1.groups ≡ length (groups m.0)
+pub record IsPlaceOf (m : List Rec) (pl : Places) : Type 0 where
+  pub segments : length pl.segments ≡ length (segments m)
+  pub groups : length pl.groups ≡ length (groups m)
 
--- The start of the base of a PUBDEF or an LPUBDEF, without defaults for missing entries: the place of its segment, or, if that is 0, its base frame; and
--- the frame of the base: that of its group, or, if that is 0, that of the start.
-abbrev pub BeginsAt : Places → PublicItems → Placed → Type 0
-BeginsAt pl p start = (entry pl.segments p.segment.item ≡ Some start) ⊎ ((number : ℕ) × (p.segment.item ≡ 0) × (p.frame ≡ Some number) × (start ≡ paragraph number))
-
-abbrev pub HasBaseFrame : Places → PublicItems → Placed → Frame → Type 0
-HasBaseFrame pl p start frame = (entry pl.groups p.group.item ≡ Some frame) ⊎ ((p.group.item ≡ 0) × (frame ≡ start.frame))
-
-pub record IsBase (pl : Places) (p : PublicItems) (base : Placed) : Type 0 where
-  pub start : Placed
-  pub begins : BeginsAt pl p start
-  pub address : base.address ≡ start.address
-  pub frame : HasBaseFrame pl p start base.frame
-
--- For each PUBDEF and LPUBDEF of a well-formed module the computed base is this one: its defaults for missing entries and numbers are never used.
+-- At such a placement each PUBDEF and LPUBDEF of a well-formed module has a base.
 abbrev pub BasesAreFound : Type 0
-BasesAreFound = (limits : Limits) (m : List Rec) (pl : Places) → ModuleHolds limits m → IsPlaceOf (m, pl)
+BasesAreFound = (limits : Limits) (m : List Rec) (pl : Places) → ModuleHolds limits m → IsPlaceOf m pl
     → (before after : List Rec) (r : Rec) (p : PublicItems) → m ≡ before ++ r ∷ after → r.contents ≡ Publics p
-    → IsBase pl p (base_of pl p.group.item p.segment.item p.frame)
+    → IsSome (base_of pl p.group.item p.segment.item p.frame)
 
 -- A derived placement keeps the segments and groups of its module's placement, and has an entry for each external.
 pub record KeepsPlace (m : PlacedModule) (pl : Places) : Type 0 where

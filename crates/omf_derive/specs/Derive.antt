@@ -1,15 +1,14 @@
 -- The publics of placed modules, and those that an external can refer to (TIS OMF 1.1, "PUBDEF"; which publics an external can refer to is a rule of this
 -- profile).
-use Rattle.std.specs.Prelude.{ℕ, ◌+◌, ◌*◌, List, [], map, flat_map, zip, Bool, true, false, Option, unwrap_or, ◌==◌, if◌then◌else◌}
+use Rattle.std.specs.Prelude.{ℕ, ◌+◌, ◌*◌, List, [], map, flat_map, zip, Bool, true, false, Option, Some, option_map, option_and_then, option_to_list, ◌==◌, if◌then◌else◌}
 use Rattle.omf_records.specs.Values.{At, Rec, Contents, Publics, PublicItem}
 use Rattle.omf_frame.specs.Types.{is_local}
-use Rattle.omf_check.specs.Module.{Module, records_in}
-use Rattle.omf_check.specs.Tables.{externals, locals}
-use Rattle.omf_check.specs.WellFormed.{recs}
+use Rattle.omf_check.specs.Module.{Module, typed_modules}
+use Rattle.omf_check.specs.Tables.{externals, locals, entry}
 use Rattle.omf_placement.specs.declared.frame.Frame.{Frame}
 use Rattle.omf_derive.specs.declared.given.Given.{Given}
 use Rattle.omf_placement.specs.declared.frame.Placed.{Placed}
-use Rattle.omf_placement.specs.Placement.{Places, placed, group_frame}
+use Rattle.omf_placement.specs.Placement.{Places}
 
 -- A module and its placement, of which the segments and groups count.
 abbrev pub PlacedModule : Type 0
@@ -17,7 +16,7 @@ PlacedModule = List Rec × Places
 
 -- Modules and their placements.
 abbrev pub placed_modules : List Module → List Places → List PlacedModule
-placed_modules ms pls = zip (map (λ m. recs (records_in m.bytes)) ms) pls
+placed_modules ms pls = zip (typed_modules ms) pls
 
 -- A public: its name, and its place by the placement of its module.
 pub record PlacedPublic : Type 0 where
@@ -29,16 +28,19 @@ abbrev pub paragraph : ℕ → Placed
 paragraph number = record { address = 16 * number; frame = record { base = 16 * number; selector = number } }
 
 -- The place of a PUBDEF's segment; if that is 0, the start of its base frame.
-abbrev pub segment_base : Places → ℕ → Option ℕ → Placed
-segment_base pl segment number = if segment == 0 then paragraph (unwrap_or number 0) else placed pl.segments segment
+abbrev pub segment_base : Places → ℕ → Option ℕ → Option Placed
+segment_base pl segment number = if segment == 0 then option_map paragraph number else entry pl.segments segment
 
--- The base of a PUBDEF, by the indices of its group and its segment: the address is that of its segment or base frame; the frame is that of its group; if
--- that is 0, that of its segment or base frame.
-abbrev pub base_of : Places → ℕ → ℕ → Option ℕ → Placed
-base_of pl group segment number = record {
-  address = (segment_base pl segment number).address;
-  frame = if group == 0 then (segment_base pl segment number).frame else group_frame pl group;
-}
+-- The base of a PUBDEF, by the indices of its group and its segment: the address is that of its segment or base frame; the frame is that of
+-- its group; if that is 0, that of its segment or base frame. None if the placement has no entry for one of them.
+abbrev pub in_frame : Placed → Frame → Placed
+in_frame start frame = record { address = start.address; frame = frame }
+
+abbrev pub in_group : Places → ℕ → Placed → Option Placed
+in_group pl group start = if group == 0 then Some start else option_map (in_frame start) (entry pl.groups group)
+
+abbrev pub base_of : Places → ℕ → ℕ → Option ℕ → Option Placed
+base_of pl group segment number = option_and_then (in_group pl group) (segment_base pl segment number)
 
 -- A public at an address in a frame; the publics of a PUBDEF, each at its offset from the base.
 abbrev pub public_at : List ℕ → ℕ → Frame → PlacedPublic
@@ -47,8 +49,9 @@ public_at name address frame = record { name = name; place = record { address = 
 abbrev pub publics_at : Placed → List (At PublicItem) → List PlacedPublic
 publics_at base items = map (λ q. public_at q.item.name (base.address + q.item.offset) base.frame) items
 
+-- The publics of a record. One without a base has none; the law bases_are_found shows that each has one.
 abbrev pub placed_publics : Places → Contents → List PlacedPublic
-placed_publics pl (Publics p) = publics_at (base_of pl p.group.item p.segment.item p.frame) p.items
+placed_publics pl (Publics p) = flat_map (λ base. publics_at base p.items) (option_to_list (base_of pl p.group.item p.segment.item p.frame))
 placed_publics pl _ = []
 
 -- The local publics of a record, or its other publics. Those of an LPUBDEF are local, those of a PUBDEF are not.

@@ -16,9 +16,8 @@ pub fn derived_is_taken()
     ensures { (ms : List PlacedModule) (given : List Given) → DerivedIsTaken ms given }
 {}
 
-/// For a well-formed module, and a placement with an entry for each of its segments and groups: the base of a PUBDEF or an LPUBDEF is at
-/// the place of its segment, or at its base frame if it has no segment; its frame is that of its group, or that of its segment or base
-/// frame if it has no group. So the defaults in the definition of a base, for a missing entry or number, are never used.
+/// For a well-formed module, and a placement with exactly its segments and groups, each PUBDEF and LPUBDEF has a base. So no public is
+/// passed over because its place is missing.
 pub fn bases_are_found()
     ensures { BasesAreFound }
 {}

@@ -2,12 +2,13 @@
 
 ghost use Rattle.std.specs.Prelude.{◌≡◌, ◌<◌, ◌^◌, length, List, Bool, true, false};
 ghost use Rattle.omf_records.specs.Inner.Seen.{map_ok};
-ghost use Rattle.omf_check.specs.Module.{recs_of};
+ghost use Rattle.std.specs.List.{AllZip};
+ghost use Rattle.omf_check.specs.Module.{recs_of, typed_modules};
 ghost use Rattle.omf_derive.specs.declared.given.Given.{Given as Entry};
 ghost use Rattle.omf_derive.specs.Derive.{PlacedPublic, placed_modules};
 ghost use Rattle.omf_derive.specs.Inner.Derived.{external_place, external_places, derived};
 ghost use Rattle.omf_derive.specs.Inner.GivenTable.{IsGivenTable};
-ghost use Rattle.omf_derive.specs.Derivation.{IsDerived};
+ghost use Rattle.omf_derive.specs.Derivation.{IsDerived, IsPlaceOf};
 ghost use Rattle.omf_derive.specs.Inner.Deriving.{IsFound, IsTried};
 ghost use Rattle.omf_derive.specs.Inner.PublicTable.{IsTable};
 
@@ -104,8 +105,8 @@ fn try_derive(
 
 /// Derives the placement of each module: the segments and groups of its placement in `places`, and a place for each of its externals.
 /// That is the place of its first entry in `given`, or else the address and the frame of the only public with its name, among those of
-/// the PUBDEF records of all modules, or for a local external those of the LPUBDEF records of its own module. There must be as many
-/// `places` as modules, and fewer than 2^32.
+/// the PUBDEF records of all modules, or for a local external those of the LPUBDEF records of its own module. There must be one of
+/// `places` for each module, with exactly its module's segments and groups, and fewer than 2^32 modules.
 ///
 /// The address of a public is that of its segment plus its offset; without a segment, 16 times its base frame number plus its offset.
 /// Its frame is that of its group; without a group, that of its segment or base frame (TIS OMF 1.1, "PUBDEF").
@@ -122,7 +123,7 @@ pub fn derive(
     given: &[Given],
 ) -> Result<Vec<Placement>, DeriveFault>
     requires few { length modules.now < 2 ^ 32 }
-    requires placed { length places.now ≡ length modules.now }
+    requires placed { AllZip IsPlaceOf (typed_modules modules.now) places.now }
     ensures { IsDerived (derived (placed_modules modules.now places.now) given.now) (map_ok (λ v. v.items) result) }
 {
     match try_derive(alloc, modules, places, given) {

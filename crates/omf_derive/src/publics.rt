@@ -1,14 +1,11 @@
 //! The publics of several modules, by name.
 
-ghost use Rattle.std.specs.Prelude.{◌≡◌, ◌+◌, [], ◌∷◌, length, OnOk, IfOk, List, filter_map, true, false};
+ghost use Rattle.std.specs.Prelude.{◌≡◌, ◌+◌, [], ◌∷◌, length, OnOk, IfOk, List, flat_map, filter_map, option_to_list, true, false};
 ghost use Rattle.omf_check.specs.Module.{recs_of};
-ghost use Rattle.omf_frame.specs.Types.{is_local};
 ghost use Rattle.omf_records.specs.Inner.Seen.{contents_seen, kind_seen};
-ghost use Rattle.omf_records.specs.Values.{Contents};
-ghost use Rattle.omf_placement.specs.Placement.{Places};
-ghost use Rattle.omf_derive.specs.Derive.{PlacedPublic, paragraph, base_of, public_at, publics_at, placed_publics, record_publics, publics, all_publics, placed_modules};
+ghost use Rattle.omf_derive.specs.Derive.{PlacedPublic, paragraph, base_of, public_at, publics_at, record_publics, publics, all_publics, placed_modules};
 ghost use Rattle.omf_derive.specs.Inner.Derived.{of_name, one_public};
-ghost use Rattle.omf_derive.specs.Inner.PublicTable.{IsTable, HasMore, found_after, summed};
+ghost use Rattle.omf_derive.specs.Inner.PublicTable.{IsTable, HasMore, based, found_after, summed};
 ghost use Rattle.omf_placement.specs.declared.frame.Placed.{Placed as Place};
 
 use crate::fault::DeriveFault;
@@ -48,31 +45,91 @@ fn paragraph(number: u16) -> Placed
     }
 }
 
-/// The base of a PUBDEF with these indices of its group and its segment, and, if the segment is 0, this number of its base frame.
-pub(crate) fn base_of(
+/// The base of a PUBDEF with these indices of its group and its segment, and, if the segment is 0, this number of its base frame. `None` if
+/// the placement has no entry for one of them.
+fn base_of(
     placement: &Placement,
     group: Index,
     segment: Index,
     number: Option<u16>,
-) -> Placed
+) -> Option<Placed>
     ensures { result ≡ base_of placement.now group segment number }
 {
-    let base = if segment.0 == 0 {
-        paragraph(number.unwrap_or(0))
+    let start = if segment.0 == 0 {
+        number.map(paragraph)?
     } else {
-        match placement.segment(usize::from(segment.0)) {
-            Some((address, frame)) => Placed { address, frame },
-            None => Placed::NONE,
-        }
+        placement.segment(usize::from(segment.0))?
     };
-    let frame = if group.0 == 0 {
-        base.frame
-    } else {
-        placement.group(usize::from(group.0)).unwrap_or(Frame::NONE)
-    };
-    Placed {
-        address: base.address,
+    if group.0 == 0 {
+        return Some(start);
+    }
+    let frame = placement.group(usize::from(group.0))?;
+    Some(Placed {
+        address: start.address,
         frame,
+    })
+}
+
+/// These items with their base, if there is one.
+fn at_base<'a>(
+    base: Option<Placed>,
+    items: Items<Public<'a>>,
+) -> Option<(Placed, Items<Public<'a>>)>
+    ensures { based result ≡ flat_map (λ b. publics_at b items.entry) (option_to_list base) }
+{
+    Some((base?, items))
+}
+
+/// The publics of a record, with their base: of an LPUBDEF if `local` is set, of a PUBDEF if not. `None` for any other record.
+pub(crate) fn publics_of<'a>(
+    local: bool,
+    rec: &Rec<'a>,
+    placement: &Placement,
+) -> Option<(Placed, Items<Public<'a>>)>
+    ensures { based result ≡ record_publics local placement.now (kind_seen rec.now) (contents_seen rec.now) }
+{
+    match rec {
+        Rec::Publics {
+            group,
+            segment,
+            frame,
+            publics,
+            ..
+        } => {
+            if local {
+                return None;
+            }
+            let base = base_of(placement, group.item, segment.item, *frame);
+            at_base(base, publics.iter())
+        }
+        Rec::LocalPublics {
+            group,
+            segment,
+            frame,
+            publics,
+            ..
+        } => {
+            if !local {
+                return None;
+            }
+            let base = base_of(placement, group.item, segment.item, *frame);
+            at_base(base, publics.iter())
+        }
+        Rec::Header { .. }
+        | Rec::Comment { .. }
+        | Rec::Names(_)
+        | Rec::Segment { .. }
+        | Rec::Group { .. }
+        | Rec::Externs(_)
+        | Rec::Communals(_)
+        | Rec::Plain { .. }
+        | Rec::Iterated { .. }
+        | Rec::Fixups { .. }
+        | Rec::ModEnd { .. }
+        | Rec::LocalNames(_)
+        | Rec::LocalExterns { .. }
+        | Rec::LocalCommunals(_)
+        | Rec::Carried { .. } => None,
     }
 }
 
@@ -90,21 +147,6 @@ pub(crate) fn with_one_more(found: Option<Found>, address: u64, frame: Frame) ->
         None => Found::One { address, frame },
         Some(_) => Found::Several,
     }
-}
-
-/// Whether records of this type are local: LEXTDEF, LPUBDEF, LCOMDEF and LLNAMES.
-fn is_local(kind: u8) -> bool
-    ensures { result ≡ is_local kind }
-{
-    matches!(kind, 0xB4..=0xB8 | 0xCA)
-}
-
-/// Whether the publics of a record of this type are local, if `local` is set, or not local otherwise.
-pub(crate) fn has_asked(local: bool, kind: u8) -> bool
-    ensures some { result ≡ true → (pl : Places) (c : Contents) → record_publics local pl kind c ≡ placed_publics pl c }
-    ensures none { result ≡ false → (pl : Places) (c : Contents) → record_publics local pl kind c ≡ [] }
-{
-    is_local(kind) == local
 }
 
 impl<'a> PublicTable<'a> {
@@ -135,38 +177,8 @@ impl<'a> PublicTable<'a> {
         Ok(())
     }
 
-    /// Adds the publics of a record.
-    fn add_record(&mut self, rec: &Rec<'a>, placement: &Placement) -> Result<(), AllocError>
-        ensures { OnOk result (HasMore self.old.by_name self.new.by_name (placed_publics placement.now (contents_seen rec.now))) }
-    {
-        match rec {
-            Rec::Publics {
-                group,
-                segment,
-                frame,
-                publics,
-                ..
-            } => self.add_items(
-                publics.iter(),
-                base_of(placement, group.item, segment.item, *frame),
-            ),
-            Rec::LocalPublics {
-                group,
-                segment,
-                frame,
-                publics,
-                ..
-            } => self.add_items(
-                publics.iter(),
-                base_of(placement, group.item, segment.item, *frame),
-            ),
-            _ => Ok(()),
-        }
-    }
-
     /// Adds the publics of a record if they are local, or if they are not.
-    #[tactic(auto, using(crate::proofs::TableLaws::none_more, crate::proofs::TableLaws::same_more))]
-    fn add_asked(
+    fn add_record(
         &mut self,
         local: bool,
         rec: &Rec<'a>,
@@ -174,10 +186,10 @@ impl<'a> PublicTable<'a> {
     ) -> Result<(), AllocError>
         ensures { OnOk result (HasMore self.old.by_name self.new.by_name (record_publics local placement.now (kind_seen rec.now) (contents_seen rec.now))) }
     {
-        if !has_asked(local, rec.kind()) {
-            return Ok(());
+        match publics_of(local, rec, placement) {
+            Some((base, items)) => self.add_items(items, base),
+            None => Ok(()),
         }
-        self.add_record(rec, placement)
     }
 
     /// Adds the local publics of a module, or its other publics.
@@ -190,7 +202,7 @@ impl<'a> PublicTable<'a> {
         ensures { OnOk result (HasMore self.old.by_name self.new.by_name (publics local (recs_of «module».entry.now.bytes, placement.now))) }
     {
         for (_, rec) in module.records() {
-            self.add_asked(local, &rec, placement)?;
+            self.add_record(local, &rec, placement)?;
         }
         Ok(())
     }

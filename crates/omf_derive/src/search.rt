@@ -4,14 +4,14 @@ ghost use Rattle.std.specs.Prelude.{◌≡◌, ◌+◌, ◌<◌, ◌^◌, List, 
 ghost use Rattle.omf_check.specs.Module.{recs_of};
 ghost use Rattle.omf_records.specs.Inner.Seen.{contents_seen, kind_seen};
 ghost use Rattle.omf_placement.specs.declared.frame.Placed.{Placed as Place};
-ghost use Rattle.omf_derive.specs.Derive.{PlacedModule, public_at, publics_at, placed_publics, record_publics, publics, all_publics, placed_modules, seen_publics};
+ghost use Rattle.omf_derive.specs.Derive.{PlacedModule, public_at, publics_at, record_publics, publics, all_publics, placed_modules, seen_publics};
 ghost use Rattle.omf_derive.specs.Inner.Derived.{given_place, one_public, given_or, external_places, derived};
 ghost use Rattle.omf_derive.specs.Inner.PublicTable.{summed, found_with, found_over, found_among};
 ghost use Rattle.omf_derive.specs.Inner.Deriving.{IsNext, IsFaultOf, IsFaultIn};
 
 use crate::fault::DeriveFault;
 use crate::given::Given;
-use crate::publics::{Found, base_of, has_asked, place_found, with_one_more};
+use crate::publics::{Found, place_found, publics_of, with_one_more};
 use omf_check::Checked;
 use omf_placement::{Placed, Placement};
 use omf_records::{Items, Public, Rec};
@@ -48,46 +48,8 @@ fn after_items(
     found
 }
 
-/// What is found for this name after the publics of a record.
-fn after_record(
-    name: &[u8],
-    found: Option<Found>,
-    rec: &Rec<'_>,
-    placement: &Placement,
-) -> Option<Found>
-    ensures { result ≡ found_over name.now found (placed_publics placement.now (contents_seen rec.now)) }
-{
-    match rec {
-        Rec::Publics {
-            group,
-            segment,
-            frame,
-            publics,
-            ..
-        } => after_items(
-            name,
-            found,
-            publics.iter(),
-            base_of(placement, group.item, segment.item, *frame),
-        ),
-        Rec::LocalPublics {
-            group,
-            segment,
-            frame,
-            publics,
-            ..
-        } => after_items(
-            name,
-            found,
-            publics.iter(),
-            base_of(placement, group.item, segment.item, *frame),
-        ),
-        _ => found,
-    }
-}
-
 /// What is found for this name after the local publics of a record, or after its other publics.
-fn after_asked(
+fn after_record(
     name: &[u8],
     found: Option<Found>,
     local: bool,
@@ -96,10 +58,10 @@ fn after_asked(
 ) -> Option<Found>
     ensures { result ≡ found_over name.now found (record_publics local placement.now (kind_seen rec.now) (contents_seen rec.now)) }
 {
-    if !has_asked(local, rec.kind()) {
-        return found;
+    match publics_of(local, rec, placement) {
+        Some((base, items)) => after_items(name, found, items, base),
+        None => found,
     }
-    after_record(name, found, rec, placement)
 }
 
 /// What is found for this name after the local publics of a module, or after its other publics.
@@ -114,7 +76,7 @@ fn after_module(
 {
     let mut found = before;
     for (_, rec) in module.records() {
-        found = after_asked(name, found, local, &rec, placement);
+        found = after_record(name, found, local, &rec, placement);
     }
     found
 }

@@ -6,7 +6,8 @@ use Rattle.std.specs.Cmp.Lexicographic.{slice_cmp}
 use denote.Ref.{Bor}
 use Rattle.omf_derive.specs.declared.publics.Found.{Found}
 use Rattle.omf_derive.specs.declared.publics.Found.TheVariants.{One, Several}
-use Rattle.omf_derive.specs.Derive.{PlacedPublic}
+use Rattle.omf_records.specs.Values.{At, PublicItem}
+use Rattle.omf_derive.specs.Derive.{PlacedPublic, publics_at}
 use Rattle.omf_derive.specs.Inner.Derived.{of_name}
 use Rattle.omf_placement.specs.declared.frame.Placed.{Placed}
 
@@ -40,3 +41,8 @@ found_over name found (p ∷ ps) = found_over name (found_with name found p) ps
 -- What is found for a name among these publics.
 abbrev pub found_among : List ℕ → List PlacedPublic → Option Found
 found_among name ps = found_over name None ps
+
+-- The publics of a base with their items, if there is one.
+abbrev pub based : Option (Placed × List (At PublicItem)) → List PlacedPublic
+based None = []
+based (Some b) = publics_at b.0 b.1

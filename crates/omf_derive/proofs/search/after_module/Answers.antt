@@ -19,7 +19,7 @@ loop-rec-preserved c =
     let local = c.args.local in
     let name = c.args.name.now in
     let rest = listed_publics local pl c.next.new.self in
-    ap (λ f. found_over name f rest) c.after_asked-found.ensures
+    ap (λ f. found_over name f rest) c.after_record-found.ensures
     ∙ sym (found-append name c.loop-rec.found (record_publics local pl (kind_seen c.in-Some.rec) (contents_seen c.in-Some.rec)) rest)
     ∙ ap (λ xs. found_over name c.loop-rec.found (listed_publics local pl xs)) (sym c.in-Some.ensures.steps) ∙ c.loop-rec.invariant
 

@@ -17,8 +17,8 @@ pub loop-rec-preserved : goal.loop-rec-preserved
 loop-rec-preserved c =
     let pl = c.args.placement.now in
     let local = c.args.local in
-    fill-more IsTable c.args.self.now.by_name c.loop-rec.self.by_name c.add_asked.new.self.by_name (record_publics local pl (kind_seen c.in-Some.rec) (contents_seen c.in-Some.rec)) (listed_publics local pl c.loop-rec.rec-iterator) _ _
-    (ap (listed_publics local pl) c.in-Some.ensures.steps) c.in_ok-add_asked.ensures c.loop-rec.invariant
+    fill-more IsTable c.args.self.now.by_name c.loop-rec.self.by_name c.add_record.new.self.by_name (record_publics local pl (kind_seen c.in-Some.rec) (contents_seen c.in-Some.rec)) (listed_publics local pl c.loop-rec.rec-iterator) _ _
+    (ap (listed_publics local pl) c.in-Some.ensures.steps) c.in_ok-add_record.ensures c.loop-rec.invariant
 
 pub returns : goal.returns
 returns c = fill-end IsTable c.args.self.now.by_name c.loop-rec.self.by_name _ _ (ap (listed_publics c.args.local c.args.placement.now) c.in-None.ensures.steps.0) c.loop-rec.invariant
