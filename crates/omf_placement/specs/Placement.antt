@@ -5,9 +5,10 @@ pub use Rattle.omf_placement.specs.declared.frame.Placed.{Placed}
 use Rattle.omf_records.specs.Values.{At, Rec}
 use Rattle.omf_check.specs.Tables.{groups, entry}
 use Rattle.omf_check.specs.declared.method.FrameMethod.{FrameMethod}
-use Rattle.omf_check.specs.declared.method.FrameMethod.TheVariants.{Segment as F0, Group as F1, External as F2, Location as F4, Target as F5}
+use Rattle.omf_check.specs.declared.method.FrameMethod.TheVariants as frames
 use Rattle.omf_check.specs.declared.method.TargetMethod.{TargetMethod}
-use Rattle.omf_check.specs.declared.method.TargetMethod.TheVariants.{Segment as T0, Group as T1, External as T2}
+use Rattle.omf_records.specs.declared.method.Kind.{Kind}
+use Rattle.omf_records.specs.declared.method.Kind.TheVariants as kinds
 
 -- The places of the segments, the frames of the groups, the places of the externals, in index order.
 pub record Places : Type 0 where
@@ -15,26 +16,27 @@ pub record Places : Type 0 where
   pub groups : List Frame
   pub externals : List Placed
 
--- The place of a segment, a group or an external, if it has an entry. The address of a group is the base of its frame.
+-- The place of a target, if it has an entry. The address of a group is the base of its frame.
 abbrev pub group_place : Frame → Placed
 group_place f = record { address = f.base; frame = f }
 
+abbrev pub place_in : Places → Kind → ℕ → Option Placed
+place_in pl kinds.Segment i = entry pl.segments i
+place_in pl kinds.Group i = option_map group_place (entry pl.groups i)
+place_in pl kinds.External i = entry pl.externals i
+
 abbrev pub place_of : Places → TargetMethod → Option Placed
-place_of pl (T0 i) = entry pl.segments i
-place_of pl (T1 i) = option_map group_place (entry pl.groups i)
-place_of pl (T2 i) = entry pl.externals i
+place_of pl t = place_in pl t.kind t.index
 
--- The frame of a frame method, if it has an entry. F4 is the frame of the segment of the last data record, here `location`; F5 is that of
--- the target.
-abbrev pub frame_of_place : Option Placed → Option Frame
-frame_of_place p = option_map (λ x. x.frame) p
+-- What a frame method takes the frame of: F4 the segment of the last data record, here `location`; F5 the target.
+abbrev pub framed : ℕ → TargetMethod → FrameMethod → TargetMethod
+framed location target (frames.Of t) = t
+framed location target frames.Location = record { kind = kinds.Segment; index = location }
+framed location target frames.Target = target
 
+-- The frame of a frame method, if that has an entry.
 abbrev pub frame_by : Places → ℕ → TargetMethod → FrameMethod → Option Frame
-frame_by pl location target (F0 i) = frame_of_place (place_of pl (T0 i))
-frame_by pl location target (F1 i) = frame_of_place (place_of pl (T1 i))
-frame_by pl location target (F2 i) = frame_of_place (place_of pl (T2 i))
-frame_by pl location target F4 = frame_of_place (place_of pl (T0 location))
-frame_by pl location target F5 = frame_of_place (place_of pl target)
+frame_by pl location target f = option_map (λ p. p.frame) (place_of pl (framed location target f))
 
 -- The place of an absolute segment, by its frame number and offset (TIS OMF 1.1, "SEGDEF", frame number and offset).
 abbrev pub absolute_place : ℕ → ℕ → Placed

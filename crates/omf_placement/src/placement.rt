@@ -6,7 +6,7 @@ ghost use Rattle.omf_placement.specs.Placement.{group_place};
 
 use crate::frame::{Frame, Placed};
 use omf_check::{FrameMethod, TargetMethod, entry_of};
-use omf_frame::Index;
+use omf_records::Kind;
 use std::alloc::{AllocError, Global};
 use std::marker::Model;
 
@@ -143,10 +143,11 @@ impl Placement {
     pub fn place_of(&self, target: &TargetMethod) -> Option<Placed>
         ensures { result ≡ place_of self.now target.now }
     {
-        match target {
-            TargetMethod::Segment(Index(i)) => self.segment(usize::from(*i)),
-            TargetMethod::Group(Index(i)) => self.group(usize::from(*i)).map(group_place),
-            TargetMethod::External(Index(i)) => self.external(usize::from(*i)),
+        let index = usize::from(target.index.0);
+        match target.kind {
+            Kind::Segment => self.segment(index),
+            Kind::Group => self.group(index).map(group_place),
+            Kind::External => self.external(index),
         }
     }
 
@@ -161,9 +162,7 @@ impl Placement {
         ensures { result ≡ frame_by self.now segment target.now method.now }
     {
         let place = match method {
-            FrameMethod::Segment(Index(i)) => self.segment(usize::from(*i)),
-            FrameMethod::Group(Index(i)) => self.group(usize::from(*i)).map(group_place),
-            FrameMethod::External(Index(i)) => self.external(usize::from(*i)),
+            FrameMethod::Of(entry) => self.place_of(entry),
             FrameMethod::Location => self.segment(usize::from(segment)),
             FrameMethod::Target => self.place_of(target),
         };

@@ -5,11 +5,12 @@ use Rattle.std.proofs.lemmas.List.Elements.{All-nil, All-cons, All-head, All-tai
 use Rattle.std.proofs.lemmas.Option.{none-some}
 use Rattle.omf_records.specs.Values.{Rec, DataItem}
 use Rattle.omf_reloc.specs.declared.fault.Cause.{Cause}
-use Rattle.omf_reloc.specs.Laws.{AllAreAdded}
-use Rattle.omf_reloc.specs.Offsets.{outcome, start_offset, cause_of}
+use Rattle.omf_reloc.specs.Laws.{AllAreAdded, AllReach}
+use Rattle.std.specs.Result.{result_err}
+use Rattle.omf_reloc.specs.Offsets.{outcome, start_outcome}
 use Rattle.omf_placement.specs.Placement.{Places}
 use Rattle.omf_reloc.specs.Plain.{Piece, Kept, End, PlainFixup, data_contents, fixups_of_data}
-use Rattle.omf_reloc.specs.Reach.{causes, causes_at, piece_causes, Reaches}
+use Rattle.omf_reloc.specs.Reach.{causes, causes_at, piece_causes}
 
 abbrev pub IsFine : Option Cause → Type 0
 IsFine c = c ≡ None
@@ -22,15 +23,15 @@ pub right : (xs ys : List (Option Cause)) → All IsFine (xs ++ ys) → All IsFi
 right [] ys h = h
 right (x ∷ xs) ys h = right xs ys (All-tail IsFine x (xs ++ ys) h)
 
-pub fine-ok : {A : Type 0} (r : Result A Cause) → cause_of r ≡ None → IsOk r
+pub fine-ok : {A : Type 0} (r : Result A Cause) → result_err r ≡ None → IsOk r
 fine-ok (Ok a) h = refl
 fine-ok (Err c) h = absurd (none-some c (sym h))
 
-pub fine-all : (pl : Places) (d : DataItem) (fs : List (ℕ × PlainFixup)) → All IsFine (map (λ f. cause_of (outcome pl d f)) fs) → All (λ f. IsOk (outcome pl d f)) fs
+pub fine-all : (pl : Places) (d : DataItem) (fs : List (ℕ × PlainFixup)) → All IsFine (map (λ f. result_err (outcome pl d f)) fs) → All (λ f. IsOk (outcome pl d f)) fs
 fine-all pl d [] h = All-nil (λ f. IsOk (outcome pl d f))
 fine-all pl d (f ∷ fs) h =
-    let rest = map (λ g. cause_of (outcome pl d g)) fs in
-    All-cons (λ g. IsOk (outcome pl d g)) f fs (fine-ok (outcome pl d f) (All-head IsFine (cause_of (outcome pl d f)) rest h)) (fine-all pl d fs (All-tail IsFine (cause_of (outcome pl d f)) rest h))
+    let rest = map (λ g. result_err (outcome pl d g)) fs in
+    All-cons (λ g. IsOk (outcome pl d g)) f fs (fine-ok (outcome pl d f) (All-head IsFine (result_err (outcome pl d f)) rest h)) (fine-all pl d fs (All-tail IsFine (result_err (outcome pl d f)) rest h))
 
 module _ (pl : Places) where
   -- What holds for all causes holds for those of one piece.
@@ -41,9 +42,9 @@ module _ (pl : Places) where
   of-data : (o : Option DataItem) (d : DataItem) (after : List Piece) → o ≡ Some d → All IsFine (causes_at pl o after) → All (λ f. IsOk (outcome pl d f)) (fixups_of_data after)
   of-data o d after e h = fine-all pl d (fixups_of_data after) (subst (λ x. All IsFine (causes_at pl x after)) e h)
 
-  pub all-added : (m : List Rec) → Reaches pl m → AllAreAdded pl m
+  pub all-added : (m : List Rec) → AllReach pl m → AllAreAdded pl m
   all-added m r = record {
     fixups = λ before after q d e g. of-data (data_contents q.contents) d after g (of-piece before after (Kept q) (subst (λ ps. All IsFine (causes pl ps)) e r.each));
-    start = λ before after kind byte q e. fine-ok (start_offset pl kind q)
-        (All-head IsFine (cause_of (start_offset pl kind q)) [] (of-piece before after (End kind byte (Some q)) (subst (λ ps. All IsFine (causes pl ps)) e r.each)));
+    start = λ before after kind byte q e. fine-ok (start_outcome pl kind q)
+        (All-head IsFine (result_err (start_outcome pl kind q)) [] (of-piece before after (End kind byte (Some q)) (subst (λ ps. All IsFine (causes pl ps)) e r.each)));
   }

@@ -12,7 +12,7 @@ use Rattle.omf_check.specs.Sound.{SubrecordHolds, is_module_end, ModuleHolds}
 use Rattle.omf_check.specs.Tables.{subrecords, subrecords_in}
 use Rattle.omf_check.specs.Threads.{frame_from, target_from, frame_setting, target_setting, plain, PlainReference}
 use Rattle.omf_check.specs.declared.method.FrameMethod.TheVariants.{Target as F5}
-use Rattle.omf_check.specs.declared.method.TargetMethod.TheVariants.{Segment as T0}
+use Rattle.omf_check.specs.Threads.{T0}
 use Rattle.omf_check.specs.declared.threads.Threads.{Threads}
 use Rattle.omf_check.proofs.ThreadLaws.{threads_kept}
 use Rattle.omf_reloc.specs.Inner.Walking.{plain_by, threads_after}

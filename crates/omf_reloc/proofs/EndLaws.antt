@@ -1,6 +1,8 @@
 -- The start of a module is the one that its last record names, by the threads in force there.
+use Rattle.omf_frame.specs.declared.kinds.Width.{Width}
 use Rattle.std.proofs.Common.{◌≡◌, ℕ, List, [], ◌∷◌, ◌++◌, append_assoc, refl, sym, ap, ap₂, subst, ◌∙◌, false}
-use Rattle.std.specs.Prelude.{All, Bool, Option, Some, None, IsSome, unwrap_or}
+use Rattle.std.specs.Prelude.{All, Bool, flat_map, option_to_list, Option, Some, None, IsSome, unwrap_or}
+use Rattle.std.specs.Result.{result_ok}
 use Rattle.std.proofs.lemmas.Bool.{true≢false}
 use Rattle.std.proofs.lemmas.List.{append-nil}
 use Rattle.std.proofs.lemmas.List.Elements.{All-head, All-tail}
@@ -15,23 +17,19 @@ use Rattle.omf_records.specs.Values.{Rec, Contents, Names, Fixups, ModEnd, Subre
 use Rattle.omf_check.proofs.ThreadLaws.{threads_kept}
 use Rattle.omf_check.specs.Inner.Judging.{frame_cell, target_cell}
 use Rattle.omf_check.specs.Inner.Kept.{HasThreads, no_threads}
-use Rattle.omf_check.specs.Sound.{is_module_end, ModuleHolds}
+use Rattle.omf_check.specs.Sound.{is_module_end, ModuleHolds, ReferenceHolds}
 use Rattle.omf_check.specs.Tables.{subrecords}
 use Rattle.omf_check.specs.Threads.{PlainReference, plain}
 use Rattle.omf_check.specs.declared.method.FrameMethod.TheVariants.{Target as F5}
-use Rattle.omf_check.specs.declared.method.TargetMethod.TheVariants.{Segment as T0}
+use Rattle.omf_check.specs.Threads.{T0}
 use Rattle.omf_check.specs.declared.threads.Threads.{Threads}
-use Rattle.omf_reloc.specs.Image.{start, starts, start_at, piece_start}
-use Rattle.omf_reloc.specs.Laws.{ReferenceIsFound}
-use Rattle.omf_reloc.specs.Offsets.{start_offset}
+use Rattle.omf_reloc.specs.Image.{start, piece_start}
+use Rattle.omf_reloc.specs.Offsets.{start_outcome}
 use Rattle.omf_reloc.specs.Inner.Widths.{modend_type}
 use Rattle.omf_placement.specs.Placement.{Places}
-use Rattle.omf_reloc.specs.Plain.{Piece, end_byte, piece_of, pieces}
-use Rattle.omf_reloc.specs.Reach.{Reaches}
-use Rattle.omf_reloc.specs.Inner.Walking.{plain_by, threads_after, threads_through, HasStart}
-use Rattle.omf_reloc.proofs.AddedLaws.{all-added}
+use Rattle.omf_reloc.specs.Plain.{Piece, piece_of, pieces}
+use Rattle.omf_reloc.specs.Inner.Walking.{plain_by, threads_after, threads_through}
 use Rattle.omf_reloc.proofs.EarlierLaws.{plain-by, threads-more, frame-there, target-there}
-use Rattle.omf_reloc.proofs.FoundLaws.{all-found}
 use Rattle.omf_reloc.proofs.GatherLaws.{pieces_from, subrecords-more}
 use Rattle.omf_reloc.proofs.WalkLaws.{last-end}
 
@@ -60,10 +58,10 @@ no-start pl earlier kind (ModEnd byte s) e = absurd (true≢false e)
 no-start pl earlier kind (Names items) e = refl
 no-start pl earlier kind _ e = refl
 
-starts-behind : (pl : Places) (before front : List Rec) (p : Piece) → All IsNoEnd front → starts pl (pieces_from before front ++ p ∷ []) ≡ piece_start pl p ++ []
+starts-behind : (pl : Places) (before front : List Rec) (p : Piece) → All IsNoEnd front → flat_map (piece_start pl) (pieces_from before front ++ p ∷ []) ≡ piece_start pl p ++ []
 starts-behind pl before [] p h = refl
 starts-behind pl before (x ∷ front) p h =
-    ap (λ xs. xs ++ starts pl (pieces_from (before ++ x ∷ []) front ++ p ∷ [])) (no-start pl (subrecords before) x.kind x.contents (All-head IsNoEnd x front h))
+    ap (λ xs. xs ++ flat_map (piece_start pl) (pieces_from (before ++ x ∷ []) front ++ p ∷ [])) (no-start pl (subrecords before) x.kind x.contents (All-head IsNoEnd x front h))
     ∙ starts-behind pl (before ++ x ∷ []) front p (All-tail IsNoEnd x front h)
 
 -- A module, and its last record.
@@ -83,28 +81,33 @@ module _ (m : List Rec) (holds : ModuleHolds profile_limits m) (r : Rec) (is : S
   pub start-is : (pl : Places) → start pl m ≡ last (piece_start pl (piece_of (subrecords front) r.kind r.contents) ++ [])
   start-is pl =
       let (before, end, e, t, others) = holds.ends in
-      ap (λ ps. last (starts pl ps)) last-piece ∙ ap last (starts-behind pl [] before (piece_of (subrecords before) r.kind r.contents) others)
+      ap (λ ps. last (flat_map (piece_start pl) ps)) last-piece ∙ ap last (starts-behind pl [] before (piece_of (subrecords before) r.kind r.contents) others)
 
 -- The last record as it is seen.
-pub seen-end : (m : List Rec) (r : CodeRec) (wide : Bool) (byte : ℕ) (s : Option Named) (named : Option Reference) → r ≡ code.ModEnd wide byte s → s ≡ named → Some (rec_seen r) ≡ last m
+pub seen-end : (m : List Rec) (r : CodeRec) (wide : Width) (byte : ℕ) (s : Option Named) (named : Option Reference) → r ≡ code.ModEnd wide byte s → s ≡ named → Some (rec_seen r) ≡ last m
     → Some (record { kind = modend_type wide; contents = ModEnd byte named }) ≡ last m
 seen-end m r wide byte s named e f l = ap (λ x. Some (rec_seen (code.ModEnd wide byte x))) (sym f) ∙ ap (λ x. Some (rec_seen x)) (sym e) ∙ l
 
-no-end : (r : CodeRec) → ((wide : Bool) (byte : ℕ) (s : Option Named) → r ≡ code.ModEnd wide byte s → ⊥) → is_module_end (contents_seen r) ≡ false
+no-end : (r : CodeRec) → ((wide : Width) (byte : ℕ) (s : Option Named) → r ≡ code.ModEnd wide byte s → ⊥) → is_module_end (contents_seen r) ≡ false
 no-end (code.ModEnd wide byte s) h = absurd (h wide byte s refl)
 no-end (code.Names items) h = refl
 no-end _ h = refl
 
+-- The last of at most one.
+one-last : (o : Option (ℕ × ℕ)) → last (option_to_list o ++ []) ≡ o
+one-last None = refl
+one-last (Some x) = refl
+
 -- It names no start.
 module _ (pl : Places) (m : List Rec) (holds : ModuleHolds profile_limits m) where
-  pub none-here : (r : CodeRec) → Some (rec_seen r) ≡ last m → ((wide : Bool) (byte : ℕ) (s : Option Named) → r ≡ code.ModEnd wide byte s → ⊥) → None ≡ start pl m
+  pub none-here : (r : CodeRec) → Some (rec_seen r) ≡ last m → ((wide : Width) (byte : ℕ) (s : Option Named) → r ≡ code.ModEnd wide byte s → ⊥) → None ≡ start pl m
   none-here r is h = sym (start-is m holds (rec_seen r) is pl ∙ ap (λ xs. last (xs ++ [])) (no-start pl (subrecords (front m holds (rec_seen r) is)) (kind_seen r) (contents_seen r) (no-end r h)))
 
   pub none-named : (kind byte : ℕ) → Some (record { kind = kind; contents = ModEnd byte None }) ≡ last m → None ≡ start pl m
   none-named kind byte is = sym (start-is m holds (record { kind = kind; contents = ModEnd byte None }) is pl)
 
 -- It names one.
-module _ (pl : Places) (m : List Rec) (holds : ModuleHolds profile_limits m) (reaches : Reaches pl m) (kind byte : ℕ) (r : Reference)
+module _ (pl : Places) (m : List Rec) (holds : ModuleHolds profile_limits m) (kind byte : ℕ) (r : Reference)
     (is : Some (record { kind = kind; contents = ModEnd byte (Some r) }) ≡ last m) where
   abbrev end : Rec
   end = record { kind = kind; contents = ModEnd byte (Some r) }
@@ -112,8 +115,8 @@ module _ (pl : Places) (m : List Rec) (holds : ModuleHolds profile_limits m) (re
   abbrev before : List Rec
   before = front m holds end is
 
-  found : ReferenceIsFound pl 0 (subrecords before) r
-  found = (all-found pl profile_limits m holds (record { segments = reaches.fits.segment_count; groups = reaches.fits.group_count; externals = reaches.fits.external_count })).start before [] kind byte r (parts m holds end is)
+  found : ReferenceHolds before (subrecords before) r
+  found = (holds.each before [] end (parts m holds end is)).reference
 
   has-threads : HasThreads (threads_through no_threads m) (subrecords before)
   has-threads =
@@ -131,12 +134,5 @@ module _ (pl : Places) (m : List Rec) (holds : ModuleHolds profile_limits m) (re
         ap₂ (λ f t. let x : PlainReference = record { frame = unwrap_or f F5; target = unwrap_or t (T0 0); displacement = unwrap_or r.displacement 0 } in x) f t
         ∙ sym (plain-by (threads_through no_threads m) (subrecords before) r has-threads)
 
-    pub has-start : HasStart pl kind (plain_by threads r)
-    has-start = subst (HasStart pl kind) (sym plain-is) (record {
-      places = found.places;
-      reaches = (all-added pl m reaches).start (pieces_from [] before) [] kind (end_byte byte) (plain (subrecords before) r) (last-piece m holds end is);
-    })
-
-    pub start-found : (s : ℕ × ℕ) → s ∷ [] ≡ start_at pl (plain_by threads r) (start_offset pl kind (plain_by threads r)) → Some s ≡ start pl m
-    start-found s e =
-        ap (λ xs. last (xs ++ [])) (e ∙ ap (λ q. start_at pl q (start_offset pl kind q)) plain-is) ∙ sym (start-is m holds end is pl)
+    pub start-found : result_ok (start_outcome pl kind (plain_by threads r)) ≡ start pl m
+    start-found = ap (λ q. result_ok (start_outcome pl kind q)) plain-is ∙ sym (one-last (result_ok (start_outcome pl kind (plain (subrecords before) r)))) ∙ sym (start-is m holds end is pl)

@@ -2,6 +2,7 @@
 use Rattle.std.proofs.Common.{◌≡◌, ℕ, ◌+◌, List, [], ◌∷◌, ◌++◌, refl, sym, ◌∙◌, ap, ap₂, subst, length, map, arith, length-append}
 use Rattle.std.specs.Prelude.{filter_map, zip, Option, Some, None}
 use Rattle.std.proofs.lemmas.Option.{none-some}
+use Rattle.std.specs.Result.{result_err}
 use Rattle.omf_frame.specs.declared.fault.Place.{Place}
 use Rattle.omf_image.specs.declared.limits.Limits.{Limits}
 use Rattle.omf_records.specs.Values.{Rec, Contents, Names, Plain, Iterated}
@@ -9,7 +10,7 @@ use Rattle.omf_check.specs.Sound.{ModuleHolds}
 use Rattle.omf_reloc.specs.declared.fault.Cause.{Cause}
 use Rattle.omf_reloc.specs.declared.fault.ReachFault.{ReachFault}
 use Rattle.omf_reloc.specs.declared.fault.ReachFault.TheVariants as fault
-use Rattle.omf_reloc.specs.Offsets.{outcome_at, start_offset, cause_of}
+use Rattle.omf_reloc.specs.Offsets.{outcome_at, start_outcome}
 use Rattle.omf_reloc.specs.Inner.Pieces.{single_pieces, references_at, reference_places, placed_pieces}
 use Rattle.omf_placement.specs.Placement.{Places}
 use Rattle.omf_reloc.specs.Plain.{Piece, Kept, Fixed, End, PlainFixup, pieces, fixups_of_data}
@@ -36,7 +37,7 @@ zip-append (p ∷ ps) qs (Some c ∷ cs) ds e = ap (λ fs. fault.TooFar p.0 p.1 
 -- The causes of fixups that belong to the last data record.
 abbrev pending : Places → Option (ℕ × ℕ) → List (ℕ × PlainFixup) → List (Option Cause)
 pending pl None fs = []
-pending pl (Some p) fs = map (λ f. cause_of (outcome_at pl p.0 p.1 f)) fs
+pending pl (Some p) fs = map (λ f. result_err (outcome_at pl p.0 p.1 f)) fs
 
 one-far : (number within : ℕ) (c : Option Cause) → faults_of ((number, within) ∷ []) (c ∷ []) ≡ far_at number within c
 one-far number within None = refl
@@ -94,15 +95,15 @@ module _ (pl : Places) (limits : Limits) (m : List Rec) where
   of-kept _ r place ps qs tail e k = k
 
   of-fixup : (at : Place) (kind : ℕ) (f : PlainFixup) (p : ℕ × ℕ) (ps : List Piece) (qs : List (ℕ × ℕ)) (tail : List ReachFault) → AreFar qs (After ps (Some p)) tail
-      → AreFar ((at.number, at.within) ∷ qs) (After (Fixed kind (f ∷ []) ∷ ps) (Some p)) (far_at at.number at.within (cause_of (outcome_at pl p.0 p.1 (kind, f))) ++ tail)
+      → AreFar ((at.number, at.within) ∷ qs) (After (Fixed kind (f ∷ []) ∷ ps) (Some p)) (far_at at.number at.within (result_err (outcome_at pl p.0 p.1 (kind, f))) ++ tail)
   of-fixup at kind f p ps qs tail k =
-      let c = cause_of (outcome_at pl p.0 p.1 (kind, f)) in
+      let c = result_err (outcome_at pl p.0 p.1 (kind, f)) in
       join ((at.number, at.within) ∷ []) qs (c ∷ []) (After ps (Some p)) (far_at at.number at.within c) tail (record { count = refl; faults = one-far at.number at.within c }) k
 
   of-start : (at : Place) (kind byte : ℕ) (r : _) (place : Option (ℕ × ℕ)) (ps : List Piece) (qs : List (ℕ × ℕ)) (tail : List ReachFault) → ps ≡ [] → AreFar qs (After ps place) tail
-      → AreFar ((at.number, at.within) ∷ qs) (After (End kind byte (Some r) ∷ ps) place) (far_at at.number at.within (cause_of (start_offset pl kind r)) ++ tail)
+      → AreFar ((at.number, at.within) ∷ qs) (After (End kind byte (Some r) ∷ ps) place) (far_at at.number at.within (result_err (start_outcome pl kind r)) ++ tail)
   of-start at kind byte r place ps qs tail e k =
-      let c = cause_of (start_offset pl kind r) in
+      let c = result_err (start_outcome pl kind r) in
       let one : AreFar ((at.number, at.within) ∷ []) (c ∷ []) (far_at at.number at.within c) = record { count = refl; faults = one-far at.number at.within c } in
       let none : pending pl place (fixups_of_data ps) ≡ [] = ap (λ xs. pending pl place (fixups_of_data xs)) e ∙ pending-nil pl place in
       let rest : AreFar qs (causes pl ps) tail = subst (λ xs. AreFar qs (xs ++ causes pl ps) tail) none k in

@@ -8,7 +8,7 @@ use Rattle.omf_frame.specs.Bytes.{with_before, with_after}
 use Rattle.omf_image.specs.Inner.Expanding.{expanded}
 use Rattle.omf_image.specs.Overlay.{Laid}
 use Rattle.omf_image.specs.declared.limits.Limits.{Limits}
-use Rattle.omf_records.specs.Values.{Rec, Contents, Plain, Iterated, Fixups, ModEnd, DataItem, Subrecord, unplaced, width}
+use Rattle.omf_records.specs.Values.{Rec, Contents, Plain, Iterated, Fixups, ModEnd, DataItem, Subrecord, width}
 use Rattle.omf_check.specs.Tables.{subrecords, subrecords_in}
 use Rattle.omf_reloc.specs.Image.{laid, laid_contents, patched}
 use Rattle.omf_reloc.specs.Offsets.{outcome}
@@ -61,17 +61,14 @@ gathered ps = with_after gathered_piece ps
 abbrev pub tagged : ℕ → List PlainFixup → List (ℕ × PlainFixup)
 tagged kind fs = map (λ f. (kind, f)) fs
 
-abbrev pub bare : DataItem → DataItem
-bare d = record d { segment = unplaced d.segment; offset = unplaced d.offset }
-
 abbrev pub closed_by : Contents → Option Gathered → List Gathered
 closed_by (Plain d) open_one = option_to_list open_one
 closed_by (Iterated d) open_one = option_to_list open_one
 closed_by _ open_one = []
 
 abbrev pub opened_by : List Subrecord → ℕ → Contents → Option Gathered → Option Gathered
-opened_by earlier kind (Plain d) open_one = Some (Once (bare d) [])
-opened_by earlier kind (Iterated d) open_one = Some (Repeated kind (bare d) [])
+opened_by earlier kind (Plain d) open_one = Some (Once d [])
+opened_by earlier kind (Iterated d) open_one = Some (Repeated kind d [])
 opened_by earlier kind (Fixups subs) open_one = option_map (more (tagged kind (plain_fixups earlier subs))) open_one
 opened_by earlier kind _ open_one = open_one
 

@@ -1,5 +1,5 @@
 -- The answer to an input and a placement: what the answer of a check gives, and that there is exactly one answer.
-use Rattle.std.proofs.Common.{◌≡◌, ℕ, List, Ok, Err, true, false, subst, refl, sym, ap, ap₂, ◌∙◌, ◌⊎◌, inl, inr, Some, None}
+use Rattle.std.proofs.Common.{◌≡◌, ℕ, List, Ok, Err, subst, refl, sym, ap, ap₂, ◌∙◌, ◌⊎◌, inl, inr, Some, None}
 use Rattle.omf_check.specs.declared.fault.CheckFault.{CheckFault}
 use Rattle.omf_check.specs.declared.fault.CheckFault.TheVariants.{Refused}
 use Rattle.omf_frame.specs.Framing.{Raw}
@@ -24,16 +24,12 @@ use Rattle.omf_reloc.specs.Plain.{pieces}
 use Rattle.omf_reloc.specs.Reach.{Reaches, reach_fault}
 use Rattle.omf_reloc.specs.declared.fault.ReachFault.{ReachFault}
 use Rattle.omf_reloc.proofs.InsideLaws.{all-inside}
-use Rattle.omf_reloc.proofs.ReachLaws.{reach-decided}
-use Rattle.omf_reloc.specs.HeadlineLaws.{IsSame}
+use Rattle.omf_reloc.specs.HeadlineLaws.{AcceptedAreSafe, IsSame}
 use Rattle.omf_reloc.specs.declared.headline.Answer.{Answer}
 use Rattle.omf_reloc.specs.declared.headline.Answer.TheVariants.{Refused, DoesNotReach, Relocated}
 
 pub begins : (profile : Profile) (input : List ℕ) (m : Module) → Decides profile input (Ok m) → BeginsWith profile input (records_in m.bytes)
-begins profile input m d = record {
-  accepted = d.1.0;
-  defined = module_holds profile profile_limits d.1.0.bytes (records_in m.bytes) d.1.0.well_formed;
-}
+begins profile input m d = d.1.0
 
 refuses : (profile : Profile) (input : List ℕ) (why : Reason) (at : Place) → IsRefused profile profile_limits input why at
     → IsRefused profile profile_limits input why at × ((records : List Raw) → IsAccepted profile profile_limits input records → ⊥)
@@ -43,9 +39,6 @@ pub refuses_so : (profile : Profile) (input : List ℕ) (fault : CheckFault) (wh
     → IsRefused profile profile_limits input why at × ((records : List Raw) → IsAccepted profile profile_limits input records → ⊥)
 refuses_so profile input fault why at e d = refuses profile input why at (subst (λ f. Decides profile input (Err f)) e d)
 
-pub never : false ≡ true → ⊥
-never e = cc
-
 none_some : (o : Option ReachFault) (f : ReachFault) → o ≡ None → o ≡ Some f → ⊥
 none_some o f e h = cc
 
@@ -53,25 +46,12 @@ same_some : (f g : ReachFault) → ◌≡◌ {A = Option ReachFault} (Some f) (S
 same_some f g e = cc
 
 module _ (profile : Profile) (input : List ℕ) (pl : Places) where
-  begins_so : (records : List Raw) → IsAccepted profile profile_limits input records → BeginsWith profile input records
-  begins_so records a = record { accepted = a; defined = module_holds profile profile_limits a.bytes records a.well_formed }
-
-  of_module : (records : List Raw) → IsAccepted profile profile_limits input records → (o : Option ReachFault) → reach_fault pl (recs records) ≡ o → (answer : Answer) × Headline profile input pl answer
+  of_module : (records : List Raw) → BeginsWith profile input records → (o : Option ReachFault) → reach_fault pl (recs records) ≡ o → (answer : Answer) × Headline profile input pl answer
   of_module records a None e = (
     Relocated (laid profile_limits pl (pieces (recs records))) (start pl (recs records)),
-    (
-      records,
-      begins_so records a,
-      record {
-        reaches = (reach-decided pl (recs records)).decided.0 e;
-        bytes = λ segment offset. refl;
-        begins = refl;
-        inside = all-inside pl (recs records) (begins_so records a).defined;
-      },
-    ),
+    (records, a, record { reaches = e; bytes = λ segment offset. refl; begins = refl }),
   )
-  of_module records a (Some f) e =
-      (DoesNotReach f, (records, begins_so records a, (λ r. none_some (reach_fault pl (recs records)) f ((reach-decided pl (recs records)).decided.1 r) e), e))
+  of_module records a (Some f) e = (DoesNotReach f, (records, a, e))
 
   of_either : ((records : List Raw) × IsAccepted profile profile_limits input records) ⊎ ((why : Reason) × (at : Place) × IsRefused profile profile_limits input why at)
       → (answer : Answer) × Headline profile input pl answer
@@ -82,19 +62,29 @@ module _ (profile : Profile) (input : List ℕ) (pl : Places) where
   answer_is_there small = of_either (either profile profile_limits input small)
 
   same_records : (rs ss : List Raw) → BeginsWith profile input rs → BeginsWith profile input ss → rs ≡ ss
-  same_records rs ss b c = (accepted_once profile profile_limits input rs ss b.accepted c.accepted).0
+  same_records rs ss b c = (accepted_once profile profile_limits input rs ss b c).0
+
+  -- of one module, one answer is that the placement reaches, the other that it does not
+  not_both : (rs ss : List Raw) (f : ReachFault) → BeginsWith profile input rs → BeginsWith profile input ss → Reaches pl (recs rs) → reach_fault pl (recs ss) ≡ Some f → ⊥
+  not_both rs ss f b c r e = none_some (reach_fault pl (recs ss)) f (subst (λ xs. Reaches pl (recs xs)) (same_records rs ss b c) r) e
 
   pub answer_is_unique : (answer other : Answer) → Headline profile input pl answer → Headline profile input pl other → IsSame answer other
   answer_is_unique (Refused why at) (Refused other there) h i = let e = refused_once profile profile_limits input why other at there h.0 i.0 in ap₂ Refused e.0 e.1
-  answer_is_unique (Refused why at) (DoesNotReach f) h i = absurd (h.1 i.0 i.1.accepted)
-  answer_is_unique (Refused why at) (Relocated image begin) h i = absurd (h.1 i.0 i.1.accepted)
-  answer_is_unique (DoesNotReach f) (Refused why at) h i = absurd (i.1 h.0 h.1.accepted)
+  answer_is_unique (Refused why at) (DoesNotReach f) h i = absurd (h.1 i.0 i.1)
+  answer_is_unique (Refused why at) (Relocated image begin) h i = absurd (h.1 i.0 i.1)
+  answer_is_unique (DoesNotReach f) (Refused why at) h i = absurd (i.1 h.0 h.1)
   answer_is_unique (DoesNotReach f) (DoesNotReach g) h i =
-      ap DoesNotReach (same_some f g (sym h.3 ∙ ap (λ rs. reach_fault pl (recs rs)) (same_records h.0 i.0 h.1 i.1) ∙ i.3))
-  answer_is_unique (DoesNotReach f) (Relocated image begin) h i = absurd (h.2 (subst (λ rs. Reaches pl (recs rs)) (same_records i.0 h.0 i.1 h.1) i.2.reaches))
-  answer_is_unique (Relocated image begin) (Refused why at) h i = absurd (i.1 h.0 h.1.accepted)
-  answer_is_unique (Relocated image begin) (DoesNotReach f) h i = absurd (i.2 (subst (λ rs. Reaches pl (recs rs)) (same_records h.0 i.0 h.1 i.1) h.2.reaches))
+      ap DoesNotReach (same_some f g (sym h.2 ∙ ap (λ rs. reach_fault pl (recs rs)) (same_records h.0 i.0 h.1 i.1) ∙ i.2))
+  answer_is_unique (DoesNotReach f) (Relocated image begin) h i = absurd (not_both i.0 h.0 f i.1 h.1 i.2.reaches h.2)
+  answer_is_unique (Relocated image begin) (Refused why at) h i = absurd (i.1 h.0 h.1)
+  answer_is_unique (Relocated image begin) (DoesNotReach f) h i = absurd (not_both h.0 i.0 f h.1 i.1 h.2.reaches i.2)
   answer_is_unique (Relocated bytes begin) (Relocated other there) h i = (
     λ segment offset. h.2.bytes segment offset ∙ ap (λ rs. image profile_limits pl (recs rs) segment offset) (same_records h.0 i.0 h.1 i.1) ∙ sym (i.2.bytes segment offset),
     h.2.begins ∙ ap (λ rs. start pl (recs rs)) (same_records h.0 i.0 h.1 i.1) ∙ sym i.2.begins,
   )
+
+-- What an input begins with is safe.
+pub accepted-safe : AcceptedAreSafe
+accepted-safe = λ profile input records a.
+    let holds = module_holds profile profile_limits a.bytes records a.well_formed in
+    record { defined = holds; inside = λ pl. all-inside pl (recs records) holds }

@@ -1,24 +1,25 @@
 -- What is known of the pieces of a well-formed module: each fixup follows an LEDATA and is inside its data, each index is in its table,
 -- each data record is inside its segment, and the end is the last piece.
 use Rattle.std.proofs.Common.{◌≡◌, ◌≢◌, ℕ, ◌+◌, ◌≤◌, List, [], ◌∷◌, ◌++◌, length, true, refl, ◌∙◌, ap, subst}
-use Rattle.std.specs.Prelude.{flat_map, Option, Some, None, option_map, IsOk, ⊤}
+use Rattle.std.specs.Prelude.{flat_map, Option, Some, None, IsOk, ⊤}
 use Rattle.std.proofs.lemmas.List.{append-nil}
 use Rattle.omf_frame.specs.Bytes.{last}
 use Rattle.omf_image.specs.Inner.Expanding.{expanded, expanded_length}
 use Rattle.omf_image.specs.declared.limits.Limits.{Limits}
 use Rattle.omf_records.specs.Location.{location_size}
-use Rattle.omf_records.specs.Values.{At, Rec, Contents, contents_alone, Names, Plain, Iterated, Fixups, ModEnd, DataItem, Subrecord, Thread, Fixup, Reference, width, location_type, location_offset}
+use Rattle.omf_records.specs.Values.{At, Rec, Contents, Names, Plain, Iterated, Fixups, ModEnd, DataItem, Subrecord, Thread, Fixup, Reference, width, location_type, location_offset}
 use Rattle.omf_check.specs.Sound.{FrameIsDefined, TargetIsDefined, ReferenceHolds, FixupHolds, SubrecordHolds, DataHolds, ContentsHold, is_module_end, ModuleHolds}
-use Rattle.omf_check.specs.Tables.{subrecords, data_in, last_data}
+use Rattle.omf_check.specs.Tables.{subrecords, data_in, last_data, entries, is_defined}
 use Rattle.omf_check.specs.Threads.{PlainReference, plain}
-use Rattle.omf_check.specs.declared.method.FrameMethod.{FrameMethod}
-use Rattle.omf_check.specs.declared.method.FrameMethod.TheVariants.{Segment as F0, Group as F1, External as F2, Location as F4, Target as F5}
 use Rattle.omf_check.specs.declared.method.TargetMethod.{TargetMethod}
-use Rattle.omf_check.specs.declared.method.TargetMethod.TheVariants.{Segment as T0, Group as T1, External as T2}
+use Rattle.omf_check.specs.declared.method.FrameMethod.{FrameMethod}
+use Rattle.omf_check.specs.declared.method.FrameMethod.TheVariants.{Of, Location as F4, Target as F5}
+use Rattle.omf_records.specs.declared.method.Kind.{Kind}
+use Rattle.omf_records.specs.declared.method.Kind.TheVariants as kinds
 use Rattle.omf_reloc.specs.Inner.Pieces.{one_by_one, single_pieces}
 use Rattle.omf_reloc.specs.Plain.{Piece, Kept, Fixed, End, PlainFixup, piece_of, plain_fixups}
 use Rattle.omf_reloc.proofs.EarlierLaws.{HoldFrom, hold-first, hold-rest, ends-here}
-use Rattle.omf_reloc.proofs.GatherLaws.{pieces_from, bare}
+use Rattle.omf_reloc.proofs.GatherLaws.{pieces_from}
 use Rattle.omf_reloc.proofs.SingleLaws.{singles}
 use Rattle.omf_reloc.proofs.WalkLaws.{defined-after, lies-in, last-more, last-end, next-split}
 use Rattle.omf_reloc.specs.Laws.{LiesInSegment}
@@ -75,30 +76,31 @@ PiecesHold limits m last_one (p ∷ ps) = PieceHolds limits m last_one p ps × P
 
 module _ (limits : Limits) (m : List Rec) (holds : ModuleHolds limits m) where
   module _ (before rest : List Rec) (e : m ≡ before ++ rest) where
-    frame-defined : (f : FrameMethod) → FrameIsDefined before f → FrameIsDefined m f
-    frame-defined (F0 i) h = (defined-after m before rest e).0 i h
-    frame-defined (F1 i) h = (defined-after m before rest e).1 i h
-    frame-defined (F2 i) h = (defined-after m before rest e).2 i h
-    frame-defined F4 h = tt
-    frame-defined F5 h = tt
+    entry-defined : (k : Kind) (i : ℕ) → is_defined (entries before k) i ≡ true → is_defined (entries m k) i ≡ true
+    entry-defined kinds.Segment i h = (defined-after m before rest e).0 i h
+    entry-defined kinds.Group i h = (defined-after m before rest e).1 i h
+    entry-defined kinds.External i h = (defined-after m before rest e).2 i h
 
     target-defined : (t : TargetMethod) → TargetIsDefined before t → TargetIsDefined m t
-    target-defined (T0 i) h = (defined-after m before rest e).0 i h
-    target-defined (T1 i) h = (defined-after m before rest e).1 i h
-    target-defined (T2 i) h = (defined-after m before rest e).2 i h
+    target-defined t h = entry-defined t.kind t.index h
+
+    frame-defined : (f : FrameMethod) → FrameIsDefined before f → FrameIsDefined m f
+    frame-defined (Of t) h = target-defined t h
+    frame-defined F4 h = tt
+    frame-defined F5 h = tt
 
     plain-holds : (earlier : List Subrecord) (r : Reference) → ReferenceHolds before earlier r → PlainHolds m (plain earlier r)
     plain-holds earlier r h = record { frame = frame-defined (plain earlier r).frame h.frame; target = target-defined (plain earlier r).target h.target }
 
-    data-holds : (d : DataItem) (size : ℕ) → DataHolds before d size → PlacedDataHolds m (bare d) size
+    data-holds : (d : DataItem) (size : ℕ) → DataHolds before d size → PlacedDataHolds m d size
     data-holds d size h = record { lies = lies-in m before rest d size e h; short = h.short }
 
     -- The fixups of a FIXUPP.
-    module _ (kind : ℕ) (last_one : Option Contents) (l : last_one ≡ option_map contents_alone (last_data before)) (qs : List Piece) (behind : PiecesHold limits m last_one qs) where
+    module _ (kind : ℕ) (last_one : Option Contents) (l : last_one ≡ last_data before) (qs : List Piece) (behind : PiecesHold limits m last_one qs) where
       fixup-holds : (earlier : List Subrecord) (locat : ℕ) (r : Reference) → FixupHolds before earlier locat r → PlainFixupHolds m last_one (record { locat = locat; reference = plain earlier r })
       fixup-holds earlier locat r h = record {
-        data_record = bare h.data_record;
-        is_last = l ∙ ap (option_map contents_alone) h.last;
+        data_record = h.data_record;
+        is_last = l ∙ h.last;
         inside = h.inside;
         reference = plain-holds earlier r h.reference;
       }
@@ -113,7 +115,7 @@ module _ (limits : Limits) (m : List Rec) (holds : ModuleHolds limits m) where
           by within (Fixup locat r) g k = (fixup-holds earlier locat r g, k)
 
     -- One record.
-    record-holds : (kind : ℕ) (c : Contents) (last_one next : Option Contents) (qs : List Piece) → last_one ≡ option_map contents_alone (last_data before) → next ≡ data_kept (contents_alone c) last_one
+    record-holds : (kind : ℕ) (c : Contents) (last_one next : Option Contents) (qs : List Piece) → last_one ≡ last_data before → next ≡ data_kept c last_one
         → ContentsHold limits before kind c → (is_module_end c ≡ true → qs ≡ []) → PiecesHold limits m next qs → PiecesHold limits m last_one (one_by_one (piece_of (subrecords before) kind c) ++ qs)
     record-holds kind (Plain d) last_one next qs l n h ended k = (data-holds d (length d.bytes) h, subst (λ x. PiecesHold limits m x qs) n k)
     record-holds kind (Iterated d) last_one next qs l n h ended k = (
@@ -130,18 +132,18 @@ module _ (limits : Limits) (m : List Rec) (holds : ModuleHolds limits m) where
   abbrev data_of : List Rec → List Contents
   data_of before = flat_map (λ x. data_in x.contents) before
 
-  last-by : (xs : List Contents) (c : Contents) → option_map contents_alone (last (xs ++ data_in c)) ≡ data_kept (contents_alone c) (option_map contents_alone (last xs))
-  last-by xs (Plain d) = ap (option_map contents_alone) (last-end None xs (Plain d))
-  last-by xs (Iterated d) = ap (option_map contents_alone) (last-end None xs (Iterated d))
-  last-by xs (Names items) = ap (λ ys. option_map contents_alone (last ys)) (append-nil xs)
-  last-by xs _ = ap (λ ys. option_map contents_alone (last ys)) (append-nil xs)
+  last-by : (xs : List Contents) (c : Contents) → last (xs ++ data_in c) ≡ data_kept c (last xs)
+  last-by xs (Plain d) = last-end None xs (Plain d)
+  last-by xs (Iterated d) = last-end None xs (Iterated d)
+  last-by xs (Names items) = ap last (append-nil xs)
+  last-by xs _ = ap last (append-nil xs)
 
-  hold-from : (before rest : List Rec) → m ≡ before ++ rest → PiecesHold limits m (option_map contents_alone (last_data before)) (flat_map one_by_one (pieces_from before rest))
+  hold-from : (before rest : List Rec) → m ≡ before ++ rest → PiecesHold limits m (last_data before) (flat_map one_by_one (pieces_from before rest))
   hold-from before [] e = tt
   hold-from before (r ∷ rest) e =
-      record-holds before (r ∷ rest) e r.kind r.contents (option_map contents_alone (last_data before)) (option_map contents_alone (last_data (before ++ r ∷ [])))
+      record-holds before (r ∷ rest) e r.kind r.contents (last_data before) (last_data (before ++ r ∷ []))
       (flat_map one_by_one (pieces_from (before ++ r ∷ []) rest)) refl
-      (ap (option_map contents_alone) (last-more before r) ∙ last-by (data_of before) r.contents)
+      (last-more before r ∙ last-by (data_of before) r.contents)
       (holds.each before rest r e) (λ t. ap (λ xs. flat_map one_by_one (pieces_from (before ++ r ∷ []) xs)) (ends-here limits m holds before rest r e t))
       (hold-from (before ++ r ∷ []) rest (next-split m before rest r e))
 

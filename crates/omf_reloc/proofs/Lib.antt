@@ -2,8 +2,6 @@ pub mod PatchLaws
 pub mod ReachLaws
 pub mod EarlierLaws
 pub mod FarLaws
-pub mod FoundLaws
-pub mod JudgeLaws
 pub mod ReachedLaws
 pub mod CompleteLaws
 pub mod AddedLaws

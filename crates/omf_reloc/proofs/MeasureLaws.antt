@@ -6,7 +6,10 @@ use Rattle.std.proofs.lemmas.List.Elements.{All-nil, All-cons, All-head, All-tai
 use Rattle.omf_frame.specs.Fault.{Fault}
 use Rattle.omf_records.specs.Values.{Rec, Contents, Names, Plain, Iterated, Fixups, Subrecord, width}
 use Rattle.omf_records.specs.Inner.Seen.{odd_if}
-use Rattle.omf_image.specs.Blocks.{blocks_size, count_size}
+use Rattle.omf_image.specs.Blocks.{blocks_size}
+use Rattle.omf_frame.specs.declared.kinds.Width.{Width}
+use Rattle.omf_frame.specs.declared.kinds.Width.TheVariants.{Bits16, Bits32}
+use Rattle.omf_frame.specs.Types.{width_bytes}
 use Rattle.omf_image.specs.Inner.Expanding.{length_or, blocks_of, expanded, expanded_length}
 use Rattle.omf_image.specs.Limits.{profile_limits}
 use Rattle.omf_image.specs.Overlay.{Laid, AreLaidOver}
@@ -36,9 +39,9 @@ length-by n k (Some f) e = absurd cc
 pub length-is : (width n : ℕ) (limits : Limits) (bytes : List ℕ) → Ok n ≡ expanded_length width limits bytes → n ≡ length (expanded width limits bytes)
 length-is width n limits bytes e = length-by n (blocks_size (blocks_of width limits bytes)) _ e ∙ sym (length-blocks_bytes (blocks_of width limits bytes))
 
-pub by-width : (wide : Bool) → width (odd_if wide 0xA2) ≡ count_size wide
-by-width true = refl
-by-width false = refl
+pub by-width : (w : Width) → width (odd_if w 0xA2) ≡ width_bytes w
+by-width Bits16 = refl
+by-width Bits32 = refl
 
 pub never-err : (r : Result ℕ Fault) (f : Fault) → Err f ≡ r → IsOk r → ⊥
 never-err (Ok n) f e h = absurd cc

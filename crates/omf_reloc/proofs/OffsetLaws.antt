@@ -1,27 +1,28 @@
--- Outcomes and start offsets, from what the steps of the code return.
-use Rattle.std.proofs.Common.{◌≡◌, ℕ, ◌+◌, List, [], ◌∷◌, Bool, true, false, cond, Option, refl, ◌∙◌, ap}
-use Rattle.std.specs.Prelude.{slice_get}
-use Rattle.std.specs.Option.{ok_or}
+-- Outcomes of fixups and of starts, from what the steps of the code return.
+use Rattle.std.proofs.Common.{◌≡◌, ℕ, ◌+◌, List, [], ◌∷◌, Bool, true, false, cond, Option, refl, sym, ◌∙◌, ap, ap₂, subst}
+use Rattle.std.specs.Prelude.{slice_get, option_and_then, Some, None, Result, Ok, Err}
+use Rattle.omf_frame.specs.declared.kinds.Width.{Width}
+use Rattle.omf_frame.specs.declared.kinds.Width.TheVariants.{Bits16, Bits32}
+use Rattle.std.proofs.lemmas.Option.{none-some, same_Some}
 use Rattle.omf_reloc.specs.declared.fault.Cause.{Cause}
 use Rattle.omf_reloc.specs.declared.fault.Cause.TheVariants as cause
 use Rattle.omf_placement.specs.declared.frame.Frame.{Frame}
+use Rattle.omf_placement.specs.declared.frame.Placed.{Placed}
 use Rattle.omf_frame.specs.Bytes.{difference}
 use Rattle.omf_records.specs.Values.{width_bits, location_type, location_offset, is_segment_relative}
 use Rattle.omf_records.specs.Location.{offset_bits, self_relative_bits}
-use Rattle.omf_check.specs.Threads.{PlainReference}
 use Rattle.omf_reloc.specs.Plain.{PlainFixup}
 use Rattle.omf_reloc.specs.Inner.Widths.{fixupp_type, modend_type, number_bits}
-use Rattle.omf_placement.specs.Placement.{Places, placed, target_address, frame_by}
-use Rattle.omf_reloc.specs.Offsets.{offsets, first_or, in_bits, in_frame, from_location, outcome_at, start_offset}
+use Rattle.omf_reloc.specs.Offsets.{offsets, first_or, map_ok, in_bits, in_frame, from_location, additions_in}
 
 -- the width of a displacement, by the type of its record
-fixupp_width : (wide : Bool) → number_bits wide ≡ width_bits (fixupp_type wide)
-fixupp_width true = refl
-fixupp_width false = refl
+fixupp_width : (width : Width) → number_bits width ≡ width_bits (fixupp_type width)
+fixupp_width Bits16 = refl
+fixupp_width Bits32 = refl
 
-modend_width : (wide : Bool) → number_bits wide ≡ width_bits (modend_type wide)
-modend_width true = refl
-modend_width false = refl
+pub modend_width : (width : Width) → number_bits width ≡ width_bits (modend_type width)
+modend_width Bits16 = refl
+modend_width Bits32 = refl
 
 cond_true : {A : Type 0} (b : Bool) (x y : A) → b ≡ true → x ≡ cond b x y
 cond_true true x y h = refl
@@ -31,51 +32,34 @@ cond_false : {A : Type 0} (b : Bool) (x y : A) → b ≡ false → y ≡ cond b 
 cond_false true x y h = absurd cc
 cond_false false x y h = refl
 
--- The offsets of a fixup's target, and the offset of its location.
-abbrev offsets_of : Places → ℕ → ℕ → ℕ → PlainReference → List ℕ
-offsets_of pl segment w n r = offsets w n (target_address pl r.target) r.displacement (frame_by pl segment r.target r.frame).base
+module _ (here : Option Placed) (offset : ℕ) (wide reach : Width) (f : PlainFixup) (t : ℕ) (frame : Frame) (address : ℕ) (os : List ℕ) (ht : t ≡ location_type f.locat)
+    (ho : os ≡ offsets (number_bits reach) (number_bits wide) address f.reference.displacement frame.base) where
+  abbrev kind : ℕ
+  kind = location_type f.locat
 
-abbrev place_of : Places → ℕ → ℕ → ℕ → PlainFixup → Option ℕ
-place_of pl segment offset w f =
-    in_bits w (difference ((placed pl.segments segment).address + offset + location_offset f.locat) (frame_by pl segment f.reference.target f.reference.frame).base)
+  pub segment_relative : is_segment_relative f.locat ≡ true → number_bits reach ≡ offset_bits t → in_frame t frame.selector os ≡ additions_in here offset (fixupp_type wide, f) frame address
+  segment_relative h hw =
+      let e : os ≡ offsets (offset_bits kind) (width_bits (fixupp_type wide)) address f.reference.displacement frame.base = cc (fixupp_width wide) in
+      ap (λ n. in_frame n frame.selector os) ht ∙ ap (in_frame kind frame.selector) e ∙ cond_true (is_segment_relative f.locat) _ _ h
 
-pub segment_relative_outcome : (pl : Places) (segment offset : ℕ) (wide reach : Bool) (f : PlainFixup) (t : ℕ) (frame : Frame) (os : List ℕ)
-    → is_segment_relative f.locat ≡ true → t ≡ location_type f.locat → frame ≡ frame_by pl segment f.reference.target f.reference.frame
-    → number_bits reach ≡ offset_bits t
-    → os ≡ offsets (number_bits reach) (number_bits wide) (target_address pl f.reference.target) f.reference.displacement frame.base
-    → in_frame t frame.selector os ≡ outcome_at pl segment offset (fixupp_type wide, f)
-segment_relative_outcome pl segment offset wide reach f t frame os h ht hf hw ho =
-    let k = location_type f.locat in
-    let selector = (frame_by pl segment f.reference.target f.reference.frame).selector in
-    let e : os ≡ offsets_of pl segment (offset_bits k) (width_bits (fixupp_type wide)) f.reference = cc (fixupp_width wide) in
-    ap (λ n. in_frame n frame.selector os) ht
-    ∙ ap (λ (g : Frame). in_frame k g.selector os) hf
-    ∙ ap (λ xs. in_frame k selector xs) e
-    ∙ cond_true (is_segment_relative f.locat) _ _ h
+  pub self_relative : is_segment_relative f.locat ≡ false → number_bits reach ≡ self_relative_bits t
+      → (l : Option ℕ) → l ≡ in_bits (number_bits reach) (option_and_then (λ p. difference (p.address + offset + location_offset f.locat) frame.base) here)
+      → from_location t os l ≡ additions_in here offset (fixupp_type wide, f) frame address
+  self_relative h hw l hl =
+      let e : os ≡ offsets (self_relative_bits kind) (width_bits (fixupp_type wide)) address f.reference.displacement frame.base = cc (fixupp_width wide) in
+      let b : number_bits reach ≡ self_relative_bits kind = cc in
+      let p : l ≡ in_bits (self_relative_bits kind) (option_and_then (λ p. difference (p.address + offset + location_offset f.locat) frame.base) here)
+      = hl ∙ ap (λ w. in_bits w (option_and_then (λ p. difference (p.address + offset + location_offset f.locat) frame.base) here)) b in
+      ap (λ n. from_location n os l) ht ∙ ap₂ (λ xs o. from_location kind xs o) e p ∙ cond_false (is_segment_relative f.locat) _ _ h
 
-pub self_relative_outcome : (pl : Places) (segment offset : ℕ) (wide reach : Bool) (f : PlainFixup) (t : ℕ) (frame : Frame) (base address : ℕ) (os : List ℕ) (l : Option ℕ)
-    → is_segment_relative f.locat ≡ false → t ≡ location_type f.locat → frame ≡ frame_by pl segment f.reference.target f.reference.frame
-    → base ≡ frame.base → number_bits reach ≡ self_relative_bits t
-    → os ≡ offsets (number_bits reach) (number_bits wide) (target_address pl f.reference.target) f.reference.displacement frame.base
-    → address ≡ (placed pl.segments segment).address + offset + location_offset f.locat
-    → l ≡ in_bits (number_bits reach) (difference address base)
-    → from_location t os l ≡ outcome_at pl segment offset (fixupp_type wide, f)
-self_relative_outcome pl segment offset wide reach f t frame base address os l h ht hf hb hw ho ha hl =
-    let k = location_type f.locat in
-    let e : os ≡ offsets_of pl segment (self_relative_bits k) (width_bits (fixupp_type wide)) f.reference = cc (fixupp_width wide) in
-    let p : l ≡ place_of pl segment offset (self_relative_bits k) f = cc in
-    ap (λ n. from_location n os l) ht
-    ∙ ap (λ xs. from_location k xs l) e
-    ∙ ap (λ o. from_location k (offsets_of pl segment (self_relative_bits k) (width_bits (fixupp_type wide)) f.reference) o) p
-    ∙ cond_false (is_segment_relative f.locat) _ _ h
+-- the first offset of a start, or the cause
+abbrev IsFirst : ℕ → List ℕ → Result (ℕ × ℕ) Cause → Type 0
+IsFirst selector os r = r ≡ map_ok (λ x. (selector, x)) (first_or cause.Target os)
 
--- the first of a list, or a cause
-first_is : (c : Cause) (os : List ℕ) → ok_or (slice_get os 0) c ≡ first_or c os
-first_is c [] = refl
-first_is c (o ∷ os) = refl
+pub first_found : (selector : ℕ) (os : List ℕ) (o : ℕ) → slice_get os 0 ≡ Some o → IsFirst selector os (Ok (selector, o))
+first_found selector [] o h = absurd (none-some o h)
+first_found selector (x ∷ os) o h = subst (λ y. IsFirst selector (x ∷ os) (Ok (selector, y))) (same_Some x o h) refl
 
-pub start_outcome : (pl : Places) (wide : Bool) (r : PlainReference)
-    → ok_or (slice_get (offsets_of pl 0 (number_bits wide) (number_bits wide) r) 0) cause.Target ≡ start_offset pl (modend_type wide) r
-start_outcome pl wide r =
-    first_is cause.Target (offsets_of pl 0 (number_bits wide) (number_bits wide) r)
-    ∙ ap (λ n. first_or cause.Target (offsets_of pl 0 n n r)) (modend_width wide)
+pub none_found : (selector : ℕ) (os : List ℕ) → slice_get os 0 ≡ None → IsFirst selector os (Err cause.Target)
+none_found selector [] h = refl
+none_found selector (x ∷ os) h = absurd (none-some x (sym h))

@@ -16,7 +16,10 @@ use Rattle.omf_reloc.specs.declared.fault.Cause.TheVariants as cause
 use Rattle.omf_reloc.specs.Additions.{additions, self_relative_additions}
 use Rattle.omf_reloc.specs.Image.{added}
 use Rattle.omf_reloc.specs.Laws.{location_start, location_end, AreInside, AreElsewhere, StaysInside}
-use Rattle.omf_reloc.specs.Offsets.{outcome, outcome_at, map_ok, from_location, first_or, is_near}
+use Rattle.omf_reloc.specs.Offsets.{outcome, outcome_at, additions_in, named, if_named, map_ok, from_location, first_or, is_near}
+use Rattle.omf_check.specs.Tables.{entry}
+use Rattle.omf_placement.specs.declared.frame.Frame.{Frame}
+use Rattle.omf_placement.specs.declared.frame.Placed.{Placed}
 use Rattle.omf_placement.specs.Placement.{Places}
 use Rattle.omf_reloc.specs.Plain.{PlainFixup}
 
@@ -114,11 +117,18 @@ fit-from_location t [] l h = tt
 fit-from_location t (o ∷ os) None h = tt
 fit-from_location t (o ∷ os) (Some l) h = fit-near t l (first_or cause.Distance (filter (is_near t l) (o ∷ os))) h
 
-fit-outcome_at : (pl : Places) (segment offset : ℕ) (f : ℕ × PlainFixup) → Fit (location_type f.1.locat) (outcome_at pl segment offset f)
-fit-outcome_at pl segment offset f =
+fit-additions_in : (here : Option Placed) (offset : ℕ) (f : ℕ × PlainFixup) (frame : Frame) (address : ℕ) → Fit (location_type f.1.locat) (additions_in here offset f frame address)
+fit-additions_in here offset f frame address =
     let t = location_type f.1.locat in
     let h : t < 16 = mod-lt (f.1.locat / 1024) (omega arith) in
     fit-cond t (is_segment_relative f.1.locat) _ _ (fit-cond t (t == 2) _ _ (fits-additions t 0 _ h) (fit-map_ok t _ _ h)) (fit-from_location t _ _ h)
+
+fit-named : (here : Option Placed) (offset : ℕ) (f : ℕ × PlainFixup) (o : Option (Frame × Placed)) → Fit (location_type f.1.locat) (if_named (additions_in here offset f) o)
+fit-named here offset f None = tt
+fit-named here offset f (Some x) = fit-additions_in here offset f x.0 x.1.address
+
+fit-outcome_at : (pl : Places) (segment offset : ℕ) (f : ℕ × PlainFixup) → Fit (location_type f.1.locat) (outcome_at pl segment offset f)
+fit-outcome_at pl segment offset f = fit-named (entry pl.segments segment) offset f (named pl segment f.1.reference)
 
 fit-outcome : (pl : Places) (d : DataItem) (f : ℕ × PlainFixup) → Fit (location_type f.1.locat) (outcome pl d f)
 fit-outcome pl d f = fit-outcome_at pl d.segment.item d.offset.item f

@@ -18,7 +18,7 @@ use Rattle.omf_check.specs.Tables.{subrecords}
 use Rattle.omf_check.specs.WellFormed.{recs}
 use Rattle.omf_check.specs.declared.threads.Threads.{Threads}
 use Rattle.omf_reloc.specs.Inner.Pieces.{one_by_one, single_pieces, references_at, reference_places, subrecord_steps, contents_steps, steps_from, given, placed_pieces, IsSet, SubrecordIsSet, SubrecordsAreSet, ContentsAreSet, RecordsAreSet}
-use Rattle.omf_reloc.specs.Plain.{Piece, Fixed, End, PlainFixup, piece_of, end_byte, plain_fixups}
+use Rattle.omf_reloc.specs.Plain.{Piece, Fixed, End, PlainFixup, piece_of, plain_fixups}
 use Rattle.omf_reloc.specs.Reach.{fixup_place, reference_places as stood, all_reference_places}
 use Rattle.omf_reloc.specs.Inner.Walking.{threads_after}
 use Rattle.omf_reloc.proofs.EarlierLaws.{plain-by, threads-more, HoldFrom, hold-first, hold-rest, frame-there, target-there}
@@ -50,7 +50,7 @@ contents-listed : (at : Place) (kind : ℕ) (threads : Threads) (earlier : List 
     → without_places (given (contents_steps threads at kind c)) ≡ one_by_one (piece_of earlier kind c)
 contents-listed at kind threads earlier (Fixups subs) h = subs-listed at kind threads earlier subs h
 contents-listed at kind threads earlier (ModEnd byte None) h = refl
-contents-listed at kind threads earlier (ModEnd byte (Some r)) h = ap (λ y. End kind (end_byte byte) (Some y) ∷ []) (sym (plain-by threads earlier r h))
+contents-listed at kind threads earlier (ModEnd byte (Some r)) h = ap (λ y. End kind byte (Some y) ∷ []) (sym (plain-by threads earlier r h))
 contents-listed at kind threads earlier (Names items) h = refl
 contents-listed at kind threads earlier _ h = refl
 

@@ -1,11 +1,12 @@
 -- A placement reaches exactly if it has no fault of reach.
 use Rattle.std.proofs.Common.{◌≡◌, ℕ, zero, suc, ◌+◌, ◌<◌, ◌≤◌, List, [], ◌∷◌, ◌++◌, refl, sym, ◌∙◌, ap, ap₂, Bool, true, false, cond, length, arith, length-append}
-use Rattle.std.specs.Prelude.{All, map, flat_map, filter_map, zip, slice_get, option_to_list, unwrap_or, Option, Some, None, ◌==◌, ◌&&◌, nat_lt}
+use Rattle.std.specs.Prelude.{All, map, flat_map, filter_map, zip, slice_get, option_to_list, is_some, Option, Some, None, ◌==◌, ◌&&◌, nat_lt}
 use Rattle.std.specs.List.{enumerate_from, cons_option}
 use Rattle.std.proofs.lemmas.Bool.{ltb-false, le-ltb, eqb-true, eq-eqb, and_parts, and_from, true≢false, false≢true}
 use Rattle.std.proofs.lemmas.List.{length-map}
 use Rattle.std.proofs.lemmas.List.Elements.{All-nil, All-cons, All-head, All-tail}
-use Rattle.std.proofs.lemmas.Option.{none-some, same_Some, slice_get-get_or, slice_get_within}
+use Rattle.std.proofs.lemmas.Option.{none-some, same_Some}
+use Rattle.std.specs.Result.{result_err}
 use Rattle.omf_frame.specs.Bytes.{with_before, up_to}
 use Rattle.omf_records.specs.Values.{At, Rec, Contents, Plain, Iterated, Fixups, ModEnd, Subrecord, Thread, Fixup}
 use Rattle.omf_check.specs.Tables.{segments, groups, externals, subrecords, entry}
@@ -17,12 +18,12 @@ use Rattle.omf_reloc.specs.declared.fault.Kind.TheVariants as kinds
 use Rattle.omf_reloc.specs.declared.fault.ReachFault.{ReachFault}
 use Rattle.omf_reloc.specs.declared.fault.ReachFault.TheVariants as fault
 use Rattle.omf_derive.proofs.NamedLaws.{entry-suc}
-use Rattle.omf_reloc.specs.Laws.{ReachIsDecided}
-use Rattle.omf_reloc.specs.Offsets.{cause_of, outcome}
+use Rattle.omf_reloc.specs.Laws.{AllReach, Fits, ReachIsDecided}
+use Rattle.omf_reloc.specs.Offsets.{outcome}
 use Rattle.omf_placement.specs.declared.frame.Placed.{Placed}
-use Rattle.omf_placement.specs.Placement.{Places, no_place, placed, absolute_place}
-use Rattle.omf_reloc.specs.Plain.{Piece, Kept, Fixed, End, PlainFixup, piece_of, pieces, plain_fixup, plain_fixups, fixups_of_data, fixups_in, is_data, data_contents, is_data_contents}
-use Rattle.omf_reloc.specs.Reach.{causes, causes_at, piece_causes, fixup_place, reference_places, all_reference_places, far_fault, missing, extra, lies_at, misplaced, misfits, far_faults, reach_faults, reach_fault, Fits, Reaches}
+use Rattle.omf_placement.specs.Placement.{Places, absolute_place}
+use Rattle.omf_reloc.specs.Plain.{Piece, Kept, Fixed, End, PlainFixup, piece_of, pieces, plain_fixup, plain_fixups, fixups_of_data, fixups_in, data_of, data_contents}
+use Rattle.omf_reloc.specs.Reach.{causes, causes_at, piece_causes, fixup_place, reference_places, all_reference_places, far_fault, entries, given, all_kinds, missing, extra, lies_at, misplaced, misfits, far_faults, reach_faults, Reaches}
 
 abbrev piece_at : List Rec → Rec → List Piece
 piece_at before r = piece_of (subrecords before) r.kind r.contents ∷ []
@@ -38,12 +39,15 @@ abbrev total : List Piece → ℕ
 total [] = 0
 total (p ∷ ps) = refs p + total ps
 
+abbrev is_data : Piece → Bool
+is_data p = is_some (data_of p)
+
 -- There is a cause, or none, for each fixup after a data record and for the start.
 module _ (pl : Places) where
   data-causes : (r : Rec) (c : Contents) (ps : List Piece)
-      → length (causes_at pl (data_contents c) ps) + length (flat_map fixups_in (cond (is_data_contents c) [] (Kept r ∷ up_to is_data ps))) ≤ length (fixups_of_data ps)
-  data-causes r (Plain d) ps = omega (arith, length-map (fixups_of_data ps) (λ f. cause_of (outcome pl d f)))
-  data-causes r (Iterated d) ps = omega (arith, length-map (fixups_of_data ps) (λ f. cause_of (outcome pl d f)))
+      → length (causes_at pl (data_contents c) ps) + length (flat_map fixups_in (cond (is_some (data_contents c)) [] (Kept r ∷ up_to is_data ps))) ≤ length (fixups_of_data ps)
+  data-causes r (Plain d) ps = omega (arith, length-map (fixups_of_data ps) (λ f. result_err (outcome pl d f)))
+  data-causes r (Iterated d) ps = omega (arith, length-map (fixups_of_data ps) (λ f. result_err (outcome pl d f)))
   data-causes r _ ps = omega arith
 
   end-causes : (kind byte : ℕ) (s : Option PlainReference) (ps : List Piece) → length (piece_causes pl (End kind byte s) ps) ≡ refs (End kind byte s)
@@ -132,17 +136,17 @@ no-extra : (k : Kind) (n given : ℕ) → given ≡ n → extra k n given ≡ []
 no-extra k n given e = none-one (nat_lt n given) (fault.Extra k (n + 1)) (le-ltb n given (omega (arith, e)))
 
 -- The absolute segments.
-lies-from : (p q : Placed) → lies_at p q ≡ true → p ≡ q
-lies-from p q h =
+lies-from : (p : Option Placed) (q : Placed) → lies_at p q ≡ true → p ≡ Some q
+lies-from None q h = absurd (false≢true h)
+lies-from (Some p) q h =
     let one = and_parts ((p.address == q.address) && (p.frame.base == q.frame.base)) (p.frame.selector == q.frame.selector) h in
     let two = and_parts (p.address == q.address) (p.frame.base == q.frame.base) one.0 in
-    ap (λ a. record p { address = a }) (eqb-true p.address q.address two.0)
-    ∙ ap (λ b. record q { frame = record { base = b; selector = p.frame.selector } }) (eqb-true p.frame.base q.frame.base two.1)
-    ∙ ap (λ s. record q { frame = record { base = q.frame.base; selector = s } }) (eqb-true p.frame.selector q.frame.selector one.1)
+    ap (λ a. Some (record p { address = a })) (eqb-true p.address q.address two.0)
+    ∙ ap (λ b. Some (record q { frame = record { base = b; selector = p.frame.selector } })) (eqb-true p.frame.base q.frame.base two.1)
+    ∙ ap (λ s. Some (record q { frame = record { base = q.frame.base; selector = s } })) (eqb-true p.frame.selector q.frame.selector one.1)
 
-lies-to : (p q : Placed) → p ≡ q → lies_at p q ≡ true
-lies-to p q h = and_from _ _ (and_from _ _ (eq-eqb p.address q.address (ap (λ x. x.address) h)) (eq-eqb p.frame.base q.frame.base (ap (λ x. x.frame.base) h)))
-    (eq-eqb p.frame.selector q.frame.selector (ap (λ x. x.frame.selector) h))
+lies-itself : (q : Placed) → lies_at (Some q) q ≡ true
+lies-itself q = and_from _ _ (and_from _ _ (eq-eqb q.address q.address refl) (eq-eqb q.frame.base q.frame.base refl)) (eq-eqb q.frame.selector q.frame.selector refl)
 
 unless-lies : {A : Type 0} (b : Bool) (x : A) → cond b [] (x ∷ []) ≡ [] → b ≡ true
 unless-lies true x h = refl
@@ -152,85 +156,96 @@ lies-none : {A : Type 0} (b : Bool) (x : A) → b ≡ true → cond b [] (x ∷ 
 lies-none true x e = refl
 lies-none false x e = absurd (false≢true e)
 
-misplaced-from : (pl : Places) (i : ℕ) (o : Option (ℕ × ℕ)) (number offset : ℕ) → o ≡ Some (number, offset) → misplaced pl i o ≡ [] → placed pl.segments i ≡ absolute_place number offset
+misplaced-from : (pl : Places) (i : ℕ) (o : Option (ℕ × ℕ)) (number offset : ℕ) → o ≡ Some (number, offset) → misplaced pl i o ≡ []
+    → entry pl.segments i ≡ Some (absolute_place number offset)
 misplaced-from pl i None number offset e h = absurd (none-some (number, offset) e)
 misplaced-from pl i (Some a) number offset e h =
-    lies-from (placed pl.segments i) (absolute_place a.0 a.1) (unless-lies (lies_at (placed pl.segments i) (absolute_place a.0 a.1)) (fault.Absolute i) h)
-    ∙ ap (λ b. absolute_place b.0 b.1) (same_Some a (number, offset) e)
+    lies-from (entry pl.segments i) (absolute_place a.0 a.1) (unless-lies (lies_at (entry pl.segments i) (absolute_place a.0 a.1)) (fault.Absolute i) h)
+    ∙ ap (λ b. Some (absolute_place b.0 b.1)) (same_Some a (number, offset) e)
 
-misplaced-to : (pl : Places) (i : ℕ) (o : Option (ℕ × ℕ)) → ((number offset : ℕ) → o ≡ Some (number, offset) → placed pl.segments i ≡ absolute_place number offset) → misplaced pl i o ≡ []
+misplaced-to : (pl : Places) (i : ℕ) (o : Option (ℕ × ℕ)) → ((number offset : ℕ) → o ≡ Some (number, offset) → entry pl.segments i ≡ Some (absolute_place number offset))
+    → misplaced pl i o ≡ []
 misplaced-to pl i None h = refl
-misplaced-to pl i (Some a) h = lies-none (lies_at (placed pl.segments i) (absolute_place a.0 a.1)) (fault.Absolute i) (lies-to (placed pl.segments i) (absolute_place a.0 a.1) (h a.0 a.1 refl))
+misplaced-to pl i (Some a) h =
+    lies-none (lies_at (entry pl.segments i) (absolute_place a.0 a.1)) (fault.Absolute i)
+    (ap (λ p. lies_at p (absolute_place a.0 a.1)) (h a.0 a.1 refl) ∙ lies-itself (absolute_place a.0 a.1))
 
 abbrev misplaced_all : Places → ℕ → List SegInfo → List ReachFault
 misplaced_all pl k infos = flat_map (λ s. misplaced pl s.0 s.1.absolute) (enumerate_from k infos)
 
 all-from : (pl : Places) (k : ℕ) (infos : List SegInfo) → misplaced_all pl k infos ≡ [] → (j number offset : ℕ) (info : SegInfo) → slice_get infos j ≡ Some info → info.absolute ≡ Some (number, offset)
-    → placed pl.segments (k + j) ≡ absolute_place number offset
+    → entry pl.segments (k + j) ≡ Some (absolute_place number offset)
 all-from pl k [] h j number offset info e g = absurd (none-some info e)
 all-from pl k (s ∷ infos) h zero number offset info e g =
-    ap (placed pl.segments) (omega arith) ∙ misplaced-from pl k s.absolute number offset (ap (λ i. i.absolute) (same_Some s info e) ∙ g) (nil-left (misplaced pl k s.absolute) (misplaced_all pl (k + 1) infos) h)
+    ap (entry pl.segments) (omega arith) ∙ misplaced-from pl k s.absolute number offset (ap (λ i. i.absolute) (same_Some s info e) ∙ g) (nil-left (misplaced pl k s.absolute) (misplaced_all pl (k + 1) infos) h)
 all-from pl k (s ∷ infos) h (suc j) number offset info e g =
-    ap (placed pl.segments) (omega arith) ∙ all-from pl (k + 1) infos (nil-right (misplaced pl k s.absolute) (misplaced_all pl (k + 1) infos) h) j number offset info e g
+    ap (entry pl.segments) (omega arith) ∙ all-from pl (k + 1) infos (nil-right (misplaced pl k s.absolute) (misplaced_all pl (k + 1) infos) h) j number offset info e g
 
-all-to : (pl : Places) (k : ℕ) (infos : List SegInfo) → ((j number offset : ℕ) (info : SegInfo) → slice_get infos j ≡ Some info → info.absolute ≡ Some (number, offset) → placed pl.segments (k + j) ≡ absolute_place number offset)
+all-to : (pl : Places) (k : ℕ) (infos : List SegInfo) → ((j number offset : ℕ) (info : SegInfo) → slice_get infos j ≡ Some info → info.absolute ≡ Some (number, offset) → entry pl.segments (k + j) ≡ Some (absolute_place number offset))
     → misplaced_all pl k infos ≡ []
 all-to pl k [] h = refl
 all-to pl k (s ∷ infos) h = nil-both (misplaced pl k s.absolute) (misplaced_all pl (k + 1) infos)
-    (misplaced-to pl k s.absolute (λ number offset e. ap (placed pl.segments) (omega arith) ∙ h 0 number offset s refl e))
-    (all-to pl (k + 1) infos (λ j number offset info e g. ap (placed pl.segments) (omega arith) ∙ h (suc j) number offset info e g))
+    (misplaced-to pl k s.absolute (λ number offset e. ap (entry pl.segments) (omega arith) ∙ h 0 number offset s refl e))
+    (all-to pl (k + 1) infos (λ j number offset info e g. ap (entry pl.segments) (omega arith) ∙ h (suc j) number offset info e g))
 
--- An entry of an index, from 1.
-entry-placed : (ps : List Placed) (j : ℕ) → j < length ps → entry ps (suc j) ≡ Some (placed ps (suc j))
-entry-placed ps j h =
-    let e = slice_get-get_or ps j no_place h in
-    entry-suc ps j ∙ e ∙ ap Some (sym (ap (λ o. unwrap_or o no_place) (entry-suc ps j ∙ e)))
-
-absolute-from : (pl : Places) (m : List Rec) → length pl.segments ≡ length (segments m) → misplaced_all pl 1 (segments m) ≡ []
+absolute-from : (pl : Places) (m : List Rec) → misplaced_all pl 1 (segments m) ≡ []
     → (i number offset : ℕ) (info : SegInfo) → entry (segments m) i ≡ Some info → info.absolute ≡ Some (number, offset) → entry pl.segments i ≡ Some (absolute_place number offset)
-absolute-from pl m n h zero number offset info e g = absurd (none-some info e)
-absolute-from pl m n h (suc j) number offset info e g =
-    let at = sym (entry-suc (segments m) j) ∙ e in
-    let inside = slice_get_within (segments m) j info at in
-    entry-placed pl.segments j (omega (arith, n, inside)) ∙ ap Some (ap (placed pl.segments) (omega arith) ∙ all-from pl 1 (segments m) h j number offset info at g)
+absolute-from pl m h zero number offset info e g = absurd (none-some info e)
+absolute-from pl m h (suc j) number offset info e g =
+    ap (entry pl.segments) (omega arith) ∙ all-from pl 1 (segments m) h j number offset info (sym (entry-suc (segments m) j) ∙ e) g
 
-fits-from : (pl : Places) (m : List Rec) → misfits pl m ≡ [] → Fits pl m
-fits-from pl m h =
-    let ns = length (segments m) in let ng = length (groups m) in let ne = length (externals m) in
-    let gs = length pl.segments in let gg = length pl.groups in let ge = length pl.externals in
-    let a = missing kinds.Segment ns gs in let b = missing kinds.Group ng gg in let c = missing kinds.External ne ge in
-    let d = extra kinds.Segment ns gs in let e = extra kinds.Group ng gg in let f = extra kinds.External ne ge in
-    let h6 = nil-left (a ++ b ++ c ++ d ++ e ++ f) (misplaced_all pl 1 (segments m)) h in
-    let h5 = nil-left (a ++ b ++ c ++ d ++ e) f h6 in
-    let h4 = nil-left (a ++ b ++ c ++ d) e h5 in
-    let h3 = nil-left (a ++ b ++ c) d h4 in
-    let h2 = nil-left (a ++ b) c h3 in
-    let n = same-count kinds.Segment kinds.Segment ns gs (nil-left a b h2) (nil-right (a ++ b ++ c) d h4) in
-    record {
-      segment_count = n;
-      group_count = same-count kinds.Group kinds.Group ng gg (nil-right a b h2) (nil-right (a ++ b ++ c ++ d) e h5);
-      external_count = same-count kinds.External kinds.External ne ge (nil-right (a ++ b) c h3) (nil-right (a ++ b ++ c ++ d ++ e) f h6);
-      absolute = absolute-from pl m n (nil-right (a ++ b ++ c ++ d ++ e ++ f) (misplaced_all pl 1 (segments m)) h);
-    }
+-- What each kind has none of, and all kinds.
+none-of : (f : Kind → List ReachFault) → flat_map f all_kinds ≡ [] → (k : Kind) → f k ≡ []
+none-of f h kinds.Segment = nil-left (f kinds.Segment) (f kinds.Group ++ (f kinds.External ++ [])) h
+none-of f h kinds.Group = nil-left (f kinds.Group) (f kinds.External ++ []) (nil-right (f kinds.Segment) (f kinds.Group ++ (f kinds.External ++ [])) h)
+none-of f h kinds.External =
+    nil-left (f kinds.External) [] (nil-right (f kinds.Group) (f kinds.External ++ []) (nil-right (f kinds.Segment) (f kinds.Group ++ (f kinds.External ++ [])) h))
 
-pub fits-to : (pl : Places) (m : List Rec) → Fits pl m → misfits pl m ≡ []
-fits-to pl m fit =
-    let ns = length (segments m) in let ng = length (groups m) in let ne = length (externals m) in
-    let gs = length pl.segments in let gg = length pl.groups in let ge = length pl.externals in
-    let a = missing kinds.Segment ns gs in let b = missing kinds.Group ng gg in let c = missing kinds.External ne ge in
-    let d = extra kinds.Segment ns gs in let e = extra kinds.Group ng gg in let f = extra kinds.External ne ge in
-    nil-both (a ++ b ++ c ++ d ++ e ++ f) (misplaced_all pl 1 (segments m))
-    (nil-both (a ++ b ++ c ++ d ++ e) f
-    (nil-both (a ++ b ++ c ++ d) e
-    (nil-both (a ++ b ++ c) d
-    (nil-both (a ++ b) c
-    (nil-both a b (no-missing kinds.Segment ns gs fit.segment_count) (no-missing kinds.Group ng gg fit.group_count))
-    (no-missing kinds.External ne ge fit.external_count))
-    (no-extra kinds.Segment ns gs fit.segment_count))
-    (no-extra kinds.Group ng gg fit.group_count))
-    (no-extra kinds.External ne ge fit.external_count))
-    (all-to pl 1 (segments m) (λ j number offset info e2 g. ap (placed pl.segments) (omega arith)
-    ∙ ap (λ o. unwrap_or o no_place) (fit.absolute (suc j) number offset info (entry-suc (segments m) j ∙ e2) g)))
+none-at-all : (f : Kind → List ReachFault) → ((k : Kind) → f k ≡ []) → flat_map f all_kinds ≡ []
+none-at-all f h =
+    nil-both (f kinds.Segment) (f kinds.Group ++ (f kinds.External ++ [])) (h kinds.Segment)
+    (nil-both (f kinds.Group) (f kinds.External ++ []) (h kinds.Group) (nil-both (f kinds.External) [] (h kinds.External) refl))
+
+module _ (pl : Places) (m : List Rec) where
+  abbrev missed : Kind → List ReachFault
+  missed k = missing k (entries m k) (given pl k)
+
+  abbrev added : Kind → List ReachFault
+  added k = extra k (entries m k) (given pl k)
+
+  abbrev counted : List ReachFault
+  counted = flat_map missed all_kinds ++ flat_map added all_kinds
+
+  -- the placement has as many entries of each kind as the module
+  pub counts-same : counted ≡ [] → (k : Kind) → given pl k ≡ entries m k
+  counts-same h k =
+      same-count k k (entries m k) (given pl k)
+      (none-of missed (nil-left (flat_map missed all_kinds) (flat_map added all_kinds) h) k) (none-of added (nil-right (flat_map missed all_kinds) (flat_map added all_kinds) h) k)
+
+  pub counts-fit : ((k : Kind) → given pl k ≡ entries m k) → counted ≡ []
+  counts-fit h =
+      nil-both (flat_map missed all_kinds) (flat_map added all_kinds)
+      (none-at-all missed (λ k. no-missing k (entries m k) (given pl k) (h k))) (none-at-all added (λ k. no-extra k (entries m k) (given pl k) (h k)))
+
+  fits-from : misfits pl m ≡ [] → Fits pl m
+  fits-from h =
+      let same = counts-same (nil-left counted (misplaced_all pl 1 (segments m)) h) in
+      record {
+        segment_count = same kinds.Segment;
+        group_count = same kinds.Group;
+        external_count = same kinds.External;
+        absolute = absolute-from pl m (nil-right counted (misplaced_all pl 1 (segments m)) h);
+      }
+
+  counts-of : Fits pl m → (k : Kind) → given pl k ≡ entries m k
+  counts-of fit kinds.Segment = fit.segment_count
+  counts-of fit kinds.Group = fit.group_count
+  counts-of fit kinds.External = fit.external_count
+
+  pub fits-to : Fits pl m → misfits pl m ≡ []
+  fits-to fit =
+      nil-both counted (misplaced_all pl 1 (segments m)) (counts-fit (counts-of fit))
+      (all-to pl 1 (segments m) (λ j number offset info e g. ap (entry pl.segments) (omega arith) ∙ fit.absolute (suc j) number offset info (entry-suc (segments m) j ∙ e) g))
 
 -- The references.
 abbrev IsFine : Option Cause → Type 0
@@ -248,7 +263,7 @@ far-to (p ∷ ps) [] h = refl
 far-to (p ∷ ps) (None ∷ cs) h = far-to ps cs (All-tail IsFine None cs h)
 far-to (p ∷ ps) (Some c ∷ cs) h = absurd (none-some c (sym (All-head IsFine (Some c) cs h)))
 
-reaches-from : (pl : Places) (m : List Rec) → reach_fault pl m ≡ None → Reaches pl m
+reaches-from : (pl : Places) (m : List Rec) → Reaches pl m → AllReach pl m
 reaches-from pl m h =
     let none = first-none (reach_faults pl m) h in
     record {
@@ -256,7 +271,7 @@ reaches-from pl m h =
       each = far-from (all_reference_places m) (causes pl (pieces m)) (causes-places pl m) (nil-right (misfits pl m) (far_faults pl m) none);
     }
 
-reaches-to : (pl : Places) (m : List Rec) → Reaches pl m → reach_fault pl m ≡ None
+reaches-to : (pl : Places) (m : List Rec) → AllReach pl m → Reaches pl m
 reaches-to pl m r = ap (λ l. slice_get l 0) (nil-both (misfits pl m) (far_faults pl m) (fits-to pl m r.fits) (far-to (all_reference_places m) (causes pl (pieces m)) r.each))
 
 pub reach-decided : (pl : Places) (m : List Rec) → ReachIsDecided pl m

@@ -1,24 +1,21 @@
 -- The first fault of a list in parts, and the parts that reach checks in order.
-use Rattle.std.proofs.Common.{◌≡◌, ℕ, zero, suc, ◌+◌, ◌-◌, ◌≤◌, List, [], ◌∷◌, ◌++◌, refl, sym, ◌∙◌, ap, subst, arith, length, drop, true, false}
-use Rattle.std.specs.Prelude.{Option, Some, None, slice_get, is_some, ◌↔◌}
+use Rattle.std.proofs.Common.{◌≡◌, ℕ, zero, suc, ◌+◌, ◌-◌, ◌≤◌, List, [], ◌∷◌, ◌++◌, refl, sym, ◌∙◌, ap, subst, arith, drop, true, false}
+use Rattle.std.specs.Prelude.{Option, Some, None, slice_get, is_some}
 use Rattle.std.proofs.lemmas.Bool.{true≢false, false≢true}
 use Rattle.std.proofs.lemmas.Option.{none-some, same_Some}
 use Rattle.omf_frame.specs.declared.fault.Place.{Place}
 use Rattle.omf_records.specs.Values.{Rec}
-use Rattle.omf_check.specs.Tables.{segments, groups, externals, entry}
+use Rattle.omf_check.specs.Tables.{segments, entry}
 use Rattle.omf_check.specs.declared.segment.SegInfo.{SegInfo}
 use Rattle.omf_reloc.specs.declared.fault.Cause.{Cause}
 use Rattle.omf_reloc.specs.declared.fault.ReachFault.{ReachFault}
 use Rattle.omf_reloc.specs.declared.fault.ReachFault.TheVariants as fault
 use Rattle.omf_reloc.specs.Plain.{Piece}
 use Rattle.omf_placement.specs.Placement.{Places}
-use Rattle.omf_reloc.specs.declared.fault.Kind.TheVariants as kinds
-use Rattle.omf_reloc.specs.Reach.{missing, extra, misplaced, misfits, far_faults, reach_fault, Reaches}
-use Rattle.omf_reloc.specs.Inner.ReachSteps.{miscounts, misplaced_from, far_at, place_behind, piece_cause, pieces_far, CanJudge, CanJudgeAll}
-use Rattle.omf_reloc.specs.Placed.{HasEntries}
+use Rattle.omf_reloc.specs.Reach.{misplaced, misfits, far_faults, reach_fault, Reaches}
+use Rattle.omf_reloc.specs.Inner.ReachSteps.{miscounts, misplaced_from, far_at, place_behind, piece_cause, pieces_far}
 use Rattle.omf_derive.proofs.NamedLaws.{entry-suc}
-use Rattle.omf_reloc.proofs.ReachLaws.{same-count, nil-left, nil-right, first-none, reach-decided}
-use Rattle.omf_reloc.proofs.FarLaws.{without_places}
+use Rattle.omf_reloc.proofs.ReachLaws.{nil-right, first-none}
 
 -- The first of two lists' elements: that of the first list, if it has one, or else that of the second.
 pub first-stop : {A : Type 0} (r all : Option A) (xs ys : List A) → r ≡ slice_get xs 0 → is_some r ≡ true → slice_get (xs ++ ys) 0 ≡ all → r ≡ all
@@ -52,12 +49,6 @@ module _ (pl : Places) (infos : List SegInfo) (i : ℕ) (info : SegInfo) (low : 
 
 -- One piece more.
 module _ (pl : Places) (place : Option (ℕ × ℕ)) (xs ys : List (Place × Piece)) (x : Place × Piece) (e : xs ≡ x ∷ ys) where
-  pub can-here : CanJudgeAll pl place (without_places xs) → CanJudge pl place x.1
-  can-here h = (subst (λ zs. CanJudgeAll pl place (without_places zs)) e h).0
-
-  pub can-rest : (next : Option (ℕ × ℕ)) → next ≡ place_behind x.1 place → CanJudgeAll pl place (without_places xs) → CanJudgeAll pl next (without_places ys)
-  can-rest next n h = subst (λ p. CanJudgeAll pl p (without_places ys)) (sym n) (subst (λ zs. CanJudgeAll pl place (without_places zs)) e h).1
-
   module _ (all : Option ReachFault) (cause : Option Cause) (found : cause ≡ piece_cause pl place x.1) (h : slice_get (pieces_far pl place xs) 0 ≡ all) where
     same : slice_get (far_at x.0.number x.0.within cause ++ pieces_far pl (place_behind x.1 place) ys) 0 ≡ all
     same = ap (λ c. slice_get (far_at x.0.number x.0.within c ++ pieces_far pl (place_behind x.1 place) ys) 0) found ∙ sym (ap (λ zs. slice_get (pieces_far pl place zs) 0) e) ∙ h
@@ -85,40 +76,7 @@ module _ (pl : Places) (m : List Rec) where
   abbrev moved : List ReachFault
   moved = misplaced_from pl 1 (segments m)
 
-  pub entries-there : None ≡ slice_get counts 0 → HasEntries pl m
-  entries-there h =
-      let ns = length (segments m) in let ng = length (groups m) in let ne = length (externals m) in
-      let gs = length pl.segments in let gg = length pl.groups in let ge = length pl.externals in
-      let a = missing kinds.Segment ns gs in let b = missing kinds.Group ng gg in let c = missing kinds.External ne ge in
-      let d = extra kinds.Segment ns gs in let e = extra kinds.Group ng gg in let f = extra kinds.External ne ge in
-      let h6 = first-none counts (sym h) in
-      let h5 = nil-left (a ++ b ++ c ++ d ++ e) f h6 in
-      let h4 = nil-left (a ++ b ++ c ++ d) e h5 in
-      let h3 = nil-left (a ++ b ++ c) d h4 in
-      let h2 = nil-left (a ++ b) c h3 in
-      record {
-        segments = same-count kinds.Segment kinds.Segment ns gs (nil-left a b h2) (nil-right (a ++ b ++ c) d h4);
-        groups = same-count kinds.Group kinds.Group ng gg (nil-right a b h2) (nil-right (a ++ b ++ c ++ d) e h5);
-        externals = same-count kinds.External kinds.External ne ge (nil-right (a ++ b) c h3) (nil-right (a ++ b ++ c ++ d ++ e) f h6);
-      }
-
-  -- The results Ok and Err are right.
-  pub refused : (x : ReachFault) → reach_fault pl m ≡ Some x → (false ≡ true) ↔ Reaches pl m
-  refused x h = (λ e. absurd (false≢true e), λ r. absurd (none-some x (sym ((reach-decided pl m).decided.1 r) ∙ h)))
-
-  pub refused-none : (x : ReachFault) → reach_fault pl m ≡ Some x → (false ≡ true) ↔ (reach_fault pl m ≡ None)
-  refused-none x h = (λ e. absurd (false≢true e), λ e. absurd (none-some x (sym e ∙ h)))
-
-  pub reached : reach_fault pl m ≡ None → (true ≡ true) ↔ Reaches pl m
-  reached h = (λ e. (reach-decided pl m).decided.0 h, λ r. refl)
-
-  pub reached-none : reach_fault pl m ≡ None → (true ≡ true) ↔ (reach_fault pl m ≡ None)
-  reached-none h = (λ e. h, λ e. refl)
-
   -- What does not fit: the counts come before the absolute segments.
-  pub counts_there : None ≡ slice_get counts 0 → length pl.segments ≡ length (segments m)
-  counts_there h = (entries-there h).segments
-
   pub counts_fault : (x : ReachFault) → Some x ≡ slice_get counts 0 → Some x ≡ slice_get (misfits pl m) 0
   counts_fault x h = first-front counts moved x h
 
@@ -132,14 +90,8 @@ module _ (pl : Places) (m : List Rec) where
   pub far-behind : (o : Option ReachFault) → None ≡ slice_get (misfits pl m) 0 → o ≡ slice_get (far_faults pl m) 0 → reach_fault pl m ≡ o
   far-behind o h f = sym (first-later (counts ++ moved) (far_faults pl m) o h f)
 
-  pub fitting-entries : None ≡ slice_get (misfits pl m) 0 → HasEntries pl m
-  fitting-entries h = entries-there (sym (ap (λ l. slice_get l 0) (nil-left counts moved (first-none (counts ++ moved) (sym h)))))
-
-  -- If a placement reaches, its lists are as long as the tables, and every reference reaches.
-  pub reached-entries : Reaches pl m → HasEntries pl m
-  reached-entries r = record { segments = r.fits.segment_count; groups = r.fits.group_count; externals = r.fits.external_count }
-
+  -- If a placement reaches, every reference reaches.
   pub reached-not-far : (x : ReachFault) → Reaches pl m → slice_get (far_faults pl m) 0 ≡ Some x → ⊥
   reached-not-far x r h =
-      let none = nil-right (counts ++ moved) (far_faults pl m) (first-none (counts ++ moved ++ far_faults pl m) ((reach-decided pl m).decided.1 r)) in
+      let none = nil-right (misfits pl m) (far_faults pl m) (first-none (misfits pl m ++ far_faults pl m) r) in
       none-some x (sym (ap (λ l. slice_get l 0) none) ∙ h)

@@ -1,15 +1,16 @@
 -- Pieces mean the same where each fixup is a piece of its own.
 use Rattle.std.proofs.Common.{◌≡◌, ℕ, List, [], ◌∷◌, ◌++◌, Bool, true, false, refl, ◌∙◌, ap, ap₂, cond}
-use Rattle.std.specs.Prelude.{map, flat_map, Option, Some, None}
+use Rattle.std.specs.Prelude.{map, flat_map, is_some, Option, Some, None}
+use Rattle.std.specs.Result.{result_err}
 use Rattle.omf_frame.specs.Bytes.{up_to}
 use Rattle.omf_image.specs.Overlay.{Laid}
 use Rattle.omf_image.specs.declared.limits.Limits.{Limits}
 use Rattle.omf_records.specs.Values.{Contents, Plain, Iterated, DataItem}
 use Rattle.omf_reloc.specs.Image.{laid, laid_contents, patched}
-use Rattle.omf_reloc.specs.Offsets.{outcome, cause_of}
+use Rattle.omf_reloc.specs.Offsets.{outcome}
 use Rattle.omf_reloc.specs.Inner.Pieces.{one_by_one}
 use Rattle.omf_placement.specs.Placement.{Places}
-use Rattle.omf_reloc.specs.Plain.{Piece, Kept, Fixed, End, PlainFixup, data_contents, is_data, is_data_contents, fixups_in, fixups_of_data}
+use Rattle.omf_reloc.specs.Plain.{Piece, Kept, Fixed, End, PlainFixup, data_contents, data_of, fixups_in, fixups_of_data}
 use Rattle.omf_reloc.specs.Reach.{causes, causes_at, piece_causes}
 
 abbrev pub singles : ℕ → List PlainFixup → List Piece
@@ -17,6 +18,9 @@ singles kind fs = map (λ f. Fixed kind (f ∷ [])) fs
 
 abbrev tagged : ℕ → List PlainFixup → List (ℕ × PlainFixup)
 tagged kind fs = map (λ f. (kind, f)) fs
+
+abbrev is_data : Piece → Bool
+is_data p = is_some (data_of p)
 
 -- The fixups up to the next data record.
 pub fixups-singles : (kind : ℕ) (fs : List PlainFixup) (ps : List Piece) → fixups_of_data (singles kind fs ++ ps) ≡ tagged kind fs ++ fixups_of_data ps
@@ -29,14 +33,14 @@ kept-same false p ps qs e h = ap (λ xs. fixups_in p ++ xs) h
 
 pub fixups-same : (ps : List Piece) → fixups_of_data (flat_map one_by_one ps) ≡ fixups_of_data ps
 fixups-same [] = refl
-fixups-same (Kept r ∷ ps) = kept-same (is_data_contents r.contents) (Kept r) (up_to is_data (flat_map one_by_one ps)) (up_to is_data ps) refl (fixups-same ps)
+fixups-same (Kept r ∷ ps) = kept-same (is_some (data_contents r.contents)) (Kept r) (up_to is_data (flat_map one_by_one ps)) (up_to is_data ps) refl (fixups-same ps)
 fixups-same (Fixed kind fs ∷ ps) = fixups-singles kind fs (flat_map one_by_one ps) ∙ ap (λ xs. tagged kind fs ++ xs) (fixups-same ps)
 fixups-same (End kind byte s ∷ ps) = fixups-same ps
 
 -- Causes.
 causes-at : (pl : Places) (o : Option DataItem) (ps qs : List Piece) → fixups_of_data ps ≡ fixups_of_data qs → causes_at pl o ps ≡ causes_at pl o qs
 causes-at pl None ps qs e = refl
-causes-at pl (Some d) ps qs e = ap (λ fs. map (λ f. cause_of (outcome pl d f)) fs) e
+causes-at pl (Some d) ps qs e = ap (λ fs. map (λ f. result_err (outcome pl d f)) fs) e
 
 causes-singles : (pl : Places) (kind : ℕ) (fs : List PlainFixup) (ps : List Piece) → causes pl (singles kind fs ++ ps) ≡ causes pl ps
 causes-singles pl kind [] ps = refl

@@ -17,7 +17,7 @@ use Rattle.omf_check.specs.Threads.{plain}
 use Rattle.omf_check.specs.declared.segment.SegInfo.{SegInfo}
 use Rattle.omf_reloc.specs.Laws.{location_end, AreInside, LiesInSegment}
 use Rattle.omf_reloc.specs.Plain.{PlainFixup, pieces, plain_fixup, plain_fixups}
-use Rattle.omf_reloc.proofs.GatherLaws.{Gathered, Once, Repeated, more, bare, tagged, gathered, closed_by, opened_by, gathered_from, gathered-all, subrecords-more}
+use Rattle.omf_reloc.proofs.GatherLaws.{Gathered, Once, Repeated, more, tagged, gathered, closed_by, opened_by, gathered_from, gathered-all, subrecords-more}
 
 -- What holds of all holds of a part of them.
 pub all-left : {A : Type 0} (P : A → Type 0) (xs ys : List A) → All P (xs ++ ys) → All P xs
@@ -106,7 +106,7 @@ Lies m (Repeated kind d fs) = LiesInSegment m d.segment.item d.offset.item (leng
 
 -- The open data record is the last one, if that is an LEDATA.
 abbrev pub Tells : Option Gathered → Option Contents → Type 0
-Tells o l = (d : DataItem) → l ≡ Some (Plain d) → (fs : List (ℕ × PlainFixup)) × (o ≡ Some (Once (bare d) fs))
+Tells o l = (d : DataItem) → l ≡ Some (Plain d) → (fs : List (ℕ × PlainFixup)) × (o ≡ Some (Once d fs))
 
 pub record IsOpen (m : List Rec) (o : Option Gathered) (l : Option Contents) : Type 0 where
   pub tells : Tells o l
@@ -158,8 +158,8 @@ module _ (before : List Rec) (kind size : ℕ) (sized : (d : DataItem) → last_
 pub sized-by : (d : DataItem) (fs : List (ℕ × PlainFixup)) (l : Option Contents) → Tells (Some (Once d fs)) l → (e : DataItem) → l ≡ Some (Plain e) → length e.bytes ≡ length d.bytes
 sized-by d fs l tells e h = same (tells e h).0 (tells e h).1
   where
-    same : (gs : List (ℕ × PlainFixup)) → Some (Once d fs) ≡ Some (Once (bare e) gs) → length e.bytes ≡ length d.bytes
-    same gs q = let p : d ≡ bare e = cc in ap (λ (x : DataItem). length x.bytes) (sym p)
+    same : (gs : List (ℕ × PlainFixup)) → Some (Once d fs) ≡ Some (Once e gs) → length e.bytes ≡ length d.bytes
+    same gs q = let p : d ≡ e = cc in ap (λ (x : DataItem). length x.bytes) (sym p)
 
 -- A module that holds.
 module _ (m : List Rec) (holds : ModuleHolds profile_limits m) where
@@ -176,11 +176,11 @@ module _ (m : List Rec) (holds : ModuleHolds profile_limits m) where
   tells-same : (o : Option Gathered) (xs : List Contents) → Tells o (last xs) → Tells o (last (xs ++ []))
   tells-same o xs h d e = h d (sym (ap last (append-nil xs)) ∙ e)
 
-  tells-plain : (xs : List Contents) (d : DataItem) → Tells (Some (Once (bare d) [])) (last (xs ++ Plain d ∷ []))
+  tells-plain : (xs : List Contents) (d : DataItem) → Tells (Some (Once d [])) (last (xs ++ Plain d ∷ []))
   tells-plain xs d e q =
       let p : Some (Plain d) ≡ Some (Plain e) = sym (last-end None xs (Plain d)) ∙ q in
       let same : d ≡ e = cc in
-      ([], ap (λ x. Some (Once (bare x) [])) same)
+      ([], ap (λ x. Some (Once x [])) same)
 
   tells-iterated : (o : Option Gathered) (xs : List Contents) (d : DataItem) → Tells o (last (xs ++ Iterated d ∷ []))
   tells-iterated o xs d e q = let p : Some (Iterated d) ≡ Some (Plain e) = sym (last-end None xs (Iterated d)) ∙ q in absurd cc
@@ -203,7 +203,7 @@ module _ (m : List Rec) (holds : ModuleHolds profile_limits m) where
       → IsOpen m (opened_by (subrecords before) kind c o) (last (flat_map (λ x. data_in x.contents) before ++ data_in c))
   open-by before rest kind (Plain d) o e h is = record { tells = tells-plain (flat_map (λ x. data_in x.contents) before) d; lies = (lies-in m before rest d (length d.bytes) e h, All-nil (λ f. location_end f ≤ length d.bytes)) }
   open-by before rest kind (Iterated d) o e h is = record {
-    tells = tells-iterated (Some (Repeated kind (bare d) [])) (flat_map (λ x. data_in x.contents) before) d;
+    tells = tells-iterated (Some (Repeated kind d [])) (flat_map (λ x. data_in x.contents) before) d;
     lies = lies-in m before rest d (length (expanded (width kind) profile_limits d.bytes)) e h.lies;
   }
   open-by before rest kind (Fixups subs) o e h is = record {

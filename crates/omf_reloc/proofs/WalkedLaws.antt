@@ -22,10 +22,10 @@ use Rattle.omf_reloc.specs.Inner.Pieces.{single_pieces}
 use Rattle.omf_placement.specs.Placement.{Places}
 use Rattle.omf_reloc.specs.Plain.{Piece, Kept, Fixed, End, PlainFixup, pieces, fixups_of_data}
 use Rattle.omf_reloc.specs.Reach.{far_faults}
-use Rattle.omf_reloc.specs.Inner.ReachSteps.{CanJudgeAll, data_place, piece_cause, pieces_far, place_behind}
+use Rattle.omf_reloc.specs.Inner.ReachSteps.{data_place, piece_cause, pieces_far, place_behind}
 use Rattle.omf_reloc.specs.Inner.Walking.{with_fixup, Walk, closed, opened_by, opened, IsNext, HasOffsets, CanAdd, CanTake, CanWalk, open_place}
 use Rattle.omf_reloc.proofs.FarLaws.{without_places}
-use Rattle.omf_reloc.proofs.ReachedLaws.{can-rest, pieces-go}
+use Rattle.omf_reloc.proofs.ReachedLaws.{pieces-go}
 use Rattle.omf_reloc.proofs.GatherLaws.{Gathered, Once, Repeated, more, tagged, closed_by, with_open, open-none, open-more, gathered, laid_of, laid-gathered}
 use Rattle.omf_reloc.proofs.HoldLaws.{KeptHolds, PlainFixupHolds, PieceHolds, PiecesHold, data_after, pieces-hold}
 use Rattle.omf_reloc.proofs.PatchLaws.{stays_inside}
@@ -260,7 +260,6 @@ place-opened pl (End kind byte s) l = refl
 -- of all.
 pub record IsGoing (start : List Laid) (pl : Places) (m : List Rec) (w : Walk) (left : List (Place × Piece)) : Type 0 where
   pub walked : IsWalked start pl m w (without_places left)
-  pub can : CanJudgeAll pl (open_place w.open_data) (without_places left)
   pub same : slice_get (pieces_far pl (open_place w.open_data) left) 0 ≡ slice_get (far_faults pl m) 0
 
 pub go-on : {start : List Laid} {pl : Places} {m : List Rec} {w new : Walk} {left rest : List (Place × Piece)} {cause : Option Cause} (x : Place × Piece) → ModuleHolds profile_limits m → left ≡ x ∷ rest
@@ -270,7 +269,6 @@ go-on {start} {pl} {m} {w} {new} {left} {rest} {cause} x holds e n found none g 
     let moved : open_place new.open_data ≡ place_behind x.1 place = ap open_place n.open_data ∙ place-opened pl x.1 w.open_data in
     record {
       walked = walk-next start pl m holds w x.1 (without_places rest) (subst (λ xs. IsWalked start pl m w (without_places xs)) e g.walked) new n;
-      can = can-rest pl place left rest x e (open_place new.open_data) moved g.can;
       same = pieces-go pl place left rest x e (slice_get (far_faults pl m) 0) cause found g.same none (open_place new.open_data) moved;
     }
 

@@ -4,7 +4,13 @@ use Rattle.omf_frame.specs.Bytes.{AreBytes}
 use Rattle.omf_image.specs.Overlay.{byte_at}
 use Rattle.omf_check.specs.declared.profile.Profile.{Profile}
 use Rattle.omf_placement.specs.Placement.{Places}
-use Rattle.omf_reloc.specs.Headline.{Headline}
+use Rattle.omf_frame.specs.Framing.{Raw}
+use Rattle.omf_image.specs.Limits.{profile_limits}
+use Rattle.omf_records.specs.Values.{Rec}
+use Rattle.omf_check.specs.Sound.{ModuleHolds}
+use Rattle.omf_check.specs.WellFormed.{recs}
+use Rattle.omf_reloc.specs.Headline.{BeginsWith, Headline}
+use Rattle.omf_reloc.specs.Laws.{AllLieInside}
 use Rattle.omf_reloc.specs.declared.headline.Answer.{Answer}
 use Rattle.omf_reloc.specs.declared.headline.Answer.TheVariants.{Relocated}
 
@@ -20,3 +26,12 @@ IsSame answer other = answer ≡ other
 -- They have no other.
 abbrev pub AnswersAreUnique : Type 0
 AnswersAreUnique = (profile : Profile) (input : List ℕ) (pl : Places) (answer other : Answer) → Headline profile input pl answer → Headline profile input pl other → IsSame answer other
+
+-- In a module that an input begins with, every index and every thread that is used is defined. At every placement, every byte that is laid is
+-- inside its segment, and every byte that a fixup changes is inside its data record.
+pub record IsSafe (m : List Rec) : Type 0 where
+  pub defined : ModuleHolds profile_limits m
+  pub inside : (pl : Places) → AllLieInside pl m
+
+abbrev pub AcceptedAreSafe : Type 0
+AcceptedAreSafe = (profile : Profile) (input : List ℕ) (records : List Raw) → BeginsWith profile input records → IsSafe (recs records)

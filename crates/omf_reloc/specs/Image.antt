@@ -1,5 +1,6 @@
 -- The image and the start address of a module at a placement.
-use Rattle.std.specs.Prelude.{ℕ, List, [], ◌∷◌, fold, Option, Some, Result, Ok, Err}
+use Rattle.std.specs.Prelude.{ℕ, List, [], ◌∷◌, flat_map, fold, Option, Some, option_to_list, Result, Ok, Err}
+use Rattle.std.specs.Result.{result_ok}
 use Rattle.omf_image.specs.declared.limits.Limits.{Limits}
 use Rattle.omf_reloc.specs.declared.fault.Cause.{Cause}
 use Rattle.omf_frame.specs.Bytes.{with_after, last}
@@ -8,10 +9,9 @@ use Rattle.omf_records.specs.Values.{Rec, Contents, Plain, Iterated, DataItem, w
 use Rattle.omf_image.specs.Inner.Expanding.{expanded}
 use Rattle.omf_image.specs.Parts.{Addition, add_parts}
 use Rattle.omf_image.specs.Overlay.{Laid, byte_at}
-use Rattle.omf_check.specs.Threads.{PlainReference}
-use Rattle.omf_reloc.specs.Plain.{Piece, Kept, Fixed, End, PlainFixup, pieces, fixups_of_data}
-use Rattle.omf_placement.specs.Placement.{Places, frame_by}
-use Rattle.omf_reloc.specs.Offsets.{outcome, start_offset}
+use Rattle.omf_reloc.specs.Plain.{Piece, Kept, End, PlainFixup, pieces, fixups_of_data}
+use Rattle.omf_placement.specs.Placement.{Places}
+use Rattle.omf_reloc.specs.Offsets.{outcome, start_outcome}
 
 -- The data after one fixup is applied at its location. A fixup that does not reach changes nothing; at a placement that reaches there is
 -- none.
@@ -31,8 +31,7 @@ laid_contents limits pl kind _ after = []
 
 abbrev pub laid_piece : Limits → Places → Piece → List Piece → List Laid
 laid_piece limits pl (Kept r) after = laid_contents limits pl r.kind r.contents after
-laid_piece limits pl (Fixed kind fixups) after = []
-laid_piece limits pl (End kind byte start) after = []
+laid_piece limits pl _ after = []
 
 abbrev pub laid : Limits → Places → List Piece → List Laid
 laid limits pl ps = with_after (laid_piece limits pl) ps
@@ -42,16 +41,9 @@ abbrev pub image : Limits → Places → List Rec → ℕ → ℕ → Option ℕ
 image limits pl m segment x = byte_at (laid limits pl (pieces m)) segment x
 
 -- The start address (TIS OMF 1.1, "MODEND"): the selector of its frame, and its offset.
-abbrev pub start_at : Places → PlainReference → Result ℕ Cause → List (ℕ × ℕ)
-start_at pl r (Ok o) = ((frame_by pl 0 r.target r.frame).selector, o) ∷ []
-start_at pl r (Err c) = []
-
 abbrev pub piece_start : Places → Piece → List (ℕ × ℕ)
-piece_start pl (End kind byte (Some r)) = start_at pl r (start_offset pl kind r)
+piece_start pl (End kind byte (Some r)) = option_to_list (result_ok (start_outcome pl kind r))
 piece_start pl _ = []
 
-abbrev pub starts : Places → List Piece → List (ℕ × ℕ)
-starts pl ps = with_after (λ p after. piece_start pl p) ps
-
 abbrev pub start : Places → List Rec → Option (ℕ × ℕ)
-start pl m = last (starts pl (pieces m))
+start pl m = last (flat_map (piece_start pl) (pieces m))

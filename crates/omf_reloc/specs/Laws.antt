@@ -1,16 +1,15 @@
 -- Laws about the definitions, each the contract of a function of the same name.
-use Rattle.std.specs.Prelude.{◌≡◌, ◌≢◌, ◌⊎◌, ◌↔◌, ℕ, ◌+◌, ◌<◌, ◌≤◌, List, Some, None, true, Ok, IsOk, IsSome, ◌∷◌, ◌++◌, map, length, slice_index, All}
+use Rattle.std.specs.Prelude.{◌≡◌, ◌≢◌, ◌⊎◌, ◌↔◌, ℕ, ◌+◌, ◌<◌, ◌≤◌, List, Some, None, true, Ok, IsOk, ◌∷◌, ◌++◌, map, length, slice_index, All}
 use Rattle.std.specs.List.{AllZip}
 use Rattle.omf_frame.specs.declared.fault.Place.{Place}
 use Rattle.omf_records.specs.Location.{location_size}
-use Rattle.omf_records.specs.Values.{At, DataItem, Rec, Plain, Fixups, ModEnd, Subrecord, Fixup, Reference, location_type, location_offset}
+use Rattle.omf_records.specs.Values.{DataItem, Rec, Plain, Subrecord, Reference, location_type, location_offset}
 use Rattle.omf_image.specs.Limits.{profile_limits}
-use Rattle.omf_image.specs.declared.limits.Limits.{Limits}
 use Rattle.omf_image.specs.Parts.{Addition, part_size}
 use Rattle.omf_check.specs.Rules.{length_of_segment}
-use Rattle.omf_check.specs.Sound.{ModuleHolds}
-use Rattle.omf_check.specs.Tables.{segments, is_defined, subrecords, last_data}
-use Rattle.omf_check.specs.Threads.{PlainReference, frame_setting, target_setting, plain}
+use Rattle.omf_check.specs.Tables.{segments, groups, externals, entry, is_defined}
+use Rattle.omf_check.specs.declared.segment.SegInfo.{SegInfo}
+use Rattle.omf_check.specs.Threads.{PlainReference, plain}
 -- computed: threads_are_kept of omf_check.
 use Rattle.omf_check.specs.Inner.Kept.{HasThreads}
 use Rattle.omf_check.specs.declared.threads.Threads.{Threads}
@@ -24,14 +23,13 @@ use Rattle.omf_derive.specs.declared.given.Given.{Given}
 use Rattle.omf_reloc.specs.Plain.{Piece, Kept, End, PlainFixup, pieces, data_contents, fixups_of_data}
 -- computed: faults_are_walked of omf_reloc.
 use Rattle.omf_reloc.specs.Inner.Pieces.{single_pieces, reference_places}
-use Rattle.omf_reloc.specs.Placed.{HasPlaces, HasEntries}
-use Rattle.omf_placement.specs.Placement.{Places}
+use Rattle.omf_placement.specs.Placement.{Places, absolute_place}
 use Rattle.omf_reloc.specs.Reach.{causes, all_reference_places, far_faults, reach_fault, Reaches}
 -- computed: faults_are_walked of omf_reloc.
 use Rattle.omf_reloc.specs.Inner.ReachSteps.{pieces_far}
 -- computed: threads_give_references of omf_reloc.
 use Rattle.omf_reloc.specs.Inner.Walking.{plain_by}
-use Rattle.omf_reloc.specs.Offsets.{outcome, start_offset}
+use Rattle.omf_reloc.specs.Offsets.{outcome, start_outcome}
 use Rattle.omf_reloc.specs.Image.{laid, patched}
 
 -- Where the location of a fixup begins and ends in the data; a location is inside data of this length; a byte is outside the location.
@@ -55,9 +53,22 @@ pub record StaysInside (pl : Places) (d : DataItem) (fixups : List (ℕ × Plain
 abbrev pub PatchesStayInside : Type 0
 PatchesStayInside = (pl : Places) (d : DataItem) (fixups : List (ℕ × PlainFixup)) → AreInside (length d.bytes) fixups → StaysInside pl d fixups
 
--- A placement reaches exactly if it has no fault of reach; and there is a place for each reference that is checked.
+-- A placement fits a module: its lists are as long as the tables, and each absolute segment is placed where its SEGDEF puts it.
+pub record Fits (pl : Places) (m : List Rec) : Type 0 where
+  pub segment_count : length pl.segments ≡ length (segments m)
+  pub group_count : length pl.groups ≡ length (groups m)
+  pub external_count : length pl.externals ≡ length (externals m)
+  pub absolute : (i number offset : ℕ) (info : SegInfo) → entry (segments m) i ≡ Some info → info.absolute ≡ Some (number, offset)
+      → entry pl.segments i ≡ Some (absolute_place number offset)
+
+-- It fits, and every fixup and the start reach.
+pub record AllReach (pl : Places) (m : List Rec) : Type 0 where
+  pub fits : Fits pl m
+  pub each : All (λ c. c ≡ None) (causes pl (pieces m))
+
+-- A placement has no fault of reach exactly if it fits and all reach; and there is a place for each reference that is checked.
 pub record ReachIsDecided (pl : Places) (m : List Rec) : Type 0 where
-  pub decided : (reach_fault pl m ≡ None) ↔ Reaches pl m
+  pub decided : Reaches pl m ↔ AllReach pl m
   pub places : length (causes pl (pieces m)) ≤ length (all_reference_places m)
 
 -- References resolved by the threads in force are those of the definition, which searches the earlier subrecords for each thread.
@@ -70,42 +81,11 @@ pub record FaultsAreWalked (pl : Places) (m : List Rec) : Type 0 where
   pub places : length (causes pl (pieces m)) ≡ length (all_reference_places m)
   pub faults : (ps : List (Place × Piece)) → map (λ p. p.1) ps ≡ single_pieces m → reference_places ps ≡ all_reference_places m → far_faults pl m ≡ pieces_far pl None ps
 
--- The look-ups of a reference succeed after these subrecords of its module: the threads that it names are set, and the placement has the
--- entries of its frame and of its target. F4 looks up `segment`, the segment of the last data record; no segment has index 0, so if it is 0
--- the frame is not F4.
-pub record ReferenceIsFound (pl : Places) (segment : ℕ) (earlier : List Subrecord) (r : Reference) : Type 0 where
-  pub frame_set : IsSome (frame_setting earlier r)
-  pub target_set : IsSome (target_setting earlier r)
-  pub places : HasPlaces pl segment (plain earlier r)
-
--- The look-ups of a fixup succeed after these records and subrecords: the last data record is an LEDATA, its segment has an entry, and the
--- look-ups of the reference succeed.
-pub record FixupIsFound (pl : Places) (before : List Rec) (earlier : List Subrecord) (r : Reference) : Type 0 where
-  pub data_record : DataItem
-  pub last : last_data before ≡ Some (Plain data_record)
-  pub segment : is_defined (length pl.segments) data_record.segment.item ≡ true
-  pub reference : ReferenceIsFound pl data_record.segment.item earlier r
-
--- All look-ups of a module succeed: the segment of each data record, and those of each fixup and of the start. So the default values for a
--- missing entry, thread or data record are never used.
-pub record AllAreFound (pl : Places) (m : List Rec) : Type 0 where
-  pub data_records : (before after : List Rec) (r : Rec) (d : DataItem) → m ≡ before ++ r ∷ after → data_contents r.contents ≡ Some d
-      → is_defined (length pl.segments) d.segment.item ≡ true
-  pub fixups : (before after : List Rec) (kind : ℕ) (done rest : List (At Subrecord)) (within locat : ℕ) (r : Reference)
-      → m ≡ before ++ record { kind = kind; contents = Fixups (done ++ record { within = within; item = Fixup locat r } ∷ rest) } ∷ after
-      → FixupIsFound pl before (subrecords before ++ map (λ s. s.item) done) r
-  pub start : (before after : List Rec) (kind byte : ℕ) (r : Reference) → m ≡ before ++ record { kind = kind; contents = ModEnd byte (Some r) } ∷ after
-      → ReferenceIsFound pl 0 (subrecords before) r
-
--- All look-ups succeed in a well-formed module at a placement whose lists are as long as its tables.
-abbrev pub LookUpsAreFound : Type 0
-LookUpsAreFound = (limits : Limits) (pl : Places) (m : List Rec) → ModuleHolds limits m → HasEntries pl m → AllAreFound pl m
-
--- If a placement reaches, every fixup of each data record has something to add, and a start has its offset.
+-- If a placement reaches, every fixup of each data record has something to add, and a start has its frame and its offset.
 pub record AllAreAdded (pl : Places) (m : List Rec) : Type 0 where
   pub fixups : (before after : List Piece) (r : Rec) (d : DataItem) → pieces m ≡ before ++ Kept r ∷ after → data_contents r.contents ≡ Some d
       → All (λ f. IsOk (outcome pl d f)) (fixups_of_data after)
-  pub start : (before after : List Piece) (kind byte : ℕ) (r : PlainReference) → pieces m ≡ before ++ End kind byte (Some r) ∷ after → IsOk (start_offset pl kind r)
+  pub start : (before after : List Piece) (kind byte : ℕ) (r : PlainReference) → pieces m ≡ before ++ End kind byte (Some r) ∷ after → IsOk (start_outcome pl kind r)
 
 -- `size` bytes at an offset are inside a segment, which is defined.
 pub record LiesInSegment (m : List Rec) (segment offset size : ℕ) : Type 0 where
@@ -135,4 +115,4 @@ pub record IsComplete (m : PlacedModule) (pl : Places) : Type 0 where
   pub never_extra : (k : Kind) (i : ℕ) → reach_fault pl m.0 ≢ Some (reach.Extra k i)
 
 abbrev pub DerivedAreComplete : Type 0
-DerivedAreComplete = (ms : List PlacedModule) (given : List Given) (pls : List Places) → All IsPlaceOf ms → derived ms given ≡ Ok pls → AllZip IsComplete ms pls
+DerivedAreComplete = (ms : List PlacedModule) (given : List Given) (pls : List Places) → All (λ m. IsPlaceOf m.0 m.1) ms → derived ms given ≡ Ok pls → AllZip IsComplete ms pls

@@ -1,7 +1,6 @@
 pub mod Plain
 pub mod Additions
 pub mod Offsets
-pub mod Placed
 pub mod Reach
 pub mod Reached
 pub mod Image

@@ -1,15 +1,19 @@
 -- The offset of a reference in its frame, and whether it reaches (TIS OMF 1.1, "FIXUPP"; readings, ranges and causes are this profile's rule).
-use Rattle.std.specs.Prelude.{ℕ, ◌+◌, ◌-◌, ◌^◌, List, [], ◌∷◌, filter, filter_map, Bool, true, ◌==◌, ◌&&◌, nat_le, nat_lt, Option, Some, None, Result, Ok, Err, if◌then◌else◌}
+use Rattle.std.specs.Prelude.{ℕ, ◌+◌, ◌-◌, ◌^◌, List, [], ◌∷◌, filter, filter_map, Bool, true, ◌==◌, ◌&&◌, nat_le, nat_lt, Option, Some, None, option_and_then, Result, Ok, Err, if◌then◌else◌}
+use Rattle.std.specs.Option.{option_zip}
 use Rattle.omf_reloc.specs.declared.fault.Cause.{Cause}
 use Rattle.omf_reloc.specs.declared.fault.Cause.TheVariants as cause
 use Rattle.omf_frame.specs.Bytes.{difference}
 use Rattle.omf_records.specs.Values.{DataItem, width_bits, location_type, location_offset, is_segment_relative}
 use Rattle.omf_records.specs.Location.{offset_bits, self_relative_bits}
+use Rattle.omf_check.specs.Tables.{entry}
 use Rattle.omf_check.specs.Threads.{PlainReference}
 use Rattle.omf_image.specs.Parts.{Addition}
 use Rattle.omf_reloc.specs.Plain.{PlainFixup}
 use Rattle.omf_reloc.specs.Additions.{additions, self_relative_additions}
-use Rattle.omf_placement.specs.Placement.{Places, placed, target_address, frame_by}
+use Rattle.omf_placement.specs.declared.frame.Frame.{Frame}
+use Rattle.omf_placement.specs.declared.frame.Placed.{Placed}
+use Rattle.omf_placement.specs.Placement.{Places, place_of, frame_by}
 
 -- The readings of an n-bit displacement u, in order: u, and u - 2^n if its top bit is set. Each is given by what it subtracts from u.
 abbrev pub readings : ℕ → ℕ → List ℕ
@@ -50,28 +54,37 @@ from_location t [] l = Err cause.Target
 from_location t (o ∷ os) None = Err cause.Location
 from_location t (o ∷ os) (Some l) = map_ok (λ near. self_relative_additions t near l) (first_or cause.Distance (filter (is_near t l) (o ∷ os)))
 
--- The additions of a fixup, in a FIXUPP of type f.0, to a data record at an offset of a segment, or the cause why it does not reach. The
--- displacement has the width of the FIXUPP, the offset the width of the location.
-abbrev pub outcome_at : Places → ℕ → ℕ → ℕ × PlainFixup → Result (List Addition) Cause
-outcome_at pl segment offset f =
+-- The frame that a reference names, and the place of its target. F4 is the frame of the segment `location`. None if the placement has no
+-- entry for one of them; then nothing reaches, and the cause is Target.
+abbrev pub named : Places → ℕ → PlainReference → Option (Frame × Placed)
+named pl location r = option_zip (frame_by pl location r.target r.frame) (place_of pl r.target)
+
+abbrev pub if_named : {A : Type 0} → (Frame → ℕ → Result A Cause) → Option (Frame × Placed) → Result A Cause
+if_named f None = Err cause.Target
+if_named f (Some x) = f x.0 x.1.address
+
+-- The additions of a fixup in this frame, in a FIXUPP of type f.0, for a target at this address; or the cause why it does not reach. The
+-- fixup is in a data record at an offset of the segment at `here`. The displacement has the width of the FIXUPP, the offset the width of the
+-- location.
+abbrev pub additions_in : Option Placed → ℕ → ℕ × PlainFixup → Frame → ℕ → Result (List Addition) Cause
+additions_in here offset f frame address =
     let t = location_type f.1.locat in
-    let r = f.1.reference in
-    let frame = frame_by pl segment r.target r.frame in
-    let address = target_address pl r.target in
-    let n = width_bits f.0 in
-    let location = (placed pl.segments segment).address + offset + location_offset f.1.locat in
+    let u = f.1.reference.displacement in
+    let location = option_and_then (λ p. difference (p.address + offset + location_offset f.1.locat) frame.base) here in
     if is_segment_relative f.1.locat
-    then in_frame t frame.selector (offsets (offset_bits t) n address r.displacement frame.base)
-    else from_location t (offsets (self_relative_bits t) n address r.displacement frame.base) (in_bits (self_relative_bits t) (difference location frame.base))
+    then in_frame t frame.selector (offsets (offset_bits t) (width_bits f.0) address u frame.base)
+    else from_location t (offsets (self_relative_bits t) (width_bits f.0) address u frame.base) (in_bits (self_relative_bits t) location)
+
+abbrev pub outcome_at : Places → ℕ → ℕ → ℕ × PlainFixup → Result (List Addition) Cause
+outcome_at pl segment offset f = if_named (additions_in (entry pl.segments segment) offset f) (named pl segment f.1.reference)
 
 abbrev pub outcome : Places → DataItem → ℕ × PlainFixup → Result (List Addition) Cause
 outcome pl d f = outcome_at pl d.segment.item d.offset.item f
 
--- The start's offset: it and its displacement have 16 bits in 8AH and 32 bits in 8BH. Its frame is not F4, so no data record matters.
-abbrev pub start_offset : Places → ℕ → PlainReference → Result ℕ Cause
-start_offset pl kind r = first_or cause.Target (offsets (width_bits kind) (width_bits kind) (target_address pl r.target) r.displacement (frame_by pl 0 r.target r.frame).base)
+-- The selector and the offset of a start in this frame: its offset and its displacement have 16 bits in 8AH and 32 bits in 8BH. The frame
+-- of a start is not F4, so no data record matters.
+abbrev pub start_in : ℕ → ℕ → Frame → ℕ → Result (ℕ × ℕ) Cause
+start_in bits u frame address = map_ok (λ o. (frame.selector, o)) (first_or cause.Target (offsets bits bits address u frame.base))
 
--- The cause, if a reference does not reach.
-abbrev pub cause_of : {A : Type 0} → Result A Cause → Option Cause
-cause_of (Ok a) = None
-cause_of (Err c) = Some c
+abbrev pub start_outcome : Places → ℕ → PlainReference → Result (ℕ × ℕ) Cause
+start_outcome pl kind r = if_named (start_in (width_bits kind) r.displacement) (named pl 0 r)

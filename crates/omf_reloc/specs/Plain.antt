@@ -1,7 +1,7 @@
--- A module's records with their threads resolved, on which reach, the image, the start and the canonical bytes rest.
-use Rattle.std.specs.Prelude.{ℕ, ◌+◌, ◌*◌, List, [], ◌∷◌, map, flat_map, Bool, false, Option, Some, None, is_some, option_map}
-use Rattle.omf_frame.specs.Bytes.{bits, with_before, up_to}
-use Rattle.omf_records.specs.Values.{At, Rec, alone, Contents, Plain, Iterated, DataItem, Fixups, ModEnd, Subrecord, Thread, Fixup}
+-- A module's records with their threads resolved, on which reach, the image and the start rest.
+use Rattle.std.specs.Prelude.{ℕ, List, [], ◌∷◌, map, flat_map, Option, Some, None, is_some, option_map}
+use Rattle.omf_frame.specs.Bytes.{with_before, up_to}
+use Rattle.omf_records.specs.Values.{At, Rec, Contents, Plain, Iterated, DataItem, Fixups, ModEnd, Subrecord, Thread, Fixup}
 use Rattle.omf_check.specs.Tables.{subrecords}
 use Rattle.omf_check.specs.Threads.{PlainReference, plain}
 
@@ -10,7 +10,7 @@ pub record PlainFixup : Type 0 where
   pub locat : ℕ
   pub reference : PlainReference
 
--- A FIXUPP with its type and its fixups; a MODEND with its type, its module type byte and its start; any other record, without its places.
+-- A FIXUPP with its type and its fixups; a MODEND with its type, its module type byte and its start; any other record.
 pub data Piece : Type 0 where
   Kept : Rec → Piece
   Fixed : ℕ → List PlainFixup → Piece
@@ -25,15 +25,10 @@ plain_fixup earlier (Fixup locat r) = record { locat = locat; reference = plain 
 abbrev pub plain_fixups : List Subrecord → List (At Subrecord) → List PlainFixup
 plain_fixups earlier subs = with_before plain_fixup earlier (map (λ s. s.item) subs)
 
--- MODEND's module type byte, normalized (TIS OMF 1.1, "MODEND"): bits 7 and 6 are kept, bit 0 is a copy of bit 6, and the ignored bits are
--- 0 (this profile's rule).
-abbrev pub end_byte : ℕ → ℕ
-end_byte byte = 128 * bits byte 7 1 + 64 * bits byte 6 1 + bits byte 6 1
-
 abbrev pub piece_of : List Subrecord → ℕ → Contents → Piece
 piece_of earlier kind (Fixups subs) = Fixed kind (plain_fixups earlier subs)
-piece_of earlier kind (ModEnd byte start) = End kind (end_byte byte) (option_map (plain earlier) start)
-piece_of earlier kind c = Kept (alone (record { kind = kind; contents = c }))
+piece_of earlier kind (ModEnd byte start) = End kind byte (option_map (plain earlier) start)
+piece_of earlier kind c = Kept (record { kind = kind; contents = c })
 
 -- The pieces of a module, one for each record.
 abbrev pub pieces : List Rec → List Piece
@@ -45,21 +40,15 @@ data_contents (Plain d) = Some d
 data_contents (Iterated d) = Some d
 data_contents _ = None
 
-abbrev pub is_data_contents : Contents → Bool
-is_data_contents c = is_some (data_contents c)
-
--- Whether a piece is a data record.
-abbrev pub is_data : Piece → Bool
-is_data (Kept r) = is_data_contents r.contents
-is_data (Fixed kind fixups) = false
-is_data (End kind byte start) = false
+abbrev pub data_of : Piece → Option DataItem
+data_of (Kept r) = data_contents r.contents
+data_of _ = None
 
 -- The fixups of a piece, each with the type of its FIXUPP.
 abbrev pub fixups_in : Piece → List (ℕ × PlainFixup)
-fixups_in (Kept r) = []
 fixups_in (Fixed kind fixups) = map (λ f. (kind, f)) fixups
-fixups_in (End kind byte start) = []
+fixups_in _ = []
 
 -- The fixups of a data record, in file order: those of all FIXUPPs before the next data record.
 abbrev pub fixups_of_data : List Piece → List (ℕ × PlainFixup)
-fixups_of_data after = flat_map fixups_in (up_to is_data after)
+fixups_of_data after = flat_map fixups_in (up_to (λ p. is_some (data_of p)) after)

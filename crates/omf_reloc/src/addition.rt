@@ -2,10 +2,11 @@
 
 ghost use Rattle.std.specs.Prelude.{◌≡◌, ◌+◌, ◌≤◌, ◌<◌, ◌^◌, ◌∷◌, [], All, length};
 ghost use Rattle.omf_image.specs.Parts.{part_size, add_part, add_parts};
+ghost use Rattle.omf_records.specs.Location.{location_number};
 ghost use Rattle.omf_reloc.specs.Additions.{addition, additions, part_of_size, self_relative_value, self_relative_additions};
 
 use omf_image::{Part, add_part};
-use omf_records::location_size;
+use omf_records::LocationType;
 use std::marker::Model;
 
 /// A number to add at an offset within a location, modulo 2^8, 2^16 or 2^32 by the size of its part.
@@ -101,26 +102,30 @@ impl Additions {
     }
 
     /// The additions of a segment-relative fixup at a location of this type.
-    pub(crate) fn in_frame(kind: u8, offset: u32, selector: u16) -> Additions
-        ensures { result ≡ additions kind offset selector }
+    pub(crate) fn in_frame(kind: LocationType, offset: u32, selector: u16) -> Additions
+        ensures { result ≡ additions (location_number kind) offset selector }
     {
         let value = u64::from(offset);
         match kind {
-            0 => Additions::one(Part::Byte, value % 256),
-            1 | 5 => Additions::one(Part::Word, value),
-            2 => Additions::one(Part::Word, u64::from(selector)),
-            3 => Additions::pointer(Part::Word, value, 2, selector),
-            4 => Additions::one(Part::Byte, value / 256),
-            9 | 13 => Additions::one(Part::Dword, value),
-            _ => Additions::pointer(Part::Dword, value, 4, selector),
+            LocationType::LowByte => Additions::one(Part::Byte, value % 256),
+            LocationType::Offset16 | LocationType::LoaderOffset16 => {
+                Additions::one(Part::Word, value)
+            }
+            LocationType::Base => Additions::one(Part::Word, u64::from(selector)),
+            LocationType::Pointer16 => Additions::pointer(Part::Word, value, 2, selector),
+            LocationType::HighByte => Additions::one(Part::Byte, value / 256),
+            LocationType::Offset32 | LocationType::LoaderOffset32 => {
+                Additions::one(Part::Dword, value)
+            }
+            LocationType::Pointer32 => Additions::pointer(Part::Dword, value, 4, selector),
         }
     }
 
     /// The additions of a self-relative fixup at a location of this type, from the offsets of its target and of its location.
-    pub(crate) fn from_location(kind: u8, offset: u32, location: u32) -> Additions
-        ensures { result ≡ self_relative_additions kind offset location }
+    pub(crate) fn from_location(kind: LocationType, offset: u32, location: u32) -> Additions
+        ensures { result ≡ self_relative_additions (location_number kind) offset location }
     {
-        let size = location_size(kind);
+        let size = kind.size();
         Additions::one(
             part_of_size(size),
             self_relative_value(size, offset, location),

@@ -7,7 +7,6 @@ ghost use Rattle.omf_reloc.specs.declared.fault.ReachFault.TheVariants as fault;
 ghost use Rattle.omf_check.specs.Rows.{H, N, S, L, F, M, first_module, with_fixup, absolute};
 ghost use Rattle.omf_image.specs.declared.limits.Limits.{Limits};
 ghost use Rattle.omf_check.specs.Sound.{ModuleHolds};
-ghost use Rattle.omf_reloc.specs.Laws.{AllAreFound};
 ghost use Rattle.omf_reloc.specs.Reach.{reach_fault};
 ghost use Rattle.omf_reloc.specs.Modules.{in_no_segment, using, with_start, jump_by, absolute_at, two_segments, start_at};
 ghost use Rattle.omf_reloc.specs.Rows.{frame, at, places, only, low, relocated, run_from_0, started, placed_by};
@@ -120,10 +119,9 @@ pub fn no_carry()
     ensures { relocated (with_fixup (0x9C ∷ 6 ∷ 0 ∷ 0xCC ∷ 0 ∷ 4 ∷ 1 ∷ 1 ∷ 0 ∷ [])) (only (at 0x1FFFF 0x10000 0x1000)) 1 ≡ run_from_0 (0xB7 ∷ 0 ∷ 0 ∷ 0xA0 ∷ []) }
 {}
 
-/// Data in segment 7, and a fixup to that segment, where no segment is defined: the look-ups find nothing, yet there is no fault of reach.
-/// No module with these records is well formed.
+/// Data in segment 7, and a fixup to that segment, where no segment is defined: the look-ups find nothing, so the fixup does not reach. No
+/// module with these records is well formed.
 pub fn look_ups_that_find_nothing()
-    ensures reaches { reach_fault (places [] [] []) in_no_segment ≡ None }
-    ensures not_found { AllAreFound (places [] [] []) in_no_segment → ⊥ }
+    ensures too_far { reach_fault (places [] [] []) in_no_segment ≡ Some (fault.TooFar 1 3 cause.Target) }
     ensures not_held { (limits : Limits) → ModuleHolds limits in_no_segment → ⊥ }
 {}

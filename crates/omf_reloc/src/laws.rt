@@ -6,14 +6,14 @@ ghost use Rattle.omf_records.specs.Values.{Rec};
 ghost use Rattle.omf_check.specs.Sound.{ModuleHolds};
 ghost use Rattle.omf_placement.specs.Placement.{Places};
 ghost use Rattle.omf_reloc.specs.Reach.{Reaches};
-ghost use Rattle.omf_reloc.specs.Laws.{PatchesStayInside, ReachIsDecided, ThreadsGiveReferences, FaultsAreWalked, LookUpsAreFound, DerivedAreComplete, AllAreAdded};
+ghost use Rattle.omf_reloc.specs.Laws.{PatchesStayInside, ReachIsDecided, ThreadsGiveReferences, FaultsAreWalked, DerivedAreComplete, AllAreAdded};
 
 /// Fixups whose locations are inside their data change no other byte, and keep the data's length.
 pub fn patches_stay_inside()
     ensures { PatchesStayInside }
 {}
 
-/// A placement reaches exactly if it has no fault of reach.
+/// A placement has no fault of reach exactly if it fits the module, and every fixup and the start reach.
 pub fn reach_is_decided()
     ensures { (pl : Places) (m : List Rec) → ReachIsDecided pl m }
 {}
@@ -29,20 +29,13 @@ pub fn faults_are_walked()
     ensures { (limits : Limits) (pl : Places) (m : List Rec) → ModuleHolds limits m → FaultsAreWalked pl m }
 {}
 
-/// In a well-formed module, at a placement whose lists are as long as the module's tables, every look-up finds its entry: each thread that
-/// a fixup or the start names is set; each segment, group and external that one of them names has an entry, and so has the segment of each
-/// data record; and an LEDATA precedes each fixup. So the default values in the definitions are never used.
-pub fn look_ups_are_found()
-    ensures { LookUpsAreFound }
-{}
-
 /// If each given placement has exactly one entry for each segment and group of its module, no derived placement has a missing or an extra
 /// entry. Whether it reaches then depends on its absolute segments and its references alone.
 pub fn derived_are_complete()
     ensures { DerivedAreComplete }
 {}
 
-/// If a placement reaches, every fixup of a data record has something to add, and a start has its offset.
+/// If a placement reaches, every fixup of a data record has something to add, and a start has its frame and its offset.
 pub fn all_are_added()
     ensures { (pl : Places) (m : List Rec) → Reaches pl m → AllAreAdded pl m }
 {}

@@ -35,7 +35,7 @@ pub use omf_derive::{DeriveFault, Given, derive};
 pub use omf_placement::{
     Draft, Entry, Frame, Placed, Placement, TextFault, parse_placement, real_group,
 };
-pub use pieces::{Piece, Pieces, end_byte, pieces_of};
+pub use pieces::{Piece, Pieces, pieces_of};
 pub use plain::{PlainFixup, PlainReference, plain_reference};
 pub use reached::reach_and_relocate;
 pub use reaching::reach;

@@ -18,8 +18,8 @@ use std::alloc::{AllocError, Global};
 
 /// The expanded length of an LIDATA's blocks, in bytes.
 fn blocks_len(blocks: Blocks<'_>) -> u64
-    requires { Expands (odd_if blocks.wide 0xA2) blocks.bytes.now }
-    ensures { result ≡ length (expanded (width (odd_if blocks.entry.wide 0xA2)) profile_limits blocks.entry.bytes.now) }
+    requires { Expands (odd_if blocks.width 0xA2) blocks.bytes.now }
+    ensures { result ≡ length (expanded (width (odd_if blocks.entry.width 0xA2)) profile_limits blocks.entry.bytes.now) }
 {
     match expanded_len(blocks, Limits::profile()) {
         Ok(len) => u64::from(len),
@@ -55,7 +55,21 @@ fn measure(rec: &Rec<'_>) -> Option<Extent>
             offset,
             blocks,
         } => Some(extent_from(segment, offset, blocks_len(*blocks))),
-        _ => None,
+        Rec::Header { .. }
+        | Rec::Comment { .. }
+        | Rec::Names(_)
+        | Rec::Segment { .. }
+        | Rec::Group { .. }
+        | Rec::Externs(_)
+        | Rec::Publics { .. }
+        | Rec::Communals(_)
+        | Rec::Fixups { .. }
+        | Rec::ModEnd { .. }
+        | Rec::LocalNames(_)
+        | Rec::LocalExterns { .. }
+        | Rec::LocalPublics { .. }
+        | Rec::LocalCommunals(_)
+        | Rec::Carried { .. } => None,
     }
 }
 

@@ -9,7 +9,7 @@ ghost use Rattle.omf_check.specs.Sound.{ModuleHolds};
 ghost use Rattle.omf_reloc.specs.Inner.PieceSeen.{step_seen, placed_seen};
 ghost use Rattle.omf_reloc.specs.Inner.Pieces.{subrecord_step, contents_steps, open_steps, steps_from, threads_behind, end_at, single_pieces, reference_places, placed_pieces, SubrecordIsSet, ContentsAreSet, OpenIsSet, RecordsAreSet};
 ghost use Rattle.omf_reloc.specs.Inner.Widths.{fixupp_type, modend_type};
-ghost use Rattle.omf_reloc.specs.Plain.{End, end_byte};
+ghost use Rattle.omf_reloc.specs.Plain.{End};
 ghost use Rattle.omf_reloc.specs.Inner.Walking.{plain_by, threads_after};
 ghost use Rattle.omf_records.specs.Inner.Seen.{contents_seen, kind_seen};
 ghost use Rattle.omf_records.specs.Values.{ModEnd};
@@ -17,7 +17,7 @@ ghost use Rattle.omf_reloc.specs.Reach.{all_reference_places};
 
 use crate::plain::{PlainFixup, PlainReference, plain_reference};
 use omf_check::{Checked, Records, Threads};
-use omf_frame::Place;
+use omf_frame::{Place, Width};
 use omf_records::{At, Items, Part, Rec, Reference, Subrecord};
 use std::marker::Model;
 
@@ -26,14 +26,14 @@ use std::marker::Model;
 pub enum Piece<'a> {
     /// A record that is neither a FIXUPP nor a MODEND.
     Kept(Rec<'a>),
-    /// A fixup. `wide`: its FIXUPP is of type 9DH.
+    /// A fixup, and the width of its FIXUPP's fields.
     Fixed {
-        wide: bool,
+        width: Width,
         fixup: PlainFixup,
     },
-    /// The MODEND: its module type byte, normalized by `end_byte`, and its start. `wide`: it is of type 8BH.
+    /// The MODEND: the width of its fields, its module type byte, and its start.
     End {
-        wide: bool,
+        width: Width,
         type_byte: u8,
         start: Option<PlainReference>,
     },
@@ -43,7 +43,7 @@ pub enum Piece<'a> {
 #[derive(Drop)]
 struct OpenFixups<'a> {
     place: Place,
-    wide: bool,
+    width: Width,
     left: Items<Subrecord<'a>>,
 }
 
@@ -53,18 +53,18 @@ impl<'a> Model for OpenFixups<'a> {
 
     ghost Value = { OpenFixupsModel };
 
-    ghost view = { λ o. record { place = o.place; kind = fixupp_type o.wide; left = o.left } };
+    ghost view = { λ o. record { place = o.place; kind = fixupp_type o.width; left = o.left } };
 }
 
 /// The piece of a subrecord in the FIXUPP at this place: a fixup, at its first byte; None for a THREAD.
 fn subrecord_step<'a>(
     threads: &Threads,
     at: Place,
-    wide: bool,
+    width: Width,
     subrecord: &At<Subrecord<'_>>,
 ) -> Option<(Place, Piece<'a>)>
     requires { SubrecordIsSet threads.now subrecord.now.item }
-    ensures { step_seen result ≡ subrecord_step threads.now at (fixupp_type wide) subrecord.now.within subrecord.now.item }
+    ensures { step_seen result ≡ subrecord_step threads.now at (fixupp_type width) subrecord.now.within subrecord.now.item }
 {
     match &subrecord.item.part {
         Part::Thread { .. } => None,
@@ -77,36 +77,27 @@ fn subrecord_step<'a>(
                 reference: plain_reference(threads, reference),
             };
             let within = subrecord.within;
-            Some((Place { within, ..at }, Piece::Fixed { wide, fixup }))
+            Some((Place { within, ..at }, Piece::Fixed { width, fixup }))
         }
     }
-}
-
-/// MODEND's module type byte, normalized: bits 7 and 6 are kept, bit 0 is a copy of bit 6, and the ignored bits are 0.
-pub fn end_byte(type_byte: u8) -> u8
-    ensures { result ≡ end_byte type_byte }
-{
-    let has_start = type_byte / 64 % 2;
-    128 * (type_byte / 128) + 64 * has_start + has_start
 }
 
 /// The piece of the MODEND at this place.
 fn end_piece<'a>(
     threads: &Threads,
     at: Place,
-    wide: bool,
+    width: Width,
     type_byte: u8,
     start: &Option<Reference>,
 ) -> (Place, Piece<'a>)
     requires { ContentsAreSet threads.now (ModEnd type_byte start.now) }
-    ensures { placed_seen result ≡ (end_at at start.now, End (modend_type wide) (end_byte type_byte) (option_map (plain_by threads.now) start.now)) }
+    ensures { placed_seen result ≡ (end_at at start.now, End (modend_type width) type_byte (option_map (plain_by threads.now) start.now)) }
 {
-    let type_byte = end_byte(type_byte);
     match start {
         None => (
             at,
             Piece::End {
-                wide,
+                width,
                 type_byte,
                 start: None,
             },
@@ -117,7 +108,7 @@ fn end_piece<'a>(
             (
                 Place { within, ..at },
                 Piece::End {
-                    wide,
+                    width,
                     type_byte,
                     start,
                 },
@@ -161,20 +152,37 @@ fn record_step<'a>(
     ensures set { OpenIsSet threads.now result.1 }
 {
     match &rec {
-        Rec::Fixups { wide, subrecords } => {
+        Rec::Fixups { width, subrecords } => {
             let fixups = OpenFixups {
                 place: at,
-                wide: *wide,
+                width: *width,
                 left: subrecords.iter(),
             };
             (None, Some(fixups))
         }
         Rec::ModEnd {
-            wide,
+            width,
             type_byte,
             start,
-        } => (Some(end_piece(threads, at, *wide, *type_byte, start)), None),
-        _ => (Some((at, Piece::Kept(rec))), None),
+        } => (
+            Some(end_piece(threads, at, *width, *type_byte, start)),
+            None,
+        ),
+        Rec::Header { .. }
+        | Rec::Comment { .. }
+        | Rec::Names(_)
+        | Rec::Segment { .. }
+        | Rec::Group { .. }
+        | Rec::Externs(_)
+        | Rec::Publics { .. }
+        | Rec::Communals(_)
+        | Rec::Plain { .. }
+        | Rec::Iterated { .. }
+        | Rec::LocalNames(_)
+        | Rec::LocalExterns { .. }
+        | Rec::LocalPublics { .. }
+        | Rec::LocalCommunals(_)
+        | Rec::Carried { .. } => (Some((at, Piece::Kept(rec))), None),
     }
 }
 
@@ -205,7 +213,7 @@ impl<'a> Iterator for Steps<'a> {
     fn next(&mut self) -> Option<Option<(Place, Piece<'a>)>> {
         if let Some(open) = &mut self.fixups {
             if let Some(subrecord) = open.left.next() {
-                let step = subrecord_step(&self.threads, open.place, open.wide, &subrecord);
+                let step = subrecord_step(&self.threads, open.place, open.width, &subrecord);
                 self.threads.set(&subrecord.item);
                 return Some(step);
             }

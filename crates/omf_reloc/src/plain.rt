@@ -5,7 +5,7 @@ ghost use Rattle.omf_check.specs.Inner.Judging.{frame_cell, target_cell};
 ghost use Rattle.omf_reloc.specs.Inner.Walking.{plain_by};
 
 use omf_check::{FrameMethod, TargetMethod, Threads};
-use omf_records::Reference;
+use omf_records::{Locat, Reference};
 use std::marker::Model;
 
 /// A reference with its threads resolved.
@@ -25,10 +25,10 @@ impl Model for PlainReference {
     ghost view = { λ r. record { frame = r.frame; target = r.target; displacement = r.displacement } };
 }
 
-/// A fixup with its threads resolved: its LOCAT, whose two bytes are big-endian, and its reference.
+/// A fixup with its threads resolved: its LOCAT, and its reference.
 #[derive(Drop)]
 pub struct PlainFixup {
-    pub location: u16,
+    pub location: Locat,
     pub reference: PlainReference,
 }
 

@@ -1,12 +1,12 @@
 //! The image of a module at a placement that may not reach.
 
-ghost use Rattle.std.specs.Prelude.{◌≡◌, [], None, IfOk, IfErr};
+ghost use Rattle.std.specs.Prelude.{[], IfOk, IfErr};
 ghost use Rattle.omf_image.specs.Limits.{profile_limits};
 ghost use Rattle.omf_image.specs.Overlay.{AreLaidOver};
 ghost use Rattle.omf_check.specs.Module.{recs_of};
 ghost use Rattle.omf_reloc.specs.Image.{laid};
 ghost use Rattle.omf_reloc.specs.Plain.{pieces};
-ghost use Rattle.omf_reloc.specs.Reach.{Reaches, reach_fault};
+ghost use Rattle.omf_reloc.specs.Reach.{Reaches};
 ghost use Rattle.omf_reloc.specs.Reached.{IsRelocateFault};
 
 use crate::fault::RelocateFault;
@@ -38,7 +38,6 @@ pub fn reach_and_relocate(
     placement: &Placement,
 ) -> Result<Image, RelocateFault>
     ensures reaches { IfOk result (λ i. Reaches placement.now (recs_of «module».now.bytes)) }
-    ensures ok { IfOk result (λ i. reach_fault placement.now (recs_of «module».now.bytes) ≡ None) }
     ensures laid { IfOk result (λ i. AreLaidOver [] (laid profile_limits placement.now (pieces (recs_of «module».now.bytes))) i) }
     ensures err { IfErr result (IsRelocateFault placement.now (recs_of «module».now.bytes)) }
 {

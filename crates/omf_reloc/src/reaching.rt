@@ -1,37 +1,63 @@
 //! Whether a placement reaches: it fits the module, and every fixup and the start reach.
 
-ghost use Rattle.std.specs.Prelude.{◌≡◌, ◌≤◌, length, slice_get, ◌↔◌, true, None, Some, IsOk, IfErr};
+ghost use Rattle.std.specs.Prelude.{◌≡◌, ◌≤◌, slice_get, None};
+ghost use Rattle.std.specs.Result.{result_err};
 ghost use Rattle.omf_check.specs.Module.{recs_of};
-ghost use Rattle.omf_check.specs.Tables.{segments, is_defined};
+ghost use Rattle.omf_check.specs.Tables.{segments};
+ghost use Rattle.omf_placement.specs.Placement.{absolute_place};
+ghost use Rattle.omf_records.specs.Inner.Seen.{contents_seen};
 ghost use Rattle.omf_reloc.specs.Inner.PieceSeen.{piece_seen};
-ghost use Rattle.omf_reloc.specs.Reach.{missing, extra, misplaced, misfits, far_faults, reach_fault, Reaches};
-ghost use Rattle.omf_reloc.specs.Inner.ReachSteps.{miscounts, misplaced_from, place_behind, piece_cause, CanJudge};
-ghost use Rattle.omf_reloc.specs.Placed.{HasEntries};
+ghost use Rattle.omf_reloc.specs.Reach.{entries, given, missing, extra, lies_at, misplaced, misfits, far_faults, reach_fault};
+ghost use Rattle.omf_reloc.specs.Inner.ReachSteps.{miscounts, misplaced_from, data_place, place_behind, piece_cause};
 
 use crate::fault::{Cause, Kind, ReachFault, too_far};
-use crate::offset::{outcome, start_offset};
+use crate::offset::{outcome, start_outcome};
 use crate::pieces::{Piece, pieces_of};
 use omf_check::Checked;
-use omf_placement::Placement;
+use omf_placement::{Placed, Placement};
 use omf_records::Rec;
 
-/// A missing entry: the first index, from 1, of a table with this number of entries that is not in the placement.
-fn missing(kind: Kind, entries: u16, given: usize) -> Option<ReachFault>
-    ensures { result ≡ slice_get (missing kind entries given) 0 }
+/// The number of entries in a module's table of this kind.
+fn entries(module: &Checked, kind: Kind) -> u16
+    ensures value { result ≡ entries (recs_of «module».now.bytes) kind }
+    ensures bound { result ≤ 32767 }
 {
-    if given < usize::from(entries) {
-        Some(ReachFault::Missing(kind, given as u16 + 1))
+    match kind {
+        Kind::Segment => module.segments(),
+        Kind::Group => module.groups(),
+        Kind::External => module.externals(),
+    }
+}
+
+/// The number of a placement's entries of this kind.
+fn given(placement: &Placement, kind: Kind) -> usize
+    ensures { result ≡ given placement.now kind }
+{
+    match kind {
+        Kind::Segment => placement.segment_count(),
+        Kind::Group => placement.group_count(),
+        Kind::External => placement.external_count(),
+    }
+}
+
+/// A missing entry of this kind: the first index, from 1, of the module's table that is not in the placement.
+fn missing(module: &Checked, placement: &Placement, kind: Kind) -> Option<ReachFault>
+    ensures { result ≡ slice_get (missing kind (entries (recs_of «module».now.bytes) kind) (given placement.now kind)) 0 }
+{
+    let have = given(placement, kind);
+    if have < usize::from(entries(module, kind)) {
+        Some(ReachFault::Missing(kind, have as u16 + 1))
     } else {
         None
     }
 }
 
-/// An extra entry: the first index of the placement beyond a table with this number of entries.
-fn extra(kind: Kind, entries: u16, given: usize) -> Option<ReachFault>
-    requires { entries ≤ 32767 }
-    ensures { result ≡ slice_get (extra kind entries given) 0 }
+/// An extra entry of this kind: the first index of the placement beyond the module's table.
+fn extra(module: &Checked, placement: &Placement, kind: Kind) -> Option<ReachFault>
+    ensures { result ≡ slice_get (extra kind (entries (recs_of «module».now.bytes) kind) (given placement.now kind)) 0 }
 {
-    if usize::from(entries) < given {
+    let entries = entries(module, kind);
+    if usize::from(entries) < given(placement, kind) {
         Some(ReachFault::Extra(kind, entries + 1))
     } else {
         None
@@ -42,38 +68,42 @@ fn extra(kind: Kind, entries: u16, given: usize) -> Option<ReachFault>
 fn count_fault(module: &Checked, placement: &Placement) -> Option<ReachFault>
     ensures { result ≡ slice_get (miscounts placement.now (recs_of «module».now.bytes)) 0 }
 {
-    let segments = placement.segment_count();
-    let groups = placement.group_count();
-    let externals = placement.external_count();
-    missing(Kind::Segment, module.segments(), segments)
-        .or(missing(Kind::Group, module.groups(), groups))
-        .or(missing(Kind::External, module.externals(), externals))
-        .or(extra(Kind::Segment, module.segments(), segments))
-        .or(extra(Kind::Group, module.groups(), groups))
-        .or(extra(Kind::External, module.externals(), externals))
+    missing(module, placement, Kind::Segment)
+        .or(missing(module, placement, Kind::Group))
+        .or(missing(module, placement, Kind::External))
+        .or(extra(module, placement, Kind::Segment))
+        .or(extra(module, placement, Kind::Group))
+        .or(extra(module, placement, Kind::External))
+}
+
+/// Whether a place, if there is one, is at the frame number and the offset of an absolute segment.
+fn lies_at(place: Option<Placed>, number: u16, offset: u8) -> bool
+    ensures { result ≡ lies_at place (absolute_place number offset) }
+{
+    let base = 16 * u32::from(number);
+    match place {
+        Some(place) => {
+            place.address == base + u32::from(offset)
+                && place.frame.base == base
+                && place.frame.selector == number
+        }
+        None => false,
+    }
 }
 
 /// The fault of an absolute segment that is not placed at its frame number and offset.
 fn misplaced(placement: &Placement, index: u16, absolute: Option<(u16, u8)>) -> Option<ReachFault>
-    requires { is_defined (length placement.now.segments) index ≡ true }
     ensures { result ≡ slice_get (misplaced placement.now index absolute) 0 }
 {
     let (number, offset) = absolute?;
-    let place = placement.segment_at(usize::from(index));
-    let base = 16 * u32::from(number);
-    if place.address == base + u32::from(offset)
-        && place.frame.base == base
-        && place.frame.selector == number
-    {
-        None
-    } else {
-        Some(ReachFault::Absolute(index))
+    if lies_at(placement.segment(usize::from(index)), number, offset) {
+        return None;
     }
+    Some(ReachFault::Absolute(index))
 }
 
 /// The first absolute segment that is not placed where its SEGDEF puts it.
 fn absolute_fault(module: &Checked, placement: &Placement) -> Option<ReachFault>
-    requires { length placement.now.segments ≡ length (segments (recs_of «module».now.bytes)) }
     ensures { result ≡ slice_get (misplaced_from placement.now 1 (segments (recs_of «module».now.bytes))) 0 }
 {
     for index in 1..module.segments() + 1 {
@@ -89,7 +119,7 @@ fn absolute_fault(module: &Checked, placement: &Placement) -> Option<ReachFault>
 }
 
 /// The first reason why a placement does not fit a module, if it does not.
-#[tactic(auto, using(crate::proofs::ReachedLaws::counts_there, crate::proofs::ReachedLaws::counts_fault, crate::proofs::ReachedLaws::absolutes_fault))]
+#[tactic(auto, using(crate::proofs::ReachedLaws::counts_fault, crate::proofs::ReachedLaws::absolutes_fault))]
 pub(crate) fn misfit(module: &Checked, placement: &Placement) -> Option<ReachFault>
     ensures { result ≡ slice_get (misfits placement.now (recs_of «module».now.bytes)) 0 }
 {
@@ -101,20 +131,53 @@ pub(crate) fn misfit(module: &Checked, placement: &Placement) -> Option<ReachFau
 
 /// Why a piece does not reach, if it does not. `last` is the segment and the offset of the last data record before it.
 fn piece_cause(placement: &Placement, last: Option<(u16, u32)>, piece: &Piece<'_>) -> Option<Cause>
-    requires { CanJudge placement.now last (piece_seen piece.now) }
     ensures { result ≡ piece_cause placement.now last (piece_seen piece.now) }
 {
     match piece {
-        Piece::Fixed { wide, fixup } => match last {
-            Some((segment, offset)) => outcome(placement, segment, offset, *wide, fixup).err(),
-            None => unreachable!(),
+        Piece::Kept(_) => None,
+        Piece::Fixed { width, fixup } => match last {
+            Some((segment, offset)) => outcome(placement, segment, offset, *width, fixup).err(),
+            None => None,
         },
         Piece::End {
-            wide,
+            width,
             start: Some(reference),
             ..
-        } => start_offset(placement, *wide, reference).err(),
-        _ => None,
+        } => start_outcome(placement, *width, reference).err(),
+        Piece::End { start: None, .. } => None,
+    }
+}
+
+/// The segment and the offset of a data record; `None` for any other record.
+fn data_place(rec: &Rec<'_>) -> Option<(u16, u32)>
+    ensures { result ≡ data_place (contents_seen rec.now) None }
+{
+    match rec {
+        Rec::Plain {
+            segment,
+            offset,
+            ..
+        } => Some((segment.item.0, offset.item)),
+        Rec::Iterated {
+            segment,
+            offset,
+            ..
+        } => Some((segment.item.0, offset.item)),
+        Rec::Header { .. }
+        | Rec::Comment { .. }
+        | Rec::Names(_)
+        | Rec::Segment { .. }
+        | Rec::Group { .. }
+        | Rec::Externs(_)
+        | Rec::Publics { .. }
+        | Rec::Communals(_)
+        | Rec::Fixups { .. }
+        | Rec::ModEnd { .. }
+        | Rec::LocalNames(_)
+        | Rec::LocalExterns { .. }
+        | Rec::LocalPublics { .. }
+        | Rec::LocalCommunals(_)
+        | Rec::Carried { .. } => None,
     }
 }
 
@@ -123,27 +186,13 @@ fn data_after(piece: &Piece<'_>, last: Option<(u16, u32)>) -> Option<(u16, u32)>
     ensures { result ≡ place_behind (piece_seen piece.now) last }
 {
     match piece {
-        Piece::Kept(
-            Rec::Plain {
-                segment,
-                offset,
-                ..
-            },
-        ) => Some((segment.item.0, offset.item)),
-        Piece::Kept(
-            Rec::Iterated {
-                segment,
-                offset,
-                ..
-            },
-        ) => Some((segment.item.0, offset.item)),
-        _ => last,
+        Piece::Kept(rec) => data_place(rec).or(last),
+        Piece::Fixed { .. } | Piece::End { .. } => last,
     }
 }
 
 /// The first reference of a module that does not reach, in file order.
 fn far_fault(module: &Checked, placement: &Placement) -> Option<ReachFault>
-    requires { HasEntries placement.now (recs_of «module».now.bytes) }
     ensures { result ≡ slice_get (far_faults placement.now (recs_of «module».now.bytes)) 0 }
 {
     let mut last = None;
@@ -165,9 +214,7 @@ fn far_fault(module: &Checked, placement: &Placement) -> Option<ReachFault>
 /// externals; then the lowest absolute segment that is misplaced; then the first reference that does not reach, in file order with the
 /// start last.
 pub fn reach(module: &Checked, placement: &Placement) -> Result<(), ReachFault>
-    ensures reaches { IsOk result ↔ Reaches placement.now (recs_of «module».now.bytes) }
-    ensures ok { IsOk result ↔ (reach_fault placement.now (recs_of «module».now.bytes) ≡ None) }
-    ensures err { IfErr result (λ f. reach_fault placement.now (recs_of «module».now.bytes) ≡ Some f) }
+    ensures { result_err result ≡ reach_fault placement.now (recs_of «module».now.bytes) }
 {
     if let Some(fault) = misfit(module, placement) {
         return Err(fault);

@@ -1,8 +1,9 @@
 //! The image of a module at a placement.
 
-ghost use Rattle.std.specs.Prelude.{◌≡◌, ◌↔◌, ℕ, [], ◌∷◌, true, length, flat_map, IfSome, OnOk, IfOk, IfErr, None, Some, Option, slice_get, option_map, option_to_list};
+ghost use Rattle.std.specs.Result.{result_err};
+ghost use Rattle.std.specs.Prelude.{◌≡◌, ◌↔◌, ℕ, [], ◌∷◌, flat_map, IfSome, OnOk, IfOk, IfErr, None, Some, Option, slice_get, option_map, option_to_list};
 ghost use Rattle.omf_records.specs.Inner.Seen.{odd_if, kind_seen, contents_seen};
-ghost use Rattle.omf_records.specs.Values.{width, contents_alone};
+ghost use Rattle.omf_records.specs.Values.{width};
 ghost use Rattle.omf_image.specs.Inner.Expanding.{expanded};
 ghost use Rattle.omf_image.specs.Limits.{profile_limits};
 ghost use Rattle.omf_image.specs.Inner.Joined.{runs_of};
@@ -11,29 +12,26 @@ ghost use Rattle.omf_image.specs.declared.run.Run.{Run};
 ghost use Rattle.omf_image.specs.Painting.{all_zeros};
 ghost use Rattle.omf_check.specs.Module.{recs_of};
 ghost use Rattle.omf_check.specs.Sound.{ModuleHolds};
-ghost use Rattle.omf_check.specs.Tables.{is_defined};
 ghost use Rattle.omf_reloc.specs.Image.{laid, image};
-ghost use Rattle.omf_reloc.specs.Laws.{AllLieInside};
-ghost use Rattle.omf_reloc.specs.Offsets.{cause_of, outcome_at};
+ghost use Rattle.omf_reloc.specs.Offsets.{outcome_at};
 ghost use Rattle.omf_reloc.specs.Inner.PieceSeen.{piece_seen};
-ghost use Rattle.omf_reloc.specs.Placed.{HasPlaces, HasEntries};
 ghost use Rattle.omf_reloc.specs.Inner.Widths.{fixupp_type};
 ghost use Rattle.omf_reloc.specs.Plain.{Fixed, pieces};
 ghost use Rattle.omf_reloc.specs.Reach.{Reaches, far_faults};
-ghost use Rattle.omf_reloc.specs.Inner.ReachSteps.{CanJudge, IsFirstFar, piece_cause};
+ghost use Rattle.omf_reloc.specs.Inner.ReachSteps.{IsFirstFar, piece_cause};
 ghost use Rattle.omf_reloc.specs.Inner.Measuring.{measured};
 ghost use Rattle.omf_reloc.specs.Inner.Walking.{with_fixup, closed_by, opened_by, CanAdd, Expands, CanExpand, HasOffsets, IsNext, CanWalk, open_place};
 
 use crate::fault::{Cause, RelocateFault, too_far};
 use crate::measuring::extents;
-use crate::offset::{outcome, start_offset};
+use crate::offset::{outcome, start_outcome};
 use crate::pieces::{Piece, pieces_of};
 use crate::plain::PlainFixup;
 use omf_check::Checked;
-use omf_frame::Index;
+use omf_frame::{Index, Width};
 use omf_image::{Image, Limits, expand, painted};
 use omf_placement::Placement;
-use omf_records::{At, Blocks, Rec, location_offset};
+use omf_records::{At, Blocks, Rec};
 use std::alloc::{AllocError, Global};
 use std::marker::Model;
 
@@ -66,16 +64,14 @@ impl Open {
     }
 
     /// Applies a fixup. Returns why it is out of range, if it is; the data are then unchanged.
-    fn add(&mut self, placement: &Placement, is_wide: bool, fixup: &PlainFixup) -> Option<Cause>
-        requires segment { is_defined (length placement.now.segments) self.old.segment ≡ true }
-        requires places { HasPlaces placement.now self.old.segment fixup.now.reference }
-        requires inside { CanAdd fixup.now self.old }
-        ensures data { self.new ≡ with_fixup placement.now (fixupp_type is_wide) fixup.now self.old }
-        ensures cause { result ≡ cause_of (outcome_at placement.now self.old.segment self.old.offset (fixupp_type is_wide, fixup.now)) }
+    fn add(&mut self, placement: &Placement, width: Width, fixup: &PlainFixup) -> Option<Cause>
+        requires { CanAdd fixup.now self.old }
+        ensures data { self.new ≡ with_fixup placement.now (fixupp_type width) fixup.now self.old }
+        ensures cause { result ≡ result_err (outcome_at placement.now self.old.segment self.old.offset (fixupp_type width, fixup.now)) }
     {
-        match outcome(placement, self.segment, self.offset, is_wide, fixup) {
+        match outcome(placement, self.segment, self.offset, width, fixup) {
             Ok(additions) => {
-                let position = usize::from(location_offset(fixup.location));
+                let position = usize::from(fixup.location.offset());
                 additions.add_to(&mut self.bytes, position);
                 None
             }
@@ -103,8 +99,8 @@ impl Model for Walk {
 
 /// The expanded bytes of an LIDATA's blocks.
 fn expanded(alloc: Global, blocks: Blocks<'_>) -> Result<Vec<u8>, AllocError>
-    requires { Expands (odd_if blocks.wide 0xA2) blocks.bytes.now }
-    ensures { IfOk result (λ v. v.items ≡ expanded (width (odd_if blocks.entry.wide 0xA2)) profile_limits blocks.entry.bytes.now) }
+    requires { Expands (odd_if blocks.width 0xA2) blocks.bytes.now }
+    ensures { IfOk result (λ v. v.items ≡ expanded (width (odd_if blocks.entry.width 0xA2)) profile_limits blocks.entry.bytes.now) }
 {
     let (bytes, _moved) = expand(alloc, blocks, Limits::profile())?;
     Ok(bytes)
@@ -150,15 +146,14 @@ impl Walk {
     }
 
     /// Applies a fixup to the last data record. Returns why it does not reach, if it does not.
-    fn fix(&mut self, placement: &Placement, is_wide: bool, fixup: &PlainFixup) -> Option<Cause>
-        requires judge { CanJudge placement.now (open_place self.old.open_data) (Fixed (fixupp_type is_wide) (fixup.now ∷ [])) }
-        requires add { IfSome self.old.open_data (CanAdd fixup.now) }
+    fn fix(&mut self, placement: &Placement, width: Width, fixup: &PlainFixup) -> Option<Cause>
+        requires { IfSome self.old.open_data (CanAdd fixup.now) }
         ensures image { self.new.image ≡ self.old.image }
-        ensures open_data { self.new.open_data ≡ option_map (with_fixup placement.now (fixupp_type is_wide) fixup.now) self.old.open_data }
-        ensures cause { result ≡ piece_cause placement.now (open_place self.old.open_data) (Fixed (fixupp_type is_wide) (fixup.now ∷ [])) }
+        ensures open_data { self.new.open_data ≡ option_map (with_fixup placement.now (fixupp_type width) fixup.now) self.old.open_data }
+        ensures cause { result ≡ piece_cause placement.now (open_place self.old.open_data) (Fixed (fixupp_type width) (fixup.now ∷ [])) }
     {
         match &mut self.open_data {
-            Some(data) => data.add(placement, is_wide, fixup),
+            Some(data) => data.add(placement, width, fixup),
             None => None,
         }
     }
@@ -168,8 +163,8 @@ impl Walk {
     fn take_record(&mut self, alloc: Global, rec: &Rec<'_>) -> Result<(), AllocError>
         requires offsets { IfSome self.old.open_data HasOffsets }
         requires expands { CanExpand (kind_seen rec.now) (contents_seen rec.now) }
-        ensures image { OnOk result (AreLaidOver self.old.image (closed_by (contents_alone (contents_seen rec.now)) self.old.open_data) self.new.image) }
-        ensures open_data { OnOk result (self.new.open_data ≡ opened_by (kind_seen rec.now) (contents_alone (contents_seen rec.now)) self.old.open_data) }
+        ensures image { OnOk result (AreLaidOver self.old.image (closed_by (contents_seen rec.now) self.old.open_data) self.new.image) }
+        ensures open_data { OnOk result (self.new.open_data ≡ opened_by (kind_seen rec.now) (contents_seen rec.now) self.old.open_data) }
     {
         match rec {
             Rec::Plain {
@@ -191,7 +186,21 @@ impl Walk {
                 self.open(Open::new(segment, offset, expanded(alloc, *blocks)?));
                 Ok(())
             }
-            _ => Ok(()),
+            Rec::Header { .. }
+            | Rec::Comment { .. }
+            | Rec::Names(_)
+            | Rec::Segment { .. }
+            | Rec::Group { .. }
+            | Rec::Externs(_)
+            | Rec::Publics { .. }
+            | Rec::Communals(_)
+            | Rec::Fixups { .. }
+            | Rec::ModEnd { .. }
+            | Rec::LocalNames(_)
+            | Rec::LocalExterns { .. }
+            | Rec::LocalPublics { .. }
+            | Rec::LocalCommunals(_)
+            | Rec::Carried { .. } => Ok(()),
         }
     }
 
@@ -202,8 +211,7 @@ impl Walk {
         placement: &Placement,
         piece: &Piece<'_>,
     ) -> Result<Option<Cause>, AllocError>
-        requires walk { CanWalk (piece_seen piece.now) self.old }
-        requires judge { CanJudge placement.now (open_place self.old.open_data) (piece_seen piece.now) }
+        requires { CanWalk (piece_seen piece.now) self.old }
         ensures next { OnOk result (IsNext placement.now (piece_seen piece.now) self.old self.new) }
         ensures cause { IfOk result (λ cause. cause ≡ piece_cause placement.now (open_place self.old.open_data) (piece_seen piece.now)) }
     {
@@ -212,12 +220,12 @@ impl Walk {
                 self.take_record(alloc, rec)?;
                 Ok(None)
             }
-            Piece::Fixed { wide, fixup } => Ok(self.fix(placement, *wide, fixup)),
+            Piece::Fixed { width, fixup } => Ok(self.fix(placement, *width, fixup)),
             Piece::End {
-                wide,
+                width,
                 start: Some(reference),
                 ..
-            } => Ok(start_offset(placement, *wide, reference).err()),
+            } => Ok(start_outcome(placement, *width, reference).err()),
             Piece::End { start: None, .. } => Ok(None),
         }
     }
@@ -253,7 +261,6 @@ pub(crate) fn walked(
     module: &Checked,
     placement: &Placement,
 ) -> Result<Image, RelocateFault>
-    requires { HasEntries placement.now (recs_of «module».now.bytes) }
     ensures laid { IfOk result (λ i. AreLaidOver [] (laid profile_limits placement.now (pieces (recs_of «module».now.bytes))) i) }
     ensures reaches { IfOk result (λ i. slice_get (far_faults placement.now (recs_of «module».now.bytes)) 0 ≡ None) }
     ensures far { IfErr result (IsFirstFar (slice_get (far_faults placement.now (recs_of «module».now.bytes)) 0)) }
@@ -271,7 +278,7 @@ pub(crate) fn walked(
 
 /// The image of a module at a placement: the data of each LEDATA with its fixups applied, and the expanded blocks of each LIDATA (TIS OMF
 /// 1.1, "LEDATA", "LIDATA", "FIXUPP"). Where data records overlap, the last one wins. Every byte is inside its segment, and every byte that
-/// a fixup changes is inside the data of its LEDATA.
+/// a fixup changes is inside the data of its LEDATA (law `accepted_are_safe`).
 ///
 /// # Errors
 ///
@@ -282,7 +289,6 @@ pub fn relocate(alloc: Global, module: &Checked, placement: &Placement) -> Resul
     ensures bytes { IfOk result (λ i. (segment x : ℕ) → byte_at i segment x ≡ image profile_limits placement.now (recs_of «module».now.bytes) segment x) }
     ensures runs { IfOk result (λ i. (segment k : ℕ) (run : Option Run) → IsRunAt (byte_at i segment) k run
         ↔ (run ≡ slice_get (runs_of (laid profile_limits placement.now (pieces (recs_of «module».now.bytes))) segment) k)) }
-    ensures inside { AllLieInside placement.now (recs_of «module».now.bytes) }
 {
     match walked(alloc, module, placement) {
         Ok(image) => Ok(image),

@@ -7,8 +7,8 @@ ghost use Rattle.omf_reloc.specs.declared.fault.Kind.TheVariants as kind;
 ghost use Rattle.omf_reloc.specs.declared.fault.ReachFault.TheVariants as fault;
 ghost use Rattle.omf_check.specs.Rows.{first_module, with_fixup, flat, absolute, public};
 ghost use Rattle.omf_reloc.specs.Modules.{with_threads, overlaid, overlapping, displaced, call, jump, with_blocks, big_end, with_start, early_thread, group_base, by_external, many_fixups, using, group_public, constant_public, using_locally, local_public};
-ghost use Rattle.omf_check.specs.declared.method.FrameMethod.TheVariants.{Segment as F0, Group as F1, Location as F4};
-ghost use Rattle.omf_check.specs.declared.method.TargetMethod.TheVariants.{Segment as T0};
+ghost use Rattle.omf_check.specs.Threads.{F0, F1, T0};
+ghost use Rattle.omf_check.specs.declared.method.FrameMethod.TheVariants.{Location as F4};
 ghost use Rattle.omf_reloc.specs.Plain.{End};
 ghost use Rattle.omf_reloc.specs.Rows.{references, fixup, plain_reference, frame, at, places, only, low, relocated, run_from_0, started, placed_by, derived_image, lies};
 

@@ -1,33 +1,19 @@
 //! The start address of a module at a placement.
 
-ghost use Rattle.std.specs.Prelude.{◌≡◌, [], ◌∷◌};
+ghost use Rattle.std.specs.Prelude.{◌≡◌};
 ghost use Rattle.omf_records.specs.Inner.Seen.{contents_seen};
 ghost use Rattle.omf_check.specs.Inner.Judging.{frame_cell, target_cell};
 ghost use Rattle.omf_check.specs.Inner.Kept.{no_threads};
 ghost use Rattle.omf_check.specs.Module.{recs_of};
-ghost use Rattle.omf_reloc.specs.Image.{start, start_at};
-ghost use Rattle.omf_reloc.specs.Offsets.{start_offset};
-ghost use Rattle.omf_reloc.specs.Inner.Widths.{modend_type};
+ghost use Rattle.omf_reloc.specs.Image.{start};
 ghost use Rattle.omf_reloc.specs.Reach.{Reaches};
-ghost use Rattle.omf_reloc.specs.Inner.Walking.{threads_after, threads_through, HasStart};
+ghost use Rattle.omf_reloc.specs.Inner.Walking.{threads_after, threads_through};
 
-use crate::offset::{frame_of, start_offset};
-use crate::plain::{PlainReference, plain_reference};
+use crate::offset::start_outcome;
+use crate::plain::plain_reference;
 use omf_check::{Checked, Threads};
 use omf_placement::Placement;
 use omf_records::{Rec, Reference};
-
-/// The start address named by a MODEND: the selector of its frame, and its offset. `is_wide`: the MODEND is of type 8BH.
-fn named_start(placement: &Placement, is_wide: bool, reference: &PlainReference) -> (u16, u32)
-    requires { HasStart placement.now (modend_type is_wide) reference.now }
-    ensures { result ∷ [] ≡ start_at placement.now reference.now (start_offset placement.now (modend_type is_wide) reference.now) }
-{
-    let frame = frame_of(placement, 0, reference);
-    match start_offset(placement, is_wide, reference) {
-        Ok(offset) => (frame.selector, offset),
-        Err(_) => unreachable!(),
-    }
-}
 
 /// Sets the threads of a FIXUPP; other records set none.
 fn set_threads(threads: &mut Threads, rec: &Rec<'_>)
@@ -68,14 +54,15 @@ pub fn start(module: &Checked, placement: &Placement) -> Option<(u16, u32)>
     ensures { result ≡ start placement.now (recs_of «module».now.bytes) }
 {
     let end = module.end();
-    let Rec::ModEnd { wide, start, .. } = &end else {
+    let Rec::ModEnd { width, start, .. } = &end else {
         return None;
     };
     match start {
         Some(reference) => {
             let threads = threads_of(module, reference);
             let plain = plain_reference(&threads, reference);
-            Some(named_start(placement, *wide, &plain))
+            let start = start_outcome(placement, *width, &plain).ok()?;
+            Some((start.selector, start.offset))
         }
         None => None,
     }

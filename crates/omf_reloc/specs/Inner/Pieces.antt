@@ -1,11 +1,11 @@
 -- The pieces of a module in order, one fixup at a time and each at its place, as an iterator gives them that keeps the threads in force.
 use Rattle.std.specs.Prelude.{ℕ, List, [], ◌∷◌, ◌++◌, map, flat_map, filter_map, Option, Some, None, option_map, IsSome, ⊤}
 use Rattle.omf_frame.specs.declared.fault.Place.{Place}
-use Rattle.omf_records.specs.Values.{At, Rec, alone, Contents, Fixups, ModEnd, Subrecord, Thread, Fixup, Reference}
+use Rattle.omf_records.specs.Values.{At, Rec, Contents, Fixups, ModEnd, Subrecord, Thread, Fixup, Reference}
 use Rattle.omf_check.specs.Inner.Judging.{frame_cell, target_cell}
 use Rattle.omf_check.specs.Inner.Kept.{no_threads, set_thread, set_threads}
 use Rattle.omf_check.specs.declared.threads.Threads.{Threads}
-use Rattle.omf_reloc.specs.Plain.{Piece, Kept, Fixed, End, pieces, end_byte}
+use Rattle.omf_reloc.specs.Plain.{Piece, Kept, Fixed, End, pieces}
 use Rattle.omf_reloc.specs.Inner.Walking.{plain_by, plain_fixup_by, threads_after}
 
 -- The pieces of a module, each fixup a piece of its own.
@@ -44,8 +44,8 @@ end_at at (Some r) = record at { within = r.fix.within }
 -- The steps of each record. A FIXUPP gives only the steps of its subrecords.
 abbrev pub contents_steps : Threads → Place → ℕ → Contents → List (Option (Place × Piece))
 contents_steps threads at kind (Fixups subs) = None ∷ subrecord_steps threads at kind subs
-contents_steps threads at kind (ModEnd byte start) = Some (end_at at start, End kind (end_byte byte) (option_map (plain_by threads) start)) ∷ []
-contents_steps threads at kind c = Some (at, Kept (alone (record { kind = kind; contents = c }))) ∷ []
+contents_steps threads at kind (ModEnd byte start) = Some (end_at at start, End kind byte (option_map (plain_by threads) start)) ∷ []
+contents_steps threads at kind c = Some (at, Kept (record { kind = kind; contents = c })) ∷ []
 
 abbrev pub steps_from : Threads → List (Place × Rec) → List (Option (Place × Piece))
 steps_from threads [] = []

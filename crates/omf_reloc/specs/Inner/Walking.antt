@@ -10,11 +10,10 @@ use Rattle.omf_check.specs.Inner.Judging.{frame_cell, target_cell}
 use Rattle.omf_check.specs.Inner.Kept.{set_threads}
 use Rattle.omf_check.specs.Threads.{PlainReference}
 use Rattle.omf_check.specs.declared.method.FrameMethod.TheVariants.{Target as F5}
-use Rattle.omf_check.specs.declared.method.TargetMethod.TheVariants.{Segment as T0}
+use Rattle.omf_check.specs.Threads.{T0}
 use Rattle.omf_check.specs.declared.threads.Threads.{Threads}
 use Rattle.omf_reloc.specs.Image.{added}
-use Rattle.omf_reloc.specs.Offsets.{outcome_at, start_offset}
-use Rattle.omf_reloc.specs.Placed.{HasPlaces}
+use Rattle.omf_reloc.specs.Offsets.{outcome_at}
 use Rattle.omf_placement.specs.Placement.{Places}
 use Rattle.omf_reloc.specs.Plain.{Piece, Kept, Fixed, End, PlainFixup}
 
@@ -109,8 +108,3 @@ CanTake (End kind byte start) l = ⊤
 pub record CanWalk (p : Piece) (w : Walk) : Type 0 where
   pub offsets : IfSome w.open_data HasOffsets
   pub piece : CanTake p w.open_data
-
--- A start has an address: the placement has the entries that it names, and it reaches.
-pub record HasStart (pl : Places) (kind : ℕ) (r : PlainReference) : Type 0 where
-  pub places : HasPlaces pl 0 r
-  pub reaches : IsOk (start_offset pl kind r)

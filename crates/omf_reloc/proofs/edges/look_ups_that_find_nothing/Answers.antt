@@ -3,8 +3,5 @@ use Rattle.std.proofs.lemmas.Bool.{false≢true}
 use Rattle.omf_reloc.specs.Modules.{data_in_7, fixup_by_7}
 use Rattle.omf_reloc.proofs.edges.look_ups_that_find_nothing.Goals as goal
 
-pub returns-clause-not_found : goal.returns-clause-not_found
-returns-clause-not_found c = λ h. false≢true (h.data_records [] (fixup_by_7 ∷ []) data_in_7 _ refl refl)
-
 pub returns-clause-not_held : goal.returns-clause-not_held
 returns-clause-not_held c = λ limits h. false≢true (h.each [] (fixup_by_7 ∷ []) data_in_7 refl).segment

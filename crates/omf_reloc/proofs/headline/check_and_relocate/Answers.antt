@@ -1,6 +1,6 @@
-use Rattle.std.proofs.Common.{refl}
+use Rattle.std.proofs.Common.{sym}
 use Rattle.omf_check.specs.Module.{records_in}
-use Rattle.omf_reloc.proofs.HeadlineLaws.{begins, refuses_so, never}
+use Rattle.omf_reloc.proofs.HeadlineLaws.{begins, refuses_so}
 use Rattle.omf_reloc.proofs.headline.check_and_relocate.Goals as goal
 
 pub returns-in-Err-Refused-clause-headline : goal.returns-in-Err-Refused-clause-headline
@@ -10,22 +10,12 @@ returns-in-Err-Refused-clause-headline g c =
 
 pub returns-in-Err-clause-headline : goal.returns-in-Err-clause-headline
 returns-in-Err-clause-headline g c =
-    λ input e. (
-      records_in c.in-Ok.module.bytes,
-      begins c.args.profile input c.in-Ok.module (c.in-Ok.ensures.verdict input e),
-      λ r. never (c.in-Err.ensures.reaches.1 r),
-      c.in-Err.ensures.err,
-    )
+    λ input e. (records_in c.in-Ok.module.bytes, begins c.args.profile input c.in-Ok.module (c.in-Ok.ensures.verdict input e), sym c.in-Err.ensures)
 
 pub returns-clause-headline : goal.returns-clause-headline
 returns-clause-headline g c =
     λ input e. (
       records_in c.in-Ok.module.bytes,
       begins c.args.profile input c.in-Ok.module (c.in-Ok.ensures.verdict input e),
-      record {
-        reaches = c.in_default.ensures.reaches.0 refl;
-        bytes = c.in-Ok-relocate.ensures.bytes;
-        begins = c.start-start.ensures;
-        inside = c.in-Ok-relocate.ensures.inside;
-      },
+      record { reaches = sym c.in_default.ensures; bytes = c.in-Ok-relocate.ensures.bytes; begins = c.start-start.ensures },
     )

@@ -1,20 +1,14 @@
-use Rattle.std.proofs.Common.{◌∙◌, refl, sym, subst, None, Some}
+use Rattle.std.proofs.Common.{◌∙◌, sym, subst, None, Some}
 use Rattle.std.specs.Prelude.{slice_get}
 use Rattle.omf_check.specs.Module.{records_in}
 use Rattle.omf_check.specs.WellFormed.{recs}
 use Rattle.omf_reloc.specs.Inner.ReachSteps.{IsFirstFar}
 use Rattle.omf_reloc.specs.Reach.{far_faults}
-use Rattle.omf_reloc.proofs.ReachedLaws.{far-behind, fitting-entries, reached}
+use Rattle.omf_reloc.proofs.ReachedLaws.{far-behind}
 use Rattle.omf_reloc.proofs.reached.reach_and_relocate.Goals as goal
 
-pub walked-requires : goal.walked-requires
-walked-requires c = fitting-entries c.args.placement.now (recs (records_in c.args.module.now.bytes)) (sym c.in_default.is ∙ c.misfit.ensures)
-
-pub returns-in-Ok-clause-ok : goal.returns-in-Ok-clause-ok
-returns-in-Ok-clause-ok c = far-behind c.args.placement.now (recs (records_in c.args.module.now.bytes)) None (sym c.in_default.is ∙ c.misfit.ensures) (sym c.in-Ok.ensures.reaches)
-
 pub returns-in-Ok-clause-reaches : goal.returns-in-Ok-clause-reaches
-returns-in-Ok-clause-reaches c = (reached c.args.placement.now (recs (records_in c.args.module.now.bytes)) (returns-in-Ok-clause-ok c)).0 refl
+returns-in-Ok-clause-reaches c = far-behind c.args.placement.now (recs (records_in c.args.module.now.bytes)) None (sym c.in_default.is ∙ c.misfit.ensures) (sym c.in-Ok.ensures.reaches)
 
 pub returns-in-Err-Reach-clause-err : goal.returns-in-Err-Reach-clause-err
 returns-in-Err-Reach-clause-err c =

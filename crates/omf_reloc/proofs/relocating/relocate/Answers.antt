@@ -8,7 +8,6 @@ use Rattle.omf_reloc.specs.Image.{laid}
 use Rattle.omf_reloc.specs.Inner.ReachSteps.{IsFirstFar}
 use Rattle.omf_reloc.specs.Plain.{pieces}
 use Rattle.omf_reloc.specs.Reach.{far_faults}
-use Rattle.omf_reloc.proofs.InsideLaws.{all-inside}
 use Rattle.omf_reloc.proofs.ReachedLaws.{reached-not-far}
 use Rattle.omf_reloc.proofs.relocating.relocate.Goals as goal
 
@@ -23,9 +22,3 @@ returns-in-Ok-clause-bytes c = (images_are (laid profile_limits c.args.placement
 
 pub returns-in-Ok-clause-runs : goal.returns-in-Ok-clause-runs
 returns-in-Ok-clause-runs c = (images_are (laid profile_limits c.args.placement.now (pieces (recs (records_in c.args.module.now.bytes)))) c.in-Ok.image c.in-Ok.ensures.laid).1
-
-pub returns-in-Ok-clause-inside : goal.returns-in-Ok-clause-inside
-returns-in-Ok-clause-inside c = all-inside c.args.placement.now (recs (records_in c.args.module.now.bytes)) c.walked.ensures.holds
-
-pub returns-in-Err-Memory-clause-inside : goal.returns-in-Err-Memory-clause-inside
-returns-in-Err-Memory-clause-inside c = all-inside c.args.placement.now (recs (records_in c.args.module.now.bytes)) c.walked.ensures.holds

@@ -7,10 +7,9 @@ use Rattle.omf_check.specs.Module.{records_in}
 use Rattle.omf_check.specs.WellFormed.{recs}
 use Rattle.omf_reloc.specs.Inner.Measuring.{measured}
 use Rattle.omf_reloc.specs.Inner.PieceSeen.{piece_seen}
-use Rattle.omf_reloc.specs.Inner.ReachSteps.{CanJudgeAll, pieces_far}
+use Rattle.omf_reloc.specs.Inner.ReachSteps.{pieces_far}
 use Rattle.omf_reloc.specs.Inner.Walking.{Walk, open_place}
 use Rattle.omf_reloc.proofs.FarLaws.{without_places, far-walked}
-use Rattle.omf_reloc.proofs.JudgeLaws.{judged-all}
 use Rattle.omf_reloc.proofs.MeasureLaws.{zeros-lost}
 use Rattle.omf_reloc.proofs.WalkedLaws.{IsWalked, first-walk, walk-first, can-walk, go-on, walk-last, has-offsets}
 use Rattle.omf_reloc.proofs.relocating.walked.Goals as goal
@@ -25,14 +24,12 @@ loop-place-init c =
     record {
       walked = walk-first c.new-walk.result.image pl m p.ensures.holds c.new-walk.result (without_places c.into_iter-place-iterator.result)
           (first-walk _ c.new-walk.result c.new-walk.ensures) (ap without_places items ∙ p.ensures.listed);
-      can = subst (λ o. CanJudgeAll pl o (without_places c.into_iter-place-iterator.result)) (sym none)
-          (subst (CanJudgeAll pl None) (sym (ap without_places items ∙ p.ensures.listed)) (judged-all pl profile_limits m p.ensures.holds c.requires));
       same = ap (λ o. slice_get (pieces_far pl o c.into_iter-place-iterator.result) 0) none ∙ ap (λ xs. slice_get (pieces_far pl None xs) 0) items
           ∙ ap (λ fs. slice_get fs 0) (sym (far-walked pl profile_limits m p.ensures.holds p.result p.ensures.listed p.ensures.places));
     }
 
-pub take-requires-clause-walk : goal.take-requires-clause-walk
-take-requires-clause-walk c =
+pub take-requires : goal.take-requires
+take-requires c =
     let pl = c.args.placement.now in
     let m = recs (records_in c.args.module.now.bytes) in
     let w = c.loop-place.walk in

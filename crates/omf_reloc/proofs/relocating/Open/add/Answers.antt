@@ -11,9 +11,9 @@ pub add_to-requires : goal.add_to-requires
 add_to-requires c =
     let l : Laid = c.args.self.now in
     let pl = c.args.placement.now in
-    let kind = fixupp_type c.args.is_wide in
+    let kind = fixupp_type c.args.width in
     let f : PlainFixup = c.args.fixup.now in
     room-for pl l.segment l.offset (length l.bytes) (kind, f) c.in-Ok.additions c.from-position.result (length c.deref_mut.result.now)
-    (c.in-Ok.ensures ∙ ap (λ (x : Laid). outcome_at pl x.segment x.offset (kind, f)) c.self.view_is) c.requires.inside
-    (c.from-position.ensures ∙ c.location_offset.ensures ∙ ap (λ (x : PlainFixup). location_offset x.locat) c.fixup.view_is)
+    (c.in-Ok.ensures ∙ ap (λ (x : Laid). outcome_at pl x.segment x.offset (kind, f)) c.self.view_is) c.requires
+    (c.from-position.ensures ∙ c.offset.ensures ∙ ap (λ (x : PlainFixup). location_offset x.locat) c.fixup.view_is)
     (ap length c.deref_mut.ensures.value ∙ ap (λ (x : Laid). length x.bytes) c.self.view_is)
