@@ -65,10 +65,10 @@ pub thread_gives : (h p : Here) (bytes : List ℕ) (n : ℕ) (r : Result (Subrec
     → GivesFrom (λ (x : Here). x.within) (λ (x : Here). x.bytes.now) (λ (x : Here). x.wide) h.wide r ((subrecord_reader h.wide).read h.within h.bytes.now)
 thread_gives h p bytes n r same some low none is within rest wide g =
     from_gives p.wide h.wide r _ _ wide (
-      ap (λ (m : ℕ). (thread_reader m).read p.within p.bytes.now) is
-      ∙ ap₂ (λ (at : ℕ) (bs : List ℕ). (thread_reader (slice_index bytes 0)).read at bs) within (rest ∙ ap (drop 1) (sym same))
-      ∙ thread_head h.wide h.within bytes some low none
-      ∙ ap (λ (bs : List ℕ). (subrecord_reader h.wide).read h.within bs) same) g
+    ap (λ (m : ℕ). (thread_reader m).read p.within p.bytes.now) is
+    ∙ ap₂ (λ (at : ℕ) (bs : List ℕ). (thread_reader (slice_index bytes 0)).read at bs) within (rest ∙ ap (drop 1) (sym same))
+    ∙ thread_head h.wide h.within bytes some low none
+    ∙ ap (λ (bs : List ℕ). (subrecord_reader h.wide).read h.within bs) same) g
 
 pub fixup_gives : (h p : Here) (bytes : List ℕ) (b c n : ℕ) (r : Result (Subrecord × Here) Fault) → bytes ≡ h.bytes.now → 2 ≤ length bytes
     → 128 ≤ slice_index bytes 0 → b ≡ slice_index bytes 0 → c ≡ slice_index bytes 1 → [] ≡ wrong_location (b * 256 + c) → n ≡ b * 256 + c
@@ -78,7 +78,7 @@ pub fixup_gives : (h p : Here) (bytes : List ℕ) (b c n : ℕ) (r : Result (Sub
 fixup_gives h p bytes b c n r same some high first second none is within rest wide g =
     let number : b * 256 + c ≡ slice_index bytes 0 * 256 + slice_index bytes 1 = ap₂ (λ x y. x * 256 + y) first second in
     from_gives p.wide h.wide r _ _ wide (
-      ap₂ (λ (w : Bool) (m : ℕ). (fixup_reader w m).read p.within p.bytes.now) wide (is ∙ number)
-      ∙ ap₂ (λ (at : ℕ) (bs : List ℕ). (fixup_reader h.wide (slice_index bytes 0 * 256 + slice_index bytes 1)).read at bs) within (rest ∙ ap (drop 2) (sym same))
-      ∙ fixup_head h.wide h.within bytes some high (none ∙ ap wrong_location number)
-      ∙ ap (λ (bs : List ℕ). (subrecord_reader h.wide).read h.within bs) same) g
+    ap₂ (λ (w : Bool) (m : ℕ). (fixup_reader w m).read p.within p.bytes.now) wide (is ∙ number)
+    ∙ ap₂ (λ (at : ℕ) (bs : List ℕ). (fixup_reader h.wide (slice_index bytes 0 * 256 + slice_index bytes 1)).read at bs) within (rest ∙ ap (drop 2) (sym same))
+    ∙ fixup_head h.wide h.within bytes some high (none ∙ ap wrong_location number)
+    ∙ ap (λ (bs : List ℕ). (subrecord_reader h.wide).read h.within bs) same) g
