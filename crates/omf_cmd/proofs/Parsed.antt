@@ -1,13 +1,13 @@
 -- What clap answers on the words of the program.
-use Rattle.std.proofs.Common.{◌≡◌, ℕ, List, [], ◌∷◌, Bool, Option, Some, None, refl, sym, ap, subst, ◌∙◌, codes, true, false, cond, option_map}
-use Rattle.std.specs.Prelude.{option_and_then, Result, Ok, Err, IfOk}
+use Rattle.std.proofs.Common.{◌≡◌, ◌<◌, ◌+◌, ℕ, zero, suc, List, [], ◌∷◌, Bool, Option, Some, None, refl, sym, ap, subst, ◌∙◌, codes, true, false, cond, option_map, map, drop, get_or, arith}
+use Rattle.std.specs.Prelude.{option_and_then, find, fold, Result, Ok, Err, IfOk}
 use Rattle.std.specs.Str.{bytes_eq}
 use Rattle.std.proofs.lemmas.Slice.Eq.{bytes_eq-Decides}
 use Rattle.clap.specs.Words.{App, Text, Row, fault_of, is_simple_and_free, one_of, subcommand_of}
 use Rattle.clap.specs.declared.parser.matches.ArgMatches.{ArgMatches}
 use Rattle.clap.proofs.OnLiterals.{clap_on_literals}
 use Rattle.omf_cmd.specs.Parsed.{IsParse, IsParsed}
-use Rattle.omf_cmd.specs.Words.{asks, flag, flag_id, flag_text, job_named, omf_app, profile_of}
+use Rattle.omf_cmd.specs.Words.{asks, flag, flag_id, flag_text, job_name, job_named, jobs, omf_app, profile_of, with_flagged}
 use Rattle.omf_cmd.specs.declared.words.Job.{Job}
 use Rattle.omf_cmd.specs.declared.words.Job.TheVariants as job
 use Rattle.omf_check.specs.declared.profile.Profile.{Profile}
@@ -60,17 +60,17 @@ canon_is = record { alone = λ p. (record { named = refl; set = refl }, refl); f
 
 -- ---- the words that are asked for
 
--- a name that stands for a job is understood
-first_name : (b : Bool) (name own : Text) (j k : Job) (others : Option (List ℕ × Job)) → (b ≡ true → name ≡ own) → IsUnderstood own → (option_map (λ (s : List ℕ × Job). s.1) others ≡ Some j → IsUnderstood name) → option_map (λ (s : List ℕ × Job). s.1) (cond b (Some (own, k)) others) ≡ Some j → IsUnderstood name
-first_name true name own j k others is understood later e = subst IsUnderstood (sym (is refl)) understood
-first_name false name own j k others is understood later e = later e
+-- the name of a job is understood
+first_name : (b : Bool) (name : Text) (j k : Job) (others : Option Job) → (b ≡ true → name ≡ job_name k) → IsUnderstood (job_name k) → (others ≡ Some j → IsUnderstood name) → cond b (Some k) others ≡ Some j → IsUnderstood name
+first_name true name j k others is understood later e = subst IsUnderstood (sym (is refl)) understood
+first_name false name j k others is understood later e = later e
 
 pub understood : (name : Text) (j : Job) → job_named name ≡ Some j → IsUnderstood name
 understood name j e =
-    first_name (bytes_eq name (codes "list")) name (codes "list") j job.List _ (bytes_eq-Decides name (codes "list")).0 list_is
-    (first_name (bytes_eq name (codes "check")) name (codes "check") j job.Check _ (bytes_eq-Decides name (codes "check")).0 check_is
-    (first_name (bytes_eq name (codes "reloc")) name (codes "reloc") j job.Reloc _ (bytes_eq-Decides name (codes "reloc")).0 reloc_is
-    (first_name (bytes_eq name (codes "canon")) name (codes "canon") j job.Canon None (bytes_eq-Decides name (codes "canon")).0 canon_is (λ none. absurd cc))))
+    first_name (bytes_eq name (job_name job.List)) name j job.List _ (bytes_eq-Decides name (job_name job.List)).0 list_is
+    (first_name (bytes_eq name (job_name job.Check)) name j job.Check _ (bytes_eq-Decides name (job_name job.Check)).0 check_is
+    (first_name (bytes_eq name (job_name job.Reloc)) name j job.Reloc _ (bytes_eq-Decides name (job_name job.Reloc)).0 reloc_is
+    (first_name (bytes_eq name (job_name job.Canon)) name j job.Canon None (bytes_eq-Decides name (job_name job.Canon)).0 canon_is (λ none. absurd cc))))
     e
 
 map_some : (o : Option Job) (refuses : Bool) (asked : Job × Profile) → option_map (λ j. (j, profile_of refuses)) o ≡ Some asked → (j : Job) × (o ≡ Some j) × (asked_of j refuses ≡ Some asked)
@@ -111,6 +111,15 @@ answers (program ∷ name ∷ f ∷ []) asked e = answers_third program name f a
 answers (program ∷ name ∷ f ∷ g ∷ words) asked e = absurd cc
 
 -- ---- the program's command
+
+-- one more subcommand
+pub next_job : (i : ℕ) (other : Job) (app next : App) → i < 4 → next ≡ with_flagged app (job_name (get_or jobs i other)) → fold with_flagged app (map job_name (drop i jobs)) ≡ omf_app
+    → fold with_flagged next (map job_name (drop (i + 1) jobs)) ≡ omf_app
+next_job zero other app next low e h = rw e h
+next_job (suc zero) other app next low e h = rw e h
+next_job (suc (suc zero)) other app next low e h = rw e h
+next_job (suc (suc (suc zero))) other app next low e h = rw e h
+next_job (suc (suc (suc (suc i)))) other app next low e h = absurd (omega arith)
 
 -- what a command makes of words, where its definition is known
 pub parse_of : (app own : App) (words : List Text) (found other : Option ArgMatches) → own ≡ app → is_simple_and_free app ≡ true → (is_simple_and_free own ≡ true → IsParse own words found) → found ≡ other → IsParse app words other

@@ -1,5 +1,5 @@
 -- The arguments of `omf`, and its exit statuses (this profile's rule).
-use Rattle.std.specs.Prelude.{ℕ, List, [], ◌∷◌, ◌++◌, Bool, true, false, Option, Some, None, find, option_map, codes, if◌then◌else◌}
+use Rattle.std.specs.Prelude.{ℕ, List, [], ◌∷◌, ◌++◌, Bool, true, false, Option, Some, None, find, option_map, fold, map, codes, if◌then◌else◌}
 use Rattle.std.specs.Str.{bytes_eq}
 use Rattle.omf_check.specs.declared.profile.Profile.{Profile}
 use Rattle.omf_cmd.specs.declared.fault.RunFault.{RunFault}
@@ -9,13 +9,20 @@ use Rattle.omf_cmd.specs.declared.words.Job.TheVariants as job
 use Rattle.clap.specs.Words.{App, Rule, Text, new_app, new_rule, with_rule, with_subcommand}
 use Rattle.clap.specs.declared.builder.ArgAction.TheVariants.{SetTrue}
 
--- The subcommands, and the flag that may follow one.
-abbrev pub subcommands : List (List ℕ × Job)
-subcommands = (codes "list", job.List) ∷ (codes "check", job.Check) ∷ (codes "reloc", job.Reloc) ∷ (codes "canon", job.Canon) ∷ []
+-- The jobs, in the order of the usage line, and the names of their subcommands.
+abbrev pub jobs : List Job
+jobs = job.List ∷ job.Check ∷ job.Reloc ∷ job.Canon ∷ []
+
+abbrev pub job_name : Job → List ℕ
+job_name job.List = codes "list"
+job_name job.Check = codes "check"
+job_name job.Reloc = codes "reloc"
+job_name job.Canon = codes "canon"
 
 abbrev pub job_named : List ℕ → Option Job
-job_named name = option_map (λ s. s.1) (find (λ s. bytes_eq name s.0) subcommands)
+job_named name = find (λ j. bytes_eq name (job_name j)) jobs
 
+-- The flag that may follow a subcommand.
 abbrev pub flag : List ℕ
 flag = codes "--refuse-vendor-comments"
 
@@ -44,15 +51,15 @@ abbrev pub flag_text : Bool → Text
 flag_text true = codes "true"
 flag_text false = codes "false"
 
--- The command line of `omf` in clap's definitions: its subcommands, each with the flag.
+-- The command line of `omf` in clap's definitions: a subcommand for each job, which has the flag.
 abbrev pub flag_id : Text
 flag_id = codes "refuse-vendor-comments"
 
 abbrev pub flag_rule : Rule
 flag_rule = record (new_rule flag_id) { long = Some flag_id; action = Some SetTrue }
 
-abbrev pub with_flag : Text → App
-with_flag name = with_rule (new_app name) flag_rule
+abbrev pub with_flagged : App → Text → App
+with_flagged app name = with_subcommand app (with_rule (new_app name) flag_rule).top
 
 abbrev pub omf_app : App
-omf_app = with_subcommand (with_subcommand (with_subcommand (with_subcommand (new_app (codes "omf")) (with_flag (codes "list")).top) (with_flag (codes "check")).top) (with_flag (codes "reloc")).top) (with_flag (codes "canon")).top
+omf_app = fold with_flagged (new_app (codes "omf")) (map job_name jobs)

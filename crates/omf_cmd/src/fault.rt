@@ -12,22 +12,18 @@ use omf_check::CheckFault;
 use omf_frame::{Place, Reason, Sink};
 use omf_reloc::{ReachFault, RelocateFault, TextFault};
 use std::alloc::{AllocError, AllocFailed};
-use thiserror::Error;
+use std::fmt;
 
 /// Why a run of `omf` fails, with the number of each.
-#[derive(Clone, Copy, Debug, PartialEq, Eq, Error)]
+#[derive(Clone, Copy, Debug, PartialEq, Eq)]
 pub enum RunFault {
     /// 1: memory ran out.
-    #[error("memory ran out")]
     Memory,
     /// 2: the reader failed, or was interrupted 1,000 times in a row.
-    #[error("the input could not be read")]
     Read,
     /// 3: the writer failed, or took nothing.
-    #[error("the output could not be written")]
     Write,
     /// 4: the input does not begin with a well-formed module.
-    #[error("the input does not begin with a well-formed module")]
     Refused {
         /// What is wrong with the first faulty record.
         reason: Reason,
@@ -36,15 +32,36 @@ pub enum RunFault {
     },
     /// 5: the line of this number, from 1, of the placement text is neither empty nor an entry; or, if all lines are, it is the first `G real`
     /// line whose group has no frame.
-    #[error("a line of the placement gives no entry")]
     Line(u64),
     /// 6: the placement text has more than 4,194,304 bytes.
-    #[error("the placement has more than 4,194,304 bytes")]
     TooLong,
     /// 7: the placement does not fit the module, or a fixup or the start is out of range.
-    #[error("the placement does not reach")]
     Reach(ReachFault),
 }
+
+impl RunFault {
+    /// What the fault means, in a sentence without a period.
+    fn sentence(&self) -> &'static str {
+        match self {
+            RunFault::Memory => "memory ran out",
+            RunFault::Read => "the input could not be read",
+            RunFault::Write => "the output could not be written",
+            RunFault::Refused { .. } => "the input does not begin with a well-formed module",
+            RunFault::Line(_) => "a line of the placement gives no entry",
+            RunFault::TooLong => "the placement has more than 4,194,304 bytes",
+            RunFault::Reach(_) => "the placement does not reach",
+        }
+    }
+}
+
+/// What the fault means.
+impl fmt::Display for RunFault {
+    fn fmt<W: fmt::Write>(&self, f: &mut fmt::Formatter<W>) -> fmt::Result {
+        f.write_str(self.sentence())
+    }
+}
+
+impl std::error::Error for RunFault {}
 
 impl From<AllocError> for RunFault {
     ghost from_gives = { λ _ e. e ≡ Memory };
@@ -110,10 +127,8 @@ impl Fault for RunFault {
     fn status(&self) -> u8 {
         match self {
             RunFault::Memory | RunFault::Read | RunFault::Write => 3,
-            RunFault::Refused { .. } => 1,
-            RunFault::Line(_) => 1,
-            RunFault::TooLong => 1,
-            RunFault::Reach(_) => 1,
+            RunFault::Refused { .. } | RunFault::Line(_) | RunFault::TooLong | RunFault::Reach(_) =>
+                1,
         }
     }
 

@@ -1,9 +1,8 @@
 //! The arguments of `omf`.
 
 ghost use Rattle.std.specs.Prelude.{◌≡◌, ◌⊎◌, ℕ, List, [], map, string_bytes, IfOk, Bool, true, false, Some, None};
-ghost use Rattle.omf_cmd.specs.Words.{asks, flag_rule, job_named, omf_app, profile_of, with_flag};
+ghost use Rattle.omf_cmd.specs.Words.{asks, flag_rule, job_name, job_named, omf_app, profile_of, with_flagged};
 ghost use Rattle.clap.specs.Words.{app_of, fault_of, is_simple_and_free, rule_of, subcommand_of, subcommand_rows_of};
-ghost use Rattle.clap.specs.declared.builder.command.Command.{out-Command};
 ghost use Rattle.omf_cmd.specs.Parsed.{IsParse, IsParsed};
 
 use clap::error::ErrorKind;
@@ -22,6 +21,23 @@ pub enum Job {
     Reloc,
     /// Write a module's canonical bytes.
     Canon,
+}
+
+impl Job {
+    /// All jobs, in the order of the usage line.
+    const ALL: [Job; 4] = [Job::List, Job::Check, Job::Reloc, Job::Canon];
+
+    /// The name of the job's subcommand.
+    fn name(self) -> &'static str
+        ensures { result.now ≡ job_name self }
+    {
+        match self {
+            Job::List => "list",
+            Job::Check => "check",
+            Job::Reloc => "reloc",
+            Job::Canon => "canon",
+        }
+    }
 }
 
 /// The job that the arguments ask for, the program's own name first, and its profile; None if they are not understood.
@@ -61,28 +77,34 @@ pub fn read_words<'a>(
 {
     match command.try_get_matches_from(words) {
         Ok(matches) => Ok(Some(matches)),
-        Err(error) if error.kind() == ErrorKind::OutOfMemory => Err(AllocError),
-        Err(_) => Ok(None),
+        Err(error) => match error.kind() {
+            ErrorKind::OutOfMemory => Err(AllocError),
+            _ => Ok(None),
+        },
     }
 }
 
-/// A subcommand that has the flag and nothing else.
-fn subcommand<'a>(alloc: Global, name: &'a str) -> Result<Command<'a>, AllocError>
-    ensures app { IfOk result (λ c. app_of c ≡ with_flag name.now) }
-    ensures own { IfOk result (λ c. (out-Command c).has_globals ≡ false) }
+/// Adds a subcommand that has the flag and nothing else.
+fn with_subcommand<'a>(
+    alloc: Global,
+    omf: Command<'a>,
+    name: &'a str,
+) -> Result<Command<'a>, AllocError>
+    ensures { IfOk result (λ c. app_of c ≡ with_flagged (app_of omf.entry) name.now) }
 {
-    Command::new(alloc, name).arg(flag(alloc))
+    let subcommand = Command::new(alloc, name).arg(flag(alloc))?;
+    omf.subcommand(subcommand)
 }
 
-/// The command line of `omf`: its subcommands, each with the flag and nothing else.
+/// The command line of `omf`: the subcommand of each job.
 fn program<'a>(alloc: Global) -> Result<Command<'a>, AllocError>
     ensures { IfOk result (λ c. app_of c ≡ omf_app) }
 {
-    let omf = Command::new(alloc, "omf");
-    let omf = omf.subcommand(subcommand(alloc, "list")?)?;
-    let omf = omf.subcommand(subcommand(alloc, "check")?)?;
-    let omf = omf.subcommand(subcommand(alloc, "reloc")?)?;
-    omf.subcommand(subcommand(alloc, "canon")?)
+    let mut omf = Command::new(alloc, "omf");
+    for job in Job::ALL {
+        omf = with_subcommand(alloc, omf, job.name())?;
+    }
+    Ok(omf)
 }
 
 /// The flag that refuses comments of vendor classes.
@@ -99,13 +121,12 @@ fn flag<'a>(alloc: Global) -> Arg<'a>
 fn job_named(name: &str) -> Option<Job>
     ensures { result ≡ job_named name.now }
 {
-    match name {
-        "list" => Some(Job::List),
-        "check" => Some(Job::Check),
-        "reloc" => Some(Job::Reloc),
-        "canon" => Some(Job::Canon),
-        _ => None,
+    for job in Job::ALL {
+        if name == job.name() {
+            return Some(job);
+        }
     }
+    None
 }
 
 /// The job of the parsed subcommand, and the profile of its flag.
