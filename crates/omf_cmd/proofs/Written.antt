@@ -1,15 +1,18 @@
 -- Texts that are written in pieces.
 use Rattle.std.proofs.Common.{◌≡◌, ℕ, ◌≤◌, List, [], ◌∷◌, ◌++◌, Result, Ok, Err, refl, sym, ap, subst, ◌∙◌, append_assoc, arith, inl, inr, suc, ◌+◌, ◌<◌, length, drop, get_or, map, take, zero, ◌-◌}
 use Rattle.std.proofs.KnownBytes.{Appends-nil, Appends-trans}
-use Rattle.std.proofs.lemmas.List.{append-nil, drop_all}
+use Rattle.std.proofs.lemmas.List.{append-nil, drop_all, take_all}
 use Rattle.std.proofs.Math.Seq.{drop-cons}
 use Rattle.std.specs.Result.{IsErr, IsErrAnd}
 use Rattle.std.specs.Io.KnownBytes.{Appends}
 use Rattle.std.specs.Prelude.{Option, flat_map}
 use Rattle.omf_frame.specs.Device.{Device}
 use Rattle.omf_placement.specs.Entries.{in_words}
+use Rattle.omf_cmd.specs.FaultLine.{fault_text, fault_words}
 use Rattle.omf_cmd.specs.Printed.{line, spaced}
 use Rattle.omf_cmd.specs.Runs.{IsUnbroken, IsWritten, PrintsOr}
+use Rattle.omf_cmd.specs.declared.fault.RunFault.{RunFault}
+use Rattle.omf_cmd.specs.declared.fault.RunFault.TheVariants as fault
 use Rattle.omf_cmd.proofs.Pieces.{given_up_later, unbroken_on}
 
 -- ---- texts one after another
@@ -124,3 +127,37 @@ then_text failed old mid new a b h (inr w) = inr (
 -- a part of the first is written
 pub cut_text : {F : Type 0} (failed : F) (old new : Device) (a b : List ℕ) (e : F) → PrintsOr failed old new (Ok a) (Err e) → IsWritten old new (a ++ b)
 cut_text failed old new a b e h = inr (h.1, (h.2.0, h.2.1 ++ b, ap (λ (t : List ℕ). t ++ b) h.2.2 ∙ append_assoc h.2.0 h.2.1 b, h.2.3))
+
+-- the first word, and then each with a space before it
+pub first_word : {A : Type 0} (of : A → List ℕ) (x : A) (xs : List A) → in_words (map of (x ∷ xs)) ≡ of x ++ flat_map (λ y. 32 ∷ of y) xs
+first_word of x [] = sym (append-nil (of x))
+first_word of x (y ∷ xs) = ap (λ (t : List ℕ). of x ++ 32 ∷ t) (first_word of y xs)
+
+-- the words but the last, and the line of the last
+pub begun_line : {A : Type 0} (of : A → List ℕ) (xs : List A) (other : A) (device : Device) → 1 ≤ length xs
+    → IsUpTo device device (line (map of xs)) (flat_map spaced (map of (take (length xs - 1) xs)) ++ line (of (get_or xs (length xs - 1) other) ∷ []))
+begun_line of xs other device some = subst (IsUpTo device device (line (map of xs))) (last_word of xs other some) (begun device (line (map of xs)))
+
+pub next_word : {A : Type 0} (of : A → List ℕ) (xs : List A) (i : ℕ) (other : A) (end : List ℕ) → i < length xs
+    → flat_map spaced (map of (drop i xs)) ++ end ≡ spaced (of (get_or xs i other)) ++ (flat_map spaced (map of (drop (i + 1) xs)) ++ end)
+next_word of xs i other end low = ap (λ (t : List ℕ). t ++ end) (next_mapped spaced of xs i other low) ∙ append_assoc (spaced (of (get_or xs i other))) (flat_map spaced (map of (drop (i + 1) xs))) end
+
+pub no_word : {A : Type 0} (of : A → List ℕ) (xs : List A) (i : ℕ) (end : List ℕ) → length xs ≤ i → flat_map spaced (map of (drop i xs)) ++ end ≡ end
+no_word of xs i end le = ap (λ ys. flat_map spaced (map of ys) ++ end) (drop_all i xs le)
+
+-- the first word, and each of the others after a space
+pub words_joined : {A : Type 0} (of : A → List ℕ) (xs : List A) (other : A) → 1 ≤ length xs → of (get_or xs 0 other) ++ flat_map (λ y. 32 ∷ of y) (take (length xs - 1) (drop 1 xs)) ≡ in_words (map of xs)
+words_joined of [] other some = absurd (omega (arith, some))
+words_joined of (x ∷ xs) other some = ap (λ ys. of x ++ flat_map (λ y. 32 ∷ of y) ys) (take_all (length (x ∷ xs) - 1) xs (omega arith)) ∙ sym (first_word of x xs)
+
+-- ---- a fault
+
+-- the text of a fault but for that of the writer
+pub printed_text : (f : RunFault) → (f ≡ fault.Write → ⊥) → line (fault_words f) ≡ fault_text f
+printed_text fault.Memory other = refl
+printed_text fault.Read other = refl
+printed_text fault.Write other = absurd (other refl)
+printed_text (fault.Refused why at) other = refl
+printed_text (fault.Line n) other = refl
+printed_text fault.TooLong other = refl
+printed_text (fault.Reach f) other = refl

@@ -1,3 +1,4 @@
+pub mod FaultWords
 pub mod Printing
 pub mod RunLines
 pub mod Standing

@@ -5,8 +5,7 @@ ghost use Rattle.omf_cmd.specs.declared.fault.RunFault.TheVariants.{Memory, Reac
 ghost use Rattle.omf_cmd.specs.Relocating.{of_text, of_relocate};
 ghost use Rattle.omf_cmd.specs.Reports.{of_check, report};
 
-use crate::line::print_words;
-use crate::printed::{print_reach, print_refused, print_text_line};
+use crate::printed::print_fault;
 use crate::program::Fault;
 use omf_check::CheckFault;
 use omf_frame::{Place, Reason, Sink};
@@ -133,14 +132,8 @@ impl Fault for RunFault {
     }
 
     fn print<K: Sink>(&self, writer: &mut K) {
-        match *self {
-            RunFault::Memory => print_words(writer, &["memory"]),
-            RunFault::Read => print_words(writer, &["read"]),
-            RunFault::Write => {}
-            RunFault::Refused { reason, place } => print_refused(writer, reason, place),
-            RunFault::Line(number) => print_text_line(writer, number),
-            RunFault::TooLong => print_words(writer, &["placement", "too", "long"]),
-            RunFault::Reach(fault) => print_reach(writer, fault),
+        if !matches!(self, RunFault::Write) {
+            print_fault(writer, self);
         }
     }
 }

@@ -13,7 +13,7 @@ use crate::printing::is_plain;
 use omf_frame::Sink;
 
 /// Writes a word and the bytes after it.
-fn write_word<K: Sink>(writer: &mut K, word: &str, after: &[u8]) -> Result<(), RunFault>
+pub(crate) fn write_word<K: Sink>(writer: &mut K, word: &str, after: &[u8]) -> Result<(), RunFault>
     ensures { PrintsOr Write (K.seen writer.old) (K.seen writer.new) (Ok (word.now ++ after.now)) result }
 {
     print_all(writer, word.as_bytes(), RunFault::Write)?;

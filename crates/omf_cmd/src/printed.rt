@@ -1,18 +1,21 @@
 //! The line printed for a fault: as a string, and written word by word.
 
-ghost use Rattle.std.specs.Prelude.{◌≡◌, ◌++◌, IfOk, string_bytes};
+ghost use Rattle.std.specs.Prelude.{◌≡◌, ◌≤◌, ◌++◌, IfOk, Ok, length, map, string_bytes};
+ghost use Rattle.omf_frame.specs.Bytes.{AddsText};
 ghost use Rattle.omf_cmd.specs.FaultLine.{reason_name, kind_name, cause_name, fault_line, fault_words};
+ghost use Rattle.omf_cmd.specs.Inner.FaultWords.{word_text};
 ghost use Rattle.omf_cmd.specs.Printed.{line};
-ghost use Rattle.omf_cmd.specs.Runs.{IsWritten};
-ghost use Rattle.omf_cmd.specs.declared.fault.RunFault.TheVariants.{Line, Refused, Reach};
-ghost use Rattle.omf_reloc.specs.declared.fault.ReachFault.TheVariants.{TooFar};
+ghost use Rattle.omf_cmd.specs.Runs.{IsWritten, PrintsOr};
+ghost use Rattle.omf_cmd.specs.declared.fault.RunFault.TheVariants.{Reach, Write};
 
 use crate::fault::RunFault;
-use crate::line::print_words;
+use crate::line::write_word;
+use crate::output::print_all;
 use itoa::Buffer;
-use omf_frame::{Place, Reason, Sink};
+use omf_frame::{Reason, Sink};
 use omf_reloc::{Cause, Kind, ReachFault};
 use std::alloc::{AllocError, Global};
+use std::marker::Model;
 
 /// The name of a reason.
 fn reason_name(reason: Reason) -> &'static str
@@ -77,129 +80,184 @@ fn cause_name(cause: Cause) -> &'static str
     }
 }
 
-/// The line of a refused module.
-fn refused_line(alloc: Global, reason: Reason, place: Place) -> Result<String, AllocError>
-    ensures { IfOk result (λ line. string_bytes line ≡ fault_line (Refused reason place)) }
-{
-    let number = reason.number();
-    let name = reason_name(reason);
-    let record = place.number;
-    let start = place.start;
-    let within = place.within;
-    format!(in alloc; "refused {number} {name} record {record} at {start} within {within}")
+/// The most words of a fault's line.
+const MOST: usize = 9;
+
+/// A word of a fault's line: a text, or a number in decimal.
+#[derive(Clone, Copy)]
+pub(crate) enum Word {
+    Text(&'static str),
+    Number(u64),
 }
 
-/// The line of a placement that does not fit, or of a fixup out of range.
-fn reach_line(alloc: Global, fault: ReachFault) -> Result<String, AllocError>
-    ensures { IfOk result (λ line. string_bytes line ≡ fault_line (Reach fault)) }
+/// The words of a fault's line. Contracts see them as texts.
+#[derive(Drop)]
+struct Words {
+    words: [Word; MOST],
+    count: usize,
+}
+
+impl Model for Words {
+    ghost use Rattle.std.specs.Prelude.{ℕ, List, ◌≤◌, map, take};
+    ghost use Rattle.omf_cmd.specs.Inner.FaultWords.{word_text};
+
+    ghost Value = { List (List ℕ) };
+
+    ghost view = { λ w. map word_text (take w.count w.words) };
+
+    ghost invariant = { λ w. w.count ≤ 9 };
+}
+
+impl Words {
+    /// These words.
+    fn of(words: &[Word]) -> Words
+        requires { length words.now ≤ 9 }
+        ensures { result ≡ map word_text words.now }
+    {
+        let mut all = [Word::Text(""); MOST];
+        all[..words.len()].copy_from_slice(words);
+        Words {
+            words: all,
+            count: words.len(),
+        }
+    }
+
+    /// All of them.
+    fn all(&self) -> &[Word]
+        ensures { map word_text result.now ≡ self.now }
+    {
+        &self.words[..self.count]
+    }
+}
+
+/// The words of the line for a placement that does not fit, or for a fixup out of range.
+fn reach_words(fault: ReachFault) -> Words
+    ensures { result ≡ fault_words (Reach fault) }
 {
     match fault {
-        ReachFault::Missing(kind, index) => {
-            let kind = kind_name(kind);
-            format!(in alloc; "reach 1 Missing {kind} {index}")
-        }
-        ReachFault::Extra(kind, index) => {
-            let kind = kind_name(kind);
-            format!(in alloc; "reach 2 Extra {kind} {index}")
-        }
-        ReachFault::Absolute(index) => format!(in alloc; "reach 3 Absolute {index}"),
+        ReachFault::Missing(kind, index) => Words::of(&[
+            Word::Text("reach"),
+            Word::Text("1"),
+            Word::Text("Missing"),
+            Word::Text(kind_name(kind)),
+            Word::Number(u64::from(index)),
+        ]),
+        ReachFault::Extra(kind, index) => Words::of(&[
+            Word::Text("reach"),
+            Word::Text("2"),
+            Word::Text("Extra"),
+            Word::Text(kind_name(kind)),
+            Word::Number(u64::from(index)),
+        ]),
+        ReachFault::Absolute(index) => Words::of(&[
+            Word::Text("reach"),
+            Word::Text("3"),
+            Word::Text("Absolute"),
+            Word::Number(u64::from(index)),
+        ]),
         ReachFault::TooFar {
             number,
             within,
             cause,
-        } => {
-            let cause = cause_name(cause);
-            format!(in alloc; "reach 4 TooFar {cause} record {number} within {within}")
-        }
+        } => Words::of(&[
+            Word::Text("reach"),
+            Word::Text("4"),
+            Word::Text("TooFar"),
+            Word::Text(cause_name(cause)),
+            Word::Text("record"),
+            Word::Number(u64::from(number)),
+            Word::Text("within"),
+            Word::Number(u64::from(within)),
+        ]),
     }
+}
+
+/// The words of the line for a fault.
+fn words_of(fault: &RunFault) -> Words
+    ensures { result ≡ fault_words fault.now }
+{
+    match *fault {
+        RunFault::Memory => Words::of(&[Word::Text("memory")]),
+        RunFault::Read => Words::of(&[Word::Text("read")]),
+        RunFault::Write => Words::of(&[Word::Text("write")]),
+        RunFault::Refused { reason, place } => Words::of(&[
+            Word::Text("refused"),
+            Word::Number(u64::from(reason.number())),
+            Word::Text(reason_name(reason)),
+            Word::Text("record"),
+            Word::Number(u64::from(place.number)),
+            Word::Text("at"),
+            Word::Number(place.start),
+            Word::Text("within"),
+            Word::Number(u64::from(place.within)),
+        ]),
+        RunFault::Line(number) => Words::of(&[
+            Word::Text("placement"),
+            Word::Text("line"),
+            Word::Number(number),
+        ]),
+        RunFault::TooLong => Words::of(&[
+            Word::Text("placement"),
+            Word::Text("too"),
+            Word::Text("long"),
+        ]),
+        RunFault::Reach(fault) => reach_words(fault),
+    }
+}
+
+/// Appends a word.
+fn push_word(line: &mut String, word: Word) -> Result<(), AllocError>
+    ensures { AddsText result (string_bytes line.old) (string_bytes line.new) (word_text word) }
+{
+    match word {
+        Word::Text(text) => line.push_str(text),
+        Word::Number(number) => line.push_str(Buffer::new().format(number)),
+    }
+}
+
+/// Writes a word and the bytes after it.
+fn write_piece<K: Sink>(writer: &mut K, word: Word, after: &[u8]) -> Result<(), RunFault>
+    ensures { PrintsOr Write (K.seen writer.old) (K.seen writer.new) (Ok (word_text word ++ after.now)) result }
+{
+    match word {
+        Word::Text(text) => write_word(writer, text, after),
+        Word::Number(number) => write_word(writer, Buffer::new().format(number), after),
+    }
+}
+
+/// Writes a line: words with one space between each two, and a line feed.
+fn write_pieces<K: Sink>(writer: &mut K, words: &[Word]) -> Result<(), RunFault>
+    ensures { PrintsOr Write (K.seen writer.old) (K.seen writer.new) (Ok (line (map word_text words.now))) result }
+{
+    let [front @ .., last] = words else {
+        return print_all(writer, b"\n", RunFault::Write);
+    };
+    for word in front {
+        write_piece(writer, *word, b" ")?;
+    }
+    write_piece(writer, *last, b"\n")
+}
+
+/// Prints the line of a fault, and its line feed. A failing writer is ignored.
+pub(crate) fn print_fault<K: Sink>(writer: &mut K, fault: &RunFault)
+    ensures { IsWritten (K.seen writer.old) (K.seen writer.new) (line (fault_words fault.now)) }
+{
+    let _ = write_pieces(writer, words_of(fault).all());
 }
 
 /// The line printed for a fault, without its line feed. Numbers are decimal.
 pub fn fault_line(alloc: Global, fault: &RunFault) -> Result<String, AllocError>
     ensures { IfOk result (λ line. string_bytes line ≡ fault_line fault.now) }
 {
-    match *fault {
-        RunFault::Memory => String::from_str(alloc, "memory"),
-        RunFault::Read => String::from_str(alloc, "read"),
-        RunFault::Write => String::from_str(alloc, "write"),
-        RunFault::Refused { reason, place } => refused_line(alloc, reason, place),
-        RunFault::Line(number) => format!(in alloc; "placement line {number}"),
-        RunFault::TooLong => String::from_str(alloc, "placement too long"),
-        RunFault::Reach(fault) => reach_line(alloc, fault),
+    let words = words_of(fault);
+    let [first, rest @ ..] = words.all() else {
+        return Ok(String::new(alloc));
+    };
+    let mut line = String::new(alloc);
+    push_word(&mut line, *first)?;
+    for word in rest {
+        line.push_str(" ")?;
+        push_word(&mut line, *word)?;
     }
-}
-
-/// Prints the line of a refused module.
-pub(crate) fn print_refused<K: Sink>(writer: &mut K, reason: Reason, place: Place)
-    ensures { IsWritten (K.seen writer.old) (K.seen writer.new) (line (fault_words (Refused reason place))) }
-{
-    let (mut number, mut record) = (Buffer::new(), Buffer::new());
-    let (mut start, mut within) = (Buffer::new(), Buffer::new());
-    print_words(
-        writer,
-        &[
-            "refused",
-            number.format(reason.number()),
-            reason_name(reason),
-            "record",
-            record.format(place.number),
-            "at",
-            start.format(place.start),
-            "within",
-            within.format(place.within),
-        ],
-    );
-}
-
-/// Prints the line of a line of the placement text that gives no entry.
-pub(crate) fn print_text_line<K: Sink>(writer: &mut K, number: u64)
-    ensures { IsWritten (K.seen writer.old) (K.seen writer.new) (line (fault_words (Line number))) }
-{
-    let mut digits = Buffer::new();
-    print_words(writer, &["placement", "line", digits.format(number)]);
-}
-
-/// Prints the line of a fixup out of range.
-fn print_too_far<K: Sink>(writer: &mut K, number: u32, within: u32, cause: Cause)
-    ensures { IsWritten (K.seen writer.old) (K.seen writer.new) (line (fault_words (Reach (TooFar number within cause)))) }
-{
-    let (mut record, mut place) = (Buffer::new(), Buffer::new());
-    print_words(
-        writer,
-        &[
-            "reach",
-            "4",
-            "TooFar",
-            cause_name(cause),
-            "record",
-            record.format(number),
-            "within",
-            place.format(within),
-        ],
-    );
-}
-
-/// Prints the line of a placement that does not fit, or of a fixup out of range.
-pub(crate) fn print_reach<K: Sink>(writer: &mut K, fault: ReachFault)
-    ensures { IsWritten (K.seen writer.old) (K.seen writer.new) (line (fault_words (Reach fault))) }
-{
-    let mut digits = Buffer::new();
-    match fault {
-        ReachFault::Missing(kind, index) => {
-            let index = digits.format(index);
-            print_words(writer, &["reach", "1", "Missing", kind_name(kind), index]);
-        }
-        ReachFault::Extra(kind, index) => {
-            let index = digits.format(index);
-            print_words(writer, &["reach", "2", "Extra", kind_name(kind), index]);
-        }
-        ReachFault::Absolute(index) => {
-            print_words(writer, &["reach", "3", "Absolute", digits.format(index)]);
-        }
-        ReachFault::TooFar {
-            number,
-            within,
-            cause,
-        } => print_too_far(writer, number, within, cause),
-    }
+    Ok(line)
 }
