@@ -5,10 +5,11 @@ use Rattle.std.specs.List.{cons_option}
 use Rattle.std.proofs.lemmas.List.Elements.{filter_map-append}
 use Rattle.omf_frame.specs.Bytes.{with_before, last}
 use Rattle.omf_records.specs.Values.{At, nowhere, unplaced, Rec, Contents, Header, Comment, Names, Segment, Group, Externs, Publics, Communals, Plain, Iterated, Fixups, ModEnd, Carried, Reference, Subrecord, Thread, Fixup, frame_by_thread, frame_bits, frame_thread, target_by_thread, target_bits, reference_alone, subrecord_alone, contents_alone, alone}
-use Rattle.omf_check.specs.Threads.{Setting, setting, setting_of, frame_setting, target_setting, frame_from, target_from, PlainReference, plain}
+use Rattle.omf_check.specs.Threads.{Setting, setting, setting_of, frame_setting, target_setting, frame_from, target_from, T0, PlainReference, plain}
 use Rattle.omf_check.specs.declared.method.FrameMethod.TheVariants.{Target as F5}
-use Rattle.omf_check.specs.declared.method.TargetMethod.TheVariants.{Segment as T0}
-use Rattle.omf_reloc.specs.Plain.{Kept, Fixed, End, plain_fixup, end_byte, piece_of}
+use Rattle.omf_reloc.specs.Plain.{Kept, Fixed, End, plain_fixup}
+use Rattle.omf_canon.specs.Skeleton.{end_byte}
+use Rattle.omf_canon.proofs.NormalLaws.{normal_of}
 
 -- Subrecords that set the same.
 abbrev SetTheSame : List Subrecord → List Subrecord → Type 0
@@ -65,7 +66,7 @@ twice-members (x ∷ xs) = ap (λ t. nowhere (unplaced x.item) ∷ t) (twice-mem
 kept : (kind : ℕ) (c d : Contents) → c ≡ d → Kept (record { kind = kind; contents = c }) ≡ Kept (record { kind = kind; contents = d })
 kept kind c d e = ap (λ (x : Contents). Kept (record { kind = kind; contents = x })) e
 
-piece-alone : (earlier : List Subrecord) (kind : ℕ) (c : Contents) → piece_of earlier kind c ≡ piece_of earlier kind (contents_alone c)
+piece-alone : (earlier : List Subrecord) (kind : ℕ) (c : Contents) → normal_of earlier kind c ≡ normal_of earlier kind (contents_alone c)
 piece-alone earlier kind (Fixups subs) = ap (λ x. Fixed kind x) (fixups-alone earlier earlier (λ b k. refl) subs)
 piece-alone earlier kind (ModEnd byte start) = ap (λ x. End kind (end_byte byte) x) (start-alone earlier start)
 piece-alone earlier kind (Header x) = refl
@@ -81,10 +82,10 @@ piece-alone earlier kind (Iterated d) = refl
 piece-alone earlier kind (Carried x) = refl
 
 -- Records that are equal but for their places have one piece.
-pub same-piece : (earlier : List Subrecord) (r s : Rec) → alone r ≡ alone s → piece_of earlier r.kind r.contents ≡ piece_of earlier s.kind s.contents
+pub same-piece : (earlier : List Subrecord) (r s : Rec) → alone r ≡ alone s → normal_of earlier r.kind r.contents ≡ normal_of earlier s.kind s.contents
 same-piece earlier r s e =
     piece-alone earlier r.kind r.contents
-    ∙ ap (λ (x : Rec). piece_of earlier x.kind x.contents) e
+    ∙ ap (λ (x : Rec). normal_of earlier x.kind x.contents) e
     ∙ sym (piece-alone earlier s.kind s.contents)
 
 -- Places that are gone are gone.

@@ -7,10 +7,11 @@ use Rattle.std.proofs.lemmas.List.Sums.{sum_by-cons}
 use Rattle.omf_frame.specs.Bytes.{with_before}
 use Rattle.omf_records.specs.Values.{Rec, Contents, Fixups, Subrecord, Thread, Fixup}
 use Rattle.omf_check.specs.Tables.{items_in, item_count, subrecords}
-use Rattle.omf_reloc.specs.Plain.{Piece, Kept, Fixed, End, PlainFixup, plain_fixup, piece_of, pieces}
+use Rattle.omf_reloc.specs.Plain.{Piece, Kept, Fixed, End, PlainFixup, plain_fixup, pieces}
 use Rattle.omf_canon.specs.Cut.{cut}
 use Rattle.omf_canon.specs.Joined.{cut_piece, cut_pieces, piece_items}
-use Rattle.omf_canon.specs.Skeleton.{join_front, skeleton_of, skeleton}
+use Rattle.omf_canon.proofs.NormalLaws.{normal_of, normal_at, normal-pieces}
+use Rattle.omf_canon.specs.Skeleton.{normal, join_front, skeleton_of, skeleton}
 use Rattle.omf_canon.proofs.CutLaws.{cut-greedy}
 
 -- by recursion
@@ -107,7 +108,7 @@ length-plain_fixups earlier (s ∷ subs) = omega (
   length-append (plain_fixup earlier s) (with_before plain_fixup (earlier ++ s ∷ []) subs),
 )
 
-items-piece : (earlier : List Subrecord) (kind : ℕ) (c : Contents) → piece_items (piece_of earlier kind c) ≤ items_in c
+items-piece : (earlier : List Subrecord) (kind : ℕ) (c : Contents) → piece_items (normal_of earlier kind c) ≤ items_in c
 items-piece earlier kind (Fixups subs) = omega (arith, length-plain_fixups earlier (map (λ s. s.item) subs), length-map {B = Subrecord} subs (λ s. s.item))
 items-piece earlier kind _ = itself 1
 
@@ -119,9 +120,9 @@ counted-sum : (m : List Rec) → item_count m ≡ counted_items m
 counted-sum [] = refl
 counted-sum (r ∷ m) = sum_by-cons (λ (q : Rec). items_in q.contents) r m ∙ ap (λ n. items_in r.contents + n) (counted-sum m)
 
-items-from : (before m : List Rec) → items (with_before (λ done r. piece_of (subrecords done) r.kind r.contents ∷ []) before m) ≤ counted_items m
+items-from : (before m : List Rec) → items (with_before normal_at before m) ≤ counted_items m
 items-from before [] = itself 0
 items-from before (r ∷ m) = add-both _ _ _ _ (items-piece (subrecords before) r.kind r.contents) (items-from (before ++ r ∷ []) m)
 
 pub canonical-items : (m : List Rec) → sum_by piece_items (cut_pieces (skeleton m)) ≤ item_count m
-canonical-items m = rw (items-sum (cut_pieces (skeleton m)), counted-sum m) (through (items-cut (skeleton m)) (through (items-skeleton (pieces m)) (items-from [] m)))
+canonical-items m = rw (items-sum (cut_pieces (skeleton m)), counted-sum m) (through (items-cut (skeleton m)) (through (items-skeleton (map normal (pieces m))) (rw (normal-pieces m) (items-from [] m))))

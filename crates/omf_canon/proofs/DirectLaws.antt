@@ -11,18 +11,18 @@ use Rattle.omf_records.specs.Entries.{is_frame_method}
 use Rattle.omf_records.specs.Shortest.{option_bytes, datum_bytes, subrecord_bytes}
 use Rattle.omf_records.proofs.DirectLaws.{no-reason}
 use Rattle.omf_records.specs.Valued.{IsThere, IsIndexValue, IsReferenceValue, IsSubrecordValue}
-use Rattle.omf_check.specs.Threads.{setting, frame_from, target_from}
+use Rattle.omf_check.specs.Threads.{T0, setting, frame_from, target_from}
 use Rattle.omf_check.specs.declared.method.FrameMethod.{FrameMethod}
-use Rattle.omf_check.specs.declared.method.FrameMethod.TheVariants.{Target as F5}
 use Rattle.omf_check.specs.declared.method.TargetMethod.{TargetMethod}
-use Rattle.omf_check.specs.declared.method.TargetMethod.TheVariants.{Segment as T0}
+use Rattle.omf_check.specs.declared.method.FrameMethod.TheVariants.{Target as F5}
 use Rattle.omf_check.specs.declared.threads.Threads.{Threads}
 use Rattle.omf_check.specs.Inner.Judging.{frame_cell, target_cell}
 use Rattle.omf_check.specs.Inner.Kept.{set_thread}
 use Rattle.omf_reloc.specs.Plain.{Fixed}
 use Rattle.omf_reloc.specs.Inner.Walking.{plain_fixup_by}
 use Rattle.omf_canon.specs.PlainBytes.{fixup_bytes}
-use Rattle.omf_canon.specs.Unthreaded.{frame_code, frame_index, target_code, target_index, fix_byte}
+use Rattle.omf_canon.specs.Unthreaded.{frame_index, fix_byte}
+use Rattle.omf_canon.proofs.UnthreadedLaws.{frame_code, target_code, target_index}
 use Rattle.omf_canon.specs.Inner.Writing.{Held, closed_by, held_with, subrecord_piece, ArePut, IsJoined}
 use Rattle.omf_canon.proofs.TakingLaws.{put-one, on-both, IsTaken, take-value, take-next}
 

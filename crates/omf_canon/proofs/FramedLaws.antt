@@ -15,12 +15,13 @@ use Rattle.omf_check.specs.Laws.{ModulesHold}
 use Rattle.omf_check.specs.Rules.{item_limit}
 use Rattle.omf_check.specs.Tables.{subrecords, item_count}
 use Rattle.omf_check.specs.WellFormed.{recs}
-use Rattle.omf_reloc.specs.Plain.{Piece, Kept, Fixed, End, PlainFixup, piece_of, pieces}
+use Rattle.omf_reloc.specs.Plain.{Piece, Kept, Fixed, End, PlainFixup, pieces}
+use Rattle.omf_canon.proofs.NormalLaws.{normal_of, normal_at, normal_pieces, normal-pieces}
 use Rattle.omf_canon.specs.Canonical.{canonical_raws, canonical_bytes}
 use Rattle.omf_canon.specs.Cut.{cut}
 use Rattle.omf_canon.specs.Joined.{cut_pieces}
 use Rattle.omf_canon.specs.Laws.{CanonicalsAreWellFormed}
-use Rattle.omf_canon.specs.Skeleton.{join_front, skeleton_of, skeleton}
+use Rattle.omf_canon.specs.Skeleton.{join_front, normal, skeleton_of, skeleton}
 use Rattle.omf_canon.proofs.CountLaws.{items, items-sum, canonical-items}
 use Rattle.omf_canon.proofs.PiecesKeptLaws.{PiecesAreKept, kept-skeleton, kept-cut}
 use Rattle.omf_canon.proofs.ResultLaws.{kept-module, items-limited}
@@ -86,15 +87,12 @@ types-framed [] (r ∷ rs) s h = absurd s
 types-framed (p ∷ ps) [] s h = absurd s
 types-framed (p ∷ ps) (r ∷ rs) s h = All-cons HasType r rs (subst (λ k. is_taken k ≡ true) (sym s.0.kind) h.0) (types-framed ps rs s.1 h.1)
 
-kind-piece : (earlier : List Subrecord) (kind : ℕ) (c : Contents) → piece_kind (piece_of earlier kind c) ≡ kind
+kind-piece : (earlier : List Subrecord) (kind : ℕ) (c : Contents) → piece_kind (normal_of earlier kind c) ≡ kind
 kind-piece earlier kind (Fixups subs) = refl
 kind-piece earlier kind (ModEnd byte start) = refl
 kind-piece earlier kind _ = refl
 
-abbrev piece_at : List Rec → Rec → List Piece
-piece_at before r = piece_of (subrecords before) r.kind r.contents ∷ []
-
-taken-pieces : (before : List Rec) (rs : List Raw) → All HasType rs → Each IsTaken (with_before piece_at before (recs rs))
+taken-pieces : (before : List Rec) (rs : List Raw) → All HasType rs → Each IsTaken (with_before normal_at before (recs rs))
 taken-pieces before [] h = tt
 taken-pieces before (r ∷ rs) h = (
   subst (λ k. is_taken k ≡ true) (sym (kind-piece (subrecords before) r.kind (typed r).contents)) (All-head HasType r rs h),
@@ -173,7 +171,7 @@ no-end : (b : Bool) → not b ≡ true → b ≡ false
 no-end true e = absurd (false≢true e)
 no-end false e = refl
 
-closed-pieces : (before : List Rec) (front : List Raw) (end : Raw) → is_end end.kind ≡ true → All IsNoEnd front → Closed (with_before piece_at before (recs (front ++ end ∷ [])))
+closed-pieces : (before : List Rec) (front : List Raw) (end : Raw) → is_end end.kind ≡ true → All IsNoEnd front → Closed (with_before normal_at before (recs (front ++ end ∷ [])))
 closed-pieces before [] end e h = inl (refl, subst (λ k. is_end k ≡ true) (sym (kind-piece (subrecords before) end.kind (typed end).contents)) e)
 closed-pieces before (x ∷ front) end e h = inr (
   subst (λ k. is_end k ≡ false) (sym (kind-piece (subrecords before) x.kind (typed x).contents)) (no-end (is_end x.kind) (All-head IsNoEnd x front h)),
@@ -198,7 +196,7 @@ abbrev Begins : List Piece → Type 0
 Begins (Kept r ∷ ps) = is_header r.kind ≡ true
 Begins _ = ⊥
 
-begins-piece : (earlier : List Subrecord) (kind : ℕ) (c : Contents) (ps : List Piece) → HaveReferenceValues kind c → is_header kind ≡ true → Begins (piece_of earlier kind c ∷ ps)
+begins-piece : (earlier : List Subrecord) (kind : ℕ) (c : Contents) (ps : List Piece) → HaveReferenceValues kind c → is_header kind ≡ true → Begins (normal_of earlier kind c ∷ ps)
 begins-piece earlier kind (Fixups subs) ps h e = both-ways (is_header kind) e (fixupp-no-header kind h.taken)
 begins-piece earlier kind (ModEnd byte start) ps h e = both-ways (is_header kind) e (end-no-header kind h.taken)
 begins-piece earlier kind _ ps h e = e
@@ -209,7 +207,7 @@ begins-canonical (Kept r ∷ ps) h = h
 begins-canonical (Fixed kind fs ∷ ps) h = absurd h
 begins-canonical (End kind byte s ∷ ps) h = absurd h
 
-begins-records : TypedHaveValues → (bytes : List ℕ) (records : List Raw) → IsFramed bytes records → All (λ r. IsSpelt r) records → Begins (pieces (recs records))
+begins-records : TypedHaveValues → (bytes : List ℕ) (records : List Raw) → IsFramed bytes records → All (λ r. IsSpelt r) records → Begins (normal_pieces (recs records))
 begins-records have bytes [] f t = nothing f.last.0 f.last.1 f.last.2
   where
     nothing : (front : List Raw) (end : Raw) → [] ≡ front ++ end ∷ [] → Begins []
@@ -237,19 +235,21 @@ canonical-well-formed once shortest values have placeless holds profile limits b
     let raws = canonical_raws S in
     let short : All (λ r. length r.body + 1 < 65536) records = λ k d lt. (w.framed.each k d lt).0 in
     let all : SpellAll ps raws = canonical-spells once shortest values have placeless records w.spelled short in
-    let writable : Each IsWritable (pieces m) = writable-pieces once shortest values have placeless [] records (λ b k. tt) w.spelled short in
+    let P : List Piece = map normal (pieces m) in
+    let n : normal_pieces m ≡ P = sym (normal-pieces m) in
+    let writable : Each IsWritable P = subst (Each IsWritable) n (writable-pieces once shortest values have placeless [] records (λ b k. tt) w.spelled short) in
     let module_holds = holds profile limits bytes records w in
-    let kept : PiecesAreKept profile limits [] ps = kept-cut profile limits [] S (kept-skeleton profile limits [] (pieces m) (kept-module profile limits bytes records w module_holds)) in
+    let kept : PiecesAreKept profile limits [] ps = kept-cut profile limits [] S (kept-skeleton profile limits [] P (kept-module profile limits bytes records w module_holds)) in
     let limited = items-limited profile limits bytes records w module_holds in
     let few : item_count [] + items ps ≤ item_limit = little _ (items ps) (item_count m) item_limit (items-sum ps) (canonical-items m) limited in
-    let closed : Closed (pieces m) = subst (λ x. Closed (pieces (recs x))) (sym w.framed.last.2) (closed-pieces [] w.framed.last.0 w.framed.last.1 w.framed.last.3 w.framed.last.4) in (
+    let closed : Closed P = subst Closed n (subst (λ x. Closed (normal_pieces (recs x))) (sym w.framed.last.2) (closed-pieces [] w.framed.last.0 w.framed.last.1 w.framed.last.3 w.framed.last.4)) in (
       record {
         framed = record {
           spelled = refl;
           each = records-framed ps raws all;
-          types = types-framed ps raws all (taken-cut S (taken-skeleton (pieces m) (taken-pieces [] records w.framed.types)));
-          first = begins-canonical (pieces m) (begins-records have bytes records w.framed w.spelled);
-          last = closed-records ps raws all (closed-cut S (writable-skeleton (pieces m) writable) (closed-skeleton (pieces m) writable closed));
+          types = types-framed ps raws all (taken-cut S (taken-skeleton P (subst (Each IsTaken) n (taken-pieces [] records w.framed.types))));
+          first = begins-canonical P (subst Begins n (begins-records have bytes records w.framed w.spelled));
+          last = closed-records ps raws all (closed-cut S (writable-skeleton P writable) (closed-skeleton P writable closed));
         };
         spelled = spelled-typed ps raws all;
         blocks = result-trees profile limits [] ps raws all kept;

@@ -1,3 +1,4 @@
+pub mod NormalLaws
 pub mod SkeletonLaws
 pub mod CutLaws
 pub mod ReachLaws

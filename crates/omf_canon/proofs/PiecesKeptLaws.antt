@@ -11,12 +11,13 @@ use Rattle.omf_records.specs.Location.{location_size}
 use Rattle.omf_records.specs.Values.{At, unplaced, Rec, Contents, Header, Comment, Names, Segment, Group, Externs, Publics, Communals, Plain, Iterated, Fixups, ModEnd, Carried, DataItem, Reference, Subrecord, Thread, Fixup, location_type, location_offset, contents_alone, alone}
 use Rattle.omf_check.specs.Rules.{contents_rules}
 use Rattle.omf_check.specs.Sound.{FrameIsDefined, TargetIsDefined, SubrecordHolds, ContentsHold}
-use Rattle.omf_check.specs.Tables.{is_defined, last_data, data_in, defined_names, defined_segments, defined_groups, defined_externals, subrecords}
+use Rattle.omf_check.specs.Tables.{entries, is_defined, last_data, data_in, defined_names, defined_segments, defined_groups, defined_externals, subrecords}
 use Rattle.omf_check.specs.Threads.{PlainReference, plain}
+use Rattle.omf_records.specs.declared.method.Kind.{Kind}
 use Rattle.omf_check.specs.declared.method.FrameMethod.{FrameMethod}
-use Rattle.omf_check.specs.declared.method.FrameMethod.TheVariants.{Segment as F0, Group as F1, External as F2, Location as F4, Target as F5}
 use Rattle.omf_check.specs.declared.method.TargetMethod.{TargetMethod}
-use Rattle.omf_check.specs.declared.method.TargetMethod.TheVariants.{Segment as T0, Group as T1, External as T2}
+use Rattle.omf_check.specs.declared.method.FrameMethod.TheVariants.{Of, Location as F4, Target as F5}
+use Rattle.omf_records.specs.declared.method.Kind.TheVariants as kinds
 use Rattle.omf_check.specs.WellFormed.{HasTrees}
 use Rattle.omf_check.specs.declared.profile.Profile.{Profile}
 use Rattle.omf_reloc.specs.Plain.{Piece, Kept, Fixed, End, PlainFixup, plain_fixup}
@@ -178,17 +179,18 @@ end-empty b d kind byte start t = empty-tables b d (record { kind = kind; conten
 
 -- ---- what tables say of frames and targets
 
-pub frame-tables : (b d : List Rec) → SameTables b d → (f : FrameMethod) → FrameIsDefined b f → FrameIsDefined d f
-frame-tables b d t (F0 i) h = subst (λ n. is_defined n i ≡ true) (ap length t.segments) h
-frame-tables b d t (F1 i) h = subst (λ n. is_defined n i ≡ true) t.groups h
-frame-tables b d t (F2 i) h = subst (λ n. is_defined n i ≡ true) t.externals h
-frame-tables b d t F4 h = tt
-frame-tables b d t F5 h = tt
+same-entries : (b d : List Rec) → SameTables b d → (k : Kind) → entries b k ≡ entries d k
+same-entries b d t kinds.Segment = ap length t.segments
+same-entries b d t kinds.Group = t.groups
+same-entries b d t kinds.External = t.externals
 
 pub target-tables : (b d : List Rec) → SameTables b d → (f : TargetMethod) → TargetIsDefined b f → TargetIsDefined d f
-target-tables b d t (T0 i) h = subst (λ n. is_defined n i ≡ true) (ap length t.segments) h
-target-tables b d t (T1 i) h = subst (λ n. is_defined n i ≡ true) t.groups h
-target-tables b d t (T2 i) h = subst (λ n. is_defined n i ≡ true) t.externals h
+target-tables b d t f h = subst (λ n. is_defined n f.index ≡ true) (same-entries b d t f.kind) h
+
+pub frame-tables : (b d : List Rec) → SameTables b d → (f : FrameMethod) → FrameIsDefined b f → FrameIsDefined d f
+frame-tables b d t (Of f) h = target-tables b d t f h
+frame-tables b d t F4 h = tt
+frame-tables b d t F5 h = tt
 
 -- ---- a well-formed module
 

@@ -6,9 +6,11 @@ use Rattle.std.proofs.lemmas.List.Elements.{filter_map-append, All-head, All-tai
 use Rattle.omf_frame.specs.Bytes.{with_before}
 use Rattle.omf_records.specs.Values.{At, Reference, Subrecord, Thread, Fixup, width, is_wide, thread_is_frame, thread_number, thread_method, frame_by_thread, frame_bits, frame_thread, target_by_thread, target_bits, has_frame_datum, has_target_datum, has_no_displacement}
 use Rattle.omf_records.specs.Valued.{IsThere, IsIndexValue, IsReferenceValue, IsSubrecordValue}
-use Rattle.omf_check.specs.Threads.{Setting, setting, setting_of, same, frame_setting, target_setting, frame_from, target_from, plain}
-use Rattle.omf_check.specs.declared.method.FrameMethod.TheVariants.{Segment as F0, Group as F1, External as F2, Location as F4, Target as F5}
-use Rattle.omf_check.specs.declared.method.TargetMethod.TheVariants.{Segment as T0, Group as T1, External as T2}
+use Rattle.omf_check.specs.Threads.{T0, Setting, setting, setting_of, same, frame_setting, target_setting, frame_by, frame_from, target_from, plain}
+use Rattle.omf_records.specs.declared.method.FrameCode.{FrameCode}
+use Rattle.omf_check.specs.declared.method.FrameMethod.TheVariants.{Target as F5}
+use Rattle.omf_records.specs.Methods.{frame_code}
+use Rattle.omf_records.specs.declared.method.FrameCode.TheVariants as codes
 use Rattle.omf_reloc.specs.Plain.{plain_fixup}
 use Rattle.omf_canon.proofs.UnthreadedLaws.{IsSmallFrame, IsSmallTarget, IsPlainValue, IsPlainFixupValue}
 
@@ -68,18 +70,15 @@ either_way P true x y h k = h
 either_way P false x y h k = k
 
 small-frame_from : (s : Setting) → IsSmall s → IsSmallFrame (frame_from s)
-small-frame_from s h =
-    let i = unwrap_or s.datum 0 in
-    either_way IsSmallFrame (s.method == 0) (F0 i) _ h
-    (either_way IsSmallFrame (s.method == 1) (F1 i) _ h
-    (either_way IsSmallFrame (s.method == 2) (F2 i) _ h
-    (either_way IsSmallFrame (s.method == 4) F4 F5 tt tt)))
+small-frame_from s h = by (frame_code s.method) (unwrap_or s.datum 0) h
+  where
+    by : (c : FrameCode) (i : ℕ) → i < 128 * 256 → IsSmallFrame (frame_by c i)
+    by (codes.Of k) i h = h
+    by codes.Location i h = tt
+    by codes.Target i h = tt
 
 small-target_from : (s : Setting) → IsSmall s → IsSmallTarget (target_from s)
-small-target_from s h =
-    let i = unwrap_or s.datum 0 in
-    either_way IsSmallTarget (s.method == 0) (T0 i) _ h
-    (either_way IsSmallTarget (s.method == 1) (T1 i) (T2 i) h h)
+small-target_from s h = h
 
 small-frame : (o : Option Setting) → IsSmallIf o → IsSmallFrame (unwrap_or (option_map frame_from o) F5)
 small-frame None h = tt

@@ -10,21 +10,25 @@ use Rattle.omf_check.specs.declared.segment.SegInfo.{SegInfo}
 use Rattle.omf_reloc.specs.declared.fault.Cause.{Cause}
 use Rattle.omf_reloc.specs.declared.fault.ReachFault.{ReachFault}
 use Rattle.omf_reloc.specs.declared.fault.ReachFault.TheVariants as fault
-use Rattle.omf_reloc.specs.Plain.{Piece, Kept, Fixed, End, PlainFixup, piece_of, pieces}
+use Rattle.omf_reloc.specs.declared.fault.Kind.{Kind}
+use Rattle.omf_reloc.specs.declared.fault.Kind.TheVariants as kinds
+use Rattle.std.specs.List.{enumerate_from}
+use Rattle.omf_reloc.specs.Plain.{Piece, Kept, Fixed, End, PlainFixup, pieces}
 use Rattle.omf_placement.specs.Placement.{Places}
-use Rattle.omf_reloc.specs.Reach.{misfits_of, causes, all_reference_places, far_fault, misfits, far_faults, reach_faults}
+use Rattle.omf_reloc.specs.Reach.{all_kinds, entries, given, missing, extra, misplaced, causes, all_reference_places, far_fault, misfits, far_faults, reach_faults}
 use Rattle.omf_canon.specs.Laws.{placeless, reach_answer}
-use Rattle.omf_canon.specs.Skeleton.{skeleton, skeleton_of, join_front}
+use Rattle.omf_canon.specs.Skeleton.{normal, skeleton, skeleton_of, join_front}
+use Rattle.omf_canon.proofs.NormalLaws.{normal_of, normal_at, normal-pieces}
 use Rattle.omf_canon.proofs.SkeletonLaws.{cause-skeleton}
 
 -- Tables as they are seen in the pieces.
-abbrev piece_at : List Rec → Rec → List Piece
-piece_at before r = piece_of (subrecords before) r.kind r.contents ∷ []
-
-from-pieces : {A : Type 0} (f : Rec → List A) (g : Piece → List A) → ((earlier : List Subrecord) (r : Rec) → f r ≡ g (piece_of earlier r.kind r.contents))
-    → (before m : List Rec) → flat_map f m ≡ flat_map g (with_before piece_at before m)
+from-pieces : {A : Type 0} (f : Rec → List A) (g : Piece → List A) → ((earlier : List Subrecord) (r : Rec) → f r ≡ g (normal_of earlier r.kind r.contents))
+    → (before m : List Rec) → flat_map f m ≡ flat_map g (with_before normal_at before m)
 from-pieces f g same before [] = refl
 from-pieces f g same before (r ∷ m) = ap₂ (λ x y. x ++ y) (same (subrecords before) r) (from-pieces f g same (before ++ r ∷ []) m)
+
+from-module : {A : Type 0} (f : Rec → List A) (g : Piece → List A) → ((earlier : List Subrecord) (r : Rec) → f r ≡ g (normal_of earlier r.kind r.contents)) → (m : List Rec) → flat_map f m ≡ flat_map g (map normal (pieces m))
+from-module f g same m = from-pieces f g same [] m ∙ sym (ap (flat_map g) (normal-pieces m))
 
 -- A table that FIXUPPs have no part in is that of the skeleton.
 module _ {A : Type 0} (g : Piece → List A) (none : (kind : ℕ) (fs : List PlainFixup) → g (Fixed kind fs) ≡ []) where
@@ -50,14 +54,14 @@ module _ {A : Type 0} (g : Piece → List A) (none : (kind : ℕ) (fs : List Pla
   table-skeleton (End kind byte s ∷ ps) = ap (λ t. g (End kind byte s) ++ t) (table-skeleton ps)
 
   -- So it is the same for modules of equal skeletons.
-  same-table : (f : Rec → List A) → ((earlier : List Subrecord) (r : Rec) → f r ≡ g (piece_of earlier r.kind r.contents)) → (m n : List Rec) → skeleton m ≡ skeleton n → flat_map f m ≡ flat_map f n
-  same-table f same m n h = from-pieces f g same [] m ∙ sym (table-skeleton (pieces m)) ∙ ap (flat_map g) h ∙ table-skeleton (pieces n) ∙ sym (from-pieces f g same [] n)
+  same-table : (f : Rec → List A) → ((earlier : List Subrecord) (r : Rec) → f r ≡ g (normal_of earlier r.kind r.contents)) → (m n : List Rec) → skeleton m ≡ skeleton n → flat_map f m ≡ flat_map f n
+  same-table f same m n h = from-module f g same m ∙ sym (table-skeleton (map normal (pieces m))) ∙ ap (flat_map g) h ∙ table-skeleton (map normal (pieces n)) ∙ sym (from-module f g same n)
 
 abbrev piece_segments : Piece → List SegInfo
 piece_segments (Kept r) = defined_segments r.kind r.contents
 piece_segments _ = []
 
-segments-piece : (earlier : List Subrecord) (kind : ℕ) (c : Contents) → defined_segments kind c ≡ piece_segments (piece_of earlier kind c)
+segments-piece : (earlier : List Subrecord) (kind : ℕ) (c : Contents) → defined_segments kind c ≡ piece_segments (normal_of earlier kind c)
 segments-piece earlier kind (Segment s) = refl
 segments-piece earlier kind _ = refl
 
@@ -80,7 +84,7 @@ abbrev piece_groups : Piece → List ℕ
 piece_groups (Kept r) = marks (defined_groups r.contents)
 piece_groups _ = []
 
-groups-piece : (earlier : List Subrecord) (kind : ℕ) (c : Contents) → marks (defined_groups c) ≡ piece_groups (piece_of earlier kind c)
+groups-piece : (earlier : List Subrecord) (kind : ℕ) (c : Contents) → marks (defined_groups c) ≡ piece_groups (normal_of earlier kind c)
 groups-piece earlier kind (Group g) = refl
 groups-piece earlier kind _ = refl
 
@@ -88,7 +92,7 @@ abbrev piece_externals : Piece → List ℕ
 piece_externals (Kept r) = marks (defined_externals r.contents)
 piece_externals _ = []
 
-externals-piece : (earlier : List Subrecord) (kind : ℕ) (c : Contents) → marks (defined_externals c) ≡ piece_externals (piece_of earlier kind c)
+externals-piece : (earlier : List Subrecord) (kind : ℕ) (c : Contents) → marks (defined_externals c) ≡ piece_externals (normal_of earlier kind c)
 externals-piece earlier kind (Externs items) = map-map (λ x. 0) (λ e. e.item.name) items ∙ sym (ap (map (λ x. 0)) (map-map (λ e. e.item.name) _ items) ∙ map-map (λ x. 0) _ items)
 externals-piece earlier kind (Communals items) = map-map (λ x. 0) (λ e. e.item.name) items ∙ sym (ap (map (λ x. 0)) (map-map (λ e. e.item.name) _ items) ∙ map-map (λ x. 0) _ items)
 externals-piece earlier kind _ = refl
@@ -124,11 +128,21 @@ placeless-far have pl m = far-placeless (all_reference_places m) (causes pl (pie
 same-far : HavePlaces → (pl : Places) (m n : List Rec) → skeleton m ≡ skeleton n → map placeless (far_faults pl m) ≡ map placeless (far_faults pl n)
 same-far have pl m n h = placeless-far have pl m ∙ ap (filter_map far) (cause-skeleton pl m n h) ∙ sym (placeless-far have pl n)
 
+same-entries : (m n : List Rec) → skeleton m ≡ skeleton n → (k : Kind) → entries m k ≡ entries n k
+same-entries m n h kinds.Segment = ap length (same-segments m n h)
+same-entries m n h kinds.Group = same-groups m n h
+same-entries m n h kinds.External = same-externals m n h
+
+by-kind : (f g : Kind → List ReachFault) → ((k : Kind) → f k ≡ g k) → (ks : List Kind) → flat_map f ks ≡ flat_map g ks
+by-kind f g same [] = refl
+by-kind f g same (k ∷ ks) = ap₂ (λ x y. x ++ y) (same k) (by-kind f g same ks)
+
 same-misfits : (pl : Places) (m n : List Rec) → skeleton m ≡ skeleton n → misfits pl m ≡ misfits pl n
-same-misfits pl m n h =
-    ap (λ s. misfits_of pl s (length (groups m)) (length (externals m))) (same-segments m n h)
-    ∙ ap (λ g. misfits_of pl (segments n) g (length (externals m))) (same-groups m n h)
-    ∙ ap (λ e. misfits_of pl (segments n) (length (groups n)) e) (same-externals m n h)
+same-misfits pl m n h = ap₂ (λ x y. x ++ y)
+    (ap₂ (λ x y. x ++ y)
+    (by-kind (λ k. missing k (entries m k) (given pl k)) (λ k. missing k (entries n k) (given pl k)) (λ k. ap (λ e. missing k e (given pl k)) (same-entries m n h k)) all_kinds)
+    (by-kind (λ k. extra k (entries m k) (given pl k)) (λ k. extra k (entries n k) (given pl k)) (λ k. ap (λ e. extra k e (given pl k)) (same-entries m n h k)) all_kinds))
+    (ap (λ s. flat_map (λ x. misplaced pl x.0 x.1.absolute) (enumerate_from 1 s)) (same-segments m n h))
 
 answer-list : (pl : Places) (m : List Rec) → reach_answer pl m ≡ slice_get (map placeless (misfits pl m) ++ map placeless (far_faults pl m)) 0
 answer-list pl m = sym (slice_get-map placeless (reach_faults pl m) 0) ∙ ap (λ l. slice_get l 0) (map-append placeless (misfits pl m) (far_faults pl m))

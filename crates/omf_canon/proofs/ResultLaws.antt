@@ -18,12 +18,13 @@ use Rattle.omf_check.specs.Sound.{FrameIsDefined, TargetIsDefined, ContentsHold,
 use Rattle.omf_check.specs.Tables.{last_data, subrecords, item_count, items_in}
 use Rattle.omf_check.specs.Threads.{PlainReference, frame_of, target_of, frame_from, target_from}
 use Rattle.omf_check.specs.declared.method.FrameMethod.{FrameMethod}
-use Rattle.omf_check.specs.declared.method.FrameMethod.TheVariants.{Segment as F0, Group as F1, External as F2, Location as F4, Target as F5}
 use Rattle.omf_check.specs.declared.method.TargetMethod.{TargetMethod}
-use Rattle.omf_check.specs.declared.method.TargetMethod.TheVariants.{Segment as T0, Group as T1, External as T2}
+use Rattle.omf_check.specs.declared.method.FrameMethod.TheVariants.{Of, Location as F4, Target as F5}
 use Rattle.omf_check.specs.WellFormed.{IsWellFormed, HasTrees, recs}
 use Rattle.omf_check.specs.declared.profile.Profile.{Profile}
-use Rattle.omf_reloc.specs.Plain.{Piece, Kept, PlainFixup, plain_fixup, piece_of, pieces}
+use Rattle.omf_reloc.specs.Plain.{Piece, Kept, PlainFixup, plain_fixup, pieces}
+use Rattle.omf_canon.specs.Skeleton.{normal}
+use Rattle.omf_canon.proofs.NormalLaws.{normal_of, normal_at, normal-pieces}
 use Rattle.omf_canon.specs.Unthreaded.{unthreaded, unthreaded_fixup}
 use Rattle.omf_canon.proofs.AloneLaws.{IsOther, other-alone, twice-alone, twice-contents, same-frame, same-target}
 use Rattle.omf_canon.proofs.UnthreadedLaws.{frame-again, target-again}
@@ -41,7 +42,7 @@ module _ (profile : Profile) (limits : Limits) where
   )
 
   kept-piece : (L b : List Rec) → SameTables L b → (kind : ℕ) (c : Contents) → ContentsHold limits L kind c → AreTrue (holds (contents_rules profile limits L kind c)) → HasTrees limits kind c
-      → PieceIsKept profile limits b (piece_of (subrecords L) kind c) × SameTables (L ++ record { kind = kind; contents = c } ∷ []) (kept_after profile limits b (piece_of (subrecords L) kind c))
+      → PieceIsKept profile limits b (normal_of (subrecords L) kind c) × SameTables (L ++ record { kind = kind; contents = c } ∷ []) (kept_after profile limits b (normal_of (subrecords L) kind c))
   kept-piece L b t kind (Fixups subs) s h trees = (
     subst (λ E. Each (FixupIsKept b) (with_before plain_fixup E (map (λ q. q.item) subs))) (append-nil (subrecords L)) (fixups-kept L b t (subrecords L) [] subs s),
     fixups-empty L b kind subs t,
@@ -59,14 +60,11 @@ module _ (profile : Profile) (limits : Limits) where
   kept-piece L b t kind (Iterated x) s h trees = kept-other L b t kind (Iterated x) tt h trees
   kept-piece L b t kind (Carried x) s h trees = kept-other L b t kind (Carried x) tt h trees
 
-  abbrev piece_at : List Rec → Rec → List Piece
-  piece_at before r = piece_of (subrecords before) r.kind r.contents ∷ []
-
   abbrev Tree : Raw → Type 0
   Tree r = HasTrees limits r.kind (typed r).contents
 
   module _ (bytes : List ℕ) (records : List Raw) (w : IsWellFormed profile limits bytes records) (m : ModuleHolds limits (recs records)) where
-    kept-from : (done rest : List Raw) (L b : List Rec) → records ≡ done ++ rest → recs done ≡ L → SameTables L b → All Tree rest → PiecesAreKept profile limits b (with_before piece_at L (recs rest))
+    kept-from : (done rest : List Raw) (L b : List Rec) → records ≡ done ++ rest → recs done ≡ L → SameTables L b → All Tree rest → PiecesAreKept profile limits b (with_before normal_at L (recs rest))
     kept-from done [] L b e is t trees = tt
     kept-from done (r ∷ rest) L b e is t trees =
         let split : recs records ≡ L ++ typed r ∷ recs rest = ap recs e ∙ map-append typed done (r ∷ rest) ∙ ap (λ x. x ++ typed r ∷ recs rest) is in
@@ -81,8 +79,8 @@ module _ (profile : Profile) (limits : Limits) where
     no-tables : SameTables [] []
     no-tables = record { names = refl; segments = refl; groups = refl; externals = refl; last = refl }
 
-    pub kept-module : PiecesAreKept profile limits [] (pieces (recs records))
-    kept-module = kept-from [] records [] [] refl refl no-tables w.blocks
+    pub kept-module : PiecesAreKept profile limits [] (map normal (pieces (recs records)))
+    kept-module = subst (PiecesAreKept profile limits []) (sym (normal-pieces (recs records))) (kept-from [] records [] [] refl refl no-tables w.blocks)
 
     -- the items of a well-formed module are at most a million
     pub items-limited : item_count (recs records) ≤ item_limit
@@ -143,16 +141,12 @@ target-like E short p r e =
     ∙ target-again E short p
 
 frame-true : (L : List Rec) (at : ℕ) (m : FrameMethod) → FrameIsDefined L m → AreTrue (holds (frame_rules L at (Some m)))
-frame-true L at (F0 i) h = (h, tt)
-frame-true L at (F1 i) h = (h, tt)
-frame-true L at (F2 i) h = (h, tt)
+frame-true L at (Of t) h = (h, tt)
 frame-true L at F4 h = tt
 frame-true L at F5 h = tt
 
 target-true : (L : List Rec) (at : ℕ) (m : TargetMethod) → TargetIsDefined L m → AreTrue (holds (target_rules L at (Some m)))
-target-true L at (T0 i) h = (h, tt)
-target-true L at (T1 i) h = (h, tt)
-target-true L at (T2 i) h = (h, tt)
+target-true L at t h = (h, tt)
 
 reference-true : (L : List Rec) (E : List Subrecord) (short : Bool) (p : PlainReference) (r : Reference) → reference_alone r ≡ reference_alone (unthreaded short p)
     → FrameIsDefined L p.frame → TargetIsDefined L p.target → AreTrue (holds (reference_rules L E r))
@@ -210,9 +204,7 @@ module _ (L b : List Rec) (t : SameTables b L) where
       (fixups-true (done ++ s ∷ []) subs fs more h.1)
 
   not-location : (m : FrameMethod) → m ≢ F4 → not (is_location_frame (Some m)) ≡ true
-  not-location (F0 i) h = refl
-  not-location (F1 i) h = refl
-  not-location (F2 i) h = refl
+  not-location (Of t) h = refl
   not-location F4 h = absurd (h refl)
   not-location F5 h = refl
 

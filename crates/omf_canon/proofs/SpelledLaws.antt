@@ -18,13 +18,14 @@ use Rattle.omf_check.specs.Tables.{subrecords, subrecords_in}
 use Rattle.omf_check.specs.Threads.{PlainReference, plain}
 use Rattle.omf_check.specs.WellFormed.{IsWellFormed, recs}
 use Rattle.omf_check.specs.declared.profile.Profile.{Profile}
-use Rattle.omf_reloc.specs.Plain.{Piece, Kept, Fixed, End, PlainFixup, plain_fixup, end_byte, piece_of, pieces}
+use Rattle.omf_reloc.specs.Plain.{Piece, Kept, Fixed, End, PlainFixup, plain_fixup, pieces}
+use Rattle.omf_canon.proofs.NormalLaws.{normal_of, normal_at, normal-pieces}
 use Rattle.omf_canon.specs.Canonical.{piece_raws, canonical_raws}
 use Rattle.omf_canon.specs.Cut.{cut, body_limit, fixups_size}
 use Rattle.omf_canon.specs.Joined.{cut_piece, cut_pieces}
 use Rattle.omf_canon.specs.Laws.{CanonicalHolds}
 use Rattle.omf_canon.specs.PlainBytes.{fixup_bytes, start_bytes}
-use Rattle.omf_canon.specs.Skeleton.{join_front, skeleton_of, skeleton}
+use Rattle.omf_canon.specs.Skeleton.{end_byte, join_front, normal, skeleton_of, skeleton}
 use Rattle.omf_canon.specs.Unthreaded.{unthreaded, unthreaded_fixup}
 use Rattle.omf_canon.proofs.AloneLaws.{same-piece, twice-alone, IsOther}
 use Rattle.omf_canon.proofs.CutLaws.{cut-greedy, length-group, length-reference_bytes}
@@ -40,7 +41,7 @@ pub record IsKeptFrom (r : Rec) : Type 0 where
   pub short : length body + 1 < 65536
   pub same : alone source ≡ r
   pub other : IsOther source.contents
-  pub kept : (earlier : List Subrecord) → piece_of earlier source.kind source.contents ≡ Kept r
+  pub kept : (earlier : List Subrecord) → normal_of earlier source.kind source.contents ≡ Kept r
 
 abbrev pub IsStart : ℕ → ℕ → Option PlainReference → Type 0
 IsStart kind byte None = has_start byte ≡ false
@@ -66,7 +67,7 @@ rec_of (End kind byte start) = record { kind = kind; contents = ModEnd byte (opt
 -- A record that spells a piece.
 pub record Spells (p : Piece) (raw : Raw) : Type 0 where
   pub is_typed : IsTyped (typed raw) raw.body
-  pub piece : (earlier : List Subrecord) → piece_of earlier raw.kind (typed raw).contents ≡ p
+  pub piece : (earlier : List Subrecord) → normal_of earlier raw.kind (typed raw).contents ≡ p
   pub kind : raw.kind ≡ piece_kind p
   pub same : alone (typed raw) ≡ alone (rec_of p)
   pub short : length raw.body + 1 < 65536
@@ -85,10 +86,7 @@ spell-append [] qs (r ∷ rs) ss h k = absurd h
 spell-append (p ∷ ps) qs [] ss h k = absurd h
 spell-append (p ∷ ps) qs (r ∷ rs) ss h k = (h.0, spell-append ps qs rs ss h.1 k)
 
-abbrev piece_at : List Rec → Rec → List Piece
-piece_at before r = piece_of (subrecords before) r.kind r.contents ∷ []
-
-pub spelled-pieces : (before : List Rec) (ps : List Piece) (rs : List Raw) → SpellAll ps rs → with_before piece_at before (map typed rs) ≡ ps
+pub spelled-pieces : (before : List Rec) (ps : List Piece) (rs : List Raw) → SpellAll ps rs → with_before normal_at before (map typed rs) ≡ ps
 spelled-pieces before [] [] h = refl
 spelled-pieces before [] (r ∷ rs) h = absurd h
 spelled-pieces before (p ∷ ps) [] h = absurd h
@@ -127,13 +125,13 @@ each-groups P (g ∷ gs) h = (each-front P g (flat_map (λ k. k) gs) h, each-gro
 -- ---- each piece is written
 
 module _ (once : AreTyped) (shortest : ShortestAreTyped) (values : ValuesAreTyped) (have : TypedHaveValues) (placeless : PlacesDoNotCount) where
-  spells-of : (p : Piece) (s : Rec) (kind : ℕ) (body : List ℕ) → s.kind ≡ kind → IsTyped s body → ((earlier : List Subrecord) → piece_of earlier s.kind s.contents ≡ p)
+  spells-of : (p : Piece) (s : Rec) (kind : ℕ) (body : List ℕ) → s.kind ≡ kind → IsTyped s body → ((earlier : List Subrecord) → normal_of earlier s.kind s.contents ≡ p)
       → kind ≡ piece_kind p → alone s ≡ alone (rec_of p) → length body + 1 < 65536 → Spells p (raw_of kind body)
   spells-of p s kind body k t h same_kind same short =
       let e : s ≡ typed (raw_of kind body) = (once (raw_of kind body) s k t).0 in
       record {
         is_typed = subst (λ (x : Rec). IsTyped x body) e t;
-        piece = λ earlier. subst (λ (x : Rec). piece_of earlier x.kind x.contents ≡ p) e (h earlier);
+        piece = λ earlier. subst (λ (x : Rec). normal_of earlier x.kind x.contents ≡ p) e (h earlier);
         kind = same_kind;
         same = subst (λ (x : Rec). alone x ≡ alone (rec_of p)) e same;
         short = short;
@@ -149,7 +147,7 @@ module _ (once : AreTyped) (shortest : ShortestAreTyped) (values : ValuesAreType
       let q = shortest source h.body h.is_typed in
       let s = q.0.0 in
       let P : Rec → Type 0 = λ x. Spells (Kept x) (raw_of x.kind (contents_bytes x.kind x.contents)) in
-      let kept : (earlier : List Subrecord) → piece_of earlier s.kind s.contents ≡ Kept (alone source) = λ earlier. same-piece earlier s source q.0.3 ∙ h.kept earlier ∙ ap (λ x. Kept x) (sym h.same) in
+      let kept : (earlier : List Subrecord) → normal_of earlier s.kind s.contents ≡ Kept (alone source) = λ earlier. same-piece earlier s source q.0.3 ∙ h.kept earlier ∙ ap (λ x. Kept x) (sym h.same) in
       let B : List ℕ → Type 0 = λ body. Spells (Kept (alone source)) (raw_of source.kind body) in
       let there : B (contents_bytes source.kind source.contents) = spells-of (Kept (alone source)) s source.kind (contents_bytes source.kind source.contents) q.0.1 q.0.2 kept refl (q.0.3 ∙ twice-alone source) (shorter _ (length h.body) q.1 h.short) in
       subst P h.same (subst B (sym (placeless source.kind source.contents)) there)
@@ -177,7 +175,7 @@ module _ (once : AreTyped) (shortest : ShortestAreTyped) (values : ValuesAreType
       let r : Rec = record { kind = kind; contents = Fixups subs } in
       let q = values r (record { taken = taken; each = group-values kind g h }) in
       let s = q.0.0 in
-      let piece : (earlier : List Subrecord) → piece_of earlier s.kind s.contents ≡ Fixed kind g = λ earlier. same-piece earlier s r q.0.3 ∙ ap (λ x. Fixed kind x) (group-again earlier g) in
+      let piece : (earlier : List Subrecord) → normal_of earlier s.kind s.contents ≡ Fixed kind g = λ earlier. same-piece earlier s r q.0.3 ∙ ap (λ x. Fixed kind x) (group-again earlier g) in
       spells-of (Fixed kind g) s kind (flat_map (fixup_bytes kind) g) q.0.1 (subst (IsTyped s) (sym (group-bytes kind g)) q.0.2) piece refl q.0.3
       (fits (length (flat_map (fixup_bytes kind) g)) (subst (λ n. n ≤ body_limit) (sym (length-group kind g)) small))
 
@@ -240,7 +238,7 @@ module _ (once : AreTyped) (shortest : ShortestAreTyped) (values : ValuesAreType
   start-value kind byte earlier false (Some r) e is h = absurd h
 
   writable-contents : (earlier : List Subrecord) (kind : ℕ) (c : Contents) (body : List ℕ) → AreSmall earlier → IsTyped (record { kind = kind; contents = c }) body → length body + 1 < 65536
-      → HaveReferenceValues kind c → IsWritable (piece_of earlier kind c)
+      → HaveReferenceValues kind c → IsWritable (normal_of earlier kind c)
   writable-contents earlier kind (Fixups subs) body e t short h = (h.taken, fixups-value kind earlier subs e h.each)
   writable-contents earlier kind (ModEnd byte start) body e t short h =
       let b = end-byte byte in
@@ -269,7 +267,7 @@ module _ (once : AreTyped) (shortest : ShortestAreTyped) (values : ValuesAreType
   abbrev IsShort : Raw → Type 0
   IsShort r = length r.body + 1 < 65536
 
-  pub writable-pieces : (before : List Rec) (records : List Raw) → AreSmall (subrecords before) → All IsSpelt records → All IsShort records → Each IsWritable (with_before piece_at before (map typed records))
+  pub writable-pieces : (before : List Rec) (records : List Raw) → AreSmall (subrecords before) → All IsSpelt records → All IsShort records → Each IsWritable (with_before normal_at before (map typed records))
   writable-pieces before [] e h short = tt
   writable-pieces before (r ∷ rs) e h short =
       let t = All-head IsSpelt r rs h in
@@ -279,7 +277,7 @@ module _ (once : AreTyped) (shortest : ShortestAreTyped) (values : ValuesAreType
       )
 
   pub writable-module : (records : List Raw) → All IsSpelt records → All IsShort records → Each IsWritable (skeleton (recs records))
-  writable-module records h short = writable-skeleton (pieces (recs records)) (writable-pieces [] records (λ b k. tt) h short)
+  writable-module records h short = writable-skeleton (map normal (pieces (recs records))) (subst (Each IsWritable) (sym (normal-pieces (recs records))) (writable-pieces [] records (λ b k. tt) h short))
 
   pub canonical-spells : (records : List Raw) → All IsSpelt records → All IsShort records → SpellAll (cut_pieces (skeleton (recs records))) (canonical_raws (skeleton (recs records)))
   canonical-spells records h short = write-pieces (skeleton (recs records)) (writable-module records h short)
@@ -288,9 +286,9 @@ module _ (once : AreTyped) (shortest : ShortestAreTyped) (values : ValuesAreType
   canonical-holds profile limits bytes records w =
       let S = skeleton (recs records) in
       let all = canonical-spells records w.spelled (λ k d lt. (w.framed.each k d lt).0) in
-      let same : pieces (recs (canonical_raws S)) ≡ cut_pieces S = spelled-pieces [] (cut_pieces S) (canonical_raws S) all in
+      let same : map normal (pieces (recs (canonical_raws S))) ≡ cut_pieces S = normal-pieces (recs (canonical_raws S)) ∙ spelled-pieces [] (cut_pieces S) (canonical_raws S) all in
       record {
         typed = spelled-typed (cut_pieces S) (canonical_raws S) all;
         pieces = same;
-        skeleton = ap skeleton_of same ∙ cut-joined S (skeleton-joined (pieces (recs records)));
+        skeleton = ap skeleton_of same ∙ cut-joined S (skeleton-joined (map normal (pieces (recs records))));
       }

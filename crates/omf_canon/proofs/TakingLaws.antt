@@ -24,14 +24,15 @@ use Rattle.omf_check.specs.WellFormed.{IsWellFormed, recs}
 use Rattle.omf_check.specs.declared.profile.Profile.{Profile}
 use Rattle.omf_check.specs.declared.threads.Threads.{Threads}
 use Rattle.omf_reloc.proofs.PieceLaws.{pieces-listed, numbered_records, numbered-listed, records-set}
-use Rattle.omf_reloc.specs.Inner.Pieces.{single_pieces, subrecord_steps, contents_steps, steps_from, given, IsSet, SubrecordIsSet, SubrecordsAreSet, ContentsAreSet, RecordsAreSet}
-use Rattle.omf_reloc.specs.Plain.{Piece, Fixed}
+use Rattle.omf_reloc.specs.Inner.Pieces.{subrecord_steps, contents_steps, steps_from, given, IsSet, SubrecordIsSet, SubrecordsAreSet, ContentsAreSet, RecordsAreSet}
+use Rattle.omf_reloc.specs.Plain.{Piece, Fixed, pieces}
 use Rattle.omf_reloc.specs.Inner.Walking.{plain_fixup_by, threads_after}
 use Rattle.omf_canon.specs.Canonical.{canonical_raws}
-use Rattle.omf_canon.specs.Skeleton.{skeleton}
+use Rattle.omf_canon.specs.Skeleton.{normal, skeleton}
 use Rattle.omf_canon.specs.Unthreaded.{unthreaded_fixup}
 use Rattle.omf_canon.specs.Inner.Writing.{Held, closed_by, held_with, piece_puts, piece_held, CanPut, bytes_left, subrecord_piece, subrecord_pieces, contents_pieces, record_pieces, ArePut}
-use Rattle.omf_canon.proofs.WritingLaws.{IsWritten, write-first}
+use Rattle.omf_canon.proofs.NormalLaws.{single-normal}
+use Rattle.omf_canon.proofs.WritingLaws.{IsWritten, normal_singles, write-first}
 
 -- ---- the pieces that records give are the module's
 
@@ -44,32 +45,34 @@ without_places steps = map (λ p. p.1) (given steps)
 given-more : (xs ys : List Step) → without_places (xs ++ ys) ≡ without_places xs ++ without_places ys
 given-more xs ys = ap (map (λ p. p.1)) (filter_map-append (λ s. s) xs ys) ∙ map-append (λ p. p.1) (given xs) (given ys)
 
-subs-given : (at : Place) (kind : ℕ) (threads : Threads) (subs : List (At Subrecord)) → without_places (subrecord_steps threads at kind subs) ≡ subrecord_pieces threads kind subs
+subs-given : (at : Place) (kind : ℕ) (threads : Threads) (subs : List (At Subrecord)) → map normal (without_places (subrecord_steps threads at kind subs)) ≡ subrecord_pieces threads kind subs
 subs-given at kind threads [] = refl
 subs-given at kind threads (s ∷ subs) = by s.within s.item (subs-given at kind (set_thread threads s.item) subs)
   where
-    by : (within : ℕ) (x : Subrecord) → without_places (subrecord_steps (set_thread threads x) at kind subs) ≡ subrecord_pieces (set_thread threads x) kind subs
-        → without_places (subrecord_steps threads at kind (record { within = within; item = x } ∷ subs)) ≡ subrecord_pieces threads kind (record { within = within; item = x } ∷ subs)
+    by : (within : ℕ) (x : Subrecord) → map normal (without_places (subrecord_steps (set_thread threads x) at kind subs)) ≡ subrecord_pieces (set_thread threads x) kind subs
+        → map normal (without_places (subrecord_steps threads at kind (record { within = within; item = x } ∷ subs))) ≡ subrecord_pieces threads kind (record { within = within; item = x } ∷ subs)
     by within (Thread byte datum) rest = rest
     by within (Fixup locat r) rest = ap (λ ys. Fixed kind (plain_fixup_by threads locat r ∷ []) ∷ ys) rest
 
-contents-given : (at : Place) (kind : ℕ) (threads : Threads) (c : Contents) → without_places (contents_steps threads at kind c) ≡ contents_pieces threads kind c
+contents-given : (at : Place) (kind : ℕ) (threads : Threads) (c : Contents) → map normal (without_places (contents_steps threads at kind c)) ≡ contents_pieces threads kind c
 contents-given at kind threads (Fixups subs) = subs-given at kind threads subs
 contents-given at kind threads (ModEnd byte start) = refl
 contents-given at kind threads (Names items) = refl
 contents-given at kind threads _ = refl
 
-records-given : (threads : Threads) (xs : List (Place × Rec)) → without_places (steps_from threads xs) ≡ record_pieces threads (map (λ x. x.1) xs)
+records-given : (threads : Threads) (xs : List (Place × Rec)) → map normal (without_places (steps_from threads xs)) ≡ record_pieces threads (map (λ x. x.1) xs)
 records-given threads [] = refl
 records-given threads (x ∷ xs) =
-    given-more (contents_steps threads x.0 x.1.kind x.1.contents) (steps_from (threads_after threads x.1.contents) xs)
+    ap (map normal) (given-more (contents_steps threads x.0 x.1.kind x.1.contents) (steps_from (threads_after threads x.1.contents) xs))
+    ∙ map-append normal (without_places (contents_steps threads x.0 x.1.kind x.1.contents)) (without_places (steps_from (threads_after threads x.1.contents) xs))
     ∙ ap₂ (λ (ys zs : List Piece). ys ++ zs) (contents-given x.0 x.1.kind threads x.1.contents) (records-given (threads_after threads x.1.contents) xs)
 
-all-given : (m : List Rec) → record_pieces no_threads m ≡ single_pieces m
+all-given : (m : List Rec) → record_pieces no_threads m ≡ normal_singles m
 all-given m =
     ap (record_pieces no_threads) (sym (numbered-listed 0 m))
     ∙ sym (records-given no_threads (numbered_records m))
-    ∙ pieces-listed m (numbered_records m) (numbered-listed 0 m)
+    ∙ ap (map normal) (pieces-listed m (numbered_records m) (numbered-listed 0 m))
+    ∙ single-normal (pieces m)
 
 -- ---- each thread that is named is set
 

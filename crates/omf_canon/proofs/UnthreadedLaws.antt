@@ -5,30 +5,42 @@ use Rattle.std.proofs.lemmas.Bool.{cond-false}
 use Rattle.omf_frame.specs.Bytes.{bits, has_bit}
 use Rattle.omf_frame.specs.declared.fault.Reason.{Reason}
 use Rattle.omf_frame.specs.declared.fault.Reason.TheVariants as reason
-use Rattle.omf_records.specs.Values.{Subrecord, nowhere, width, frame_by_thread, frame_bits, target_by_thread, target_bits, has_no_displacement}
+use Rattle.omf_records.specs.Values.{At, Subrecord, nowhere, width, frame_by_thread, frame_bits, target_by_thread, target_bits, has_no_displacement}
+use Rattle.omf_records.specs.Methods.{kind_number, frame_number}
 use Rattle.omf_records.specs.Entries.{unless, wrong_head, is_frame_method}
 use Rattle.omf_records.specs.Valued.{IsThere, IsIndexValue, IsReferenceValue, IsSubrecordValue}
-use Rattle.omf_check.specs.Threads.{PlainReference, plain, setting, frame_from, target_from, frame_of, target_of}
+use Rattle.omf_check.specs.Threads.{T0, PlainReference, plain, setting, frame_from, target_from, frame_of, target_of}
+use Rattle.omf_records.specs.declared.method.Kind.{Kind}
 use Rattle.omf_check.specs.declared.method.FrameMethod.{FrameMethod}
-use Rattle.omf_check.specs.declared.method.FrameMethod.TheVariants.{Segment as F0, Group as F1, External as F2, Location as F4, Target as F5}
 use Rattle.omf_check.specs.declared.method.TargetMethod.{TargetMethod}
-use Rattle.omf_check.specs.declared.method.TargetMethod.TheVariants.{Segment as T0, Group as T1, External as T2}
+use Rattle.omf_check.specs.declared.method.FrameMethod.TheVariants.{Of, Location as F4, Target as F5}
+use Rattle.omf_records.specs.declared.method.Kind.TheVariants as kinds
 use Rattle.omf_reloc.specs.Plain.{PlainFixup}
-use Rattle.omf_canon.specs.Unthreaded.{frame_code, frame_index, target_code, target_index, fix_byte, unthreaded, unthreaded_fixup}
+use Rattle.omf_canon.specs.Unthreaded.{code_of, frame_index, fix_byte, unthreaded, unthreaded_fixup}
 
 -- ---- the bits of the fix data byte
 
+abbrev pub frame_code : FrameMethod → ℕ
+frame_code f = frame_number (code_of f)
+
+abbrev pub target_code : TargetMethod → ℕ
+target_code t = kind_number t.kind
+
+abbrev pub target_index : TargetMethod → Option (At ℕ)
+target_index t = Some (nowhere t.index)
+
+small-kind : (k : Kind) → kind_number k < 3
+small-kind kinds.Segment = omega arith
+small-kind kinds.Group = omega arith
+small-kind kinds.External = omega arith
+
 small-frame-code : (f : FrameMethod) → frame_code f < 8
-small-frame-code (F0 i) = omega arith
-small-frame-code (F1 i) = omega arith
-small-frame-code (F2 i) = omega arith
+small-frame-code (Of t) = let h = small-kind t.kind in omega (arith, h)
 small-frame-code F4 = omega arith
 small-frame-code F5 = omega arith
 
 small-target-code : (t : TargetMethod) → target_code t < 3
-small-target-code (T0 i) = omega arith
-small-target-code (T1 i) = omega arith
-small-target-code (T2 i) = omega arith
+small-target-code t = small-kind t.kind
 
 -- The bits of 16 * a + b + c, where c is bit 2.
 record HasBits (a b : ℕ) (short : Bool) (n : ℕ) : Type 0 where
@@ -69,16 +81,22 @@ fix-bits short f t = has-bits (frame_code f) (target_code t) short (small-frame-
 -- ---- plain as itself
 
 frame-read : (f : FrameMethod) → frame_from (setting (frame_code f) (frame_index f)) ≡ f
-frame-read (F0 i) = refl
-frame-read (F1 i) = refl
-frame-read (F2 i) = refl
+frame-read (Of t) = read t.kind t.index
+  where
+    read : (k : Kind) (i : ℕ) → frame_from (setting (kind_number k) (Some (nowhere i))) ≡ Of (record { kind = k; index = i })
+    read kinds.Segment i = refl
+    read kinds.Group i = refl
+    read kinds.External i = refl
 frame-read F4 = refl
 frame-read F5 = refl
 
 target-read : (t : TargetMethod) → target_from (setting (target_code t) (target_index t)) ≡ t
-target-read (T0 i) = refl
-target-read (T1 i) = refl
-target-read (T2 i) = refl
+target-read t = read t.kind t.index
+  where
+    read : (k : Kind) (i : ℕ) → target_from (setting (kind_number k) (Some (nowhere i))) ≡ record { kind = k; index = i }
+    read kinds.Segment i = refl
+    read kinds.Group i = refl
+    read kinds.External i = refl
 
 module _ (earlier : List Subrecord) (short : Bool) (r : PlainReference) where
   abbrev fix : ℕ
@@ -112,16 +130,12 @@ plain-again earlier short r h =
 
 -- which plain references can be written
 abbrev pub IsSmallFrame : FrameMethod → Type 0
-IsSmallFrame (F0 i) = i < 128 * 256
-IsSmallFrame (F1 i) = i < 128 * 256
-IsSmallFrame (F2 i) = i < 128 * 256
+IsSmallFrame (Of t) = t.index < 128 * 256
 IsSmallFrame F4 = ⊤
 IsSmallFrame F5 = ⊤
 
 abbrev pub IsSmallTarget : TargetMethod → Type 0
-IsSmallTarget (T0 i) = i < 128 * 256
-IsSmallTarget (T1 i) = i < 128 * 256
-IsSmallTarget (T2 i) = i < 128 * 256
+IsSmallTarget t = t.index < 128 * 256
 
 pub record IsPlainValue (kind : ℕ) (r : PlainReference) : Type 0 where
   pub small_frame : IsSmallFrame r.frame
@@ -136,29 +150,31 @@ pub record IsPlainFixupValue (kind : ℕ) (f : PlainFixup) : Type 0 where
 
 -- ---- they can be written
 
+low-kind : (k : Kind) → nat_lt (kind_number k) 3 ≡ true
+low-kind kinds.Segment = refl
+low-kind kinds.Group = refl
+low-kind kinds.External = refl
+
+kind-is-method : (k : Kind) → is_frame_method (kind_number k) ≡ true
+kind-is-method kinds.Segment = refl
+kind-is-method kinds.Group = refl
+kind-is-method kinds.External = refl
+
 frame-is-method : (f : FrameMethod) → is_frame_method (frame_code f) ≡ true
-frame-is-method (F0 i) = refl
-frame-is-method (F1 i) = refl
-frame-is-method (F2 i) = refl
+frame-is-method (Of t) = kind-is-method t.kind
 frame-is-method F4 = refl
 frame-is-method F5 = refl
 
 target-is-method : (t : TargetMethod) → nat_lt (target_code t) 3 ≡ true
-target-is-method (T0 i) = refl
-target-is-method (T1 i) = refl
-target-is-method (T2 i) = refl
-
-frame-there : (f : FrameMethod) → IsSmallFrame f → IsThere IsIndexValue (nat_lt (frame_code f) 3) (frame_index f)
-frame-there (F0 i) h = h
-frame-there (F1 i) h = h
-frame-there (F2 i) h = h
-frame-there F4 h = tt
-frame-there F5 h = tt
+target-is-method t = low-kind t.kind
 
 target-there : (t : TargetMethod) → IsSmallTarget t → IsThere IsIndexValue (nat_lt (target_code t) 3) (target_index t)
-target-there (T0 i) h = h
-target-there (T1 i) h = h
-target-there (T2 i) h = h
+target-there t h = subst (λ b. IsThere IsIndexValue b (target_index t)) (sym (low-kind t.kind)) h
+
+frame-there : (f : FrameMethod) → IsSmallFrame f → IsThere IsIndexValue (nat_lt (frame_code f) 3) (frame_index f)
+frame-there (Of t) h = target-there t h
+frame-there F4 h = tt
+frame-there F5 h = tt
 
 displacement-there : (kind : ℕ) (short : Bool) (d : ℕ) → d < 256 ^ width kind → IsThere (λ n. n < 256 ^ width kind) (not short) (cond short None (Some d))
 displacement-there kind true d h = tt

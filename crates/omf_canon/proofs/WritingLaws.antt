@@ -1,18 +1,18 @@
 -- What a walk over a module's pieces writes is the canonical bytes.
 use Rattle.std.proofs.Common.{◌≡◌, ℕ, ◌+◌, ◌≤◌, List, [], ◌∷◌, ◌++◌, length, refl, sym, ◌∙◌, ap, ap₂, subst, Bool, true, false, Some, None, arith, append_assoc, append-nil, length-append, Result, Ok, Err, Vec, Global}
-use Rattle.std.specs.Prelude.{IfOk, flat_map, All, Option, ◌==◌, ◌&&◌, nat_le}
+use Rattle.std.specs.Prelude.{IfOk, map, flat_map, All, Option, ◌==◌, ◌&&◌, nat_le}
 use Rattle.std.proofs.lemmas.Bool.{cond-true, cond-false, eqb-true}
 use Rattle.std.proofs.lemmas.Grind.{flat_map-append}
 use Rattle.std.proofs.lemmas.List.Elements.{All-nil, All-cons, All-head, All-tail}
 use Rattle.omf_frame.specs.Framing.{Raw, raw_bytes, raw_of, IsRecord}
 use Rattle.omf_records.specs.Values.{Rec}
 use Rattle.omf_reloc.proofs.SingleLaws.{singles}
-use Rattle.omf_reloc.specs.Inner.Pieces.{one_by_one, single_pieces}
+use Rattle.omf_reloc.specs.Inner.Pieces.{one_by_one}
 use Rattle.omf_reloc.specs.Plain.{Piece, Kept, Fixed, End, PlainFixup, pieces}
 use Rattle.omf_canon.specs.Canonical.{canonical_raws, canonical}
 use Rattle.omf_canon.specs.Cut.{body_limit, fixups_size}
 use Rattle.omf_canon.specs.PlainBytes.{fixup_bytes}
-use Rattle.omf_canon.specs.Skeleton.{skeleton}
+use Rattle.omf_canon.specs.Skeleton.{normal, skeleton}
 use Rattle.omf_canon.specs.Inner.Streaming.{group_raw, Open, close, open_with, closed_by, open_after, closed_all, streamed}
 use Rattle.omf_canon.specs.Inner.Writing.{Held, held, record_bytes, closed, has_room, held_with, CanPut, bytes_left}
 use Rattle.omf_canon.specs.Inner.Writing.{closed_by as closes}
@@ -117,8 +117,12 @@ left-from (Kept r ∷ ps) o = one-record o _ _ _ ps (left-from ps None)
 left-from (Fixed kind fs ∷ ps) o = singles-left kind fs o (flat_map one_by_one ps) ps (left-from ps)
 left-from (End kind byte s ∷ ps) o = one-record o _ _ _ ps (left-from ps None)
 
-left-all : (m : List Rec) → bytes_left None (single_pieces m) ≡ canonical m
-left-all m = left-from (pieces m) None ∙ ap spelt (streamed-canonical (pieces m))
+-- the normal pieces of a module, one fixup at a time
+abbrev pub normal_singles : List Rec → List Piece
+normal_singles m = flat_map one_by_one (map normal (pieces m))
+
+left-all : (m : List Rec) → bytes_left None (normal_singles m) ≡ canonical m
+left-all m = left-from (map normal (pieces m)) None ∙ ap spelt (streamed-canonical (map normal (pieces m)))
 
 -- ---- the contents fit
 
@@ -145,8 +149,8 @@ fits-from (Kept r ∷ ps) o h = All-cons CanPut (Kept r) (flat_map one_by_one ps
 fits-from (Fixed kind fs ∷ ps) o h = singles-fit kind fs (flat_map one_by_one ps) (fits-from ps (open_after kind o fs) (all-right (closed_all kind o fs) (streamed (open_after kind o fs) ps) h))
 fits-from (End kind byte s ∷ ps) o h = All-cons CanPut (End kind byte s) (flat_map one_by_one ps) tt (fits-from ps None (rest-fits o _ (streamed None ps) h))
 
-fits-all : (m : List Rec) → All IsRecord (canonical_raws (skeleton m)) → All CanPut (single_pieces m)
-fits-all m h = fits-from (pieces m) None (subst (All IsRecord) (sym (streamed-canonical (pieces m))) h)
+fits-all : (m : List Rec) → All IsRecord (canonical_raws (skeleton m)) → All CanPut (normal_singles m)
+fits-all m h = fits-from (map normal (pieces m)) None (subst (All IsRecord) (sym (streamed-canonical (map normal (pieces m)))) h)
 
 -- What is known while pieces are left: they can be written, and what is written and what is left are the canonical bytes.
 pub record IsWritten (m : List Rec) (out : List ℕ) (group : Option Held) (rest : List Piece) : Type 0 where
@@ -154,7 +158,7 @@ pub record IsWritten (m : List Rec) (out : List ℕ) (group : Option Held) (rest
   pub same : out ++ bytes_left group rest ≡ canonical m
 
 module _ (m : List Rec) where
-  pub write-first : (out : List ℕ) (group : Option Held) (rest : List Piece) → All IsRecord (canonical_raws (skeleton m)) → out ≡ [] → group ≡ None → rest ≡ single_pieces m → IsWritten m out group rest
+  pub write-first : (out : List ℕ) (group : Option Held) (rest : List Piece) → All IsRecord (canonical_raws (skeleton m)) → out ≡ [] → group ≡ None → rest ≡ normal_singles m → IsWritten m out group rest
   write-first out group rest h o g e =
       subst (λ x. IsWritten m x group rest) (sym o)
       (subst (λ x. IsWritten m [] x rest) (sym g)

@@ -1,5 +1,5 @@
 -- Laws about the definitions, each the contract of a function of the same name.
-use Rattle.std.specs.Prelude.{◌≡◌, ◌↔◌, ℕ, ◌≤◌, List, Option, None, option_map, length, sum_by, All, Bool, true}
+use Rattle.std.specs.Prelude.{◌≡◌, ◌↔◌, ℕ, ◌≤◌, List, Option, None, option_map, length, map, sum_by, All, Bool, true}
 use Rattle.omf_frame.specs.Framing.{Raw, raw_bytes}
 use Rattle.omf_image.specs.declared.limits.Limits.{Limits}
 use Rattle.omf_records.specs.Values.{Rec, Subrecord}
@@ -25,7 +25,7 @@ use Rattle.omf_canon.specs.Cut.{IsGreedyCut, cut}
 use Rattle.omf_canon.specs.Inner.Streaming.{streamed}
 use Rattle.omf_canon.specs.Unthreaded.{unthreaded}
 use Rattle.omf_canon.specs.Joined.{IsJoined, parts, cut_pieces, piece_items}
-use Rattle.omf_canon.specs.Skeleton.{skeleton_of, skeleton}
+use Rattle.omf_canon.specs.Skeleton.{normal, skeleton_of, skeleton}
 
 -- A fault of reach without the place of its reference.
 abbrev pub placeless : ReachFault → ReachFault
@@ -79,7 +79,7 @@ CutsAreNotMore = (m : List Rec) → sum_by piece_items (cut_pieces (skeleton m))
 -- The canonical records of a well-formed module encode the cut of its skeleton, and so have its skeleton.
 pub record CanonicalHolds (records : List Raw) : Type 0 where
   pub typed : All (λ r. IsTyped (typed r) r.body) (canonical_raws (skeleton (recs records)))
-  pub pieces : pieces (recs (canonical_raws (skeleton (recs records)))) ≡ cut_pieces (skeleton (recs records))
+  pub pieces : map normal (pieces (recs (canonical_raws (skeleton (recs records))))) ≡ cut_pieces (skeleton (recs records))
   pub skeleton : skeleton (recs (canonical_raws (skeleton (recs records)))) ≡ skeleton (recs records)
 
 abbrev pub CanonicalsHold : Type 0

@@ -6,37 +6,24 @@ ghost use Rattle.omf_records.specs.Values.{Fixup, nowhere};
 ghost use Rattle.omf_reloc.specs.Inner.Pieces.{IsSet};
 ghost use Rattle.omf_reloc.specs.Inner.Walking.{plain_by, plain_fixup_by};
 ghost use Rattle.omf_canon.specs.PlainBytes.{start_bytes};
-ghost use Rattle.omf_canon.specs.Unthreaded.{frame_code, target_code, frame_index, target_index, fix_byte, unthreaded, unthreaded_fixup};
+ghost use Rattle.omf_canon.specs.Skeleton.{end_byte};
+ghost use Rattle.omf_canon.specs.Unthreaded.{code_of, frame_index, unthreaded, unthreaded_fixup};
 
 use omf_check::Threads;
 use omf_frame::Index;
-use omf_records::{At, Reference, put_reference};
-use omf_reloc::{FrameMethod, PlainReference, TargetMethod, plain_reference};
+use omf_records::{At, FixByte, FrameCode, Locat, Reference, put_reference};
+use omf_reloc::{FrameMethod, PlainReference, plain_reference};
 use std::alloc::AllocError;
 
-/// The number of a frame's method.
+/// The code of a frame's method.
 #[inline(always)]
-fn frame_code(frame: FrameMethod) -> u8
-    ensures { result ≡ frame_code frame }
+fn code_of(frame: &FrameMethod) -> FrameCode
+    ensures { result ≡ code_of frame.now }
 {
     match frame {
-        FrameMethod::Segment(_) => 0,
-        FrameMethod::Group(_) => 1,
-        FrameMethod::External(_) => 2,
-        FrameMethod::Location => 4,
-        FrameMethod::Target => 5,
-    }
-}
-
-/// The number of a target's method.
-#[inline(always)]
-fn target_code(target: TargetMethod) -> u8
-    ensures { result ≡ target_code target }
-{
-    match target {
-        TargetMethod::Segment(_) => 0,
-        TargetMethod::Group(_) => 1,
-        TargetMethod::External(_) => 2,
+        FrameMethod::Of(entry) => FrameCode::Of(entry.kind),
+        FrameMethod::Location => FrameCode::Location,
+        FrameMethod::Target => FrameCode::Target,
     }
 }
 
@@ -53,38 +40,14 @@ fn nowhere(index: Index) -> At<Index>
 
 /// The index of a frame whose method has one.
 #[inline(always)]
-fn frame_index(frame: FrameMethod) -> Option<At<Index>>
-    ensures { result ≡ frame_index frame }
+fn frame_index(frame: &FrameMethod) -> Option<At<Index>>
+    ensures { result ≡ frame_index frame.now }
 {
     match frame {
-        FrameMethod::Segment(index) => Some(nowhere(index)),
-        FrameMethod::Group(index) => Some(nowhere(index)),
-        FrameMethod::External(index) => Some(nowhere(index)),
+        FrameMethod::Of(entry) => Some(nowhere(entry.index)),
         FrameMethod::Location => None,
         FrameMethod::Target => None,
     }
-}
-
-/// The index of a target.
-#[inline(always)]
-fn target_index(target: TargetMethod) -> Option<At<Index>>
-    ensures { result ≡ target_index target }
-{
-    let index = match target {
-        TargetMethod::Segment(index) => index,
-        TargetMethod::Group(index) => index,
-        TargetMethod::External(index) => index,
-    };
-    Some(nowhere(index))
-}
-
-/// The fix data byte, with the bits for threads clear.
-#[inline(always)]
-fn fix_byte(frame: FrameMethod, target: TargetMethod, is_short: bool) -> u8
-    ensures { result ≡ fix_byte is_short frame target }
-{
-    let methods = 16 * frame_code(frame) + target_code(target);
-    if is_short { methods + 4 } else { methods }
 }
 
 /// A resolved reference written without threads. If `is_short`, it has no displacement.
@@ -95,10 +58,10 @@ fn unthreaded(plain: &PlainReference, is_short: bool) -> Reference
     Reference {
         fix: At {
             within: 0,
-            item: fix_byte(plain.frame, plain.target, is_short),
+            item: FixByte::of(code_of(&plain.frame), plain.target.kind, !is_short),
         },
-        frame: frame_index(plain.frame),
-        target: target_index(plain.target),
+        frame: frame_index(&plain.frame),
+        target: Some(nowhere(plain.target.index)),
         displacement: if is_short {
             None
         } else {
@@ -109,7 +72,11 @@ fn unthreaded(plain: &PlainReference, is_short: bool) -> Reference
 
 /// The reference of a fixup, written without threads. It has no displacement exactly if the displacement is 0.
 #[inline(always)]
-pub(crate) fn unthreaded_fixup(threads: &Threads, location: u16, reference: &Reference) -> Reference
+pub(crate) fn unthreaded_fixup(
+    threads: &Threads,
+    location: Locat,
+    reference: &Reference,
+) -> Reference
     requires { IsSet threads.now reference.now }
     ensures { Fixup location result ≡ unthreaded_fixup (plain_fixup_by threads.now location reference.now) }
 {
@@ -122,12 +89,20 @@ pub(crate) fn unthreaded_fixup(threads: &Threads, location: u16, reference: &Ref
 pub(crate) fn is_direct(reference: &Reference) -> bool
     ensures { result ≡ is_direct reference.now }
 {
-    let fix = reference.fix.item;
+    let fix = reference.fix.item.byte();
     let is_zero = match reference.displacement {
         Some(displacement) => displacement == 0,
         None => false,
     };
     fix / 128 % 2 != 1 && fix / 8 % 2 != 1 && !is_zero
+}
+
+/// MODEND's module type byte, normalized: bits 7 and 6 are kept, bit 0 is a copy of bit 6, and the ignored bits are 0.
+pub(crate) fn end_byte(type_byte: u8) -> u8
+    ensures { result ≡ end_byte type_byte }
+{
+    let has_start = type_byte / 64 % 2;
+    128 * (type_byte / 128) + 64 * has_start + has_start
 }
 
 /// Appends the start of a MODEND of this type, if there is one. It always has its displacement.

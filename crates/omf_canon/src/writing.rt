@@ -11,25 +11,24 @@ ghost use Rattle.omf_records.specs.Shortest.{subrecord_bytes};
 ghost use Rattle.omf_records.specs.Valued.{IsSubrecordValue, HaveReferenceValues};
 ghost use Rattle.omf_records.specs.Values.{alone, Fixup};
 ghost use Rattle.omf_reloc.specs.Inner.Pieces.{IsSet, SubrecordIsSet, SubrecordsAreSet, ContentsAreSet};
-ghost use Rattle.omf_reloc.specs.Plain.{Kept, End, end_byte};
+ghost use Rattle.omf_reloc.specs.Plain.{Kept, End};
 ghost use Rattle.omf_reloc.specs.Inner.Walking.{plain_by, threads_after};
 ghost use Rattle.omf_canon.specs.Canonical.{canonical, canonical_raws};
-ghost use Rattle.omf_canon.specs.Skeleton.{skeleton};
+ghost use Rattle.omf_canon.specs.Skeleton.{end_byte, skeleton};
 ghost use Rattle.omf_canon.specs.Form.{IsFormOf};
 ghost use Rattle.omf_canon.specs.PlainBytes.{start_bytes};
 ghost use Rattle.omf_canon.specs.Inner.Writing.{Held, held, record_bytes, closed, has_room, held_with, closed_by, piece_puts, CanPut, subrecord_piece, subrecord_pieces, contents_pieces, ArePut, IsJoined, is_data, begins_short};
 
 use crate::laws;
-use crate::plain::{is_direct, put_start, unthreaded_fixup};
+use crate::plain::{end_byte, is_direct, put_start, unthreaded_fixup};
 use omf_check::laws::modules_hold;
 use omf_check::{Checked, Threads, split_record};
 use omf_frame::{RawRecord, checksum};
 use omf_records::laws::typed_have_values;
 use omf_records::{
-    FIXUP_LIMIT, Part, Rec, Reference, Subrecord, Unread, put_fixup, put_rec, unread_fixups,
+    FIXUP_LIMIT, Locat, Part, Rec, Reference, Subrecord, Unread, put_fixup, put_rec, unread_fixups,
     view_known,
 };
-use omf_reloc::end_byte;
 use std::alloc::{AllocError, Global};
 use std::marker::Model;
 
@@ -92,7 +91,7 @@ impl Group {
     fn open(
         alloc: Global,
         kind: u8,
-        location: u16,
+        location: Locat,
         reference: &Reference,
     ) -> Result<Group, AllocError>
         ensures { IfOk result (λ g. g ≡ held kind (subrecord_bytes kind (Fixup location reference.now))) }
@@ -104,7 +103,7 @@ impl Group {
 
     /// Appends a fixup and returns true, if this FIXUPP has its type and room for it. Otherwise returns false and changes nothing.
     #[inline(always)]
-    fn join(&mut self, kind: u8, location: u16, reference: &Reference) -> Result<bool, AllocError>
+    fn join(&mut self, kind: u8, location: Locat, reference: &Reference) -> Result<bool, AllocError>
         ensures fits { IfOk result (λ taken. taken ≡ has_room kind (subrecord_bytes kind (Fixup location reference.now)) self.old) }
         ensures taken { IfOk result (λ taken. self.new ≡ (if taken then held self.old.kind (self.old.body ++ subrecord_bytes kind (Fixup location reference.now)) else self.old)) }
     {
@@ -195,7 +194,7 @@ impl Walk {
         &mut self,
         alloc: Global,
         kind: u8,
-        location: u16,
+        location: Locat,
         reference: &Reference,
     ) -> Result<(), AllocError>
         ensures out { OnOk result (self.new.out.items ≡ self.old.out.items ++ closed_by kind (subrecord_bytes kind (Fixup location reference.now)) self.old.group) }
@@ -331,7 +330,21 @@ impl Walk {
                 start,
                 ..
             } => self.end(alloc, rec.kind(), *type_byte, start),
-            _ => self.keep(rec),
+            Rec::Header { .. }
+            | Rec::Comment { .. }
+            | Rec::Names(_)
+            | Rec::Segment { .. }
+            | Rec::Group { .. }
+            | Rec::Externs(_)
+            | Rec::Publics { .. }
+            | Rec::Communals(_)
+            | Rec::Plain { .. }
+            | Rec::Iterated { .. }
+            | Rec::LocalNames(_)
+            | Rec::LocalExterns { .. }
+            | Rec::LocalPublics { .. }
+            | Rec::LocalCommunals(_)
+            | Rec::Carried { .. } => self.keep(rec),
         }
     }
 
