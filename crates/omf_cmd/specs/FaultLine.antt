@@ -1,8 +1,6 @@
 -- The line printed for a fault (this profile's rule).
 use Rattle.std.specs.Prelude.{ℕ, List, [], ◌∷◌, ◌++◌, codes, decimal}
-use Rattle.omf_frame.specs.Fault.{reason_number}
-use Rattle.omf_frame.specs.declared.fault.Reason.{Reason}
-use Rattle.omf_frame.specs.declared.fault.Reason.TheVariants as reason
+use Rattle.omf_frame.specs.Fault.{reason_name, reason_number}
 use Rattle.omf_reloc.specs.declared.fault.Kind.{Kind}
 use Rattle.omf_reloc.specs.declared.fault.Kind.TheVariants as kinds
 use Rattle.omf_reloc.specs.declared.fault.Cause.{Cause}
@@ -13,42 +11,7 @@ use Rattle.omf_placement.specs.Entries.{in_words}
 use Rattle.omf_cmd.specs.declared.fault.RunFault.{RunFault}
 use Rattle.omf_cmd.specs.declared.fault.RunFault.TheVariants as fault
 
--- The names of reasons, kinds and causes.
-abbrev pub reason_name : Reason → List ℕ
-reason_name reason.NoEnd = codes "NoEnd"
-reason_name reason.Cut = codes "Cut"
-reason_name reason.UnknownType = codes "UnknownType"
-reason_name reason.UnsupportedType = codes "UnsupportedType"
-reason_name reason.EmptyRecord = codes "EmptyRecord"
-reason_name reason.Checksum = codes "Checksum"
-reason_name reason.NoHeader = codes "NoHeader"
-reason_name reason.Short = codes "Short"
-reason_name reason.Long = codes "Long"
-reason_name reason.Alignment = codes "Alignment"
-reason_name reason.BigLength = codes "BigLength"
-reason_name reason.GroupComponent = codes "GroupComponent"
-reason_name reason.CommunalType = codes "CommunalType"
-reason_name reason.CommunalLength = codes "CommunalLength"
-reason_name reason.FrameMethod = codes "FrameMethod"
-reason_name reason.TargetMethod = codes "TargetMethod"
-reason_name reason.LocationType = codes "LocationType"
-reason_name reason.SelfRelative = codes "SelfRelative"
-reason_name reason.TooDeep = codes "TooDeep"
-reason_name reason.DataTooLong = codes "DataTooLong"
-reason_name reason.UndefinedName = codes "UndefinedName"
-reason_name reason.UndefinedSegment = codes "UndefinedSegment"
-reason_name reason.UndefinedGroup = codes "UndefinedGroup"
-reason_name reason.UndefinedExternal = codes "UndefinedExternal"
-reason_name reason.UndefinedThread = codes "UndefinedThread"
-reason_name reason.OutsideSegment = codes "OutsideSegment"
-reason_name reason.OutsideRecord = codes "OutsideRecord"
-reason_name reason.NoDataRecord = codes "NoDataRecord"
-reason_name reason.FixupOnIterated = codes "FixupOnIterated"
-reason_name reason.TooMany = codes "TooMany"
-reason_name reason.OtherDialect = codes "OtherDialect"
-reason_name reason.VendorComment = codes "VendorComment"
-reason_name reason.StartFrame = codes "StartFrame"
-
+-- The names of kinds and causes.
 abbrev pub kind_name : Kind → List ℕ
 kind_name kinds.Segment = codes "segment"
 kind_name kinds.Group = codes "group"

@@ -4,9 +4,9 @@ ghost use Rattle.std.specs.Prelude.{◌≡◌, ◌≤◌};
 ghost use Rattle.std.specs.Process.{exit_status};
 ghost use Rattle.omf_cmd.specs.Programs.{HasRun, ProgramAnswers};
 
-use crate::flushing::{Flushing, fail_and_flush, run_and_flush};
+use crate::flushing::{fail_and_flush, run_and_flush};
 use crate::program::Program;
-use omf_frame::Buffered;
+use omf_frame::{Buffered, Writing};
 use std::alloc::{AllocError, Global};
 use std::env;
 use std::io::{BufReader, ErrorKind, StdinLock, Write};
@@ -34,7 +34,7 @@ fn arguments_and_input(rt: &HostRuntime) -> Result<(Vec<String>, Buffered<StdinL
 }
 
 /// Runs a program on the arguments and the standard input of the process. Returns the exit status.
-fn run_process<P: Program, W: Write>(rt: &HostRuntime, output: &mut Flushing<W>) -> u8
+fn run_process<P: Program, W: Write>(rt: &HostRuntime, output: &mut Writing<W>) -> u8
     ensures known { result ≤ 3 }
     ensures ran { HasRun (ProgramAnswers P.asks P.performs P.Fault.report P.called) result }
 {
@@ -52,6 +52,6 @@ pub fn run_program<P: Program>(rt: &HostRuntime) -> ExitCode
     ensures known { exit_status result ≤ 3 }
     ensures ran { HasRun (ProgramAnswers P.asks P.performs P.Fault.report P.called) (exit_status result) }
 {
-    let mut output = Flushing::new(rt.stdout());
+    let mut output = Writing::new(rt.stdout());
     ExitCode::from(run_process::<P, _>(rt, &mut output))
 }

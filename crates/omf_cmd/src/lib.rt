@@ -35,7 +35,7 @@ mod words;
 pub use called::{Ended, run_in_memory, run_on, words_from};
 pub use digits::eight_digits;
 pub use fault::RunFault;
-pub use flushing::{Flushing, run_and_flush};
+pub use flushing::run_and_flush;
 pub use gathered::Gathered;
 pub use host::run_program;
 pub use image_text::{print_bytes, print_image, print_start};

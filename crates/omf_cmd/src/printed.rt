@@ -2,7 +2,7 @@
 
 ghost use Rattle.std.specs.Prelude.{◌≡◌, ◌≤◌, ◌++◌, IfOk, Ok, length, map, string_bytes};
 ghost use Rattle.omf_frame.specs.Bytes.{AddsText};
-ghost use Rattle.omf_cmd.specs.FaultLine.{reason_name, kind_name, cause_name, fault_line, fault_words};
+ghost use Rattle.omf_cmd.specs.FaultLine.{kind_name, cause_name, fault_line, fault_words};
 ghost use Rattle.omf_cmd.specs.Inner.FaultWords.{word_text};
 ghost use Rattle.omf_cmd.specs.Printed.{line};
 ghost use Rattle.omf_cmd.specs.Runs.{IsWritten, PrintsOr};
@@ -12,51 +12,10 @@ use crate::fault::RunFault;
 use crate::line::write_word;
 use crate::output::print_all;
 use itoa::Buffer;
-use omf_frame::{Reason, Sink};
+use omf_frame::Sink;
 use omf_reloc::{Cause, Kind, ReachFault};
 use std::alloc::{AllocError, Global};
 use std::marker::Model;
-
-/// The name of a reason.
-fn reason_name(reason: Reason) -> &'static str
-    ensures { result.now ≡ reason_name reason }
-{
-    match reason {
-        Reason::NoEnd => "NoEnd",
-        Reason::Cut => "Cut",
-        Reason::UnknownType => "UnknownType",
-        Reason::UnsupportedType => "UnsupportedType",
-        Reason::EmptyRecord => "EmptyRecord",
-        Reason::Checksum => "Checksum",
-        Reason::NoHeader => "NoHeader",
-        Reason::Short => "Short",
-        Reason::Long => "Long",
-        Reason::Alignment => "Alignment",
-        Reason::BigLength => "BigLength",
-        Reason::GroupComponent => "GroupComponent",
-        Reason::CommunalType => "CommunalType",
-        Reason::CommunalLength => "CommunalLength",
-        Reason::FrameMethod => "FrameMethod",
-        Reason::TargetMethod => "TargetMethod",
-        Reason::LocationType => "LocationType",
-        Reason::SelfRelative => "SelfRelative",
-        Reason::TooDeep => "TooDeep",
-        Reason::DataTooLong => "DataTooLong",
-        Reason::UndefinedName => "UndefinedName",
-        Reason::UndefinedSegment => "UndefinedSegment",
-        Reason::UndefinedGroup => "UndefinedGroup",
-        Reason::UndefinedExternal => "UndefinedExternal",
-        Reason::UndefinedThread => "UndefinedThread",
-        Reason::OutsideSegment => "OutsideSegment",
-        Reason::OutsideRecord => "OutsideRecord",
-        Reason::NoDataRecord => "NoDataRecord",
-        Reason::FixupOnIterated => "FixupOnIterated",
-        Reason::TooMany => "TooMany",
-        Reason::OtherDialect => "OtherDialect",
-        Reason::VendorComment => "VendorComment",
-        Reason::StartFrame => "StartFrame",
-    }
-}
 
 /// The name of a kind of placement entry.
 fn kind_name(kind: Kind) -> &'static str
@@ -183,7 +142,7 @@ fn words_of(fault: &RunFault) -> Words
         RunFault::Refused { reason, place } => Words::of(&[
             Word::Text("refused"),
             Word::Number(u64::from(reason.number())),
-            Word::Text(reason_name(reason)),
+            Word::Text(reason.name()),
             Word::Text("record"),
             Word::Number(u64::from(place.number)),
             Word::Text("at"),

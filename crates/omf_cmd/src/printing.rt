@@ -8,40 +8,9 @@ ghost use Rattle.omf_frame.specs.Types.{type_name};
 
 use crate::digits::{eight_digits, two_digits};
 use itoa::Buffer;
-use omf_frame::Name;
+use omf_frame::{Name, type_name};
 use std::alloc::AllocError;
 use std::fmt::Write;
-
-/// The standard's name of a record type; empty for a type that no module has.
-fn type_name(kind: u8) -> &'static str
-    ensures { result.now ≡ type_name kind }
-{
-    match kind {
-        0x80 => "THEADR",
-        0x82 => "LHEADR",
-        0x88 => "COMENT",
-        0x8A | 0x8B => "MODEND",
-        0x8C => "EXTDEF",
-        0x8E => "TYPDEF",
-        0x90 | 0x91 => "PUBDEF",
-        0x94 | 0x95 => "LINNUM",
-        0x96 => "LNAMES",
-        0x98 | 0x99 => "SEGDEF",
-        0x9A => "GRPDEF",
-        0x9C | 0x9D => "FIXUPP",
-        0xA0 | 0xA1 => "LEDATA",
-        0xA2 | 0xA3 => "LIDATA",
-        0xB0 => "COMDEF",
-        0xB4 | 0xB5 => "LEXTDEF",
-        0xB6 | 0xB7 => "LPUBDEF",
-        0xB8 => "LCOMDEF",
-        0xC4 | 0xC5 => "LINSYM",
-        0xC6 => "ALIAS",
-        0xCA => "LLNAMES",
-        0xCC => "VERNUM",
-        _ => "",
-    }
-}
 
 /// Appends a space and a decimal number.
 fn print_number(text: &mut Vec<u8>, number: u64) -> Result<(), AllocError>
