@@ -82,6 +82,10 @@ group_here c (Some g) e = (g, refl, of_some e)
     of_some : {A : Type 0} {x y : A} → Some x ≡ Some y → x ≡ y
     of_some e = cc
 
+pub no_group : (o : Option GroupItem) → None ≡ option_map Group o → o ≡ None
+no_group None e = refl
+no_group (Some g) e = absurd cc
+
 -- ---- records with their places
 
 -- where a walk over the records of a module stands

@@ -4,6 +4,7 @@ ghost use Rattle.std.specs.Prelude.{◌≡◌, ◌≤◌, ◌++◌, IfOk, Ok, le
 ghost use Rattle.omf_frame.specs.Bytes.{AddsText};
 ghost use Rattle.omf_cmd.specs.FaultLine.{kind_name, cause_name, fault_line, fault_words};
 ghost use Rattle.omf_cmd.specs.Inner.FaultWords.{word_text};
+ghost use Rattle.omf_placement.specs.Entries.{in_words};
 ghost use Rattle.omf_cmd.specs.Printed.{line};
 ghost use Rattle.omf_cmd.specs.Runs.{IsWritten, PrintsOr};
 ghost use Rattle.omf_cmd.specs.declared.fault.RunFault.TheVariants.{Reach, Write};
@@ -59,6 +60,7 @@ struct Words {
 impl Model for Words {
     ghost use Rattle.std.specs.Prelude.{ℕ, List, ◌≤◌, map, take};
     ghost use Rattle.omf_cmd.specs.Inner.FaultWords.{word_text};
+    ghost use Rattle.omf_placement.specs.Entries.{in_words};
 
     ghost Value = { List (List ℕ) };
 
@@ -164,14 +166,30 @@ fn words_of(fault: &RunFault) -> Words
     }
 }
 
-/// Appends a word.
-fn push_word(line: &mut String, word: Word) -> Result<(), AllocError>
-    ensures { AddsText result (string_bytes line.old) (string_bytes line.new) (word_text word) }
+/// Appends a text and a word.
+fn push_word(line: &mut String, before: &str, word: Word) -> Result<(), AllocError>
+    ensures { AddsText result (string_bytes line.old) (string_bytes line.new) (before.now ++ word_text word) }
 {
+    line.push_str(before)?;
     match word {
         Word::Text(text) => line.push_str(text),
         Word::Number(number) => line.push_str(Buffer::new().format(number)),
     }
+}
+
+/// Words with one space between each two.
+fn line_of(alloc: Global, words: &[Word]) -> Result<String, AllocError>
+    ensures { IfOk result (λ line. string_bytes line ≡ in_words (map word_text words.now)) }
+{
+    let mut line = String::new(alloc);
+    let [first, rest @ ..] = words else {
+        return Ok(line);
+    };
+    push_word(&mut line, "", *first)?;
+    for word in rest {
+        push_word(&mut line, " ", *word)?;
+    }
+    Ok(line)
 }
 
 /// Writes a word and the bytes after it.
@@ -208,15 +226,5 @@ pub(crate) fn print_fault<K: Sink>(writer: &mut K, fault: &RunFault)
 pub fn fault_line(alloc: Global, fault: &RunFault) -> Result<String, AllocError>
     ensures { IfOk result (λ line. string_bytes line ≡ fault_line fault.now) }
 {
-    let words = words_of(fault);
-    let [first, rest @ ..] = words.all() else {
-        return Ok(String::new(alloc));
-    };
-    let mut line = String::new(alloc);
-    push_word(&mut line, *first)?;
-    for word in rest {
-        line.push_str(" ")?;
-        push_word(&mut line, *word)?;
-    }
-    Ok(line)
+    line_of(alloc, words_of(fault).all())
 }

@@ -12,7 +12,7 @@ pub returns : goal.returns
 returns c =
     relocated_text (recs (records_in c.args.checked.now.bytes)) c.args.placement.now c.in_ok-image.image c.segments-segments.result c.start-start.result
     (image_text c.segments-segments.result (byte_at c.in_ok-image.image) (runs_of c.in_ok-image.image) c.start-start.result)
-    c.in_ok-image.ensures.ok c.in_ok-image.ensures.laid c.segments-segments.ensures.count c.start-start.ensures refl
+    c.in_ok-image.ensures.reaches c.in_ok-image.ensures.laid c.segments-segments.ensures.count c.start-start.ensures refl
 
 pub returns-in_err-image : goal.returns-in_err-image
 returns-in_err-image c =

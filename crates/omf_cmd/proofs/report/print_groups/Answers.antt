@@ -1,10 +1,12 @@
-use Rattle.std.proofs.Common.{◌+◌}
+use Rattle.std.proofs.Common.{◌+◌, ap, sym, ◌∙◌}
+use Rattle.std.specs.Prelude.{option_map}
+use Rattle.omf_records.specs.Inner.Seen.{contents_seen}
 use Rattle.omf_check.specs.Module.{records_in}
 use Rattle.omf_check.specs.Tables.{entry, groups}
 use Rattle.omf_check.specs.WellFormed.{recs}
 use Rattle.omf_cmd.specs.Listing.{group_line}
 use Rattle.omf_cmd.proofs.Pieces.{halted, left_by, unbroken_on, went_on}
-use Rattle.omf_cmd.proofs.Reported.{entry_due, group_here}
+use Rattle.omf_cmd.proofs.Reported.{entry_due, group_here, has_entry, no_group}
 use Rattle.omf_cmd.proofs.report.print_groups.Goals as goal
 
 pub returns-in_err-write_piece : goal.returns-in_err-write_piece
@@ -28,3 +30,15 @@ loop-before-preserved g c =
 
 pub returns-in_err-print_group_of-clause-passes : goal.returns-in_err-print_group_of-clause-passes
 returns-in_err-print_group_of-clause-passes g c = halted _ _ _ _ _ c.from_residual.result c.from_residual.ensures.0 c.loop-before.invariant.written
+
+pub unreachable-requires : goal.unreachable-requires
+unreachable-requires g c =
+    let m = recs (records_in c.args.checked.now.bytes) in
+    let none = no_group (entry (groups m) (c.loop-before.before + 1)) (sym (ap (option_map contents_seen) c.in_default.is) ∙ c.group.ensures) in
+    has_entry (groups m) c.loop-before.before c.groups-before-end.result c.groups-before-end.ensures.count c.loop-before-test.true none
+
+pub print_group_of-requires : goal.print_group_of-requires
+print_group_of-requires g c =
+    let m = recs (records_in c.args.checked.now.bytes) in
+    let g_is = group_here _ (entry (groups m) (c.loop-before.before + 1)) c.in-Some.ensures in
+    (g_is.0, g_is.2)
