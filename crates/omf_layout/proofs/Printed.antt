@@ -66,10 +66,6 @@ zip-short [] ys = omega arith
 zip-short (x ∷ xs) [] = omega arith
 zip-short (x ∷ xs) (y ∷ ys) = omega (arith, zip-short xs ys)
 
--- A place as a pair.
-pub place-of : (xs : List Placed) (i : ℕ) (place : ℕ × Frame) → option_map (λ p. (p.address, p.frame)) (entry xs i) ≡ Some place → entry xs i ≡ Some (record { address = place.0; frame = place.1 })
-place-of xs i place e = map_some _ (entry xs i) place e (λ p here same. here ∙ ap (λ q. Some (record { address = q.0; frame = q.1 })) same)
-
 -- The GRPDEF of a group that exists.
 pub record IsGroup (c : Contents) (o : Option GroupItem) : Type 0 where
   pub group : GroupItem

@@ -10,13 +10,14 @@ use Rattle.omf_check.specs.declared.segment.SegInfo.{SegInfo}
 use Rattle.omf_placement.specs.declared.frame.Frame.{Frame}
 use Rattle.omf_placement.specs.declared.frame.Placed.{Placed}
 use Rattle.omf_placement.specs.Entries.{Entry, Blank, SegmentEntry, GroupEntry, ExternalEntry}
-use Rattle.omf_placement.specs.Placement.{Places, no_frame, real_group}
+use Rattle.omf_placement.specs.Placement.{Places, real_group}
 use Rattle.omf_placement.specs.PlacementText.{Draft, line_entries, bad_line, segment_entry, group_entry, external_entry, ok_or_first, parsed, resolved, resolved_group, unresolved_group, line_unless}
 use Rattle.omf_placement.proofs.ParsingLaws.{entries_from}
 use Rattle.omf_layout.specs.declared.alignment.Alignment.{Alignment}
 use Rattle.omf_layout.specs.declared.options.Frames.{Frames}
 use Rattle.omf_layout.specs.declared.options.Frames.TheVariants.{Real, Flat}
 use Rattle.omf_layout.specs.Draft.{segment_line, group_line, external_line, draft_text}
+use Rattle.omf_layout.specs.Room.{frame_at}
 use Rattle.omf_layout.specs.Layout.{group_frame, group_frames, LaidOut}
 use Rattle.omf_layout.specs.Laws.{DraftsAreRead}
 use Rattle.omf_layout.specs.Reading.{IsShortFrame, IsShortPlace, AreShort, unless_by_members, frame_given, draft_entries}
@@ -184,7 +185,7 @@ module _ (frames : Frames) (m : List Rec) (l : LaidOut) (short : AreShort l.plac
 
 found : (frames : Frames) (m : List Rec) (xs : List Placed) (k n : ℕ) → resolved_group m xs (k, (n, frame_given frames m xs (k, group_frame frames m xs k))) ≡ Some (group_frame frames m xs k)
 found Real m xs k n = by (real_group m xs k) refl where
-  by : (o : Option Frame) → real_group m xs k ≡ o → resolved_group m xs (k, (n, unless_by_members o (unwrap_or o no_frame))) ≡ Some (unwrap_or o no_frame)
+  by : (o : Option Frame) → real_group m xs k ≡ o → resolved_group m xs (k, (n, unless_by_members o (unwrap_or o (frame_at Real 0)))) ≡ Some (unwrap_or o (frame_at Real 0))
   by None e = refl
   by (Some g) e = e
 found (Flat selector) m xs k n = refl

@@ -1,8 +1,8 @@
 -- There are as many attributes and alignments as segments, and as many lengths as externals.
 use Rattle.std.proofs.Common.{◌≡◌, ℕ, zero, suc, ◌+◌, ◌<◌, List, [], ◌∷◌, ◌++◌, length, drop, refl, sym, ap, ap₂, ◌∙◌, arith, length-append, append_assoc, ◌≤◌, ◌-◌}
 use Rattle.std.proofs.Math.Seq.{drop-nil}
-use Rattle.std.specs.Prelude.{map, Some, None, slice_get, cond}
-use Rattle.std.specs.List.{zip, range_with_len}
+use Rattle.std.specs.Prelude.{map, filter_map, Option, Some, None, slice_get, cond}
+use Rattle.std.specs.List.{cons_option, zip, range_with_len}
 use Rattle.std.proofs.lemmas.Bool.{le-leb}
 use Rattle.std.proofs.lemmas.List.{length-map}
 use Rattle.std.proofs.lemmas.Option.{none-some, same_Some}
@@ -77,3 +77,42 @@ one-more g old new all x k n h e f whole =
     ap (λ xs. xs ++ map g (range_with_len (k + 1) (n - (k + 1)))) (f ∙ ap (λ y. old ++ y ∷ []) e)
     ∙ append_assoc old (g k ∷ []) (map g (range_with_len (k + 1) (n - (k + 1))))
     ∙ ap (λ j. old ++ map g (range_with_len k j)) (sym next) ∙ whole
+
+-- The same, of those that have a value.
+module _ {A : Type 0} (g : ℕ → Option A) where
+  pub kept-more : (old new all : List A) (x : A) (k n : ℕ) → k < n → g k ≡ Some x → new ≡ old ++ x ∷ [] → old ++ filter_map g (range_with_len k (n - k)) ≡ all → new ++ filter_map g (range_with_len (k + 1) (n - (k + 1))) ≡ all
+  kept-more old new all x k n h e f whole =
+      let next : n - k ≡ suc (n - (k + 1)) = omega arith in
+      let rest = filter_map g (range_with_len (k + 1) (n - (k + 1))) in
+      ap (λ xs. xs ++ rest) f ∙ append_assoc old (x ∷ []) rest ∙ ap (λ o. old ++ cons_option o rest) (sym e)
+      ∙ ap (λ j. old ++ filter_map g (range_with_len k j)) (sym next) ∙ whole
+
+  pub passed-over : (old all : List A) (k n : ℕ) → k < n → g k ≡ None → old ++ filter_map g (range_with_len k (n - k)) ≡ all → old ++ filter_map g (range_with_len (k + 1) (n - (k + 1))) ≡ all
+  passed-over old all k n h e whole =
+      let next : n - k ≡ suc (n - (k + 1)) = omega arith in
+      let rest = filter_map g (range_with_len (k + 1) (n - (k + 1))) in
+      ap (λ o. old ++ cons_option o rest) (sym e) ∙ ap (λ j. old ++ filter_map g (range_with_len k j)) (sym next) ∙ whole
+
+  -- All of them have one.
+  abbrev pub HaveAll : ℕ → ℕ → Type 0
+  HaveAll a n = (i : ℕ) → a ≤ i → i < a + n → (x : A) × (g i ≡ Some x)
+
+  one-less : (a n : ℕ) → HaveAll a (suc n) → HaveAll (a + 1) n
+  one-less a n h i low high = h i (omega (arith, low)) (omega (arith, high))
+
+  pub length-kept : (a n : ℕ) → HaveAll a n → length (filter_map g (range_with_len a n)) ≡ n
+  length-kept a zero h = refl
+  length-kept a (suc n) h =
+      let here = h a (omega arith) (omega arith) in
+      ap (λ o. length (cons_option o (filter_map g (range_with_len (a + 1) n)))) here.1 ∙ ap suc (length-kept (a + 1) n (one-less a n h))
+
+  pub kept-at : (a n k : ℕ) → HaveAll a n → k < n → slice_get (filter_map g (range_with_len a n)) k ≡ g (a + k)
+  kept-at a zero k h low = absurd (omega (arith, low))
+  kept-at a (suc n) zero h low =
+      let here = h a (omega arith) (omega arith) in
+      let same : a ≡ a + 0 = omega arith in
+      ap (λ o. slice_get (cons_option o (filter_map g (range_with_len (a + 1) n))) 0) here.1 ∙ sym here.1 ∙ ap g same
+  kept-at a (suc n) (suc k) h low =
+      let here = h a (omega arith) (omega arith) in
+      let next : a + 1 + k ≡ a + suc k = omega arith in
+      ap (λ o. slice_get (cons_option o (filter_map g (range_with_len (a + 1) n))) (suc k)) here.1 ∙ kept-at (a + 1) n k (one-less a n h) (omega (arith, low)) ∙ ap g next

@@ -6,7 +6,7 @@ use Rattle.omf_check.specs.Tables.{segments, groups}
 use Rattle.omf_check.specs.declared.segment.SegInfo.{SegInfo}
 use Rattle.omf_placement.specs.declared.frame.Frame.{Frame}
 use Rattle.omf_placement.specs.declared.frame.Placed.{Placed}
-use Rattle.omf_placement.specs.Placement.{Places, no_frame, absolute_place, real_group}
+use Rattle.omf_placement.specs.Placement.{Places, absolute_place, real_group}
 use Rattle.omf_layout.specs.declared.alignment.Alignment.{Alignment}
 use Rattle.omf_layout.specs.declared.fault.LayoutFault.{LayoutFault}
 use Rattle.omf_layout.specs.declared.fault.LayoutFault.TheVariants.{Memory, NoRoom}
@@ -43,8 +43,8 @@ segments_laid o m = all_laid (segment_laid o.frames) o.base (zip (segments m) (a
 
 -- The frame of a group: in real mode that of its lowest member, or the frame at address 0 if it has none; in flat mode the one frame.
 abbrev pub group_frame : Frames → List Rec → List Placed → ℕ → Frame
-group_frame Real m xs k = unwrap_or (real_group m xs k) no_frame
-group_frame (Flat selector) m xs k = record { base = 0; selector = selector }
+group_frame Real m xs k = unwrap_or (real_group m xs k) (frame_at Real 0)
+group_frame (Flat selector) m xs k = frame_at (Flat selector) 0
 
 abbrev pub group_frames : Frames → List Rec → List Placed → List Frame
 group_frames frames m xs = map (group_frame frames m xs) (range_with_len 1 (length (groups m)))

@@ -2,12 +2,11 @@
 use Rattle.std.specs.Prelude.{ℕ, ◌*◌, List, [], ◌∷◌, map, flat_map, Option, Some, None, ◌==◌, if◌then◌else◌}
 use Rattle.omf_records.specs.Values.{Rec, Contents, Segment, Externs, Communals, CommunalSize, Near, Far, alignment}
 use Rattle.omf_layout.specs.declared.alignment.Alignment.{Alignment}
-use Rattle.omf_layout.specs.declared.alignment.Alignment.TheVariants.{Byte, Word, Paragraph, Page, Dword, LargePage}
+use Rattle.omf_layout.specs.declared.alignment.Alignment.TheVariants.{Byte, Word, Paragraph, Page, Dword}
 
--- The alignment in the A field of an attribute: 1 byte, 2 word, 3 paragraph, 4 page, 5 doubleword, 6 large page (which the checker refuses). An absolute
--- segment, 0, has none, and counts as a byte.
+-- The alignment in the A field of an attribute: 1 byte, 2 word, 3 paragraph, 4 page, 5 doubleword. An absolute segment, 0, has none, and counts as a byte.
 abbrev pub alignment_named : ℕ → Alignment
-alignment_named a = if a == 2 then Word else (if a == 3 then Paragraph else (if a == 4 then Page else (if a == 5 then Dword else (if a == 6 then LargePage else Byte))))
+alignment_named a = if a == 2 then Word else (if a == 3 then Paragraph else (if a == 4 then Page else (if a == 5 then Dword else Byte)))
 
 -- The alignment in bytes.
 abbrev pub bytes_aligned : Alignment → ℕ
@@ -16,7 +15,6 @@ bytes_aligned Word = 2
 bytes_aligned Paragraph = 16
 bytes_aligned Page = 256
 bytes_aligned Dword = 4
-bytes_aligned LargePage = 4096
 
 -- The attributes of the segments, in order, and the alignments in them.
 abbrev pub attributes_in : Contents → List ℕ

@@ -4,6 +4,8 @@ ghost use Rattle.std.specs.Prelude.{◌≡◌, ◌≤◌};
 ghost use Rattle.omf_records.specs.Values.{alignment};
 ghost use Rattle.omf_layout.specs.Wants.{alignment_named, bytes_aligned};
 
+use omf_records::{Acbp, Alignment as Field};
+
 /// The alignment of a segment's address (TIS OMF 1.1, "SEGDEF", A field).
 #[derive(Clone, Copy)]
 pub enum Alignment {
@@ -17,26 +19,23 @@ pub enum Alignment {
     Page,
     /// A multiple of 4.
     Dword,
-    /// A multiple of 4,096.
-    LargePage,
 }
 
 impl Alignment {
     /// Returns the alignment in a SEGDEF's attribute byte.
-    pub fn named_by(attribute: u8) -> Alignment
+    pub fn named_by(attribute: Acbp) -> Alignment
         ensures { result ≡ alignment_named (alignment attribute) }
     {
-        match attribute / 32 {
-            2 => Alignment::Word,
-            3 => Alignment::Paragraph,
-            4 => Alignment::Page,
-            5 => Alignment::Dword,
-            6 => Alignment::LargePage,
-            0 | 1 | 7.. => Alignment::Byte,
+        match attribute.alignment() {
+            Field::Absolute | Field::Byte => Alignment::Byte,
+            Field::Word => Alignment::Word,
+            Field::Paragraph => Alignment::Paragraph,
+            Field::Page => Alignment::Page,
+            Field::Dword => Alignment::Dword,
         }
     }
 
-    /// Returns the alignment in bytes: 1, 2, 4, 16, 256 or 4,096.
+    /// Returns the alignment in bytes: 1, 2, 4, 16 or 256.
     pub fn bytes(self) -> u16
         ensures value { result ≡ bytes_aligned self }
         ensures some { 1 ≤ result }
@@ -47,7 +46,6 @@ impl Alignment {
             Alignment::Paragraph => 16,
             Alignment::Page => 256,
             Alignment::Dword => 4,
-            Alignment::LargePage => 4096,
         }
     }
 }

@@ -22,7 +22,7 @@ use crate::printing::{
 };
 use omf_check::{Checked, SegInfo, entry_of};
 use omf_frame::Name;
-use omf_placement::{Frame, Placement, real_group};
+use omf_placement::{Frame, Placed, Placement, real_group};
 use omf_records::Rec;
 use std::alloc::{AllocError, Global};
 
@@ -65,13 +65,12 @@ fn print_segment(
     index: u16,
     segment: SegInfo,
     alignment: Alignment,
-    place: (u32, Frame),
+    place: Placed,
 ) -> Result<(), AllocError>
-    ensures short { IsShortPlace (record { address = place.0; frame = place.1 }) }
-    ensures line { AddsText result (string_bytes text.old) (string_bytes text.new) (segment_line frames (recs_of «module».now.bytes) (index, ((segment, alignment), record { address = place.0; frame = place.1 }))) }
+    ensures short { IsShortPlace place }
+    ensures line { AddsText result (string_bytes text.old) (string_bytes text.new) (segment_line frames (recs_of «module».now.bytes) (index, ((segment, alignment), place))) }
 {
-    let (address, frame) = place;
-    print_segment_entry(text, frames, address, frame)?;
+    print_segment_entry(text, frames, place)?;
     print_segment_comment(text, module, index, segment, alignment)
 }
 
@@ -206,13 +205,12 @@ fn print_external(
     index: u16,
     name: Name<'_>,
     room: Option<u64>,
-    place: (u32, Frame),
+    place: Placed,
 ) -> Result<(), AllocError>
-    ensures short { IsShortPlace (record { address = place.0; frame = place.1 }) }
-    ensures line { AddsText result (string_bytes text.old) (string_bytes text.new) (external_line (index, ((name.entry, room), record { address = place.0; frame = place.1 }))) }
+    ensures short { IsShortPlace place }
+    ensures line { AddsText result (string_bytes text.old) (string_bytes text.new) (external_line (index, ((name.entry, room), place))) }
 {
-    let (address, frame) = place;
-    print_external_entry(text, address, frame)?;
+    print_external_entry(text, place)?;
     print_index(text, index)?;
     print_quoted(text, name.0)?;
     print_room(text, room)
@@ -230,7 +228,7 @@ fn print_externals(text: &mut String, module: &Checked, layout: &Layout) -> Resu
         let Some(name) = module.external(index) else {
             unreachable!()
         };
-        let Some(room) = layout.room(index) else {
+        let Some(room) = entry_of(layout.rooms(), usize::from(index)) else {
             unreachable!()
         };
         let Some(place) = layout.placement().external(usize::from(index)) else {

@@ -52,18 +52,11 @@ impl Layout {
         &self.alignments
     }
 
-    /// Returns the alignment of a segment, by its index from 1; `None` outside the table.
-    pub fn alignment(&self, i: u16) -> Option<Alignment>
-        ensures { result ≡ entry self.now.alignments i }
+    /// Returns the length in bytes of each communal among the module's externals, in order; none for any other external.
+    pub fn rooms(&self) -> &[Option<u64>]
+        ensures { result.now ≡ self.now.rooms }
     {
-        self.alignments.get(usize::from(i).checked_sub(1)?).copied()
-    }
-
-    /// Returns the length in bytes of a communal, by its index from 1; `Some(None)` for any other external, `None` outside the table.
-    pub fn room(&self, i: u16) -> Option<Option<u64>>
-        ensures { result ≡ entry self.now.rooms i }
-    {
-        self.rooms.get(usize::from(i).checked_sub(1)?).copied()
+        &self.rooms
     }
 
     /// Returns the first free address after the segments and the communals. What is laid from there, such as another module, does not
@@ -117,7 +110,10 @@ fn group_frame(module: &Checked, placement: &Placement, frames: Frames, k: u16) 
     ensures { result ≡ group_frame frames (recs_of «module».now.bytes) placement.now.segments k }
 {
     match frames {
-        Frames::Real => real_group(module, placement, k).unwrap_or(Frame::NONE),
+        Frames::Real => real_group(module, placement, k).unwrap_or(Frame {
+            base: 0,
+            selector: 0,
+        }),
         Frames::Flat { selector } => Frame { base: 0, selector },
     }
 }

@@ -6,7 +6,7 @@ ghost use Rattle.omf_layout.specs.Room.{limit, frame_at, anchor};
 use omf_placement::Frame;
 
 /// The frames of a layout.
-#[derive(Clone, Copy, Debug, PartialEq, Eq)]
+#[derive(Clone, Copy)]
 pub enum Frames {
     /// Real mode: an address's frame begins at its paragraph, the next lower multiple of 16 or the address itself, and its selector is
     /// that divided by 16. The limit is 2^20.
@@ -19,7 +19,7 @@ pub enum Frames {
 }
 
 /// Options of a layout.
-#[derive(Clone, Copy, Debug, PartialEq, Eq)]
+#[derive(Clone, Copy)]
 pub struct Options {
     /// The lowest address: the first segment that is not absolute is at the first address of its alignment from here on.
     pub base: u32,

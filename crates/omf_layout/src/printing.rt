@@ -9,31 +9,26 @@ ghost use Rattle.omf_placement.specs.Quoted.{number, hex, is_plain, escaped, quo
 use crate::alignment::Alignment;
 use crate::options::Frames;
 use omf_frame::Name;
-use omf_placement::Frame;
+use omf_placement::{Frame, Placed};
 use std::alloc::AllocError;
 use std::fmt::Write;
 
 /// Prints a letter, an address and a frame.
-fn print_placed(
-    text: &mut String,
-    letter: char,
-    address: u32,
-    frame: Frame,
-) -> Result<(), AllocError>
+fn print_placed(text: &mut String, letter: char, place: Placed) -> Result<(), AllocError>
     requires { letter < 128 }
-    ensures { AddsText result (string_bytes text.old) (string_bytes text.new) (placed_entry (letter ∷ []) (record { address = address; frame = frame })) }
+    ensures { AddsText result (string_bytes text.old) (string_bytes text.new) (placed_entry (letter ∷ []) place) }
 {
-    let base = frame.base;
-    let selector = frame.selector;
+    let address = place.address;
+    let Frame { base, selector } = place.frame;
     write!(text, "{letter} {address:X} {base:X} {selector:X}")
 }
 
 /// Returns whether a segment has the real-mode frame of its address.
-fn is_in_paragraph(address: u32, frame: Frame) -> bool
-    ensures { result ≡ is_same_frame (real_frame address) frame }
+fn is_in_paragraph(place: Placed) -> bool
+    ensures { result ≡ is_same_frame (real_frame place.address) place.frame }
 {
-    match Frame::real(address) {
-        Some(own) => own.base == frame.base && own.selector == frame.selector,
+    match Frame::real(place.address) {
+        Some(own) => own.base == place.frame.base && own.selector == place.frame.selector,
         None => false,
     }
 }
@@ -42,20 +37,20 @@ fn is_in_paragraph(address: u32, frame: Frame) -> bool
 pub fn print_segment_entry(
     text: &mut String,
     frames: Frames,
-    address: u32,
-    frame: Frame,
+    place: Placed,
 ) -> Result<(), AllocError>
-    ensures { AddsText result (string_bytes text.old) (string_bytes text.new) (segment_entry frames (record { address = address; frame = frame })) }
+    ensures { AddsText result (string_bytes text.old) (string_bytes text.new) (segment_entry frames place) }
 {
+    let address = place.address;
     match frames {
         Frames::Real => {
-            if is_in_paragraph(address, frame) {
+            if is_in_paragraph(place) {
                 write!(text, "S {address:X} real")
             } else {
-                print_placed(text, 'S', address, frame)
+                print_placed(text, 'S', place)
             }
         }
-        Frames::Flat { .. } => print_placed(text, 'S', address, frame),
+        Frames::Flat { .. } => print_placed(text, 'S', place),
     }
 }
 
@@ -76,10 +71,10 @@ pub fn print_group_entry(
 }
 
 /// Prints an external's entry.
-pub fn print_external_entry(text: &mut String, address: u32, frame: Frame) -> Result<(), AllocError>
-    ensures { AddsText result (string_bytes text.old) (string_bytes text.new) (placed_entry (codes "E") (record { address = address; frame = frame })) }
+pub fn print_external_entry(text: &mut String, place: Placed) -> Result<(), AllocError>
+    ensures { AddsText result (string_bytes text.old) (string_bytes text.new) (placed_entry (codes "E") place) }
 {
-    print_placed(text, 'E', address, frame)
+    print_placed(text, 'E', place)
 }
 
 /// Prints the start of a comment: an index and a space.

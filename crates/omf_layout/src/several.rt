@@ -5,7 +5,6 @@ mod gathering;
 mod groups;
 pub mod laws;
 mod laying;
-mod order;
 mod places;
 mod placing;
 mod portion;
@@ -14,6 +13,5 @@ mod runs;
 
 pub use arranging::arrange;
 pub use laying::Lying;
-pub use order::order_of;
 pub use placing::place_segments;
 pub use portion::{Combination, Portion};

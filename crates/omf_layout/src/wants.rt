@@ -10,11 +10,11 @@ ghost use Rattle.omf_layout.specs.Wants.{alignment_named, alignments, attributes
 
 use crate::alignment::Alignment;
 use omf_check::Checked;
-use omf_records::{Communal, CommunalSize, Extern, Items, Rec};
+use omf_records::{Acbp, Communal, CommunalSize, Extern, Items, Rec};
 use std::alloc::{AllocError, Global};
 
 /// Adds the attribute of a record's segment.
-fn add_attribute(attributes: &mut Vec<u8>, rec: &Rec<'_>) -> Result<(), AllocError>
+fn add_attribute(attributes: &mut Vec<Acbp>, rec: &Rec<'_>) -> Result<(), AllocError>
     ensures { OnOk result (attributes.new.items ≡ attributes.old.items ++ attributes_in (contents_seen rec.now)) }
 {
     if let Rec::Segment { segment, .. } = rec {
@@ -24,7 +24,7 @@ fn add_attribute(attributes: &mut Vec<u8>, rec: &Rec<'_>) -> Result<(), AllocErr
 }
 
 /// Returns the attributes of a module's segments, in order.
-pub fn attributes_of(alloc: Global, module: &Checked) -> Result<Vec<u8>, AllocError>
+pub fn attributes_of(alloc: Global, module: &Checked) -> Result<Vec<Acbp>, AllocError>
     ensures all { IfOk result (λ v. v.items ≡ attributes (recs_of «module».now.bytes)) }
     ensures each { IfOk result (λ v. length v.items ≡ length (segments (recs_of «module».now.bytes))) }
 {
@@ -36,7 +36,7 @@ pub fn attributes_of(alloc: Global, module: &Checked) -> Result<Vec<u8>, AllocEr
 }
 
 /// Returns the alignments in these attributes.
-fn named_by(alloc: Global, attributes: &[u8]) -> Result<Vec<Alignment>, AllocError>
+fn named_by(alloc: Global, attributes: &[Acbp]) -> Result<Vec<Alignment>, AllocError>
     ensures { IfOk result (λ v. v.items ≡ map (λ a. alignment_named (alignment a)) attributes.now) }
 {
     let mut alignments = Vec::new(alloc);

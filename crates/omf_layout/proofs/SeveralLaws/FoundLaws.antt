@@ -7,7 +7,6 @@ use Rattle.std.proofs.lemmas.Option.{none-some, same_Some, slice_get-get_or}
 use Rattle.omf_records.specs.Values.{Rec}
 use Rattle.omf_check.specs.Tables.{segments, entry}
 use Rattle.omf_check.specs.declared.segment.SegInfo.{SegInfo}
-use Rattle.omf_placement.specs.Placement.{no_place}
 use Rattle.omf_layout.specs.Layout.{Laid}
 use Rattle.omf_layout.specs.declared.options.Options.{Options}
 use Rattle.omf_layout.proofs.TableLaws.{entry-at, length-attributes}
@@ -194,7 +193,7 @@ found-at o ms l h j k m s e g =
       number = number;
       index = index;
       told = same_Some f.one.0.segment s (sym own.told ∙ ap (entry (segments m)) index ∙ entry-at (segments m) k ∙ g);
-      place = ap (λ p. unwrap_or (option_map (λ x. x.1) p) no_place) f.found;
+      place = ap (option_map (λ x. x.1)) f.found;
     }
 
 pub segments-are-found : SegmentsAreFound

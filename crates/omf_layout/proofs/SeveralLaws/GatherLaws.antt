@@ -1,5 +1,5 @@
 -- Values gathered by name, one more at a time.
-use Rattle.std.proofs.Common.{◌≡◌, ℕ, zero, suc, ◌<◌, List, [], ◌∷◌, ◌++◌, length, Bool, true, false, refl, sym, ap, ap₂, ◌∙◌, subst, inl, inr, append-nil, arith, Bor, nat_cmp, Vec, Global, slice_set, get_or}
+use Rattle.std.proofs.Common.{append_assoc, ◌≡◌, ℕ, zero, suc, ◌<◌, List, [], ◌∷◌, ◌++◌, length, Bool, true, false, refl, sym, ap, ap₂, ◌∙◌, subst, inl, inr, append-nil, arith, Bor, nat_cmp, Vec, Global, slice_set, get_or}
 use Rattle.std.specs.Prelude.{map, not, cond, ◌||◌, Option, Some, None, is_some, option_map, bytes_eq, ⊤}
 use Rattle.std.specs.List.{filter, list_any, cons_option}
 use Rattle.std.specs.BTreeMap.{BTreeMap, get_by, is_at, UpdatesBy}
@@ -273,3 +273,12 @@ pub record AreGatheredSoFar {A : Type 0} (m : BTreeMap (Bor (List ℕ)) ℕ) (ru
   pub done : List (List ℕ × A)
   pub gathered : AreGathered m runs done
   pub whole : done ++ left ≡ all
+
+-- One more value is gathered.
+pub gathered-more : {A : Type 0} (m n : BTreeMap (Bor (List ℕ)) ℕ) (old new : List (List A)) (left rest all : List (List ℕ × A)) (x : List ℕ × A) → left ≡ x ∷ rest
+    → ((xs : List (List ℕ × A)) → AreGathered m old xs → AreGathered n new (xs ++ x ∷ [])) → AreGatheredSoFar m old left all → AreGatheredSoFar n new rest all
+gathered-more m n old new left rest all x e next h = record {
+  done = h.done ++ x ∷ [];
+  gathered = next h.done h.gathered;
+  whole = append_assoc h.done (x ∷ []) rest ∙ ap (λ ys. h.done ++ ys) (sym e) ∙ h.whole;
+}

@@ -9,7 +9,7 @@ use Rattle.std.specs.Map.{lookup}
 use Rattle.std.proofs.lemmas.Bool.{cond-true, cond-false, cases_Bool, le-leb, lt-leb}
 use Rattle.std.proofs.lemmas.Bool.Decides.{leb_tells}
 use Rattle.std.proofs.lemmas.Map.Text.{btree_map_updates_str}
-use Rattle.std.proofs.lemmas.Option.{none-some, same_Some}
+use Rattle.std.proofs.lemmas.Option.{none-some, same_Some, slice_get-get_or}
 use Rattle.omf_records.specs.Values.{Rec, GroupItem}
 use Rattle.omf_check.specs.Module.{Module, records_in, typed_modules}
 use Rattle.omf_check.specs.Tables.{groups, entry}
@@ -120,3 +120,15 @@ as-many ls k [] [] e = refl
 as-many ls k [] (v ∷ vs) e = absurd (omega (arith, ap length e))
 as-many ls k (m ∷ ms) [] e = absurd (omega (arith, ap length e))
 as-many ls k (m ∷ ms) (v ∷ vs) e = ap suc (as-many ls (k + 1) ms vs (ap (drop 1) e))
+
+pub next-of : (ms : List Module) (j : ℕ) (m : Module) → m ≡ get_or ms j m → j < length ms → drop j ms ≡ m ∷ drop (j + 1) ms
+next-of ms j m is low = next-at ms j m (slice_get-get_or ms j m low ∙ ap Some (sym is))
+
+-- The placement of the next module, with the places of its segments at the front of those that are left.
+pub one-placed : {B : Type 0} (f : List Rec × List Placed → B) (ms : List Module) (j : ℕ) (m : Module) (left rest : List (Vec Placed Global)) (v : Vec Placed Global) (old new : List B) (x : B) (all : List B)
+    → m ≡ get_or ms j m → j < length ms → left ≡ v ∷ rest → new ≡ old ++ x ∷ [] → x ≡ f (recs (records_in m.bytes), v.items)
+    → old ++ map f (zip (typed_modules (drop j ms)) (map (λ s. s.items) left)) ≡ all → new ++ map f (zip (typed_modules (drop (j + 1) ms)) (map (λ s. s.items) rest)) ≡ all
+one-placed f ms j m left rest v old new x all is low e n g h =
+    let next = next-of ms j m is low in
+    more-of f old new x (zip (typed_modules (drop j ms)) (map (λ s. s.items) left)) (zip (typed_modules (drop (j + 1) ms)) (map (λ s. s.items) rest)) (recs (records_in m.bytes), v.items) all n g
+    (ap₂ (λ ns (vs : List (Vec Placed Global)). zip (typed_modules ns) (map (λ s. s.items) vs)) next e) h

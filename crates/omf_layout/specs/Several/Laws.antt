@@ -11,7 +11,7 @@ use Rattle.omf_layout.specs.declared.options.Frames.{Frames}
 use Rattle.omf_layout.specs.declared.options.Options.{Options}
 use Rattle.omf_layout.specs.Several.Laying.{Lying, arranged}
 use Rattle.omf_layout.specs.Several.Order.{order, place_of, in_order, runs}
-use Rattle.omf_layout.specs.Several.Placing.{place_or_none, arranged_places}
+use Rattle.omf_layout.specs.Several.Placing.{place_in, arranged_places}
 use Rattle.omf_layout.specs.Several.Portions.{portion, portions}
 use Rattle.omf_check.specs.Tables.{segments, entry}
 use Rattle.omf_check.specs.declared.segment.SegInfo.{SegInfo}
@@ -67,9 +67,9 @@ pub record IsLaidAt (ls : List Lying) (j i : ℕ) (s : SegInfo) : Type 0 where
   pub number : lying.0.«module» ≡ j
   pub index : lying.0.index ≡ i
   pub told : lying.0.segment ≡ s
-  pub place : place_or_none ls j i ≡ lying.1
+  pub place : place_in ls j i ≡ Some lying.1
 
--- Each segment of each module is found among those that are laid: the default for a missing place is never used.
+-- Each segment of each module is found among those that are laid.
 abbrev pub SegmentsAreFound : Type 0
 SegmentsAreFound = (o : Options) (ms : List (List Rec)) (l : Laid (List Lying)) → arranged o ms ≡ Some l
     → (j i : ℕ) (m : List Rec) (s : SegInfo) → slice_get ms j ≡ Some m → entry (segments m) i ≡ Some s → IsLaidAt l.what j i s

@@ -9,12 +9,13 @@ use Rattle.omf_records.specs.Values.{Rec, GroupItem}
 use Rattle.omf_check.specs.Tables.{segments, groups}
 use Rattle.omf_placement.specs.declared.frame.Frame.{Frame}
 use Rattle.omf_placement.specs.declared.frame.Placed.{Placed}
-use Rattle.omf_placement.specs.Placement.{Places, no_place, no_frame, lowest, members_placed}
+use Rattle.omf_placement.specs.Placement.{Places, lowest, members_placed}
 use Rattle.omf_layout.specs.declared.options.Frames.{Frames}
 use Rattle.omf_layout.specs.declared.options.Frames.TheVariants.{Real, Flat}
 use Rattle.omf_layout.specs.declared.options.Options.{Options}
 use Rattle.omf_layout.specs.Several.Gathered.{of_name}
 use Rattle.omf_layout.specs.Layout.{Laid}
+use Rattle.omf_layout.specs.Room.{frame_at}
 use Rattle.omf_layout.specs.Several.Laying.{Lying, laid, arranged}
 use Rattle.omf_layout.specs.Several.Portions.{Named, name_at}
 
@@ -25,12 +26,9 @@ is_of j i x = (x.0.«module» == j) && (x.0.index == i)
 abbrev pub place_in : List Lying → ℕ → ℕ → Option Placed
 place_in ls j i = option_map (λ x. x.1) (find (is_of j i) ls)
 
--- The places of a module's segments. All of them are laid, so the default for a missing place is not used.
-abbrev pub place_or_none : List Lying → ℕ → ℕ → Placed
-place_or_none ls j i = unwrap_or (place_in ls j i) no_place
-
+-- The places of a module's segments: all of them are laid, by the law segments_are_found.
 abbrev pub segments_in : List Lying → ℕ × List Rec → List Placed
-segments_in ls m = map (place_or_none ls m.0) (range_with_len 1 (length (segments m.1)))
+segments_in ls m = filter_map (place_in ls m.0) (range_with_len 1 (length (segments m.1)))
 
 abbrev pub all_segments_in : List Lying → List (List Rec) → List (List Placed)
 all_segments_in ls ms = map (segments_in ls) (enumerate_from 0 ms)
@@ -48,8 +46,8 @@ lows ms xs = flat_map lows_in (zip ms xs)
 -- The frame of the groups of a name: in real mode that of the lowest member of any of them, or the frame at address 0 if none has a member; in flat mode the
 -- one frame.
 abbrev pub frame_by : Frames → Option Placed → Frame
-frame_by Real low = unwrap_or (option_map (λ p. p.frame) low) no_frame
-frame_by (Flat selector) low = record { base = 0; selector = selector }
+frame_by Real low = unwrap_or (option_map (λ p. p.frame) low) (frame_at Real 0)
+frame_by (Flat selector) low = frame_at (Flat selector) 0
 
 abbrev pub frame_named : Frames → List (Named Placed) → List ℕ → Frame
 frame_named frames ls name = frame_by frames (lowest (of_name ls name))

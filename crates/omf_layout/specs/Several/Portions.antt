@@ -2,8 +2,7 @@
 use Rattle.std.specs.Prelude.{ℕ, List, [], map, flat_map, unwrap_or, ◌==◌, if◌then◌else◌}
 use Rattle.std.specs.List.{enumerate_from, zip}
 use denote.Ref.{Bor}
-use Rattle.omf_frame.specs.Bytes.{bits}
-use Rattle.omf_records.specs.Values.{Rec, alignment}
+use Rattle.omf_records.specs.Values.{Rec, alignment, combination}
 use Rattle.omf_check.specs.Tables.{names, segments, entry}
 use Rattle.omf_check.specs.declared.segment.SegInfo.{SegInfo}
 use Rattle.omf_layout.specs.Wants.{alignment_named, attributes}
@@ -11,10 +10,7 @@ use Rattle.omf_layout.specs.declared.several.portion.Combination.{Combination}
 use Rattle.omf_layout.specs.declared.several.portion.Combination.TheVariants.{Joined, Common, Alone}
 use Rattle.omf_layout.specs.declared.several.portion.Portion.{Portion}
 
--- The C field of an attribute: 2, 4 and 7 public and 5 stack, which are joined; 6 common; 0 private and the reserved 1 and 3, which are alone.
-abbrev pub combination : ℕ → ℕ
-combination attribute = bits attribute 2 3
-
+-- How a C field combines: 2, 4 and 7 public and 5 stack, which are joined; 6 common; 0 private and the reserved 1 and 3, which are alone.
 abbrev pub combined : ℕ → Combination
 combined c = if c == 2 then Joined else (if c == 4 then Joined else (if c == 5 then Joined else (if c == 6 then Common else (if c == 7 then Joined else Alone))))
 

@@ -87,7 +87,10 @@ impl<'a> LowTable<'a> {
             Frames::Flat { selector } => Frame { base: 0, selector },
             Frames::Real => match self.by_name.get(&name) {
                 Some(place) => place.frame,
-                None => Frame::NONE,
+                None => Frame {
+                    base: 0,
+                    selector: 0,
+                },
             },
         }
     }

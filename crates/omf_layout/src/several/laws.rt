@@ -4,7 +4,7 @@ ghost use Rattle.omf_layout.specs.Several.Laws.{ArrangedAsTold, ArrangedLieApart
 
 /// Each laid segment that is not absolute is at a multiple of its alignment, at or above the base and below the limit; each absolute one
 /// is where its SEGDEF puts it. Of two that are not absolute one ends before the other begins, unless both are common and have one place:
-/// no byte is in both. They are laid in the order of `order_of`.
+/// no byte is in both. They are laid in the order of the definition `order`.
 pub fn arranged_lie_apart()
     ensures { ArrangedLieApart }
 {}

@@ -3,7 +3,7 @@
 ghost use Rattle.std.specs.Prelude.{◌≡◌, ◌<◌, ◌^◌, List, IfOk, length, map};
 ghost use Rattle.omf_check.specs.Module.{recs_of, typed_modules};
 ghost use Rattle.omf_layout.specs.Several.Laying.{Lying};
-ghost use Rattle.omf_layout.specs.Several.Placing.{IsPlaceTable, all_segments_in, place_or_none, segments_in};
+ghost use Rattle.omf_layout.specs.Several.Placing.{IsPlaceTable, all_segments_in, place_in, segments_in};
 
 use crate::several::laying::Lying;
 use omf_check::Checked;
@@ -33,14 +33,11 @@ impl PlaceTable {
         Ok(PlaceTable { by_segment })
     }
 
-    /// Returns the place of a segment.
-    fn place_of(&self, module: u32, index: u16) -> Placed
-        ensures { (ls : List Lying) → IsPlaceTable self.now.by_segment ls → result ≡ place_or_none ls «module» index }
+    /// Returns the place of a segment, if it is laid.
+    fn place_of(&self, module: u32, index: u16) -> Option<Placed>
+        ensures { (ls : List Lying) → IsPlaceTable self.now.by_segment ls → result ≡ place_in ls «module» index }
     {
-        self.by_segment
-            .get(&(module, index))
-            .copied()
-            .unwrap_or(Placed::NONE)
+        self.by_segment.get(&(module, index)).copied()
     }
 
     /// Returns the places of a module's segments.
@@ -54,7 +51,10 @@ impl PlaceTable {
     {
         let mut places = Vec::new(alloc);
         for index in 1..module.segments() + 1 {
-            places.push(self.place_of(number, index))?;
+            let Some(place) = self.place_of(number, index) else {
+                continue;
+            };
+            places.push(place)?;
         }
         Ok(places)
     }

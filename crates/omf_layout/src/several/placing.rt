@@ -5,12 +5,13 @@ ghost use Rattle.omf_records.specs.Inner.Seen.{map_ok};
 ghost use Rattle.omf_placement.specs.declared.frame.Placed.{Placed as PlacedAt};
 ghost use Rattle.omf_layout.specs.Layout.{IsAnswer};
 ghost use Rattle.omf_layout.specs.Several.Laying.{laid};
-ghost use Rattle.omf_layout.specs.Several.Placing.{IsLowTable, arranged_places, with_frames};
+ghost use Rattle.omf_layout.specs.Several.Placing.{IsLowTable, all_segments_in, all_with_frames, arranged_places, with_frames};
 ghost use Rattle.omf_layout.specs.Several.Portions.{Named};
 ghost use Rattle.omf_check.specs.Module.{typed_modules};
 
 use crate::several::arranging::arrange;
 use crate::several::groups::LowTable;
+use crate::several::laying::Lying;
 use crate::several::places::segments_of;
 use crate::{Frames, LayoutFault, Options};
 use omf_check::Checked;
@@ -40,6 +41,21 @@ fn placements_of<'a>(
     Ok(placements)
 }
 
+/// Returns the placements of modules whose segments lie at these places.
+fn placements_at(
+    alloc: Global,
+    modules: &[Checked],
+    frames: Frames,
+    lying: &[Lying],
+) -> Result<Vec<Placement>, AllocError>
+    requires { length modules.now < 2 ^ 32 }
+    ensures { IfOk result (λ v. v.items ≡ all_with_frames frames (typed_modules modules.now) (all_segments_in lying.now (typed_modules modules.now))) }
+{
+    let segments = segments_of(alloc, modules, lying)?;
+    let table = LowTable::of(alloc, modules, &segments)?;
+    placements_of(alloc, modules, segments, frames, &table)
+}
+
 /// Returns the placement of each module, with its segments and its groups, and the first free address after all segments. The segments
 /// are where `arrange` lays them. The groups of one name, over all modules, share one frame: in real mode that of the lowest member of
 /// any of them, or the frame at address 0 if none has a member; in flat mode the one frame.
@@ -58,8 +74,6 @@ pub fn place_segments(
     ensures from { IfOk result (λ r. options.base ≤ r.1) }
 {
     let (lying, free) = arrange(alloc, modules, options)?;
-    let segments = segments_of(alloc, modules, &lying)?;
-    let table = LowTable::of(alloc, modules, &segments)?;
-    let placements = placements_of(alloc, modules, segments, options.frames, &table)?;
+    let placements = placements_at(alloc, modules, options.frames, &lying)?;
     Ok((placements, free))
 }

@@ -9,6 +9,7 @@ ghost use Rattle.omf_layout.specs.Several.Portions.{combination_named, name_at, 
 use crate::Alignment;
 use crate::wants::attributes_of;
 use omf_check::{Checked, SegInfo};
+use omf_records::{Acbp, Combination as Field};
 use std::alloc::{AllocError, Global};
 
 /// How a segment combines with others of its class and name (TIS OMF 1.1, "SEGDEF", C field).
@@ -24,13 +25,13 @@ pub enum Combination {
 
 impl Combination {
     /// Returns the combination in a SEGDEF's attribute byte.
-    fn named_by(attribute: u8) -> Combination
+    fn named_by(attribute: Acbp) -> Combination
         ensures { result ≡ combination_named attribute }
     {
-        match attribute / 4 % 8 {
-            2 | 4 | 5 | 7 => Combination::Joined,
-            6 => Combination::Common,
-            0 | 1 | 3 | 8.. => Combination::Alone,
+        match attribute.combination() {
+            Field::Public | Field::Public4 | Field::Stack | Field::Public7 => Combination::Joined,
+            Field::Common => Combination::Common,
+            Field::Private | Field::Reserved1 | Field::Reserved3 => Combination::Alone,
         }
     }
 }
@@ -65,7 +66,7 @@ impl Portion {
 }
 
 /// Returns the portion of a segment with this attribute.
-fn portion_of(module: u32, index: u16, segment: SegInfo, attribute: u8) -> Portion
+fn portion_of(module: u32, index: u16, segment: SegInfo, attribute: Acbp) -> Portion
     ensures { result ≡ portion «module» index segment attribute }
 {
     Portion {
@@ -88,7 +89,7 @@ pub fn name_at(module: &Checked, index: u16) -> &[u8]
 }
 
 /// Returns the attribute at a position.
-fn attribute_at(each: &[u8], before: u16) -> u8
+fn attribute_at(each: &[Acbp], before: u16) -> Acbp
     requires { before < length each.now }
     ensures { slice_get each.now before ≡ Some result }
 {
@@ -103,7 +104,7 @@ fn add_portions<'a>(
     portions: &mut Vec<Classed<'a>>,
     module: &'a Checked,
     number: u32,
-    each: &[u8],
+    each: &[Acbp],
 ) -> Result<(), AllocError>
     requires all { each.now ≡ attributes (recs_of «module».now.bytes) }
     requires as_many { length each.now ≡ length (segments (recs_of «module».now.bytes)) }

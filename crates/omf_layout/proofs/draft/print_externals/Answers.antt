@@ -1,12 +1,12 @@
 use Rattle.std.proofs.Common.{◌≡◌, ◌+◌, refl, sym, arith, rules}
-use Rattle.std.specs.Prelude.{Some, option_map}
+use Rattle.std.specs.Prelude.{Some}
 use Rattle.std.specs.List.{zip}
 use Rattle.omf_check.specs.Module.{records_in}
 use Rattle.omf_check.specs.WellFormed.{recs}
 use Rattle.omf_check.specs.Tables.{externals, entry}
 use Rattle.omf_layout.specs.Draft.{external_line}
 use Rattle.omf_layout.specs.Reading.{IsShortPlace}
-use Rattle.omf_layout.proofs.Printed.{more-printed, all-printed, none-so-far, more-hold, all-hold, entry-zip, zip-short, place-of}
+use Rattle.omf_layout.proofs.Printed.{more-printed, all-printed, none-so-far, more-hold, all-hold, entry-zip, zip-short}
 use Rattle.omf_layout.proofs.draft.print_externals.Goals as goal
 
 pub loop-before-init : goal.loop-before-init
@@ -18,10 +18,9 @@ loop-before-preserved c =
     let l = c.args.layout.now in
     let j = c.loop-before.before in
     let told : entry (externals m) (j + 1) ≡ Some c.in-Some.name = sym c.in-Some.ensures in
-    let roomed : entry l.rooms (j + 1) ≡ Some c.in-Some-room.room = sym c.in-Some-room.ensures in
-    let placed : option_map (λ p. (p.address, p.frame)) (entry l.places.externals (j + 1)) ≡ Some c.in-Some-external.place = search rules in
-    let here = place-of l.places.externals (j + 1) c.in-Some-external.place placed in
-    let short : IsShortPlace (record { address = c.in-Some-external.place.0; frame = c.in-Some-external.place.1 }) = c.in_ok-print_external.ensures.short in
+    let roomed : entry l.rooms (j + 1) ≡ Some c.in-Some-entry_of.room = search rules in
+    let here : entry l.places.externals (j + 1) ≡ Some c.in-Some-external.place = search rules in
+    let short : IsShortPlace c.in-Some-external.place = c.in_ok-print_external.ensures.short in
     record {
       lines = more-printed external_line (zip (zip (externals m) l.rooms) l.places.externals) j _ _ _ _ c.loop-before.invariant.lines
           (entry-zip (zip (externals m) l.rooms) l.places.externals j _ _ (entry-zip (externals m) l.rooms j _ _ told roomed) here)

@@ -1,12 +1,12 @@
 use Rattle.std.proofs.Common.{◌≡◌, ◌+◌, refl, sym, arith, rules}
-use Rattle.std.specs.Prelude.{Some, option_map}
+use Rattle.std.specs.Prelude.{Some}
 use Rattle.std.specs.List.{zip}
 use Rattle.omf_check.specs.Module.{records_in}
 use Rattle.omf_check.specs.WellFormed.{recs}
 use Rattle.omf_check.specs.Tables.{segments, entry}
 use Rattle.omf_layout.specs.Draft.{segment_line}
 use Rattle.omf_layout.specs.Reading.{IsShortPlace}
-use Rattle.omf_layout.proofs.Printed.{more-printed, all-printed, none-so-far, more-hold, all-hold, entry-zip, zip-short, place-of}
+use Rattle.omf_layout.proofs.Printed.{more-printed, all-printed, none-so-far, more-hold, all-hold, entry-zip, zip-short}
 use Rattle.omf_layout.proofs.draft.print_segments.Goals as goal
 
 pub loop-before-init : goal.loop-before-init
@@ -20,9 +20,8 @@ loop-before-preserved c =
     let j = c.loop-before.before in
     let told : entry (segments m) (j + 1) ≡ Some c.in-Some.segment = sym c.in-Some.ensures in
     let aligned : entry xs (j + 1) ≡ Some c.in-Some-entry_of.alignment = search rules in
-    let placed : option_map (λ p. (p.address, p.frame)) (entry pl.segments (j + 1)) ≡ Some c.in-Some-segment.place = search rules in
-    let here = place-of pl.segments (j + 1) c.in-Some-segment.place placed in
-    let short : IsShortPlace (record { address = c.in-Some-segment.place.0; frame = c.in-Some-segment.place.1 }) = c.in_ok-print_segment.ensures.short in
+    let here : entry pl.segments (j + 1) ≡ Some c.in-Some-segment.place = search rules in
+    let short : IsShortPlace c.in-Some-segment.place = c.in_ok-print_segment.ensures.short in
     record {
       lines = more-printed (segment_line c.args.frames m) (zip (zip (segments m) xs) pl.segments) j _ _ _ _ c.loop-before.invariant.lines
           (entry-zip (zip (segments m) xs) pl.segments j _ _ (entry-zip (segments m) xs j _ _ told aligned) here)

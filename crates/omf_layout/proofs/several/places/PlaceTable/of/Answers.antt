@@ -4,7 +4,6 @@ use Rattle.std.specs.Prelude.{None}
 use Rattle.omf_layout.specs.declared.alignment.Alignment.TheVariants.{Byte}
 use Rattle.omf_layout.specs.declared.several.portion.Combination.TheVariants.{Joined}
 use Rattle.omf_layout.specs.declared.several.portion.Portion.{Portion}
-use Rattle.omf_placement.specs.Placement.{no_place}
 use Rattle.omf_layout.specs.Several.Laying.{Lying}
 use Rattle.omf_layout.specs.Several.Placing.{IsPlaceTable}
 use Rattle.omf_derive.proofs.PairTableLaws.{again, first, looked-none, looked-some}
@@ -14,7 +13,7 @@ use Rattle.omf_layout.proofs.several.places.PlaceTable.of.Goals.{then-is_none+in
 pub loop-one-preserved : goal.loop-one-preserved
 loop-one-preserved c =
     let p : Portion = record { «module» = 0; index = 0; segment = record { length = 0; absolute = None; name = 0; class = 0 }; alignment = Byte; combination = Joined } in
-    let d : Lying = (p, no_place) in
+    let d : Lying = (p, record { address = 0; frame = record { base = 0; selector = 0 } }) in
     let xs = c.args.lying.now in
     let k = c.loop-one.one-index in
     let m = c.loop-one.by_segment in
