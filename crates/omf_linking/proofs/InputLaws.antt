@@ -63,8 +63,7 @@ module _ (p : Profile) where
   one_more input rs a e (Err (fault.External f), s, h) = absurd h
   one_more input rs a e (Err (fault.Reach k f), s, h) = absurd h
   one_more input rs a e (Err (fault.Starts j k), s, h) = absurd h
-  one_more input rs a e (Err (fault.Beyond o), s, h) = absurd h
-  one_more input rs a e (Err (fault.Overlap q v u), s, h) = absurd h
+  one_more input rs a e (Err (fault.Space f), s, h) = absurd h
 
   goes_on : (fuel : ℕ) (input : List ℕ) → length input < suc fuel → AreBytes input → ((rest : List ℕ) → length rest < fuel → AreBytes rest → Reading p rest)
       → (rs : List Raw) (a : IsAccepted p profile_limits input rs) (b : Bool) → begins_module a.rest ≡ b → Reading p input

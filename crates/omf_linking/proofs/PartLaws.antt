@@ -49,8 +49,8 @@ from_empty : (n : ℕ) (bs : List (List Line)) (ns : List ℕ) (k : ℕ) → len
 from_empty n [] ns k e = absurd (omega arith)
 from_empty n (b ∷ bs) ns k e = refl
 
-pub parts_begin : (ls : List Line) → parts_left [] (empty_part 0) ls ≡ parts_of ls
-parts_begin ls = from_empty 0 (slice_split is_border ls) (filter_map border ls) _ (length-slice_split is_border ls)
+pub parts_begin : (ls : List Line) → parts_left [] (empty_part 1) ls ≡ parts_of ls
+parts_begin ls = from_empty 1 (slice_split is_border ls) (filter_map border ls) _ (length-slice_split is_border ls)
 
 -- one more line of a part
 line_more : (p q : Part) (l : Line) (bs : List (List Line)) (ns : List ℕ) (k : ℕ) → length bs ≡ k + 1 → ((b : List Line) → extended p (l ∷ b) ≡ extended q b) → after p (onto_first l bs) ns ≡ after q bs ns
@@ -104,7 +104,7 @@ pub line_refused : (text : List ℕ) (n : ℕ) (line : List ℕ) (lines rest : L
 line_refused text n line lines rest h s r = let g = rw (← r) at (rw s at h) in rw g refl
 
 -- at the front nothing is parsed yet
-pub text_begins : (text : List ℕ) (whole : List Part) (p : Part) → whole ≡ [] → p ≡ empty_part 0 → IsRead text whole p (link_lines text)
+pub text_begins : (text : List ℕ) (whole : List Part) (p : Part) → whole ≡ [] → p ≡ empty_part 1 → IsRead text whole p (link_lines text)
 text_begins text whole p w e = ap (λ (ps : List Part). parts_left ps p (link_lines text)) w ∙ ap (λ (q : Part). parts_left [] q (link_lines text)) e ∙ parts_begin (link_lines text)
 
 -- at the end the parts are the text's, and no line is at fault

@@ -38,5 +38,4 @@ refused_behind p input ms rest number (fault.Line n) h c b r = absurd r
 refused_behind p input ms rest number (fault.External f) h c b r = absurd r
 refused_behind p input ms rest number (fault.Reach k f) h c b r = absurd r
 refused_behind p input ms rest number (fault.Starts j k) h c b r = absurd r
-refused_behind p input ms rest number (fault.Beyond o) h c b r = absurd r
-refused_behind p input ms rest number (fault.Overlap a s t) h c b r = absurd r
+refused_behind p input ms rest number (fault.Space f) h c b r = absurd r

@@ -1,4 +1,8 @@
--- How faults of a text, of derived places and of segments in memory become faults of a link.
+-- How faults of a text, of placements, of derived places and of segments in memory become faults of a link.
+use Rattle.std.specs.Prelude.{ℕ, List, filter_map, Option, option_map}
+use Rattle.std.specs.List.{enumerate_from}
+use Rattle.omf_derive.specs.Derive.{PlacedModule}
+use Rattle.omf_reloc.specs.declared.fault.ReachFault.{ReachFault}
 use Rattle.omf_derive.specs.declared.fault.DeriveFault.{DeriveFault}
 use Rattle.omf_derive.specs.declared.fault.DeriveFault.TheVariants as derive
 use Rattle.omf_linking.specs.declared.space.fault.MemoryFault.{MemoryFault}
@@ -18,5 +22,11 @@ of_derive f = fault.External f
 
 abbrev pub of_memory : MemoryFault → LinkFault
 of_memory memory.Memory = fault.Memory
-of_memory (memory.Overlap a s t) = fault.Overlap a s t
-of_memory (memory.Beyond o) = fault.Beyond o
+of_memory f = fault.Space f
+
+-- The modules whose placements have a fault, each with its first.
+abbrev pub far_by : (PlacedModule → Option ReachFault) → ℕ × PlacedModule → Option LinkFault
+far_by g m = option_map (λ f. fault.Reach m.0 f) (g m.1)
+
+abbrev pub all_far : (PlacedModule → Option ReachFault) → List PlacedModule → List LinkFault
+all_far g ms = filter_map (far_by g) (enumerate_from 0 ms)

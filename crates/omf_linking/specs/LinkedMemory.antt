@@ -1,15 +1,15 @@
 -- The memory of several modules (this profile's rule).
 use Rattle.std.specs.Prelude.{List, Result, Ok, Err}
 use Rattle.omf_image.specs.Overlay.{Laid}
-use Rattle.omf_linking.specs.Space.Segments.{SegmentAt, AreLaid, DoOverlap, IsFirstBeyond, LieWell}
+use Rattle.omf_linking.specs.Space.Segments.{SegmentAt, IsMemoryOf}
 use Rattle.omf_linking.specs.declared.fault.LinkFault.{LinkFault}
 use Rattle.omf_linking.specs.declared.fault.LinkFault.TheVariants as fault
+use Rattle.omf_linking.specs.declared.space.fault.MemoryFault.TheVariants as memory
 
--- The memory of all segments, as segment 0 of an image: the byte at each address is that of the one segment with a byte there; or the first segment with a
--- byte beyond the last address; or else the first two that overlap. Memory is returned only if there is no such fault.
+-- The memory of all segments, as segment 0 of an image; or why they do not fit into one. Running out of memory hides no such fault.
 abbrev pub IsLinkedMemory : List SegmentAt → Result (List Laid) LinkFault → Type 0
-IsLinkedMemory ss (Ok image) = AreLaid ss image
-IsLinkedMemory ss (Err fault.Memory) = LieWell ss
-IsLinkedMemory ss (Err (fault.Beyond o)) = IsFirstBeyond ss o
-IsLinkedMemory ss (Err (fault.Overlap a s t)) = DoOverlap ss a s t
+IsLinkedMemory ss (Ok image) = IsMemoryOf ss (Ok image)
+IsLinkedMemory ss (Err fault.Memory) = IsMemoryOf ss (Err memory.Memory)
+IsLinkedMemory ss (Err (fault.Space memory.Memory)) = ⊥
+IsLinkedMemory ss (Err (fault.Space f)) = IsMemoryOf ss (Err f)
 IsLinkedMemory ss (Err _) = ⊥

@@ -39,7 +39,7 @@ abbrev pub giving : Line → Option GivenLine
 giving (n, Some (GivenExternal i p)) = Some (n, (i, p))
 giving _ = None
 
--- A part: the number of the line before it, its entries, and the externals that it gives.
+-- A part: the number of the line that begins it (1, or that of an `M` line), its entries, and the externals that it gives.
 pub record Part : Type 0 where
   pub line : ℕ
   pub draft : Draft
@@ -51,9 +51,9 @@ draft_in es = record { segments = filter_map segment_entry es; groups = filter_m
 abbrev pub part_of : ℕ × List Line → Part
 part_of (n, ls) = record { line = n; draft = draft_in (map placing ls); given = filter_map giving ls }
 
--- The parts of a text, between its `M` lines. The first begins at the front, after line 0.
+-- The parts of a text, between its `M` lines. The first begins at line 1.
 abbrev pub parts_of : List Line → List Part
-parts_of ls = map part_of (zip (0 ∷ filter_map border ls) (slice_split is_border ls))
+parts_of ls = map part_of (zip (1 ∷ filter_map border ls) (slice_split is_border ls))
 
 -- The parts that a text spells, or the first line at fault. This does not depend on the modules.
 abbrev pub parsed_parts : List ℕ → Result (List Part) ℕ

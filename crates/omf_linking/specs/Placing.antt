@@ -1,8 +1,9 @@
 -- The placements of modules by a link's text, each external placed by the text or by its name (this profile's rule).
-use Rattle.std.specs.Prelude.{◌≡◌, ⊤, ℕ, List, [], ◌∷◌, length, map, flat_map, filter_map, zip, Option, Some, None, Result, Ok, Err, if◌then◌else◌}
+use Rattle.std.specs.Prelude.{◌≡◌, ⊤, ℕ, List, [], ◌∷◌, ◌++◌, length, slice_get, map, flat_map, filter_map, zip, Option, Some, None, Result, Ok, Err, if◌then◌else◌}
 use Rattle.std.specs.List.{enumerate_from}
 use Rattle.omf_records.specs.Values.{Rec}
-use Rattle.omf_check.specs.Tables.{externals, is_defined}
+use Rattle.omf_check.specs.Tables.{segments, groups, externals, is_defined}
+use Rattle.omf_derive.specs.Derive.{PlacedModule}
 -- computed: derived_is_taken of omf_derive.
 use Rattle.omf_derive.specs.Inner.Derived.{derived}
 use Rattle.omf_derive.specs.declared.fault.DeriveFault.{DeriveFault}
@@ -10,7 +11,10 @@ use Rattle.omf_derive.specs.declared.given.Given.{Given}
 use Rattle.omf_placement.specs.Placement.{Places}
 use Rattle.omf_placement.specs.PlacementText.{resolved}
 use Rattle.omf_linking.specs.Parts.{Part, GivenLine, parsed_parts}
-use Rattle.omf_linking.specs.Faults.{of_derive}
+use Rattle.omf_reloc.specs.declared.fault.Kind.TheVariants as kinds
+use Rattle.omf_reloc.specs.declared.fault.ReachFault.{ReachFault}
+use Rattle.omf_reloc.specs.Reach.{missing, extra}
+use Rattle.omf_linking.specs.Faults.{all_far, of_derive}
 use Rattle.omf_linking.specs.declared.fault.LinkFault.{LinkFault}
 use Rattle.omf_linking.specs.declared.fault.LinkFault.TheVariants as fault
 
@@ -55,13 +59,30 @@ given_in p = map (given_as p.0) p.1.given
 abbrev pub given_of : List Part → List Given
 given_of ps = flat_map given_in (enumerate_from 0 ps)
 
--- The placements of modules by a text; or the first fault: a line, or an external without a place.
+-- The entries of segments and groups that a module's placement lacks or has too many: the first of each list.
+abbrev pub miscounts : PlacedModule → List ReachFault
+miscounts m =
+    missing kinds.Segment (length (segments m.0)) (length m.1.segments)
+    ++ missing kinds.Group (length (groups m.0)) (length m.1.groups)
+    ++ extra kinds.Segment (length (segments m.0)) (length m.1.segments)
+    ++ extra kinds.Group (length (groups m.0)) (length m.1.groups)
+
+abbrev pub miscount : PlacedModule → Option ReachFault
+miscount m = slice_get (miscounts m) 0
+
+-- A result, unless some module's placement has a fault: then the first of these.
+abbrev pub unless_far : {A : Type 0} → List LinkFault → Result A LinkFault → Result A LinkFault
+unless_far [] r = r
+unless_far (f ∷ fs) r = Err f
+
+-- The placements of modules by a text; or the first fault: a line, or a module without exactly its entries of segments and groups, or an external without a
+-- place.
 abbrev pub derived_or : Result (List Places) DeriveFault → Result (List Places) LinkFault
 derived_or (Ok pls) = Ok pls
 derived_or (Err f) = Err (of_derive f)
 
 abbrev pub found : List (List Rec) → List Part → Result (List Places) ℕ → Result (List Places) LinkFault
-found ms ps (Ok pls) = derived_or (derived (zip ms pls) (given_of ps))
+found ms ps (Ok pls) = unless_far (all_far miscount (zip ms pls)) (derived_or (derived (zip ms pls) (given_of ps)))
 found ms ps (Err n) = Err (fault.Line n)
 
 abbrev pub by_parts : List (List Rec) → Result (List Part) ℕ → Result (List Places) LinkFault

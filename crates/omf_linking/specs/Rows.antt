@@ -14,7 +14,7 @@ use Rattle.omf_linking.specs.declared.relocated.Relocated.{Relocated}
 abbrev pub lines : List (List ℕ) → List ℕ
 lines ls = join_with_byte 10 ls
 
--- A part after a line.
+-- A part that begins at a line.
 abbrev pub part : ℕ → List Placed → List (ℕ × Option Frame) → List GivenLine → Part
 part n segments groups given = record { line = n; draft = record { segments = segments; groups = groups; externals = [] }; given = given }
 

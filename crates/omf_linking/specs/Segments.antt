@@ -1,19 +1,20 @@
 -- The segments of modules at their placements (this profile's rule).
-use Rattle.std.specs.Prelude.{ℕ, List, [], ◌∷◌, map, flat_map, zip, Bool, ◌==◌, Option}
+use Rattle.std.specs.Prelude.{ℕ, List, [], ◌∷◌, map, flat_map, zip, Bool, ◌==◌, Option, option_map, unwrap_or}
 use Rattle.std.specs.List.{enumerate_from}
-use Rattle.omf_frame.specs.Bytes.{bits}
-use Rattle.omf_records.specs.Values.{Rec, Contents, Segment}
+use Rattle.omf_records.specs.Values.{Rec, Contents, Segment, combination}
+use Rattle.omf_check.specs.Tables.{entry}
 use Rattle.omf_derive.specs.Derive.{PlacedModule}
+use Rattle.omf_placement.specs.declared.frame.Placed.{Placed}
 use Rattle.omf_image.specs.Limits.{profile_limits}
 use Rattle.omf_image.specs.Overlay.{byte_at}
 use Rattle.omf_linking.specs.Space.Segments.{SegmentAt}
-use Rattle.omf_placement.specs.Placement.{Places, placed}
+use Rattle.omf_placement.specs.Placement.{Places}
 use Rattle.omf_reloc.specs.Image.{image}
 use Rattle.omf_linking.specs.declared.relocated.Relocated.{Relocated}
 
--- A segment is common if the combination of its SEGDEF, bits 2 to 4 of the attribute byte, is 6 (TIS OMF 1.1, "SEGDEF", C field).
+-- A segment is common if the combination of its SEGDEF is 6 (TIS OMF 1.1, "SEGDEF", C field).
 abbrev pub is_common : ℕ → Bool
-is_common attribute = bits attribute 2 3 == 6
+is_common attribute = combination attribute == 6
 
 -- Whether each segment of a module is common, in index order.
 abbrev pub commons_in : Contents → List Bool
@@ -31,12 +32,16 @@ Bytes = ℕ → ℕ → Option ℕ
 abbrev pub ModuleBytes : Type 0
 ModuleBytes = PlacedModule × Bytes
 
+-- The address of a segment; 0 if it has no place, and then its module does not reach.
+abbrev pub address_in : List Placed → ℕ → ℕ
+address_in places i = unwrap_or (option_map (λ p. p.address) (entry places i)) 0
+
 -- A segment of module j, by its index and whether it is common: it is at its place in the placement, with its bytes in the image.
 abbrev pub module_segment : ℕ → Places → Bytes → ℕ × Bool → SegmentAt
 module_segment j pl bytes s = record {
   owner = record { «module» = j; segment = s.0 };
   common = s.1;
-  address = (placed pl.segments s.0).address;
+  address = address_in pl.segments s.0;
   byte = bytes s.0;
 }
 

@@ -4,7 +4,7 @@ ghost use Rattle.std.specs.Prelude.{◌≡◌};
 ghost use Rattle.omf_linking.specs.Faults.{of_derive, of_memory, of_text};
 ghost use Rattle.omf_linking.specs.declared.fault.LinkFault.TheVariants.{Memory};
 
-use crate::space::{MemoryFault, Owner};
+use crate::space::MemoryFault;
 use omf_frame::{Place, Reason};
 use omf_reloc::{DeriveFault, ReachFault, TextFault};
 use std::alloc::{AllocError, AllocFailed};
@@ -52,19 +52,9 @@ pub enum LinkFault {
         /// The next.
         second: u32,
     },
-    /// This segment has a byte above the last address, FFFFFFFFH.
-    #[error("a segment has a byte beyond the last address")]
-    Beyond(Owner),
-    /// Two segments that are not both common have a byte at one address.
-    #[error("two segments have a byte at one address")]
-    Overlap {
-        /// The first such address.
-        address: u32,
-        /// The first segment with a byte there.
-        first: Owner,
-        /// The next one that may not share the address with it.
-        second: Owner,
-    },
+    /// The segments do not fit into one memory.
+    #[error("the segments do not fit into one memory")]
+    Space(MemoryFault),
 }
 
 impl From<AllocError> for LinkFault {
@@ -100,7 +90,9 @@ impl From<DeriveFault> for LinkFault {
     fn from(fault: DeriveFault) -> LinkFault {
         match fault {
             DeriveFault::Memory => LinkFault::Memory,
-            other => LinkFault::External(other),
+            DeriveFault::Undefined { .. }
+            | DeriveFault::Twice { .. }
+            | DeriveFault::TooHigh { .. } => LinkFault::External(fault),
         }
     }
 }
@@ -111,16 +103,7 @@ impl From<MemoryFault> for LinkFault {
     fn from(fault: MemoryFault) -> LinkFault {
         match fault {
             MemoryFault::Memory => LinkFault::Memory,
-            MemoryFault::Overlap {
-                address,
-                first,
-                second,
-            } => LinkFault::Overlap {
-                address,
-                first,
-                second,
-            },
-            MemoryFault::Beyond(owner) => LinkFault::Beyond(owner),
+            MemoryFault::Overlap { .. } | MemoryFault::Beyond(_) => LinkFault::Space(fault),
         }
     }
 }

@@ -11,6 +11,7 @@ mod placing;
 mod reading;
 mod relocated;
 pub mod rows;
+mod search;
 mod segments;
 pub mod space;
 

@@ -10,8 +10,9 @@ ghost use Rattle.omf_linking.specs.Segments.{all_segments, with_images, with_own
 
 use crate::fault::LinkFault;
 use crate::relocated::Relocated;
+use crate::search::judged;
 use crate::segments::{ModuleSegments, segments_of};
-use crate::space::{MemoryFault, judged, try_memory};
+use crate::space::{MemoryFault, try_memory};
 use omf_check::Checked;
 use omf_image::Image;
 use omf_placement::Placement;
@@ -38,9 +39,10 @@ fn try_image(
 ///
 /// # Errors
 ///
-/// `Beyond` for the first segment with a byte above the last address. Else `Overlap` if two segments that are not both common have a byte
-/// at one address: the first such address, the first segment there, and the next that may not share the address with it. `Memory` if
-/// memory runs out, only if there is no such fault; to see that, each run of bytes may be compared with each segment, which is slow.
+/// `Space`, with `Beyond` for the first segment with a byte above the last address; else with `Overlap` if two segments that are not both
+/// common have a byte at one address: the first such address, the first segment there, and the next that may not share the address with
+/// it. `Memory` if memory runs out, only if there is no such fault; to see that, each run of bytes may be compared with each segment, which
+/// is slow.
 pub fn memory_image(
     alloc: Global,
     modules: &[Checked],

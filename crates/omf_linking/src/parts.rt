@@ -53,7 +53,7 @@ fn given_as(module: u32, external: u16, placed: Placed) -> Given
 }
 
 impl Part {
-    /// Makes an empty part that follows this line.
+    /// Makes an empty part that begins at this line.
     fn new(alloc: Global, line: u64) -> Part
         ensures { result ≡ empty_part line }
     {
@@ -64,7 +64,7 @@ impl Part {
         }
     }
 
-    /// Returns the line before the part.
+    /// Returns the line that begins the part.
     pub(crate) fn line(&self) -> u64
         ensures { result ≡ self.now.line }
     {
@@ -153,7 +153,7 @@ pub fn parse_parts(alloc: Global, text: &[u8]) -> Result<Vec<Part>, TextFault>
 {
     let mut parts = Parts {
         whole: Vec::new(alloc),
-        current: Part::new(alloc, 0),
+        current: Part::new(alloc, 1),
     };
     let mut is_short = false;
     let mut rest = Some(text);

@@ -1,19 +1,23 @@
 //! The placements of several modules.
 
-ghost use Rattle.std.specs.Prelude.{◌≡◌, ◌++◌, ◌<◌, ◌^◌, [], Ok, OnOk, IfErr, IfOk, IsOk, length};
+ghost use Rattle.std.specs.Prelude.{◌≡◌, ◌++◌, ◌<◌, ◌≤◌, ◌^◌, [], Ok, OnOk, IfErr, IfOk, IsOk, length, slice_get};
+ghost use Rattle.omf_derive.specs.Derive.{placed_modules};
+ghost use Rattle.omf_reloc.specs.Reach.{extra, missing};
+ghost use Rattle.omf_linking.specs.Faults.{all_far};
 ghost use Rattle.omf_check.specs.Module.{recs_of, typed_modules};
 ghost use Rattle.omf_records.specs.Inner.Seen.{map_ok};
 ghost use Rattle.omf_placement.specs.PlacementText.{IsAnswer};
 ghost use Rattle.omf_linking.specs.Parts.{parsed_parts};
 ghost use Rattle.omf_linking.specs.declared.fault.LinkFault.TheVariants.{Memory};
 ghost use Rattle.omf_linking.specs.Inner.Parsing.{IsKept, given_by, place_by};
-ghost use Rattle.omf_linking.specs.Placing.{IsOutcome, by_parts, given_in, given_of, linked, place_of, places_of};
+ghost use Rattle.omf_linking.specs.Placing.{IsOutcome, by_parts, given_in, given_of, linked, miscount, place_of, places_of};
 
 use crate::fault::LinkFault;
 use crate::parts::{Part, parse_parts};
 use omf_check::Checked;
 use omf_derive::{Given, derive};
 use omf_placement::{Placement, TextFault};
+use omf_reloc::{Kind, ReachFault};
 use std::alloc::Global;
 
 /// Returns the placement of a module by its part, and adds the external places that the part gives.
@@ -106,13 +110,63 @@ fn places_of(
     Ok(places)
 }
 
+/// Returns the first entry that a placement lacks, of a table with this number of entries.
+fn missing(kind: Kind, entries: u16, given: usize) -> Option<ReachFault>
+    ensures { result ≡ slice_get (missing kind entries given) 0 }
+{
+    if given < usize::from(entries) {
+        Some(ReachFault::Missing(kind, given as u16 + 1))
+    } else {
+        None
+    }
+}
+
+/// Returns the first entry of a placement beyond a table with this number of entries.
+fn extra(kind: Kind, entries: u16, given: usize) -> Option<ReachFault>
+    requires { entries ≤ 32767 }
+    ensures { result ≡ slice_get (extra kind entries given) 0 }
+{
+    if usize::from(entries) < given {
+        Some(ReachFault::Extra(kind, entries + 1))
+    } else {
+        None
+    }
+}
+
+/// Returns the first entry of a segment or group that a placement lacks, or has too many for its module.
+fn miscount(module: &Checked, placement: &Placement) -> Option<ReachFault>
+    ensures { result ≡ miscount (recs_of «module».now.bytes, placement.now) }
+{
+    let segments = placement.segment_count();
+    let groups = placement.group_count();
+    missing(Kind::Segment, module.segments(), segments)
+        .or(missing(Kind::Group, module.groups(), groups))
+        .or(extra(Kind::Segment, module.segments(), segments))
+        .or(extra(Kind::Group, module.groups(), groups))
+}
+
+/// Returns the first module whose placement does not have exactly its segments and groups.
+fn misfit(modules: &[Checked], placements: &[Placement]) -> Option<LinkFault>
+    requires few { length modules.now < 2 ^ 32 }
+    requires placed { length placements.now ≡ length modules.now }
+    ensures { result ≡ slice_get (all_far miscount (placed_modules modules.now placements.now)) 0 }
+{
+    for (j, module) in modules.iter().enumerate() {
+        if let Some(fault) = miscount(module, &placements[j]) {
+            let module = j as u32;
+            return Some(LinkFault::Reach { module, fault });
+        }
+    }
+    None
+}
+
 /// Returns the placements of modules by the parts of a text: segments and groups by its part of each module; each external at the place
 /// that the text gives, or at that of the one public of its name, as `derive` finds it.
 ///
 /// # Errors
 ///
-/// The first of: `Line` for a line that does not fit its module; `External` for an external without a place. `Memory` if memory runs out,
-/// only if every line fits its module.
+/// The first of: `Line` for a line that does not fit its module; `Reach`, with `Missing` or `Extra`, for the first module without exactly its
+/// entries of segments and groups; `External` for an external without a place. `Memory` if memory runs out, only if every line fits its module.
 pub fn link_parts(
     alloc: Global,
     modules: &[Checked],
@@ -125,6 +179,9 @@ pub fn link_parts(
 {
     let mut given = Vec::new(alloc);
     let places = places_of(alloc, modules, parts, &mut given)?;
+    if let Some(fault) = misfit(modules, &places) {
+        return Err(fault);
+    }
     let placements = derive(alloc, modules, &places, &given)?;
     Ok(placements)
 }
@@ -134,8 +191,9 @@ pub fn link_parts(
 ///
 /// # Errors
 ///
-/// The first of: `Line` for a line that is not understood or does not fit its module; `External` for an external without a place.
-/// `Memory` if memory runs out, only if every line is understood.
+/// The first of: `Line` for a line that is not understood or does not fit its module; `Reach`, with `Missing` or `Extra`, for the first module
+/// without exactly its entries of segments and groups; `External` for an external without a place. `Memory` if memory runs out, only if every
+/// line is understood.
 pub fn link(alloc: Global, modules: &[Checked], text: &[u8]) -> Result<Vec<Placement>, LinkFault>
     requires { length modules.now < 2 ^ 32 }
     ensures placements { IsOutcome (linked (typed_modules modules.now) text.now) (map_ok (λ v. v.items) result) }

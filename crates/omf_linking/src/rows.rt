@@ -24,7 +24,7 @@ pub fn lines_of_a_link()
 
 /// Texts of two parts: the second begins after the line `M`, and lines count over the whole text.
 pub fn parts_of_a_text()
-    ensures parts { parsed_parts (lines (codes "S 20 0 0" ∷ codes "X 1 30 0 0" ∷ codes " M ; next" ∷ codes "G 0 8" ∷ [])) ≡ Ok (part 0 (at 0x20 0 0 ∷ []) [] ((2, (1, at 0x30 0 0)) ∷ []) ∷ part 3 [] ((4, Some (frame 0 8)) ∷ []) [] ∷ []) }
+    ensures parts { parsed_parts (lines (codes "S 20 0 0" ∷ codes "X 1 30 0 0" ∷ codes " M ; next" ∷ codes "G 0 8" ∷ [])) ≡ Ok (part 1 (at 0x20 0 0 ∷ []) [] ((2, (1, at 0x30 0 0)) ∷ []) ∷ part 3 [] ((4, Some (frame 0 8)) ∷ []) [] ∷ []) }
     ensures fault { parsed_parts (lines (codes "M" ∷ codes "E 1 0 0" ∷ codes "q" ∷ [])) ≡ Err 2 }
 {}
 
@@ -37,9 +37,9 @@ pub fn parts_and_modules()
 /// An `X` line gives a place to an external of its part's module. If the module has no such external, the line is at fault, ahead of a
 /// group without a frame.
 pub fn externals_given_by_hand()
-    ensures given { given_of (part 0 [] [] [] ∷ part 3 [] [] ((4, (2, at 0x30 0 0)) ∷ []) ∷ []) ≡ given_at 1 2 0x30 ∷ [] }
-    ensures frame { places_of ([] ∷ []) (part 0 [] ((1, None) ∷ []) [] ∷ []) ≡ Err 1 }
-    ensures stray { places_of ([] ∷ []) (part 0 [] ((1, None) ∷ []) ((2, (2, at 0 0 0)) ∷ []) ∷ []) ≡ Err 2 }
+    ensures given { given_of (part 1 [] [] [] ∷ part 3 [] [] ((4, (2, at 0x30 0 0)) ∷ []) ∷ []) ≡ given_at 1 2 0x30 ∷ [] }
+    ensures frame { places_of ([] ∷ []) (part 1 [] ((1, None) ∷ []) [] ∷ []) ≡ Err 1 }
+    ensures stray { places_of ([] ∷ []) (part 1 [] ((1, None) ∷ []) ((2, (2, at 0 0 0)) ∷ []) ∷ []) ≡ Err 2 }
 {}
 
 /// The start is that of the one main module that names one: bit 7 of the type byte of its MODEND is set. Of two or more the first two are

@@ -5,22 +5,31 @@ ghost use Rattle.omf_records.specs.Inner.Seen.{contents_seen};
 ghost use Rattle.omf_check.specs.Module.{recs_of};
 ghost use Rattle.omf_check.specs.Tables.{segments};
 ghost use Rattle.omf_derive.specs.Derive.{placed_modules};
+ghost use Rattle.omf_linking.specs.Inner.Searching.{AreMany, listed};
 ghost use Rattle.omf_linking.specs.Space.Segments.{segment_at, segments_at};
-ghost use Rattle.omf_placement.specs.Placement.{placed};
-ghost use Rattle.omf_linking.specs.Segments.{all_segments, commons, commons_in, image_bytes, is_common, module_segment, module_segments, with_images};
+ghost use Rattle.omf_linking.specs.Segments.{address_in, all_segments, commons, commons_in, image_bytes, is_common, module_segment, module_segments, with_images};
 
 use crate::relocated::Relocated;
-use crate::space::{Owner, PlacedSegment, SegmentList};
+use crate::space::{Owner, PlacedSegment};
 use omf_check::Checked;
 use omf_placement::Placement;
-use omf_records::Rec;
+use omf_records::{Acbp, Combination, Rec};
 use std::alloc::{AllocError, Global};
 
-/// Returns whether the combination (C field) in a SEGDEF's attribute byte is common.
-fn is_common(attribute: u8) -> bool
+/// Returns whether the combination in a SEGDEF's attribute byte is common.
+fn is_common(attribute: Acbp) -> bool
     ensures { result ≡ is_common attribute }
 {
-    attribute / 4 % 8 == 6
+    match attribute.combination() {
+        Combination::Common => true,
+        Combination::Private
+        | Combination::Reserved1
+        | Combination::Public
+        | Combination::Reserved3
+        | Combination::Public4
+        | Combination::Stack
+        | Combination::Public7 => false,
+    }
 }
 
 /// Returns whether a record's segment is common; none if it is no SEGDEF.
@@ -57,10 +66,10 @@ fn commons_of(alloc: Global, module: &Checked) -> Result<Vec<bool>, AllocError>
 
 /// Returns the address of a segment, by its index; 0 if it has no place.
 fn address_of(placement: &Placement, index: u16) -> u32
-    ensures { result ≡ (placed placement.now.segments index).address }
+    ensures { result ≡ address_in placement.now.segments index }
 {
     match placement.segment(usize::from(index)) {
-        Some((address, _frame)) => address,
+        Some(place) => place.address,
         None => 0,
     }
 }
@@ -85,21 +94,36 @@ fn placed_segment<'a>(
     }
 }
 
+/// A module of several.
+#[derive(Clone, Copy)]
+struct Member<'a> {
+    /// Its number, from 0.
+    number: u32,
+    /// The module.
+    module: &'a Checked,
+    /// Its placement.
+    placement: &'a Placement,
+}
+
 /// Adds the segments of a module.
 fn add_module<'a>(
     alloc: Global,
     segments: &mut Vec<PlacedSegment<'a>>,
-    number: u32,
-    module: &Checked,
-    placement: &Placement,
+    member: &Member<'_>,
     relocated: &'a Relocated,
 ) -> Result<(), AllocError>
-    ensures { OnOk result (segments_at segments.new.items ≡ segments_at segments.old.items ++ module_segments (number, ((recs_of «module».now.bytes, placement.now), image_bytes relocated.now))) }
+    ensures { OnOk result (segments_at segments.new.items ≡ segments_at segments.old.items ++ module_segments (member.now.number, ((recs_of member.now.«module».now.bytes, member.now.placement.now), image_bytes relocated.now))) }
 {
-    let commons = commons_of(alloc, module)?;
-    for before in 0..module.segments() {
+    let commons = commons_of(alloc, member.module)?;
+    for before in 0..member.module.segments() {
         let common = commons[usize::from(before)];
-        let segment = placed_segment(number, before + 1, common, placement, relocated);
+        let segment = placed_segment(
+            member.number,
+            before + 1,
+            common,
+            member.placement,
+            relocated,
+        );
         segments.push(segment)?;
     }
     Ok(())
@@ -123,14 +147,12 @@ pub fn segments_of<'a>(
 {
     let mut segments = Vec::new(alloc);
     for (j, module) in modules.iter().enumerate() {
-        add_module(
-            alloc,
-            &mut segments,
-            j as u32,
+        let member = Member {
+            number: j as u32,
             module,
-            &placements[j],
-            &relocated[j],
-        )?;
+            placement: &placements[j],
+        };
+        add_module(alloc, &mut segments, &member, &relocated[j])?;
     }
     Ok(segments)
 }
@@ -164,16 +186,12 @@ pub(crate) struct ModuleSegments<'a> {
     pub relocated: &'a [Relocated],
 }
 
-impl<'a> SegmentList for ModuleSegments<'a> {
-    ghost use Rattle.std.specs.Prelude.{◌≡◌, ◌<◌, ◌^◌, length};
-    ghost use Rattle.omf_derive.specs.Derive.{placed_modules};
-    ghost use Rattle.omf_linking.specs.Segments.{all_segments, with_images};
-
-    ghost listed = { λ s. all_segments (with_images (placed_modules s.modules.now s.placements.now) s.relocated.now) };
-
-    ghost holds = { λ s. (length s.modules.now < 2 ^ 32) × (length s.placements.now ≡ length s.modules.now) × (length s.relocated.now ≡ length s.modules.now) };
-
-    fn count(&self) -> usize {
+impl<'a> ModuleSegments<'a> {
+    /// Returns the number of segments.
+    pub fn count(&self) -> usize
+        requires { AreMany self.now }
+        ensures { result ≡ length (listed self.now) }
+    {
         let mut count = 0;
         for module in self.modules {
             count += usize::from(module.segments());
@@ -181,7 +199,12 @@ impl<'a> SegmentList for ModuleSegments<'a> {
         count
     }
 
-    fn segment(&self, n: usize) -> PlacedSegment<'_> {
+    /// Returns the segment with this number, from 0.
+    pub fn segment(&self, n: usize) -> PlacedSegment<'a>
+        requires holds { AreMany self.now }
+        requires within { n < length (listed self.now) }
+        ensures { slice_get (listed self.now) n ≡ Some (segment_at result) }
+    {
         let mut left = n;
         for (j, module) in self.modules.iter().enumerate() {
             let count = usize::from(module.segments());

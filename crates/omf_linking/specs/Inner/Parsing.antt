@@ -12,7 +12,7 @@ use Rattle.omf_linking.specs.Placing.{place_of, no_places, given_in}
 use Rattle.omf_linking.specs.declared.entry.LinkEntry.TheVariants as code
 use Rattle.omf_linking.specs.declared.entry.LinkEntry as written
 
--- An empty part after a line.
+-- An empty part that begins at a line.
 abbrev pub empty_part : ℕ → Part
 empty_part n = record { line = n; draft = record { segments = []; groups = []; externals = [] }; given = [] }
 

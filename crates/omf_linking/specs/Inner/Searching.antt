@@ -1,7 +1,17 @@
 -- The search for an overlap without memory (the steps of the code).
-use Rattle.std.specs.Prelude.{◌≡◌, ◌⊎◌, ℕ, ◌-◌, ◌<◌, List, Option, Some, None, IsSome, IsNone, min}
+use Rattle.std.specs.Prelude.{◌≡◌, ◌⊎◌, ℕ, ◌-◌, ◌<◌, ◌^◌, List, length, Option, Some, None, IsSome, IsNone, min}
+use Rattle.omf_derive.specs.Derive.{placed_modules}
+use Rattle.omf_linking.specs.Segments.{all_segments, with_images}
 use Rattle.omf_linking.specs.Space.Memory.{Share, overlap}
 use Rattle.omf_linking.specs.Space.Segments.{SegmentAt, share_in}
+use Rattle.omf_linking.specs.declared.segments.ModuleSegments.{ModuleSegments}
+
+-- All segments of modules that have a placement and an image each.
+abbrev pub AreMany : ModuleSegments → Type 0
+AreMany s = (length s.modules.now < 2 ^ 32) × (length s.placements.now ≡ length s.modules.now) × (length s.relocated.now ≡ length s.modules.now)
+
+abbrev pub listed : ModuleSegments → List SegmentAt
+listed s = all_segments (with_images (placed_modules s.modules.now s.placements.now) s.relocated.now)
 
 -- The lower of an address and the lowest so far; and the lower of two, if there are any.
 abbrev pub lowest_with : Option ℕ → ℕ → ℕ

@@ -3,14 +3,39 @@
 ghost use Rattle.std.specs.Prelude.{◌≡◌, [], All, Err, IfOk, is_some};
 ghost use Rattle.omf_image.specs.Overlay.{AreLaidOver};
 ghost use Rattle.omf_linking.specs.Space.Memory.{piece, pieces, Lies, share_of, shares, overlap, IsFirstOverlap, IsMemory};
-ghost use Rattle.omf_linking.specs.Inner.Laying.{extents_in, laid_pieces};
+ghost use Rattle.omf_linking.specs.Inner.Laying.{excluded, extents_in, laid_pieces};
+ghost use Rattle.omf_linking.specs.Inner.Searching.{lowest_with};
 
 use crate::space::fault::MemoryFault;
-use crate::space::search::{excluded, lower};
 use crate::space::stretch::{Owner, Stretch};
 use crate::space::sweep::{first_overlap, intervals_of};
 use omf_image::{Extent, Image, painted};
 use std::alloc::{AllocError, Global};
+
+/// Returns the first segment with a byte at an address and one more, if there is a first and they may not share it.
+pub(crate) fn excluded(
+    first: Option<(Owner, bool)>,
+    owner: Owner,
+    is_common: bool,
+) -> Option<(Owner, Owner)>
+    ensures { result ≡ excluded first owner is_common }
+{
+    let (known, common) = first?;
+    if common && is_common {
+        return None;
+    }
+    Some((known, owner))
+}
+
+/// Returns the lower of an address and the lowest so far.
+pub(crate) fn lower(lowest: Option<u32>, address: u32) -> u32
+    ensures { result ≡ lowest_with lowest address }
+{
+    match lowest {
+        Some(low) => low.min(address),
+        None => address,
+    }
+}
 
 /// Returns whether a stretch has a byte at an address.
 fn has(stretch: &Stretch<'_>, address: u32) -> bool

@@ -6,12 +6,10 @@ ghost use Rattle.omf_image.specs.Inner.Joined.{runs_of};
 ghost use Rattle.omf_image.specs.Overlay.{byte_at};
 ghost use Rattle.omf_linking.specs.Space.Memory.{Lies};
 ghost use Rattle.omf_linking.specs.Inner.Runs.{AreStretches, HasMore, IsAdded, IsStretchAt, IsTried};
-ghost use Rattle.omf_linking.specs.Space.Segments.{IsMemoryOf, segment_at, segments_at};
+ghost use Rattle.omf_linking.specs.Space.Segments.{segment_at, segments_at};
 
 use crate::space::fault::MemoryFault;
-use crate::space::list::Listed;
 use crate::space::memory::memory_of;
-use crate::space::search::judged;
 use crate::space::segment::PlacedSegment;
 use crate::space::stretch::Stretch;
 use omf_image::Image;
@@ -84,20 +82,4 @@ pub(crate) fn try_memory(
 {
     let stretches = stretches_of(alloc, segments)?;
     memory_of(alloc, &stretches)
-}
-
-/// Returns the memory of segments of images at their addresses: an image with the addresses of memory as the offsets of segment 0. Common
-/// segments may overlap; the byte of the last one counts.
-///
-/// # Errors
-///
-/// `Beyond` for the first segment with a byte above the last address, FFFFFFFFH. Else `Overlap` if two segments that are not both common
-/// have a byte at one address: the first such address, the first segment there, and the next that may not share the address with it.
-/// `Memory` if memory runs out, only if there is no such fault; to see that, each run of bytes may be compared with each segment, which is
-/// slow.
-pub fn segments_memory(alloc: Global, segments: &[PlacedSegment<'_>]) -> Result<Image, MemoryFault>
-    ensures { IsMemoryOf (segments_at segments.now) result }
-{
-    let tried = try_memory(alloc, segments);
-    judged(&Listed { segments }, tried)
 }

@@ -16,7 +16,7 @@ loop-j-preserved c =
     = next-placed c.args.modules.now c.args.placements.now j c.index-modules-j.result c.index-placements-j.result c.index-modules-j.is c.index-placements-j.is c.loop-j-test.true c.requires.placed in
     let grown = ap length c.in-Ok-push.ensures.items ∙ length-append c.loop-j.relocated.items (c.in-Ok.at ∷ []) in
     record {
-      relocated = one_relocated ms j m next c.loop-j.relocated.items c.push.new.self.items c.in-Ok.at c.in-Ok-push.ensures.items c.in-Ok.ensures.1 c.loop-j.invariant.relocated;
+      relocated = one_relocated ms j m next c.loop-j.relocated.items c.push.new.self.items c.in-Ok.at c.in-Ok-push.ensures.items c.in-Ok.ensures c.loop-j.invariant.relocated;
       counted = omega (arith, grown, c.loop-j.invariant.counted);
     }
 

@@ -7,5 +7,5 @@ use Rattle.omf_linking.proofs.segments.add_module.Given as goal
 
 -- the segments so far were added
 abbrev pub invariant-loop-before : goal.invariant-loop-before
-invariant-loop-before l = let f = module_segment l.number l.placement (image_bytes l.relocated) in
+invariant-loop-before l = let f = module_segment l.member.number l.member.placement.now (image_bytes l.relocated) in
     AreFrom f l.segments.items l.before (drop l.before l.commons.items) (segments_at l.initial.segments.items ++ map f (enumerate_from 1 l.commons.items))

@@ -9,4 +9,4 @@ use Rattle.omf_linking.proofs.relocated.Relocated.of.Goals as goal
 pub returns : goal.returns
 returns c =
     let ls = laid profile_limits c.args.placement.now (pieces (recs (records_in c.args.module.now.bytes))) in
-    (c.in-Ok.ensures.ok, record { reaches = c.in-Ok.ensures.reaches; bytes = (images_are ls c.in-Ok.image c.in-Ok.ensures.laid).0; starts = c.start-start.ensures })
+    record { reaches = c.in-Ok.ensures.reaches; bytes = (images_are ls c.in-Ok.image c.in-Ok.ensures.laid).0; starts = c.start-start.ensures }

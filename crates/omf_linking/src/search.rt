@@ -1,43 +1,14 @@
 //! The search for a fault of segments without memory: slow, for a memory that has run out.
 
-ghost use Rattle.std.specs.Prelude.{◌≡◌, ◌<◌, All, Err, Some, false, is_some, length, true};
-ghost use Rattle.omf_linking.specs.Inner.Laying.{excluded};
-ghost use Rattle.omf_linking.specs.Inner.Searching.{IsLowest, begins_in, lesser, lowest_with};
+ghost use Rattle.std.specs.Prelude.{◌≡◌, ◌<◌, All, Err, is_some, false, true};
 ghost use Rattle.omf_linking.specs.Inner.Runs.{IsFoundBeyond, IsTried};
+ghost use Rattle.omf_linking.specs.Inner.Searching.{AreMany, IsLowest, begins_in, lesser, listed};
 ghost use Rattle.omf_linking.specs.Space.Memory.{IsFirstOverlap, overlap};
 ghost use Rattle.omf_linking.specs.Space.Segments.{IsBeyond, IsMemoryOf, IsWithin, segment_at, segment_shares, share_in};
 
-use crate::space::fault::MemoryFault;
-use crate::space::list::SegmentList;
-use crate::space::runs::stretch_at;
-use crate::space::segment::PlacedSegment;
-use crate::space::stretch::Owner;
+use crate::segments::ModuleSegments;
+use crate::space::{MemoryFault, Owner, PlacedSegment, excluded, lower, stretch_at};
 use omf_image::Image;
-
-/// Returns the first segment with a byte at an address and one more, if there is a first and they may not share it.
-pub(crate) fn excluded(
-    first: Option<(Owner, bool)>,
-    owner: Owner,
-    is_common: bool,
-) -> Option<(Owner, Owner)>
-    ensures { result ≡ excluded first owner is_common }
-{
-    let (known, common) = first?;
-    if common && is_common {
-        return None;
-    }
-    Some((known, owner))
-}
-
-/// Returns the lower of an address and the lowest so far.
-pub(crate) fn lower(lowest: Option<u32>, address: u32) -> u32
-    ensures { result ≡ lowest_with lowest address }
-{
-    match lowest {
-        Some(low) => low.min(address),
-        None => address,
-    }
-}
 
 /// Returns the lower of two addresses, if there are any.
 fn lesser(one: Option<u32>, other: Option<u32>) -> Option<u32>
@@ -61,9 +32,9 @@ fn has(segment: &PlacedSegment<'_>, address: u32) -> bool
 }
 
 /// Returns the first two segments with a byte at an address that may not share it.
-fn owners_at<S: SegmentList>(segments: &S, address: u32) -> Option<(Owner, Owner)>
-    requires { S.holds segments.now }
-    ensures { result ≡ overlap (segment_shares (S.listed segments.now) address) }
+fn owners_at(segments: &ModuleSegments<'_>, address: u32) -> Option<(Owner, Owner)>
+    requires { AreMany segments.now }
+    ensures { result ≡ overlap (segment_shares (listed segments.now) address) }
 {
     let mut first = None;
     for n in 0..segments.count() {
@@ -95,9 +66,9 @@ fn is_beyond(segment: &PlacedSegment<'_>) -> bool
 }
 
 /// Returns the first segment with a byte beyond the last address.
-fn first_beyond<S: SegmentList>(segments: &S) -> Option<Owner>
-    requires { S.holds segments.now }
-    ensures { IsFoundBeyond (S.listed segments.now) result }
+fn first_beyond(segments: &ModuleSegments<'_>) -> Option<Owner>
+    requires { AreMany segments.now }
+    ensures { IsFoundBeyond (listed segments.now) result }
 {
     for n in 0..segments.count() {
         let segment = segments.segment(n);
@@ -109,10 +80,10 @@ fn first_beyond<S: SegmentList>(segments: &S) -> Option<Owner>
 }
 
 /// Returns the first address at which bytes of a segment begin and two segments overlap that may not.
-fn overlap_in<S: SegmentList>(segments: &S, segment: &PlacedSegment<'_>) -> Option<u32>
-    requires holds { S.holds segments.now }
+fn overlap_in(segments: &ModuleSegments<'_>, segment: &PlacedSegment<'_>) -> Option<u32>
+    requires holds { AreMany segments.now }
     requires within { IsWithin (segment_at segment.now) }
-    ensures { IsLowest (segment_shares (S.listed segments.now)) (λ a. begins_in a (segment_at segment.now)) result }
+    ensures { IsLowest (segment_shares (listed segments.now)) (λ a. begins_in a (segment_at segment.now)) result }
 {
     let mut k = 0;
     while let Some((first, bytes)) = segment.image.run_with_bytes(segment.owner.segment, k) {
@@ -128,10 +99,10 @@ fn overlap_in<S: SegmentList>(segments: &S, segment: &PlacedSegment<'_>) -> Opti
 }
 
 /// Returns the first address at which two segments overlap that may not.
-fn first_overlap<S: SegmentList>(segments: &S) -> Option<u32>
-    requires holds { S.holds segments.now }
-    requires within { All IsWithin (S.listed segments.now) }
-    ensures { IsFirstOverlap (segment_shares (S.listed segments.now)) result }
+fn first_overlap(segments: &ModuleSegments<'_>) -> Option<u32>
+    requires holds { AreMany segments.now }
+    requires within { All IsWithin (listed segments.now) }
+    ensures { IsFirstOverlap (segment_shares (listed segments.now)) result }
 {
     let mut lowest = None;
     for n in 0..segments.count() {
@@ -142,10 +113,11 @@ fn first_overlap<S: SegmentList>(segments: &S) -> Option<u32>
 }
 
 /// Returns why segments have no memory: the first with a byte beyond the last address, else the first overlap, else that memory ran out.
-/// It takes no memory, and for each run of bytes as long as there are segments.
-fn fault_of<S: SegmentList>(segments: &S) -> MemoryFault
-    requires { S.holds segments.now }
-    ensures { IsMemoryOf (S.listed segments.now) (Err result) }
+/// It takes no memory, but time: each run of bytes is compared with each segment, and to find a segment its module's records are read up
+/// to its SEGDEF.
+fn fault_of(segments: &ModuleSegments<'_>) -> MemoryFault
+    requires { AreMany segments.now }
+    ensures { IsMemoryOf (listed segments.now) (Err result) }
 {
     if let Some(owner) = first_beyond(segments) {
         return MemoryFault::Beyond(owner);
@@ -164,13 +136,13 @@ fn fault_of<S: SegmentList>(segments: &S) -> MemoryFault
 }
 
 /// Returns what was tried, except that a fault takes the place of `Memory` if there is one.
-pub(crate) fn judged<S: SegmentList>(
-    segments: &S,
+pub(crate) fn judged(
+    segments: &ModuleSegments<'_>,
     tried: Result<Image, MemoryFault>,
 ) -> Result<Image, MemoryFault>
-    requires holds { S.holds segments.now }
-    requires tried { IsTried (S.listed segments.now) tried }
-    ensures { IsMemoryOf (S.listed segments.now) result }
+    requires holds { AreMany segments.now }
+    requires tried { IsTried (listed segments.now) tried }
+    ensures { IsMemoryOf (listed segments.now) result }
 {
     match tried {
         Ok(image) => Ok(image),

@@ -3,7 +3,7 @@ use Rattle.std.specs.Prelude.{flat_map, slice_get}
 use Rattle.std.specs.List.{enumerate_from}
 use Rattle.omf_derive.specs.Derive.{placed_modules}
 use Rattle.omf_linking.specs.Segments.{all_segments, module_segments, with_images}
-use Rattle.omf_linking.proofs.segments.ModuleSegmentsSegmentList.segment.Given as goal
+use Rattle.omf_linking.proofs.segments.ModuleSegments.segment.Given as goal
 
 -- the segment is that of the modules that are left with what is left of its number
 abbrev pub invariant-loop-j : goal.invariant-loop-j

@@ -9,7 +9,7 @@ use Rattle.omf_records.specs.Values.{Rec}
 use Rattle.omf_linking.specs.Space.Segments.{segment_at}
 use Rattle.omf_linking.specs.Segments.{ModuleBytes, all_segments, image_bytes, module_segment, module_segments, with_images}
 use Rattle.omf_linking.proofs.SegmentsLaws.{next_module, next_of, no_module, segment_here, segment_later, some_left, placed_same}
-use Rattle.omf_linking.proofs.segments.ModuleSegmentsSegmentList.segment.Goals as goal
+use Rattle.omf_linking.proofs.segments.ModuleSegments.segment.Goals as goal
 
 pub returns-then-left-count : goal.returns-then-left-count
 returns-then-left-count c =

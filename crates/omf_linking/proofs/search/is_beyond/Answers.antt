@@ -5,7 +5,7 @@ use Rattle.omf_linking.proofs.SpaceLaws.CoverLaws.{runs_are_all}
 use Rattle.omf_image.proofs.ShownLaws.{number_low, number_fits, some_bytes, run_next, none_left}
 use Rattle.omf_linking.proofs.SpaceLaws.RunSteps.{no_runs_yet, all_within}
 use Rattle.omf_linking.proofs.SpaceLaws.SearchLaws.{err_beyond, one_within}
-use Rattle.omf_linking.proofs.space.search.is_beyond.Goals as goal
+use Rattle.omf_linking.proofs.search.is_beyond.Goals as goal
 
 pub loop-first-init : goal.loop-first-init
 loop-first-init c =

@@ -3,7 +3,7 @@ use Rattle.std.specs.Prelude.{flat_map}
 use Rattle.std.specs.List.{enumerate_from}
 use Rattle.omf_derive.specs.Derive.{placed_modules}
 use Rattle.omf_linking.specs.Segments.{all_segments, module_segments, with_images}
-use Rattle.omf_linking.proofs.segments.ModuleSegmentsSegmentList.count.Given as goal
+use Rattle.omf_linking.proofs.segments.ModuleSegments.count.Given as goal
 
 -- the segments of the modules so far, and those that are left
 abbrev pub invariant-loop-module : goal.invariant-loop-module

@@ -2,7 +2,7 @@ use Rattle.std.proofs.Common.{◌≤◌, ◌-◌, length, drop}
 use Rattle.omf_image.specs.Inner.Joined.{runs_of}
 use Rattle.omf_linking.specs.Space.Segments.{segment_at}
 use Rattle.omf_linking.proofs.SpaceLaws.SearchLaws.{SomeSoFar}
-use Rattle.omf_linking.proofs.space.search.is_beyond.Given as goal
+use Rattle.omf_linking.proofs.search.is_beyond.Given as goal
 
 -- the runs so far have addresses
 abbrev pub invariant-loop-first : goal.invariant-loop-first

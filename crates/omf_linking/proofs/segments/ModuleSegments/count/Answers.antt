@@ -5,7 +5,7 @@ use Rattle.omf_derive.specs.Derive.{placed_modules}
 use Rattle.omf_records.specs.Values.{Rec}
 use Rattle.omf_linking.specs.Segments.{with_images}
 use Rattle.omf_linking.proofs.SegmentsLaws.{next_of, no_module, count_next, all_counted}
-use Rattle.omf_linking.proofs.segments.ModuleSegmentsSegmentList.count.Goals as goal
+use Rattle.omf_linking.proofs.segments.ModuleSegments.count.Goals as goal
 
 pub loop-module-preserved : goal.loop-module-preserved
 loop-module-preserved c =
