@@ -230,12 +230,12 @@ none-bad : (n : ℕ) (es : List LinkEntry) → filter_map bad_line (told_from n 
 none-bad n [] = refl
 none-bad n (e ∷ es) = none-bad (n + 1) es
 
-read-back : (text : List ℕ) (es : List LinkEntry) (ms : List (List Rec)) (pls : List Places) → SpellsLines link_read text es → AreRead ms pls (parts_from 0 (told_from 1 (es ++ OfPlacement Blank ∷ []))) → IsReadBack ms pls text
+read-back : (text : List ℕ) (es : List LinkEntry) (ms : List (List Rec)) (pls : List Places) → SpellsLines link_read text es → AreRead ms pls (parts_from 1 (told_from 1 (es ++ OfPlacement Blank ∷ []))) → IsReadBack ms pls text
 read-back text es ms pls told read =
     let lines : link_lines text ≡ told_from 1 (es ++ OfPlacement Blank ∷ [])
     = ap link_lines (sym (append-nil text)) ∙ told 1 [] ∙ sym (told-append 1 es (OfPlacement Blank ∷ [])) in
     record {
-      parts = parts_from 0 (told_from 1 (es ++ OfPlacement Blank ∷ []));
+      parts = parts_from 1 (told_from 1 (es ++ OfPlacement Blank ∷ []));
       parses = ap (λ ls. ok_or_first (parts_of ls) (filter_map bad_line ls)) lines
           ∙ ap (ok_or_first (parts_of (told_from 1 (es ++ OfPlacement Blank ∷ [])))) (none-bad 1 (es ++ OfPlacement Blank ∷ []));
       each = read.each;
@@ -255,4 +255,4 @@ link-text-read frames (m ∷ ms) (pl ∷ pls) some has short =
     let es = links (entries_for pl part.count) in
     read-back (text ++ more) (es ++ rest.entries) (m ∷ ms) (pl ∷ pls)
     (more-lines link_read text more es rest.entries part.told rest.told)
-    (subst (λ fs. AreRead (m ∷ ms) (pl ∷ pls) (parts_from 0 (told_from 1 fs))) (sym (append_assoc es rest.entries (OfPlacement Blank ∷ []))) (rest.read 0 1 m pl part.count has.0.externals))
+    (subst (λ fs. AreRead (m ∷ ms) (pl ∷ pls) (parts_from 1 (told_from 1 fs))) (sym (append_assoc es rest.entries (OfPlacement Blank ∷ []))) (rest.read 1 1 m pl part.count has.0.externals))

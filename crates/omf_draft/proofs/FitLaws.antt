@@ -4,7 +4,6 @@ use Rattle.std.specs.Prelude.{map, zip, filter_map, All, Option, Some, None, sli
 use Rattle.std.specs.List.{AllZip, enumerate_from}
 use Rattle.std.proofs.lemmas.List.{length-map}
 use Rattle.std.proofs.lemmas.List.Elements.{All-nil, All-cons, All-head}
-use Rattle.std.proofs.lemmas.List.FromFn.{length-map-range_with_len}
 use Rattle.std.proofs.lemmas.Option.{none-some, same_Some}
 use Rattle.omf_records.specs.Values.{Rec}
 use Rattle.omf_check.specs.Tables.{segments, groups, entry}
@@ -16,15 +15,16 @@ use Rattle.omf_reloc.specs.declared.fault.Cause.{Cause}
 use Rattle.omf_reloc.specs.declared.fault.ReachFault.{ReachFault}
 use Rattle.omf_reloc.specs.declared.fault.ReachFault.TheVariants as fault
 use Rattle.omf_reloc.specs.Plain.{pieces}
-use Rattle.omf_reloc.specs.Reach.{Fits, causes, all_reference_places, far_fault, far_faults, reach_fault}
+use Rattle.omf_reloc.specs.Laws.{Fits}
+use Rattle.omf_reloc.specs.Reach.{causes, all_reference_places, far_fault, far_faults, reach_fault}
 use Rattle.omf_reloc.proofs.ReachLaws.{fits-to}
 use Rattle.omf_layout.specs.Layout.{Laid}
 use Rattle.omf_layout.specs.declared.options.Options.{Options}
 use Rattle.omf_layout.specs.Several.Laying.{Lying, arranged}
-use Rattle.omf_layout.specs.Several.Placing.{place_or_none, segments_in, all_segments_in, lows, frame_named, with_frames, all_with_frames}
+use Rattle.omf_layout.specs.Several.Placing.{segments_in, all_segments_in, lows, frame_named, with_frames, all_with_frames}
 use Rattle.omf_layout.specs.Several.Portions.{Named, name_at}
 use Rattle.omf_layout.proofs.FitLaws.{map_some, segment-count, group-count, external-count, absolute-at as layout-absolute}
-use Rattle.omf_layout.proofs.SeveralLaws.FitLaws.{absolute-at}
+use Rattle.omf_layout.proofs.SeveralLaws.FitLaws.{absolute-at, all-placed}
 use Rattle.omf_draft.specs.Fit.{IsFar, FitsModule, LayoutsFit, FitsSoFar, FitModules, PlacesFit}
 
 -- If a placement fits, the first fault is that of a reference.
@@ -64,7 +64,7 @@ module _ (o : Options) (ms : List (List Rec)) (k : Laid (List Lying)) (h : arran
       let same : a + 0 ≡ a = omega arith in (
         record {
           entries = record {
-            segments = length-map-range_with_len (place_or_none k.what a) 1 (length (segments m));
+            segments = all-placed o ms k h a m (ap (slice_get ms) (sym same) ∙ sym (e 0));
             groups = length-map (groups m) (λ g. frame_named o.frames named (name_at m g.name.item));
           };
           no_externals = refl;

@@ -1,21 +1,25 @@
 -- The lines of a map, one after another: what is written, and the lines of what is left, are the whole.
 use Rattle.std.proofs.Common.{◌≡◌, ℕ, suc, ◌+◌, ◌≤◌, List, [], ◌∷◌, ◌++◌, length, drop, refl, sym, ap, ◌∙◌, arith, append_assoc}
-use Rattle.std.specs.Prelude.{flat_map, Bool, true, false, Option, Some, slice_get}
+use Rattle.std.specs.Prelude.{flat_map, Option, Some, slice_get}
 use Rattle.std.specs.List.{enumerate_from}
 use Rattle.std.proofs.Math.Seq.{drop-cons}
 use Rattle.std.proofs.lemmas.List.{append-nil, drop_all}
 use Rattle.std.proofs.lemmas.Option.{slice_get_within, get_or_from_slice_get}
+use Rattle.omf_frame.specs.declared.kinds.Width.{Width}
+use Rattle.omf_frame.specs.declared.kinds.Width.TheVariants.{Bits16, Bits32}
 use Rattle.omf_records.specs.Inner.Seen.{contents_seen, kind_seen}
-use Rattle.omf_records.specs.Values.{At, PublicItem}
+use Rattle.omf_records.specs.Values.{At, PublicItem, Rec}
 use Rattle.omf_records.specs.declared.record.Rec.{Rec as CodeRec}
 use Rattle.omf_records.specs.declared.record.Rec.TheVariants as code
+use Rattle.omf_frame.specs.Framing.{Raw, raw_bytes}
+use Rattle.omf_frame.specs.declared.fault.Place.{Place}
+use Rattle.omf_records.specs.Inner.Reading.{typed}
+use Rattle.omf_check.specs.Listed.{placed_from}
 use Rattle.omf_check.specs.Tables.{entry}
-use Rattle.omf_derive.specs.Derive.{base_of, segment_base, publics_at, record_publics}
+use Rattle.omf_check.specs.WellFormed.{recs}
 use Rattle.omf_derive.proofs.NamedLaws.{entry-suc}
-use Rattle.omf_placement.specs.declared.frame.Placed.{Placed}
 use Rattle.omf_placement.specs.Placement.{Places}
-use Rattle.omf_draft.specs.Map.MapText.{public_line}
-use Rattle.omf_draft.specs.Inner.Steps.{item_line}
+use Rattle.omf_draft.specs.Map.MapText.{base_at, public_line, public_lines, record_lines}
 
 pub record ArePrinted {A : Type 0} (f : ℕ × A → List ℕ) (xs : List A) (i : ℕ) (old now : List ℕ) : Type 0 where
   pub whole : now ++ flat_map f (enumerate_from (i + 1) (drop i xs)) ≡ old ++ flat_map f (enumerate_from 1 xs)
@@ -48,16 +52,19 @@ part_more old new part rest left all e f h = ap (λ t. t ++ rest) e ∙ append_a
 pub no_part_left : (old left all : List ℕ) → left ≡ [] → old ++ left ≡ all → old ≡ all
 no_part_left old left all e h = sym (append-nil old) ∙ ap (λ t. old ++ t) (sym e) ∙ h
 
--- the lines of the publics of a PUBDEF, by its base
-pub items_printed : (number : ℕ) (base : Placed) (items : List (At PublicItem)) → flat_map (item_line number base.address) items ≡ flat_map (public_line number) (publics_at base items)
-items_printed number base [] = refl
-items_printed number base (q ∷ items) = ap (λ t. item_line number base.address q ++ t) (items_printed number base items)
-
 -- those of a PUBDEF are not local
 abbrev pub shown_of : ℕ → Places → CodeRec → List ℕ
-shown_of number pl r = flat_map (public_line number) (record_publics false pl (kind_seen r) (contents_seen r))
+shown_of number pl r = record_lines number pl (kind_seen r) (contents_seen r)
 
-pub pubdef_printed : (number : ℕ) (pl : Places) (wide : Bool) (group segment : At ℕ) (frame : Option ℕ) (items : List (At PublicItem))
-    → flat_map (item_line number (segment_base pl segment.item frame).address) items ≡ shown_of number pl (code.Publics wide group segment frame items)
-pubdef_printed number pl true group segment frame items = items_printed number (base_of pl group.item segment.item frame) items
-pubdef_printed number pl false group segment frame items = items_printed number (base_of pl group.item segment.item frame) items
+pub pubdef_printed : (number : ℕ) (pl : Places) (width : Width) (group segment : At ℕ) (frame : Option ℕ) (items : List (At PublicItem))
+    → flat_map (public_line number (base_at pl segment.item frame)) items ≡ shown_of number pl (code.Publics width group segment frame items)
+pubdef_printed number pl Bits16 group segment frame items = refl
+pubdef_printed number pl Bits32 group segment frame items = refl
+
+-- the lines of the publics of records with their places
+abbrev pub listed_lines : ℕ → Places → List (Place × Rec) → List ℕ
+listed_lines number pl xs = flat_map (λ x. record_lines number pl x.1.kind x.1.contents) xs
+
+pub listed-lines : (n : ℕ) (pl : Places) (number start : ℕ) (rs : List Raw) → listed_lines n pl (placed_from number start rs) ≡ public_lines (n, (recs rs, pl))
+listed-lines n pl number start [] = refl
+listed-lines n pl number start (r ∷ rs) = ap (λ t. record_lines n pl r.kind (typed r).contents ++ t) (listed-lines n pl (number + 1) (start + length (raw_bytes r)) rs)

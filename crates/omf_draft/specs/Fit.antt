@@ -9,7 +9,8 @@ use Rattle.omf_derive.specs.Derivation.{IsPlaceOf}
 -- computed: derived_is_taken of omf_derive.
 use Rattle.omf_derive.specs.Inner.Derived.{derived}
 use Rattle.omf_derive.specs.declared.given.Given.{Given}
-use Rattle.omf_reloc.specs.Reach.{Fits, reach_fault}
+use Rattle.omf_reloc.specs.Laws.{Fits}
+use Rattle.omf_reloc.specs.Reach.{reach_fault}
 use Rattle.omf_reloc.specs.declared.fault.ReachFault.{ReachFault}
 use Rattle.omf_reloc.specs.declared.fault.ReachFault.TheVariants as fault
 use Rattle.omf_layout.specs.Layout.{Laid, LaidOut, layout_of}
@@ -32,7 +33,7 @@ LayoutsFit = (o : Options) (m : List Rec) (l : LaidOut) → layout_of o m ≡ So
 
 -- The places of a module that has no places for its externals yet: one entry for each segment and each group, and each absolute segment where its SEGDEF puts it.
 pub record FitsSoFar (m : List Rec) (pl : Places) : Type 0 where
-  pub entries : IsPlaceOf (m, pl)
+  pub entries : IsPlaceOf m pl
   pub no_externals : pl.externals ≡ []
   pub absolute : (i number offset : ℕ) (s : SegInfo) → entry (segments m) i ≡ Some s → s.absolute ≡ Some (number, offset) → entry pl.segments i ≡ Some (absolute_place number offset)
 

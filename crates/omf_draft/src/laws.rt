@@ -36,7 +36,8 @@ pub fn places_fit()
     ensures { PlacesFit }
 {}
 
-/// A draft leaves an external open exactly if none of the publics among which `derive` looks has its name.
+/// A draft leaves an external open exactly if none of the publics among which `derive` looks has its name, at placements where each PUBDEF and
+/// LPUBDEF has a base.
 pub fn drafts_look_among_publics()
     ensures { DraftsLookAmongPublics }
 {}

@@ -1,13 +1,13 @@
 //! The map of several modules.
 
-ghost use Rattle.std.specs.Prelude.{◌≡◌, IfOk, length, flat_map, string_bytes, false};
+ghost use Rattle.std.specs.Prelude.{◌≡◌, ◌+◌, IfOk, length, flat_map, option_map, string_bytes};
 ghost use Rattle.std.specs.List.{enumerate_from};
 ghost use Rattle.omf_frame.specs.Bytes.{AddsText};
 ghost use Rattle.omf_records.specs.Inner.Seen.{contents_seen, kind_seen};
 ghost use Rattle.omf_check.specs.Module.{recs_of};
-ghost use Rattle.omf_derive.specs.Derive.{record_publics, segment_base, placed_modules};
-ghost use Rattle.omf_draft.specs.Map.MapText.{address_at, external_lines, map_text, public_line, public_lines, segment_line, segment_lines};
-ghost use Rattle.omf_draft.specs.Inner.Steps.{item_line, part_lines};
+ghost use Rattle.omf_derive.specs.Derive.{placed_modules};
+ghost use Rattle.omf_draft.specs.Map.MapText.{address_at, base_at, external_lines, map_text, public_line, public_lines, record_lines, segment_line, segment_lines};
+ghost use Rattle.omf_draft.specs.Inner.Steps.{part_lines};
 
 use crate::map::printing::{print_external, print_public, print_segment};
 use omf_check::{Checked, SegInfo};
@@ -27,21 +27,21 @@ enum Part {
 }
 
 /// Returns the address of a segment, by its index from 1; none if it has no place.
-fn segment_address(placement: &Placement, index: u16) -> Option<u32>
+fn segment_address(placement: &Placement, index: u16) -> Option<u64>
     ensures { result ≡ address_at placement.now.segments index }
 {
     match placement.segment(usize::from(index)) {
-        Some((address, _frame)) => Some(address),
+        Some(place) => Some(u64::from(place.address)),
         None => None,
     }
 }
 
 /// Returns the address of an external, by its index from 1; none if it has no place.
-fn external_address(placement: &Placement, index: u16) -> Option<u32>
+fn external_address(placement: &Placement, index: u16) -> Option<u64>
     ensures { result ≡ address_at placement.now.externals index }
 {
     match placement.external(usize::from(index)) {
-        Some((address, _frame)) => Some(address),
+        Some(place) => Some(u64::from(place.address)),
         None => None,
     }
 }
@@ -83,15 +83,28 @@ fn print_segments(
 }
 
 /// Returns the base address of a PUBDEF's publics: that of its segment, or that of its base frame if it names none.
-fn base_address(placement: &Placement, segment: u16, frame: Option<u16>) -> u32
-    ensures { result ≡ (segment_base placement.now segment frame).address }
+fn base_address(placement: &Placement, segment: u16, frame: Option<u16>) -> Option<u32>
+    ensures { result ≡ base_at placement.now segment frame }
 {
     if segment == 0 {
-        return 16 * u32::from(frame.unwrap_or(0));
+        return match frame {
+            Some(number) => Some(16 * u32::from(number)),
+            None => None,
+        };
     }
     match placement.segment(usize::from(segment)) {
-        Some((address, _frame)) => address,
-        None => 0,
+        Some(place) => Some(place.address),
+        None => None,
+    }
+}
+
+/// Returns the address at an offset from a base, if there is one.
+fn offset_from(base: Option<u32>, offset: u32) -> Option<u64>
+    ensures { result ≡ option_map (λ b. b + offset) base }
+{
+    match base {
+        Some(base) => Some(u64::from(base) + u64::from(offset)),
+        None => None,
     }
 }
 
@@ -99,24 +112,23 @@ fn base_address(placement: &Placement, segment: u16, frame: Option<u16>) -> u32
 fn print_item(
     text: &mut String,
     number: usize,
-    base: u32,
+    base: Option<u32>,
     public: &At<Public<'_>>,
 ) -> Result<(), AllocError>
-    ensures { AddsText result (string_bytes text.old) (string_bytes text.new) (item_line number base public.now) }
+    ensures { AddsText result (string_bytes text.old) (string_bytes text.new) (public_line number base public.now) }
 {
     let item = &public.item;
-    let address = u64::from(base) + u64::from(item.offset);
-    print_public(text, number, address, item.name.0)
+    print_public(text, number, offset_from(base, item.offset), item.name.0)
 }
 
 /// Prints a line for each public of a PUBDEF.
 fn print_items(
     text: &mut String,
     number: usize,
-    base: u32,
+    base: Option<u32>,
     publics: &Items<Public<'_>>,
 ) -> Result<(), AllocError>
-    ensures { AddsText result (string_bytes text.old) (string_bytes text.new) (flat_map (item_line number base) publics.now) }
+    ensures { AddsText result (string_bytes text.old) (string_bytes text.new) (flat_map (public_line number base) publics.now) }
 {
     for public in publics.iter() {
         print_item(text, number, base, &public)?;
@@ -131,7 +143,7 @@ fn print_record(
     placement: &Placement,
     rec: &Rec<'_>,
 ) -> Result<(), AllocError>
-    ensures { AddsText result (string_bytes text.old) (string_bytes text.new) (flat_map (public_line number) (record_publics false placement.now (kind_seen rec.now) (contents_seen rec.now))) }
+    ensures { AddsText result (string_bytes text.old) (string_bytes text.new) (record_lines number placement.now (kind_seen rec.now) (contents_seen rec.now)) }
 {
     let Rec::Publics {
         segment,
@@ -219,12 +231,12 @@ fn print_part(
 /// - `segment M I AAAAAAAA LLLLLLLL "NAME" "CLASS"` for each segment, module by module: the numbers of the module and of the segment in
 /// it, from 1; its address and its length in bytes; its name and that of its class.
 /// - `public M AAAAAAAA "NAME"` for each public that is not local, module by module, in its module's order: its address is the one that
-/// `derive` gives externals of its name.
+/// externals of its name get: that of its segment or base frame plus its offset.
 /// - `external M I AAAAAAAA "NAME"` for each external, module by module: its number in the module, from 1, and its address.
 ///
 /// Numbers of modules, segments and externals are decimal; addresses and lengths have eight hexadecimal digits or more. Names are printed
-/// as `omf list` prints them, with a dash for none. The address of a segment or an external without a place in its module's placement is
-/// a dash. The base of a public is 0 if its segment has no place.
+/// as `omf list` prints them, with a dash for none. The address of a segment, an external, or a public of a segment is a dash if the
+/// module's placement has no place for it.
 ///
 /// # Errors
 ///

@@ -25,11 +25,11 @@ fn print_digits(text: &mut String, number: u64) -> Result<(), AllocError>
 }
 
 /// Prints a space and an address of eight hexadecimal digits, or a dash for none.
-fn print_address(text: &mut String, address: Option<u32>) -> Result<(), AllocError>
+fn print_address(text: &mut String, address: Option<u64>) -> Result<(), AllocError>
     ensures { AddsText result (string_bytes text.old) (string_bytes text.new) (32 ∷ address_or_dash address) }
 {
     match address {
-        Some(address) => print_digits(text, u64::from(address)),
+        Some(address) => print_digits(text, address),
         None => text.push_str(" -"),
     }
 }
@@ -40,7 +40,7 @@ fn print_entry(
     word: &str,
     number: usize,
     index: u16,
-    address: Option<u32>,
+    address: Option<u64>,
 ) -> Result<(), AllocError>
     ensures { AddsText result (string_bytes text.old) (string_bytes text.new) (word.now ++ 32 ∷ decimal number ++ 32 ∷ decimal index ++ 32 ∷ address_or_dash address) }
 {
@@ -86,7 +86,7 @@ pub fn print_segment(
     text: &mut String,
     number: usize,
     index: u16,
-    address: Option<u32>,
+    address: Option<u64>,
     length: u64,
     name: Option<Name<'_>>,
     class: Option<Name<'_>>,
@@ -102,14 +102,14 @@ pub fn print_segment(
 pub fn print_public(
     text: &mut String,
     number: usize,
-    address: u64,
+    address: Option<u64>,
     name: &[u8],
 ) -> Result<(), AllocError>
-    ensures { AddsText result (string_bytes text.old) (string_bytes text.new) (line (codes "public" ∷ decimal number ∷ hex 8 address ∷ quoted name.now ∷ [])) }
+    ensures { AddsText result (string_bytes text.old) (string_bytes text.new) (line (codes "public" ∷ decimal number ∷ address_or_dash address ∷ quoted name.now ∷ [])) }
 {
     text.push_str("public")?;
     print_number(text, number)?;
-    print_digits(text, address)?;
+    print_address(text, address)?;
     print_quoted(text, name)?;
     text.push_str("\n")
 }
@@ -119,7 +119,7 @@ pub fn print_external(
     text: &mut String,
     number: usize,
     index: u16,
-    address: Option<u32>,
+    address: Option<u64>,
     name: &[u8],
 ) -> Result<(), AllocError>
     ensures { AddsText result (string_bytes text.old) (string_bytes text.new) (line (codes "external" ∷ decimal number ∷ decimal index ∷ address_or_dash address ∷ quoted name.now ∷ [])) }

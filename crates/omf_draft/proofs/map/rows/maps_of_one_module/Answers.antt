@@ -13,3 +13,7 @@ returns-clause-local c = refl
 pub returns-clause-whole : goal.returns-clause-whole
 unfolding digits
 returns-clause-whole c = refl
+
+pub returns-clause-unplaced : goal.returns-clause-unplaced
+unfolding digits
+returns-clause-unplaced c = refl
