@@ -4,6 +4,7 @@ use Rattle.std.specs.Prelude.{decimal, flat_map}
 use Rattle.omf_frame.specs.declared.fault.Place.{Place}
 use Rattle.omf_frame.specs.declared.fault.Reason.{Reason}
 use Rattle.omf_linking.specs.declared.fault.LinkFault.TheVariants as link
+use Rattle.omf_linking.specs.declared.space.fault.MemoryFault.TheVariants as space
 use Rattle.omf_linking.specs.declared.space.stretch.Owner.{Owner}
 use Rattle.omf_placement.specs.Quoted.{hex, quoted}
 use Rattle.omf_reloc.specs.declared.fault.ReachFault.{ReachFault}
@@ -11,7 +12,7 @@ use Rattle.omf_cmd.specs.FaultLine.{fault_text, fault_words as run_words}
 use Rattle.omf_cmd.specs.Printed.{line, spaced}
 use Rattle.omf_cmd.specs.declared.fault.RunFault.TheVariants as run
 use Rattle.omf_cmd.proofs.Written.{front_words}
-use Rattle.omf_linker.specs.Link.Faults.{external_words, link_words, module_words, owner_words}
+use Rattle.omf_linker.specs.Link.Faults.{external_words, link_words, module_words, owner_words, space_words}
 
 after_front : (front ws : List (List ℕ)) → 0 < length ws → line (front ++ ws) ≡ flat_map spaced front ++ line ws
 after_front front [] some = absurd (omega (arith, some))
@@ -29,5 +30,5 @@ pub named_line : (j i : ℕ) (why name : List ℕ) → line (external_words j i 
 named_line j i why name = front_words (codes "module" ∷ decimal (j + 1) ∷ codes "external" ∷ decimal i ∷ why ∷ []) (quoted name) []
 
 -- two owners at the end
-pub overlap_line : (a : ℕ) (s t : Owner) (name : List ℕ) → line (link_words (link.Overlap a s t) name) ≡ flat_map spaced (codes "overlap" ∷ hex 8 a ∷ []) ++ line (owner_words s ++ owner_words t)
-overlap_line a s t name = after_front (codes "overlap" ∷ hex 8 a ∷ []) (owner_words s ++ owner_words t) (omega arith)
+pub overlap_line : (a : ℕ) (s t : Owner) → line (space_words (space.Overlap a s t)) ≡ flat_map spaced (codes "overlap" ∷ hex 8 a ∷ []) ++ line (owner_words s ++ owner_words t)
+overlap_line a s t = after_front (codes "overlap" ∷ hex 8 a ∷ []) (owner_words s ++ owner_words t) (omega arith)

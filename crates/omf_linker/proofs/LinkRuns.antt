@@ -12,14 +12,13 @@ use Rattle.omf_derive.specs.declared.fault.DeriveFault.TheVariants as derive
 use Rattle.omf_layout.specs.declared.options.Options.{Options}
 use Rattle.omf_placement.specs.Placement.{Places}
 use Rattle.omf_records.specs.Values.{Rec}
-use Rattle.omf_reloc.specs.Reach.{reach_fault}
 use Rattle.omf_reloc.specs.declared.fault.ReachFault.{ReachFault}
-use Rattle.omf_linking.specs.Faults.{of_derive}
+use Rattle.omf_linking.specs.Faults.{all_far, far_by, of_derive}
 use Rattle.omf_linking.specs.Parts.{Part, parsed_parts}
-use Rattle.omf_linking.specs.Placing.{by_parts, derived_or, found, given_of, places_of}
+use Rattle.omf_linking.specs.Placing.{by_parts, derived_or, found, given_of, miscount, places_of, unless_far}
 use Rattle.omf_check.specs.Module.{typed_modules}
 use Rattle.omf_linking.specs.Reading.{AreModules, IsPartRead, IsReadCause}
-use Rattle.omf_linking.specs.Relocated.{far_module}
+use Rattle.omf_linking.specs.Relocated.{first_fault}
 use Rattle.omf_linking.specs.Starts.{main_starts, one_start}
 use Rattle.omf_linking.specs.declared.fault.LinkFault.{LinkFault}
 use Rattle.omf_linking.specs.declared.fault.LinkFault.TheVariants as link
@@ -57,8 +56,7 @@ no_memory o ms (fault.Link (link.Line k) name) n = let is = n.0 in absurd cc
 no_memory o ms (fault.Link (link.External f) name) n = let is = n.0 in absurd cc
 no_memory o ms (fault.Link (link.Reach j f) name) n = let is = n.0 in absurd cc
 no_memory o ms (fault.Link (link.Starts j k) name) n = let is = n.0 in absurd cc
-no_memory o ms (fault.Link (link.Beyond w) name) n = let is = n.0 in absurd cc
-no_memory o ms (fault.Link (link.Overlap a s t) name) n = let is = n.0 in absurd cc
+no_memory o ms (fault.Link (link.Space f) name) n = let is = n.0 in absurd cc
 no_memory o ms fault.NoRoom n = absurd n
 no_memory o ms fault.Write n = absurd n
 
@@ -78,21 +76,26 @@ not_found : (r : Result (List Places) DeriveFault) → derived_or r ≡ Err link
 not_found (Ok pls) e = absurd cc
 not_found (Err f) e = let same : of_derive f ≡ link.Read = cc in not_derived f same
 
+far_first : (j : ℕ) (o : Option ReachFault) (fs : List LinkFault) → (slice_get fs 0 ≡ Some link.Read → ⊥) → slice_get (cons_option (option_map (λ f. link.Reach j f) o) fs) 0 ≡ Some link.Read → ⊥
+far_first j None fs h e = h e
+far_first j (Some f) fs h e = absurd cc
+
+not_far : (g : PlacedModule → Option ReachFault) (ms : List (ℕ × PlacedModule)) → slice_get (filter_map (far_by g) ms) 0 ≡ Some link.Read → ⊥
+not_far g [] e = absurd cc
+not_far g (m ∷ ms) e = far_first m.0 (g m.1) (filter_map (far_by g) ms) (not_far g ms) e
+
+not_unless : (fs : List LinkFault) (r : Result (List Places) LinkFault) → (slice_get fs 0 ≡ Some link.Read → ⊥) → (r ≡ Err link.Read → ⊥) → unless_far fs r ≡ Err link.Read → ⊥
+not_unless [] r far not e = not e
+not_unless (f ∷ fs) r far not e = let same : f ≡ link.Read = cc in far (ap Some same)
+
 not_placed : (ms : List (List Rec)) (ps : List Part) (r : Result (List Places) ℕ) → found ms ps r ≡ Err link.Read → ⊥
-not_placed ms ps (Ok pls) e = not_found (derived (zip ms pls) (given_of ps)) e
+not_placed ms ps (Ok pls) e =
+    not_unless (all_far miscount (zip ms pls)) (derived_or (derived (zip ms pls) (given_of ps))) (not_far miscount (enumerate_from 0 (zip ms pls))) (not_found (derived (zip ms pls) (given_of ps))) e
 not_placed ms ps (Err n) e = absurd cc
 
 not_parsed : (ms : List (List Rec)) (r : Result (List Part) ℕ) → by_parts ms r ≡ Err link.Read → ⊥
 not_parsed ms (Ok ps) e = not_placed ms ps (places_of ms ps) e
 not_parsed ms (Err n) e = absurd cc
-
-far_first : (j : ℕ) (o : Option ReachFault) (fs : List LinkFault) → (slice_get fs 0 ≡ Some link.Read → ⊥) → slice_get (cons_option (option_map (λ f. link.Reach j f) o) fs) 0 ≡ Some link.Read → ⊥
-far_first j None fs h e = h e
-far_first j (Some f) fs h e = absurd cc
-
-not_far : (ms : List (ℕ × PlacedModule)) → slice_get (filter_map far_module ms) 0 ≡ Some link.Read → ⊥
-not_far [] e = absurd cc
-not_far (m ∷ ms) e = far_first m.0 (reach_fault m.1.1 m.1.0) (filter_map far_module ms) (not_far ms) e
 
 not_started : (ss : List (ℕ × (ℕ × ℕ))) → one_start ss ≡ Err link.Read → ⊥
 not_started [] e = absurd cc
@@ -101,7 +104,7 @@ not_started (s ∷ t ∷ more) e = absurd cc
 
 not_first : (ms : List (List Rec)) (text : List ℕ) → IsFirstFault ms text link.Read → ⊥
 not_first ms text (inl h) = not_parsed ms (parsed_parts text) h
-not_first ms text (inr (inl h)) = not_far (enumerate_from 0 (zip ms h.0)) h.2
+not_first ms text (inr (inl h)) = not_far first_fault (enumerate_from 0 (zip ms h.0)) h.2
 not_first ms text (inr (inr (inl h))) = h.1
 not_first ms text (inr (inr (inr h))) = not_started (main_starts (zip ms h.0.relocated)) h.2
 
@@ -123,8 +126,7 @@ not_told Is ms (Err (fault.Link (link.Line n) name)) not h = tt
 not_told Is ms (Err (fault.Link (link.External f) name)) not h = tt
 not_told Is ms (Err (fault.Link (link.Reach j f) name)) not h = tt
 not_told Is ms (Err (fault.Link (link.Starts j k) name)) not h = tt
-not_told Is ms (Err (fault.Link (link.Beyond o) name)) not h = tt
-not_told Is ms (Err (fault.Link (link.Overlap a s t) name)) not h = tt
+not_told Is ms (Err (fault.Link (link.Space f) name)) not h = tt
 not_told Is ms (Err fault.NoRoom) not h = tt
 not_told Is ms (Err fault.Write) not h = h
 
@@ -137,8 +139,7 @@ not_drafted o ms (Err (fault.Link (link.Line n) name)) h = tt
 not_drafted o ms (Err (fault.Link (link.External f) name)) h = tt
 not_drafted o ms (Err (fault.Link (link.Reach j f) name)) h = tt
 not_drafted o ms (Err (fault.Link (link.Starts j k) name)) h = tt
-not_drafted o ms (Err (fault.Link (link.Beyond w) name)) h = tt
-not_drafted o ms (Err (fault.Link (link.Overlap a s t) name)) h = tt
+not_drafted o ms (Err (fault.Link (link.Space f) name)) h = tt
 not_drafted o ms (Err fault.NoRoom) h = tt
 not_drafted o ms (Err fault.Write) h = h
 
@@ -156,8 +157,7 @@ not_refused input (Err (fault.Link (link.Line n) name)) h = tt
 not_refused input (Err (fault.Link (link.External f) name)) h = tt
 not_refused input (Err (fault.Link (link.Reach j f) name)) h = tt
 not_refused input (Err (fault.Link (link.Starts j k) name)) h = tt
-not_refused input (Err (fault.Link (link.Beyond o) name)) h = tt
-not_refused input (Err (fault.Link (link.Overlap a s t) name)) h = tt
+not_refused input (Err (fault.Link (link.Space f) name)) h = tt
 not_refused input (Err fault.NoRoom) h = tt
 not_refused input (Err fault.Write) h = h
 
@@ -178,8 +178,7 @@ module _ (old new : Device) where
   unbroken (Err (fault.Link (link.External f) name)) h n = h
   unbroken (Err (fault.Link (link.Reach j f) name)) h n = h
   unbroken (Err (fault.Link (link.Starts j k) name)) h n = h
-  unbroken (Err (fault.Link (link.Beyond o) name)) h n = h
-  unbroken (Err (fault.Link (link.Overlap a s t) name)) h n = h
+  unbroken (Err (fault.Link (link.Space f) name)) h n = h
   unbroken (Err fault.NoRoom) h n = h
   unbroken (Err fault.Write) h n = n
 
@@ -195,8 +194,7 @@ module _ (old new : Device) where
   told_cause A (link.External d) name e h = absurd h
   told_cause A (link.Reach j d) name e h = absurd h
   told_cause A (link.Starts j k) name e h = absurd h
-  told_cause A (link.Beyond o) name e h = absurd h
-  told_cause A (link.Overlap a s t) name e h = absurd h
+  told_cause A (link.Space f) name e h = absurd h
 
   pub part_cause : (A : Type 0) (f : LinkFault) (e : ImageFault) → IsReadCause {A = A} old new (Err f) → IsUnnamed f e → IsShowCause old new (Err e)
   part_cause A f (fault.Link g name) c n = subst (λ (x : LinkFault). IsShowCause old new (Err (fault.Link x name))) (sym n.0) (told_cause A f name n.1 c)
@@ -212,8 +210,7 @@ read_whole t input old new (Err (fault.Link (link.Line n) name)) c i = (c, i)
 read_whole t input old new (Err (fault.Link (link.External f) name)) c i = (c, i)
 read_whole t input old new (Err (fault.Link (link.Reach j f) name)) c i = (c, i)
 read_whole t input old new (Err (fault.Link (link.Starts j k) name)) c i = (c, i)
-read_whole t input old new (Err (fault.Link (link.Beyond o) name)) c i = (c, i)
-read_whole t input old new (Err (fault.Link (link.Overlap a s s') name)) c i = (c, i)
+read_whole t input old new (Err (fault.Link (link.Space f) name)) c i = (c, i)
 read_whole t input old new (Err fault.NoRoom) c i = (c, i)
 read_whole t input old new (Err fault.Write) c i = (c, i)
 
@@ -231,8 +228,7 @@ part_of t A input before after old new (link.Line k) name h p = absurd h
 part_of t A input before after old new (link.External d) name h p = absurd h
 part_of t A input before after old new (link.Reach j d) name h p = absurd h
 part_of t A input before after old new (link.Starts j k) name h p = absurd h
-part_of t A input before after old new (link.Beyond o) name h p = absurd h
-part_of t A input before after old new (link.Overlap a s s') name h p = absurd h
+part_of t A input before after old new (link.Space d) name h p = absurd h
 
 pub part_read : (t : Task) (A : Type 0) (input : List ℕ) (before after : Device) (old new : Option (List ℕ)) (f : LinkFault) (e : ImageFault) → IsReadCause {A = A} before after (Err f) → IsPartRead old new → IsUnnamed f e
     → Shows t input old new (Err e)

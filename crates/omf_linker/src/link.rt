@@ -11,8 +11,7 @@ mod words;
 
 pub use fault::ImageFault;
 pub use linking::{modules_map, modules_text};
-pub use printed::fault_line;
 pub use printing::{image_text, memory_text};
 pub use program::Link;
-pub use running::{run_draft, run_image, run_map, run_task, shown_text};
+pub use running::{run_task, shown_text};
 pub use words::{Task, task_of};

@@ -9,6 +9,7 @@ ghost use Rattle.omf_reloc.specs.declared.fault.Kind.TheVariants as kind;
 ghost use Rattle.omf_reloc.specs.declared.fault.ReachFault.TheVariants as reach;
 ghost use Rattle.omf_layout.specs.declared.options.Frames.TheVariants.{Real, Flat};
 ghost use Rattle.omf_linking.specs.declared.fault.LinkFault.TheVariants as link;
+ghost use Rattle.omf_linking.specs.declared.space.fault.MemoryFault.TheVariants as space;
 ghost use Rattle.omf_linker.specs.Options.{options_named};
 ghost use Rattle.omf_linker.specs.Link.Rows.{bytes_at, line_of, segment_of, started_text, text_of};
 ghost use Rattle.omf_linker.specs.Link.Words.{IsAsked as AsksLink, link_app};
@@ -55,8 +56,8 @@ pub fn fault_lines()
     ensures high { line_of (link.External (derive.TooHigh 0 1)) [] ≡ codes "module 1 external 1 TooHigh \"\"" }
     ensures reach { line_of (link.Reach 2 (reach.Missing kind.Segment 1)) [] ≡ codes "module 3 reach 1 Missing segment 1" }
     ensures starts { line_of (link.Starts 0 2) [] ≡ codes "starts module 1 module 3" }
-    ensures beyond { line_of (link.Beyond (segment_of 1 3)) [] ≡ codes "beyond module 2 segment 3" }
-    ensures overlap { line_of (link.Overlap 0x10020 (segment_of 0 2) (segment_of 2 1)) [] ≡ codes "overlap 00010020 module 1 segment 2 module 3 segment 1" }
+    ensures beyond { line_of (link.Space (space.Beyond (segment_of 1 3))) [] ≡ codes "beyond module 2 segment 3" }
+    ensures overlap { line_of (link.Space (space.Overlap 0x10020 (segment_of 0 2) (segment_of 2 1))) [] ≡ codes "overlap 00010020 module 1 segment 2 module 3 segment 1" }
 {}
 
 /// What arguments of `omf-link` ask for: a subcommand after the program's own name, alone; and `draft` with options.

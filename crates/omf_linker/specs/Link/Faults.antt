@@ -3,6 +3,8 @@ use Rattle.std.specs.Prelude.{◌≡◌, ◌⊎◌, ℕ, ◌+◌, List, [], ◌�
 use Rattle.omf_check.specs.Tables.{entry, externals}
 use Rattle.omf_derive.specs.declared.fault.DeriveFault.{DeriveFault}
 use Rattle.omf_derive.specs.declared.fault.DeriveFault.TheVariants as derive
+use Rattle.omf_linking.specs.declared.space.fault.MemoryFault.{MemoryFault}
+use Rattle.omf_linking.specs.declared.space.fault.MemoryFault.TheVariants as space
 use Rattle.omf_linking.specs.declared.space.stretch.Owner.{Owner}
 use Rattle.omf_placement.specs.Entries.{in_words}
 use Rattle.omf_records.specs.Values.{Rec}
@@ -59,6 +61,12 @@ derive_words (derive.Undefined j i) name = external_words j i (codes "Undefined"
 derive_words (derive.Twice j i) name = external_words j i (codes "Twice") name
 derive_words (derive.TooHigh j i) name = external_words j i (codes "TooHigh") name
 
+-- The line of segments that do not fit into one memory.
+abbrev pub space_words : MemoryFault → List (List ℕ)
+space_words space.Memory = run_words run.Memory
+space_words (space.Beyond o) = codes "beyond" ∷ owner_words o
+space_words (space.Overlap a s t) = codes "overlap" ∷ hex 8 a ∷ owner_words s ++ owner_words t
+
 -- The line of a link fault. Refusals, lines and placements that do not reach have the words of `omf`; refusals and reach faults follow the number of their module.
 abbrev pub link_words : LinkFault → List ℕ → List (List ℕ)
 link_words link.Memory name = run_words run.Memory
@@ -68,8 +76,7 @@ link_words (link.Line n) name = run_words (run.Line n)
 link_words (link.External f) name = derive_words f name
 link_words (link.Reach j f) name = module_words j ++ run_words (run.Reach f)
 link_words (link.Starts j k) name = codes "starts" ∷ module_words j ++ module_words k
-link_words (link.Beyond o) name = codes "beyond" ∷ owner_words o
-link_words (link.Overlap a s t) name = codes "overlap" ∷ hex 8 a ∷ owner_words s ++ owner_words t
+link_words (link.Space f) name = space_words f
 
 -- The line if a draft has no room, as for `omf-place`.
 abbrev pub no_room : List ℕ

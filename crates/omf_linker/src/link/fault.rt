@@ -6,13 +6,11 @@ use crate::link::printed::print_link;
 use omf_cmd::{Fault, print_words};
 use omf_frame::Sink;
 use omf_linking::LinkFault;
-use thiserror::Error;
 
 /// Why a run fails.
-#[derive(Debug, Drop, Error)]
+#[derive(Drop)]
 pub enum ImageFault {
     /// The modules of the input are not linked.
-    #[error("the modules are not linked: {fault}")]
     Link {
         /// The first fault.
         fault: LinkFault,
@@ -20,10 +18,8 @@ pub enum ImageFault {
         name: Vec<u8>,
     },
     /// A segment of a draft has no room below the last address.
-    #[error("the modules have no room below the last address")]
     NoRoom,
     /// The writer failed, or took nothing.
-    #[error("the output could not be written")]
     Write,
 }
 
@@ -42,8 +38,7 @@ impl Fault for ImageFault {
                 LinkFault::External(_) => 1,
                 LinkFault::Reach { .. } => 1,
                 LinkFault::Starts { .. } => 1,
-                LinkFault::Beyond(_) => 1,
-                LinkFault::Overlap { .. } => 1,
+                LinkFault::Space(_) => 1,
             },
         }
     }

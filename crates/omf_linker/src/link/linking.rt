@@ -17,8 +17,8 @@ use std::alloc::Global;
 ///
 /// # Errors
 ///
-/// The first of: `Line` and `External` if the text gives no placements, as in `link`; `Reach` for the first module whose placement does not
-/// reach; `Beyond` and `Overlap` if the segments do not fit in one memory; `Starts` if two main modules have a start address. `Memory` if
+/// The first of: `Line`, `Reach` and `External` if the text gives no placements, as in `link`; `Reach` for the first module whose placement
+/// does not reach; `Space` if the segments do not fit in one memory; `Starts` if two main modules have a start address. `Memory` if
 /// memory runs out.
 pub fn modules_text(alloc: Global, modules: &[Checked], text: &[u8]) -> Result<Vec<u8>, LinkFault>
     requires { length modules.now < 2 ^ 32 }
@@ -36,7 +36,7 @@ pub fn modules_text(alloc: Global, modules: &[Checked], text: &[u8]) -> Result<V
 ///
 /// # Errors
 ///
-/// `Line` and `External` if the text gives no placements, as in `link`. `Memory` if memory runs out.
+/// `Line`, `Reach` and `External` if the text gives no placements, as in `link`. `Memory` if memory runs out.
 pub fn modules_map(alloc: Global, modules: &[Checked], text: &[u8]) -> Result<String, LinkFault>
     requires { length modules.now < 2 ^ 32 }
     ensures { IsMapped (typed_modules modules.now) text.now (map_ok (λ shown. string_bytes shown) result) }

@@ -44,8 +44,7 @@ fn name_of(modules: &[Checked], fault: LinkFault) -> &[u8]
         LinkFault::Line(_) => &[],
         LinkFault::Reach { .. } => &[],
         LinkFault::Starts { .. } => &[],
-        LinkFault::Beyond(_) => &[],
-        LinkFault::Overlap { .. } => &[],
+        LinkFault::Space(_) => &[],
     }
 }
 

@@ -1,173 +1,23 @@
-//! The line printed for a fault: as a string, and written word by word.
+//! The line printed for a fault, written word by word.
 
-ghost use Rattle.std.specs.Prelude.{◌≡◌, ◌++◌, ◌∷◌, [], Ok, IfOk, codes, decimal, flat_map, string_bytes};
-ghost use Rattle.omf_frame.specs.Bytes.{AddsText};
-ghost use Rattle.omf_cmd.specs.FaultLine.{fault_text, fault_words as run_words};
+ghost use Rattle.std.specs.Prelude.{◌≡◌, ◌++◌, ◌∷◌, [], Ok, codes, decimal, flat_map};
+ghost use Rattle.omf_cmd.specs.FaultLine.{fault_text};
 ghost use Rattle.omf_cmd.specs.Printed.{line, spaced};
 ghost use Rattle.omf_cmd.specs.Runs.{IsWritten, PrintsOr};
 ghost use Rattle.omf_cmd.specs.declared.fault.RunFault.TheVariants.{Write};
-ghost use Rattle.omf_placement.specs.Quoted.{hex, quoted};
-ghost use Rattle.omf_placement.specs.Entries.{in_words};
-ghost use Rattle.omf_linker.specs.Link.Faults.{derive_words, external_words, fault_line, link_words, module_words, owner_words};
-ghost use Rattle.omf_linking.specs.declared.fault.LinkFault.TheVariants.{Beyond, Overlap, Starts};
+ghost use Rattle.omf_placement.specs.Quoted.{hex};
+ghost use Rattle.omf_linker.specs.Link.Faults.{derive_words, external_words, link_words, module_words, owner_words, space_words};
+ghost use Rattle.omf_linking.specs.declared.fault.LinkFault.TheVariants.{Starts};
+ghost use Rattle.omf_linking.specs.declared.space.fault.MemoryFault.TheVariants.{Beyond, Overlap};
 
-use crate::link::fault::ImageFault;
 use itoa::Buffer;
 use omf_cmd::{
     Fault, RunFault, eight_digits, print_all, print_words, write_last_name, write_words,
 };
 use omf_frame::Sink;
-use omf_layout::printing::print_quoted;
 use omf_linking::LinkFault;
-use omf_linking::space::Owner;
+use omf_linking::space::{MemoryFault, Owner};
 use omf_reloc::DeriveFault;
-use std::alloc::{AllocError, Global};
-use std::fmt::Write;
-
-/// Quotes a name: in double quotes, with `\xHH` for bytes that are not plain.
-fn quoted_text(alloc: Global, name: &[u8]) -> Result<String, AllocError>
-    ensures { IfOk result (λ text. string_bytes text ≡ quoted name.now) }
-{
-    let mut text = String::new(alloc);
-    print_quoted(&mut text, name)?;
-    Ok(text)
-}
-
-/// Appends an address in eight hexadecimal digits.
-fn print_address(text: &mut String, address: u32) -> Result<(), AllocError>
-    ensures { AddsText result (string_bytes text.old) (string_bytes text.new) (hex 8 address) }
-{
-    write!(text, "{address:08X}")
-}
-
-/// An address in eight hexadecimal digits.
-fn address_text(alloc: Global, address: u32) -> Result<String, AllocError>
-    ensures { IfOk result (λ text. string_bytes text ≡ hex 8 address) }
-{
-    let mut text = String::new(alloc);
-    print_address(&mut text, address)?;
-    Ok(text)
-}
-
-/// The line of a module's fault: the module, then the line of `omf`.
-fn module_line(alloc: Global, module: u32, fault: &RunFault) -> Result<String, AllocError>
-    ensures { IfOk result (λ line. string_bytes line ≡ in_words (module_words «module» ++ run_words fault.now)) }
-{
-    let number = u64::from(module) + 1;
-    let line = omf_cmd::fault_line(alloc, fault)?;
-    format!(in alloc; "module {number} {line}")
-}
-
-/// The line of an external without a place.
-fn external_line(
-    alloc: Global,
-    module: u32,
-    external: u16,
-    why: &str,
-    name: &[u8],
-) -> Result<String, AllocError>
-    ensures { IfOk result (λ line. string_bytes line ≡ in_words (external_words «module» external why.now name.now)) }
-{
-    let number = u64::from(module) + 1;
-    let name = quoted_text(alloc, name)?;
-    format!(in alloc; "module {number} external {external} {why} {name}")
-}
-
-/// The line of an external's fault, with the external's name.
-fn derive_line(alloc: Global, fault: DeriveFault, name: &[u8]) -> Result<String, AllocError>
-    ensures { IfOk result (λ line. string_bytes line ≡ in_words (derive_words fault name.now)) }
-{
-    match fault {
-        DeriveFault::Memory => omf_cmd::fault_line(alloc, &RunFault::Memory),
-        DeriveFault::Undefined { module, external } => {
-            external_line(alloc, module, external, "Undefined", name)
-        }
-        DeriveFault::Twice { module, external } => {
-            external_line(alloc, module, external, "Twice", name)
-        }
-        DeriveFault::TooHigh { module, external } => {
-            external_line(alloc, module, external, "TooHigh", name)
-        }
-    }
-}
-
-/// The line of two modules that both have a start address.
-fn starts_line(alloc: Global, first: u32, second: u32) -> Result<String, AllocError>
-    ensures { IfOk result (λ line. string_bytes line ≡ in_words (link_words (Starts first second) [])) }
-{
-    let first = u64::from(first) + 1;
-    let second = u64::from(second) + 1;
-    format!(in alloc; "starts module {first} module {second}")
-}
-
-/// The line of a segment with a byte beyond the last address.
-fn beyond_line(alloc: Global, owner: Owner) -> Result<String, AllocError>
-    ensures { IfOk result (λ line. string_bytes line ≡ in_words (link_words (Beyond owner) [])) }
-{
-    let number = u64::from(owner.module) + 1;
-    let segment = owner.segment;
-    format!(in alloc; "beyond module {number} segment {segment}")
-}
-
-/// The line of two segments with a byte at the same address.
-fn overlap_line(
-    alloc: Global,
-    address: u32,
-    first: Owner,
-    second: Owner,
-) -> Result<String, AllocError>
-    ensures { IfOk result (λ line. string_bytes line ≡ in_words (link_words (Overlap address first second) [])) }
-{
-    let address = address_text(alloc, address)?;
-    let before = u64::from(first.module) + 1;
-    let segment = first.segment;
-    let after = u64::from(second.module) + 1;
-    let other = second.segment;
-    format!(in alloc;
-        "overlap {address} module {before} segment {segment} module {after} segment {other}"
-    )
-}
-
-/// The line of a link fault, with the name of its external.
-fn link_line(alloc: Global, fault: LinkFault, name: &[u8]) -> Result<String, AllocError>
-    ensures { IfOk result (λ line. string_bytes line ≡ in_words (link_words fault name.now)) }
-{
-    match fault {
-        LinkFault::Memory => omf_cmd::fault_line(alloc, &RunFault::Memory),
-        LinkFault::Read => omf_cmd::fault_line(alloc, &RunFault::Read),
-        LinkFault::Refused {
-            module,
-            reason,
-            place,
-        } => module_line(alloc, module, &RunFault::Refused { reason, place }),
-        LinkFault::Line(number) => omf_cmd::fault_line(alloc, &RunFault::Line(number)),
-        LinkFault::External(fault) => derive_line(alloc, fault, name),
-        LinkFault::Reach { module, fault } => module_line(alloc, module, &RunFault::Reach(fault)),
-        LinkFault::Starts { first, second } => starts_line(alloc, first, second),
-        LinkFault::Beyond(owner) => beyond_line(alloc, owner),
-        LinkFault::Overlap {
-            address,
-            first,
-            second,
-        } => overlap_line(alloc, address, first, second),
-    }
-}
-
-/// The line printed for a fault, without its line feed. Modules, externals, segments and lines are counted from 1, in decimal. An address has
-/// eight hexadecimal digits.
-///
-/// # Errors
-///
-/// `AllocError` if memory runs out.
-pub fn fault_line(alloc: Global, fault: &ImageFault) -> Result<String, AllocError>
-    ensures { IfOk result (λ line. string_bytes line ≡ fault_line fault.now) }
-{
-    match fault {
-        ImageFault::Link { fault, name } => link_line(alloc, *fault, name),
-        ImageFault::NoRoom => String::from_str(alloc, "no room below the last address"),
-        ImageFault::Write => omf_cmd::fault_line(alloc, &RunFault::Write),
-    }
-}
 
 /// Writes the front of a line: a module.
 fn write_module<K: Sink>(writer: &mut K, module: u32) -> Result<(), RunFault>
@@ -252,7 +102,7 @@ fn print_starts<K: Sink>(writer: &mut K, first: u32, second: u32)
 
 /// Prints the line of a segment with a byte beyond the last address.
 fn print_beyond<K: Sink>(writer: &mut K, owner: Owner)
-    ensures { IsWritten (K.seen writer.old) (K.seen writer.new) (line (link_words (Beyond owner) [])) }
+    ensures { IsWritten (K.seen writer.old) (K.seen writer.new) (line (space_words (Beyond owner))) }
 {
     let (mut number, mut index) = (Buffer::new(), Buffer::new());
     let number = number.format(u64::from(owner.module) + 1);
@@ -292,10 +142,25 @@ fn print_owners<K: Sink>(writer: &mut K, first: Owner, second: Owner)
 
 /// Prints the line of two segments with a byte at the same address.
 fn print_overlap<K: Sink>(writer: &mut K, address: u32, first: Owner, second: Owner)
-    ensures { IsWritten (K.seen writer.old) (K.seen writer.new) (line (link_words (Overlap address first second) [])) }
+    ensures { IsWritten (K.seen writer.old) (K.seen writer.new) (line (space_words (Overlap address first second))) }
 {
     if let Ok(()) = write_overlap(writer, address) {
         print_owners(writer, first, second);
+    }
+}
+
+/// Prints the line of segments that do not fit into one memory.
+fn print_space<K: Sink>(writer: &mut K, fault: MemoryFault)
+    ensures { IsWritten (K.seen writer.old) (K.seen writer.new) (line (space_words fault)) }
+{
+    match fault {
+        MemoryFault::Memory => RunFault::Memory.print(writer),
+        MemoryFault::Beyond(owner) => print_beyond(writer, owner),
+        MemoryFault::Overlap {
+            address,
+            first,
+            second,
+        } => print_overlap(writer, address, first, second),
     }
 }
 
@@ -317,11 +182,6 @@ pub fn print_link<K: Sink>(writer: &mut K, fault: LinkFault, name: &[u8])
             print_in_module(writer, module, &RunFault::Reach(fault));
         }
         LinkFault::Starts { first, second } => print_starts(writer, first, second),
-        LinkFault::Beyond(owner) => print_beyond(writer, owner),
-        LinkFault::Overlap {
-            address,
-            first,
-            second,
-        } => print_overlap(writer, address, first, second),
+        LinkFault::Space(fault) => print_space(writer, fault),
     }
 }

@@ -8,7 +8,6 @@ ghost use Rattle.omf_linker.specs.Link.Linked.{IsLinked};
 ghost use Rattle.omf_linker.specs.Link.Mapped.{IsMapped};
 ghost use Rattle.omf_linker.specs.Link.Runs.{IsRun, IsShowCause, Shows};
 ghost use Rattle.omf_linker.specs.Link.Shown.{AreShown, IsNamedAs, IsShownOf};
-ghost use Rattle.omf_linker.specs.declared.link.words.Task.TheVariants.{Image, Map, Draft};
 
 use crate::link::fault::ImageFault;
 use crate::link::linking::{modules_map, modules_text};
@@ -107,8 +106,15 @@ fn read_and_shown<S: Source>(
     }
 }
 
-/// Writes the text of `shown_text` for the input. All of the input is read. Nothing is written unless the text is complete.
-fn write_shown<S: Source, K: Sink>(
+/// Does a task: writes the text of `shown_text` for the input, which is modules followed by a link text. All of the input is read. Nothing is
+/// written unless the text is complete.
+///
+/// # Errors
+///
+/// Those of `shown_text`: `Link` with `Refused` for the first module that is not well formed; otherwise `Link` with the fault of `modules_text`
+/// or `modules_map`, and the name of its external if it is about one; `NoRoom` if a segment of a draft has no room. `Link` with `Read` if the
+/// reader fails, `Write` if the writer fails, `Link` with `Memory` if memory runs out.
+pub fn run_task<S: Source, K: Sink>(
     alloc: Global,
     task: Task,
     reader: &mut S,
@@ -118,75 +124,4 @@ fn write_shown<S: Source, K: Sink>(
 {
     let text = read_and_shown(alloc, task, reader)?;
     print_all(writer, text.as_slice(), ImageFault::Write)
-}
-
-/// Writes the memory image of the input's modules, at the placements of the link text that follows them. All of the input is read. Nothing is
-/// written unless the text is complete.
-///
-/// # Errors
-///
-/// `Link` with `Refused` for the first module that is not well formed; otherwise `Link` with the fault of `modules_text`, and the name of its
-/// external if it is about one. `Link` with `Read` if the reader fails, `Write` if the writer fails, `Link` with `Memory` if memory runs out.
-pub fn run_image<S: Source, K: Sink>(
-    alloc: Global,
-    reader: &mut S,
-    writer: &mut K,
-) -> Result<(), ImageFault>
-    ensures { IsRun Image (S.seen reader.old) (S.seen reader.new) (K.seen writer.old) (K.seen writer.new) result }
-{
-    write_shown(alloc, Task::Image, reader, writer)
-}
-
-/// Writes the map of the input's modules, at the placements of the link text that follows them, whether these reach or not. All of the input is
-/// read. Nothing is written unless the text is complete.
-///
-/// # Errors
-///
-/// Those of `run_image`, with the faults of `modules_map`.
-pub fn run_map<S: Source, K: Sink>(
-    alloc: Global,
-    reader: &mut S,
-    writer: &mut K,
-) -> Result<(), ImageFault>
-    ensures { IsRun Map (S.seen reader.old) (S.seen reader.new) (K.seen writer.old) (K.seen writer.new) result }
-{
-    write_shown(alloc, Task::Map, reader, writer)
-}
-
-/// Writes the draft of a link text for the input's modules. All of the input is read, but a text after the modules is ignored. Nothing is
-/// written unless the draft succeeds.
-///
-/// # Errors
-///
-/// `Link` with `Refused` for the first module that is not well formed; `NoRoom` if a segment has no room; `Link` with `Read` if the reader
-/// fails, `Write` if the writer fails, `Link` with `Memory` if memory runs out.
-pub fn run_draft<S: Source, K: Sink>(
-    alloc: Global,
-    options: Options,
-    reader: &mut S,
-    writer: &mut K,
-) -> Result<(), ImageFault>
-    ensures { IsRun (Draft options) (S.seen reader.old) (S.seen reader.new) (K.seen writer.old) (K.seen writer.new) result }
-{
-    write_shown(alloc, Task::Draft(options), reader, writer)
-}
-
-/// Does a task: `run_image`, `run_map` or `run_draft`.
-///
-/// # Errors
-///
-/// Those of these functions.
-pub fn run_task<S: Source, K: Sink>(
-    alloc: Global,
-    task: Task,
-    reader: &mut S,
-    writer: &mut K,
-) -> Result<(), ImageFault>
-    ensures { IsRun task (S.seen reader.old) (S.seen reader.new) (K.seen writer.old) (K.seen writer.new) result }
-{
-    match task {
-        Task::Image => run_image(alloc, reader, writer),
-        Task::Map => run_map(alloc, reader, writer),
-        Task::Draft(options) => run_draft(alloc, options, reader, writer),
-    }
 }

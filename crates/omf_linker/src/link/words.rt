@@ -16,7 +16,7 @@ use omf_layout::Options;
 use std::alloc::{AllocError, Global};
 
 /// What the arguments ask for.
-#[derive(Clone, Copy, Debug, PartialEq, Eq)]
+#[derive(Clone, Copy)]
 pub enum Task {
     /// Write the memory image of the modules at the placements of the link text.
     Image,

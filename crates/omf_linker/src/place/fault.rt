@@ -11,16 +11,13 @@ use omf_cmd::{Fault, RunFault, print_words};
 use omf_frame::Sink;
 use omf_layout::LayoutFault;
 use std::alloc::AllocError;
-use thiserror::Error;
 
 /// Why a run fails.
-#[derive(Clone, Copy, Debug, PartialEq, Eq, Error)]
+#[derive(Clone, Copy)]
 pub enum PlaceFault {
     /// The same faults as a run of `omf check`: no well-formed module, out of memory, or a failing device.
-    #[error(transparent)]
     Run(RunFault),
     /// A segment or an external has no room below the last address.
-    #[error("the module has no room below the last address")]
     NoRoom,
 }
 

@@ -20,8 +20,5 @@ returns-in-Line g c = rw c.in-Line.is c.print-in-Line.ensures
 pub returns-in-Starts : goal.returns-in-Starts
 returns-in-Starts g c = rw c.in-Starts.is c.print_starts.ensures
 
-pub returns-in-Beyond : goal.returns-in-Beyond
-returns-in-Beyond g c = rw c.in-Beyond.is c.print_beyond.ensures
-
-pub returns-in-Overlap : goal.returns-in-Overlap
-returns-in-Overlap g c = rw c.in-Overlap.is c.print_overlap.ensures
+pub returns-in-Space : goal.returns-in-Space
+returns-in-Space g c = rw c.in-Space.is c.print_space.ensures

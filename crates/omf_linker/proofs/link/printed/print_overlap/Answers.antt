@@ -15,7 +15,7 @@ returns-in-Ok g c =
     let new = g.K.Sink.seen c.print_owners.new.writer in
     let text = flat_map spaced (codes "overlap" ∷ hex 8 c.args.address ∷ []) in
     let owners = line (owner_words c.args.first ++ owner_words c.args.second) in
-    subst (λ (t : List ℕ). IsWritten old new t) (sym (overlap_line c.args.address c.args.first c.args.second [])) (then_text Write old (g.K.Sink.seen c.write_overlap.new.writer) new text owners c.in-Ok.ensures c.print_owners.ensures)
+    subst (λ (t : List ℕ). IsWritten old new t) (sym (overlap_line c.args.address c.args.first c.args.second)) (then_text Write old (g.K.Sink.seen c.write_overlap.new.writer) new text owners c.in-Ok.ensures c.print_owners.ensures)
 
 pub returns-in_default : goal.returns-in_default
 returns-in_default g c =
@@ -23,4 +23,4 @@ returns-in_default g c =
     let new = g.K.Sink.seen c.write_overlap.new.writer in
     let text = flat_map spaced (codes "overlap" ∷ hex 8 c.args.address ∷ []) in
     let owners = line (owner_words c.args.first ++ owner_words c.args.second) in
-    subst (λ (t : List ℕ). IsWritten old new t) (sym (overlap_line c.args.address c.args.first c.args.second [])) (cut_text Write old new text owners c.in_default.field-0 c.in_default.ensures)
+    subst (λ (t : List ℕ). IsWritten old new t) (sym (overlap_line c.args.address c.args.first c.args.second)) (cut_text Write old new text owners c.in_default.field-0 c.in_default.ensures)
