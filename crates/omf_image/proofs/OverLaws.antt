@@ -340,7 +340,7 @@ module _ (cs : List Covered) (start count : ℕ) (p : Laid) (t : Covered) (withi
       → (over_all p (laid_runs (slice_range cs (start + 1) (start + count)))).offset + length (over_all p (laid_runs (slice_range cs (start + 1) (start + count)))).bytes ≤ 4294967296
   rest_fits le = fits_all (low p) p (laid_runs (slice_range cs (start + 1) (start + count))) rest_sorted rest_touches le
 
--- a piece that lies in one run touches no other
+-- a piece within one run touches no other
 pub part_alone : (cs : List Covered) (start count : ℕ) (t : Covered) (p : Laid) → start + count ≤ length cs → 0 < count → t ≡ get_or cs start t
     → IsPartOf p (take count (drop start (laid_runs cs)))
     → (laid_runs (slice_range cs (start + 1) (start + count)) ≡ []) × (t.first ≤ p.offset) × (p.offset + length p.bytes ≤ t.first + length t.bytes.items)
@@ -380,7 +380,7 @@ nothing_there : {A : Type 0} (o : Option A) → o ≡ None → IsSome o → ⊥
 nothing_there None e h = absurd cc
 nothing_there (Some x) e h = absurd cc
 
--- it lies in one of the runs that it touches, and touches no other
+-- it is within one of the runs that it touches, and touches no other
 part_of : (m : ℕ) (p : Laid) (ts : List Laid) → AreSorted m ts → Touches p ts → 0 < length p.bytes
     → ((x : ℕ) → p.offset ≤ x → x < p.offset + length p.bytes → IsSome (byte_at ts p.segment x)) → IsPartOf p ts
 part_of m p [] h t some c = absurd (nothing_there (byte_at [] p.segment p.offset) refl (c p.offset (omega arith) (omega (arith, some))))

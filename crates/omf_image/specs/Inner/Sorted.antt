@@ -74,7 +74,7 @@ abbrev pub over_all : Laid → List Laid → Laid
 over_all l [] = l
 over_all l (r ∷ runs) = over (over_all l runs) r
 
--- these runs are one, and the piece lies in it
+-- these runs are one, and the piece is within it
 pub record IsPartOf (l : Laid) (runs : List Laid) : Type 0 where
   pub run : Laid
   pub one : runs ≡ run ∷ []
@@ -86,7 +86,7 @@ abbrev pub joined : List Laid → Laid → ℕ → ℕ → List Laid
 joined runs l start count = take start runs ++ over_all l (take count (drop start runs)) ∷ drop count (drop start runs)
 
 -- A piece touches `count` runs from `start` on: the runs joined with it are sorted, and are the piece laid over all runs.
--- If all its places have a byte, it lies in one run.
+-- If all its places have a byte, it is within one run.
 pub record IsTouched (runs : List Laid) (l : Laid) (start count : ℕ) : Type 0 where
   pub touches : Touches l (take count (drop start runs))
   pub sorted : AreSorted 0 (joined runs l start count)
