@@ -1,9 +1,10 @@
 -- What is kept of the records so far is what they give.
-use Rattle.std.proofs.Common.{◌≡◌, ℕ, List, [], ◌∷◌, ◌++◌, refl, sym, ap, ap₂, subst, ◌∙◌, Bool}
+use Rattle.std.proofs.Common.{◌≡◌, ℕ, List, [], ◌∷◌, ◌++◌, refl, sym, ap, ap₂, subst, ◌∙◌}
 use Rattle.std.specs.Prelude.{flat_map, map, Option, Some, None, option_and_then}
 use Rattle.std.proofs.lemmas.List.{append-nil, map-append}
 use Rattle.std.specs.List.{last_or}
 use Rattle.omf_frame.specs.Bytes.{last}
+use Rattle.omf_frame.specs.declared.kinds.Width.{Width}
 use Rattle.omf_records.specs.Values.{At, Rec, Contents, Header, Comment, Names, Segment, Group, Externs, Publics, Communals, Plain, Iterated, Fixups, ModEnd, Carried, Subrecord, Thread, Fixup, Reference}
 use Rattle.omf_check.specs.Tables.{segments, groups, subrecords, subrecords_in, defined_names, defined_segments, defined_groups, defined_externals, data_in}
 use Rattle.omf_check.specs.Threads.{frame_of, target_of}
@@ -22,42 +23,42 @@ use Rattle.omf_dump.specs.declared.known.Known.{Known}
 
 -- ---- references, by the threads that are kept
 
-reference_is : (t : Tables) (wide : Bool) (threads : Threads) (earlier : List Subrecord) (r : Reference) → HasThreads threads earlier
-    → reference_fields_by t wide threads r ≡ reference_fields t wide (frame_of earlier r) (target_of earlier r) r
-reference_is t wide threads earlier r h = rw (threads_kept.frame threads earlier r h, threads_kept.target threads earlier r h) refl
+reference_is : (t : Tables) (width : Width) (threads : Threads) (earlier : List Subrecord) (r : Reference) → HasThreads threads earlier
+    → reference_fields_by t width threads r ≡ reference_fields t width (frame_of earlier r) (target_of earlier r) r
+reference_is t width threads earlier r h = rw (threads_kept.frame threads earlier r h, threads_kept.target threads earlier r h) refl
 
-subrecord_is : (t : Tables) (fixed : Option Data) (wide : Bool) (threads : Threads) (earlier : List Subrecord) (s : Subrecord) → HasThreads threads earlier
-    → subrecord_fields_by t fixed wide threads s ≡ subrecord_fields t fixed wide earlier s
-subrecord_is t d wide threads earlier (Thread byte datum) h = refl
-subrecord_is t d wide threads earlier (Fixup locat r) h = ap (λ (fs : List Field). location_fields d wide locat ++ fs) (reference_is t wide threads earlier r h)
+subrecord_is : (t : Tables) (fixed : Option Data) (width : Width) (threads : Threads) (earlier : List Subrecord) (s : Subrecord) → HasThreads threads earlier
+    → subrecord_fields_by t fixed width threads s ≡ subrecord_fields t fixed width earlier s
+subrecord_is t d width threads earlier (Thread byte datum) h = refl
+subrecord_is t d width threads earlier (Fixup locat r) h = ap (λ (fs : List Field). location_fields d width locat ++ fs) (reference_is t width threads earlier r h)
 
-subrecords_are : (t : Tables) (fixed : Option Data) (wide : Bool) (threads : Threads) (earlier : List Subrecord) (subs : List (At Subrecord)) → HasThreads threads earlier
-    → subrecord_items_by t fixed wide threads subs ≡ subrecord_items t fixed wide earlier subs
-subrecords_are t d wide threads earlier [] h = refl
-subrecords_are t d wide threads earlier (s ∷ subs) h =
-    ap₂ (λ (x : Item) (xs : List Item). x ∷ xs) (ap (item s.within) (subrecord_is t d wide threads earlier s.item h))
-    (subrecords_are t d wide (set_thread threads s.item) (earlier ++ s.item ∷ []) subs (threads_kept.one threads earlier s.item h))
+subrecords_are : (t : Tables) (fixed : Option Data) (width : Width) (threads : Threads) (earlier : List Subrecord) (subs : List (At Subrecord)) → HasThreads threads earlier
+    → subrecord_items_by t fixed width threads subs ≡ subrecord_items t fixed width earlier subs
+subrecords_are t d width threads earlier [] h = refl
+subrecords_are t d width threads earlier (s ∷ subs) h =
+    ap₂ (λ (x : Item) (xs : List Item). x ∷ xs) (ap (item s.within) (subrecord_is t d width threads earlier s.item h))
+    (subrecords_are t d width (set_thread threads s.item) (earlier ++ s.item ∷ []) subs (threads_kept.one threads earlier s.item h))
 
-start_is : (t : Tables) (wide : Bool) (threads : Threads) (earlier : List Subrecord) (start : Option Reference) → HasThreads threads earlier
-    → start_items_by t wide threads start ≡ start_items t wide earlier start
-start_is t wide threads earlier None h = refl
-start_is t wide threads earlier (Some r) h = ap (λ (fs : List Field). item r.fix.within fs ∷ []) (reference_is t wide threads earlier r h)
+start_is : (t : Tables) (width : Width) (threads : Threads) (earlier : List Subrecord) (start : Option Reference) → HasThreads threads earlier
+    → start_items_by t width threads start ≡ start_items t width earlier start
+start_is t width threads earlier None h = refl
+start_is t width threads earlier (Some r) h = ap (λ (fs : List Field). item r.fix.within fs ∷ []) (reference_is t width threads earlier r h)
 
 -- what is shown is what the records before give
-pub shown_is : (known : Known) (earlier : List Subrecord) (wide : Bool) (c : Contents) → HasThreads known.threads earlier → shown_by known wide c ≡ shown known.tables known.fixed earlier wide c
-shown_is known earlier wide (Fixups subs) h = ap (with_items []) (subrecords_are known.tables known.fixed wide known.threads earlier subs h)
-shown_is known earlier wide (ModEnd byte start) h = ap (with_items _) (start_is known.tables wide known.threads earlier start h)
-shown_is known earlier wide (Header name) h = refl
-shown_is known earlier wide (Comment byte class text) h = refl
-shown_is known earlier wide (Names items) h = refl
-shown_is known earlier wide (Segment s) h = refl
-shown_is known earlier wide (Group g) h = refl
-shown_is known earlier wide (Externs items) h = refl
-shown_is known earlier wide (Publics p) h = refl
-shown_is known earlier wide (Communals items) h = refl
-shown_is known earlier wide (Plain d) h = refl
-shown_is known earlier wide (Iterated d) h = refl
-shown_is known earlier wide (Carried bytes) h = refl
+pub shown_is : (known : Known) (earlier : List Subrecord) (width : Width) (c : Contents) → HasThreads known.threads earlier → shown_by known width c ≡ shown known.tables known.fixed earlier width c
+shown_is known earlier width (Fixups subs) h = ap (with_items []) (subrecords_are known.tables known.fixed width known.threads earlier subs h)
+shown_is known earlier width (ModEnd byte start) h = ap (with_items _) (start_is known.tables width known.threads earlier start h)
+shown_is known earlier width (Header name) h = refl
+shown_is known earlier width (Comment byte class text) h = refl
+shown_is known earlier width (Names items) h = refl
+shown_is known earlier width (Segment s) h = refl
+shown_is known earlier width (Group g) h = refl
+shown_is known earlier width (Externs items) h = refl
+shown_is known earlier width (Publics p) h = refl
+shown_is known earlier width (Communals items) h = refl
+shown_is known earlier width (Plain d) h = refl
+shown_is known earlier width (Iterated d) h = refl
+shown_is known earlier width (Carried bytes) h = refl
 
 -- ---- one more record
 
@@ -121,6 +122,6 @@ holds_more old new before r h k = record {
 }
 
 -- what is shown of the next record
-pub next_shown : (known : Known) (before : List Rec) (wide : Bool) (c : Contents) → Holds known before → shown_by known wide c ≡ shown (tables before) (fixed_data before) (subrecords before) wide c
-next_shown known before wide c h =
-    shown_is known (subrecords before) wide c h.threads ∙ ap₂ (λ (t : Tables) (d : Option Data). shown t d (subrecords before) wide c) h.tables h.fixed
+pub next_shown : (known : Known) (before : List Rec) (width : Width) (c : Contents) → Holds known before → shown_by known width c ≡ shown (tables before) (fixed_data before) (subrecords before) width c
+next_shown known before width c h =
+    shown_is known (subrecords before) width c h.threads ∙ ap₂ (λ (t : Tables) (d : Option Data). shown t d (subrecords before) width c) h.tables h.fixed

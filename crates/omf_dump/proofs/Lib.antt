@@ -4,7 +4,6 @@ pub mod Hexadecimal
 pub mod ItemLaws
 pub mod KnownLaws
 pub mod Lines
-pub mod Rows
+pub mod RowLaws
 pub mod SubrecordLaws
 pub mod WalkLaws
-pub mod WindowLaws

@@ -8,19 +8,20 @@ use Rattle.omf_frame.specs.Bytes.{with_before}
 use Rattle.omf_frame.specs.Framing.{Raw, raw_bytes, present, front_record, after_front}
 use Rattle.omf_frame.proofs.FramingLaws.{after_raw, front_raw, present_raw}
 use Rattle.omf_records.specs.Inner.Reading.{typed, contents_or, read_body}
-use Rattle.omf_records.specs.Values.{Contents, is_wide}
+use Rattle.omf_frame.specs.Types.{width_of}
+use Rattle.omf_records.specs.Values.{Contents}
 use Rattle.omf_check.specs.Listed.{IsReadable, StartsWithRecord}
 use Rattle.omf_check.specs.WellFormed.{recs}
 use Rattle.omf_dump.specs.Dump.{AreRecords, dump_text, record_dump, shown_after}
 use Rattle.omf_dump.specs.Render.{record_text}
 use Rattle.omf_dump.specs.Inner.Showing.{Keeps, shown_by}
 use Rattle.omf_dump.specs.Inner.Walking.{Holds, IsWalked}
-use Rattle.omf_dump.specs.declared.format.Format.{Format}
+use Rattle.omf_dump.specs.declared.format.Style.{Style}
 use Rattle.omf_dump.specs.declared.known.Known.{Known}
 use Rattle.omf_dump.proofs.KnownLaws.{holds_more, next_shown}
 
 -- the record that comes next
-pub record IsNext (f : Format) (records : List Raw) (known : Known) (count at : ℕ) (left : List ℕ) (old now : List ℕ) : Type 0 where
+pub record IsNext (f : Style) (records : List Raw) (known : Known) (count at : ℕ) (left : List ℕ) (old now : List ℕ) : Type 0 where
   pub before : List Raw
   pub one : Raw
   pub after : List Raw
@@ -39,7 +40,7 @@ in_between P xs y ys h =
     let low : length xs < length (xs ++ y ∷ ys) = omega (arith, size) in
     subst P (get_or-append_seam xs y ys y) (h (length xs) y low)
 
-next_by : (f : Format) (bytes : List ℕ) (records before after : List Raw) (known : Known) (number start : ℕ) (left old now : List ℕ) → AreRecords bytes records → records ≡ before ++ after → left ≡ flat_map raw_bytes after → 0 < length left
+next_by : (f : Style) (bytes : List ℕ) (records before after : List Raw) (known : Known) (number start : ℕ) (left old now : List ℕ) → AreRecords bytes records → records ≡ before ++ after → left ≡ flat_map raw_bytes after → 0 < length left
     → number ≡ length before → start ≡ length (flat_map raw_bytes before) → Holds known (recs before) → now ++ with_before (record_dump f) before after ≡ old ++ dump_text f records
     → IsNext f records known number start left old now
 next_by f bytes records before [] known number start left old now are all spelled some n s holds written =
@@ -57,13 +58,13 @@ next_by f bytes records before (r ∷ after) known number start left old now are
   written = written;
 }
 
-pub next_of : (f : Format) (bytes : List ℕ) (records : List Raw) (known : Known) (number start : ℕ) (left old now : List ℕ) → AreRecords bytes records → 0 < length left → IsWalked f records known number start left old now → IsNext f records known number start left old now
+pub next_of : (f : Style) (bytes : List ℕ) (records : List Raw) (known : Known) (number start : ℕ) (left old now : List ℕ) → AreRecords bytes records → 0 < length left → IsWalked f records known number start left old now → IsNext f records known number start left old now
 next_of f bytes records known number start left old now are some w = next_by f bytes records w.before w.after known number start left old now are w.all w.spelled some w.number w.start w.holds w.written
 
 -- it was shown, and the walk is after it
-pub walked_on : (f : Format) (records : List Raw) (known known' : Known) (number number' start start' : ℕ) (left left' old now now' : List ℕ) (n : IsNext f records known number start left old now)
+pub walked_on : (f : Style) (records : List Raw) (known known' : Known) (number number' start start' : ℕ) (left left' old now now' : List ℕ) (n : IsNext f records known number start left old now)
     → left' ≡ flat_map raw_bytes n.after → number' ≡ number + 1 → start' ≡ start + length (raw_bytes n.one)
-    → now' ≡ now ++ record_text f number start n.one.kind (shown_by known (is_wide n.one.kind) (typed n.one).contents)
+    → now' ≡ now ++ record_text f number start n.one.kind (shown_by known (width_of n.one.kind) (typed n.one).contents)
     → Keeps known (typed n.one).contents known'
     → IsWalked f records known' number' start' left' old now'
 walked_on f records known known' number number' start start' left left' old now now' n spelled count offset shown keeps =
@@ -73,8 +74,8 @@ walked_on f records known known' number number' start start' left left' old now 
     ap length (flat_map-append raw_bytes n.before (n.one ∷ []) ∙ ap (λ (t : List ℕ). flat_map raw_bytes n.before ++ t) (append-nil (raw_bytes n.one))) ∙ length-append (flat_map raw_bytes n.before) (raw_bytes n.one) in
     let others : List ℕ = with_before (record_dump f) before n.after in
     let typed_all : recs before ≡ recs n.before ++ typed n.one ∷ [] = map-append typed n.before (n.one ∷ []) in
-    let text : record_text f number start n.one.kind (shown_by known (is_wide n.one.kind) (typed n.one).contents) ≡ record_dump f n.before n.one =
-    ap (record_text f number start n.one.kind) (next_shown known (recs n.before) (is_wide n.one.kind) (typed n.one).contents n.holds)
+    let text : record_text f number start n.one.kind (shown_by known (width_of n.one.kind) (typed n.one).contents) ≡ record_dump f n.before n.one =
+    ap (record_text f number start n.one.kind) (next_shown known (recs n.before) (width_of n.one.kind) (typed n.one).contents n.holds)
     ∙ ap₂ (λ (i j : ℕ). record_text f i j n.one.kind (shown_after (recs n.before) (typed n.one))) n.number n.start in
     record {
       before = before;
@@ -89,7 +90,7 @@ walked_on f records known known' number number' start start' left left' old now 
     }
 
 -- none is left
-pub all_walked : (f : Format) (records : List Raw) (known : Known) (number start : ℕ) (left old now : List ℕ) → length left ≡ 0 → IsWalked f records known number start left old now → now ≡ old ++ dump_text f records
+pub all_walked : (f : Style) (records : List Raw) (known : Known) (number start : ℕ) (left old now : List ℕ) → length left ≡ 0 → IsWalked f records known number start left old now → now ≡ old ++ dump_text f records
 all_walked f records known number start left old now none w =
     let empty : w.after ≡ [] = no_records w.after (sym (ap length w.spelled) ∙ none) in
     sym (append-nil now) ∙ ap (λ (rs : List Raw). now ++ with_before (record_dump f) w.before rs) (sym empty) ∙ w.written
@@ -99,24 +100,24 @@ all_walked f records known number start left old now none w =
     no_records (r ∷ rs) e = let sum : length (raw_bytes r ++ flat_map raw_bytes rs) ≡ length (raw_bytes r) + length (flat_map raw_bytes rs) = length-append (raw_bytes r) (flat_map raw_bytes rs) in absurd (omega (arith, e, sum))
 
 -- at the start
-pub walk_begins : (f : Format) (records : List Raw) (known : Known) (bytes old : List ℕ) → AreRecords bytes records → Holds known [] → IsWalked f records known 0 0 bytes old old
+pub walk_begins : (f : Style) (records : List Raw) (known : Known) (bytes old : List ℕ) → AreRecords bytes records → Holds known [] → IsWalked f records known 0 0 bytes old old
 walk_begins f records known bytes old are h = record { before = []; after = records; all = refl; spelled = are.spelled; number = refl; start = refl; holds = h; written = refl }
 
 -- ---- the record that comes next, as it is split off
 
-pub begins : (f : Format) (records : List Raw) (known : Known) (number start : ℕ) (left old now : List ℕ) → IsNext f records known number start left old now → StartsWithRecord left
+pub begins : (f : Style) (records : List Raw) (known : Known) (number start : ℕ) (left old now : List ℕ) → IsNext f records known number start left old now → StartsWithRecord left
 begins f records known number start left old now n = record { first = n.one; rest = flat_map raw_bytes n.after; spelled = n.spelled; readable = n.readable }
 
-pub front_is : (f : Format) (records : List Raw) (known : Known) (number start : ℕ) (left old now : List ℕ) (n : IsNext f records known number start left old now) → front_record (present left) ≡ n.one
+pub front_is : (f : Style) (records : List Raw) (known : Known) (number start : ℕ) (left old now : List ℕ) (n : IsNext f records known number start left old now) → front_record (present left) ≡ n.one
 front_is f records known number start left old now n =
     let small = n.readable.is_record.0 in
     ap (λ (x : List ℕ). front_record (present x)) n.spelled ∙ ap front_record (present_raw n.one small (flat_map raw_bytes n.after)) ∙ front_raw n.one small
 
-pub rest_is : (f : Format) (records : List Raw) (known : Known) (number start : ℕ) (left old now : List ℕ) (n : IsNext f records known number start left old now) → after_front left ≡ flat_map raw_bytes n.after
+pub rest_is : (f : Style) (records : List Raw) (known : Known) (number start : ℕ) (left old now : List ℕ) (n : IsNext f records known number start left old now) → after_front left ≡ flat_map raw_bytes n.after
 rest_is f records known number start left old now n = ap after_front n.spelled ∙ after_raw n.one n.readable.is_record.0 (flat_map raw_bytes n.after)
 
 -- there are fewer than 2^32 records, it among them
-pub counted : (f : Format) (bytes : List ℕ) (records : List Raw) (known : Known) (number start : ℕ) (left old now : List ℕ) → AreRecords bytes records → (n : IsNext f records known number start left old now) → number + 1 < 2 ^ 32
+pub counted : (f : Style) (bytes : List ℕ) (records : List Raw) (known : Known) (number start : ℕ) (left old now : List ℕ) → AreRecords bytes records → (n : IsNext f records known number start left old now) → number + 1 < 2 ^ 32
 counted f bytes records known number start left old now are n =
     let size : length (n.before ++ n.one ∷ n.after) ≡ length n.before + suc (length n.after) = length-append n.before (n.one ∷ n.after) in
     let all = ap length n.all in
@@ -125,9 +126,9 @@ counted f bytes records known number start left old now are n =
     omega (arith, size, all, few, is)
 
 -- it is shown as the record that it is
-pub as_typed : (f : Format) (number start kind : ℕ) (body : List ℕ) (known : Known) (one : Raw) → kind ≡ one.kind → body ≡ one.body
-    → record_text f number start kind (shown_by known (is_wide kind) (contents_or body (read_body kind body))) ≡ record_text f number start one.kind (shown_by known (is_wide one.kind) (typed one).contents)
-as_typed f number start kind body known one a b = ap₂ (λ (k : ℕ) (bs : List ℕ). record_text f number start k (shown_by known (is_wide k) (contents_or bs (read_body k bs)))) a b
+pub as_typed : (f : Style) (number start kind : ℕ) (body : List ℕ) (known : Known) (one : Raw) → kind ≡ one.kind → body ≡ one.body
+    → record_text f number start kind (shown_by known (width_of kind) (contents_or body (read_body kind body))) ≡ record_text f number start one.kind (shown_by known (width_of one.kind) (typed one).contents)
+as_typed f number start kind body known one a b = ap₂ (λ (k : ℕ) (bs : List ℕ). record_text f number start k (shown_by known (width_of k) (contents_or bs (read_body k bs)))) a b
 
 pub kept_typed : (kind : ℕ) (body : List ℕ) (known known' : Known) (one : Raw) → kind ≡ one.kind → body ≡ one.body → Keeps known (contents_or body (read_body kind body)) known' → Keeps known (typed one).contents known'
 kept_typed kind body known known' one a b k = subst (λ (c : Contents). Keeps known c known') (ap₂ (λ (n : ℕ) (bs : List ℕ). contents_or bs (read_body n bs)) a b) k

@@ -1,30 +1,38 @@
 -- What is shown of the contents of each record: their fields by the names of the standard (TIS OMF 1.1, the page of each record).
-use Rattle.std.specs.Prelude.{ℕ, ◌+◌, ◌^◌, List, [], ◌∷◌, ◌++◌, length, map, take, drop, Bool, not, Option, Some, None, option_map, unwrap_or, Result, Ok, Err, nat_le, false, codes, if◌then◌else◌}
-use Rattle.omf_frame.specs.Bytes.{bits, has_bit}
+use Rattle.std.specs.Prelude.{ℕ, ◌+◌, ◌*◌, ◌^◌, List, [], ◌∷◌, ◌++◌, length, map, take, drop, not, ◌==◌, Option, Some, None, option_map, unwrap_or, Result, Ok, Err, nat_le, codes, if◌then◌else◌}
+use Rattle.omf_frame.specs.Bytes.{has_bit}
 use Rattle.omf_records.specs.Location.{location_size}
-use Rattle.omf_records.specs.Values.{At, SegmentItem, ExternalItem, PublicItem, CommunalSize, Near, Far, CommunalItem, Reference, Subrecord, Thread, Fixup, Contents, Header, Comment, Names, Segment, Group, Externs, Publics, Communals, Plain, Iterated, Fixups, ModEnd, Carried, alignment, is_big, thread_is_frame, thread_method, thread_number, is_segment_relative, location_type, location_offset, frame_by_thread, frame_thread, target_by_thread, target_bits}
-use Rattle.omf_image.specs.Blocks.{count_size}
+use Rattle.omf_records.specs.Values.{At, SegmentItem, ExternalItem, PublicItem, CommunalSize, Near, Far, CommunalItem, Reference, Subrecord, Thread, Fixup, Contents, Header, Comment, Names, Segment, Group, Externs, Publics, Communals, Plain, Iterated, Fixups, ModEnd, Carried, alignment, combination, is_big, is_use32, thread_is_frame, thread_method, thread_number, is_segment_relative, location_type, location_offset, frame_by_thread, frame_thread, target_by_thread, target_bits}
+use Rattle.omf_frame.specs.Types.{width_bytes}
+use Rattle.omf_frame.specs.declared.kinds.Width.{Width}
+use Rattle.omf_frame.specs.declared.kinds.Width.TheVariants.{Bits16}
 use Rattle.omf_image.specs.Limits.{profile_limits}
 -- computed: lengths_are_decided of omf_image.
 use Rattle.omf_image.specs.Inner.Expanding.{expanded_length}
+use Rattle.omf_records.specs.declared.method.Kind.TheVariants as kinds
+use Rattle.omf_records.specs.declared.method.Kind.{Kind}
 use Rattle.omf_check.specs.declared.method.FrameMethod.{FrameMethod}
-use Rattle.omf_check.specs.declared.method.FrameMethod.TheVariants.{Segment as F0, Group as F1, External as F2, Location as F4, Target as F5}
+use Rattle.omf_check.specs.declared.method.FrameMethod.TheVariants as frames
 use Rattle.omf_check.specs.declared.method.TargetMethod.{TargetMethod}
-use Rattle.omf_check.specs.declared.method.TargetMethod.TheVariants.{Segment as T0, Group as T1, External as T2}
 use Rattle.omf_check.specs.Threads.{setting, frame_from, target_from, frame_of, target_of}
 use Rattle.omf_dump.specs.Fields.{Entry, Value, Number, Hex, Word, Characters, Bytes, Named, Method, Flag, Field, field, Item, item, Shown, only_fields, with_items, with_block}
 use Rattle.omf_dump.specs.Known.{Data, Tables, name_entry, segment_entry, group_entry, external_entry}
 use Rattle.omf_dump.specs.Render.{digits}
-use Rattle.omf_dump.specs.Words.{alignment_word, combination_word, location_word, class_word}
+use Rattle.omf_dump.specs.Words.{alignment_word, combination_word, location_word, class_word, subtype_word}
 
 -- THEADR, LHEADR.
 abbrev pub header_fields : List ℕ → List Field
 header_fields name = field (codes "name") (Characters name) ∷ []
 
--- COMENT: class, its name, the bits of the type byte, the text.
+-- The subtype of a comment of the class A0H: the first byte of its text.
+abbrev pub subtype_if : ℕ → List ℕ → List Field
+subtype_if class [] = []
+subtype_if class (b ∷ _) = if class == 0xA0 then field (codes "subtype") (Word (subtype_word b)) ∷ [] else []
+
+-- COMENT: class, its name, the bits of the type byte, the subtype, the text.
 abbrev pub comment_fields : ℕ → ℕ → List ℕ → List Field
 comment_fields byte class text = field (codes "class") (Hex 2 class) ∷ field (codes "meaning") (Word (class_word class)) ∷ field (codes "flags") (Hex 2 byte)
-    ∷ field (codes "no-purge") (Flag (has_bit byte 7)) ∷ field (codes "no-list") (Flag (has_bit byte 6)) ∷ field (codes "text") (Characters text) ∷ []
+    ∷ field (codes "no-purge") (Flag (has_bit byte 7)) ∷ field (codes "no-list") (Flag (has_bit byte 6)) ∷ (subtype_if class text ++ field (codes "text") (Characters text) ∷ [])
 
 -- SEGDEF: the index that it defines; name, class and overlay; attributes; the place of an absolute segment; the length in bytes.
 abbrev pub segment_names : Tables → ℕ → SegmentItem → List Field
@@ -39,18 +47,18 @@ absolute_if None = []
 absolute_if (Some at) = absolute_fields at
 
 abbrev pub attribute_fields : ℕ → List Field
-attribute_fields byte = field (codes "align") (Word (alignment_word (alignment byte))) ∷ field (codes "combine") (Word (combination_word (bits byte 2 3)))
-    ∷ field (codes "use") (Number (if has_bit byte 0 then 32 else 16)) ∷ field (codes "big") (Flag (is_big byte)) ∷ []
+attribute_fields byte = field (codes "align") (Word (alignment_word (alignment byte))) ∷ field (codes "combine") (Word (combination_word (combination byte)))
+    ∷ field (codes "use") (Number (if is_use32 byte then 32 else 16)) ∷ field (codes "big") (Flag (is_big byte)) ∷ []
 
-abbrev pub length_field : Bool → ℕ → List Field
-length_field wide n = field (codes "length") (Hex (digits wide) n) ∷ []
+abbrev pub length_field : Width → ℕ → List Field
+length_field width n = field (codes "length") (Hex (digits width) n) ∷ []
 
 -- The length of a segment: a big one has 2^16 bytes, or 2^32 in a 32-bit record.
-abbrev pub length_of : Bool → SegmentItem → ℕ
-length_of wide s = if is_big s.attribute then (if wide then 2 ^ 32 else 2 ^ 16) else s.size
+abbrev pub length_of : Width → SegmentItem → ℕ
+length_of width s = if is_big s.attribute then 2 ^ (8 * width_bytes width) else s.size
 
-abbrev pub segment_fields : Tables → ℕ → Bool → SegmentItem → List Field
-segment_fields t index wide s = segment_names t index s ++ (attribute_fields s.attribute ++ (absolute_if s.absolute ++ length_field wide (length_of wide s)))
+abbrev pub segment_fields : Tables → ℕ → Width → SegmentItem → List Field
+segment_fields t index width s = segment_names t index s ++ (attribute_fields s.attribute ++ (absolute_if s.absolute ++ length_field width (length_of width s)))
 
 -- GRPDEF: the index that it defines, its name; each member.
 abbrev pub group_fields : Tables → ℕ → At ℕ → List Field
@@ -86,32 +94,42 @@ frame_if (Some frame) = field (codes "frame") (Hex 4 frame) ∷ []
 abbrev pub base_fields : Entry → Entry → Option ℕ → List Field
 base_fields group segment frame = field (codes "group") (Named group) ∷ (field (codes "segment") (Named segment) ∷ frame_if frame)
 
-abbrev pub public_fields : Bool → PublicItem → List Field
-public_fields wide p = field (codes "public") (Characters p.name) ∷ field (codes "offset") (Hex (digits wide) p.offset) ∷ field (codes "type") (Number p.type_index) ∷ []
+abbrev pub public_fields : Width → PublicItem → List Field
+public_fields width p = field (codes "public") (Characters p.name) ∷ field (codes "offset") (Hex (digits width) p.offset) ∷ field (codes "type") (Number p.type_index) ∷ []
 
 -- LEDATA: segment, offset and length; the data. LIDATA: the length of the expanded blocks, if they expand within the limits; the blocks, with
 -- their offset in the record.
-abbrev pub place_fields : Bool → Entry → ℕ → List Field
-place_fields wide segment offset = field (codes "segment") (Named segment) ∷ field (codes "offset") (Hex (digits wide) offset) ∷ []
+abbrev pub place_fields : Width → Entry → ℕ → List Field
+place_fields width segment offset = field (codes "segment") (Named segment) ∷ field (codes "offset") (Hex (digits width) offset) ∷ []
 
-abbrev pub length_if : {E : Type 0} → Bool → Result ℕ E → List Field
-length_if wide (Ok n) = length_field wide n
-length_if wide (Err e) = []
+abbrev pub length_if : {E : Type 0} → Width → Result ℕ E → List Field
+length_if width (Ok n) = length_field width n
+length_if width (Err e) = []
+
+-- A segment, a group or an external by its index and its name.
+abbrev pub kind_word : Kind → List ℕ
+kind_word kinds.Segment = codes "segment"
+kind_word kinds.Group = codes "group"
+kind_word kinds.External = codes "external"
+
+abbrev pub kind_entry : Tables → Kind → ℕ → Entry
+kind_entry t kinds.Segment i = segment_entry t i
+kind_entry t kinds.Group i = group_entry t i
+kind_entry t kinds.External i = external_entry t i
+
+abbrev pub entry_value : Tables → TargetMethod → Value
+entry_value t m = Method (kind_word m.kind) (Some (kind_entry t m.kind m.index))
 
 -- The target and the frame of a reference, by method. None: a thread that is not set.
 abbrev pub target_value : Tables → Option TargetMethod → Value
 target_value t None = Method (codes "unset") None
-target_value t (Some (T0 i)) = Method (codes "segment") (Some (segment_entry t i))
-target_value t (Some (T1 i)) = Method (codes "group") (Some (group_entry t i))
-target_value t (Some (T2 i)) = Method (codes "external") (Some (external_entry t i))
+target_value t (Some m) = entry_value t m
 
 abbrev pub frame_value : Tables → Option FrameMethod → Value
 frame_value t None = Method (codes "unset") None
-frame_value t (Some (F0 i)) = Method (codes "segment") (Some (segment_entry t i))
-frame_value t (Some (F1 i)) = Method (codes "group") (Some (group_entry t i))
-frame_value t (Some (F2 i)) = Method (codes "external") (Some (external_entry t i))
-frame_value t (Some F4) = Method (codes "location") None
-frame_value t (Some F5) = Method (codes "target") None
+frame_value t (Some (frames.Of m)) = entry_value t m
+frame_value t (Some frames.Location) = Method (codes "location") None
+frame_value t (Some frames.Target) = Method (codes "target") None
 
 -- The number of a thread that gives a target or a frame.
 abbrev pub thread_if : List ℕ → Option ℕ → List Field
@@ -124,13 +142,13 @@ target_thread_of r = if target_by_thread r.fix.item then Some (target_bits r.fix
 abbrev pub frame_thread_of : Reference → Option ℕ
 frame_thread_of r = if frame_by_thread r.fix.item then Some (frame_thread r.fix.item) else None
 
-abbrev pub displacement_if : Bool → Option ℕ → List Field
-displacement_if wide None = []
-displacement_if wide (Some n) = field (codes "displacement") (Hex (digits wide) n) ∷ []
+abbrev pub displacement_if : Width → Option ℕ → List Field
+displacement_if width None = []
+displacement_if width (Some n) = field (codes "displacement") (Hex (digits width) n) ∷ []
 
 -- A reference: target, displacement, frame, and the threads that gave them.
-abbrev pub reference_fields : Tables → Bool → Option FrameMethod → Option TargetMethod → Reference → List Field
-reference_fields t wide frame target r = field (codes "target") (target_value t target) ∷ (displacement_if wide r.displacement
+abbrev pub reference_fields : Tables → Width → Option FrameMethod → Option TargetMethod → Reference → List Field
+reference_fields t width frame target r = field (codes "target") (target_value t target) ∷ (displacement_if width r.displacement
     ++ (field (codes "frame") (frame_value t frame) ∷ (thread_if (codes "target-thread") (target_thread_of r) ++ thread_if (codes "frame-thread") (frame_thread_of r))))
 
 -- The place of a location in its segment, if it changes an LEDATA, else in its data; and its bytes there.
@@ -140,8 +158,8 @@ location_place fixed locat = unwrap_or (option_map (λ d. d.offset) fixed) 0 + l
 abbrev pub location_bytes : Option Data → ℕ → List ℕ
 location_bytes fixed locat = take (location_size (location_type locat)) (drop (location_offset locat) (unwrap_or (option_map (λ d. d.bytes) fixed) []))
 
-abbrev pub location_fields : Option Data → Bool → ℕ → List Field
-location_fields fixed wide locat = field (codes "at") (Hex (digits wide) (location_place fixed locat)) ∷ field (codes "bytes") (Bytes (location_bytes fixed locat))
+abbrev pub location_fields : Option Data → Width → ℕ → List Field
+location_fields fixed width locat = field (codes "at") (Hex (digits width) (location_place fixed locat)) ∷ field (codes "bytes") (Bytes (location_bytes fixed locat))
     ∷ field (codes "location") (Word (location_word (location_type locat))) ∷ field (codes "self-relative") (Flag (not (is_segment_relative locat))) ∷ []
 
 -- A THREAD: its kind and number, and the method that it sets.
@@ -151,9 +169,9 @@ thread_fields t byte datum =
     else field (codes "target-thread") (Number (thread_number byte)) ∷ field (codes "target") (target_value t (Some (target_from (setting (thread_method byte) datum)))) ∷ []
 
 -- A subrecord of a FIXUPP, after these records' tables, data and subrecords.
-abbrev pub subrecord_fields : Tables → Option Data → Bool → List Subrecord → Subrecord → List Field
-subrecord_fields t fixed wide earlier (Thread byte datum) = thread_fields t byte datum
-subrecord_fields t fixed wide earlier (Fixup locat r) = location_fields fixed wide locat ++ reference_fields t wide (frame_of earlier r) (target_of earlier r) r
+abbrev pub subrecord_fields : Tables → Option Data → Width → List Subrecord → Subrecord → List Field
+subrecord_fields t fixed width earlier (Thread byte datum) = thread_fields t byte datum
+subrecord_fields t fixed width earlier (Fixup locat r) = location_fields fixed width locat ++ reference_fields t width (frame_of earlier r) (target_of earlier r) r
 
 -- MODEND: its module type byte; whether it is a main module; the start.
 abbrev pub end_fields : ℕ → List Field
@@ -167,35 +185,35 @@ numbered fields i (x ∷ xs) = item x.within (fields i x.item) ∷ numbered fiel
 abbrev pub each : {A : Type 0} → (A → List Field) → List (At A) → List Item
 each fields xs = map (λ x. item x.within (fields x.item)) xs
 
-abbrev pub subrecord_items : Tables → Option Data → Bool → List Subrecord → List (At Subrecord) → List Item
-subrecord_items t fixed wide earlier [] = []
-subrecord_items t fixed wide earlier (x ∷ xs) = item x.within (subrecord_fields t fixed wide earlier x.item) ∷ subrecord_items t fixed wide (earlier ++ x.item ∷ []) xs
+abbrev pub subrecord_items : Tables → Option Data → Width → List Subrecord → List (At Subrecord) → List Item
+subrecord_items t fixed width earlier [] = []
+subrecord_items t fixed width earlier (x ∷ xs) = item x.within (subrecord_fields t fixed width earlier x.item) ∷ subrecord_items t fixed width (earlier ++ x.item ∷ []) xs
 
-abbrev pub start_items : Tables → Bool → List Subrecord → Option Reference → List Item
-start_items t wide earlier None = []
-start_items t wide earlier (Some r) = item r.fix.within (reference_fields t wide (frame_of earlier r) (target_of earlier r) r) ∷ []
+abbrev pub start_items : Tables → Width → List Subrecord → Option Reference → List Item
+start_items t width earlier None = []
+start_items t width earlier (Some r) = item r.fix.within (reference_fields t width (frame_of earlier r) (target_of earlier r) r) ∷ []
 
 -- The length that the blocks of an LIDATA expand to, if they expand within the limits. (No record has more bytes of contents than 65,534.)
-abbrev pub expanded_if : Bool → List ℕ → List Field
-expanded_if wide blocks = if nat_le (length blocks) 65534 then length_if wide (expanded_length (count_size wide) profile_limits blocks) else []
+abbrev pub expanded_if : Width → List ℕ → List Field
+expanded_if width blocks = if nat_le (length blocks) 65534 then length_if width (expanded_length (width_bytes width) profile_limits blocks) else []
 
 -- All that is shown of the contents of a record, 32-bit or 16-bit, with the tables of the records before it. `subrecords` and `starts` give
 -- the items of a FIXUPP and of a MODEND.
-abbrev pub shown_with : (List (At Subrecord) → List Item) → (Option Reference → List Item) → Tables → Bool → Contents → Shown
-shown_with subrecords starts t wide (Header name) = only_fields (header_fields name)
-shown_with subrecords starts t wide (Comment byte class text) = only_fields (comment_fields byte class text)
-shown_with subrecords starts t wide (Names items) = with_items [] (numbered name_fields (length t.names + 1) items)
-shown_with subrecords starts t wide (Segment s) = only_fields (segment_fields t (length t.segments + 1) wide s)
-shown_with subrecords starts t wide (Group g) = with_items (group_fields t (length t.groups + 1) g.name) (each (member_fields t) g.members)
-shown_with subrecords starts t wide (Externs items) = with_items [] (numbered external_fields (length t.externals + 1) items)
-shown_with subrecords starts t wide (Publics p) = with_items (base_fields (group_entry t p.group.item) (segment_entry t p.segment.item) p.frame) (each (public_fields wide) p.items)
-shown_with subrecords starts t wide (Communals items) = with_items [] (numbered communal_fields (length t.externals + 1) items)
-shown_with subrecords starts t wide (Plain d) = with_block (place_fields wide (segment_entry t d.segment.item) d.offset.item ++ length_field wide (length d.bytes)) d.offset.item d.bytes
-shown_with subrecords starts t wide (Iterated d) = with_block (place_fields wide (segment_entry t d.segment.item) d.offset.item ++ expanded_if wide d.bytes) (d.offset.within + count_size wide) d.bytes
-shown_with subrecords starts t wide (Fixups subs) = with_items [] (subrecords subs)
-shown_with subrecords starts t wide (ModEnd byte start) = with_items (end_fields byte) (starts start)
-shown_with subrecords starts t wide (Carried bytes) = with_block (length_field false (length bytes)) 3 bytes
+abbrev pub shown_with : (List (At Subrecord) → List Item) → (Option Reference → List Item) → Tables → Width → Contents → Shown
+shown_with subrecords starts t width (Header name) = only_fields (header_fields name)
+shown_with subrecords starts t width (Comment byte class text) = only_fields (comment_fields byte class text)
+shown_with subrecords starts t width (Names items) = with_items [] (numbered name_fields (length t.names + 1) items)
+shown_with subrecords starts t width (Segment s) = only_fields (segment_fields t (length t.segments + 1) width s)
+shown_with subrecords starts t width (Group g) = with_items (group_fields t (length t.groups + 1) g.name) (each (member_fields t) g.members)
+shown_with subrecords starts t width (Externs items) = with_items [] (numbered external_fields (length t.externals + 1) items)
+shown_with subrecords starts t width (Publics p) = with_items (base_fields (group_entry t p.group.item) (segment_entry t p.segment.item) p.frame) (each (public_fields width) p.items)
+shown_with subrecords starts t width (Communals items) = with_items [] (numbered communal_fields (length t.externals + 1) items)
+shown_with subrecords starts t width (Plain d) = with_block (place_fields width (segment_entry t d.segment.item) d.offset.item ++ length_field width (length d.bytes)) d.offset.item d.bytes
+shown_with subrecords starts t width (Iterated d) = with_block (place_fields width (segment_entry t d.segment.item) d.offset.item ++ expanded_if width d.bytes) (d.offset.within + width_bytes width) d.bytes
+shown_with subrecords starts t width (Fixups subs) = with_items [] (subrecords subs)
+shown_with subrecords starts t width (ModEnd byte start) = with_items (end_fields byte) (starts start)
+shown_with subrecords starts t width (Carried bytes) = with_block (length_field Bits16 (length bytes)) 3 bytes
 
 -- The same after records with these tables, this data and these subrecords.
-abbrev pub shown : Tables → Option Data → List Subrecord → Bool → Contents → Shown
-shown t fixed earlier wide c = shown_with (subrecord_items t fixed wide earlier) (start_items t wide earlier) t wide c
+abbrev pub shown : Tables → Option Data → List Subrecord → Width → Contents → Shown
+shown t fixed earlier width c = shown_with (subrecord_items t fixed width earlier) (start_items t width earlier) t width c

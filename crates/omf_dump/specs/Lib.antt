@@ -2,7 +2,9 @@ pub mod Fields
 pub mod Render
 pub mod Words
 pub mod Known
+pub mod Looks
 pub mod Contents
 pub mod Dump
 pub mod Refused
+pub mod Rows
 pub mod Inner

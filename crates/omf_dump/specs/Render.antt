@@ -1,10 +1,12 @@
 -- The two renderings of what is shown, text and JSON (this profile's rule).
-use Rattle.std.specs.Prelude.{ℕ, ◌+◌, ◌-◌, ◌*◌, ◌/◌, List, [], ◌∷◌, ◌++◌, length, flat_map, map, take, drop, replicate, Bool, true, false, Option, Some, None, ◌==◌, codes, decimal, if◌then◌else◌}
+use Rattle.std.specs.Prelude.{ℕ, zero, suc, ◌+◌, ◌-◌, ◌*◌, ◌/◌, List, [], ◌∷◌, ◌++◌, length, flat_map, map, take, drop, replicate, Bool, true, false, Option, Some, None, ◌==◌, codes, decimal, if◌then◌else◌}
 use Rattle.std.specs.List.{range_with_len}
-use Rattle.omf_frame.specs.Types.{type_name}
+use Rattle.omf_frame.specs.Types.{type_name, width_bytes}
+use Rattle.omf_frame.specs.declared.kinds.Width.{Width}
 use Rattle.omf_placement.specs.Quoted.{hex, is_plain}
 use Rattle.omf_dump.specs.Fields.{Entry, Value, Number, Hex, Word, Characters, Bytes, Named, Method, Flag, Field, Item, Block, Shown}
 use Rattle.omf_dump.specs.declared.format.Format.{Format}
+use Rattle.omf_dump.specs.declared.format.Style.{Style}
 use Rattle.omf_dump.specs.declared.format.Format.TheVariants as format
 
 -- Bytes in double quotes. Bytes outside 20H to 7EH, the quote and the backslash are written as \x and two digits, in JSON as \u00 and two
@@ -20,8 +22,8 @@ abbrev pub quoted : Format → List ℕ → List ℕ
 quoted f name = 34 ∷ flat_map (escaped f) name ++ 34 ∷ []
 
 -- The least number of hexadecimal digits of a 16-bit and a 32-bit field.
-abbrev pub digits : Bool → ℕ
-digits wide = if wide then 8 else 4
+abbrev pub digits : Width → ℕ
+digits width = 2 * width_bytes width
 
 -- A number. JSON has only decimal ones.
 abbrev pub hexadecimal : Format → ℕ → ℕ → List ℕ
@@ -144,16 +146,32 @@ row first bytes = codes "    " ++ (hex 8 first ++ (flat_map (λ c. 32 ∷ hex 2 
 abbrev pub rows : ℕ → List ℕ → List ℕ
 rows first bytes = flat_map (λ k. row (first + 16 * k) (take 16 (drop (16 * k) bytes))) (range_with_len 0 ((length bytes + 15) / 16))
 
-abbrev pub block_text : Format → Option Block → List ℕ
-block_text f None = []
-block_text format.Text (Some b) = rows b.first b.bytes
-block_text format.Json (Some b) = codes ",\"data\":\"" ++ (flat_map (hex 2) b.bytes ++ 34 ∷ [])
+abbrev pub bytes_block : Format → ℕ → List ℕ → List ℕ
+bytes_block format.Text first bytes = rows first bytes
+bytes_block format.Json first bytes = codes ",\"data\":\"" ++ (flat_map (hex 2) bytes ++ 34 ∷ [])
+
+-- The number of bytes that are left out, if some are.
+abbrev pub left_out : Format → ℕ → List ℕ
+left_out f zero = []
+left_out format.Text (suc n) = codes "    and " ++ (decimal (suc n) ++ codes " bytes more\n")
+left_out format.Json (suc n) = codes ",\"left-out\":" ++ decimal (suc n)
+
+-- Bytes of a record, at most so many.
+abbrev pub block_text : Style → Option Block → List ℕ
+block_text style None = []
+block_text style (Some b) = bytes_block style.format b.first (take style.most b.bytes) ++ left_out style.format (length b.bytes - style.most)
 
 -- A record: number, offset, type byte and type name, and what is shown of its contents.
+abbrev pub place_head : Format → ℕ → ℕ → List ℕ
+place_head format.Text number start = decimal number ++ 32 ∷ hex 8 start
+place_head format.Json number start = codes "{\"number\":" ++ (decimal number ++ (codes ",\"start\":" ++ decimal start))
+
+abbrev pub kind_head : Format → ℕ → List ℕ → List ℕ
+kind_head format.Text kind name = 32 ∷ hex 2 kind ++ 32 ∷ name
+kind_head format.Json kind name = codes ",\"type\":" ++ (decimal kind ++ (codes ",\"record\":\"" ++ (name ++ 34 ∷ [])))
+
 abbrev pub named_head : Format → ℕ → ℕ → ℕ → List ℕ → List ℕ
-named_head format.Text number start kind name = decimal number ++ (32 ∷ hex 8 start ++ (32 ∷ hex 2 kind ++ 32 ∷ name))
-named_head format.Json number start kind name =
-    codes "{\"number\":" ++ (decimal number ++ (codes ",\"start\":" ++ (decimal start ++ (codes ",\"type\":" ++ (decimal kind ++ (codes ",\"record\":\"" ++ (name ++ 34 ∷ [])))))))
+named_head f number start kind name = place_head f number start ++ kind_head f kind name
 
 abbrev pub head_text : Format → ℕ → ℕ → ℕ → List ℕ
 head_text f number start kind = named_head f number start kind (type_name kind)
@@ -167,11 +185,11 @@ record_end format.Text = []
 record_end format.Json = 125 ∷ 10 ∷ []
 
 -- What follows the fields of a record.
-abbrev pub closing : Format → Option (List Item) → Option Block → List ℕ
-closing f items block = line_end f ++ (list_text f items ++ (block_text f block ++ record_end f))
+abbrev pub closing : Style → Option (List Item) → Option Block → List ℕ
+closing style items block = line_end style.format ++ (list_text style.format items ++ (block_text style block ++ record_end style.format))
 
-abbrev pub shown_text : Format → Shown → List ℕ
-shown_text f s = fields_text f s.fields ++ closing f s.items s.block
+abbrev pub shown_text : Style → Shown → List ℕ
+shown_text style s = fields_text style.format s.fields ++ closing style s.items s.block
 
-abbrev pub record_text : Format → ℕ → ℕ → ℕ → Shown → List ℕ
-record_text f number start kind s = head_text f number start kind ++ shown_text f s
+abbrev pub record_text : Style → ℕ → ℕ → ℕ → Shown → List ℕ
+record_text style number start kind s = head_text style.format number start kind ++ shown_text style s

@@ -38,3 +38,11 @@ classes = (0x00, codes "translator") ∷ (0x01, codes "copyright") ∷ (0x81, co
 
 abbrev pub class_word : ℕ → List ℕ
 class_word n = word_in classes (codes "other") n
+
+-- Subtypes of comments of the class A0H.
+abbrev pub subtypes : List (ℕ × List ℕ)
+subtypes = (1, codes "IMPDEF") ∷ (2, codes "EXPDEF") ∷ (3, codes "INCDEF") ∷ (4, codes "protected-memory-library") ∷ (5, codes "LNKDIR") ∷ (6, codes "big-endian")
+    ∷ (7, codes "PRECOMP") ∷ []
+
+abbrev pub subtype_word : ℕ → List ℕ
+subtype_word n = word_in subtypes (codes "reserved") n

@@ -3,7 +3,7 @@
 ghost use Rattle.std.specs.Prelude.{◌≡◌, ◌+◌, ◌++◌, codes, length};
 ghost use Rattle.omf_frame.specs.Bytes.{AddsText, has_bit};
 ghost use Rattle.omf_records.specs.Inner.Sizes.{size_seen};
-ghost use Rattle.omf_dump.specs.Contents.{absolute_if, attribute_fields, base_fields, comment_fields, communal_fields, end_fields, expanded_if, external_fields, group_fields, header_fields, indexed_fields, length_field, length_if, length_of, member_fields, name_fields, place_fields, public_fields, segment_fields, segment_names, size_fields};
+ghost use Rattle.omf_dump.specs.Contents.{absolute_if, attribute_fields, base_fields, comment_fields, communal_fields, end_fields, expanded_if, external_fields, group_fields, header_fields, indexed_fields, length_field, length_if, length_of, member_fields, name_fields, place_fields, public_fields, segment_fields, segment_names, size_fields, subtype_if};
 ghost use Rattle.omf_dump.specs.Fields.{Flag, Hex, Word};
 ghost use Rattle.omf_dump.specs.Render.{fields_text, value_text};
 ghost use Rattle.omf_dump.specs.Words.{class_word};
@@ -12,10 +12,10 @@ use crate::entry::Entry;
 use crate::field::{characters, flag, hexadecimal, named, number, small, word};
 use crate::format::Format;
 use crate::known::Tables;
-use crate::words::{alignment_word, class_word, combination_word};
-use omf_frame::{Index, Name};
+use crate::words::{alignment_word, class_word, combination_word, subtype_word};
+use omf_frame::{Index, Name, Width};
 use omf_image::{Limits, expanded_len};
-use omf_records::{At, Blocks, Communal, CommunalSize, Extern, LayoutFault, Public, Segment};
+use omf_records::{Acbp, At, Blocks, Communal, CommunalSize, Extern, LayoutFault, Public, Segment};
 use std::alloc::AllocError;
 
 /// THEADR, LHEADR.
@@ -46,6 +46,24 @@ fn put_comment_flags(text: &mut Vec<u8>, format: Format, type_byte: u8) -> Resul
     flag(text, format, "no-list", type_byte / 64 % 2 == 1)
 }
 
+/// The subtype of a comment of the class A0H, which is the first byte of its text.
+fn put_subtype(
+    text: &mut Vec<u8>,
+    format: Format,
+    class: u8,
+    comment: &[u8],
+) -> Result<(), AllocError>
+    ensures { AddsText result text.old.items text.new.items (fields_text format (subtype_if class comment.now)) }
+{
+    match comment {
+        [] => Ok(()),
+        [subtype, ..] => match class {
+            0xA0 => word(text, format, "subtype", subtype_word(*subtype)),
+            _ => Ok(()),
+        },
+    }
+}
+
 /// COMENT.
 pub(crate) fn put_comment(
     text: &mut Vec<u8>,
@@ -58,6 +76,7 @@ pub(crate) fn put_comment(
 {
     put_class(text, format, class)?;
     put_comment_flags(text, format, type_byte)?;
+    put_subtype(text, format, class, comment)?;
     characters(text, format, "text", comment)
 }
 
@@ -77,14 +96,19 @@ fn put_segment_names(
 }
 
 /// The attributes of a SEGDEF.
-fn put_attributes(text: &mut Vec<u8>, format: Format, attribute: u8) -> Result<(), AllocError>
+fn put_attributes(text: &mut Vec<u8>, format: Format, attribute: Acbp) -> Result<(), AllocError>
     ensures { AddsText result text.old.items text.new.items (fields_text format (attribute_fields attribute)) }
 {
-    let bits = if attribute % 2 == 1 { 32 } else { 16 };
-    word(text, format, "align", alignment_word(attribute / 32))?;
-    word(text, format, "combine", combination_word(attribute / 4 % 8))?;
+    let bits = if attribute.is_use32() { 32 } else { 16 };
+    word(text, format, "align", alignment_word(attribute.alignment()))?;
+    word(
+        text,
+        format,
+        "combine",
+        combination_word(attribute.combination()),
+    )?;
     number(text, format, "use", bits)?;
-    flag(text, format, "big", attribute / 2 % 2 == 1)
+    flag(text, format, "big", attribute.is_big())
 }
 
 /// The place of an absolute segment.
@@ -98,17 +122,17 @@ fn put_absolute(
     let Some((frame, offset)) = absolute else {
         return Ok(());
     };
-    hexadecimal(text, format, "frame", false, u64::from(frame))?;
+    hexadecimal(text, format, "frame", Width::Bits16, u64::from(frame))?;
     small(text, format, "offset", offset)
 }
 
 /// The length of a segment in bytes.
-fn length_of(wide: bool, segment: &Segment) -> u64
-    ensures { result ≡ length_of wide segment.now }
+fn length_of(width: Width, segment: &Segment) -> u64
+    ensures { result ≡ length_of width segment.now }
 {
-    match (segment.is_big(), wide) {
-        (true, true) => 4_294_967_296,
-        (true, false) => 65_536,
+    match (segment.attribute.is_big(), width) {
+        (true, Width::Bits32) => 4_294_967_296,
+        (true, Width::Bits16) => 65_536,
         (false, _) => u64::from(segment.size),
     }
 }
@@ -117,12 +141,12 @@ fn length_of(wide: bool, segment: &Segment) -> u64
 pub(crate) fn put_length(
     text: &mut Vec<u8>,
     format: Format,
-    wide: bool,
+    width: Width,
     length: u64,
 ) -> Result<(), AllocError>
-    ensures { AddsText result text.old.items text.new.items (fields_text format (length_field wide length)) }
+    ensures { AddsText result text.old.items text.new.items (fields_text format (length_field width length)) }
 {
-    hexadecimal(text, format, "length", wide, length)
+    hexadecimal(text, format, "length", width, length)
 }
 
 /// SEGDEF.
@@ -130,15 +154,15 @@ pub(crate) fn put_segment(
     text: &mut Vec<u8>,
     format: Format,
     tables: &Tables<'_>,
-    wide: bool,
+    width: Width,
     segment: &Segment,
 ) -> Result<(), AllocError>
-    ensures { AddsText result text.old.items text.new.items (fields_text format (segment_fields tables.now (length tables.now.segments + 1) wide segment.now)) }
+    ensures { AddsText result text.old.items text.new.items (fields_text format (segment_fields tables.now (length tables.now.segments + 1) width segment.now)) }
 {
     put_segment_names(text, format, tables, segment)?;
     put_attributes(text, format, segment.attribute)?;
     put_absolute(text, format, segment.absolute)?;
-    put_length(text, format, wide, length_of(wide, segment))
+    put_length(text, format, width, length_of(width, segment))
 }
 
 /// The index that a GRPDEF defines, and its name.
@@ -213,12 +237,12 @@ fn put_size(text: &mut Vec<u8>, format: Format, size: CommunalSize) -> Result<()
     match size {
         CommunalSize::Near(length) => {
             word(text, format, "communal", "near")?;
-            hexadecimal(text, format, "length", false, u64::from(length))
+            hexadecimal(text, format, "length", Width::Bits16, u64::from(length))
         }
         CommunalSize::Far { count, size } => {
             word(text, format, "communal", "far")?;
-            hexadecimal(text, format, "count", false, u64::from(count))?;
-            hexadecimal(text, format, "size", false, u64::from(size))
+            hexadecimal(text, format, "count", Width::Bits16, u64::from(count))?;
+            hexadecimal(text, format, "size", Width::Bits16, u64::from(size))
         }
     }
 }
@@ -249,7 +273,7 @@ pub(crate) fn put_base(
     named(text, format, "group", group)?;
     named(text, format, "segment", segment)?;
     match frame {
-        Some(frame) => hexadecimal(text, format, "frame", false, u64::from(frame)),
+        Some(frame) => hexadecimal(text, format, "frame", Width::Bits16, u64::from(frame)),
         None => Ok(()),
     }
 }
@@ -258,13 +282,13 @@ pub(crate) fn put_base(
 pub(crate) fn put_public(
     text: &mut Vec<u8>,
     format: Format,
-    wide: bool,
+    width: Width,
     public: &Public<'_>,
 ) -> Result<(), AllocError>
-    ensures { AddsText result text.old.items text.new.items (fields_text format (public_fields wide public.now)) }
+    ensures { AddsText result text.old.items text.new.items (fields_text format (public_fields width public.now)) }
 {
     characters(text, format, "public", public.name.0)?;
-    hexadecimal(text, format, "offset", wide, u64::from(public.offset))?;
+    hexadecimal(text, format, "offset", width, u64::from(public.offset))?;
     number(text, format, "type", u64::from(public.type_index.0))
 }
 
@@ -272,27 +296,27 @@ pub(crate) fn put_public(
 pub(crate) fn put_place(
     text: &mut Vec<u8>,
     format: Format,
-    wide: bool,
+    width: Width,
     segment: Entry<'_>,
     offset: u32,
 ) -> Result<(), AllocError>
-    ensures { AddsText result text.old.items text.new.items (fields_text format (place_fields wide segment.entry offset)) }
+    ensures { AddsText result text.old.items text.new.items (fields_text format (place_fields width segment.entry offset)) }
 {
     named(text, format, "segment", segment)?;
-    hexadecimal(text, format, "offset", wide, u64::from(offset))
+    hexadecimal(text, format, "offset", width, u64::from(offset))
 }
 
 /// A length in bytes, if there is one.
 fn put_length_if(
     text: &mut Vec<u8>,
     format: Format,
-    wide: bool,
+    width: Width,
     length: &Result<u32, LayoutFault>,
 ) -> Result<(), AllocError>
-    ensures { AddsText result text.old.items text.new.items (fields_text format (length_if wide length.now)) }
+    ensures { AddsText result text.old.items text.new.items (fields_text format (length_if width length.now)) }
 {
     match length {
-        Ok(length) => put_length(text, format, wide, u64::from(*length)),
+        Ok(length) => put_length(text, format, width, u64::from(*length)),
         Err(_) => Ok(()),
     }
 }
@@ -303,14 +327,14 @@ pub(crate) fn put_expanded(
     format: Format,
     blocks: Blocks<'_>,
 ) -> Result<(), AllocError>
-    ensures { AddsText result text.old.items text.new.items (fields_text format (expanded_if blocks.entry.wide blocks.entry.bytes.now)) }
+    ensures { AddsText result text.old.items text.new.items (fields_text format (expanded_if blocks.entry.width blocks.entry.bytes.now)) }
 {
     if blocks.bytes.len() > 65_534 {
         return Ok(());
     }
-    let wide = blocks.wide;
+    let width = blocks.width;
     let length = expanded_len(blocks, Limits::profile());
-    put_length_if(text, format, wide, &length)
+    put_length_if(text, format, width, &length)
 }
 
 /// The module type byte of a MODEND.

@@ -10,6 +10,7 @@ use crate::format::Format;
 use crate::value::{
     put_decimal, put_list, put_method, put_named, put_number, put_quoted, put_small, put_word,
 };
+use omf_frame::Width;
 use std::alloc::AllocError;
 
 /// Appends the name of a field, up to its value.
@@ -49,13 +50,13 @@ pub(crate) fn hexadecimal(
     text: &mut Vec<u8>,
     format: Format,
     name: &str,
-    wide: bool,
+    width: Width,
     number: u64,
 ) -> Result<(), AllocError>
-    ensures { AddsText result text.old.items text.new.items (value_text format name.now (Hex (digits wide) number)) }
+    ensures { AddsText result text.old.items text.new.items (value_text format name.now (Hex (digits width) number)) }
 {
     open(text, format, name)?;
-    put_number(text, format, wide, number)
+    put_number(text, format, width, number)
 }
 
 /// Appends a byte, in text in two hexadecimal digits.

@@ -13,7 +13,7 @@ use std::process::ExitCode;
 use std::{env, fs, io};
 
 /// How the program is called.
-const USAGE: &[u8] = b"usage: omf-dump [--json] [--refuse-vendor-comments] [FILE ..]\n";
+const USAGE: &[u8] = b"usage: omf-dump [--json] [--data N] [--refuse-vendor-comments] [FILE ..]\n";
 
 /// The arguments of the process without the program's own name; None if one of them is not UTF-8.
 fn arguments(rt: &HostRuntime) -> Result<Option<Vec<String>>, AllocError> {
@@ -44,6 +44,39 @@ fn put<K: Sink>(writer: &mut K, bytes: &[u8]) -> u8
     }
 }
 
+/// The line for a file that could not be read; in JSON an object.
+fn unread(
+    alloc: Global,
+    format: Format,
+    name: &str,
+    error: &io::Error,
+) -> Result<Vec<u8>, AllocError> {
+    let mut text = Vec::new(alloc);
+    match format {
+        Format::Text => {
+            let line = format!(in alloc; "read {name}: {error}\n")?;
+            text.extend_from_slice(line.as_bytes())?;
+        }
+        Format::Json => {
+            let reason = format!(in alloc; "{error}")?;
+            text.extend_from_slice(b"{\"fault\":\"read\",\"name\":")?;
+            put_quoted(&mut text, format, name.as_bytes())?;
+            text.extend_from_slice(b",\"error\":")?;
+            put_quoted(&mut text, format, reason.as_bytes())?;
+            text.extend_from_slice(b"}\n")?;
+        }
+    }
+    Ok(text)
+}
+
+/// The line for an input for which there is too little memory; in JSON an object.
+fn memory(format: Format) -> &'static [u8] {
+    match format {
+        Format::Text => b"memory\n",
+        Format::Json => b"{\"fault\":\"memory\"}\n",
+    }
+}
+
 /// Shows one input. Returns the status: 0, 1 if it is refused, 3 if it could not be read or shown.
 fn show_input<K: Sink>(rt: &HostRuntime, asked: &Asked, name: &str, writer: &mut K) -> u8
     ensures { result ≤ 3 }
@@ -51,16 +84,16 @@ fn show_input<K: Sink>(rt: &HostRuntime, asked: &Asked, name: &str, writer: &mut
     let input = match read_input(rt, name) {
         Ok(input) => input,
         Err(error) => {
-            if let Ok(line) = format!(in rt.alloc(); "read {name}: {error}\n") {
-                let _ = put(writer, line.as_bytes());
+            if let Ok(line) = unread(rt.alloc(), asked.style.format, name, &error) {
+                let _ = put(writer, &line);
             }
             return 3;
         }
     };
-    match dump_input(rt.alloc(), asked.profile, asked.format, &input) {
+    match dump_input(rt.alloc(), asked.profile, asked.style, &input) {
         Ok(dumped) => put(writer, &dumped.text).max(u8::from(dumped.is_refused)),
         Err(AllocError) => {
-            let _ = put(writer, b"memory\n");
+            let _ = put(writer, memory(asked.style.format));
             3
         }
     }
@@ -87,7 +120,7 @@ fn title(alloc: Global, format: Format, name: &str) -> Result<Vec<u8>, AllocErro
 fn show_titled<K: Sink>(rt: &HostRuntime, asked: &Asked, name: &str, writer: &mut K) -> u8
     ensures { result ≤ 3 }
 {
-    let titled = match title(rt.alloc(), asked.format, name) {
+    let titled = match title(rt.alloc(), asked.style.format, name) {
         Ok(text) => put(writer, &text),
         Err(AllocError) => 3,
     };

@@ -1,30 +1,40 @@
 //! The frame of a record's text: its head, its items, its bytes and its end.
 
-ghost use Rattle.std.specs.Prelude.{◌≡◌, ◌+◌, ◌++◌, ◌<◌, ◌≤◌, ◌^◌, ◌∷◌, [], Some, codes, decimal, length, map, replicate};
+ghost use Rattle.std.specs.Prelude.{◌≡◌, ◌+◌, ◌++◌, ◌<◌, ◌≤◌, ◌^◌, ◌∷◌, [], Some, codes, length, map, replicate};
 ghost use Rattle.omf_frame.specs.Bytes.{AddsText};
-ghost use Rattle.omf_dump.specs.Render.{block_text, head_text, item_end, item_start, line_end, list_end, list_start, named_head, record_end, row, rows, shown_byte};
-ghost use Rattle.omf_dump.specs.declared.format.Format.TheVariants.{Json, Text};
+ghost use Rattle.omf_frame.specs.Types.{type_name};
+ghost use Rattle.omf_dump.specs.Render.{block_text, bytes_block, head_text, item_end, item_start, kind_head, left_out, line_end, list_end, list_start, place_head, record_end, row, rows, shown_byte};
 
-use crate::format::Format;
+use crate::format::{Format, Style};
+use crate::part::first;
 use crate::value::{is_plain, put_after_spaces, put_byte, put_bytes, put_decimal, put_eight};
-use crate::words::type_name;
-use omf_frame::RawRecord;
+use omf_frame::{Place, RawRecord, type_name};
 use std::alloc::AllocError;
 
 /// The number of bytes in a line.
 const ROW: usize = 16;
 
-/// Begins a record in text: number, offset, type byte and type name.
-fn put_text_head(text: &mut Vec<u8>, raw: &RawRecord<'_>, name: &str) -> Result<(), AllocError>
-    ensures { AddsText result text.old.items text.new.items (named_head Text raw.now.number raw.now.start raw.now.kind name.now) }
+/// Begins a record by its number and its offset.
+pub(crate) fn put_place_head(
+    text: &mut Vec<u8>,
+    format: Format,
+    place: Place,
+) -> Result<(), AllocError>
+    ensures { AddsText result text.old.items text.new.items (place_head format place.number place.start) }
 {
-    put_decimal(text, u64::from(raw.number))?;
-    text.push(b' ')?;
-    put_eight(text, raw.start)?;
-    text.push(b' ')?;
-    put_byte(text, raw.kind)?;
-    text.push(b' ')?;
-    text.extend_from_slice(name.as_bytes())
+    match format {
+        Format::Text => {
+            put_decimal(text, u64::from(place.number))?;
+            text.push(b' ')?;
+            put_eight(text, place.start)
+        }
+        Format::Json => {
+            text.extend_from_slice(b"{\"number\":")?;
+            put_decimal(text, u64::from(place.number))?;
+            text.extend_from_slice(b",\"start\":")?;
+            put_decimal(text, place.start)
+        }
+    }
 }
 
 /// Appends the type name of a record, as in an object of JSON.
@@ -37,39 +47,35 @@ fn put_json_name(text: &mut Vec<u8>, name: &str) -> Result<(), AllocError>
     Ok(())
 }
 
-/// Appends type byte and type name of a record, as in an object of JSON.
-fn put_json_kind(text: &mut Vec<u8>, kind: u8, name: &str) -> Result<(), AllocError>
-    ensures { AddsText result text.old.items text.new.items (codes ",\"type\":" ++ (decimal kind ++ (codes ",\"record\":\"" ++ (name.now ++ 34 ∷ [])))) }
-{
-    text.extend_from_slice(b",\"type\":")?;
-    put_decimal(text, u64::from(kind))?;
-    put_json_name(text, name)
-}
-
-/// Begins a record in JSON: number, offset, type byte and type name.
-fn put_json_head(text: &mut Vec<u8>, raw: &RawRecord<'_>, name: &str) -> Result<(), AllocError>
-    ensures { AddsText result text.old.items text.new.items (named_head Json raw.now.number raw.now.start raw.now.kind name.now) }
-{
-    text.extend_from_slice(b"{\"number\":")?;
-    put_decimal(text, u64::from(raw.number))?;
-    text.extend_from_slice(b",\"start\":")?;
-    put_decimal(text, raw.start)?;
-    put_json_kind(text, raw.kind, name)
-}
-
-/// Begins a record with this type name.
-pub(crate) fn put_head(
+/// Appends the type byte of a record, and this type name.
+fn put_named_kind(
     text: &mut Vec<u8>,
     format: Format,
-    raw: &RawRecord<'_>,
+    kind: u8,
     name: &str,
 ) -> Result<(), AllocError>
-    ensures { AddsText result text.old.items text.new.items (named_head format raw.now.number raw.now.start raw.now.kind name.now) }
+    ensures { AddsText result text.old.items text.new.items (kind_head format kind name.now) }
 {
     match format {
-        Format::Text => put_text_head(text, raw, name),
-        Format::Json => put_json_head(text, raw, name),
+        Format::Text => {
+            text.push(b' ')?;
+            put_byte(text, kind)?;
+            text.push(b' ')?;
+            text.extend_from_slice(name.as_bytes())
+        }
+        Format::Json => {
+            text.extend_from_slice(b",\"type\":")?;
+            put_decimal(text, u64::from(kind))?;
+            put_json_name(text, name)
+        }
     }
+}
+
+/// Appends the type byte and the type name of a record.
+pub(crate) fn put_kind_head(text: &mut Vec<u8>, format: Format, kind: u8) -> Result<(), AllocError>
+    ensures { AddsText result text.old.items text.new.items (kind_head format kind (type_name kind)) }
+{
+    put_named_kind(text, format, kind, type_name(kind))
 }
 
 /// Begins a record: number, offset, type byte and type name.
@@ -80,7 +86,13 @@ pub(crate) fn open_record(
 ) -> Result<(), AllocError>
     ensures { AddsText result text.old.items text.new.items (head_text format raw.now.number raw.now.start raw.now.kind) }
 {
-    put_head(text, format, raw, type_name(raw.kind))
+    let place = Place {
+        number: raw.number,
+        start: raw.start,
+        within: 0,
+    };
+    put_place_head(text, format, place)?;
+    put_kind_head(text, format, raw.kind)
 }
 
 /// Ends the fields of a record, in text its first line.
@@ -183,12 +195,12 @@ fn put_spaces(text: &mut Vec<u8>, count: usize) -> Result<(), AllocError>
 }
 
 /// Appends a line of at most 16 bytes: the offset of the first, the bytes, their characters.
-fn put_row(text: &mut Vec<u8>, first: u64, bytes: &[u8]) -> Result<(), AllocError>
+fn put_row(text: &mut Vec<u8>, offset: u64, bytes: &[u8]) -> Result<(), AllocError>
     requires { length bytes.now ≤ 16 }
-    ensures { AddsText result text.old.items text.new.items (row first bytes.now) }
+    ensures { AddsText result text.old.items text.new.items (row offset bytes.now) }
 {
     text.extend_from_slice(b"    ")?;
-    put_eight(text, first)?;
+    put_eight(text, offset)?;
     put_after_spaces(text, bytes)?;
     put_spaces(text, 3 * (16 - bytes.len()) + 2)?;
     put_characters(text, bytes)?;
@@ -212,15 +224,15 @@ fn put_rows(text: &mut Vec<u8>, first: u64, bytes: &[u8]) -> Result<(), AllocErr
     Ok(())
 }
 
-/// Appends the bytes of a record: in text in lines of 16, in JSON as one word of hexadecimal digits.
-pub(crate) fn put_block(
+/// Appends bytes: in text in lines of 16, in JSON as one word of hexadecimal digits.
+fn put_bytes_block(
     text: &mut Vec<u8>,
     format: Format,
     first: u64,
     bytes: &[u8],
 ) -> Result<(), AllocError>
     requires { first + length bytes.now < 2 ^ 64 }
-    ensures { AddsText result text.old.items text.new.items (block_text format (Some (record { first = first; bytes = bytes.now }))) }
+    ensures { AddsText result text.old.items text.new.items (bytes_block format first bytes.now) }
 {
     match format {
         Format::Text => put_rows(text, first, bytes),
@@ -231,4 +243,38 @@ pub(crate) fn put_block(
             Ok(())
         }
     }
+}
+
+/// Appends the number of bytes that are left out, if some are.
+fn put_left_out(text: &mut Vec<u8>, format: Format, count: usize) -> Result<(), AllocError>
+    ensures { AddsText result text.old.items text.new.items (left_out format count) }
+{
+    if count == 0 {
+        return Ok(());
+    }
+    match format {
+        Format::Text => {
+            text.extend_from_slice(b"    and ")?;
+            put_decimal(text, count as u64)?;
+            text.extend_from_slice(b" bytes more\n")
+        }
+        Format::Json => {
+            text.extend_from_slice(b",\"left-out\":")?;
+            put_decimal(text, count as u64)
+        }
+    }
+}
+
+/// Appends the bytes of a record, at most so many.
+pub(crate) fn put_block(
+    text: &mut Vec<u8>,
+    style: Style,
+    offset: u64,
+    bytes: &[u8],
+) -> Result<(), AllocError>
+    requires { offset + length bytes.now < 2 ^ 64 }
+    ensures { AddsText result text.old.items text.new.items (block_text style (Some (record { first = offset; bytes = bytes.now }))) }
+{
+    put_bytes_block(text, style.format, offset, first(style.most, bytes))?;
+    put_left_out(text, style.format, bytes.len().saturating_sub(style.most))
 }

@@ -9,7 +9,7 @@ use crate::contents::{put_communal, put_extern, put_member, put_name, put_public
 use crate::format::Format;
 use crate::item::{close_item, open_item};
 use crate::known::Tables;
-use omf_frame::Name;
+use omf_frame::{Name, Width};
 use omf_records::{Communal, Extern, Items, Member, Public};
 use std::alloc::AllocError;
 
@@ -113,15 +113,15 @@ pub(crate) fn put_communals<'a>(
 pub(crate) fn put_publics(
     text: &mut Vec<u8>,
     format: Format,
-    wide: bool,
+    width: Width,
     publics: Items<Public<'_>>,
 ) -> Result<(), AllocError>
-    ensures { AddsText result text.old.items text.new.items (items_text format true (each (public_fields wide) publics.entry)) }
+    ensures { AddsText result text.old.items text.new.items (items_text format true (each (public_fields width) publics.entry)) }
 {
     let mut is_first = true;
     for public in publics {
         open_item(text, format, is_first, public.within)?;
-        put_public(text, format, wide, &public.item)?;
+        put_public(text, format, width, &public.item)?;
         close_item(text, format)?;
         is_first = false;
     }

@@ -1,13 +1,13 @@
 //! The arguments of `omf-dump`.
 
-use crate::format::Format;
+use crate::format::{Format, Style};
 use omf_check::Profile;
 use std::alloc::{AllocError, Global};
 
 /// What the arguments ask for.
 #[derive(Drop)]
 pub struct Asked {
-    pub format: Format,
+    pub style: Style,
     pub profile: Profile,
     /// The names of the files; `-` is the standard input.
     pub files: Vec<String>,
@@ -17,7 +17,10 @@ impl Asked {
     /// Text of all of the standard input.
     fn new(alloc: Global) -> Asked {
         Asked {
-            format: Format::Text,
+            style: Style {
+                format: Format::Text,
+                most: usize::MAX,
+            },
             profile: Profile {
                 refuse_vendor_comments: false,
             },
@@ -29,6 +32,8 @@ impl Asked {
 /// What one argument is.
 enum Word {
     Json,
+    /// The most bytes of data follow as the next argument.
+    Data,
     RefuseVendorComments,
     File,
     Unknown,
@@ -38,10 +43,19 @@ enum Word {
 fn word_of(argument: &str) -> Word {
     match argument {
         "--json" => Word::Json,
+        "--data" => Word::Data,
         "--refuse-vendor-comments" => Word::RefuseVendorComments,
         "-" => Word::File,
         _ if argument.starts_with('-') => Word::Unknown,
         _ => Word::File,
+    }
+}
+
+/// The number that an argument is: decimal digits.
+fn number_of(argument: Option<String>) -> Option<usize> {
+    match argument {
+        Some(digits) => digits.as_str().parse::<usize>().ok(),
+        None => None,
     }
 }
 
@@ -52,9 +66,14 @@ fn word_of(argument: &str) -> Word {
 /// `AllocError` if memory ran out.
 pub fn read_arguments(alloc: Global, arguments: Vec<String>) -> Result<Option<Asked>, AllocError> {
     let mut asked = Asked::new(alloc);
-    for argument in arguments {
+    let mut words = arguments.into_iter();
+    while let Some(argument) = words.next() {
         match word_of(argument.as_str()) {
-            Word::Json => asked.format = Format::Json,
+            Word::Json => asked.style.format = Format::Json,
+            Word::Data => match number_of(words.next()) {
+                Some(most) => asked.style.most = most,
+                None => return Ok(None),
+            },
             Word::RefuseVendorComments => asked.profile.refuse_vendor_comments = true,
             Word::File => asked.files.push(argument)?,
             Word::Unknown => return Ok(None),

@@ -3,48 +3,56 @@
 ghost use Rattle.std.specs.Prelude.{◌≡◌, ◌∷◌, [], ◌+◌, Some, None, codes};
 ghost use Rattle.omf_frame.specs.Bytes.{AddsText};
 ghost use Rattle.omf_check.specs.Threads.{frame_from, setting, target_from};
-ghost use Rattle.omf_dump.specs.Contents.{displacement_if, frame_thread_of, frame_value, location_bytes, location_fields, location_place, reference_fields, target_thread_of, target_value, thread_fields, thread_if};
+ghost use Rattle.omf_dump.specs.Contents.{displacement_if, entry_value, frame_thread_of, frame_value, kind_entry, kind_word, location_bytes, location_fields, location_place, reference_fields, target_thread_of, target_value, thread_fields, thread_if};
 ghost use Rattle.omf_dump.specs.Fields.{field};
 ghost use Rattle.omf_dump.specs.Render.{fields_text, value_text};
 
+use crate::entry::Entry;
 use crate::field::{bytes, flag, hexadecimal, method, number, word};
 use crate::format::Format;
 use crate::known::{Data, Tables};
+use crate::part::{after, first};
 use crate::words::location_word;
 use omf_check::{FrameMethod, TargetMethod};
-use omf_frame::Index;
-use omf_records::{
-    At, Reference, is_segment_relative, location_offset, location_size, location_type,
-    thread_number,
-};
+use omf_frame::{Index, Width};
+use omf_records::{Kind, Locat, Reference};
 use std::alloc::AllocError;
 
-/// A target method with its entry.
-fn put_target_method(
+/// The word for a segment, a group or an external.
+fn kind_word(kind: Kind) -> &'static str
+    ensures { result.now ≡ kind_word kind }
+{
+    match kind {
+        Kind::Segment => "segment",
+        Kind::Group => "group",
+        Kind::External => "external",
+    }
+}
+
+/// A segment, a group or an external by its index and its name.
+fn entry_of<'a>(tables: &Tables<'a>, method: &TargetMethod) -> Entry<'a>
+    ensures { result ≡ kind_entry tables.now method.now.kind method.now.index }
+{
+    let Index(index) = method.index;
+    match method.kind {
+        Kind::Segment => tables.segment(index),
+        Kind::Group => tables.group(index),
+        Kind::External => tables.external(index),
+    }
+}
+
+/// A field that is the entry of a target method.
+fn put_entry(
     text: &mut Vec<u8>,
     format: Format,
+    name: &str,
     tables: &Tables<'_>,
-    target: &TargetMethod,
+    entry: &TargetMethod,
 ) -> Result<(), AllocError>
-    ensures { AddsText result text.old.items text.new.items (value_text format (codes "target") (target_value tables.now (Some target.now))) }
+    ensures { AddsText result text.old.items text.new.items (value_text format name.now (entry_value tables.now entry.now)) }
 {
-    match target {
-        TargetMethod::Segment(Index(i)) => {
-            method(text, format, "target", "segment", Some(tables.segment(*i)))
-        }
-        TargetMethod::Group(Index(i)) => {
-            method(text, format, "target", "group", Some(tables.group(*i)))
-        }
-        TargetMethod::External(Index(i)) => {
-            method(
-                text,
-                format,
-                "target",
-                "external",
-                Some(tables.external(*i)),
-            )
-        }
-    }
+    let shown = entry_of(tables, entry);
+    method(text, format, name, kind_word(entry.kind), Some(shown))
 }
 
 /// A target method with its entry; None if its thread is not set.
@@ -58,31 +66,7 @@ pub(crate) fn put_target(
 {
     match &target {
         None => method(text, format, "target", "unset", None),
-        Some(target) => put_target_method(text, format, tables, target),
-    }
-}
-
-/// A frame method with its entry, if it has one.
-fn put_frame_method(
-    text: &mut Vec<u8>,
-    format: Format,
-    tables: &Tables<'_>,
-    frame: &FrameMethod,
-) -> Result<(), AllocError>
-    ensures { AddsText result text.old.items text.new.items (value_text format (codes "frame") (frame_value tables.now (Some frame.now))) }
-{
-    match frame {
-        FrameMethod::Segment(Index(i)) => {
-            method(text, format, "frame", "segment", Some(tables.segment(*i)))
-        }
-        FrameMethod::Group(Index(i)) => {
-            method(text, format, "frame", "group", Some(tables.group(*i)))
-        }
-        FrameMethod::External(Index(i)) => {
-            method(text, format, "frame", "external", Some(tables.external(*i)))
-        }
-        FrameMethod::Location => method(text, format, "frame", "location", None),
-        FrameMethod::Target => method(text, format, "frame", "target", None),
+        Some(target) => put_entry(text, format, "target", tables, target),
     }
 }
 
@@ -97,7 +81,9 @@ pub(crate) fn put_frame(
 {
     match &frame {
         None => method(text, format, "frame", "unset", None),
-        Some(frame) => put_frame_method(text, format, tables, frame),
+        Some(FrameMethod::Of(entry)) => put_entry(text, format, "frame", tables, entry),
+        Some(FrameMethod::Location) => method(text, format, "frame", "location", None),
+        Some(FrameMethod::Target) => method(text, format, "frame", "target", None),
     }
 }
 
@@ -120,14 +106,14 @@ fn put_thread_number(
 fn put_displacement(
     text: &mut Vec<u8>,
     format: Format,
-    wide: bool,
+    width: Width,
     displacement: Option<u32>,
 ) -> Result<(), AllocError>
-    ensures { AddsText result text.old.items text.new.items (fields_text format (displacement_if wide displacement)) }
+    ensures { AddsText result text.old.items text.new.items (fields_text format (displacement_if width displacement)) }
 {
     match displacement {
         Some(displacement) => {
-            hexadecimal(text, format, "displacement", wide, u64::from(displacement))
+            hexadecimal(text, format, "displacement", width, u64::from(displacement))
         }
         None => Ok(()),
     }
@@ -136,7 +122,7 @@ fn put_displacement(
 /// A reference with its methods: those that it gives, or those of its threads; None if a thread is not set.
 #[derive(Drop)]
 pub(crate) struct Resolved<'r> {
-    pub wide: bool,
+    pub width: Width,
     pub frame: Option<FrameMethod>,
     pub target: Option<TargetMethod>,
     pub reference: &'r Reference,
@@ -149,40 +135,36 @@ pub(crate) fn put_reference(
     tables: &Tables<'_>,
     resolved: Resolved<'_>,
 ) -> Result<(), AllocError>
-    ensures { AddsText result text.old.items text.new.items (fields_text format (reference_fields tables.now resolved.entry.wide resolved.entry.frame resolved.entry.target resolved.entry.reference.now)) }
+    ensures { AddsText result text.old.items text.new.items (fields_text format (reference_fields tables.now resolved.entry.width resolved.entry.frame resolved.entry.target resolved.entry.reference.now)) }
 {
     let reference = resolved.reference;
     put_target(text, format, tables, resolved.target)?;
-    put_displacement(text, format, resolved.wide, reference.displacement)?;
+    put_displacement(text, format, resolved.width, reference.displacement)?;
     put_frame(text, format, tables, resolved.frame)?;
     put_thread_number(text, format, "target-thread", reference.target_thread())?;
     put_thread_number(text, format, "frame-thread", reference.frame_thread())
 }
 
 /// The place of a location: its offset in the data, after the offset of these in their segment if they are known.
-fn location_place(fixed: &Option<Data<'_>>, location: u16) -> u64
+fn location_place(fixed: &Option<Data<'_>>, location: Locat) -> u64
     ensures { result ≡ location_place fixed.now location }
 {
     let offset = match fixed {
         Some(fixed) => u64::from(fixed.offset),
         None => 0,
     };
-    offset + u64::from(location_offset(location))
+    offset + u64::from(location.offset())
 }
 
 /// The bytes of a location; none if the data are not known.
-fn location_bytes<'a>(fixed: &Option<Data<'a>>, location: u16) -> &'a [u8]
+fn location_bytes<'a>(fixed: &Option<Data<'a>>, location: Locat) -> &'a [u8]
     ensures { result.now ≡ location_bytes fixed.now location }
 {
     let Some(fixed) = fixed else {
         return &[];
     };
-    let bytes = fixed.bytes;
-    let first = usize::from(location_offset(location)).min(bytes.len());
-    let size = usize::from(location_size(location_type(location)));
-    let (_front, rest) = bytes.split_at(first);
-    let (bytes, _rest) = rest.split_at(size.min(rest.len()));
-    bytes
+    let size = usize::from(location.location_type().size());
+    first(size, after(usize::from(location.offset()), fixed.bytes))
 }
 
 /// The location of a fixup.
@@ -190,23 +172,15 @@ pub(crate) fn put_location(
     text: &mut Vec<u8>,
     format: Format,
     fixed: &Option<Data<'_>>,
-    wide: bool,
-    location: u16,
+    width: Width,
+    location: Locat,
 ) -> Result<(), AllocError>
-    ensures { AddsText result text.old.items text.new.items (fields_text format (location_fields fixed.now wide location)) }
+    ensures { AddsText result text.old.items text.new.items (fields_text format (location_fields fixed.now width location)) }
 {
-    hexadecimal(text, format, "at", wide, location_place(fixed, location))?;
+    let kind = location_word(location.location_type());
+    let is_self_relative = !location.is_segment_relative();
+    hexadecimal(text, format, "at", width, location_place(fixed, location))?;
     bytes(text, format, "bytes", location_bytes(fixed, location))?;
-    word(
-        text,
-        format,
-        "location",
-        location_word(location_type(location)),
-    )?;
-    flag(
-        text,
-        format,
-        "self-relative",
-        !is_segment_relative(location),
-    )
+    word(text, format, "location", kind)?;
+    flag(text, format, "self-relative", is_self_relative)
 }

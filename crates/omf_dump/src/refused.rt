@@ -1,143 +1,44 @@
 //! A refused module: why, in words, and the bytes of the record at fault.
 
-ghost use Rattle.std.specs.Prelude.{◌≡◌, ◌++◌, codes, drop, take};
+ghost use Rattle.std.specs.Prelude.{◌≡◌, ◌++◌, codes};
 ghost use Rattle.omf_frame.specs.Bytes.{AddsText};
-ghost use Rattle.omf_frame.specs.Fault.{reason_number};
+ghost use Rattle.omf_frame.specs.Fault.{reason_name, reason_number};
 ghost use Rattle.omf_frame.specs.Framing.{present};
 ghost use Rattle.omf_dump.specs.Fields.{Number, Word};
-ghost use Rattle.omf_dump.specs.Refused.{fault_name, reason_word, refusal_fields, refusal_text, sentence, window, window_start};
+ghost use Rattle.omf_dump.specs.Refused.{byte_if, kind_if, look_if, reason_fields, refusal_text, window, window_start};
 ghost use Rattle.omf_dump.specs.Render.{fields_text, value_text};
 
-use crate::field::{bytes, characters, number, word};
-use crate::format::Format;
-use crate::item::put_head;
+use crate::field::{characters, number, small, word};
+use crate::format::{Format, Style};
+use crate::item::{put_kind_head, put_place_head};
+use crate::looks::{is_foreign, looks_like};
+use crate::part::{after, first};
 use crate::record::close_block;
-use crate::words::type_name;
-use omf_frame::{Place, RawRecord, Reason};
+use omf_frame::{Place, Reason};
 use std::alloc::AllocError;
 
 /// The most bytes that are shown of a record at fault.
 const WINDOW: usize = 48;
 
-/// One byte.
-const ONE: usize = 1;
-
-/// The name of a reason.
-fn reason_word(reason: Reason) -> &'static str
-    ensures { result.now ≡ reason_word reason }
-{
-    match reason {
-        Reason::NoEnd => "NoEnd",
-        Reason::Cut => "Cut",
-        Reason::UnknownType => "UnknownType",
-        Reason::UnsupportedType => "UnsupportedType",
-        Reason::EmptyRecord => "EmptyRecord",
-        Reason::Checksum => "Checksum",
-        Reason::NoHeader => "NoHeader",
-        Reason::Short => "Short",
-        Reason::Long => "Long",
-        Reason::Alignment => "Alignment",
-        Reason::BigLength => "BigLength",
-        Reason::GroupComponent => "GroupComponent",
-        Reason::CommunalType => "CommunalType",
-        Reason::CommunalLength => "CommunalLength",
-        Reason::FrameMethod => "FrameMethod",
-        Reason::TargetMethod => "TargetMethod",
-        Reason::LocationType => "LocationType",
-        Reason::SelfRelative => "SelfRelative",
-        Reason::TooDeep => "TooDeep",
-        Reason::DataTooLong => "DataTooLong",
-        Reason::UndefinedName => "UndefinedName",
-        Reason::UndefinedSegment => "UndefinedSegment",
-        Reason::UndefinedGroup => "UndefinedGroup",
-        Reason::UndefinedExternal => "UndefinedExternal",
-        Reason::UndefinedThread => "UndefinedThread",
-        Reason::OutsideSegment => "OutsideSegment",
-        Reason::OutsideRecord => "OutsideRecord",
-        Reason::NoDataRecord => "NoDataRecord",
-        Reason::FixupOnIterated => "FixupOnIterated",
-        Reason::TooMany => "TooMany",
-        Reason::OtherDialect => "OtherDialect",
-        Reason::VendorComment => "VendorComment",
-        Reason::StartFrame => "StartFrame",
-    }
-}
-
-/// What a reason means.
-fn sentence(reason: Reason) -> &'static str
-    ensures { result.now ≡ sentence reason }
-{
-    match reason {
-        Reason::NoEnd => "the input ends before a MODEND",
-        Reason::Cut => "the input ends inside a record",
-        Reason::UnknownType => "the record's type is unknown",
-        Reason::UnsupportedType => "the record's type is not read",
-        Reason::EmptyRecord => "the record's length is 0",
-        Reason::Checksum => "the record's checksum is wrong",
-        Reason::NoHeader => "the first record is no header",
-        Reason::Short => "a field does not fit into its record",
-        Reason::Long => "bytes are left over in the record",
-        Reason::Alignment => "the segment's alignment has no meaning",
-        Reason::BigLength => "a Big segment has a length",
-        Reason::GroupComponent => "the group's component is no segment",
-        Reason::CommunalType => "the communal is neither near nor far",
-        Reason::CommunalLength => "the communal's length is invalid",
-        Reason::FrameMethod => "the frame method is not read",
-        Reason::TargetMethod => "the target method is not read",
-        Reason::LocationType => "the location's type is unknown",
-        Reason::SelfRelative => "the location cannot be self-relative",
-        Reason::TooDeep => "blocks are nested too deep",
-        Reason::DataTooLong => "repeated data are too long",
-        Reason::UndefinedName => "the name is not defined",
-        Reason::UndefinedSegment => "the segment is not defined",
-        Reason::UndefinedGroup => "the group is not defined",
-        Reason::UndefinedExternal => "the external is not defined",
-        Reason::UndefinedThread => "the thread is not set",
-        Reason::OutsideSegment => "data pass the end of their segment",
-        Reason::OutsideRecord => "the location passes the end of its data",
-        Reason::NoDataRecord => "a fixup precedes any data",
-        Reason::FixupOnIterated => "a fixup applies to repeated data",
-        Reason::TooMany => "a limit of the module's tables is passed",
-        Reason::OtherDialect => "the module is of another dialect",
-        Reason::VendorComment => "a vendor's comment is refused",
-        Reason::StartFrame => "the start's frame is that of a location",
-    }
-}
-
-/// The name of a type, also of one that no module has.
-fn fault_name(kind: u8) -> &'static str
-    ensures { result.now ≡ fault_name kind }
-{
-    match kind {
-        0xB2 | 0xB3 => "BAKPAT",
-        0xBC => "CEXTDEF",
-        0xC2 | 0xC3 => "COMDAT",
-        0xC8 | 0xC9 => "NBKPAT",
-        0xCE => "VENDEXT",
-        0xF0 | 0xF1 => "library",
-        _ => type_name(kind),
-    }
-}
-
-/// The byte at an offset, if it is present.
-fn byte_at(within: u32, bytes: &[u8]) -> &[u8]
-    ensures { result.now ≡ take 1 (drop within bytes.now) }
-{
-    let first = (within as usize).min(bytes.len());
-    let (_front, rest) = bytes.split_at(first);
-    let (shown, _after) = rest.split_at(ONE.min(rest.len()));
-    shown
-}
-
 /// The number of a reason and its name.
 fn put_reason(text: &mut Vec<u8>, format: Format, reason: Reason) -> Result<(), AllocError>
-    ensures { AddsText result text.old.items text.new.items (value_text format (codes "refused") (Number (reason_number reason)) ++ value_text format (codes "reason") (Word (reason_word reason))) }
+    ensures { AddsText result text.old.items text.new.items (value_text format (codes "refused") (Number (reason_number reason)) ++ value_text format (codes "reason") (Word (reason_name reason))) }
 {
     number(text, format, "refused", u64::from(reason.number()))?;
-    word(text, format, "reason", reason_word(reason))
+    word(text, format, "reason", reason.name())
 }
 
-/// The fields of a refusal.
+/// The byte at the fault, if it is present.
+fn put_byte_if(text: &mut Vec<u8>, format: Format, bytes: &[u8]) -> Result<(), AllocError>
+    ensures { AddsText result text.old.items text.new.items (fields_text format (byte_if bytes.now)) }
+{
+    match bytes {
+        [] => Ok(()),
+        [byte, ..] => small(text, format, "byte", *byte),
+    }
+}
+
+/// Why a record is refused, and where.
 fn put_refusal(
     text: &mut Vec<u8>,
     format: Format,
@@ -145,16 +46,31 @@ fn put_refusal(
     within: u32,
     present: &[u8],
 ) -> Result<(), AllocError>
-    ensures { AddsText result text.old.items text.new.items (fields_text format (refusal_fields reason within present.now)) }
+    ensures { AddsText result text.old.items text.new.items (fields_text format (reason_fields reason within present.now)) }
 {
     put_reason(text, format, reason)?;
     number(text, format, "within", u64::from(within))?;
-    bytes(text, format, "byte", byte_at(within, present))?;
-    characters(text, format, "meaning", sentence(reason).as_bytes())
+    put_byte_if(text, format, after(within as usize, present))?;
+    characters(text, format, "meaning", reason.sentence().as_bytes())
+}
+
+/// What an input that does not begin with a header looks like.
+fn put_look(
+    text: &mut Vec<u8>,
+    format: Format,
+    is_shown: bool,
+    input: &[u8],
+) -> Result<(), AllocError>
+    ensures { AddsText result text.old.items text.new.items (fields_text format (look_if is_shown input.now)) }
+{
+    match is_shown {
+        true => characters(text, format, "looks-like", looks_like(input).as_bytes()),
+        false => Ok(()),
+    }
 }
 
 /// The bytes that are present of the record at the front.
-pub(crate) fn present(bytes: &[u8]) -> &[u8]
+fn present(bytes: &[u8]) -> &[u8]
     ensures { result.now ≡ present bytes.now }
 {
     match bytes {
@@ -178,30 +94,42 @@ fn window_start(within: u32) -> usize
 fn window(within: u32, bytes: &[u8]) -> &[u8]
     ensures { result.now ≡ window within bytes.now }
 {
-    let first = window_start(within).min(bytes.len());
-    let (_front, rest) = bytes.split_at(first);
-    let (shown, _after) = rest.split_at(WINDOW.min(rest.len()));
-    shown
+    first(WINDOW, after(window_start(within), bytes))
 }
 
-/// The record at fault at a place, of which these bytes are present.
+/// The type of a record, if its type byte is present.
+fn put_kind_if(text: &mut Vec<u8>, format: Format, bytes: &[u8]) -> Result<(), AllocError>
+    ensures { AddsText result text.old.items text.new.items (kind_if format bytes.now) }
+{
+    match bytes {
+        [] => Ok(()),
+        [kind, ..] => put_kind_head(text, format, *kind),
+    }
+}
+
+/// The record at fault at a place, of an input of which `rest` follows the records before it.
 pub(crate) fn show_refusal(
     text: &mut Vec<u8>,
     format: Format,
     place: Place,
     reason: Reason,
-    present: &[u8],
+    rest: &[u8],
 ) -> Result<(), AllocError>
-    ensures { AddsText result text.old.items text.new.items (refusal_text format place reason present.now) }
+    ensures { AddsText result text.old.items text.new.items (refusal_text format place reason rest.now) }
 {
-    let raw = RawRecord {
-        kind: present.first().copied().unwrap_or(0),
-        body: present,
-        number: place.number,
-        start: place.start,
-    };
-    put_head(text, format, &raw, fault_name(raw.kind))?;
+    let present = present(rest);
+    put_place_head(text, format, place)?;
+    put_kind_if(text, format, rest)?;
     put_refusal(text, format, reason, place.within, present)?;
-    let first = window_start(place.within) as u64;
-    close_block(text, format, first, window(place.within, present))
+    put_look(text, format, is_foreign(place.number, rest), rest)?;
+    let style = Style {
+        format,
+        most: WINDOW,
+    };
+    close_block(
+        text,
+        style,
+        window_start(place.within) as u64,
+        window(place.within, present),
+    )
 }

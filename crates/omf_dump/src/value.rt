@@ -9,7 +9,7 @@ use crate::digits::{eight_digits, four_digits, two_digits};
 use crate::entry::Entry;
 use crate::format::Format;
 use itoa::Buffer;
-use omf_frame::Name;
+use omf_frame::{Name, Width};
 use std::alloc::AllocError;
 use std::fmt::Write;
 
@@ -70,15 +70,15 @@ pub(crate) fn put_four(text: &mut Vec<u8>, number: u64) -> Result<(), AllocError
 pub(crate) fn put_number(
     text: &mut Vec<u8>,
     format: Format,
-    wide: bool,
+    width: Width,
     number: u64,
 ) -> Result<(), AllocError>
-    ensures { AddsText result text.old.items text.new.items (hexadecimal format (digits wide) number) }
+    ensures { AddsText result text.old.items text.new.items (hexadecimal format (digits width) number) }
 {
-    match format {
-        Format::Json => put_decimal(text, number),
-        Format::Text if wide => put_eight(text, number),
-        Format::Text => put_four(text, number),
+    match (format, width) {
+        (Format::Json, _) => put_decimal(text, number),
+        (Format::Text, Width::Bits16) => put_four(text, number),
+        (Format::Text, Width::Bits32) => put_eight(text, number),
     }
 }
 

@@ -5,7 +5,7 @@ ghost use Rattle.omf_frame.specs.Framing.{Raw};
 ghost use Rattle.omf_dump.specs.Dump.{AreRecords, dump_text};
 ghost use Rattle.omf_dump.specs.Inner.Walking.{Holds};
 
-use crate::format::Format;
+use crate::format::Style;
 use crate::known::{Known, Tables};
 use crate::record::show_record;
 use omf_check::{Threads, split_record};
@@ -15,13 +15,13 @@ use std::alloc::{AllocError, Global};
 /// Appends what is shown of the records of `bytes`, in order.
 fn show_records<'a>(
     text: &mut Vec<u8>,
-    format: Format,
+    style: Style,
     known: &mut Known<'a>,
     bytes: &'a [u8],
 ) -> Result<(), AllocError>
     requires records { (records : List Raw) × AreRecords bytes.now records }
     requires start { Holds known.old [] }
-    ensures { (records : List Raw) → AreRecords bytes.entry.now records → OnOk result (text.new.items ≡ text.old.items ++ dump_text format records) }
+    ensures { (records : List Raw) → AreRecords bytes.entry.now records → OnOk result (text.new.items ≡ text.old.items ++ dump_text style records) }
 {
     let mut left = bytes;
     let mut number: u32 = 0;
@@ -34,7 +34,7 @@ fn show_records<'a>(
             number,
             start,
         };
-        show_record(text, format, known, raw)?;
+        show_record(text, style, known, raw)?;
         number += 1;
         start += (left.len() - rest.len()) as u64;
         left = rest;
@@ -47,9 +47,9 @@ fn show_records<'a>(
 /// # Errors
 ///
 /// `AllocError` if memory ran out.
-pub fn dump(alloc: Global, format: Format, bytes: &[u8]) -> Result<Vec<u8>, AllocError>
+pub fn dump(alloc: Global, style: Style, bytes: &[u8]) -> Result<Vec<u8>, AllocError>
     requires { (records : List Raw) × AreRecords bytes.now records }
-    ensures { (records : List Raw) → AreRecords bytes.now records → IfOk result (λ text. text.items ≡ dump_text format records) }
+    ensures { (records : List Raw) → AreRecords bytes.now records → IfOk result (λ text. text.items ≡ dump_text style records) }
 {
     let mut known = Known {
         tables: Tables::new(alloc),
@@ -57,6 +57,6 @@ pub fn dump(alloc: Global, format: Format, bytes: &[u8]) -> Result<Vec<u8>, Allo
         fixed: None,
     };
     let mut text = Vec::new(alloc);
-    show_records(&mut text, format, &mut known, bytes)?;
+    show_records(&mut text, style, &mut known, bytes)?;
     Ok(text)
 }

@@ -1,86 +1,56 @@
 //! The words for packed fields, classes and types (TIS OMF 1.1).
 
 ghost use Rattle.std.specs.Prelude.{◌≡◌};
-ghost use Rattle.omf_frame.specs.Types.{type_name};
-ghost use Rattle.omf_dump.specs.Words.{alignment_word, class_word, combination_word, location_word};
+ghost use Rattle.omf_records.specs.Location.{location_number};
+ghost use Rattle.omf_records.specs.Methods.{alignment_number, combination_number};
+ghost use Rattle.omf_dump.specs.Words.{alignment_word, class_word, combination_word, location_word, subtype_word};
 
-/// The standard's name of a record type; empty for a type that no module has.
-pub(crate) fn type_name(kind: u8) -> &'static str
-    ensures { result.now ≡ type_name kind }
-{
-    match kind {
-        0x80 => "THEADR",
-        0x82 => "LHEADR",
-        0x88 => "COMENT",
-        0x8A | 0x8B => "MODEND",
-        0x8C => "EXTDEF",
-        0x8E => "TYPDEF",
-        0x90 | 0x91 => "PUBDEF",
-        0x94 | 0x95 => "LINNUM",
-        0x96 => "LNAMES",
-        0x98 | 0x99 => "SEGDEF",
-        0x9A => "GRPDEF",
-        0x9C | 0x9D => "FIXUPP",
-        0xA0 | 0xA1 => "LEDATA",
-        0xA2 | 0xA3 => "LIDATA",
-        0xB0 => "COMDEF",
-        0xB4 | 0xB5 => "LEXTDEF",
-        0xB6 | 0xB7 => "LPUBDEF",
-        0xB8 => "LCOMDEF",
-        0xC4 | 0xC5 => "LINSYM",
-        0xC6 => "ALIAS",
-        0xCA => "LLNAMES",
-        0xCC => "VERNUM",
-        _ => "",
-    }
-}
+use omf_records::{Alignment, Combination, LocationType};
 
 /// The word for an alignment.
-pub(crate) fn alignment_word(alignment: u8) -> &'static str
-    ensures { result.now ≡ alignment_word alignment }
+pub(crate) fn alignment_word(alignment: Alignment) -> &'static str
+    ensures { result.now ≡ alignment_word (alignment_number alignment) }
 {
     match alignment {
-        0 => "absolute",
-        1 => "byte",
-        2 => "word",
-        3 => "paragraph",
-        4 => "page",
-        5 => "dword",
-        _ => "undefined",
+        Alignment::Absolute => "absolute",
+        Alignment::Byte => "byte",
+        Alignment::Word => "word",
+        Alignment::Paragraph => "paragraph",
+        Alignment::Page => "page",
+        Alignment::Dword => "dword",
     }
 }
 
 /// The word for a combination.
-pub(crate) fn combination_word(combination: u8) -> &'static str
-    ensures { result.now ≡ combination_word combination }
+pub(crate) fn combination_word(combination: Combination) -> &'static str
+    ensures { result.now ≡ combination_word (combination_number combination) }
 {
     match combination {
-        0 => "private",
-        1 => "reserved1",
-        2 => "public",
-        3 => "reserved3",
-        4 => "public4",
-        5 => "stack",
-        6 => "common",
-        _ => "public7",
+        Combination::Private => "private",
+        Combination::Reserved1 => "reserved1",
+        Combination::Public => "public",
+        Combination::Reserved3 => "reserved3",
+        Combination::Public4 => "public4",
+        Combination::Stack => "stack",
+        Combination::Common => "common",
+        Combination::Public7 => "public7",
     }
 }
 
 /// The word for a location type.
-pub(crate) fn location_word(kind: u8) -> &'static str
-    ensures { result.now ≡ location_word kind }
+pub(crate) fn location_word(kind: LocationType) -> &'static str
+    ensures { result.now ≡ location_word (location_number kind) }
 {
     match kind {
-        0 => "low-byte",
-        1 => "offset16",
-        2 => "base",
-        3 => "pointer16:16",
-        4 => "high-byte",
-        5 => "loader-offset16",
-        9 => "offset32",
-        11 => "pointer16:32",
-        13 => "loader-offset32",
-        _ => "undefined",
+        LocationType::LowByte => "low-byte",
+        LocationType::Offset16 => "offset16",
+        LocationType::Base => "base",
+        LocationType::Pointer16 => "pointer16:16",
+        LocationType::HighByte => "high-byte",
+        LocationType::LoaderOffset16 => "loader-offset16",
+        LocationType::Offset32 => "offset32",
+        LocationType::Pointer32 => "pointer16:32",
+        LocationType::LoaderOffset32 => "loader-offset32",
     }
 }
 
@@ -113,5 +83,21 @@ pub(crate) fn class_word(class: u8) -> &'static str
         0xE9 => "dependency",
         0xFF => "command-line",
         _ => "other",
+    }
+}
+
+/// The word for a subtype of a comment of the class A0H.
+pub(crate) fn subtype_word(subtype: u8) -> &'static str
+    ensures { result.now ≡ subtype_word subtype }
+{
+    match subtype {
+        1 => "IMPDEF",
+        2 => "EXPDEF",
+        3 => "INCDEF",
+        4 => "protected-memory-library",
+        5 => "LNKDIR",
+        6 => "big-endian",
+        7 => "PRECOMP",
+        _ => "reserved",
     }
 }

@@ -8,7 +8,7 @@ use Rattle.omf_check.specs.Inner.Kept.{HasThreads}
 use Rattle.omf_check.specs.WellFormed.{recs}
 use Rattle.omf_dump.specs.Dump.{dump_text, record_dump}
 use Rattle.omf_dump.specs.Known.{fixed_data, tables}
-use Rattle.omf_dump.specs.declared.format.Format.{Format}
+use Rattle.omf_dump.specs.declared.format.Style.{Style}
 use Rattle.omf_dump.specs.declared.known.Known.{Known}
 
 -- what is kept is what the records before give
@@ -18,7 +18,7 @@ pub record Holds (known : Known) (before : List Rec) : Type 0 where
   pub fixed : known.fixed ≡ fixed_data before
 
 -- the walk is after the records `before`: `left` and `after` are the others
-pub record IsWalked (f : Format) (records : List Raw) (known : Known) (count at : ℕ) (left : List ℕ) (old now : List ℕ) : Type 0 where
+pub record IsWalked (f : Style) (records : List Raw) (known : Known) (count at : ℕ) (left : List ℕ) (old now : List ℕ) : Type 0 where
   pub before : List Raw
   pub after : List Raw
   pub all : records ≡ before ++ after

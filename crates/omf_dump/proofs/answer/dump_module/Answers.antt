@@ -4,12 +4,12 @@ use Rattle.omf_dump.proofs.answer.dump_module.Goals as goal
 
 pub dump-requires : goal.dump-requires
 dump-requires c = (
-  records_in c.args.module.now.bytes,
-  module_records c.args.module.now.profile c.args.module.now.bytes c.bytes.result.now c.record_count-count.result c.bytes.ensures.bytes c.bytes.ensures.well_formed c.record_count-count.ensures
+  records_in c.args.checked.now.bytes,
+  module_records c.args.checked.now.profile c.args.checked.now.bytes c.bytes.result.now c.record_count-count.result c.bytes.ensures.bytes c.bytes.ensures.well_formed c.record_count-count.ensures
       c.record_count-count.type_inv,
 )
 
 pub returns : goal.returns
 returns c =
-    c.dump.ensures (records_in c.args.module.now.bytes)
-    (module_records c.args.module.now.profile c.args.module.now.bytes c.bytes.result.now c.record_count-count.result c.bytes.ensures.bytes c.bytes.ensures.well_formed c.record_count-count.ensures c.record_count-count.type_inv)
+    c.dump.ensures (records_in c.args.checked.now.bytes)
+    (module_records c.args.checked.now.profile c.args.checked.now.bytes c.bytes.result.now c.record_count-count.result c.bytes.ensures.bytes c.bytes.ensures.well_formed c.record_count-count.ensures c.record_count-count.type_inv)

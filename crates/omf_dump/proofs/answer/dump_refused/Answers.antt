@@ -1,5 +1,4 @@
-use Rattle.std.proofs.Common.{List, ℕ, ◌++◌, ap, ap₂, ◌∙◌, arith}
-use Rattle.omf_frame.specs.Framing.{present}
+use Rattle.std.proofs.Common.{List, ℕ, ◌++◌, ap₂, ◌∙◌, arith}
 use Rattle.omf_dump.specs.Refused.{refusal_text}
 use Rattle.omf_dump.proofs.AnswerLaws.{refused_records, starts_within}
 use Rattle.omf_dump.proofs.answer.dump_refused.Goals as goal
@@ -14,5 +13,5 @@ dump-requires c =
 pub returns : goal.returns
 returns c = λ profile r.
     let are = refused_records profile c.args.input.now c.split_at.result.0.now c.args.reason c.args.place r (λ i. omega (arith, c.type_inv.input i)) c.split_at.ensures.front (omega arith) in
-    let shown = c.present.ensures ∙ ap present c.split_at.ensures.back in
-    c.in_ok-show_refusal.ensures ∙ ap₂ (λ (s t : List ℕ). s ++ refusal_text c.args.format c.args.place c.args.reason t) (c.in_ok-text.ensures r.before are) shown
+    let shown = c.split_at.ensures.back in
+    c.in_ok-show_refusal.ensures ∙ ap₂ (λ (s t : List ℕ). s ++ refusal_text c.args.style.format c.args.place c.args.reason t) (c.in_ok-text.ensures r.before are) shown

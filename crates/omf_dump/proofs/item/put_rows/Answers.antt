@@ -1,6 +1,6 @@
 use Rattle.std.proofs.Common.{arith}
 use Rattle.std.proofs.lemmas.Bool.Decides.{nat_tests}
-use Rattle.omf_dump.proofs.Rows.{row_written}
+use Rattle.omf_dump.proofs.RowLaws.{row_written}
 use Rattle.omf_dump.proofs.item.put_rows.Goals as goal
 
 pub loop-rest-preserved : goal.loop-rest-preserved

@@ -7,7 +7,7 @@ use Rattle.omf_dump.proofs.walk.show_records.Given as goal
 -- the walk is somewhere in the records
 abbrev pub invariant-loop-left : goal.invariant-loop-left
 invariant-loop-left l = record {
-  walked : (records : List Raw) → AreRecords l.bytes records → IsWalked l.format records l.known l.number l.start l.left l.fn.text.items l.text.items;
+  walked : (records : List Raw) → AreRecords l.bytes records → IsWalked l.style records l.known l.number l.start l.left l.fn.text.items l.text.items;
   ends : l.start + length l.left ≡ length l.bytes;
 }
 
