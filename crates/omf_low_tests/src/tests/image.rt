@@ -1,5 +1,6 @@
 //! Blocks that are expanded, pieces that overlap, and intervals, with ample memory.
 
+use omf_frame::Width;
 use omf_image::{Extent, Image, Limits, Run, expand, expanded_len, painted};
 use omf_records::Blocks;
 use omf_samples::joined;
@@ -16,7 +17,7 @@ const REPEATED: &str = "FF FF 01 00 FF FF 01 00 FF FF 01 00 FF FF 01 00 FF FF 01
 
 /// Blocks of 16 or 32 bits by rows; their expanded bytes, of which the last is repeated so often; and the least and the most bytes moved.
 struct Expanded {
-    wide: bool,
+    width: Width,
     rows: &'static [&'static str],
     front: &'static [u8],
     repeats: usize,
@@ -25,21 +26,21 @@ struct Expanded {
 
 static EXPANDED: [Expanded; 6] = [
     Expanded {
-        wide: true,
+        width: Width::Bits32,
         rows: &["02 00 00 00 02 00 02 00 00 00 00 00 01 AA 01 00 00 00 00 00 02 BB CC"],
         front: b"\xAA\xAA\xBB\xCC\xAA\xAA\xBB\xCC",
         repeats: 0,
         moved: (8, 31),
     },
     Expanded {
-        wide: false,
+        width: Width::Bits16,
         rows: &["03 00 02 00 02 00 00 00 01 AA 01 00 00 00 02 BB CC"],
         front: b"\xAA\xAA\xBB\xCC\xAA\xAA\xBB\xCC\xAA\xAA\xBB\xCC",
         repeats: 0,
         moved: (12, 29),
     },
     Expanded {
-        wide: false,
+        width: Width::Bits16,
         rows: &["FF FF 01 00 00 01 00 00 01 AA"],
         front: b"\xAA",
         repeats: 16_776_959,
@@ -47,7 +48,7 @@ static EXPANDED: [Expanded; 6] = [
     },
     // 64 levels.
     Expanded {
-        wide: false,
+        width: Width::Bits16,
         rows: &[
             LEVELS,
             LEVELS,
@@ -71,14 +72,14 @@ static EXPANDED: [Expanded; 6] = [
     },
     // Empty blocks are not repeated.
     Expanded {
-        wide: false,
+        width: Width::Bits16,
         rows: &["00 00 01 00 FF FF 01 00 FF FF 00 00 01 AA"],
         front: b"",
         repeats: 0,
         moved: (0, 14),
     },
     Expanded {
-        wide: false,
+        width: Width::Bits16,
         rows: &[
             REPEATED,
             REPEATED,
@@ -119,7 +120,7 @@ fn is_repeated(bytes: &[u8], front: &[u8], repeats: usize) -> bool {
 fn expands(alloc: Global, bytes: &[u8], row: &Expanded) -> bool {
     let blocks = Blocks {
         bytes,
-        wide: row.wide,
+        width: row.width,
     };
     let limits = Limits::profile();
     if bytes.len() > 1000 || expanded_len(blocks, limits).is_err() {

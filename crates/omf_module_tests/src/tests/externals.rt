@@ -1,137 +1,107 @@
 //! Places of externals, derived from publics of several modules.
 
-use super::placing::laid;
+use super::module_of;
 use omf_check::Checked;
-use omf_derive::{DeriveFault, Given, derive};
-use omf_placement::{Frame, Placement};
+use omf_derive::DeriveFault;
+use omf_linking::{LinkFault, link};
+use omf_placement::{Frame, Placed, Placement};
 use omf_samples::{END, EXTERNAL, GROUP, HEADER, LOCAL_EXTERNAL, NAMES, PUBLIC, SEGMENT};
 use std::alloc::Global;
 
-/// A module: its records after its segment, two at most, and the text of its placement.
-type Lying = ([&'static str; 3], &'static str);
+/// The records of a module after its segment, three at most.
+type Records = [&'static str; 3];
 
 /// The address and the frame of external 1 of the first module, or why there is no placement; `None` where there is no such external.
-type Answer = Option<Result<(u32, Frame), DeriveFault>>;
+type Answer = Option<Result<Placed, LinkFault>>;
 
-/// Modules, the entries that are given, and what external 1 of the first module has.
+/// Modules, the text of their addresses, and what external 1 of the first module has.
 struct Case {
     name: &'static str,
-    modules: &'static [Lying],
-    given: &'static [Given],
+    modules: &'static [Records],
+    text: &'static str,
     answer: Answer,
 }
 
-// The frames of the two modules, the first at 10020H, the second at 20040H.
-const FIRST: &str = "S 10020 10000 1000";
-
-const SECOND: &str = "S 20040 20000 2000";
-
 // An external X; a public X at offset 2 of the segment; a local external X, and a local public X at offset 3.
-const CALLER: Lying = ([EXTERNAL, "", ""], FIRST);
+const CALLER: Records = [EXTERNAL, "", ""];
 
-const CALLEE: Lying = ([PUBLIC, "", ""], SECOND);
+const CALLEE: Records = [PUBLIC, "", ""];
 
 const LOCAL_PUBLIC: &str = "B6 08 00 00 01 01 58 03 00 00 E5";
 
-const LOCAL: Lying = ([LOCAL_EXTERNAL, LOCAL_PUBLIC, ""], FIRST);
+const LOCAL: Records = [LOCAL_EXTERNAL, LOCAL_PUBLIC, ""];
 
-const TWICE: Answer = Some(Err(DeriveFault::Twice {
+const TWICE: Answer = Some(Err(LinkFault::External(DeriveFault::Twice {
     module: 0,
     external: 1,
-}));
-
-const ELSEWHERE: Given = Given {
-    module: 0,
-    external: 1,
-    address: 0x30000,
-    frame: Frame {
-        base: 0x30000,
-        selector: 0x3000,
-    },
-};
-
-const SECOND_GIVEN: Given = Given {
-    module: 0,
-    external: 1,
-    address: 0x40001,
-    frame: Frame {
-        base: 0x40000,
-        selector: 0x4000,
-    },
-};
+})));
 
 static CASES: [Case; 6] = [
     Case {
         name: "no modules",
         modules: &[],
-        given: &[],
-        answer: None,
+        text: "",
+        answer: Some(Err(LinkFault::Line(1))),
     },
     Case {
         name: "one public",
         modules: &[CALLER, CALLEE],
-        given: &[],
-        answer: Some(Ok((
-            0x20042,
-            Frame {
+        text: "S 10020 10000 1000\nM\nS 20040 20000 2000",
+        answer: Some(Ok(Placed {
+            address: 0x20042,
+            frame: Frame {
                 base: 0x20000,
                 selector: 0x2000,
             },
-        ))),
+        })),
     },
     Case {
         name: "two publics",
         modules: &[CALLER, CALLEE, CALLEE],
-        given: &[],
+        text: "S 10020 10000 1000\nM\nS 20040 20000 2000\nM\nS 20040 20000 2000",
         answer: TWICE,
     },
     Case {
-        name: "the first of two given places",
+        name: "a given place",
         modules: &[CALLER, CALLEE, CALLEE],
-        given: &[ELSEWHERE, SECOND_GIVEN],
-        answer: Some(Ok((
-            0x30000,
-            Frame {
+        text: "S 10020 10000 1000\nX 1 30000 30000 3000\nM\nS 20040 20000 2000\nM\nS 20040 20000 2000",
+        answer: Some(Ok(Placed {
+            address: 0x30000,
+            frame: Frame {
                 base: 0x30000,
                 selector: 0x3000,
             },
-        ))),
+        })),
     },
     Case {
         name: "a public in a group",
-        modules: &[
-            CALLER,
-            (
-                [GROUP, "90 08 00 01 01 01 58 02 00 00 0B", ""],
-                "S 20040 20000 2000\nG 20010 2001",
-            ),
-        ],
-        given: &[],
-        answer: Some(Ok((
-            0x20042,
-            Frame {
+        modules: &[CALLER, [GROUP, "90 08 00 01 01 01 58 02 00 00 0B", ""]],
+        text: "S 10020 10000 1000\nM\nS 20040 20000 2000\nG 20010 2001",
+        answer: Some(Ok(Placed {
+            address: 0x20042,
+            frame: Frame {
                 base: 0x20010,
                 selector: 0x2001,
             },
-        ))),
+        })),
     },
     Case {
         name: "a local external and a local public",
         modules: &[LOCAL, CALLEE],
-        given: &[],
-        answer: Some(Ok((
-            0x10023,
-            Frame {
+        text: "S 10020 10000 1000\nM\nS 20040 20000 2000",
+        answer: Some(Ok(Placed {
+            address: 0x10023,
+            frame: Frame {
                 base: 0x10000,
                 selector: 0x1000,
             },
-        ))),
+        })),
     },
 ];
 
 /// External 1 of the first placement, or the fault.
-fn answer_in(derived: Result<Vec<Placement>, DeriveFault>) -> Answer {
-    match derived {
+fn answer_in(linked: Result<Vec<Placement>, LinkFault>) -> Answer {
+    match linked {
         Ok(placements) => match placements.first()?.external(1) {
             Some(place) => Some(Ok(place)),
             None => None,
@@ -140,37 +110,17 @@ fn answer_in(derived: Result<Vec<Placement>, DeriveFault>) -> Answer {
     }
 }
 
-/// What is derived of modules at their places.
-fn derived(alloc: Global, modules: &[Checked], places: &[Placement], given: &[Given]) -> Answer {
-    if modules.len() != places.len() || modules.len() > 8 {
-        return None;
-    }
-    answer_in(derive(alloc, modules, places, given))
-}
-
-/// A module and its place; `None` where they find no memory.
-fn lie(alloc: Global, lying: &Lying) -> Option<(Checked, Placement)> {
-    let ([first, second, third], text) = *lying;
-    laid(
-        alloc,
-        &[HEADER, NAMES, SEGMENT, first, second, third, END],
-        text,
-    )
-}
-
-/// Appends modules and their places; false where they find no memory.
-fn push_all(
-    alloc: Global,
-    modules: &mut Vec<Checked>,
-    places: &mut Vec<Placement>,
-    all: &[Lying],
-) -> bool {
-    for lying in all {
-        let Some((module, place)) = lie(alloc, lying) else {
-            return false;
-        };
-        if places.push(place).is_err() || modules.push(module).is_err() {
-            return false;
+/// Appends modules; false where they find no memory.
+fn push_all(alloc: Global, modules: &mut Vec<Checked>, all: &[Records]) -> bool {
+    for [first, second, third] in all {
+        let records = [HEADER, NAMES, SEGMENT, *first, *second, *third, END];
+        match module_of(alloc, &records) {
+            Some(module) => {
+                if modules.push(module).is_err() {
+                    return false;
+                }
+            }
+            None => return false,
         }
     }
     true
@@ -179,9 +129,8 @@ fn push_all(
 /// The answer of a case; `None` where its modules find no memory.
 fn answer(alloc: Global, case: &Case) -> Answer {
     let mut modules = Vec::new(alloc);
-    let mut places = Vec::new(alloc);
-    if push_all(alloc, &mut modules, &mut places, case.modules) {
-        return derived(alloc, &modules, &places, case.given);
+    if push_all(alloc, &mut modules, case.modules) && modules.len() <= 8 {
+        return answer_in(link(alloc, &modules, case.text.as_bytes()));
     }
     None
 }
@@ -189,7 +138,7 @@ fn answer(alloc: Global, case: &Case) -> Answer {
 /// Whether a case has its answer, or a growth is refused and it `may_fail`.
 fn is_right(alloc: Global, case: &Case, may_fail: bool) -> bool {
     let answer = answer(alloc, case);
-    let is_memory = matches!(answer, None | Some(Err(DeriveFault::Memory)));
+    let is_memory = matches!(answer, None | Some(Err(LinkFault::Memory)));
     answer == case.answer || (may_fail && is_memory)
 }
 

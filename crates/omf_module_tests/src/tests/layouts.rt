@@ -2,9 +2,9 @@
 
 use super::module_of;
 use omf_check::Checked;
-use omf_layout::several::{Combination, Lying, arrange, order_of, place_segments};
+use omf_layout::several::{Combination, Lying, arrange, place_segments};
 use omf_layout::{Frames, LayoutFault, Options, draft_text, layout_of};
-use omf_placement::{Frame, Placement};
+use omf_placement::{Frame, Placed, Placement};
 use omf_samples::{ABSOLUTE, END, EXTERNAL, GROUP, HEADER, NAMES};
 use std::alloc::Global;
 
@@ -246,13 +246,23 @@ static ORDERS: [(Modules, &[(u32, u16)]); 3] = [
     (COMBINED, &[(0, 4), (1, 2), (0, 2), (1, 1), (0, 1), (0, 3)]),
 ];
 
-/// Whether the segments of modules have this order.
+/// Whether segments have this order.
+fn are_in_order(lying: &[Lying], order: &[(u32, u16)]) -> bool {
+    for ((portion, _), (module, index)) in lying.iter().zip(order) {
+        if portion.module != *module || portion.index != *index {
+            return false;
+        }
+    }
+    lying.len() == order.len()
+}
+
+/// Whether the segments of modules are laid in this order.
 fn is_order(alloc: Global, modules: &[Checked], order: &[(u32, u16)]) -> bool {
     if modules.len() > 8 {
         return false;
     }
-    match order_of(alloc, modules) {
-        Ok(found) => found.as_slice() == order,
+    match arrange(alloc, modules, REAL) {
+        Ok((lying, _end)) => are_in_order(&lying, order),
         Err(_) => false,
     }
 }
@@ -348,7 +358,7 @@ fn has(placements: &[Placement], place: &Place) -> bool {
     match placements.get(module as usize) {
         Some(placement) => {
             let frame = Frame { base, selector };
-            placement.segment(usize::from(index)) == Some((address, frame))
+            placement.segment(usize::from(index)) == Some(Placed { address, frame })
         }
         None => false,
     }

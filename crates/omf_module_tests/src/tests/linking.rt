@@ -9,7 +9,7 @@ use omf_draft::map::map_text;
 use omf_frame::faulty::{Script, Then};
 use omf_image::Image;
 use omf_layout::{Frames, LayoutFault, Options};
-use omf_linking::space::Owner;
+use omf_linking::space::{MemoryFault, Owner};
 use omf_linking::{
     LinkFault, Relocated, link, memory_image, modules_in, read_all, relocate_all, start_of,
 };
@@ -46,7 +46,7 @@ struct Case {
     linked: Linked,
 }
 
-const OVERLAP: LinkFault = LinkFault::Overlap {
+const OVERLAP: LinkFault = LinkFault::Space(MemoryFault::Overlap {
     address: 0x10001,
     first: Owner {
         module: 0,
@@ -56,7 +56,7 @@ const OVERLAP: LinkFault = LinkFault::Overlap {
         module: 1,
         segment: 1,
     },
-};
+});
 
 /// A segment of 8 bytes, with data at offsets 4 and 0.
 const GAP: &str = "98 07 00 28 08 00 02 01 01 00";
@@ -130,7 +130,7 @@ static CASES: [Case; 12] = [
             PUBLIC, FIRST, END, HEADER, NAMES, COMMON, FIRST, END,
         ],
         text: "S 30 0 0\nM\nS 31 0 0\nM\nS 21 0 0\nM\nS 20 0 0\n",
-        linked: Err(LinkFault::Overlap {
+        linked: Err(LinkFault::Space(MemoryFault::Overlap {
             address: 0x21,
             first: Owner {
                 module: 2,
@@ -140,7 +140,7 @@ static CASES: [Case; 12] = [
                 module: 3,
                 segment: 1,
             },
-        }),
+        })),
     },
     // A byte past the last address comes before an overlap.
     Case {
@@ -149,10 +149,10 @@ static CASES: [Case; 12] = [
             GAP, HIGH, FIRST, END,
         ],
         text: "S 0 0 0\nM\nS 0 0 0\nM\nS FFFFFFFB 0 0\n",
-        linked: Err(LinkFault::Beyond(Owner {
+        linked: Err(LinkFault::Space(MemoryFault::Beyond(Owner {
             module: 2,
             segment: 1,
-        })),
+        }))),
     },
     Case {
         rows: &[
@@ -160,10 +160,10 @@ static CASES: [Case; 12] = [
             PUBLIC, THIRD, END,
         ],
         text: "S 0 0 0\nM\nS 0 0 0\nM\nS FFFFFFFF 0 0\n",
-        linked: Err(LinkFault::Beyond(Owner {
+        linked: Err(LinkFault::Space(MemoryFault::Beyond(Owner {
             module: 2,
             segment: 1,
-        })),
+        }))),
     },
     Case {
         rows: &[

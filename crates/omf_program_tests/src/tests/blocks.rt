@@ -1,6 +1,7 @@
 //! Blocks that are expanded, and images that are laid, while memory runs out.
 
 use super::calls::{Call, Tried, first_failing, first_wrong, refused_if, right_if};
+use omf_frame::Width;
 use omf_image::{Image, Limits, expand, expanded_len};
 use omf_records::Blocks;
 use std::alloc::{AllocError, Global};
@@ -27,7 +28,8 @@ fn expanded(alloc: Global, bytes: &[u8]) -> Option<Result<(Vec<u8>, u64), AllocE
     if bytes.len() > 65_534 {
         return None;
     }
-    let blocks = Blocks { bytes, wide: false };
+    let width = Width::Bits16;
+    let blocks = Blocks { bytes, width };
     match expanded_len(blocks, Limits::profile()) {
         Ok(_) => Some(expand(alloc, blocks, Limits::profile())),
         Err(_) => None,

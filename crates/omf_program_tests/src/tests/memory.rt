@@ -11,7 +11,9 @@ use omf_cmd::{Job, RunFault, fault_line};
 use omf_frame::faulty::{Full, Script, Taker, Then};
 use omf_frame::{FrameFault, Framer};
 use omf_image::Image;
-use omf_reloc::{Draft, Frame, Placement, TextFault, parse_placement, reach, relocate, start};
+use omf_reloc::{
+    Draft, Frame, Placed, Placement, TextFault, parse_placement, reach, relocate, start,
+};
 use std::alloc::{AllocError, Global};
 
 /// A call on a module.
@@ -128,7 +130,7 @@ fn frames(alloc: Global, sample: &Sample) -> Tried {
 const MOST: usize = 4;
 
 /// The entries of each kind at an index.
-type Entries = (Option<(u32, Frame)>, Option<Frame>, Option<(u32, Frame)>);
+type Entries = (Option<Placed>, Option<Frame>, Option<Placed>);
 
 fn entries_at(placement: &Placement, i: usize) -> Entries {
     (
@@ -165,14 +167,14 @@ fn parses(alloc: Global, sample: &Sample) -> Tried {
 /// Pushes entries until one finds no memory.
 fn push_entries(placement: &mut Placement, entries: Entries) -> Result<(), AllocError> {
     let (segment, group, external) = entries;
-    if let Some((address, frame)) = segment {
-        placement.push_segment(address, frame)?;
+    if let Some(place) = segment {
+        placement.push_segment(place.address, place.frame)?;
     }
     if let Some(frame) = group {
         placement.push_group(frame)?;
     }
-    if let Some((address, frame)) = external {
-        placement.push_external(address, frame)?;
+    if let Some(place) = external {
+        placement.push_external(place.address, place.frame)?;
     }
     Ok(())
 }

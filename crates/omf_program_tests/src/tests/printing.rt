@@ -4,9 +4,8 @@ use super::modules::{Sample, bytes_of, input_of, samples};
 use super::tools::run_job;
 use omf_check::Checked;
 use omf_cmd::{
-    Fault, Flushing, Gathered, Job, Listing, Omf, RunFault, command, eight_digits, main_with,
-    print_all, print_bytes, print_image, print_list, print_start, run_and_flush, run_with, tell,
-    words_from,
+    Fault, Gathered, Job, Listing, Omf, RunFault, command, eight_digits, main_with, print_all,
+    print_bytes, print_image, print_list, print_start, run_and_flush, run_with, tell, words_from,
 };
 use omf_frame::faulty::{Full, Taker};
 use omf_frame::{Bytes, Place, Reason, Sink, Writing};
@@ -374,7 +373,7 @@ fn flushed<W: Write + Drop>(
     let input = bytes_of(alloc, MODULE)?;
     let words = words_from(alloc, arguments)?;
     let mut reader = Bytes::new(&input);
-    Ok(run_and_flush::<Omf, _, _>(alloc, &words, &mut reader, &mut Flushing::new(writer)))
+    Ok(run_and_flush::<Omf, _, _>(alloc, &words, &mut reader, &mut Writing::new(writer)))
 }
 
 /// Whether `omf` writes its answer and flushes it. A failed flush makes the status 3, but only of a run that is done.
