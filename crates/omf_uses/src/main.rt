@@ -8,21 +8,22 @@
 
 mod boot;
 mod judging;
-mod linking;
 mod naming;
-mod placing;
 mod printing;
 mod reporting;
 
 use anyhow::Result;
-use linking::link;
 use omf_check::{CheckFault, Checked, Profile, check};
 use omf_frame::{Reading, Sink, Source, Writing, push_all};
-use placing::places;
+use omf_linking::link;
 use printing::print_pair;
 use reporting::report;
 use std::alloc::Global;
 use std::io::{BufReader, Write};
+
+/// The addresses of the two modules' segments: of the boot sector its code and its mark, in the frame with base 0; of the other module its
+/// only segment, in a frame of its own.
+const ADDRESSES: &str = "S 7C00 0 0\nS 7DFE 0 0\nM\nS 7D00 7D00 7D0\n";
 
 /// Reads the two modules of an input.
 fn modules<S: Source>(alloc: Global, reader: &mut S) -> Result<[Checked; 2], CheckFault> {
@@ -37,7 +38,7 @@ fn modules<S: Source>(alloc: Global, reader: &mut S) -> Result<[Checked; 2], Che
 /// Links the two modules of an input, and prints them.
 fn print_linked<S: Source, K: Sink>(alloc: Global, reader: &mut S, writer: &mut K) -> Result<()> {
     let modules = modules(alloc, reader)?;
-    let placements = link(alloc, &modules, &places(alloc)?)?;
+    let placements = link(alloc, &modules, ADDRESSES.as_bytes())?;
     Ok(print_pair(alloc, &modules, &placements, writer)?)
 }
 

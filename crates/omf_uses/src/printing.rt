@@ -30,8 +30,8 @@ fn placement_text(
         print_entry(&mut text, 'S', place.address, place.frame)?;
     }
     for i in 1..module.externals() + 1 {
-        if let Some((address, frame)) = placement.external(usize::from(i)) {
-            print_entry(&mut text, 'E', address, frame)?;
+        if let Some(place) = placement.external(usize::from(i)) {
+            print_entry(&mut text, 'E', place.address, place.frame)?;
         }
     }
     Ok(text)

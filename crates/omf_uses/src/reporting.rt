@@ -2,23 +2,18 @@
 
 use crate::boot::boot_image;
 use crate::judging::verdict;
-use crate::linking::link;
 use crate::naming::key;
 use anyhow::Result;
 use omf_check::{Checked, Profile, check};
 use omf_cmd::fault_line;
 use omf_frame::Reading;
-use omf_reloc::{DeriveFault, Frame, Placement};
+use omf_linking::{LinkFault, link};
+use omf_reloc::{DeriveFault, Placement};
 use omf_samples::{
     DATA, END, EXTERNAL, FIXUP, HEADER, LONG_DATA, MODULE, NAMES, PUBLIC, SEGMENT, joined,
 };
 use std::alloc::{AllocError, Global};
 use std::fmt::Write;
-
-const FRAME: Frame = Frame {
-    base: 0x10000,
-    selector: 0x1000,
-};
 
 /// The module with these records.
 fn module(alloc: Global, records: &[&str]) -> Result<Checked> {
@@ -27,13 +22,6 @@ fn module(alloc: Global, records: &[&str]) -> Result<Checked> {
         refuse_vendor_comments: false,
     };
     Ok(check(alloc, &mut Reading::new(bytes.as_slice()), profile)?)
-}
-
-/// One segment at an address, in the frame at 10000H.
-fn place(alloc: Global, address: u32) -> Result<Placement, AllocError> {
-    let mut placement = Placement::new(alloc);
-    placement.push_segment(address, FRAME)?;
-    Ok(placement)
 }
 
 /// Reports the verdict on a file with these records.
@@ -91,17 +79,15 @@ fn pair(alloc: Global, records: &[&str]) -> Result<[Checked; 2]> {
     Ok([caller, callee])
 }
 
-/// The places of both.
-fn places(alloc: Global) -> Result<[Placement; 2], AllocError> {
-    Ok([place(alloc, 0x10020)?, place(alloc, 0x10100)?])
-}
+/// The addresses of both: a segment of each, in the frame at 10000H.
+const ADDRESSES: &str = "S 10020 10000 1000\nM\nS 10100 10000 1000\n";
 
 /// Writes the place of external 1 of each module that has one.
 fn write_externals(text: &mut String, placements: &[Placement]) -> Result<(), AllocError> {
     for placement in placements {
-        if let Some((address, frame)) = placement.external(1) {
-            let base = frame.base;
-            let selector = frame.selector;
+        if let Some(place) = placement.external(1) {
+            let (address, base) = (place.address, place.frame.base);
+            let selector = place.frame.selector;
             writeln!(text, "link: E {address:X} {base:X} {selector:X}")?;
         }
     }
@@ -111,9 +97,9 @@ fn write_externals(text: &mut String, placements: &[Placement]) -> Result<(), Al
 /// Reports the place of the first module's external, which the second module, with these records, may define.
 fn report_link(alloc: Global, text: &mut String, records: &[&str]) -> Result<()> {
     let modules = pair(alloc, records)?;
-    match link(alloc, &modules, &places(alloc)?) {
+    match link(alloc, &modules, ADDRESSES.as_bytes()) {
         Ok(placements) => Ok(write_externals(text, &placements)?),
-        Err(DeriveFault::Undefined { module, external }) => Ok(writeln!(
+        Err(LinkFault::External(DeriveFault::Undefined { module, external })) => Ok(writeln!(
             text,
             "link: external {external} of module {module} is undefined"
         )?),
