@@ -23,11 +23,13 @@ This page is that promise without English: the theorem, and every definition tha
 If these definitions describe OMF as you know it, the promise holds: the prover has done the rest, and the gate repeats it. You need the
 standard (TIS OMF 1.1) beside the page, and nothing else of this project. `tests/believe.py` makes the page from the sources, and the gate compares.
 
-The theorem is `Headline`, the contract of one function, `check_and_relocate` (step 8). A profile, an input and a placement have one of three answers:
+The theorem is `Headline`, the contract of the call `check_and_relocate` (step 8). A profile, an input and a placement have one of three answers:
 
 - `Refused`: the input begins with no well-formed module (`IsAccepted`, steps 1 to 4). The reason and the place are those of its first fault (`IsRefused`, step 5).
-- `Relocated`: it begins with one, and the placement reaches (`Reaches`, step 7). Each byte of the image, and the start, are the defined ones (`image` and `start`, step 6). Every index and thread in the module is defined (`ModuleHolds`), and every patched byte is inside its data and its segment (`AllLieInside`, both in step 8).
+- `Relocated`: it begins with one, and the placement reaches (`Reaches`, step 7). Each byte of the image, and the start, are the defined ones (`image` and `start`, step 6).
 - `DoesNotReach`: it begins with one, and the placement does not reach. The fault is the first reason why not (`reach_fault`, step 7).
+
+Beside it is the law `accepted_are_safe`, of every module that an input begins with: each index and each thread that is used is defined (`ModuleHolds`), and at each placement every patched byte is inside its data and its segment (`AllLieInside`, both in step 8).
 
 ## Key to the notation
 
@@ -47,15 +49,16 @@ The theorem is `Headline`, the contract of one function, `check_and_relocate` (s
 | `if b then x else y`, `cond b x y`, `let x = e in y` | x or y; the same; y with the value of e for x |
 | `List A`, `[]`, `x ∷ xs`, `xs ++ ys` | a list; the empty one; x and then the list xs; xs and then ys |
 | `length`, `take n`, `drop n`, `filter test`, `repeat n`, `sum`, `sum_by f`, `max` | of a list: its length; its first n elements; all others; those that pass; it, n times; the sum of its numbers; of f of each. The larger of two numbers |
+| `find test xs` | the first element that passes, if there is one |
 | `map`, `filter_map`, `flat_map`, `zip`, `fold` | of a list: f of each; the same where it gives something; the lists that f gives, joined; pairs; f of the value so far and each element |
 | `slice_get xs i`, `slice_index xs i` | element i from 0, if there is one; of a list of numbers: element i, or 0 if there is none |
 | `All P xs`, `list_any test xs`, `Contains xs x` | P holds of each element; some element passes; x is an element |
 | `enumerate_from n xs`, `last_or None xs` | pairs of n, n + 1 and so on with the elements; the last element, if there is one |
 | `little_number k bytes`, `little_bytes k n` | the little-endian number in k bytes; n as k bytes, little-endian |
 | `0x1A`, `codes "TEXT"` | a hexadecimal number; the characters of a text as numbers |
-| `Option A`, `Some x`, `None` | an A or nothing; `option_map f o`: f of it, if it is there; `unwrap_or o x`: it, or else x; `option_or o p`: o if it is there, else p |
+| `Option A`, `Some x`, `None` | an A or nothing; `option_map f o`: f of it, if it is there; `unwrap_or o x`: it, or else x; `option_or o p`: o if it is there, else p; `option_and_then f o`: f of it, or nothing; `option_zip o p`: the pair, if both are there; `option_to_list o`: the list of it, or the empty one |
 | `IsSome o`, `IsNone o`, `IfSome o P` | it is there; it is not; if it is there, P holds of it. `is_some o`: the same as a truth value |
-| `Result A E`, `Ok x`, `Err e` | an A, or a fault; `IsOk r`, `IfOk r P`, `IfErr r P`: it is Ok; if it is Ok (Err), P holds of its value |
+| `Result A E`, `Ok x`, `Err e` | an A, or a fault; `IsOk r`, `IfOk r P`, `IfErr r P`: it is Ok; if it is Ok (Err), P holds of its value. `result_ok r`, `result_err r`: the value, the fault, if it is there |
 | `record R where`, `data D where` | a struct: `r.field`, `record {{ field = .. }}`, and `record r {{ field = .. }}`, which is r with another field; a tagged union, with its cases. The fields of a struct that is a statement hold together |
 | `zero`, `suc n` | 0, and n + 1 |
 | `Layout A`, `Spells`, `Faults` | how a value of A is encoded. `Spells at bytes x`: the bytes, from offset `at` of the record, are an encoding of x. `Faults at bytes e`: they have the fault e |
@@ -82,9 +85,9 @@ STEPS = [
     ("What contents encode", "The contents of each record as a value (`Values`), and the layout that encodes it (`Records`): compare these two with the page of each record in the standard. `Layout` has the parts that layouts are built from, and `Entries` what records repeat. A layout is two relations. Skip `Faults` at first: only step 5 needs it, by the law of `layout_faults`."),
     ("What must hold", "The blocks of an LIDATA; the tables that records define; the threads in force; and the rules of each record, given the records before it, each with the place and the reason of its fault. Then `IsWellFormed`: the bytes are records, the contents of each encode a value, blocks are within the limits, and every record keeps its rules. `IsAccepted`: the input begins so. `typed r` is the record r with the value that its contents encode; `blocks_of` are the blocks of an LIDATA."),
     ("Which refusal", "A record is judged in steps: six of framing, then layout and blocks, then the length of what the blocks expand to, then the rules. Refused is the first record at fault, for its first step that has a fault: of the faults of that step the one at the least place, and there of the least number. Read `IsRefused`, the last definition, first: the input is records without a fault, none of them a MODEND, and then a record with one, of which perhaps not all bytes are there (`present`)."),
-    ("What a placement makes of a module", "A placement (`Places`) has an address and a frame for each segment and external, and a frame for each group. `outcome`: what a fixup adds to the bytes of its location, or why it does not reach. `patched`: the data of an LEDATA after its fixups, in file order. `image`: at each place the byte of the last data record that covers it. `pieces` are the records with threads resolved; `alone` sets to 0 where in the file a field was, since that has no effect. Look-ups have a default (`no_place`, `no_frame`, F5, T0 0); in a well-formed module, at a placement that fits it, none is ever used (law `look_ups_are_found` of omf_reloc)."),
+    ("What a placement makes of a module", "A placement (`Places`) has an address and a frame for each segment and external, and a frame for each group. `outcome`: what a fixup adds to the bytes of its location, or why it does not reach. `patched`: the data of an LEDATA after its fixups, in file order. `image`: at each place the byte of the last data record that covers it. `pieces` are the records with threads resolved. A thread that is not set counts as F5 or T0 0; no well-formed module uses one (`ModuleHolds`, step 8). Where the placement has no entry for a frame or a target, nothing reaches."),
     ("Whether it reaches", "A placement fits if its lists are as long as the module's tables, and each absolute segment is where its SEGDEF puts it. It reaches if it fits, and no fixup and no start has a cause not to. `reach_faults` has all faults in the order in which they are reported."),
-    ("The theorem and the calls", "First what holds of every accepted module (`ModuleHolds`: each thread and index that is used is defined) and of every image (`AllLieInside`: each patched byte is inside its data and its segment). Then the theorem, and the contract that states it."),
+    ("The theorem and the calls", "What holds of every accepted module (`ModuleHolds`: each thread and index that is used is defined) and of every image (`AllLieInside`: each patched byte is inside its data and its segment). Then the theorem, and the contracts that state it."),
 ]
 BEYOND = "What the calls that the theorem joins promise beyond it: how far a reader is read, when a failing reader is an answer, and the covered intervals of an image."
 # What the computed words are, and the laws that tie them to definitions.
@@ -124,7 +127,7 @@ END = """
 """
 FIRST = {1: [("omf_frame", "Bytes"), ("omf_frame", "Fields")], 2: [("omf_frame", "Types"), ("omf_frame", "Framing")]}
 CALLS = [
-    ("omf_reloc", "headline", "check_and_relocate"), ("omf_check", "checking", "check"), ("omf_check", "checked", "records"), ("omf_reloc", "reaching", "reach"),
+    ("omf_reloc", "headline", "check_and_relocate"), ("omf_reloc", "headline/laws", "accepted_are_safe"), ("omf_check", "checking", "check"), ("omf_check", "checked", "records"), ("omf_reloc", "reaching", "reach"),
     ("omf_reloc", "relocating", "relocate"), ("omf_reloc", "starting", "start"), ("omf_image", "image", "get"), ("omf_image", "image", "run_at"), ("omf_image", "image", "run_bytes"),
 ]
 
@@ -187,7 +190,7 @@ def contract(crate, file, name):
     """A call's comment and signature with its clauses, and the view of its type."""
     lines = (CRATES / crate / "src" / f"{file}.rt").read_text(encoding="utf-8").splitlines()
     begin = next(at for at, line in enumerate(lines) if re.match(rf" *pub fn {name}\b", line))
-    end = next(at for at in range(begin, len(lines)) if lines[at].strip() == "{")
+    end = next(at for at in range(begin, len(lines)) if lines[at].strip() in ("{", "{}"))
     while lines[begin - 1].lstrip().startswith("///"):
         begin -= 1
     margin = len(lines[begin]) - len(lines[begin].lstrip())
@@ -273,9 +276,9 @@ def page():
         parts += [f"## {number}. {title} ({lines} lines)\n", f"{text}\n", *code(definitions, wanted)]
         if number == 4:
             parts.append("**This is what \"accepted\" means: `IsAccepted`.** If you want only that, stop here.\n")
-    parts += ["How contracts see the values of the code:\n", "| Type | Seen as |", "|---|---|", *views(), "", "The theorem:\n", "```text", *contract(*CALLS[0]), "```\n"]
+    parts += ["How contracts see the values of the code:\n", "| Type | Seen as |", "|---|---|", *views(), "", "The theorem, and the law of all accepted modules:\n", "```text", *contract(*CALLS[0]), "", *contract(*CALLS[1]), "```\n"]
     parts += ["### The calls\n", f"{BEYOND}\n", *code(definitions, [one for one in found[8] if one not in theorem])]
-    for call in CALLS[1:]:
+    for call in CALLS[2:]:
         parts += ["```text", *contract(*call), "```\n"]
     parts += ["## Computed words\n", *computed(definitions, headline, them, "\n".join(parts))]
     return "\n".join(parts).rstrip() + "\n" + END
