@@ -498,7 +498,7 @@ type Map = (
     &'static str,
 );
 
-static MAPS: [Map; 3] = [
+static MAPS: [Map; 2] = [
     (
         MAPPED,
         "S 10020 10000 1000\nX 2 FFFF0 F0000 F000\nM\nS 10030 10000 1000\nS 0 0 0\n",
@@ -519,14 +519,6 @@ static MAPS: [Map; 3] = [
         "segment 1 1 FFFFFFFC 00000010 \"T\" \"CODE\"\n\
          public 1 100000001 \"Z\"\n\
          public 1 FFFFFFFC \"\\x22\\xFF\"\n",
-    ),
-    // No places.
-    (
-        &[&[HEADER, END], &[HEADER, MAP_NAMES, SEGMENT, PUBLICS, END]],
-        "",
-        "segment 2 1 - 00000010 \"T\" \"CODE\"\n\
-         public 2 00000005 \"Z\"\n\
-         public 2 00000000 \"\\x22\\xFF\"\n",
     ),
 ];
 
