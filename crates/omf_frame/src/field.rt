@@ -30,7 +30,8 @@ pub trait Field<'a>: Sized {
         ensures ok { OnOk result (out.new.items ≡ out.old.items ++ shortest self.now) }
         ensures err { OnErr result (out.new.items ≡ out.old.items) }
         // Memory is asked for only if the capacity does not hold the encoding.
-        ensures full { OnErr result (vec_capacity out.old < vec_len out.old + length (shortest self.now)) };
+        ensures full { OnErr result (vec_capacity out.old < vec_len out.old + length (shortest self.now)) }
+        ensures capacity { vec_capacity out.old ≤ vec_capacity out.new };
 
     /// No encoding is a prefix of another.
     ghost prefix_free: { IsPrefixFree spells };

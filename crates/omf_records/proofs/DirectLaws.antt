@@ -9,7 +9,7 @@ use Rattle.omf_frame.specs.declared.fault.Reason.{Reason}
 use Rattle.omf_frame.specs.declared.fault.Reason.TheVariants as reason
 use Rattle.omf_records.specs.declared.here.Here.{Here}
 use Rattle.omf_records.specs.Inner.Direct.{begins_direct, is_zero, IsDirect, IsNonzero, Copies, PutsNext}
-use Rattle.omf_records.specs.Inner.Each.{each_turn, each_refused}
+use Rattle.omf_records.specs.Inner.Each.{each_turn, each_refused, with_first}
 use Rattle.omf_records.specs.Entries.{unless, is_frame_method, wrong_methods, wrong_head}
 use Rattle.omf_records.specs.Inner.EntryReaders.{datum_reader, displacement_reader, part_reader, subrecord_reader, subrecord_shrinks}
 use Rattle.omf_records.specs.Inner.Reads.{After, after, and_then, each}
@@ -257,25 +257,21 @@ abbrev pub Copied : ℕ → Here → List ℕ → List ℕ → Here → Type 0
 Copied kind from out then here = Copies IsDirect (subrecord_bytes kind) from.wide ((subrecord_reader from.wide).read from.within from.bytes.now) out then here
 
 -- the subrecords from a place on
-abbrev pub pending_at : Here → Pending Subrecord
-pending_at from = record { items = each (subrecord_reader from.wide).read from.within from.bytes.now; size = length from.bytes.now }
+abbrev pub items_at : Here → Result (List (At Subrecord)) Fault
+items_at from = each (subrecord_reader from.wide).read from.within from.bytes.now
 
-puts-next : (kind : ℕ) (from here : Here) (out then : List ℕ) → Copied kind from out then here → PutsNext kind (pending_at from) (pending_at here) out then
-puts-next kind from here out then c =
-    let a = after c.value here.within here.bytes.now in
-    let less = subrecord_shrinks from.wide from.within from.bytes.now a c.is in
+-- of items that are known to stand there
+pub puts : (kind : ℕ) (from here : Here) (old new : Pending Subrecord) (out then : List ℕ)
+    → old.items ≡ items_at from → old.size ≡ length from.bytes.now → new.items ≡ items_at here → new.size ≡ length here.bytes.now
+    → Copied kind from out then here → PutsNext kind old new out then
+puts kind from here old new out then a b d e c =
+    let t = after c.value here.within here.bytes.now in
+    let less = subrecord_shrinks from.wide from.within from.bytes.now t c.is in
+    let x : At Subrecord = record { within = from.within; item = c.value } in
+    let step = each_turn (λ w. (subrecord_reader w).read) subrecord_shrinks from.wide here.wide from.within from.bytes.now t c.same (not-empty from.bytes.now (length here.bytes.now) less) c.is in
     record {
-      next = record { within = from.within; item = c.value };
-      gives = (each_turn (λ w. (subrecord_reader w).read) subrecord_shrinks from.wide here.wide from.within from.bytes.now a c.same (not-empty from.bytes.now (length here.bytes.now) less) c.is, less);
+      next = x;
+      gives = (a ∙ (step ∙ ap (with_first x) (sym d)), omega (arith, b, e, less));
       direct = c.holds;
       put = c.put;
     }
-
--- the same of items that are known to stand there
-pub puts : (kind : ℕ) (from here : Here) (old new : Pending Subrecord) (out then : List ℕ)
-    → old.items ≡ (pending_at from).items → old.size ≡ (pending_at from).size → new.items ≡ (pending_at here).items → new.size ≡ (pending_at here).size
-    → Copied kind from out then here → PutsNext kind old new out then
-puts kind from here old new out then a b d e c =
-    let seen : Result (List (At Subrecord)) Fault → ℕ → Pending Subrecord = λ i n. record { items = i; size = n } in
-    subst (λ (p : Pending Subrecord). PutsNext kind p new out then) (sym (ap₂ seen a b))
-    (subst (λ (p : Pending Subrecord). PutsNext kind (pending_at from) p out then) (sym (ap₂ seen d e)) (puts-next kind from here out then c))

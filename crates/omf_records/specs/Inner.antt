@@ -3,6 +3,7 @@ pub mod Direct
 pub mod Each
 pub mod EntryReaders
 pub mod FieldReaders
+pub mod Front
 pub mod Gives
 pub mod LawProofs
 pub mod Many

@@ -7,8 +7,11 @@ ghost use Rattle.omf_records.specs.Inner.Reading.{read_body};
 ghost use Rattle.omf_records.specs.Inner.RecordReaders.{whole_of};
 ghost use Rattle.omf_records.specs.Layout.{Meets};
 ghost use Rattle.omf_records.specs.Records.{contents};
+ghost use Rattle.omf_records.specs.Entries.{subrecord};
+ghost use Rattle.omf_records.specs.Inner.Front.{AreInFront};
 ghost use Rattle.omf_records.specs.Inner.Unread.{fixups_read};
 ghost use Rattle.omf_records.specs.Valued.{is_fixupp};
+ghost use Rattle.omf_records.specs.Values.{is_wide};
 
 use crate::at::LayoutFault;
 use crate::here::Here;
@@ -105,10 +108,11 @@ fn is_fixupp(kind: u8) -> bool
     kind == 0x9C || kind == 0x9D
 }
 
-/// The subrecords of a FIXUPP, to be decoded one by one. `None` for a record of another type.
+/// The subrecords of a FIXUPP, to be decoded one by one; those in front of a fault too. `None` for a record of another type.
 pub fn unread_fixups<'a>(raw: &RawRecord<'a>) -> Option<Unread<Subrecord<'a>>>
     requires { length raw.now.body.now ≤ 65534 }
     ensures read { IfSome result (λ u. read_body raw.now.kind raw.now.body.now ≡ fixups_read u.items) }
+    ensures front { IfSome result (λ u. AreInFront (subrecord (is_wide raw.now.kind)) 3 raw.now.body.now u.front) }
     ensures given { is_some result ≡ is_fixupp raw.now.kind }
 {
     if is_fixupp(raw.kind) {

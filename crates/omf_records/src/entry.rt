@@ -1,6 +1,6 @@
 //! The items that records repeat: names, members, external, public and communal names.
 ghost use Rattle.std.specs.Prelude.{◌≡◌, ◌++◌, OnOk, OnErr};
-ghost use Rattle.omf_records.specs.Inner.Begins.{Begins};
+ghost use Rattle.omf_records.specs.Inner.Begins.{Grows, Lacks};
 ghost use Rattle.omf_records.specs.Shortest.{size_bytes};
 ghost use Rattle.omf_records.specs.Inner.Gives.{Gives};
 ghost use Rattle.omf_records.specs.Inner.EntryReaders.{component_reader, data_type_reader, size_reader};
@@ -91,7 +91,7 @@ impl<'a> Item for Member<'a> {
 
     ghost shortest = { λ k m. member_bytes m };
 
-    #[tactic(auto, using(crate::specs::Inner::Begins::begins_then))]
+    #[tactic(auto, using(crate::specs::Inner::Begins::grows_then, crate::specs::Inner::Begins::lacks_then, crate::specs::Inner::Begins::lacks_front))]
     fn put(&self, _kind: u8, out: &mut Vec<u8>) -> Result<(), AllocError> {
         put_byte(out, 0xFF)?;
         put_datum(out, &self.segment)
@@ -135,7 +135,7 @@ impl<'a> Item for Extern<'a> {
 
     ghost shortest = { λ k e. external_bytes e };
 
-    #[tactic(auto, using(crate::specs::Inner::Begins::begins_then))]
+    #[tactic(auto, using(crate::specs::Inner::Begins::grows_then, crate::specs::Inner::Begins::lacks_then, crate::specs::Inner::Begins::lacks_front))]
     fn put(&self, _kind: u8, out: &mut Vec<u8>) -> Result<(), AllocError> {
         put_field(out, &self.name)?;
         put_field(out, &self.type_index)
@@ -188,7 +188,7 @@ impl<'a> Item for Public<'a> {
 
     ghost shortest = { public_bytes };
 
-    #[tactic(auto, using(crate::specs::Inner::Begins::begins_then))]
+    #[tactic(auto, using(crate::specs::Inner::Begins::grows_then, crate::specs::Inner::Begins::lacks_then, crate::specs::Inner::Begins::lacks_front))]
     fn put(&self, kind: u8, out: &mut Vec<u8>) -> Result<(), AllocError> {
         put_field(out, &self.name)?;
         put_number(out, kind, self.offset)?;
@@ -244,10 +244,11 @@ fn communal_size<'a>(here: Here<'a>) -> Result<(CommunalSize, Here<'a>), LayoutF
     Ok((CommunalSize::Far { count, size }, here))
 }
 
-#[tactic(auto, using(crate::specs::Inner::Begins::begins_then))]
+#[tactic(auto, using(crate::specs::Inner::Begins::grows_then, crate::specs::Inner::Begins::lacks_then, crate::specs::Inner::Begins::lacks_front))]
 fn put_size(out: &mut Vec<u8>, size: CommunalSize) -> Result<(), AllocError>
     ensures put { OnOk result (out.new.items ≡ out.old.items ++ size_bytes (size_seen size)) }
-    ensures grows { Begins out.old.items out.new.items }
+    ensures grows { Grows out.old out.new }
+    ensures full { OnErr result (Lacks out.old (size_bytes (size_seen size))) }
 {
     match size {
         CommunalSize::Near(length) => {
@@ -291,7 +292,7 @@ impl<'a> Item for Communal<'a> {
 
     ghost shortest = { λ k c. communal_bytes c };
 
-    #[tactic(auto, using(crate::specs::Inner::Begins::begins_then))]
+    #[tactic(auto, using(crate::specs::Inner::Begins::grows_then, crate::specs::Inner::Begins::lacks_then, crate::specs::Inner::Begins::lacks_front))]
     fn put(&self, _kind: u8, out: &mut Vec<u8>) -> Result<(), AllocError> {
         put_field(out, &self.name)?;
         put_field(out, &self.type_index)?;

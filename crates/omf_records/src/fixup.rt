@@ -1,7 +1,7 @@
 //! Writing fixups and references, with one allocation for each (TIS OMF 1.1, "FIXUPP").
 ghost use Rattle.std.specs.Prelude.{◌≡◌, ◌++◌, ◌+◌, ◌<◌, ◌≤◌, OnOk, OnErr, length, vec_len, vec_capacity};
 ghost use Rattle.byteorder.specs.Endian.{little_bytes};
-ghost use Rattle.omf_records.specs.Inner.Begins.{Begins};
+ghost use Rattle.omf_records.specs.Inner.Begins.{Grows};
 ghost use Rattle.omf_records.specs.Shortest.{option_bytes, datum_bytes, reference_bytes, subrecord_bytes};
 ghost use Rattle.omf_records.specs.Values.{Fixup, width};
 
@@ -56,6 +56,7 @@ pub(crate) fn push_displacement(out: &mut Vec<u8>, kind: u8, displacement: &Opti
     requires { vec_len out.old + 4 ≤ vec_capacity out.old }
     ensures items { out.new.items ≡ out.old.items ++ option_bytes (little_bytes (width kind)) displacement.now }
     ensures len { vec_len out.new ≤ vec_len out.old + 4 }
+    ensures capacity { vec_capacity out.old ≤ vec_capacity out.new }
 {
     if let Some(displacement) = displacement {
         let [lowest, second, third, highest] = (*displacement).to_le_bytes();
@@ -71,7 +72,8 @@ pub(crate) fn push_displacement(out: &mut Vec<u8>, kind: u8, displacement: &Opti
 #[inline(always)]
 fn push_reference(out: &mut Vec<u8>, kind: u8, reference: &Reference)
     requires { vec_len out.old + 9 ≤ vec_capacity out.old }
-    ensures { out.new.items ≡ out.old.items ++ reference_bytes kind reference.now }
+    ensures items { out.new.items ≡ out.old.items ++ reference_bytes kind reference.now }
+    ensures capacity { vec_capacity out.old ≤ vec_capacity out.new }
 {
     out.push_reserved(reference.fix.item.byte());
     push_index(out, &reference.frame);
@@ -83,7 +85,8 @@ fn push_reference(out: &mut Vec<u8>, kind: u8, reference: &Reference)
 #[inline(always)]
 fn push_fixup(out: &mut Vec<u8>, kind: u8, location: Locat, reference: &Reference)
     requires { vec_len out.old + 11 ≤ vec_capacity out.old }
-    ensures { out.new.items ≡ out.old.items ++ subrecord_bytes kind (Fixup location reference.now) }
+    ensures items { out.new.items ≡ out.old.items ++ subrecord_bytes kind (Fixup location reference.now) }
+    ensures capacity { vec_capacity out.old ≤ vec_capacity out.new }
 {
     let number = location.number();
     out.push_reserved((number / 256) as u8);
@@ -101,7 +104,7 @@ pub fn put_reference(out: &mut Vec<u8>, kind: u8, reference: &Reference) -> Resu
     ensures put { OnOk result (out.new.items ≡ out.old.items ++ reference_bytes kind reference.now) }
     ensures err { OnErr result (out.new.items ≡ out.old.items) }
     ensures full { OnErr result (vec_capacity out.old < vec_len out.old + 9) }
-    ensures grows { Begins out.old.items out.new.items }
+    ensures grows { Grows out.old out.new }
 {
     out.reserve(REFERENCE_LIMIT)?;
     push_reference(out, kind, reference);
@@ -124,7 +127,7 @@ pub fn put_fixup(
     ensures put { OnOk result (out.new.items ≡ out.old.items ++ subrecord_bytes kind (Fixup location reference.now)) }
     ensures err { OnErr result (out.new.items ≡ out.old.items) }
     ensures full { OnErr result (vec_capacity out.old < vec_len out.old + 11) }
-    ensures grows { Begins out.old.items out.new.items }
+    ensures grows { Grows out.old out.new }
 {
     out.reserve(FIXUP_LIMIT)?;
     push_fixup(out, kind, location, reference);

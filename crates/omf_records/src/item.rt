@@ -1,7 +1,7 @@
 //! The items that a record repeats up to the end of its contents.
 ghost use Rattle.std.specs.Prelude.{◌≡◌, ℕ, ◌+◌, ◌-◌, ◌*◌, ◌<◌, ◌≤◌, ◌↔◌, ◌++◌, IsTrue, OnOk, OnErr, flat_map, length, drop, take, List, [], Bool};
 ghost use Rattle.std.specs.Iterator.{YieldsFirst, item_count};
-ghost use Rattle.omf_records.specs.Inner.Begins.{Begins};
+ghost use Rattle.omf_records.specs.Inner.Begins.{Grows, Lacks};
 ghost use Rattle.omf_records.specs.Layout.{Layout};
 ghost use Rattle.omf_records.specs.Inner.Reads.{GivesFrom, Reader, Shrinks, each};
 
@@ -63,7 +63,8 @@ pub trait Item: Sized + Drop {
     /// Appends the shortest encoding, in a record of type `kind`.
     fn put(&self, kind: u8, out: &mut Vec<u8>) -> Result<(), AllocError>
         ensures put { OnOk result (out.new.items ≡ out.old.items ++ shortest kind self.now) }
-        ensures grows { Begins out.old.items out.new.items };
+        ensures grows { Grows out.old out.new }
+        ensures full { OnErr result (Lacks out.old (shortest kind self.now)) };
 
     /// Every item has at least one byte.
     ghost shrinks: { (w : Bool) → Shrinks (reader w).read };
@@ -146,14 +147,15 @@ impl<T: Item> Iterator for Items<T> {
 }
 
 /// Appends items in their shortest encodings, in a record of type `kind`.
-#[tactic(auto, using(crate::specs::Inner::Begins::begins_then, crate::specs::Inner::Begins::begins_itself))]
+#[tactic(auto, using(crate::specs::Inner::Begins::grows_then, crate::specs::Inner::Begins::begins_itself, crate::specs::Inner::Begins::lacks_left))]
 pub(crate) fn put_items<T: Item>(
     out: &mut Vec<u8>,
     kind: u8,
     items: Items<T>,
 ) -> Result<(), AllocError>
     ensures put { OnOk result (out.new.items ≡ out.old.items ++ flat_map (λ x. T.shortest kind x.item) items) }
-    ensures grows { Begins out.old.items out.new.items }
+    ensures grows { Grows out.old out.new }
+    ensures full { OnErr result (Lacks out.old (flat_map (λ x. T.shortest kind x.item) items)) }
 {
     for entry in items {
         entry.item.put(kind, out)?;

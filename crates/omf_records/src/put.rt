@@ -1,7 +1,7 @@
 //! Writing fields in their shortest encodings.
 ghost use Rattle.std.specs.Prelude.{◌≡◌, ◌++◌, ◌∷◌, [], OnOk, OnErr, Option};
 ghost use Rattle.byteorder.specs.Endian.{little_bytes};
-ghost use Rattle.omf_records.specs.Inner.Begins.{Begins};
+ghost use Rattle.omf_records.specs.Inner.Begins.{Grows, Lacks};
 ghost use Rattle.omf_records.specs.Shortest.{datum_bytes, option_bytes};
 ghost use Rattle.omf_records.specs.Values.{width};
 
@@ -13,7 +13,8 @@ use std::alloc::AllocError;
 #[tactic(auto, using(crate::specs::Inner::Begins::begins_itself, crate::specs::Inner::Begins::begins_more))]
 pub(crate) fn put_field<'a, F: Field<'a>>(out: &mut Vec<u8>, field: &F) -> Result<(), AllocError>
     ensures put { OnOk result (out.new.items ≡ out.old.items ++ F.shortest field.now) }
-    ensures grows { Begins out.old.items out.new.items }
+    ensures grows { Grows out.old out.new }
+    ensures full { OnErr result (Lacks out.old (F.shortest field.now)) }
 {
     field.put(out)
 }
@@ -21,14 +22,16 @@ pub(crate) fn put_field<'a, F: Field<'a>>(out: &mut Vec<u8>, field: &F) -> Resul
 #[tactic(auto, using(crate::specs::Inner::Begins::begins_itself, crate::specs::Inner::Begins::begins_more))]
 pub(crate) fn put_bytes(out: &mut Vec<u8>, bytes: &[u8]) -> Result<(), AllocError>
     ensures put { OnOk result (out.new.items ≡ out.old.items ++ bytes.now) }
-    ensures grows { Begins out.old.items out.new.items }
+    ensures grows { Grows out.old out.new }
+    ensures full { OnErr result (Lacks out.old bytes.now) }
 {
     out.extend_from_slice(bytes)
 }
 
 pub(crate) fn put_byte(out: &mut Vec<u8>, byte: u8) -> Result<(), AllocError>
     ensures put { OnOk result (out.new.items ≡ out.old.items ++ byte ∷ []) }
-    ensures grows { Begins out.old.items out.new.items }
+    ensures grows { Grows out.old out.new }
+    ensures full { OnErr result (Lacks out.old (byte ∷ [])) }
 {
     put_bytes(out, &[byte])
 }
@@ -36,7 +39,8 @@ pub(crate) fn put_byte(out: &mut Vec<u8>, byte: u8) -> Result<(), AllocError>
 /// Appends a number: 32 bits in a record of odd type, the low 16 in one of even type.
 pub(crate) fn put_number(out: &mut Vec<u8>, kind: u8, value: u32) -> Result<(), AllocError>
     ensures put { OnOk result (out.new.items ≡ out.old.items ++ little_bytes (width kind) value) }
-    ensures grows { Begins out.old.items out.new.items }
+    ensures grows { Grows out.old out.new }
+    ensures full { OnErr result (Lacks out.old (little_bytes (width kind) value)) }
 {
     if kind % 2 == 1 {
         return put_field(out, &Le32(value));
@@ -47,7 +51,8 @@ pub(crate) fn put_number(out: &mut Vec<u8>, kind: u8, value: u32) -> Result<(), 
 /// Appends an index.
 pub(crate) fn put_datum(out: &mut Vec<u8>, datum: &At<Index>) -> Result<(), AllocError>
     ensures put { OnOk result (out.new.items ≡ out.old.items ++ datum_bytes datum.now) }
-    ensures grows { Begins out.old.items out.new.items }
+    ensures grows { Grows out.old out.new }
+    ensures full { OnErr result (Lacks out.old (datum_bytes datum.now)) }
 {
     put_field(out, &datum.item)
 }
@@ -56,7 +61,8 @@ pub(crate) fn put_datum(out: &mut Vec<u8>, datum: &At<Index>) -> Result<(), Allo
 #[tactic(auto, using(crate::specs::Inner::Begins::begins_itself))]
 pub(crate) fn put_datum_if(out: &mut Vec<u8>, datum: &Option<At<Index>>) -> Result<(), AllocError>
     ensures put { OnOk result (out.new.items ≡ out.old.items ++ option_bytes datum_bytes datum.now) }
-    ensures grows { Begins out.old.items out.new.items }
+    ensures grows { Grows out.old out.new }
+    ensures full { OnErr result (Lacks out.old (option_bytes datum_bytes datum.now)) }
 {
     match datum {
         Some(datum) => put_datum(out, datum),

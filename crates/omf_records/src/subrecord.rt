@@ -198,7 +198,7 @@ impl<'a> Item for Subrecord<'a> {
 
     ghost shortest = { subrecord_bytes };
 
-    #[tactic(auto, using(crate::specs::Inner::Begins::begins_then))]
+    #[tactic(auto, using(crate::specs::Inner::Begins::grows_then, crate::specs::Inner::Begins::lacks_then, crate::specs::Inner::Begins::lacks_front, crate::specs::Inner::Begins::lacks_fixup))]
     fn put(&self, kind: u8, out: &mut Vec<u8>) -> Result<(), AllocError> {
         match &self.part {
             Part::Thread { first, index } => {

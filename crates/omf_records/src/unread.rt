@@ -1,6 +1,7 @@
 //! Items that are checked as they are read.
 ghost use Rattle.std.specs.Prelude.{◌≡◌, ◌<◌, ◌≤◌, Ok, [], true, false, length};
 ghost use Rattle.std.specs.Prelude.{is_ok};
+ghost use Rattle.omf_records.specs.Inner.Front.{GivesFront, in_front};
 ghost use Rattle.omf_records.specs.Inner.Reads.{each};
 ghost use Rattle.omf_records.specs.Inner.Unread.{NextGives};
 
@@ -8,8 +9,8 @@ use crate::at::{At, LayoutFault};
 use crate::item::{Cursor, Item, Items};
 use std::marker::Model;
 
-/// Items that may have faults, each with its offset in the record. Its model is the remaining items, or the first fault among them,
-/// and the number of their bytes.
+/// Items that may have faults, each with its offset in the record. Its model is the remaining items, or the first fault among them;
+/// the items in front of that fault; and the number of the remaining bytes.
 #[derive(Drop)]
 pub struct Unread<T: Item> {
     from: T::From,
@@ -17,12 +18,13 @@ pub struct Unread<T: Item> {
 
 impl<T: Item> Model for Unread<T> {
     ghost use Rattle.std.specs.Prelude.{length};
+    ghost use Rattle.omf_records.specs.Inner.Front.{in_front};
     ghost use Rattle.omf_records.specs.Inner.Reads.{each};
     ghost use Rattle.omf_records.specs.Inner.Unread.{Pending};
 
     ghost Value = { Pending T };
 
-    ghost view = { λ s. record { items = each (T.reader (T.From.wide s.from)).read (T.From.place s.from) (T.From.rest s.from); size = length (T.From.rest s.from) } };
+    ghost view = { λ s. record { items = each (T.reader (T.From.wide s.from)).read (T.From.place s.from) (T.From.rest s.from); front = in_front (T.reader (T.From.wide s.from)).read (T.From.place s.from) (T.From.rest s.from); size = length (T.From.rest s.from) } };
 }
 
 impl<T: Item> Unread<T> {
@@ -30,6 +32,7 @@ impl<T: Item> Unread<T> {
     #[inline(always)]
     pub(crate) fn new(from: T::From) -> Unread<T>
         ensures items { result.items ≡ each (T.reader (T.From.wide from)).read (T.From.place from) (T.From.rest from) }
+        ensures front { result.front ≡ in_front (T.reader (T.From.wide from)).read (T.From.place from) (T.From.rest from) }
         ensures size { result.size ≡ length (T.From.rest from) }
     {
         Unread { from }
@@ -70,7 +73,8 @@ impl<T: Item> Unread<T> {
     /// Reads the next item, if there is one. After a fault the position is unchanged.
     #[inline(always)]
     pub fn read_next(&mut self) -> Result<Option<At<T>>, LayoutFault>
-        ensures { NextGives self.old result self.new }
+        ensures next { NextGives self.old result self.new }
+        ensures front { GivesFront self.old.front result self.new.front }
     {
         let from = self.from;
         if from.is_end() {

@@ -1,7 +1,8 @@
 -- The modules of the worked examples, besides those of omf_check.
-use Rattle.std.specs.Prelude.{ℕ, List, [], ◌∷◌, ◌++◌, Some, None}
+use Rattle.std.specs.Prelude.{ℕ, List, [], ◌∷◌, ◌++◌, Some, None, codes}
 use Rattle.std.specs.List.{repeat}
 use Rattle.omf_frame.specs.Framing.{Raw}
+use Rattle.omf_frame.specs.Rows.{hex}
 use Rattle.omf_records.specs.Values.{Rec, Plain, Fixups, Fixup}
 use Rattle.omf_check.specs.Inner.Verdict.{Verdict, Accepted, Refused, Unknown}
 use Rattle.omf_check.specs.WellFormed.{recs}
@@ -25,36 +26,34 @@ with_threads = threads defined_thread
 
 -- A second data record over part of the first, each with a fixup.
 abbrev pub overlaid : List ℕ
-overlaid = H ++ N ++ S ++ L ++ F ++ 0xA0 ∷ 0x06 ∷ 0x00 ∷ 0x01 ∷ 0x01 ∷ 0x00 ∷ 0x05 ∷ 0x00 ∷ 0x53 ∷ 0x9C ∷ 0x06 ∷ 0x00 ∷ 0xC4 ∷ 0x00 ∷ 0x04 ∷ 0x01 ∷ 0x01 ∷ 0x94 ∷ M
+overlaid = H ++ N ++ S ++ L ++ F ++ hex (codes "A0 06 00 01 01 00 05 00 53 9C 06 00 C4 00 04 01 01 94") ++ M
 
 -- Two fixups whose locations overlap.
 abbrev pub overlapping : List ℕ
-overlapping = H ++ N ++ S ++ 0xA0 ∷ 0x08 ∷ 0x00 ∷ 0x01 ∷ 0x00 ∷ 0x00 ∷ 0xF0 ∷ 0xFF ∷ 0x00 ∷ 0x00 ∷ 0x68
-    ∷ 0x9C ∷ 0x0B ∷ 0x00 ∷ 0xC4 ∷ 0x00 ∷ 0x04 ∷ 0x01 ∷ 0x01 ∷ 0xC4 ∷ 0x01 ∷ 0x04 ∷ 0x01 ∷ 0x01 ∷ 0xC4 ∷ M
+overlapping = H ++ N ++ S ++ hex (codes "A0 08 00 01 00 00 F0 FF 00 00 68 9C 0B 00 C4 00 04 01 01 C4 01 04 01 01 C4") ++ M
 
 -- A displacement of FFFCH.
 abbrev pub displaced : List ℕ
-displaced = with_fixup (0x9C ∷ 0x08 ∷ 0x00 ∷ 0xC4 ∷ 0x01 ∷ 0x00 ∷ 0x01 ∷ 0x01 ∷ 0xFC ∷ 0xFF ∷ 0x9A ∷ [])
+displaced = with_fixup (hex (codes "9C 08 00 C4 01 00 01 01 FC FF 9A"))
 
 -- A near call of the segment itself.
 abbrev pub call : List ℕ
-call = H ++ N ++ S ++ 0xA0 ∷ 0x08 ∷ 0x00 ∷ 0x01 ∷ 0x00 ∷ 0x00 ∷ 0xE8 ∷ 0x00 ∷ 0x00 ∷ 0x90 ∷ 0xDF ∷ 0x9C ∷ 0x06 ∷ 0x00 ∷ 0x84 ∷ 0x01 ∷ 0x04 ∷ 0x01 ∷ 0x01 ∷ 0xD3 ∷ M
+call = H ++ N ++ S ++ hex (codes "A0 08 00 01 00 00 E8 00 00 90 DF 9C 06 00 84 01 04 01 01 D3") ++ M
 
 -- A short jump to an external.
 abbrev pub jump : List ℕ
-jump = H ++ N ++ S ++ 0x8C ∷ 0x04 ∷ 0x00 ∷ 0x01 ∷ 0x58 ∷ 0x00 ∷ 0x17 ∷ 0xA0 ∷ 0x08 ∷ 0x00 ∷ 0x01 ∷ 0x00 ∷ 0x00 ∷ 0xEB ∷ 0x00 ∷ 0x00 ∷ 0x90 ∷ 0xDC
-    ∷ 0x9C ∷ 0x06 ∷ 0x00 ∷ 0x80 ∷ 0x01 ∷ 0x06 ∷ 0x01 ∷ 0x01 ∷ 0xD5 ∷ M
+jump = H ++ N ++ S ++ hex (codes "8C 04 00 01 58 00 17 A0 08 00 01 00 00 EB 00 00 90 DC 9C 06 00 80 01 06 01 01 D5") ++ M
 
 abbrev pub with_blocks : List ℕ
 with_blocks = repeated nested_blocks
 
 -- The last two bytes of a big segment.
 abbrev pub big_end : List ℕ
-big_end = big (0xA0 ∷ 0x06 ∷ 0x00 ∷ 0x01 ∷ 0xFE ∷ 0xFF ∷ 0xAB ∷ 0xCD ∷ 0xE4 ∷ [])
+big_end = big (hex (codes "A0 06 00 01 FE FF AB CD E4"))
 
 -- A start in the segment; its frame is that of a group, by a thread.
 abbrev pub with_start : List ℕ
-with_start = started (0x8A ∷ 0x06 ∷ 0x00 ∷ 0xC1 ∷ 0xA0 ∷ 0x01 ∷ 0x02 ∷ 0x00 ∷ 0x0C ∷ [])
+with_start = started (hex (codes "8A 06 00 C1 A0 01 02 00 0C"))
 
 -- A thread that names the second segment before its SEGDEF.
 abbrev pub early_thread : List ℕ
@@ -62,49 +61,48 @@ early_thread = thread_ahead S
 
 -- A group of the segment, and a base by the frame of its target, which is the group.
 abbrev pub group_base : List ℕ
-group_base = H ++ N ++ S ++ 0x9A ∷ 0x04 ∷ 0x00 ∷ 0x02 ∷ 0xFF ∷ 0x01 ∷ 0x60 ∷ L ++ 0x9C ∷ 0x05 ∷ 0x00 ∷ 0xC8 ∷ 0x01 ∷ 0x55 ∷ 0x01 ∷ 0x40 ∷ M
+group_base = H ++ N ++ S ++ hex (codes "9A 04 00 02 FF 01 60") ++ L ++ hex (codes "9C 05 00 C8 01 55 01 40") ++ M
 
 -- A fixup by the segment, in the frame of the external X.
 abbrev pub by_external : List ℕ
-by_external = H ++ N ++ S ++ 0x8C ∷ 0x04 ∷ 0x00 ∷ 0x01 ∷ 0x58 ∷ 0x00 ∷ 0x17 ∷ L ++ 0x9C ∷ 0x06 ∷ 0x00 ∷ 0xC4 ∷ 0x01 ∷ 0x24 ∷ 0x01 ∷ 0x01 ∷ 0x73 ∷ M
+by_external = H ++ N ++ S ++ hex (codes "8C 04 00 01 58 00 17") ++ L ++ hex (codes "9C 06 00 C4 01 24 01 01 73") ++ M
 
 -- 205 fixups of one location.
 abbrev pub many_fixups : List ℕ
-many_fixups = with_fixup (0x9C ∷ 0x02 ∷ 0x04 ∷ repeat 205 (0xC4 ∷ 0x01 ∷ 0x04 ∷ 0x01 ∷ 0x01 ∷ []) ++ 0xCF ∷ [])
+many_fixups = with_fixup (hex (codes "9C 02 04") ++ repeat 205 (hex (codes "C4 01 04 01 01")) ++ 0xCF ∷ [])
 
 -- A module that uses the external X, and two that have a public of that name, by a group and without a segment.
 abbrev pub using : List ℕ
-using = H ++ N ++ S ++ 0x8C ∷ 0x04 ∷ 0x00 ∷ 0x01 ∷ 0x58 ∷ 0x00 ∷ 0x17 ∷ L ++ 0x9C ∷ 0x05 ∷ 0x00 ∷ 0xC4 ∷ 0x01 ∷ 0x56 ∷ 0x01 ∷ 0x43 ∷ M
+using = H ++ N ++ S ++ hex (codes "8C 04 00 01 58 00 17") ++ L ++ hex (codes "9C 05 00 C4 01 56 01 43") ++ M
 
 -- The same by a local external, followed by these records.
 abbrev pub using_locally : List ℕ → List ℕ
-using_locally records = H ++ N ++ S ++ 0xB4 ∷ 0x04 ∷ 0x00 ∷ 0x01 ∷ 0x58 ∷ 0x00 ∷ 0xEF ∷ records ++ L ++ 0x9C ∷ 0x05 ∷ 0x00 ∷ 0xC4 ∷ 0x01 ∷ 0x56 ∷ 0x01 ∷ 0x43 ∷ M
+using_locally records = H ++ N ++ S ++ hex (codes "B4 04 00 01 58 00 EF") ++ records ++ L ++ hex (codes "9C 05 00 C4 01 56 01 43") ++ M
 
 abbrev pub local_public : List ℕ
-local_public = 0xB6 ∷ 0x08 ∷ 0x00 ∷ 0x00 ∷ 0x01 ∷ 0x01 ∷ 0x58 ∷ 0x03 ∷ 0x00 ∷ 0x00 ∷ 0xE5 ∷ []
+local_public = hex (codes "B6 08 00 00 01 01 58 03 00 00 E5")
 
 abbrev pub group_public : List ℕ
-group_public = H ++ N ++ S ++ 0x9A ∷ 0x04 ∷ 0x00 ∷ 0x02 ∷ 0xFF ∷ 0x01 ∷ 0x60 ∷ 0x90 ∷ 0x08 ∷ 0x00 ∷ 0x01 ∷ 0x01 ∷ 0x01 ∷ 0x58 ∷ 0x02 ∷ 0x00 ∷ 0x00 ∷ 0x0B ∷ M
+group_public = H ++ N ++ S ++ hex (codes "9A 04 00 02 FF 01 60 90 08 00 01 01 01 58 02 00 00 0B") ++ M
 
 abbrev pub constant_public : List ℕ
-constant_public = H ++ N ++ S ++ 0x90 ∷ 0x0A ∷ 0x00 ∷ 0x00 ∷ 0x00 ∷ 0x00 ∷ 0xB8 ∷ 0x01 ∷ 0x58 ∷ 0x02 ∷ 0x00 ∷ 0x00 ∷ 0x53 ∷ M
+constant_public = H ++ N ++ S ++ hex (codes "90 0A 00 00 00 00 B8 01 58 02 00 00 53") ++ M
 
 -- The short jump with a displacement of these two bytes.
 abbrev pub jump_by : ℕ → ℕ → List ℕ
-jump_by low high = H ++ N ++ S ++ 0x8C ∷ 0x04 ∷ 0x00 ∷ 0x01 ∷ 0x58 ∷ 0x00 ∷ 0x17 ∷ 0xA0 ∷ 0x08 ∷ 0x00 ∷ 0x01 ∷ 0x00 ∷ 0x00 ∷ 0xEB ∷ 0x00 ∷ 0x00 ∷ 0x90 ∷ 0xDC
-    ∷ 0x9C ∷ 0x08 ∷ 0x00 ∷ 0x80 ∷ 0x01 ∷ 0x02 ∷ 0x01 ∷ 0x01 ∷ low ∷ high ∷ 0x00 ∷ M
+jump_by low high = H ++ N ++ S ++ hex (codes "8C 04 00 01 58 00 17 A0 08 00 01 00 00 EB 00 00 90 DC 9C 08 00 80 01 02 01 01") ++ low ∷ high ∷ 0x00 ∷ M
 
 -- An absolute segment at B800H and a byte offset.
 abbrev pub absolute_at : ℕ → List ℕ
-absolute_at offset = H ++ N ++ 0x98 ∷ 0x0A ∷ 0x00 ∷ 0x08 ∷ 0x00 ∷ 0xB8 ∷ offset ∷ 0x04 ∷ 0x00 ∷ 0x02 ∷ 0x01 ∷ 0x01 ∷ 0x00 ∷ L ++ F ++ M
+absolute_at offset = H ++ N ++ hex (codes "98 0A 00 08 00 B8") ++ offset ∷ hex (codes "04 00 02 01 01 00") ++ L ++ F ++ M
 
 -- Two segments, and a group that names the second first.
 abbrev pub two_segments : List ℕ
-two_segments = H ++ N ++ S ++ S ++ 0x9A ∷ 0x06 ∷ 0x00 ∷ 0x02 ∷ 0xFF ∷ 0x02 ∷ 0xFF ∷ 0x01 ∷ 0x00 ∷ M
+two_segments = H ++ N ++ S ++ S ++ hex (codes "9A 06 00 02 FF 02 FF 01 00") ++ M
 
 -- A start of the segment in its own frame, in a MODEND of this type, without a displacement.
 abbrev pub start_at : ℕ → List ℕ
-start_at kind = H ++ N ++ S ++ kind ∷ 0x05 ∷ 0x00 ∷ 0xC1 ∷ 0x04 ∷ 0x01 ∷ 0x01 ∷ 0x00 ∷ []
+start_at kind = H ++ N ++ S ++ kind ∷ hex (codes "05 00 C1 04 01 01 00")
 
 -- An LEDATA in segment 7, and a fixup by that segment, where no segment is defined.
 abbrev pub data_in_7 : Rec

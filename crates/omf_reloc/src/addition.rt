@@ -3,7 +3,7 @@
 ghost use Rattle.std.specs.Prelude.{◌≡◌, ◌+◌, ◌≤◌, ◌<◌, ◌^◌, ◌∷◌, [], All, length};
 ghost use Rattle.omf_image.specs.Parts.{part_size, add_part, add_parts};
 ghost use Rattle.omf_records.specs.Location.{location_number};
-ghost use Rattle.omf_reloc.specs.Additions.{addition, additions, part_of_size, self_relative_value, self_relative_additions};
+ghost use Rattle.omf_reloc.specs.Additions.{addition, additions, distance_part, self_relative_value, self_relative_additions};
 
 use omf_image::{Part, add_part};
 use omf_records::LocationType;
@@ -46,14 +46,17 @@ impl Model for Additions {
     ghost view = { λ a. all_added a.first a.second };
 }
 
-/// The part with this size in bytes; the largest part for any other size.
-fn part_of_size(size: u8) -> Part
-    ensures { result ≡ part_of_size size }
+/// The part that a self-relative fixup adds to at a location of this type.
+fn distance_part(kind: LocationType) -> Part
+    ensures { result ≡ distance_part kind }
 {
-    match size {
-        1 => Part::Byte,
-        2 => Part::Word,
-        _ => Part::Dword,
+    match kind {
+        LocationType::LowByte | LocationType::HighByte => Part::Byte,
+        LocationType::Offset16 | LocationType::LoaderOffset16 | LocationType::Base => Part::Word,
+        LocationType::Offset32
+        | LocationType::LoaderOffset32
+        | LocationType::Pointer16
+        | LocationType::Pointer32 => Part::Dword,
     }
 }
 
@@ -127,7 +130,7 @@ impl Additions {
     {
         let size = kind.size();
         Additions::one(
-            part_of_size(size),
+            distance_part(kind),
             self_relative_value(size, offset, location),
         )
     }

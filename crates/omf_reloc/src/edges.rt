@@ -1,6 +1,7 @@
 //! Worked examples at the edges of the rules, each evaluated during the proof. Their checksum bytes are 00, which is always accepted.
 
 ghost use Rattle.std.specs.Prelude.{◌≡◌, ℕ, [], ◌∷◌, ◌++◌, Ok, Err, Some, None, codes};
+ghost use Rattle.omf_frame.specs.Rows.{hex};
 ghost use Rattle.omf_reloc.specs.declared.fault.Cause.TheVariants as cause;
 ghost use Rattle.omf_reloc.specs.declared.fault.Kind.TheVariants as kind;
 ghost use Rattle.omf_reloc.specs.declared.fault.ReachFault.TheVariants as fault;
@@ -23,36 +24,36 @@ pub fn order_of_reach_faults()
 
 /// An absolute segment with byte offset 10H: the base and the selector of its frame come from its frame number, not from its address.
 pub fn absolute_with_offset()
-    ensures there { relocated (absolute_at 0x10) (only (at 0xB8010 0xB8000 0xB800)) 1 ≡ run_from_0 (0xB8 ∷ 0x10 ∷ 0 ∷ 0x90 ∷ []) }
+    ensures there { relocated (absolute_at 0x10) (only (at 0xB8010 0xB8000 0xB800)) 1 ≡ run_from_0 (hex (codes "B8 10 00 90")) }
     ensures other_frame { relocated (absolute_at 0x10) (only (at 0xB8010 0xB8010 0xB801)) 1 ≡ Err (fault.Absolute 1) }
     ensures other_selector { relocated (absolute_at 0x10) (only (at 0xB8010 0xB8000 0xB801)) 1 ≡ Err (fault.Absolute 1) }
 {}
 
 /// The first reading of FFFCH is in range but too far for a short jump; the second is near enough.
 pub fn second_reading_is_near()
-    ensures { relocated (jump_by 0xFC 0xFF) (places (at 0x10020 0x10000 0x1000 ∷ []) [] (at 0x10025 0x10000 0x1000 ∷ [])) 1 ≡ run_from_0 (0xEB ∷ 0xFF ∷ 0 ∷ 0x90 ∷ []) }
+    ensures { relocated (jump_by 0xFC 0xFF) (places (at 0x10020 0x10000 0x1000 ∷ []) [] (at 0x10025 0x10000 0x1000 ∷ [])) 1 ≡ run_from_0 (hex (codes "EB FF 00 90")) }
 {}
 
 /// A short jump reaches 128 bytes back, and no further.
 pub fn jump_back()
-    ensures last { relocated (jump_by 0 0) (places (at 0x10080 0x10000 0x1000 ∷ []) [] (at 0x10002 0x10000 0x1000 ∷ [])) 1 ≡ run_from_0 (0xEB ∷ 0x80 ∷ 0 ∷ 0x90 ∷ []) }
+    ensures last { relocated (jump_by 0 0) (places (at 0x10080 0x10000 0x1000 ∷ []) [] (at 0x10002 0x10000 0x1000 ∷ [])) 1 ≡ run_from_0 (hex (codes "EB 80 00 90")) }
     ensures beyond { relocated (jump_by 0 0) (places (at 0x10080 0x10000 0x1000 ∷ []) [] (at 0x10001 0x10000 0x1000 ∷ [])) 1 ≡ Err (fault.TooFar 5 3 cause.Distance) }
 {}
 
 /// A displacement has the width of its record, an offset the width of its location: 20H + FFFCH at a 32-bit location.
 pub fn narrow_displacement()
-    ensures { relocated (with_fixup (0x9C ∷ 8 ∷ 0 ∷ 0xE4 ∷ 0 ∷ 0 ∷ 1 ∷ 1 ∷ 0xFC ∷ 0xFF ∷ 0 ∷ [])) low 1 ≡ run_from_0 (0xD4 ∷ 0 ∷ 1 ∷ 0x90 ∷ []) }
+    ensures { relocated (with_fixup (hex (codes "9C 08 00 E4 00 00 01 01 FC FF 00"))) low 1 ≡ run_from_0 (hex (codes "D4 00 01 90")) }
 {}
 
 /// A base fixup reaches wherever its target is. A group's address is its frame's base, whatever the selector.
 pub fn bases_and_groups()
-    ensures base { relocated (with_fixup (0x9C ∷ 6 ∷ 0 ∷ 0xC8 ∷ 1 ∷ 4 ∷ 1 ∷ 1 ∷ 0 ∷ [])) (only (at 0x90000 0x10000 0x1000)) 1 ≡ run_from_0 (0xB8 ∷ 0 ∷ 0x10 ∷ 0x90 ∷ []) }
-    ensures group { relocated (H ++ N ++ S ++ 0x9A ∷ 4 ∷ 0 ∷ 2 ∷ 0xFF ∷ 1 ∷ 0 ∷ L ++ 0x9C ∷ 5 ∷ 0 ∷ 0xC4 ∷ 1 ∷ 0x45 ∷ 1 ∷ 0 ∷ M) (places (at 0x10020 0x10000 0x1000 ∷ []) (frame 0x10010 5 ∷ []) []) 1 ≡ run_from_0 (0xB8 ∷ 0x10 ∷ 0 ∷ 0x90 ∷ []) }
+    ensures base { relocated (with_fixup (hex (codes "9C 06 00 C8 01 04 01 01 00"))) (only (at 0x90000 0x10000 0x1000)) 1 ≡ run_from_0 (hex (codes "B8 00 10 90")) }
+    ensures group { relocated (H ++ N ++ S ++ hex (codes "9A 04 00 02 FF 01 00") ++ L ++ hex (codes "9C 05 00 C4 01 45 01 00") ++ M) (places (at 0x10020 0x10000 0x1000 ∷ []) (frame 0x10010 5 ∷ []) []) 1 ≡ run_from_0 (hex (codes "B8 10 00 90")) }
 {}
 
 /// The fixups of a data record come from all FIXUPPs before the next data record, even with other records in between.
 pub fn two_fixupps()
-    ensures { relocated (H ++ N ++ S ++ L ++ F ++ 0x88 ∷ 3 ∷ 0 ∷ 0 ∷ 0 ∷ 0 ∷ F ++ M) low 1 ≡ run_from_0 (0xB8 ∷ 0x40 ∷ 0 ∷ 0x90 ∷ []) }
+    ensures { relocated (H ++ N ++ S ++ L ++ F ++ hex (codes "88 03 00 00 00 00") ++ F ++ M) low 1 ≡ run_from_0 (hex (codes "B8 40 00 90")) }
 {}
 
 /// A start without a displacement. A start's offset has 16 bits in 8AH and 32 bits in 8BH.
@@ -101,22 +102,22 @@ pub fn lowest_member()
 
 /// A 32-bit displacement at a 16-bit location, low bytes, location type 5, and a 32-bit self-relative location.
 pub fn more_locations()
-    ensures wide_displacement { relocated (with_fixup (0x9D ∷ 0x0A ∷ 0 ∷ 0xC4 ∷ 1 ∷ 0 ∷ 1 ∷ 1 ∷ 0xFC ∷ 0xFF ∷ 0xFF ∷ 0xFF ∷ 0 ∷ [])) low 1 ≡ run_from_0 (0xB8 ∷ 0x1C ∷ 0 ∷ 0x90 ∷ []) }
-    ensures five { relocated (with_fixup (0x9C ∷ 6 ∷ 0 ∷ 0xD4 ∷ 1 ∷ 4 ∷ 1 ∷ 1 ∷ 0 ∷ [])) low 1 ≡ run_from_0 (0xB8 ∷ 0x20 ∷ 0 ∷ 0x90 ∷ []) }
-    ensures low_byte { relocated (with_fixup (0x9C ∷ 6 ∷ 0 ∷ 0xC0 ∷ 1 ∷ 4 ∷ 1 ∷ 1 ∷ 0 ∷ [])) (only (at 0x10120 0x10000 0x1000)) 1 ≡ run_from_0 (0xB8 ∷ 0x20 ∷ 0 ∷ 0x90 ∷ []) }
-    ensures low_byte_beyond { relocated (with_fixup (0x9C ∷ 6 ∷ 0 ∷ 0xC0 ∷ 1 ∷ 4 ∷ 1 ∷ 1 ∷ 0 ∷ [])) (only (at 0x20000 0x10000 0x1000)) 1 ≡ Err (fault.TooFar 4 3 cause.Target) }
-    ensures self_relative { relocated (with_fixup (0x9C ∷ 6 ∷ 0 ∷ 0xA4 ∷ 0 ∷ 4 ∷ 1 ∷ 1 ∷ 0 ∷ [])) low 1 ≡ run_from_0 (0xB4 ∷ 0 ∷ 0 ∷ 0x90 ∷ []) }
+    ensures wide_displacement { relocated (with_fixup (hex (codes "9D 0A 00 C4 01 00 01 01 FC FF FF FF 00"))) low 1 ≡ run_from_0 (hex (codes "B8 1C 00 90")) }
+    ensures five { relocated (with_fixup (hex (codes "9C 06 00 D4 01 04 01 01 00"))) low 1 ≡ run_from_0 (hex (codes "B8 20 00 90")) }
+    ensures low_byte { relocated (with_fixup (hex (codes "9C 06 00 C0 01 04 01 01 00"))) (only (at 0x10120 0x10000 0x1000)) 1 ≡ run_from_0 (hex (codes "B8 20 00 90")) }
+    ensures low_byte_beyond { relocated (with_fixup (hex (codes "9C 06 00 C0 01 04 01 01 00"))) (only (at 0x20000 0x10000 0x1000)) 1 ≡ Err (fault.TooFar 4 3 cause.Target) }
+    ensures self_relative { relocated (with_fixup (hex (codes "9C 06 00 A4 00 04 01 01 00"))) low 1 ≡ run_from_0 (hex (codes "B4 00 00 90")) }
 {}
 
 /// A short jump may be at an offset beyond 16 bits. Its location is checked before its distance.
 pub fn far_jumps()
-    ensures beyond_16_bits { relocated (with_fixup (0x9C ∷ 6 ∷ 0 ∷ 0x80 ∷ 1 ∷ 4 ∷ 1 ∷ 1 ∷ 0 ∷ [])) (only (at 0x20000 0x10000 0x1000)) 1 ≡ run_from_0 (0xB8 ∷ 0xFE ∷ 0 ∷ 0x90 ∷ []) }
+    ensures beyond_16_bits { relocated (with_fixup (hex (codes "9C 06 00 80 01 04 01 01 00"))) (only (at 0x20000 0x10000 0x1000)) 1 ≡ run_from_0 (hex (codes "B8 FE 00 90")) }
     ensures location { relocated (jump_by 0 0) (places (at 0x10020 0x20000 0x2000 ∷ []) [] (at 0x30000 0x20000 0x2000 ∷ [])) 1 ≡ Err (fault.TooFar 5 3 cause.Location) }
 {}
 
 /// An offset that overflows its word carries nothing into the selector.
 pub fn no_carry()
-    ensures { relocated (with_fixup (0x9C ∷ 6 ∷ 0 ∷ 0xCC ∷ 0 ∷ 4 ∷ 1 ∷ 1 ∷ 0 ∷ [])) (only (at 0x1FFFF 0x10000 0x1000)) 1 ≡ run_from_0 (0xB7 ∷ 0 ∷ 0 ∷ 0xA0 ∷ []) }
+    ensures { relocated (with_fixup (hex (codes "9C 06 00 CC 00 04 01 01 00"))) (only (at 0x1FFFF 0x10000 0x1000)) 1 ≡ run_from_0 (hex (codes "B7 00 00 A0")) }
 {}
 
 /// Data in segment 7, and a fixup to that segment, where no segment is defined: the look-ups find nothing, so the fixup does not reach. No

@@ -5,9 +5,10 @@ use Rattle.omf_records.specs.Values.{At, Subrecord, Contents, Fixups}
 use Rattle.omf_records.specs.Inner.Reads.{and_then}
 use Rattle.omf_records.specs.Inner.Each.{with_first}
 
--- the remaining items or the first fault among them, and the number of their bytes
+-- the remaining items or the first fault among them, the items in front of the fault or of the end, and the number of the remaining bytes
 pub record Pending (A : Type 0) : Type 0 where
   pub items : Result (List (At A)) Fault
+  pub front : List (At A)
   pub size : ℕ
 
 -- the next reading: the first item, before the others; or the end, or the fault, and then nothing changes

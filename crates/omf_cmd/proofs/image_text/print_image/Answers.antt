@@ -28,7 +28,7 @@ returns-clause-prints g c =
     let held = (g.K.Sink.seen c.args.writer.now).bytes in
     let shown = segments_text c.args.segments (byte_at c.args.image.now) (runs_of c.args.image.now) in
     let begun = begun_empty held shown (start_line c.args.start) (c.new-text.result.items) c.new-text.ensures.items in
-    rest_printed _ _ _ _ _ _ c.write_all.result (passed_on _ _ _ _ _ _ _ begun c.in_ok-print_segments.ensures.passes) (c.as_slice.ensures.value ∙ c.in_ok-print_start.ensures) c.write_all.ensures.fault c.write_all.ensures.prints
+    rest_printed _ _ _ _ _ _ c.write_all.result (passed_on _ _ _ _ _ _ _ begun c.in_ok-print_segments.ensures.passes) (c.as_slice.ensures.value ∙ c.in_ok-print_start.ensures.put) c.write_all.ensures.fault c.write_all.ensures.prints
 
 pub returns-clause-cause : goal.returns-clause-cause
 returns-clause-cause g c =

@@ -23,7 +23,7 @@ returns-in-Ok-None-clause-put c subs e =
     let j = c.join_direct in
     let n = j.new in
     let kept = take-kept l.subrecords (l.invariant subs e) (j.ensures.left c.if-join_direct.false) (j.ensures.group c.if-join_direct.false) j.ensures.out j.ensures.threads in
-    take-last-put kept (subst (λ o. NextGives n.subrecords (Ok o) c.read_next.new.self) c.in-Ok-None.field-0-is c.in-Ok-None.ensures).0
+    take-last-put kept (subst (λ o. NextGives n.subrecords (Ok o) c.read_next.new.self) c.in-Ok-None.field-0-is c.in-Ok-None.ensures.next).0
 
 pub returns-in-Ok-None-clause-threads : goal.returns-in-Ok-None-clause-threads
 returns-in-Ok-None-clause-threads c subs e =
@@ -31,7 +31,7 @@ returns-in-Ok-None-clause-threads c subs e =
     let j = c.join_direct in
     let n = j.new in
     let kept = take-kept l.subrecords (l.invariant subs e) (j.ensures.left c.if-join_direct.false) (j.ensures.group c.if-join_direct.false) j.ensures.out j.ensures.threads in
-    take-last-set kept (subst (λ o. NextGives n.subrecords (Ok o) c.read_next.new.self) c.in-Ok-None.field-0-is c.in-Ok-None.ensures).0
+    take-last-set kept (subst (λ o. NextGives n.subrecords (Ok o) c.read_next.new.self) c.in-Ok-None.field-0-is c.in-Ok-None.ensures.next).0
 
 pub unreachable-requires : goal.unreachable-requires
 unreachable-requires c =
@@ -40,7 +40,7 @@ unreachable-requires c =
     let w = c.args.self.now in
     let whole = ok-and c.args.subrecords.items (SubrecordsAreSet w.threads) c.requires.set in
     let kept = take-kept l.subrecords (l.invariant whole.0 whole.1) (j.ensures.left c.if-join_direct.false) (j.ensures.group c.if-join_direct.false) j.ensures.out j.ensures.threads in
-    take-never kept _ c.in-Err.ensures.0
+    take-never kept _ c.in-Err.ensures.next.0
 
 pub walk-init : goal.walk-init
 walk-init c whole e =
@@ -59,7 +59,7 @@ take_subrecord-requires-clause-set c =
     let kept = take-kept l.subrecords (l.invariant whole.0 whole.1) (j.ensures.left c.if-join_direct.false) (j.ensures.group c.if-join_direct.false) j.ensures.out j.ensures.threads in
     subst (λ s. SubrecordIsSet n.self.threads s.item) (sym c.subrecord.view_is)
     (take-set kept c.in-Ok-Some.subrecord c.read_next.new.self.items
-    (subst (λ o. NextGives n.subrecords (Ok o) c.read_next.new.self) c.in-Ok-Some.field-0-is c.in-Ok-Some.ensures).0)
+    (subst (λ o. NextGives n.subrecords (Ok o) c.read_next.new.self) c.in-Ok-Some.field-0-is c.in-Ok-Some.ensures.next).0)
 
 pub take_subrecord-requires-clause-value : goal.take_subrecord-requires-clause-value
 take_subrecord-requires-clause-value c =
@@ -71,7 +71,7 @@ take_subrecord-requires-clause-value c =
     let kept = take-kept l.subrecords (l.invariant whole.0 whole.1) (j.ensures.left c.if-join_direct.false) (j.ensures.group c.if-join_direct.false) j.ensures.out j.ensures.threads in
     subst (λ s. IsSubrecordValue c.args.kind s.item) (sym c.subrecord.view_is)
     (take-value kept c.in-Ok-Some.subrecord c.read_next.new.self.items
-    (subst (λ o. NextGives n.subrecords (Ok o) c.read_next.new.self) c.in-Ok-Some.field-0-is c.in-Ok-Some.ensures).0)
+    (subst (λ o. NextGives n.subrecords (Ok o) c.read_next.new.self) c.in-Ok-Some.field-0-is c.in-Ok-Some.ensures.next).0)
 
 pub walk-preserved-then-join_direct : goal.walk-preserved-then-join_direct
 walk-preserved-then-join_direct c whole e =
@@ -87,7 +87,7 @@ walk-preserved c whole e =
     let m = c.take_subrecord.new.self in
     let kept = take-kept l.subrecords (l.invariant whole e) (j.ensures.left c.if-join_direct.false) (j.ensures.group c.if-join_direct.false) j.ensures.out j.ensures.threads in
     take-next kept c.in-Ok-Some.subrecord c.read_next.new.self.items
-    (subst (λ o. NextGives n.subrecords (Ok o) c.read_next.new.self) c.in-Ok-Some.field-0-is c.in-Ok-Some.ensures).0
+    (subst (λ o. NextGives n.subrecords (Ok o) c.read_next.new.self) c.in-Ok-Some.field-0-is c.in-Ok-Some.ensures.next).0
     m.threads m.out.items m.group
     (c.in_ok-take_subrecord.ensures.threads ∙ ap (λ s. set_thread n.self.threads s.item) c.subrecord.view_is)
     (subst (λ s. ArePut (subrecord_piece n.self.threads c.args.kind s.item) n.self.out.items n.self.group m.out.items m.group) c.subrecord.view_is c.in_ok-take_subrecord.ensures.put)

@@ -20,7 +20,7 @@ walk-preserved c =
     c.saturating_sub-left.ensures c.lesser-found.ensures
     (c.subrecord_fault.ensures ∙ ap (λ s. subrecord_fault kept cells s.within s.item) c.subrecord.view_is)
     (c.set.ensures ∙ ap (λ s. set_thread cells s.item) c.subrecord.view_is)
-    (subst (λ o. NextGives l.subrecords (Ok o) c.read_next.new.self) c.in-Ok-Some.field-0-is c.in-Ok-Some.ensures).0 l.invariant
+    (subst (λ o. NextGives l.subrecords (Ok o) c.read_next.new.self) c.in-Ok-Some.field-0-is c.in-Ok-Some.ensures.next).0 l.invariant
 
 pub overflow_sub-self : goal.overflow_sub-self
 overflow_sub-self c = c.walk.invariant.few
@@ -29,19 +29,19 @@ pub returns-then-is_none-clause-found : goal.returns-then-is_none-clause-found
 returns-then-is_none-clause-found c =
     let l = c.walk in
     c.lesser-fault.ensures ∙ walks_whole c.args.self.now l.left l.in_force l.beyond l.found l.subrecords.items c.args.subrecords.items
-    (subst (λ o. NextGives l.subrecords (Ok o) c.read_next.new.self) c.in-Ok-None.field-0-is c.in-Ok-None.ensures).0 l.invariant.walks
+    (subst (λ o. NextGives l.subrecords (Ok o) c.read_next.new.self) c.in-Ok-None.field-0-is c.in-Ok-None.ensures.next).0 l.invariant.walks
 
 pub returns-else-is_none-clause-found : goal.returns-else-is_none-clause-found
 returns-else-is_none-clause-found c =
     let l = c.walk in
     c.lesser-fault.ensures ∙ walks_whole c.args.self.now l.left l.in_force l.beyond l.found l.subrecords.items c.args.subrecords.items
-    (subst (λ o. NextGives l.subrecords (Ok o) c.read_next.new.self) c.in-Ok-None.field-0-is c.in-Ok-None.ensures).0 l.invariant.walks
+    (subst (λ o. NextGives l.subrecords (Ok o) c.read_next.new.self) c.in-Ok-None.field-0-is c.in-Ok-None.ensures.next).0 l.invariant.walks
 
 pub returns-then-is_none-clause-kept : goal.returns-then-is_none-clause-kept
 returns-then-is_none-clause-kept c subs q none =
     let kept = c.args.self.now in
     let l = c.walk in
-    let end = (subst (λ o. NextGives l.subrecords (Ok o) c.read_next.new.self) c.in-Ok-None.field-0-is c.in-Ok-None.ensures).0 in
+    let end = (subst (λ o. NextGives l.subrecords (Ok o) c.read_next.new.self) c.in-Ok-None.field-0-is c.in-Ok-None.ensures.next).0 in
     let whole = walks_whole kept l.left l.in_force l.beyond l.found l.subrecords.items c.args.subrecords.items end l.invariant.walks in
     let all = takes_all kept l.left l.in_force l.beyond l.found l.subrecords.items c.args.subrecords.items subs c.requires end q (sym whole ∙ sym c.lesser-fault.ensures ∙ none) l.invariant in
     ap (λ (k : Kept). record k { items = 1048576 - l.left; threads = l.in_force }) c.self.view_is
