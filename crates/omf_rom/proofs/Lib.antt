@@ -1,0 +1,6 @@
+pub mod Cuts
+pub mod Limits
+pub mod Pieces
+pub mod ReadBack
+pub mod Binaries
+pub mod Decoded
