@@ -1,0 +1,153 @@
+//! The arguments of `omf-lib`.
+
+use omf_check::Profile;
+use std::alloc::{AllocError, Global};
+
+/// What to do with each of several files.
+#[derive(Clone, Copy)]
+pub enum Look {
+    List,
+    Check,
+}
+
+/// Which members to take out of a library, and where to.
+#[derive(Drop)]
+pub struct Get {
+    /// Their names or numbers; none are all.
+    pub members: Vec<String>,
+    pub folder: String,
+    /// Whether the files are named by the members' numbers.
+    pub is_numbered: bool,
+}
+
+/// What the arguments ask for; `-` is the standard input.
+#[derive(Drop)]
+pub enum Asked {
+    Look {
+        look: Look,
+        profile: Profile,
+        files: Vec<String>,
+    },
+    Get {
+        file: String,
+        get: Get,
+    },
+}
+
+/// The arguments after the task: names, and options.
+#[derive(Drop)]
+struct Words {
+    names: Vec<String>,
+    folder: Option<String>,
+    is_numbered: bool,
+    refuse_vendor_comments: bool,
+}
+
+/// What one argument is.
+enum Word {
+    /// The folder follows as the next argument.
+    Folder,
+    Numbered,
+    RefuseVendorComments,
+    Name,
+    Unknown,
+}
+
+/// What an argument is: an option; a name, which does not begin with a dash unless it is `-` alone; or neither.
+fn word_of(argument: &str) -> Word {
+    match argument {
+        "-d" => Word::Folder,
+        "--numbered" => Word::Numbered,
+        "--refuse-vendor-comments" => Word::RefuseVendorComments,
+        "-" => Word::Name,
+        _ if argument.starts_with('-') => Word::Unknown,
+        _ => Word::Name,
+    }
+}
+
+/// The arguments; None if an option is not known, or the folder is missing.
+fn read_words(alloc: Global, arguments: Vec<String>) -> Result<Option<Words>, AllocError> {
+    let mut read = Words {
+        names: Vec::new(alloc),
+        folder: None,
+        is_numbered: false,
+        refuse_vendor_comments: false,
+    };
+    let mut words = arguments.into_iter();
+    while let Some(argument) = words.next() {
+        match word_of(argument.as_str()) {
+            Word::Folder => match words.next() {
+                Some(folder) => read.folder = Some(folder),
+                None => return Ok(None),
+            },
+            Word::Numbered => read.is_numbered = true,
+            Word::RefuseVendorComments => read.refuse_vendor_comments = true,
+            Word::Name => read.names.push(argument)?,
+            Word::Unknown => return Ok(None),
+        }
+    }
+    Ok(Some(read))
+}
+
+/// A look at files; None without a file, or with an option of `get`.
+fn look_of(look: Look, words: Words) -> Option<Asked> {
+    if words.names.is_empty() || words.folder.is_some() || words.is_numbered {
+        return None;
+    }
+    let profile = Profile {
+        refuse_vendor_comments: words.refuse_vendor_comments,
+    };
+    Some(Asked::Look {
+        look,
+        profile,
+        files: words.names,
+    })
+}
+
+/// Members to take; None without a file or a folder, or with an option of the other tasks.
+fn get_of(alloc: Global, words: Words) -> Result<Option<Asked>, AllocError> {
+    let Words {
+        names,
+        folder,
+        is_numbered,
+        refuse_vendor_comments,
+    } = words;
+    let Some(folder) = folder else {
+        return Ok(None);
+    };
+    let mut names = names.into_iter();
+    let Some(file) = names.next() else {
+        return Ok(None);
+    };
+    if refuse_vendor_comments {
+        return Ok(None);
+    }
+    let get = Get {
+        members: names.collect(alloc)?,
+        folder,
+        is_numbered,
+    };
+    Ok(Some(Asked::Get { file, get }))
+}
+
+/// What the arguments ask for, without the program's own name; None if they are not understood.
+///
+/// # Errors
+///
+/// `AllocError` if out of memory.
+pub fn read_arguments(alloc: Global, arguments: Vec<String>) -> Result<Option<Asked>, AllocError> {
+    let mut words = arguments.into_iter();
+    let Some(task) = words.next() else {
+        return Ok(None);
+    };
+    let rest = words.collect(alloc)?;
+    let Some(words) = read_words(alloc, rest)? else {
+        return Ok(None);
+    };
+    match task.as_str() {
+        "list" => Ok(look_of(Look::List, words)),
+        "check" => Ok(look_of(Look::Check, words)),
+        "get" => get_of(alloc, words),
+        _ => Ok(None),
+    }
+}

@@ -1,0 +1,24 @@
+//! `omf-lib`: libraries of object modules (TIS OMF 1.1, appendix 2). It lists a library, checks its members and its
+//! dictionary, and takes members out. docs/LIBRARIES.md has what it prints.
+#![tactic(auto)]
+
+mod asked;
+mod dictionary;
+mod fault;
+mod hash;
+mod host;
+mod judging;
+mod library;
+mod listing;
+mod members;
+mod naming;
+mod publics;
+mod span;
+mod taking;
+mod text;
+
+use std::process::ExitCode;
+
+fn main(rt: HostRuntime) -> ExitCode {
+    host::run(&rt)
+}

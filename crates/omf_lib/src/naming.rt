@@ -1,0 +1,28 @@
+//! The file names of members.
+
+use crate::span::{Span, name_of};
+use crate::text::put_escaped;
+use std::alloc::{AllocError, Global};
+
+/// A member's name as text: that of its THEADR, with bytes other than printable ASCII, quotes and backslashes as
+/// `\xNN`.
+pub fn shown_name(alloc: Global, member: &Span<'_>) -> Result<String, AllocError> {
+    let mut name = String::new(alloc);
+    put_escaped(&mut name, name_of(member.bytes))?;
+    Ok(name)
+}
+
+/// Whether a file with this name would be outside its folder.
+pub fn is_outside(name: &str) -> bool {
+    name.as_bytes().contains(&b'/')
+}
+
+/// The path of a member's file: `FOLDER/NAME.obj`.
+pub fn path_of(alloc: Global, folder: &str, name: &str) -> Result<String, AllocError> {
+    format!(in alloc; "{folder}/{name}.obj")
+}
+
+/// Whether an argument names a member: by its number, or by its name as it is shown.
+pub fn is_named(argument: &str, number: usize, name: &str) -> bool {
+    argument == name || argument.parse::<usize>() == Ok(number)
+}

@@ -1,0 +1,24 @@
+//! Libraries of object modules (TIS OMF 1.1, appendix 2): which bytes are one, and its members.
+//!
+//! ```
+//! match members_in(alloc, profile, bytes) {
+//!     Ok(members) => {} // member i has the bytes from members[i].offset on, members[i].length of them
+//!     Err(LibraryFault::Refused { offset, reason, place, .. }) => {} // no module begins at that page
+//!     Err(_) => {} // no header, no end, or out of memory
+//! }
+//! ```
+#![tactic(auto)]
+
+mod fault;
+mod header;
+pub mod laws;
+mod member;
+mod members;
+pub mod rows;
+#[cfg(test)]
+mod tests;
+
+pub use fault::LibraryFault;
+pub use header::{Header, read_header};
+pub use member::Member;
+pub use members::members_in;

@@ -1,0 +1,91 @@
+//! The members of a library.
+
+ghost use Rattle.std.specs.Prelude.{◌≡◌, ◌+◌, ◌<◌, ◌≤◌, ◌^◌, length};
+ghost use Rattle.omf_records.specs.Inner.Seen.{map_ok};
+ghost use Rattle.omf_library.specs.Library.{AreMembersIn, IsMemberRead, next_page};
+
+use crate::fault::LibraryFault;
+use crate::header::read_header;
+use crate::member::Member;
+use omf_check::{CheckFault, Profile, check};
+use omf_frame::Bytes;
+use std::alloc::Global;
+
+/// The type of the record after the members.
+const LIBRARY_END: u8 = 0xF1;
+
+/// The offset of the first page at or after an offset.
+fn next_page(page: usize, at: usize) -> usize
+    requires filled { 0 < page }
+    requires low { at + page < 2 ^ 64 }
+    ensures { result ≡ next_page page at }
+{
+    (at + (page - 1)) / page * page
+}
+
+/// The member at an offset, after `count` others.
+///
+/// # Errors
+///
+/// `Refused` where no module begins there. `Memory` if out of memory.
+fn member_at(
+    alloc: Global,
+    profile: Profile,
+    bytes: &[u8],
+    count: u64,
+    at: usize,
+) -> Result<Member, LibraryFault>
+    requires { at ≤ length bytes.now }
+    ensures { IsMemberRead profile bytes.now count at result }
+{
+    let (_before, rest) = bytes.split_at(at);
+    match check(alloc, &mut Bytes::new(rest), profile) {
+        Ok(module) => Ok(Member {
+            offset: at as u64,
+            length: module.bytes().len() as u64,
+        }),
+        Err(CheckFault::Memory) => Err(LibraryFault::Memory),
+        Err(CheckFault::Read) => unreachable!(),
+        Err(CheckFault::Refused { reason, place }) => {
+            let member = count;
+            let offset = at as u64;
+            Err(LibraryFault::Refused {
+                member,
+                offset,
+                reason,
+                place,
+            })
+        }
+    }
+}
+
+/// The members of a library, in order: from the second page on, each at the first page after the one before, up to a
+/// page that begins with F1H.
+///
+/// # Errors
+///
+/// The first fault: `NoHeader`, `HeaderCut`, `PageSize`; `Refused` for the first page that begins with neither a module
+/// nor F1H; `NoEnd` where the bytes end before such a page. `Memory` if out of memory.
+pub fn members_in(
+    alloc: Global,
+    profile: Profile,
+    bytes: &[u8],
+) -> Result<Vec<Member>, LibraryFault>
+    ensures { AreMembersIn profile bytes.now (map_ok (λ members. members.items) result) }
+{
+    let page = read_header(bytes)?.page as usize;
+    let mut members = Vec::new(alloc);
+    let mut at = page;
+    while at < bytes.len() {
+        if bytes[at] == LIBRARY_END {
+            return Ok(members);
+        }
+        let member = member_at(alloc, profile, bytes, members.len() as u64, at)?;
+        members.push(member)?;
+        at = next_page(page, at + member.length as usize);
+    }
+    Err(LibraryFault::NoEnd {
+        member: members.len() as u64,
+        offset: at as u64,
+    })
+}

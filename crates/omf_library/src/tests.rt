@@ -1,0 +1,69 @@
+//! A library of one module of 11 bytes, with pages of 16 bytes; offsets worked out by hand.
+
+ghost use Rattle.std.specs.Prelude.{◌≤◌};
+
+use crate::{LibraryFault, Member, members_in};
+use omf_check::Profile;
+use omf_frame::Reason;
+use std::alloc::Global;
+use std::test::Fail;
+
+/// The header record, without a dictionary; a THEADR and a MODEND; five bytes of padding; the F1H.
+const LIBRARY: [u8; 35] = [
+    0xF0, 0x0D, 0, 0, 0, 0, 0, 0, 0, 0, 0, 0, 0, 0, 0, 0, 0x80, 3, 0, 1, 0x41, 0x3B, 0x8A, 2, 0, 0,
+    0x74, 0, 0, 0, 0, 0, 0xF1, 0, 0,
+];
+
+/// The members of the first bytes of the library.
+fn members_of(alloc: Global, length: usize) -> Result<Vec<Member>, LibraryFault>
+    requires { length ≤ 35 }
+{
+    let profile = Profile {
+        refuse_vendor_comments: false,
+    };
+    members_in(alloc, profile, &LIBRARY[..length])
+}
+
+#[test]
+fn a_member_and_an_end(rt: HostRuntime) -> Result<(), Fail> {
+    let members = members_of(rt.alloc(), 35)?;
+    let member = Member {
+        offset: 16,
+        length: 11,
+    };
+    assert_eq!(rt; members.len(), 1);
+    assert_eq!(rt; members[0], member);
+    Ok(())
+}
+
+#[test]
+fn no_end(rt: HostRuntime) -> Result<(), Fail> {
+    let fault = members_of(rt.alloc(), 32);
+    assert!(rt;
+        matches!(
+            fault,
+            Err(LibraryFault::NoEnd {
+                member: 1,
+                offset: 32
+            })
+        )
+    );
+    Ok(())
+}
+
+#[test]
+fn a_member_is_cut(rt: HostRuntime) -> Result<(), Fail> {
+    let fault = members_of(rt.alloc(), 26);
+    assert!(rt;
+        matches!(
+            fault,
+            Err(LibraryFault::Refused {
+                member: 0,
+                offset: 16,
+                reason: Reason::Cut,
+                ..
+            })
+        )
+    );
+    Ok(())
+}

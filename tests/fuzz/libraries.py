@@ -1,0 +1,134 @@
+"""Libraries of object modules (TIS OMF 1.1, appendix 2), made and read by the standard's text, apart from the crates."""
+import struct
+
+BUCKETS = 37
+BLOCK = 512
+
+
+def record(kind, body):
+    head = bytes([kind]) + struct.pack("<H", len(body) + 1) + body
+    return head + bytes([-sum(head) % 256])
+
+
+def module(name, publics=()):
+    """A module with a segment of one byte and these publics, each in a record of its own."""
+    publics = b"".join(record(0x90, b"\x00\x01" + bytes([len(it)]) + it + bytes(3)) for it in publics)
+    names = record(0x96, b"\x00\x01T")
+    return record(0x80, bytes([len(name)]) + name) + names + record(0x98, b"\x28\x01\x00\x02\x01\x01") + publics + record(0x8A, b"\x00")
+
+
+def rotated(word, bits):
+    return (word << bits | word >> 16 - bits) & 0xFFFF
+
+
+def probe(name, blocks):
+    """The first block and its step, the first bucket and its step."""
+    front, back = bytes([len(name) & 255]) + name[:-1], name[::-1]
+    block = bucket_step = block_step = bucket = 0
+    for one in front:
+        block, bucket_step = rotated(block, 2) ^ (one | 0x20), rotated(bucket_step, 14) ^ (one | 0x20)
+    for one in back:
+        block_step, bucket = rotated(block_step, 2) ^ (one | 0x20), rotated(bucket, 14) ^ (one | 0x20)
+    return block % blocks, block_step % blocks or 1, bucket % BUCKETS, bucket_step % BUCKETS or 1
+
+
+def put_entry(blocks, name, page):
+    """Puts an entry where a search of the standard finds it; false where it has no room."""
+    block, block_step, first, step = probe(name, len(blocks))
+    entry = bytes([len(name)]) + name + struct.pack("<H", page)
+    for _ in blocks:
+        one, bucket = blocks[block], first
+        free = 2 * one[BUCKETS] if one[BUCKETS] != 0xFF else BLOCK
+        for _ in range(BUCKETS):
+            if one[bucket] == 0 and free + len(entry) <= BLOCK:
+                one[free:free + len(entry)] = entry
+                one[bucket] = free // 2
+                free += len(entry) + len(entry) % 2
+                one[BUCKETS] = free // 2 if free < BLOCK else 0xFF
+                return True
+            if one[bucket] == 0:
+                break
+            bucket = (bucket + step) % BUCKETS
+        one[BUCKETS] = 0xFF
+        block = (block + block_step) % len(blocks)
+    return False
+
+
+def dictionary(entries, count):
+    """The dictionary of these names and pages; None where they have no room in this number of blocks."""
+    blocks = [bytearray(BLOCK) for _ in range(count)]
+    for block in blocks:
+        block[BUCKETS] = (BUCKETS + 1) // 2
+    if not all(put_entry(blocks, name, page) for name, page in entries):
+        return None
+    return b"".join(map(bytes, blocks))
+
+
+def library(modules, page=16, blocks=None, flags=1):
+    """The library of these modules, each with its publics; `blocks` is a dictionary to take as it is."""
+    members, entries, at = [], [], page
+    for bytes_, publics in modules:
+        entries += [(it, at // page & 0xFFFF) for it in publics]
+        members.append(bytes_ + bytes(-len(bytes_) % page))
+        at += len(members[-1])
+    filling = -(at + 3) % BLOCK
+    end = b"\xF1" + struct.pack("<H", filling) + bytes(filling)
+    count = 2
+    while blocks is None:
+        blocks = dictionary(entries, count)
+        count = count * 2 + 1
+    head = b"\xF0" + struct.pack("<HIHB", page - 3, at + len(end), min(len(blocks) // BLOCK, 0xFFFF), flags)
+    return head + bytes(page - len(head)) + b"".join(members) + end + blocks
+
+
+def module_length(bytes_):
+    """The bytes up to the end of the first MODEND by the records' lengths; None where there is none."""
+    at = 0
+    while len(bytes_) - at >= 3:
+        kind, size = bytes_[at], 3 + struct.unpack_from("<H", bytes_, at + 1)[0]
+        if at + size > len(bytes_):
+            return None
+        at += size
+        if kind in (0x8A, 0x8B):
+            return at
+    return None
+
+
+def members(bytes_):
+    """The offset and the length of each member, and whether F1H follows them; None where there is no header."""
+    if bytes_[:1] != b"\xF0" or len(bytes_) < 3:
+        return None
+    page = 3 + struct.unpack_from("<H", bytes_, 1)[0]
+    if len(bytes_) < page or page not in (2 ** it for it in range(4, 16)):
+        return None
+    found, at = [], page
+    while at < len(bytes_) and bytes_[at] in (0x80, 0x82):
+        length = module_length(bytes_[at:])
+        if length is None:
+            return found, False
+        found.append((at, length))
+        at += length + -length % page
+    return found, bytes_[at:at + 1] == b"\xF1"
+
+
+def is_found(bytes_, name, keeps):
+    """Whether a search finds a name; with `keeps` it goes on in the next block at the bucket where it stopped."""
+    start, count = struct.unpack_from("<IH", bytes_, 3)
+    fold = bytes if bytes_[9] & 1 else bytes.upper
+    if count == 0:
+        return False
+    number, block_step, first, step = probe(name, count)
+    for _ in range(count):
+        block, bucket = bytes_[start + BLOCK * number:start + BLOCK * (number + 1)], first
+        for _ in range(BUCKETS):
+            at = 2 * block[bucket]
+            if at == 0:
+                break
+            if at + 3 + block[at] <= BLOCK and fold(block[at + 1:at + 1 + block[at]]) == fold(name):
+                return True
+            bucket = (bucket + step) % BUCKETS
+        if block[bucket] == 0 and block[BUCKETS] != 0xFF:
+            return False
+        first = bucket if keeps else first
+        number = (number + block_step) % count
+    return False
