@@ -5,5 +5,6 @@ pub mod ItemLaws
 pub mod KnownLaws
 pub mod Lines
 pub mod RowLaws
+pub mod StreamLaws
 pub mod SubrecordLaws
 pub mod WalkLaws

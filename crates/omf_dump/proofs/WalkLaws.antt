@@ -140,3 +140,18 @@ moved_on left rest one after e r =
     let all = ap length e in
     let others = ap length r in
     (omega (arith, size, all, others), omega (arith, size, all, others))
+
+-- it was split off and shown: the walk is after it
+pub shown_next : (f : Style) (bytes : List ℕ) (records : List Raw) (known known' : Known) (number start kind : ℕ) (body left rest old now now' : List ℕ) → AreRecords bytes records → 0 < length left
+    → IsWalked f records known number start left old now → kind ≡ (front_record (present left)).kind → body ≡ (front_record (present left)).body → rest ≡ after_front left
+    → now' ≡ now ++ record_text f number start kind (shown_by known (width_of kind) (contents_or body (read_body kind body))) → Keeps known (contents_or body (read_body kind body)) known'
+    → IsWalked f records known' (number + 1) (start + (length left - length rest)) rest old now'
+shown_next f bytes records known known' number start kind body left rest old now now' are some w k b r made keeps =
+    let n = next_of f bytes records known number start left old now are some w in
+    let at = front_is f records known number start left old now n in
+    let same_kind = k ∙ ap (λ (x : Raw). x.kind) at in
+    let same_body = b ∙ ap (λ (x : Raw). x.body) at in
+    let others = r ∙ rest_is f records known number start left old now n in
+    let moved = moved_on left rest n.one n.after n.spelled others in
+    walked_on f records known known' number (number + 1) start (start + (length left - length rest)) left rest old now now' n others refl (ap (λ (x : ℕ). start + x) moved.1)
+    (made ∙ ap (λ (t : List ℕ). now ++ t) (as_typed f number start kind body known n.one same_kind same_body)) (kept_typed kind body known known' n.one same_kind same_body keeps)

@@ -1,5 +1,6 @@
 -- What is shown of a refused module: the records before the fault, and then the record at fault (this profile's rule).
-use Rattle.std.specs.Prelude.{◌≡◌, ℕ, ◌-◌, ◌*◌, ◌/◌, List, [], ◌∷◌, ◌++◌, take, drop, Bool, true, false, codes}
+use Rattle.std.specs.Prelude.{ℕ, ◌-◌, ◌*◌, ◌/◌, List, [], ◌∷◌, ◌++◌, take, drop, Bool, true, false, Option, codes}
+use Rattle.std.specs.Io.KnownBytes.{Appends}
 use Rattle.omf_frame.specs.Fault.{reason_number, reason_name, sentence}
 use Rattle.omf_frame.specs.Framing.{Raw, present}
 use Rattle.omf_frame.specs.Types.{type_name}
@@ -48,15 +49,15 @@ abbrev pub refusal_text : Format → Place → Reason → List ℕ → List ℕ
 refusal_text f at why rest = place_head f at.number at.start ++ (kind_if f rest
     ++ shown_text (record { format = f; most = 48 }) (with_block (reason_fields why at.within (present rest) ++ look_if (is_foreign at.number rest) rest) (window_start at.within) (window at.within (present rest))))
 
--- The text for an input: that of the module that it begins with; or, if it is refused, that of the records before the fault, and then of the
--- record at fault.
-pub record IsOfModule (profile : Profile) (style : Style) (input shown : List ℕ) : Type 0 where
+-- What is written for an input: the text of the module that it begins with; or, if it is refused, that of the records before the fault, and then
+-- of the record at fault. `old` and `new` are the bytes that the writer holds before and after, if they are known.
+pub record IsOfModule (profile : Profile) (style : Style) (input : List ℕ) (old new : Option (List ℕ)) : Type 0 where
   pub records : List Raw
   pub accepted : IsAccepted profile profile_limits input records
-  pub text : shown ≡ dump_text style records
+  pub written : Appends old new (dump_text style records)
 
-pub record IsOfRefused (profile : Profile) (style : Style) (input shown : List ℕ) : Type 0 where
+pub record IsOfRefused (profile : Profile) (style : Style) (input : List ℕ) (old new : Option (List ℕ)) : Type 0 where
   pub why : Reason
   pub at : Place
   pub refused : IsRefused profile profile_limits input why at
-  pub text : shown ≡ dump_text style refused.before ++ refusal_text style.format at why (drop at.start input)
+  pub written : Appends old new (dump_text style refused.before ++ refusal_text style.format at why (drop at.start input))

@@ -1,6 +1,7 @@
 //! The dump of an input.
 
 ghost use Rattle.std.specs.Prelude.{◌≡◌, ◌++◌, IfOk, drop, false, true};
+ghost use Rattle.omf_frame.specs.Device.{Writes};
 ghost use Rattle.omf_image.specs.Limits.{profile_limits};
 ghost use Rattle.omf_check.specs.Module.{records_in};
 ghost use Rattle.omf_check.specs.Refusal.{IsRefused};
@@ -8,80 +9,89 @@ ghost use Rattle.omf_check.specs.declared.profile.Profile.{Profile};
 ghost use Rattle.omf_dump.specs.Dump.{dump_text};
 ghost use Rattle.omf_dump.specs.Refused.{IsOfModule, IsOfRefused, refusal_text};
 
-use crate::format::Style;
+use crate::fault::DumpFault;
+use crate::format::{Format, Style};
+use crate::output::send;
 use crate::refused::show_refusal;
 use crate::walk::dump;
 use omf_check::{CheckFault, Checked, Profile, check};
-use omf_frame::{Bytes, Place, Reason};
-use std::alloc::{AllocError, Global};
+use omf_frame::{Bytes, Place, Reason, Sink};
+use std::alloc::Global;
 
-/// What is shown of an input, and whether this is refused.
-#[derive(Drop)]
-pub struct Dumped {
-    pub text: Vec<u8>,
-    pub is_refused: bool,
-}
-
-/// What is shown of a module.
-fn dump_module(alloc: Global, style: Style, checked: &Checked) -> Result<Vec<u8>, AllocError>
-    ensures { IfOk result (λ text. text.items ≡ dump_text style (records_in checked.now.bytes)) }
+/// Writes what is shown of a module.
+fn dump_module<K: Sink>(
+    alloc: Global,
+    writer: &mut K,
+    style: Style,
+    checked: &Checked,
+) -> Result<(), DumpFault>
+    ensures { Writes (K.seen writer.old).bytes (K.seen writer.new).bytes result (dump_text style (records_in checked.now.bytes)) }
 {
     let _count = checked.record_count();
-    dump(alloc, style, checked.bytes())
+    dump(alloc, writer, style, checked.bytes())
 }
 
-/// What is shown of an input that is refused: the records before the fault, and the record at fault.
-fn dump_refused(
+/// Writes the record at fault.
+fn dump_fault<K: Sink>(
     alloc: Global,
+    writer: &mut K,
+    format: Format,
+    fault: (Reason, Place),
+    rest: &[u8],
+) -> Result<(), DumpFault>
+    ensures { Writes (K.seen writer.old).bytes (K.seen writer.new).bytes result (refusal_text format fault.1 fault.0 rest.now) }
+{
+    let (reason, place) = fault;
+    let mut text = Vec::new(alloc);
+    let Ok(()) = show_refusal(&mut text, format, place, reason, rest) else {
+        return Err(DumpFault::Memory);
+    };
+    send(writer, &text)
+}
+
+/// Writes what is shown of an input that is refused: the records before the fault, and the record at fault.
+fn dump_refused<K: Sink>(
+    alloc: Global,
+    writer: &mut K,
     style: Style,
     input: &[u8],
-    reason: Reason,
-    place: Place,
-) -> Result<Vec<u8>, AllocError>
-    requires { (profile : Profile) × IsRefused profile profile_limits input.now reason place }
-    ensures { (profile : Profile) (r : IsRefused profile profile_limits input.now reason place) → IfOk result (λ text. text.items ≡ dump_text style r.before ++ refusal_text style.format place reason (drop place.start input.now)) }
+    fault: (Reason, Place),
+) -> Result<(), DumpFault>
+    requires { (profile : Profile) × IsRefused profile profile_limits input.now fault.0 fault.1 }
+    ensures { (profile : Profile) (r : IsRefused profile profile_limits input.now fault.0 fault.1) → Writes (K.seen writer.old).bytes (K.seen writer.new).bytes result (dump_text style r.before ++ refusal_text style.format fault.1 fault.0 (drop fault.1.start input.now)) }
 {
-    let Place {
-        number,
-        start,
-        within,
-    } = place;
-    let (front, rest) = input.split_at(start as usize);
-    let mut text = dump(alloc, style, front)?;
-    let at = Place {
-        number,
-        start,
-        within,
-    };
-    show_refusal(&mut text, style.format, at, reason, rest)?;
-    Ok(text)
+    let (_reason, place) = fault;
+    let (front, rest) = input.split_at(place.start as usize);
+    dump(alloc, writer, style, front)?;
+    dump_fault(alloc, writer, style.format, fault, rest)
 }
 
-/// What is shown of an input: each record of the module that it begins with; or, if it is refused, the records before the fault, and the record
-/// at fault.
+/// Writes what is shown of an input: each record of the module that it begins with; or, if it is refused, the records before the fault, and the
+/// record at fault. Returns whether it is refused.
 ///
 /// # Errors
 ///
-/// `AllocError` if memory ran out.
-pub fn dump_input(
+/// `Memory` if memory ran out, `Write` if the writer failed.
+pub fn dump_input<K: Sink>(
     alloc: Global,
+    writer: &mut K,
     profile: Profile,
     style: Style,
     input: &[u8],
-) -> Result<Dumped, AllocError>
-    ensures shown { IfOk result (λ d. d.is_refused ≡ false → IsOfModule profile style input.now d.text.items) }
-    ensures refused { IfOk result (λ d. d.is_refused ≡ true → IsOfRefused profile style input.now d.text.items) }
+) -> Result<bool, DumpFault>
+    ensures shown { IfOk result (λ is_refused. is_refused ≡ false → IsOfModule profile style input.now (K.seen writer.old).bytes (K.seen writer.new).bytes) }
+    ensures refused { IfOk result (λ is_refused. is_refused ≡ true → IsOfRefused profile style input.now (K.seen writer.old).bytes (K.seen writer.new).bytes) }
 {
     match check(alloc, &mut Bytes::new(input), profile) {
-        Ok(checked) => Ok(Dumped {
-            text: dump_module(alloc, style, &checked)?,
-            is_refused: false,
-        }),
-        Err(CheckFault::Refused { reason, place }) => Ok(Dumped {
-            text: dump_refused(alloc, style, input, reason, place)?,
-            is_refused: true,
-        }),
-        Err(CheckFault::Memory) => Err(AllocError),
-        Err(CheckFault::Read) => Err(AllocError),
+        Ok(checked) => {
+            dump_module(alloc, writer, style, &checked)?;
+            Ok(false)
+        }
+        Err(CheckFault::Refused { reason, place }) => {
+            dump_refused(alloc, writer, style, input, (reason, place))?;
+            Ok(true)
+        }
+        Err(CheckFault::Memory) => Err(DumpFault::Memory),
+        Err(CheckFault::Read) => Err(DumpFault::Memory),
     }
 }

@@ -3,6 +3,7 @@
 ghost use Rattle.std.specs.Prelude.{◌≤◌};
 
 use crate::answer::dump_input;
+use crate::fault::DumpFault;
 use crate::format::Format;
 use crate::options::{Asked, read_arguments};
 use crate::value::put_quoted;
@@ -90,12 +91,13 @@ fn show_input<K: Sink>(rt: &HostRuntime, asked: &Asked, name: &str, writer: &mut
             return 3;
         }
     };
-    match dump_input(rt.alloc(), asked.profile, asked.style, &input) {
-        Ok(dumped) => put(writer, &dumped.text).max(u8::from(dumped.is_refused)),
-        Err(AllocError) => {
+    match dump_input(rt.alloc(), writer, asked.profile, asked.style, &input) {
+        Ok(is_refused) => u8::from(is_refused),
+        Err(DumpFault::Memory) => {
             let _ = put(writer, memory(asked.style.format));
             3
         }
+        Err(DumpFault::Write) => 3,
     }
 }
 

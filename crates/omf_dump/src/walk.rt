@@ -1,27 +1,32 @@
 //! The records of a module one after another.
 
-ghost use Rattle.std.specs.Prelude.{◌≡◌, ◌++◌, [], IfOk, List, OnOk};
+ghost use Rattle.std.specs.Prelude.{◌≡◌, ◌++◌, [], List};
+ghost use Rattle.omf_frame.specs.Device.{Writes};
 ghost use Rattle.omf_frame.specs.Framing.{Raw};
 ghost use Rattle.omf_dump.specs.Dump.{AreRecords, dump_text};
-ghost use Rattle.omf_dump.specs.Inner.Walking.{Holds};
+ghost use Rattle.omf_dump.specs.Inner.Walking.{Holds, Passes};
 
+use crate::fault::DumpFault;
 use crate::format::Style;
 use crate::known::{Known, Tables};
+use crate::output::{send, send_piece};
 use crate::record::show_record;
 use omf_check::{Threads, split_record};
-use omf_frame::RawRecord;
-use std::alloc::{AllocError, Global};
+use omf_frame::{RawRecord, Sink};
+use std::alloc::Global;
 
-/// Appends what is shown of the records of `bytes`, in order.
-fn show_records<'a>(
+/// Writes what is shown of the records of `bytes`, in order, in pieces. The end of it is left in `text`.
+fn show_records<'a, K: Sink>(
+    writer: &mut K,
     text: &mut Vec<u8>,
     style: Style,
     known: &mut Known<'a>,
     bytes: &'a [u8],
-) -> Result<(), AllocError>
+) -> Result<(), DumpFault>
     requires records { (records : List Raw) × AreRecords bytes.now records }
     requires start { Holds known.old [] }
-    ensures { (records : List Raw) → AreRecords bytes.entry.now records → OnOk result (text.new.items ≡ text.old.items ++ dump_text style records) }
+    requires empty { text.old.items ≡ [] }
+    ensures { (records : List Raw) → AreRecords bytes.entry.now records → Passes (K.seen writer.old).bytes (K.seen writer.new).bytes result (dump_text style records) text.new.items }
 {
     let mut left = bytes;
     let mut number: u32 = 0;
@@ -34,7 +39,10 @@ fn show_records<'a>(
             number,
             start,
         };
-        show_record(text, style, known, raw)?;
+        let Ok(()) = show_record(text, style, known, raw) else {
+            return Err(DumpFault::Memory);
+        };
+        send_piece(writer, text)?;
         number += 1;
         start += (left.len() - rest.len()) as u64;
         left = rest;
@@ -42,14 +50,19 @@ fn show_records<'a>(
     Ok(())
 }
 
-/// What is shown of the records of `bytes`, in order, none left out.
+/// Writes what is shown of the records of `bytes`, in order, none left out.
 ///
 /// # Errors
 ///
-/// `AllocError` if memory ran out.
-pub fn dump(alloc: Global, style: Style, bytes: &[u8]) -> Result<Vec<u8>, AllocError>
+/// `Memory` if memory ran out, `Write` if the writer failed. What is written is then a beginning of the text.
+pub fn dump<K: Sink>(
+    alloc: Global,
+    writer: &mut K,
+    style: Style,
+    bytes: &[u8],
+) -> Result<(), DumpFault>
     requires { (records : List Raw) × AreRecords bytes.now records }
-    ensures { (records : List Raw) → AreRecords bytes.now records → IfOk result (λ text. text.items ≡ dump_text style records) }
+    ensures { (records : List Raw) → AreRecords bytes.now records → Writes (K.seen writer.old).bytes (K.seen writer.new).bytes result (dump_text style records) }
 {
     let mut known = Known {
         tables: Tables::new(alloc),
@@ -57,6 +70,6 @@ pub fn dump(alloc: Global, style: Style, bytes: &[u8]) -> Result<Vec<u8>, AllocE
         fixed: None,
     };
     let mut text = Vec::new(alloc);
-    show_records(&mut text, style, &mut known, bytes)?;
-    Ok(text)
+    show_records(writer, &mut text, style, &mut known, bytes)?;
+    send(writer, &text)
 }

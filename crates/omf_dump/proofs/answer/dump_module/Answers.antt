@@ -3,13 +3,13 @@ use Rattle.omf_dump.proofs.AnswerLaws.{module_records}
 use Rattle.omf_dump.proofs.answer.dump_module.Goals as goal
 
 pub dump-requires : goal.dump-requires
-dump-requires c = (
+dump-requires g c = (
   records_in c.args.checked.now.bytes,
   module_records c.args.checked.now.profile c.args.checked.now.bytes c.bytes.result.now c.record_count-count.result c.bytes.ensures.bytes c.bytes.ensures.well_formed c.record_count-count.ensures
       c.record_count-count.type_inv,
 )
 
 pub returns : goal.returns
-returns c =
+returns g c =
     c.dump.ensures (records_in c.args.checked.now.bytes)
     (module_records c.args.checked.now.profile c.args.checked.now.bytes c.bytes.result.now c.record_count-count.result c.bytes.ensures.bytes c.bytes.ensures.well_formed c.record_count-count.ensures c.record_count-count.type_inv)

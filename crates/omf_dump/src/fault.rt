@@ -1,0 +1,10 @@
+//! Why an input is not shown.
+
+/// Why an input is not shown to its end.
+#[derive(Clone, Copy, Debug, PartialEq, Eq)]
+pub enum DumpFault {
+    /// Memory ran out.
+    Memory,
+    /// The writer failed, or took nothing.
+    Write,
+}
