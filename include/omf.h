@@ -19,6 +19,13 @@
 extern "C" {
 #endif
 
+/* The version of this header. omf_version() returns that of the library. Calls and fields are only added: a program that was compiled with
+ * an older header runs with a newer library. */
+#define OMF_VERSION "0.4.0"
+#define OMF_VERSION_NUMBER 400 /* 10,000 for the first number, 100 for the second, 1 for the third */
+
+uint32_t omf_version(void);
+
 /* The statuses. The program omf uses 2 and 3 for failed input and output, which cannot occur here. */
 enum omf_status {
     OMF_DONE = 0,      /* done; the first `size` bytes of `out` are the text */
@@ -89,6 +96,15 @@ struct omf_answer omf_reloc(const uint8_t *bytes, size_t length, const uint8_t *
 /* Makes the module's canonical bytes. They are the same for all modules that differ only in encodings, checksums, threads or the division
  * of fixups into FIXUPPs. Returns OMF_DONE, OMF_REFUSED, OMF_ROOM or OMF_MEMORY. */
 struct omf_answer omf_canon(const uint8_t *bytes, size_t length, bool refuse_vendor_comments, uint8_t *out, size_t room);
+
+/* The name and the sentence of a reason, 1 to 33, as `Cut` and `the input ends inside a record`; nothing for any other number. They return
+ * OMF_DONE or OMF_ROOM. */
+struct omf_answer omf_reason_name(uint32_t reason, uint8_t *out, size_t room);
+struct omf_answer omf_reason_sentence(uint32_t reason, uint8_t *out, size_t room);
+
+/* The line that the programs print for the fault in `answer`, as `refused 2 Cut record 4 at 34 within 2`, without a line feed; nothing for
+ * an answer that is OMF_DONE or OMF_ROOM. Returns OMF_DONE, OMF_ROOM or OMF_MEMORY. */
+struct omf_answer omf_fault_line(const struct omf_answer *answer, uint8_t *out, size_t room);
 
 #ifdef __cplusplus
 }

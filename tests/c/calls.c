@@ -169,6 +169,25 @@ static void memory_calls(void) {
     AT_EACH_REFUSAL("canon: memory", (struct omf_answer){.size = sizeof first}, omf_canon(spelled, sizeof spelled, false, out, sizeof out));
 }
 
+static void reason_calls(void) {
+    static const char sentence[] = "the input ends inside a record", line[] = "refused 2 Cut record 4 at 34 within 2";
+    const struct omf_answer cut = omf_check(first, 36, false), done = omf_check(first, sizeof first, false);
+    const struct omf_answer room = {.status = OMF_ROOM, .size = 5}, far = {.status = OMF_REACH, .reason = OMF_MISSING, .kind = OMF_SEGMENT, .index = 1};
+    if (omf_version() != OMF_VERSION_NUMBER) {
+        printf("version: %u\n", omf_version());
+        failures++;
+    }
+    AT_EACH_ROOM("name", "Cut", (size_t)3, omf_reason_name(OMF_CUT, out, room));
+    AT_EACH_ROOM("sentence", sentence, sizeof sentence - 1, omf_reason_sentence(OMF_CUT, out, room));
+    AT_EACH_ROOM("line", line, sizeof line - 1, omf_fault_line(&cut, out, room));
+    AT_EACH_ROOM("reach line", "reach 1 Missing segment 1", (size_t)25, omf_fault_line(&far, out, room));
+    expect("no name", omf_reason_name(0, NULL, 0), (struct omf_answer){.size = 0});
+    expect("no sentence", omf_reason_sentence(34, NULL, 0), (struct omf_answer){.size = 0});
+    expect("no fault", omf_fault_line(&done, NULL, 0), (struct omf_answer){.size = 0});
+    expect("no room is no fault", omf_fault_line(&room, NULL, 0), (struct omf_answer){.size = 0});
+    AT_EACH_REFUSAL("line: memory", (struct omf_answer){.size = sizeof line - 1}, omf_fault_line(&cut, out, sizeof out));
+}
+
 static uint8_t *contents(const char *path, size_t *length) {
     FILE *file = fopen(path, "rb");
     if (!file || fseek(file, 0, SEEK_END) != 0) return NULL;
@@ -181,33 +200,12 @@ static uint8_t *contents(const char *path, size_t *length) {
     return bytes;
 }
 
-static const char *const reasons[] = {
-    "", "NoEnd", "Cut", "UnknownType", "UnsupportedType", "EmptyRecord", "Checksum", "NoHeader", "Short", "Long", "Alignment", "BigLength",
-    "GroupComponent", "CommunalType", "CommunalLength", "FrameMethod", "TargetMethod", "LocationType", "SelfRelative", "TooDeep",
-    "DataTooLong", "UndefinedName", "UndefinedSegment", "UndefinedGroup", "UndefinedExternal", "UndefinedThread", "OutsideSegment",
-    "OutsideRecord", "NoDataRecord", "FixupOnIterated", "TooMany", "OtherDialect", "VendorComment", "StartFrame"};
-static const char *const kinds[] = {"", "segment", "group", "external"};
-static const char *const causes[] = {"", "Target", "Location", "Distance"};
-
 /* The line that the program prints of a fault. */
 static void print_fault(struct omf_answer is) {
-    switch (is.status) {
-    case OMF_MEMORY: printf("memory\n"); break;
-    case OMF_REFUSED:
-        printf("refused %u %s record %u at %llu within %u\n", is.reason, reasons[is.reason], is.number, (unsigned long long)is.start, is.within);
-        break;
-    case OMF_LINE: printf("placement line %llu\n", (unsigned long long)is.line); break;
-    case OMF_TOO_LONG: printf("placement too long\n"); break;
-    case OMF_REACH:
-        switch (is.reason) {
-        case OMF_MISSING: printf("reach 1 Missing %s %u\n", kinds[is.kind], is.index); break;
-        case OMF_EXTRA: printf("reach 2 Extra %s %u\n", kinds[is.kind], is.index); break;
-        case OMF_ABSOLUTE: printf("reach 3 Absolute %u\n", is.index); break;
-        default: printf("reach 4 TooFar %s record %u within %u\n", causes[is.kind], is.number, is.within);
-        }
-        break;
-    default: printf("status %u\n", is.status); failures++;
-    }
+    uint8_t line[200];
+    const struct omf_answer shown = omf_fault_line(&is, line, sizeof line);
+    if (shown.status != OMF_DONE || shown.size == 0) failures++;
+    printf("%.*s\n", (int)shown.size, (char *)line);
 }
 
 enum job { CHECK, LIST, CANON, RELOC };
@@ -264,6 +262,7 @@ int main(int argc, char **argv) {
         text_calls();
         fault_calls();
         memory_calls();
+        reason_calls();
         if (failures == 0) printf("every call answers as expected\n");
         return failures != 0;
     }

@@ -3,7 +3,7 @@
 #
 # The program calls.c is built by gcc and by clang. Each goes through every call and every status. Then each checks, lists, makes
 # canonical and relocates every module of examples/ and of the folders, and what it prints is compared with what the program prints. The
-# same is done once under valgrind, and by the Python example over a shared library. A tool that is missing is named and passed over.
+# same is done once under valgrind, and by the Python package over a shared library. A tool that is missing is named and passed over.
 set -uo pipefail
 here=$(cd "$(dirname "$0")" && pwd)
 library=${LIBRARY:-libomf.a}
@@ -63,6 +63,16 @@ compare() { # compare NAME COMMAND..: what the command prints for each job is wh
     done
 }
 
+# A C++ program reads the header too.
+if command -v g++ > /dev/null; then
+    printf '#include <omf.h>\nint main() { return omf_version() == OMF_VERSION_NUMBER ? 0 : 1; }\n' > "$work/version.cc"
+    { g++ -Wall -Wextra -Werror -I"$here/../../include" "$work/version.cc" "$library" -o "$work/version" && "$work/version"; } || fail "g++: the header, or a call"
+else
+    echo "g++ is missing: passed over"
+fi
+version=$(cat "$here/../../VERSION")
+grep -q "^#define OMF_VERSION \"$version\"$" "$here/../../include/omf.h" || fail "the header's version is not that of the file VERSION"
+
 for compiler in gcc clang; do
     if ! command -v "$compiler" > /dev/null; then
         echo "$compiler is missing: passed over"
@@ -92,16 +102,11 @@ if ! command -v python3 > /dev/null || ! command -v gcc > /dev/null; then
 else
     gcc -shared -o "$work/libomf.so" -Wl,--whole-archive "$library" -Wl,--no-whole-archive || fail "no shared library is made"
     export LIBOMF=$work/libomf.so
-    by_python() { # by_python JOB MODULE..: the Python example, each module's placement in the file of its name with .place at its end
-        local job=$1 files=() status=0
-        shift
-        for module in "$@"; do
-            files+=("$module")
-            if [ "$job" = reloc ]; then files+=("$module.place"); fi
-        done
-        python3 "$here/../../examples/python/omf.py" "$job" "${files[@]}" || status=$?
-        [ "$status" -le 1 ]
+    by_python() { # by_python JOB MODULE..: the Python package; each module's placement is in the file of its name with .place at its end
+        python3 "$here/../../python/tests/as_program.py" "$@"
     }
+    said=$(python3 -m unittest discover -s "$here/../../python/tests" 2>&1 | tail -1)
+    [ "$said" = OK ] || fail "the tests of the Python package: $said"
     compare python by_python
     echo "python: ${jobs[*]} as the program, on $count modules"
 fi

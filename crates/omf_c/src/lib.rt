@@ -7,8 +7,11 @@
 mod answer;
 mod calls;
 mod making;
+mod reasons;
 #[cfg(test)]
 mod tests;
+mod texts;
 
 pub use answer::Answer;
 pub use calls::{omf_canon, omf_check, omf_list, omf_reloc};
+pub use texts::{omf_fault_line, omf_reason_name, omf_reason_sentence, omf_version};

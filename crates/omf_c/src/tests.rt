@@ -1,7 +1,7 @@
 //! The calls, as C makes them, with ample memory.
 
 use crate::answer::NOTHING;
-use crate::{Answer, omf_canon, omf_check, omf_list, omf_reloc};
+use crate::{Answer, omf_canon, omf_check, omf_fault_line, omf_list, omf_reloc};
 use omf_samples::{DATA, HEADER, MODULE, NAMES, SEGMENT, joined};
 use std::alloc::Global;
 
@@ -173,5 +173,119 @@ fn texts_fill_buffers_of_their_size(rt: HostRuntime) {
 fn short_buffers_and_faults_change_nothing(rt: HostRuntime) {
     for (at, case) in UNCHANGED.iter().enumerate() {
         assert!(rt; is_right(rt.alloc(), case), "{at}");
+    }
+}
+
+/// An answer, and the line that is handed out for it.
+struct Line {
+    answer: Answer,
+    text: &'static [u8],
+}
+
+/// Status 7.
+const UNREACHED: Answer = Answer {
+    status: 7,
+    ..NOTHING
+};
+
+static LINES: [Line; 10] = [
+    Line {
+        answer: REFUSED,
+        text: b"refused 2 Cut record 4 at 34 within 2",
+    },
+    Line {
+        answer: Answer {
+            status: 1,
+            ..NOTHING
+        },
+        text: b"memory",
+    },
+    Line {
+        answer: Answer {
+            status: 5,
+            line: 2,
+            ..NOTHING
+        },
+        text: b"placement line 2",
+    },
+    Line {
+        answer: Answer {
+            status: 6,
+            ..NOTHING
+        },
+        text: b"placement too long",
+    },
+    Line {
+        answer: Answer {
+            reason: 1,
+            kind: 1,
+            index: 1,
+            ..UNREACHED
+        },
+        text: b"reach 1 Missing segment 1",
+    },
+    Line {
+        answer: Answer {
+            reason: 2,
+            kind: 2,
+            index: 3,
+            ..UNREACHED
+        },
+        text: b"reach 2 Extra group 3",
+    },
+    Line {
+        answer: Answer {
+            reason: 3,
+            index: 1,
+            ..UNREACHED
+        },
+        text: b"reach 3 Absolute 1",
+    },
+    Line {
+        answer: Answer {
+            reason: 4,
+            kind: 2,
+            number: 4,
+            within: 3,
+            ..UNREACHED
+        },
+        text: b"reach 4 TooFar Location record 4 within 3",
+    },
+    Line {
+        answer: NOTHING,
+        text: b"",
+    },
+    Line {
+        answer: Answer {
+            status: 8,
+            size: 26,
+            ..NOTHING
+        },
+        text: b"",
+    },
+];
+
+/// Whether a text is at the front of a buffer of bytes of 7, and the answer has its size.
+fn is_shown(answer: Answer, buffer: &[u8], text: &[u8]) -> bool {
+    let size = text.len() as u64;
+    match buffer.split_at_checked(text.len()) {
+        Some((front, rest)) => {
+            answer == Answer { size, ..NOTHING } && front == text && are_sevens(rest)
+        }
+        None => false,
+    }
+}
+
+/// Whether the line of an answer is handed out.
+fn has_line(alloc: Global, line: &Line) -> bool {
+    let mut buffer = [7; 48];
+    let answer = omf_fault_line(alloc, &line.answer, &mut buffer);
+    is_shown(answer, &buffer, line.text)
+}
+
+#[test]
+fn faults_have_the_lines_of_the_command(rt: HostRuntime) {
+    for (at, line) in LINES.iter().enumerate() {
+        assert!(rt; has_line(rt.alloc(), line), "{at}");
     }
 }

@@ -1,0 +1,132 @@
+"""The package against modules that are written out by hand. Run: LIBOMF=build/libomf.so python3 -m unittest discover -s python/tests"""
+import os
+import sys
+import unittest
+
+sys.path.insert(0, os.path.join(os.path.dirname(__file__), ".."))
+import omf  # noqa: E402
+
+# A header, a name T, a segment of 4 bytes, its data, a fixup of an offset to the segment, and the end.
+HEADER = "80 03 00 01 41 3B"
+NAMES = "96 04 00 00 01 54 11"
+SEGMENT = "98 07 00 28 04 00 02 01 01 31"
+DATA = "A0 08 00 01 00 00 B8 00 00 90 0F"
+FIXUP = "9C 06 00 C4 01 04 01 01 93"
+END = "8A 02 00 00 74"
+FIRST = bytes.fromhex(" ".join([HEADER, NAMES, SEGMENT, DATA, FIXUP, END]))
+PLACED = "S 10020 10000 1000"
+
+
+def record(kind: int, contents: str) -> bytes:
+    """A record with its length and a checksum byte of 0, which is not checked."""
+    body = bytes.fromhex(contents)
+    return bytes([kind, (len(body) + 1) % 256, (len(body) + 1) // 256]) + body + b"\0"
+
+
+# Names 2 T, 3 CODE and 4 G; a public segment T of class CODE, 16-bit, 4 bytes; a group G of it; an EXTDEF X, a LEXTDEF y, COMDEFs N (near, 6
+# bytes) and F (far, 3 elements of 2); a public P at 2 and a local one q at 3; data at 0; a thread for the group's frame, and a
+# self-relative fixup by it of the external X with displacement 5.
+TABLES = b"".join([
+    record(0x80, "01 41"),
+    record(0x96, "00 01 54 04 43 4F 44 45 01 47"),
+    record(0x98, "68 04 00 02 03 01"),
+    record(0x9A, "04 FF 01"),
+    record(0x8C, "01 58 07"),
+    record(0xB4, "01 79 00"),
+    record(0xB0, "01 4E 00 62 06 01 46 00 61 03 02"),
+    record(0x90, "01 01 01 50 02 00 09"),
+    record(0xB6, "00 01 01 71 03 00 00"),
+    record(0xA0, "01 00 00 E8 00 00 90"),
+    record(0x9C, "45 01 84 01 92 01 05 00"),
+    record(0x8A, "00"),
+])
+
+
+
+class Tables(unittest.TestCase):
+    def setUp(self):
+        self.module = omf.Module(TABLES + b"anything")
+
+    def test_the_size_is_that_of_all_records(self):
+        self.assertEqual((self.module.size, self.module.record_count), (len(TABLES), 12))
+
+    def test_segments_have_names_and_lengths(self):
+        self.assertEqual(self.module.segments, (omf.Segment("T", 4),))
+
+    def test_groups_and_externals_have_names(self):
+        self.assertEqual((self.module.groups, self.module.externals), (("G",), ("X", "y", "N", "F")))
+
+    def test_publics_have_their_base(self):
+        self.assertEqual(self.module.publics, (omf.Public("P", 2, 1, 1), omf.Public("q", 3, 0, 1)))
+
+    def test_a_name_may_have_any_byte(self):
+        odd = record(0x80, "01 41") + record(0x8C, "06 22 5C 00 FF 20 7E 00") + record(0x8A, "00")
+        self.assertEqual(omf.Module(odd).externals, ('"\\\0\xff ~',))
+
+    def test_an_empty_table_is_empty(self):
+        self.assertEqual((omf.Module(FIRST).groups, omf.Module(FIRST).publics, omf.Module(FIRST).externals), ((), (), ()))
+
+
+class Texts(unittest.TestCase):
+    def test_an_image_has_its_runs(self):
+        self.assertEqual(omf.Module(FIRST).relocate(PLACED), omf.Image((omf.Run(1, 0, bytes.fromhex("B8 20 00 90")),), None))
+
+    def test_canonical_bytes_are_their_own(self):
+        self.assertEqual(omf.Module(FIRST).canonical(), FIRST)
+
+    def test_a_listing_has_a_line_for_each_record_and_segment(self):
+        self.assertEqual(len(omf.Module(FIRST).listing().splitlines()), 7)
+
+    def test_a_reason_has_its_name_and_its_sentence(self):
+        self.assertEqual((omf.reason_name(2), omf.reason_sentence(2)), ("Cut", "the input ends inside a record"))
+        self.assertEqual((omf.reason_name(0), omf.reason_name(34), omf.reason_sentence(34)), ("", "", ""))
+
+    def test_the_versions_agree(self):
+        with open(os.path.join(os.path.dirname(__file__), "..", "..", "VERSION"), encoding="ascii") as file:
+            self.assertEqual(omf.__version__, file.read().strip())
+
+
+class Faults(unittest.TestCase):
+    def test_a_refusal_has_its_reason_and_its_place(self):
+        with self.assertRaises(omf.Refused) as caught:
+            omf.Module(FIRST[:36])
+        is_ = caught.exception
+        self.assertEqual((is_.reason, is_.name, is_.record, is_.start, is_.within, is_.offset), (2, "Cut", 4, 34, 2, 36))
+        self.assertEqual(str(is_), "refused 2 Cut record 4 at 34 within 2")
+        self.assertEqual(is_.sentence, "the input ends inside a record")
+
+    def test_a_vendor_comment_is_refused_on_request(self):
+        comment = bytes.fromhex(HEADER) + record(0x88, "00 E9") + bytes.fromhex(END)
+        self.assertEqual(omf.Module(comment).record_count, 3)
+        with self.assertRaises(omf.Refused) as caught:
+            omf.Module(comment, refuse_vendor_comments=True)
+        self.assertEqual((caught.exception.reason, caught.exception.offset), (32, 10))
+
+    def test_a_line_that_is_no_entry_has_its_number(self):
+        with self.assertRaises(omf.PlacementLine) as caught:
+            omf.Module(FIRST).relocate("\nS 100000 real\n")
+        self.assertEqual((caught.exception.line, str(caught.exception)), (2, "placement line 2"))
+
+    def test_a_missing_entry_has_its_kind_and_its_index(self):
+        with self.assertRaises(omf.Unreachable) as caught:
+            omf.Module(FIRST).relocate("")
+        is_ = caught.exception
+        self.assertEqual((is_.reason, is_.kind, is_.index, str(is_)), (1, 1, 1, "reach 1 Missing segment 1"))
+
+    def test_a_target_too_far_has_its_place(self):
+        with self.assertRaises(omf.Unreachable) as caught:
+            omf.Module(FIRST).relocate("S 20000 10000 1000")
+        is_ = caught.exception
+        self.assertEqual((is_.reason, is_.kind, is_.record, is_.within), (4, 1, 4, 3))
+
+    def test_a_placement_may_be_too_long(self):
+        with self.assertRaises(omf.PlacementTooLong):
+            omf.Module(FIRST).relocate(b"\n" * 4194305)
+
+    def test_each_fault_is_an_error(self):
+        for fault in (omf.Refused, omf.PlacementLine, omf.PlacementTooLong, omf.Unreachable):
+            self.assertTrue(issubclass(fault, omf.Error))
+
+
+if __name__ == "__main__":
+    unittest.main()
