@@ -1,0 +1,159 @@
+// Where the fields of a record's dump stand in the file. The fields and their values are those of `omf-dump --json`; their places are found here.
+"use strict";
+
+// A cursor over one record's contents.
+class Cursor {
+  constructor(bytes, at) { this.bytes = bytes; this.at = at; }
+  take(size) { const from = this.at; this.at += size; return [from, this.at]; }
+  index() { return this.take(this.bytes[this.at] & 0x80 ? 2 : 1); }
+  name() { return this.take(1 + this.bytes[this.at]); }
+  communal() { return this.take({ 0x81: 3, 0x84: 4, 0x88: 5 }[this.bytes[this.at]] || 1); }
+}
+
+// The places of a reference: fix data, frame datum, target datum, displacement.
+function referencePlaces(cursor, wide) {
+  const fix = cursor.take(1), data = cursor.bytes[fix[0]], places = {};
+  const frameThread = data & 0x80, targetThread = data & 0x08, method = data >> 4 & 7;
+  places.frame = !frameThread && method < 3 ? cursor.index() : fix;
+  places.target = targetThread ? fix : cursor.index();
+  if (!(data & 0x04)) places.displacement = cursor.take(wide ? 4 : 2);
+  if (frameThread) places["frame-thread"] = fix;
+  if (targetThread) places["target-thread"] = fix;
+  return places;
+}
+
+// The places of a FIXUPP's subrecord. `data` is where the data of the last LEDATA begin.
+function subrecordPlaces(cursor, wide, data) {
+  const first = cursor.bytes[cursor.at];
+  if (first & 0x80) {
+    const locat = cursor.take(2), offset = (first & 3) * 256 + cursor.bytes[locat[0] + 1];
+    const places = { at: locat, location: locat, "self-relative": locat };
+    if (data !== null) places.bytes = [data + offset, data + offset];
+    return Object.assign(places, referencePlaces(cursor, wide));
+  }
+  const byte = cursor.take(1), method = first >> 2 & 7, isFrame = first & 0x40;
+  const datum = !isFrame || method < 3 ? cursor.index() : byte;
+  return isFrame ? { "frame-thread": byte, frame: datum } : { "target-thread": byte, target: datum };
+}
+
+// The places of one item of a record.
+function itemPlaces(type, cursor, wide, data) {
+  if (type === "LNAMES" || type === "LLNAMES") return { name: cursor.name() };
+  if (type === "GRPDEF") { cursor.take(1); return { segment: cursor.index() }; }
+  if (type === "EXTDEF" || type === "LEXTDEF") return { external: cursor.name(), type: cursor.index() };
+  if (type === "PUBDEF" || type === "LPUBDEF") return { public: cursor.name(), offset: cursor.take(wide ? 4 : 2), type: cursor.index() };
+  if (type === "COMDEF" || type === "LCOMDEF") {
+    const places = { external: cursor.name(), type: cursor.index(), communal: cursor.take(1) };
+    if (cursor.bytes[places.communal[0]] === 0x61) return { ...places, count: cursor.communal(), size: cursor.communal() };
+    return { ...places, length: cursor.communal() };
+  }
+  if (type === "FIXUPP") return subrecordPlaces(cursor, wide, data);
+  if (type === "MODEND") return referencePlaces(cursor, wide);
+  return {};
+}
+
+// The places of a record's own fields.
+function recordPlaces(type, cursor, wide, end) {
+  const contents = [cursor.at, end - 1], places = {};
+  if (type === "THEADR" || type === "LHEADR") places.name = cursor.name();
+  else if (type === "COMENT") {
+    places.flags = places["no-purge"] = places["no-list"] = cursor.take(1);
+    places.class = places.meaning = cursor.take(1);
+    places.subtype = [cursor.at, cursor.at + 1];
+    places.text = [cursor.at, end - 1];
+  } else if (type === "SEGDEF") {
+    const attributes = cursor.take(1);
+    places.segment = contents;
+    places.align = places.combine = places.use = places.big = attributes;
+    if (cursor.bytes[attributes[0]] >> 5 === 0) { places.frame = cursor.take(2); places.offset = cursor.take(1); }
+    places.length = cursor.take(wide ? 4 : 2);
+    places.name = cursor.index(); places.class = cursor.index(); places.overlay = cursor.index();
+  } else if (type === "GRPDEF") { places.group = contents; places.name = cursor.index(); }
+  else if (type === "PUBDEF" || type === "LPUBDEF") {
+    places.group = cursor.index();
+    const segment = places.segment = cursor.index();
+    if (segment[1] - segment[0] === 1 && cursor.bytes[segment[0]] === 0) places.frame = cursor.take(2);
+  } else if (type === "LEDATA" || type === "LIDATA") {
+    places.segment = cursor.index();
+    places.offset = cursor.take(wide ? 4 : 2);
+    places.data = places.length = [cursor.at, end - 1];
+  } else if (type === "MODEND") places.flags = places.main = places["has-start"] = cursor.take(1);
+  else places.data = places.length = contents;
+  return places;
+}
+
+const SIZES = { "low-byte": 1, offset16: 2, base: 2, "pointer16:16": 4, "high-byte": 1, "loader-offset16": 2, offset32: 4, "pointer16:32": 6,
+  "loader-offset32": 4 };
+const FRAME = new Set(["number", "start", "items", "within", "record"]);
+const NAME_ESCAPES = /[^\x20-\x7E]|["\\]/g;
+
+// A name as omf-dump shows it.
+const shownName = name => "\"" + name.replace(NAME_ESCAPES, character => "\\x" + hex(character.charCodeAt(0), 2)) + "\"";
+
+// A value as omf-dump shows it in text.
+function shownValue(key, value, type, wide, isOfItem) {
+  const digits = wide ? 8 : 4;
+  if (value === null) return "";
+  if (typeof value === "object" && "method" in value) {
+    return value.method + ("index" in value ? " " + shownValue(key, { index: value.index, name: value.name }) : "");
+  }
+  if (typeof value === "object") return (value.index || "-") + (value.name === undefined ? "" : " " + shownName(value.name));
+  if (typeof value === "boolean") return value ? "yes" : "no";
+  if (typeof value === "string") {
+    if (key === "data" || key === "bytes") return value.replace(/..(?=.)/g, "$& ");
+    return ["name", "text", "public", "meaning", "looks-like"].includes(key) && !(key === "meaning" && type === "COMENT") ? shownName(value) : value;
+  }
+  if (type === "COMENT" || key === "flags" || key === "byte" || (key === "offset" && type === "SEGDEF")) return hex(value, 2) + "H";
+  if (key === "type" && !isOfItem) return hex(value, 2) + "H";
+  if (["offset", "at", "displacement", "length"].includes(key)) return hex(value, digits) + "H";
+  if (["frame", "count", "size"].includes(key)) return hex(value, 4) + "H";
+  return String(value);
+}
+
+// The rows below a record in the tree: {level, key, value, from, to, children}.
+function recordTree(bytes, from, to, dump, dataAt) {
+  const kind = bytes[from], type = dump.record, wide = (kind & 1) === 1, cursor = new Cursor(bytes, from + 3), rows = [];
+  if ("refused" in dump) {
+    const at = Math.min(from + dump.within, bytes.length);
+    for (const [key, value] of Object.entries(dump)) {
+      if (FRAME.has(key) && key !== "within") continue;
+      const place = key === "type" ? [from, from + 1] : key === "byte" || key === "within" ? [at, at + 1] : [from, to];
+      rows.push({ level: 2, key, value: shownValue(key, value, type, wide), from: place[0], to: place[1] });
+    }
+    return rows;
+  }
+  const places = recordPlaces(type, cursor, wide, to);
+  places.type = [from, from + 1];
+  for (const [key, value] of Object.entries(dump)) {
+    if (FRAME.has(key)) continue;
+    const [first, end] = places[key] || [from, to];
+    const cut = key === "data" && dump["left-out"] ? " .." : "";
+    rows.push({ level: 2, key, value: shownValue(key, value, type, wide) + cut, from: first, to: end });
+  }
+  for (const item of dump.items || []) {
+    cursor.at = from + item.within;
+    const inside = itemPlaces(type, cursor, wide, dataAt), children = [];
+    for (const [key, value] of Object.entries(item)) {
+      if (key === "within") continue;
+      let [first, end] = inside[key] || [from + item.within, cursor.at];
+      if (key === "bytes") end = first + (value.length / 2 || 0);
+      children.push({ level: 3, key, value: shownValue(key, value, type, wide, true), from: first, to: end });
+    }
+    rows.push({ level: 2, key: "+" + item.within, within: item.within, value: children.filter(it => it.value !== "no").map(it => `${it.key} ${it.value}`).join("  "),
+      from: from + item.within, to: cursor.at, children });
+  }
+  return rows;
+}
+
+// One line for a record: its fields as in omf-dump's text, without their data.
+function recordSummary(dump, wide) {
+  if ("refused" in dump) return `refused ${dump.refused} ${dump.reason}`;
+  const words = [];
+  for (const [key, value] of Object.entries(dump)) {
+    if (FRAME.has(key) || key === "type" || key === "data" || key === "left-out" || value === false) continue;
+    words.push(value === true ? key : `${key} ${shownValue(key, value, dump.record, wide)}`);
+  }
+  const items = dump.items || [];
+  if (items.length && dump.record !== "MODEND") words.push(count(items.length, "item"));
+  return words.join("  ");
+}
