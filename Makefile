@@ -6,22 +6,26 @@
 # make look             the first example the same way
 # make library          proves and builds the library for C: build/libomf.a, build/libomf.so
 # make try-c            tests the library for C (tests/c/run.sh) over examples/ and the folder MODULES
+# make page             proves and builds the programs, and makes the page from them: build/omf.html (docs/PAGE.md)
+# make try-page         tries the page in headless Chromium (tests/page.sh) over examples/ and the folder MODULES
 # make install          builds the programs and the library, and installs them under PREFIX: bin/omf, bin/omf-place, bin/omf-link,
-#                       bin/omf-dump, share/man/man1/omf.1, omf-place.1, omf-link.1 and omf-dump.1, lib/libomf.a, lib/libomf.so,
-#                       include/omf.h, lib/pkgconfig/omf.pc
+#                       bin/omf-dump, bin/omf-lib, share/man/man1/omf.1, omf-place.1, omf-link.1, omf-dump.1 and omf-lib.1,
+#                       lib/libomf.a, lib/libomf.so,
+#                       include/omf.h, lib/pkgconfig/omf.pc; the Python package is installed by `pip install ./python`, which needs no network
 # make shown            runs the commands that the pages show with the installed programs, and compares what they print; OMF, OMF_PLACE,
-#                       OMF_LINK, OMF_DUMP, OMF_USES and LIBOMF name others (tests/reasons.sh)
+#                       OMF_LINK, OMF_DUMP, OMF_LIB, OMF_USES and LIBOMF name others (tests/reasons.sh)
 # make docs             writes docs/CALLS.md, docs/BELIEVE.md and the tables of docs/ARCHITECTURE.md and docs/GATE.md from the sources
 # make ci               the gate: the documents, the commands of docs/REASONS.md, and then `rt ci`, which proves and tests everything
 
 PREFIX ?= /usr/local
+VERSION := $(shell cat VERSION)
 CC ?= cc
 MODULES ?=
 JOB ?= check
 WORDS ?=
 export FILE PLACE
 
-.PHONY: first look try draft build library try-c install shown docs ci
+.PHONY: first look try draft build library try-c page try-page install shown docs ci
 
 first:
 	@cd crates/omf && cat ../../examples/first.omf ../../examples/first.place | rt run -- reloc
@@ -46,6 +50,7 @@ build:
 	@(cd crates/omf_place && rt run) < examples/first.omf > /dev/null
 	@cat examples/link/start.obj examples/link/say.obj examples/link/mark.obj examples/link/program.link | (cd crates/omf_link && rt run -- image) > /dev/null
 	@(cd crates/omf_dump && rt run) < examples/first.omf > /dev/null
+	@(cd crates/omf_lib && rt run -- list -) < examples/library/small.lib > /dev/null
 
 # The archive has the library and three functions of the kit that call malloc, realloc and free.
 library:
@@ -59,20 +64,28 @@ library:
 try-c: build library
 	LIBRARY=build/libomf.a OMF=crates/omf/out/omf tests/c/run.sh $(MODULES)
 
+page: build
+	page/build.sh
+
+try-page: page
+	tests/page.sh $(MODULES)
+
 install: build library
 	install -d $(DESTDIR)$(PREFIX)/bin $(DESTDIR)$(PREFIX)/share/man/man1 $(DESTDIR)$(PREFIX)/include $(DESTDIR)$(PREFIX)/lib/pkgconfig
 	install -m 755 crates/omf/out/omf $(DESTDIR)$(PREFIX)/bin/omf
 	install -m 755 crates/omf_place/out/omf_place $(DESTDIR)$(PREFIX)/bin/omf-place
 	install -m 755 crates/omf_link/out/omf_link $(DESTDIR)$(PREFIX)/bin/omf-link
 	install -m 755 crates/omf_dump/out/omf_dump $(DESTDIR)$(PREFIX)/bin/omf-dump
+	install -m 755 crates/omf_lib/out/omf_lib $(DESTDIR)$(PREFIX)/bin/omf-lib
 	install -m 644 man/omf.1 $(DESTDIR)$(PREFIX)/share/man/man1/omf.1
 	install -m 644 man/omf-place.1 $(DESTDIR)$(PREFIX)/share/man/man1/omf-place.1
 	install -m 644 man/omf-link.1 $(DESTDIR)$(PREFIX)/share/man/man1/omf-link.1
 	install -m 644 man/omf-dump.1 $(DESTDIR)$(PREFIX)/share/man/man1/omf-dump.1
+	install -m 644 man/omf-lib.1 $(DESTDIR)$(PREFIX)/share/man/man1/omf-lib.1
 	install -m 644 include/omf.h $(DESTDIR)$(PREFIX)/include/omf.h
 	install -m 644 build/libomf.a $(DESTDIR)$(PREFIX)/lib/libomf.a
 	install -m 755 build/libomf.so $(DESTDIR)$(PREFIX)/lib/libomf.so
-	sed 's|@PREFIX@|$(PREFIX)|' include/omf.pc.in > $(DESTDIR)$(PREFIX)/lib/pkgconfig/omf.pc
+	sed 's|@PREFIX@|$(PREFIX)|; s|@VERSION@|$(VERSION)|' include/omf.pc.in > $(DESTDIR)$(PREFIX)/lib/pkgconfig/omf.pc
 
 shown:
 	tests/reasons.sh README.md docs/*.md

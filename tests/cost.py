@@ -1,5 +1,5 @@
 #!/usr/bin/env python3
-"""What the gate costs: runs `rt ci --anew`, and sums the processor time of its proofs by crate.
+"""What the gate costs: runs `rt ci`, which proves everything from nothing, and sums the processor time of its proofs by crate.
 
 usage: tests/cost.py FILE [--of PID]
   Writes lines `CRATE PROOF EDITS` to FILE, in seconds, anew every few seconds; `tests/house.py --write --times FILE` makes the table of
@@ -54,6 +54,12 @@ def crate_and_kind(pid):
     return words[words.index("--crate-name") + 1], "--incremental" in words
 
 
+def gate():
+    """The gate from nothing. A kit whose `rt ci` keeps what earlier runs proved has the flag `--anew`; any other proves all each time."""
+    said = subprocess.run(["rt", "help"], stdout=subprocess.PIPE, stderr=subprocess.STDOUT, errors="replace").stdout
+    return ["rt", "ci", "--anew"] if "--anew" in said else ["rt", "ci"]
+
+
 def write(path, seen):
     times = {name: [0.0, 0.0] for name in crates()}
     for found, seconds in seen.values():
@@ -68,7 +74,7 @@ def main(words):
     if len(words) not in (1, 3) or (len(words) == 3 and words[1] != "--of"):
         sys.exit(__doc__)
     path = pathlib.Path(words[0])
-    run = None if len(words) == 3 else subprocess.Popen(["rt", "ci", "--anew"], cwd=ROOT)
+    run = None if len(words) == 3 else subprocess.Popen(gate(), cwd=ROOT)
     root = run.pid if run else int(words[2])
     seen, total = {}, 0.0
     while run.poll() is None if run else os.path.exists(f"/proc/{root}"):

@@ -2,8 +2,8 @@
 # Refuses exactly one growth, each in turn, until a run meets none: of the tests that hold whichever growth is refused, and of the programs.
 #
 # usage: tests/growths.sh [--all]
-#   It takes the programs that `rt ci` or `rt test` left in the crates: those of the tests, omf, omf-link and omf-place. OMF, OMF_LINK and
-#   OMF_PLACE name other ones. What is not there is skipped, or with --all is a failure.
+#   It takes the programs that `rt ci` or `rt test` left in the crates: those of the tests, omf, omf-link, omf-place, omf-dump and omf-lib. OMF,
+#   OMF_LINK, OMF_PLACE, OMF_DUMP and OMF_LIB name other ones. What is not there is skipped, or with --all is a failure.
 #
 # It needs a C compiler; without one it tries nothing. After LIMIT seconds (120) it begins no other run, and prints what was not tried.
 # Its status is 0 where every run passed.
@@ -14,6 +14,8 @@ limit=${LIMIT:-120}
 omf=${OMF:-$root/crates/omf/out/omf}
 link=${OMF_LINK:-$root/crates/omf_link/out/omf_link}
 place=${OMF_PLACE:-$root/crates/omf_place/out/omf_place}
+dump=${OMF_DUMP:-$root/crates/omf_dump/out/omf_dump}
+lib=${OMF_LIB:-$root/crates/omf_lib/out/omf_lib}
 work=$(mktemp -d)
 trap 'rm -rf "$work"' EXIT
 failed=0 running=()
@@ -88,23 +90,31 @@ refuse_each_of_test() {
     echo "$name $test: $((number - 1)) growths"
 }
 
-# is_memory: whether a run ended for lack of memory.
+# is_memory: whether a run ended for lack of memory. omf-dump and omf-lib may have written a beginning of their text before that; the other
+# programs write nothing but the fault.
 is_memory() {
-    local text=
+    local text= size
     [ $status -eq 3 ] || return
     read -r -d '' text < "$here/out"
-    [ "$text" = memory ]
+    [ "$text" = memory ] && return
+    [ -n "$in_pieces" ] || return
+    case $text in
+    '{"fault":"memory"}' | 'read -: out of memory' | '{"fault":"read","name":"-","error":"out of memory"}') return 0 ;;
+    esac
+    size=$(($(stat -c %s "$here/out") - 7))
+    [[ $text == *memory ]] && ((size > 0)) && cmp -s -n $size "$here/out" "$here/wanted"
 }
 
 # refuse_each_of_run STATUS INPUT PROGRAM ARGUMENT..: a run is as without a refusal, or it prints `memory` and ends with the status 3.
 refuse_each_of_run() {
-    local wanted=$1 input=$2 program=$3 name number status
+    local wanted=$1 input=$2 program=$3 name number status in_pieces
     shift 3
     name="$(basename "$program") $* of $(basename "$input")"
     if [ ! -x "$program" ]; then
         skips "$name"
         return
     fi
+    case $program in "$dump" | "$lib") in_pieces=yes ;; *) in_pieces= ;; esac
     "$program" "$@" < "$input" > "$here/wanted"
     status=$?
     [ $status -eq "$wanted" ] || fails "$name ends with $status"
@@ -118,6 +128,43 @@ refuse_each_of_run() {
     done
     cmp -s "$here/out" "$here/wanted" || fails "$name: the run that meets no refusal"
     echo "$name: $((number - 1)) growths"
+}
+
+# has_whole_members COUNT: whether the folder `taken` has that many files or fewer, each a member byte for byte.
+has_whole_members() {
+    local file count=0
+    for file in "$here/taken"/*; do
+        [ -f "$file" ] || continue
+        count=$((count + 1))
+        cmp -s "$file" "$here/members/${file##*/}" || return 1
+    done
+    [ $count -le "$1" ]
+}
+
+# refuse_each_of_get INPUT: omf-lib takes out all members, as without a refusal, or it prints `memory` and ends with the status 3. What it wrote
+# until then are whole members.
+refuse_each_of_get() {
+    local input=$1 number status count in_pieces=yes
+    if [ ! -x "$lib" ]; then
+        skips "$(basename "$lib") get of $(basename "$input")"
+        return
+    fi
+    mkdir "$here/members"
+    "$lib" get - -d "$here/members" < "$input" > "$here/wanted" || fails "omf_lib get"
+    count=$(find "$here/members" -type f | wc -l)
+    for ((number = 1; ; number++)); do
+        is_late "omf_lib get" $number && return
+        rm -rf "$here/taken"
+        mkdir "$here/taken"
+        refusing $number "$lib" get - -d "$here/taken" < "$input" || break
+        has_whole_members "$count" || fails "omf_lib get, growth $number: what it wrote"
+        is_memory && continue
+        [ $status -eq 0 ] && cmp -s "$here/out" "$here/wanted" && diff -r "$here/members" "$here/taken" > "$here/different" && continue
+        fails "omf_lib get, growth $number: status $status"
+        cat "$here/out"
+    done
+    diff -r "$here/members" "$here/taken" > "$here/different" || fails "omf_lib get: the run that meets no refusal"
+    echo "omf_lib get of $(basename "$input"): $((number - 1)) growths"
 }
 
 # input NAME HEX TEXT: a module, written in hexadecimal, and the text after it.
@@ -150,6 +197,8 @@ refuse_each_on() {
         refuse_each_of_run 0 "$1" "$omf" $job
     done
     refuse_each_of_run 0 "$1" "$place" --real
+    refuse_each_of_run 0 "$1" "$dump"
+    refuse_each_of_run 0 "$1" "$dump" --json
 }
 
 for module in offset threads jump flat repeats start; do
@@ -159,12 +208,20 @@ input empty '' ''
 input no_line "$header $names $segment $data $fixup $end" 'T 1'
 input missing "$header $names $segment $data $fixup $end" ''
 apart refuse_each_of_run 1 "$work/empty" "$omf" check
+apart refuse_each_of_run 1 "$work/empty" "$dump"
 apart refuse_each_of_run 1 "$work/no_line" "$omf" reloc
 apart refuse_each_of_run 1 "$work/missing" "$omf" reloc
 (cd "$root/examples/link" && cat start.obj say.obj mark.obj program.link) > "$work/program"
 for task in image map draft; do
     apart refuse_each_of_run 0 "$work/program" "$link" $task
 done
+
+for task in list check; do
+    apart refuse_each_of_run 0 "$root/examples/library/small.lib" "$lib" $task -
+    apart refuse_each_of_run 1 "$root/crates/omf_lib/data/refused.lib" "$lib" $task -
+done
+apart refuse_each_of_run 1 "$root/crates/omf_lib/data/no-entry.lib" "$lib" check -
+apart refuse_each_of_get "$root/examples/library/small.lib"
 
 # Such tests are named a_refused_growth_..
 for test in $(grep -rhoE --include='*.rt' 'fn a_refused_growth_\w+' "$root"/crates/*_tests/src | sed 's/^fn //' | sort -u); do

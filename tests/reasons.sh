@@ -3,7 +3,7 @@
 #
 # A command is a line `$ ..` in a block ```console of the page; the lines after it, up to the next command or the end of the
 # block, are what it must print. Bytes that the page shows before the command are compared with the file that the command reads.
-# OMF, OMF_PLACE, OMF_LINK and OMF_DUMP name the programs (omf, omf-place, omf-link and omf-dump, if they are not set), OMF_USES the program
+# OMF, OMF_PLACE, OMF_LINK, OMF_DUMP and OMF_LIB name the programs (omf, omf-place, omf-link, omf-dump and omf-lib, if not set), OMF_USES the program
 # of crates/omf_uses, and LIBOMF the shared library (crates/omf_uses/out/omf_uses and build/libomf.so). Where there is no omf, or OMF is
 # empty, `rt try` runs it from its sources, without any proof; commands that need the system's own files or another program are then left
 # out. So are commands whose tools are not installed, and those on files that are not part of the repository. The last line has how many
@@ -42,6 +42,7 @@ lacks_tool() {
     grep -q 'omf-place' <<< "$1" && ! command -v omf-place > /dev/null && return
     grep -q 'omf-link\|examples/link/run' <<< "$1" && ! command -v omf-link > /dev/null && return
     grep -q 'omf-dump' <<< "$1" && ! command -v omf-dump > /dev/null && return
+    grep -q 'omf-lib' <<< "$1" && ! command -v omf-lib > /dev/null && return
     grep -q 'examples/pair/run\|out/omf_uses' <<< "$1" && ! [ -x "$uses" ] && return
     grep -q '/srv/\|FOLDER\|< slow' <<< "$1" && return
     grep -q 'pkg-config\|\./list' <<< "$1" && ! pkg-config --exists omf 2> /dev/null && return
@@ -69,6 +70,7 @@ failed=0 left_out=0
 link_program omf-place "${OMF_PLACE:-omf-place}" || true
 link_program omf-link "${OMF_LINK:-omf-link}" || true
 link_program omf-dump "${OMF_DUMP:-omf-dump}" || true
+link_program omf-lib "${OMF_LIB:-omf-lib}" || true
 [ -z "${LIBOMF:-}" ] || ! [ -e "$library" ] || install_library
 if link_program omf "$omf"; then
     collects=no

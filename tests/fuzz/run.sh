@@ -1,5 +1,6 @@
 #!/usr/bin/env bash
-# Fuzzes the library for C: run.sh SECONDS [TARGET..]. The targets are check, canon and reloc (all three).
+# Fuzzes the library for C and the programs: run.sh SECONDS [TARGET..]. The targets are check, canon and reloc of the library (all three), and
+# dump and library of the programs omf-dump and omf-lib, which tests/fuzz/programs.py runs: they need neither the library nor clang.
 #
 # `rt lib` builds the library, which takes a proof where there is none yet; on its way the bitcode that is handed to the kit's clang is
 # kept, and compiled a second time with counters of what is reached. So what runs is the proved code, built by a way that the kit does
@@ -14,10 +15,24 @@ seconds=${1:?seconds for each target}
 shift
 root=$(cd "$(dirname "$0")/../.." && pwd)
 clang=${CLANG:-clang}
-kit=$(dirname "$(rt doc)")
 work=${WORK:-$(mktemp -d)}
 mkdir -p "$work"
 work=$(cd "$work" && pwd)
+failed=0
+[ $# -gt 0 ] || set -- check canon reloc
+calls=()
+for one in "$@"; do
+    case $one in
+    check | canon | reloc) calls+=("$one") ;;
+    dump | library) "$root/tests/fuzz/programs.py" "$seconds" "$one" ${SEEDS:+--seeds "$SEEDS"} --keep "$work" || failed=1 ;;
+    *)
+        echo "no target $one" >&2
+        exit 2
+        ;;
+    esac
+done
+[ ${#calls[@]} -gt 0 ] || exit $failed
+kit=$(dirname "$(rt doc)")
 
 # The kit as it is, but for a clang that keeps what it is given.
 kept=$work/omf_c.bc
@@ -62,9 +77,7 @@ if [ -n "${SEEDS:-}" ]; then
     done
 fi
 
-failed=0
-[ $# -gt 0 ] || set -- check canon reloc
-for one in "$@"; do
+for one in "${calls[@]}"; do
     "$clang" -O1 -g -Wall -Wextra -I"$root/include" -fsanitize=fuzzer -Wl,--wrap=malloc,--wrap=realloc \
         "$root/tests/fuzz/$one.c" "$root/tests/fuzz/mutate.c" "$code" "$kit/c/liblibc_c.a" -o "$work/fuzz-$one"
     mkdir -p "$work/$one"
