@@ -1,0 +1,16 @@
+pub mod PlaceMoves
+pub mod OutcomeMoves
+pub mod ChangeLaws
+pub mod WordLaws
+pub mod DataMoves
+pub mod FileLaws
+pub mod Written
+pub mod ImageMoves
+pub mod ChunkMoves
+pub mod ProgramLaws
+pub mod StartMoves
+pub mod RowLaws
+pub mod JudgedLaws
+pub mod MovableLaws
+pub mod MovedWords
+pub mod ApartLaws

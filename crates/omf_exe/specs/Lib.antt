@@ -1,0 +1,11 @@
+pub mod Moved
+pub mod Relocations
+pub mod Loading
+pub mod Exe
+pub mod FileFaults
+pub mod Memory
+pub mod Judged
+pub mod Movable
+pub mod Words
+pub mod Rows
+pub mod Laws
