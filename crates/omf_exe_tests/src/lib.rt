@@ -1,0 +1,5 @@
+//! Tests of MZ files.
+#![tactic(auto)]
+
+#[cfg(test)]
+mod tests;
