@@ -1,5 +1,5 @@
 -- What a fixup adds at a moved placement.
-use Rattle.std.proofs.Common.{◌≡◌, ℕ, ◌+◌, ◌*◌, ◌-◌, ◌<◌, List, [], ◌∷◌, Bool, true, false, cond, refl, sym, ◌∙◌, ap, ap₂, arith}
+use Rattle.std.proofs.Common.{◌≡◌, ℕ, ◌+◌, ◌*◌, ◌-◌, List, [], ◌∷◌, Bool, true, false, cond, refl, ◌∙◌, ap, ap₂, arith}
 use Rattle.std.specs.Prelude.{Option, Some, None, option_map, option_and_then, nat_le, nat_lt, ◌==◌, ◌||◌, ◌&&◌, ◌^◌, filter, filter_map, Result, Ok, Err}
 use Rattle.std.specs.Option.{option_zip}
 use Rattle.std.specs.List.{cons_option}
@@ -14,7 +14,7 @@ use Rattle.omf_check.specs.Threads.{same}
 use Rattle.omf_image.specs.Parts.{Addition}
 use Rattle.omf_placement.specs.declared.frame.Frame.{Frame}
 use Rattle.omf_placement.specs.declared.frame.Placed.{Placed}
-use Rattle.omf_placement.specs.Placement.{Places, place_of, framed}
+use Rattle.omf_placement.specs.Placement.{place_of, framed}
 use Rattle.omf_reloc.specs.declared.fault.Cause.{Cause}
 use Rattle.omf_reloc.specs.declared.fault.Cause.TheVariants as cause
 use Rattle.omf_reloc.specs.Additions.{additions, additions_at, type_of_number}
@@ -22,7 +22,7 @@ use Rattle.omf_reloc.specs.Offsets.{readings, offsets, first_or, map_ok, in_bits
 use Rattle.omf_reloc.specs.Plain.{PlainFixup}
 use Rattle.omf_exe.specs.declared.movers.Moving.{Moving}
 use Rattle.omf_exe.specs.Moved.{moved, moved_frame, moved_place, parted_place, moving_of, moves}
-use Rattle.omf_exe.specs.Relocations.{moves_together, selector_at, selector_moving, more}
+use Rattle.omf_exe.specs.Relocations.{selector_at, more}
 use Rattle.omf_exe.specs.Laws.{OutcomesMove}
 use Rattle.omf_exe.proofs.PlaceMoves.{place_moves, segment_moves}
 

@@ -1,14 +1,13 @@
 -- The entries of a moved placement.
-use Rattle.std.proofs.Common.{◌≡◌, ℕ, zero, suc, ◌+◌, ◌*◌, ◌-◌, List, [], ◌∷◌, length, Bool, true, false, cond, refl, sym, ◌∙◌, ap, arith}
+use Rattle.std.proofs.Common.{◌≡◌, ℕ, zero, suc, ◌+◌, ◌*◌, ◌-◌, List, [], ◌∷◌, length, Bool, true, false, cond, refl, ◌∙◌, ap, arith}
 use Rattle.std.specs.Prelude.{Option, Some, None, option_map, unwrap_or, slice_get, nat_le}
 use Rattle.omf_check.specs.Tables.{entry}
-use Rattle.omf_check.specs.declared.method.FrameMethod.{FrameMethod}
 use Rattle.omf_check.specs.declared.method.TargetMethod.{TargetMethod}
 use Rattle.omf_records.specs.declared.method.Kind.{Kind}
 use Rattle.omf_records.specs.declared.method.Kind.TheVariants as kinds
 use Rattle.omf_placement.specs.declared.frame.Frame.{Frame}
 use Rattle.omf_placement.specs.declared.frame.Placed.{Placed}
-use Rattle.omf_placement.specs.Placement.{Places, place_in, place_of, frame_by, framed, group_place}
+use Rattle.omf_placement.specs.Placement.{Places, place_in, place_of, group_place}
 use Rattle.omf_exe.specs.declared.movers.Moving.{Moving}
 use Rattle.omf_exe.specs.Moved.{Movers, AreMoversOf, moved, moved_frame, moved_place, parted_place, where_moving, where_parted, both, moving_at, moving_in, moving_of, moves}
 use Rattle.omf_exe.specs.Memory.{segment_address}

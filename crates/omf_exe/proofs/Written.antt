@@ -1,6 +1,6 @@
 -- The bytes of a file, as they are appended.
 use Rattle.std.proofs.Common.{◌≡◌, ℕ, ◌+◌, ◌*◌, ◌-◌, ◌<◌, ◌≤◌, List, [], ◌∷◌, ◌++◌, Bool, true, false, cond, length, take, refl, sym, ◌∙◌, ap, ap₂, arith, length-append}
-use Rattle.std.specs.Prelude.{All, Option, Some, None, find, flat_map, nat_lt, option_map, replicate, ◌/◌, ◌^◌}
+use Rattle.std.specs.Prelude.{All, Option, Some, None, find, flat_map, nat_lt, option_map, replicate, ◌^◌}
 use Rattle.std.proofs.lemmas.Bool.{ltb-false}
 use Rattle.std.proofs.lemmas.List.Elements.{All-nil, All-cons}
 use Rattle.std.proofs.lemmas.Grind.{flat_map-append}

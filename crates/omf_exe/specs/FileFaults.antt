@@ -1,5 +1,5 @@
 -- Why a program has no MZ file (the MZ format has 16 bits for the number of relocation entries; DOS has a memory of 2^20 bytes).
-use Rattle.std.specs.Prelude.{◌≡◌, ℕ, ◌+◌, ◌^◌, length, find, nat_lt, Option, Some, None, option_map, if◌then◌else◌}
+use Rattle.std.specs.Prelude.{◌≡◌, ◌+◌, ◌^◌, length, find, nat_lt, Option, Some, None, option_map, if◌then◌else◌}
 use Rattle.omf_exe.specs.declared.file.FileFault.{FileFault}
 use Rattle.omf_exe.specs.declared.file.FileFault.TheVariants as fault
 use Rattle.omf_exe.specs.Exe.{Program}

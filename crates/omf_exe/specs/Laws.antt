@@ -1,10 +1,9 @@
 -- Laws over the definitions, each the contract of a function of the same name.
-use Rattle.std.specs.Prelude.{◌≡◌, ℕ, ◌+◌, ◌*◌, ◌%◌, ◌-◌, ◌<◌, ◌≤◌, List, ◌∷◌, ◌++◌, filter_map, slice_index, unwrap_or, length, map, option_map, All, IsOk, true}
+use Rattle.std.specs.Prelude.{◌≡◌, ℕ, ◌+◌, ◌*◌, ◌%◌, ◌≤◌, List, length, map, option_map, All, IsOk, true}
 use Rattle.omf_records.specs.Values.{DataItem, Rec}
 use Rattle.omf_image.specs.Limits.{profile_limits}
 use Rattle.omf_placement.specs.Placement.{Places}
-use Rattle.omf_frame.specs.Bytes.{last}
-use Rattle.omf_reloc.specs.Image.{image, patched, laid, start}
+use Rattle.omf_reloc.specs.Image.{patched, laid, start}
 use Rattle.omf_reloc.specs.Reach.{Reaches}
 use Rattle.omf_reloc.specs.Laws.{AreInside}
 use Rattle.omf_reloc.specs.Offsets.{map_ok, outcome, outcome_at}

@@ -20,7 +20,7 @@ file_size file = if word file 2 == 0 then 512 * word file 4 else 512 * (word fil
 abbrev pub header_size : List ℕ → ℕ
 header_size file = 16 * word file 8
 
--- So many entries of the relocation table, each an offset and a paragraph in the image.
+-- n entries of the relocation table, each an offset and a paragraph in the image.
 abbrev pub table : List ℕ → ℕ → ℕ → List ℕ
 table file zero at = []
 table file (suc n) at = (16 * word file (at + 2) + word file at) ∷ table file n (at + 4)

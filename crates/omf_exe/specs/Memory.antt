@@ -52,7 +52,7 @@ moved_chunk k c = record { address = c.address + 16 * k; bytes = words_moved k c
 abbrev pub put : ℕ → List ℕ → Chunk → List ℕ
 put base bytes c = take (c.address - base) bytes ++ c.bytes ++ drop (c.address - base + length c.bytes) bytes
 
--- So many bytes from an address on: 0 where no chunk has one, and that of the last that has one.
+-- n bytes from an address on: 0 where no chunk has one, and that of the last that has one.
 abbrev pub flat : ℕ → ℕ → List Chunk → List ℕ
 flat base n cs = fold (put base) (replicate n 0) cs
 
@@ -82,7 +82,7 @@ abbrev pub AreTogether : Movers → DataItem → List (ℕ × PlainFixup) → Ty
 AreTogether mv d fixups = All (λ f. moves_together mv d.segment.item f ≡ true) fixups
 
 -- A data record moves: its segment does; each of its fixups lies inside it, moves with the program and reaches; and each relocation word stands apart from
--- the locations of the fixups behind its own.
+-- the locations of the later fixups.
 pub record RecordMoves (mv : Movers) (pl : Places) (d : DataItem) (fixups : List (ℕ × PlainFixup)) : Type 0 where
   pub segment : moves mv.segments d.segment.item ≡ true
   pub inside : AreInside (length d.bytes) fixups
@@ -90,7 +90,7 @@ pub record RecordMoves (mv : Movers) (pl : Places) (d : DataItem) (fixups : List
   pub reached : All (λ f. IsOk (outcome pl d f)) fixups
   pub apart : StandApart mv d.segment.item fixups
 
--- Behind an LIDATA an accepted module has no fixups.
+-- After an LIDATA an accepted module has no fixups.
 abbrev pub ContentsMove : Movers → Places → Contents → List Piece → Type 0
 ContentsMove mv pl (Plain d) after = RecordMoves mv pl d (fixups_of_data after)
 ContentsMove mv pl (Iterated d) after = (moves mv.segments d.segment.item ≡ true) × AreTogether mv d (fixups_of_data after)

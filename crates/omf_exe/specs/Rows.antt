@@ -1,5 +1,5 @@
 -- Words of the worked examples.
-use Rattle.std.specs.Prelude.{ℕ, List, [], ◌∷◌, map, true, false, Some, None}
+use Rattle.std.specs.Prelude.{ℕ, List, [], ◌∷◌, true, false, Some, None}
 use Rattle.omf_records.specs.Values.{At, Rec, Segment, Plain, Fixups, ModEnd, Fixup, SegmentItem}
 use Rattle.omf_check.specs.declared.method.FrameMethod.{FrameMethod}
 use Rattle.omf_check.specs.declared.method.TargetMethod.{TargetMethod}

@@ -52,7 +52,7 @@ pub fn what_moves_together()
     ensures distance_to_what_stays { moves_together one_of_two 1 (fixup 0x8401 F5 (T0 2)) ≡ false }
 {}
 
-/// The words that move: a base at its location, the selector of a far pointer two bytes behind it; none of a frame that stays, of an offset or
+/// The words that move: a base at its location, the selector of a far pointer two bytes after its first; none of a frame that stays, of an offset or
 /// of a distance.
 pub fn words_that_move()
     ensures { sites one_of_two 1 (fixup 0xC801 (F0 1) (T0 2) ∷ fixup 0xCC05 F5 (T0 1) ∷ fixup 0xCC0A F5 (T0 2) ∷ fixup 0xC410 F5 (T0 1) ∷ fixup 0x8412 F5 (T0 1) ∷ []) ≡ 1 ∷ 7 ∷ [] }
