@@ -7,6 +7,7 @@ use std::alloc::Global;
 use verdicts::ANY;
 
 mod canonical;
+mod exe;
 mod externals;
 mod headline;
 mod inputs;

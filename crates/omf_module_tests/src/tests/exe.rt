@@ -1,15 +1,9 @@
-//! Calls with ample memory. Expected values are worked out by hand from the formats.
+//! MZ files, and which modules move with a program. Expected values are worked out by hand from the formats.
 
-use omf_check::{Checked, Profile, check};
+use super::module_of;
 use omf_exe::{FarAddress, FileFault, Movers, Moving, Program, movable, write_exe};
-use omf_frame::{Bytes, Place};
-use omf_samples::joined;
+use omf_frame::Place;
 use std::alloc::Global;
-
-/// Accepts comments of vendors.
-const ANY: Profile = Profile {
-    refuse_vendor_comments: false,
-};
 
 /// THEADR, LNAMES, SEGDEF of a segment of 4 bytes, and EXTDEF of `X`; LEDATA B8 00 00 90; a FIXUPP; MODEND with the start 2 in segment 1.
 const BY_BASE: &[&str] = &[
@@ -32,17 +26,6 @@ const BY_OFFSET: &[&str] = &[
     "9C 06 00 C4 01 06 01 01 91",
     "8A 07 00 C1 00 01 01 02 00 AA",
 ];
-
-/// The module of these records; `None` if it is refused, or memory runs out.
-fn module_of(alloc: Global, rows: &[&str]) -> Option<Checked> {
-    match joined(alloc, rows) {
-        Ok(bytes) => match check(alloc, &mut Bytes::new(&bytes), ANY) {
-            Ok(module) => Some(module),
-            Err(_) => None,
-        },
-        Err(_) => None,
-    }
-}
 
 /// Movers of one segment and one external; `None` if memory runs out.
 fn movers_of(alloc: Global, segment: bool, external: Moving) -> Option<Movers> {

@@ -1,5 +1,0 @@
-//! Tests of MZ files.
-#![tactic(auto)]
-
-#[cfg(test)]
-mod tests;
