@@ -12,6 +12,9 @@
 #                       bin/omf-dump, bin/omf-lib, share/man/man1/omf.1, omf-place.1, omf-link.1, omf-dump.1 and omf-lib.1,
 #                       lib/libomf.a, lib/libomf.so,
 #                       include/omf.h, lib/pkgconfig/omf.pc; the Python package is installed by `pip install ./python`, which needs no network
+# make dist             packs the proved programs, their pages, the library, the page if it is built, and the last line of the log GATE
+#                       of `.ci/run` into build/omf-VERSION-x86_64-linux.tar.gz, the same bytes for the same files (dist/pack.sh)
+# make vendor DEST=DIR  copies the crates CRATES (omf_check) and those below them, with their lines of crates.txt, into the repository DIR
 # make shown            runs the commands that the pages show with the installed programs, and compares what they print; OMF, OMF_PLACE,
 #                       OMF_LINK, OMF_DUMP, OMF_LIB, OMF_USES and LIBOMF name others (tests/reasons.sh)
 # make docs             writes docs/CALLS.md, docs/BELIEVE.md and the tables of docs/ARCHITECTURE.md and docs/GATE.md from the sources
@@ -23,9 +26,11 @@ CC ?= cc
 MODULES ?=
 JOB ?= check
 WORDS ?=
+DEST ?=
+CRATES ?= omf_check
 export FILE PLACE
 
-.PHONY: first look try draft build library try-c page try-page install shown docs ci
+.PHONY: first look try draft build library try-c page try-page install dist vendor shown docs ci
 
 first:
 	@cd crates/omf && cat ../../examples/first.omf ../../examples/first.place | rt run -- reloc
@@ -62,7 +67,7 @@ library:
 	$(CC) -shared -Wl,-soname,libomf.so -o build/libomf.so build/objects/*.o
 
 try-c: build library
-	LIBRARY=build/libomf.a OMF=crates/omf/out/omf tests/c/run.sh $(MODULES)
+	LIBRARY=build/libomf.a OMF=crates/omf/out/omf OMF_DUMP=crates/omf_dump/out/omf_dump tests/c/run.sh $(MODULES)
 
 page: build
 	page/build.sh
@@ -86,6 +91,13 @@ install: build library
 	install -m 644 build/libomf.a $(DESTDIR)$(PREFIX)/lib/libomf.a
 	install -m 755 build/libomf.so $(DESTDIR)$(PREFIX)/lib/libomf.so
 	sed 's|@PREFIX@|$(PREFIX)|; s|@VERSION@|$(VERSION)|' include/omf.pc.in > $(DESTDIR)$(PREFIX)/lib/pkgconfig/omf.pc
+
+dist: build library
+	dist/pack.sh omf=crates/omf/out/omf omf-place=crates/omf_place/out/omf_place omf-link=crates/omf_link/out/omf_link omf-dump=crates/omf_dump/out/omf_dump omf-lib=crates/omf_lib/out/omf_lib
+
+vendor:
+	@test -n "$(DEST)" || { echo "usage: make vendor DEST=DIR [CRATES='omf_check ..']"; exit 2; }
+	dist/vendor.sh "$(DEST)" $(CRATES)
 
 shown:
 	tests/reasons.sh README.md docs/*.md
