@@ -28,13 +28,13 @@ uint32_t omf_version(void);
 
 /* The statuses. The program omf uses 2 and 3 for failed input and output, which cannot occur here. */
 enum omf_status {
-    OMF_DONE = 0,      /* done; the first `size` bytes of `out` are the text */
+    OMF_DONE = 0,      /* done; the first `size` bytes or rows of `out` are the text or the table */
     OMF_MEMORY = 1,    /* out of memory */
     OMF_REFUSED = 4,   /* the bytes do not begin with a well-formed module: `reason`, `number`, `start`, `within` */
     OMF_LINE = 5,      /* line `line` of the placement is no entry, or it asks for the frame of a group that has none */
     OMF_TOO_LONG = 6,  /* the placement has more than 4,194,304 bytes */
     OMF_REACH = 7,     /* the placement does not reach: `reason`, an enum omf_reach */
-    OMF_ROOM = 8       /* the text does not fit `out`, which is unchanged; `size` is the size needed, in bytes */
+    OMF_ROOM = 8       /* the text or the table does not fit `out`, which is unchanged; `size` is the size needed, in bytes or rows */
 };
 
 /* `reason` at OMF_REACH: the first of these that applies. */
@@ -71,8 +71,9 @@ struct omf_answer {
     uint32_t within;       /* the same: the offset in the record, whose type byte is at 0; at OMF_NO_END and OMF_CUT, the number of its bytes present */
     uint64_t start;        /* OMF_REFUSED: the record's offset in `bytes` */
     uint64_t line;         /* OMF_LINE: the number of the line, from 1 */
-    uint64_t size;         /* OMF_DONE, OMF_ROOM: the size of the text in bytes; omf_check at OMF_DONE: the size of the module */
-    uint64_t record_count; /* omf_check at OMF_DONE: the number of records in the module */
+    uint64_t size;         /* OMF_DONE, OMF_ROOM: the size of the text in bytes, or the number of rows; omf_check at OMF_DONE: the size of the
+                              module */
+    uint64_t record_count; /* omf_check at OMF_DONE: the number of records in the module; omf_image at OMF_DONE, OMF_ROOM: that of runs */
 };
 
 /* Each call reads the module at the start of `bytes`; bytes after its MODEND are ignored. With `refuse_vendor_comments`, comments of the
@@ -96,6 +97,109 @@ struct omf_answer omf_reloc(const uint8_t *bytes, size_t length, const uint8_t *
 /* Makes the module's canonical bytes. They are the same for all modules that differ only in encodings, checksums, threads or the division
  * of fixups into FIXUPPs. Returns OMF_DONE, OMF_REFUSED, OMF_ROOM or OMF_MEMORY. */
 struct omf_answer omf_canon(const uint8_t *bytes, size_t length, bool refuse_vendor_comments, uint8_t *out, size_t room);
+
+/* The tables of a module. Each call fills `out`, an array of `room` rows, and returns the number of rows in `size`. As with a text, all rows
+ * are handed out or none: at OMF_ROOM and at every fault the whole array is unchanged, and at OMF_ROOM `size` is the number needed. Each
+ * returns OMF_DONE, OMF_REFUSED, OMF_ROOM or OMF_MEMORY. Indices count from 1, as in the records; the entry with index i is in row i - 1, and
+ * an index of 0 is none. Names are in the module's own bytes, and may have any bytes. */
+
+/* Where a name is: `size` bytes, 0 to 255, at bytes + `offset`. An offset of 0 is no name. */
+struct omf_name {
+    uint64_t offset;
+    uint64_t size;
+};
+
+/* A segment (SEGDEF). */
+struct omf_segment {
+    struct omf_name name;
+    struct omf_name class_name;
+    struct omf_name overlay_name;
+    uint64_t size;         /* in bytes, 0 to 2^32 */
+    uint32_t align;        /* the A field: 0 absolute, 1 byte, 2 word, 3 paragraph, 4 page, 5 double word */
+    uint32_t combine;      /* the C field: 0 private, 2, 4 and 7 public, 5 stack, 6 common */
+    uint32_t bits;         /* 16, or 32 with Use32 */
+    uint32_t is_absolute;  /* 1 or 0 */
+    uint32_t frame;        /* absolute: the number of its frame */
+    uint32_t frame_offset; /* absolute: its offset in the frame, in bytes, 0 to 255 */
+};
+
+/* A group (GRPDEF), and a member of one. The members of all groups are in one table, group after group. */
+struct omf_group {
+    struct omf_name name;
+    uint64_t members;      /* how many */
+};
+struct omf_member {
+    uint32_t segment;      /* an index */
+};
+
+/* An external name (EXTDEF, COMDEF, LEXTDEF, LCOMDEF). */
+struct omf_external {
+    struct omf_name name;
+    uint32_t type_index;
+    uint32_t is_local;     /* 1: of a LEXTDEF or an LCOMDEF */
+    uint32_t communal;     /* 0 no communal, 1 near, 2 far */
+    uint32_t elements;     /* a communal: the number of elements, 1 if it is near */
+    uint32_t element_size; /* a communal: the size of an element in bytes */
+    uint32_t unused;       /* 0 */
+};
+
+/* A public name (PUBDEF, LPUBDEF), in file order. */
+struct omf_public {
+    struct omf_name name;
+    uint32_t offset;       /* in bytes, in `segment`, or in the frame `frame` if `segment` is 0 */
+    uint32_t segment;      /* an index, or 0 */
+    uint32_t group;        /* an index, or 0 */
+    uint32_t frame;        /* the number of the base frame if `segment` is 0 */
+    uint32_t type_index;
+    uint32_t is_local;     /* 1: of an LPUBDEF */
+};
+
+/* A fixup (FIXUPP), in file order, with its threads resolved. */
+struct omf_fixup {
+    uint64_t offset;       /* of the first byte of its location in `segment`, in bytes */
+    uint32_t segment;      /* an index: the segment of the LEDATA that it changes */
+    uint32_t location;     /* the LOCATION field: 0 low byte, 1 offset of 16 bits, 2 base, 3 pointer of 16:16 bits, 4 high byte, 5 loader
+                              offset of 16 bits, 9 offset of 32 bits, 11 pointer of 16:32 bits, 13 loader offset of 32 bits */
+    uint32_t size;         /* of the location in bytes: 1, 2, 4 or 6 */
+    uint32_t is_self_relative;
+    uint32_t frame_method; /* 0 segment, 1 group, 2 external, 4 segment of the location, 5 frame of the target */
+    uint32_t frame_index;  /* of the segment, group or external; 0 with the methods 4 and 5 */
+    uint32_t target_method; /* 0 segment, 1 group, 2 external */
+    uint32_t target_index;
+    uint32_t displacement; /* in bytes; 0 if the FIXUP has none */
+    uint32_t bits;         /* of the displacement's field: 16 or 32 */
+    uint32_t number;       /* of its record, from 0 */
+    uint32_t within;       /* the offset of its first byte in the record, whose type byte is at 0 */
+};
+
+struct omf_answer omf_segments(const uint8_t *bytes, size_t length, bool refuse_vendor_comments, struct omf_segment *out, size_t room);
+struct omf_answer omf_groups(const uint8_t *bytes, size_t length, bool refuse_vendor_comments, struct omf_group *out, size_t room);
+struct omf_answer omf_group_members(const uint8_t *bytes, size_t length, bool refuse_vendor_comments, struct omf_member *out, size_t room);
+struct omf_answer omf_externals(const uint8_t *bytes, size_t length, bool refuse_vendor_comments, struct omf_external *out, size_t room);
+struct omf_answer omf_publics(const uint8_t *bytes, size_t length, bool refuse_vendor_comments, struct omf_public *out, size_t room);
+struct omf_answer omf_fixups(const uint8_t *bytes, size_t length, bool refuse_vendor_comments, struct omf_fixup *out, size_t room);
+
+/* A run of bytes of a relocated segment. No byte next to it is covered. */
+struct omf_run {
+    uint64_t size;         /* in bytes */
+    uint32_t segment;      /* an index */
+    uint32_t offset;       /* of its first byte in the segment, in bytes */
+};
+
+/* Relocates the module as omf_reloc does. At OMF_DONE the runs of its image are at the start of `runs`, an array of `run_room` rows, by
+ * segment and in rising order; and the bytes of all runs, one after another, are at the start of `out`. `size` is the number of bytes, and
+ * `record_count` the number of runs. If the runs or the bytes do not fit, OMF_ROOM has both numbers, and both buffers are unchanged. Returns
+ * OMF_DONE, OMF_REFUSED, OMF_TOO_LONG, OMF_LINE, OMF_REACH, OMF_ROOM or OMF_MEMORY. */
+struct omf_answer omf_image(const uint8_t *bytes, size_t length, const uint8_t *placement, size_t placement_length,
+                            bool refuse_vendor_comments, struct omf_run *runs, size_t run_room, uint8_t *out, size_t room);
+
+/* The start address of the module relocated as omf_reloc does it: a table of one row, or of none if its MODEND names no start. */
+struct omf_start {
+    uint32_t selector;     /* of the frame */
+    uint32_t offset;       /* in the frame, in bytes */
+};
+struct omf_answer omf_start(const uint8_t *bytes, size_t length, const uint8_t *placement, size_t placement_length,
+                            bool refuse_vendor_comments, struct omf_start *out, size_t room);
 
 /* The name and the sentence of a reason, 1 to 33, as `Cut` and `the input ends inside a record`; nothing for any other number. They return
  * OMF_DONE or OMF_ROOM. */

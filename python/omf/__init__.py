@@ -4,6 +4,8 @@
     >>> module = omf.Module(open("examples/first.omf", "rb").read())
     >>> [segment.name for segment in module.segments]
     ['T']
+    >>> [(fixup.offset, module.target_name(fixup)) for fixup in module.fixups]
+    [(1, 'T')]
     >>> module.relocate("S 10020 10000 1000").runs
     (Run(segment=1, offset=0, data=b'\\xb8 \\x00\\x90'),)
 
@@ -16,24 +18,41 @@ from __future__ import annotations
 import ctypes
 import ctypes.util
 import os
-import re
+from enum import IntEnum
 from functools import cached_property
-from typing import Iterator, List, NamedTuple, Optional, Tuple, Union
+from itertools import accumulate
+from typing import Any, List, NamedTuple, Optional, Tuple, Type, Union
 
 __version__ = "0.4.0"
 __all__ = [
-    "Module", "Segment", "Public", "Run", "Image",
+    "Module", "Segment", "Group", "External", "Communal", "Public", "Fixup", "Method", "LOCATIONS", "Run", "Image",
     "Error", "Refused", "PlacementLine", "PlacementTooLong", "Unreachable", "reason_name", "reason_sentence",
 ]
 
 Data = Union[bytes, bytearray, memoryview]
 
 
-class _Answer(ctypes.Structure):
-    _fields_ = [(name, ctypes.c_uint32) for name in ("status", "reason", "kind", "index", "number", "within")] + [
-        (name, ctypes.c_uint64) for name in ("start", "line", "size", "record_count")]
+def _struct(name: str, *fields: Tuple[Any, str]) -> Type[ctypes.Structure]:
+    """A structure of include/omf.h: types, each with the names of its fields."""
+    listed = [(field, kind) for kind, names in fields for field in names.split()]
+    return type(name, (ctypes.Structure,), {"_fields_": listed})
 
 
+_U32, _U64 = ctypes.c_uint32, ctypes.c_uint64
+_Answer = _struct("_Answer", (_U32, "status reason kind index number within"), (_U64, "start line size record_count"))
+_Name = _struct("_Name", (_U64, "offset size"))
+_Segment = _struct("_Segment", (_Name, "name class_name overlay_name"), (_U64, "size"),
+                   (_U32, "align combine bits is_absolute frame frame_offset"))
+_Group = _struct("_Group", (_Name, "name"), (_U64, "members"))
+_Member = _struct("_Member", (_U32, "segment"))
+_External = _struct("_External", (_Name, "name"), (_U32, "type_index is_local communal elements element_size unused"))
+_Public = _struct("_Public", (_Name, "name"), (_U32, "offset segment group frame type_index is_local"))
+_Run = _struct("_Run", (_U64, "size"), (_U32, "segment offset"))
+_Start = _struct("_Start", (_U32, "selector offset"))
+_Fixup = _struct("_Fixup", (_U64, "offset"), (_U32, "segment location size is_self_relative frame_method frame_index target_method"),
+                 (_U32, "target_index displacement bits number within"))
+
+_TABLES = {"segments": _Segment, "groups": _Group, "group_members": _Member, "externals": _External, "publics": _Public, "fixups": _Fixup}
 _DONE, _MEMORY, _REFUSED, _LINE, _TOO_LONG, _REACH, _ROOM = 0, 1, 4, 5, 6, 7, 8
 
 
@@ -46,7 +65,9 @@ def _load() -> ctypes.CDLL:
     module = [ctypes.c_char_p, ctypes.c_size_t]
     flag, out = [ctypes.c_bool], [ctypes.c_void_p, ctypes.c_size_t]
     calls = {"omf_check": module + flag, "omf_list": module + flag + out, "omf_canon": module + flag + out}
-    calls.update(omf_reloc=module + module + flag + out)
+    calls.update(omf_image=module + module + flag + out + out, omf_start=module + module + flag + out, omf_reason_name=[_U32] + out, omf_reason_sentence=[_U32] + out,
+                 omf_fault_line=[ctypes.POINTER(_Answer)] + out)
+    calls.update({f"omf_{name}": module + flag + out for name in _TABLES})
     for name, arguments in calls.items():
         call = getattr(library, name)
         call.argtypes, call.restype = arguments, _Answer
@@ -56,54 +77,31 @@ def _load() -> ctypes.CDLL:
 _library = _load()
 
 
-# The name and the sentence of each reason, from 1 (docs/REASONS.md).
-_REASONS = (
-    ("NoEnd", "the input ends before a MODEND"),
-    ("Cut", "the input ends inside a record"),
-    ("UnknownType", "the record's type is unknown"),
-    ("UnsupportedType", "the record's type is not read"),
-    ("EmptyRecord", "the record's length is 0"),
-    ("Checksum", "the record's checksum is wrong"),
-    ("NoHeader", "the first record is no header"),
-    ("Short", "a field does not fit into its record"),
-    ("Long", "bytes are left over in the record"),
-    ("Alignment", "the segment's alignment has no meaning"),
-    ("BigLength", "a Big segment has a length"),
-    ("GroupComponent", "the group's component is no segment"),
-    ("CommunalType", "the communal is neither near nor far"),
-    ("CommunalLength", "the communal's length is invalid"),
-    ("FrameMethod", "the frame method is not read"),
-    ("TargetMethod", "the target method is not read"),
-    ("LocationType", "the location's type is unknown"),
-    ("SelfRelative", "the location cannot be self-relative"),
-    ("TooDeep", "blocks are nested too deep"),
-    ("DataTooLong", "repeated data are too long"),
-    ("UndefinedName", "the name is not defined"),
-    ("UndefinedSegment", "the segment is not defined"),
-    ("UndefinedGroup", "the group is not defined"),
-    ("UndefinedExternal", "the external is not defined"),
-    ("UndefinedThread", "the thread is not set"),
-    ("OutsideSegment", "data pass the end of their segment"),
-    ("OutsideRecord", "the location passes the end of its data"),
-    ("NoDataRecord", "a fixup precedes any data"),
-    ("FixupOnIterated", "a fixup applies to repeated data"),
-    ("TooMany", "a limit of the module's tables is passed"),
-    ("OtherDialect", "the module is of another dialect"),
-    ("VendorComment", "a vendor's comment is refused"),
-    ("StartFrame", "the start's frame is that of a location"),
-)
-_KINDS = ("", "segment", "group", "external")
-_CAUSES = ("", "Target", "Location", "Distance")
+def _filled(call: Any, row: Any, *arguments: Any) -> Tuple[Any, Any]:
+    """A call for the rows of a table, or for the bytes of a text: once for their number, and once for themselves."""
+    answer = call(*arguments, None, 0)
+    if answer.status != _ROOM:
+        return answer, (row * 0)()
+    buffer = (row * answer.size)()
+    return call(*arguments, buffer, answer.size), buffer
+
+
+def _said(call: Any, *arguments: Any) -> str:
+    """A text of reasons and faults."""
+    answer, text = _filled(call, ctypes.c_uint8, *arguments)
+    if answer.status == _MEMORY:
+        raise MemoryError("out of memory")
+    return bytes(text).decode("ascii")
 
 
 def reason_name(reason: int) -> str:
     """The name of a reason, 1 to 33, as Cut; empty for any other number."""
-    return _REASONS[reason - 1][0] if 1 <= reason <= len(_REASONS) else ""
+    return _said(_library.omf_reason_name, reason)
 
 
 def reason_sentence(reason: int) -> str:
     """What a reason means, as 'the input ends inside a record'; empty for any number but 1 to 33."""
-    return _REASONS[reason - 1][1] if 1 <= reason <= len(_REASONS) else ""
+    return _said(_library.omf_reason_sentence, reason)
 
 
 class Error(Exception):
@@ -117,7 +115,7 @@ class Refused(Error):
     from 0; start is its offset in the bytes, within the offset in the record of the fault (0 is the type byte), and offset their sum.
     """
 
-    def __init__(self, line: str, answer: _Answer) -> None:
+    def __init__(self, line: str, answer: Any) -> None:
         super().__init__(line)
         self.reason: int = answer.reason
         self.name: str = reason_name(answer.reason)
@@ -131,13 +129,16 @@ class Refused(Error):
 class PlacementLine(Error):
     """A line of the placement is no entry, or asks for the frame of a group that has none. line is its number, from 1."""
 
-    def __init__(self, line: str, answer: _Answer) -> None:
+    def __init__(self, line: str, answer: Any) -> None:
         super().__init__(line)
         self.line: int = answer.line
 
 
 class PlacementTooLong(Error):
     """The placement has more than 4,194,304 bytes."""
+
+    def __init__(self, line: str, answer: Any) -> None:
+        super().__init__(line)
 
 
 class Unreachable(Error):
@@ -148,7 +149,7 @@ class Unreachable(Error):
     reason 4: 1 its target, 2 its location, 3 its distance. index counts from 1.
     """
 
-    def __init__(self, line: str, answer: _Answer) -> None:
+    def __init__(self, line: str, answer: Any) -> None:
         super().__init__(line)
         self.reason: int = answer.reason
         self.kind: int = answer.kind
@@ -157,63 +158,125 @@ class Unreachable(Error):
         self.within: int = answer.within
 
 
-def _filled(call, *arguments) -> Tuple[_Answer, bytes]:
-    """A call for a text: once for its size, and once for its bytes."""
-    answer = call(*arguments, None, 0)
-    if answer.status != _ROOM:
-        return answer, b""
-    buffer = ctypes.create_string_buffer(answer.size)
-    answer = call(*arguments, buffer, answer.size)
-    return answer, buffer.raw[:answer.size]
-
-
-def _reach_line(answer: _Answer) -> str:
-    kind, index = answer.kind, answer.index
-    if answer.reason <= 2:
-        return f"reach {answer.reason} {('Missing', 'Extra')[answer.reason - 1]} {_KINDS[kind]} {index}"
-    if answer.reason == 3:
-        return f"reach 3 Absolute {index}"
-    return f"reach 4 TooFar {_CAUSES[kind]} record {answer.number} within {answer.within}"
-
-
-def _fault(answer: _Answer) -> Exception:
+def _fault(answer: Any) -> Exception:
     """The exception of a fault, with the line that the programs print."""
-    if answer.status == _REFUSED:
-        name = reason_name(answer.reason)
-        return Refused(f"refused {answer.reason} {name} record {answer.number} at {answer.start} within {answer.within}", answer)
-    if answer.status == _LINE:
-        return PlacementLine(f"placement line {answer.line}", answer)
-    if answer.status == _TOO_LONG:
-        return PlacementTooLong("placement too long")
-    if answer.status == _REACH:
-        return Unreachable(_reach_line(answer), answer)
-    return MemoryError("out of memory")
+    kinds = {_REFUSED: Refused, _LINE: PlacementLine, _TOO_LONG: PlacementTooLong, _REACH: Unreachable}
+    if answer.status not in kinds:
+        return MemoryError("out of memory")
+    return kinds[answer.status](_said(_library.omf_fault_line, ctypes.byref(answer)), answer)
 
 
-def _text(call, *arguments) -> bytes:
-    answer, text = _filled(call, *arguments)
+def _made(call: Any, row: Any, *arguments: Any) -> Any:
+    """The rows or the bytes that a call makes; or the exception of its fault."""
+    answer, made = _filled(call, row, *arguments)
     if answer.status != _DONE:
         raise _fault(answer)
-    return text
+    return made
+
+
+class Method(IntEnum):
+    """A frame or a target method: what its index counts, the segment of the location (F4), or the frame of the target (F5)."""
+
+    SEGMENT = 0
+    GROUP = 1
+    EXTERNAL = 2
+    LOCATION = 4
+    TARGET = 5
+
+
+# The types of locations by their numbers (TIS OMF 1.1, "FIXUPP", LOCATION), as `omf-dump` names them.
+LOCATIONS = {
+    0: "low-byte",
+    1: "offset16",
+    2: "base",
+    3: "pointer16:16",
+    4: "high-byte",
+    5: "loader-offset16",
+    9: "offset32",
+    11: "pointer16:32",
+    13: "loader-offset32",
+}
 
 
 class Segment(NamedTuple):
-    """A segment (SEGDEF). name is None if it has none; length is in bytes."""
+    """A segment (SEGDEF).
+
+    name, class_name and overlay_name are None if it has none. length is in bytes, 0 to 2**32. align is the A field: 0 absolute, 1 byte,
+    2 word, 3 paragraph, 4 page, 5 double word. combine is the C field: 0 private, 2, 4 and 7 public, 5 stack, 6 common. bits is 16 or 32.
+    absolute is, of an absolute segment, the number of its frame and its offset in it in bytes.
+    """
 
     name: Optional[str]
+    class_name: Optional[str]
+    overlay_name: Optional[str]
     length: int
+    align: int
+    combine: int
+    bits: int
+    absolute: Optional[Tuple[int, int]]
+
+
+class Group(NamedTuple):
+    """A group (GRPDEF): its name, None if it has none, and the indices of its segments."""
+
+    name: Optional[str]
+    segments: Tuple[int, ...]
+
+
+class Communal(NamedTuple):
+    """The size of a communal: its number of elements, 1 if it is near, and the size of an element in bytes."""
+
+    is_far: bool
+    elements: int
+    element_size: int
+
+
+class External(NamedTuple):
+    """An external name. is_local is true for one of a LEXTDEF or an LCOMDEF; communal is None except for one of a COMDEF or an LCOMDEF."""
+
+    name: str
+    type_index: int
+    is_local: bool
+    communal: Optional[Communal]
 
 
 class Public(NamedTuple):
-    """A public name (PUBDEF, LPUBDEF).
+    """A public name (PUBDEF; LPUBDEF, if is_local is true).
 
-    offset is in bytes: in the segment with index segment, or in a frame if segment is 0. group is the index of its group, or 0.
+    offset is in bytes: in the segment with index segment, or, if segment is 0, in the frame with the number frame, which is None otherwise.
+    group is the index of its group, or 0.
     """
 
     name: str
     offset: int
-    group: int
     segment: int
+    group: int
+    frame: Optional[int]
+    type_index: int
+    is_local: bool
+
+
+class Fixup(NamedTuple):
+    """A fixup, with its threads resolved.
+
+    Its location has size bytes at offset, in bytes, of the segment with index segment. location is the LOCATION field (LOCATIONS has the
+    names). frame and target are methods, each with its index, which is 0 at the methods LOCATION and TARGET. displacement is in bytes, a number
+    without a sign of bits bits. record is the number of its FIXUPP, from 0, and within the offset of its first byte in that record.
+    """
+
+    segment: int
+    offset: int
+    size: int
+    location: int
+    is_self_relative: bool
+    frame: Method
+    frame_index: int
+    target: Method
+    target_index: int
+    displacement: int
+    bits: int
+    record: int
+    within: int
 
 
 class Run(NamedTuple):
@@ -231,31 +294,10 @@ class Image(NamedTuple):
     start: Optional[Tuple[int, int]]
 
 
-def _image(listing: str) -> Image:
-    """The image that the lines of `omf reloc` show."""
-    runs, start = [], None
-    for line in listing.splitlines():
-        is_start = line.startswith("START ")
-        place, _, shown = line[6 if is_start else 0:].partition(" ")
-        at = tuple(int(part, 16) for part in place.split(":"))
-        if is_start:
-            start = at
-        elif runs and runs[-1][0] == at[0] and runs[-1][1] + len(runs[-1][2]) == at[1]:
-            runs[-1][2].extend(bytes.fromhex(shown))
-        else:
-            runs.append((*at, bytearray.fromhex(shown)))
-    return Image(tuple(Run(segment, offset, bytes(data)) for segment, offset, data in runs), start)
-
-
-def _unquoted(word: str) -> Optional[str]:
-    """A name of a listing: in double quotes, with \\xHH for bytes that are not plain; a dash is none."""
-    if word == "-":
-        return None
-    return re.sub(r"\\x([0-9A-F]{2})", lambda found: chr(int(found[1], 16)), word[1:-1])
-
-
-def _index(word: str) -> int:
-    return 0 if word == "-" else int(word)
+def _cut(rows: Any, data: bytes) -> Tuple[Run, ...]:
+    """Runs with their bytes, which follow one another in the data."""
+    ends = list(accumulate(row.size for row in rows))
+    return tuple(Run(row.segment, row.offset, data[end - row.size:end]) for row, end in zip(rows, ends))
 
 
 class Module:
@@ -276,36 +318,60 @@ class Module:
     def _bytes(self) -> Tuple[bytes, int]:
         return self._data, len(self._data)
 
-    @cached_property
-    def _listing(self) -> str:
-        return _text(_library.omf_list, *self._bytes(), self._flag).decode("ascii")
+    def _rows(self, table: str) -> Any:
+        return _made(getattr(_library, f"omf_{table}"), _TABLES[table], *self._bytes(), self._flag)
 
-    def _lines(self, kind: str, words: int) -> Iterator[List[str]]:
-        """The lines of a kind in the listing: `words` words after the kind, the last of which is a name."""
-        for line in self._listing.splitlines():
-            if line.startswith(kind + " "):
-                yield line.split(" ", words)[1:]
+    def _name(self, place: Any) -> str:
+        return self._data[place.offset:place.offset + place.size].decode("latin-1")
+
+    def _name_if(self, place: Any) -> Optional[str]:
+        return self._name(place) if place.offset else None
 
     @cached_property
     def segments(self) -> Tuple[Segment, ...]:
         """The segments; the one with index i is at i - 1."""
-        return tuple(Segment(_unquoted(name), int(length)) for _, length, name in self._lines("S", 3))
+        return tuple(
+            Segment(self._name_if(row.name), self._name_if(row.class_name), self._name_if(row.overlay_name), row.size, row.align, row.combine, row.bits,
+                    (row.frame, row.frame_offset) if row.is_absolute else None) for row in self._rows("segments"))
 
     @cached_property
-    def groups(self) -> Tuple[Optional[str], ...]:
-        """The names of the groups; the one with index i is at i - 1."""
-        return tuple(_unquoted(name) for _, name in self._lines("G", 2))
+    def groups(self) -> Tuple[Group, ...]:
+        """The groups; the one with index i is at i - 1."""
+        members = iter([row.segment for row in self._rows("group_members")])
+        return tuple(Group(self._name_if(row.name), tuple(next(members) for _ in range(row.members))) for row in self._rows("groups"))
 
     @cached_property
-    def externals(self) -> Tuple[str, ...]:
+    def externals(self) -> Tuple[External, ...]:
         """The external names, of EXTDEFs, COMDEFs, LEXTDEFs and LCOMDEFs; the one with index i is at i - 1."""
-        return tuple(_unquoted(name) or "" for _, name in self._lines("E", 2))
+        return tuple(
+            External(self._name(row.name), row.type_index, bool(row.is_local),
+                     Communal(row.communal == 2, row.elements, row.element_size) if row.communal else None) for row in self._rows("externals"))
 
     @cached_property
     def publics(self) -> Tuple[Public, ...]:
-        """The public names, in file order."""
+        """The public names, of PUBDEFs and LPUBDEFs, in file order."""
         return tuple(
-            Public(_unquoted(name) or "", int(offset, 16), _index(group), _index(segment)) for group, segment, offset, name in self._lines("P", 4))
+            Public(self._name(row.name), row.offset, row.segment, row.group, None if row.segment else row.frame, row.type_index, bool(row.is_local))
+            for row in self._rows("publics"))
+
+    @cached_property
+    def fixups(self) -> Tuple[Fixup, ...]:
+        """The fixups, in file order."""
+        return tuple(
+            Fixup(row.segment, row.offset, row.size, row.location, bool(row.is_self_relative), Method(row.frame_method), row.frame_index,
+                  Method(row.target_method), row.target_index, row.displacement, row.bits, row.number, row.within) for row in self._rows("fixups"))
+
+    def _entry_name(self, method: Method, index: int) -> Optional[str]:
+        tables: List[Any] = [self.segments, self.groups, self.externals]
+        return tables[method][index - 1].name if method < len(tables) else None
+
+    def target_name(self, fixup: Fixup) -> Optional[str]:
+        """The name of the segment, group or external that a fixup refers to; None if it has none."""
+        return self._entry_name(fixup.target, fixup.target_index)
+
+    def frame_name(self, fixup: Fixup) -> Optional[str]:
+        """The name of the segment, group or external whose frame a fixup takes; None if it has none, and at the methods LOCATION and TARGET."""
+        return self._entry_name(fixup.frame, fixup.frame_index)
 
     def relocate(self, placement: Union[str, bytes]) -> Image:
         """The module's image at the placement that a text gives (README.md describes it).
@@ -313,12 +379,20 @@ class Module:
         Raises PlacementLine, PlacementTooLong or Unreachable.
         """
         text = placement.encode("utf-8") if isinstance(placement, str) else bytes(placement)
-        return _image(_text(_library.omf_reloc, *self._bytes(), text, len(text), self._flag).decode("ascii"))
+        arguments = (*self._bytes(), text, len(text), self._flag)
+        answer = _library.omf_image(*arguments, None, 0, None, 0)
+        runs, image = (_Run * answer.record_count)(), (ctypes.c_uint8 * answer.size)()
+        if answer.status == _ROOM:
+            answer = _library.omf_image(*arguments, runs, len(runs), image, len(image))
+        if answer.status != _DONE:
+            raise _fault(answer)
+        starts = _made(_library.omf_start, _Start, *arguments)
+        return Image(_cut(runs, bytes(image)), (starts[0].selector, starts[0].offset) if len(starts) else None)
 
     def listing(self) -> str:
         """The lines that `omf list` prints."""
-        return self._listing
+        return bytes(_made(_library.omf_list, ctypes.c_uint8, *self._bytes(), self._flag)).decode("ascii")
 
     def canonical(self) -> bytes:
         """The canonical bytes: the same for all modules that differ only in encodings, checksums, threads or the division of fixups."""
-        return _text(_library.omf_canon, *self._bytes(), self._flag)
+        return bytes(_made(_library.omf_canon, ctypes.c_uint8, *self._bytes(), self._flag))

@@ -51,17 +51,39 @@ class Tables(unittest.TestCase):
         self.assertEqual((self.module.size, self.module.record_count), (len(TABLES), 12))
 
     def test_segments_have_names_and_lengths(self):
-        self.assertEqual(self.module.segments, (omf.Segment("T", 4),))
+        self.assertEqual(self.module.segments, (omf.Segment("T", "CODE", "", 4, 3, 2, 16, None),))
 
-    def test_groups_and_externals_have_names(self):
-        self.assertEqual((self.module.groups, self.module.externals), (("G",), ("X", "y", "N", "F")))
+    def test_an_absolute_segment_has_its_frame(self):
+        module = omf.Module(record(0x80, "01 41") + record(0x96, "00") + record(0x98, "08 00 B8 10 04 00 00 01 01") + record(0x8A, "00"))
+        self.assertEqual(module.segments, (omf.Segment(None, "", "", 4, 0, 2, 16, (0xB800, 0x10)),))
+
+    def test_groups_have_their_segments(self):
+        self.assertEqual(self.module.groups, (omf.Group("G", (1,)),))
+
+    def test_externals_have_their_kinds(self):
+        self.assertEqual(self.module.externals, (
+            omf.External("X", 7, False, None), omf.External("y", 0, True, None),
+            omf.External("N", 0, False, omf.Communal(False, 1, 6)), omf.External("F", 0, False, omf.Communal(True, 3, 2))))
 
     def test_publics_have_their_base(self):
-        self.assertEqual(self.module.publics, (omf.Public("P", 2, 1, 1), omf.Public("q", 3, 0, 1)))
+        self.assertEqual(self.module.publics, (omf.Public("P", 2, 1, 1, None, 9, False), omf.Public("q", 3, 1, 0, None, 0, True)))
+
+    def test_a_public_without_a_segment_has_its_frame(self):
+        module = omf.Module(record(0x80, "01 41") + record(0x90, "00 00 00 B8 01 58 02 00 00") + record(0x8A, "00"))
+        self.assertEqual(module.publics, (omf.Public("X", 2, 0, 0, 0xB800, 0, False),))
+
+    def test_fixups_have_their_threads_resolved(self):
+        fixup, = self.module.fixups
+        self.assertEqual(fixup, omf.Fixup(1, 1, 2, 1, True, omf.Method.GROUP, 1, omf.Method.EXTERNAL, 1, 5, 16, 10, 5))
+        self.assertEqual((self.module.frame_name(fixup), self.module.target_name(fixup), omf.LOCATIONS[fixup.location]), ("G", "X", "offset16"))
+
+    def test_a_frame_of_the_target_has_no_name(self):
+        module = omf.Module(bytes.fromhex(" ".join([HEADER, NAMES, SEGMENT, DATA])) + record(0x9C, "C4 01 54 01") + bytes.fromhex(END))
+        self.assertEqual((module.fixups[0].frame, module.fixups[0].frame_index, module.frame_name(module.fixups[0])), (omf.Method.TARGET, 0, None))
 
     def test_a_name_may_have_any_byte(self):
         odd = record(0x80, "01 41") + record(0x8C, "06 22 5C 00 FF 20 7E 00") + record(0x8A, "00")
-        self.assertEqual(omf.Module(odd).externals, ('"\\\0\xff ~',))
+        self.assertEqual([external.name for external in omf.Module(odd).externals], ['"\\\0\xff ~'])
 
     def test_an_empty_table_is_empty(self):
         self.assertEqual((omf.Module(FIRST).groups, omf.Module(FIRST).publics, omf.Module(FIRST).externals), ((), (), ()))
@@ -70,6 +92,13 @@ class Tables(unittest.TestCase):
 class Texts(unittest.TestCase):
     def test_an_image_has_its_runs(self):
         self.assertEqual(omf.Module(FIRST).relocate(PLACED), omf.Image((omf.Run(1, 0, bytes.fromhex("B8 20 00 90")),), None))
+
+    def test_an_image_has_its_start(self):
+        module = omf.Module(bytes.fromhex(" ".join([HEADER, NAMES, SEGMENT, DATA, FIXUP])) + record(0x8A, "C1 00 01 01 02 00"))
+        self.assertEqual(module.relocate(PLACED), omf.Image((omf.Run(1, 0, bytes.fromhex("B8 20 00 90")),), (0x1000, 0x22)))
+
+    def test_a_module_without_data_has_no_runs(self):
+        self.assertEqual(omf.Module(bytes.fromhex(HEADER + END)).relocate(""), omf.Image((), None))
 
     def test_canonical_bytes_are_their_own(self):
         self.assertEqual(omf.Module(FIRST).canonical(), FIRST)

@@ -1,9 +1,11 @@
 #!/usr/bin/env bash
-# Tries the C library: run.sh [FOLDER..]. LIBRARY names the archive (libomf.a), OMF the program (omf).
+# Tries the C library: run.sh [FOLDER..]. LIBRARY names the archive (libomf.a), OMF the program (omf), OMF_DUMP the program omf-dump.
 #
-# The program calls.c is built by gcc and by clang. Each goes through every call and every status. Then each checks, lists, makes
+# The program tables.c is built by two C compilers and two of C++; it makes each call that hands out a table or an image. The program calls.c
+# is built by gcc and by clang. Each goes through every other call and every status. Then each checks, lists, makes
 # canonical and relocates every module of examples/ and of the folders, and what it prints is compared with what the program prints. The
-# same is done once under valgrind, and by the Python package over a shared library. A tool that is missing is named and passed over.
+# same is done once under valgrind, and by the Python package over a shared library. The examples show.c and show.py are compared with
+# `omf-dump --json` and `omf reloc`, on each module whose placement reaches. A tool that is missing is named and passed over.
 set -uo pipefail
 here=$(cd "$(dirname "$0")" && pwd)
 library=${LIBRARY:-libomf.a}
@@ -63,13 +65,21 @@ compare() { # compare NAME COMMAND..: what the command prints for each job is wh
     done
 }
 
-# A C++ program reads the header too.
-if command -v g++ > /dev/null; then
-    printf '#include <omf.h>\nint main() { return omf_version() == OMF_VERSION_NUMBER ? 0 : 1; }\n' > "$work/version.cc"
-    { g++ -Wall -Wextra -Werror -I"$here/../../include" "$work/version.cc" "$library" -o "$work/version" && "$work/version"; } || fail "g++: the header, or a call"
-else
-    echo "g++ is missing: passed over"
-fi
+# The tables, by C and C++ compilers.
+for compiler in "gcc -std=c11" "clang -std=c11" "g++ -x c++" "clang++ -x c++"; do
+    name=${compiler%% *}
+    if ! command -v "$name" > /dev/null; then
+        echo "$name is missing: passed over"
+        continue
+    fi
+    $compiler -Wall -Wextra -Werror -O1 -g -I"$here/../../include" -c "$here/tables.c" -o "$work/tables.o" \
+        && "$name" "$work/tables.o" -Wl,--wrap=malloc,--wrap=realloc "$library" -o "$work/tables-$name" || {
+        fail "$name does not build the tables"
+        continue
+    }
+    said=$("$work/tables-$name") || fail "$name: a table is another one: $said"
+    echo "$name: $said"
+done
 version=$(cat "$here/../../VERSION")
 grep -q "^#define OMF_VERSION \"$version\"$" "$here/../../include/omf.h" || fail "the header's version is not that of the file VERSION"
 
@@ -92,6 +102,8 @@ if ! command -v valgrind > /dev/null; then
     echo "valgrind is missing: passed over"
 elif [ -x "$work/calls-gcc" ]; then
     valgrind=(valgrind -q --error-exitcode=9 --leak-check=full)
+    said=$("${valgrind[@]}" "$work/tables-gcc") || fail "valgrind finds an error in the tables"
+    echo "valgrind: $said"
     said=$("${valgrind[@]}" "$work/calls-gcc") || fail "valgrind finds an error"
     echo "valgrind: $said"
     compare valgrind "${valgrind[@]}" "$work/calls-gcc"
@@ -109,5 +121,18 @@ else
     [ "$said" = OK ] || fail "the tests of the Python package: $said"
     compare python by_python
     echo "python: ${jobs[*]} as the program, on $count modules"
+    reached=()
+    for module in "${modules[@]}"; do
+        size=$("$omf" check < "$module" | sed -n 's/^OK .* records, \(.*\) bytes$/\1/p')
+        if [ -n "$size" ] && head -c "$size" "$module" | cat - "$module.place" | "$omf" reloc > /dev/null 2>&1; then
+            reached+=("$module")
+        fi
+    done
+    if command -v "${OMF_DUMP:-omf-dump}" > /dev/null; then
+        gcc -std=c11 -Wall -Wextra -Werror -I"$here/../../include" "$here/../../examples/c/show.c" "$library" -o "$work/show" || fail "show.c is not built"
+        "$here/agree.py" "$work/show" "$omf" "${OMF_DUMP:-omf-dump}" "${reached[@]}" || fail "the examples differ from the programs"
+    else
+        echo "there is no omf-dump: the examples are passed over"
+    fi
 fi
 exit $((failures > 0))

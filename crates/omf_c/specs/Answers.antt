@@ -43,18 +43,18 @@ of_fault (fault.Line n) = record done { status = 5; line = n }
 of_fault fault.TooLong = record done { status = 6 }
 of_fault (fault.Reach f) = of_reach f
 
--- A text that fits is at the start of the buffer, and the rest of the buffer is unchanged; if the text does not fit, the whole buffer is
--- unchanged. The result has the size of the text.
-abbrev pub HandsOut : List ℕ → Answer → List ℕ → List ℕ → Type 0
+-- A text, or the rows of a table. One that fits is at the start of the buffer, and the rest of the buffer is unchanged; if it does not fit,
+-- the whole buffer is unchanged. The result has its size: the number of bytes, or of rows.
+abbrev pub HandsOut : {A : Type 0} → List A → Answer → List A → List A → Type 0
 HandsOut text answer old new =
     ((length text ≤ length old) × (answer ≡ record done { size = length text }) × (new ≡ text ++ drop (length text) old))
     ⊎ ((length old < length text) × (answer ≡ record done { status = 8; size = length text }) × (new ≡ old))
 
 -- The result for a text, or for the fault in its place. A fault leaves the buffer unchanged.
-abbrev pub Tells : Result (List ℕ) RunFault → Answer → List ℕ → List ℕ → Type 0
+abbrev pub Tells : {A : Type 0} → Result (List A) RunFault → Answer → List A → List A → Type 0
 Tells (Ok text) answer old new = HandsOut text answer old new
 Tells (Err f) answer old new = (answer ≡ of_fault f) × (new ≡ old)
 
 -- A call made a text or a fault by this rule, and returned the result for it.
-abbrev pub IsAnswered : (Result (List ℕ) RunFault → Type 0) → Answer → List ℕ → List ℕ → Type 0
-IsAnswered IsMade answer old new = (made : Result (List ℕ) RunFault) × IsMade made × Tells made answer old new
+abbrev pub IsAnswered : {A : Type 0} → (Result (List A) RunFault → Type 0) → Answer → List A → List A → Type 0
+IsAnswered {A} IsMade answer old new = (made : Result (List A) RunFault) × IsMade made × Tells made answer old new

@@ -1,3 +1,7 @@
 pub mod Answers
+pub mod Fixups
+pub mod Images
 pub mod Making
+pub mod Runs
+pub mod Tables
 pub mod Texts

@@ -25,8 +25,8 @@ abbrev pub IsModule : Profile → List ℕ → Result Module RunFault → Type 0
 IsModule profile bytes (Ok m) = (a : IsAccepted profile profile_limits bytes (records_in m.bytes)) × (a.bytes ≡ m.bytes)
 IsModule profile bytes (Err f) = IsNoModule profile bytes f
 
--- A text made from the records of the module at the start of the bytes.
-abbrev pub IsTextOf : (List Raw → List ℕ) → Profile → List ℕ → Result (List ℕ) RunFault → Type 0
+-- A text, or the rows of a table, made from the records of the module at the start of the bytes.
+abbrev pub IsTextOf : {A : Type 0} → (List Raw → List A) → Profile → List ℕ → Result (List A) RunFault → Type 0
 IsTextOf text profile bytes (Ok shown) = (records : List Raw) × IsAccepted profile profile_limits bytes records × (shown ≡ text records)
 IsTextOf text profile bytes (Err f) = IsNoModule profile bytes f
 

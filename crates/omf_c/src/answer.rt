@@ -28,7 +28,7 @@ pub struct Answer {
     pub start: u64,
     /// At status 5: the number of the line, from 1.
     pub line: u64,
-    /// The size of the text in bytes, at status 0 or 8. For `omf_check` at status 0: the size of the module.
+    /// The size of the text in bytes, or the number of rows, at status 0 or 8. For `omf_check` at status 0: the size of the module.
     pub size: u64,
     /// For `omf_check` at status 0: the number of records in the module.
     pub record_count: u64,
@@ -148,20 +148,20 @@ pub(crate) fn fault_answer(fault: RunFault) -> Answer
     }
 }
 
-/// Copies a text to the start of a buffer if it fits; otherwise the buffer is unchanged. The result has the size of the text in either
-/// case.
-pub(crate) fn hand_out(text: &[u8], out: &mut [u8]) -> Answer
-    ensures { HandsOut text.now result out.old out.new }
+/// Copies a text, or the rows of a table, to the start of a buffer if it fits; otherwise the buffer is unchanged. The result has its size in
+/// either case: the number of bytes, or of rows.
+pub(crate) fn hand_out<T: Copy>(made: &[T], out: &mut [T]) -> Answer
+    ensures { HandsOut made.now result out.old out.new }
 {
-    let size = text.len() as u64;
-    if text.len() > out.len() {
+    let size = made.len() as u64;
+    if made.len() > out.len() {
         return Answer {
             status: 8,
             size,
             ..NOTHING
         };
     }
-    let (room, _rest) = out.split_at_mut(text.len());
-    room.copy_from_slice(text);
+    let (room, _rest) = out.split_at_mut(made.len());
+    room.copy_from_slice(made);
     Answer { size, ..NOTHING }
 }

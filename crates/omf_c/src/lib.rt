@@ -6,12 +6,27 @@
 
 mod answer;
 mod calls;
+mod fixups;
+mod images;
 mod making;
 mod reasons;
+mod row_calls;
+#[cfg(test)]
+mod row_tests;
+mod rows;
+mod runs;
+mod table;
+mod tables;
 #[cfg(test)]
 mod tests;
 mod texts;
 
 pub use answer::Answer;
-pub use calls::{omf_canon, omf_check, omf_list, omf_reloc};
+pub use calls::{omf_canon, omf_check, omf_image, omf_list, omf_reloc, omf_start};
+pub use row_calls::{
+    omf_externals, omf_fixups, omf_group_members, omf_groups, omf_publics, omf_segments,
+};
+pub use rows::{
+    ExternalRow, FixupRow, GroupRow, MemberRow, NamePlace, PublicRow, RunRow, SegmentRow, StartRow,
+};
 pub use texts::{omf_fault_line, omf_reason_name, omf_reason_sentence, omf_version};

@@ -7,8 +7,13 @@ ghost use Rattle.omf_check.specs.WellFormed.{recs};
 ghost use Rattle.omf_cmd.specs.Listing.{list_text};
 ghost use Rattle.omf_records.specs.Inner.Seen.{map_ok};
 ghost use Rattle.omf_cmd.specs.declared.fault.RunFault.TheVariants.{Memory};
+ghost use Rattle.omf_c.specs.Fixups.{fixup_rows};
+ghost use Rattle.omf_c.specs.Tables.{table_of};
 ghost use Rattle.omf_c.specs.Making.{IsMade, IsModule, IsTextOf, IsPlacedText};
 
+use crate::fixups::fixups_of;
+use crate::rows::FixupRow;
+use crate::table::{Row, table_of};
 use omf_canon::canon;
 use omf_check::{CheckFault, Checked, Profile, check};
 use omf_cmd::{Gathered, Listing, RunFault, print_list};
@@ -62,6 +67,30 @@ pub(crate) fn canonical(alloc: Global, profile: Profile, bytes: &[u8]) -> Result
 {
     let checked = module_of(alloc, profile, bytes)?;
     Ok(canon(alloc, &checked)?)
+}
+
+/// A table of the module at the start of the bytes.
+pub(crate) fn table<T: Row>(
+    alloc: Global,
+    profile: Profile,
+    bytes: &[u8],
+) -> Result<Vec<T>, RunFault>
+    ensures { IsTextOf (table_of T.given) profile bytes.now (map_ok (λ v. v.items) result) }
+{
+    let checked = module_of(alloc, profile, bytes)?;
+    Ok(table_of::<T>(alloc, &checked)?)
+}
+
+/// The fixups of the module at the start of the bytes.
+pub(crate) fn fixups(
+    alloc: Global,
+    profile: Profile,
+    bytes: &[u8],
+) -> Result<Vec<FixupRow>, RunFault>
+    ensures { IsTextOf fixup_rows profile bytes.now (map_ok (λ v. v.items) result) }
+{
+    let checked = module_of(alloc, profile, bytes)?;
+    Ok(fixups_of(alloc, &checked)?)
 }
 
 /// The listing of a module's image at the placement that a text gives.

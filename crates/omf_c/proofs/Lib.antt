@@ -1,0 +1,3 @@
+mod ImageLaws
+mod PlacedLaws
+mod RowLaws

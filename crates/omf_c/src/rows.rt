@@ -1,0 +1,135 @@
+//! The rows of a module's tables, for C.
+
+/// Where a name is in the module: its first byte, and its number of bytes, 0 to 255. An offset of 0 is no name.
+#[repr(C)]
+#[derive(Clone, Copy, Debug, Drop, PartialEq, Eq)]
+pub struct NamePlace {
+    /// In bytes from the start of the module.
+    pub offset: u64,
+    /// In bytes.
+    pub size: u64,
+}
+
+/// A segment (TIS OMF 1.1, "SEGDEF").
+#[repr(C)]
+#[derive(Clone, Copy, Debug, Drop, PartialEq, Eq)]
+pub struct SegmentRow {
+    pub name: NamePlace,
+    pub class_name: NamePlace,
+    pub overlay_name: NamePlace,
+    /// Its length in bytes, 0 to 2^32.
+    pub size: u64,
+    /// The A field: 0 absolute, 1 byte, 2 word, 3 paragraph, 4 page, 5 double word.
+    pub align: u32,
+    /// The C field: 0 private, 2, 4 and 7 public, 5 stack, 6 common.
+    pub combine: u32,
+    /// The bits of its code: 16 or 32.
+    pub bits: u32,
+    /// 1 if it is absolute.
+    pub is_absolute: u32,
+    /// Of an absolute segment: the number of its frame, and its offset in the frame in bytes. 0 of any other.
+    pub frame: u32,
+    pub frame_offset: u32,
+}
+
+/// A group (TIS OMF 1.1, "GRPDEF").
+#[repr(C)]
+#[derive(Clone, Copy, Debug, Drop, PartialEq, Eq)]
+pub struct GroupRow {
+    pub name: NamePlace,
+    /// The number of its members.
+    pub members: u64,
+}
+
+/// A member of a group.
+#[repr(C)]
+#[derive(Clone, Copy, Debug, Drop, PartialEq, Eq)]
+pub struct MemberRow {
+    /// The index of a segment, from 1.
+    pub segment: u32,
+}
+
+/// An external name (TIS OMF 1.1, "EXTDEF", "COMDEF", "LEXTDEF", "LCOMDEF").
+#[repr(C)]
+#[derive(Clone, Copy, Debug, Drop, PartialEq, Eq)]
+pub struct ExternalRow {
+    pub name: NamePlace,
+    pub type_index: u32,
+    /// 1 if it is local to the module.
+    pub is_local: u32,
+    /// 0 if it is no communal, 1 if it is a near one, 2 if it is a far one.
+    pub communal: u32,
+    /// Of a communal: the number of its elements, 1 of a near one; and the size of an element in bytes. 0 of any other.
+    pub elements: u32,
+    pub element_size: u32,
+    /// Always 0.
+    pub unused: u32,
+}
+
+/// A public name (TIS OMF 1.1, "PUBDEF", "LPUBDEF").
+#[repr(C)]
+#[derive(Clone, Copy, Debug, Drop, PartialEq, Eq)]
+pub struct PublicRow {
+    pub name: NamePlace,
+    /// In bytes: in its segment, or in its base frame if it has no segment.
+    pub offset: u32,
+    /// The index of its segment and of its group, from 1; 0 for none.
+    pub segment: u32,
+    pub group: u32,
+    /// The number of its base frame if it has no segment; else 0.
+    pub frame: u32,
+    pub type_index: u32,
+    /// 1 if it is local to the module.
+    pub is_local: u32,
+}
+
+/// A fixup with its threads resolved (TIS OMF 1.1, "FIXUPP").
+#[repr(C)]
+#[derive(Clone, Copy, Debug, Drop, PartialEq, Eq)]
+pub struct FixupRow {
+    /// The first byte of its location, in bytes from the start of its segment.
+    pub offset: u64,
+    /// The index of the segment that it changes, from 1.
+    pub segment: u32,
+    /// The LOCATION field, the type of the location.
+    pub location: u32,
+    /// The size of the location in bytes: 1, 2, 4 or 6.
+    pub size: u32,
+    /// 1 if it is self-relative, 0 if it is segment-relative.
+    pub is_self_relative: u32,
+    /// The frame method, 0 to 2, 4 or 5, and the index of its segment, group or external; 0 for F4 and F5.
+    pub frame_method: u32,
+    pub frame_index: u32,
+    /// The target method, 0 to 2, and the index of its segment, group or external.
+    pub target_method: u32,
+    pub target_index: u32,
+    /// In bytes, as a number without a sign; 0 if the FIXUP has none.
+    pub displacement: u32,
+    /// The bits of its displacement's field: 16 or 32.
+    pub bits: u32,
+    /// Where it is: the number of its FIXUPP, from 0, and the offset of its first byte in that record.
+    pub number: u32,
+    pub within: u32,
+}
+
+/// A run of bytes of a relocated segment. No byte next to it is covered.
+#[repr(C)]
+#[derive(Clone, Copy, Debug, Drop, PartialEq, Eq)]
+pub struct RunRow {
+    /// Its number of bytes.
+    pub size: u64,
+    /// The index of the segment, from 1.
+    pub segment: u32,
+    /// Its first byte, in bytes from the start of the segment.
+    pub offset: u32,
+}
+
+/// The start address of a relocated module (TIS OMF 1.1, "MODEND").
+#[repr(C)]
+#[derive(Clone, Copy, Debug, Drop, PartialEq, Eq)]
+pub struct StartRow {
+    /// The selector of its frame.
+    pub selector: u32,
+    /// In bytes, in its frame.
+    pub offset: u32,
+}

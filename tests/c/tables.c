@@ -1,0 +1,242 @@
+/* Makes each call that hands out a table or an image, and compares every row and byte with those worked out by hand: tables
+ *
+ * It is C and C++. Each call is made with no room, one row too few, exactly enough and one row more, in a buffer of exactly that size, so that
+ * valgrind sees a byte too many; and with each of its allocations refused in turn (the linker's --wrap). */
+#include <omf.h>
+#include <stdio.h>
+#include <stdlib.h>
+#include <string.h>
+
+static int failures;
+
+static void fail(const char *what, const char *how) {
+    printf("%s: %s\n", what, how);
+    failures++;
+}
+
+/* Names "", T, CODE and G; a segment T of class CODE with 4 bytes; a group G of it; an EXTDEF X, an LEXTDEF y, COMDEFs N (near, 6 bytes) and F
+ * (far, 3 elements of 2 bytes); a public P and a local public q; data, and a self-relative fixup of the external X whose frame is a
+ * thread's, that of the group. The comments have the offset of each record. Checksum bytes are 0, which is not checked. */
+static const uint8_t tables[] = {
+    0x80, 0x03, 0x00, 0x01, 0x41, 0x00,                                                             /* 0 THEADR */
+    0x96, 0x0B, 0x00, 0x00, 0x01, 0x54, 0x04, 0x43, 0x4F, 0x44, 0x45, 0x01, 0x47, 0x00,             /* 6 LNAMES */
+    0x98, 0x07, 0x00, 0x68, 0x04, 0x00, 0x02, 0x03, 0x01, 0x00,                                     /* 20 SEGDEF */
+    0x9A, 0x04, 0x00, 0x04, 0xFF, 0x01, 0x00,                                                       /* 30 GRPDEF */
+    0x8C, 0x04, 0x00, 0x01, 0x58, 0x07, 0x00,                                                       /* 37 EXTDEF */
+    0xB4, 0x04, 0x00, 0x01, 0x79, 0x00, 0x00,                                                       /* 44 LEXTDEF */
+    0xB0, 0x0C, 0x00, 0x01, 0x4E, 0x00, 0x62, 0x06, 0x01, 0x46, 0x00, 0x61, 0x03, 0x02, 0x00,       /* 51 COMDEF */
+    0x90, 0x08, 0x00, 0x01, 0x01, 0x01, 0x50, 0x02, 0x00, 0x09, 0x00,                               /* 66 PUBDEF */
+    0xB6, 0x08, 0x00, 0x00, 0x01, 0x01, 0x71, 0x03, 0x00, 0x00, 0x00,                               /* 77 LPUBDEF */
+    0xA0, 0x08, 0x00, 0x01, 0x00, 0x00, 0xE8, 0x00, 0x00, 0x90, 0x00,                               /* 88 LEDATA */
+    0x9C, 0x09, 0x00, 0x45, 0x01, 0x84, 0x01, 0x92, 0x01, 0x05, 0x00, 0x00,                         /* 99 FIXUPP */
+    0x8A, 0x02, 0x00, 0x00, 0x00,                                                                   /* 111 MODEND */
+};
+
+/* An absolute segment at B800H:0010H, 32-bit, big, without a name; a public in the frame B800H; a second segment, with data at 4; fixups
+ * in the frames of the location and of the target, the second with 32-bit fields, and one of the first segment after data of its own. */
+static const uint8_t others[] = {
+    0x80, 0x03, 0x00, 0x01, 0x41, 0x00,                                                             /* 0 THEADR */
+    0x96, 0x02, 0x00, 0x00, 0x00,                                                                   /* 6 LNAMES */
+    0x99, 0x0C, 0x00, 0x03, 0x00, 0xB8, 0x10, 0x00, 0x00, 0x00, 0x00, 0x00, 0x00, 0x00, 0x00,       /* 11 SEGDEF */
+    0x98, 0x07, 0x00, 0x28, 0x08, 0x00, 0x01, 0x01, 0x00, 0x00,                                     /* 26 SEGDEF */
+    0x90, 0x0A, 0x00, 0x00, 0x00, 0x00, 0xB8, 0x01, 0x58, 0x02, 0x00, 0x00, 0x00,                   /* 36 PUBDEF */
+    0xA0, 0x08, 0x00, 0x02, 0x04, 0x00, 0x01, 0x02, 0x03, 0x04, 0x00,                               /* 49 LEDATA */
+    0x9C, 0x05, 0x00, 0xC4, 0x02, 0x44, 0x01, 0x00,                                                 /* 60 FIXUPP */
+    0x9D, 0x09, 0x00, 0xE4, 0x00, 0x50, 0x02, 0x78, 0x56, 0x34, 0x12, 0x00,                         /* 68 FIXUPP */
+    0xA1, 0x07, 0x00, 0x01, 0x00, 0x00, 0x00, 0x80, 0x55, 0x00,                                     /* 80 LEDATA */
+    0x9C, 0x06, 0x00, 0xC0, 0x00, 0x04, 0x01, 0x02, 0x00,                                           /* 90 FIXUPP */
+    0x8A, 0x02, 0x00, 0x00, 0x00,                                                                   /* 99 MODEND */
+};
+
+static const struct omf_segment tables_segments[] = {{{11, 1}, {13, 4}, {10, 0}, 4, 3, 2, 16, 0, 0, 0}};
+static const struct omf_group tables_groups[] = {{{18, 1}, 1}};
+static const struct omf_member tables_members[] = {{1}};
+static const struct omf_external tables_externals[] = {
+    {{41, 1}, 7, 0, 0, 0, 0, 0}, {{48, 1}, 0, 1, 0, 0, 0, 0}, {{55, 1}, 0, 0, 1, 1, 6, 0}, {{60, 1}, 0, 0, 2, 3, 2, 0}};
+static const struct omf_public tables_publics[] = {{{72, 1}, 2, 1, 1, 0, 9, 0}, {{83, 1}, 3, 1, 0, 0, 0, 1}};
+static const struct omf_fixup tables_fixups[] = {{1, 1, 1, 2, 1, 1, 1, 2, 1, 5, 16, 10, 5}};
+
+static const struct omf_segment others_segments[] = {{{0, 0}, {0, 0}, {0, 0}, 4294967296, 0, 0, 32, 1, 0xB800, 0x10},
+                                                     {{10, 0}, {10, 0}, {0, 0}, 8, 1, 2, 16, 0, 0, 0}};
+static const struct omf_public others_publics[] = {{{44, 1}, 2, 0, 0, 0xB800, 0, 0}};
+static const struct omf_fixup others_fixups[] = {{6, 2, 1, 2, 0, 4, 0, 0, 1, 0, 16, 6, 3},
+                                                 {4, 2, 9, 4, 0, 5, 0, 0, 2, 0x12345678, 32, 7, 3},
+                                                 {0x80000000, 1, 0, 1, 0, 0, 1, 0, 2, 0, 16, 9, 3}};
+
+/* The linker sends the library's calls of malloc and realloc here: the one of this number, from 0, is refused, and all after it. */
+static long refused_from = -1, allocations;
+
+static bool is_refused(void) { return refused_from >= 0 && allocations++ >= refused_from; }
+
+#ifdef __cplusplus
+extern "C" {
+#endif
+void *__real_malloc(size_t size);
+void *__real_realloc(void *at, size_t size);
+void *__wrap_malloc(size_t size);
+void *__wrap_realloc(void *at, size_t size);
+void *__wrap_malloc(size_t size) { return is_refused() ? NULL : __real_malloc(size); }
+void *__wrap_realloc(void *at, size_t size) { return is_refused() ? NULL : __real_realloc(at, size); }
+#ifdef __cplusplus
+}
+#endif
+
+static bool has(struct omf_answer is, uint32_t status, size_t size) {
+    return is.status == status && is.reason == 0 && is.kind == 0 && is.index == 0 && is.number == 0 && is.within == 0 && is.start == 0
+        && is.line == 0 && is.size == size && is.record_count == 0;
+}
+
+/* Makes the call with each room; `wanted` has `count` rows. */
+#define WITH_ROWS(name, row, bytes, wanted, count)                                                                              \
+    static void name(void) {                                                                                                    \
+        const size_t size = sizeof(struct row), most = (count) + 1;                                                             \
+        for (size_t room = 0; room <= most; room++) {                                                                           \
+            struct row *out = (struct row *)malloc(room ? room * size : 1), *before = (struct row *)malloc(most * size);       \
+            if (!out || !before) exit(2);                                                                                       \
+            memset(out, 7, room ? room * size : 1);                                                                             \
+            memset(before, 7, most * size);                                                                                     \
+            struct omf_answer is = row##s(bytes, sizeof bytes, false, out, room);                                               \
+            if (!has(is, room < (count) ? OMF_ROOM : OMF_DONE, (count))) fail(#name, "another answer");                         \
+            if (room >= (count)) memcpy(before, wanted, (count) * size);                                                        \
+            if (memcmp(out, before, room * size) != 0) fail(#name, "other rows");                                               \
+            free(out);                                                                                                          \
+            free(before);                                                                                                       \
+        }                                                                                                                       \
+        struct omf_answer is;                                                                                                   \
+        long n = 0;                                                                                                             \
+        do {                                                                                                                    \
+            struct row out[8], before[8];                                                                                       \
+            memset(out, 7, sizeof out);                                                                                         \
+            memset(before, 7, sizeof before);                                                                                   \
+            refused_from = n++;                                                                                                 \
+            allocations = 0;                                                                                                    \
+            is = row##s(bytes, sizeof bytes, false, out, 8);                                                                    \
+            refused_from = -1;                                                                                                  \
+            if (is.status == OMF_MEMORY && !(has(is, OMF_MEMORY, 0) && memcmp(out, before, sizeof out) == 0)) fail(#name, "memory"); \
+        } while (is.status == OMF_MEMORY);                                                                                      \
+        if (n < 2 || !has(is, OMF_DONE, (count))) fail(#name, "refused allocations");                                           \
+        struct row out[1], before[1];                                                                                           \
+        memset(out, 7, sizeof out);                                                                                             \
+        memset(before, 7, sizeof before);                                                                                       \
+        is = row##s(bytes, sizeof bytes - 4, false, out, 1);                                                                    \
+        if (is.status != OMF_REFUSED || is.reason != OMF_CUT || memcmp(out, before, sizeof out) != 0) fail(#name, "cut");        \
+    }
+
+#define COUNT(rows) (sizeof(rows) / sizeof((rows)[0]))
+#define omf_members omf_group_members
+
+WITH_ROWS(segments, omf_segment, tables, tables_segments, COUNT(tables_segments))
+WITH_ROWS(groups, omf_group, tables, tables_groups, COUNT(tables_groups))
+WITH_ROWS(members, omf_member, tables, tables_members, COUNT(tables_members))
+WITH_ROWS(externals, omf_external, tables, tables_externals, COUNT(tables_externals))
+WITH_ROWS(publics, omf_public, tables, tables_publics, COUNT(tables_publics))
+WITH_ROWS(fixups, omf_fixup, tables, tables_fixups, COUNT(tables_fixups))
+WITH_ROWS(other_segments, omf_segment, others, others_segments, COUNT(others_segments))
+WITH_ROWS(other_publics, omf_public, others, others_publics, COUNT(others_publics))
+WITH_ROWS(other_fixups, omf_fixup, others, others_fixups, COUNT(others_fixups))
+
+/* Segments of 4 and 2 bytes, with data at 0 and 3 of the first, and at 0 of the second; a fixup of the word at 1 by the first segment; and a
+ * start at offset 2 of the first. At the addresses 10020H and 10030H in the frame 1000H the word is 20H, and the start 1000H:0022H. */
+static const uint8_t placed[] = {
+    0x80, 0x03, 0x00, 0x01, 0x41, 0x00, 0x96, 0x02, 0x00, 0x00, 0x00,                               /* THEADR, LNAMES */
+    0x98, 0x07, 0x00, 0x28, 0x05, 0x00, 0x01, 0x01, 0x01, 0x00,                                     /* SEGDEF */
+    0x98, 0x07, 0x00, 0x28, 0x02, 0x00, 0x01, 0x01, 0x01, 0x00,                                     /* SEGDEF */
+    0xA0, 0x07, 0x00, 0x01, 0x00, 0x00, 0xB8, 0x00, 0x00, 0x00,                                     /* LEDATA */
+    0x9C, 0x06, 0x00, 0xC4, 0x01, 0x04, 0x01, 0x01, 0x00,                                           /* FIXUPP */
+    0xA0, 0x05, 0x00, 0x01, 0x04, 0x00, 0x90, 0x00, 0xA0, 0x06, 0x00, 0x02, 0x00, 0x00, 0xCD, 0x20, 0x00, /* LEDATA, LEDATA */
+    0x8A, 0x07, 0x00, 0xC1, 0x00, 0x01, 0x01, 0x02, 0x00, 0x00,                                     /* MODEND */
+};
+static const char placement[] = "S 10020 10000 1000\nS 10030 10000 1000\n";
+static const struct omf_run placed_runs[] = {{3, 1, 0}, {1, 1, 4}, {2, 2, 0}};
+static const uint8_t placed_bytes[] = {0xB8, 0x20, 0x00, 0x90, 0xCD, 0x20};
+
+static struct omf_answer image(const char *text, struct omf_run *runs, size_t run_room, uint8_t *out, size_t room) {
+    return omf_image(placed, sizeof placed, (const uint8_t *)text, strlen(text), false, runs, run_room, out, room);
+}
+
+static bool has_sizes(struct omf_answer is, uint32_t status) {
+    return is.status == status && is.size == 6 && is.record_count == 3;
+}
+
+/* The image, with each number of runs and of bytes that is too small or enough. */
+static void images(void) {
+    for (size_t run_room = 0; run_room <= 4; run_room++) {
+        for (size_t room = 0; room <= 7; room++) {
+            const size_t size = run_room * sizeof(struct omf_run);
+            struct omf_run *runs = (struct omf_run *)malloc(size ? size : 1), run_before[4];
+            uint8_t *out = (uint8_t *)malloc(room ? room : 1), before[7];
+            if (!runs || !out) exit(2);
+            memset(runs, 7, size ? size : 1);
+            memset(run_before, 7, sizeof run_before);
+            memset(out, 7, room ? room : 1);
+            memset(before, 7, sizeof before);
+            const bool fits = run_room >= 3 && room >= 6;
+            if (!has_sizes(image(placement, runs, run_room, out, room), fits ? OMF_DONE : OMF_ROOM)) fail("image", "another answer");
+            if (fits) {
+                memcpy(run_before, placed_runs, sizeof placed_runs);
+                memcpy(before, placed_bytes, sizeof placed_bytes);
+            }
+            if (memcmp(runs, run_before, size) != 0 || memcmp(out, before, room) != 0) fail("image", "other bytes");
+            free(runs);
+            free(out);
+        }
+    }
+}
+
+/* The image with each allocation refused, and each fault of the text and the placement. */
+static void image_faults(void) {
+    struct omf_answer is;
+    struct omf_run runs[4], run_before[4];
+    uint8_t out[8], before[8];
+    long n = 0;
+    memset(run_before, 7, sizeof run_before);
+    memset(before, 7, sizeof before);
+    do {
+        memset(runs, 7, sizeof runs);
+        memset(out, 7, sizeof out);
+        refused_from = n++;
+        allocations = 0;
+        is = image(placement, runs, 4, out, 8);
+        refused_from = -1;
+        if (is.status == OMF_MEMORY && (memcmp(runs, run_before, sizeof runs) != 0 || memcmp(out, before, sizeof out) != 0)) fail("image", "memory");
+    } while (is.status == OMF_MEMORY);
+    if (n < 3 || !has_sizes(is, OMF_DONE)) fail("image", "refused allocations");
+    is = image("S 10020 10000 1000\nX\n", runs, 4, out, 8);
+    if (is.status != OMF_LINE || is.line != 2) fail("image", "line");
+    is = image("S 10020 10000 1000\n", runs, 4, out, 8);
+    if (is.status != OMF_REACH || is.reason != OMF_MISSING || is.kind != OMF_SEGMENT || is.index != 2) fail("image", "missing segment");
+    is = image("S 20000 10000 1000\nS 10030 10000 1000\n", runs, 4, out, 8);
+    if (is.status != OMF_REACH || is.reason != OMF_TOO_FAR || is.kind != OMF_TARGET || is.number != 5) fail("image", "target");
+}
+
+static void starts(void) {
+    struct omf_start out[2], before[2];
+    const uint8_t *text = (const uint8_t *)placement;
+    memset(out, 7, sizeof out);
+    memset(before, 7, sizeof before);
+    if (!has(omf_start(placed, sizeof placed, text, strlen(placement), false, out, 0), OMF_ROOM, 1) || memcmp(out, before, sizeof out) != 0) fail("start", "no room");
+    before[0].selector = 0x1000;
+    before[0].offset = 0x22;
+    if (!has(omf_start(placed, sizeof placed, text, strlen(placement), false, out, 2), OMF_DONE, 1) || memcmp(out, before, sizeof out) != 0) fail("start", "another one");
+    if (!has(omf_start(placed, 11, NULL, 0, false, out, 2), OMF_REFUSED, 0) && memcmp(out, before, sizeof out) != 0) fail("start", "cut");
+    static const uint8_t none[] = {0x80, 0x03, 0x00, 0x01, 0x41, 0x00, 0x8A, 0x02, 0x00, 0x00, 0x00};
+    if (!has(omf_start(none, sizeof none, NULL, 0, false, out, 2), OMF_DONE, 0)) fail("start", "none");
+}
+
+int main(void) {
+    images();
+    image_faults();
+    starts();
+    segments();
+    groups();
+    members();
+    externals();
+    publics();
+    fixups();
+    other_segments();
+    other_publics();
+    other_fixups();
+    if (omf_groups(others, sizeof others, false, NULL, 0).status != OMF_DONE) fail("no groups", "another answer");
+    if (failures == 0) printf("every table has its rows, every image its runs and bytes\n");
+    return failures > 0;
+}
