@@ -14,8 +14,8 @@ omf=${OMF-omf}
 uses=$(realpath -m "${OMF_USES:-crates/omf_uses/out/omf_uses}")
 library=$(realpath -m "${LIBOMF:-build/libomf.so}")
 work=$(mktemp -d)
-# A page compiles a program `list`.
-made=$([ -e list ] || echo list)
+# A page compiles a program `show`.
+made=$([ -e show ] || echo show)
 trap 'rm -rf "$work" ${made:+"$made"}' EXIT
 mkdir "$work/bin" "$work/cases"
 export PAIR=$uses
@@ -45,7 +45,7 @@ lacks_tool() {
     grep -q 'omf-lib' <<< "$1" && ! command -v omf-lib > /dev/null && return
     grep -q 'examples/pair/run\|out/omf_uses' <<< "$1" && ! [ -x "$uses" ] && return
     grep -q '/srv/\|FOLDER\|< slow' <<< "$1" && return
-    grep -q 'pkg-config\|\./list' <<< "$1" && ! pkg-config --exists omf 2> /dev/null && return
+    grep -q 'pkg-config\|\./show' <<< "$1" && ! pkg-config --exists omf 2> /dev/null && return
     grep -q 'build/libomf' <<< "$1" && ! [ -e "$library" ] && return
     grep -q '^xxd' <<< "$1" && ! command -v xxd > /dev/null
 }
