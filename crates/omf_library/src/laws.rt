@@ -1,6 +1,7 @@
 //! Laws over the definitions, each the contract of a function that does nothing.
 
 ghost use Rattle.omf_library.specs.Laws.{MembersAreUnique, MembersLieInside, MembersAreDisjoint, FaultsExclude, AnswersAreUnique};
+ghost use Rattle.omf_library.specs.SearchLaws.{SearchesFindEntries};
 
 /// Bytes are a library with one list of members at most.
 pub fn members_are_unique()
@@ -26,4 +27,9 @@ pub fn faults_exclude()
 /// Bytes have at most one answer, out of memory aside: their members, or why they are no library.
 pub fn answers_are_unique()
     ensures { AnswersAreUnique }
+{}
+
+/// What a search of a dictionary finds is an entry of the name in one of the blocks.
+pub fn searches_find_entries()
+    ensures { SearchesFindEntries }
 {}

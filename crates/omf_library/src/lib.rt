@@ -9,16 +9,22 @@
 //! ```
 #![tactic(auto)]
 
+mod dictionary;
 mod fault;
+mod hash;
 mod header;
 pub mod laws;
 mod member;
 mod members;
 pub mod rows;
+mod search;
 #[cfg(test)]
 mod tests;
 
+pub use dictionary::{BLOCK, Bucket, Dictionary, Look};
 pub use fault::LibraryFault;
+pub use hash::{BUCKETS, Probe, probe_of};
 pub use header::{Header, read_header};
 pub use member::Member;
 pub use members::members_in;
+pub use search::{Ended, Rule, Sought};
