@@ -1,5 +1,13 @@
-"""Libraries of object modules (TIS OMF 1.1, appendix 2), made and read by the standard's text, apart from the crates."""
+"""Libraries of object modules (TIS OMF 1.1, appendix 2), made and read by the standard's text, apart from the crates.
+
+tests/fuzz/libraries.py PROGRAM FOLDER runs omf-lib on the libraries of a folder: `list` shows the members that this reader finds, `get` writes
+exactly their bytes, `check` says OK only where this reader finds each entry by both searches, and each cut and each changed byte of the
+smallest library has an answer."""
+import os
 import struct
+import subprocess
+import sys
+import tempfile
 
 BUCKETS = 37
 BLOCK = 512
@@ -132,3 +140,65 @@ def is_found(bytes_, name, keeps):
         first = bucket if keeps else first
         number = (number + block_step) % count
     return False
+
+
+def entries(bytes_):
+    """The names of the dictionary's entries."""
+    start, count = struct.unpack_from("<IH", bytes_, 3)
+    for number in range(count):
+        block = bytes_[start + BLOCK * number:start + BLOCK * (number + 1)]
+        for at in (2 * it for it in block[:BUCKETS] if it):
+            yield block[at + 1:at + 1 + block[at]]
+
+
+def run(program, *words):
+    """The lines of the output and the status, which is 0 or 1: any other is a failure here."""
+    done = subprocess.run([program, *words], capture_output=True, timeout=60)
+    if done.returncode not in (0, 1) or done.stderr:
+        raise SystemExit(f"{words}: status {done.returncode}: {done.stderr[:200]}")
+    return done.stdout.decode("ascii").splitlines(), done.returncode
+
+
+def try_file(program, file):
+    """Lists, checks and takes apart a library."""
+    with open(file, "rb") as it:
+        bytes_ = it.read()
+    found, ended = members(bytes_)
+    lines, _ = run(program, "list", file)
+    shown = [(int(it.split()[3], 16), int(it.split()[4])) for it in lines if it.startswith("M ")]
+    assert shown == found and ended, f"{file}: other members"
+    lines, status = run(program, "check", file)
+    if status == 0:
+        assert all(is_found(bytes_, it, keeps) for it in entries(bytes_) for keeps in (False, True)), f"{file}: OK, but an entry is not found"
+    with tempfile.TemporaryDirectory() as folder:
+        run(program, "get", file, "-d", folder, "--numbered")
+        for number, (at, length) in enumerate(found):
+            with open(f"{folder}/{number}.obj", "rb") as it:
+                assert it.read() == bytes_[at:at + length], f"{file}: member {number} differs"
+        assert len(os.listdir(folder)) == len(found), f"{file}: other files"
+    print(f"{file}: {len(found)} members, {lines[-1]}")
+
+
+def try_changes(program, file):
+    """Each cut and each changed byte of a library has an answer."""
+    with open(file, "rb") as it:
+        bytes_ = it.read()
+    with tempfile.TemporaryDirectory() as folder:
+        for at in range(len(bytes_)):
+            for change in (bytes_[:at], bytes_[:at] + bytes([bytes_[at] ^ 0xFF]) + bytes_[at + 1:]):
+                with open(f"{folder}/x.lib", "wb") as it:
+                    it.write(change)
+                for task in ("list", "check"):
+                    lines, _ = run(program, task, f"{folder}/x.lib")
+                    assert lines, f"{file}: no answer to {task} at {at}"
+    print(f"{file}: {2 * len(bytes_)} changes, each with an answer")
+
+
+if __name__ == "__main__":
+    if len(sys.argv) != 3:
+        sys.exit(__doc__)
+    files = [f"{sys.argv[2]}/{it}" for it in sorted(os.listdir(sys.argv[2]))]
+    files = [it for it in files if open(it, "rb").read(1) == b"\xF0"]
+    for name in files:
+        try_file(sys.argv[1], name)
+    try_changes(sys.argv[1], min(files, key=os.path.getsize))

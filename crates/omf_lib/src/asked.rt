@@ -32,6 +32,10 @@ pub enum Asked {
         file: String,
         get: Get,
     },
+    Find {
+        file: String,
+        names: Vec<String>,
+    },
 }
 
 /// The arguments after the task: names, and options.
@@ -104,6 +108,26 @@ fn look_of(look: Look, words: Words) -> Option<Asked> {
     })
 }
 
+/// Whether an option is given.
+fn has_option(words: &Words) -> bool {
+    words.folder.is_some() || words.is_numbered || words.refuse_vendor_comments
+}
+
+/// Names to find; None without a file or a name, or with an option.
+fn find_of(alloc: Global, words: Words) -> Result<Option<Asked>, AllocError> {
+    if words.names.len() < 2 || has_option(&words) {
+        return Ok(None);
+    }
+    let mut names = words.names.into_iter();
+    let Some(file) = names.next() else {
+        return Ok(None);
+    };
+    Ok(Some(Asked::Find {
+        file,
+        names: names.collect(alloc)?,
+    }))
+}
+
 /// Members to take; None without a file or a folder, or with an option of the other tasks.
 fn get_of(alloc: Global, words: Words) -> Result<Option<Asked>, AllocError> {
     let Words {
@@ -119,7 +143,8 @@ fn get_of(alloc: Global, words: Words) -> Result<Option<Asked>, AllocError> {
     let Some(file) = names.next() else {
         return Ok(None);
     };
-    if refuse_vendor_comments {
+    // The empty name, as from a variable that is not set, would be the root folder.
+    if refuse_vendor_comments || folder.is_empty() {
         return Ok(None);
     }
     let get = Get {
@@ -148,6 +173,7 @@ pub fn read_arguments(alloc: Global, arguments: Vec<String>) -> Result<Option<As
         "list" => Ok(look_of(Look::List, words)),
         "check" => Ok(look_of(Look::Check, words)),
         "get" => get_of(alloc, words),
+        "find" => find_of(alloc, words),
         _ => Ok(None),
     }
 }

@@ -50,6 +50,8 @@ pub enum Fault<'a> {
     NoEntry(Public<'a>),
     /// 15: the entry of a public has the page of another member.
     OtherMember(Public<'a>),
+    /// 16: the searches pass too many full blocks; the dictionary from this offset on, or all of it, is not searched.
+    LongSearches(usize),
 }
 
 /// An entry of the dictionary: the offset of its bucket, its page and its name.

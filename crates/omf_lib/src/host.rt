@@ -2,20 +2,23 @@
 
 ghost use Rattle.std.specs.Prelude.{◌≤◌};
 
-use crate::asked::{Asked, Get, Look, read_arguments};
+use crate::asked::{Asked, Look, read_arguments};
+use crate::files::{read_input, shown_path};
+use crate::finding::find;
 use crate::judging::judge_file;
-use crate::listing::{Shown, list};
+use crate::listing::list;
+use crate::shown::{Shown, Stop};
 use crate::taking::get;
 use omf_check::Profile;
 use omf_frame::{Sink, Writing, push_all};
 use std::alloc::{AllocError, Global};
-use std::io::{ErrorKind, Read, Write};
+use std::io::{ErrorKind, Write};
 use std::process::ExitCode;
-use std::{env, fs, io};
+use std::{env, io};
 
 /// How the program is called.
 const USAGE: &[u8] =
-    b"usage: omf-lib list|check [--refuse-vendor-comments] LIB ..\n       omf-lib get LIB [MEMBER ..] -d DIR [--numbered]\n";
+    b"usage: omf-lib list|check [--refuse-vendor-comments] LIB ..\n       omf-lib find LIB NAME ..\n       omf-lib get LIB [MEMBER ..] -d DIR [--numbered]\n";
 
 /// The line when out of memory.
 const MEMORY: &[u8] = b"memory\n";
@@ -29,16 +32,6 @@ fn arguments(rt: &HostRuntime) -> Result<Option<Vec<String>>, AllocError> {
     }
 }
 
-/// The bytes of a file, or of the standard input if its name is `-`.
-fn read_input(rt: &HostRuntime, name: &str) -> io::Result<Vec<u8>> {
-    if name != "-" {
-        return fs::read(rt, name);
-    }
-    let mut bytes = Vec::new(rt.alloc());
-    rt.stdin().read_to_end(&mut bytes)?;
-    Ok(bytes)
-}
-
 /// Writes all of the bytes. Returns the status: 0, or 3 if they could not be written.
 fn put<K: Sink>(writer: &mut K, bytes: &[u8]) -> u8 {
     match push_all(writer, bytes) {
@@ -47,102 +40,131 @@ fn put<K: Sink>(writer: &mut K, bytes: &[u8]) -> u8 {
     }
 }
 
-/// Writes the line of a file that could not be read. Returns the status 3.
-fn put_unread<K: Sink>(alloc: Global, writer: &mut K, name: &str, error: &io::Error) -> u8 {
-    if let Ok(line) = format!(in alloc; "read {name}: {error}\n") {
-        let _ = put(writer, line.as_bytes());
-    }
-    3
-}
-
-/// What is asked of a file's bytes.
-fn shown_of(
+/// Writes the line of a file that could not be read.
+fn put_unread<K: Sink>(
     alloc: Global,
-    look: Look,
-    profile: Profile,
-    bytes: &[u8],
-) -> Result<Shown, AllocError> {
-    match look {
-        Look::List => list(alloc, profile, bytes),
-        Look::Check => judge_file(alloc, profile, bytes),
-    }
+    writer: &mut K,
+    name: &str,
+    error: &io::Error,
+) -> Result<(), Stop> {
+    let name = shown_path(alloc, name)?;
+    let line = format!(in alloc; "read {name}: {error}\n")?;
+    let _ = put(writer, line.as_bytes());
+    Ok(())
 }
 
-/// Looks at one file. Returns the status: 0, 1 if something is refused, 3 if it could not be read or shown.
-fn look_at<K: Sink>(
+/// The bytes of a file; None, after a line, if it could not be read.
+fn input_of<K: Sink>(
     rt: &HostRuntime,
-    look: Look,
-    profile: Profile,
-    name: &str,
     writer: &mut K,
-) -> u8 {
-    let bytes = match read_input(rt, name) {
-        Ok(bytes) => bytes,
-        Err(error) => return put_unread(rt.alloc(), writer, name, &error),
-    };
-    match shown_of(rt.alloc(), look, profile, &bytes) {
-        Ok(shown) => put(writer, shown.text.as_bytes()).max(u8::from(shown.is_refused)),
-        Err(AllocError) => {
-            let _ = put(writer, MEMORY);
-            3
+    name: &str,
+) -> Result<Option<Vec<u8>>, Stop> {
+    match read_input(rt, name) {
+        Ok(bytes) => Ok(Some(bytes)),
+        Err(error) => {
+            put_unread(rt.alloc(), writer, name, &error)?;
+            Ok(None)
         }
     }
 }
 
+/// The status of a task on one file, after the line `memory` if memory ran out.
+fn settled<K: Sink>(writer: &mut K, answer: Result<u8, Stop>) -> u8 {
+    match answer {
+        Ok(status) => status,
+        Err(Stop::Memory) => {
+            let _ = put(writer, MEMORY);
+            3
+        }
+        Err(Stop::Write) => 3,
+    }
+}
+
+/// Looks at one file. Returns the status: 0, 1 if something is refused, 3 if it could not be read.
+fn look_at<K: Sink>(
+    rt: &HostRuntime,
+    writer: &mut K,
+    look: Look,
+    profile: Profile,
+    name: &str,
+) -> Result<u8, Stop> {
+    let Some(bytes) = input_of(rt, writer, name)? else {
+        return Ok(3);
+    };
+    match look {
+        Look::List => list(rt.alloc(), writer, profile, &bytes),
+        Look::Check => judge_file(rt.alloc(), writer, profile, &bytes),
+    }
+}
+
 /// Writes a line with the name of one of several files.
-fn put_title<K: Sink>(writer: &mut K, name: &str) -> u8 {
-    put(writer, name.as_bytes()).max(put(writer, b":\n"))
+fn put_title<K: Sink>(alloc: Global, writer: &mut K, name: &str) -> Result<u8, Stop> {
+    let mut line = shown_path(alloc, name)?;
+    line.push_str(":\n")?;
+    Ok(put(writer, line.as_bytes()))
 }
 
 /// Looks at the files, each after its name if there are several. Returns the greatest status.
 fn look_at_all<K: Sink>(
     rt: &HostRuntime,
+    writer: &mut K,
     look: Look,
     profile: Profile,
     files: &[String],
-    writer: &mut K,
 ) -> u8 {
     let mut status = 0u8;
     for name in files {
         if files.len() > 1 {
-            status = status.max(put_title(writer, name.as_str()));
+            let titled = put_title(rt.alloc(), writer, name.as_str());
+            status = status.max(settled(writer, titled));
         }
-        status = status.max(look_at(rt, look, profile, name.as_str(), writer));
+        let answer = look_at(rt, writer, look, profile, name.as_str());
+        status = status.max(settled(writer, answer));
     }
     status
 }
 
-/// Takes members out of a file. Returns the status.
-fn take_from<K: Sink>(rt: &HostRuntime, file: &str, asked: &Get, writer: &mut K) -> u8 {
-    let bytes = match read_input(rt, file) {
-        Ok(bytes) => bytes,
-        Err(error) => return put_unread(rt.alloc(), writer, file, &error),
+/// Takes members out of a library, or finds names in it. Returns the status.
+fn act_on<K: Sink>(
+    rt: &HostRuntime,
+    writer: &mut K,
+    asked: &Asked,
+    file: &str,
+) -> Result<u8, Stop> {
+    let Some(bytes) = input_of(rt, writer, file)? else {
+        return Ok(3);
     };
-    match get(rt, asked, &bytes) {
-        Ok(taken) => put(writer, taken.text.as_bytes()).max(taken.status),
-        Err(AllocError) => {
-            let _ = put(writer, MEMORY);
-            3
+    let mut shown = Shown::new(rt.alloc());
+    match asked {
+        Asked::Get { get: asked, .. } => get(rt, &mut shown, writer, asked, &bytes)?,
+        Asked::Find { names, .. } => find(&mut shown, writer, names.as_slice(), &bytes)?,
+        Asked::Look { .. } => {}
+    }
+    shown.flush(writer)?;
+    Ok(shown.status)
+}
+
+/// Does what the arguments ask for. Returns the status.
+fn act<K: Sink>(rt: &HostRuntime, writer: &mut K, asked: &Asked) -> u8 {
+    match asked {
+        Asked::Look {
+            look,
+            profile,
+            files,
+        } => look_at_all(rt, writer, *look, *profile, files.as_slice()),
+        Asked::Get { file, .. } | Asked::Find { file, .. } => {
+            let answer = act_on(rt, writer, asked, file.as_str());
+            settled(writer, answer)
         }
     }
 }
 
-/// Does what the arguments ask for. Returns the status.
-fn act<K: Sink>(rt: &HostRuntime, writer: &mut K) -> Result<u8, AllocError> {
-    if let Some(words) = arguments(rt)?
-        && let Some(asked) = read_arguments(rt.alloc(), words)?
-    {
-        return Ok(match asked {
-            Asked::Look {
-                look,
-                profile,
-                files,
-            } => look_at_all(rt, look, profile, files.as_slice(), writer),
-            Asked::Get { file, get } => take_from(rt, file.as_str(), &get, writer),
-        });
+/// What the arguments of the process ask for; None if they are not understood.
+fn asked_of(rt: &HostRuntime) -> Result<Option<Asked>, AllocError> {
+    match arguments(rt)? {
+        Some(words) => read_arguments(rt.alloc(), words),
+        None => Ok(None),
     }
-    let _ = put(writer, USAGE);
-    Ok(2)
 }
 
 /// Runs the program. Returns the exit status: 0 done, 1 something is refused, 2 the arguments are not understood, 3 a
@@ -150,8 +172,12 @@ fn act<K: Sink>(rt: &HostRuntime, writer: &mut K) -> Result<u8, AllocError> {
 pub fn run(rt: &HostRuntime) -> ExitCode {
     let mut output = rt.stdout();
     let mut writer = Writing::new(&mut output);
-    let status = match act(rt, &mut writer) {
-        Ok(status) => status,
+    let status = match asked_of(rt) {
+        Ok(Some(asked)) => act(rt, &mut writer, &asked),
+        Ok(None) => {
+            let _ = put(&mut writer, USAGE);
+            2
+        }
         Err(AllocError) => {
             let _ = put(&mut writer, MEMORY);
             3

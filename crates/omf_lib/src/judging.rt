@@ -1,17 +1,25 @@
 //! The text of `omf-lib check`: what is wrong with a library.
 
-use crate::dictionary::{BLOCK, Bucket, Dictionary, Search, bucket_of};
+ghost use Rattle.std.specs.Prelude.{◌<◌};
+ghost use Rattle.omf_library.specs.Dictionary.{block_count};
+
 use crate::fault::{Fault, Named, Public};
-use crate::hash::BUCKETS;
-use crate::library::{Library, read_members};
-use crate::listing::Shown;
+use crate::library::{Library, page_of, read_members};
 use crate::members::{Verdict, judge};
 use crate::publics::publics_of;
+use crate::shown::{Shown, Stop};
 use crate::span::Span;
 use omf_check::Profile;
-use omf_library::read_header;
+use omf_frame::Sink;
+use omf_library::{BLOCK, BUCKETS, Bucket, Dictionary, Rule, read_header};
 use std::alloc::{AllocError, Global};
 use std::fmt::Write;
+
+/// What each search may cost: full blocks passed, times the length of the name and one more.
+const CREDIT: u64 = 256;
+
+/// What the searches of a library may cost beyond that.
+const FIRST_CREDIT: u64 = 1 << 20;
 
 /// The lines so far, and what was counted.
 #[derive(Drop)]
@@ -19,20 +27,45 @@ struct Report {
     shown: Shown,
     publics: u64,
     entries: u64,
+    /// What the searches may still cost. They end where it would be less than 0, so the time of a check is linear in the
+    /// number of publics and entries.
+    credit: Option<u64>,
+}
+
+impl Report {
+    /// Searches for a name. Returns None once the searches have cost too much.
+    fn search(
+        &mut self,
+        dictionary: Dictionary<'_>,
+        rule: Rule,
+        name: &[u8],
+    ) -> Option<Option<u16>> {
+        let credit = self.credit?;
+        let sought = dictionary.search(rule, name);
+        let cost = (sought.passed as u64).saturating_mul((name.len() as u64).saturating_add(1));
+        self.credit = credit.saturating_add(CREDIT).checked_sub(cost);
+        Some(sought.page)
+    }
 }
 
 /// Looks up a public of the member that begins at a page.
 fn look_up(
-    shown: &mut Shown,
+    report: &mut Report,
     dictionary: Dictionary<'_>,
     page: Option<usize>,
     public: Public<'_>,
 ) -> Result<(), AllocError> {
-    let restarted = dictionary.find(Search::Restart, public.name);
-    match restarted.or(dictionary.find(Search::Keep, public.name)) {
-        None => shown.fault(Fault::NoEntry(public)),
+    let Some(restarted) = report.search(dictionary, Rule::Restart, public.name) else {
+        return Ok(());
+    };
+    let found = match restarted {
+        Some(found) => Some(found),
+        None => report.search(dictionary, Rule::Keep, public.name).flatten(),
+    };
+    match found {
+        None => report.shown.fault(Fault::NoEntry(public)),
         Some(found) if page == Some(usize::from(found)) => Ok(()),
-        Some(_) => shown.fault(Fault::OtherMember(public)),
+        Some(_) => report.shown.fault(Fault::OtherMember(public)),
     }
 }
 
@@ -54,14 +87,9 @@ fn look_up_all(
             member: member.number,
             name: name.as_slice(),
         };
-        look_up(&mut report.shown, dictionary, page, public)?;
+        look_up(report, dictionary, page, public)?;
     }
     Ok(())
-}
-
-/// The number of the page at an offset.
-fn page_of(library: &Library<'_>, offset: usize) -> Option<usize> {
-    offset.checked_div(library.header.page as usize)
 }
 
 /// Checks a member, and looks up its publics.
@@ -99,46 +127,65 @@ fn pages_of(alloc: Global, library: &Library<'_>) -> Result<Vec<bool>, AllocErro
     Ok(pages)
 }
 
+/// Looks up an entry of the dictionary by a rule. `fault` is what it is if it is not found.
+fn look_up_entry<'a>(
+    report: &mut Report,
+    dictionary: Dictionary<'_>,
+    rule: Rule,
+    entry: Named<'a>,
+    fault: Fault<'a>,
+) -> Result<(), AllocError> {
+    match report.search(dictionary, rule, entry.name) {
+        Some(page) if page != Some(entry.page) => report.shown.fault(fault),
+        _ => Ok(()),
+    }
+}
+
 /// Checks an entry of the dictionary.
 fn judge_entry(
-    shown: &mut Shown,
+    report: &mut Report,
     dictionary: Dictionary<'_>,
     pages: &[bool],
     entry: Named<'_>,
 ) -> Result<(), AllocError> {
+    report.entries = report.entries.saturating_add(1);
     if pages.get(usize::from(entry.page)) != Some(&true) {
-        shown.fault(Fault::EntryNowhere(entry))?;
+        report.shown.fault(Fault::EntryNowhere(entry))?;
     }
-    if dictionary.find(Search::Restart, entry.name) != Some(entry.page) {
-        shown.fault(Fault::NotFound(entry))?;
-    }
-    if dictionary.find(Search::Keep, entry.name) != Some(entry.page) {
-        shown.fault(Fault::NotFoundKept(entry))?;
-    }
-    Ok(())
+    look_up_entry(
+        report,
+        dictionary,
+        Rule::Restart,
+        entry,
+        Fault::NotFound(entry),
+    )?;
+    look_up_entry(
+        report,
+        dictionary,
+        Rule::Keep,
+        entry,
+        Fault::NotFoundKept(entry),
+    )
 }
 
-/// Checks the entries of a block.
+/// Checks the entries of a block, which begins at an offset of the file.
 fn judge_block(
     report: &mut Report,
     dictionary: Dictionary<'_>,
     pages: &[bool],
     start: usize,
     number: usize,
-) -> Result<(), AllocError> {
-    let block = dictionary.block(number);
+) -> Result<(), AllocError>
+    requires { number < block_count dictionary.bytes.now }
+{
     for bucket in 0..BUCKETS {
-        let offset = number
-            .saturating_mul(BLOCK)
-            .saturating_add(start)
-            .saturating_add(bucket);
-        match bucket_of(block, bucket) {
+        let offset = start.saturating_add(bucket);
+        match dictionary.bucket(number, bucket) {
             Bucket::Empty => {}
             Bucket::Outside => report.shown.fault(Fault::EntryOutside(offset))?,
             Bucket::Entry { page, name } => {
-                report.entries = report.entries.saturating_add(1);
                 let entry = Named { offset, page, name };
-                judge_entry(&mut report.shown, dictionary, pages, entry)?;
+                judge_entry(report, dictionary, pages, entry)?;
             }
         }
     }
@@ -157,15 +204,24 @@ fn judge_place(shown: &mut Shown, library: &Library<'_>, end: usize) -> Result<(
     Ok(())
 }
 
-/// Checks the entries of the dictionary, if it is in the file.
-fn judge_entries(report: &mut Report, library: &Library<'_>) -> Result<(), AllocError> {
+/// Checks the entries of the dictionary, if it is in the file, block by block.
+fn judge_entries<K: Sink>(
+    report: &mut Report,
+    writer: &mut K,
+    library: &Library<'_>,
+) -> Result<(), Stop> {
     let Some(dictionary) = library.dictionary() else {
         return Ok(());
     };
     let pages = pages_of(*report.shown.text.allocator(), library)?;
+    let start = library.dictionary_offset();
     for number in 0..dictionary.blocks() {
-        let start = library.dictionary_offset();
-        judge_block(report, dictionary, &pages, start, number)?;
+        let at = number.saturating_mul(BLOCK).saturating_add(start);
+        judge_block(report, dictionary, &pages, at, number)?;
+        report.shown.flush(writer)?;
+    }
+    if report.credit.is_none() {
+        report.shown.fault(Fault::LongSearches(start))?;
     }
     Ok(())
 }
@@ -180,43 +236,50 @@ fn put_counts(report: &mut Report, members: usize) -> Result<(), AllocError> {
     )
 }
 
-/// Checks a library, and appends a line for each fault; or one with counts, if there is none.
-fn judge_library(
+/// Checks a library, and writes a line for each fault; or one with counts, if there is none.
+fn judge_library<K: Sink>(
     report: &mut Report,
+    writer: &mut K,
     profile: Profile,
     library: &Library<'_>,
-) -> Result<(), AllocError> {
+) -> Result<(), Stop> {
     for member in library.members.iter() {
         judge_member(report, profile, library, member)?;
+        report.shown.flush(writer)?;
     }
     match library.end {
         Ok(end) => {
             judge_place(&mut report.shown, library, end)?;
-            judge_entries(report, library)?;
+            judge_entries(report, writer, library)?;
         }
         Err(fault) => report.shown.fault(fault)?,
     }
-    if report.shown.is_refused {
-        return Ok(());
+    if report.shown.status == 0 {
+        put_counts(report, library.members.len())?;
     }
-    put_counts(report, library.members.len())
+    Ok(())
 }
 
-/// What is wrong with a file: a line for each fault; or a line with counts.
-pub fn judge_file(alloc: Global, profile: Profile, bytes: &[u8]) -> Result<Shown, AllocError> {
+/// Writes what is wrong with a file: a line for each fault; or a line with counts. Returns the status.
+pub fn judge_file<K: Sink>(
+    alloc: Global,
+    writer: &mut K,
+    profile: Profile,
+    bytes: &[u8],
+) -> Result<u8, Stop> {
     let mut report = Report {
         shown: Shown::new(alloc),
         publics: 0,
         entries: 0,
+        credit: Some(FIRST_CREDIT),
     };
     match read_header(bytes) {
-        Ok(header) => judge_library(&mut report, profile, &read_members(alloc, bytes, header)?)?,
+        Ok(header) => {
+            let library = read_members(alloc, bytes, header)?;
+            judge_library(&mut report, writer, profile, &library)?;
+        }
         Err(fault) => report.shown.fault(Fault::from(fault))?,
     }
-    let Report {
-        shown,
-        publics: _,
-        entries: _,
-    } = report;
-    Ok(shown)
+    report.shown.flush(writer)?;
+    Ok(report.shown.status)
 }

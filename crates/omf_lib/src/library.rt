@@ -2,10 +2,9 @@
 
 ghost use Rattle.std.specs.Prelude.{◌≤◌};
 
-use crate::dictionary::{BLOCK, Dictionary};
 use crate::fault::Fault;
 use crate::span::{Span, first_module};
-use omf_library::Header;
+use omf_library::{BLOCK, Dictionary, Header};
 use std::alloc::{AllocError, Global};
 
 /// The members of a file, and how they end.
@@ -87,6 +86,11 @@ pub fn read_members<'a>(
         members,
         end,
     })
+}
+
+/// The number of the page at an offset.
+pub fn page_of(library: &Library<'_>, offset: usize) -> Option<usize> {
+    offset.checked_div(library.header.page as usize)
 }
 
 impl<'a> Library<'a> {

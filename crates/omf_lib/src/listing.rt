@@ -4,42 +4,26 @@ use crate::fault::Fault;
 use crate::library::{Library, read_members};
 use crate::members::{Verdict, judge};
 use crate::publics::publics_of;
+use crate::shown::{Shown, Stop};
 use crate::span::{Span, name_of};
-use crate::text::{put_fault, put_quoted, put_reason};
+use crate::text::{put_quoted, put_reason};
 use omf_check::Profile;
+use omf_frame::Sink;
 use omf_library::{Header, read_header};
 use std::alloc::{AllocError, Global};
 use std::fmt::Write;
 
-/// A text, and whether something in it is refused.
-#[derive(Drop)]
-pub struct Shown {
-    pub text: String,
-    pub is_refused: bool,
-}
-
-impl Shown {
-    /// No text.
-    pub fn new(alloc: Global) -> Shown {
-        Shown {
-            text: String::new(alloc),
-            is_refused: false,
-        }
-    }
-
-    /// Appends the line of a fault.
-    pub fn fault(&mut self, fault: Fault<'_>) -> Result<(), AllocError> {
-        self.is_refused = true;
-        put_fault(&mut self.text, fault)
-    }
+/// Appends the line of a public of a member.
+pub fn put_public(text: &mut String, member: usize, name: &[u8]) -> Result<(), AllocError> {
+    write!(text, "P {member}")?;
+    put_quoted(text, name)?;
+    text.push('\n')
 }
 
 /// Appends a line for each public of a member.
 fn put_publics(text: &mut String, member: usize, names: &[Vec<u8>]) -> Result<(), AllocError> {
     for name in names {
-        write!(text, "P {member}")?;
-        put_quoted(text, name.as_slice())?;
-        text.push('\n')?;
+        put_public(text, member, name.as_slice())?;
     }
     Ok(())
 }
@@ -92,7 +76,7 @@ fn list_member(
             put_publics(&mut shown.text, member.number, names.as_slice())
         }
         Verdict::Refused { reason, place } => {
-            shown.is_refused = true;
+            shown.raise(1);
             shown.text.push_str(" refused")?;
             put_reason(&mut shown.text, reason, place)?;
             shown.text.push('\n')
@@ -111,29 +95,40 @@ fn put_extended(text: &mut String, library: &Library<'_>) -> Result<(), AllocErr
     write!(text, "X {offset:08X} {length}\n")
 }
 
-/// Appends the lines of a library.
-fn list_library(
+/// Writes the lines of a library.
+fn list_library<K: Sink>(
     shown: &mut Shown,
+    writer: &mut K,
     profile: Profile,
     library: &Library<'_>,
-) -> Result<(), AllocError> {
+) -> Result<(), Stop> {
     put_header(&mut shown.text, library.header)?;
     for member in library.members.iter() {
         list_member(shown, profile, library, member)?;
+        shown.flush(writer)?;
     }
     put_extended(&mut shown.text, library)?;
-    match library.end {
-        Ok(_) => Ok(()),
-        Err(fault) => shown.fault(fault),
+    if let Err(fault) = library.end {
+        shown.fault(fault)?;
     }
+    Ok(())
 }
 
-/// The list of a file: its header, its members, their publics; or why it is no library.
-pub fn list(alloc: Global, profile: Profile, bytes: &[u8]) -> Result<Shown, AllocError> {
+/// Writes the list of a file: its header, its members, their publics; or why it is no library. Returns the status.
+pub fn list<K: Sink>(
+    alloc: Global,
+    writer: &mut K,
+    profile: Profile,
+    bytes: &[u8],
+) -> Result<u8, Stop> {
     let mut shown = Shown::new(alloc);
     match read_header(bytes) {
-        Ok(header) => list_library(&mut shown, profile, &read_members(alloc, bytes, header)?)?,
+        Ok(header) => {
+            let library = read_members(alloc, bytes, header)?;
+            list_library(&mut shown, writer, profile, &library)?;
+        }
         Err(fault) => shown.fault(Fault::from(fault))?,
     }
-    Ok(shown)
+    shown.flush(writer)?;
+    Ok(shown.status)
 }

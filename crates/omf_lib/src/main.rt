@@ -1,11 +1,11 @@
 //! `omf-lib`: libraries of object modules (TIS OMF 1.1, appendix 2). It lists a library, checks its members and its
-//! dictionary, and takes members out. docs/LIBRARIES.md has what it prints.
+//! dictionary, finds names, and takes members out. docs/LIBRARIES.md has what it prints.
 #![tactic(auto)]
 
 mod asked;
-mod dictionary;
 mod fault;
-mod hash;
+mod files;
+mod finding;
 mod host;
 mod judging;
 mod library;
@@ -13,6 +13,7 @@ mod listing;
 mod members;
 mod naming;
 mod publics;
+mod shown;
 mod span;
 mod taking;
 mod text;
