@@ -11,9 +11,11 @@
 
 mod dictionary;
 mod fault;
+mod filling;
 mod hash;
 mod header;
 pub mod laws;
+mod making;
 mod member;
 mod members;
 pub mod rows;
@@ -25,6 +27,7 @@ pub use dictionary::{BLOCK, Bucket, Dictionary, Look};
 pub use fault::LibraryFault;
 pub use hash::{BUCKETS, Probe, probe_of};
 pub use header::{Header, read_header};
+pub use making::{MakeFault, Part, dictionary_in, make};
 pub use member::Member;
 pub use members::members_in;
 pub use search::{Ended, Rule, Sought};

@@ -2,7 +2,7 @@
 
 ghost use Rattle.std.specs.Prelude.{◌≤◌};
 
-use crate::{LibraryFault, Member, members_in};
+use crate::{LibraryFault, MakeFault, Member, Part, make, members_in};
 use omf_check::Profile;
 use omf_frame::Reason;
 use std::alloc::Global;
@@ -65,5 +65,29 @@ fn a_member_is_cut(rt: HostRuntime) -> Result<(), Fail> {
             })
         )
     );
+    Ok(())
+}
+
+/// A library of the module, without publics.
+fn made_of(alloc: Global, module: &[u8]) -> Result<Vec<u8>, MakeFault> {
+    let profile = Profile {
+        refuse_vendor_comments: false,
+    };
+    let mut bytes = Vec::new(alloc);
+    bytes.extend_from_slice(module)?;
+    let mut parts = Vec::new(alloc);
+    parts.push(Part {
+        bytes,
+        publics: Vec::new(alloc),
+    })?;
+    make(alloc, profile, parts.as_slice())
+}
+
+/// The header and the module take two pages of 16 bytes; the F1H record ends at 512; the dictionary has two blocks.
+#[test]
+fn a_library_is_made(rt: HostRuntime) -> Result<(), Fail> {
+    let made = made_of(rt.alloc(), &LIBRARY[16..27])?;
+    assert_eq!(rt; made.len(), 1536);
+    assert_eq!(rt; made[32], 0xF1);
     Ok(())
 }

@@ -1,0 +1,372 @@
+//! The bytes of a library that is made. They are read back before they are used (`make`), so these functions promise
+//! nothing but that they are safe and return.
+
+ghost use Rattle.std.specs.Prelude.{◌≡◌, ◌+◌, ◌*◌, ◌<◌, ◌≤◌, ◌^◌, length};
+
+use crate::dictionary::{BLOCK, Look, look_of};
+use crate::hash::{BUCKETS, Probe, probe_of};
+use crate::making::{MakeFault, Part};
+use std::alloc::{AllocError, Global};
+
+/// The page sizes.
+const PAGES: [usize; 12] = [
+    16, 32, 64, 128, 256, 512, 1024, 2048, 4096, 8192, 16384, 32768,
+];
+
+/// The most blocks of a dictionary: the greatest prime of 16 bits.
+const MOST_BLOCKS: usize = 65_521;
+
+/// The mark of a block that is full.
+const FULL: u8 = 0xFF;
+
+/// Where a block has a place for a name.
+enum Slot {
+    /// At this empty bucket.
+    Free(usize),
+    /// The name is there, with this page.
+    Twice(u16),
+    /// No bucket is empty.
+    Full,
+}
+
+/// What came of putting an entry.
+#[derive(Clone, Copy)]
+enum Placed {
+    Done,
+    /// The name is there, with this page.
+    Twice(u16),
+    /// The block has no room; both searches go on in the next one, at the first bucket.
+    Full,
+    /// There is no place at which both searches find it.
+    Nowhere,
+}
+
+/// The number of pages that a module takes.
+fn pages_of(page: usize, length: usize) -> usize {
+    length.div_ceil(page.max(1))
+}
+
+/// Whether the pages of a library can be numbered with this page size.
+fn is_numbered(page: usize, parts: &[Part]) -> bool {
+    let mut pages = 1usize;
+    for part in parts {
+        pages = pages.saturating_add(pages_of(page, part.bytes.len()));
+    }
+    pages <= 65_536
+}
+
+/// The least page size with which the pages can be numbered.
+fn page_for(parts: &[Part]) -> Option<usize> {
+    PAGES.iter().copied().find(|page| is_numbered(*page, parts))
+}
+
+/// Where a block has a place for a name.
+fn slot_of(block: &[u8], probe: Probe, name: &[u8]) -> Slot
+    requires whole { 37 ≤ length block.now }
+    requires bucket { probe.bucket < 37 }
+    requires step { probe.bucket_step < 37 }
+{
+    let mut bucket = probe.bucket;
+    for _looked in 0..BUCKETS {
+        match look_of(true, block, bucket, name) {
+            Look::Empty => return Slot::Free(bucket),
+            Look::Found(page) => return Slot::Twice(page),
+            Look::Other => bucket = (bucket + probe.bucket_step) % BUCKETS,
+        }
+    }
+    Slot::Full
+}
+
+/// Writes a byte, if the index is inside.
+fn set(block: &mut [u8], at: usize, byte: u8) {
+    if let Some(place) = block.get_mut(at) {
+        *place = byte;
+    }
+}
+
+/// Writes an entry, and the bucket that leads to it. Returns whether there was room.
+fn write_entry(block: &mut [u8], bucket: usize, name: &[u8], page: u16) -> bool {
+    let free = match block.get(BUCKETS) {
+        Some(free) => *free,
+        None => FULL,
+    };
+    let at = 2 * usize::from(free);
+    let end = at.saturating_add(name.len()).saturating_add(3);
+    if free == FULL || name.len() > 255 || end > BLOCK {
+        return false;
+    }
+    set(block, bucket, free);
+    set(block, at, name.len() as u8);
+    for (i, c) in name.iter().enumerate() {
+        set(block, at.saturating_add(1).saturating_add(i), *c);
+    }
+    let [low, high] = page.to_le_bytes();
+    set(block, end.saturating_sub(2), low);
+    set(block, end.saturating_sub(1), high);
+    set(block, BUCKETS, end.div_ceil(2).min(255) as u8);
+    true
+}
+
+/// Puts an entry into a block. Where it has no room, the block is marked as full.
+fn put_in_block(block: &mut [u8], probe: Probe, name: &[u8], page: u16) -> Placed
+    requires whole { 37 ≤ length block.old }
+    requires bucket { probe.bucket < 37 }
+    requires step { probe.bucket_step < 37 }
+{
+    match slot_of(block, probe, name) {
+        Slot::Twice(page) => Placed::Twice(page),
+        Slot::Free(bucket) => {
+            if write_entry(block, bucket, name, page) {
+                return Placed::Done;
+            }
+            set(block, BUCKETS, FULL);
+            if bucket == probe.bucket {
+                Placed::Full
+            } else {
+                Placed::Nowhere
+            }
+        }
+        Slot::Full => {
+            set(block, BUCKETS, FULL);
+            Placed::Full
+        }
+    }
+}
+
+/// Puts an entry into a dictionary, where both searches find it.
+fn put_entry(blocks: &mut [u8], name: &[u8], page: u16) -> Placed {
+    let count = blocks.len() / BLOCK;
+    if count == 0 {
+        return Placed::Nowhere;
+    }
+    let probe = probe_of(count, name);
+    let mut number = probe.block;
+    for _passed in 0..count {
+        let start = BLOCK * number;
+        let placed = put_in_block(&mut blocks[start..start + BLOCK], probe, name, page);
+        if !matches!(placed, Placed::Full) {
+            return placed;
+        }
+        number = (number + probe.block_step) % count;
+    }
+    Placed::Nowhere
+}
+
+/// The number of a part's first page.
+#[derive(Clone, Copy)]
+struct First {
+    part: usize,
+    page: u16,
+}
+
+/// The first pages of the parts.
+fn first_pages(alloc: Global, page: usize, parts: &[Part]) -> Result<Vec<First>, MakeFault> {
+    let mut pages = Vec::new(alloc);
+    let mut next = 1usize;
+    for (number, part) in parts.iter().enumerate() {
+        match u16::try_from(next) {
+            Ok(first) => pages.push(First {
+                part: number,
+                page: first,
+            })?,
+            Err(_) => return Err(MakeFault::TooLarge),
+        }
+        next = next.saturating_add(pages_of(page, part.bytes.len()));
+    }
+    Ok(pages)
+}
+
+/// The part that begins at a page.
+fn part_at(pages: &[First], page: u16) -> usize {
+    match pages.iter().find(|first| first.page == page) {
+        Some(first) => first.part,
+        None => 0,
+    }
+}
+
+/// Puts the publics of a part. Returns whether each has a place.
+fn put_publics(
+    blocks: &mut [u8],
+    pages: &[First],
+    first: First,
+    names: &[Vec<u8>],
+) -> Result<bool, MakeFault> {
+    for (public, name) in names.iter().enumerate() {
+        match put_entry(blocks, name.as_slice(), first.page) {
+            Placed::Done => {}
+            Placed::Full | Placed::Nowhere => return Ok(false),
+            Placed::Twice(page) => {
+                return Err(MakeFault::Twice {
+                    first: part_at(pages, page),
+                    second: first.part,
+                    public,
+                });
+            }
+        }
+    }
+    Ok(true)
+}
+
+/// Empty blocks: the free space of each begins after its buckets and its mark.
+fn empty_blocks(alloc: Global, count: usize) -> Result<Vec<u8>, AllocError>
+    requires { count < 65536 }
+{
+    let mut blocks = vec![in alloc; 0u8; count * BLOCK]?;
+    for number in 0..count {
+        set(
+            &mut blocks,
+            number * BLOCK + BUCKETS,
+            (BUCKETS as u8 + 1) / 2,
+        );
+    }
+    Ok(blocks)
+}
+
+/// The dictionary in this number of blocks; None if a public has no place.
+fn filled(
+    alloc: Global,
+    count: usize,
+    pages: &[First],
+    parts: &[Part],
+) -> Result<Option<Vec<u8>>, MakeFault>
+    requires { count < 65536 }
+{
+    let mut blocks = empty_blocks(alloc, count)?;
+    for (first, part) in pages.iter().zip(parts) {
+        if !put_publics(&mut blocks, pages, *first, part.publics.as_slice())? {
+            return Ok(None);
+        }
+    }
+    Ok(Some(blocks))
+}
+
+/// Whether a number from 2 to 65,535 is prime.
+fn is_prime(n: usize) -> bool {
+    for divisor in 2..256usize {
+        if divisor < n && n % divisor == 0 {
+            return false;
+        }
+    }
+    true
+}
+
+/// The bytes that the entries of a part take.
+fn entries_size(part: &Part) -> usize {
+    let mut size = 0usize;
+    for name in part.publics.iter() {
+        size = size.saturating_add(name.len()).saturating_add(4);
+    }
+    size
+}
+
+/// The least number of blocks to try: that in which the entries fill all room.
+fn least_blocks(parts: &[Part]) -> usize {
+    let mut size = 0usize;
+    for part in parts {
+        size = size.saturating_add(entries_size(part));
+    }
+    (size / (BLOCK - BUCKETS - 1)).max(2)
+}
+
+/// The dictionary of the parts: the least number of blocks is tried first, then primes that grow by a sixteenth.
+fn dictionary_of(alloc: Global, pages: &[First], parts: &[Part]) -> Result<Vec<u8>, MakeFault> {
+    let mut next = least_blocks(parts);
+    for count in 2..=MOST_BLOCKS {
+        if count >= next && is_prime(count) {
+            if let Some(blocks) = filled(alloc, count, pages, parts)? {
+                return Ok(blocks);
+            }
+            next = count + count / 16 + 1;
+        }
+    }
+    Err(MakeFault::TooLarge)
+}
+
+/// Appends zeros up to a multiple of a size.
+fn fill_up(bytes: &mut Vec<u8>, size: usize) -> Result<(), AllocError> {
+    for _ in 0..size {
+        if bytes.len() % size.max(1) == 0 {
+            break;
+        }
+        bytes.push(0)?;
+    }
+    Ok(())
+}
+
+/// Appends the header record, with a dictionary at an offset.
+fn put_header(
+    bytes: &mut Vec<u8>,
+    page: usize,
+    dictionary: u32,
+    blocks: u16,
+) -> Result<(), MakeFault> {
+    let Ok(length) = u16::try_from(page.saturating_sub(3)) else {
+        return Err(MakeFault::TooLarge);
+    };
+    bytes.push(0xF0)?;
+    bytes.extend_from_slice(length.to_le_bytes().as_slice())?;
+    bytes.extend_from_slice(dictionary.to_le_bytes().as_slice())?;
+    bytes.extend_from_slice(blocks.to_le_bytes().as_slice())?;
+    bytes.push(1)?;
+    fill_up(bytes, page)?;
+    Ok(())
+}
+
+/// The number of zeros after the F1H record's length, so that it ends at a multiple of the block size.
+fn end_length(end: usize) -> u16 {
+    (BLOCK - 1 - end.wrapping_add(2) % BLOCK) as u16
+}
+
+/// The offset of the F1H.
+fn end_of(page: usize, parts: &[Part]) -> usize {
+    let mut pages = 1usize;
+    for part in parts {
+        pages = pages.saturating_add(pages_of(page, part.bytes.len()));
+    }
+    pages.saturating_mul(page)
+}
+
+/// The bytes of a library of these parts: the header, the members, the F1H record and the dictionary.
+pub fn build(alloc: Global, parts: &[Part]) -> Result<Vec<u8>, MakeFault> {
+    let Some(page) = page_for(parts) else {
+        return Err(MakeFault::TooLarge);
+    };
+    let pages = first_pages(alloc, page, parts)?;
+    let blocks = dictionary_of(alloc, &pages, parts)?;
+    let end = end_of(page, parts);
+    let filling = end_length(end);
+    let dictionary = end.saturating_add(3).saturating_add(usize::from(filling));
+    match (
+        u32::try_from(dictionary),
+        u16::try_from(blocks.len() / BLOCK),
+    ) {
+        (Ok(dictionary), Ok(count)) => {
+            let mut bytes = Vec::new(alloc);
+            put_header(&mut bytes, page, dictionary, count)?;
+            put_members(&mut bytes, page, parts)?;
+            put_end(&mut bytes, filling)?;
+            bytes.extend_from_slice(&blocks)?;
+            Ok(bytes)
+        }
+        _ => Err(MakeFault::TooLarge),
+    }
+}
+
+/// Appends the members, each filled up to a page.
+fn put_members(bytes: &mut Vec<u8>, page: usize, parts: &[Part]) -> Result<(), AllocError> {
+    for part in parts {
+        bytes.extend_from_slice(part.bytes.as_slice())?;
+        fill_up(bytes, page)?;
+    }
+    Ok(())
+}
+
+/// Appends the F1H record.
+fn put_end(bytes: &mut Vec<u8>, filling: u16) -> Result<(), AllocError> {
+    bytes.push(0xF1)?;
+    bytes.extend_from_slice(filling.to_le_bytes().as_slice())?;
+    for _ in 0..filling {
+        bytes.push(0)?;
+    }
+    Ok(())
+}
