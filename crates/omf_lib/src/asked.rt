@@ -20,6 +20,14 @@ pub struct Get {
     pub is_numbered: bool,
 }
 
+/// A library to make.
+#[derive(Drop)]
+pub struct Make {
+    pub profile: Profile,
+    pub output: String,
+    pub files: Vec<String>,
+}
+
 /// What the arguments ask for; `-` is the standard input.
 #[derive(Drop)]
 pub enum Asked {
@@ -36,6 +44,7 @@ pub enum Asked {
         file: String,
         names: Vec<String>,
     },
+    Make(Make),
 }
 
 /// The arguments after the task: names, and options.
@@ -43,6 +52,7 @@ pub enum Asked {
 struct Words {
     names: Vec<String>,
     folder: Option<String>,
+    output: Option<String>,
     is_numbered: bool,
     refuse_vendor_comments: bool,
 }
@@ -51,6 +61,8 @@ struct Words {
 enum Word {
     /// The folder follows as the next argument.
     Folder,
+    /// The name of a new library follows.
+    Output,
     Numbered,
     RefuseVendorComments,
     Name,
@@ -61,6 +73,7 @@ enum Word {
 fn word_of(argument: &str) -> Word {
     match argument {
         "-d" => Word::Folder,
+        "-o" => Word::Output,
         "--numbered" => Word::Numbered,
         "--refuse-vendor-comments" => Word::RefuseVendorComments,
         "-" => Word::Name,
@@ -74,6 +87,7 @@ fn read_words(alloc: Global, arguments: Vec<String>) -> Result<Option<Words>, Al
     let mut read = Words {
         names: Vec::new(alloc),
         folder: None,
+        output: None,
         is_numbered: false,
         refuse_vendor_comments: false,
     };
@@ -82,6 +96,10 @@ fn read_words(alloc: Global, arguments: Vec<String>) -> Result<Option<Words>, Al
         match word_of(argument.as_str()) {
             Word::Folder => match words.next() {
                 Some(folder) => read.folder = Some(folder),
+                None => return Ok(None),
+            },
+            Word::Output => match words.next() {
+                Some(output) => read.output = Some(output),
                 None => return Ok(None),
             },
             Word::Numbered => read.is_numbered = true,
@@ -95,7 +113,11 @@ fn read_words(alloc: Global, arguments: Vec<String>) -> Result<Option<Words>, Al
 
 /// A look at files; None without a file, or with an option of `get`.
 fn look_of(look: Look, words: Words) -> Option<Asked> {
-    if words.names.is_empty() || words.folder.is_some() || words.is_numbered {
+    if words.names.is_empty()
+        || words.folder.is_some()
+        || words.output.is_some()
+        || words.is_numbered
+    {
         return None;
     }
     let profile = Profile {
@@ -110,7 +132,10 @@ fn look_of(look: Look, words: Words) -> Option<Asked> {
 
 /// Whether an option is given.
 fn has_option(words: &Words) -> bool {
-    words.folder.is_some() || words.is_numbered || words.refuse_vendor_comments
+    words.folder.is_some()
+        || words.output.is_some()
+        || words.is_numbered
+        || words.refuse_vendor_comments
 }
 
 /// Names to find; None without a file or a name, or with an option.
@@ -133,6 +158,7 @@ fn get_of(alloc: Global, words: Words) -> Result<Option<Asked>, AllocError> {
     let Words {
         names,
         folder,
+        output,
         is_numbered,
         refuse_vendor_comments,
     } = words;
@@ -144,7 +170,7 @@ fn get_of(alloc: Global, words: Words) -> Result<Option<Asked>, AllocError> {
         return Ok(None);
     };
     // The empty name, as from a variable that is not set, would be the root folder.
-    if refuse_vendor_comments || folder.is_empty() {
+    if refuse_vendor_comments || output.is_some() || folder.is_empty() {
         return Ok(None);
     }
     let get = Get {
@@ -153,6 +179,29 @@ fn get_of(alloc: Global, words: Words) -> Result<Option<Asked>, AllocError> {
         is_numbered,
     };
     Ok(Some(Asked::Get { file, get }))
+}
+
+/// A library to make; None without its name or a file, or with an option of `get`.
+fn make_of(words: Words) -> Option<Asked> {
+    let Words {
+        names,
+        folder,
+        output,
+        is_numbered,
+        refuse_vendor_comments,
+    } = words;
+    let output = output?;
+    if names.is_empty() || output.is_empty() || folder.is_some() || is_numbered {
+        return None;
+    }
+    let profile = Profile {
+        refuse_vendor_comments,
+    };
+    Some(Asked::Make(Make {
+        profile,
+        output,
+        files: names,
+    }))
 }
 
 /// What the arguments ask for, without the program's own name; None if they are not understood.
@@ -174,6 +223,7 @@ pub fn read_arguments(alloc: Global, arguments: Vec<String>) -> Result<Option<As
         "check" => Ok(look_of(Look::Check, words)),
         "get" => get_of(alloc, words),
         "find" => find_of(alloc, words),
+        "make" => Ok(make_of(words)),
         _ => Ok(None),
     }
 }

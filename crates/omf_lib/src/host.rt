@@ -2,11 +2,12 @@
 
 ghost use Rattle.std.specs.Prelude.{◌≤◌};
 
-use crate::asked::{Asked, Look, read_arguments};
+use crate::asked::{Asked, Look, Make, read_arguments};
 use crate::files::{read_input, shown_path};
 use crate::finding::find;
 use crate::judging::judge_file;
 use crate::listing::list;
+use crate::making::make_library;
 use crate::shown::{Shown, Stop};
 use crate::taking::get;
 use omf_check::Profile;
@@ -18,7 +19,7 @@ use std::{env, io};
 
 /// How the program is called.
 const USAGE: &[u8] =
-    b"usage: omf-lib list|check [--refuse-vendor-comments] LIB ..\n       omf-lib find LIB NAME ..\n       omf-lib get LIB [MEMBER ..] -d DIR [--numbered]\n";
+    b"usage: omf-lib list|check [--refuse-vendor-comments] LIB ..\n       omf-lib find LIB NAME ..\n       omf-lib get LIB [MEMBER ..] -d DIR [--numbered]\n       omf-lib make [--refuse-vendor-comments] -o LIB FILE ..\n";
 
 /// The line when out of memory.
 const MEMORY: &[u8] = b"memory\n";
@@ -138,8 +139,16 @@ fn act_on<K: Sink>(
     match asked {
         Asked::Get { get: asked, .. } => get(rt, &mut shown, writer, asked, &bytes)?,
         Asked::Find { names, .. } => find(&mut shown, writer, names.as_slice(), &bytes)?,
-        Asked::Look { .. } => {}
+        Asked::Look { .. } | Asked::Make(_) => {}
     }
+    shown.flush(writer)?;
+    Ok(shown.status)
+}
+
+/// Makes a library. Returns the status.
+fn act_make<K: Sink>(rt: &HostRuntime, writer: &mut K, asked: &Make) -> Result<u8, Stop> {
+    let mut shown = Shown::new(rt.alloc());
+    make_library(rt, &mut shown, asked)?;
     shown.flush(writer)?;
     Ok(shown.status)
 }
@@ -154,6 +163,10 @@ fn act<K: Sink>(rt: &HostRuntime, writer: &mut K, asked: &Asked) -> u8 {
         } => look_at_all(rt, writer, *look, *profile, files.as_slice()),
         Asked::Get { file, .. } | Asked::Find { file, .. } => {
             let answer = act_on(rt, writer, asked, file.as_str());
+            settled(writer, answer)
+        }
+        Asked::Make(asked) => {
+            let answer = act_make(rt, writer, asked);
             settled(writer, answer)
         }
     }

@@ -1,5 +1,6 @@
 //! `omf-lib`: libraries of object modules (TIS OMF 1.1, appendix 2). It lists a library, checks its members and its
-//! dictionary, finds names, and takes members out. docs/LIBRARIES.md has what it prints.
+//! dictionary, finds names, takes members out, and makes
+//! libraries. docs/LIBRARIES.md has what it prints.
 #![tactic(auto)]
 
 mod asked;
@@ -10,6 +11,7 @@ mod host;
 mod judging;
 mod library;
 mod listing;
+mod making;
 mod members;
 mod naming;
 mod publics;

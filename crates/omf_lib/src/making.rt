@@ -1,0 +1,163 @@
+//! The task `omf-lib make`: a library of modules.
+
+use crate::asked::Make;
+use crate::files::{Written, read_input, shown_path, write_new};
+use crate::members::{Verdict, judge};
+use crate::publics::publics_of;
+use crate::shown::{Shown, Stop};
+use crate::span::Span;
+use crate::text::{put_quoted, put_reason};
+use omf_check::Checked;
+use omf_library::{MakeFault, Part, make};
+use std::alloc::{AllocError, Global};
+use std::fmt::Write;
+
+/// A part of a checked module: its bytes, without what follows its MODEND in the file.
+fn part_of(alloc: Global, module: &Checked) -> Result<Part, AllocError> {
+    let mut bytes = Vec::new(alloc);
+    bytes.extend_from_slice(module.bytes())?;
+    Ok(Part {
+        bytes,
+        publics: publics_of(alloc, module)?,
+    })
+}
+
+/// Appends the line of a file that is refused.
+fn put_refused(shown: &mut Shown, name: &str, why: &Verdict) -> Result<(), AllocError> {
+    let name = shown_path(*shown.text.allocator(), name)?;
+    shown.raise(1);
+    write!(&mut shown.text, "{name}: refused")?;
+    if let Verdict::Refused { reason, place } = why {
+        put_reason(&mut shown.text, *reason, *place)?;
+    }
+    shown.text.push('\n')
+}
+
+/// Appends the part of a file; or a line, if it is no module or could not be read.
+fn push_part(
+    rt: &HostRuntime,
+    shown: &mut Shown,
+    parts: &mut Vec<Part>,
+    asked: &Make,
+    name: &str,
+) -> Result<(), AllocError> {
+    let bytes = match read_input(rt, name) {
+        Ok(bytes) => bytes,
+        Err(error) => {
+            shown.raise(3);
+            let name = shown_path(rt.alloc(), name)?;
+            return write!(&mut shown.text, "read {name}: {error}\n");
+        }
+    };
+    let span = Span {
+        number: 0,
+        offset: 0,
+        bytes: &bytes,
+    };
+    match judge(rt.alloc(), asked.profile, &span)? {
+        Verdict::Accepted(module) => {
+            parts.push(part_of(rt.alloc(), &module)?)?;
+            Ok(())
+        }
+        refused => put_refused(shown, name, &refused),
+    }
+}
+
+/// The name of an input, as it is printed.
+fn file_of(alloc: Global, files: &[String], number: usize) -> Result<String, AllocError> {
+    match files.get(number) {
+        Some(name) => shown_path(alloc, name.as_str()),
+        None => Ok(String::new(alloc)),
+    }
+}
+
+/// Appends the line of a public that two files have.
+fn put_twice(
+    shown: &mut Shown,
+    files: &[String],
+    parts: &[Part],
+    first: usize,
+    second: usize,
+    public: usize,
+) -> Result<(), AllocError> {
+    let alloc = *shown.text.allocator();
+    let one = file_of(alloc, files, first)?;
+    let other = file_of(alloc, files, second)?;
+    shown.text.push_str("twice")?;
+    if let Some(part) = parts.get(second)
+        && let Some(name) = part.publics.get(public)
+    {
+        put_quoted(&mut shown.text, name.as_slice())?;
+    }
+    write!(&mut shown.text, " in {one} and {other}\n")
+}
+
+/// Appends the line of a fault.
+fn put_fault(
+    shown: &mut Shown,
+    asked: &Make,
+    parts: &[Part],
+    fault: MakeFault,
+) -> Result<(), Stop> {
+    shown.raise(1);
+    let output = shown_path(*shown.text.allocator(), asked.output.as_str())?;
+    match fault {
+        MakeFault::Memory => return Err(Stop::Memory),
+        MakeFault::Twice {
+            first,
+            second,
+            public,
+        } => put_twice(shown, asked.files.as_slice(), parts, first, second, public)?,
+        MakeFault::TooLarge => write!(&mut shown.text, "refused {output}: too large\n")?,
+        MakeFault::Refused { .. } | MakeFault::Unlike => {
+            write!(
+                &mut shown.text,
+                "refused {output}: not read back as it was made\n"
+            )?
+        }
+    }
+    Ok(())
+}
+
+/// Writes the library, and appends a line on it.
+fn write_library(
+    rt: &HostRuntime,
+    shown: &mut Shown,
+    asked: &Make,
+    count: usize,
+    bytes: &[u8],
+) -> Result<(), AllocError> {
+    let output = shown_path(rt.alloc(), asked.output.as_str())?;
+    match write_new(rt, asked.output.as_str(), bytes)? {
+        Written::Whole => {
+            let length = bytes.len();
+            write!(
+                &mut shown.text,
+                "wrote {output} {length} bytes, {count} members\n"
+            )
+        }
+        Written::IsThere => {
+            shown.raise(1);
+            write!(&mut shown.text, "refused {output}: it is there already\n")
+        }
+        Written::Failed(error) => {
+            shown.raise(3);
+            write!(&mut shown.text, "write {output}: {error}\n")
+        }
+    }
+}
+
+/// Makes a library of the files, in order. Nothing is written if a file is refused or could not be read.
+pub fn make_library(rt: &HostRuntime, shown: &mut Shown, asked: &Make) -> Result<(), Stop> {
+    let mut parts = Vec::new(rt.alloc());
+    for name in asked.files.iter() {
+        push_part(rt, shown, &mut parts, asked, name.as_str())?;
+    }
+    if shown.status != 0 {
+        return Ok(());
+    }
+    match make(rt.alloc(), asked.profile, parts.as_slice()) {
+        Ok(bytes) => Ok(write_library(rt, shown, asked, parts.len(), &bytes)?),
+        Err(fault) => put_fault(shown, asked, parts.as_slice(), fault),
+    }
+}
