@@ -84,7 +84,7 @@ fn set(block: &mut [u8], at: usize, byte: u8) {
     }
 }
 
-/// Writes an entry, and the bucket that leads to it. Returns whether there was room.
+/// Writes an entry, and the bucket that points to it. Returns whether there was room.
 fn write_entry(block: &mut [u8], bucket: usize, name: &[u8], page: u16) -> bool {
     let free = match block.get(BUCKETS) {
         Some(free) => *free,
