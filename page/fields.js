@@ -36,6 +36,13 @@ function subrecordPlaces(cursor, wide, data) {
   return isFrame ? { "frame-thread": byte, frame: datum } : { "target-thread": byte, target: datum };
 }
 
+// The places of a block of an LIDATA: repeat count, block count, and the data if that is 0.
+function blockPlaces(cursor, wide) {
+  const repeat = cursor.take(wide ? 4 : 2), blocks = cursor.take(2);
+  const isData = cursor.bytes[blocks[0]] === 0 && cursor.bytes[blocks[0] + 1] === 0;
+  return { depth: repeat, repeat, blocks, bytes: isData ? cursor.name() : blocks };
+}
+
 // The places of one item of a record.
 function itemPlaces(type, cursor, wide, data) {
   if (type === "LNAMES" || type === "LLNAMES") return { name: cursor.name() };
@@ -47,6 +54,8 @@ function itemPlaces(type, cursor, wide, data) {
     if (cursor.bytes[places.communal[0]] === 0x61) return { ...places, count: cursor.communal(), size: cursor.communal() };
     return { ...places, length: cursor.communal() };
   }
+  if (type === "COMENT") { const index = cursor.index(); return { external: index, default: index }; }
+  if (type === "LIDATA") return blockPlaces(cursor, wide);
   if (type === "FIXUPP") return subrecordPlaces(cursor, wide, data);
   if (type === "MODEND") return referencePlaces(cursor, wide);
   return {};
@@ -136,7 +145,8 @@ function recordTree(bytes, from, to, dump, dataAt) {
     for (const [key, value] of Object.entries(item)) {
       if (key === "within") continue;
       let [first, end] = inside[key] || [from + item.within, cursor.at];
-      if (key === "bytes") end = first + (value.length / 2 || 0);
+      if (key === "before" || key === "after") continue;
+      if (key === "bytes" && type === "FIXUPP") end = first + (value.length / 2 || 0);
       children.push({ level: 3, key, value: shownValue(key, value, type, wide, true), from: first, to: end });
     }
     rows.push({ level: 2, key: "+" + item.within, within: item.within, value: children.filter(it => it.value !== "no").map(it => `${it.key} ${it.value}`).join("  "),

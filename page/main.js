@@ -230,6 +230,8 @@ class Page {
       if (this.look.fault >= 0) this.hex.mark(this.look.fault, this.look.fault + 1);
       const dump = await this.engine.ask("dump", { records, isWhole: verdict.ok });
       if (isOld()) return;
+      // (the records after the one at fault are not shown)
+      if (verdict.reason) dump.starts = dump.starts.slice(0, verdict.record + 2);
       this.look.dump = dump;
       this.look.seen = dump.seen;
       this.tree.set(this.look);

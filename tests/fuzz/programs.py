@@ -189,13 +189,14 @@ def no_doubles(pairs):
 
 
 def look_at_records(lines, bytes_, most):
-    """The records of JSON: numbered from 0, one after another in the file; only the last may be at fault. Returns them."""
-    found, at = [], 0
+    """The records of JSON: numbered from 0, one after another in the file; those after one at fault are not judged. Returns them."""
+    found, at, is_judged = [], 0, True
     for number, line in enumerate(lines):
         one = json.loads(line, object_pairs_hook=no_doubles)
         look_at_value(one, most)
         promised(one["number"] == number and one["start"] == at, f"record {number}: number or start")
-        promised("refused" not in one or number == len(lines) - 1, "a record after the one at fault")
+        promised(("unjudged" not in one) == is_judged, "a record after the one at fault")
+        is_judged = is_judged and "refused" not in one
         size = 3 + struct.unpack_from("<H", bytes_, at + 1)[0] if len(bytes_) - at >= 3 else len(bytes_) - at
         promised("type" not in one or one["type"] == bytes_[at], f"record {number}: type")
         promised(all(3 <= it["within"] < size for it in one.get("items", ())), f"record {number}: within")
@@ -206,10 +207,15 @@ def look_at_records(lines, bytes_, most):
     return found
 
 
+def last_judged(found):
+    """The record at fault; of an accepted module the last record."""
+    return [it for it in found if "unjudged" not in it][-1]
+
+
 def compare_verdict(answer, found, bytes_):
     """The answer of `omf check`, and that of omf-dump."""
     accepted = re.fullmatch(rb"OK (\d+) records, (\d+) bytes\n", answer)
-    last = found[-1]
+    last = last_judged(found)
     if accepted:
         promised("refused" not in last and len(found) == int(accepted[1]), "accepted, but shown otherwise")
         promised(last["start"] + 3 + struct.unpack_from("<H", bytes_, last["start"] + 1)[0] == int(accepted[2]), "the module's length")
@@ -261,7 +267,7 @@ class Dump:
         for bytes_, lines, text in zip(inputs, shown, texts):
             found = look_at_records(lines.splitlines(), bytes_, most)
             compare_text(text, found)
-            verdicts.append(int("refused" in found[-1]))
+            verdicts.append(int("refused" in last_judged(found)))
             self.accepted += verdicts[-1] == 0
             if self.random.randrange(self.every) == 0:
                 self.compare(bytes_, found, flag)
@@ -271,7 +277,7 @@ class Dump:
         """What `omf` has of a module, and its records in JSON."""
         self.compared += 1
         verdict, answer = run([self.omf, "check", *flag], bytes_)
-        promised(verdict == int("refused" in found[-1]), f"omf check: status {verdict}")
+        promised(verdict == int("refused" in last_judged(found)), f"omf check: status {verdict}")
         compare_verdict(answer, found, bytes_)
         if verdict == 0 and self.random.randrange(4) == 0:
             compare_list(run([self.omf, "list", *flag], bytes_)[1], found)

@@ -1,10 +1,14 @@
 pub mod AnswerLaws
+pub mod BlockLaws
 pub mod ExpandedLaws
 pub mod Hexadecimal
 pub mod ItemLaws
 pub mod KnownLaws
+pub mod LaterLaws
 pub mod Lines
+pub mod PairLaws
 pub mod RowLaws
 pub mod StreamLaws
 pub mod SubrecordLaws
+pub mod TextLaws
 pub mod WalkLaws

@@ -1,5 +1,5 @@
 -- What is shown of the contents of each record: their fields by the names of the standard (TIS OMF 1.1, the page of each record).
-use Rattle.std.specs.Prelude.{ℕ, ◌+◌, ◌*◌, ◌^◌, List, [], ◌∷◌, ◌++◌, length, map, take, drop, not, ◌==◌, Option, Some, None, option_map, unwrap_or, Result, Ok, Err, nat_le, codes, if◌then◌else◌}
+use Rattle.std.specs.Prelude.{ℕ, ◌+◌, ◌-◌, ◌*◌, ◌^◌, List, [], ◌∷◌, ◌++◌, length, map, take, drop, not, ◌==◌, Option, Some, None, option_map, unwrap_or, Result, Ok, Err, nat_le, codes, if◌then◌else◌}
 use Rattle.omf_frame.specs.Bytes.{has_bit}
 use Rattle.omf_records.specs.Location.{location_size}
 use Rattle.omf_records.specs.Values.{At, SegmentItem, ExternalItem, PublicItem, CommunalSize, Near, Far, CommunalItem, Reference, Subrecord, Thread, Fixup, Contents, Header, Comment, Names, Segment, Group, Externs, Publics, Communals, Plain, Iterated, Fixups, ModEnd, Carried, alignment, combination, is_big, is_use32, thread_is_frame, thread_method, thread_number, is_segment_relative, location_type, location_offset, frame_by_thread, frame_thread, target_by_thread, target_bits}
@@ -15,24 +15,21 @@ use Rattle.omf_check.specs.declared.method.FrameMethod.{FrameMethod}
 use Rattle.omf_check.specs.declared.method.FrameMethod.TheVariants as frames
 use Rattle.omf_check.specs.declared.method.TargetMethod.{TargetMethod}
 use Rattle.omf_check.specs.Threads.{setting, frame_from, target_from, frame_of, target_of}
-use Rattle.omf_dump.specs.Fields.{Entry, Value, Number, Hex, Word, Characters, Bytes, Named, Method, Flag, Field, field, Item, item, Shown, only_fields, with_items, with_block}
+use Rattle.omf_dump.specs.Blocks.{blocks_from}
+use Rattle.omf_dump.specs.Comments.{class_fields, class_items}
+use Rattle.omf_dump.specs.Fields.{Entry, Value, Number, Hex, Word, Characters, Marked, Named, Method, Flag, Field, field, Item, item, Shown, only_fields, with_items, with_block}
 use Rattle.omf_dump.specs.Known.{Data, Tables, name_entry, segment_entry, group_entry, external_entry}
 use Rattle.omf_dump.specs.Render.{digits}
-use Rattle.omf_dump.specs.Words.{alignment_word, combination_word, location_word, class_word, subtype_word}
+use Rattle.omf_dump.specs.Words.{alignment_word, combination_word, location_word, class_word}
 
 -- THEADR, LHEADR.
 abbrev pub header_fields : List ℕ → List Field
 header_fields name = field (codes "name") (Characters name) ∷ []
 
--- The subtype of a comment of the class A0H: the first byte of its text.
-abbrev pub subtype_if : ℕ → List ℕ → List Field
-subtype_if class [] = []
-subtype_if class (b ∷ _) = if class == 0xA0 then field (codes "subtype") (Word (subtype_word b)) ∷ [] else []
-
--- COMENT: class, its name, the bits of the type byte, the subtype, the text.
+-- COMENT: class, its name, the bits of the type byte, the fields of the class, the text.
 abbrev pub comment_fields : ℕ → ℕ → List ℕ → List Field
 comment_fields byte class text = field (codes "class") (Hex 2 class) ∷ field (codes "meaning") (Word (class_word class)) ∷ field (codes "flags") (Hex 2 byte)
-    ∷ field (codes "no-purge") (Flag (has_bit byte 7)) ∷ field (codes "no-list") (Flag (has_bit byte 6)) ∷ (subtype_if class text ++ field (codes "text") (Characters text) ∷ [])
+    ∷ field (codes "no-purge") (Flag (has_bit byte 7)) ∷ field (codes "no-list") (Flag (has_bit byte 6)) ∷ (class_fields class text ++ field (codes "text") (Characters text) ∷ [])
 
 -- SEGDEF: the index that it defines; name, class and overlay; attributes; the place of an absolute segment; the length in bytes.
 abbrev pub segment_names : Tables → ℕ → SegmentItem → List Field
@@ -97,8 +94,7 @@ base_fields group segment frame = field (codes "group") (Named group) ∷ (field
 abbrev pub public_fields : Width → PublicItem → List Field
 public_fields width p = field (codes "public") (Characters p.name) ∷ field (codes "offset") (Hex (digits width) p.offset) ∷ field (codes "type") (Number p.type_index) ∷ []
 
--- LEDATA: segment, offset and length; the data. LIDATA: the length of the expanded blocks, if they expand within the limits; the blocks, with
--- their offset in the record.
+-- LEDATA: segment, offset and length; the data. LIDATA: the length of the expanded blocks, if they expand within the limits; each block.
 abbrev pub place_fields : Width → Entry → ℕ → List Field
 place_fields width segment offset = field (codes "segment") (Named segment) ∷ field (codes "offset") (Hex (digits width) offset) ∷ []
 
@@ -151,15 +147,28 @@ abbrev pub reference_fields : Tables → Width → Option FrameMethod → Option
 reference_fields t width frame target r = field (codes "target") (target_value t target) ∷ (displacement_if width r.displacement
     ++ (field (codes "frame") (frame_value t frame) ∷ (thread_if (codes "target-thread") (target_thread_of r) ++ thread_if (codes "frame-thread") (frame_thread_of r))))
 
--- The place of a location in its segment, if it changes an LEDATA, else in its data; and its bytes there.
+-- The place of a location in its segment, if it changes an LEDATA, else in its data; its bytes there, and at most four bytes before and after
+-- them.
 abbrev pub location_place : Option Data → ℕ → ℕ
 location_place fixed locat = unwrap_or (option_map (λ d. d.offset) fixed) 0 + location_offset locat
 
+abbrev pub data_or_none : Option Data → List ℕ
+data_or_none fixed = unwrap_or (option_map (λ d. d.bytes) fixed) []
+
+abbrev pub bytes_before : Option Data → ℕ → List ℕ
+bytes_before fixed locat = drop (location_offset locat - 4) (take (location_offset locat) (data_or_none fixed))
+
 abbrev pub location_bytes : Option Data → ℕ → List ℕ
-location_bytes fixed locat = take (location_size (location_type locat)) (drop (location_offset locat) (unwrap_or (option_map (λ d. d.bytes) fixed) []))
+location_bytes fixed locat = take (location_size (location_type locat)) (drop (location_offset locat) (data_or_none fixed))
+
+abbrev pub bytes_after : Option Data → ℕ → List ℕ
+bytes_after fixed locat = take 4 (drop (location_offset locat + location_size (location_type locat)) (data_or_none fixed))
+
+abbrev pub marked_location : Option Data → ℕ → Value
+marked_location fixed locat = Marked (bytes_before fixed locat) (location_bytes fixed locat) (bytes_after fixed locat)
 
 abbrev pub location_fields : Option Data → Width → ℕ → List Field
-location_fields fixed width locat = field (codes "at") (Hex (digits width) (location_place fixed locat)) ∷ field (codes "bytes") (Bytes (location_bytes fixed locat))
+location_fields fixed width locat = field (codes "at") (Hex (digits width) (location_place fixed locat)) ∷ field (codes "bytes") (marked_location fixed locat)
     ∷ field (codes "location") (Word (location_word (location_type locat))) ∷ field (codes "self-relative") (Flag (not (is_segment_relative locat))) ∷ []
 
 -- A THREAD: its kind and number, and the method that it sets.
@@ -201,7 +210,7 @@ expanded_if width blocks = if nat_le (length blocks) 65534 then length_if width 
 -- the items of a FIXUPP and of a MODEND.
 abbrev pub shown_with : (List (At Subrecord) → List Item) → (Option Reference → List Item) → Tables → Width → Contents → Shown
 shown_with subrecords starts t width (Header name) = only_fields (header_fields name)
-shown_with subrecords starts t width (Comment byte class text) = only_fields (comment_fields byte class text)
+shown_with subrecords starts t width (Comment byte class text) = record { fields = comment_fields byte class text; items = class_items t class text; block = None }
 shown_with subrecords starts t width (Names items) = with_items [] (numbered name_fields (length t.names + 1) items)
 shown_with subrecords starts t width (Segment s) = only_fields (segment_fields t (length t.segments + 1) width s)
 shown_with subrecords starts t width (Group g) = with_items (group_fields t (length t.groups + 1) g.name) (each (member_fields t) g.members)
@@ -209,7 +218,7 @@ shown_with subrecords starts t width (Externs items) = with_items [] (numbered e
 shown_with subrecords starts t width (Publics p) = with_items (base_fields (group_entry t p.group.item) (segment_entry t p.segment.item) p.frame) (each (public_fields width) p.items)
 shown_with subrecords starts t width (Communals items) = with_items [] (numbered communal_fields (length t.externals + 1) items)
 shown_with subrecords starts t width (Plain d) = with_block (place_fields width (segment_entry t d.segment.item) d.offset.item ++ length_field width (length d.bytes)) d.offset.item d.bytes
-shown_with subrecords starts t width (Iterated d) = with_block (place_fields width (segment_entry t d.segment.item) d.offset.item ++ expanded_if width d.bytes) (d.offset.within + width_bytes width) d.bytes
+shown_with subrecords starts t width (Iterated d) = with_items (place_fields width (segment_entry t d.segment.item) d.offset.item ++ expanded_if width d.bytes) (blocks_from width (d.offset.within + width_bytes width) [] 0 d.bytes)
 shown_with subrecords starts t width (Fixups subs) = with_items [] (subrecords subs)
 shown_with subrecords starts t width (ModEnd byte start) = with_items (end_fields byte) (starts start)
 shown_with subrecords starts t width (Carried bytes) = with_block (length_field Bits16 (length bytes)) 3 bytes

@@ -7,16 +7,19 @@ pub record Entry : Type 0 where
   pub name : Option (List ℕ)
 
 -- A value: a number; a number in hexadecimal, with the least number of digits; one word of a fixed list; bytes as characters; bytes as numbers;
--- an entry of a table; a frame or target method, with its entry if it has one; whether something is set.
+-- bytes with those before and after them; an entry of a table; a frame or target method, with its entry if it has one; whether something is set;
+-- how deep something is nested.
 pub data Value : Type 0 where
   Number : ℕ → Value
   Hex : ℕ → ℕ → Value
   Word : List ℕ → Value
   Characters : List ℕ → Value
   Bytes : List ℕ → Value
+  Marked : List ℕ → List ℕ → List ℕ → Value
   Named : Entry → Value
   Method : List ℕ → Option Entry → Value
   Flag : Bool → Value
+  Depth : ℕ → Value
 
 pub record Field : Type 0 where
   pub name : List ℕ

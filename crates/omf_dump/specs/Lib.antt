@@ -3,8 +3,11 @@ pub mod Render
 pub mod Words
 pub mod Known
 pub mod Looks
+pub mod Blocks
+pub mod Comments
 pub mod Contents
 pub mod Dump
+pub mod Later
 pub mod Refused
 pub mod Rows
 pub mod Inner

@@ -1,5 +1,5 @@
--- What is shown of a refused module: the records before the fault, and then the record at fault (this profile's rule).
-use Rattle.std.specs.Prelude.{ℕ, ◌-◌, ◌*◌, ◌/◌, List, [], ◌∷◌, ◌++◌, take, drop, Bool, true, false, Option, codes}
+-- What is shown of a refused module: the records before the fault, the record at fault, and those after it (this profile's rule).
+use Rattle.std.specs.Prelude.{ℕ, ◌+◌, ◌-◌, ◌*◌, ◌/◌, ◌%◌, List, [], ◌∷◌, ◌++◌, take, drop, replicate, Bool, true, false, Option, codes, decimal}
 use Rattle.std.specs.Io.KnownBytes.{Appends}
 use Rattle.omf_frame.specs.Fault.{reason_number, reason_name, sentence}
 use Rattle.omf_frame.specs.Framing.{Raw, present}
@@ -11,10 +11,12 @@ use Rattle.omf_check.specs.Refusal.{IsRefused}
 use Rattle.omf_check.specs.WellFormed.{IsAccepted}
 use Rattle.omf_check.specs.declared.profile.Profile.{Profile}
 use Rattle.omf_dump.specs.Dump.{dump_text}
-use Rattle.omf_dump.specs.Fields.{Number, Hex, Word, Characters, Field, field, with_block}
+use Rattle.omf_dump.specs.Fields.{Number, Hex, Word, Characters, Field, field}
+use Rattle.omf_dump.specs.Later.{later_text}
 use Rattle.omf_dump.specs.Looks.{is_foreign, looks_like}
-use Rattle.omf_dump.specs.Render.{kind_head, place_head, shown_text}
+use Rattle.omf_dump.specs.Render.{bytes_block, fields_text, kind_head, line_end, place_head, record_end, rows}
 use Rattle.omf_dump.specs.declared.format.Format.{Format}
+use Rattle.omf_dump.specs.declared.format.Format.TheVariants as format
 use Rattle.omf_dump.specs.declared.format.Style.{Style}
 
 -- The byte at the fault, if it is present.
@@ -44,13 +46,43 @@ abbrev pub kind_if : Format → List ℕ → List ℕ
 kind_if f [] = []
 kind_if f (kind ∷ _) = kind_head f kind (type_name kind)
 
--- The record at fault, of an input of which these bytes follow the records before it.
+-- The number of these bytes up to the end of the line with the offset.
+abbrev pub marked_len : ℕ → ℕ
+marked_len within = 16 * (within / 16) + 16 - window_start within
+
+-- The line below the one with the byte at an offset: carets under its two digits, and the offset.
+abbrev pub mark : ℕ → List ℕ
+mark within = replicate (13 + 3 * (within % 16)) 32 ++ (codes "^^ +" ++ (decimal within ++ 10 ∷ []))
+
+-- The same, if the byte is present: these are the bytes from it on.
+abbrev pub mark_if : ℕ → List ℕ → List ℕ
+mark_if within [] = []
+mark_if within (b ∷ _) = mark within
+
+-- The bytes around an offset of a record: in text the lines up to the one with the offset, the mark, and the other lines.
+abbrev pub marked_rows : ℕ → List ℕ → List ℕ
+marked_rows within bytes = rows (window_start within) (take (marked_len within) (window within bytes))
+    ++ (mark_if within (drop within bytes) ++ rows (window_start within + marked_len within) (drop (marked_len within) (window within bytes)))
+
+abbrev pub refused_bytes : Format → ℕ → List ℕ → List ℕ
+refused_bytes format.Text within bytes = marked_rows within bytes
+refused_bytes format.Json within bytes = bytes_block format.Json (window_start within) (window within bytes)
+
+-- The record at fault, of an input of which these bytes follow the records before it: its place and type, why it is refused, what a file that
+-- begins no module looks like; the bytes around the fault.
+abbrev pub refused_line : Format → Place → Reason → List ℕ → List ℕ
+refused_line f at why rest = place_head f at.number at.start ++ (kind_if f rest
+    ++ (fields_text f (reason_fields why at.within (present rest)) ++ fields_text f (look_if (is_foreign at.number rest) rest)))
+
+abbrev pub refused_record : Format → Place → Reason → List ℕ → List ℕ
+refused_record f at why rest = refused_line f at why rest ++ (line_end f ++ (refused_bytes f at.within (present rest) ++ record_end f))
+
+-- The record at fault, and then the records that follow it, unjudged.
 abbrev pub refusal_text : Format → Place → Reason → List ℕ → List ℕ
-refusal_text f at why rest = place_head f at.number at.start ++ (kind_if f rest
-    ++ shown_text (record { format = f; most = 48 }) (with_block (reason_fields why at.within (present rest) ++ look_if (is_foreign at.number rest) rest) (window_start at.within) (window at.within (present rest))))
+refusal_text f at why rest = refused_record f at why rest ++ later_text f at.number at.start rest
 
 -- What is written for an input: the text of the module that it begins with; or, if it is refused, that of the records before the fault, and then
--- of the record at fault. `old` and `new` are the bytes that the writer holds before and after, if they are known.
+-- of the record at fault and those after it. `old` and `new` are the bytes that the writer holds before and after, if they are known.
 pub record IsOfModule (profile : Profile) (style : Style) (input : List ℕ) (old new : Option (List ℕ)) : Type 0 where
   pub records : List Raw
   pub accepted : IsAccepted profile profile_limits input records

@@ -4,7 +4,7 @@ use Rattle.std.specs.List.{range_with_len}
 use Rattle.omf_frame.specs.Types.{type_name, width_bytes}
 use Rattle.omf_frame.specs.declared.kinds.Width.{Width}
 use Rattle.omf_placement.specs.Quoted.{hex, is_plain}
-use Rattle.omf_dump.specs.Fields.{Entry, Value, Number, Hex, Word, Characters, Bytes, Named, Method, Flag, Field, Item, Block, Shown}
+use Rattle.omf_dump.specs.Fields.{Entry, Value, Number, Hex, Word, Characters, Bytes, Marked, Named, Method, Flag, Depth, Field, Item, Block, Shown}
 use Rattle.omf_dump.specs.declared.format.Format.{Format}
 use Rattle.omf_dump.specs.declared.format.Style.{Style}
 use Rattle.omf_dump.specs.declared.format.Format.TheVariants as format
@@ -43,6 +43,12 @@ spaced (b ∷ bytes) = hex 2 b ++ flat_map (λ c. 32 ∷ hex 2 c) bytes
 abbrev pub bytes_text : Format → List ℕ → List ℕ
 bytes_text format.Text bytes = spaced bytes
 bytes_text format.Json bytes = 34 ∷ flat_map (hex 2) bytes ++ 34 ∷ []
+
+-- Bytes, with those before and after them: in text all, these in brackets; in JSON three words.
+abbrev pub marked_text : Format → List ℕ → List ℕ → List ℕ → List ℕ
+marked_text format.Text before bytes after = flat_map (λ c. hex 2 c ++ 32 ∷ []) before ++ (91 ∷ spaced bytes ++ (93 ∷ flat_map (λ c. 32 ∷ hex 2 c) after))
+marked_text format.Json before bytes after = bytes_text format.Json bytes
+    ++ (codes ",\"before\":" ++ (bytes_text format.Json before ++ (codes ",\"after\":" ++ bytes_text format.Json after)))
 
 -- The name beside an index, if there is one.
 abbrev pub name_beside : Format → Option (List ℕ) → List ℕ
@@ -91,15 +97,22 @@ flag_text format.Text name false = []
 flag_text format.Json name true = opened format.Json name ++ codes "true"
 flag_text format.Json name false = opened format.Json name ++ codes "false"
 
+-- How deep something is nested: in text two spaces for each level.
+abbrev pub depth_text : Format → List ℕ → ℕ → List ℕ
+depth_text format.Text name n = replicate n 32 ++ replicate n 32
+depth_text format.Json name n = opened format.Json name ++ decimal n
+
 abbrev pub value_text : Format → List ℕ → Value → List ℕ
 value_text f name (Number n) = opened f name ++ decimal n
 value_text f name (Hex least n) = opened f name ++ hexadecimal f least n
 value_text f name (Word w) = opened f name ++ word_text f w
 value_text f name (Characters bytes) = opened f name ++ quoted f bytes
 value_text f name (Bytes bytes) = opened f name ++ bytes_text f bytes
+value_text f name (Marked before bytes after) = opened f name ++ marked_text f before bytes after
 value_text f name (Named e) = opened f name ++ named_text f e
 value_text f name (Method m e) = opened f name ++ method_text f m e
 value_text f name (Flag b) = flag_text f name b
+value_text f name (Depth n) = depth_text f name n
 
 abbrev pub field_text : Format → Field → List ℕ
 field_text f x = value_text f x.name x.value
@@ -151,10 +164,18 @@ bytes_block format.Text first bytes = rows first bytes
 bytes_block format.Json first bytes = codes ",\"data\":\"" ++ (flat_map (hex 2) bytes ++ 34 ∷ [])
 
 -- The number of bytes that are left out, if some are.
+abbrev pub many_bytes : ℕ → List ℕ
+many_bytes n = codes "    and " ++ (decimal n ++ codes " bytes more\n")
+
+abbrev pub more_bytes : ℕ → List ℕ
+more_bytes n = if n == 1 then codes "    and 1 byte more\n" else many_bytes n
+
+abbrev pub some_left_out : Format → ℕ → List ℕ
+some_left_out format.Text n = more_bytes n
+some_left_out format.Json n = codes ",\"left-out\":" ++ decimal n
+
 abbrev pub left_out : Format → ℕ → List ℕ
-left_out f zero = []
-left_out format.Text (suc n) = codes "    and " ++ (decimal (suc n) ++ codes " bytes more\n")
-left_out format.Json (suc n) = codes ",\"left-out\":" ++ decimal (suc n)
+left_out f n = if n == 0 then [] else some_left_out f n
 
 -- Bytes of a record, at most so many.
 abbrev pub block_text : Style → Option Block → List ℕ

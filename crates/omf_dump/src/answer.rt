@@ -1,6 +1,6 @@
 //! The dump of an input.
 
-ghost use Rattle.std.specs.Prelude.{◌≡◌, ◌++◌, IfOk, drop, false, true};
+ghost use Rattle.std.specs.Prelude.{◌≡◌, ◌<◌, ◌+◌, ◌^◌, ◌++◌, IfOk, drop, false, length, true};
 ghost use Rattle.omf_frame.specs.Device.{Writes};
 ghost use Rattle.omf_image.specs.Limits.{profile_limits};
 ghost use Rattle.omf_check.specs.Module.{records_in};
@@ -11,6 +11,7 @@ ghost use Rattle.omf_dump.specs.Refused.{IsOfModule, IsOfRefused, refusal_text};
 
 use crate::fault::DumpFault;
 use crate::format::{Format, Style};
+use crate::later::put_later;
 use crate::output::send;
 use crate::refused::show_refusal;
 use crate::walk::dump;
@@ -31,7 +32,7 @@ fn dump_module<K: Sink>(
     dump(alloc, writer, style, checked.bytes())
 }
 
-/// Writes the record at fault.
+/// Writes the record at fault, and those after it.
 fn dump_fault<K: Sink>(
     alloc: Global,
     writer: &mut K,
@@ -39,6 +40,7 @@ fn dump_fault<K: Sink>(
     fault: (Reason, Place),
     rest: &[u8],
 ) -> Result<(), DumpFault>
+    requires { fault.1.start + length rest.now < 2 ^ 63 }
     ensures { Writes (K.seen writer.old).bytes (K.seen writer.new).bytes result (refusal_text format fault.1 fault.0 rest.now) }
 {
     let (reason, place) = fault;
@@ -46,10 +48,11 @@ fn dump_fault<K: Sink>(
     let Ok(()) = show_refusal(&mut text, format, place, reason, rest) else {
         return Err(DumpFault::Memory);
     };
+    put_later(writer, &mut text, format, place, rest)?;
     send(writer, &text)
 }
 
-/// Writes what is shown of an input that is refused: the records before the fault, and the record at fault.
+/// Writes what is shown of an input that is refused: the records before the fault, the record at fault, and those after it.
 fn dump_refused<K: Sink>(
     alloc: Global,
     writer: &mut K,
@@ -66,8 +69,8 @@ fn dump_refused<K: Sink>(
     dump_fault(alloc, writer, style.format, fault, rest)
 }
 
-/// Writes what is shown of an input: each record of the module that it begins with; or, if it is refused, the records before the fault, and the
-/// record at fault. Returns whether it is refused.
+/// Writes what is shown of an input: each record of the module that it begins with; or, if it is refused, the records before the fault, the
+/// record at fault, and those after it, unjudged. Returns whether it is refused.
 ///
 /// # Errors
 ///

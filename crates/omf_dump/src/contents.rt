@@ -3,16 +3,17 @@
 ghost use Rattle.std.specs.Prelude.{◌≡◌, ◌+◌, ◌++◌, codes, length};
 ghost use Rattle.omf_frame.specs.Bytes.{AddsText, has_bit};
 ghost use Rattle.omf_records.specs.Inner.Sizes.{size_seen};
-ghost use Rattle.omf_dump.specs.Contents.{absolute_if, attribute_fields, base_fields, comment_fields, communal_fields, end_fields, expanded_if, external_fields, group_fields, header_fields, indexed_fields, length_field, length_if, length_of, member_fields, name_fields, place_fields, public_fields, segment_fields, segment_names, size_fields, subtype_if};
+ghost use Rattle.omf_dump.specs.Contents.{absolute_if, attribute_fields, base_fields, comment_fields, communal_fields, end_fields, expanded_if, external_fields, group_fields, header_fields, indexed_fields, length_field, length_if, length_of, member_fields, name_fields, place_fields, public_fields, segment_fields, segment_names, size_fields};
 ghost use Rattle.omf_dump.specs.Fields.{Flag, Hex, Word};
 ghost use Rattle.omf_dump.specs.Render.{fields_text, value_text};
 ghost use Rattle.omf_dump.specs.Words.{class_word};
 
+use crate::comment::put_class_fields;
 use crate::entry::Entry;
 use crate::field::{characters, flag, hexadecimal, named, number, small, word};
 use crate::format::Format;
 use crate::known::Tables;
-use crate::words::{alignment_word, class_word, combination_word, subtype_word};
+use crate::words::{alignment_word, class_word, combination_word};
 use omf_frame::{Index, Name, Width};
 use omf_image::{Limits, expanded_len};
 use omf_records::{Acbp, At, Blocks, Communal, CommunalSize, Extern, LayoutFault, Public, Segment};
@@ -46,24 +47,6 @@ fn put_comment_flags(text: &mut Vec<u8>, format: Format, type_byte: u8) -> Resul
     flag(text, format, "no-list", type_byte / 64 % 2 == 1)
 }
 
-/// The subtype of a comment of the class A0H, which is the first byte of its text.
-fn put_subtype(
-    text: &mut Vec<u8>,
-    format: Format,
-    class: u8,
-    comment: &[u8],
-) -> Result<(), AllocError>
-    ensures { AddsText result text.old.items text.new.items (fields_text format (subtype_if class comment.now)) }
-{
-    match comment {
-        [] => Ok(()),
-        [subtype, ..] => match class {
-            0xA0 => word(text, format, "subtype", subtype_word(*subtype)),
-            _ => Ok(()),
-        },
-    }
-}
-
 /// COMENT.
 pub(crate) fn put_comment(
     text: &mut Vec<u8>,
@@ -76,7 +59,7 @@ pub(crate) fn put_comment(
 {
     put_class(text, format, class)?;
     put_comment_flags(text, format, type_byte)?;
-    put_subtype(text, format, class, comment)?;
+    put_class_fields(text, format, class, comment)?;
     characters(text, format, "text", comment)
 }
 

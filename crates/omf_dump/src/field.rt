@@ -1,14 +1,16 @@
 //! Fields: a name and a value, as text or as JSON.
 
-ghost use Rattle.std.specs.Prelude.{◌≡◌};
+ghost use Rattle.std.specs.Prelude.{◌≡◌, codes};
 ghost use Rattle.omf_frame.specs.Bytes.{AddsText};
-ghost use Rattle.omf_dump.specs.Fields.{Number, Hex, Word, Characters, Bytes, Named, Method, Flag};
+ghost use Rattle.omf_dump.specs.Fields.{Number, Hex, Word, Characters, Bytes, Depth, Marked, Named, Method, Flag};
 ghost use Rattle.omf_dump.specs.Render.{digits, opened, value_text};
 
 use crate::entry::Entry;
 use crate::format::Format;
+use crate::item::put_spaces;
 use crate::value::{
-    put_decimal, put_list, put_method, put_named, put_number, put_quoted, put_small, put_word,
+    put_decimal, put_list, put_marked, put_method, put_named, put_number, put_quoted, put_small,
+    put_word,
 };
 use omf_frame::Width;
 use std::alloc::AllocError;
@@ -111,6 +113,20 @@ pub(crate) fn bytes(
     put_list(text, format, bytes)
 }
 
+/// Appends bytes as numbers, with those before and after them.
+pub(crate) fn marked(
+    text: &mut Vec<u8>,
+    format: Format,
+    before: &[u8],
+    bytes: &[u8],
+    after: &[u8],
+) -> Result<(), AllocError>
+    ensures { AddsText result text.old.items text.new.items (value_text format (codes "bytes") (Marked before.now bytes.now after.now)) }
+{
+    open(text, format, "bytes")?;
+    put_marked(text, format, before, bytes, after)
+}
+
 /// Appends an entry of a table.
 pub(crate) fn named(
     text: &mut Vec<u8>,
@@ -136,6 +152,22 @@ pub(crate) fn method(
 {
     open(text, format, name)?;
     put_method(text, format, method, entry)
+}
+
+/// Appends how deep something is nested: in text two spaces for each level.
+pub(crate) fn depth(text: &mut Vec<u8>, format: Format, depth: usize) -> Result<(), AllocError>
+    ensures { AddsText result text.old.items text.new.items (value_text format (codes "depth") (Depth depth)) }
+{
+    match format {
+        Format::Text => {
+            put_spaces(text, depth)?;
+            put_spaces(text, depth)
+        }
+        Format::Json => {
+            open(text, format, "depth")?;
+            put_decimal(text, depth as u64)
+        }
+    }
 }
 
 /// Appends a flag: in text its name if it is set, in JSON true or false.

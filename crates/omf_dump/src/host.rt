@@ -6,7 +6,7 @@ use crate::answer::dump_input;
 use crate::fault::DumpFault;
 use crate::format::Format;
 use crate::options::{Asked, read_arguments};
-use crate::value::put_quoted;
+use crate::value::{put_name, put_quoted};
 use omf_frame::{Sink, Writing, push_all};
 use std::alloc::{AllocError, Global};
 use std::io::{ErrorKind, Read, Write};
@@ -45,7 +45,7 @@ fn put<K: Sink>(writer: &mut K, bytes: &[u8]) -> u8
     }
 }
 
-/// The line for a file that could not be read; in JSON an object.
+/// The line for a file that could not be read; in JSON an object. No control character of its name is written as it is.
 fn unread(
     alloc: Global,
     format: Format,
@@ -55,8 +55,10 @@ fn unread(
     let mut text = Vec::new(alloc);
     match format {
         Format::Text => {
-            let line = format!(in alloc; "read {name}: {error}\n")?;
-            text.extend_from_slice(line.as_bytes())?;
+            let reason = format!(in alloc; ": {error}\n")?;
+            text.extend_from_slice(b"read ")?;
+            put_name(&mut text, format, name.as_bytes())?;
+            text.extend_from_slice(reason.as_bytes())?;
         }
         Format::Json => {
             let reason = format!(in alloc; "{error}")?;
@@ -101,12 +103,12 @@ fn show_input<K: Sink>(rt: &HostRuntime, asked: &Asked, name: &str, writer: &mut
     }
 }
 
-/// What is written before one of several inputs: a line with its name; in JSON an object.
+/// What is written before one of several inputs: a line with its name; in JSON an object. No control character of it is written as it is.
 fn title(alloc: Global, format: Format, name: &str) -> Result<Vec<u8>, AllocError> {
     let mut text = Vec::new(alloc);
     match format {
         Format::Text => {
-            text.extend_from_slice(name.as_bytes())?;
+            put_name(&mut text, format, name.as_bytes())?;
             text.extend_from_slice(b":\n")?;
         }
         Format::Json => {

@@ -3,7 +3,7 @@
 ghost use Rattle.std.specs.Prelude.{◌≡◌, ◌+◌, ◌++◌, ◌<◌, ◌≤◌, ◌^◌, ◌∷◌, [], Some, codes, length, map, replicate};
 ghost use Rattle.omf_frame.specs.Bytes.{AddsText};
 ghost use Rattle.omf_frame.specs.Types.{type_name};
-ghost use Rattle.omf_dump.specs.Render.{block_text, bytes_block, head_text, item_end, item_start, kind_head, left_out, line_end, list_end, list_start, place_head, record_end, row, rows, shown_byte};
+ghost use Rattle.omf_dump.specs.Render.{block_text, bytes_block, head_text, item_end, item_start, kind_head, left_out, line_end, list_end, list_start, many_bytes, more_bytes, place_head, record_end, row, rows, shown_byte, some_left_out};
 
 use crate::format::{Format, Style};
 use crate::part::first;
@@ -15,6 +15,30 @@ use std::alloc::AllocError;
 const ROW: usize = 16;
 
 /// Begins a record by its number and its offset.
+pub(crate) fn put_number_head(
+    text: &mut Vec<u8>,
+    format: Format,
+    number: u64,
+    start: u64,
+) -> Result<(), AllocError>
+    ensures { AddsText result text.old.items text.new.items (place_head format number start) }
+{
+    match format {
+        Format::Text => {
+            put_decimal(text, number)?;
+            text.push(b' ')?;
+            put_eight(text, start)
+        }
+        Format::Json => {
+            text.extend_from_slice(b"{\"number\":")?;
+            put_decimal(text, number)?;
+            text.extend_from_slice(b",\"start\":")?;
+            put_decimal(text, start)
+        }
+    }
+}
+
+/// Begins a record by the number and the offset of a place.
 pub(crate) fn put_place_head(
     text: &mut Vec<u8>,
     format: Format,
@@ -22,19 +46,7 @@ pub(crate) fn put_place_head(
 ) -> Result<(), AllocError>
     ensures { AddsText result text.old.items text.new.items (place_head format place.number place.start) }
 {
-    match format {
-        Format::Text => {
-            put_decimal(text, u64::from(place.number))?;
-            text.push(b' ')?;
-            put_eight(text, place.start)
-        }
-        Format::Json => {
-            text.extend_from_slice(b"{\"number\":")?;
-            put_decimal(text, u64::from(place.number))?;
-            text.extend_from_slice(b",\"start\":")?;
-            put_decimal(text, place.start)
-        }
-    }
+    put_number_head(text, format, u64::from(place.number), place.start)
 }
 
 /// Appends the type name of a record, as in an object of JSON.
@@ -86,12 +98,7 @@ pub(crate) fn open_record(
 ) -> Result<(), AllocError>
     ensures { AddsText result text.old.items text.new.items (head_text format raw.now.number raw.now.start raw.now.kind) }
 {
-    let place = Place {
-        number: raw.number,
-        start: raw.start,
-        within: 0,
-    };
-    put_place_head(text, format, place)?;
+    put_number_head(text, format, u64::from(raw.number), raw.start)?;
     put_kind_head(text, format, raw.kind)
 }
 
@@ -146,12 +153,24 @@ pub(crate) fn open_item(
 ) -> Result<(), AllocError>
     ensures { AddsText result text.old.items text.new.items (item_start format is_first within) }
 {
+    open_item_at(text, format, is_first, u64::from(within))
+}
+
+/// Begins an item with its offset in the record, which may be a large one.
+pub(crate) fn open_item_at(
+    text: &mut Vec<u8>,
+    format: Format,
+    is_first: bool,
+    within: u64,
+) -> Result<(), AllocError>
+    ensures { AddsText result text.old.items text.new.items (item_start format is_first within) }
+{
     match format {
         Format::Text => text.extend_from_slice(b"    +")?,
         Format::Json if is_first => text.extend_from_slice(b"{\"within\":")?,
         Format::Json => text.extend_from_slice(b",{\"within\":")?,
     }
-    put_decimal(text, u64::from(within))
+    put_decimal(text, within)
 }
 
 /// Ends an item.
@@ -185,7 +204,7 @@ fn put_characters(text: &mut Vec<u8>, bytes: &[u8]) -> Result<(), AllocError>
 
 /// Appends spaces.
 #[tactic(auto, using(std::proofs::lemmas::List::replicate_more))]
-fn put_spaces(text: &mut Vec<u8>, count: usize) -> Result<(), AllocError>
+pub(crate) fn put_spaces(text: &mut Vec<u8>, count: usize) -> Result<(), AllocError>
     ensures { AddsText result text.old.items text.new.items (replicate count 32) }
 {
     for _ in 0..count {
@@ -209,7 +228,7 @@ fn put_row(text: &mut Vec<u8>, offset: u64, bytes: &[u8]) -> Result<(), AllocErr
 }
 
 /// Appends bytes in lines of 16; the last line has what is left.
-fn put_rows(text: &mut Vec<u8>, first: u64, bytes: &[u8]) -> Result<(), AllocError>
+pub(crate) fn put_rows(text: &mut Vec<u8>, first: u64, bytes: &[u8]) -> Result<(), AllocError>
     requires { first + length bytes.now < 2 ^ 64 }
     ensures { AddsText result text.old.items text.new.items (rows first bytes.now) }
 {
@@ -225,7 +244,7 @@ fn put_rows(text: &mut Vec<u8>, first: u64, bytes: &[u8]) -> Result<(), AllocErr
 }
 
 /// Appends bytes: in text in lines of 16, in JSON as one word of hexadecimal digits.
-fn put_bytes_block(
+pub(crate) fn put_bytes_block(
     text: &mut Vec<u8>,
     format: Format,
     first: u64,
@@ -245,6 +264,38 @@ fn put_bytes_block(
     }
 }
 
+/// Appends the line with the number of bytes that are left out, which are several.
+fn put_many_bytes(text: &mut Vec<u8>, count: u64) -> Result<(), AllocError>
+    ensures { AddsText result text.old.items text.new.items (many_bytes count) }
+{
+    text.extend_from_slice(b"    and ")?;
+    put_decimal(text, count)?;
+    text.extend_from_slice(b" bytes more\n")
+}
+
+/// Appends the line with the number of bytes that are left out.
+fn put_more_bytes(text: &mut Vec<u8>, count: u64) -> Result<(), AllocError>
+    ensures { AddsText result text.old.items text.new.items (more_bytes count) }
+{
+    match count {
+        1 => text.extend_from_slice(b"    and 1 byte more\n"),
+        _ => put_many_bytes(text, count),
+    }
+}
+
+/// Appends the number of bytes that are left out, which is not 0.
+fn put_some_left_out(text: &mut Vec<u8>, format: Format, count: u64) -> Result<(), AllocError>
+    ensures { AddsText result text.old.items text.new.items (some_left_out format count) }
+{
+    match format {
+        Format::Text => put_more_bytes(text, count),
+        Format::Json => {
+            text.extend_from_slice(b",\"left-out\":")?;
+            put_decimal(text, count)
+        }
+    }
+}
+
 /// Appends the number of bytes that are left out, if some are.
 fn put_left_out(text: &mut Vec<u8>, format: Format, count: usize) -> Result<(), AllocError>
     ensures { AddsText result text.old.items text.new.items (left_out format count) }
@@ -252,17 +303,7 @@ fn put_left_out(text: &mut Vec<u8>, format: Format, count: usize) -> Result<(), 
     if count == 0 {
         return Ok(());
     }
-    match format {
-        Format::Text => {
-            text.extend_from_slice(b"    and ")?;
-            put_decimal(text, count as u64)?;
-            text.extend_from_slice(b" bytes more\n")
-        }
-        Format::Json => {
-            text.extend_from_slice(b",\"left-out\":")?;
-            put_decimal(text, count as u64)
-        }
-    }
+    put_some_left_out(text, format, count as u64)
 }
 
 /// Appends the bytes of a record, at most so many.

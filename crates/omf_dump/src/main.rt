@@ -5,6 +5,8 @@
 #![tactic(auto)]
 
 mod answer;
+mod blocks;
+mod comment;
 mod contents;
 mod digits;
 mod entry;
@@ -15,9 +17,11 @@ mod host;
 mod item;
 mod items;
 mod known;
+mod later;
 mod looks;
 mod options;
 mod output;
+mod pairs;
 mod part;
 mod record;
 mod reference;

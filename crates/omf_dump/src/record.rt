@@ -9,6 +9,8 @@ ghost use Rattle.omf_records.specs.Inner.Reading.{contents_or, read_body};
 ghost use Rattle.omf_records.specs.Inner.Seen.{contents_seen, kind_seen};
 ghost use Rattle.omf_records.specs.Values.{Communals, Externs, Group, Names, Segment as SegmentContents};
 ghost use Rattle.omf_check.specs.Inner.Kept.{set_threads};
+ghost use Rattle.omf_dump.specs.Blocks.{blocks_from};
+ghost use Rattle.omf_dump.specs.Comments.{class_items};
 ghost use Rattle.omf_dump.specs.Contents.{communal_fields, each, expanded_if, external_fields, group_fields, length_field, member_fields, name_fields, numbered, place_fields, public_fields, segment_fields};
 ghost use Rattle.omf_dump.specs.Fields.{only_fields, with_block, with_items};
 ghost use Rattle.omf_dump.specs.Inner.Keeping.{with_contents};
@@ -16,6 +18,7 @@ ghost use Rattle.omf_dump.specs.Inner.Showing.{Keeps, shown_by};
 ghost use Rattle.omf_dump.specs.Inner.Resolving.{start_items_by, subrecord_items_by};
 ghost use Rattle.omf_dump.specs.Render.{closing, line_end, list_end, list_start, record_end, record_text, shown_text};
 
+use crate::blocks::put_blocks;
 use crate::contents::{
     put_base, put_comment, put_end, put_expanded, put_group, put_header, put_length, put_place,
     put_segment,
@@ -25,6 +28,7 @@ use crate::format::Style;
 use crate::item::{close_list, close_record, end_fields, open_list, open_record, put_block};
 use crate::items::{put_communals, put_externals, put_members, put_names, put_publics};
 use crate::known::{Data, Known, Tables};
+use crate::pairs::put_pairs;
 use crate::subrecord::{put_start, put_subrecords};
 use omf_frame::{Index, Name, RawRecord, Width};
 use omf_records::{
@@ -41,12 +45,7 @@ fn close_fields(text: &mut Vec<u8>, style: Style) -> Result<(), AllocError>
 }
 
 /// Ends the fields of a record, and shows its bytes.
-pub(crate) fn close_block(
-    text: &mut Vec<u8>,
-    style: Style,
-    first: u64,
-    bytes: &[u8],
-) -> Result<(), AllocError>
+fn close_block(text: &mut Vec<u8>, style: Style, first: u64, bytes: &[u8]) -> Result<(), AllocError>
     requires { first < 2 ^ 63 }
     ensures { AddsText result text.old.items text.new.items (closing style None (Some (record { first = first; bytes = bytes.now }))) }
 {
@@ -69,6 +68,26 @@ fn end_items(text: &mut Vec<u8>, style: Style) -> Result<(), AllocError>
 {
     close_list(text, style.format)?;
     close_record(text, style.format)
+}
+
+/// Ends the fields of a comment, and shows the indices in its text, if it has some.
+fn close_comment(
+    text: &mut Vec<u8>,
+    style: Style,
+    tables: &Tables<'_>,
+    class: u8,
+    comment: &[u8],
+) -> Result<(), AllocError>
+    ensures { AddsText result text.old.items text.new.items (closing style (class_items tables.now class comment.now) None) }
+{
+    match class {
+        0xA8 | 0xA9 => {
+            begin_items(text, style)?;
+            put_pairs(text, style.format, tables, comment)?;
+            end_items(text, style)
+        }
+        _ => close_fields(text, style),
+    }
 }
 
 /// LNAMES, LLNAMES.
@@ -179,7 +198,22 @@ fn show_plain<'a>(
     close_block(text, style, u64::from(fixed.offset), fixed.bytes)
 }
 
-/// LIDATA, whose blocks are at this offset in the record.
+/// Ends the fields of an LIDATA, and shows its blocks, which follow the offset field.
+fn show_blocks(
+    text: &mut Vec<u8>,
+    style: Style,
+    within: u32,
+    blocks: Blocks<'_>,
+) -> Result<(), AllocError>
+    ensures { AddsText result text.old.items text.new.items (closing style (Some (blocks_from blocks.entry.width (within + width_bytes blocks.entry.width) [] 0 blocks.entry.bytes.now)) None) }
+{
+    let size = blocks.width.bytes() as u64;
+    begin_items(text, style)?;
+    put_blocks(text, style.format, u64::from(within) + size, blocks)?;
+    end_items(text, style)
+}
+
+/// LIDATA.
 fn show_iterated(
     text: &mut Vec<u8>,
     style: Style,
@@ -187,12 +221,11 @@ fn show_iterated(
     offset: &At<u32>,
     blocks: Blocks<'_>,
 ) -> Result<(), AllocError>
-    ensures { AddsText result text.old.items text.new.items (shown_text style (with_block (place_fields blocks.entry.width segment.entry offset.now.item ++ expanded_if blocks.entry.width blocks.entry.bytes.now) (offset.now.within + width_bytes blocks.entry.width) blocks.entry.bytes.now)) }
+    ensures { AddsText result text.old.items text.new.items (shown_text style (with_items (place_fields blocks.entry.width segment.entry offset.now.item ++ expanded_if blocks.entry.width blocks.entry.bytes.now) (blocks_from blocks.entry.width (offset.now.within + width_bytes blocks.entry.width) [] 0 blocks.entry.bytes.now))) }
 {
-    let size = blocks.width.bytes() as u64;
     put_place(text, style.format, blocks.width, segment, offset.item)?;
     put_expanded(text, style.format, blocks)?;
-    close_block(text, style, u64::from(offset.within) + size, blocks.bytes)
+    show_blocks(text, style, offset.within, blocks)
 }
 
 /// A record that is not interpreted.
@@ -259,7 +292,7 @@ fn show_contents<'a>(
             text: comment,
         } => {
             put_comment(text, style.format, *type_byte, *class, *comment)?;
-            close_fields(text, style)
+            close_comment(text, style, &known.tables, *class, *comment)
         }
         Rec::Names(names) => show_names(text, style, &mut known.tables, names.iter()),
         Rec::LocalNames(names) => show_names(text, style, &mut known.tables, names.iter()),

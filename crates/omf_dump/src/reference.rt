@@ -3,12 +3,12 @@
 ghost use Rattle.std.specs.Prelude.{◌≡◌, ◌∷◌, [], ◌+◌, Some, None, codes};
 ghost use Rattle.omf_frame.specs.Bytes.{AddsText};
 ghost use Rattle.omf_check.specs.Threads.{frame_from, setting, target_from};
-ghost use Rattle.omf_dump.specs.Contents.{displacement_if, entry_value, frame_thread_of, frame_value, kind_entry, kind_word, location_bytes, location_fields, location_place, reference_fields, target_thread_of, target_value, thread_fields, thread_if};
+ghost use Rattle.omf_dump.specs.Contents.{displacement_if, entry_value, frame_thread_of, frame_value, kind_entry, data_or_none, kind_word, location_fields, location_place, marked_location, reference_fields, target_thread_of, target_value, thread_fields, thread_if};
 ghost use Rattle.omf_dump.specs.Fields.{field};
 ghost use Rattle.omf_dump.specs.Render.{fields_text, value_text};
 
 use crate::entry::Entry;
-use crate::field::{bytes, flag, hexadecimal, method, number, word};
+use crate::field::{flag, hexadecimal, marked, method, number, word};
 use crate::format::Format;
 use crate::known::{Data, Tables};
 use crate::part::{after, first};
@@ -17,6 +17,9 @@ use omf_check::{FrameMethod, TargetMethod};
 use omf_frame::{Index, Width};
 use omf_records::{Kind, Locat, Reference};
 use std::alloc::AllocError;
+
+/// The most bytes that are shown before and after a location.
+const AROUND: usize = 4;
 
 /// The word for a segment, a group or an external.
 fn kind_word(kind: Kind) -> &'static str
@@ -156,15 +159,32 @@ fn location_place(fixed: &Option<Data<'_>>, location: Locat) -> u64
     offset + u64::from(location.offset())
 }
 
-/// The bytes of a location; none if the data are not known.
-fn location_bytes<'a>(fixed: &Option<Data<'a>>, location: Locat) -> &'a [u8]
-    ensures { result.now ≡ location_bytes fixed.now location }
+/// The data that a fixup changes; none if they are not known.
+fn data_of<'a>(fixed: &Option<Data<'a>>) -> &'a [u8]
+    ensures { result.now ≡ data_or_none fixed.now }
 {
-    let Some(fixed) = fixed else {
-        return &[];
-    };
+    match fixed {
+        Some(fixed) => fixed.bytes,
+        None => &[],
+    }
+}
+
+/// The bytes of a location, with at most four before and after them.
+fn put_bytes(
+    text: &mut Vec<u8>,
+    format: Format,
+    fixed: &Option<Data<'_>>,
+    location: Locat,
+) -> Result<(), AllocError>
+    ensures { AddsText result text.old.items text.new.items (value_text format (codes "bytes") (marked_location fixed.now location)) }
+{
+    let bytes = data_of(fixed);
+    let start = usize::from(location.offset());
     let size = usize::from(location.location_type().size());
-    first(size, after(usize::from(location.offset()), fixed.bytes))
+    let before = after(start.saturating_sub(AROUND), first(start, bytes));
+    let changed = first(size, after(start, bytes));
+    let others = first(AROUND, after(start + size, bytes));
+    marked(text, format, before, changed, others)
 }
 
 /// The location of a fixup.
@@ -180,7 +200,7 @@ pub(crate) fn put_location(
     let kind = location_word(location.location_type());
     let is_self_relative = !location.is_segment_relative();
     hexadecimal(text, format, "at", width, location_place(fixed, location))?;
-    bytes(text, format, "bytes", location_bytes(fixed, location))?;
+    put_bytes(text, format, fixed, location)?;
     word(text, format, "location", kind)?;
     flag(text, format, "self-relative", is_self_relative)
 }

@@ -5,15 +5,17 @@ ghost use Rattle.omf_frame.specs.Bytes.{AddsText};
 ghost use Rattle.omf_frame.specs.Fault.{reason_name, reason_number};
 ghost use Rattle.omf_frame.specs.Framing.{present};
 ghost use Rattle.omf_dump.specs.Fields.{Number, Word};
-ghost use Rattle.omf_dump.specs.Refused.{byte_if, kind_if, look_if, reason_fields, refusal_text, window, window_start};
+ghost use Rattle.omf_dump.specs.Refused.{byte_if, kind_if, look_if, mark, mark_if, marked_len, marked_rows, reason_fields, refused_bytes, refused_line, refused_record, window, window_start};
 ghost use Rattle.omf_dump.specs.Render.{fields_text, value_text};
 
 use crate::field::{characters, number, small, word};
-use crate::format::{Format, Style};
-use crate::item::{put_kind_head, put_place_head};
+use crate::format::Format;
+use crate::item::{
+    close_record, end_fields, put_bytes_block, put_kind_head, put_place_head, put_rows, put_spaces,
+};
 use crate::looks::{is_foreign, looks_like};
 use crate::part::{after, first};
-use crate::record::close_block;
+use crate::value::put_decimal;
 use omf_frame::{Place, Reason};
 use std::alloc::AllocError;
 
@@ -107,6 +109,83 @@ fn put_kind_if(text: &mut Vec<u8>, format: Format, bytes: &[u8]) -> Result<(), A
     }
 }
 
+/// The number of bytes of the window up to the end of the line with the offset.
+fn marked_len(within: u32) -> usize
+    ensures { result ≡ marked_len within }
+{
+    let line = 16 * (within as usize / 16);
+    line + 16 - window_start(within)
+}
+
+/// The line with a mark under the byte at an offset.
+fn put_mark(text: &mut Vec<u8>, within: u32) -> Result<(), AllocError>
+    ensures { AddsText result text.old.items text.new.items (mark within) }
+{
+    put_spaces(text, 13 + 3 * (within as usize % 16))?;
+    text.extend_from_slice(b"^^ +")?;
+    put_decimal(text, u64::from(within))?;
+    text.push(b'\n')?;
+    Ok(())
+}
+
+/// The mark under the byte at an offset, if it is present.
+fn put_mark_if(text: &mut Vec<u8>, within: u32, bytes: &[u8]) -> Result<(), AllocError>
+    ensures { AddsText result text.old.items text.new.items (mark_if within bytes.now) }
+{
+    match bytes {
+        [] => Ok(()),
+        [_, ..] => put_mark(text, within),
+    }
+}
+
+/// The lines of the bytes around an offset, with a mark under the byte there.
+fn put_marked_rows(text: &mut Vec<u8>, within: u32, bytes: &[u8]) -> Result<(), AllocError>
+    ensures { AddsText result text.old.items text.new.items (marked_rows within bytes.now) }
+{
+    let shown = window(within, bytes);
+    let len = marked_len(within);
+    let start = window_start(within);
+    put_rows(text, start as u64, first(len, shown))?;
+    put_mark_if(text, within, after(within as usize, bytes))?;
+    put_rows(text, (start + len) as u64, after(len, shown))
+}
+
+/// The bytes around an offset.
+fn put_refused_bytes(
+    text: &mut Vec<u8>,
+    format: Format,
+    within: u32,
+    bytes: &[u8],
+) -> Result<(), AllocError>
+    ensures { AddsText result text.old.items text.new.items (refused_bytes format within bytes.now) }
+{
+    match format {
+        Format::Text => put_marked_rows(text, within, bytes),
+        Format::Json => put_bytes_block(
+            text,
+            format,
+            window_start(within) as u64,
+            window(within, bytes),
+        ),
+    }
+}
+
+/// The fields of the record at fault.
+fn put_refused_line(
+    text: &mut Vec<u8>,
+    format: Format,
+    place: Place,
+    reason: Reason,
+    rest: &[u8],
+) -> Result<(), AllocError>
+    ensures { AddsText result text.old.items text.new.items (refused_line format place reason rest.now) }
+{
+    put_place_head(text, format, place)?;
+    put_kind_if(text, format, rest)?;
+    put_refusal(text, format, reason, place.within, present(rest))?;
+    put_look(text, format, is_foreign(place.number, rest), rest)
+}
+
 /// The record at fault at a place, of an input of which `rest` follows the records before it.
 pub(crate) fn show_refusal(
     text: &mut Vec<u8>,
@@ -115,21 +194,10 @@ pub(crate) fn show_refusal(
     reason: Reason,
     rest: &[u8],
 ) -> Result<(), AllocError>
-    ensures { AddsText result text.old.items text.new.items (refusal_text format place reason rest.now) }
+    ensures { AddsText result text.old.items text.new.items (refused_record format place reason rest.now) }
 {
-    let present = present(rest);
-    put_place_head(text, format, place)?;
-    put_kind_if(text, format, rest)?;
-    put_refusal(text, format, reason, place.within, present)?;
-    put_look(text, format, is_foreign(place.number, rest), rest)?;
-    let style = Style {
-        format,
-        most: WINDOW,
-    };
-    close_block(
-        text,
-        style,
-        window_start(place.within) as u64,
-        window(place.within, present),
-    )
+    put_refused_line(text, format, place, reason, rest)?;
+    end_fields(text, format)?;
+    put_refused_bytes(text, format, place.within, present(rest))?;
+    close_record(text, format)
 }

@@ -7,26 +7,33 @@ ghost use Rattle.omf_check.specs.Rows.{H, first_module, place, wrong_checksum};
 ghost use Rattle.omf_dump.specs.Dump.{dump_text};
 ghost use Rattle.omf_dump.specs.Looks.{looks_like};
 ghost use Rattle.omf_dump.specs.Refused.{refusal_text};
+ghost use Rattle.omf_dump.specs.Render.{left_out};
 ghost use Rattle.omf_dump.specs.Rows.{json, lines, short, text};
 ghost use Rattle.omf_dump.specs.declared.format.Format.TheVariants as format;
 
 /// A module as text, as JSON, and with two bytes of data for each record.
 pub fn a_module()
-    ensures text { dump_text text (records_in first_module) ≡ lines (codes "0 00000000 80 THEADR  name \"A\"" ∷ codes "1 00000006 96 LNAMES" ∷ codes "    +3  name 1 \"\"" ∷ codes "    +4  name 2 \"T\"" ∷ codes "2 0000000D 98 SEGDEF  segment 1  name 2 \"T\"  class 1 \"\"  overlay 1 \"\"  align byte  combine public  use 16  length 0004" ∷ codes "3 00000017 A0 LEDATA  segment 1 \"T\"  offset 0000  length 0004" ∷ codes "    00000000 B8 00 00 90                                      ...." ∷ codes "4 00000022 9C FIXUPP" ∷ codes "    +3  at 0001  bytes 00 00  location offset16  target segment 1 \"T\"  frame segment 1 \"T\"" ∷ codes "5 0000002B 8A MODEND  flags 00" ∷ []) }
-    ensures json { dump_text json (records_in first_module) ≡ lines (codes "{\"number\":0,\"start\":0,\"type\":128,\"record\":\"THEADR\",\"name\":\"A\"}" ∷ codes "{\"number\":1,\"start\":6,\"type\":150,\"record\":\"LNAMES\",\"items\":[{\"within\":3,\"name\":{\"index\":1,\"name\":\"\"}},{\"within\":4,\"name\":{\"index\":2,\"name\":\"T\"}}]}" ∷ codes "{\"number\":2,\"start\":13,\"type\":152,\"record\":\"SEGDEF\",\"segment\":1,\"name\":{\"index\":2,\"name\":\"T\"},\"class\":{\"index\":1,\"name\":\"\"},\"overlay\":{\"index\":1,\"name\":\"\"},\"align\":\"byte\",\"combine\":\"public\",\"use\":16,\"big\":false,\"length\":4}" ∷ codes "{\"number\":3,\"start\":23,\"type\":160,\"record\":\"LEDATA\",\"segment\":{\"index\":1,\"name\":\"T\"},\"offset\":0,\"length\":4,\"data\":\"B8000090\"}" ∷ codes "{\"number\":4,\"start\":34,\"type\":156,\"record\":\"FIXUPP\",\"items\":[{\"within\":3,\"at\":1,\"bytes\":\"0000\",\"location\":\"offset16\",\"self-relative\":false,\"target\":{\"method\":\"segment\",\"index\":1,\"name\":\"T\"},\"frame\":{\"method\":\"segment\",\"index\":1,\"name\":\"T\"}}]}" ∷ codes "{\"number\":5,\"start\":43,\"type\":138,\"record\":\"MODEND\",\"flags\":0,\"main\":false,\"has-start\":false,\"items\":[]}" ∷ []) }
+    ensures text { dump_text text (records_in first_module) ≡ lines (codes "0 00000000 80 THEADR  name \"A\"" ∷ codes "1 00000006 96 LNAMES" ∷ codes "    +3  name 1 \"\"" ∷ codes "    +4  name 2 \"T\"" ∷ codes "2 0000000D 98 SEGDEF  segment 1  name 2 \"T\"  class 1 \"\"  overlay 1 \"\"  align byte  combine public  use 16  length 0004" ∷ codes "3 00000017 A0 LEDATA  segment 1 \"T\"  offset 0000  length 0004" ∷ codes "    00000000 B8 00 00 90                                      ...." ∷ codes "4 00000022 9C FIXUPP" ∷ codes "    +3  at 0001  bytes B8 [00 00] 90  location offset16  target segment 1 \"T\"  frame segment 1 \"T\"" ∷ codes "5 0000002B 8A MODEND  flags 00" ∷ []) }
+    ensures json { dump_text json (records_in first_module) ≡ lines (codes "{\"number\":0,\"start\":0,\"type\":128,\"record\":\"THEADR\",\"name\":\"A\"}" ∷ codes "{\"number\":1,\"start\":6,\"type\":150,\"record\":\"LNAMES\",\"items\":[{\"within\":3,\"name\":{\"index\":1,\"name\":\"\"}},{\"within\":4,\"name\":{\"index\":2,\"name\":\"T\"}}]}" ∷ codes "{\"number\":2,\"start\":13,\"type\":152,\"record\":\"SEGDEF\",\"segment\":1,\"name\":{\"index\":2,\"name\":\"T\"},\"class\":{\"index\":1,\"name\":\"\"},\"overlay\":{\"index\":1,\"name\":\"\"},\"align\":\"byte\",\"combine\":\"public\",\"use\":16,\"big\":false,\"length\":4}" ∷ codes "{\"number\":3,\"start\":23,\"type\":160,\"record\":\"LEDATA\",\"segment\":{\"index\":1,\"name\":\"T\"},\"offset\":0,\"length\":4,\"data\":\"B8000090\"}" ∷ codes "{\"number\":4,\"start\":34,\"type\":156,\"record\":\"FIXUPP\",\"items\":[{\"within\":3,\"at\":1,\"bytes\":\"0000\",\"before\":\"B8\",\"after\":\"90\",\"location\":\"offset16\",\"self-relative\":false,\"target\":{\"method\":\"segment\",\"index\":1,\"name\":\"T\"},\"frame\":{\"method\":\"segment\",\"index\":1,\"name\":\"T\"}}]}" ∷ codes "{\"number\":5,\"start\":43,\"type\":138,\"record\":\"MODEND\",\"flags\":0,\"main\":false,\"has-start\":false,\"items\":[]}" ∷ []) }
 {}
 
 /// Two bytes of data for each record.
 pub fn two_bytes()
-    ensures { dump_text short (records_in (drop 23 first_module)) ≡ lines (codes "0 00000000 A0 LEDATA  segment 1  offset 0000  length 0004" ∷ codes "    00000000 B8 00                                            .." ∷ codes "    and 2 bytes more" ∷ codes "1 0000000B 9C FIXUPP" ∷ codes "    +3  at 0001  bytes 00 00  location offset16  target segment 1  frame segment 1" ∷ codes "2 00000014 8A MODEND  flags 00" ∷ []) }
+    ensures { dump_text short (records_in (drop 23 first_module)) ≡ lines (codes "0 00000000 A0 LEDATA  segment 1  offset 0000  length 0004" ∷ codes "    00000000 B8 00                                            .." ∷ codes "    and 2 bytes more" ∷ codes "1 0000000B 9C FIXUPP" ∷ codes "    +3  at 0001  bytes B8 [00 00] 90  location offset16  target segment 1  frame segment 1" ∷ codes "2 00000014 8A MODEND  flags 00" ∷ []) }
 {}
 
-/// Records at fault: a wrong checksum, no record, a file that is no module.
+/// Bytes that are left out: one, and more.
+pub fn left_out_bytes()
+    ensures one { left_out format.Text 1 ≡ codes "    and 1 byte more\n" }
+    ensures more { left_out format.Text 2 ≡ codes "    and 2 bytes more\n" }
+{}
+
+/// Records at fault: a wrong checksum and the records after it, no record, a file that is no module.
 pub fn refusals()
-    ensures checksum { refusal_text format.Text (place 3 23 10) reason.Checksum (drop 23 wrong_checksum) ≡ lines (codes "3 00000017 A0 LEDATA  refused 6  reason Checksum  within 10  byte 10  meaning \"the record's checksum is wrong\"" ∷ codes "    00000000 A0 08 00 01 00 00 B8 00 00 90 10                 ..........." ∷ []) }
+    ensures checksum { refusal_text format.Text (place 3 23 10) reason.Checksum (drop 23 wrong_checksum) ≡ lines (codes "3 00000017 A0 LEDATA  refused 6  reason Checksum  within 10  byte 10  meaning \"the record's checksum is wrong\"" ∷ codes "    00000000 A0 08 00 01 00 00 B8 00 00 90 10                 ..........." ∷ codes "                                           ^^ +10" ∷ codes "4 00000022 9C FIXUPP  length 0005  unjudged" ∷ codes "5 0000002B 8A MODEND  length 0001  unjudged" ∷ []) }
     ensures end { refusal_text format.Text (place 1 6 0) reason.NoEnd [] ≡ lines (codes "1 00000006  refused 1  reason NoEnd  within 0  meaning \"the input ends before a MODEND\"" ∷ []) }
     ensures empty { refusal_text format.Json (place 0 0 0) reason.NoEnd [] ≡ lines (codes "{\"number\":0,\"start\":0,\"refused\":1,\"reason\":\"NoEnd\",\"within\":0,\"meaning\":\"the input ends before a MODEND\",\"looks-like\":\"an empty file\",\"data\":\"\"}" ∷ []) }
-    ensures program { refusal_text format.Text (place 0 0 0) reason.UnknownType (0x4D ∷ 0x5A ∷ []) ≡ lines (codes "0 00000000 4D   refused 3  reason UnknownType  within 0  byte 4D  meaning \"the record's type is unknown\"  looks-like \"a program (MZ)\"" ∷ codes "    00000000 4D 5A                                            MZ" ∷ []) }
+    ensures program { refusal_text format.Text (place 0 0 0) reason.UnknownType (0x4D ∷ 0x5A ∷ []) ≡ lines (codes "0 00000000 4D   refused 3  reason UnknownType  within 0  byte 4D  meaning \"the record's type is unknown\"  looks-like \"a program (MZ)\"" ∷ codes "    00000000 4D 5A                                            MZ" ∷ codes "             ^^ +0" ∷ []) }
 {}
 
 /// What files look like.

@@ -3,7 +3,8 @@
 ghost use Rattle.std.specs.Prelude.{◌≡◌, ◌++◌, ◌∷◌, [], flat_map, decimal, string_bytes, if◌then◌else◌};
 ghost use Rattle.omf_frame.specs.Bytes.{AddsText};
 ghost use Rattle.omf_placement.specs.Quoted.{hex, is_plain};
-ghost use Rattle.omf_dump.specs.Render.{bytes_text, digits, entry_text, escape, escaped, hexadecimal, index_text, method_entry, method_text, name_beside, named_text, quoted, spaced, word_text};
+ghost use Rattle.omf_dump.specs.declared.format.Format.TheVariants as format;
+ghost use Rattle.omf_dump.specs.Render.{bytes_text, digits, entry_text, escape, escaped, hexadecimal, index_text, marked_text, method_entry, method_text, name_beside, named_text, quoted, spaced, word_text};
 
 use crate::digits::{eight_digits, four_digits, two_digits};
 use crate::entry::Entry;
@@ -137,14 +138,22 @@ fn put_escaped(text: &mut Vec<u8>, format: Format, byte: u8) -> Result<(), Alloc
     }
 }
 
+/// Appends the bytes of a name, each as it is or by its digits.
+pub(crate) fn put_name(text: &mut Vec<u8>, format: Format, bytes: &[u8]) -> Result<(), AllocError>
+    ensures { AddsText result text.old.items text.new.items (flat_map (escaped format) bytes.now) }
+{
+    for byte in bytes {
+        put_escaped(text, format, *byte)?;
+    }
+    Ok(())
+}
+
 /// Appends bytes in double quotes.
 pub(crate) fn put_quoted(text: &mut Vec<u8>, format: Format, bytes: &[u8]) -> Result<(), AllocError>
     ensures { AddsText result text.old.items text.new.items (quoted format bytes.now) }
 {
     text.push(b'"')?;
-    for byte in bytes {
-        put_escaped(text, format, *byte)?;
-    }
+    put_name(text, format, bytes)?;
     text.push(b'"')?;
     Ok(())
 }
@@ -195,6 +204,65 @@ pub(crate) fn put_list(text: &mut Vec<u8>, format: Format, bytes: &[u8]) -> Resu
             text.push(b'"')?;
             Ok(())
         }
+    }
+}
+
+/// Appends bytes, each as two hexadecimal digits and a space.
+fn put_before_spaces(text: &mut Vec<u8>, bytes: &[u8]) -> Result<(), AllocError>
+    ensures { AddsText result text.old.items text.new.items (flat_map (λ c. hex 2 c ++ 32 ∷ []) bytes.now) }
+{
+    for byte in bytes {
+        put_byte(text, *byte)?;
+        text.push(b' ')?;
+    }
+    Ok(())
+}
+
+/// Appends bytes in brackets, with those before and after them.
+fn put_bracketed(
+    text: &mut Vec<u8>,
+    before: &[u8],
+    bytes: &[u8],
+    after: &[u8],
+) -> Result<(), AllocError>
+    ensures { AddsText result text.old.items text.new.items (marked_text format.Text before.now bytes.now after.now) }
+{
+    put_before_spaces(text, before)?;
+    text.push(b'[')?;
+    put_spaced(text, bytes)?;
+    text.push(b']')?;
+    put_after_spaces(text, after)
+}
+
+/// Appends bytes, with those before and after them, as members of an object.
+fn put_members(
+    text: &mut Vec<u8>,
+    before: &[u8],
+    bytes: &[u8],
+    after: &[u8],
+) -> Result<(), AllocError>
+    ensures { AddsText result text.old.items text.new.items (marked_text format.Json before.now bytes.now after.now) }
+{
+    put_list(text, Format::Json, bytes)?;
+    text.extend_from_slice(b",\"before\":")?;
+    put_list(text, Format::Json, before)?;
+    text.extend_from_slice(b",\"after\":")?;
+    put_list(text, Format::Json, after)
+}
+
+/// Appends bytes, with those before and after them.
+pub(crate) fn put_marked(
+    text: &mut Vec<u8>,
+    format: Format,
+    before: &[u8],
+    bytes: &[u8],
+    after: &[u8],
+) -> Result<(), AllocError>
+    ensures { AddsText result text.old.items text.new.items (marked_text format before.now bytes.now after.now) }
+{
+    match format {
+        Format::Text => put_bracketed(text, before, bytes, after),
+        Format::Json => put_members(text, before, bytes, after),
     }
 }
 
