@@ -19,6 +19,12 @@ const MOST_BLOCKS: usize = 65_521;
 /// The mark of a block that is full.
 const FULL: u8 = 0xFF;
 
+/// The bytes of a block for entries, after its buckets and its mark.
+const ROOM: usize = BLOCK - BUCKETS - 1;
+
+/// Half the offset of the first entry of a block.
+const FIRST_ENTRY: u8 = (BUCKETS as u8 + 1) / 2;
+
 /// Where a block has a place for a name.
 enum Slot {
     /// At this empty bucket.
@@ -35,10 +41,8 @@ enum Placed {
     Done,
     /// The name is there, with this page.
     Twice(u16),
-    /// The block has no room; both searches go on in the next one, at the first bucket.
+    /// The block, or each of them, has no room.
     Full,
-    /// There is no place at which both searches find it.
-    Nowhere,
 }
 
 /// The number of pages that a module takes.
@@ -107,7 +111,18 @@ fn write_entry(block: &mut [u8], bucket: usize, name: &[u8], page: u16) -> bool 
     true
 }
 
-/// Puts an entry into a block. Where it has no room, the block is marked as full.
+/// Marks a block as full. Its empty buckets lead to its first entry, so that no search ends at one of them: each looks
+/// at all buckets, and goes on in the next block at the bucket where it began, by both rules.
+fn close_block(block: &mut [u8]) {
+    for bucket in 0..BUCKETS {
+        if block.get(bucket) == Some(&0) {
+            set(block, bucket, FIRST_ENTRY);
+        }
+    }
+    set(block, BUCKETS, FULL);
+}
+
+/// Puts an entry into a block. A block that has no room for it is full from then on.
 fn put_in_block(block: &mut [u8], probe: Probe, name: &[u8], page: u16) -> Placed
     requires whole { 37 ≤ length block.old }
     requires bucket { probe.bucket < 37 }
@@ -115,19 +130,9 @@ fn put_in_block(block: &mut [u8], probe: Probe, name: &[u8], page: u16) -> Place
 {
     match slot_of(block, probe, name) {
         Slot::Twice(page) => Placed::Twice(page),
-        Slot::Free(bucket) => {
-            if write_entry(block, bucket, name, page) {
-                return Placed::Done;
-            }
-            set(block, BUCKETS, FULL);
-            if bucket == probe.bucket {
-                Placed::Full
-            } else {
-                Placed::Nowhere
-            }
-        }
-        Slot::Full => {
-            set(block, BUCKETS, FULL);
+        Slot::Free(bucket) if write_entry(block, bucket, name, page) => Placed::Done,
+        Slot::Free(_) | Slot::Full => {
+            close_block(block);
             Placed::Full
         }
     }
@@ -137,7 +142,7 @@ fn put_in_block(block: &mut [u8], probe: Probe, name: &[u8], page: u16) -> Place
 fn put_entry(blocks: &mut [u8], name: &[u8], page: u16) -> Placed {
     let count = blocks.len() / BLOCK;
     if count == 0 {
-        return Placed::Nowhere;
+        return Placed::Full;
     }
     let probe = probe_of(count, name);
     let mut number = probe.block;
@@ -149,7 +154,7 @@ fn put_entry(blocks: &mut [u8], name: &[u8], page: u16) -> Placed {
         }
         number = (number + probe.block_step) % count;
     }
-    Placed::Nowhere
+    Placed::Full
 }
 
 /// The number of a part's first page.
@@ -194,7 +199,7 @@ fn put_publics(
     for (public, name) in names.iter().enumerate() {
         match put_entry(blocks, name.as_slice(), first.page) {
             Placed::Done => {}
-            Placed::Full | Placed::Nowhere => return Ok(false),
+            Placed::Full => return Ok(false),
             Placed::Twice(page) => {
                 return Err(MakeFault::Twice {
                     first: part_at(pages, page),
@@ -213,11 +218,7 @@ fn empty_blocks(alloc: Global, count: usize) -> Result<Vec<u8>, AllocError>
 {
     let mut blocks = vec![in alloc; 0u8; count * BLOCK]?;
     for number in 0..count {
-        set(
-            &mut blocks,
-            number * BLOCK + BUCKETS,
-            (BUCKETS as u8 + 1) / 2,
-        );
+        set(&mut blocks, number * BLOCK + BUCKETS, FIRST_ENTRY);
     }
     Ok(blocks)
 }
@@ -250,25 +251,32 @@ fn is_prime(n: usize) -> bool {
     true
 }
 
+/// The bytes that the entry of a name takes: an even number, and a bucket's share of its block or more.
+fn entry_size(name: &[u8]) -> usize {
+    let size = name.len().saturating_add(4) / 2 * 2;
+    size.max(ROOM.div_ceil(BUCKETS))
+}
+
 /// The bytes that the entries of a part take.
 fn entries_size(part: &Part) -> usize {
     let mut size = 0usize;
     for name in part.publics.iter() {
-        size = size.saturating_add(name.len()).saturating_add(4);
+        size = size.saturating_add(entry_size(name.as_slice()));
     }
     size
 }
 
-/// The least number of blocks to try: that in which the entries fill all room.
+/// The least number of blocks to try: that in which the entries fill four fifths of the room, so that a search passes
+/// few full blocks.
 fn least_blocks(parts: &[Part]) -> usize {
     let mut size = 0usize;
     for part in parts {
         size = size.saturating_add(entries_size(part));
     }
-    (size / (BLOCK - BUCKETS - 1)).max(2)
+    size.saturating_add(size / 4).div_ceil(ROOM).max(2)
 }
 
-/// The dictionary of the parts: the least number of blocks is tried first, then primes that grow by a sixteenth.
+/// The dictionary of the parts: the least number of blocks is tried first, then primes that grow by a quarter.
 fn dictionary_of(alloc: Global, pages: &[First], parts: &[Part]) -> Result<Vec<u8>, MakeFault> {
     let mut next = least_blocks(parts);
     for count in 2..=MOST_BLOCKS {
@@ -276,7 +284,7 @@ fn dictionary_of(alloc: Global, pages: &[First], parts: &[Part]) -> Result<Vec<u
             if let Some(blocks) = filled(alloc, count, pages, parts)? {
                 return Ok(blocks);
             }
-            next = count + count / 16 + 1;
+            next = count + count / 4 + 1;
         }
     }
     Err(MakeFault::TooLarge)
