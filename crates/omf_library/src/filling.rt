@@ -111,7 +111,7 @@ fn write_entry(block: &mut [u8], bucket: usize, name: &[u8], page: u16) -> bool 
     true
 }
 
-/// Marks a block as full. Its empty buckets lead to its first entry, so that no search ends at one of them: each looks
+/// Marks a block as full. Its empty buckets point to its first entry, so that no search ends at one of them: each looks
 /// at all buckets, and goes on in the next block at the bucket where it began, by both rules.
 fn close_block(block: &mut [u8]) {
     for bucket in 0..BUCKETS {
