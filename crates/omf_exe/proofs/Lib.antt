@@ -12,5 +12,8 @@ pub mod StartMoves
 pub mod RowLaws
 pub mod JudgedLaws
 pub mod MovableLaws
+pub mod OverlapLaws
+pub mod MarkLaws
+pub mod TakeLaws
 pub mod MovedWords
 pub mod ApartLaws

@@ -6,6 +6,7 @@ pub mod FileFaults
 pub mod Memory
 pub mod Judged
 pub mod Movable
+pub mod Overlaps
 pub mod Words
 pub mod Rows
 pub mod Laws

@@ -2,6 +2,7 @@
 
 ghost use Rattle.omf_exe.specs.Laws.{OutcomesMove, DataMove, FilesAreLoaded, ChunksAreLaid, ChunksMove, ImagesMove, ProgramsAreLoaded, StartsMove, PlacementsReach, JudgedMove, WordsAreMoved, WordsStandApart};
 ghost use Rattle.omf_exe.specs.Movable.{MovingIsDecided};
+ghost use Rattle.omf_exe.specs.Overlaps.{OverlapsAreFound};
 
 /// What a fixup that moves with the program adds at a moved placement is what it adds at the placement, with as much more at a selector that
 /// moves as there are paragraphs.
@@ -67,4 +68,10 @@ pub fn words_stand_apart()
 /// A module has no part that does not move exactly if all its data records, their fixups and its start move.
 pub fn moving_is_decided()
     ensures { MovingIsDecided }
+{}
+
+/// Where no part of a well-formed module overlaps a relocation word before it, its words are those of its data records, and none of these
+/// covers a word.
+pub fn overlaps_are_found()
+    ensures { OverlapsAreFound }
 {}

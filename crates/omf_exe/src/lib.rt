@@ -6,6 +6,7 @@ pub mod laws;
 mod movers;
 mod moving;
 pub mod rows;
+mod words;
 
 pub use file::{FarAddress, FileFault, Program, write_exe};
 pub use movers::{Movers, Moving};

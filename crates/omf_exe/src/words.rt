@@ -1,0 +1,348 @@
+//! The relocation words of modules in file order, and the parts of modules that overlap one.
+
+ghost use Rattle.std.specs.Prelude.{All, ◌≡◌, ◌++◌, ◌+◌, ◌<◌, ◌≤◌, ◌^◌, ◌||◌, ◌==◌, ℕ, [], ◌∷◌, length, IfOk, IfErr, IfSome, OnErr, OnOk, Some, None, Ok, option_to_list, false, true, if◌then◌else◌, slice_index_or};
+ghost use Rattle.omf_check.specs.Listed.{placed_from};
+ghost use Rattle.omf_check.specs.Module.{records_in};
+ghost use Rattle.omf_image.specs.Inner.Expanding.{expanded};
+ghost use Rattle.omf_image.specs.Limits.{profile_limits};
+ghost use Rattle.omf_image.specs.Painting.{Fits};
+ghost use Rattle.omf_records.specs.Inner.Seen.{contents_seen, kind_seen, odd_if, rec_seen};
+ghost use Rattle.omf_records.specs.Values.{width};
+ghost use Rattle.omf_reloc.specs.Inner.Measuring.{CanMeasure, measured};
+ghost use Rattle.omf_reloc.specs.Inner.PieceSeen.{piece_seen};
+ghost use Rattle.omf_reloc.specs.Inner.Pieces.{placed_pieces};
+ghost use Rattle.omf_reloc.specs.Inner.Walking.{Expands};
+ghost use Rattle.omf_exe.specs.Memory.{segment_address};
+ghost use Rattle.omf_reloc.specs.Laws.{location_start, location_end};
+ghost use Rattle.omf_exe.specs.Overlaps.{CanTake, IsLow, IsWordsFault, all_words, are_clear, opened, opened_after, with_contents, with_fixups, with_piece, word_of};
+
+use crate::movers::Movers;
+use crate::moving::site;
+use omf_check::Checked;
+use omf_frame::{Index, Place};
+use omf_image::{Extent, Limits, expanded_len};
+use omf_placement::Placement;
+use omf_records::{At, Blocks, Rec};
+use omf_reloc::{Piece, PlainFixup, pieces_of};
+use std::alloc::{AllocError, Global};
+use std::marker::Model;
+
+/// Why relocation words are not found.
+#[derive(Clone, Copy, Debug, PartialEq, Eq)]
+pub(crate) enum WordsFault {
+    /// Out of memory.
+    Memory,
+    /// The record or the fixup at this place overlaps a relocation word before it.
+    Overlap(Place),
+}
+
+impl From<AllocError> for WordsFault {
+    ghost use Rattle.std.specs.Prelude.{◌≡◌};
+    ghost use Rattle.omf_exe.specs.declared.words.WordsFault.TheVariants.{Memory};
+
+    ghost from_gives = { λ _ e. e ≡ Memory };
+
+    fn from(_error: AllocError) -> WordsFault {
+        WordsFault::Memory
+    }
+}
+
+/// The relocation words so far.
+#[derive(Drop)]
+pub(crate) struct Words {
+    /// Whether a word begins at each address; none beyond the end.
+    starts: Vec<bool>,
+    /// The address of each word, in file order.
+    pub found: Vec<usize>,
+}
+
+impl Model for Words {
+    ghost use Rattle.std.specs.Prelude.{List, ℕ};
+    ghost use Rattle.omf_exe.specs.Overlaps.{AreMarked};
+
+    ghost Value = { List ℕ };
+
+    ghost view = { λ w. w.found.items };
+
+    ghost invariant = { λ w. AreMarked w.starts.items w.found.items };
+}
+
+/// Whether no word begins at an address from `low` up to `high`.
+fn none_begins(starts: &[bool], low: usize, high: usize) -> bool
+    requires { high ≤ length starts.now }
+    ensures none { result ≡ true → (x : ℕ) → low ≤ x → x < high → slice_index_or starts.now x false ≡ false }
+    ensures one { result ≡ false → (x : ℕ) × (low ≤ x) × (x < high) × (slice_index_or starts.now x false ≡ true) }
+{
+    for x in low..high {
+        if starts[x] {
+            return false;
+        }
+    }
+    true
+}
+
+/// Notes that a word begins at an address.
+fn mark(starts: &mut Vec<bool>, at: usize) -> Result<(), AllocError>
+    requires { at < 2 ^ 40 }
+    ensures marked { OnOk result ((x : ℕ) → slice_index_or starts.new.items x false ≡ ((at == x) || slice_index_or starts.old.items x false)) }
+    ensures err { OnErr result (starts.new.items ≡ starts.old.items) }
+{
+    if at >= starts.len() {
+        starts.resize(at + 1, false)?;
+    }
+    starts[at] = true;
+    Ok(())
+}
+
+impl Words {
+    /// No words.
+    pub fn new(alloc: Global) -> Words
+        ensures { result ≡ [] }
+    {
+        Words {
+            starts: Vec::new(alloc),
+            found: Vec::new(alloc),
+        }
+    }
+
+    /// Whether no word has a byte from an address up to another.
+    fn are_clear(&self, from: usize, to: usize) -> bool
+        ensures { result ≡ are_clear self.now from to }
+    {
+        let high = to.min(self.starts.len());
+        none_begins(&self.starts, from.saturating_sub(1), high)
+    }
+
+    /// Adds a word.
+    fn add(&mut self, at: usize) -> Result<(), AllocError>
+        requires { at < 2 ^ 40 }
+        ensures { OnOk result (self.new ≡ self.old ++ at ∷ []) }
+    {
+        self.found.reserve(1)?;
+        mark(&mut self.starts, at)?;
+        self.found.push_reserved(at);
+        Ok(())
+    }
+}
+
+/// The expanded length of an LIDATA's blocks, in bytes.
+fn blocks_len(blocks: Blocks<'_>) -> u64
+    requires { Expands (odd_if blocks.width 0xA2) blocks.bytes.now }
+    ensures { result ≡ length (expanded (width (odd_if blocks.entry.width 0xA2)) profile_limits blocks.entry.bytes.now) }
+{
+    match expanded_len(blocks, Limits::profile()) {
+        Ok(len) => u64::from(len),
+        Err(_) => unreachable!(),
+    }
+}
+
+/// The extent of `len` bytes at an offset of a segment.
+fn extent_from(segment: &At<Index>, offset: &At<u32>, len: u64) -> Extent
+    ensures { result ≡ record { segment = segment.now.item; first = offset.now.item; len = len } }
+{
+    Extent {
+        segment: segment.item.0,
+        first: offset.item,
+        len,
+    }
+}
+
+/// The extent of a data record; `None` for any other record.
+fn measure(rec: &Rec<'_>) -> Option<Extent>
+    requires { CanMeasure (rec_seen rec.now) }
+    ensures { option_to_list result ≡ measured (rec_seen rec.now) }
+{
+    match rec {
+        Rec::Plain {
+            segment,
+            offset,
+            data,
+            ..
+        } => Some(extent_from(segment, offset, data.len() as u64)),
+        Rec::Iterated {
+            segment,
+            offset,
+            blocks,
+        } => Some(extent_from(segment, offset, blocks_len(*blocks))),
+        Rec::Header { .. }
+        | Rec::Comment { .. }
+        | Rec::Names(_)
+        | Rec::Segment { .. }
+        | Rec::Group { .. }
+        | Rec::Externs(_)
+        | Rec::Publics { .. }
+        | Rec::Communals(_)
+        | Rec::Fixups { .. }
+        | Rec::ModEnd { .. }
+        | Rec::LocalNames(_)
+        | Rec::LocalExterns { .. }
+        | Rec::LocalPublics { .. }
+        | Rec::LocalCommunals(_)
+        | Rec::Carried { .. } => None,
+    }
+}
+
+/// The address of a segment; 0 if the placement has no entry for it.
+fn segment_address(placement: &Placement, segment: u16) -> usize
+    ensures value { result ≡ segment_address placement.now segment }
+    ensures low { result < 2 ^ 32 }
+{
+    match placement.segment(usize::from(segment)) {
+        Some(place) => place.address as usize,
+        None => 0,
+    }
+}
+
+/// Whether a data record overlaps no word; any other record overlaps none.
+fn is_record_clear(words: &Words, placement: &Placement, rec: &Rec<'_>) -> bool
+    requires measured { CanMeasure (rec_seen rec.now) }
+    requires fits { All Fits (measured (rec_seen rec.now)) }
+    ensures { with_contents placement.now (kind_seen rec.now) (contents_seen rec.now) words.now ≡ (if result then Some words.now else None) }
+{
+    match measure(rec) {
+        Some(extent) => {
+            let from = segment_address(placement, extent.segment) + extent.first as usize;
+            words.are_clear(from, from + extent.len as usize)
+        }
+        None => true,
+    }
+}
+
+/// The segment of an LEDATA and the address of its first byte, up to and including this record.
+fn opened(placement: &Placement, rec: &Rec<'_>, last: Option<(u16, usize)>) -> Option<(u16, usize)>
+    requires { IfSome last IsLow }
+    ensures value { result ≡ opened placement.now (contents_seen rec.now) last }
+    ensures low { IfSome result IsLow }
+{
+    match rec {
+        Rec::Plain {
+            segment,
+            offset,
+            ..
+        } => {
+            let address = segment_address(placement, segment.item.0) + offset.item as usize;
+            Some((segment.item.0, address))
+        }
+        Rec::Iterated { .. } => None,
+        Rec::Header { .. }
+        | Rec::Comment { .. }
+        | Rec::Names(_)
+        | Rec::Segment { .. }
+        | Rec::Group { .. }
+        | Rec::Externs(_)
+        | Rec::Publics { .. }
+        | Rec::Communals(_)
+        | Rec::Fixups { .. }
+        | Rec::ModEnd { .. }
+        | Rec::LocalNames(_)
+        | Rec::LocalExterns { .. }
+        | Rec::LocalPublics { .. }
+        | Rec::LocalCommunals(_)
+        | Rec::Carried { .. } => last,
+    }
+}
+
+/// The same, up to and including this piece.
+fn opened_after(
+    placement: &Placement,
+    piece: &Piece<'_>,
+    last: Option<(u16, usize)>,
+) -> Option<(u16, usize)>
+    requires { IfSome last IsLow }
+    ensures value { result ≡ opened_after placement.now (piece_seen piece.now) last }
+    ensures low { IfSome result IsLow }
+{
+    match piece {
+        Piece::Kept(rec) => opened(placement, rec, last),
+        Piece::Fixed { .. } | Piece::End { .. } => last,
+    }
+}
+
+/// Whether the location of a fixup overlaps no word. `address` is that of the first byte of its data.
+fn is_fixup_clear(words: &Words, address: usize, fixup: &PlainFixup) -> bool
+    requires { address < 2 ^ 34 }
+    ensures { (kind : ℕ) → result ≡ are_clear words.now (address + location_start (kind, fixup.now)) (address + location_end (kind, fixup.now)) }
+{
+    let start = address + usize::from(fixup.location.offset());
+    let end = start + usize::from(fixup.location.location_type().size());
+    words.are_clear(start, end)
+}
+
+/// Adds the relocation word of a fixup, if it has one.
+fn add_site(
+    words: &mut Words,
+    movers: &Movers,
+    source: (u16, usize),
+    fixup: &PlainFixup,
+) -> Result<(), AllocError>
+    requires { IsLow source }
+    ensures { OnOk result ((kind : ℕ) → words.new ≡ words.old ++ word_of movers.now source.0 source.1 (kind, fixup.now)) }
+{
+    match site(movers, source.0, fixup) {
+        Some(at) => words.add(source.1 + usize::from(at)),
+        None => Ok(()),
+    }
+}
+
+/// Takes a fixup of data at a place. Returns whether it overlaps no word; then its own word is added.
+fn take_fixup(
+    words: &mut Words,
+    movers: &Movers,
+    source: (u16, usize),
+    fixup: &PlainFixup,
+) -> Result<bool, AllocError>
+    requires { IsLow source }
+    ensures { IfOk result (λ clear. (kind : ℕ) → with_fixups movers.now source.0 source.1 ((kind, fixup.now) ∷ []) words.old ≡ (if clear then Some words.new else None)) }
+{
+    if !is_fixup_clear(words, source.1, fixup) {
+        return Ok(false);
+    }
+    add_site(words, movers, source, fixup)?;
+    Ok(true)
+}
+
+/// Takes a piece. Returns whether it overlaps no word; then its own word, if it has one, is added.
+fn take(
+    words: &mut Words,
+    placement: &Placement,
+    movers: &Movers,
+    last: Option<(u16, usize)>,
+    piece: &Piece<'_>,
+) -> Result<bool, AllocError>
+    requires low { IfSome last IsLow }
+    requires measured { CanTake (piece_seen piece.now) }
+    ensures { IfOk result (λ clear. with_piece movers.now placement.now last (piece_seen piece.now) words.old ≡ (if clear then Some words.new else None)) }
+{
+    match piece {
+        Piece::Kept(rec) => Ok(is_record_clear(words, placement, rec)),
+        Piece::Fixed { fixup, .. } => match last {
+            Some(source) => take_fixup(words, movers, source, fixup),
+            None => Ok(true),
+        },
+        Piece::End { .. } => Ok(true),
+    }
+}
+
+/// Adds the relocation words of a module, in file order.
+///
+/// # Errors
+///
+/// `Overlap` with the place of the first data record or fixup that overlaps a word before it; `Memory` if memory runs out.
+pub(crate) fn add_words(
+    words: &mut Words,
+    module: &Checked,
+    placement: &Placement,
+    movers: &Movers,
+) -> Result<(), WordsFault>
+    ensures ok { OnOk result (all_words movers.now placement.now None (placed_pieces (placed_from 0 0 (records_in «module».now.bytes))) words.old ≡ Ok words.new) }
+    ensures err { IfErr result (IsWordsFault (all_words movers.now placement.now None (placed_pieces (placed_from 0 0 (records_in «module».now.bytes))) words.old)) }
+{
+    let mut last = None;
+    for (place, piece) in pieces_of(module) {
+        if !take(words, placement, movers, last, &piece)? {
+            return Err(WordsFault::Overlap(place));
+        }
+        last = opened_after(placement, &piece, last);
+    }
+    Ok(())
+}
