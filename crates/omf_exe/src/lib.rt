@@ -11,3 +11,4 @@ mod words;
 pub use file::{FarAddress, FileFault, Program, write_exe};
 pub use movers::{Movers, Moving};
 pub use moving::{movable, site};
+pub use words::{Words, WordsFault};

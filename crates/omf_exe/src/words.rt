@@ -2,7 +2,7 @@
 
 ghost use Rattle.std.specs.Prelude.{All, ◌≡◌, ◌++◌, ◌+◌, ◌<◌, ◌≤◌, ◌^◌, ◌||◌, ◌==◌, ℕ, [], ◌∷◌, length, IfOk, IfErr, IfSome, OnErr, OnOk, Some, None, Ok, option_to_list, false, true, if◌then◌else◌, slice_index_or};
 ghost use Rattle.omf_check.specs.Listed.{placed_from};
-ghost use Rattle.omf_check.specs.Module.{records_in};
+ghost use Rattle.omf_check.specs.Module.{recs_of, records_in};
 ghost use Rattle.omf_image.specs.Inner.Expanding.{expanded};
 ghost use Rattle.omf_image.specs.Limits.{profile_limits};
 ghost use Rattle.omf_image.specs.Painting.{Fits};
@@ -14,7 +14,7 @@ ghost use Rattle.omf_reloc.specs.Inner.Pieces.{placed_pieces};
 ghost use Rattle.omf_reloc.specs.Inner.Walking.{Expands};
 ghost use Rattle.omf_exe.specs.Memory.{segment_address};
 ghost use Rattle.omf_reloc.specs.Laws.{location_start, location_end};
-ghost use Rattle.omf_exe.specs.Overlaps.{CanTake, IsLow, IsWordsFault, all_words, are_clear, opened, opened_after, with_contents, with_fixups, with_piece, word_of};
+ghost use Rattle.omf_exe.specs.Overlaps.{AddsWords, CanTake, IsLow, IsWordsFault, all_words, are_clear, opened, opened_after, with_contents, with_fixups, with_piece, word_of};
 
 use crate::movers::Movers;
 use crate::moving::site;
@@ -26,13 +26,16 @@ use omf_records::{At, Blocks, Rec};
 use omf_reloc::{Piece, PlainFixup, pieces_of};
 use std::alloc::{AllocError, Global};
 use std::marker::Model;
+use thiserror::Error;
 
-/// Why relocation words are not found.
-#[derive(Clone, Copy, Debug, PartialEq, Eq)]
-pub(crate) enum WordsFault {
+/// Why the relocation words of a module are not added.
+#[derive(Clone, Copy, Debug, PartialEq, Eq, Error)]
+pub enum WordsFault {
     /// Out of memory.
+    #[error("memory ran out")]
     Memory,
-    /// The record or the fixup at this place overlaps a relocation word before it.
+    /// The data record or the fixup at this place overlaps a relocation word before it.
+    #[error("a data record or a fixup overlaps a relocation word")]
     Overlap(Place),
 }
 
@@ -47,13 +50,13 @@ impl From<AllocError> for WordsFault {
     }
 }
 
-/// The relocation words so far.
+/// The relocation words of modules, in file order.
 #[derive(Drop)]
-pub(crate) struct Words {
+pub struct Words {
     /// Whether a word begins at each address; none beyond the end.
     starts: Vec<bool>,
     /// The address of each word, in file order.
-    pub found: Vec<usize>,
+    found: Vec<usize>,
 }
 
 impl Model for Words {
@@ -324,17 +327,14 @@ fn take(
 }
 
 /// Adds the relocation words of a module, in file order.
-///
-/// # Errors
-///
-/// `Overlap` with the place of the first data record or fixup that overlaps a word before it; `Memory` if memory runs out.
-pub(crate) fn add_words(
+fn add_words(
     words: &mut Words,
     module: &Checked,
     placement: &Placement,
     movers: &Movers,
 ) -> Result<(), WordsFault>
     ensures ok { OnOk result (all_words movers.now placement.now None (placed_pieces (placed_from 0 0 (records_in «module».now.bytes))) words.old ≡ Ok words.new) }
+    ensures adds { OnOk result (AddsWords movers.now placement.now (recs_of «module».now.bytes) words.old words.new) }
     ensures err { IfErr result (IsWordsFault (all_words movers.now placement.now None (placed_pieces (placed_from 0 0 (records_in «module».now.bytes))) words.old)) }
 {
     let mut last = None;
@@ -345,4 +345,34 @@ pub(crate) fn add_words(
         last = opened_after(placement, &piece, last);
     }
     Ok(())
+}
+
+impl Words {
+    /// The words with those of one more module at its placement. Each data record of the module, with its fixups, overlaps no word before it.
+    ///
+    /// # Errors
+    ///
+    /// `Overlap` with the place of the first data record or fixup that overlaps a word before it, of this module or of one that was added
+    /// earlier; `Memory` if memory runs out.
+    pub fn with_module(
+        self,
+        module: &Checked,
+        placement: &Placement,
+        movers: &Movers,
+    ) -> Result<Words, WordsFault>
+        ensures found { IfOk result (λ w. all_words movers.now placement.now None (placed_pieces (placed_from 0 0 (records_in «module».now.bytes))) self ≡ Ok w) }
+        ensures adds { IfOk result (λ w. AddsWords movers.now placement.now (recs_of «module».now.bytes) self w) }
+        ensures fault { IfErr result (IsWordsFault (all_words movers.now placement.now None (placed_pieces (placed_from 0 0 (records_in «module».now.bytes))) self)) }
+    {
+        let mut words = self;
+        add_words(&mut words, module, placement, movers)?;
+        Ok(words)
+    }
+
+    /// The address of each word, in file order.
+    pub fn into_addresses(self) -> Vec<usize>
+        ensures { result.items ≡ self }
+    {
+        self.found
+    }
 }

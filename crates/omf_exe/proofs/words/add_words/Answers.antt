@@ -1,10 +1,13 @@
 use Rattle.std.proofs.Common.{◌∙◌, ap, map, sym, subst}
 use Rattle.std.specs.Prelude.{All, None}
 use Rattle.std.proofs.lemmas.List.Elements.{All-head, All-tail}
+use Rattle.omf_check.specs.Listed.{placed_from}
 use Rattle.omf_check.specs.Module.{records_in}
 use Rattle.omf_check.specs.WellFormed.{recs}
+use Rattle.omf_reloc.specs.Inner.Pieces.{placed_pieces}
 use Rattle.omf_reloc.specs.Inner.PieceSeen.{piece_seen}
 use Rattle.omf_exe.specs.Overlaps.{CanTake, all_words}
+use Rattle.omf_exe.proofs.OverlapLaws.{overlaps-found}
 use Rattle.omf_exe.proofs.TakeLaws.{all-can, one-taken}
 use Rattle.omf_exe.proofs.words.add_words.Goals as goal
 
@@ -43,3 +46,11 @@ loop-place-preserved c =
       can = All-tail CanTake p (map (λ x. x.1) rest) (subst (All CanTake) (ap (map (λ x. x.1)) c.in-Some.ensures.steps) c.loop-place.invariant.can);
       low = c.opened_after-last.ensures.low;
     }
+
+pub returns-clause-adds : goal.returns-clause-adds
+returns-clause-adds c =
+    let p = c.pieces_of-place-items in
+    let all = records_in c.args.module.now.bytes in
+    overlaps-found c.args.movers.now c.args.placement.now (recs all) (placed_pieces (placed_from 0 0 all)) c.args.words.now c.loop-place.words p.ensures.holds
+    (sym (ap (map (λ x. x.1)) p.ensures.walked) ∙ p.ensures.listed)
+    (sym c.loop-place.invariant.same ∙ ap (λ xs. all_words c.args.movers.now c.args.placement.now c.loop-place.last xs c.loop-place.words) c.in-None.ensures.steps.0)
