@@ -15,5 +15,6 @@ pub mod MovableLaws
 pub mod OverlapLaws
 pub mod MarkLaws
 pub mod TakeLaws
+pub mod TurnLaws
 pub mod MovedWords
 pub mod ApartLaws

@@ -38,7 +38,7 @@ all-clear ws from to e =
     all-true (Beside from to) (λ w. nat_le (w + 2) from || nat_le to w) (λ w. either (nat_le (w + 2) from) (nat_le to w) (w + 2 ≤ from) (to ≤ w) (leb-true (w + 2) from) (leb-true to w)) ws e
 
 -- For each of one list all of another, and the other way round.
-swap : {A B : Type 0} (P : A → B → Type 0) (xs : List A) (ys : List B) → All (λ y. All (λ x. P x y) xs) ys → All (λ x. All (P x) ys) xs
+pub swap : {A B : Type 0} (P : A → B → Type 0) (xs : List A) (ys : List B) → All (λ y. All (λ x. P x y) xs) ys → All (λ x. All (P x) ys) xs
 swap P [] ys h = All-nil (λ x. All (P x) ys)
 swap P (x ∷ xs) ys h =
     All-cons (λ x. All (P x) ys) x xs (All-weaker (λ y. All (λ x. P x y) (x ∷ xs)) (P x) (λ y a. All-head (λ x. P x y) x xs a) ys h)
@@ -192,11 +192,11 @@ module _ (mv : Movers) (pl : Places) where
 
 -- ---- what the words and the chunks are where nothing overlaps
 
-unmapped : {A B : Type 0} (P : B → Type 0) (f : A → B) (xs : List A) → All P (map f xs) → All (λ x. P (f x)) xs
+pub unmapped : {A B : Type 0} (P : B → Type 0) (f : A → B) (xs : List A) → All P (map f xs) → All (λ x. P (f x)) xs
 unmapped P f [] h = All-nil (λ x. P (f x))
 unmapped P f (x ∷ xs) h = All-cons (λ x. P (f x)) x xs (All-head P (f x) (map f xs) h) (unmapped P f xs (All-tail P (f x) (map f xs) h))
 
-from-zero : (a : ℕ) (xs : List ℕ) → map (λ at. a + at) xs ≡ map (λ at. a - 0 + at) xs
+pub from-zero : (a : ℕ) (xs : List ℕ) → map (λ at. a + at) xs ≡ map (λ at. a - 0 + at) xs
 from-zero a [] = refl
 from-zero a (x ∷ xs) = let same : a + x ≡ a - 0 + x = omega arith in ap₂ (λ y ys. y ∷ ys) same (from-zero a xs)
 

@@ -1,5 +1,5 @@
 -- The relocation words of modules in file order, and the first part of a module that overlaps one (this profile's rule).
-use Rattle.std.specs.Prelude.{◌≡◌, ℕ, ◌+◌, All, List, [], ◌∷◌, ◌++◌, length, map, Bool, false, ◌==◌, ◌||◌, nat_le, slice_index_or, Option, Some, None, option_map, option_to_list, Result, Ok, Err, if◌then◌else◌, ⊤, ◌<◌, ◌^◌}
+use Rattle.std.specs.Prelude.{◌≡◌, ℕ, ◌+◌, All, List, [], ◌∷◌, ◌++◌, length, map, Bool, true, false, ◌==◌, ◌||◌, nat_le, slice_index_or, Option, Some, None, option_map, option_to_list, Result, Ok, Err, if◌then◌else◌, ⊤, ◌<◌, ◌^◌}
 use Rattle.std.specs.List.{list_all, list_any}
 use Rattle.omf_frame.specs.declared.fault.Place.{Place}
 use Rattle.omf_records.specs.Values.{Contents, Plain, Iterated, Rec, width}
@@ -13,12 +13,13 @@ use Rattle.omf_reloc.specs.Inner.Measuring.{CanMeasure, measured}
 use Rattle.omf_reloc.specs.Inner.Pieces.{single_pieces}
 use Rattle.omf_reloc.specs.Laws.{location_start, location_end}
 use Rattle.omf_reloc.specs.Plain.{Piece, Kept, Fixed, End, PlainFixup, pieces}
-use Rattle.omf_exe.specs.Memory.{segment_address, AreUncovered, IsAway, chunks, flat_words}
-use Rattle.omf_exe.specs.Moved.{Movers}
+use Rattle.omf_reloc.specs.Reach.{Reaches}
+use Rattle.omf_exe.specs.Memory.{segment_address, AreUncovered, IsAway, chunks, flat_words, MovingModule, ModuleMoves, all_chunks}
+use Rattle.omf_exe.specs.Moved.{Movers, AreMoversOf}
 use Rattle.omf_exe.specs.Relocations.{site}
 use Rattle.omf_exe.specs.declared.words.WordsFault.{WordsFault}
 use Rattle.omf_exe.specs.declared.words.WordsFault.TheVariants as words
-use Rattle.omf_exe.specs.Judged.{PiecesApart}
+use Rattle.omf_exe.specs.Judged.{PiecesApart, pieces_move}
 
 -- No word of these addresses has a byte from one address up to another.
 abbrev pub are_clear : List ℕ → ℕ → ℕ → Bool
@@ -100,3 +101,24 @@ pub record AddsWords (mv : Movers) (pl : Places) (m : List Rec) (ws out : List �
 abbrev pub OverlapsAreFound : Type 0
 OverlapsAreFound = (mv : Movers) (pl : Places) (m : List Rec) (xs : List (Place × Piece)) (ws out : List ℕ) → ModuleHolds profile_limits m → map (λ x. x.1) xs ≡ single_pieces m
     → all_words mv pl None xs ws ≡ Ok out → AddsWords mv pl m ws out
+
+-- Modules whose words are added one module after the other.
+abbrev pub AddInTurn : List MovingModule → List ℕ → List ℕ → Type 0
+AddInTurn [] ws out = ws ≡ out
+AddInTurn (m ∷ ms) ws out = (mid : List ℕ) × AddsWords m.movers m.places m.records ws mid × AddInTurn ms mid out
+
+-- A well-formed module, at a placement that reaches, that is judged to move.
+pub record IsJudged (m : MovingModule) : Type 0 where
+  pub holds : ModuleHolds profile_limits m.records
+  pub reaches : Reaches m.places m.records
+  pub movers : AreMoversOf m.movers m.places
+  pub moving : pieces_move m.movers (pieces m.records) ≡ true
+
+-- The modules move; the words are those of their chunks, one module after the other; and no later chunk, of any module, covers a byte of one.
+pub record AreJudged (ms : List MovingModule) (words : List ℕ) : Type 0 where
+  pub moving : All ModuleMoves ms
+  pub words_are : words ≡ flat_words 0 (all_chunks ms)
+  pub uncovered : AreUncovered (all_chunks ms)
+
+abbrev pub ProgramsAreJudged : Type 0
+ProgramsAreJudged = (ms : List MovingModule) (words : List ℕ) → All IsJudged ms → AddInTurn ms [] words → AreJudged ms words

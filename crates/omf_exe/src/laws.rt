@@ -2,7 +2,7 @@
 
 ghost use Rattle.omf_exe.specs.Laws.{OutcomesMove, DataMove, FilesAreLoaded, ChunksAreLaid, ChunksMove, ImagesMove, ProgramsAreLoaded, StartsMove, PlacementsReach, JudgedMove, WordsAreMoved, WordsStandApart};
 ghost use Rattle.omf_exe.specs.Movable.{MovingIsDecided};
-ghost use Rattle.omf_exe.specs.Overlaps.{OverlapsAreFound};
+ghost use Rattle.omf_exe.specs.Overlaps.{OverlapsAreFound, ProgramsAreJudged};
 
 /// What a fixup that moves with the program adds at a moved placement is what it adds at the placement, with as much more at a selector that
 /// moves as there are paragraphs.
@@ -74,4 +74,10 @@ pub fn moving_is_decided()
 /// covers a word.
 pub fn overlaps_are_found()
     ensures { OverlapsAreFound }
+{}
+
+/// Well-formed modules that are judged to move, and whose words were added one module after the other, are modules of a program: they move, the
+/// words are theirs, and no data record of any of them covers an earlier word.
+pub fn programs_are_judged()
+    ensures { ProgramsAreJudged }
 {}
