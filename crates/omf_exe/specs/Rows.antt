@@ -1,10 +1,13 @@
 -- Words of the worked examples.
-use Rattle.std.specs.Prelude.{ℕ, List, [], ◌∷◌, true, false, Some, None}
+use Rattle.std.specs.Prelude.{ℕ, ◌+◌, List, [], ◌∷◌, true, false, Some, None}
 use Rattle.omf_records.specs.Values.{At, Rec, Segment, Plain, Fixups, ModEnd, Fixup, SegmentItem}
 use Rattle.omf_check.specs.declared.method.FrameMethod.{FrameMethod}
 use Rattle.omf_check.specs.declared.method.TargetMethod.{TargetMethod}
 use Rattle.omf_placement.specs.declared.frame.Placed.{Placed}
-use Rattle.omf_reloc.specs.Plain.{PlainFixup}
+use Rattle.omf_frame.specs.declared.fault.Place.{Place}
+use Rattle.omf_check.specs.Threads.{T0}
+use Rattle.omf_check.specs.declared.method.FrameMethod.TheVariants.{Target as F5}
+use Rattle.omf_reloc.specs.Plain.{Piece, Kept, Fixed, PlainFixup}
 use Rattle.omf_exe.specs.Moved.{Movers}
 use Rattle.omf_exe.specs.Memory.{MovingModule}
 
@@ -44,3 +47,19 @@ one_of_two = record { segments = true ∷ false ∷ []; groups = []; externals =
 
 abbrev pub fixup : ℕ → FrameMethod → TargetMethod → ℕ × PlainFixup
 fixup locat frame target = (0x9C, record { locat = locat; reference = record { frame = frame; target = target; displacement = 0 } })
+
+-- Pieces, each with the number of its place.
+abbrev pub place : ℕ → Place
+place n = record { number = n; start = 0; within = 0 }
+
+abbrev pub numbered : ℕ → List Piece → List (Place × Piece)
+numbered n [] = []
+numbered n (p ∷ ps) = (place n, p) ∷ numbered (n + 1) ps
+
+-- Four bytes at 0 of segment 1, with a base at 1 and an offset of 16 bits at 2.
+abbrev pub base_under_offset : List Piece
+base_under_offset =
+    Kept (record { kind = 0xA0; contents = Plain (record { segment = at 3 1; offset = at 4 0; bytes = 0xB8 ∷ 0 ∷ 0 ∷ 0xCB ∷ [] }) })
+    ∷ Fixed 0x9C ((fixup 0xC801 F5 (T0 1)).1 ∷ [])
+    ∷ Fixed 0x9C ((fixup 0xC402 F5 (T0 1)).1 ∷ [])
+    ∷ []

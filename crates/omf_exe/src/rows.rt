@@ -1,6 +1,6 @@
 //! Worked examples, each evaluated by the check.
 
-ghost use Rattle.std.specs.Prelude.{◌≡◌, [], ◌∷◌, ◌++◌, length, Some, true, false};
+ghost use Rattle.std.specs.Prelude.{◌≡◌, [], ◌∷◌, ◌++◌, length, Some, None, Ok, Err, true, false};
 ghost use Rattle.std.specs.List.{repeat};
 ghost use Rattle.omf_check.specs.Threads.{F0, T0};
 ghost use Rattle.omf_check.specs.declared.method.FrameMethod.TheVariants.{Target as F5};
@@ -11,7 +11,9 @@ ghost use Rattle.omf_exe.specs.Judged.{pieces_move};
 ghost use Rattle.omf_reloc.specs.Plain.{pieces};
 ghost use Rattle.omf_exe.specs.Loading.{loaded};
 ghost use Rattle.omf_exe.specs.Moved.{moved};
-ghost use Rattle.omf_exe.specs.Rows.{at_0, file, fixup, loads_its_segment, one_of_two};
+ghost use Rattle.omf_exe.specs.Rows.{at_0, base_under_offset, file, fixup, loads_its_segment, numbered, one_of_two, place};
+ghost use Rattle.omf_exe.specs.Overlaps.{all_words};
+ghost use Rattle.omf_reloc.specs.Inner.Pieces.{single_pieces};
 ghost use Rattle.omf_exe.specs.Relocations.{moves_together, sites};
 
 /// A file of 36 bytes, of which 32 are the header, with one entry: at 1234H, `mov ax, 0` and `retf` become `mov ax, 1234H` and `retf`.
@@ -56,4 +58,13 @@ pub fn what_moves_together()
 /// of a distance.
 pub fn words_that_move()
     ensures { sites one_of_two 1 (fixup 0xC801 (F0 1) (T0 2) ∷ fixup 0xCC05 F5 (T0 1) ∷ fixup 0xCC0A F5 (T0 2) ∷ fixup 0xC410 F5 (T0 1) ∷ fixup 0x8412 F5 (T0 1) ∷ []) ≡ 1 ∷ 7 ∷ [] }
+{}
+
+/// The word of a module that loads its own segment, at 0, is at 1. It comes after a word at 4, where the module's data end; its data overlap a word
+/// at 3, and so does the second of two fixups the word of the first.
+pub fn words_in_file_order()
+    ensures first { all_words at_0.movers at_0.places None (numbered 0 (single_pieces loads_its_segment)) [] ≡ Ok (1 ∷ []) }
+    ensures after { all_words at_0.movers at_0.places None (numbered 0 (single_pieces loads_its_segment)) (4 ∷ []) ≡ Ok (4 ∷ 1 ∷ []) }
+    ensures under_data { all_words at_0.movers at_0.places None (numbered 0 (single_pieces loads_its_segment)) (3 ∷ []) ≡ Err (place 1) }
+    ensures under_fixup { all_words at_0.movers at_0.places None (numbered 0 base_under_offset) [] ≡ Err (place 2) }
 {}
