@@ -1,14 +1,25 @@
 -- Modules whose relocation words are added one module after the other.
-use Rattle.std.proofs.Common.{◌≡◌, ℕ, ◌+◌, List, [], ◌∷◌, ◌++◌, sym, ◌∙◌, ap, subst}
-use Rattle.std.specs.Prelude.{All}
+use Rattle.std.proofs.Common.{◌≡◌, ℕ, ◌+◌, ◌≤◌, length, refl, arith, List, [], ◌∷◌, ◌++◌, sym, ◌∙◌, ap, subst}
+use Rattle.std.specs.Prelude.{All, Option, Some, None}
+use Rattle.std.specs.List.{cons_option}
 use Rattle.std.proofs.lemmas.Grind.{flat_map-append}
 use Rattle.std.proofs.lemmas.List.{append_assoc, append-nil}
 use Rattle.std.proofs.lemmas.List.Elements.{All-nil, All-cons, All-head, All-tail, All-append, All-weaker}
-use Rattle.omf_reloc.specs.Plain.{pieces}
+use Rattle.omf_frame.specs.Bytes.{with_after}
+use Rattle.omf_records.specs.Values.{Contents, DataItem, Plain, Iterated, width}
+use Rattle.omf_image.specs.Inner.Expanding.{expanded}
+use Rattle.omf_image.specs.Limits.{profile_limits}
+use Rattle.omf_placement.specs.Placement.{Places}
+use Rattle.omf_reloc.specs.Laws.{AreInside, location_end}
+use Rattle.omf_reloc.specs.Plain.{Piece, Kept, Fixed, End, PlainFixup, fixups_of_data, pieces}
+use Rattle.omf_reloc.proofs.PatchLaws.{stays_inside}
+use Rattle.omf_exe.specs.Moved.{AreMoversOf, Movers}
+use Rattle.omf_exe.specs.Relocations.{site, sites}
+use Rattle.omf_exe.proofs.DataMoves.{site-inside}
 use Rattle.omf_reloc.proofs.WalkLaws.{all-left, all-right}
 use Rattle.omf_exe.specs.Judged.{PiecesApart}
-use Rattle.omf_exe.specs.Memory.{AreUncovered, Chunk, IsAway, ModuleMoves, MovingModule, all_chunks, chunk_words, chunks, flat_words}
-use Rattle.omf_exe.specs.Overlaps.{AddInTurn, IsJudged, ProgramsAreJudged}
+use Rattle.omf_exe.specs.Memory.{ContentsMove, PieceMoves, PiecesMove, contents_chunks, piece_chunks, AreUncovered, Chunk, IsAway, ModuleMoves, MovingModule, all_chunks, chunk_words, chunks, flat_words}
+use Rattle.omf_exe.specs.Overlaps.{AddInTurn, HasItsWords, IsJudged, ProgramsAreJudged}
 use Rattle.omf_exe.proofs.JudgedLaws.{judged}
 use Rattle.omf_exe.proofs.OverlapLaws.{from-zero, swap, unmapped}
 
@@ -70,7 +81,47 @@ all-move (m ∷ ms) h k =
     All-cons ModuleMoves m ms (judged m j.holds j.reaches j.movers j.moving (All-head ModuleApart m ms k))
     (all-move ms (All-tail IsJudged m ms h) (All-tail ModuleApart m ms k))
 
+-- ---- each word lies in the bytes of its chunk
+
+module _ (mv : Movers) (pl : Places) (h : AreMoversOf mv pl) where
+  sites-in : (d : DataItem) (n : ℕ) (fs : List (ℕ × PlainFixup)) → AreInside n fs → All (λ at. at + 2 ≤ n) (sites mv d.segment.item fs)
+  sites-in d n [] a = All-nil (λ at. at + 2 ≤ n)
+  sites-in d n (f ∷ fs) a = by (site mv d.segment.item f) refl (sites-in d n fs (All-tail (λ g. location_end g ≤ n) f fs a))
+    where
+      by : (o : Option ℕ) → site mv d.segment.item f ≡ o → All (λ at. at + 2 ≤ n) (sites mv d.segment.item fs) → All (λ at. at + 2 ≤ n) (cons_option o (sites mv d.segment.item fs))
+      by None e rest = rest
+      by (Some at) e rest =
+          let low = site-inside 0 mv pl h d f at e in
+          let here : location_end f ≤ n = All-head (λ g. location_end g ≤ n) f fs a in
+          All-cons (λ at. at + 2 ≤ n) at (sites mv d.segment.item fs) (omega (arith, low, here)) rest
+
+  contents-in : (kind : ℕ) (c : Contents) (after : List Piece) → ContentsMove mv pl c after → All HasItsWords (contents_chunks mv pl kind c after)
+  contents-in kind (Plain d) after r =
+      let fs = fixups_of_data after in
+      All-cons HasItsWords _ []
+      (subst (λ n. All (λ at. at + 2 ≤ n) (sites mv d.segment.item fs)) (sym (stays_inside pl d fs r.inside).size) (sites-in d (length d.bytes) fs r.inside))
+      (All-nil HasItsWords)
+  contents-in kind (Iterated d) after r = All-cons HasItsWords _ [] (All-nil (λ at. at + 2 ≤ length (expanded (width kind) profile_limits d.bytes))) (All-nil HasItsWords)
+  contents-in kind _ after r = All-nil HasItsWords
+
+  piece-in : (p : Piece) (after : List Piece) → PieceMoves mv pl p after → All HasItsWords (piece_chunks mv pl p after)
+  piece-in (Kept r) after m = contents-in r.kind r.contents after m
+  piece-in (Fixed kind fixups) after m = All-nil HasItsWords
+  piece-in (End kind byte start) after m = All-nil HasItsWords
+
+  pieces-in : (ps : List Piece) → PiecesMove mv pl ps → All HasItsWords (with_after (piece_chunks mv pl) ps)
+  pieces-in [] m = All-nil HasItsWords
+  pieces-in (p ∷ ps) m = All-append HasItsWords (piece_chunks mv pl p ps) (with_after (piece_chunks mv pl) ps) (piece-in p ps m.0) (pieces-in ps m.1)
+
+all-in : (ms : List MovingModule) → All ModuleMoves ms → All HasItsWords (all_chunks ms)
+all-in [] all = All-nil HasItsWords
+all-in (m ∷ ms) all =
+    let h = All-head ModuleMoves m ms all in
+    All-append HasItsWords (chunks m.movers m.places m.records) (all_chunks ms) (pieces-in m.movers m.places h.movers (pieces m.records) h.pieces)
+    (all-in ms (All-tail ModuleMoves m ms all))
+
 pub programs-judged : ProgramsAreJudged
 programs-judged ms words h k =
     let t = in-turn ms [] words k in
-    record { moving = all-move ms h t.apart; words_are = t.words; uncovered = t.uncovered }
+    let moving = all-move ms h t.apart in
+    record { moving = moving; words_are = t.words; inside = all-in ms moving; uncovered = t.uncovered }

@@ -1,5 +1,5 @@
 -- The relocation words of modules in file order, and the first part of a module that overlaps one (this profile's rule).
-use Rattle.std.specs.Prelude.{◌≡◌, ℕ, ◌+◌, All, List, [], ◌∷◌, ◌++◌, length, map, Bool, true, false, ◌==◌, ◌||◌, nat_le, slice_index_or, Option, Some, None, option_map, option_to_list, Result, Ok, Err, if◌then◌else◌, ⊤, ◌<◌, ◌^◌}
+use Rattle.std.specs.Prelude.{◌≡◌, ℕ, ◌+◌, All, List, [], ◌∷◌, ◌++◌, length, map, Bool, true, false, ◌==◌, ◌||◌, nat_le, slice_index_or, Option, Some, None, option_map, option_to_list, Result, Ok, Err, if◌then◌else◌, ⊤, ◌<◌, ◌≤◌, ◌^◌}
 use Rattle.std.specs.List.{list_all, list_any}
 use Rattle.omf_frame.specs.declared.fault.Place.{Place}
 use Rattle.omf_records.specs.Values.{Contents, Plain, Iterated, Rec, width}
@@ -14,7 +14,7 @@ use Rattle.omf_reloc.specs.Inner.Pieces.{single_pieces}
 use Rattle.omf_reloc.specs.Laws.{location_start, location_end}
 use Rattle.omf_reloc.specs.Plain.{Piece, Kept, Fixed, End, PlainFixup, pieces}
 use Rattle.omf_reloc.specs.Reach.{Reaches}
-use Rattle.omf_exe.specs.Memory.{segment_address, AreUncovered, IsAway, chunks, flat_words, MovingModule, ModuleMoves, all_chunks}
+use Rattle.omf_exe.specs.Memory.{Chunk, segment_address, AreUncovered, IsAway, chunks, flat_words, MovingModule, ModuleMoves, all_chunks}
 use Rattle.omf_exe.specs.Moved.{Movers, AreMoversOf}
 use Rattle.omf_exe.specs.Relocations.{site}
 use Rattle.omf_exe.specs.declared.words.WordsFault.{WordsFault}
@@ -114,10 +114,16 @@ pub record IsJudged (m : MovingModule) : Type 0 where
   pub movers : AreMoversOf m.movers m.places
   pub moving : pieces_move m.movers (pieces m.records) ≡ true
 
--- The modules move; the words are those of their chunks, one module after the other; and no later chunk, of any module, covers a byte of one.
+-- The words of a chunk lie in its bytes.
+abbrev pub HasItsWords : Chunk → Type 0
+HasItsWords c = All (λ at. at + 2 ≤ length c.bytes) c.words
+
+-- The modules move; the words are those of their chunks, one module after the other, each in the bytes of its chunk; and no later chunk, of any module,
+-- covers a byte of one.
 pub record AreJudged (ms : List MovingModule) (words : List ℕ) : Type 0 where
   pub moving : All ModuleMoves ms
   pub words_are : words ≡ flat_words 0 (all_chunks ms)
+  pub inside : All HasItsWords (all_chunks ms)
   pub uncovered : AreUncovered (all_chunks ms)
 
 abbrev pub ProgramsAreJudged : Type 0
