@@ -30,7 +30,7 @@ apart-shift d (x ∷ xs) e =
     (All-map (Beside (d + x)) (λ w. d + w) xs (All-weaker (Beside x) (λ v. Beside (d + x) (d + v)) (λ v o. ⊎_elim (λ l. inl (omega (arith, l))) (λ l. inr (omega (arith, l))) o) xs e.0), apart-shift d xs e.1)
 
 module _ (mv : Movers) (pl : Places) (h : AreMoversOf mv pl) where
-  -- A relocation word stands in the location of its fixup.
+  -- A relocation word is in the location of its fixup.
   site-above : (segment : ℕ) (f : ℕ × PlainFixup) (at : ℕ) → site mv segment f ≡ Some at → location_start f ≤ at
   site-above segment f at e = by (cond (is_segment_relative f.1.locat && frame_moves mv segment f.1.reference.target f.1.reference.frame) (selector_at (type_of_number (location_type f.1.locat))) None) e
     where

@@ -159,7 +159,7 @@ module _ (pl : Places) (d : DataItem) where
       ap (λ bs. from bs fs) (one-apart k at f bytes h here (All-head (Away at) f fs away))
       ∙ all-apart k at fs (one f bytes) (omega (arith, h, kept)) (subst (λ n. AreInside n fs) (sym kept) rest) (All-tail (Away at) f fs away)
 
--- The word lies inside the location.
+-- The word is inside the location.
 selector-inside : (t : LocationType) (at : ℕ) → selector_at t ≡ Some at → at + 2 ≤ (location t).size
 selector-inside LowByte at e = absurd cc
 selector-inside Offset16 at e = absurd cc

@@ -44,7 +44,7 @@ module _ (k : ℕ) where
   words-append [] ys bytes = refl
   words-append (x ∷ xs) ys bytes = words-append xs ys (add x bytes)
 
-  -- A word among bytes that stand between others.
+  -- A word among bytes that are between others.
   between : (a f p b c : List ℕ) → (a ++ f) ++ (p ++ (b ++ c)) ≡ a ++ ((f ++ (p ++ b)) ++ c)
   between a f p b c = append_assoc a f (p ++ (b ++ c)) ∙ ap (λ l. a ++ l) (sym (append_assoc f (p ++ b) c ∙ ap (λ l. f ++ l) (append_assoc p b c)))
 

@@ -78,7 +78,7 @@ module _ (k : ℕ) where
   keep : (bytes : List ℕ) (w : ℕ) (ws : List ℕ) → w + 2 ≤ length bytes → All (Inside bytes) ws → All (Inside (add w bytes)) ws
   keep bytes w ws h all = let kept = length-add bytes w part.Word k h in All-weaker (Inside bytes) (Inside (add w bytes)) (λ v g. omega (arith, g, kept)) ws all
 
-  -- Words that others stand apart from.
+  -- Words that no other overlaps.
   words-kept : (ws : List ℕ) (v : ℕ) (bytes : List ℕ) → All (Inside bytes) ws → All (Beside v) ws → word (words_moved k ws bytes) v ≡ word bytes v
   words-kept [] v bytes all away = refl
   words-kept (w ∷ ws) v bytes all away =
@@ -98,7 +98,7 @@ module _ (k : ℕ) where
   abbrev Moved : List ℕ → List ℕ → ℕ → Type 0
   Moved old new at = word new at ≡ (word old at + k) % 65536
 
-  -- The words behind one that was moved.
+  -- The words after one that was moved.
   behind : (w : ℕ) (ws bytes new : List ℕ) → w + 2 ≤ length bytes → All (Beside w) ws → All (Moved (add w bytes) new) ws → All (Moved bytes new) ws
   behind w [] bytes new h away all = All-nil (Moved bytes new)
   behind w (v ∷ ws) bytes new h away all =

@@ -18,7 +18,7 @@ length-puts base n (c ∷ cs) bytes e all =
 pub length-flat : (base n : ℕ) (cs : List Chunk) → All (LiesIn base n) cs → length (flat base n cs) ≡ n
 length-flat base n cs all = length-puts base n cs (replicate n 0) (length-zeros n) all
 
--- Each word lies in the image.
+-- Each word is in the image.
 words-inside : (base n : ℕ) (cs : List Chunk) → All (LiesIn base n) cs → All (λ at. at + 2 ≤ n) (flat_words base cs)
 words-inside base n [] all = All-nil (λ at. at + 2 ≤ n)
 words-inside base n (c ∷ cs) all =

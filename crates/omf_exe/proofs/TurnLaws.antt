@@ -81,7 +81,7 @@ all-move (m ∷ ms) h k =
     All-cons ModuleMoves m ms (judged m j.holds j.reaches j.movers j.moving (All-head ModuleApart m ms k))
     (all-move ms (All-tail IsJudged m ms h) (All-tail ModuleApart m ms k))
 
--- ---- each word lies in the bytes of its chunk
+-- ---- each word is in the bytes of its chunk
 
 module _ (mv : Movers) (pl : Places) (h : AreMoversOf mv pl) where
   sites-in : (d : DataItem) (n : ℕ) (fs : List (ℕ × PlainFixup)) → AreInside n fs → All (λ at. at + 2 ≤ n) (sites mv d.segment.item fs)

@@ -1,4 +1,4 @@
--- Numbers that are added in bytes: twice at one place, and at places that stand apart.
+-- Numbers that are added in bytes: twice at one place, and at places apart.
 use Rattle.std.proofs.Common.{◌≡◌, ◌⊎◌, ℕ, ◌+◌, ◌<◌, ◌≤◌, List, [], ◌++◌, length, take, drop, sym, ◌∙◌, ap, ap₂, subst, arith}
 use Rattle.std.specs.Prelude.{◌%◌, ◌^◌}
 use Rattle.std.proofs.lemmas.List.{append_assoc, take_at, drop_at, drop-drop}
@@ -28,7 +28,7 @@ add-at a x c pos p v e f =
 pub adding : (pos : ℕ) (p : Part) (v : ℕ) → IsChange (λ l. add_part l pos p v) (λ x. sum_bytes (part_size p) x v) pos (part_size p)
 adding pos p v = record { at = λ a x c e f. add-at a x c pos p v e f; long = λ x e. length-sum (part_size p) x v }
 
--- A part that lies inside keeps the length.
+-- A part that is inside keeps the length.
 pub length-add : (bytes : List ℕ) (pos : ℕ) (p : Part) (v : ℕ) → pos + part_size p ≤ length bytes → length (add_part bytes pos p v) ≡ length bytes
 length-add bytes pos p v h = length-change (λ l. add_part l pos p v) (λ x. sum_bytes (part_size p) x v) pos (part_size p) (adding pos p v) bytes h
 
@@ -54,7 +54,7 @@ add-twice bytes pos v k h =
     ∙ ap (λ y. a ++ (y ++ c)) (sym (twice-word x v k))
     ∙ sym (ap (λ l. add_part l pos part.Word k) (add-at a x c pos part.Word v la lx) ∙ add-at a (sum_bytes 2 x v) c pos part.Word k la (length-sum 2 x v)))
 
--- Numbers that stand apart are added in either order.
+-- Numbers at places apart are added in either order.
 pub add-apart : (bytes : List ℕ) (pos other : ℕ) (p q : Part) (v w : ℕ) → pos + part_size p ≤ length bytes → other + part_size q ≤ length bytes
     → (pos + part_size p ≤ other) ⊎ (other + part_size q ≤ pos) → add_part (add_part bytes pos p v) other q w ≡ add_part (add_part bytes other q w) pos p v
 add-apart bytes pos other p q v w g h away =

@@ -35,7 +35,7 @@ as_bytes words = flat_map (little_bytes 2) words
 abbrev pub exe : Program → List ℕ
 exe p = as_bytes (header p ++ flat_map entry_of p.words) ++ (replicate (16 * paragraphs p - (4 * length p.words + 28)) 0 ++ p.image)
 
--- The image has at most 2^20 bytes and lies in the first megabyte with its words, of which there are fewer than 2^16; registers have 16 bits.
+-- The image has at most 2^20 bytes and is in the first megabyte with its words, of which there are fewer than 2^16; registers have 16 bits.
 pub record CanBeWritten (p : Program) : Type 0 where
   pub few : length p.words < 2 ^ 16
   pub short : length p.image ≤ 2 ^ 20

@@ -24,7 +24,7 @@ OutcomesMove = (k : ℕ) (mv : Movers) (pl : Places) (segment offset : ℕ) (f :
     → outcome_at (moved k mv pl) segment offset f ≡ map_ok (more k (selector_moving mv segment f)) (outcome_at pl segment offset f)
 
 -- A data record whose fixups lie inside it, reach and move with the program: its data at the placement moved by k paragraphs are its data at the
--- placement, with k added at each relocation word, where these stand apart from the other locations.
+-- placement, with k added at each relocation word, where these are apart from the other locations.
 abbrev pub DataMove : Type 0
 DataMove = (k : ℕ) (mv : Movers) (pl : Places) (d : DataItem) (fixups : List (ℕ × PlainFixup)) → AreMoversOf mv pl → AreInside (length d.bytes) fixups
     → All (λ f. moves_together mv d.segment.item f ≡ true) fixups → All (λ f. IsOk (outcome pl d f)) fixups → StandApart mv d.segment.item fixups
@@ -51,7 +51,7 @@ abbrev pub ImagesMove : Type 0
 ImagesMove = (k base n : ℕ) (cs : List Chunk) → All (LiesIn base n) cs → AreUncovered cs
     → flat (base + 16 * k) n (map (moved_chunk k) cs) ≡ words_moved k (flat_words base cs) (flat base n cs)
 
--- The file of a program, loaded at any paragraph, has in memory what its modules lay at their placements moved by as many paragraphs; so do CS and SS.
+-- The file of a program, loaded at any paragraph, has in memory what its modules put there at their placements moved by as many paragraphs; so do CS and SS.
 abbrev pub ProgramsAreLoaded : Type 0
 ProgramsAreLoaded = (k n : ℕ) (ms : List MovingModule) (code stack : ℕ × ℕ) (extra : ℕ) → IsProgram n ms code stack
     → loaded (exe (program n ms code stack extra)) k

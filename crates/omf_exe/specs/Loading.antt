@@ -13,7 +13,7 @@ pub record Loaded : Type 0 where
 abbrev pub word : List ℕ → ℕ → ℕ
 word file at = little_number 2 (drop at file)
 
--- The bytes of the file that count: whole pages of 512, the last with as many as 2 says, 0 for all (2 and 4). The header's bytes (8).
+-- The bytes of the file that count: as many pages of 512 bytes as the word at 4; the last has as many bytes as the word at 2, or all if that is 0. The bytes of the header: 16 times the word at 8.
 abbrev pub file_size : List ℕ → ℕ
 file_size file = if word file 2 == 0 then 512 * word file 4 else 512 * (word file 4 - 1) + word file 2
 

@@ -63,7 +63,7 @@ chunk_words base c = map (λ at. c.address - base + at) c.words
 abbrev pub flat_words : ℕ → List Chunk → List ℕ
 flat_words base cs = flat_map (chunk_words base) cs
 
--- Each chunk lies between two addresses, and its words in it.
+-- Each chunk is between two addresses, and its words in it.
 pub record LiesIn (base n : ℕ) (c : Chunk) : Type 0 where
   pub above : base ≤ c.address
   pub below : c.address + length c.bytes ≤ base + n
@@ -81,7 +81,7 @@ AreUncovered (c ∷ cs) = All (λ at. All (IsAway (c.address + at)) cs) c.words 
 abbrev pub AreTogether : Movers → DataItem → List (ℕ × PlainFixup) → Type 0
 AreTogether mv d fixups = All (λ f. moves_together mv d.segment.item f ≡ true) fixups
 
--- A data record moves: its segment does; each of its fixups lies inside it, moves with the program and reaches; and each relocation word stands apart from
+-- A data record moves: its segment does; each of its fixups is inside it, moves with the program and reaches; and each relocation word is apart from
 -- the locations of the later fixups.
 pub record RecordMoves (mv : Movers) (pl : Places) (d : DataItem) (fixups : List (ℕ × PlainFixup)) : Type 0 where
   pub segment : moves mv.segments d.segment.item ≡ true

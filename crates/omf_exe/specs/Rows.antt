@@ -29,7 +29,7 @@ loads_its_segment =
 abbrev pub placed_at : ℕ → ℕ → ℕ → Placed
 placed_at address base selector = record { address = address; frame = record { base = base; selector = selector } }
 
--- It lies at 0, and moves.
+-- It is at 0, and moves.
 abbrev pub at_0 : MovingModule
 at_0 = record {
   records = loads_its_segment;

@@ -19,7 +19,7 @@ pub enum FileFault {
     /// The image has more than 2^20 bytes.
     #[error("the image has more than 1,048,576 bytes")]
     TooLong,
-    /// The relocation word at this offset does not lie in the image.
+    /// The relocation word at this offset is not in the image.
     #[error("a relocation word outside the image")]
     Outside(usize),
     /// Out of memory.

@@ -35,7 +35,7 @@ pub fn images_move()
     ensures { ImagesMove }
 {}
 
-/// The file of a program, loaded at any paragraph, has in memory what its modules lay at their placements moved by as many paragraphs.
+/// The file of a program, loaded at any paragraph, has in memory what its modules put there at their placements moved by as many paragraphs.
 pub fn programs_are_loaded()
     ensures { ProgramsAreLoaded }
 {}
@@ -50,7 +50,7 @@ pub fn placements_reach()
     ensures { PlacementsReach }
 {}
 
-/// A well-formed module moves, at a placement that reaches, where its records and what moves of it say so: no placement is asked.
+/// A well-formed module moves, at a placement that reaches, where its records and what moves of it show that: no placement is needed.
 pub fn judged_move()
     ensures { JudgedMove }
 {}

@@ -1,4 +1,4 @@
-//! MZ files (.EXE) of linked modules: what DOS loads at a paragraph is what the modules lay at their placements moved to that paragraph.
+//! MZ files (.EXE) of linked modules: what DOS loads at a paragraph is what the modules put there at their placements moved to that paragraph.
 #![tactic(auto)]
 
 mod file;
