@@ -14,7 +14,8 @@ use Rattle.omf_reloc.specs.Inner.Pieces.{single_pieces}
 use Rattle.omf_reloc.specs.Plain.{Piece, Kept, Fixed, End}
 use Rattle.omf_reloc.proofs.HoldLaws.{KeptHolds, PieceHolds, PiecesHold, PlacedDataHolds, data_after, pieces-hold}
 use Rattle.omf_reloc.proofs.WalkLaws.{length-short}
-use Rattle.omf_exe.specs.Overlaps.{CanTake, Open, all_words, opened_after, or_place, with_piece}
+use Rattle.omf_exe.specs.Inner.Taking.{CanTake}
+use Rattle.omf_exe.specs.Overlaps.{Open, all_words, opened_after, or_place, with_piece}
 use Rattle.omf_exe.specs.Moved.{Movers}
 
 module _ (m : List Rec) (holds : ModuleHolds profile_limits m) where

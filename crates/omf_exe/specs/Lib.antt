@@ -10,3 +10,4 @@ pub mod Overlaps
 pub mod Words
 pub mod Rows
 pub mod Laws
+pub mod Inner

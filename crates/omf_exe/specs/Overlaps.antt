@@ -6,10 +6,9 @@ use Rattle.omf_records.specs.Values.{Contents, Plain, Iterated, Rec, width}
 -- computed: blocks_are_read and lengths_are_decided of omf_image.
 use Rattle.omf_image.specs.Inner.Expanding.{expanded}
 use Rattle.omf_image.specs.Limits.{profile_limits}
-use Rattle.omf_image.specs.Painting.{Fits}
 use Rattle.omf_check.specs.Sound.{ModuleHolds}
 use Rattle.omf_placement.specs.Placement.{Places}
-use Rattle.omf_reloc.specs.Inner.Measuring.{CanMeasure, measured}
+-- computed: threads_give_references and faults_are_walked of omf_reloc.
 use Rattle.omf_reloc.specs.Inner.Pieces.{single_pieces}
 use Rattle.omf_reloc.specs.Laws.{location_start, location_end}
 use Rattle.omf_reloc.specs.Plain.{Piece, Kept, Fixed, End, PlainFixup, pieces}
@@ -76,12 +75,7 @@ abbrev pub all_words : Movers → Places → Open → List (Place × Piece) → 
 all_words mv pl last [] ws = Ok ws
 all_words mv pl last (x ∷ xs) ws = or_place x.0 (λ more. all_words mv pl (opened_after pl x.1 last) xs more) (with_piece mv pl last x.1 ws)
 
--- The blocks of an LIDATA expand; the data of a record have offsets of 32 bits; the address of a data record is below 2^33.
-abbrev pub CanTake : Piece → Type 0
-CanTake (Kept r) = CanMeasure r × All Fits (measured r)
-CanTake (Fixed kind fixups) = ⊤
-CanTake (End kind byte start) = ⊤
-
+-- An open data record has an address below 2^33.
 abbrev pub IsLow : ℕ × ℕ → Type 0
 IsLow o = o.1 < 2 ^ 33
 

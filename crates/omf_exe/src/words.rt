@@ -14,7 +14,8 @@ ghost use Rattle.omf_reloc.specs.Inner.Pieces.{placed_pieces};
 ghost use Rattle.omf_reloc.specs.Inner.Walking.{Expands};
 ghost use Rattle.omf_exe.specs.Memory.{segment_address};
 ghost use Rattle.omf_reloc.specs.Laws.{location_start, location_end};
-ghost use Rattle.omf_exe.specs.Overlaps.{AddsWords, CanTake, IsLow, IsWordsFault, all_words, are_clear, opened, opened_after, with_contents, with_fixups, with_piece, word_of};
+ghost use Rattle.omf_exe.specs.Inner.Taking.{CanTake};
+ghost use Rattle.omf_exe.specs.Overlaps.{AddsWords, IsLow, IsWordsFault, all_words, are_clear, opened, opened_after, with_contents, with_fixups, with_piece, word_of};
 
 use crate::movers::Movers;
 use crate::moving::site;

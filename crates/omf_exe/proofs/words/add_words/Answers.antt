@@ -6,7 +6,8 @@ use Rattle.omf_check.specs.Module.{records_in}
 use Rattle.omf_check.specs.WellFormed.{recs}
 use Rattle.omf_reloc.specs.Inner.Pieces.{placed_pieces}
 use Rattle.omf_reloc.specs.Inner.PieceSeen.{piece_seen}
-use Rattle.omf_exe.specs.Overlaps.{CanTake, all_words}
+use Rattle.omf_exe.specs.Inner.Taking.{CanTake}
+use Rattle.omf_exe.specs.Overlaps.{all_words}
 use Rattle.omf_exe.proofs.OverlapLaws.{overlaps-found}
 use Rattle.omf_exe.proofs.TakeLaws.{all-can, one-taken}
 use Rattle.omf_exe.proofs.words.add_words.Goals as goal

@@ -3,7 +3,8 @@ use Rattle.std.specs.Prelude.{All, IfSome, None}
 use Rattle.omf_check.specs.Listed.{placed_from}
 use Rattle.omf_check.specs.Module.{records_in}
 use Rattle.omf_reloc.specs.Inner.Pieces.{placed_pieces}
-use Rattle.omf_exe.specs.Overlaps.{CanTake, IsLow, all_words}
+use Rattle.omf_exe.specs.Inner.Taking.{CanTake}
+use Rattle.omf_exe.specs.Overlaps.{IsLow, all_words}
 use Rattle.omf_exe.proofs.words.add_words.Given as goal
 
 -- the words so far and the pieces to come give what all the pieces give
