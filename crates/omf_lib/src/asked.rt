@@ -20,7 +20,7 @@ pub struct Get {
     pub is_numbered: bool,
 }
 
-/// A library to make.
+/// A library to make of files.
 #[derive(Drop)]
 pub struct Make {
     pub profile: Profile,
@@ -44,7 +44,10 @@ pub enum Asked {
         file: String,
         names: Vec<String>,
     },
+    /// Of the modules in the files.
     Make(Make),
+    /// Of the canonical bytes of the members of a library, the only file.
+    Canon(Make),
 }
 
 /// The arguments after the task: names, and options.
@@ -182,7 +185,7 @@ fn get_of(alloc: Global, words: Words) -> Result<Option<Asked>, AllocError> {
 }
 
 /// A library to make; None without its name or a file, or with an option of `get`.
-fn make_of(words: Words) -> Option<Asked> {
+fn make_of(words: Words) -> Option<Make> {
     let Words {
         names,
         folder,
@@ -197,11 +200,19 @@ fn make_of(words: Words) -> Option<Asked> {
     let profile = Profile {
         refuse_vendor_comments,
     };
-    Some(Asked::Make(Make {
+    Some(Make {
         profile,
         output,
         files: names,
-    }))
+    })
+}
+
+/// A library to make of the members of one; None without their two names, or with an option of `get`.
+fn canon_of(words: Words) -> Option<Asked> {
+    if words.names.len() != 1 {
+        return None;
+    }
+    Some(Asked::Canon(make_of(words)?))
 }
 
 /// What the arguments ask for, without the program's own name; None if they are not understood.
@@ -223,7 +234,8 @@ pub fn read_arguments(alloc: Global, arguments: Vec<String>) -> Result<Option<As
         "check" => Ok(look_of(Look::Check, words)),
         "get" => get_of(alloc, words),
         "find" => find_of(alloc, words),
-        "make" => Ok(make_of(words)),
+        "make" => Ok(make_of(words).map(|make| Asked::Make(make))),
+        "canon" => Ok(canon_of(words)),
         _ => Ok(None),
     }
 }

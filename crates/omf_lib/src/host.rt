@@ -3,6 +3,7 @@
 ghost use Rattle.std.specs.Prelude.{◌≤◌};
 
 use crate::asked::{Asked, Look, Make, read_arguments};
+use crate::canonical::canon_library;
 use crate::files::{read_input, shown_path};
 use crate::finding::find;
 use crate::judging::judge_file;
@@ -19,7 +20,7 @@ use std::{env, io};
 
 /// How the program is called.
 const USAGE: &[u8] =
-    b"usage: omf-lib list|check [--refuse-vendor-comments] LIB ..\n       omf-lib find LIB NAME ..\n       omf-lib get LIB [MEMBER ..] -d DIR [--numbered]\n       omf-lib make [--refuse-vendor-comments] -o LIB FILE ..\n";
+    b"usage: omf-lib list|check [--refuse-vendor-comments] LIB ..\n       omf-lib find LIB NAME ..\n       omf-lib get LIB [MEMBER ..] -d DIR [--numbered]\n       omf-lib make [--refuse-vendor-comments] -o LIB FILE ..\n       omf-lib canon [--refuse-vendor-comments] -o LIB LIB\n";
 
 /// The line when out of memory.
 const MEMORY: &[u8] = b"memory\n";
@@ -139,7 +140,7 @@ fn act_on<K: Sink>(
     match asked {
         Asked::Get { get: asked, .. } => get(rt, &mut shown, writer, asked, &bytes)?,
         Asked::Find { names, .. } => find(&mut shown, writer, names.as_slice(), &bytes)?,
-        Asked::Look { .. } | Asked::Make(_) => {}
+        Asked::Look { .. } | Asked::Make(_) | Asked::Canon(_) => {}
     }
     shown.flush(writer)?;
     Ok(shown.status)
@@ -149,6 +150,14 @@ fn act_on<K: Sink>(
 fn act_make<K: Sink>(rt: &HostRuntime, writer: &mut K, asked: &Make) -> Result<u8, Stop> {
     let mut shown = Shown::new(rt.alloc());
     make_library(rt, &mut shown, asked)?;
+    shown.flush(writer)?;
+    Ok(shown.status)
+}
+
+/// Makes a library of the canonical bytes of another one's members. Returns the status.
+fn act_canon<K: Sink>(rt: &HostRuntime, writer: &mut K, asked: &Make) -> Result<u8, Stop> {
+    let mut shown = Shown::new(rt.alloc());
+    canon_library(rt, &mut shown, asked)?;
     shown.flush(writer)?;
     Ok(shown.status)
 }
@@ -167,6 +176,10 @@ fn act<K: Sink>(rt: &HostRuntime, writer: &mut K, asked: &Asked) -> u8 {
         }
         Asked::Make(asked) => {
             let answer = act_make(rt, writer, asked);
+            settled(writer, answer)
+        }
+        Asked::Canon(asked) => {
+            let answer = act_canon(rt, writer, asked);
             settled(writer, answer)
         }
     }

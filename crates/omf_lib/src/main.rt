@@ -1,9 +1,10 @@
 //! `omf-lib`: libraries of object modules (TIS OMF 1.1, appendix 2). It lists a library, checks its members and its
-//! dictionary, finds names, takes members out, and makes
-//! libraries. docs/LIBRARIES.md has what it prints.
+//! dictionary, finds names, takes members out, and makes libraries, also of canonical bytes. docs/LIBRARIES.md has what
+//! it prints.
 #![tactic(auto)]
 
 mod asked;
+mod canonical;
 mod fault;
 mod files;
 mod finding;

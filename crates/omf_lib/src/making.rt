@@ -1,4 +1,4 @@
-//! The task `omf-lib make`: a library of modules.
+//! The task `omf-lib make`: a library of modules; and what `canon` has in common with it.
 
 use crate::asked::Make;
 use crate::files::{Written, read_input, shown_path, write_new};
@@ -11,9 +11,10 @@ use omf_check::Checked;
 use omf_library::{MakeFault, Part, make};
 use std::alloc::{AllocError, Global};
 use std::fmt::Write;
+use std::io;
 
 /// A part of a checked module: its bytes, without what follows its MODEND in the file.
-fn part_of(alloc: Global, module: &Checked) -> Result<Part, AllocError> {
+pub fn part_of(alloc: Global, module: &Checked) -> Result<Part, AllocError> {
     let mut bytes = Vec::new(alloc);
     bytes.extend_from_slice(module.bytes())?;
     Ok(Part {
@@ -33,6 +34,13 @@ fn put_refused(shown: &mut Shown, name: &str, why: &Verdict) -> Result<(), Alloc
     shown.text.push('\n')
 }
 
+/// Appends the line of a file that could not be read.
+pub fn put_unread(shown: &mut Shown, name: &str, error: &io::Error) -> Result<(), AllocError> {
+    shown.raise(3);
+    let name = shown_path(*shown.text.allocator(), name)?;
+    write!(&mut shown.text, "read {name}: {error}\n")
+}
+
 /// Appends the part of a file; or a line, if it is no module or could not be read.
 fn push_part(
     rt: &HostRuntime,
@@ -43,11 +51,7 @@ fn push_part(
 ) -> Result<(), AllocError> {
     let bytes = match read_input(rt, name) {
         Ok(bytes) => bytes,
-        Err(error) => {
-            shown.raise(3);
-            let name = shown_path(rt.alloc(), name)?;
-            return write!(&mut shown.text, "read {name}: {error}\n");
-        }
+        Err(error) => return put_unread(shown, name, &error),
     };
     let span = Span {
         number: 0,
@@ -63,26 +67,26 @@ fn push_part(
     }
 }
 
-/// The name of an input, as it is printed.
-fn file_of(alloc: Global, files: &[String], number: usize) -> Result<String, AllocError> {
-    match files.get(number) {
+/// The name of a part, as it is printed.
+fn name_of(alloc: Global, names: &[String], number: usize) -> Result<String, AllocError> {
+    match names.get(number) {
         Some(name) => shown_path(alloc, name.as_str()),
         None => Ok(String::new(alloc)),
     }
 }
 
-/// Appends the line of a public that two files have.
+/// Appends the line of a public that two parts have. `names` are those of the parts.
 fn put_twice(
     shown: &mut Shown,
-    files: &[String],
+    names: &[String],
     parts: &[Part],
     first: usize,
     second: usize,
     public: usize,
 ) -> Result<(), AllocError> {
     let alloc = *shown.text.allocator();
-    let one = file_of(alloc, files, first)?;
-    let other = file_of(alloc, files, second)?;
+    let one = name_of(alloc, names, first)?;
+    let other = name_of(alloc, names, second)?;
     shown.text.push_str("twice")?;
     if let Some(part) = parts.get(second)
         && let Some(name) = part.publics.get(public)
@@ -96,6 +100,7 @@ fn put_twice(
 fn put_fault(
     shown: &mut Shown,
     asked: &Make,
+    names: &[String],
     parts: &[Part],
     fault: MakeFault,
 ) -> Result<(), Stop> {
@@ -107,7 +112,7 @@ fn put_fault(
             first,
             second,
             public,
-        } => put_twice(shown, asked.files.as_slice(), parts, first, second, public)?,
+        } => put_twice(shown, names, parts, first, second, public)?,
         MakeFault::TooLarge => write!(&mut shown.text, "refused {output}: too large\n")?,
         MakeFault::Refused { .. } | MakeFault::Unlike => {
             write!(
@@ -147,6 +152,20 @@ fn write_library(
     }
 }
 
+/// Makes a library of parts, and writes it. `names` are those of the parts.
+pub fn write_parts(
+    rt: &HostRuntime,
+    shown: &mut Shown,
+    asked: &Make,
+    names: &[String],
+    parts: &[Part],
+) -> Result<(), Stop> {
+    match make(rt.alloc(), asked.profile, parts) {
+        Ok(bytes) => Ok(write_library(rt, shown, asked, parts.len(), &bytes)?),
+        Err(fault) => put_fault(shown, asked, names, parts, fault),
+    }
+}
+
 /// Makes a library of the files, in order. Nothing is written if a file is refused or could not be read.
 pub fn make_library(rt: &HostRuntime, shown: &mut Shown, asked: &Make) -> Result<(), Stop> {
     let mut parts = Vec::new(rt.alloc());
@@ -156,8 +175,5 @@ pub fn make_library(rt: &HostRuntime, shown: &mut Shown, asked: &Make) -> Result
     if shown.status != 0 {
         return Ok(());
     }
-    match make(rt.alloc(), asked.profile, parts.as_slice()) {
-        Ok(bytes) => Ok(write_library(rt, shown, asked, parts.len(), &bytes)?),
-        Err(fault) => put_fault(shown, asked, parts.as_slice(), fault),
-    }
+    write_parts(rt, shown, asked, asked.files.as_slice(), parts.as_slice())
 }
