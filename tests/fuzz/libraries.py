@@ -1,8 +1,8 @@
 """Libraries of object modules (TIS OMF 1.1, appendix 2), made and read by the standard's text, apart from the crates.
 
 tests/fuzz/libraries.py PROGRAM FOLDER runs omf-lib on the libraries of a folder: `list` shows the members that this reader finds, `get` writes
-exactly their bytes, `check` says OK only where this reader finds each entry by both searches, and each cut and each changed byte of the
-smallest library has an answer."""
+exactly their bytes, `check` says OK only where this reader finds each entry by both searches, `canon` writes a library that is its own
+canonical one, and each cut and each changed byte of the smallest library has an answer."""
 import os
 import struct
 import subprocess
@@ -179,6 +179,22 @@ def try_file(program, file):
     print(f"{file}: {len(found)} members, {lines[-1]}")
 
 
+def try_canon(program, file):
+    """The library of canonical bytes has as many members, `check` has no fault in it, and it is its own library of canonical bytes."""
+    with tempfile.TemporaryDirectory() as folder:
+        _, status = run(program, "canon", "-o", f"{folder}/1.lib", file)
+        if status == 1:
+            assert not os.listdir(folder), f"{file}: a file of a refused library"
+            return
+        run(program, "canon", "-o", f"{folder}/2.lib", f"{folder}/1.lib")
+        with open(file, "rb") as it, open(f"{folder}/1.lib", "rb") as one, open(f"{folder}/2.lib", "rb") as other:
+            first = one.read()
+            assert first == other.read(), f"{file}: canonical bytes change"
+            assert len(members(first)[0]) == len(members(it.read())[0]), f"{file}: other canonical members"
+        lines, status = run(program, "check", f"{folder}/1.lib")
+        assert status == 0, f"{file}: {lines[0]}"
+
+
 def try_changes(program, file):
     """Each cut and each changed byte of a library has an answer."""
     with open(file, "rb") as it:
@@ -201,4 +217,5 @@ if __name__ == "__main__":
     files = [it for it in files if open(it, "rb").read(1) == b"\xF0"]
     for name in files:
         try_file(sys.argv[1], name)
+        try_canon(sys.argv[1], name)
     try_changes(sys.argv[1], min(files, key=os.path.getsize))
