@@ -24,14 +24,14 @@ if command -v nasm > /dev/null; then
     done
 fi
 
-cat start.obj say.obj mark.obj program.link | "$link" image > "$work/shown"
+"$link" image -t program.link start.obj say.obj mark.obj > "$work/shown"
 cat "$work/shown"
 
 # The draft of their text, with the code in the frame of base 0 and the mark at the end of the sector, gives the same as program.link.
-cat start.obj say.obj mark.obj | "$link" draft --base 7C00 --real > "$work/draft"
+"$link" draft --base 7C00 --real start.obj say.obj mark.obj > "$work/draft"
 # The lines are found by the names in their comments, since addresses move with each change of the sources.
 sed -E '/"text"/s/^S ([0-9A-F]+) .*;/S \1 0 0 ;/; /"mark"/s/^S .*;/S 7DFE 0 0 ;/' "$work/draft" > "$work/drafted"
-cat start.obj say.obj mark.obj "$work/drafted" | "$link" image | cmp - "$work/shown"
+"$link" image -t "$work/drafted" start.obj say.obj mark.obj | cmp - "$work/shown"
 echo "the draft, with three lines changed, gives the same"
 
 # srec_cat reads the lines as they are, without the start. The sector begins at 7C00H and has 512 bytes; those that no line covers are 0.

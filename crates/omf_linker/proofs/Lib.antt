@@ -1,5 +1,6 @@
 pub mod ArgLaws
 pub mod LinkLines
+pub mod LinkFiles
 pub mod LinkRuns
 pub mod LinkWords
 pub mod LinkedModules

@@ -15,7 +15,7 @@ use Rattle.omf_records.specs.Values.{Rec}
 use Rattle.omf_reloc.specs.declared.fault.ReachFault.{ReachFault}
 use Rattle.omf_linking.specs.Faults.{all_far, far_by, of_derive}
 use Rattle.omf_linking.specs.Parts.{Part, parsed_parts}
-use Rattle.omf_linking.specs.Placing.{by_parts, derived_or, found, given_of, miscount, places_of, unless_far}
+use Rattle.omf_linking.specs.Placing.{by_parts, derived_or, found, given_of, linked, miscount, places_of, unless_far}
 use Rattle.omf_check.specs.Module.{typed_modules}
 use Rattle.omf_linking.specs.Reading.{AreModules, IsPartRead, IsReadCause}
 use Rattle.omf_linking.specs.Relocated.{first_fault}
@@ -52,6 +52,8 @@ pub no_memory : (o : Options) (ms : List (List Rec)) (e : ImageFault) → IsUnna
 no_memory o ms (fault.Link link.Memory name) n = n.1
 no_memory o ms (fault.Link link.Read name) n = let is = n.0 in absurd cc
 no_memory o ms (fault.Link (link.Refused j why at) name) n = let is = n.0 in absurd cc
+no_memory o ms (fault.Link (link.NoText at) name) n = let is = n.0 in absurd cc
+no_memory o ms (fault.Link link.NoModules name) n = let is = n.0 in absurd cc
 no_memory o ms (fault.Link (link.Line k) name) n = let is = n.0 in absurd cc
 no_memory o ms (fault.Link (link.External f) name) n = let is = n.0 in absurd cc
 no_memory o ms (fault.Link (link.Reach j f) name) n = let is = n.0 in absurd cc
@@ -97,13 +99,17 @@ not_parsed : (ms : List (List Rec)) (r : Result (List Part) ℕ) → by_parts ms
 not_parsed ms (Ok ps) e = not_placed ms ps (places_of ms ps) e
 not_parsed ms (Err n) e = absurd cc
 
+not_linked : (ms : List (List Rec)) (text : List ℕ) → linked ms text ≡ Err link.Read → ⊥
+not_linked [] text e = absurd cc
+not_linked (m ∷ ms) text e = not_parsed (m ∷ ms) (parsed_parts text) e
+
 not_started : (ss : List (ℕ × (ℕ × ℕ))) → one_start ss ≡ Err link.Read → ⊥
 not_started [] e = absurd cc
 not_started (s ∷ []) e = absurd cc
 not_started (s ∷ t ∷ more) e = absurd cc
 
 not_first : (ms : List (List Rec)) (text : List ℕ) → IsFirstFault ms text link.Read → ⊥
-not_first ms text (inl h) = not_parsed ms (parsed_parts text) h
+not_first ms text (inl h) = not_linked ms text h
 not_first ms text (inr (inl h)) = not_far first_fault (enumerate_from 0 (zip ms h.0)) h.2
 not_first ms text (inr (inr (inl h))) = h.1
 not_first ms text (inr (inr (inr h))) = not_started (main_starts (zip ms h.0.relocated)) h.2
@@ -122,6 +128,8 @@ not_told Is ms (Err (fault.Link link.Memory name)) not (inr h) = h.1
 not_told Is ms (Err (fault.Link link.Read name)) not (inl h) = not h.0
 not_told Is ms (Err (fault.Link link.Read name)) not (inr h) = let is = h.0 in absurd cc
 not_told Is ms (Err (fault.Link (link.Refused j why at) name)) not h = tt
+not_told Is ms (Err (fault.Link (link.NoText at) name)) not h = tt
+not_told Is ms (Err (fault.Link link.NoModules name)) not h = tt
 not_told Is ms (Err (fault.Link (link.Line n) name)) not h = tt
 not_told Is ms (Err (fault.Link (link.External f) name)) not h = tt
 not_told Is ms (Err (fault.Link (link.Reach j f) name)) not h = tt
@@ -135,6 +143,8 @@ not_drafted o ms (Ok shown) h = tt
 not_drafted o ms (Err (fault.Link link.Memory name)) h = h
 not_drafted o ms (Err (fault.Link link.Read name)) h = h
 not_drafted o ms (Err (fault.Link (link.Refused j why at) name)) h = tt
+not_drafted o ms (Err (fault.Link (link.NoText at) name)) h = tt
+not_drafted o ms (Err (fault.Link link.NoModules name)) h = tt
 not_drafted o ms (Err (fault.Link (link.Line n) name)) h = tt
 not_drafted o ms (Err (fault.Link (link.External f) name)) h = tt
 not_drafted o ms (Err (fault.Link (link.Reach j f) name)) h = tt
@@ -145,7 +155,7 @@ not_drafted o ms (Err fault.Write) h = h
 
 not_shown : (t : Task) (ms : List (List Rec)) (text : List ℕ) (r : Result (List ℕ) ImageFault) → AreShown t ms text r → IsNoDevice r
 not_shown task.Image ms text r h = not_told (IsLinked ms text) ms r (not_first ms text) h
-not_shown task.Map ms text r h = not_told (IsMapped ms text) ms r (not_parsed ms (parsed_parts text)) h
+not_shown task.Map ms text r h = not_told (IsMapped ms text) ms r (not_linked ms text) h
 not_shown (task.Draft o) ms text r h = not_drafted o ms r h
 
 not_refused : (input : List ℕ) (r : Result (List ℕ) ImageFault) → IsNoModule input r → IsNoDevice r
@@ -153,6 +163,8 @@ not_refused input (Ok shown) h = tt
 not_refused input (Err (fault.Link link.Memory name)) h = h.1
 not_refused input (Err (fault.Link link.Read name)) h = h.0
 not_refused input (Err (fault.Link (link.Refused j why at) name)) h = tt
+not_refused input (Err (fault.Link (link.NoText at) name)) h = tt
+not_refused input (Err (fault.Link link.NoModules name)) h = tt
 not_refused input (Err (fault.Link (link.Line n) name)) h = tt
 not_refused input (Err (fault.Link (link.External f) name)) h = tt
 not_refused input (Err (fault.Link (link.Reach j f) name)) h = tt
@@ -174,6 +186,8 @@ module _ (old new : Device) where
   unbroken (Err (fault.Link link.Memory name)) h n = (h, n)
   unbroken (Err (fault.Link link.Read name)) h n = absurd n
   unbroken (Err (fault.Link (link.Refused j why at) name)) h n = h
+  unbroken (Err (fault.Link (link.NoText at) name)) h n = h
+  unbroken (Err (fault.Link link.NoModules name)) h n = h
   unbroken (Err (fault.Link (link.Line k) name)) h n = h
   unbroken (Err (fault.Link (link.External f) name)) h n = h
   unbroken (Err (fault.Link (link.Reach j f) name)) h n = h
@@ -190,6 +204,8 @@ module _ (old new : Device) where
   told_cause A link.Memory name e h = (h, e)
   told_cause A link.Read name e h = (h, e)
   told_cause A (link.Refused j why at) name e h = absurd h
+  told_cause A (link.NoText at) name e h = absurd h
+  told_cause A link.NoModules name e h = absurd h
   told_cause A (link.Line k) name e h = absurd h
   told_cause A (link.External d) name e h = absurd h
   told_cause A (link.Reach j d) name e h = absurd h
@@ -206,6 +222,8 @@ read_whole t input old new (Ok shown) c i = (c, i)
 read_whole t input old new (Err (fault.Link link.Memory name)) c i = (input, c)
 read_whole t input old new (Err (fault.Link link.Read name)) c i = (input, c)
 read_whole t input old new (Err (fault.Link (link.Refused j why at) name)) c i = (c, i)
+read_whole t input old new (Err (fault.Link (link.NoText at) name)) c i = (c, i)
+read_whole t input old new (Err (fault.Link link.NoModules name)) c i = (c, i)
 read_whole t input old new (Err (fault.Link (link.Line n) name)) c i = (c, i)
 read_whole t input old new (Err (fault.Link (link.External f) name)) c i = (c, i)
 read_whole t input old new (Err (fault.Link (link.Reach j f) name)) c i = (c, i)
@@ -224,6 +242,8 @@ part_of : (t : Task) (A : Type 0) (input : List ℕ) (before after : Device) (ol
 part_of t A input before after old new link.Memory name h p = p
 part_of t A input before after old new link.Read name h p = p
 part_of t A input before after old new (link.Refused j why at) name h p = absurd h
+part_of t A input before after old new (link.NoText at) name h p = absurd h
+part_of t A input before after old new link.NoModules name h p = absurd h
 part_of t A input before after old new (link.Line k) name h p = absurd h
 part_of t A input before after old new (link.External d) name h p = absurd h
 part_of t A input before after old new (link.Reach j d) name h p = absurd h

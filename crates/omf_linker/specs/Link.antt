@@ -6,4 +6,5 @@ pub mod Faults
 pub mod Shown
 pub mod Runs
 pub mod Words
+pub mod Files
 pub mod Rows

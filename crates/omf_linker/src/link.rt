@@ -1,6 +1,8 @@
 //! The program `omf-link`: prints the memory image of several modules, their map, or a draft of a link text for them.
 
 mod fault;
+mod files;
+mod files_fault;
 mod linking;
 mod naming;
 mod printed;
@@ -10,7 +12,10 @@ mod running;
 mod words;
 
 pub use fault::ImageFault;
+pub use files::{file_front, files_text, run_files};
+pub use files_fault::FilesFault;
 pub use linking::{modules_map, modules_text};
+pub use omf_linking::InputFile;
 pub use printing::{image_text, memory_text};
 pub use program::Link;
 pub use running::{run_task, shown_text};

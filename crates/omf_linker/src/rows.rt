@@ -50,6 +50,8 @@ pub fn fault_lines()
     ensures memory { line_of link.Memory [] ≡ codes "memory" }
     ensures read { line_of link.Read [] ≡ codes "read" }
     ensures refused { line_of (link.Refused 1 reason.Cut (place 4 34 2)) [] ≡ codes "module 2 refused 2 Cut record 4 at 34 within 2" }
+    ensures no_text { line_of (link.NoText 153) [] ≡ codes "input at 153: no module and no text" }
+    ensures no_modules { line_of link.NoModules [] ≡ codes "no modules" }
     ensures text { line_of (link.Line 3) [] ≡ codes "placement line 3" }
     ensures undefined { line_of (link.External (derive.Undefined 0 2)) (codes "_main") ≡ codes "module 1 external 2 Undefined \"_main\"" }
     ensures twice { line_of (link.External (derive.Twice 2 1)) (0x22 ∷ 0xFF ∷ []) ≡ codes "module 3 external 1 Twice \"\\x22\\xFF\"" }

@@ -1,5 +1,5 @@
 -- The steps of a link, one after another.
-use Rattle.std.proofs.Common.{◌≡◌, ℕ, ◌+◌, List, [], ◌∷◌, ◌++◌, length, arith, refl, sym, ap, ◌∙◌, inl, inr, subst}
+use Rattle.std.proofs.Common.{◌≡◌, ℕ, ◌+◌, ◌<◌, List, [], ◌∷◌, ◌++◌, length, arith, refl, sym, ap, ◌∙◌, inl, inr, subst}
 use Rattle.std.specs.Prelude.{Ok, Err, IsOk, Option, None, Some, Result, filter_map, map, option_map, slice_get}
 use Rattle.std.specs.List.{AllZip, cons_option, enumerate_from}
 use Rattle.std.proofs.lemmas.List.{length-map}
@@ -28,9 +28,18 @@ use Rattle.omf_linking.specs.Faults.{all_far, far_by, of_text, of_derive}
 use Rattle.omf_linking.specs.Parts.{Part, parsed_parts}
 use Rattle.omf_linking.specs.Placing.{IsOutcome, given_of, linked, by_parts, found, derived_or, miscount, places_of, unless_far}
 
-pub parts_fail : (ms : List (List Rec)) (given : List ℕ) (f : TextFault) → IsAnswer (parsed_parts given) (Err f) → IsOutcome (linked ms given) (Err (of_text f))
-parts_fail ms given text.Memory h = tt
-parts_fail ms given (text.Line n) h = ap (by_parts ms) h
+-- no modules are a fault; some are linked by the parts of a text
+pub none_linked : (ms : List Module) (given : List ℕ) → length ms ≡ 0 → linked (typed_modules ms) given ≡ Err fault.NoModules
+none_linked [] given e = refl
+none_linked (m ∷ ms) given e = absurd (omega (arith, e))
+
+pub some_linked : (ms : List Module) (given : List ℕ) → 0 < length ms → linked (typed_modules ms) given ≡ by_parts (typed_modules ms) (parsed_parts given)
+some_linked [] given s = absurd (omega (arith, s))
+some_linked (m ∷ ms) given s = refl
+
+pub parts_fail : (ms : List Module) (given : List ℕ) (f : TextFault) → 0 < length ms → IsAnswer (parsed_parts given) (Err f) → IsOutcome (linked (typed_modules ms) given) (Err (of_text f))
+parts_fail ms given text.Memory s h = tt
+parts_fail ms given (text.Line n) s h = some_linked ms given s ∙ ap (by_parts (typed_modules ms)) h
 
 pub places_fail : (ms : List (List Rec)) (ps : List Part) (f : TextFault) → IsAnswer (places_of ms ps) (Err f) → IsOutcome (by_parts ms (Ok ps)) (Err (of_text f))
 places_fail ms ps text.Memory h = tt
@@ -45,8 +54,9 @@ pub is_fine : {A : Type 0} (r : Result A ℕ) (a : A) → r ≡ Ok a → IsOk r
 is_fine r a e = subst IsOk (sym e) refl
 
 -- the placements by the parts of a text are those by the text
-pub by_text : (ms : List (List Rec)) (given : List ℕ) (ps : List Part) (r : Result (List Places) LinkFault) → parsed_parts given ≡ Ok ps → IsOutcome (by_parts ms (Ok ps)) r → IsOutcome (linked ms given) r
-by_text ms given ps r p h = subst (λ (x : Result (List Places) LinkFault). IsOutcome x r) (ap (by_parts ms) (sym p)) h
+pub by_text : (ms : List Module) (given : List ℕ) (ps : List Part) (r : Result (List Places) LinkFault) → 0 < length ms → parsed_parts given ≡ Ok ps → IsOutcome (by_parts (typed_modules ms) (Ok ps)) r
+    → IsOutcome (linked (typed_modules ms) given) r
+by_text ms given ps r s p h = subst (λ (x : Result (List Places) LinkFault). IsOutcome x r) (ap (by_parts (typed_modules ms)) (sym p) ∙ sym (some_linked ms given s)) h
 
 -- a module's placement that has too few entries or too many
 unless_none : (fs : List LinkFault) (r : Result (List Places) LinkFault) → slice_get fs 0 ≡ None → unless_far fs r ≡ r
@@ -61,6 +71,8 @@ is_outcome : (r : Result (List Places) LinkFault) (f : LinkFault) → r ≡ Err 
 is_outcome r fault.Memory h = tt
 is_outcome r fault.Read h = h
 is_outcome r (fault.Refused j why at) h = h
+is_outcome r (fault.NoText at) h = h
+is_outcome r fault.NoModules h = h
 is_outcome r (fault.Line n) h = h
 is_outcome r (fault.External f) h = h
 is_outcome r (fault.Reach j f) h = h

@@ -12,7 +12,7 @@ use Rattle.omf_check.specs.declared.profile.Profile.{Profile}
 use Rattle.omf_check.proofs.AcceptLaws.{accepted_once, never_both}
 use Rattle.omf_check.proofs.UniqueLaws.{refused_once}
 use Rattle.omf_linking.specs.Laws.{InputsAreReadOneWay}
-use Rattle.omf_linking.specs.Reading.{BeginsWith, IsFront, IsRefusedBehind, begins_module}
+use Rattle.omf_linking.specs.Reading.{BeginsWith, IsFront, IsNoTextBehind, IsRefusedBehind, begins_module, is_text, unpadded}
 use Rattle.omf_linking.specs.declared.fault.LinkFault.TheVariants as fault
 
 -- a module begins with a header's type
@@ -46,8 +46,8 @@ module _ (p : Profile) where
   both_end input (m ∷ ms) [] r s h i e f = absurd (stops input m h.0 (ap begins_module i ∙ f))
   both_end input (m ∷ ms) (n ∷ ns) r s h i e f =
       let one = one_module input m n h.0 i.0 in
-      let left : IsFront p h.0.1.0.rest ns s = subst (λ (xs : List ℕ). IsFront p xs ns s) (sym one.1) i.1 in
-      let more = both_end h.0.1.0.rest ms ns r s h.1 left e f in
+      let left : IsFront p (unpadded h.0.1.0.rest) ns s = subst (λ (xs : List ℕ). IsFront p (unpadded xs) ns s) (sym one.1) i.1 in
+      let more = both_end (unpadded h.0.1.0.rest) ms ns r s h.1 left e f in
       (ap₂ (λ (x : Module) (xs : List Module). x ∷ xs) one.0 more.0, more.1)
 
   -- none is both read to its end and refused
@@ -58,8 +58,8 @@ module _ (p : Profile) where
   one_ends input (m ∷ ms) [] r s why at h e i b f = never input m why at h.0 (subst (λ (xs : List ℕ). IsRefused p profile_limits xs why at) (sym i) f)
   one_ends input (m ∷ ms) (n ∷ ns) r s why at h e i b f =
       let one = one_module input m n h.0 i.0 in
-      let left : IsFront p h.0.1.0.rest ns s = subst (λ (xs : List ℕ). IsFront p xs ns s) (sym one.1) i.1 in
-      one_ends h.0.1.0.rest ms ns r s why at h.1 e left b f
+      let left : IsFront p (unpadded h.0.1.0.rest) ns s = subst (λ (xs : List ℕ). IsFront p (unpadded xs) ns s) (sym one.1) i.1 in
+      one_ends (unpadded h.0.1.0.rest) ms ns r s why at h.1 e left b f
 
   -- a first module is expected in any case
   begun_ends : (input : List ℕ) (ms ns : List Module) (r s : List ℕ) (why : Reason) (at : Place) → IsFront p input ms r → begins_module r ≡ false → 0 < length ms → IsFront p input ns s
@@ -78,8 +78,8 @@ module _ (p : Profile) where
   both_refused input (m ∷ ms) [] r s why other at there h f i g = absurd (never input m other there h.0 (subst (λ (xs : List ℕ). IsRefused p profile_limits xs other there) (sym i) g))
   both_refused input (m ∷ ms) (n ∷ ns) r s why other at there h f i g =
       let one = one_module input m n h.0 i.0 in
-      let left : IsFront p h.0.1.0.rest ns s = subst (λ (xs : List ℕ). IsFront p xs ns s) (sym one.1) i.1 in
-      let more = both_refused h.0.1.0.rest ms ns r s why other at there h.1 f left g in
+      let left : IsFront p (unpadded h.0.1.0.rest) ns s = subst (λ (xs : List ℕ). IsFront p (unpadded xs) ns s) (sym one.1) i.1 in
+      let more = both_refused (unpadded h.0.1.0.rest) ms ns r s why other at there h.1 f left g in
       (ap suc more.0, more.1)
 
   refused_so : (input : List ℕ) (j k : ℕ) (why other : Reason) (at there : Place) → IsRefusedBehind p input j why at → IsRefusedBehind p input k other there
@@ -87,6 +87,22 @@ module _ (p : Profile) where
   refused_so input j k why other at there a b =
       let same = both_refused input a.modules b.modules a.rest b.rest why other at there a.front a.refused b.front b.refused in
       (sym a.counted ∙ same.0 ∙ b.counted, refused_once p profile_limits a.rest why other at there a.refused (subst (λ (xs : List ℕ). IsRefused p profile_limits xs other there) (sym same.1) b.refused))
+
+  -- none is both read to its end and no text
+  text_ends : (input : List ℕ) (ms : List Module) (r : List ℕ) (at : ℕ) → IsFront p input ms r → begins_module r ≡ false → is_text r ≡ true → IsNoTextBehind p input at → ⊥
+  text_ends input ms r at h e t n =
+      let same = both_end input ms n.modules r n.rest h n.front e n.ended in
+      let x : true ≡ false = sym t ∙ ap is_text same.1 ∙ n.strange in
+      absurd cc
+
+  strange_once : (input : List ℕ) (at there : ℕ) → IsNoTextBehind p input at → IsNoTextBehind p input there → at ≡ there
+  strange_once input at there a b =
+      let same = both_end input a.modules b.modules a.rest b.rest a.front b.front a.ended b.ended in
+      let long = ap length same.1 in
+      omega (arith, long, a.counted, b.counted)
+
+  refused_ends : (input : List ℕ) (k at : ℕ) (why : Reason) (place : Place) → IsNoTextBehind p input at → IsRefusedBehind p input k why place → ⊥
+  refused_ends input k at why place n r = begun_ends input n.modules r.modules n.rest r.rest why place n.front n.ended n.some r.front r.begun r.refused
 
 pub one_reading : InputsAreReadOneWay
 one_reading p input (Ok a) (Ok b) s t h i =
@@ -97,8 +113,14 @@ one_reading p input (Err (fault.Refused k why at)) (Ok b) s t h i = absurd (begu
 one_reading p input (Err (fault.Refused j why at)) (Err (fault.Refused k other there)) s t h i =
     let same = refused_so p input j k why other at there h i in
     ap₂ (λ (n : ℕ) (f : Reason × Place). Err (fault.Refused n f.0 f.1)) same.0 (ap₂ (λ (w : Reason) (q : Place). (w, q)) same.1.0 same.1.1)
+one_reading p input (Ok a) (Err (fault.NoText at)) s t h i = absurd (text_ends p input a.0 a.1 at h.0 h.1 h.3 i)
+one_reading p input (Err (fault.NoText at)) (Ok b) s t h i = absurd (text_ends p input b.0 b.1 at i.0 i.1 i.3 h)
+one_reading p input (Err (fault.NoText at)) (Err (fault.NoText there)) s t h i = ap (λ (n : ℕ). Err (fault.NoText n)) (strange_once p input at there h i)
+one_reading p input (Err (fault.Refused k why place)) (Err (fault.NoText at)) s t h i = absurd (refused_ends p input k at why place i h)
+one_reading p input (Err (fault.NoText at)) (Err (fault.Refused k why place)) s t h i = absurd (refused_ends p input k at why place h i)
 one_reading p input (Ok a) (Err fault.Memory) s t h i = absurd cc
 one_reading p input (Ok a) (Err fault.Read) s t h i = absurd i
+one_reading p input (Ok a) (Err fault.NoModules) s t h i = absurd i
 one_reading p input (Ok a) (Err (fault.Line n)) s t h i = absurd i
 one_reading p input (Ok a) (Err (fault.External f)) s t h i = absurd i
 one_reading p input (Ok a) (Err (fault.Reach l f)) s t h i = absurd i
@@ -106,13 +128,23 @@ one_reading p input (Ok a) (Err (fault.Starts l k)) s t h i = absurd i
 one_reading p input (Ok a) (Err (fault.Space f)) s t h i = absurd i
 one_reading p input (Err (fault.Refused j why at)) (Err fault.Memory) s t h i = absurd cc
 one_reading p input (Err (fault.Refused j why at)) (Err fault.Read) s t h i = absurd i
+one_reading p input (Err (fault.Refused j why at)) (Err fault.NoModules) s t h i = absurd i
 one_reading p input (Err (fault.Refused j why at)) (Err (fault.Line n)) s t h i = absurd i
 one_reading p input (Err (fault.Refused j why at)) (Err (fault.External f)) s t h i = absurd i
 one_reading p input (Err (fault.Refused j why at)) (Err (fault.Reach l f)) s t h i = absurd i
 one_reading p input (Err (fault.Refused j why at)) (Err (fault.Starts l k)) s t h i = absurd i
 one_reading p input (Err (fault.Refused j why at)) (Err (fault.Space f)) s t h i = absurd i
+one_reading p input (Err (fault.NoText at)) (Err fault.Memory) s t h i = absurd cc
+one_reading p input (Err (fault.NoText at)) (Err fault.Read) s t h i = absurd i
+one_reading p input (Err (fault.NoText at)) (Err fault.NoModules) s t h i = absurd i
+one_reading p input (Err (fault.NoText at)) (Err (fault.Line n)) s t h i = absurd i
+one_reading p input (Err (fault.NoText at)) (Err (fault.External f)) s t h i = absurd i
+one_reading p input (Err (fault.NoText at)) (Err (fault.Reach l f)) s t h i = absurd i
+one_reading p input (Err (fault.NoText at)) (Err (fault.Starts l k)) s t h i = absurd i
+one_reading p input (Err (fault.NoText at)) (Err (fault.Space f)) s t h i = absurd i
 one_reading p input (Err fault.Memory) other s t h i = absurd cc
 one_reading p input (Err fault.Read) other s t h i = absurd h
+one_reading p input (Err fault.NoModules) other s t h i = absurd h
 one_reading p input (Err (fault.Line n)) other s t h i = absurd h
 one_reading p input (Err (fault.External f)) other s t h i = absurd h
 one_reading p input (Err (fault.Reach l f)) other s t h i = absurd h

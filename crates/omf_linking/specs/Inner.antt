@@ -3,3 +3,4 @@ pub mod Laying
 pub mod Runs
 pub mod Sweeping
 pub mod Searching
+pub mod Gathering

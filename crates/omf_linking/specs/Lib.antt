@@ -3,6 +3,8 @@ pub mod Parts
 pub mod Faults
 pub mod Placing
 pub mod Reading
+pub mod File
+pub mod Files
 pub mod Laws
 pub mod Relocated
 pub mod Segments

@@ -89,8 +89,10 @@ abbrev pub by_parts : List (List Rec) → Result (List Part) ℕ → Result (Lis
 by_parts ms (Ok ps) = found ms ps (places_of ms ps)
 by_parts ms (Err n) = Err (fault.Line n)
 
+-- No modules are a fault of their own, whatever the text is.
 abbrev pub linked : List (List Rec) → List ℕ → Result (List Places) LinkFault
-linked ms text = by_parts ms (parsed_parts text)
+linked [] text = Err fault.NoModules
+linked (m ∷ ms) text = by_parts (m ∷ ms) (parsed_parts text)
 
 -- A result is exactly the defined value or fault. Memory may run out at any time.
 abbrev pub IsOutcome : {A : Type 0} → Result A LinkFault → Result A LinkFault → Type 0

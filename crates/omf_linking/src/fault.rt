@@ -29,6 +29,12 @@ pub enum LinkFault {
         /// The place of the fault; its offset counts from the start of the module.
         place: Place,
     },
+    /// What follows the modules and their padding, from this offset of the input on, is neither a module nor a text.
+    #[error("what follows the modules is no module and no text")]
+    NoText(u64),
+    /// There is no module to link.
+    #[error("there is no module")]
+    NoModules,
     /// This line of the text, counted from 1, is not an entry; or it is an `M` without a further module, gives an external that its
     /// module does not have, or is a `G real` of a group whose frame is not found.
     #[error("a line of the text is not understood")]
@@ -55,6 +61,16 @@ pub enum LinkFault {
     /// The segments do not fit into one memory.
     #[error("the segments do not fit into one memory")]
     Space(MemoryFault),
+}
+
+/// Why a file does not hold modules and padding alone.
+#[derive(Clone, Copy, Debug, PartialEq, Eq)]
+pub struct FileFault {
+    /// The file, from 0.
+    pub file: usize,
+    /// `Refused`, with the number of the module in the file; `NoText`, with the offset in the file of what is neither a module nor
+    /// padding; or `Memory`.
+    pub fault: LinkFault,
 }
 
 impl From<AllocError> for LinkFault {

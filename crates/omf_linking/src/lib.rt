@@ -2,8 +2,10 @@
 //! there, and the memory that they form together.
 #![tactic(auto)]
 
+mod after;
 mod entry;
 mod fault;
+mod files;
 pub mod laws;
 mod memory;
 mod parts;
@@ -15,7 +17,8 @@ mod search;
 mod segments;
 pub mod space;
 
-pub use fault::LinkFault;
+pub use fault::{FileFault, LinkFault};
+pub use files::{InputFile, modules_of_files};
 pub use memory::memory_image;
 pub use parts::{Part, parse_parts};
 pub use placing::{link, link_parts};

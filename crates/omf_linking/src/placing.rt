@@ -191,15 +191,18 @@ pub fn link_parts(
 ///
 /// # Errors
 ///
-/// The first of: `Line` for a line that is not understood or does not fit its module; `Reach`, with `Missing` or `Extra`, for the first module
-/// without exactly its entries of segments and groups; `External` for an external without a place. `Memory` if memory runs out, only if every
-/// line is understood.
+/// The first of: `NoModules` if there is none; `Line` for a line that is not understood or does not fit its module; `Reach`, with `Missing` or
+/// `Extra`, for the first module without exactly its entries of segments and groups; `External` for an external without a place. `Memory` if
+/// memory runs out, only if every line is understood.
 pub fn link(alloc: Global, modules: &[Checked], text: &[u8]) -> Result<Vec<Placement>, LinkFault>
     requires { length modules.now < 2 ^ 32 }
     ensures placements { IsOutcome (linked (typed_modules modules.now) text.now) (map_ok (λ v. v.items) result) }
     ensures lines { IfErr result (λ fault. fault ≡ Memory → IsOk (parsed_parts text.now)) }
     ensures each { IfOk result (λ v. length v.items ≡ length modules.now) }
 {
+    if modules.is_empty() {
+        return Err(LinkFault::NoModules);
+    }
     let parts = parse_parts(alloc, text)?;
     link_parts(alloc, modules, parts)
 }

@@ -3,8 +3,9 @@
 ghost use Rattle.std.specs.Prelude.{◌≡◌, ◌+◌, ◌*◌, ◌<◌, ◌≤◌, ◌^◌, IfErr, IfOk, length};
 ghost use Rattle.std.specs.Io.KnownBytes.{Consumes, IsAtEnd};
 ghost use Rattle.omf_records.specs.Inner.Seen.{map_ok};
-ghost use Rattle.omf_linking.specs.Reading.{AreModules, IsModuleAt, IsPartRead, IsReadCause, begins_module};
+ghost use Rattle.omf_linking.specs.Reading.{AreModules, IsModuleAt, IsPartRead, IsReadCause};
 
+use crate::after::{begins_module, is_text, unpadded};
 use crate::fault::LinkFault;
 use omf_check::{CheckFault, Checked, Profile, check};
 use omf_frame::{Bytes, Source, pull_piece};
@@ -69,23 +70,14 @@ fn module_at(
     }
 }
 
-/// Returns whether bytes begin with the type of a THEADR or LHEADR, and so with another module.
-fn begins_module(bytes: &[u8]) -> bool
-    ensures { result ≡ begins_module bytes.now }
-{
-    match bytes {
-        [kind, ..] => matches!(*kind, 0x80 | 0x82),
-        [] => false,
-    }
-}
-
 /// Reads the modules that an input begins with, one after another, and returns them with the text after them. There must be at least one
-/// module; more follow as long as the next byte is 80H or 82H.
+/// module. After each module padding is dropped: bytes of one value, 00H or 1AH. Another module follows if the next byte is then 80H or 82H;
+/// else all that is left is the text, possibly none.
 ///
 /// # Errors
 ///
-/// `Refused` for the first module that is not well formed. `Memory` if memory runs out, or if another module follows 4,294,967,295
-/// modules.
+/// `Refused` for the first module that is not well formed. `NoText` if what is left after the modules and their padding has a control
+/// character and so is no text. `Memory` if memory runs out, or if another module follows 4,294,967,295 modules.
 pub fn modules_in(
     alloc: Global,
     profile: Profile,
@@ -93,14 +85,18 @@ pub fn modules_in(
 ) -> Result<(Vec<Checked>, &[u8]), LinkFault>
     ensures modules { AreModules profile input.now (map_ok (λ r. (r.0.items, r.1.now)) result) }
     ensures few { IfOk result (λ r. length r.0.items < 2 ^ 32) }
+    ensures within { IfOk result (λ r. length r.1.now ≤ length input.now) }
 {
     let mut modules = Vec::new(alloc);
     let mut rest = input;
     for number in 0..u32::MAX {
         let module = module_at(alloc, profile, number, rest)?;
-        rest = rest.split_at(module.bytes().len()).1;
+        rest = unpadded(rest.split_at(module.bytes().len()).1);
         modules.push(module)?;
         if !begins_module(rest) {
+            if !is_text(rest) {
+                return Err(LinkFault::NoText((input.len() - rest.len()) as u64));
+            }
             return Ok((modules, rest));
         }
     }

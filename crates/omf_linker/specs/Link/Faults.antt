@@ -67,11 +67,17 @@ space_words space.Memory = run_words run.Memory
 space_words (space.Beyond o) = codes "beyond" ∷ owner_words o
 space_words (space.Overlap a s t) = codes "overlap" ∷ hex 8 a ∷ owner_words s ++ owner_words t
 
+-- What follows the modules and is no text: its offset in the input.
+abbrev pub input_at : ℕ → List ℕ
+input_at at = codes "input at " ++ decimal at
+
 -- The line of a link fault. Refusals, lines and placements that do not reach have the words of `omf`; refusals and reach faults follow the number of their module.
 abbrev pub link_words : LinkFault → List ℕ → List (List ℕ)
 link_words link.Memory name = run_words run.Memory
 link_words link.Read name = run_words run.Read
 link_words (link.Refused j why at) name = module_words j ++ run_words (run.Refused why at)
+link_words (link.NoText at) name = (input_at at ++ codes ": no module and no text") ∷ []
+link_words link.NoModules name = codes "no modules" ∷ []
 link_words (link.Line n) name = run_words (run.Line n)
 link_words (link.External f) name = derive_words f name
 link_words (link.Reach j f) name = module_words j ++ run_words (run.Reach f)
@@ -108,4 +114,4 @@ report fault.Write = record { status = 3; text = [] }
 
 -- The usage.
 abbrev pub usage : List ℕ
-usage = codes "usage: omf-link image | map | draft [--base ADDRESS] [--real | --flat SELECTOR]" ++ 10 ∷ []
+usage = codes "usage: omf-link image | map | draft [--base ADDRESS] [--real | --flat SELECTOR] [-t TEXT] [FILE ..]" ++ 10 ∷ []

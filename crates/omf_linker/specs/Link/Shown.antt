@@ -33,12 +33,12 @@ pub record AreShownIn (t : Task) (input : List ℕ) (r : Result (List ℕ) Image
   pub spelled : AreModules any input (Ok (modules, text))
   pub shown : AreShown t (typed_modules modules) text r
 
--- A module of the input is refused, and this is the fault of the first. It has no name.
+-- A module of the input is refused, and this is the fault of the first; or what follows the modules is no text. It has no name.
 abbrev pub IsNoModule : List ℕ → Result (List ℕ) ImageFault → Type 0
 IsNoModule input (Ok shown) = ⊥
 IsNoModule input (Err (fault.Link f name)) = AreModules any input (Err f) × (name.items ≡ [])
 IsNoModule input (Err _) = ⊥
 
--- The result of a task for an input: the first refused module, or the result for its modules and its text.
+-- The result of a task for an input: the first refused module, or what is no text; or the result for its modules and its text.
 abbrev pub IsShownOf : Task → List ℕ → Result (List ℕ) ImageFault → Type 0
 IsShownOf t input r = IsNoModule input r ⊎ AreShownIn t input r

@@ -34,6 +34,8 @@ impl Fault for ImageFault {
                 LinkFault::Memory => 3,
                 LinkFault::Read => 3,
                 LinkFault::Refused { .. } => 1,
+                LinkFault::NoText(_) => 1,
+                LinkFault::NoModules => 1,
                 LinkFault::Line(_) => 1,
                 LinkFault::External(_) => 1,
                 LinkFault::Reach { .. } => 1,

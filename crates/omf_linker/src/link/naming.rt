@@ -41,6 +41,8 @@ fn name_of(modules: &[Checked], fault: LinkFault) -> &[u8]
         LinkFault::Memory => &[],
         LinkFault::Read => &[],
         LinkFault::Refused { .. } => &[],
+        LinkFault::NoText(_) => &[],
+        LinkFault::NoModules => &[],
         LinkFault::Line(_) => &[],
         LinkFault::Reach { .. } => &[],
         LinkFault::Starts { .. } => &[],

@@ -6,8 +6,8 @@ ghost use Rattle.omf_cmd.specs.Printed.{line, spaced};
 ghost use Rattle.omf_cmd.specs.Runs.{IsWritten, PrintsOr};
 ghost use Rattle.omf_cmd.specs.declared.fault.RunFault.TheVariants.{Write};
 ghost use Rattle.omf_placement.specs.Quoted.{hex};
-ghost use Rattle.omf_linker.specs.Link.Faults.{derive_words, external_words, link_words, module_words, owner_words, space_words};
-ghost use Rattle.omf_linking.specs.declared.fault.LinkFault.TheVariants.{Starts};
+ghost use Rattle.omf_linker.specs.Link.Faults.{derive_words, external_words, input_at, link_words, module_words, owner_words, space_words};
+ghost use Rattle.omf_linking.specs.declared.fault.LinkFault.TheVariants.{NoText, Starts};
 ghost use Rattle.omf_linking.specs.declared.space.fault.MemoryFault.TheVariants.{Beyond, Overlap};
 
 use itoa::Buffer;
@@ -87,6 +87,24 @@ fn print_derive<K: Sink>(writer: &mut K, fault: DeriveFault, name: &[u8])
         DeriveFault::TooHigh { module, external } => {
             print_external(writer, module, external, "TooHigh", name);
         }
+    }
+}
+
+/// Writes the front of the line of what is no text: its offset in the input.
+fn write_offset<K: Sink>(writer: &mut K, at: u64) -> Result<(), RunFault>
+    ensures { PrintsOr Write (K.seen writer.old) (K.seen writer.new) (Ok (input_at at)) result }
+{
+    let mut number = Buffer::new();
+    print_all(writer, b"input at ", RunFault::Write)?;
+    print_all(writer, number.format(at).as_bytes(), RunFault::Write)
+}
+
+/// Prints the line of what follows the modules and is no text.
+fn print_no_text<K: Sink>(writer: &mut K, at: u64)
+    ensures { IsWritten (K.seen writer.old) (K.seen writer.new) (line (link_words (NoText at) [])) }
+{
+    if let Ok(()) = write_offset(writer, at) {
+        print_words(writer, &[": no module and no text"]);
     }
 }
 
@@ -176,6 +194,8 @@ pub fn print_link<K: Sink>(writer: &mut K, fault: LinkFault, name: &[u8])
             reason,
             place,
         } => print_in_module(writer, module, &RunFault::Refused { reason, place }),
+        LinkFault::NoText(at) => print_no_text(writer, at),
+        LinkFault::NoModules => print_words(writer, &["no modules"]),
         LinkFault::Line(number) => RunFault::Line(number).print(writer),
         LinkFault::External(fault) => print_derive(writer, fault, name),
         LinkFault::Reach { module, fault } => {

@@ -43,6 +43,6 @@ impl Program for Link {
     }
 
     fn usage() -> &'static [u8] {
-        b"usage: omf-link image | map | draft [--base ADDRESS] [--real | --flat SELECTOR]\n"
+        b"usage: omf-link image | map | draft [--base ADDRESS] [--real | --flat SELECTOR] [-t TEXT] [FILE ..]\n"
     }
 }

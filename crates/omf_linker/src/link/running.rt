@@ -56,7 +56,7 @@ fn draft_shown(alloc: Global, modules: &[Checked], options: Options) -> Result<V
 }
 
 /// The text that a task prints for modules and a link text.
-fn modules_shown(
+pub(crate) fn modules_shown(
     alloc: Global,
     task: Task,
     modules: &[Checked],
@@ -77,8 +77,8 @@ fn modules_shown(
 ///
 /// # Errors
 ///
-/// `Link` with `Refused` for the first module that is not well formed; otherwise `Link` with the fault of `modules_text` or `modules_map`, and
-/// the name of its external if it is about one. `NoRoom` if a segment of the draft has no room. `Link` with `Memory` if memory runs out.
+/// `Link` with `Refused` for the first module that is not well formed, or with `NoText` if what follows the modules and their padding is no
+/// text; otherwise `Link` with the fault of `modules_text` or `modules_map`, and the name of its external if it is about one. `NoRoom` if a segment of the draft has no room. `Link` with `Memory` if memory runs out.
 pub fn shown_text(alloc: Global, task: Task, input: &[u8]) -> Result<Vec<u8>, ImageFault>
     ensures { IsShownOf task input.now (map_ok (λ shown. shown.items) result) }
 {
@@ -111,8 +111,8 @@ fn read_and_shown<S: Source>(
 ///
 /// # Errors
 ///
-/// Those of `shown_text`: `Link` with `Refused` for the first module that is not well formed; otherwise `Link` with the fault of `modules_text`
-/// or `modules_map`, and the name of its external if it is about one; `NoRoom` if a segment of a draft has no room. `Link` with `Read` if the
+/// Those of `shown_text`: `Link` with `Refused` for the first module that is not well formed, or with `NoText` if what follows the modules and
+/// their padding is no text; otherwise `Link` with the fault of `modules_text` or `modules_map`, and the name of its external if it is about one; `NoRoom` if a segment of a draft has no room. `Link` with `Read` if the
 /// reader fails, `Write` if the writer fails, `Link` with `Memory` if memory runs out.
 pub fn run_task<S: Source, K: Sink>(
     alloc: Global,

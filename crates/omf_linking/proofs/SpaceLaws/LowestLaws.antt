@@ -1,5 +1,5 @@
 -- The first overlap, by the addresses at which bytes begin: before an address at which none begins there is the same or more.
-use Rattle.std.proofs.Common.{◌≡◌, ◌⊎◌, inl, inr, ℕ, zero, suc, ◌+◌, ◌-◌, ◌<◌, ◌≤◌, List, [], ◌∷◌, ◌++◌, length, take, get_or, refl, sym, ap, subst, ◌∙◌, arith, min, Bool, true, false, cond, Option, Some, None}
+use Rattle.std.proofs.Common.{◌≡◌, ◌⊎◌, inl, inr, ℕ, zero, suc, ◌+◌, ◌-◌, ◌<◌, ◌≤◌, List, [], ◌∷◌, ◌++◌, length, take, get_or, refl, sym, ap, subst, ◌∙◌, arith, min, Bool, false, cond, Option, Some, None}
 use Rattle.std.proofs.lemmas.Bool.Decides.{leb_tells}
 use Rattle.std.specs.Prelude.{IfSome, IsSome, IsNone, is_some, filter_map}
 use Rattle.std.specs.List.{cons_option}
@@ -8,8 +8,8 @@ use Rattle.std.proofs.lemmas.List.{map-append, take_all}
 use Rattle.omf_linking.specs.declared.space.stretch.Stretch.{Stretch}
 use Rattle.omf_linking.specs.Space.Memory.{Piece, piece, pieces, Share, share_of, shares, overlap, IsFirstOverlap}
 use Rattle.omf_linking.specs.Inner.Sweeping.{interval}
-use Rattle.omf_linking.specs.Inner.Searching.{IsLowest, lesser, lowest_with}
-use Rattle.omf_linking.proofs.SpaceLaws.SweepLaws.{Clash, NoClash, within, before, after, inside}
+use Rattle.omf_linking.specs.Inner.Searching.{IsLowest, lowest_with}
+use Rattle.omf_linking.proofs.SpaceLaws.SweepLaws.{NoClash, within, before, after, inside}
 use Rattle.omf_linking.proofs.SpaceLaws.ShareLaws.{owns, IsAt, at, no_overlap, some_overlap}
 
 not_both : {A : Type 0} (o : Option A) → IsSome o → IsNone o → ⊥

@@ -1,8 +1,6 @@
 -- What is laid in memory, and which two segments overlap.
 use Rattle.std.proofs.Common.{◌≡◌, ℕ, ◌+◌, ◌-◌, ◌<◌, ◌≤◌, List, [], ◌∷◌, ◌++◌, length, take, drop, get_or, add-one, map, refl, sym, ap, subst, ◌∙◌, Bool, true, false, ◌&&◌, arith, nat_le, Option, Some, None, if◌then◌else◌, append_assoc}
-use Rattle.omf_linking.specs.declared.space.fault.MemoryFault.{MemoryFault}
-use Rattle.omf_linking.specs.declared.space.fault.MemoryFault.TheVariants as memory
-use Rattle.std.specs.Prelude.{◌==◌, All, Ok, Err, Result, filter_map, option_map, slice_get, is_some, replicate}
+use Rattle.std.specs.Prelude.{◌==◌, All, Ok, filter_map, option_map, slice_get, is_some, replicate}
 use Rattle.std.specs.Option.{option_or}
 use Rattle.std.specs.List.{last_or, cons_option}
 use Rattle.std.proofs.lemmas.Bool.{eqb-true}

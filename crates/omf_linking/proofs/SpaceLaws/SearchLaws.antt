@@ -1,12 +1,11 @@
 -- The search for a fault of segments without memory, segment by segment and run by run.
-use Rattle.std.proofs.Common.{◌≡◌, ◌⊎◌, inl, inr, ℕ, suc, ◌+◌, ◌-◌, ◌^◌, ◌<◌, ◌≤◌, List, [], ◌∷◌, ◌++◌, length, take, drop, get_or, add-one, drop-cons, refl, sym, ap, subst, ◌∙◌, arith, Bool, true, false, ◌&&◌, nat_le, Option, Some, None, if◌then◌else◌}
+use Rattle.std.proofs.Common.{◌≡◌, ◌⊎◌, inl, inr, ℕ, suc, ◌+◌, ◌-◌, ◌<◌, ◌≤◌, List, [], ◌∷◌, ◌++◌, length, take, drop, drop-cons, refl, sym, ap, subst, ◌∙◌, arith, Bool, true, false, ◌&&◌, nat_le, Option, Some, None, if◌then◌else◌}
 use Rattle.std.specs.Prelude.{All, Result, Ok, Err, IfSome, IsSome, IsNone, is_some, is_err, option_map, slice_get}
 use Rattle.std.specs.Option.{option_or}
 use Rattle.std.specs.List.{cons_option}
 use Rattle.std.proofs.lemmas.Bool.Decides.{leb_tells}
 use Rattle.std.proofs.lemmas.Grind.{take_at_read}
 use Rattle.std.proofs.lemmas.List.{take_all, take-append-drop}
-use Rattle.std.proofs.lemmas.List.Elements.{All-nil}
 use Rattle.std.proofs.lemmas.Option.{slice_get_within, get_or_from_slice_get}
 use Rattle.omf_image.specs.declared.run.Run.{Run}
 use Rattle.omf_image.specs.Overlay.{AreBytesOver}
@@ -21,7 +20,7 @@ use Rattle.omf_linking.specs.Inner.Laying.{overlap_with, excluded}
 use Rattle.omf_linking.specs.Inner.Runs.{IsStretchAt, run_piece}
 use Rattle.omf_linking.specs.Inner.Searching.{IsLowest, begins_in, lesser, lowest_with}
 use Rattle.omf_linking.proofs.SpaceLaws.CoverLaws.{AreAll}
-use Rattle.omf_linking.proofs.SpaceLaws.LowestLaws.{AnyBegins, Follows, begins-more, lowest_is_first, taken}
+use Rattle.omf_linking.proofs.SpaceLaws.LowestLaws.{AnyBegins, Follows, begins-more, lowest_is_first}
 use Rattle.omf_linking.proofs.SpaceLaws.MemoryLaws.{one_known}
 use Rattle.omf_linking.proofs.SpaceLaws.RunSteps.{SoFar, none_is, none_some, share, in_from, in_below, mapped, one_run, last_beyond}
 use Rattle.omf_linking.proofs.SpaceLaws.SegmentLaws.{all_more}

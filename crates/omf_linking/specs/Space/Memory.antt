@@ -1,5 +1,5 @@
 -- The memory of several segments (this profile's rule).
-use Rattle.std.specs.Prelude.{◌≡◌, ⊤, Result, Ok, Err, ◌+◌, ◌-◌, ◌<◌, ◌≤◌, ◌^◌, ℕ, List, [], ◌∷◌, length, map, filter_map, find, Bool, not, ◌&&◌, nat_le, Option, Some, None, IsSome, IsNone, option_map, slice_get, if◌then◌else◌}
+use Rattle.std.specs.Prelude.{◌≡◌, Result, Ok, Err, ◌+◌, ◌-◌, ◌<◌, ◌≤◌, ◌^◌, ℕ, List, [], ◌∷◌, length, map, filter_map, find, Bool, not, ◌&&◌, nat_le, Option, Some, None, IsSome, IsNone, option_map, slice_get, if◌then◌else◌}
 use Rattle.omf_frame.specs.Bytes.{last}
 use Rattle.omf_image.specs.Overlay.{Laid, byte_at}
 use Rattle.omf_linking.specs.declared.space.fault.MemoryFault.{MemoryFault}

@@ -1,5 +1,5 @@
 -- The memory of segments at addresses (this profile's rule).
-use Rattle.std.specs.Prelude.{◌≡◌, ⊤, Result, Ok, Err, ℕ, ◌+◌, ◌-◌, ◌<◌, ◌≤◌, ◌^◌, List, ◌∷◌, ◌++◌, All, map, filter_map, Bool, nat_le, Option, Some, None, IsSome, IsNone, option_map, if◌then◌else◌}
+use Rattle.std.specs.Prelude.{◌≡◌, Result, Ok, Err, ℕ, ◌+◌, ◌-◌, ◌<◌, ◌≤◌, ◌^◌, List, ◌∷◌, ◌++◌, All, map, filter_map, Bool, nat_le, Option, Some, None, IsSome, IsNone, option_map, if◌then◌else◌}
 use Rattle.omf_image.specs.Overlay.{Laid, byte_at}
 use Rattle.omf_linking.specs.declared.space.fault.MemoryFault.{MemoryFault}
 use Rattle.omf_linking.specs.declared.space.fault.MemoryFault.TheVariants as fault

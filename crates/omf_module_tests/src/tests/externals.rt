@@ -41,7 +41,7 @@ static CASES: [Case; 6] = [
         name: "no modules",
         modules: &[],
         text: "",
-        answer: Some(Err(LinkFault::Line(1))),
+        answer: Some(Err(LinkFault::NoModules)),
     },
     Case {
         name: "one public",

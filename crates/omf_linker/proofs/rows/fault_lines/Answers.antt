@@ -14,6 +14,10 @@ pub returns-clause-refused : goal.returns-clause-refused
 unfolding digits
 returns-clause-refused c = refl
 
+pub returns-clause-no_text : goal.returns-clause-no_text
+unfolding digits
+returns-clause-no_text c = refl
+
 pub returns-clause-text : goal.returns-clause-text
 unfolding digits
 returns-clause-text c = refl

@@ -1,4 +1,4 @@
-use Rattle.std.proofs.Common.{◌≡◌, ◌+◌, ◌∷◌, ◌∙◌, ap, drop, sym}
+use Rattle.std.proofs.Common.{◌≡◌, ◌+◌, ◌∷◌, ap, drop, sym}
 use Rattle.std.specs.Prelude.{List, slice_get}
 use Rattle.omf_check.specs.Module.{records_in}
 use Rattle.omf_check.specs.WellFormed.{recs}

@@ -1,4 +1,4 @@
-use Rattle.std.proofs.Common.{◌∙◌, sym, subst, length, ◌≤◌, ℕ}
+use Rattle.std.proofs.Common.{subst, ◌≤◌, ℕ}
 use Rattle.std.specs.Prelude.{All, List}
 use Rattle.std.proofs.lemmas.List.{take_all}
 use Rattle.omf_linking.specs.Space.Segments.{SegmentAt, IsWithin, segment_at}

@@ -1,4 +1,4 @@
-use Rattle.std.proofs.Common.{◌≡◌, ◌∙◌, ◌+◌, ◌≤◌, ℕ, sym, ap, subst, take}
+use Rattle.std.proofs.Common.{◌+◌, ◌≤◌, ℕ, sym, subst, take}
 use Rattle.omf_linking.specs.Space.Segments.{segment_at}
 use Rattle.omf_linking.specs.Inner.Searching.{listed}
 use Rattle.omf_linking.proofs.SpaceLaws.SearchLaws.{IsLowestIn, next_in, first_in_all, within_at}

@@ -1,4 +1,4 @@
-use Rattle.std.proofs.Common.{◌≡◌, [], arith, drop, sym, ◌∙◌}
+use Rattle.std.proofs.Common.{[], arith, drop, sym, ◌∙◌}
 use Rattle.omf_image.specs.Inner.Joined.{runs_of}
 use Rattle.omf_linking.specs.Space.Segments.{segment_at}
 use Rattle.omf_linking.proofs.SpaceLaws.CoverLaws.{runs_are_all}

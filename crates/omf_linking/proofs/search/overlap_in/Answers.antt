@@ -1,4 +1,4 @@
-use Rattle.std.proofs.Common.{◌≡◌, [], arith, ap, drop, sym, ◌∙◌}
+use Rattle.std.proofs.Common.{arith, ap, drop, sym, ◌∙◌}
 use Rattle.std.specs.Prelude.{is_err, is_some}
 use Rattle.omf_image.specs.Inner.Joined.{runs_of}
 use Rattle.omf_linking.specs.Space.Segments.{segment_at, segment_shares}

@@ -22,3 +22,9 @@ returns-in-Starts g c = rw c.in-Starts.is c.print_starts.ensures
 
 pub returns-in-Space : goal.returns-in-Space
 returns-in-Space g c = rw c.in-Space.is c.print_space.ensures
+
+pub returns-in-NoText : goal.returns-in-NoText
+returns-in-NoText g c = rw c.in-NoText.is c.print_no_text.ensures
+
+pub returns-in-NoModules : goal.returns-in-NoModules
+returns-in-NoModules g c = rw c.in-NoModules.is c.print_words.ensures

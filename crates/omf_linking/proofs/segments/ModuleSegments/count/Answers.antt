@@ -1,4 +1,4 @@
-use Rattle.std.proofs.Common.{◌≡◌, ◌∙◌, arith, ap, length, sym}
+use Rattle.std.proofs.Common.{◌∙◌, arith, ap, length, sym}
 use Rattle.std.specs.Prelude.{List}
 use Rattle.omf_check.specs.Tables.{segments}
 use Rattle.omf_derive.specs.Derive.{placed_modules}

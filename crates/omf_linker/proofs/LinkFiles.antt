@@ -1,0 +1,52 @@
+-- A run of `omf-link` over files, from its steps.
+use Rattle.std.proofs.Common.{◌≡◌, ℕ, List, [], refl, sym, ap, subst, ◌∙◌, inl, inr}
+use Rattle.std.specs.Prelude.{Result, Ok, Err, string_bytes}
+use Rattle.omf_frame.specs.Device.{Device}
+use Rattle.omf_cmd.specs.Printed.{line}
+use Rattle.omf_cmd.specs.Runs.{PrintsOr}
+use Rattle.omf_linking.specs.File.{InputFile}
+use Rattle.omf_check.specs.Module.{Module, typed_modules}
+use Rattle.omf_linking.specs.Files.{AreFiles, IsFirstAtFault}
+use Rattle.omf_linking.specs.declared.fault.LinkFault.{LinkFault}
+use Rattle.omf_linking.specs.declared.fault.LinkFault.TheVariants as link
+use Rattle.omf_linker.specs.Link.Faults.{link_words}
+use Rattle.omf_linker.specs.Link.Files.{AreFilesShown, EndsShown, IsFileNamed, IsShownAs, file_front, file_line}
+use Rattle.omf_linker.specs.Link.Linked.{any}
+use Rattle.omf_linker.specs.declared.link.files_fault.FilesFault.{FilesFault}
+use Rattle.omf_linker.specs.declared.link.files_fault.FilesFault.TheVariants as fault
+use Rattle.omf_linker.specs.declared.link.words.Task.{Task}
+
+-- the first file at fault, by its name
+pub at_file : (t : Task) (files : List InputFile) (text : List ℕ) (k : ℕ) (f : LinkFault) (name : List ℕ) (e : FilesFault) (a : IsFirstAtFault any files (record { file = k; fault = f })) → a.file.name ≡ name
+    → IsFileNamed name f e → AreFilesShown t files text (Err e)
+at_file t files text k f name (fault.File g front) a n i =
+    let named : string_bytes front ≡ file_front a.file.name = i.1 ∙ ap file_front (sym n) in
+    let pair = subst (λ (x : LinkFault). (b : IsFirstAtFault any files (record { file = k; fault = x })) × (string_bytes front ≡ file_front b.file.name)) (sym i.0) (a, named) in
+    (k, pair.0, pair.1)
+at_file t files text k f name (fault.Link e) a n i = inr i
+
+-- the modules of the files have this result
+pub from_modules : (t : Task) (files : List InputFile) (text : List ℕ) (ms : List Module) (r : Result (List ℕ) FilesFault) → AreFiles any files (Ok ms) → IsShownAs t (typed_modules ms) text r → AreFilesShown t files text r
+from_modules t files text ms (Ok shown) h i = (ms, h, i)
+from_modules t files text ms (Err (fault.Link f)) h i = inl (ms, h, i)
+from_modules t files text ms (Err (fault.File f front)) h i = absurd i
+
+-- the text of a result is written, or the writer failed
+pub ends_written : (old new : Device) (text : List ℕ) → PrintsOr {F = Unit {0}} tt old new (Ok text) (Ok tt) → EndsShown old new (Ok text) 0
+ends_written old new text h = inl (refl, h.0, h.1)
+
+pub ends_cut : (old new : Device) (text : List ℕ) (e : Unit {0}) → PrintsOr tt old new (Ok text) (Err e) → EndsShown old new (Ok text) 3
+ends_cut old new text e h = inr (refl, h.1, h.2)
+
+-- the line of any other fault of a file is that of the link fault
+pub rest_of_line : (f : LinkFault) → ((at : ℕ) → f ≡ link.NoText at → ⊥) → line (link_words f []) ≡ file_line f
+rest_of_line link.Memory other = refl
+rest_of_line link.Read other = refl
+rest_of_line (link.Refused j why at) other = refl
+rest_of_line (link.NoText at) other = absurd (other at refl)
+rest_of_line link.NoModules other = refl
+rest_of_line (link.Line n) other = refl
+rest_of_line (link.External f) other = refl
+rest_of_line (link.Reach j f) other = refl
+rest_of_line (link.Starts j k) other = refl
+rest_of_line (link.Space f) other = refl

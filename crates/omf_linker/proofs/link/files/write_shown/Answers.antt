@@ -1,0 +1,8 @@
+use Rattle.omf_linker.proofs.LinkFiles.{ends_cut, ends_written}
+use Rattle.omf_linker.proofs.link.files.write_shown.Goals as goal
+
+pub returns-in-Ok : goal.returns-in-Ok
+returns-in-Ok g c = ends_written (g.K.Sink.seen c.args.writer.now) (g.K.Sink.seen c.print_all.new.writer) c.args.shown.now c.in-Ok.ensures
+
+pub returns-in-Err : goal.returns-in-Err
+returns-in-Err g c = ends_cut (g.K.Sink.seen c.args.writer.now) (g.K.Sink.seen c.print_all.new.writer) c.args.shown.now tt c.in-Err.ensures

@@ -1,0 +1,125 @@
+//! A run of `omf-link` over files, from their bytes to a writer.
+
+ghost use Rattle.std.specs.Prelude.{◌≡◌, ◌<◌, ◌^◌, ℕ, List, Err, IfOk, Ok, length, string_bytes};
+ghost use Rattle.omf_check.specs.Module.{typed_modules};
+ghost use Rattle.omf_records.specs.Inner.Seen.{map_ok};
+ghost use Rattle.omf_linking.specs.Files.{IsFirstAtFault};
+ghost use Rattle.omf_linker.specs.Link.Files.{AreFilesShown, EndsShown, HasRunFiles, IsFileNamed, IsShownAs, file_front};
+ghost use Rattle.omf_linker.specs.Link.Linked.{any};
+ghost use Rattle.omf_linker.specs.declared.link.words.Task.{Task as Asked};
+
+use crate::link::files_fault::FilesFault;
+use crate::link::naming::unnamed;
+use crate::link::running::modules_shown;
+use crate::link::words::Task;
+use omf_check::{Checked, Profile};
+use omf_cmd::{Fault, print_all};
+use omf_frame::Sink;
+use omf_layout::printing::print_quoted;
+use omf_linking::{FileFault, InputFile, LinkFault, modules_of_files};
+use std::alloc::{AllocError, Global};
+
+/// The front of the line of a file's fault: the word `file` and the name in quotes, with `\xHH` for bytes that are not plain.
+pub fn file_front(alloc: Global, name: &[u8]) -> Result<String, AllocError>
+    ensures { IfOk result (λ front. string_bytes front ≡ file_front name.now) }
+{
+    let mut front = String::new(alloc);
+    front.push_str("file ")?;
+    print_quoted(&mut front, name)?;
+    front.push(' ')?;
+    Ok(front)
+}
+
+/// A file's fault with the front of its line. `Memory` if memory runs out for that.
+fn in_file(alloc: Global, file: &InputFile, fault: LinkFault) -> FilesFault
+    ensures { IsFileNamed file.now.name fault result }
+{
+    match file_front(alloc, file.name()) {
+        Ok(front) => FilesFault::File { fault, front },
+        Err(AllocError) => FilesFault::Link(unnamed(alloc, LinkFault::Memory)),
+    }
+}
+
+/// The text that a task prints for modules and a link text.
+fn of_modules(
+    alloc: Global,
+    task: Task,
+    modules: &[Checked],
+    text: &[u8],
+) -> Result<Vec<u8>, FilesFault>
+    requires { length modules.now < 2 ^ 32 }
+    ensures { IsShownAs task (typed_modules modules.now) text.now (map_ok (λ shown. shown.items) result) }
+{
+    match modules_shown(alloc, task, modules, text) {
+        Ok(shown) => Ok(shown),
+        Err(fault) => Err(FilesFault::Link(fault)),
+    }
+}
+
+/// The fault of files that do not hold modules and padding alone: that of the first, with the front of its line.
+fn refused(alloc: Global, files: &[InputFile], fault: FileFault) -> FilesFault
+    ensures { (task : Asked) (text : List ℕ) → IsFirstAtFault any files.now fault → AreFilesShown task files.now text (Err result) }
+{
+    match files.get(fault.file) {
+        Some(file) => in_file(alloc, file, fault.fault),
+        None => FilesFault::Link(unnamed(alloc, LinkFault::Memory)),
+    }
+}
+
+/// The text that a task prints for the modules of files and a link text.
+///
+/// # Errors
+///
+/// `File` for the first file that does not hold modules and padding alone, as in `modules_of_files`; otherwise `Link` with the fault of
+/// `shown_text` for their modules and the link text. `Link` with `Memory` if memory runs out.
+pub fn files_text(
+    alloc: Global,
+    task: Task,
+    files: &[InputFile],
+    text: &[u8],
+) -> Result<Vec<u8>, FilesFault>
+    ensures { AreFilesShown task files.now text.now (map_ok (λ shown. shown.items) result) }
+{
+    let profile = Profile {
+        refuse_vendor_comments: false,
+    };
+    match modules_of_files(alloc, profile, files) {
+        Ok(modules) => of_modules(alloc, task, &modules, text),
+        Err(fault) => Err(refused(alloc, files, fault)),
+    }
+}
+
+/// Writes a text. Returns the exit status.
+fn write_shown<K: Sink>(writer: &mut K, shown: &[u8]) -> u8
+    ensures { EndsShown (K.seen writer.old) (K.seen writer.new) (Ok shown.now) result }
+{
+    match print_all(writer, shown, ()) {
+        Ok(()) => 0,
+        Err(()) => 3,
+    }
+}
+
+/// Prints the line of a fault. Returns the exit status.
+fn tell_fault<K: Sink>(writer: &mut K, fault: &FilesFault) -> u8
+    ensures { EndsShown (K.seen writer.old) (K.seen writer.new) (Err fault.now) result }
+{
+    fault.print(writer);
+    fault.status()
+}
+
+/// Does a task for files and a link text: writes the text of `files_text`, or the line of its fault. Returns the exit status: 0 done, 1 a
+/// file, a module or the text is refused, 3 out of memory, or the writer failed. It does not flush the writer.
+pub fn run_files<K: Sink>(
+    alloc: Global,
+    task: Task,
+    files: &[InputFile],
+    text: &[u8],
+    writer: &mut K,
+) -> u8
+    ensures { HasRunFiles task files.now text.now (K.seen writer.old) (K.seen writer.new) result }
+{
+    match files_text(alloc, task, files, text) {
+        Ok(shown) => write_shown(writer, &shown),
+        Err(fault) => tell_fault(writer, &fault),
+    }
+}

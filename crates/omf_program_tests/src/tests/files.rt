@@ -1,0 +1,110 @@
+//! Runs of `omf-link` over files.
+
+use omf_cmd::Gathered;
+use omf_linker::link::{InputFile, Task, run_files};
+use omf_samples::bytes_of;
+use std::alloc::Global;
+
+/// A module with one segment of the two bytes CCH and DDH: 37 bytes.
+const MODULE: &str =
+    "80030001413B 96040000015411 98070028020002010100 A00600010000CCDD00 8A02000074";
+
+/// The same, and two bytes of padding after it.
+const PADDED: &str =
+    "80030001413B 96040000015411 98070028020002010100 A00600010000CCDD00 8A02000074 1A1A";
+
+/// The same, and then the front of a program.
+const FOLLOWED: &str =
+    "80030001413B 96040000015411 98070028020002010100 A00600010000CCDD00 8A02000074 0000 4D5A";
+
+/// The same, and then a text.
+const WITH_TEXT: &str =
+    "80030001413B 96040000015411 98070028020002010100 A00600010000CCDD00 8A02000074 3B 0A";
+
+/// The names of files and their bytes, the text of their link, and what `omf-link image` ends with and prints.
+struct Case {
+    files: &'static [(&'static str, &'static str)],
+    text: &'static str,
+    status: u8,
+    printed: &'static str,
+}
+
+static CASES: [Case; 6] = [
+    Case {
+        files: &[("a.obj", PADDED), ("b.obj", MODULE)],
+        text: "S 7C00 0 0\nM\nS 7C02 0 0",
+        status: 0,
+        printed: "00007C00: CC DD CC DD\n",
+    },
+    Case {
+        files: &[("a.obj", MODULE), ("old lib", "F00D00")],
+        text: "S 7C00 0 0",
+        status: 1,
+        printed: "file \"old lib\" module 1 refused 4 UnsupportedType record 0 at 0 within 0\n",
+    },
+    Case {
+        files: &[("b\u{1B}[2J", FOLLOWED), ("a.obj", MODULE)],
+        text: "S 7C00 0 0\nM\nS 7C02 0 0",
+        status: 1,
+        printed: "file \"b\\x1B[2J\" at 39: neither a module nor padding\n",
+    },
+    Case {
+        files: &[("a.obj", WITH_TEXT)],
+        text: "S 7C00 0 0",
+        status: 1,
+        printed: "file \"a.obj\" at 37: neither a module nor padding\n",
+    },
+    Case {
+        files: &[("a.obj", MODULE), ("empty.obj", "")],
+        text: "S 7C00 0 0",
+        status: 1,
+        printed: "file \"empty.obj\" module 1 refused 1 NoEnd record 0 at 0 within 0\n",
+    },
+    Case {
+        files: &[("a.obj", MODULE), ("b.obj", MODULE)],
+        text: "S 7C00 0 0",
+        status: 1,
+        printed: "module 2 reach 1 Missing segment 1\n",
+    },
+];
+
+/// A file with bytes in hexadecimal; `None` where it finds no memory.
+fn file_of(alloc: Global, name: &str, bytes: &str) -> Option<InputFile> {
+    let name = match name.to_string(alloc) {
+        Ok(name) => name,
+        Err(_) => return None,
+    };
+    match bytes_of(alloc, bytes) {
+        Ok(bytes) => Some(InputFile::new(name, bytes)),
+        Err(_) => None,
+    }
+}
+
+/// The files of a case; `None` where they find no memory.
+fn files_of(alloc: Global, case: &Case) -> Option<Vec<InputFile>> {
+    let mut files = Vec::new(alloc);
+    for (name, bytes) in case.files {
+        let file = file_of(alloc, *name, *bytes)?;
+        if files.push(file).is_err() {
+            return None;
+        }
+    }
+    Some(files)
+}
+
+/// Whether a case ends and prints as it is to.
+fn is_right(alloc: Global, case: &Case) -> bool {
+    let Some(files) = files_of(alloc, case) else {
+        return false;
+    };
+    let mut sink = Gathered::new(alloc);
+    let status = run_files(alloc, Task::Image, &files, case.text.as_bytes(), &mut sink);
+    status == case.status && sink.text.as_slice() == case.printed.as_bytes()
+}
+
+#[test]
+fn files_are_linked_or_refused_by_name(rt: HostRuntime) {
+    for (at, case) in CASES.iter().enumerate() {
+        assert!(rt; is_right(rt.alloc(), case), "{at}");
+    }
+}
