@@ -14,7 +14,7 @@ HEADLINE = {
 }
 # The theorem: the call, the law of all accepted modules, and the call that shows the bytes of an image.
 THEOREM = {"omf_reloc": "check_and_relocate accepted_are_safe", "omf_image": "Image::get"}
-# The calls of the seven core crates; those of placements are in omf_placement and omf_derive, and omf_reloc gives them on.
+# The calls of the seven core crates; those of placements are in omf_placement, and omf_reloc gives them on.
 CORE = {
     "omf_frame": "Reason::number Source Source::pull Sink Sink::push Reading::new Writing::new Script Script::new Script::failing_once Script::interrupted Script::in_pieces "
     "Taker Taker::new Taker::failing_once Taker::interrupted Taker::in_pieces Field::read_at Field::put Index Name Le16 Le32 CommunalLength checksum RawRecord "
@@ -24,8 +24,7 @@ CORE = {
     "omf_check": "check Session::new Session::feed Session::want Session::ended Session::finish Checked::bytes Checked::profile Checked::records Records "
     "Checked::names Checked::segments Checked::groups Checked::externals Checked::name Checked::external Checked::segment Checked::group",
     "omf_placement": "Frame::real Placement::new Placement::push_segment Placement::push_group Placement::push_external Placement::segment Placement::group "
-    "Placement::external real_group parse_placement Draft::resolve",
-    "omf_derive": "derive",
+    "Placement::external real_group parse_placement Draft::resolve derive",
     "omf_reloc": "reach relocate start",
     "omf_canon": "canon canon_to",
     "omf_cmd": "run_list run_check run_canon run_reloc fault_line command main_with",

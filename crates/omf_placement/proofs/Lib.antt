@@ -6,3 +6,13 @@ pub mod CutLaws
 pub mod LineLaws
 pub mod DigitLaws
 pub mod ParsingLaws
+pub mod NamedLaws
+pub mod BaseLaws
+pub mod DeriveLaws
+pub mod TakenLaws
+pub mod DerivedLaws
+pub mod Filling
+pub mod TableLaws
+pub mod PairTableLaws
+pub mod LinkageLaws
+pub mod SearchLaws

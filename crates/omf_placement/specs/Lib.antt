@@ -4,3 +4,5 @@ pub mod PlacementText
 pub mod Laws
 pub mod Inner
 pub mod Quoted
+pub mod Derive
+pub mod Derivation

@@ -1,5 +1,5 @@
-//! Placements: the addresses and frames of a module's segments, groups and externals; the frames of groups by their members; and the text
-//! format of placements.
+//! Placements: the addresses and frames of a module's segments, groups and externals; the frames of groups by their members; the text
+//! format of placements; and placements of several modules that resolve each external to the only public with its name.
 #![tactic(auto)]
 
 pub mod cut;
@@ -9,6 +9,7 @@ mod frame;
 mod group;
 pub mod laws;
 mod placement;
+pub mod several;
 mod text;
 
 pub use entry::{Entry, entry_of, hexadecimal, placed_of, said_by};
@@ -16,4 +17,5 @@ pub use fault::TextFault;
 pub use frame::{Frame, Placed};
 pub use group::{lower, lowest_member, real_group};
 pub use placement::Placement;
+pub use several::{DeriveFault, Given, derive};
 pub use text::{Draft, parse_placement};

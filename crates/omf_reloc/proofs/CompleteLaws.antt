@@ -11,13 +11,13 @@ use Rattle.omf_reloc.specs.declared.fault.Kind.{Kind}
 use Rattle.omf_reloc.specs.declared.fault.Kind.TheVariants as kinds
 use Rattle.omf_reloc.specs.declared.fault.ReachFault.{ReachFault}
 use Rattle.omf_reloc.specs.declared.fault.ReachFault.TheVariants as fault
-use Rattle.omf_derive.specs.Derive.{PlacedModule}
-use Rattle.omf_derive.specs.Derivation.{IsPlaceOf, KeepsPlace}
+use Rattle.omf_placement.specs.Derive.{PlacedModule}
+use Rattle.omf_placement.specs.Derivation.{IsPlaceOf, KeepsPlace}
 use Rattle.omf_placement.specs.Placement.{Places, absolute_place}
 use Rattle.omf_reloc.specs.Laws.{IsComplete, DerivedAreComplete}
 use Rattle.omf_reloc.specs.Plain.{pieces}
 use Rattle.omf_reloc.specs.Reach.{entries, given, misplaced, lies_at, causes, all_reference_places, far_fault, far_faults, reach_faults}
-use Rattle.omf_derive.proofs.DeriveLaws.{derived-fit}
+use Rattle.omf_placement.proofs.DeriveLaws.{derived-fit}
 use Rattle.omf_reloc.proofs.ReachLaws.{counts-fit}
 
 -- Faults other than missing and extra entries.

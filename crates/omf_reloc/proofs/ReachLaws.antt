@@ -17,7 +17,7 @@ use Rattle.omf_reloc.specs.declared.fault.Kind.{Kind}
 use Rattle.omf_reloc.specs.declared.fault.Kind.TheVariants as kinds
 use Rattle.omf_reloc.specs.declared.fault.ReachFault.{ReachFault}
 use Rattle.omf_reloc.specs.declared.fault.ReachFault.TheVariants as fault
-use Rattle.omf_derive.proofs.NamedLaws.{entry-suc}
+use Rattle.omf_placement.proofs.NamedLaws.{entry-suc}
 use Rattle.omf_reloc.specs.Laws.{AllReach, Fits, ReachIsDecided}
 use Rattle.omf_reloc.specs.Offsets.{outcome}
 use Rattle.omf_placement.specs.declared.frame.Placed.{Placed}

@@ -14,7 +14,7 @@ use Rattle.omf_reloc.specs.Plain.{Piece}
 use Rattle.omf_placement.specs.Placement.{Places}
 use Rattle.omf_reloc.specs.Reach.{misplaced, misfits, far_faults, reach_fault, Reaches}
 use Rattle.omf_reloc.specs.Inner.ReachSteps.{miscounts, misplaced_from, far_at, place_behind, piece_cause, pieces_far}
-use Rattle.omf_derive.proofs.NamedLaws.{entry-suc}
+use Rattle.omf_placement.proofs.NamedLaws.{entry-suc}
 use Rattle.omf_reloc.proofs.ReachLaws.{nil-right, first-none}
 
 -- The first of two lists' elements: that of the first list, if it has one, or else that of the second.

@@ -13,13 +13,13 @@ use Rattle.omf_check.specs.Threads.{PlainReference, plain}
 -- computed: threads_are_kept of omf_check.
 use Rattle.omf_check.specs.Inner.Kept.{HasThreads}
 use Rattle.omf_check.specs.declared.threads.Threads.{Threads}
-use Rattle.omf_derive.specs.Derivation.{IsPlaceOf}
+use Rattle.omf_placement.specs.Derivation.{IsPlaceOf}
 use Rattle.omf_reloc.specs.declared.fault.Kind.{Kind}
 use Rattle.omf_reloc.specs.declared.fault.ReachFault.TheVariants as reach
-use Rattle.omf_derive.specs.Derive.{PlacedModule}
--- computed: derived_is_taken of omf_derive.
-use Rattle.omf_derive.specs.Inner.Derived.{derived}
-use Rattle.omf_derive.specs.declared.given.Given.{Given}
+use Rattle.omf_placement.specs.Derive.{PlacedModule}
+-- computed: derived_is_taken of omf_placement.
+use Rattle.omf_placement.specs.Inner.Derived.{derived}
+use Rattle.omf_placement.specs.declared.several.given.Given.{Given}
 use Rattle.omf_reloc.specs.Plain.{Piece, Kept, End, PlainFixup, pieces, data_contents, fixups_of_data}
 -- computed: faults_are_walked of omf_reloc.
 use Rattle.omf_reloc.specs.Inner.Pieces.{single_pieces, reference_places}

@@ -12,8 +12,8 @@ use Rattle.omf_check.specs.declared.method.FrameMethod.{FrameMethod}
 use Rattle.omf_check.specs.declared.method.TargetMethod.{TargetMethod}
 use Rattle.omf_placement.specs.declared.frame.Frame.{Frame}
 use Rattle.omf_reloc.specs.declared.fault.ReachFault.{ReachFault}
-use Rattle.omf_derive.specs.declared.fault.DeriveFault.{DeriveFault}
-use Rattle.omf_derive.specs.declared.given.Given.{Given}
+use Rattle.omf_placement.specs.declared.several.fault.DeriveFault.{DeriveFault}
+use Rattle.omf_placement.specs.declared.several.given.Given.{Given}
 use Rattle.omf_reloc.specs.Inner.Pieces.{references_at, placed_pieces}
 use Rattle.omf_reloc.specs.Plain.{Piece, Fixed, pieces}
 use Rattle.omf_placement.specs.declared.frame.Placed.{Placed}
@@ -21,8 +21,8 @@ use Rattle.omf_placement.specs.Placement.{Places}
 use Rattle.omf_reloc.specs.Reach.{reach_fault}
 use Rattle.omf_reloc.specs.Image.{image, laid, start}
 use Rattle.omf_placement.specs.PlacementText.{Draft, parsed, resolved}
-use Rattle.omf_derive.specs.Derive.{PlacedModule}
-use Rattle.omf_derive.specs.Inner.Derived.{derived}
+use Rattle.omf_placement.specs.Derive.{PlacedModule}
+use Rattle.omf_placement.specs.Inner.Derived.{derived}
 use Rattle.omf_reloc.specs.Modules.{raws_of, module_of}
 
 abbrev pub frame : ℕ → ℕ → Frame

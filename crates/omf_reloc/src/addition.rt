@@ -28,9 +28,9 @@ impl Addition {
     }
 }
 
-/// The one or two numbers that a fixup adds at its location.
+/// The one or two numbers that a fixup adds at its location (TIS OMF 1.1, "FIXUPP").
 #[derive(Drop)]
-pub(crate) struct Additions {
+pub struct Additions {
     first: Addition,
     second: Option<Addition>,
 }
@@ -136,7 +136,7 @@ impl Additions {
     }
 
     /// Adds the numbers at a position, in order. Each wraps at the size of its part and carries nothing into the next one.
-    pub(crate) fn add_to(&self, bytes: &mut [u8], position: usize)
+    pub fn add_to(&self, bytes: &mut [u8], position: usize)
         requires { All (λ a. position + a.offset + part_size a.part ≤ length bytes.old) self.now }
         ensures { bytes.new ≡ add_parts position self.now bytes.old }
     {

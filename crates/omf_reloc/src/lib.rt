@@ -28,12 +28,15 @@ mod relocating;
 pub mod rows;
 mod starting;
 
+pub use addition::Additions;
 pub use fault::{Cause, Kind, ReachFault, RelocateFault};
 pub use headline::{Answer, NoAnswer, check_and_relocate};
+pub use measuring::measure;
+pub use offset::outcome;
 pub use omf_check::{FrameMethod, TargetMethod};
-pub use omf_derive::{DeriveFault, Given, derive};
 pub use omf_placement::{
-    Draft, Entry, Frame, Placed, Placement, TextFault, parse_placement, real_group,
+    DeriveFault, Draft, Entry, Frame, Given, Placed, Placement, TextFault, derive, parse_placement,
+    real_group,
 };
 pub use pieces::{Piece, Pieces, pieces_of};
 pub use plain::{PlainFixup, PlainReference, plain_reference};

@@ -38,8 +38,9 @@ fn extent_from(segment: &At<Index>, offset: &At<u32>, len: u64) -> Extent
     }
 }
 
-/// The extent of a data record; None for any other record.
-fn measure(rec: &Rec<'_>) -> Option<Extent>
+/// The extent of a data record: its segment, its offset there, and the number of its bytes, for an LIDATA of those that its blocks expand
+/// to; `None` for any other record (TIS OMF 1.1, "LEDATA", "LIDATA").
+pub fn measure(rec: &Rec<'_>) -> Option<Extent>
     requires { CanMeasure (rec_seen rec.now) }
     ensures { option_to_list result ≡ measured (rec_seen rec.now) }
 {

@@ -227,8 +227,12 @@ fn additions_in(
     offsets_of(target.address, displacement, frame.base, width, reach).from_location(kind, location)
 }
 
-/// The additions of a fixup in a data record at an offset of this segment, or why it does not reach. The width is that of its FIXUPP.
-pub(crate) fn outcome(
+/// The additions of a fixup in a data record at an offset of this segment. The width is that of its FIXUPP.
+///
+/// # Errors
+///
+/// The cause why the fixup does not reach at this placement.
+pub fn outcome(
     placement: &Placement,
     segment: u16,
     offset: u32,

@@ -2,7 +2,7 @@
 
 ghost use Rattle.std.specs.Prelude.{◌≡◌, ℕ, [], ◌∷◌, ◌++◌, Ok, Err, Some, None, codes};
 ghost use Rattle.omf_reloc.specs.declared.fault.Cause.TheVariants as cause;
-ghost use Rattle.omf_derive.specs.declared.fault.DeriveFault.TheVariants as derive;
+ghost use Rattle.omf_placement.specs.declared.several.fault.DeriveFault.TheVariants as derive;
 ghost use Rattle.omf_frame.specs.Rows.{hex};
 ghost use Rattle.omf_reloc.specs.declared.fault.Kind.TheVariants as kind;
 ghost use Rattle.omf_reloc.specs.declared.fault.ReachFault.TheVariants as fault;

@@ -7,7 +7,7 @@ use Rattle.omf_records.specs.Inner.Seen.{contents_seen}
 use Rattle.omf_records.specs.Values.{Group}
 use Rattle.omf_layout.proofs.Printed.{group-here}
 use Rattle.omf_layout.specs.Several.Placing.{low_of, IsLowTable}
-use Rattle.omf_derive.proofs.Filling.{fill-more}
+use Rattle.omf_placement.proofs.Filling.{fill-more}
 use Rattle.omf_layout.proofs.SeveralLaws.LowLaws.{lows-split}
 use Rattle.omf_layout.proofs.several.groups.LowTable.add_module.Goals as goal
 

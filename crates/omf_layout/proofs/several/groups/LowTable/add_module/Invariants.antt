@@ -4,7 +4,7 @@ use Rattle.omf_check.specs.Module.{records_in}
 use Rattle.omf_check.specs.Tables.{groups}
 use Rattle.omf_check.specs.WellFormed.{recs}
 use Rattle.omf_layout.specs.Several.Placing.{low_of, lows_in, IsLowTable}
-use Rattle.omf_derive.proofs.Filling.{IsFilled}
+use Rattle.omf_placement.proofs.Filling.{IsFilled}
 use Rattle.omf_layout.proofs.several.groups.LowTable.add_module.Given as goal
 
 -- the groups so far are in the table

@@ -3,7 +3,7 @@ use Rattle.std.specs.Prelude.{map, zip, flat_map}
 use Rattle.omf_check.specs.Module.{records_in, typed_modules}
 use Rattle.omf_check.specs.WellFormed.{recs}
 use Rattle.omf_layout.specs.Several.Placing.{HasMore, lows, lows_in, IsLowTable}
-use Rattle.omf_derive.proofs.Filling.{fill-more, fill-end}
+use Rattle.omf_placement.proofs.Filling.{fill-more, fill-end}
 use Rattle.omf_layout.proofs.SeveralLaws.LowLaws.{fill-empty, next-placed, none-placed}
 use Rattle.omf_layout.proofs.several.groups.LowTable.of.Goals as goal
 

@@ -2,7 +2,7 @@ use Rattle.std.proofs.Common.{drop}
 use Rattle.std.specs.Prelude.{flat_map, map, zip}
 use Rattle.omf_layout.specs.Several.Placing.{lows, lows_in, IsLowTable}
 use Rattle.omf_check.specs.Module.{typed_modules}
-use Rattle.omf_derive.proofs.Filling.{IsFilled}
+use Rattle.omf_placement.proofs.Filling.{IsFilled}
 use Rattle.omf_layout.proofs.several.groups.LowTable.of.Given as goal
 
 -- the groups of the modules so far are in the table

@@ -6,7 +6,7 @@ use Rattle.omf_layout.specs.declared.several.portion.Combination.TheVariants.{Jo
 use Rattle.omf_layout.specs.declared.several.portion.Portion.{Portion}
 use Rattle.omf_layout.specs.Several.Laying.{Lying}
 use Rattle.omf_layout.specs.Several.Placing.{IsPlaceTable}
-use Rattle.omf_derive.proofs.PairTableLaws.{again, first, looked-none, looked-some}
+use Rattle.omf_placement.proofs.PairTableLaws.{again, first, looked-none, looked-some}
 use Rattle.omf_layout.proofs.several.places.PlaceTable.of.Goals as goal
 use Rattle.omf_layout.proofs.several.places.PlaceTable.of.Goals.{then-is_none+in_ok-insert, else-is_none}
 

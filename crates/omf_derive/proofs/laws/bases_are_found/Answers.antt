@@ -1,5 +1,0 @@
-use Rattle.omf_derive.proofs.BaseLaws.{bases-found}
-use Rattle.omf_derive.proofs.laws.bases_are_found.Goals as goal
-
-pub returns : goal.returns
-returns c = λ limits m pl h own. bases-found limits m pl h own

@@ -1,5 +1,0 @@
-use Rattle.omf_derive.proofs.DeriveLaws.{derived-fit}
-use Rattle.omf_derive.proofs.laws.derived_fit.Goals as goal
-
-pub returns : goal.returns
-returns c = λ ms given pls h. derived-fit ms given pls h

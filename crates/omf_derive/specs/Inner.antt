@@ -1,4 +1,0 @@
-pub mod Derived
-pub mod Deriving
-pub mod GivenTable
-pub mod PublicTable

@@ -1,3 +1,0 @@
-pub mod Derive
-pub mod Derivation
-pub mod Inner
