@@ -9,6 +9,7 @@ LAUNCH = os.environ["LAUNCH"]
 RUNS = int(os.environ["RUNS"])
 OMF = os.environ["OMF"]
 BEFORE = os.environ["OMF_BEFORE"]
+PLAIN = os.environ["PLAIN"]
 LIMIT_SECONDS = 120
 
 
@@ -45,6 +46,19 @@ def peak(found):
     return "-" if found is None else f"{found[1]:.1f}"
 
 
+def printed(command, source):
+    with open(source, "rb") as given:
+        return subprocess.run(command, stdin=given, stdout=subprocess.PIPE, check=False).stdout
+
+
+def plain_row(module, now, sha):
+    """The row of the plain program; it prints what `omf check` prints, or the measurement ends."""
+    if printed([PLAIN], module) != printed([OMF, "check"], module):
+        sys.exit(f"{module}: the plain program prints something else")
+    plain = run([PLAIN], module)
+    return f"| {module.stem} | | | plain Rust, unproved | | {ratio(plain, sha)} (check: {now[0] / plain[0]:.2f} times this) | | {peak(plain)} |"
+
+
 def beside(job, module):
     """Other programs that do much the same as a job, where they are installed: they list a module, or write it anew."""
     known = {
@@ -77,6 +91,8 @@ def main():
                 f" | {peak(then)} | {peak(now)} |",
                 flush=True,
             )
+            if job == "check" and PLAIN:
+                print(plain_row(module, now, sha), flush=True)
             for name, command in beside(job, module):
                 print(f"| {module.stem} | | | {name} | | {ratio(run(command, module), sha)} | | |", flush=True)
 

@@ -30,3 +30,5 @@ pub mod SoundLaws
 pub mod ThreadLaws
 pub mod Walked
 pub mod Patience
+pub mod JudgingLaws
+pub mod CountedLaws

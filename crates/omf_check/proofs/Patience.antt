@@ -13,7 +13,7 @@ no_fault_kept : (s : Seen) (why : CheckFault) → s.fault ≡ None → s.fault �
 no_fault_kept s why e h = cc
 
 module _ (s : Seen) (fault : s.fault ≡ None) (old new : Device) (same : new.breaks ≡ old.breaks) where
-  at_end : (why : CheckFault) → IsEndFault s why → IsReadPatiently old new (Err why)
+  at_end : (why : CheckFault) → IsEndFault s why → IsReadPatiently {A = Module} old new (Err why)
   at_end check.Memory f = absurd f
   at_end check.Read f = absurd f
   at_end (check.Refused why at) f = same
@@ -24,16 +24,16 @@ module _ (s : Seen) (fault : s.fault ≡ None) (old new : Device) (same : new.br
   finish_patient (Err why) (not_read, inl h) = absurd (no_fault_kept s why fault h)
   finish_patient (Err why) (not_read, inr h) = at_end why h.2
 
-  in_midst : (piece : List ℕ) (why : CheckFault) → IsCause s piece why → IsReadPatiently old new (Err why)
+  in_midst : (piece : List ℕ) (why : CheckFault) → IsCause s piece why → IsReadPatiently {A = Module} old new (Err why)
   in_midst piece check.Memory f = same
   in_midst piece check.Read f = absurd f
   in_midst piece (check.Refused why at) f = same
 
   -- nor is a fault of a feed
-  pub feed_patient : (piece : List ℕ) (why : CheckFault) (next : Seen) → FailsAs s piece why next → IsReadPatiently old new (Err why)
+  pub feed_patient : (piece : List ℕ) (why : CheckFault) (next : Seen) → FailsAs s piece why next → IsReadPatiently {A = Module} old new (Err why)
   feed_patient piece why next f = by f.cause
     where
-      by : (s.fault ≡ Some why) ⊎ ((s.fault ≡ None) × IsCause s piece why) → IsReadPatiently old new (Err why)
+      by : (s.fault ≡ Some why) ⊎ ((s.fault ≡ None) × IsCause s piece why) → IsReadPatiently {A = Module} old new (Err why)
       by (inl h) = absurd (no_fault_kept s why fault h)
       by (inr h) = in_midst piece why h.1
 

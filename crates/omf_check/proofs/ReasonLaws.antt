@@ -1,5 +1,5 @@
 -- Faults of layouts, of blocks and of rules have reasons from 8 on: those of 1 to 7 are of framing alone.
-use Rattle.std.proofs.Common.{◌≡◌, ℕ, zero, suc, ◌+◌, ◌-◌, ◌<◌, Bool, true, false, cond, List, [], ◌∷◌, ◌++◌, Option, Some, None, Result, Ok, Err, refl, sym, subst, inl, inr, length, lit<, arith}
+use Rattle.std.proofs.Common.{◌≡◌, ℕ, zero, suc, ◌+◌, ◌-◌, ◌<◌, Bool, true, false, cond, List, [], ◌∷◌, Option, Some, None, Result, Ok, Err, refl, sym, subst, inl, inr, length, lit<, arith}
 use Rattle.std.specs.Prelude.{⊤, ◌==◌, nat_lt, nat_le}
 use Rattle.omf_frame.specs.Bytes.{AreBytes}
 use Rattle.omf_frame.specs.Fault.{Fault, reason_number, is_before, rule, broken, least, first_step}

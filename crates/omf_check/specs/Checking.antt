@@ -32,11 +32,9 @@ IsCheckFault profile old new failed fails (Refused why at) = (read : List ℕ) �
 
 -- Only interruptions of the reader are retried: Read means one failure of another kind, or a thousand interruptions; with every other
 -- result the reader had no failure but interruptions.
-abbrev pub IsReadPatiently : Device → Device → Result Module CheckFault → Type 0
-IsReadPatiently old new (Ok m) = new.breaks ≡ old.breaks
-IsReadPatiently old new (Err Memory) = new.breaks ≡ old.breaks
+abbrev pub IsReadPatiently : {A : Type 0} → Device → Device → Result A CheckFault → Type 0
 IsReadPatiently old new (Err Read) = GivesUp old new
-IsReadPatiently old new (Err (Refused why at)) = new.breaks ≡ old.breaks
+IsReadPatiently old new _ = new.breaks ≡ old.breaks
 
 -- The result of a check for an input: the module it begins with, or its refusal; after Memory and Read, nothing is claimed.
 abbrev pub Decides : Profile → List ℕ → Result Module CheckFault → Type 0

@@ -2,6 +2,7 @@ pub mod Cells
 pub mod Judging
 pub mod Kept
 pub mod Parts
+pub mod Stopping
 pub mod Passing
 pub mod Points
 pub mod Verdict

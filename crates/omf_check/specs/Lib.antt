@@ -8,6 +8,7 @@ pub mod Refusal
 pub mod Module
 pub mod Session
 pub mod Checking
+pub mod Judging
 pub mod Laws
 pub mod Rows
 pub mod Inner

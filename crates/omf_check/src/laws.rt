@@ -1,5 +1,6 @@
 //! Laws of the definitions. Each is the contract of an empty function.
 
+ghost use Rattle.omf_check.specs.Judging.{JudgingsAreCounts};
 ghost use Rattle.omf_check.specs.Laws.{RefusalsStay, RefusalsAreUnique, NeverBoth, ModulesAreUnique, IsEither, VerdictsDecide, SoundBytesAreDecided, RefusalsAreJudged, CellsAreThreads, LimitsMayGrow, ModulesHold, ThreadsAreKept};
 
 /// A refusal other than NoEnd and Cut remains, whatever follows the input.
@@ -62,4 +63,10 @@ pub fn modules_hold()
 /// The threads kept, one for each kind and number, are always those in force, and give each reference its frame and target.
 pub fn threads_are_kept()
     ensures { ThreadsAreKept }
+{}
+
+/// If an input begins with a module, the verdict without the module has its numbers of records and bytes, unless memory runs out or the
+/// reader fails.
+pub fn judgings_are_counts()
+    ensures { JudgingsAreCounts }
 {}

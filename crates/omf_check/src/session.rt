@@ -36,7 +36,7 @@ impl Model for Session {
 }
 
 /// Converts a framing fault.
-fn framing_fault(fault: FrameFault) -> CheckFault
+pub(crate) fn framing_fault(fault: FrameFault) -> CheckFault
     ensures { result ≡ framing_fault fault }
 {
     match fault {

@@ -34,7 +34,7 @@ pub still : (device : Device) → IsUnbroken device device
 still device = (refl, omega arith)
 
 -- a fault of the check
-pub check_cause : (profile : Profile) (old new : Device) (e : CheckFault) → old.failures ≤ new.failures → IsReadPatiently old new (Err e) → IsCheckFault profile old.bytes new.bytes old.failures new.failures e
+pub check_cause : (profile : Profile) (old new : Device) (e : CheckFault) → old.failures ≤ new.failures → IsReadPatiently {A = Module} old new (Err e) → IsCheckFault profile old.bytes new.bytes old.failures new.failures e
     → IsReadCause {A = List ℕ} old new (Err (of_check e))
 check_cause profile old new check.Memory grows h c = (h, grows)
 check_cause profile old new check.Read grows h c = (c.0, h)
@@ -144,7 +144,7 @@ one_judged profile input records old new before after (Err (fault.Reach f)) c h 
 module _ (prints_by : Printing) (text : List Raw → List ℕ) (profile : Profile) (reader reader' writer : Device) where
   -- The check gives no module: its fault is answered, and nothing is written.
   pub not_reported : (e : CheckFault) → prints_by writer.bytes writer.bytes (Err (of_check e)) (text []) → ((input : List ℕ) → reader.bytes ≡ Some input → Decides profile input (Err e))
-      → IsCheckFault profile reader.bytes reader'.bytes reader.failures reader'.failures e → IsReadPatiently reader reader' (Err e) → reader.failures ≤ reader'.failures
+      → IsCheckFault profile reader.bytes reader'.bytes reader.failures reader'.failures e → IsReadPatiently {A = Module} reader reader' (Err e) → reader.failures ≤ reader'.failures
       → IsReport prints_by text profile reader reader' writer writer (Err (of_check e))
   not_reported e none d c patient grows = record {
     cause = read_caused reader reader' writer (of_check e) (check_cause profile reader reader' e grows patient c);

@@ -217,7 +217,7 @@ pub fn print_public(
 }
 
 /// Appends the line of `check`: the numbers of records and bytes of a module.
-pub fn print_totals(text: &mut String, records: usize, bytes: usize) -> Result<(), AllocError>
+pub fn print_totals(text: &mut String, records: u32, bytes: u64) -> Result<(), AllocError>
     ensures { AddsText result (string_bytes text.old) (string_bytes text.new) (line (codes "OK" ∷ decimal records ∷ codes "records," ∷ decimal bytes ∷ codes "bytes" ∷ [])) }
 {
     write!(text, "OK {records} records, {bytes} bytes\n")

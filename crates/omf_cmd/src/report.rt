@@ -1,8 +1,8 @@
 //! The texts of `check` and `list`. The latter is written in pieces.
 
-ghost use Rattle.std.specs.Prelude.{◌≡◌, ◌++◌, ◌∷◌, [], IfOk, string_bytes, codes, decimal, flat_map, length};
+ghost use Rattle.std.specs.Prelude.{◌≡◌, ◌++◌, ◌∷◌, [], IfOk, List, string_bytes, codes, decimal, flat_map, length};
 ghost use Rattle.omf_frame.specs.Bytes.{with_before, AddsText};
-ghost use Rattle.omf_frame.specs.Framing.{Raw};
+ghost use Rattle.omf_frame.specs.Framing.{Raw, raw_bytes};
 ghost use Rattle.omf_records.specs.Inner.Seen.{contents_seen};
 ghost use Rattle.omf_records.specs.Values.{Group, GroupItem};
 ghost use Rattle.omf_check.specs.Module.{recs_of, records_in};
@@ -19,7 +19,7 @@ use crate::output::{write_all, write_piece};
 use crate::printing::{
     print_external, print_group, print_public, print_record, print_segment, print_totals,
 };
-use omf_check::Checked;
+use omf_check::{Checked, Judged};
 use omf_frame::Sink;
 use omf_records::{At, Items, Public, Rec};
 use std::alloc::{AllocError, Global};
@@ -247,14 +247,10 @@ pub fn print_list<K: Sink>(alloc: Global, checked: &Checked, writer: &mut K) -> 
 }
 
 /// The line of `check`: the numbers of records and bytes of a module.
-pub fn check_text(alloc: Global, checked: &Checked) -> Result<String, AllocError>
-    ensures { IfOk result (λ text. string_bytes text ≡ check_text (records_in checked.now.bytes)) }
+pub fn check_text(alloc: Global, judged: Judged) -> Result<String, AllocError>
+    ensures { (rs : List Raw) → judged.record_count ≡ length rs → judged.size ≡ length (flat_map raw_bytes rs) → IfOk result (λ text. string_bytes text ≡ check_text rs) }
 {
     let mut text = String::new(alloc);
-    print_totals(
-        &mut text,
-        checked.record_count() as usize,
-        checked.bytes().len(),
-    )?;
+    print_totals(&mut text, judged.record_count, judged.size)?;
     Ok(text)
 }

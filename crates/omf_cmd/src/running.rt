@@ -1,6 +1,7 @@
 //! The jobs over a module alone: `check`, `list` and `canon`.
 
-ghost use Rattle.std.specs.Prelude.{IfErr};
+ghost use Rattle.std.specs.Prelude.{◌≡◌, List, IfErr, flat_map, length};
+ghost use Rattle.omf_frame.specs.Framing.{Raw, raw_bytes};
 ghost use Rattle.omf_check.specs.Module.{records_in};
 ghost use Rattle.omf_cmd.specs.Listing.{canonical_text, check_text, list_text};
 ghost use Rattle.omf_cmd.specs.Reports.{IsModuleFault, Reports, ReportsInPieces};
@@ -10,12 +11,13 @@ use crate::fault::RunFault;
 use crate::output::write_all;
 use crate::report::{check_text, print_list};
 use omf_canon::{CanonFault, canon_to};
-use omf_check::{Checked, Profile, check};
+use omf_check::{Checked, Judged, Profile, check, judge};
 use omf_frame::{Sink, Source};
 use std::alloc::Global;
 
-/// Checks the module at the front of the input, and prints its numbers of records and bytes. Nothing after the module is read, and nothing is
-/// written before all faults but Write and Memory are excluded. The writer is not flushed.
+/// Checks the module at the front of the input, and prints its numbers of records and bytes. The module is not kept: in memory there is one
+/// record at a time, and the tables. Nothing after the module is read, and nothing is written before all faults but Write and Memory are
+/// excluded. The writer is not flushed.
 ///
 /// # Errors
 ///
@@ -33,16 +35,16 @@ pub fn run_check<S: Source, K: Sink>(
     // The answer is the defined one. The whole text is written, or a front of it if the writer failed.
     ensures prints { Reports check_text profile (S.seen reader.old) (S.seen reader.new) (K.seen writer.old) (K.seen writer.new) result }
 {
-    let checked = check(alloc, reader, profile)?;
-    print_check(alloc, &checked, writer)
+    let judged = judge(alloc, reader, profile)?;
+    print_check(alloc, judged, writer)
 }
 
 /// Prints the line of `check`.
-fn print_check<K: Sink>(alloc: Global, checked: &Checked, writer: &mut K) -> Result<(), RunFault>
-    ensures prints { Prints (K.seen writer.old).bytes (K.seen writer.new).bytes result (check_text (records_in checked.now.bytes)) }
+fn print_check<K: Sink>(alloc: Global, judged: Judged, writer: &mut K) -> Result<(), RunFault>
+    ensures prints { (rs : List Raw) → judged.record_count ≡ length rs → judged.size ≡ length (flat_map raw_bytes rs) → Prints (K.seen writer.old).bytes (K.seen writer.new).bytes result (check_text rs) }
     ensures cause { IsPrintCause (K.seen writer.old) (K.seen writer.new) result }
 {
-    let text = check_text(alloc, checked)?;
+    let text = check_text(alloc, judged)?;
     write_all(writer, text.as_bytes())
 }
 

@@ -1,4 +1,4 @@
-use Rattle.std.proofs.Common.{◌≡◌, ◌∙◌, ◌+◌, ℕ, ap, Err, Result}
+use Rattle.std.proofs.Common.{◌∙◌, ◌+◌, ℕ, ap, Err, Result}
 use Rattle.omf_frame.specs.Fault.{Fault}
 use Rattle.omf_frame.specs.Types.{width_bytes}
 use Rattle.omf_image.specs.Inner.Expanding.{expanded_length}

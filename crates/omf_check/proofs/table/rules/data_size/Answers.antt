@@ -1,4 +1,4 @@
-use Rattle.std.proofs.Common.{◌≡◌, ◌∙◌, ◌+◌, Bool, true, false, refl, sym, ap}
+use Rattle.std.proofs.Common.{◌≡◌, ◌∙◌, ◌+◌, refl, sym, ap}
 use Rattle.omf_records.specs.Inner.Seen.{contents_seen, kind_seen, odd_if}
 use Rattle.omf_records.specs.Values.{DataItem, Iterated}
 use Rattle.omf_frame.specs.Types.{width_bytes}

@@ -1,0 +1,135 @@
+use Rattle.std.proofs.Common.{◌∙◌, ◌++◌, [], refl, take, arith}
+use Rattle.std.proofs.lemmas.Result.{err_from_is_err_and}
+use Rattle.omf_frame.proofs.Tries.{failed_later}
+use Rattle.omf_check.specs.Inner.Passing.{here}
+use Rattle.omf_check.specs.Session.{want_with}
+use Rattle.omf_check.proofs.CheckLaws.{piece_low, some_given, consumes_none}
+use Rattle.omf_check.proofs.Moving.{starting}
+use Rattle.omf_check.proofs.JudgingLaws.{consumes_start, wanted_now, ended_now, running_now, judges_ended, reads, judges_at_end, cause_ended, cause_at_end, undecided, step_judges, step_cause, step_patient, step_size, step_low, step_more, step_consumes}
+use Rattle.omf_check.proofs.judging.judge.Goals as goal
+
+pub loop-profile-init : goal.loop-profile-init
+loop-profile-init g c = record {
+  taken = [];
+  passing = starting c.args.profile c.new-framer.result [] c.new-tables.result c.new-framer.ensures refl c.new-tables.ensures;
+  counted = refl;
+  consumed = consumes_start (g.S.Source.seen c.args.reader.now).bytes;
+  grows = omega arith;
+  passed = omega arith;
+  unbroken = refl;
+}
+
+pub returns-then-want-eq0-clause-verdict : goal.returns-then-want-eq0-clause-verdict
+returns-then-want-eq0-clause-verdict g c =
+    let i = c.loop-profile.invariant in
+    judges_ended c.args.profile c.loop-profile.framer i.taken c.loop-profile.tables i.passing c.loop-profile.size i.counted c.stopped.result c.stopped.ensures (g.S.Source.seen c.args.reader.now).bytes (g.S.Source.seen c.loop-profile.reader).bytes
+    (ended_now c.args.profile c.loop-profile.framer i.taken c.loop-profile.tables i.passing c.loop-profile.size i.counted c.ahead.result.now c.min-want.result c.wanted.result c.wanted.ensures c.min-want.ensures c.if-want-eq0.true) i.consumed
+
+pub returns-then-want-eq0-clause-cause : goal.returns-then-want-eq0-clause-cause
+returns-then-want-eq0-clause-cause g c =
+    let i = c.loop-profile.invariant in
+    cause_ended c.args.profile c.loop-profile.framer i.taken c.loop-profile.tables i.passing c.loop-profile.size i.counted c.stopped.result c.stopped.ensures (g.S.Source.seen c.args.reader.now).bytes (g.S.Source.seen c.loop-profile.reader).bytes (g.S.Source.seen c.args.reader.now).failures (g.S.Source.seen c.loop-profile.reader).failures
+    (ended_now c.args.profile c.loop-profile.framer i.taken c.loop-profile.tables i.passing c.loop-profile.size i.counted c.ahead.result.now c.min-want.result c.wanted.result c.wanted.ensures c.min-want.ensures c.if-want-eq0.true)
+
+pub returns-in_default-clause-cause : goal.returns-in_default-clause-cause
+returns-in_default-clause-cause g c =
+    let i = c.loop-profile.invariant in
+    (failed_later _ (g.S.Source.seen c.loop-profile.reader).failures _ i.grows c.in_default.ensures.cause, undecided c.args.profile c.loop-profile.framer i.taken c.loop-profile.tables i.passing (g.S.Source.seen c.args.reader.now).bytes (g.S.Source.seen c.loop-profile.reader).bytes (g.S.Source.seen c.pull_piece.new.source).bytes i.consumed c.in_default.ensures.kept)
+
+pub returns-then-count-eq0-clause-verdict : goal.returns-then-count-eq0-clause-verdict
+returns-then-count-eq0-clause-verdict g c =
+    let i = c.loop-profile.invariant in
+    judges_at_end c.args.profile c.loop-profile.framer i.taken c.loop-profile.tables i.passing c.loop-profile.size i.counted c.stopped-then-count-eq0.result c.stopped-then-count-eq0.ensures (g.S.Source.seen c.args.reader.now).bytes (g.S.Source.seen c.pull_piece.new.source).bytes
+    (consumes_none _ (g.S.Source.seen c.loop-profile.reader).bytes _ i.taken c.pull_piece.new.buffer c.in-Ok.count c.if-count-eq0.true i.consumed c.in-Ok.ensures.bytes)
+    (c.in-Ok.ensures.end c.if-count-eq0.true)
+
+pub returns-then-count-eq0-clause-cause : goal.returns-then-count-eq0-clause-cause
+returns-then-count-eq0-clause-cause g c =
+    let i = c.loop-profile.invariant in
+    cause_at_end c.args.profile c.loop-profile.framer i.taken c.loop-profile.tables i.passing c.loop-profile.size i.counted c.stopped-then-count-eq0.result c.stopped-then-count-eq0.ensures (g.S.Source.seen c.args.reader.now).bytes (g.S.Source.seen c.pull_piece.new.source).bytes (g.S.Source.seen c.args.reader.now).failures (g.S.Source.seen c.pull_piece.new.source).failures
+    (consumes_none _ (g.S.Source.seen c.loop-profile.reader).bytes _ i.taken c.pull_piece.new.buffer c.in-Ok.count c.if-count-eq0.true i.consumed c.in-Ok.ensures.bytes)
+    (c.in-Ok.ensures.end c.if-count-eq0.true)
+
+pub returns-in_err-fed-clause-verdict : goal.returns-in_err-fed-clause-verdict
+returns-in_err-fed-clause-verdict g c =
+    let i = c.loop-profile.invariant in
+    let e = err_from_is_err_and c.from_residual.result c.from_residual.ensures.1 in
+    rw (e.1, e.2) (
+    step_judges c.args.profile c.loop-profile.framer i.taken c.loop-profile.tables i.passing (take c.in-Ok.count c.pull_piece.new.buffer) c.in_err-fed.field-0.0 (c.in_err-fed.ensures.cause i.taken i.passing) c.in_err-fed.ensures.running
+    (g.S.Source.seen c.args.reader.now).bytes (g.S.Source.seen c.loop-profile.reader).bytes (g.S.Source.seen c.pull_piece.new.source).bytes i.consumed c.in-Ok.ensures.bytes)
+
+pub returns-in_err-fed-clause-cause : goal.returns-in_err-fed-clause-cause
+returns-in_err-fed-clause-cause g c =
+    let i = c.loop-profile.invariant in
+    let low = piece_low c.pull_piece.new.buffer c.loop-profile.buffer c.in-Ok.count c.min-want.result c.wanted.result (want_with (here c.args.profile c.loop-profile.framer i.taken) c.ahead.result.now) c.pull_piece.auto.buffer c.min-want.ensures
+    (wanted_now c.args.profile c.loop-profile.framer i.taken c.loop-profile.tables i.passing c.loop-profile.size i.counted c.ahead.result.now c.min-want.result c.wanted.result c.wanted.ensures c.min-want.ensures) in
+    let e = err_from_is_err_and c.from_residual.result c.from_residual.ensures.1 in
+    rw (e.1, e.2) (
+    step_cause c.args.profile c.loop-profile.framer i.taken c.loop-profile.tables i.passing (take c.in-Ok.count c.pull_piece.new.buffer) c.in_err-fed.field-0.0 (c.in_err-fed.ensures.cause i.taken i.passing) c.in_err-fed.ensures.running
+    c.ahead.result.now (g.S.Source.seen c.args.reader.now).bytes (g.S.Source.seen c.loop-profile.reader).bytes (g.S.Source.seen c.pull_piece.new.source).bytes (g.S.Source.seen c.args.reader.now).failures (g.S.Source.seen c.pull_piece.new.source).failures c.ahead.ensures low i.consumed c.in-Ok.ensures.bytes)
+
+pub returns-in_err-fed-clause-patient : goal.returns-in_err-fed-clause-patient
+returns-in_err-fed-clause-patient g c =
+    let i = c.loop-profile.invariant in
+    let e = err_from_is_err_and c.from_residual.result c.from_residual.ensures.1 in
+    rw (e.1, e.2) (
+    step_patient c.args.profile c.loop-profile.framer i.taken c.loop-profile.tables i.passing (take c.in-Ok.count c.pull_piece.new.buffer) c.in_err-fed.field-0.0 (c.in_err-fed.ensures.cause i.taken i.passing) c.in_err-fed.ensures.running
+    (g.S.Source.seen c.args.reader.now) (g.S.Source.seen c.pull_piece.new.source) (c.in-Ok.ensures.tried ∙ i.unbroken))
+
+pub overflow_add-size : goal.overflow_add-size
+overflow_add-size g c =
+    let i = c.loop-profile.invariant in
+    let low = step_low c.args.profile c.loop-profile.framer i.taken c.loop-profile.tables i.passing (take c.in-Ok.count c.pull_piece.new.buffer) c.in_ok-fed.fed.taken c.in_ok-fed.fed.whole c.step.new.framer c.step.new.tables (c.in_ok-fed.ensures.moves i.taken i.passing) (c.in_ok-fed.ensures.passing i.taken i.passing) in
+    let size = i.counted in
+    omega (arith, low, size)
+
+pub loop-profile-smaller : goal.loop-profile-smaller
+loop-profile-smaller g c =
+    let i = c.loop-profile.invariant in
+    let moves = c.in_ok-fed.ensures.moves i.taken i.passing in
+    let passing = c.in_ok-fed.ensures.passing i.taken i.passing in
+    let piece = take c.in-Ok.count c.pull_piece.new.buffer in
+    let running = running_now c.args.profile c.loop-profile.framer i.taken c.loop-profile.tables i.passing c.loop-profile.size i.counted c.ahead.result.now c.min-want.result c.wanted.result c.wanted.ensures c.min-want.ensures c.if-want-eq0.false in
+    let some = some_given c.in-Ok.count c.pull_piece.new.buffer c.if-count-eq0.false c.in-Ok.ensures.bound in
+    let more = step_more c.args.profile c.loop-profile.framer i.taken c.loop-profile.tables i.passing piece c.in_ok-fed.fed.taken c.in_ok-fed.fed.whole c.step.new.framer c.step.new.tables moves passing running some in
+    let low = step_low c.args.profile c.loop-profile.framer i.taken c.loop-profile.tables i.passing piece c.in_ok-fed.fed.taken c.in_ok-fed.fed.whole c.step.new.framer c.step.new.tables moves passing in
+    let size = i.counted in
+    omega (arith, more, low, size)
+
+pub loop-profile-preserved : goal.loop-profile-preserved
+loop-profile-preserved g c =
+    let i = c.loop-profile.invariant in
+    let moves = c.in_ok-fed.ensures.moves i.taken i.passing in
+    let passing = c.in_ok-fed.ensures.passing i.taken i.passing in
+    let piece = take c.in-Ok.count c.pull_piece.new.buffer in
+    let low = piece_low c.pull_piece.new.buffer c.loop-profile.buffer c.in-Ok.count c.min-want.result c.wanted.result (want_with (here c.args.profile c.loop-profile.framer i.taken) c.ahead.result.now) c.pull_piece.auto.buffer c.min-want.ensures
+    (wanted_now c.args.profile c.loop-profile.framer i.taken c.loop-profile.tables i.passing c.loop-profile.size i.counted c.ahead.result.now c.min-want.result c.wanted.result c.wanted.ensures c.min-want.ensures) in
+    let running = running_now c.args.profile c.loop-profile.framer i.taken c.loop-profile.tables i.passing c.loop-profile.size i.counted c.ahead.result.now c.min-want.result c.wanted.result c.wanted.ensures c.min-want.ensures c.if-want-eq0.false in
+    let some = some_given c.in-Ok.count c.pull_piece.new.buffer c.if-count-eq0.false c.in-Ok.ensures.bound in
+    let more = step_more c.args.profile c.loop-profile.framer i.taken c.loop-profile.tables i.passing piece c.in_ok-fed.fed.taken c.in_ok-fed.fed.whole c.step.new.framer c.step.new.tables moves passing running some in
+    let grown = step_size c.args.profile c.loop-profile.framer i.taken c.loop-profile.tables i.passing piece c.in_ok-fed.fed.taken c.in_ok-fed.fed.whole c.step.new.framer c.step.new.tables moves passing in
+    let size = i.counted in
+    let first = i.grows in
+    let second = c.in-Ok.ensures.grows in
+    let before = i.passed in
+    let bounded = c.in-Ok.ensures.bounded in
+    record {
+      taken = i.taken ++ take c.in_ok-fed.fed.taken piece;
+      passing = passing;
+      counted = omega (arith, grown, size);
+      consumed = step_consumes c.args.profile c.loop-profile.framer i.taken c.loop-profile.tables i.passing piece c.in_ok-fed.fed.taken c.in_ok-fed.fed.whole c.step.new.framer c.step.new.tables moves passing c.ahead.result.now (g.S.Source.seen c.args.reader.now).bytes (g.S.Source.seen c.loop-profile.reader).bytes (g.S.Source.seen c.pull_piece.new.source).bytes running c.ahead.ensures low i.consumed c.in-Ok.ensures.bytes;
+      grows = omega (arith, first, second);
+      passed = omega (arith, before, bounded, more);
+      unbroken = c.in-Ok.ensures.tried ∙ i.unbroken;
+    }
+
+pub returns-then-want-eq0-clause-read : goal.returns-then-want-eq0-clause-read
+returns-then-want-eq0-clause-read g c =
+    let i = c.loop-profile.invariant in
+    reads c.args.profile c.loop-profile.framer i.taken c.loop-profile.tables i.passing c.loop-profile.size i.counted c.stopped.result c.stopped.ensures (g.S.Source.seen c.args.reader.now).bytes (g.S.Source.seen c.loop-profile.reader).bytes i.consumed
+
+pub returns-then-count-eq0-clause-read : goal.returns-then-count-eq0-clause-read
+returns-then-count-eq0-clause-read g c =
+    let i = c.loop-profile.invariant in
+    reads c.args.profile c.loop-profile.framer i.taken c.loop-profile.tables i.passing c.loop-profile.size i.counted c.stopped-then-count-eq0.result c.stopped-then-count-eq0.ensures (g.S.Source.seen c.args.reader.now).bytes (g.S.Source.seen c.pull_piece.new.source).bytes
+    (consumes_none _ (g.S.Source.seen c.loop-profile.reader).bytes _ i.taken c.pull_piece.new.buffer c.in-Ok.count c.if-count-eq0.true i.consumed c.in-Ok.ensures.bytes)
