@@ -16,5 +16,12 @@ pub mod OverlapLaws
 pub mod MarkLaws
 pub mod TakeLaws
 pub mod TurnLaws
+pub mod LayingLaws
+pub mod FitLaws
+pub mod LinkedLaws
+pub mod RegisterLaws
+pub mod RoomLaws
+pub mod StartLaws
+pub mod Steps
 pub mod MovedWords
 pub mod ApartLaws

@@ -19,7 +19,7 @@ pub length-flat : (base n : ℕ) (cs : List Chunk) → All (LiesIn base n) cs �
 length-flat base n cs all = length-puts base n cs (replicate n 0) (length-zeros n) all
 
 -- Each word is in the image.
-words-inside : (base n : ℕ) (cs : List Chunk) → All (LiesIn base n) cs → All (λ at. at + 2 ≤ n) (flat_words base cs)
+pub words-inside : (base n : ℕ) (cs : List Chunk) → All (LiesIn base n) cs → All (λ at. at + 2 ≤ n) (flat_words base cs)
 words-inside base n [] all = All-nil (λ at. at + 2 ≤ n)
 words-inside base n (c ∷ cs) all =
     let zeros : List ℕ = replicate n 0 in

@@ -1,1 +1,4 @@
 pub mod Taking
+pub mod Laying
+pub mod Rooms
+pub mod Plans

@@ -1,5 +1,5 @@
 -- The image of several modules from an address on, and the words of it that move.
-use Rattle.std.specs.Prelude.{◌≡◌, ◌⊎◌, ℕ, ◌+◌, ◌-◌, ◌*◌, ◌≤◌, List, [], ◌∷◌, ◌++◌, ◌<◌, ◌^◌, length, take, drop, map, flat_map, fold, replicate, All, IsOk, Option, Some, None, option_map, unwrap_or, true, false, ⊤}
+use Rattle.std.specs.Prelude.{◌≡◌, ◌⊎◌, ℕ, ◌+◌, ◌-◌, ◌*◌, ◌≤◌, List, [], ◌∷◌, ◌++◌, ◌<◌, ◌^◌, length, take, drop, map, max, flat_map, fold, replicate, All, IsOk, Option, Some, None, option_map, unwrap_or, true, false, ⊤}
 use Rattle.omf_frame.specs.Bytes.{with_after}
 use Rattle.omf_records.specs.Values.{Rec, Contents, Plain, Iterated, DataItem, width}
 -- computed: blocks_are_read and lengths_are_decided of omf_image.
@@ -27,6 +27,13 @@ pub record Chunk : Type 0 where
   pub address : ℕ
   pub bytes : List ℕ
   pub words : List ℕ
+
+-- The first address after a chunk; and after the data of chunks.
+abbrev pub chunk_end : Chunk → ℕ
+chunk_end c = c.address + length c.bytes
+
+abbrev pub data_end : List Chunk → ℕ
+data_end cs = fold max 0 (map chunk_end cs)
 
 -- What each data record of a module lays, in file order.
 abbrev pub contents_chunks : Movers → Places → ℕ → Contents → List Piece → List Chunk

@@ -1,10 +1,17 @@
 //! Which parts of a placement move with a program.
 
-ghost use Rattle.std.specs.Prelude.{◌≡◌, ◌++◌, [], ◌∷◌, OnOk, OnErr};
+ghost use Rattle.std.specs.Prelude.{◌≡◌, ◌++◌, ◌==◌, ◌&&◌, [], ◌∷◌, OnOk, OnErr, List, ℕ, length, option_map};
+ghost use Rattle.omf_check.specs.Module.{recs_of};
+ghost use Rattle.omf_records.specs.Inner.Seen.{contents_seen, kind_seen};
+ghost use Rattle.omf_records.specs.Values.{SegmentItem};
+ghost use Rattle.omf_exe.specs.Based.{same_flags};
+ghost use Rattle.omf_exe.specs.Inner.Laying.{flags_left};
+ghost use Rattle.omf_exe.specs.Members.{segdefs, segdefs_in};
 ghost use Rattle.omf_exe.specs.Moved.{both, frame_moves, moves, moving_of, target_moves};
 
-use omf_check::{FrameMethod, TargetMethod, entry_of};
-use omf_records::Kind;
+use omf_check::{Checked, FrameMethod, TargetMethod, entry_of};
+use omf_placement::Placement;
+use omf_records::{Kind, Rec};
 use std::alloc::{AllocError, Global};
 use std::marker::Model;
 
@@ -44,6 +51,33 @@ impl Model for Movers {
     ghost Value = { Moved };
 
     ghost view = { λ m. record { segments = m.segments.items; groups = m.groups.items; externals = m.externals.items } };
+}
+
+/// The flags left after that of a record's segment, if it moves exactly if it is not absolute. A record that is no SEGDEF takes none.
+fn flags_after<'a>(left: &'a [bool], rec: &Rec<'_>) -> Option<&'a [bool]>
+    ensures { (rest : List (ℕ × SegmentItem)) → same_flags left.now (segdefs_in (kind_seen rec.now) (contents_seen rec.now) ++ rest) ≡ flags_left (option_map (λ b. b.now) result) rest }
+{
+    let Rec::Segment { segment, .. } = rec else {
+        return Some(left);
+    };
+    match left.split_first() {
+        Some((moves, rest)) if *moves == segment.absolute.is_none() => Some(rest),
+        Some(_) | None => None,
+    }
+}
+
+/// Whether these are the flags of a module's segments, each set exactly if its segment is not absolute.
+fn are_flags(flags: &[bool], module: &Checked) -> bool
+    ensures { result ≡ same_flags flags.now (segdefs (recs_of «module».now.bytes)) }
+{
+    let mut left = flags;
+    for (_place, rec) in module.records() {
+        match flags_after(left, &rec) {
+            Some(rest) => left = rest,
+            None => return false,
+        }
+    }
+    left.is_empty()
 }
 
 impl Movers {
@@ -133,5 +167,22 @@ impl Movers {
             FrameMethod::Location => self.segment_moves(usize::from(segment)),
             FrameMethod::Target => self.moving_of(target).frame,
         }
+    }
+
+    /// Whether the segments of a module move exactly where they are not absolute.
+    fn are_of_segments(&self, module: &Checked) -> bool
+        ensures { result ≡ same_flags self.now.segments (segdefs (recs_of «module».now.bytes)) }
+    {
+        are_flags(&self.segments, module)
+    }
+
+    /// Whether these are the movers of a module at its placement: there is one for each entry of the placement, and a segment moves exactly
+    /// if it is not absolute.
+    pub(crate) fn are_of(&self, module: &Checked, placement: &Placement) -> bool
+        ensures { result ≡ (same_flags self.now.segments (segdefs (recs_of «module».now.bytes)) && ((length self.now.groups == length placement.now.groups) && (length self.now.externals == length placement.now.externals))) }
+    {
+        self.are_of_segments(module)
+            && self.groups.len() == placement.group_count()
+            && self.externals.len() == placement.external_count()
     }
 }

@@ -1,30 +1,26 @@
 //! The relocation words of modules in file order, and the parts of modules that overlap one.
 
-ghost use Rattle.std.specs.Prelude.{All, ◌≡◌, ◌++◌, ◌+◌, ◌<◌, ◌≤◌, ◌^◌, ◌||◌, ◌==◌, ℕ, [], ◌∷◌, length, IfOk, IfErr, IfSome, OnErr, OnOk, Some, None, Ok, option_to_list, false, true, if◌then◌else◌, slice_index_or};
+ghost use Rattle.std.specs.Prelude.{All, ◌≡◌, ◌++◌, ◌+◌, ◌<◌, ◌≤◌, ◌^◌, ◌||◌, ◌==◌, ℕ, [], ◌∷◌, length, IfOk, IfErr, IfSome, OnErr, OnOk, Some, None, Ok, Err, false, true, if◌then◌else◌, slice_index_or};
 ghost use Rattle.omf_check.specs.Listed.{placed_from};
 ghost use Rattle.omf_check.specs.Module.{recs_of, records_in};
-ghost use Rattle.omf_image.specs.Inner.Expanding.{expanded};
-ghost use Rattle.omf_image.specs.Limits.{profile_limits};
 ghost use Rattle.omf_image.specs.Painting.{Fits};
-ghost use Rattle.omf_records.specs.Inner.Seen.{contents_seen, kind_seen, odd_if, rec_seen};
-ghost use Rattle.omf_records.specs.Values.{width};
+ghost use Rattle.omf_records.specs.Inner.Seen.{contents_seen, kind_seen, rec_seen};
 ghost use Rattle.omf_reloc.specs.Inner.Measuring.{CanMeasure, measured};
 ghost use Rattle.omf_reloc.specs.Inner.PieceSeen.{piece_seen};
 ghost use Rattle.omf_reloc.specs.Inner.Pieces.{placed_pieces};
-ghost use Rattle.omf_reloc.specs.Inner.Walking.{Expands};
-ghost use Rattle.omf_exe.specs.Memory.{segment_address};
 ghost use Rattle.omf_reloc.specs.Laws.{location_start, location_end};
 ghost use Rattle.omf_exe.specs.Inner.Taking.{CanTake};
 ghost use Rattle.omf_exe.specs.Overlaps.{AddsWords, IsLow, IsWordsFault, all_words, are_clear, opened, opened_after, with_contents, with_fixups, with_piece, word_of};
 
+use crate::laying::segment_address;
+use crate::member::Member;
 use crate::movers::Movers;
 use crate::moving::site;
 use omf_check::Checked;
-use omf_frame::{Index, Place};
-use omf_image::{Extent, Limits, expanded_len};
+use omf_frame::Place;
 use omf_placement::Placement;
-use omf_records::{At, Blocks, Rec};
-use omf_reloc::{Piece, PlainFixup, pieces_of};
+use omf_records::Rec;
+use omf_reloc::{Piece, PlainFixup, measure, pieces_of};
 use std::alloc::{AllocError, Global};
 use std::marker::Model;
 use thiserror::Error;
@@ -126,74 +122,6 @@ impl Words {
         mark(&mut self.starts, at)?;
         self.found.push_reserved(at);
         Ok(())
-    }
-}
-
-/// The expanded length of an LIDATA's blocks, in bytes.
-fn blocks_len(blocks: Blocks<'_>) -> u64
-    requires { Expands (odd_if blocks.width 0xA2) blocks.bytes.now }
-    ensures { result ≡ length (expanded (width (odd_if blocks.entry.width 0xA2)) profile_limits blocks.entry.bytes.now) }
-{
-    match expanded_len(blocks, Limits::profile()) {
-        Ok(len) => u64::from(len),
-        Err(_) => unreachable!(),
-    }
-}
-
-/// The extent of `len` bytes at an offset of a segment.
-fn extent_from(segment: &At<Index>, offset: &At<u32>, len: u64) -> Extent
-    ensures { result ≡ record { segment = segment.now.item; first = offset.now.item; len = len } }
-{
-    Extent {
-        segment: segment.item.0,
-        first: offset.item,
-        len,
-    }
-}
-
-/// The extent of a data record; `None` for any other record.
-fn measure(rec: &Rec<'_>) -> Option<Extent>
-    requires { CanMeasure (rec_seen rec.now) }
-    ensures { option_to_list result ≡ measured (rec_seen rec.now) }
-{
-    match rec {
-        Rec::Plain {
-            segment,
-            offset,
-            data,
-            ..
-        } => Some(extent_from(segment, offset, data.len() as u64)),
-        Rec::Iterated {
-            segment,
-            offset,
-            blocks,
-        } => Some(extent_from(segment, offset, blocks_len(*blocks))),
-        Rec::Header { .. }
-        | Rec::Comment { .. }
-        | Rec::Names(_)
-        | Rec::Segment { .. }
-        | Rec::Group { .. }
-        | Rec::Externs(_)
-        | Rec::Publics { .. }
-        | Rec::Communals(_)
-        | Rec::Fixups { .. }
-        | Rec::ModEnd { .. }
-        | Rec::LocalNames(_)
-        | Rec::LocalExterns { .. }
-        | Rec::LocalPublics { .. }
-        | Rec::LocalCommunals(_)
-        | Rec::Carried { .. } => None,
-    }
-}
-
-/// The address of a segment; 0 if the placement has no entry for it.
-fn segment_address(placement: &Placement, segment: u16) -> usize
-    ensures value { result ≡ segment_address placement.now segment }
-    ensures low { result < 2 ^ 32 }
-{
-    match placement.segment(usize::from(segment)) {
-        Some(place) => place.address as usize,
-        None => 0,
     }
 }
 

@@ -1,5 +1,5 @@
 -- What a piece must have so that its words can be added.
-use Rattle.std.specs.Prelude.{ℕ, All, ⊤}
+use Rattle.std.specs.Prelude.{All, ⊤}
 use Rattle.omf_image.specs.Painting.{Fits}
 use Rattle.omf_reloc.specs.Inner.Measuring.{CanMeasure, measured}
 use Rattle.omf_reloc.specs.Plain.{Piece, Kept, Fixed, End}
