@@ -4,7 +4,7 @@ use crate::asked::Make;
 use crate::fault::Fault;
 use crate::files::read_input;
 use crate::library::{Library, read_members};
-use crate::making::{part_of, put_unread, write_parts};
+use crate::making::{Members, put_unread, write_members};
 use crate::members::{Verdict, judge};
 use crate::shown::{Shown, Stop};
 use crate::span::Span;
@@ -33,7 +33,7 @@ fn accepted(
     }
 }
 
-/// Appends the canonical bytes of a member as a part, with the publics in their order; or a line, if it is refused.
+/// Appends the canonical bytes of a member as a part, with its names in their order; or a line, if it is refused.
 fn push_canonical(
     shown: &mut Shown,
     parts: &mut Vec<Part>,
@@ -52,7 +52,7 @@ fn push_canonical(
     };
     // The check accepts the canonical bytes of a module that it accepts.
     if let Some(module) = accepted(shown, profile, &canonical)? {
-        parts.push(part_of(alloc, &module)?)?;
+        parts.push(Part::new(alloc, &module)?)?;
     }
     Ok(())
 }
@@ -80,7 +80,12 @@ fn write_canonical(
     if shown.status != 0 {
         return Ok(());
     }
-    write_parts(rt, shown, asked, names.as_slice(), parts.as_slice())
+    let members = Members {
+        names: names.as_slice(),
+        parts: parts.as_slice(),
+        is_case_sensitive: library.header.flags % 2 == 1,
+    };
+    write_members(rt, shown, asked, members)
 }
 
 /// Makes a library of the canonical bytes of another one's members, in order. Nothing is written if that is no library,

@@ -3,25 +3,13 @@
 use crate::asked::Make;
 use crate::files::{Written, read_input, shown_path, write_new};
 use crate::members::{Verdict, judge};
-use crate::publics::publics_of;
 use crate::shown::{Shown, Stop};
 use crate::span::Span;
 use crate::text::{put_quoted, put_reason};
-use omf_check::Checked;
 use omf_library::{MakeFault, Part, make};
 use std::alloc::{AllocError, Global};
 use std::fmt::Write;
 use std::io;
-
-/// A part of a checked module: its bytes, without what follows its MODEND in the file.
-pub fn part_of(alloc: Global, module: &Checked) -> Result<Part, AllocError> {
-    let mut bytes = Vec::new(alloc);
-    bytes.extend_from_slice(module.bytes())?;
-    Ok(Part {
-        bytes,
-        publics: publics_of(alloc, module)?,
-    })
-}
 
 /// Appends the line of a file that is refused.
 fn put_refused(shown: &mut Shown, name: &str, why: &Verdict) -> Result<(), AllocError> {
@@ -60,7 +48,7 @@ fn push_part(
     };
     match judge(rt.alloc(), asked.profile, &span)? {
         Verdict::Accepted(module) => {
-            parts.push(part_of(rt.alloc(), &module)?)?;
+            parts.push(Part::new(rt.alloc(), &module)?)?;
             Ok(())
         }
         refused => put_refused(shown, name, &refused),
@@ -75,23 +63,23 @@ fn name_of(alloc: Global, names: &[String], number: usize) -> Result<String, All
     }
 }
 
-/// Appends the line of a public that two parts have. `names` are those of the parts.
+/// Appends the line of a name that two parts define. `names` are those of the parts, `number` is that in the second.
 fn put_twice(
     shown: &mut Shown,
     names: &[String],
     parts: &[Part],
     first: usize,
     second: usize,
-    public: usize,
+    number: usize,
 ) -> Result<(), AllocError> {
     let alloc = *shown.text.allocator();
     let one = name_of(alloc, names, first)?;
     let other = name_of(alloc, names, second)?;
     shown.text.push_str("twice")?;
     if let Some(part) = parts.get(second)
-        && let Some(name) = part.publics.get(public)
+        && let Some(defined) = part.names.get(number)
     {
-        put_quoted(&mut shown.text, name.as_slice())?;
+        put_quoted(&mut shown.text, defined.name.as_slice())?;
     }
     write!(&mut shown.text, " in {one} and {other}\n")
 }
@@ -111,8 +99,8 @@ fn put_fault(
         MakeFault::Twice {
             first,
             second,
-            public,
-        } => put_twice(shown, names, parts, first, second, public)?,
+            name,
+        } => put_twice(shown, names, parts, first, second, name)?,
         MakeFault::TooLarge => write!(&mut shown.text, "refused {output}: too large\n")?,
         MakeFault::Refused { .. } | MakeFault::Unlike => {
             write!(
@@ -152,15 +140,27 @@ fn write_library(
     }
 }
 
-/// Makes a library of parts, and writes it. `names` are those of the parts.
-pub fn write_parts(
+/// Modules that become a library: their names as they are printed, and whether names that differ in case differ.
+#[derive(Clone, Copy)]
+pub struct Members<'a> {
+    pub names: &'a [String],
+    pub parts: &'a [Part],
+    pub is_case_sensitive: bool,
+}
+
+/// Makes a library of modules, and writes it.
+pub fn write_members(
     rt: &HostRuntime,
     shown: &mut Shown,
     asked: &Make,
-    names: &[String],
-    parts: &[Part],
+    members: Members<'_>,
 ) -> Result<(), Stop> {
-    match make(rt.alloc(), asked.profile, parts) {
+    let Members {
+        names,
+        parts,
+        is_case_sensitive,
+    } = members;
+    match make(rt.alloc(), asked.profile, is_case_sensitive, parts) {
         Ok(bytes) => Ok(write_library(rt, shown, asked, parts.len(), &bytes)?),
         Err(fault) => put_fault(shown, asked, names, parts, fault),
     }
@@ -175,5 +175,10 @@ pub fn make_library(rt: &HostRuntime, shown: &mut Shown, asked: &Make) -> Result
     if shown.status != 0 {
         return Ok(());
     }
-    write_parts(rt, shown, asked, asked.files.as_slice(), parts.as_slice())
+    let members = Members {
+        names: asked.files.as_slice(),
+        parts: parts.as_slice(),
+        is_case_sensitive: true,
+    };
+    write_members(rt, shown, asked, members)
 }

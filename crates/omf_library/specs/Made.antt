@@ -1,12 +1,20 @@
--- Libraries that are made: their members are the modules that were given, and both searches find each public.
-use Rattle.std.specs.Prelude.{◌≡◌, ⊤, ℕ, ◌+◌, ◌*◌, ◌/◌, ◌%◌, ◌<◌, ◌≤◌, ◌==◌, Bool, List, [], ◌∷◌, length, drop, take, Option, MatchOption, Vec}
-use Rattle.std.specs.Global.{Global}
+-- Libraries that are made: their members are the modules that were given, and both searches find each name.
+use Rattle.std.specs.Prelude.{◌≡◌, ◌⊎◌, ⊤, ℕ, ◌+◌, ◌*◌, ◌/◌, ◌%◌, ◌<◌, ◌≤◌, ◌==◌, if◌then◌else◌, Bool, true, List, [], ◌∷◌, length, drop, take, Option, Some, MatchOption}
+use Rattle.std.specs.Borrow.{Bor}
+use Rattle.std.specs.Slice.{IsItemAt}
 use Rattle.omf_check.specs.declared.profile.Profile.{Profile}
-use Rattle.omf_library.specs.Dictionary.{IsFoundAfter, block_size}
+use Rattle.omf_library.specs.Dictionary.{IsFoundAfter, block_size, is_same_name}
 use Rattle.omf_library.specs.Library.{IsLibrary, header_of, page_size}
 use Rattle.omf_library.specs.declared.dictionary.Dictionary.{Dictionary}
 use Rattle.omf_library.specs.declared.header.Header.{Header}
+use Rattle.omf_library.specs.Names.{is_strong}
+use Rattle.omf_library.specs.declared.making.MakeFault.{MakeFault}
+use Rattle.omf_library.specs.declared.making.MakeFault.TheVariants as fault
+use Rattle.omf_library.specs.declared.making.Opened.{Opened as CodeOpened}
 use Rattle.omf_library.specs.declared.making.Part.{Part}
+use Rattle.omf_library.specs.declared.names.Defined.{Defined}
+use Rattle.omf_library.specs.declared.names.Kind.{Kind}
+use Rattle.omf_library.specs.declared.names.Kind.TheVariants as kind
 use Rattle.omf_library.specs.declared.member.Member.{Member}
 use Rattle.omf_library.specs.declared.search.Rule.{Rule}
 use Rattle.omf_library.specs.declared.search.Rule.TheVariants as rule
@@ -33,22 +41,54 @@ pub record IsFoundByBoth (sensitive : Bool) (dictionary name : List ℕ) (page :
   pub restart : IsFoundBy rule.Restart sensitive dictionary name page
   pub keep : IsFoundBy rule.Keep sensitive dictionary name page
 
--- Both searches find each of several names, with this page.
-abbrev pub AreFoundByBoth : Bool → List ℕ → List (Vec ℕ Global) → ℕ → Type 0
-AreFoundByBoth sensitive dictionary [] page = ⊤
-AreFoundByBoth sensitive dictionary (name ∷ names) page = IsFoundByBoth sensitive dictionary name.items page × AreFoundByBoth sensitive dictionary names page
+-- One of the names is this one.
+abbrev pub HasName : Bool → List Defined → List ℕ → Type 0
+HasName sensitive [] name = ⊥
+HasName sensitive (d ∷ ds) name = (is_same_name sensitive d.name.items name ≡ true) ⊎ HasName sensitive ds name
 
--- What is read of a library: its bytes, its page size and its dictionary.
+-- One of the names is this one, other than as a communal.
+abbrev pub HasStrong : Bool → List Defined → List ℕ → Type 0
+HasStrong sensitive [] name = ⊥
+HasStrong sensitive (d ∷ ds) name = ((is_strong d.kind ≡ true) × (is_same_name sensitive d.name.items name ≡ true)) ⊎ HasStrong sensitive ds name
+
+-- What is read of a library: its bytes, its page size, its dictionary, its members; and the modules that were given.
 pub record Opened : Type 0 where
   pub bytes : List ℕ
   pub page : ℕ
   pub is_case_sensitive : Bool
   pub dictionary : List ℕ
+  pub members : List Member
+  pub parts : List Part
 
--- A member is a module that was given: it has its bytes, and both searches find its publics, with its page.
+abbrev pub opened_seen : CodeOpened → Opened
+opened_seen o = record { bytes = o.bytes.now; page = o.page; is_case_sensitive = o.dictionary.is_case_sensitive; dictionary = o.dictionary.bytes.now; members = o.members.now; parts = o.parts.now }
+
+-- A module that begins at a page defines a name. The members are the modules, in order.
+abbrev pub IsDefinedAt : Opened → List Member → List Part → List ℕ → ℕ → Type 0
+IsDefinedAt o [] parts name page = ⊥
+IsDefinedAt o (m ∷ ms) [] name page = ⊥
+IsDefinedAt o (m ∷ ms) (part ∷ parts) name page = ((m.offset / o.page ≡ page) × HasName o.is_case_sensitive part.names.items name) ⊎ IsDefinedAt o ms parts name page
+
+-- Both searches find a communal, with the page of a member that defines the name.
+pub record IsCommunalEntered (o : Opened) (name : List ℕ) : Type 0 where
+  pub page : ℕ
+  pub found : IsFoundByBoth o.is_case_sensitive o.dictionary name page
+  pub defined : IsDefinedAt o o.members o.parts name page
+
+-- Both searches find a name that the member at a page defines: a public and an import with this page.
+abbrev pub IsEntered : Opened → ℕ → Kind → List ℕ → Type 0
+IsEntered o page kind.Public name = IsFoundByBoth o.is_case_sensitive o.dictionary name page
+IsEntered o page kind.Import name = IsFoundByBoth o.is_case_sensitive o.dictionary name page
+IsEntered o page kind.Communal name = IsCommunalEntered o name
+
+abbrev pub AreEntered : Opened → ℕ → List Defined → Type 0
+AreEntered o page [] = ⊤
+AreEntered o page (d ∷ ds) = IsEntered o page d.kind d.name.items × AreEntered o page ds
+
+-- A member is a module that was given: it has its bytes, and both searches find its names.
 pub record IsPart (o : Opened) (m : Member) (part : Part) : Type 0 where
   pub same : take m.length (drop m.offset o.bytes) ≡ part.bytes.items
-  pub found : AreFoundByBoth o.is_case_sensitive o.dictionary part.publics.items (m.offset / o.page)
+  pub found : AreEntered o (m.offset / o.page) part.names.items
 
 -- The members are the modules that were given, in order.
 abbrev pub AreParts : Opened → List Member → List Part → Type 0
@@ -57,14 +97,33 @@ AreParts o [] (part ∷ parts) = ⊥
 AreParts o (m ∷ ms) [] = ⊥
 AreParts o (m ∷ ms) (part ∷ parts) = IsPart o m part × AreParts o ms parts
 
-abbrev pub opened : List ℕ → Opened
-opened bytes = record { bytes = bytes; page = page_size bytes; is_case_sensitive = is_case_sensitive (header_of bytes); dictionary = dictionary_at (header_of bytes) bytes }
+abbrev pub opened : List ℕ → List Member → List Part → Opened
+opened bytes members parts = record { bytes = bytes; page = page_size bytes; is_case_sensitive = is_case_sensitive (header_of bytes); dictionary = dictionary_at (header_of bytes) bytes; members = members; parts = parts }
 
--- The bytes are a library whose members are the modules that were given, in order, byte for byte; both searches of its
--- dictionary, which is all there, find each of their publics, with the page of its member.
-pub record IsMade (profile : Profile) (parts : List Part) (bytes : List ℕ) : Type 0 where
+-- The bytes are a library whose members are the modules that were given, in order, byte for byte. Both searches of its
+-- dictionary, which is all there, find each of their names: a public and an import with the page of its member, a communal
+-- with that of a member that defines the name. Names that differ in case are one in a library without the flag 1.
+pub record IsMade (profile : Profile) (sensitive : Bool) (parts : List Part) (bytes : List ℕ) : Type 0 where
   pub members : List Member
   pub end : ℕ
   pub library : IsLibrary profile bytes members end
+  pub flags : (header_of bytes).flags ≡ (if sensitive then 1 else 0)
   pub inside : (header_of bytes).dictionary + block_size * (header_of bytes).blocks ≤ length bytes
-  pub same : AreParts (opened bytes) members parts
+  pub same : AreParts (opened bytes members parts) members parts
+
+-- Two modules define one name, other than as a communal: the second by its name of this number, the first by any of its
+-- names. If they are one module, by one before that.
+pub record IsTwice (sensitive : Bool) (parts : List Part) (first second name : ℕ) : Type 0 where
+  pub one : Bor Part
+  pub other : Bor Part
+  pub defined : Bor Defined
+  pub one_is : IsItemAt parts first (Some one)
+  pub other_is : IsItemAt parts second (Some other)
+  pub defined_is : IsItemAt other.now.names.items name (Some defined)
+  pub strong : is_strong defined.now.kind ≡ true
+  pub again : HasStrong sensitive (if first == second then take name one.now.names.items else one.now.names.items) defined.now.name.items
+
+-- What a fault of the making means for the modules that were given.
+abbrev pub IsMakeFault : Bool → List Part → MakeFault → Type 0
+IsMakeFault sensitive parts (fault.Twice first second name) = IsTwice sensitive parts first second name
+IsMakeFault sensitive parts _ = ⊤

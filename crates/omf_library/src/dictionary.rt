@@ -43,7 +43,7 @@ fn folded(is_case_sensitive: bool, c: u8) -> u8
 }
 
 /// Whether two names are one.
-fn is_same_name(is_case_sensitive: bool, one: &[u8], other: &[u8]) -> bool
+pub(crate) fn is_same_name(is_case_sensitive: bool, one: &[u8], other: &[u8]) -> bool
     ensures { result ≡ is_same_name is_case_sensitive one.now other.now }
 {
     let mut rest = one;

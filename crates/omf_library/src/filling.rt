@@ -6,6 +6,7 @@ ghost use Rattle.std.specs.Prelude.{◌≡◌, ◌+◌, ◌*◌, ◌<◌, ◌≤
 use crate::dictionary::{BLOCK, Look, look_of};
 use crate::hash::{BUCKETS, Probe, probe_of};
 use crate::making::{MakeFault, Part};
+use crate::names::{Defined, Kind, is_strong};
 use std::alloc::{AllocError, Global};
 
 /// The page sizes.
@@ -64,15 +65,23 @@ fn page_for(parts: &[Part]) -> Option<usize> {
     PAGES.iter().copied().find(|page| is_numbered(*page, parts))
 }
 
-/// Where a block has a place for a name.
-fn slot_of(block: &[u8], probe: Probe, name: &[u8]) -> Slot
+/// An entry that is put: a name, and the page of its member.
+#[derive(Clone, Copy)]
+struct Entry<'a> {
+    is_case_sensitive: bool,
+    name: &'a [u8],
+    page: u16,
+}
+
+/// Where a block has a place for an entry.
+fn slot_of(block: &[u8], probe: Probe, entry: Entry<'_>) -> Slot
     requires whole { 37 ≤ length block.now }
     requires bucket { probe.bucket < 37 }
     requires step { probe.bucket_step < 37 }
 {
     let mut bucket = probe.bucket;
     for _looked in 0..BUCKETS {
-        match look_of(true, block, bucket, name) {
+        match look_of(entry.is_case_sensitive, block, bucket, entry.name) {
             Look::Empty => return Slot::Free(bucket),
             Look::Found(page) => return Slot::Twice(page),
             Look::Other => bucket = (bucket + probe.bucket_step) % BUCKETS,
@@ -89,7 +98,8 @@ fn set(block: &mut [u8], at: usize, byte: u8) {
 }
 
 /// Writes an entry, and the bucket that points to it. Returns whether there was room.
-fn write_entry(block: &mut [u8], bucket: usize, name: &[u8], page: u16) -> bool {
+fn write_entry(block: &mut [u8], bucket: usize, entry: Entry<'_>) -> bool {
+    let name = entry.name;
     let free = match block.get(BUCKETS) {
         Some(free) => *free,
         None => FULL,
@@ -104,7 +114,7 @@ fn write_entry(block: &mut [u8], bucket: usize, name: &[u8], page: u16) -> bool 
     for (i, c) in name.iter().enumerate() {
         set(block, at.saturating_add(1).saturating_add(i), *c);
     }
-    let [low, high] = page.to_le_bytes();
+    let [low, high] = entry.page.to_le_bytes();
     set(block, end.saturating_sub(2), low);
     set(block, end.saturating_sub(1), high);
     set(block, BUCKETS, end.div_ceil(2).min(255) as u8);
@@ -123,14 +133,14 @@ fn close_block(block: &mut [u8]) {
 }
 
 /// Puts an entry into a block. A block that has no room for it is full from then on.
-fn put_in_block(block: &mut [u8], probe: Probe, name: &[u8], page: u16) -> Placed
+fn put_in_block(block: &mut [u8], probe: Probe, entry: Entry<'_>) -> Placed
     requires whole { 37 ≤ length block.old }
     requires bucket { probe.bucket < 37 }
     requires step { probe.bucket_step < 37 }
 {
-    match slot_of(block, probe, name) {
+    match slot_of(block, probe, entry) {
         Slot::Twice(page) => Placed::Twice(page),
-        Slot::Free(bucket) if write_entry(block, bucket, name, page) => Placed::Done,
+        Slot::Free(bucket) if write_entry(block, bucket, entry) => Placed::Done,
         Slot::Free(_) | Slot::Full => {
             close_block(block);
             Placed::Full
@@ -139,16 +149,16 @@ fn put_in_block(block: &mut [u8], probe: Probe, name: &[u8], page: u16) -> Place
 }
 
 /// Puts an entry into a dictionary, where both searches find it.
-fn put_entry(blocks: &mut [u8], name: &[u8], page: u16) -> Placed {
+fn put_entry(blocks: &mut [u8], entry: Entry<'_>) -> Placed {
     let count = blocks.len() / BLOCK;
     if count == 0 {
         return Placed::Full;
     }
-    let probe = probe_of(count, name);
+    let probe = probe_of(count, entry.name);
     let mut number = probe.block;
     for _passed in 0..count {
         let start = BLOCK * number;
-        let placed = put_in_block(&mut blocks[start..start + BLOCK], probe, name, page);
+        let placed = put_in_block(&mut blocks[start..start + BLOCK], probe, entry);
         if !matches!(placed, Placed::Full) {
             return placed;
         }
@@ -189,24 +199,75 @@ fn part_at(pages: &[First], page: u16) -> usize {
     }
 }
 
-/// Puts the publics of a part. Returns whether each has a place.
-fn put_publics(
-    blocks: &mut [u8],
+/// A dictionary that is filled.
+#[derive(Drop)]
+struct Filled {
+    blocks: Vec<u8>,
+    is_case_sensitive: bool,
+    /// The bytes that its entries take.
+    used: usize,
+}
+
+/// Which names of the parts are put.
+#[derive(Clone, Copy, PartialEq, Eq)]
+enum Turn {
+    /// Publics and imports. None may be there already.
+    Strong,
+    /// Communals that are not there already.
+    Communal,
+}
+
+/// Whether a name is put in a turn.
+fn has_turn(turn: Turn, kind: Kind) -> bool {
+    match turn {
+        Turn::Strong => is_strong(kind),
+        Turn::Communal => !is_strong(kind),
+    }
+}
+
+/// Puts the names of a part that have their turn. Returns whether each has a place.
+fn put_names(
+    filled: &mut Filled,
+    turn: Turn,
     pages: &[First],
     first: First,
-    names: &[Vec<u8>],
+    names: &[Defined],
 ) -> Result<bool, MakeFault> {
-    for (public, name) in names.iter().enumerate() {
-        match put_entry(blocks, name.as_slice(), first.page) {
-            Placed::Done => {}
+    for (number, defined) in names.iter().enumerate() {
+        if !has_turn(turn, defined.kind) {
+            continue;
+        }
+        let entry = Entry {
+            is_case_sensitive: filled.is_case_sensitive,
+            name: defined.name.as_slice(),
+            page: first.page,
+        };
+        match put_entry(&mut filled.blocks, entry) {
+            Placed::Done => filled.used = filled.used.saturating_add(entry_size(entry.name)),
             Placed::Full => return Ok(false),
+            Placed::Twice(_) if turn == Turn::Communal => {}
             Placed::Twice(page) => {
                 return Err(MakeFault::Twice {
                     first: part_at(pages, page),
                     second: first.part,
-                    public,
+                    name: number,
                 });
             }
+        }
+    }
+    Ok(true)
+}
+
+/// Puts the names of all parts that have their turn. Returns whether each has a place.
+fn put_all(
+    filled: &mut Filled,
+    turn: Turn,
+    pages: &[First],
+    parts: &[Part],
+) -> Result<bool, MakeFault> {
+    for (first, part) in pages.iter().zip(parts) {
+        if !put_names(filled, turn, pages, *first, part.names.as_slice())? {
+            return Ok(false);
         }
     }
     Ok(true)
@@ -223,22 +284,33 @@ fn empty_blocks(alloc: Global, count: usize) -> Result<Vec<u8>, AllocError>
     Ok(blocks)
 }
 
-/// The dictionary in this number of blocks; None if a public has no place.
-fn filled(
+/// Whether entries of this size fill at most four fifths of the room of the blocks, so that a search passes few full ones.
+fn has_room(count: usize, used: usize) -> bool {
+    used.saturating_add(used / 4) <= count.saturating_mul(ROOM)
+}
+
+/// The dictionary in this number of blocks; None if a name has no place, or if the blocks are too full.
+fn fill(
     alloc: Global,
+    is_case_sensitive: bool,
     count: usize,
     pages: &[First],
     parts: &[Part],
 ) -> Result<Option<Vec<u8>>, MakeFault>
     requires { count < 65536 }
 {
-    let mut blocks = empty_blocks(alloc, count)?;
-    for (first, part) in pages.iter().zip(parts) {
-        if !put_publics(&mut blocks, pages, *first, part.publics.as_slice())? {
-            return Ok(None);
-        }
+    let mut filled = Filled {
+        blocks: empty_blocks(alloc, count)?,
+        is_case_sensitive,
+        used: 0,
+    };
+    let is_whole = put_all(&mut filled, Turn::Strong, pages, parts)?
+        && put_all(&mut filled, Turn::Communal, pages, parts)?;
+    if is_whole && has_room(count, filled.used) {
+        Ok(Some(filled.blocks))
+    } else {
+        Ok(None)
     }
-    Ok(Some(blocks))
 }
 
 /// Whether a number from 2 to 65,535 is prime.
@@ -257,17 +329,18 @@ fn entry_size(name: &[u8]) -> usize {
     size.max(ROOM.div_ceil(BUCKETS))
 }
 
-/// The bytes that the entries of a part take.
+/// The bytes that the entries of a part take, without communals: these may be those of other parts.
 fn entries_size(part: &Part) -> usize {
     let mut size = 0usize;
-    for name in part.publics.iter() {
-        size = size.saturating_add(entry_size(name.as_slice()));
+    for defined in part.names.iter() {
+        if is_strong(defined.kind) {
+            size = size.saturating_add(entry_size(defined.name.as_slice()));
+        }
     }
     size
 }
 
-/// The least number of blocks to try: that in which the entries fill four fifths of the room, so that a search passes
-/// few full blocks.
+/// The least number of blocks to try: that in which the entries, without communals, fill four fifths of the room.
 fn least_blocks(parts: &[Part]) -> usize {
     let mut size = 0usize;
     for part in parts {
@@ -277,11 +350,16 @@ fn least_blocks(parts: &[Part]) -> usize {
 }
 
 /// The dictionary of the parts: the least number of blocks is tried first, then primes that grow by a quarter.
-fn dictionary_of(alloc: Global, pages: &[First], parts: &[Part]) -> Result<Vec<u8>, MakeFault> {
+fn dictionary_of(
+    alloc: Global,
+    is_case_sensitive: bool,
+    pages: &[First],
+    parts: &[Part],
+) -> Result<Vec<u8>, MakeFault> {
     let mut next = least_blocks(parts);
     for count in 2..=MOST_BLOCKS {
         if count >= next && is_prime(count) {
-            if let Some(blocks) = filled(alloc, count, pages, parts)? {
+            if let Some(blocks) = fill(alloc, is_case_sensitive, count, pages, parts)? {
                 return Ok(blocks);
             }
             next = count + count / 4 + 1;
@@ -307,6 +385,7 @@ fn put_header(
     page: usize,
     dictionary: u32,
     blocks: u16,
+    is_case_sensitive: bool,
 ) -> Result<(), MakeFault> {
     let Ok(length) = u16::try_from(page.saturating_sub(3)) else {
         return Err(MakeFault::TooLarge);
@@ -315,7 +394,7 @@ fn put_header(
     bytes.extend_from_slice(length.to_le_bytes().as_slice())?;
     bytes.extend_from_slice(dictionary.to_le_bytes().as_slice())?;
     bytes.extend_from_slice(blocks.to_le_bytes().as_slice())?;
-    bytes.push(1)?;
+    bytes.push(u8::from(is_case_sensitive))?;
     fill_up(bytes, page)?;
     Ok(())
 }
@@ -335,12 +414,12 @@ fn end_of(page: usize, parts: &[Part]) -> usize {
 }
 
 /// The bytes of a library of these parts: the header, the members, the F1H record and the dictionary.
-pub fn build(alloc: Global, parts: &[Part]) -> Result<Vec<u8>, MakeFault> {
+pub fn build(alloc: Global, is_case_sensitive: bool, parts: &[Part]) -> Result<Vec<u8>, MakeFault> {
     let Some(page) = page_for(parts) else {
         return Err(MakeFault::TooLarge);
     };
     let pages = first_pages(alloc, page, parts)?;
-    let blocks = dictionary_of(alloc, &pages, parts)?;
+    let blocks = dictionary_of(alloc, is_case_sensitive, &pages, parts)?;
     let end = end_of(page, parts);
     let filling = end_length(end);
     let dictionary = end.saturating_add(3).saturating_add(usize::from(filling));
@@ -350,7 +429,7 @@ pub fn build(alloc: Global, parts: &[Part]) -> Result<Vec<u8>, MakeFault> {
     ) {
         (Ok(dictionary), Ok(count)) => {
             let mut bytes = Vec::new(alloc);
-            put_header(&mut bytes, page, dictionary, count)?;
+            put_header(&mut bytes, page, dictionary, count, is_case_sensitive)?;
             put_members(&mut bytes, page, parts)?;
             put_end(&mut bytes, filling)?;
             bytes.extend_from_slice(&blocks)?;

@@ -9,6 +9,7 @@
 //! ```
 #![tactic(auto)]
 
+mod account;
 mod dictionary;
 mod fault;
 mod filling;
@@ -18,11 +19,15 @@ pub mod laws;
 mod making;
 mod member;
 mod members;
+mod names;
+pub mod needed;
 pub mod rows;
 mod search;
+mod spans;
 #[cfg(test)]
 mod tests;
 
+pub use account::{Region, RegionKind, account_of};
 pub use dictionary::{BLOCK, Bucket, Dictionary, Look};
 pub use fault::LibraryFault;
 pub use hash::{BUCKETS, Probe, probe_of};
@@ -30,4 +35,7 @@ pub use header::{Header, read_header};
 pub use making::{MakeFault, Part, dictionary_in, make};
 pub use member::Member;
 pub use members::members_in;
+pub use names::{Defined, Kind, defined_names};
+pub use needed::needed_members;
 pub use search::{Ended, Rule, Sought};
+pub use spans::{Span, SpanFault, Spans, spans_in};

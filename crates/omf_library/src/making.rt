@@ -1,29 +1,49 @@
 //! Libraries of modules that are given.
 
-ghost use Rattle.std.specs.Prelude.{◌≡◌, ◌<◌, IfOk, IfSome, OnOk, drop, take};
+ghost use Rattle.std.specs.Prelude.{◌≡◌, ◌<◌, IfErr, IfOk, IfSome, OnOk, List, Bool, drop, take, if◌then◌else◌};
 ghost use Rattle.std.specs.Bool.{OnTrue};
-ghost use Rattle.omf_library.specs.Made.{AreFoundByBoth, AreParts, IsDictionary, IsFoundBy, IsFoundByBoth, IsMade, IsPart};
+ghost use Rattle.omf_check.specs.Module.{recs_of};
+ghost use Rattle.omf_library.specs.Made.{AreEntered, AreParts, HasName, HasStrong, IsCommunalEntered, IsDefinedAt, IsDictionary, IsEntered, IsFoundBy, IsFoundByBoth, IsMade, IsMakeFault, IsPart, IsTwice, opened_seen};
+ghost use Rattle.omf_library.specs.Names.{defined_names, is_strong, names_seen};
 ghost use Rattle.omf_library.specs.declared.making.MakeFault.TheVariants.{Memory};
 
-use crate::dictionary::{BLOCK, Dictionary};
+use crate::dictionary::{BLOCK, Dictionary, is_same_name};
 use crate::fault::LibraryFault;
 use crate::filling::build;
 use crate::header::{Header, read_header};
 use crate::member::Member;
 use crate::members::members_in;
+use crate::names::{Defined, Kind, defined_names, is_strong};
 use crate::search::Rule;
-use omf_check::Profile;
+use omf_check::{Checked, Profile};
 use omf_frame::{Place, Reason};
 use std::alloc::{AllocError, AllocFailed, Global};
 use thiserror::Error;
 
-/// A module that becomes a member, and its publics.
+/// A module that becomes a member, and the names that it defines.
 #[derive(Drop)]
 pub struct Part {
     /// Its bytes, up to the end of its MODEND.
     pub bytes: Vec<u8>,
-    /// The names of its publics: at most 255 bytes each.
-    pub publics: Vec<Vec<u8>>,
+    /// Its names: at most 255 bytes each.
+    pub names: Vec<Defined>,
+}
+
+impl Part {
+    /// The bytes of a module, and the names that it defines.
+    ///
+    /// # Errors
+    ///
+    /// `AllocError` if out of memory.
+    pub fn new(alloc: Global, module: &Checked) -> Result<Part, AllocError>
+        ensures bytes { IfOk result (λ part. part.bytes.items ≡ «module».now.bytes) }
+        ensures names { IfOk result (λ part. names_seen part.names.items ≡ defined_names (recs_of «module».now.bytes)) }
+    {
+        Ok(Part {
+            bytes: Vec::from_slice(alloc, module.bytes())?,
+            names: defined_names(alloc, module)?,
+        })
+    }
 }
 
 /// Why no library was made.
@@ -39,12 +59,13 @@ pub enum MakeFault {
         reason: Reason,
         place: Place,
     },
-    /// Two parts have one public: that of this number in the second.
-    #[error("two modules have one public")]
+    /// Two parts define one name, other than as a communal: that of this number in the second. Or one part defines it
+    /// twice.
+    #[error("two modules define one name")]
     Twice {
         first: usize,
         second: usize,
-        public: usize,
+        name: usize,
     },
     /// The library would have too many pages, or a dictionary with too many blocks.
     #[error("the library would be too large")]
@@ -71,6 +92,10 @@ impl<T: Drop> From<AllocFailed<T>> for MakeFault {
 }
 
 impl From<LibraryFault> for MakeFault {
+    ghost use Rattle.omf_library.specs.declared.making.Part.{Part};
+
+    ghost from_gives = { λ _ e. (sensitive : Bool) (parts : List Part) → IsMakeFault sensitive parts e };
+
     fn from(fault: LibraryFault) -> MakeFault {
         match fault {
             LibraryFault::Memory => MakeFault::Memory,
@@ -124,20 +149,6 @@ fn both_find(dictionary: Dictionary<'_>, name: &[u8], page: usize) -> bool
     finds(dictionary, Rule::Restart, name, page) && finds(dictionary, Rule::Keep, name, page)
 }
 
-/// Whether both searches find each name, with a page.
-fn both_find_all(dictionary: Dictionary<'_>, names: &[Vec<u8>], page: usize) -> bool
-    ensures { OnTrue result (AreFoundByBoth dictionary.entry.is_case_sensitive dictionary.entry.bytes.now names.now page) }
-{
-    let mut rest = names;
-    while let [name, others @ ..] = rest {
-        if !both_find(dictionary, name.as_slice(), page) {
-            return false;
-        }
-        rest = others;
-    }
-    true
-}
-
 /// The bytes of a member, if they are all there.
 fn member_bytes<'a>(bytes: &'a [u8], member: Member) -> Option<&'a [u8]>
     ensures { IfSome result (λ m. m.now ≡ take member.length (drop member.offset bytes.entry.now)) }
@@ -161,48 +172,122 @@ fn is_equal(one: &[u8], other: &[u8]) -> bool
     one == other
 }
 
-/// Whether a member is a module that was given.
-fn is_part(
-    bytes: &[u8],
+/// What is read back of a library, and the modules that were given.
+#[derive(Clone, Copy)]
+struct Opened<'a> {
+    bytes: &'a [u8],
     page: usize,
-    dictionary: Dictionary<'_>,
-    member: Member,
-    part: &Part,
-) -> bool
-    requires { 0 < page }
-    ensures { OnTrue result (IsPart (record { bytes = bytes.now; page = page; is_case_sensitive = dictionary.entry.is_case_sensitive; dictionary = dictionary.entry.bytes.now }) member part.now) }
+    dictionary: Dictionary<'a>,
+    members: &'a [Member],
+    parts: &'a [Part],
+}
+
+/// Whether one of the names is this one.
+fn has_name(is_case_sensitive: bool, names: &[Defined], name: &[u8]) -> bool
+    ensures { OnTrue result (HasName is_case_sensitive names.now name.now) }
 {
-    let Some(module) = member_bytes(bytes, member) else {
+    let mut rest = names;
+    while let [defined, others @ ..] = rest {
+        if is_same_name(is_case_sensitive, defined.name.as_slice(), name) {
+            return true;
+        }
+        rest = others;
+    }
+    false
+}
+
+/// Whether the member that begins at a page defines a name.
+fn is_defined_at(opened: Opened<'_>, name: &[u8], page: usize) -> bool
+    requires { 0 < opened.page }
+    ensures { OnTrue result (IsDefinedAt (opened_seen opened.entry) opened.entry.members.now opened.entry.parts.now name.now page) }
+{
+    let mut rest = opened.members;
+    let mut others = opened.parts;
+    while let [member, members @ ..] = rest {
+        match others {
+            [] => return false,
+            [part, parts @ ..] => {
+                if member.offset as usize / opened.page == page {
+                    let is_sensitive = opened.dictionary.is_case_sensitive;
+                    return has_name(is_sensitive, part.names.as_slice(), name);
+                }
+                rest = members;
+                others = parts;
+            }
+        }
+    }
+    false
+}
+
+/// Whether both searches find a communal, with the page of a member that defines the name.
+fn is_communal_entered(opened: Opened<'_>, name: &[u8]) -> bool
+    requires { 0 < opened.page }
+    ensures { OnTrue result (IsCommunalEntered (opened_seen opened.entry) name.now) }
+{
+    let Some(page) = opened.dictionary.search(Rule::Restart, name).page else {
+        return false;
+    };
+    let page = usize::from(page);
+    is_defined_at(opened, name, page) && both_find(opened.dictionary, name, page)
+}
+
+/// Whether both searches find a name of the member that begins at a page.
+fn is_entered(opened: Opened<'_>, page: usize, defined: &Defined) -> bool
+    requires { 0 < opened.page }
+    ensures { OnTrue result (IsEntered (opened_seen opened.entry) page defined.now.kind defined.now.name.items) }
+{
+    let name = defined.name.as_slice();
+    match defined.kind {
+        Kind::Public | Kind::Import => both_find(opened.dictionary, name, page),
+        Kind::Communal => is_communal_entered(opened, name),
+    }
+}
+
+/// Whether both searches find each name of the member that begins at a page.
+fn are_entered(opened: Opened<'_>, page: usize, names: &[Defined]) -> bool
+    requires { 0 < opened.page }
+    ensures { OnTrue result (AreEntered (opened_seen opened.entry) page names.now) }
+{
+    let mut rest = names;
+    while let [defined, others @ ..] = rest {
+        if !is_entered(opened, page, defined) {
+            return false;
+        }
+        rest = others;
+    }
+    true
+}
+
+/// Whether a member is a module that was given.
+fn is_part(opened: Opened<'_>, member: Member, part: &Part) -> bool
+    requires { 0 < opened.page }
+    ensures { OnTrue result (IsPart (opened_seen opened.entry) member part.now) }
+{
+    let Some(module) = member_bytes(opened.bytes, member) else {
         return false;
     };
     if !is_equal(module, part.bytes.as_slice()) {
         return false;
     }
-    let number = member.offset as usize / page;
-    if !both_find_all(dictionary, part.publics.as_slice(), number) {
+    let number = member.offset as usize / opened.page;
+    if !are_entered(opened, number, part.names.as_slice()) {
         return false;
     }
     true
 }
 
 /// Whether the members are the modules that were given.
-fn are_parts(
-    bytes: &[u8],
-    page: usize,
-    dictionary: Dictionary<'_>,
-    members: &[Member],
-    parts: &[Part],
-) -> bool
-    requires { 0 < page }
-    ensures { OnTrue result (AreParts (record { bytes = bytes.now; page = page; is_case_sensitive = dictionary.entry.is_case_sensitive; dictionary = dictionary.entry.bytes.now }) members.now parts.now) }
+fn are_parts(opened: Opened<'_>) -> bool
+    requires { 0 < opened.page }
+    ensures { OnTrue result (AreParts (opened_seen opened.entry) opened.entry.members.now opened.entry.parts.now) }
 {
-    let mut rest = members;
-    let mut others = parts;
+    let mut rest = opened.members;
+    let mut others = opened.parts;
     while let [member, members @ ..] = rest {
         match others {
             [] => return false,
             [part, parts @ ..] => {
-                if !is_part(bytes, page, dictionary, *member, part) {
+                if !is_part(opened, *member, part) {
                     return false;
                 }
                 rest = members;
@@ -214,24 +299,100 @@ fn are_parts(
 }
 
 /// Reads a library back, and compares it with the modules that it was made of.
-fn read_back(alloc: Global, profile: Profile, bytes: &[u8], parts: &[Part]) -> Result<(), MakeFault>
-    ensures { OnOk result (IsMade profile parts.now bytes.now) }
+fn read_back(
+    alloc: Global,
+    profile: Profile,
+    is_case_sensitive: bool,
+    bytes: &[u8],
+    parts: &[Part],
+) -> Result<(), MakeFault>
+    ensures made { OnOk result (IsMade profile is_case_sensitive parts.now bytes.now) }
+    ensures fault { IfErr result (IsMakeFault is_case_sensitive parts.now) }
 {
     let members = members_in(alloc, profile, bytes)?;
     let header = read_header(bytes)?;
     let Some(dictionary) = dictionary_in(header, bytes) else {
         return Err(MakeFault::Unlike);
     };
-    if !are_parts(
+    let opened = Opened {
         bytes,
-        header.page as usize,
+        page: header.page as usize,
         dictionary,
-        members.as_slice(),
+        members: members.as_slice(),
         parts,
-    ) {
+    };
+    if header.flags != u8::from(is_case_sensitive) || !are_parts(opened) {
         return Err(MakeFault::Unlike);
     }
     Ok(())
+}
+
+/// Whether one of the names is this one, other than as a communal.
+fn has_strong(is_case_sensitive: bool, names: &[Defined], name: &[u8]) -> bool
+    ensures { OnTrue result (HasStrong is_case_sensitive names.now name.now) }
+{
+    let mut rest = names;
+    while let [defined, others @ ..] = rest {
+        if is_strong(defined.kind)
+            && is_same_name(is_case_sensitive, defined.name.as_slice(), name)
+        {
+            return true;
+        }
+        rest = others;
+    }
+    false
+}
+
+/// The names that count before one of this number: all, or, in the part that has it, those before it.
+fn names_before<'a>(names: &'a [Defined], is_same: bool, number: usize) -> &'a [Defined]
+    ensures { result.now ≡ (if is_same then take number names.entry.now else names.entry.now) }
+{
+    if is_same {
+        names.split_at(number.min(names.len())).0
+    } else {
+        names
+    }
+}
+
+/// Whether the parts define a name twice: the second by its name of this number, the first before that.
+fn is_twice(
+    is_case_sensitive: bool,
+    parts: &[Part],
+    first: usize,
+    second: usize,
+    name: usize,
+) -> bool
+    ensures { OnTrue result (IsTwice is_case_sensitive parts.now first second name) }
+{
+    let (Some(one), Some(other)) = (parts.get(first), parts.get(second)) else {
+        return false;
+    };
+    let Some(defined) = other.names.get(name) else {
+        return false;
+    };
+    let before = names_before(one.names.as_slice(), first == second, name);
+    is_strong(defined.kind) && has_strong(is_case_sensitive, before, defined.name.as_slice())
+}
+
+/// A fault of the building, if it is so.
+fn sure(is_case_sensitive: bool, parts: &[Part], fault: MakeFault) -> MakeFault
+    ensures { IsMakeFault is_case_sensitive parts.now result }
+{
+    match fault {
+        MakeFault::Twice {
+            first,
+            second,
+            name,
+        } => {
+            if is_twice(is_case_sensitive, parts, first, second, name) {
+                fault
+            } else {
+                MakeFault::Unlike
+            }
+        }
+        MakeFault::Memory | MakeFault::Refused { .. } | MakeFault::TooLarge | MakeFault::Unlike =>
+            fault,
+    }
 }
 
 /// Makes a library of modules, in order: the page size is the least that will do, and the dictionary has a prime number
@@ -241,12 +402,22 @@ fn read_back(alloc: Global, profile: Profile, bytes: &[u8], parts: &[Part]) -> R
 ///
 /// # Errors
 ///
-/// `Refused` if a part is no module under the profile, `Twice` if two parts have one public (or one part has it twice),
-/// `TooLarge`, `Unlike` if a part has bytes after its module. `Memory` if out of memory.
-pub fn make(alloc: Global, profile: Profile, parts: &[Part]) -> Result<Vec<u8>, MakeFault>
-    ensures { IfOk result (λ made. IsMade profile parts.now made.items) }
+/// `Refused` if a part is no module under the profile, `Twice` if two parts define one name other than as a communal (or
+/// one part twice), `TooLarge`, `Unlike` if a part has bytes after its module. `Memory` if out of memory.
+pub fn make(
+    alloc: Global,
+    profile: Profile,
+    is_case_sensitive: bool,
+    parts: &[Part],
+) -> Result<Vec<u8>, MakeFault>
+    ensures made { IfOk result (λ made. IsMade profile is_case_sensitive parts.now made.items) }
+    ensures fault { IfErr result (IsMakeFault is_case_sensitive parts.now) }
 {
-    let bytes = build(alloc, parts)?;
-    read_back(alloc, profile, &bytes, parts)?;
-    Ok(bytes)
+    match build(alloc, is_case_sensitive, parts) {
+        Ok(bytes) => {
+            read_back(alloc, profile, is_case_sensitive, &bytes, parts)?;
+            Ok(bytes)
+        }
+        Err(fault) => Err(sure(is_case_sensitive, parts, fault)),
+    }
 }

@@ -2,7 +2,10 @@
 
 ghost use Rattle.std.specs.Prelude.{◌≤◌};
 
-use crate::{LibraryFault, MakeFault, Member, Part, make, members_in};
+use crate::{
+    LibraryFault, MakeFault, Member, Part, RegionKind, account_of, make, members_in, read_header,
+    spans_in,
+};
 use omf_check::Profile;
 use omf_frame::Reason;
 use std::alloc::Global;
@@ -78,9 +81,9 @@ fn made_of(alloc: Global, module: &[u8]) -> Result<Vec<u8>, MakeFault> {
     let mut parts = Vec::new(alloc);
     parts.push(Part {
         bytes,
-        publics: Vec::new(alloc),
+        names: Vec::new(alloc),
     })?;
-    make(alloc, profile, parts.as_slice())
+    make(alloc, profile, true, parts.as_slice())
 }
 
 /// The header and the module take two pages of 16 bytes; the F1H record ends at 512; the dictionary has two blocks.
@@ -89,5 +92,27 @@ fn a_library_is_made(rt: HostRuntime) -> Result<(), Fail> {
     let made = made_of(rt.alloc(), &LIBRARY[16..27])?;
     assert_eq!(rt; made.len(), 1536);
     assert_eq!(rt; made[32], 0xF1);
+    Ok(())
+}
+
+/// The regions of the library: the header's fields and the rest of its page, the member and its padding, the F1H record.
+#[test]
+fn all_bytes_are_in_regions(rt: HostRuntime) -> Result<(), Fail> {
+    let header = read_header(&LIBRARY)?;
+    let spans = spans_in(rt.alloc(), &LIBRARY, 16)?;
+    let regions = account_of(rt.alloc(), header, &spans, &LIBRARY)?;
+    let kinds = [
+        RegionKind::Header,
+        RegionKind::Padding,
+        RegionKind::Member,
+        RegionKind::Padding,
+        RegionKind::End,
+    ];
+    let lengths = [10, 6, 11, 5, 3];
+    assert_eq!(rt; spans.end, Ok(32));
+    assert_eq!(rt; regions.len(), 5);
+    for (region, (kind, length)) in regions.iter().zip(kinds.iter().zip(lengths.iter())) {
+        assert!(rt; region.kind == *kind && region.length == *length);
+    }
     Ok(())
 }

@@ -1,0 +1,2 @@
+mod Hexadecimal
+mod Padded

@@ -1,0 +1,84 @@
+//! Files by name: reading, and writing of files that are not there.
+
+use std::alloc::AllocError;
+use std::fs::File;
+use std::io::{Read, Write};
+use std::{fs, io};
+
+/// The bytes of a file, or of the standard input if its name is `-`.
+///
+/// # Errors
+///
+/// Those of the system; out of memory is one of them.
+pub fn read_input(rt: &HostRuntime, name: &str) -> io::Result<Vec<u8>> {
+    if name != "-" {
+        return fs::read(rt, name);
+    }
+    let mut bytes = Vec::new(rt.alloc());
+    rt.stdin().read_to_end(&mut bytes)?;
+    Ok(bytes)
+}
+
+/// How the writing of a new file ended.
+pub enum Written {
+    /// The file is there, with all bytes.
+    Whole,
+    /// There was such a file before. It is unchanged.
+    IsThere,
+    /// There is no such file.
+    Failed(io::Error),
+}
+
+/// Writes a file under a name that is not there yet. An error leaves no such file.
+fn fill_new(rt: &HostRuntime, path: &str, bytes: &[u8]) -> io::Result<()> {
+    let mut file = File::create_new(rt, path)?;
+    match file.write_all(bytes) {
+        Ok(()) => Ok(()),
+        Err(error) => {
+            let _ = fs::remove_file(rt, path);
+            Err(error)
+        }
+    }
+}
+
+/// Whether a path has a file, a folder or a link.
+fn is_there(rt: &HostRuntime, path: &str) -> bool {
+    fs::symlink_metadata(rt, path).is_ok()
+}
+
+/// Moves a file to a name that is not there. Links never replace a file; where the file system has none, the name is
+/// looked up before the move.
+fn move_new(rt: &HostRuntime, from: &str, to: &str) -> Written {
+    match fs::hard_link(rt, from, to) {
+        Ok(()) => match fs::remove_file(rt, from) {
+            Ok(()) => Written::Whole,
+            Err(error) => Written::Failed(error),
+        },
+        Err(_) if is_there(rt, to) => Written::IsThere,
+        Err(_) => match fs::rename(rt, from, to) {
+            Ok(()) => Written::Whole,
+            Err(error) => Written::Failed(error),
+        },
+    }
+}
+
+/// Writes a file that is not there: beside it, as `PATH.tmp`, and then under its own name. So the file is whole or not
+/// there, and a file that was there before is unchanged.
+///
+/// # Errors
+///
+/// `AllocError` if there is no memory for the name. Nothing is written then.
+pub fn write_new(rt: &HostRuntime, path: &str, bytes: &[u8]) -> Result<Written, AllocError> {
+    if is_there(rt, path) {
+        return Ok(Written::IsThere);
+    }
+    let beside = format!(in rt.alloc(); "{path}.tmp")?;
+    if let Err(error) = fill_new(rt, beside.as_str(), bytes) {
+        return Ok(Written::Failed(error));
+    }
+    let written = move_new(rt, beside.as_str(), path);
+    if !matches!(&written, Written::Whole) {
+        let _ = fs::remove_file(rt, beside.as_str());
+    }
+    Ok(written)
+}

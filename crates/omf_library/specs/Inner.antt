@@ -1,0 +1,4 @@
+pub mod Asked
+pub mod Names
+pub mod Search
+pub mod Walk

@@ -1,0 +1,18 @@
+//! Laws of members by need, each the contract of a function that does nothing.
+
+ghost use Rattle.omf_library.specs.NeededLaws.{MembersAreFirst, NeededAreUnique, UndefinedAreNowhere};
+
+/// The members that a program needs are determined.
+pub fn needed_are_unique()
+    ensures { NeededAreUnique }
+{}
+
+/// The member of a name is the first that defines it, and no given module does.
+pub fn members_are_first()
+    ensures { MembersAreFirst }
+{}
+
+/// An external that stays undefined is defined by no member at all.
+pub fn undefined_are_nowhere()
+    ensures { UndefinedAreNowhere }
+{}

@@ -1,0 +1,136 @@
+//! The search for the module that defines a name.
+
+ghost use Rattle.std.specs.Prelude.{◌≡◌, [], ◌∷◌, IfOk, OnOk, map};
+ghost use Rattle.omf_library.specs.Needed.{linkage, member_of};
+ghost use Rattle.omf_library.specs.Inner.Names.{names_seen};
+ghost use Rattle.omf_library.specs.Inner.Search.{HasMore, IsReady, IsTable, numbered, offered};
+
+use crate::needed::names::{Side, names_of};
+use omf_check::Checked;
+use std::alloc::{AllocError, Global};
+use std::collections::BTreeMap;
+
+/// The first module that defines a name.
+#[derive(Clone, Copy)]
+pub(crate) enum Definer {
+    /// A given module.
+    Given,
+    /// The member with this number.
+    Member(usize),
+}
+
+/// The first definer of each name.
+#[derive(Drop)]
+pub(crate) struct Definers<'a> {
+    by_name: BTreeMap<&'a [u8], Definer>,
+}
+
+/// The modules and members, and the first definer of each name.
+#[derive(Drop)]
+pub(crate) struct Search<'a> {
+    pub(crate) modules: &'a [Checked],
+    pub(crate) members: &'a [Checked],
+    definers: Definers<'a>,
+}
+
+impl<'a> Definers<'a> {
+    /// Adds the definer of a name, unless it has one.
+    fn add(&mut self, name: &'a [u8], definer: Definer) -> Result<(), AllocError>
+        ensures { OnOk result (HasMore self.old self.new (name.entry.now ∷ []) definer) }
+    {
+        if self.by_name.get(&name).is_some() {
+            return Ok(());
+        }
+        self.by_name.insert(name, definer)?;
+        Ok(())
+    }
+
+    /// Adds the definer of names, unless they have one.
+    fn add_names(&mut self, names: &[&'a [u8]], definer: Definer) -> Result<(), AllocError>
+        ensures { OnOk result (HasMore self.old self.new (names_seen names.now) definer) }
+    {
+        for name in names {
+            self.add(name, definer)?;
+        }
+        Ok(())
+    }
+
+    /// Adds a module, as the definer of its publics.
+    fn add_module(
+        &mut self,
+        alloc: Global,
+        module: &'a Checked,
+        definer: Definer,
+    ) -> Result<(), AllocError>
+        ensures { OnOk result (HasMore self.old self.new (linkage «module».entry.now).publics definer) }
+    {
+        let names = names_of(alloc, Side::Publics, module)?;
+        self.add_names(&names, definer)
+    }
+
+    /// The definers of the given modules.
+    fn of_given(alloc: Global, modules: &'a [Checked]) -> Result<Definers<'a>, AllocError>
+        ensures { IfOk result (λ t. IsTable t (map linkage modules.entry.now) []) }
+    {
+        let mut definers = Definers {
+            by_name: BTreeMap::new(alloc),
+        };
+        for module in modules {
+            definers.add_module(alloc, module, Definer::Given)?;
+        }
+        Ok(definers)
+    }
+
+    /// The definers of the given modules and the members.
+    fn of(
+        alloc: Global,
+        modules: &'a [Checked],
+        members: &'a [Checked],
+    ) -> Result<Definers<'a>, AllocError>
+        ensures { IfOk result (λ t. IsTable t (map linkage modules.entry.now) (map linkage members.entry.now)) }
+    {
+        let mut definers = Definers::of_given(alloc, modules)?;
+        for (number, member) in members.iter().enumerate() {
+            definers.add_module(alloc, member, Definer::Member(number))?;
+        }
+        Ok(definers)
+    }
+}
+
+/// The number of a definer, if it is a member.
+fn number_of(definer: Option<Definer>) -> Option<usize>
+    ensures { result ≡ numbered definer }
+{
+    match definer {
+        Some(Definer::Member(number)) => Some(number),
+        Some(Definer::Given) | None => None,
+    }
+}
+
+impl<'a> Search<'a> {
+    /// The search for definers among these modules and members.
+    pub(crate) fn new(
+        alloc: Global,
+        modules: &'a [Checked],
+        members: &'a [Checked],
+    ) -> Result<Search<'a>, AllocError>
+        ensures modules { IfOk result (λ s. s.modules.now ≡ modules.entry.now) }
+        ensures members { IfOk result (λ s. s.members.now ≡ members.entry.now) }
+        ensures ready { IfOk result (λ s. IsReady s) }
+    {
+        let definers = Definers::of(alloc, modules, members)?;
+        Ok(Search {
+            modules,
+            members,
+            definers,
+        })
+    }
+
+    /// The number of the member that defines a name for the program.
+    pub(crate) fn member_of(&self, name: &'a [u8]) -> Option<usize>
+        requires { IsReady self.now }
+        ensures { result ≡ member_of (offered self.now) name.entry.now }
+    {
+        number_of(self.definers.by_name.get(&name).copied())
+    }
+}
