@@ -1,11 +1,12 @@
 -- The records after a record at fault, one after another.
-use Rattle.std.proofs.Common.{◌≡◌, ℕ, zero, suc, ◌+◌, ◌-◌, ◌*◌, ◌≤◌, List, [], ◌∷◌, ◌++◌, length, drop, Bool, true, false, cond, refl, sym, ap, ap₂, ◌∙◌, arith, append_assoc, length-drop}
+use Rattle.std.proofs.Common.{◌≡◌, ℕ, zero, suc, ◌+◌, ◌-◌, ◌*◌, ◌<◌, ◌≤◌, List, [], ◌∷◌, ◌++◌, length, drop, Bool, true, false, cond, refl, sym, ap, ap₂, ◌∙◌, arith, append_assoc, length-drop}
 use Rattle.std.specs.Prelude.{nat_le, is_some, ◌&&◌}
 use Rattle.std.proofs.lemmas.Bool.{leb-true}
 use Rattle.omf_frame.specs.Framing.{after_front, is_end, is_whole, record_len, stated_length}
 use Rattle.omf_frame.specs.Types.{type_of}
 use Rattle.omf_dump.specs.Inner.Later.{following}
 use Rattle.omf_dump.specs.Later.{front_kind, goes_on, is_listed, later_from, later_text, unjudged_text}
+use Rattle.omf_dump.specs.Library.{after_member}
 use Rattle.omf_dump.specs.declared.format.Format.{Format}
 use Rattle.std.specs.Prelude.{Option}
 use Rattle.std.specs.Io.KnownBytes.{Appends}
@@ -150,13 +151,31 @@ later_is f number start bytes e =
 pub none_follows : (f : Format) (number start : ℕ) (bytes : List ℕ) → goes_on number bytes ≡ false → later_text f number start bytes ≡ []
 none_follows f number start bytes e = by_false (goes_on number bytes) _ [] e
 
--- ---- the bytes after a record
+-- ---- the bytes after a member
 
-pub follows : (bytes : List ℕ) → is_listed bytes ≡ true → is_end (front_kind bytes) ≡ false → drop (3 + stated_length bytes) bytes ≡ following bytes
-follows bytes listed e = after_is bytes (listed_fits bytes listed) ∙ sym (by_false (is_end (front_kind bytes)) [] (after_front bytes) e)
+after_skips : (n : ℕ) (bytes : List ℕ) → after_member n bytes ≡ after_member 0 (drop n bytes)
+after_skips zero bytes = refl
+after_skips (suc n) [] = refl
+after_skips (suc n) (b ∷ bytes) = after_skips n bytes
 
-pub none_after_end : (bytes : List ℕ) → is_end (front_kind bytes) ≡ true → [] ≡ following bytes
-none_after_end bytes e = sym (by_true (is_end (front_kind bytes)) [] (after_front bytes) e)
+-- after a record that is no MODEND
+pub after_one : (bytes : List ℕ) → is_end (front_kind bytes) ≡ false → after_member 0 bytes ≡ after_member 0 (after_front bytes)
+after_one [] e = refl
+after_one (t ∷ []) e = by_false (is_end t) _ _ e
+after_one (t ∷ lo ∷ []) e = by_false (is_end t) _ _ e
+after_one (t ∷ lo ∷ hi ∷ rest) e =
+    let size : 3 + (lo + 256 * hi) - 1 ≡ suc (suc (lo + 256 * hi)) = omega arith in
+    by_false (is_end t) _ _ e ∙ ap (λ (n : ℕ). after_member n (lo ∷ hi ∷ rest)) size ∙ after_skips (lo + 256 * hi) rest
+
+pub after_last : (bytes : List ℕ) → is_end (front_kind bytes) ≡ true → after_member 0 bytes ≡ after_front bytes
+after_last [] e = refl
+after_last (t ∷ bytes) e = by_true (is_end t) _ _ e
+
+pub front_shorter : (bytes : List ℕ) → 0 < length bytes → length (after_front bytes) < length bytes
+front_shorter [] h = absurd (omega (arith, h))
+front_shorter (t ∷ []) h = omega arith
+front_shorter (t ∷ lo ∷ []) h = omega arith
+front_shorter (t ∷ lo ∷ hi ∷ rest) h = let left = length-drop (lo + 256 * hi) rest in omega (arith, left)
 
 -- nothing follows, and nothing was sent
 pub nothing_sent : (old : Option (List ℕ)) (f : Format) (number start : ℕ) (text bytes : List ℕ) → goes_on number bytes ≡ false → IsSent old old (text ++ later_text f number start bytes) text

@@ -9,5 +9,6 @@ pub mod Contents
 pub mod Dump
 pub mod Later
 pub mod Refused
+pub mod Library
 pub mod Rows
 pub mod Inner

@@ -1,33 +1,41 @@
 -- What is shown of a refused module: the records before the fault, the record at fault, and those after it (this profile's rule).
-use Rattle.std.specs.Prelude.{ℕ, ◌+◌, ◌-◌, ◌*◌, ◌/◌, ◌%◌, List, [], ◌∷◌, ◌++◌, take, drop, replicate, Bool, true, false, Option, codes, decimal}
-use Rattle.std.specs.Io.KnownBytes.{Appends}
+use Rattle.std.specs.Prelude.{ℕ, ◌+◌, ◌-◌, ◌*◌, ◌/◌, ◌%◌, List, [], ◌∷◌, ◌++◌, length, take, drop, replicate, slice_index, nat_le, ◌==◌, if◌then◌else◌, Bool, true, false, codes, decimal}
 use Rattle.omf_frame.specs.Fault.{reason_number, reason_name, sentence}
-use Rattle.omf_frame.specs.Framing.{Raw, present}
+use Rattle.omf_frame.specs.Framing.{present}
 use Rattle.omf_frame.specs.Types.{type_name}
+use Rattle.omf_frame.specs.declared.kinds.Width.TheVariants.{Bits32}
 use Rattle.omf_frame.specs.declared.fault.Place.{Place}
 use Rattle.omf_frame.specs.declared.fault.Reason.{Reason}
-use Rattle.omf_image.specs.Limits.{profile_limits}
-use Rattle.omf_check.specs.Refusal.{IsRefused}
-use Rattle.omf_check.specs.WellFormed.{IsAccepted}
-use Rattle.omf_check.specs.declared.profile.Profile.{Profile}
-use Rattle.omf_dump.specs.Dump.{dump_text}
+use Rattle.omf_library.specs.Library.{is_page_size, library_header, page_size}
 use Rattle.omf_dump.specs.Fields.{Number, Hex, Word, Characters, Field, field}
 use Rattle.omf_dump.specs.Later.{later_text}
 use Rattle.omf_dump.specs.Looks.{is_foreign, looks_like}
-use Rattle.omf_dump.specs.Render.{bytes_block, fields_text, kind_head, line_end, place_head, record_end, rows}
+use Rattle.omf_dump.specs.Render.{bytes_block, digits, fields_text, kind_head, line_end, place_head, record_end, rows}
 use Rattle.omf_dump.specs.declared.format.Format.{Format}
 use Rattle.omf_dump.specs.declared.format.Format.TheVariants as format
-use Rattle.omf_dump.specs.declared.format.Style.{Style}
 
 -- The byte at the fault, if it is present.
 abbrev pub byte_if : List ℕ → List Field
 byte_if [] = []
 byte_if (b ∷ _) = field (codes "byte") (Hex 2 b) ∷ []
 
+-- Why bytes that begin with F0H are no library: they end in the header, or the header's length is no page size. The offset is that of the fault.
+abbrev pub cut_fields : List Field
+cut_fields = field (codes "library") (Word (codes "HeaderCut")) ∷ field (codes "offset") (Hex (digits Bits32) 0) ∷ []
+
+abbrev pub size_fields : ℕ → List Field
+size_fields size = field (codes "library") (Word (codes "PageSize")) ∷ field (codes "offset") (Hex (digits Bits32) 1) ∷ field (codes "size") (Number size) ∷ []
+
+abbrev pub header_fields : List ℕ → List Field
+header_fields input = if nat_le (page_size input) (length input) then (if is_page_size (page_size input) then [] else size_fields (page_size input)) else cut_fields
+
+abbrev pub library_fields : List ℕ → List Field
+library_fields input = if slice_index input 0 == library_header then header_fields input else []
+
 -- What an input that does not begin with a header looks like.
 abbrev pub look_if : Bool → List ℕ → List Field
 look_if false input = []
-look_if true input = field (codes "looks-like") (Characters (looks_like input)) ∷ []
+look_if true input = field (codes "looks-like") (Characters (looks_like input)) ∷ library_fields input
 
 -- The number of the reason and its name; the offset in the record of the field at fault, and the byte there, if it is present; the sentence.
 abbrev pub reason_fields : Reason → ℕ → List ℕ → List Field
@@ -80,16 +88,3 @@ refused_record f at why rest = refused_line f at why rest ++ (line_end f ++ (ref
 -- The record at fault, and then the records that follow it, unjudged.
 abbrev pub refusal_text : Format → Place → Reason → List ℕ → List ℕ
 refusal_text f at why rest = refused_record f at why rest ++ later_text f at.number at.start rest
-
--- What is written for an input: the text of the module that it begins with; or, if it is refused, that of the records before the fault, and then
--- of the record at fault and those after it. `old` and `new` are the bytes that the writer holds before and after, if they are known.
-pub record IsOfModule (profile : Profile) (style : Style) (input : List ℕ) (old new : Option (List ℕ)) : Type 0 where
-  pub records : List Raw
-  pub accepted : IsAccepted profile profile_limits input records
-  pub written : Appends old new (dump_text style records)
-
-pub record IsOfRefused (profile : Profile) (style : Style) (input : List ℕ) (old new : Option (List ℕ)) : Type 0 where
-  pub why : Reason
-  pub at : Place
-  pub refused : IsRefused profile profile_limits input why at
-  pub written : Appends old new (dump_text style refused.before ++ refusal_text style.format at why (drop at.start input))

@@ -1,22 +1,25 @@
 //! The dump of an input.
 
-ghost use Rattle.std.specs.Prelude.{◌≡◌, ◌<◌, ◌+◌, ◌^◌, ◌++◌, IfOk, drop, false, length, true};
+ghost use Rattle.std.specs.Prelude.{◌≡◌, ◌<◌, ◌+◌, ◌^◌, ◌++◌, IfOk, drop, length};
 ghost use Rattle.omf_frame.specs.Device.{Writes};
 ghost use Rattle.omf_image.specs.Limits.{profile_limits};
 ghost use Rattle.omf_check.specs.Module.{records_in};
 ghost use Rattle.omf_check.specs.Refusal.{IsRefused};
 ghost use Rattle.omf_check.specs.declared.profile.Profile.{Profile};
 ghost use Rattle.omf_dump.specs.Dump.{dump_text};
-ghost use Rattle.omf_dump.specs.Refused.{IsOfModule, IsOfRefused, refusal_text};
+ghost use Rattle.omf_dump.specs.Library.{IsModuleText, IsShown, Shows};
+ghost use Rattle.omf_dump.specs.Refused.{refusal_text};
 
 use crate::fault::DumpFault;
-use crate::format::{Format, Style};
+use crate::format::{Format, Mode, Style};
 use crate::later::put_later;
+use crate::library::show_library;
 use crate::output::send;
 use crate::refused::show_refusal;
 use crate::walk::dump;
-use omf_check::{CheckFault, Checked, Profile, check};
+use omf_check::{CheckFault, Checked, check};
 use omf_frame::{Bytes, Place, Reason, Sink};
+use omf_library::read_header;
 use std::alloc::Global;
 
 /// Writes what is shown of a module.
@@ -69,8 +72,35 @@ fn dump_refused<K: Sink>(
     dump_fault(alloc, writer, style.format, fault, rest)
 }
 
-/// Writes what is shown of an input: each record of the module that it begins with; or, if it is refused, the records before the fault, the
-/// record at fault, and those after it, unjudged. Returns whether it is refused.
+/// Writes what is shown of bytes as a module: each record of the module that they begin with; or, if they are refused, the records before the fault,
+/// the record at fault, and those after it, unjudged. Returns whether they are refused.
+///
+/// # Errors
+///
+/// `Memory` if memory ran out, `Write` if the writer failed.
+pub(crate) fn show_module<K: Sink>(
+    alloc: Global,
+    writer: &mut K,
+    mode: Mode,
+    input: &[u8],
+) -> Result<bool, DumpFault>
+    ensures { IfOk result (λ is_refused. Shows (K.seen writer.old).bytes (K.seen writer.new).bytes (IsModuleText mode input.now is_refused)) }
+{
+    match check(alloc, &mut Bytes::new(input), mode.profile) {
+        Ok(checked) => {
+            dump_module(alloc, writer, mode.style, &checked)?;
+            Ok(false)
+        }
+        Err(CheckFault::Refused { reason, place }) => {
+            dump_refused(alloc, writer, mode.style, input, (reason, place))?;
+            Ok(true)
+        }
+        Err(CheckFault::Memory) => Err(DumpFault::Memory),
+        Err(CheckFault::Read) => Err(DumpFault::Memory),
+    }
+}
+
+/// Writes what is shown of an input: of a library its members, of other bytes what they are as a module. Returns whether it is refused.
 ///
 /// # Errors
 ///
@@ -78,23 +108,19 @@ fn dump_refused<K: Sink>(
 pub fn dump_input<K: Sink>(
     alloc: Global,
     writer: &mut K,
-    profile: Profile,
-    style: Style,
+    mode: Mode,
     input: &[u8],
 ) -> Result<bool, DumpFault>
-    ensures shown { IfOk result (λ is_refused. is_refused ≡ false → IsOfModule profile style input.now (K.seen writer.old).bytes (K.seen writer.new).bytes) }
-    ensures refused { IfOk result (λ is_refused. is_refused ≡ true → IsOfRefused profile style input.now (K.seen writer.old).bytes (K.seen writer.new).bytes) }
+    ensures { IfOk result (λ is_refused. IsShown mode input.now is_refused (K.seen writer.old).bytes (K.seen writer.new).bytes) }
 {
-    match check(alloc, &mut Bytes::new(input), profile) {
-        Ok(checked) => {
-            dump_module(alloc, writer, style, &checked)?;
-            Ok(false)
+    match read_header(input) {
+        Ok(header) => {
+            let is_refused = show_library(alloc, writer, mode, header.page as usize, input)?;
+            Ok(is_refused)
         }
-        Err(CheckFault::Refused { reason, place }) => {
-            dump_refused(alloc, writer, style, input, (reason, place))?;
-            Ok(true)
+        Err(_) => {
+            let is_refused = show_module(alloc, writer, mode, input)?;
+            Ok(is_refused)
         }
-        Err(CheckFault::Memory) => Err(DumpFault::Memory),
-        Err(CheckFault::Read) => Err(DumpFault::Memory),
     }
 }

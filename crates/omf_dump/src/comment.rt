@@ -46,7 +46,12 @@ fn put_ordinal(text: &mut Vec<u8>, format: Format, bytes: &[u8]) -> Result<(), A
 }
 
 /// A name alone.
-fn put_name(text: &mut Vec<u8>, format: Format, name: &str, bytes: &[u8]) -> Result<(), AllocError>
+pub(crate) fn put_name(
+    text: &mut Vec<u8>,
+    format: Format,
+    name: &str,
+    bytes: &[u8],
+) -> Result<(), AllocError>
     ensures { AddsText result text.old.items text.new.items (fields_text format (name_before name.now (λ rest. []) (counted bytes.now))) }
 {
     match counted(bytes) {

@@ -1,5 +1,7 @@
 //! The renderings.
 
+use omf_check::Profile;
+
 /// The two renderings.
 #[derive(Clone, Copy, Debug, PartialEq, Eq)]
 pub enum Format {
@@ -15,4 +17,11 @@ pub struct Style {
     pub format: Format,
     /// The most bytes of data that are shown of a record.
     pub most: usize,
+}
+
+/// How modules are judged, and how their records are rendered.
+#[derive(Clone, Copy, Debug, PartialEq, Eq)]
+pub struct Mode {
+    pub profile: Profile,
+    pub style: Style,
 }

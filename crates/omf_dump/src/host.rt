@@ -87,16 +87,16 @@ fn show_input<K: Sink>(rt: &HostRuntime, asked: &Asked, name: &str, writer: &mut
     let input = match read_input(rt, name) {
         Ok(input) => input,
         Err(error) => {
-            if let Ok(line) = unread(rt.alloc(), asked.style.format, name, &error) {
+            if let Ok(line) = unread(rt.alloc(), asked.mode.style.format, name, &error) {
                 let _ = put(writer, &line);
             }
             return 3;
         }
     };
-    match dump_input(rt.alloc(), writer, asked.profile, asked.style, &input) {
+    match dump_input(rt.alloc(), writer, asked.mode, &input) {
         Ok(is_refused) => u8::from(is_refused),
         Err(DumpFault::Memory) => {
-            let _ = put(writer, memory(asked.style.format));
+            let _ = put(writer, memory(asked.mode.style.format));
             3
         }
         Err(DumpFault::Write) => 3,
@@ -124,7 +124,7 @@ fn title(alloc: Global, format: Format, name: &str) -> Result<Vec<u8>, AllocErro
 fn show_titled<K: Sink>(rt: &HostRuntime, asked: &Asked, name: &str, writer: &mut K) -> u8
     ensures { result ≤ 3 }
 {
-    let titled = match title(rt.alloc(), asked.style.format, name) {
+    let titled = match title(rt.alloc(), asked.mode.style.format, name) {
         Ok(text) => put(writer, &text),
         Err(AllocError) => 3,
     };

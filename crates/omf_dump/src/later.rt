@@ -6,6 +6,7 @@ ghost use Rattle.omf_frame.specs.Framing.{after_front, is_end, is_whole, record_
 ghost use Rattle.omf_dump.specs.Inner.Later.{following};
 ghost use Rattle.omf_dump.specs.Inner.Walking.{Passes};
 ghost use Rattle.omf_dump.specs.Later.{front_kind, goes_on, is_listed, later_from, later_text, unjudged_fields, unjudged_text};
+ghost use Rattle.omf_dump.specs.Library.{after_member};
 ghost use Rattle.omf_dump.specs.Render.{fields_text, head_text, line_end, record_end};
 
 use crate::contents::put_length;
@@ -15,6 +16,7 @@ use crate::format::Format;
 use crate::item::{close_record, end_fields, put_kind_head, put_number_head};
 use crate::looks::is_foreign;
 use crate::output::send_piece;
+use crate::part::after;
 use omf_frame::{Place, RecordType, Sink, Width};
 use std::alloc::AllocError;
 
@@ -54,7 +56,7 @@ fn is_listed(bytes: &[u8]) -> bool
 }
 
 /// The type byte of the record at the front.
-fn front_kind(bytes: &[u8]) -> u8
+pub(crate) fn front_kind(bytes: &[u8]) -> u8
     ensures { result ≡ front_kind bytes.now }
 {
     match bytes {
@@ -74,16 +76,40 @@ fn stated_length(bytes: &[u8]) -> usize
     }
 }
 
-/// The bytes after a whole record, which is at the front; none if it is a MODEND.
-#[tactic(auto, using(crate::proofs::LaterLaws::listed_fits, crate::proofs::LaterLaws::follows, crate::proofs::LaterLaws::none_after_end))]
+/// The bytes after the record at the front.
+fn after_front(bytes: &[u8]) -> &[u8]
+    ensures { result.now ≡ after_front bytes.now }
+{
+    match bytes {
+        [_, low, high, rest @ ..] => after(usize::from(*low) + 256 * usize::from(*high), rest),
+        _ => &[],
+    }
+}
+
+/// The bytes after the record at the front; none if it is a MODEND.
 fn following(bytes: &[u8]) -> &[u8]
-    requires { is_listed bytes.now ≡ true }
     ensures { result.now ≡ following bytes.now }
 {
     if is_end(front_kind(bytes)) {
         return &[];
     }
-    bytes.split_at(3 + stated_length(bytes)).1
+    after_front(bytes)
+}
+
+/// The bytes after the member at the front, which ends at its first MODEND, by the lengths of its records alone.
+#[tactic(auto, using(crate::proofs::LaterLaws::after_one, crate::proofs::LaterLaws::after_last, crate::proofs::LaterLaws::front_shorter))]
+pub(crate) fn after_member(bytes: &[u8]) -> &[u8]
+    ensures value { result.now ≡ after_member 0 bytes.now }
+    ensures shorter { 0 < length bytes.now → length result.now < length bytes.now }
+{
+    let mut left = bytes;
+    while !left.is_empty() {
+        if is_end(front_kind(left)) {
+            return after_front(left);
+        }
+        left = after_front(left);
+    }
+    left
 }
 
 /// The fields of a record that is not judged.

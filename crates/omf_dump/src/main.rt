@@ -1,7 +1,8 @@
-//! `omf-dump`: the records of object modules as a person reads them: every field of every record, as text or as JSON.
+//! `omf-dump`: the records of object modules, also of those in libraries, as a person reads them: every field of every record, as text or as JSON.
 //!
 //! A record is shown as named fields, the items that it repeats, and bytes (`specs/Fields`); text and JSON are two renderings of these
-//! (`specs/Render`). `specs/Contents` has the fields of each record, `specs/Dump` the whole text, `specs/Refused` that of a refused module.
+//! (`specs/Render`). `specs/Contents` has the fields of each record, `specs/Dump` the text of a module, `specs/Refused` that of a refused one,
+//! `specs/Library` that of a library and of a whole input.
 #![tactic(auto)]
 
 mod answer;
@@ -18,6 +19,7 @@ mod item;
 mod items;
 mod known;
 mod later;
+mod library;
 mod looks;
 mod options;
 mod output;
@@ -27,6 +29,7 @@ mod record;
 mod reference;
 mod refused;
 mod rows;
+mod spot;
 mod subrecord;
 mod value;
 mod walk;

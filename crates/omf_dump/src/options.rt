@@ -1,14 +1,13 @@
 //! The arguments of `omf-dump`.
 
-use crate::format::{Format, Style};
+use crate::format::{Format, Mode, Style};
 use omf_check::Profile;
 use std::alloc::{AllocError, Global};
 
 /// What the arguments ask for.
 #[derive(Drop)]
 pub struct Asked {
-    pub style: Style,
-    pub profile: Profile,
+    pub mode: Mode,
     /// The names of the files; `-` is the standard input.
     pub files: Vec<String>,
 }
@@ -17,12 +16,14 @@ impl Asked {
     /// Text of all of the standard input.
     fn new(alloc: Global) -> Asked {
         Asked {
-            style: Style {
-                format: Format::Text,
-                most: usize::MAX,
-            },
-            profile: Profile {
-                refuse_vendor_comments: false,
+            mode: Mode {
+                profile: Profile {
+                    refuse_vendor_comments: false,
+                },
+                style: Style {
+                    format: Format::Text,
+                    most: usize::MAX,
+                },
             },
             files: Vec::new(alloc),
         }
@@ -69,12 +70,12 @@ pub fn read_arguments(alloc: Global, arguments: Vec<String>) -> Result<Option<As
     let mut words = arguments.into_iter();
     while let Some(argument) = words.next() {
         match word_of(argument.as_str()) {
-            Word::Json => asked.style.format = Format::Json,
+            Word::Json => asked.mode.style.format = Format::Json,
             Word::Data => match number_of(words.next()) {
-                Some(most) => asked.style.most = most,
+                Some(most) => asked.mode.style.most = most,
                 None => return Ok(None),
             },
-            Word::RefuseVendorComments => asked.profile.refuse_vendor_comments = true,
+            Word::RefuseVendorComments => asked.mode.profile.refuse_vendor_comments = true,
             Word::File => asked.files.push(argument)?,
             Word::Unknown => return Ok(None),
         }

@@ -4,11 +4,12 @@ ghost use Rattle.std.specs.Prelude.{◌≡◌, ◌++◌, codes};
 ghost use Rattle.omf_frame.specs.Bytes.{AddsText};
 ghost use Rattle.omf_frame.specs.Fault.{reason_name, reason_number};
 ghost use Rattle.omf_frame.specs.Framing.{present};
-ghost use Rattle.omf_dump.specs.Fields.{Number, Word};
-ghost use Rattle.omf_dump.specs.Refused.{byte_if, kind_if, look_if, mark, mark_if, marked_len, marked_rows, reason_fields, refused_bytes, refused_line, refused_record, window, window_start};
+ghost use Rattle.omf_dump.specs.Fields.{Characters, Number, Word};
+ghost use Rattle.omf_dump.specs.Looks.{looks_like};
+ghost use Rattle.omf_dump.specs.Refused.{byte_if, cut_fields, kind_if, library_fields, look_if, mark, mark_if, marked_len, marked_rows, reason_fields, refused_bytes, refused_line, refused_record, size_fields, window, window_start};
 ghost use Rattle.omf_dump.specs.Render.{fields_text, value_text};
 
-use crate::field::{characters, number, small, word};
+use crate::field::{characters, hexadecimal, number, small, word};
 use crate::format::Format;
 use crate::item::{
     close_record, end_fields, put_bytes_block, put_kind_head, put_place_head, put_rows, put_spaces,
@@ -16,7 +17,8 @@ use crate::item::{
 use crate::looks::{is_foreign, looks_like};
 use crate::part::{after, first};
 use crate::value::put_decimal;
-use omf_frame::{Place, Reason};
+use omf_frame::{Place, Reason, Width};
+use omf_library::{LibraryFault, read_header};
 use std::alloc::AllocError;
 
 /// The most bytes that are shown of a record at fault.
@@ -56,6 +58,46 @@ fn put_refusal(
     characters(text, format, "meaning", reason.sentence().as_bytes())
 }
 
+/// The header of a library that the input is cut in.
+fn put_header_cut(text: &mut Vec<u8>, format: Format) -> Result<(), AllocError>
+    ensures { AddsText result text.old.items text.new.items (fields_text format cut_fields) }
+{
+    word(text, format, "library", "HeaderCut")?;
+    hexadecimal(text, format, "offset", Width::Bits32, 0)
+}
+
+/// The length of a header that is no page size.
+fn put_page_size(text: &mut Vec<u8>, format: Format, size: u32) -> Result<(), AllocError>
+    ensures { AddsText result text.old.items text.new.items (fields_text format (size_fields size)) }
+{
+    word(text, format, "library", "PageSize")?;
+    hexadecimal(text, format, "offset", Width::Bits32, 1)?;
+    number(text, format, "size", u64::from(size))
+}
+
+/// Why bytes that begin with F0H are no library, and where.
+#[tactic(auto, using(crate::proofs::HeaderLaws::header_read))]
+fn put_header_fault(text: &mut Vec<u8>, format: Format, input: &[u8]) -> Result<(), AllocError>
+    ensures { AddsText result text.old.items text.new.items (fields_text format (library_fields input.now)) }
+{
+    match read_header(input) {
+        Ok(_) => Ok(()),
+        Err(LibraryFault::NoHeader) => Ok(()),
+        Err(LibraryFault::HeaderCut) => put_header_cut(text, format),
+        Err(LibraryFault::PageSize(size)) => put_page_size(text, format, size),
+        Err(LibraryFault::Memory) => Ok(()),
+        Err(LibraryFault::Refused { .. }) => Ok(()),
+        Err(LibraryFault::NoEnd { .. }) => Ok(()),
+    }
+}
+
+/// What an input looks like.
+fn put_look_words(text: &mut Vec<u8>, format: Format, input: &[u8]) -> Result<(), AllocError>
+    ensures { AddsText result text.old.items text.new.items (value_text format (codes "looks-like") (Characters (looks_like input.now))) }
+{
+    characters(text, format, "looks-like", looks_like(input).as_bytes())
+}
+
 /// What an input that does not begin with a header looks like.
 fn put_look(
     text: &mut Vec<u8>,
@@ -66,7 +108,10 @@ fn put_look(
     ensures { AddsText result text.old.items text.new.items (fields_text format (look_if is_shown input.now)) }
 {
     match is_shown {
-        true => characters(text, format, "looks-like", looks_like(input).as_bytes()),
+        true => {
+            put_look_words(text, format, input)?;
+            put_header_fault(text, format, input)
+        }
         false => Ok(()),
     }
 }

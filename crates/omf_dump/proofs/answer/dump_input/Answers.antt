@@ -1,14 +1,17 @@
-use Rattle.std.proofs.Common.{ap, subst, Err}
-use Rattle.omf_frame.specs.Device.{Device}
-use Rattle.omf_image.specs.Limits.{profile_limits}
-use Rattle.omf_check.specs.Checking.{Decides}
-use Rattle.omf_check.specs.Refusal.{IsRefused}
-use Rattle.omf_check.specs.declared.fault.CheckFault.{CheckFault}
+use Rattle.std.proofs.Common.{ap, arith}
+use Rattle.omf_library.specs.declared.header.Header.{Header}
+use Rattle.omf_dump.proofs.LibraryLaws.{is_library, is_module}
 use Rattle.omf_dump.proofs.answer.dump_input.Goals as goal
 
-pub returns-in_ok-dump_refused-in-Err-Refused-clause-refused : goal.returns-in_ok-dump_refused-in-Err-Refused-clause-refused
-returns-in_ok-dump_refused-in-Err-Refused-clause-refused g c = λ _.
-    let held = ap (λ (d : Device). d.bytes) c.new.ensures in
-    let refused : IsRefused c.args.profile profile_limits c.args.input.now c.in-Err-Refused.reason c.in-Err-Refused.place =
-    subst (λ (f : CheckFault). Decides c.args.profile c.args.input.now (Err f)) c.in-Err-Refused.field-0-is (c.in-Err-Refused.ensures.verdict c.args.input.now held) in
-    record { why = c.in-Err-Refused.reason; at = c.in-Err-Refused.place; refused = refused; written = c.in_ok-dump_refused-in-Err-Refused.ensures c.args.profile refused }
+pub show_library-requires : goal.show_library-requires
+show_library-requires g c = record {
+  header = c.in-Ok.ensures.0;
+  page = ap (λ (h : Header). h.page) c.in-Ok.ensures.1;
+  small = omega arith;
+}
+
+pub returns-in_ok-is_refused-in-Ok : goal.returns-in_ok-is_refused-in-Ok
+returns-in_ok-is_refused-in-Ok g c = is_library c.args.mode c.args.input.now _ _ _ c.in-Ok.ensures.0 c.in_ok-is_refused-in-Ok.ensures
+
+pub returns-in_ok-is_refused-in-Err : goal.returns-in_ok-is_refused-in-Err
+returns-in_ok-is_refused-in-Err g c = is_module c.args.mode c.args.input.now _ _ _ c.in-Err.field-0 c.in-Err.ensures c.in_ok-is_refused-in-Err.ensures
