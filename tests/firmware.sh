@@ -22,7 +22,8 @@ endings = {"LINEAR": "hex", "SEGMENTS": "hex", "S24": "srec", "S32": "srec"}
 for name, ending in endings.items():
     text = ast.literal_eval(re.search(rf"static {name}: &\[u8\] =\s*{literal}", source)[1])
     (work / f"{name}.{ending}").write_bytes(text)
-runs = [(int(a.replace("_", ""), 16), ast.literal_eval(b)) for a, b in re.findall(rf"address: (0x[0-9A-F_]+),\s*bytes: {literal}", source)]
+table = source[source.index("static RUNS") : source.index("/// In Intel HEX by segments")]
+runs = [(int(a.replace("_", ""), 16), ast.literal_eval(b)) for a, b in re.findall(rf"address: (0x[0-9A-F_]+),\s*bytes: {literal}", table)]
 first, end = min(a for a, _ in runs), max(a + len(b) for a, b in runs)
 memory = bytearray(end - first)
 for address, found in runs:

@@ -2,12 +2,12 @@
 # Links the three modules of a boot sector's program at the addresses of program.link, makes the sector, boots it in an emulator, and
 # compares what it prints with said.txt. OMF_LINK names the program.
 #
-# Debian's packages: nasm (to assemble the sources anew and compare), srecord, qemu-system-x86.
+# Debian's packages: nasm (to assemble the sources anew and compare), qemu-system-x86.
 set -euo pipefail
 cd "$(dirname "$0")"
 link=${OMF_LINK:-omf-link}
 
-for tool in "$link" srec_cat qemu-system-i386; do
+for tool in "$link" qemu-system-i386; do
     command -v "$tool" > /dev/null || { echo "skipped: $tool is not installed"; exit 0; }
 done
 work=$(mktemp -d)
@@ -34,8 +34,8 @@ sed -E '/"text"/s/^S ([0-9A-F]+) .*;/S \1 0 0 ;/; /"mark"/s/^S .*;/S 7DFE 0 0 ;/
 "$link" image -t "$work/drafted" start.obj say.obj mark.obj | cmp - "$work/shown"
 echo "the draft, with three lines changed, gives the same"
 
-# srec_cat reads the lines as they are, without the start. The sector begins at 7C00H and has 512 bytes; those that no line covers are 0.
-sed '/^START/d' "$work/shown" | srec_cat - -hex-dump -offset -0x7C00 -fill 0 0 512 -o "$work/sector.img" -binary
+# The sector begins at 7C00H and has 512 bytes; those that no module has are 0.
+"$link" bin --base 7C00 --size 200 --fill 0 -t program.link -o "$work/sector.img" start.obj say.obj mark.obj
 
 # The sector ends the emulator by port F4H, which makes the status odd.
 timeout 60 qemu-system-i386 -display none -monitor none -serial "file:$work/said" -device isa-debug-exit,iobase=0xf4,iosize=1 \

@@ -1,68 +1,19 @@
 //! The program on the arguments, the files, the standard input and the standard output of its process.
 
-ghost use Rattle.std.specs.Prelude.{◌≤◌};
-
-use crate::asked::{Asked, sorted};
-use omf_cmd::{Program, run_with, tell};
+use omf_cmd::{Fault, Program, print_all, run_with, tell};
 use omf_frame::{Buffered, Sink, Writing};
-use omf_linker::link::{InputFile, Link, Task, file_front, run_files, task_of};
-use std::alloc::{AllocError, Global};
-use std::io::{BufReader, ErrorKind, Read};
+use omf_linker::asked::{Asked, sorted};
+use omf_linker::host::{arguments, read_or_tell, write_or_tell};
+use omf_linker::link::{FilesFault, InputFile, Link, Task, files_text, shown_text, task_of};
+use std::alloc::AllocError;
+use std::io::BufReader;
 use std::process::ExitCode;
-use std::{env, fs, io};
 
 /// The number of bytes read from the standard input at once.
 const PIECE: usize = 65_536;
 
 /// The line when out of memory.
 const MEMORY: &[u8] = b"memory\n";
-
-/// The arguments of the process, the program's own name first; empty if one of them is not UTF-8.
-fn arguments(rt: &HostRuntime) -> Result<Vec<String>, AllocError> {
-    match env::args(rt) {
-        Ok(words) => words.collect(rt.alloc()),
-        Err(error) if error.kind() == ErrorKind::OutOfMemory => Err(AllocError),
-        Err(_) => Ok(Vec::new(rt.alloc())),
-    }
-}
-
-/// The bytes of a file, or of the standard input if its name is `-`.
-fn read_input(rt: &HostRuntime, name: &str) -> io::Result<Vec<u8>> {
-    if name != "-" {
-        return fs::read(rt, name);
-    }
-    let mut bytes = Vec::new(rt.alloc());
-    rt.stdin().read_to_end(&mut bytes)?;
-    Ok(bytes)
-}
-
-/// Writes the line of a file that could not be read: its name, and the system's reason.
-fn tell_unread<K: Sink>(
-    alloc: Global,
-    writer: &mut K,
-    name: &str,
-    error: &io::Error,
-) -> Result<(), AllocError> {
-    let front = file_front(alloc, name.as_bytes())?;
-    let line = format!(in alloc; "{front}read: {error}\n")?;
-    tell(writer, line.as_bytes());
-    Ok(())
-}
-
-/// Reads a file. None, and a line on why, if it could not be read.
-fn read_or_tell<K: Sink>(
-    rt: &HostRuntime,
-    name: &str,
-    writer: &mut K,
-) -> Result<Option<Vec<u8>>, AllocError> {
-    match read_input(rt, name) {
-        Ok(bytes) => Ok(Some(bytes)),
-        Err(error) => {
-            tell_unread(rt.alloc(), writer, name, &error)?;
-            Ok(None)
-        }
-    }
-}
 
 /// Reads the files. None if one could not be read.
 fn read_files<K: Sink>(
@@ -92,21 +43,75 @@ fn read_text<K: Sink>(
     }
 }
 
-/// Does a task for the files and the text that are named. Returns the status.
+/// Writes the output of a task to the file that is named, or to the standard output. Returns the status.
+fn written<K: Sink>(
+    rt: &HostRuntime,
+    name: Option<&str>,
+    shown: &[u8],
+    writer: &mut K,
+) -> Result<u8, AllocError> {
+    let done = match name {
+        Some(name) => write_or_tell(rt, name, shown, writer)?,
+        None => print_all(writer, shown, ()).is_ok(),
+    };
+    Ok(if done { 0 } else { 3 })
+}
+
+/// Does a task for the files and the text that are named. None if one of them could not be read.
+fn of_files<K: Sink>(
+    rt: &HostRuntime,
+    task: Task,
+    asked: &Asked,
+    writer: &mut K,
+) -> Result<Option<Result<Vec<u8>, FilesFault>>, AllocError> {
+    let Some(files) = read_files(rt, asked.files.as_slice(), writer)? else {
+        return Ok(None);
+    };
+    let name = asked.text.as_ref().map(|name| name.as_str());
+    let Some(text) = read_text(rt, name, writer)? else {
+        return Ok(None);
+    };
+    Ok(Some(files_text(rt.alloc(), task, &files, &text)))
+}
+
+/// Does a task for the standard input: modules, and a text after them. None if it could not be read.
+fn of_input<K: Sink>(
+    rt: &HostRuntime,
+    task: Task,
+    writer: &mut K,
+) -> Result<Option<Result<Vec<u8>, FilesFault>>, AllocError> {
+    let Some(input) = read_or_tell(rt, "-", writer)? else {
+        return Ok(None);
+    };
+    match shown_text(rt.alloc(), task, &input) {
+        Ok(shown) => Ok(Some(Ok(shown))),
+        Err(fault) => Ok(Some(Err(FilesFault::Link(fault)))),
+    }
+}
+
+/// Does a task, and writes its output, or the line of its fault. Returns the status.
 fn on_files<K: Sink>(
     rt: &HostRuntime,
     task: Task,
     asked: &Asked,
     writer: &mut K,
 ) -> Result<u8, AllocError> {
-    let Some(files) = read_files(rt, asked.files.as_slice(), writer)? else {
-        return Ok(3);
+    let found = if is_on_input(asked) {
+        of_input(rt, task, writer)?
+    } else {
+        of_files(rt, task, asked, writer)?
     };
-    let name = asked.text.as_ref().map(|name| name.as_str());
-    let Some(text) = read_text(rt, name, writer)? else {
-        return Ok(3);
-    };
-    Ok(run_files(rt.alloc(), task, &files, &text, writer))
+    match found {
+        Some(Ok(shown)) => {
+            let name = asked.output.as_ref().map(|name| name.as_str());
+            written(rt, name, &shown, writer)
+        }
+        Some(Err(fault)) => {
+            fault.print(writer);
+            Ok(fault.status())
+        }
+        None => Ok(3),
+    }
 }
 
 /// Does what arguments ask for on the standard input. Returns the status.
@@ -117,15 +122,28 @@ fn on_input<K: Sink>(rt: &HostRuntime, words: &[String], writer: &mut K) -> Resu
     Ok(run_with::<Link, _, _>(rt.alloc(), words, &mut Buffered::new(input), writer))
 }
 
+/// Whether all is on the standard input, modules and a text after them.
+fn is_on_input(asked: &Asked) -> bool {
+    if asked.text.is_some() {
+        return false;
+    }
+    match asked.files.as_slice() {
+        [] => true,
+        [name] => name.as_str() == "-",
+        _ => false,
+    }
+}
+
 /// Does what the arguments ask for. Returns the status.
 fn act<K: Sink>(rt: &HostRuntime, writer: &mut K) -> Result<u8, AllocError> {
     let words = arguments(rt)?;
-    if let Some(asked) = sorted(rt.alloc(), words)? {
-        if asked.is_on_input() {
+    if let Some(asked) = sorted(rt.alloc(), &words, 2)? {
+        let on_input_alone = is_on_input(&asked);
+        if on_input_alone && asked.output.is_none() {
             return on_input(rt, asked.words.as_slice(), writer);
         }
         if let Some(task) = task_of(rt.alloc(), asked.words.as_slice())?
-            && !asked.files.is_empty()
+            && (on_input_alone || !asked.files.is_empty())
         {
             return on_files(rt, task, &asked, writer);
         }
@@ -134,8 +152,8 @@ fn act<K: Sink>(rt: &HostRuntime, writer: &mut K) -> Result<u8, AllocError> {
     Ok(2)
 }
 
-/// Runs the program. Returns the exit status: 0 done, 1 an input or its text is refused or has no room, 2 the arguments are not understood,
-/// 3 out of memory, or a file could not be read, or the output could not be written.
+/// Runs the program. Returns the exit status: 0 done, 1 an input or its text is refused, has no room or does not fit, 2 the arguments are not
+/// understood, 3 out of memory, or a file could not be read or written, or the output could not be written.
 pub fn run(rt: &HostRuntime) -> ExitCode {
     let mut output = Writing::new(rt.stdout());
     let status = match act(rt, &mut output) {

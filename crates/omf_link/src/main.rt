@@ -3,7 +3,6 @@
 //! Without file names it reads modules and a text from the standard input (`omf_linker::link::Link`). With file names it reads the files.
 #![tactic(auto)]
 
-mod asked;
 mod host;
 
 use std::process::ExitCode;

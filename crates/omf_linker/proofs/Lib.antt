@@ -1,4 +1,5 @@
 pub mod ArgLaws
+pub mod AskedLaws
 pub mod LinkLines
 pub mod LinkFiles
 pub mod LinkRuns
@@ -6,3 +7,11 @@ pub mod LinkWords
 pub mod LinkedModules
 pub mod PlaceRuns
 pub mod PlaceWords
+pub mod RomFiles
+pub mod NameLaws
+pub mod EntryLaws
+pub mod DraftLaws
+pub mod FitLaws
+pub mod PlacesLaws
+pub mod MapLaws
+pub mod SeenLaws

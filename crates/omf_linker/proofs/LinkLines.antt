@@ -1,6 +1,6 @@
 -- Lines of faults, in two parts.
 use Rattle.std.proofs.Common.{◌≡◌, ℕ, ◌+◌, ◌<◌, List, [], ◌∷◌, ◌++◌, append_assoc, arith, length, codes}
-use Rattle.std.specs.Prelude.{decimal, flat_map}
+use Rattle.std.specs.Prelude.{Some, decimal, flat_map}
 use Rattle.omf_frame.specs.declared.fault.Place.{Place}
 use Rattle.omf_frame.specs.declared.fault.Reason.{Reason}
 use Rattle.omf_linking.specs.declared.fault.LinkFault.TheVariants as link
@@ -12,7 +12,7 @@ use Rattle.omf_cmd.specs.FaultLine.{fault_text, fault_words as run_words}
 use Rattle.omf_cmd.specs.Printed.{line, spaced}
 use Rattle.omf_cmd.specs.declared.fault.RunFault.TheVariants as run
 use Rattle.omf_cmd.proofs.Written.{front_words}
-use Rattle.omf_linker.specs.Link.Faults.{external_words, input_at, link_words, module_words, owner_words, space_words}
+use Rattle.omf_linker.specs.Link.Faults.{external_words, input_at, link_words, module_words, outside_words, owner_words, space_words}
 
 after_front : (front ws : List (List ℕ)) → 0 < length ws → line (front ++ ws) ≡ flat_map spaced front ++ line ws
 after_front front [] some = absurd (omega (arith, some))
@@ -32,6 +32,10 @@ named_line j i why name = front_words (codes "module" ∷ decimal (j + 1) ∷ co
 -- two owners at the end
 pub overlap_line : (a : ℕ) (s t : Owner) → line (space_words (space.Overlap a s t)) ≡ flat_map spaced (codes "overlap" ∷ hex 8 a ∷ []) ++ line (owner_words s ++ owner_words t)
 overlap_line a s t = after_front (codes "overlap" ∷ hex 8 a ∷ []) (owner_words s ++ owner_words t) (omega arith)
+
+-- an owner at the end
+pub outside_line : (a : ℕ) (o : Owner) → line (outside_words a (Some o)) ≡ flat_map spaced (codes "outside" ∷ hex 8 a ∷ []) ++ line (owner_words o)
+outside_line a o = after_front (codes "outside" ∷ hex 8 a ∷ []) (owner_words o) (omega arith)
 
 -- an offset in the input, and why
 pub no_text_line : (at : ℕ) (name : List ℕ) → line (link_words (link.NoText at) name) ≡ input_at at ++ line (codes ": no module and no text" ∷ [])

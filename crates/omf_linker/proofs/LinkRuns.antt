@@ -1,18 +1,19 @@
 -- A run of `omf-link`, from its steps.
-use Rattle.std.proofs.Common.{◌≡◌, ℕ, List, [], ◌∷◌, Result, Ok, Err, Vec, Global, sym, ap, subst, ◌∙◌, ◌++◌, inl, inr}
+use Rattle.std.proofs.Common.{◌≡◌, ℕ, List, [], ◌∷◌, Result, Ok, Err, Vec, Global, sym, ap, subst, ◌∙◌, inl, inr}
 use Rattle.std.specs.Io.KnownBytes.{Consumes, IsAtEnd}
 use Rattle.std.specs.Prelude.{⊤, Option, Some, None, IfSome, filter_map, option_map, slice_get, zip}
 use Rattle.std.proofs.KnownBytes.{Consumes-whole}
 use Rattle.std.specs.List.{cons_option, enumerate_from}
 use Rattle.omf_frame.specs.Device.{Device}
-use Rattle.omf_derive.specs.Derive.{PlacedModule}
-use Rattle.omf_derive.specs.Inner.Derived.{derived}
-use Rattle.omf_derive.specs.declared.fault.DeriveFault.{DeriveFault}
-use Rattle.omf_derive.specs.declared.fault.DeriveFault.TheVariants as derive
+use Rattle.omf_placement.specs.Derive.{PlacedModule}
+use Rattle.omf_placement.specs.Inner.Derived.{derived}
+use Rattle.omf_placement.specs.declared.several.fault.DeriveFault.{DeriveFault}
+use Rattle.omf_placement.specs.declared.several.fault.DeriveFault.TheVariants as derive
 use Rattle.omf_layout.specs.declared.options.Options.{Options}
 use Rattle.omf_placement.specs.Placement.{Places}
 use Rattle.omf_records.specs.Values.{Rec}
 use Rattle.omf_reloc.specs.declared.fault.ReachFault.{ReachFault}
+use Rattle.omf_rom.specs.declared.form.Form.{Form}
 use Rattle.omf_linking.specs.Faults.{all_far, far_by, of_derive}
 use Rattle.omf_linking.specs.Parts.{Part, parsed_parts}
 use Rattle.omf_linking.specs.Placing.{by_parts, derived_or, found, given_of, linked, miscount, places_of, unless_far}
@@ -27,6 +28,7 @@ use Rattle.omf_linker.specs.Link.Faults.{IsNamed, IsUnnamed, name_of}
 use Rattle.omf_linker.specs.Link.Drafted.{IsDrafted}
 use Rattle.omf_linker.specs.Link.Linked.{any, IsFirstFault, IsLinked}
 use Rattle.omf_linker.specs.Link.Mapped.{IsMapped}
+use Rattle.omf_linker.specs.Link.Rom.{IsRom}
 use Rattle.omf_linker.specs.Link.Runs.{IsShowCause, Shows}
 use Rattle.omf_linker.specs.Link.Shown.{AreShown, AreShownIn, IsNamedAs, IsNoModule, IsShownOf}
 use Rattle.omf_linker.specs.declared.link.fault.ImageFault.{ImageFault}
@@ -39,11 +41,13 @@ use Rattle.omf_linker.specs.declared.link.words.Task.TheVariants as task
 pub with_name : (Is : Result (List ℕ) LinkFault → Type 0) (ms : List (List Rec)) (f : LinkFault) (e : ImageFault) → Is (Err f) → IsNamed ms f e → IsNamedAs Is ms (Err e)
 with_name Is ms f (fault.Link g name) h (inl same) = inl (subst (λ (x : LinkFault). Is (Err x)) (sym same.0) h, same.1 ∙ ap (name_of ms) (sym same.0))
 with_name Is ms f (fault.Link g name) h (inr memory) = inr memory
+with_name Is ms f (fault.Outside a o) h n = absurd n
 with_name Is ms f fault.NoRoom h n = absurd n
 with_name Is ms f fault.Write h n = absurd n
 
 pub no_module : (t : Task) (input : List ℕ) (f : LinkFault) (e : ImageFault) → AreModules any input (Err f) → IsUnnamed f e → IsShownOf t input (Err e)
 no_module t input f (fault.Link g name) h n = inl (subst (λ (x : LinkFault). AreModules any input (Err x)) (sym n.0) h, n.1)
+no_module t input f (fault.Outside a o) h n = absurd n
 no_module t input f fault.NoRoom h n = absurd n
 no_module t input f fault.Write h n = absurd n
 
@@ -59,6 +63,7 @@ no_memory o ms (fault.Link (link.External f) name) n = let is = n.0 in absurd cc
 no_memory o ms (fault.Link (link.Reach j f) name) n = let is = n.0 in absurd cc
 no_memory o ms (fault.Link (link.Starts j k) name) n = let is = n.0 in absurd cc
 no_memory o ms (fault.Link (link.Space f) name) n = let is = n.0 in absurd cc
+no_memory o ms (fault.Outside a w) n = absurd n
 no_memory o ms fault.NoRoom n = absurd n
 no_memory o ms fault.Write n = absurd n
 
@@ -135,6 +140,7 @@ not_told Is ms (Err (fault.Link (link.External f) name)) not h = tt
 not_told Is ms (Err (fault.Link (link.Reach j f) name)) not h = tt
 not_told Is ms (Err (fault.Link (link.Starts j k) name)) not h = tt
 not_told Is ms (Err (fault.Link (link.Space f) name)) not h = tt
+not_told Is ms (Err (fault.Outside a o)) not h = tt
 not_told Is ms (Err fault.NoRoom) not h = tt
 not_told Is ms (Err fault.Write) not h = h
 
@@ -150,11 +156,20 @@ not_drafted o ms (Err (fault.Link (link.External f) name)) h = tt
 not_drafted o ms (Err (fault.Link (link.Reach j f) name)) h = tt
 not_drafted o ms (Err (fault.Link (link.Starts j k) name)) h = tt
 not_drafted o ms (Err (fault.Link (link.Space f) name)) h = tt
+not_drafted o ms (Err (fault.Outside a w)) h = tt
 not_drafted o ms (Err fault.NoRoom) h = tt
 not_drafted o ms (Err fault.Write) h = h
 
+not_filed : (f : Form) (ms : List (List Rec)) (text : List ℕ) (r : Result (List ℕ) ImageFault) → IsRom f ms text r → IsNoDevice r
+not_filed f ms text (Ok file) h = tt
+not_filed f ms text (Err (fault.Link g name)) h = not_told (IsLinked ms text) ms (Err (fault.Link g name)) (not_first ms text) h
+not_filed f ms text (Err (fault.Outside a o)) h = tt
+not_filed f ms text (Err fault.NoRoom) h = tt
+not_filed f ms text (Err fault.Write) h = h
+
 not_shown : (t : Task) (ms : List (List Rec)) (text : List ℕ) (r : Result (List ℕ) ImageFault) → AreShown t ms text r → IsNoDevice r
 not_shown task.Image ms text r h = not_told (IsLinked ms text) ms r (not_first ms text) h
+not_shown (task.Rom f) ms text r h = not_filed f ms text r h
 not_shown task.Map ms text r h = not_told (IsMapped ms text) ms r (not_linked ms text) h
 not_shown (task.Draft o) ms text r h = not_drafted o ms r h
 
@@ -170,6 +185,7 @@ not_refused input (Err (fault.Link (link.External f) name)) h = tt
 not_refused input (Err (fault.Link (link.Reach j f) name)) h = tt
 not_refused input (Err (fault.Link (link.Starts j k) name)) h = tt
 not_refused input (Err (fault.Link (link.Space f) name)) h = tt
+not_refused input (Err (fault.Outside a o)) h = tt
 not_refused input (Err fault.NoRoom) h = tt
 not_refused input (Err fault.Write) h = h
 
@@ -193,6 +209,7 @@ module _ (old new : Device) where
   unbroken (Err (fault.Link (link.Reach j f) name)) h n = h
   unbroken (Err (fault.Link (link.Starts j k) name)) h n = h
   unbroken (Err (fault.Link (link.Space f) name)) h n = h
+  unbroken (Err (fault.Outside a o)) h n = h
   unbroken (Err fault.NoRoom) h n = h
   unbroken (Err fault.Write) h n = n
 
@@ -214,6 +231,7 @@ module _ (old new : Device) where
 
   pub part_cause : (A : Type 0) (f : LinkFault) (e : ImageFault) → IsReadCause {A = A} old new (Err f) → IsUnnamed f e → IsShowCause old new (Err e)
   part_cause A f (fault.Link g name) c n = subst (λ (x : LinkFault). IsShowCause old new (Err (fault.Link x name))) (sym n.0) (told_cause A f name n.1 c)
+  part_cause A f (fault.Outside a o) c n = absurd n
   part_cause A f fault.NoRoom c n = absurd n
   part_cause A f fault.Write c n = absurd n
 
@@ -229,6 +247,7 @@ read_whole t input old new (Err (fault.Link (link.External f) name)) c i = (c, i
 read_whole t input old new (Err (fault.Link (link.Reach j f) name)) c i = (c, i)
 read_whole t input old new (Err (fault.Link (link.Starts j k) name)) c i = (c, i)
 read_whole t input old new (Err (fault.Link (link.Space f) name)) c i = (c, i)
+read_whole t input old new (Err (fault.Outside a o)) c i = (c, i)
 read_whole t input old new (Err fault.NoRoom) c i = (c, i)
 read_whole t input old new (Err fault.Write) c i = (c, i)
 
@@ -253,5 +272,6 @@ part_of t A input before after old new (link.Space d) name h p = absurd h
 pub part_read : (t : Task) (A : Type 0) (input : List ℕ) (before after : Device) (old new : Option (List ℕ)) (f : LinkFault) (e : ImageFault) → IsReadCause {A = A} before after (Err f) → IsPartRead old new → IsUnnamed f e
     → Shows t input old new (Err e)
 part_read t A input before after old new f (fault.Link g name) h p n = subst (λ (x : LinkFault). Shows t input old new (Err (fault.Link x name))) (sym n.0) (part_of t A input before after old new f name h p)
+part_read t A input before after old new f (fault.Outside a o) h p n = absurd n
 part_read t A input before after old new f fault.NoRoom h p n = absurd n
 part_read t A input before after old new f fault.Write h p n = absurd n

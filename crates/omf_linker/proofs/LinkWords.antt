@@ -7,6 +7,8 @@ use Rattle.clap.specs.declared.error.kind.ErrorKind.{ErrorKind}
 use Rattle.clap.proofs.OnLiterals.{clap_on_literals}
 use Rattle.omf_layout.specs.declared.options.Options.{Options}
 use Rattle.omf_linker.specs.Options.{AreNamed, NameOnly}
+use Rattle.omf_rom.specs.declared.form.Form.{Form}
+use Rattle.omf_linker.specs.Link.FormWords.{IsFormNamed}
 use Rattle.omf_linker.specs.Link.Words.{IsNamedIn, IsOnlyAsked, IsTask, NamesBy, link_app}
 use Rattle.omf_linker.specs.declared.link.words.Task.{Task}
 use Rattle.omf_linker.specs.declared.link.words.Task.TheVariants as task
@@ -22,10 +24,12 @@ has_fault k ks e = absurd cc
 -- the result for each subcommand is the result for a task
 pub task_is : (name : Text) (rows : List Row) (asked : Task) (r : Option Task) → IsTask name rows asked → (bytes_eq name (codes "image") ≡ true → r ≡ Some task.Image)
     → (bytes_eq name (codes "image") ≡ false → bytes_eq name (codes "map") ≡ true → r ≡ Some task.Map)
+    → ((f : Form) → IsFormNamed name rows f → r ≡ Some (task.Rom f))
     → ((o : Options) → bytes_eq name (codes "image") ≡ false → bytes_eq name (codes "map") ≡ false → bytes_eq name (codes "draft") ≡ true → AreNamed rows o → r ≡ Some (task.Draft o)) → r ≡ Some asked
-task_is name rows task.Image r is image map draft = image (ap (λ n. bytes_eq n (codes "image")) is)
-task_is name rows task.Map r is image map draft = map (ap (λ n. bytes_eq n (codes "image")) is) (ap (λ n. bytes_eq n (codes "map")) is)
-task_is name rows (task.Draft o) r is image map draft =
+task_is name rows task.Image r is image map rom draft = image (ap (λ n. bytes_eq n (codes "image")) is)
+task_is name rows (task.Rom f) r is image map rom draft = rom f is
+task_is name rows task.Map r is image map rom draft = map (ap (λ n. bytes_eq n (codes "image")) is) (ap (λ n. bytes_eq n (codes "map")) is)
+task_is name rows (task.Draft o) r is image map rom draft =
     draft o (ap (λ n. bytes_eq n (codes "image")) is.0) (ap (λ n. bytes_eq n (codes "map")) is.0) (ap (λ n. bytes_eq n (codes "draft")) is.0) is.1
 
 -- a task that is found comes from what was parsed

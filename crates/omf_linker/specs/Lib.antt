@@ -1,3 +1,7 @@
+pub mod Asked
 pub mod Options
+pub mod Drafting
+pub mod Map
 pub mod Link
 pub mod Place
+pub mod Inner

@@ -1,10 +1,12 @@
 pub mod MemoryText
 pub mod Linked
 pub mod Mapped
+pub mod Rom
 pub mod Drafted
 pub mod Faults
 pub mod Shown
 pub mod Runs
+pub mod FormWords
 pub mod Words
 pub mod Files
 pub mod Rows

@@ -1,7 +1,12 @@
-//! The programs `omf-link` and `omf-place`, and the layout options that both take.
+//! The programs `omf-link` and `omf-place`, and the layout options that both take; a first text for a link (`drafting`), and the map of
+//! a finished one (`map`).
 #![tactic(auto)]
 
+pub mod asked;
+pub mod drafting;
+pub mod host;
 pub mod link;
+pub mod map;
 pub mod options;
 pub mod place;
 pub mod rows;

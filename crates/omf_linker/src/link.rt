@@ -3,11 +3,13 @@
 mod fault;
 mod files;
 mod files_fault;
+mod form_words;
 mod linking;
 mod naming;
 mod printed;
 mod printing;
 mod program;
+mod rom;
 mod running;
 mod words;
 
@@ -18,5 +20,6 @@ pub use linking::{modules_map, modules_text};
 pub use omf_linking::InputFile;
 pub use printing::{image_text, memory_text};
 pub use program::Link;
+pub use rom::modules_file;
 pub use running::{run_task, shown_text};
 pub use words::{Task, task_of};

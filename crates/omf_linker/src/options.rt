@@ -28,7 +28,7 @@ pub fn with_options<'a>(alloc: Global, command: Command<'a>) -> Result<Command<'
 }
 
 /// An option that takes a value.
-fn valued<'a>(alloc: Global, name: &'a str) -> Arg<'a>
+pub(crate) fn valued<'a>(alloc: Global, name: &'a str) -> Arg<'a>
     ensures rule { rule_of result ≡ value_rule name.entry.now }
     ensures own { result.global ≡ false }
 {

@@ -4,7 +4,7 @@ ghost use Rattle.std.specs.Prelude.{◌≡◌, [], ◌∷◌, codes, true, false
 ghost use Rattle.clap.specs.Words.{Text, fault_of, subcommand_of};
 ghost use Rattle.omf_frame.specs.declared.fault.Reason.TheVariants as reason;
 ghost use Rattle.omf_check.specs.Rows.{place};
-ghost use Rattle.omf_derive.specs.declared.fault.DeriveFault.TheVariants as derive;
+ghost use Rattle.omf_placement.specs.declared.several.fault.DeriveFault.TheVariants as derive;
 ghost use Rattle.omf_reloc.specs.declared.fault.Kind.TheVariants as kind;
 ghost use Rattle.omf_reloc.specs.declared.fault.ReachFault.TheVariants as reach;
 ghost use Rattle.omf_layout.specs.declared.options.Frames.TheVariants.{Real, Flat};

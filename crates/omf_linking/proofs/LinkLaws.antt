@@ -7,12 +7,12 @@ use Rattle.std.proofs.lemmas.List.FromFn.{length-enumerate_from}
 use Rattle.omf_check.specs.Module.{Module, records_in, typed_modules}
 use Rattle.omf_check.specs.Tables.{groups, segments}
 use Rattle.omf_check.specs.WellFormed.{recs}
-use Rattle.omf_derive.specs.Inner.Derived.{derived, derive_faults, unless_fault, with_externals}
-use Rattle.omf_derive.specs.Derivation.{IsDerived, IsPlaceOf}
-use Rattle.omf_derive.specs.Derive.{placed_modules}
-use Rattle.omf_derive.specs.declared.fault.DeriveFault.{DeriveFault}
-use Rattle.omf_derive.specs.declared.fault.DeriveFault.TheVariants as derive
-use Rattle.omf_derive.specs.declared.given.Given.{Given}
+use Rattle.omf_placement.specs.Inner.Derived.{derived, derive_faults, unless_fault, with_externals}
+use Rattle.omf_placement.specs.Derivation.{IsDerived, IsPlaceOf}
+use Rattle.omf_placement.specs.Derive.{placed_modules}
+use Rattle.omf_placement.specs.declared.several.fault.DeriveFault.{DeriveFault}
+use Rattle.omf_placement.specs.declared.several.fault.DeriveFault.TheVariants as derive
+use Rattle.omf_placement.specs.declared.several.given.Given.{Given}
 use Rattle.omf_placement.specs.Placement.{Places}
 use Rattle.omf_placement.specs.PlacementText.{IsAnswer}
 use Rattle.omf_placement.specs.declared.fault.TextFault.{TextFault}

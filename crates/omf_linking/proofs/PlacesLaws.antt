@@ -5,7 +5,7 @@ use Rattle.std.specs.List.{enumerate_from}
 use Rattle.std.proofs.lemmas.List.{drop_all}
 use Rattle.omf_check.specs.Module.{Module, records_in, typed_modules}
 use Rattle.omf_check.specs.WellFormed.{recs}
-use Rattle.omf_derive.specs.declared.given.Given.{Given}
+use Rattle.omf_placement.specs.declared.several.given.Given.{Given}
 use Rattle.omf_placement.specs.Placement.{Places}
 use Rattle.omf_placement.specs.PlacementText.{IsAnswer}
 use Rattle.omf_placement.specs.declared.fault.TextFault.{TextFault}

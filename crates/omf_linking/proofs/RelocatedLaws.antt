@@ -3,7 +3,7 @@ use Rattle.std.proofs.Common.{◌≡◌, ℕ, zero, suc, ◌+◌, List, [], ◌�
 use Rattle.std.proofs.lemmas.List.{append-nil, take-append-drop}
 use Rattle.std.specs.Prelude.{filter_map, slice_get, Option, Some, None, option_map}
 use Rattle.std.specs.List.{AllZip, cons_option, enumerate_from}
-use Rattle.omf_derive.specs.Derive.{PlacedModule}
+use Rattle.omf_placement.specs.Derive.{PlacedModule}
 use Rattle.omf_reloc.specs.declared.fault.ReachFault.{ReachFault}
 use Rattle.omf_linking.specs.Faults.{all_far, far_by}
 use Rattle.omf_linking.specs.declared.fault.LinkFault.{LinkFault}

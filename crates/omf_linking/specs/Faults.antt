@@ -1,10 +1,10 @@
 -- How faults of a text, of placements, of derived places and of segments in memory become faults of a link.
 use Rattle.std.specs.Prelude.{ℕ, List, filter_map, Option, option_map}
 use Rattle.std.specs.List.{enumerate_from}
-use Rattle.omf_derive.specs.Derive.{PlacedModule}
+use Rattle.omf_placement.specs.Derive.{PlacedModule}
 use Rattle.omf_reloc.specs.declared.fault.ReachFault.{ReachFault}
-use Rattle.omf_derive.specs.declared.fault.DeriveFault.{DeriveFault}
-use Rattle.omf_derive.specs.declared.fault.DeriveFault.TheVariants as derive
+use Rattle.omf_placement.specs.declared.several.fault.DeriveFault.{DeriveFault}
+use Rattle.omf_placement.specs.declared.several.fault.DeriveFault.TheVariants as derive
 use Rattle.omf_linking.specs.declared.space.fault.MemoryFault.{MemoryFault}
 use Rattle.omf_linking.specs.declared.space.fault.MemoryFault.TheVariants as memory
 use Rattle.omf_placement.specs.declared.fault.TextFault.{TextFault}

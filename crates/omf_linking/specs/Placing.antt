@@ -3,11 +3,11 @@ use Rattle.std.specs.Prelude.{◌≡◌, ⊤, ℕ, List, [], ◌∷◌, ◌++◌
 use Rattle.std.specs.List.{enumerate_from}
 use Rattle.omf_records.specs.Values.{Rec}
 use Rattle.omf_check.specs.Tables.{segments, groups, externals, is_defined}
-use Rattle.omf_derive.specs.Derive.{PlacedModule}
--- computed: derived_is_taken of omf_derive.
-use Rattle.omf_derive.specs.Inner.Derived.{derived}
-use Rattle.omf_derive.specs.declared.fault.DeriveFault.{DeriveFault}
-use Rattle.omf_derive.specs.declared.given.Given.{Given}
+use Rattle.omf_placement.specs.Derive.{PlacedModule}
+-- computed: derived_is_taken of omf_placement.
+use Rattle.omf_placement.specs.Inner.Derived.{derived}
+use Rattle.omf_placement.specs.declared.several.fault.DeriveFault.{DeriveFault}
+use Rattle.omf_placement.specs.declared.several.given.Given.{Given}
 use Rattle.omf_placement.specs.Placement.{Places}
 use Rattle.omf_placement.specs.PlacementText.{resolved}
 use Rattle.omf_linking.specs.Parts.{Part, GivenLine, parsed_parts}

@@ -1,7 +1,7 @@
 -- Modules at their placements (this profile's rule).
 use Rattle.std.specs.Prelude.{◌≡◌, ℕ, List, [], Option, Some, None, Result, Ok, Err, slice_get}
 use Rattle.std.specs.List.{AllZip}
-use Rattle.omf_derive.specs.Derive.{PlacedModule}
+use Rattle.omf_placement.specs.Derive.{PlacedModule}
 use Rattle.omf_image.specs.Limits.{profile_limits}
 use Rattle.omf_image.specs.Overlay.{byte_at}
 use Rattle.omf_reloc.specs.Image.{image, start}

@@ -1,7 +1,7 @@
 -- Definitions for the worked examples.
 use Rattle.std.specs.Prelude.{ℕ, List, [], ◌∷◌, Bool, Option, Some, None, slice_get, ◌==◌, if◌then◌else◌}
 use Rattle.std.specs.List.{join_with_byte}
-use Rattle.omf_derive.specs.declared.given.Given.{Given}
+use Rattle.omf_placement.specs.declared.several.given.Given.{Given}
 use Rattle.omf_placement.specs.declared.frame.Frame.{Frame}
 use Rattle.omf_placement.specs.declared.frame.Placed.{Placed}
 use Rattle.omf_records.specs.Values.{Rec, ModEnd, Segment}

@@ -3,7 +3,7 @@ use Rattle.std.specs.Prelude.{ℕ, List, [], ◌∷◌, map, flat_map, zip, Bool
 use Rattle.std.specs.List.{enumerate_from}
 use Rattle.omf_records.specs.Values.{Rec, Contents, Segment, combination}
 use Rattle.omf_check.specs.Tables.{entry}
-use Rattle.omf_derive.specs.Derive.{PlacedModule}
+use Rattle.omf_placement.specs.Derive.{PlacedModule}
 use Rattle.omf_placement.specs.declared.frame.Placed.{Placed}
 use Rattle.omf_image.specs.Limits.{profile_limits}
 use Rattle.omf_image.specs.Overlay.{byte_at}

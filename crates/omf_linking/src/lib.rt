@@ -24,3 +24,4 @@ pub use parts::{Part, parse_parts};
 pub use placing::{link, link_parts};
 pub use reading::{modules_in, read_all};
 pub use relocated::{Relocated, relocate_all, start_of};
+pub use segments::segments_of;

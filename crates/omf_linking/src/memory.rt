@@ -2,7 +2,7 @@
 
 ghost use Rattle.std.specs.Prelude.{◌≡◌, ◌<◌, ◌^◌, length};
 ghost use Rattle.std.specs.List.{AllZip};
-ghost use Rattle.omf_derive.specs.Derive.{placed_modules};
+ghost use Rattle.omf_placement.specs.Derive.{placed_modules};
 ghost use Rattle.omf_linking.specs.Inner.Runs.{IsTried};
 ghost use Rattle.omf_linking.specs.LinkedMemory.{IsLinkedMemory};
 ghost use Rattle.omf_linking.specs.Relocated.{IsRelocated};

@@ -11,9 +11,8 @@ ghost use Rattle.omf_linking.specs.Placing.{given_as, given_in, stray};
 
 use crate::entry::{LinkEntry, link_entry_of};
 use omf_check::Checked;
-use omf_derive::Given;
 use omf_placement::cut::cut;
-use omf_placement::{Draft, Placed, Placement, TextFault, said_by};
+use omf_placement::{Draft, Given, Placed, Placement, TextFault, said_by};
 use std::alloc::{AllocError, Global};
 use std::marker::Model;
 

@@ -1,7 +1,7 @@
 //! The placements of several modules.
 
 ghost use Rattle.std.specs.Prelude.{◌≡◌, ◌++◌, ◌<◌, ◌≤◌, ◌^◌, [], Ok, OnOk, IfErr, IfOk, IsOk, length, slice_get};
-ghost use Rattle.omf_derive.specs.Derive.{placed_modules};
+ghost use Rattle.omf_placement.specs.Derive.{placed_modules};
 ghost use Rattle.omf_reloc.specs.Reach.{extra, missing};
 ghost use Rattle.omf_linking.specs.Faults.{all_far};
 ghost use Rattle.omf_check.specs.Module.{recs_of, typed_modules};
@@ -15,8 +15,7 @@ ghost use Rattle.omf_linking.specs.Placing.{IsOutcome, by_parts, given_in, given
 use crate::fault::LinkFault;
 use crate::parts::{Part, parse_parts};
 use omf_check::Checked;
-use omf_derive::{Given, derive};
-use omf_placement::{Placement, TextFault};
+use omf_placement::{Given, Placement, TextFault, derive};
 use omf_reloc::{Kind, ReachFault};
 use std::alloc::Global;
 

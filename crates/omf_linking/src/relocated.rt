@@ -2,7 +2,7 @@
 
 ghost use Rattle.std.specs.Prelude.{◌≡◌, ◌<◌, ◌^◌, Err, IfOk, length, zip};
 ghost use Rattle.omf_check.specs.Module.{recs_of, typed_modules};
-ghost use Rattle.omf_derive.specs.Derive.{placed_modules};
+ghost use Rattle.omf_placement.specs.Derive.{placed_modules};
 ghost use Rattle.omf_records.specs.Inner.Seen.{map_ok};
 ghost use Rattle.omf_linking.specs.Relocated.{AreRelocated, IsRelocation};
 ghost use Rattle.omf_linking.specs.Starts.{is_main, main_start, main_starts, one_start};

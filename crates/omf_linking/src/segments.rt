@@ -4,7 +4,7 @@ ghost use Rattle.std.specs.Prelude.{◌≡◌, ◌++◌, ◌<◌, ◌^◌, IfOk,
 ghost use Rattle.omf_records.specs.Inner.Seen.{contents_seen};
 ghost use Rattle.omf_check.specs.Module.{recs_of};
 ghost use Rattle.omf_check.specs.Tables.{segments};
-ghost use Rattle.omf_derive.specs.Derive.{placed_modules};
+ghost use Rattle.omf_placement.specs.Derive.{placed_modules};
 ghost use Rattle.omf_linking.specs.Inner.Searching.{AreMany, listed};
 ghost use Rattle.omf_linking.specs.Space.Segments.{segment_at, segments_at};
 ghost use Rattle.omf_linking.specs.Segments.{address_in, all_segments, commons, commons_in, image_bytes, is_common, module_segment, module_segments, with_images};

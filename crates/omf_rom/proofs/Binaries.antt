@@ -8,12 +8,12 @@ use Rattle.omf_rom.specs.declared.run.Run.{Run}
 use Rattle.omf_rom.specs.Binary.{Ascend, binary, byte_at, AreBytesFrom}
 
 -- ascending runs begin where they may, and end where they must
-ascends : (from end : ℕ) (runs : List Run) → Ascend from end runs → from ≤ end
+pub ascends : (from end : ℕ) (runs : List Run) → Ascend from end runs → from ≤ end
 ascends from end [] h = h
 ascends from end (r ∷ runs) h = let next = ascends (r.address + length r.bytes.now) end runs h.1 in omega (arith, next, h.0)
 
 -- a run, or those after it
-in_run : (fill : ℕ) (r : Run) (runs : List Run) (x : ℕ) (low high : Bool) → leb r.address x ≡ low → ltb x (r.address + length r.bytes.now) ≡ high
+pub in_run : (fill : ℕ) (r : Run) (runs : List Run) (x : ℕ) (low high : Bool) → leb r.address x ≡ low → ltb x (r.address + length r.bytes.now) ≡ high
     → byte_at fill (r ∷ runs) x ≡ cond (low && high) (get_or r.bytes.now (x - r.address) 0) (byte_at fill runs x)
 in_run fill r runs x low high e f = ap₂ (λ (a b : Bool). cond (a && b) (get_or r.bytes.now (x - r.address) 0) (byte_at fill runs x)) e f
 

@@ -4,3 +4,4 @@ pub mod Pieces
 pub mod ReadBack
 pub mod Binaries
 pub mod Decoded
+pub mod MemoryRuns

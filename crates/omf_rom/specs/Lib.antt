@@ -5,3 +5,5 @@ pub mod IntelHex
 pub mod Motorola
 pub mod Binary
 pub mod Reading
+pub mod Memory
+pub mod Inner

@@ -5,8 +5,8 @@ use Rattle.omf_placement.specs.Placement.{Places}
 use Rattle.omf_layout.specs.Layout.{Laid}
 use Rattle.omf_layout.specs.declared.options.Options.{Options}
 use Rattle.omf_layout.specs.Several.Placing.{arranged_places}
-use Rattle.omf_draft.specs.Reading.{IsReadBack}
-use Rattle.omf_draft.specs.Text.{drafted}
+use Rattle.omf_linker.specs.Drafting.Reading.{IsReadBack}
+use Rattle.omf_linker.specs.Drafting.Text.{drafted}
 use Rattle.omf_linking.specs.declared.fault.LinkFault.TheVariants as link
 use Rattle.omf_linker.specs.declared.link.fault.ImageFault.{ImageFault}
 use Rattle.omf_linker.specs.declared.link.fault.ImageFault.TheVariants as fault

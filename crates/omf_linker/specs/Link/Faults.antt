@@ -1,8 +1,8 @@
 -- The faults of `omf-link`: the name of the external, the printed line, and what is reported (a rule of this profile).
-use Rattle.std.specs.Prelude.{◌≡◌, ◌⊎◌, ℕ, ◌+◌, List, [], ◌∷◌, ◌++◌, option_and_then, unwrap_or, slice_get, codes, decimal}
+use Rattle.std.specs.Prelude.{◌≡◌, ◌⊎◌, ℕ, ◌+◌, List, [], ◌∷◌, ◌++◌, Option, Some, None, option_and_then, unwrap_or, slice_get, codes, decimal}
 use Rattle.omf_check.specs.Tables.{entry, externals}
-use Rattle.omf_derive.specs.declared.fault.DeriveFault.{DeriveFault}
-use Rattle.omf_derive.specs.declared.fault.DeriveFault.TheVariants as derive
+use Rattle.omf_placement.specs.declared.several.fault.DeriveFault.{DeriveFault}
+use Rattle.omf_placement.specs.declared.several.fault.DeriveFault.TheVariants as derive
 use Rattle.omf_linking.specs.declared.space.fault.MemoryFault.{MemoryFault}
 use Rattle.omf_linking.specs.declared.space.fault.MemoryFault.TheVariants as space
 use Rattle.omf_linking.specs.declared.space.stretch.Owner.{Owner}
@@ -88,10 +88,16 @@ link_words (link.Space f) name = space_words f
 abbrev pub no_room : List ℕ
 no_room = codes "no room below the last address"
 
+-- The line of a byte at an address that a form does not have: the address, and the segment.
+abbrev pub outside_words : ℕ → Option Owner → List (List ℕ)
+outside_words a None = codes "outside" ∷ hex 8 a ∷ []
+outside_words a (Some o) = codes "outside" ∷ hex 8 a ∷ owner_words o
+
 -- The line of a fault, in words.
 abbrev pub fault_words : ImageFault → List (List ℕ)
 fault_words (fault.Link f name) = link_words f name.items
 fault_words fault.NoRoom = no_room ∷ []
+fault_words (fault.Outside a o) = outside_words a o
 fault_words fault.Write = run_words run.Write
 
 -- The line, without its line feed.
@@ -109,9 +115,10 @@ link_status _ = 1
 -- What is reported of a fault: the exit status, and the line and its line feed. Nothing is printed if the writer failed.
 abbrev pub report : ImageFault → FaultReport
 report (fault.Link f name) = record { status = link_status f; text = fault_line (fault.Link f name) ++ 10 ∷ [] }
+report (fault.Outside a o) = record { status = 1; text = fault_line (fault.Outside a o) ++ 10 ∷ [] }
 report fault.NoRoom = record { status = 1; text = fault_line fault.NoRoom ++ 10 ∷ [] }
 report fault.Write = record { status = 3; text = [] }
 
 -- The usage.
 abbrev pub usage : List ℕ
-usage = codes "usage: omf-link image | map | draft [--base ADDRESS] [--real | --flat SELECTOR] [-t TEXT] [FILE ..]" ++ 10 ∷ []
+usage = codes "usage: omf-link image | map | bin --base ADDRESS --size SIZE [--fill BYTE] | hex [--addresses linear | segment] | srec [--addresses 16 | 24 | 32] | draft [--base ADDRESS] [--real | --flat SELECTOR] [-t TEXT] [-o FILE] [FILE ..]" ++ 10 ∷ []

@@ -16,6 +16,7 @@ use Rattle.omf_linking.specs.Starts.{main_starts, one_start}
 use Rattle.omf_linking.specs.declared.fault.LinkFault.{LinkFault}
 use Rattle.omf_linking.specs.declared.relocated.Relocated.{Relocated}
 use Rattle.omf_linker.specs.Link.MemoryText.{image_text}
+use Rattle.omf_linker.specs.declared.link.linking.LinkedModules.{LinkedModules}
 
 -- A link text gives modules their placements, and each module reaches at its own: it has an image and a start address there.
 pub record AreAtPlaces (ms : List (List Rec)) (text : List ℕ) : Type 0 where
@@ -32,14 +33,24 @@ segments_of ms pls = all_segments (with_own_images (zip ms pls))
 abbrev pub start_of : List (List Rec) → List Relocated → Result (Option (ℕ × ℕ)) LinkFault
 start_of ms rs = one_start (main_starts (zip ms rs))
 
--- The text for modules and a link text: the bytes of the memory that the modules share at their placements, and their start address.
-pub record IsShown (ms : List (List Rec)) (text shown : List ℕ) : Type 0 where
+-- Modules at the placements of a link text: the memory that they share there, and their start address.
+pub record AreTogether (ms : List (List Rec)) (text : List ℕ) : Type 0 where
   pub at : AreAtPlaces ms text
   pub memory : List Laid
   pub start : Option (ℕ × ℕ)
   pub laid : AreLaid (segments_of ms at.placements) memory
   pub starts : start_of ms at.relocated ≡ Ok start
-  pub shown_is : shown ≡ image_text (byte_at memory 0) (runs_of memory 0) start
+
+-- The text for modules and a link text: the bytes of their memory, and their start address.
+abbrev pub IsShown : List (List Rec) → List ℕ → List ℕ → Type 0
+IsShown ms text shown = (t : AreTogether ms text) × (shown ≡ image_text (byte_at t.memory 0) (runs_of t.memory 0) t.start)
+
+-- Linked modules are at the placements of the text, and this is their memory and their start.
+pub record AreLinkedUp (ms : List (List Rec)) (text : List ℕ) (l : LinkedModules) : Type 0 where
+  pub placed : linked ms text ≡ Ok l.placements.items
+  pub each : AllZip IsRelocated (zip ms l.placements.items) l.relocated.items
+  pub laid : AreLaid (segments_of ms l.placements.items) l.memory
+  pub starts : start_of ms l.relocated.items ≡ Ok l.start
 
 -- Why there is none, in this order: the link text gives no placements; a module does not reach at its own; the segments do not fit in one memory; two modules have
 -- a start address. Out of memory is possible at any time.
@@ -63,6 +74,11 @@ HasStarts ms text f = (at : AreAtPlaces ms text) × ((memory : List Laid) × Are
 -- The first of these.
 abbrev pub IsFirstFault : List (List Rec) → List ℕ → LinkFault → Type 0
 IsFirstFault ms text f = IsUnplaced ms text f ⊎ (IsFar ms text f ⊎ (IsNotLaid ms text f ⊎ HasStarts ms text f))
+
+-- The modules are linked, or this is the first fault.
+abbrev pub AreLinked : List (List Rec) → List ℕ → Result LinkedModules LinkFault → Type 0
+AreLinked ms text (Ok l) = AreLinkedUp ms text l
+AreLinked ms text (Err f) = IsFirstFault ms text f
 
 -- The result for modules and a link text: their image as text, or the first fault.
 abbrev pub IsLinked : List (List Rec) → List ℕ → Result (List ℕ) LinkFault → Type 0

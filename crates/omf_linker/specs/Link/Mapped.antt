@@ -4,7 +4,7 @@ use Rattle.omf_placement.specs.Placement.{Places}
 use Rattle.omf_records.specs.Values.{Rec}
 use Rattle.omf_linking.specs.Placing.{linked}
 use Rattle.omf_linking.specs.declared.fault.LinkFault.{LinkFault}
-use Rattle.omf_draft.specs.Map.MapText.{map_text}
+use Rattle.omf_linker.specs.Map.MapText.{map_text}
 use Rattle.omf_linker.specs.Link.Linked.{IsUnplaced}
 
 -- The result for modules and a link text: the map at the placements that the text gives, whether these reach or not; or the text gives none.

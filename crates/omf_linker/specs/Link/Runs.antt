@@ -1,5 +1,5 @@
 -- A run of `omf-link`: its result, and what it reads and writes.
-use Rattle.std.specs.Prelude.{◌≡◌, ℕ, List, [], Option, Some, Result, Ok, Err}
+use Rattle.std.specs.Prelude.{◌≡◌, ℕ, List, [], Option, Some, Result, Err}
 use Rattle.std.specs.Io.KnownBytes.{Consumes}
 use Rattle.omf_frame.specs.Device.{Device}
 use Rattle.omf_linking.specs.Reading.{IsPartRead}

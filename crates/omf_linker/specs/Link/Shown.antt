@@ -9,6 +9,7 @@ use Rattle.omf_linker.specs.Link.Drafted.{IsDrafted}
 use Rattle.omf_linker.specs.Link.Faults.{name_of}
 use Rattle.omf_linker.specs.Link.Linked.{any, IsLinked}
 use Rattle.omf_linker.specs.Link.Mapped.{IsMapped}
+use Rattle.omf_linker.specs.Link.Rom.{IsRom}
 use Rattle.omf_linker.specs.declared.link.fault.ImageFault.{ImageFault}
 use Rattle.omf_linker.specs.declared.link.fault.ImageFault.TheVariants as fault
 use Rattle.omf_linker.specs.declared.link.words.Task.{Task}
@@ -20,9 +21,10 @@ IsNamedAs Is ms (Ok shown) = Is (Ok shown)
 IsNamedAs Is ms (Err (fault.Link f name)) = (Is (Err f) × (name.items ≡ name_of ms f)) ⊎ ((f ≡ link.Memory) × (name.items ≡ []))
 IsNamedAs Is ms (Err _) = ⊥
 
--- The result of a task for modules and a link text: their image as text, or their map; or their draft, whatever the text is.
+-- The result of a task for modules and a link text: their image as text, or as a file for a chip, or their map; or their draft, whatever the text is.
 abbrev pub AreShown : Task → List (List Rec) → List ℕ → Result (List ℕ) ImageFault → Type 0
 AreShown task.Image ms text r = IsNamedAs (IsLinked ms text) ms r
+AreShown (task.Rom f) ms text r = IsRom f ms text r
 AreShown task.Map ms text r = IsNamedAs (IsMapped ms text) ms r
 AreShown (task.Draft o) ms text r = IsDrafted o ms r
 

@@ -3,16 +3,20 @@ use Rattle.std.specs.Prelude.{◌≡◌, ◌⊎◌, List, [], Option, Some, None
 use Rattle.clap.specs.Words.{App, Row, Text, fault_of, new_app, subcommand_of, with_subcommand}
 use Rattle.omf_layout.specs.declared.options.Options.{Options}
 use Rattle.omf_linker.specs.Options.{AreNamed, NameOnly, with_options}
+use Rattle.omf_linker.specs.Link.FormWords.{IsFormNamed, with_addresses, with_chip}
 use Rattle.omf_linker.specs.declared.link.words.Task.{Task}
 use Rattle.omf_linker.specs.declared.link.words.Task.TheVariants as task
 
--- The program as a command of clap: its subcommands, the last of which has the layout options.
+-- The program as a command of clap: its subcommands. Those of files for chips have options of their own, the last has the layout options.
 abbrev pub link_app : App
-link_app = with_subcommand (with_subcommand (with_subcommand (new_app (codes "omf-link")) (new_app (codes "image")).top) (new_app (codes "map")).top) (with_options (new_app (codes "draft"))).top
+link_app =
+    with_subcommand (with_subcommand (with_subcommand (with_subcommand (with_subcommand (with_subcommand (new_app (codes "omf-link")) (new_app (codes "image")).top) (new_app (codes "map")).top)
+    (with_chip (new_app (codes "bin"))).top) (with_addresses (new_app (codes "hex"))).top) (with_addresses (new_app (codes "srec"))).top) (with_options (new_app (codes "draft"))).top
 
 -- A subcommand and the arguments after it, as clap parsed them, give a task. `named` relates these arguments to the options.
 abbrev pub NamesBy : (List Row → Options → Type 0) → Text → List Row → Task → Type 0
 NamesBy named name rows task.Image = name ≡ codes "image"
+NamesBy named name rows (task.Rom f) = IsFormNamed name rows f
 NamesBy named name rows task.Map = name ≡ codes "map"
 NamesBy named name rows (task.Draft o) = (name ≡ codes "draft") × named rows o
 

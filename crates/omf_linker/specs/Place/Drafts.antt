@@ -4,7 +4,7 @@ use Rattle.omf_records.specs.Values.{Rec}
 use Rattle.omf_layout.specs.declared.options.Options.{Options}
 use Rattle.omf_layout.specs.Draft.{draft_text}
 use Rattle.omf_layout.specs.Layout.{LaidOut, layout_of}
-use Rattle.omf_draft.specs.Fit.{FitsModule}
+use Rattle.omf_linker.specs.Drafting.Fit.{FitsModule}
 use Rattle.omf_layout.specs.Reading.{IsReadBack}
 use Rattle.omf_cmd.specs.declared.fault.RunFault.TheVariants as run
 use Rattle.omf_linker.specs.declared.place.fault.PlaceFault.{PlaceFault}

@@ -24,4 +24,4 @@ report fault.NoRoom = record { status = 1; text = no_room }
 
 -- The usage.
 abbrev pub usage : List ℕ
-usage = codes "usage: omf-place [--base ADDRESS] [--real | --flat SELECTOR]" ++ 10 ∷ []
+usage = codes "usage: omf-place [--base ADDRESS] [--real | --flat SELECTOR] [FILE]" ++ 10 ∷ []

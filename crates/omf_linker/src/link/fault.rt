@@ -2,10 +2,11 @@
 
 ghost use Rattle.omf_linker.specs.Link.Faults.{report};
 
-use crate::link::printed::print_link;
+use crate::link::printed::{print_link, print_outside};
 use omf_cmd::{Fault, print_words};
 use omf_frame::Sink;
 use omf_linking::LinkFault;
+use omf_linking::space::Owner;
 
 /// Why a run fails.
 #[derive(Drop)]
@@ -16,6 +17,13 @@ pub enum ImageFault {
         fault: LinkFault,
         /// The name of the external without a place; empty for any other fault.
         name: Vec<u8>,
+    },
+    /// A byte of the memory is at an address that the form of its file does not have.
+    Outside {
+        /// The lowest such address.
+        address: u32,
+        /// The first segment with a byte there.
+        owner: Option<Owner>,
     },
     /// A segment of a draft has no room below the last address.
     NoRoom,
@@ -28,6 +36,7 @@ impl Fault for ImageFault {
 
     fn status(&self) -> u8 {
         match self {
+            ImageFault::Outside { .. } => 1,
             ImageFault::NoRoom => 1,
             ImageFault::Write => 3,
             ImageFault::Link { fault, .. } => match *fault {
@@ -48,6 +57,7 @@ impl Fault for ImageFault {
     fn print<K: Sink>(&self, writer: &mut K) {
         match self {
             ImageFault::Link { fault, name } => print_link(writer, *fault, name),
+            ImageFault::Outside { address, owner } => print_outside(writer, *address, *owner),
             ImageFault::NoRoom => print_words(writer, &["no room below the last address"]),
             ImageFault::Write => {}
         }

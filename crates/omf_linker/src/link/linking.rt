@@ -1,16 +1,58 @@
 //! The memory image of several modules as text, and their map.
 
-ghost use Rattle.std.specs.Prelude.{◌<◌, ◌^◌, length, string_bytes};
+ghost use Rattle.std.specs.Prelude.{◌≡◌, ◌<◌, ◌^◌, IfOk, length, string_bytes};
 ghost use Rattle.omf_records.specs.Inner.Seen.{map_ok};
 ghost use Rattle.omf_check.specs.Module.{typed_modules};
-ghost use Rattle.omf_linker.specs.Link.Linked.{IsLinked};
+ghost use Rattle.omf_linker.specs.Link.Linked.{AreLinked, IsLinked};
 ghost use Rattle.omf_linker.specs.Link.Mapped.{IsMapped};
 
 use crate::link::printing::image_text;
+use crate::map::map_text;
 use omf_check::Checked;
-use omf_draft::map::map_text;
-use omf_linking::{LinkFault, link, memory_image, relocate_all, start_of};
+use omf_image::Image;
+use omf_linking::{LinkFault, Relocated, link, memory_image, relocate_all, start_of};
+use omf_placement::Placement;
 use std::alloc::Global;
+
+/// Modules at the placements of a link text.
+#[derive(Drop)]
+pub struct LinkedModules {
+    /// The placement of each module.
+    pub placements: Vec<Placement>,
+    /// Each module, relocated to its placement.
+    pub relocated: Vec<Relocated>,
+    /// The memory that they share: segment 0 of an image.
+    pub memory: Image,
+    /// The selector and the offset of their start address.
+    pub start: Option<(u16, u32)>,
+}
+
+/// Links modules: gives them the placements of a link text, relocates each, and lays them in one memory.
+///
+/// # Errors
+///
+/// Those of `modules_text`.
+pub(crate) fn linked_modules(
+    alloc: Global,
+    modules: &[Checked],
+    text: &[u8],
+) -> Result<LinkedModules, LinkFault>
+    requires { length modules.now < 2 ^ 32 }
+    ensures linked { AreLinked (typed_modules modules.now) text.now result }
+    ensures placed { IfOk result (λ l. length l.placements.items ≡ length modules.now) }
+    ensures relocated { IfOk result (λ l. length l.relocated.items ≡ length modules.now) }
+{
+    let placements = link(alloc, modules, text)?;
+    let relocated = relocate_all(alloc, modules, &placements)?;
+    let memory = memory_image(alloc, modules, &placements, &relocated)?;
+    let start = start_of(modules, &relocated)?;
+    Ok(LinkedModules {
+        placements,
+        relocated,
+        memory,
+        start,
+    })
+}
 
 /// The memory image of modules as text, at the placements that a link text gives them: the bytes of the memory that they share, and their
 /// start address, in the form of `image_text`.
@@ -24,11 +66,8 @@ pub fn modules_text(alloc: Global, modules: &[Checked], text: &[u8]) -> Result<V
     requires { length modules.now < 2 ^ 32 }
     ensures { IsLinked (typed_modules modules.now) text.now (map_ok (λ shown. shown.items) result) }
 {
-    let placements = link(alloc, modules, text)?;
-    let relocated = relocate_all(alloc, modules, &placements)?;
-    let memory = memory_image(alloc, modules, &placements, &relocated)?;
-    let start = start_of(modules, &relocated)?;
-    let shown = image_text(alloc, &memory, start)?;
+    let linked = linked_modules(alloc, modules, text)?;
+    let shown = image_text(alloc, &linked.memory, linked.start)?;
     Ok(shown)
 }
 

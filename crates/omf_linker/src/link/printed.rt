@@ -1,12 +1,12 @@
 //! The line printed for a fault, written word by word.
 
-ghost use Rattle.std.specs.Prelude.{◌≡◌, ◌++◌, ◌∷◌, [], Ok, codes, decimal, flat_map};
+ghost use Rattle.std.specs.Prelude.{◌≡◌, ◌++◌, ◌∷◌, [], None, Ok, Some, codes, decimal, flat_map};
 ghost use Rattle.omf_cmd.specs.FaultLine.{fault_text};
 ghost use Rattle.omf_cmd.specs.Printed.{line, spaced};
 ghost use Rattle.omf_cmd.specs.Runs.{IsWritten, PrintsOr};
 ghost use Rattle.omf_cmd.specs.declared.fault.RunFault.TheVariants.{Write};
 ghost use Rattle.omf_placement.specs.Quoted.{hex};
-ghost use Rattle.omf_linker.specs.Link.Faults.{derive_words, external_words, input_at, link_words, module_words, owner_words, space_words};
+ghost use Rattle.omf_linker.specs.Link.Faults.{derive_words, external_words, input_at, link_words, module_words, outside_words, owner_words, space_words};
 ghost use Rattle.omf_linking.specs.declared.fault.LinkFault.TheVariants.{NoText, Starts};
 ghost use Rattle.omf_linking.specs.declared.space.fault.MemoryFault.TheVariants.{Beyond, Overlap};
 
@@ -203,5 +203,59 @@ pub fn print_link<K: Sink>(writer: &mut K, fault: LinkFault, name: &[u8])
         }
         LinkFault::Starts { first, second } => print_starts(writer, first, second),
         LinkFault::Space(fault) => print_space(writer, fault),
+    }
+}
+
+/// Writes the front of the line of a byte that a form does not have: its address in eight hexadecimal digits.
+fn write_outside<K: Sink>(writer: &mut K, address: u32) -> Result<(), RunFault>
+    ensures { PrintsOr Write (K.seen writer.old) (K.seen writer.new) (Ok (flat_map spaced (codes "outside" ∷ hex 8 address ∷ []))) result }
+{
+    print_all(writer, b"outside ", RunFault::Write)?;
+    print_all(writer, &eight_digits(address), RunFault::Write)?;
+    print_all(writer, b" ", RunFault::Write)
+}
+
+/// Prints the end of a line: a segment and its module.
+fn print_owner<K: Sink>(writer: &mut K, owner: Owner)
+    ensures { IsWritten (K.seen writer.old) (K.seen writer.new) (line (owner_words owner)) }
+{
+    let (mut number, mut index) = (Buffer::new(), Buffer::new());
+    let number = number.format(u64::from(owner.module) + 1);
+    let index = index.format(owner.segment);
+    print_words(writer, &["module", number, "segment", index]);
+}
+
+/// Prints the line of a byte in a segment that a form does not have.
+fn print_outside_in<K: Sink>(writer: &mut K, address: u32, owner: Owner)
+    ensures { IsWritten (K.seen writer.old) (K.seen writer.new) (line (outside_words address (Some owner))) }
+{
+    if let Ok(()) = write_outside(writer, address) {
+        print_owner(writer, owner);
+    }
+}
+
+/// Writes the line of a byte of no segment that a form does not have.
+fn write_outside_alone<K: Sink>(writer: &mut K, address: u32) -> Result<(), RunFault>
+    ensures { PrintsOr Write (K.seen writer.old) (K.seen writer.new) (Ok (line (outside_words address None))) result }
+{
+    print_all(writer, b"outside ", RunFault::Write)?;
+    print_all(writer, &eight_digits(address), RunFault::Write)?;
+    print_all(writer, b"\n", RunFault::Write)
+}
+
+/// Prints the line of a byte of no segment that a form does not have.
+fn print_outside_alone<K: Sink>(writer: &mut K, address: u32)
+    ensures { IsWritten (K.seen writer.old) (K.seen writer.new) (line (outside_words address None)) }
+{
+    let _ = write_outside_alone(writer, address);
+}
+
+/// Prints the line of a byte that a form does not have, and of its segment.
+pub fn print_outside<K: Sink>(writer: &mut K, address: u32, owner: Option<Owner>)
+    ensures { IsWritten (K.seen writer.old) (K.seen writer.new) (line (outside_words address owner)) }
+{
+    match owner {
+        Some(owner) => print_outside_in(writer, address, owner),
+        None => print_outside_alone(writer, address),
     }
 }

@@ -43,6 +43,6 @@ impl Program for Link {
     }
 
     fn usage() -> &'static [u8] {
-        b"usage: omf-link image | map | draft [--base ADDRESS] [--real | --flat SELECTOR] [-t TEXT] [FILE ..]\n"
+        b"usage: omf-link image | map | bin --base ADDRESS --size SIZE [--fill BYTE] | hex [--addresses linear | segment] | srec [--addresses 16 | 24 | 32] | draft [--base ADDRESS] [--real | --flat SELECTOR] [-t TEXT] [-o FILE] [FILE ..]\n"
     }
 }

@@ -9,13 +9,14 @@ ghost use Rattle.omf_linker.specs.Link.Mapped.{IsMapped};
 ghost use Rattle.omf_linker.specs.Link.Runs.{IsRun, IsShowCause, Shows};
 ghost use Rattle.omf_linker.specs.Link.Shown.{AreShown, IsNamedAs, IsShownOf};
 
+use crate::drafting::link_draft;
 use crate::link::fault::ImageFault;
 use crate::link::linking::{modules_map, modules_text};
 use crate::link::naming::{named, unnamed};
+use crate::link::rom::modules_file;
 use crate::link::words::Task;
 use omf_check::{Checked, Profile};
 use omf_cmd::print_all;
-use omf_draft::link_draft;
 use omf_frame::{Sink, Source};
 use omf_layout::{LayoutFault, Options};
 use omf_linking::{LinkFault, modules_in, read_all};
@@ -67,6 +68,7 @@ pub(crate) fn modules_shown(
 {
     match task {
         Task::Image => image_shown(alloc, modules, text),
+        Task::Rom(form) => modules_file(alloc, form, modules, text),
         Task::Map => map_shown(alloc, modules, text),
         Task::Draft(options) => draft_shown(alloc, modules, options),
     }

@@ -4,15 +4,19 @@ ghost use Rattle.std.specs.Prelude.{◌≡◌, List, codes, map, string_bytes, I
 ghost use Rattle.std.specs.Str.{bytes_eq};
 ghost use Rattle.clap.specs.Words.{Row, Text, app_of, found_of, rows_of, subcommand_rows_of};
 ghost use Rattle.omf_layout.specs.declared.options.Options.{Options as At};
+ghost use Rattle.omf_rom.specs.declared.form.Form.{Form as AskedForm};
 ghost use Rattle.omf_linker.specs.Options.{AreNamed, NameOnly};
+ghost use Rattle.omf_linker.specs.Link.FormWords.{IsFormNamed};
 ghost use Rattle.omf_linker.specs.Link.Words.{IsFound, IsNamedIn, IsTask, NamesBy, link_app};
 ghost use Rattle.omf_linker.specs.declared.link.words.Task.{Task as Asked};
-ghost use Rattle.omf_linker.specs.declared.link.words.Task.TheVariants.{Image, Map, Draft};
+ghost use Rattle.omf_linker.specs.declared.link.words.Task.TheVariants.{Image, Map, Draft, Rom};
 
+use crate::link::form_words::{form_named, with_addresses, with_chip};
 use crate::options::{options_in, with_options};
 use clap::{ArgMatches, Command};
 use omf_cmd::read_words;
 use omf_layout::Options;
+use omf_rom::Form;
 use std::alloc::{AllocError, Global};
 
 /// What the arguments ask for.
@@ -20,13 +24,15 @@ use std::alloc::{AllocError, Global};
 pub enum Task {
     /// Write the memory image of the modules at the placements of the link text.
     Image,
+    /// Write this image as a file for a chip.
+    Rom(Form),
     /// Write the map of the modules at these placements.
     Map,
     /// Write the draft of a link text for the modules.
     Draft(Options),
 }
 
-/// The task that the arguments ask for, the program's own name first: a subcommand, followed by options if it is `draft`. Returns `None` if
+/// The task that the arguments ask for, the program's own name first: a subcommand, followed by its options. Returns `None` if
 /// the arguments are not understood.
 ///
 /// # Errors
@@ -43,13 +49,16 @@ pub fn task_of(alloc: Global, words: &[String]) -> Result<Option<Task>, AllocErr
     }
 }
 
-/// The command for clap: the program with its subcommands, the last of which has the options.
+/// The command for clap: the program with its subcommands and their options.
 fn program<'a>(alloc: Global) -> Result<Command<'a>, AllocError>
     ensures { IfOk result (λ c. app_of c ≡ link_app) }
 {
     let link = Command::new(alloc, "omf-link");
     let link = link.subcommand(Command::new(alloc, "image"))?;
     let link = link.subcommand(Command::new(alloc, "map"))?;
+    let link = link.subcommand(with_chip(alloc, Command::new(alloc, "bin"))?)?;
+    let link = link.subcommand(with_addresses(alloc, Command::new(alloc, "hex"))?)?;
+    let link = link.subcommand(with_addresses(alloc, Command::new(alloc, "srec"))?)?;
     link.subcommand(with_options(alloc, Command::new(alloc, "draft"))?)
 }
 
@@ -67,13 +76,14 @@ fn task_named(name: &str, inner: &ArgMatches<'_>) -> Option<Task>
     ensures image { bytes_eq name.now (codes "image") ≡ true → result ≡ Some Image }
     ensures map { bytes_eq name.now (codes "image") ≡ false → bytes_eq name.now (codes "map") ≡ true → result ≡ Some Map }
     ensures draft { (o : At) → bytes_eq name.now (codes "image") ≡ false → bytes_eq name.now (codes "map") ≡ false → bytes_eq name.now (codes "draft") ≡ true → AreNamed (rows_of (found_of inner.now)) o → result ≡ Some (Draft o) }
+    ensures rom { (f : AskedForm) → IsFormNamed name.now (rows_of (found_of inner.now)) f → result ≡ Some (Rom f) }
     ensures only { IfSome result (NamesBy NameOnly name.now (rows_of (found_of inner.now))) }
 {
     match name {
         "image" => Some(Task::Image),
         "map" => Some(Task::Map),
         "draft" => draft_named(inner),
-        _ => None,
+        _ => Some(Task::Rom(form_named(name, inner)?)),
     }
 }
 

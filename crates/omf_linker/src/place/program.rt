@@ -43,6 +43,6 @@ impl Program for Place {
     }
 
     fn usage() -> &'static [u8] {
-        b"usage: omf-place [--base ADDRESS] [--real | --flat SELECTOR]\n"
+        b"usage: omf-place [--base ADDRESS] [--real | --flat SELECTOR] [FILE]\n"
     }
 }

@@ -4,7 +4,7 @@ use Rattle.omf_placement.specs.declared.fault.TextFault.{TextFault}
 use Rattle.omf_placement.specs.declared.fault.TextFault.TheVariants as fault
 use Rattle.omf_placement.specs.Inner.Parsing.{with_entry, seen as entry_seen}
 use Rattle.omf_linking.specs.LinkEntries.{LinkEntry, NextModule, GivenExternal, OfPlacement}
-use Rattle.omf_derive.specs.declared.given.Given.{Given}
+use Rattle.omf_placement.specs.declared.several.given.Given.{Given}
 use Rattle.omf_placement.specs.Placement.{Places}
 use Rattle.omf_records.specs.Values.{Rec}
 use Rattle.omf_linking.specs.Parts.{Part}

@@ -1,6 +1,6 @@
 -- The search for an overlap without memory (the steps of the code).
 use Rattle.std.specs.Prelude.{◌≡◌, ◌⊎◌, ℕ, ◌-◌, ◌<◌, ◌^◌, List, length, Option, Some, None, IsSome, IsNone, min}
-use Rattle.omf_derive.specs.Derive.{placed_modules}
+use Rattle.omf_placement.specs.Derive.{placed_modules}
 use Rattle.omf_linking.specs.Segments.{all_segments, with_images}
 use Rattle.omf_linking.specs.Space.Memory.{Share, overlap}
 use Rattle.omf_linking.specs.Space.Segments.{SegmentAt, share_in}

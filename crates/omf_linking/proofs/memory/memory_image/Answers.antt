@@ -1,6 +1,6 @@
 use Rattle.std.proofs.Common.{◌≡◌, refl, sym, subst, rules}
 use Rattle.std.specs.Prelude.{Ok, Err}
-use Rattle.omf_derive.specs.Derive.{placed_modules}
+use Rattle.omf_placement.specs.Derive.{placed_modules}
 use Rattle.omf_linking.specs.Faults.{of_memory}
 use Rattle.omf_linking.specs.LinkedMemory.{IsLinkedMemory}
 use Rattle.omf_linking.specs.Segments.{all_segments, with_images, with_own_images}

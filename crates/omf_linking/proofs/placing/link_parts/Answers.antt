@@ -1,6 +1,6 @@
 use Rattle.std.proofs.Common.{◌≡◌, ◌∙◌, List, ap, length, subst, sym}
 use Rattle.std.specs.Prelude.{None, slice_get}
-use Rattle.omf_derive.specs.Derive.{placed_modules}
+use Rattle.omf_placement.specs.Derive.{placed_modules}
 use Rattle.omf_placement.specs.Placement.{Places}
 use Rattle.omf_linking.specs.Faults.{all_far}
 use Rattle.omf_linking.specs.Placing.{miscount}

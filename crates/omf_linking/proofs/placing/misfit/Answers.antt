@@ -2,8 +2,8 @@ use Rattle.std.proofs.Common.{◌≡◌, ◌+◌, ◌∷◌, ap, drop, sym}
 use Rattle.std.specs.Prelude.{List, slice_get}
 use Rattle.omf_check.specs.Module.{records_in}
 use Rattle.omf_check.specs.WellFormed.{recs}
-use Rattle.omf_derive.specs.Derive.{PlacedModule, placed_modules}
-use Rattle.omf_derive.proofs.TableLaws.{next-placed, none-left}
+use Rattle.omf_placement.specs.Derive.{PlacedModule, placed_modules}
+use Rattle.omf_placement.proofs.TableLaws.{next-placed, none-left}
 use Rattle.omf_linking.specs.Faults.{all_far}
 use Rattle.omf_linking.specs.Placing.{miscount}
 use Rattle.omf_linking.specs.declared.fault.LinkFault.{LinkFault}

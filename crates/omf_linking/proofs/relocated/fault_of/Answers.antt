@@ -1,8 +1,8 @@
 use Rattle.std.proofs.Common.{◌≡◌, ◌+◌, ◌∷◌, drop, sym}
 use Rattle.omf_check.specs.Module.{records_in}
 use Rattle.omf_check.specs.WellFormed.{recs}
-use Rattle.omf_derive.specs.Derive.{PlacedModule, placed_modules}
-use Rattle.omf_derive.proofs.TableLaws.{next-placed, none-left}
+use Rattle.omf_placement.specs.Derive.{PlacedModule, placed_modules}
+use Rattle.omf_placement.proofs.TableLaws.{next-placed, none-left}
 use Rattle.omf_linking.specs.Relocated.{far_modules, first_fault}
 use Rattle.omf_linking.proofs.RelocatedLaws.{one_near, one_far, none_far}
 use Rattle.omf_linking.proofs.relocated.fault_of.Goals as goal

@@ -2,8 +2,8 @@ use Rattle.std.proofs.Common.{◌≡◌, ◌+◌, ◌∷◌, ◌∙◌, [], drop
 use Rattle.std.proofs.lemmas.List.{length-append}
 use Rattle.omf_check.specs.Module.{records_in}
 use Rattle.omf_check.specs.WellFormed.{recs}
-use Rattle.omf_derive.specs.Derive.{PlacedModule, placed_modules}
-use Rattle.omf_derive.proofs.TableLaws.{next-placed, none-left}
+use Rattle.omf_placement.specs.Derive.{PlacedModule, placed_modules}
+use Rattle.omf_placement.proofs.TableLaws.{next-placed, none-left}
 use Rattle.omf_linking.proofs.RelocatedLaws.{one_relocated, all_relocated}
 use Rattle.omf_linking.proofs.relocated.relocate_all.Goals as goal
 

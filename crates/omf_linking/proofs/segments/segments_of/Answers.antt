@@ -1,7 +1,7 @@
 use Rattle.std.proofs.Common.{◌≡◌, ◌+◌, ◌∷◌, drop}
 use Rattle.omf_check.specs.Module.{records_in}
 use Rattle.omf_check.specs.WellFormed.{recs}
-use Rattle.omf_derive.specs.Derive.{placed_modules}
+use Rattle.omf_placement.specs.Derive.{placed_modules}
 use Rattle.omf_linking.specs.Segments.{ModuleBytes, image_bytes, with_images}
 use Rattle.omf_linking.proofs.SegmentsLaws.{next_module, no_module, one_gathered, all_gathered}
 use Rattle.omf_linking.proofs.segments.segments_of.Goals as goal

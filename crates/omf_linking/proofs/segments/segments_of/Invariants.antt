@@ -1,4 +1,4 @@
-use Rattle.omf_derive.specs.Derive.{placed_modules}
+use Rattle.omf_placement.specs.Derive.{placed_modules}
 use Rattle.omf_linking.specs.Segments.{with_images}
 use Rattle.omf_linking.proofs.SegmentsLaws.{AreGathered}
 use Rattle.omf_linking.proofs.segments.segments_of.Given as goal

@@ -1,6 +1,6 @@
 use Rattle.std.proofs.Common.{List, ap, ◌∙◌}
-use Rattle.omf_derive.specs.Derive.{placed_modules}
-use Rattle.omf_draft.specs.Map.MapText.{map_text}
+use Rattle.omf_placement.specs.Derive.{placed_modules}
+use Rattle.omf_linker.specs.Map.MapText.{map_text}
 use Rattle.omf_placement.specs.Placement.{Places}
 use Rattle.omf_linker.proofs.link.linking.modules_map.Goals as goal
 

@@ -1,4 +1,4 @@
-use Rattle.std.proofs.Common.{◌≡◌, refl, sym, ap, ◌∙◌, ◌++◌, List, ℕ, codes}
+use Rattle.std.proofs.Common.{refl, ◌∙◌, codes}
 use Rattle.std.specs.Prelude.{decimal}
 use Rattle.omf_cmd.specs.declared.fault.RunFault.TheVariants.{Write}
 use Rattle.omf_cmd.proofs.Written.{begun, ended, stopped, went_on}

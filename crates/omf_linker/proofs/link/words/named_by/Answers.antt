@@ -13,7 +13,7 @@ returns-clause-some c name rows asked parsed is =
     let same : c.in_ok-name.name.now ≡ name = cc in
     let own : rows_of (found_of c.in_ok-name.inner.now) ≡ rows = cc in
     let told = subst (λ n. IsTask n (rows_of (found_of c.in_ok-name.inner.now)) asked) (sym same) (subst (λ (rs : List Row). IsTask name rs asked) (sym own) is) in
-    task_is c.in_ok-name.name.now (rows_of (found_of c.in_ok-name.inner.now)) asked c.task_named.result told c.task_named.ensures.image c.task_named.ensures.map c.task_named.ensures.draft
+    task_is c.in_ok-name.name.now (rows_of (found_of c.in_ok-name.inner.now)) asked c.task_named.result told c.task_named.ensures.image c.task_named.ensures.map c.task_named.ensures.rom c.task_named.ensures.draft
 
 pub returns-clause-only : goal.returns-clause-only
 returns-clause-only c = only_named _ _ _ c.task_named.result (c.in_ok-name.ensures.name ∙ name_at _ _ _) c.in_ok-name.ensures.rows c.task_named.ensures.only

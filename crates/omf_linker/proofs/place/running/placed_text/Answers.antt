@@ -1,7 +1,7 @@
 use Rattle.std.proofs.lemmas.Result.{err_from_is_err_and}
 use Rattle.omf_check.specs.Module.{records_in}
 use Rattle.omf_check.specs.WellFormed.{recs}
-use Rattle.omf_draft.proofs.FitLaws.{layouts-fit}
+use Rattle.omf_linker.proofs.FitLaws.{layouts-fit}
 use Rattle.omf_linker.proofs.PlaceRuns.{not-laid}
 use Rattle.omf_linker.proofs.place.running.placed_text.Goals as goal
 

@@ -1,7 +1,7 @@
 use Rattle.std.proofs.Common.{◌∙◌, arith, ap, length, sym}
 use Rattle.std.specs.Prelude.{List}
 use Rattle.omf_check.specs.Tables.{segments}
-use Rattle.omf_derive.specs.Derive.{placed_modules}
+use Rattle.omf_placement.specs.Derive.{placed_modules}
 use Rattle.omf_records.specs.Values.{Rec}
 use Rattle.omf_linking.specs.Segments.{with_images}
 use Rattle.omf_linking.proofs.SegmentsLaws.{next_of, no_module, count_next, all_counted}

@@ -1,7 +1,7 @@
 use Rattle.std.proofs.Common.{◌≡◌, ◌+◌, ◌*◌, ◌≤◌, length, drop}
 use Rattle.std.specs.Prelude.{flat_map}
 use Rattle.std.specs.List.{enumerate_from}
-use Rattle.omf_derive.specs.Derive.{placed_modules}
+use Rattle.omf_placement.specs.Derive.{placed_modules}
 use Rattle.omf_linking.specs.Segments.{all_segments, module_segments, with_images}
 use Rattle.omf_linking.proofs.segments.ModuleSegments.count.Given as goal
 

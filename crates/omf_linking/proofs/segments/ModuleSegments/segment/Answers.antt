@@ -4,7 +4,7 @@ use Rattle.std.specs.List.{enumerate_from}
 use Rattle.omf_check.specs.Module.{records_in}
 use Rattle.omf_check.specs.Tables.{segments}
 use Rattle.omf_check.specs.WellFormed.{recs}
-use Rattle.omf_derive.specs.Derive.{placed_modules}
+use Rattle.omf_placement.specs.Derive.{placed_modules}
 use Rattle.omf_records.specs.Values.{Rec}
 use Rattle.omf_linking.specs.Space.Segments.{segment_at}
 use Rattle.omf_linking.specs.Segments.{ModuleBytes, all_segments, image_bytes, module_segment, module_segments, with_images}

@@ -1,9 +1,0 @@
-use Rattle.std.specs.Prelude.{string_bytes}
-use Rattle.omf_derive.specs.Derive.{placed_modules}
-use Rattle.omf_draft.specs.Inner.Steps.{part_lines}
-use Rattle.omf_draft.proofs.MapLaws.{ArePrinted}
-use Rattle.omf_draft.proofs.map.listing.print_part.Given as goal
-
--- the lines of the modules so far
-abbrev pub invariant-loop-j : goal.invariant-loop-j
-invariant-loop-j l = ArePrinted (part_lines l.part) (placed_modules l.modules l.placements) l.j (string_bytes l.fn.text) (string_bytes l.text)

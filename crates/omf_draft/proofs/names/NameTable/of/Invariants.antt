@@ -1,9 +1,0 @@
-use Rattle.std.proofs.Common.{drop}
-use Rattle.omf_check.specs.Module.{typed_modules}
-use Rattle.omf_draft.specs.Names.{all_names, IsNameTable}
-use Rattle.omf_derive.proofs.Filling.{IsFilled}
-use Rattle.omf_draft.proofs.names.NameTable.of.Given as goal
-
--- the names of the modules so far are in the table
-abbrev pub invariant-loop-module : goal.invariant-loop-module
-invariant-loop-module l = IsFilled IsNameTable l.initial.table.names l.table.names (all_names (typed_modules (drop l.module-index l.modules))) (all_names (typed_modules l.modules))

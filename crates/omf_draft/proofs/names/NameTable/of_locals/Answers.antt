@@ -1,5 +1,0 @@
-use Rattle.omf_draft.proofs.NameLaws.{fill-empty}
-use Rattle.omf_draft.proofs.names.NameTable.of_locals.Goals as goal
-
-pub returns : goal.returns
-returns c = fill-empty c.new.result c.add_module.new.self.names _ c.new.ensures.empty c.in_ok-add_module.ensures

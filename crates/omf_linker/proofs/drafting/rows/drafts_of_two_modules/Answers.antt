@@ -1,0 +1,11 @@
+use Rattle.std.specs.Prelude.{refl}
+use Rattle.std.specs.Fmt.{digits}
+use Rattle.omf_linker.proofs.drafting.rows.drafts_of_two_modules.Goals as goal
+
+pub returns-clause-flat : goal.returns-clause-flat
+unfolding digits
+returns-clause-flat c = refl
+
+pub returns-clause-real : goal.returns-clause-real
+unfolding digits
+returns-clause-real c = refl

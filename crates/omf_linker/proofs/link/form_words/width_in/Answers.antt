@@ -1,0 +1,8 @@
+use Rattle.std.proofs.Common.{ap, ◌∙◌}
+use Rattle.clap.proofs.WalkLemmas.{first_value-rows}
+use Rattle.clap.specs.Words.{found_of}
+use Rattle.omf_linker.specs.Link.FormWords.{addresses_id, width_named}
+use Rattle.omf_linker.proofs.link.form_words.width_in.Goals as goal
+
+pub returns : goal.returns
+returns c = c.width_named.ensures ∙ ap width_named (c.get_str.ensures ∙ first_value-rows (found_of c.args.matches.now) addresses_id)
