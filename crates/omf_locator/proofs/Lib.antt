@@ -1,0 +1,10 @@
+pub mod DecimalLaws
+pub mod HexLaws
+pub mod NamingLaws
+pub mod SparseLaws
+pub mod LineLaws
+pub mod WalkLaws
+pub mod EachLaws
+pub mod KeyLaws
+pub mod KeyNames
+pub mod ItemLaws

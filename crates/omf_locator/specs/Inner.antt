@@ -1,0 +1,4 @@
+pub mod Parsing
+pub mod Naming
+pub mod Walking
+pub mod Forms

@@ -1,0 +1,117 @@
+-- The entry of a line of a locator's text (this profile's rule): a letter, a key, and a place or a frame.
+use Rattle.std.specs.Prelude.{ℕ, List, [], ◌∷◌, length, map, Bool, ◌==◌, ◌&&◌, ◌||◌, nat_le, nat_lt, Option, Some, None, option_map, option_and_then, codes, if◌then◌else◌, bytes_eq}
+use Rattle.std.specs.List.{list_all, list_any, slice_split}
+use Rattle.std.specs.Char.{is_digit}
+use Rattle.std.specs.Str.Parse.{digits_value}
+use Rattle.omf_placement.specs.Entries.{said}
+-- computed: entries_are_read, places_are_read and numbers_are_read of omf_placement.
+use Rattle.omf_placement.specs.Inner.EntryReading.{frame_of, placed_of, real_of, words_of}
+use Rattle.omf_placement.specs.PlacementText.{numbered_lines}
+use Rattle.omf_placement.specs.declared.frame.Frame.{Frame}
+use Rattle.omf_placement.specs.declared.frame.Placed.{Placed}
+
+-- A key names a module, or an entry of a module's table: by its name, as it is between the quotes; by its name and class; or by its number.
+pub data Key : Type 0 where
+  Named : List ℕ → Key
+  OfClass : List ℕ → List ℕ → Key
+  Numbered : ℕ → Key
+
+-- A line gives a segment a place, a group a frame (none: that of its lowest member), an external a place.
+pub data Target : Type 0 where
+  SegmentPlace : Placed → Target
+  GroupFrame : Option Frame → Target
+  ExternalPlace : Placed → Target
+
+pub data LinkEntry : Type 0 where
+  Blank : LinkEntry
+  Opens : Key → LinkEntry
+  Gives : Key → Target → LinkEntry
+
+-- A place is `address base selector` or `address real`; a frame is `base selector` or `real`.
+abbrev pub place_in : List (List ℕ) → Option Placed
+place_in (a ∷ r ∷ []) = if bytes_eq r (codes "real") then real_of a else None
+place_in (a ∷ b ∷ s ∷ []) = placed_of a b s
+place_in _ = None
+
+abbrev pub frame_in : List (List ℕ) → Option (Option Frame)
+frame_in (r ∷ []) = if bytes_eq r (codes "real") then Some None else None
+frame_in (b ∷ s ∷ []) = option_map Some (frame_of b s)
+frame_in _ = None
+
+-- The words after a key; none after that of an `M`.
+abbrev pub words_in : List ℕ → List (List ℕ)
+words_in text = if length text == 0 then [] else words_of text
+
+abbrev pub opens : Key → List (List ℕ) → Option LinkEntry
+opens k [] = Some (Opens k)
+opens k _ = None
+
+-- The entry of a letter, a key and the words after it.
+abbrev pub entry_by : List ℕ → Key → List (List ℕ) → Option LinkEntry
+entry_by letter k ws =
+    if bytes_eq letter (codes "M") then opens k ws
+    else if bytes_eq letter (codes "S") then option_map (λ p. Gives k (SegmentPlace p)) (place_in ws)
+    else if bytes_eq letter (codes "G") then option_map (λ f. Gives k (GroupFrame f)) (frame_in ws)
+    else if bytes_eq letter (codes "X") then option_map (λ p. Gives k (ExternalPlace p)) (place_in ws)
+    else None
+
+-- A number: `#` and 1 to 9 decimal digits.
+abbrev pub decimal_of : List ℕ → Option ℕ
+decimal_of cs = if nat_lt 0 (length cs) && (nat_le (length cs) 9 && list_all (λ c. is_digit c 10) cs) then Some (digits_value 10 cs) else None
+
+abbrev pub number_of : List ℕ → Option ℕ
+number_of [] = None
+number_of (c ∷ cs) = if c == 35 then decimal_of cs else None
+
+-- A line without a name: blank, or a letter, a number and words.
+abbrev pub numbered_entry : List (List ℕ) → Option LinkEntry
+numbered_entry (letter ∷ number ∷ ws) = option_and_then (λ n. entry_by letter (Numbered n) ws) (number_of number)
+numbered_entry _ = None
+
+abbrev pub unnamed_entry : List ℕ → Option LinkEntry
+unnamed_entry [] = Some Blank
+unnamed_entry (c ∷ cs) = numbered_entry (words_of (c ∷ cs))
+
+-- The bytes of a name are 20H to 7EH, except the quote.
+abbrev pub is_printed : ℕ → Bool
+is_printed c = nat_le 0x20 c && nat_le c 0x7E
+
+abbrev pub name_entry : List ℕ → Key → List ℕ → List ℕ → Option LinkEntry
+name_entry letter k name rest = if list_all is_printed name then entry_by letter k (words_in (said rest)) else None
+
+-- The parts of a line between its quotes are by turns outside and inside of a name. From a `;` outside on it is a comment.
+abbrev pub has_comment : List ℕ → Bool
+has_comment text = list_any (λ c. c == 59) text
+
+abbrev pub classed_entry : List ℕ → List ℕ → List (List ℕ) → Option LinkEntry
+classed_entry letter name (class ∷ rest ∷ []) = if list_all is_printed name then name_entry letter (OfClass name class) class rest else None
+classed_entry letter name (class ∷ rest ∷ more) = if has_comment rest && list_all is_printed name then name_entry letter (OfClass name class) class rest else None
+classed_entry letter name _ = None
+
+abbrev pub class_after : List ℕ → List ℕ → List ℕ → List (List ℕ) → Option LinkEntry
+class_after letter name [] parts = classed_entry letter name parts
+class_after letter name (c ∷ cs) parts = None
+
+abbrev pub named_entry : List ℕ → List (List ℕ) → Option LinkEntry
+named_entry letter (name ∷ rest ∷ []) = name_entry letter (Named name) name rest
+named_entry letter (name ∷ rest ∷ more) = if has_comment rest then name_entry letter (Named name) name rest else class_after letter name (said rest) more
+named_entry letter _ = None
+
+abbrev pub entry_of_parts : List (List ℕ) → Option LinkEntry
+entry_of_parts [] = None
+entry_of_parts (front ∷ []) = unnamed_entry (said front)
+entry_of_parts (front ∷ parts) = if has_comment front then unnamed_entry (said front) else named_entry (said front) parts
+
+abbrev pub link_entry_on : List ℕ → Option LinkEntry
+link_entry_on line = entry_of_parts (slice_split (λ c. c == 34) line)
+
+-- The lines of a text, each with its number from 1 and its entry, if it has one; the numbers of those that have none.
+abbrev pub Line : Type 0
+Line = ℕ × Option LinkEntry
+
+abbrev pub link_lines : List ℕ → List Line
+link_lines text = map (λ l. (l.0, link_entry_on l.1)) (numbered_lines text)
+
+abbrev pub bad_line : Line → Option ℕ
+bad_line (n, None) = Some n
+bad_line (n, Some e) = None
