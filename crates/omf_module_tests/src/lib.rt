@@ -1,4 +1,4 @@
-//! Tests of the calls on object modules: checking, placements, relocation, canonical bytes, layouts and links.
+//! Tests of the libraries by their public calls: records, fields, images; checking, placements, relocation, canonical bytes, layouts and links.
 #![tactic(auto)]
 
 #[cfg(test)]

@@ -1,4 +1,4 @@
-//! Calls on whole modules, with ample memory. Expected values are worked out by hand from the format.
+//! Calls on records, images and whole modules, with ample memory. Expected values are worked out by hand from the format.
 
 use omf_check::{Checked, check};
 use omf_frame::Bytes;
@@ -7,16 +7,24 @@ use std::alloc::Global;
 use verdicts::ANY;
 
 mod canonical;
+mod contents;
+mod devices;
 mod exe;
 mod externals;
+mod fields;
+mod framers;
+mod framing;
 mod headline;
+mod image;
 mod inputs;
 mod layouts;
 mod limits;
 mod linking;
 mod placing;
 mod readers;
+mod reading;
 mod relocating;
+mod samples;
 mod sessions;
 mod verdicts;
 

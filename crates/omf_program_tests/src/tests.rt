@@ -4,6 +4,7 @@ mod blocks;
 mod calls;
 mod changes;
 mod devices;
+mod drafts;
 mod files;
 mod large;
 mod memory;

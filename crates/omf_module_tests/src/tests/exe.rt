@@ -1,8 +1,10 @@
 //! MZ files, and which modules move with a program. Expected values are worked out by hand from the formats.
 
 use super::module_of;
+use omf_check::Checked;
 use omf_exe::{
-    FarAddress, FileFault, Movers, Moving, Program, Words, WordsFault, movable, write_exe,
+    ExeFault, ExeFile, FarAddress, FileFault, Member, Movers, Moving, Program, Words, WordsFault,
+    link_exe, movable, write_exe,
 };
 use omf_frame::Place;
 use omf_placement::{Frame, Placement};
@@ -201,4 +203,121 @@ fn fixup_over_a_word(rt: HostRuntime) {
     let alloc = rt.alloc();
     let overlap = place(5, 41, 8).map(WordsFault::Overlap);
     assert!(rt; fault_after(alloc, ACROSS, 0x20) == overlap);
+}
+
+/// THEADR, LNAMES, SEGDEF of a stack segment of 256 bytes (combination 5), and MODEND.
+const STACK: &[&str] = &[
+    "80 03 00 01 41 3B",
+    "96 04 00 00 01 54 11",
+    "98 07 00 74 00 01 02 01 01 E8",
+    "8A 02 00 00 74",
+];
+
+/// The same of 128 bytes.
+const SMALL_STACK: &[&str] = &[
+    "80 03 00 01 41 3B",
+    "96 04 00 00 01 54 11",
+    "98 07 00 74 80 00 02 01 01 69",
+    "8A 02 00 00 74",
+];
+
+/// A module to be linked: the address of its segment, and its selector, whose frame begins at 16 times it. Its external, if it has one, is
+/// there too, and moves or stays.
+#[derive(Clone, Copy)]
+struct Lying {
+    rows: &'static [&'static str],
+    address: u32,
+    selector: u16,
+    moves: bool,
+}
+
+/// The placement of a module, and its movers; `None` if memory runs out.
+fn places_of(alloc: Global, module: &Checked, one: &Lying) -> Option<(Placement, Movers)> {
+    let selector = one.selector;
+    let base = 16 * u32::from(selector);
+    let frame = Frame { base, selector };
+    let mut placement = Placement::new(alloc);
+    let mut movers = Movers::new(alloc);
+    placement.push_segment(one.address, frame).ok()?;
+    movers.push_segment(true).ok()?;
+    if module.externals() > 0 {
+        placement.push_external(one.address, frame).ok()?;
+        movers.push_external(Moving::both(one.moves)).ok()?;
+    }
+    Some((placement, movers))
+}
+
+/// The modules at their placements; `None` if memory runs out.
+fn laid(alloc: Global, lying: &[Lying]) -> Option<Vec<(Checked, (Placement, Movers))>> {
+    let mut laid = Vec::new(alloc);
+    for one in lying {
+        let module = module_of(alloc, one.rows)?;
+        let places = places_of(alloc, &module, one)?;
+        laid.push((module, places)).ok()?;
+    }
+    Some(laid)
+}
+
+/// The members that are linked; `None` if memory runs out.
+fn members_of(alloc: Global, laid: &[(Checked, (Placement, Movers))]) -> Option<Vec<Member<'_>>> {
+    let mut members = Vec::new(alloc);
+    for (module, (placement, movers)) in laid {
+        let member = Member {
+            number: 0,
+            module,
+            placement,
+            movers,
+        };
+        members.push(member).ok()?;
+    }
+    Some(members)
+}
+
+/// The file of linked modules, and whether they have a stack.
+fn exe_of(alloc: Global, lying: &[Lying]) -> Option<Result<ExeFile, ExeFault>> {
+    let laid = laid(alloc, lying)?;
+    let members = members_of(alloc, &laid)?;
+    Some(link_exe(alloc, &members))
+}
+
+/// Whether these modules have this file.
+fn is_exe(alloc: Global, lying: &[Lying], bytes: &[u8], has_stack: bool) -> bool {
+    match exe_of(alloc, lying) {
+        Some(Ok(file)) => file.bytes.as_slice() == bytes && file.has_stack == has_stack,
+        _ => false,
+    }
+}
+
+fn put_at(rows: &'static [&'static str], address: u32, selector: u16, moves: bool) -> Lying {
+    Lying {
+        rows,
+        address,
+        selector,
+        moves,
+    }
+}
+
+/// `BY_BASE` at 20H, of frame 2, and stack segments of 100H and 80H bytes at 30H and 130H, of frame 3. `MZ`, 68 bytes in the last of one page, one
+/// entry, two paragraphs of header; the segments end at 1B0H, 25 paragraphs after the image of 24H bytes; SS:SP is 3:180H, CS:IP 2:2; the table
+/// is at 28: offset 1 of paragraph 2. The image is 32 zeros and the data, with the selector 2.
+#[test]
+fn linked_with_a_stack(rt: HostRuntime) {
+    let alloc = rt.alloc();
+    let modules = [
+        put_at(BY_BASE, 0x20, 2, true),
+        put_at(STACK, 0x30, 3, true),
+        put_at(SMALL_STACK, 0x130, 3, true),
+    ];
+    let bytes =
+        b"MZ\x44\0\x01\0\x01\0\x02\0\x19\0\xFF\xFF\x03\0\x80\x01\0\0\x02\0\x02\0\x1C\0\0\0\x01\0\x02\0\0\0\0\0\0\0\0\0\0\0\0\0\0\0\0\0\0\0\0\0\0\0\0\0\0\0\0\0\0\0\0\0\xB8\x02\0\x90";
+    assert!(rt; is_exe(alloc, &modules, bytes, true));
+}
+
+/// `BY_BASE` at 0 alone: SS:SP is 0:0.
+#[test]
+fn linked_without_a_stack(rt: HostRuntime) {
+    let alloc = rt.alloc();
+    let bytes =
+        b"MZ\x24\0\x01\0\x01\0\x02\0\0\0\xFF\xFF\0\0\0\0\0\0\x02\0\0\0\x1C\0\0\0\x01\0\0\0\xB8\0\0\x90";
+    assert!(rt; is_exe(alloc, &[put_at(BY_BASE, 0, 0, true)], bytes, false));
 }

@@ -2,9 +2,8 @@
 
 use super::module_of;
 use omf_check::Checked;
-use omf_derive::DeriveFault;
 use omf_linking::{LinkFault, link};
-use omf_placement::{Frame, Placed, Placement};
+use omf_placement::{DeriveFault, Frame, Placed, Placement};
 use omf_samples::{END, EXTERNAL, GROUP, HEADER, LOCAL_EXTERNAL, NAMES, PUBLIC, SEGMENT};
 use std::alloc::Global;
 

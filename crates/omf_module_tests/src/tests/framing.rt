@@ -2,7 +2,7 @@
 
 ghost use Rattle.std.specs.Prelude.{◌<◌};
 
-use super::pass;
+use super::framers::pass;
 use omf_frame::{FrameFault, Framer, Place, Reason};
 use omf_samples::{DATA, FIXUP, HEADER, MODULE, NAMES, SEGMENT, joined};
 use std::alloc::Global;

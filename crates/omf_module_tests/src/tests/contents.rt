@@ -1,6 +1,6 @@
 //! Contents of records, with ample memory: they are read, and written in their shortest encodings, worked out by hand from the format.
 
-use super::framed;
+use super::framers::framed;
 use omf_frame::{Framer, Reason};
 use omf_records::{FIXUP_LIMIT, Rec, Subrecord, Unread, put_rec, unread_fixups, view, view_known};
 use omf_samples::{ABSOLUTE, START};

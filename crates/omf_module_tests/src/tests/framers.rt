@@ -1,4 +1,4 @@
-//! What the tests share: a framer at a record, and the failure of a call.
+//! What tests of records and readers share: a framer at a record, and the failure of a call.
 
 use omf_frame::Framer;
 use omf_samples::{HEADER, bytes_of};
@@ -6,16 +6,8 @@ use std::alloc::Global;
 use std::io;
 use std::io::ErrorKind;
 
-mod contents;
-mod devices;
-mod fields;
-mod framing;
-mod image;
-mod reading;
-mod samples;
-
 /// Goes on after the record at hand, if it is complete.
-fn pass(framer: &mut Framer) {
+pub fn pass(framer: &mut Framer) {
     if framer.raw().is_some() && framer.number() < 100 {
         framer.next();
     }
@@ -29,7 +21,7 @@ fn feed_row(alloc: Global, framer: &mut Framer, row: &str) {
 }
 
 /// A framer after a header and a row. It has the row's record at hand, unless a call failed.
-fn framed(alloc: Global, row: &str) -> Framer {
+pub fn framed(alloc: Global, row: &str) -> Framer {
     let mut framer = Framer::new(alloc);
     feed_row(alloc, &mut framer, HEADER);
     pass(&mut framer);
@@ -38,7 +30,7 @@ fn framed(alloc: Global, row: &str) -> Framer {
 }
 
 /// The kind of the error, if there is one.
-fn failure<T: Drop>(answer: Result<T, io::Error>) -> Option<ErrorKind> {
+pub fn failure<T: Drop>(answer: Result<T, io::Error>) -> Option<ErrorKind> {
     match answer {
         Ok(_) => None,
         Err(error) => Some(error.kind()),

@@ -1,6 +1,6 @@
 //! Sources and sinks: pieces, interruptions, failures and ends.
 
-use super::failure;
+use super::framers::failure;
 use omf_frame::faulty::{Full, Script, Taker, Then};
 use omf_frame::{Buffered, Bytes, Reading, Source, pull_piece, write_record};
 use std::alloc::{AllocError, Global};

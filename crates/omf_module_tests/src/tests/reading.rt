@@ -1,6 +1,6 @@
 //! Sources and sinks over readers and writers that fail: kinds of errors, and numbers of calls.
 
-use super::failure;
+use super::framers::failure;
 use omf_frame::{Buffered, Reading, Sink, Source, Writing, pull_piece, write_record};
 use std::alloc::Global;
 use std::io;
