@@ -25,6 +25,8 @@ from tree import CRATES, ROOT, crates, exported, is_for_tests, needs
 
 # Files of specs/ that import a computed definition without naming its law.
 UNTIED = []
+# Names of Inner files that compute nothing of a module: f of the value of a Result.
+GENERIC = ("map_ok",)
 KINDS = ["believed", "inner", "proofs", "code", "tests"]
 PAGES = {"layers": "ARCHITECTURE", "files": "ARCHITECTURE", "lines": "ARCHITECTURE", "cited": "ARCHITECTURE", "laws": "ARCHITECTURE", "inner": "ARCHITECTURE", "costs": "GATE"}
 
@@ -141,7 +143,7 @@ def laws():
                 used = re.match(r"use Rattle\.(omf_\w+)\.specs\.Inner\.([\w.]+)\.\{(.*)\}", line)
                 if named:
                     law = named[1]
-                elif used:
+                elif used and used[3] not in GENERIC:
                     user = f"`{crate}` {path.relative_to(CRATES / crate / 'specs').with_suffix('')}"
                     if law is None and path.stem not in ("Rows", "Modules"):
                         untied.append(user)
