@@ -13,7 +13,7 @@ use Rattle.omf_layout.specs.declared.options.Options.{Options}
 use Rattle.omf_placement.specs.Placement.{Places}
 use Rattle.omf_records.specs.Values.{Rec}
 use Rattle.omf_reloc.specs.declared.fault.ReachFault.{ReachFault}
-use Rattle.omf_rom.specs.declared.form.Form.{Form}
+use Rattle.omf_output.specs.declared.rom.form.Form.{Form}
 use Rattle.omf_linking.specs.Faults.{all_far, far_by, of_derive}
 use Rattle.omf_linking.specs.Parts.{Part, parsed_parts}
 use Rattle.omf_linking.specs.Placing.{by_parts, derived_or, found, given_of, linked, miscount, places_of, unless_far}

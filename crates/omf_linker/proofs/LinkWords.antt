@@ -7,7 +7,7 @@ use Rattle.clap.specs.declared.error.kind.ErrorKind.{ErrorKind}
 use Rattle.clap.proofs.OnLiterals.{clap_on_literals}
 use Rattle.omf_layout.specs.declared.options.Options.{Options}
 use Rattle.omf_linker.specs.Options.{AreNamed, NameOnly}
-use Rattle.omf_rom.specs.declared.form.Form.{Form}
+use Rattle.omf_output.specs.declared.rom.form.Form.{Form}
 use Rattle.omf_linker.specs.Link.FormWords.{IsFormNamed}
 use Rattle.omf_linker.specs.Link.Words.{IsNamedIn, IsOnlyAsked, IsTask, NamesBy, link_app}
 use Rattle.omf_linker.specs.declared.link.words.Task.{Task}

@@ -4,12 +4,12 @@ use Rattle.std.specs.Prelude.{Result, Ok, Err}
 use Rattle.omf_records.specs.Values.{Rec}
 use Rattle.omf_linking.specs.declared.fault.LinkFault.{LinkFault}
 use Rattle.omf_linking.specs.declared.fault.LinkFault.TheVariants as link
-use Rattle.omf_rom.specs.declared.form.Form.{Form}
+use Rattle.omf_output.specs.declared.rom.form.Form.{Form}
 use Rattle.omf_linker.specs.Link.Faults.{IsNamed, IsUnnamed, name_of}
 use Rattle.omf_linker.specs.Link.Linked.{AreLinkedUp, IsFirstFault}
 use Rattle.omf_linker.proofs.LinkedModules.{together}
 use Rattle.omf_linker.specs.Link.Rom.{IsLinkedFile, IsOwned, IsRom, linked_owner}
-use Rattle.omf_rom.specs.Memory.{IsFirstOutside}
+use Rattle.omf_output.specs.Rom.Memory.{IsFirstOutside}
 use Rattle.omf_image.specs.Overlay.{byte_at}
 use Rattle.omf_linker.specs.declared.link.fault.ImageFault.{ImageFault}
 use Rattle.omf_linker.specs.declared.link.fault.ImageFault.TheVariants as fault

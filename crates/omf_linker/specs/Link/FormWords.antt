@@ -4,13 +4,13 @@ use Rattle.std.specs.Str.{bytes_eq}
 use Rattle.clap.specs.Words.{App, Row, Text, first_of, with_rule}
 -- computed, and proved equal to the rule: entries_are_read, places_are_read and numbers_are_read of omf_placement.
 use Rattle.omf_placement.specs.Inner.EntryReading.{hexadecimal}
-use Rattle.omf_rom.specs.declared.form.Chip.{Chip}
-use Rattle.omf_rom.specs.declared.form.Form.{Form}
-use Rattle.omf_rom.specs.declared.form.Form.TheVariants as form
-use Rattle.omf_rom.specs.declared.hex.HexBase.{HexBase}
-use Rattle.omf_rom.specs.declared.hex.HexBase.TheVariants.{Linear, Segment}
-use Rattle.omf_rom.specs.declared.srec.SAddress.{SAddress}
-use Rattle.omf_rom.specs.declared.srec.SAddress.TheVariants.{Bits16, Bits24, Bits32}
+use Rattle.omf_output.specs.declared.rom.form.Chip.{Chip}
+use Rattle.omf_output.specs.declared.rom.form.Form.{Form}
+use Rattle.omf_output.specs.declared.rom.form.Form.TheVariants as form
+use Rattle.omf_output.specs.declared.rom.hex.HexBase.{HexBase}
+use Rattle.omf_output.specs.declared.rom.hex.HexBase.TheVariants.{Linear, Segment}
+use Rattle.omf_output.specs.declared.rom.srec.SAddress.{SAddress}
+use Rattle.omf_output.specs.declared.rom.srec.SAddress.TheVariants.{Bits16, Bits24, Bits32}
 use Rattle.omf_linker.specs.Options.{base_id, value_rule}
 
 -- ---- a chip

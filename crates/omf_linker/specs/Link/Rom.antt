@@ -6,8 +6,8 @@ use Rattle.omf_linking.specs.Segments.{all_segments, with_images}
 use Rattle.omf_linking.specs.Space.Segments.{SegmentAt, segment_shares}
 use Rattle.omf_linking.specs.declared.fault.LinkFault.TheVariants as link
 use Rattle.omf_linking.specs.declared.space.stretch.Owner.{Owner}
-use Rattle.omf_rom.specs.Memory.{IsFileOr, IsFirstOutside}
-use Rattle.omf_rom.specs.declared.form.Form.{Form}
+use Rattle.omf_output.specs.Rom.Memory.{IsFileOr, IsFirstOutside}
+use Rattle.omf_output.specs.declared.rom.form.Form.{Form}
 use Rattle.omf_linker.specs.Link.Faults.{name_of}
 use Rattle.omf_linker.specs.Link.Linked.{AreTogether, IsFirstFault}
 use Rattle.omf_linker.specs.declared.link.fault.ImageFault.{ImageFault}

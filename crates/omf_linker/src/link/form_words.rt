@@ -4,15 +4,15 @@ ghost use Rattle.std.specs.Prelude.{◌≡◌, codes, false, option_and_then, op
 ghost use Rattle.std.specs.Str.{bytes_eq};
 ghost use Rattle.clap.specs.Words.{app_of, first_of, found_of, rows_of};
 ghost use Rattle.omf_linker.specs.Link.FormWords.{IsFormNamed, addresses_id, chip_in, chip_named, fill_named, hex_named, number_named, width_named, with_addresses, with_chip};
-ghost use Rattle.omf_rom.specs.declared.form.Chip.{Chip as Asked};
-ghost use Rattle.omf_rom.specs.declared.form.Form.TheVariants.{Binary, Hex, SRecords};
-ghost use Rattle.omf_rom.specs.declared.hex.HexBase.{HexBase as Base};
-ghost use Rattle.omf_rom.specs.declared.srec.SAddress.{SAddress as Width};
+ghost use Rattle.omf_output.specs.declared.rom.form.Chip.{Chip as Asked};
+ghost use Rattle.omf_output.specs.declared.rom.form.Form.TheVariants.{Binary, Hex, SRecords};
+ghost use Rattle.omf_output.specs.declared.rom.hex.HexBase.{HexBase as Base};
+ghost use Rattle.omf_output.specs.declared.rom.srec.SAddress.{SAddress as Width};
 
 use crate::options::valued;
 use clap::{ArgMatches, Command};
 use omf_placement::hexadecimal;
-use omf_rom::{Chip, Form, HexBase, SAddress};
+use omf_output::rom::{Chip, Form, HexBase, SAddress};
 use std::alloc::{AllocError, Global};
 
 /// The default fill: the byte of an erased chip.

@@ -12,7 +12,7 @@ use crate::link::naming::{named, unnamed};
 use omf_check::Checked;
 use omf_linking::space::{Owner, PlacedSegment};
 use omf_linking::{LinkFault, segments_of};
-use omf_rom::{FileFault, Form, memory_file};
+use omf_output::rom::{FileFault, Form, memory_file};
 use std::alloc::{AllocError, Global};
 
 /// Whether a segment has a byte at an address.

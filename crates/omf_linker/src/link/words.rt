@@ -4,7 +4,7 @@ ghost use Rattle.std.specs.Prelude.{◌≡◌, List, codes, map, string_bytes, I
 ghost use Rattle.std.specs.Str.{bytes_eq};
 ghost use Rattle.clap.specs.Words.{Row, Text, app_of, found_of, rows_of, subcommand_rows_of};
 ghost use Rattle.omf_layout.specs.declared.options.Options.{Options as At};
-ghost use Rattle.omf_rom.specs.declared.form.Form.{Form as AskedForm};
+ghost use Rattle.omf_output.specs.declared.rom.form.Form.{Form as AskedForm};
 ghost use Rattle.omf_linker.specs.Options.{AreNamed, NameOnly};
 ghost use Rattle.omf_linker.specs.Link.FormWords.{IsFormNamed};
 ghost use Rattle.omf_linker.specs.Link.Words.{IsFound, IsNamedIn, IsTask, NamesBy, link_app};
@@ -16,7 +16,7 @@ use crate::options::{options_in, with_options};
 use clap::{ArgMatches, Command};
 use omf_cmd::read_words;
 use omf_layout::Options;
-use omf_rom::Form;
+use omf_output::rom::Form;
 use std::alloc::{AllocError, Global};
 
 /// What the arguments ask for.

@@ -2,7 +2,7 @@
 
 use super::module_of;
 use omf_check::Checked;
-use omf_exe::{
+use omf_output::exe::{
     ExeFault, ExeFile, FarAddress, FileFault, Member, Movers, Moving, Program, Words, WordsFault,
     link_exe, movable, write_exe,
 };

@@ -1,8 +1,0 @@
-use Rattle.std.proofs.Common.{◌≡◌, ◌++◌}
-use Rattle.std.specs.Prelude.{drop}
-use Rattle.omf_exe.specs.Exe.{as_bytes}
-use Rattle.omf_exe.proofs.file.put_words.Given as goal
-
--- what was appended and what is left are the words
-abbrev pub invariant-loop-word : goal.invariant-loop-word
-invariant-loop-word l = l.file.items ++ as_bytes (drop l.word-index l.words) ≡ l.fn.file.items ++ as_bytes l.fn.words

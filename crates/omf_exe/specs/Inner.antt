@@ -1,4 +1,0 @@
-pub mod Taking
-pub mod Laying
-pub mod Rooms
-pub mod Plans

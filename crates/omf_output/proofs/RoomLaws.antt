@@ -1,0 +1,48 @@
+-- The memory that segments take, one segment after the other.
+use Rattle.std.proofs.Common.{◌≡◌, ℕ, List, [], ◌∷◌, Bool, true, false, cond, map, max, refl, sym, ◌∙◌, ap}
+use Rattle.std.specs.Prelude.{Option, Some, None, filter, filter_map, fold, zip}
+use Rattle.std.proofs.lemmas.List.Sums.{fold-append}
+use Rattle.omf_records.specs.Values.{SegmentItem}
+use Rattle.omf_placement.specs.declared.frame.Placed.{Placed}
+use Rattle.omf_output.specs.declared.exe.room.Stack.{Stack}
+use Rattle.omf_output.specs.Inner.Rooms.{Room, no_room, with_portion, with_stack}
+use Rattle.omf_output.specs.Exe.Members.{Member, Portion, joined, portion, portions, portions_in}
+
+abbrev stack_then : Option Stack → List Portion → Option Stack
+stack_then None ps = joined ps
+stack_then (Some s) ps = Some (record { frame = s.frame; end = fold max s.end (map (λ p. p.end) ps) })
+
+stack-more : (o : Option Stack) (p : Portion) (ps : List Portion) → stack_then (Some (with_stack o p)) ps ≡ stack_then o (p ∷ ps)
+stack-more None p ps = refl
+stack-more (Some s) p ps = refl
+
+pub ends-fold : (room : Room) (ps : List Portion) → (fold with_portion room ps).end ≡ fold max room.end (map (λ p. p.end) ps)
+ends-fold room [] = refl
+ends-fold room (p ∷ ps) = ends-fold (with_portion room p) ps
+
+pub stack-fold : (room : Room) (ps : List Portion) → (fold with_portion room ps).stack ≡ stack_then room.stack (filter (λ p. p.is_stack) ps)
+stack-fold room [] = by room.stack
+  where
+    by : (o : Option Stack) → o ≡ stack_then o []
+    by None = refl
+    by (Some s) = refl
+stack-fold room (p ∷ ps) = stack-fold (with_portion room p) ps ∙ by p.is_stack
+  where
+    by : (b : Bool) → stack_then (cond b (Some (with_stack room.stack p)) room.stack) (filter (λ q. q.is_stack) ps)
+        ≡ stack_then room.stack (cond b (p ∷ filter (λ q. q.is_stack) ps) (filter (λ q. q.is_stack) ps))
+    by true = stack-more room.stack p (filter (λ q. q.is_stack) ps)
+    by false = refl
+
+-- One module more, and none.
+pub room-more : (m : Member) (rest ms : List Member) (room more whole : Room) → ms ≡ m ∷ rest → more ≡ fold with_portion room (portions_in m) → fold with_portion room (portions ms) ≡ whole
+    → fold with_portion more (portions rest) ≡ whole
+room-more m rest ms room more whole e f h =
+    ap (λ r. fold with_portion r (portions rest)) f ∙ sym (ap (λ l. fold with_portion room (portions l)) e ∙ fold-append with_portion room (portions_in m) (portions rest)) ∙ h
+
+pub whole-room : (ms left : List Member) (room : Room) → left ≡ [] → fold with_portion room (portions left) ≡ fold with_portion no_room (portions ms) → room ≡ fold with_portion no_room (portions ms)
+whole-room ms left room e h = sym (ap (λ l. fold with_portion room (portions l)) e) ∙ h
+
+pub zip-none : (xs : List Placed) (ds : List (ℕ × SegmentItem)) → ds ≡ [] → filter_map portion (zip xs ds) ≡ []
+zip-none [] ds e = refl
+zip-none (x ∷ xs) [] e = refl
+zip-none (x ∷ xs) (d ∷ ds) e = absurd cc

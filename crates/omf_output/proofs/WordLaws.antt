@@ -1,0 +1,62 @@
+-- Numbers that are added in bytes: twice at one place, and at places apart.
+use Rattle.std.proofs.Common.{◌≡◌, ◌⊎◌, ℕ, ◌+◌, ◌<◌, ◌≤◌, List, [], ◌++◌, length, take, drop, sym, ◌∙◌, ap, ap₂, subst, arith}
+use Rattle.std.specs.Prelude.{◌%◌, ◌^◌}
+use Rattle.std.proofs.lemmas.List.{append_assoc, take_at, drop_at, drop-drop}
+use Rattle.byteorder.specs.Endian.{little_number, little_bytes}
+use Rattle.byteorder.specs.Numbers.{length-bytes_low_first, little_from-append, little_number-reads_back}
+use Rattle.omf_image.specs.declared.part.Part.{Part}
+use Rattle.omf_image.specs.declared.part.Part.TheVariants as part
+use Rattle.omf_image.specs.Parts.{part_size, sum_bytes, add_part}
+use Rattle.omf_output.proofs.ChangeLaws.{IsChange, changes-apart, front_of, number_of, back_of, split, length-front, length-number, length-change}
+
+length-sum : (n : ℕ) (x : List ℕ) (v : ℕ) → length (sum_bytes n x v) ≡ n
+length-sum n x v = length-bytes_low_first 0 n _
+
+-- The bytes of the number alone give way.
+add-at : (a x c : List ℕ) (pos : ℕ) (p : Part) (v : ℕ) → length a ≡ pos → length x ≡ part_size p
+    → add_part (a ++ (x ++ c)) pos p v ≡ a ++ (sum_bytes (part_size p) x v ++ c)
+add-at a x c pos p v e f =
+    let n = part_size p in
+    let l = a ++ (x ++ c) in
+    let front : take pos l ≡ a = take_at a (x ++ c) pos e in
+    let behind : drop pos l ≡ x ++ c = drop_at a (x ++ c) pos e in
+    let back : drop (pos + n) l ≡ c = sym (drop-drop n pos l) ∙ ap (drop n) behind ∙ drop_at x c n f in
+    let number : sum_bytes n (drop pos l) v ≡ sum_bytes n x v =
+    ap (λ y. sum_bytes n y v) behind ∙ ap (λ y. little_bytes n ((y + v) % 256 ^ n)) (little_from-append n x c (omega (arith, f))) in
+    ap₂ (λ y z. y ++ z) (ap₂ (λ y z. y ++ z) front number) back ∙ append_assoc a (sum_bytes n x v) c
+
+pub adding : (pos : ℕ) (p : Part) (v : ℕ) → IsChange (λ l. add_part l pos p v) (λ x. sum_bytes (part_size p) x v) pos (part_size p)
+adding pos p v = record { at = λ a x c e f. add-at a x c pos p v e f; long = λ x e. length-sum (part_size p) x v }
+
+-- A part that is inside keeps the length.
+pub length-add : (bytes : List ℕ) (pos : ℕ) (p : Part) (v : ℕ) → pos + part_size p ≤ length bytes → length (add_part bytes pos p v) ≡ length bytes
+length-add bytes pos p v h = length-change (λ l. add_part l pos p v) (λ x. sum_bytes (part_size p) x v) pos (part_size p) (adding pos p v) bytes h
+
+-- A word that is added to twice.
+twice-word : (x : List ℕ) (v k : ℕ) → sum_bytes 2 (sum_bytes 2 x v) k ≡ sum_bytes 2 x (v + k)
+twice-word x v k =
+    let m = (little_number 2 x + v) % 65536 in
+    let low : m < 65536 = omega arith in
+    let back : little_number 2 (sum_bytes 2 x v) ≡ m = little_number-reads_back 2 m [] low in
+    let same : (m + k) % 65536 ≡ (little_number 2 x + (v + k)) % 65536 = omega arith in
+    ap (λ y. little_bytes 2 ((y + k) % 65536)) back ∙ ap (little_bytes 2) same
+
+pub add-twice : (bytes : List ℕ) (pos v k : ℕ) → pos + 2 ≤ length bytes
+    → add_part bytes pos part.Word (v + k) ≡ add_part (add_part bytes pos part.Word v) pos part.Word k
+add-twice bytes pos v k h =
+    let a = front_of bytes pos in
+    let x = number_of bytes pos 2 in
+    let c = back_of bytes pos 2 in
+    let la : length a ≡ pos = length-front bytes pos 2 h in
+    let lx : length x ≡ 2 = length-number bytes pos 2 h in
+    subst (λ l. add_part l pos part.Word (v + k) ≡ add_part (add_part l pos part.Word v) pos part.Word k) (sym (split bytes pos 2))
+    (add-at a x c pos part.Word (v + k) la lx
+    ∙ ap (λ y. a ++ (y ++ c)) (sym (twice-word x v k))
+    ∙ sym (ap (λ l. add_part l pos part.Word k) (add-at a x c pos part.Word v la lx) ∙ add-at a (sum_bytes 2 x v) c pos part.Word k la (length-sum 2 x v)))
+
+-- Numbers at places apart are added in either order.
+pub add-apart : (bytes : List ℕ) (pos other : ℕ) (p q : Part) (v w : ℕ) → pos + part_size p ≤ length bytes → other + part_size q ≤ length bytes
+    → (pos + part_size p ≤ other) ⊎ (other + part_size q ≤ pos) → add_part (add_part bytes pos p v) other q w ≡ add_part (add_part bytes other q w) pos p v
+add-apart bytes pos other p q v w g h away =
+    changes-apart (λ l. add_part l pos p v) (λ x. sum_bytes (part_size p) x v) (λ l. add_part l other q w) (λ x. sum_bytes (part_size q) x w)
+    pos (part_size p) other (part_size q) (adding pos p v) (adding other q w) bytes g h away

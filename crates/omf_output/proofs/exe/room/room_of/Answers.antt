@@ -1,0 +1,29 @@
+use Rattle.std.proofs.Common.{◌+◌, ◌∙◌, ap, drop}
+use Rattle.std.specs.Prelude.{fold}
+use Rattle.omf_output.specs.Inner.Rooms.{Room, no_room, with_portion}
+use Rattle.omf_output.specs.Exe.Members.{portions}
+use Rattle.omf_output.proofs.RoomLaws.{ends-fold, room-more, stack-fold, whole-room}
+use Rattle.omf_output.proofs.Steps.{next-of, none-left}
+use Rattle.omf_output.proofs.exe.room.room_of.Goals as goal
+
+pub loop-member-init : goal.loop-member-init
+loop-member-init c = ap (λ r. fold with_portion r (portions c.args.members.now)) c.new-room.ensures
+
+pub loop-member-preserved : goal.loop-member-preserved
+loop-member-preserved c =
+    let ms = c.args.members.now in
+    let i = c.loop-member.member-index in
+    let m = c.member-item.result in
+    room-more m (drop (i + 1) ms) (drop i ms) c.loop-member.room c.with_member-room.result _ (next-of ms i m c.member-item.is c.loop-member-test.true) c.with_member-room.ensures c.loop-member.invariant
+
+pub returns-clause-end : goal.returns-clause-end
+returns-clause-end c =
+    let ms = c.args.members.now in
+    let whole = whole-room ms (drop c.loop-member.member-index ms) c.loop-member.room (none-left ms c.loop-member.member-index c.loop-member-test.false) c.loop-member.invariant in
+    ap (λ (r : Room). r.end) whole ∙ ends-fold no_room (portions ms)
+
+pub returns-clause-stack : goal.returns-clause-stack
+returns-clause-stack c =
+    let ms = c.args.members.now in
+    let whole = whole-room ms (drop c.loop-member.member-index ms) c.loop-member.room (none-left ms c.loop-member.member-index c.loop-member-test.false) c.loop-member.invariant in
+    ap (λ (r : Room). r.stack) whole ∙ stack-fold no_room (portions ms)

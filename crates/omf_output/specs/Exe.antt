@@ -1,0 +1,15 @@
+pub mod Moved
+pub mod Relocations
+pub mod Loading
+pub mod Exe
+pub mod FileFaults
+pub mod Memory
+pub mod Members
+pub mod Judged
+pub mod Movable
+pub mod Overlaps
+pub mod Words
+pub mod Based
+pub mod Linked
+pub mod Rows
+pub mod Laws

@@ -1,0 +1,49 @@
+-- What moves of the segments and groups of a module, by its records (this profile's rule).
+use Rattle.std.specs.Prelude.{◌≡◌, ℕ, List, [], ◌∷◌, length, map, Bool, true, false, ◌==◌, ◌&&◌, Option, Some, None, if◌then◌else◌}
+use Rattle.std.specs.List.{list_all}
+use Rattle.omf_records.specs.Values.{GroupItem, Rec, SegmentItem}
+use Rattle.omf_check.specs.Module.{recs_of}
+use Rattle.omf_check.specs.Tables.{groups, segments}
+use Rattle.omf_check.specs.Threads.{same}
+use Rattle.omf_check.specs.Sound.{ModuleHolds}
+use Rattle.omf_image.specs.Limits.{profile_limits}
+use Rattle.omf_reloc.specs.Reach.{Reaches}
+use Rattle.omf_output.specs.Exe.Members.{Member, segdefs}
+use Rattle.omf_output.specs.Exe.Moved.{AreMoversOf, moves}
+
+-- A segment moves unless it is absolute.
+abbrev pub is_movable : Option (ℕ × ℕ) → Bool
+is_movable None = true
+is_movable (Some frame) = false
+
+abbrev pub segments_moving : List Rec → List Bool
+segments_moving m = map (λ s. is_movable s.absolute) (segments m)
+
+-- A group moves where all its members do.
+abbrev pub group_moving : List Rec → GroupItem → Bool
+group_moving m g = list_all (λ x. moves (segments_moving m) x.item.item) g.members
+
+abbrev pub groups_moving : List Rec → List Bool
+groups_moving m = map (group_moving m) (groups m)
+
+-- The movers of a module show for each entry of its placement whether it moves, and its segments move unless they are absolute.
+pub record IsBased (m : Member) : Type 0 where
+  pub movers : AreMoversOf m.movers m.places
+  pub segments : m.movers.segments ≡ segments_moving (recs_of m.bytes)
+
+-- The same as a test, where the placement has an entry for each entry of the module's tables: the flags of the SEGDEFs.
+abbrev pub same_flags : List Bool → List (ℕ × SegmentItem) → Bool
+same_flags [] [] = true
+same_flags [] (s ∷ ss) = false
+same_flags (b ∷ bs) [] = false
+same_flags (b ∷ bs) (s ∷ ss) = if same b (is_movable s.1.absolute) then same_flags bs ss else false
+
+abbrev pub has_its_movers : Member → Bool
+has_its_movers m = same_flags m.movers.segments (segdefs (recs_of m.bytes)) && ((length m.movers.groups == length m.places.groups) && (length m.movers.externals == length m.places.externals))
+
+-- Its placement reaches; it is well formed.
+abbrev pub HasReached : Member → Type 0
+HasReached m = Reaches m.places (recs_of m.bytes)
+
+abbrev pub Holds : Member → Type 0
+Holds m = ModuleHolds profile_limits (recs_of m.bytes)

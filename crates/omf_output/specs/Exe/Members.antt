@@ -1,0 +1,70 @@
+-- The modules of a program: where their segments end, their stack and their start.
+use Rattle.std.specs.Prelude.{ℕ, ◌+◌, List, [], ◌∷◌, map, max, filter, filter_map, flat_map, fold, zip, Bool, ◌==◌, Option, Some, None}
+use Rattle.omf_records.specs.Values.{Contents, Rec, Segment, SegmentItem, combination}
+use Rattle.omf_check.specs.Module.{recs_of}
+use Rattle.omf_check.specs.Tables.{segment_length}
+use Rattle.omf_placement.specs.declared.frame.Placed.{Placed}
+use Rattle.omf_placement.specs.Placement.{Places}
+use Rattle.omf_output.specs.Exe.Memory.{MovingModule}
+use Rattle.omf_output.specs.Exe.Moved.{Movers, moved}
+use Rattle.omf_output.specs.declared.exe.room.Stack.{Stack}
+
+-- A module of a program: the number by which faults name it, its bytes, its placement, and what moves of it.
+pub record Member : Type 0 where
+  pub number : ℕ
+  pub bytes : List ℕ
+  pub places : Places
+  pub movers : Movers
+
+abbrev pub moving : Member → MovingModule
+moving m = record { records = recs_of m.bytes; places = m.places; movers = m.movers }
+
+abbrev pub all_moving : List Member → List MovingModule
+all_moving ms = map moving ms
+
+-- The module with its placement moved by k paragraphs.
+abbrev pub member_at : ℕ → Member → Member
+member_at k m = record { number = m.number; bytes = m.bytes; places = moved k m.movers m.places; movers = m.movers }
+
+-- A segment of the program: its place, the first address after it, and whether it is a part of the stack (TIS OMF 1.1, "SEGDEF", C field: combination 5).
+-- Absolute segments are none of the program's.
+pub record Portion : Type 0 where
+  pub place : Placed
+  pub end : ℕ
+  pub is_stack : Bool
+
+-- The SEGDEFs of a module in index order, each with the type of its record.
+abbrev pub segdefs_in : ℕ → Contents → List (ℕ × SegmentItem)
+segdefs_in kind (Segment s) = (kind, s) ∷ []
+segdefs_in kind _ = []
+
+abbrev pub segdefs : List Rec → List (ℕ × SegmentItem)
+segdefs m = flat_map (λ r. segdefs_in r.kind r.contents) m
+
+abbrev pub is_stack : ℕ → Bool
+is_stack attribute = combination attribute == 5
+
+abbrev pub portion_of : Option (ℕ × ℕ) → Placed × (ℕ × SegmentItem) → Option Portion
+portion_of (Some frame) x = None
+portion_of None x = Some (record { place = x.0; end = x.0.address + segment_length x.1.0 x.1.1; is_stack = is_stack x.1.1.attribute })
+
+abbrev pub portion : Placed × (ℕ × SegmentItem) → Option Portion
+portion x = portion_of x.1.1.absolute x
+
+abbrev pub portions_in : Member → List Portion
+portions_in m = filter_map portion (zip m.places.segments (segdefs (recs_of m.bytes)))
+
+abbrev pub portions : List Member → List Portion
+portions ms = flat_map portions_in ms
+
+-- The first address after the segments.
+abbrev pub memory_end : List Portion → ℕ
+memory_end ps = fold max 0 (map (λ p. p.end) ps)
+
+-- The stack: the frame of its first segment, and the first address after all of its segments.
+abbrev pub joined : List Portion → Option Stack
+joined [] = None
+joined (p ∷ ps) = Some (record { frame = p.place.frame; end = fold max p.end (map (λ q. q.end) ps) })
+
+abbrev pub stack : List Portion → Option Stack
+stack ps = joined (filter (λ p. p.is_stack) ps)

@@ -1,0 +1,65 @@
+-- Words of the worked examples.
+use Rattle.std.specs.Prelude.{ℕ, ◌+◌, List, [], ◌∷◌, true, false, Some, None}
+use Rattle.omf_records.specs.Values.{At, Rec, Segment, Plain, Fixups, ModEnd, Fixup, SegmentItem}
+use Rattle.omf_check.specs.declared.method.FrameMethod.{FrameMethod}
+use Rattle.omf_check.specs.declared.method.TargetMethod.{TargetMethod}
+use Rattle.omf_placement.specs.declared.frame.Placed.{Placed}
+use Rattle.omf_frame.specs.declared.fault.Place.{Place}
+use Rattle.omf_check.specs.Threads.{T0}
+use Rattle.omf_check.specs.declared.method.FrameMethod.TheVariants.{Target as F5}
+use Rattle.omf_reloc.specs.Plain.{Piece, Kept, Fixed, PlainFixup}
+use Rattle.omf_output.specs.Exe.Moved.{Movers}
+use Rattle.omf_output.specs.Exe.Memory.{MovingModule}
+
+abbrev pub at : {A : Type 0} → ℕ → A → At A
+at within item = record { within = within; item = item }
+
+-- `mov ax, seg` and `retf` in one segment, which is the start: SEGDEF, LEDATA, FIXUPP (a base, F5 T0 1) and MODEND.
+abbrev pub segment_of_4 : SegmentItem
+segment_of_4 = record { attribute = 0x60; absolute = None; size = 4; name = at 6 1; class = at 7 1; overlay = 1 }
+
+abbrev pub loads_its_segment : List Rec
+loads_its_segment =
+    record { kind = 0x98; contents = Segment segment_of_4 }
+    ∷ record { kind = 0xA0; contents = Plain (record { segment = at 3 1; offset = at 4 0; bytes = 0xB8 ∷ 0 ∷ 0 ∷ 0xCB ∷ [] }) }
+    ∷ record { kind = 0x9C; contents = Fixups (at 3 (Fixup 0xC801 (record { fix = at 5 0x54; frame = None; target = Some (at 6 1); displacement = None })) ∷ []) }
+    ∷ record { kind = 0x8A; contents = ModEnd 0xC1 (Some (record { fix = at 4 0x50; frame = None; target = Some (at 5 1); displacement = Some 0 })) }
+    ∷ []
+
+abbrev pub placed_at : ℕ → ℕ → ℕ → Placed
+placed_at address base selector = record { address = address; frame = record { base = base; selector = selector } }
+
+-- It is at 0, and moves.
+abbrev pub at_0 : MovingModule
+at_0 = record {
+  records = loads_its_segment;
+  places = record { segments = placed_at 0 0 0 ∷ []; groups = []; externals = [] };
+  movers = record { segments = true ∷ []; groups = []; externals = [] };
+}
+
+-- Its file: 32 bytes of header, with one entry, and the four of the image; SS:SP is 0:100H.
+abbrev pub file : List ℕ
+file = 0x4D ∷ 0x5A ∷ 36 ∷ 0 ∷ 1 ∷ 0 ∷ 1 ∷ 0 ∷ 2 ∷ 0 ∷ 0 ∷ 0 ∷ 0xFF ∷ 0xFF ∷ 0 ∷ 0 ∷ 0 ∷ 1 ∷ 0 ∷ 0 ∷ 0 ∷ 0 ∷ 0 ∷ 0 ∷ 28 ∷ 0 ∷ 0 ∷ 0 ∷ 1 ∷ 0 ∷ 0 ∷ 0 ∷ 0xB8 ∷ 0 ∷ 0 ∷ 0xCB ∷ []
+
+-- Segment 1 moves, segment 2 does not; a fixup of a FIXUPP of 16 bits.
+abbrev pub one_of_two : Movers
+one_of_two = record { segments = true ∷ false ∷ []; groups = []; externals = [] }
+
+abbrev pub fixup : ℕ → FrameMethod → TargetMethod → ℕ × PlainFixup
+fixup locat frame target = (0x9C, record { locat = locat; reference = record { frame = frame; target = target; displacement = 0 } })
+
+-- Pieces, each with the number of its place.
+abbrev pub place : ℕ → Place
+place n = record { number = n; start = 0; within = 0 }
+
+abbrev pub numbered : ℕ → List Piece → List (Place × Piece)
+numbered n [] = []
+numbered n (p ∷ ps) = (place n, p) ∷ numbered (n + 1) ps
+
+-- Four bytes at 0 of segment 1, with a base at 1 and an offset of 16 bits at 2.
+abbrev pub base_under_offset : List Piece
+base_under_offset =
+    Kept (record { kind = 0xA0; contents = Plain (record { segment = at 3 1; offset = at 4 0; bytes = 0xB8 ∷ 0 ∷ 0 ∷ 0xCB ∷ [] }) })
+    ∷ Fixed 0x9C ((fixup 0xC801 F5 (T0 1)).1 ∷ [])
+    ∷ Fixed 0x9C ((fixup 0xC402 F5 (T0 1)).1 ∷ [])
+    ∷ []

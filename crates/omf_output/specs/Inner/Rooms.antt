@@ -1,0 +1,19 @@
+-- The memory that segments take, one segment after the other.
+use Rattle.std.specs.Prelude.{ℕ, max, Option, Some, None, if◌then◌else◌}
+use Rattle.omf_output.specs.Exe.Members.{Portion}
+use Rattle.omf_output.specs.declared.exe.room.Stack.{Stack}
+
+-- The first address after the segments so far, and the stack so far.
+pub record Room : Type 0 where
+  pub end : ℕ
+  pub stack : Option Stack
+
+abbrev pub no_room : Room
+no_room = record { end = 0; stack = None }
+
+abbrev pub with_stack : Option Stack → Portion → Stack
+with_stack None p = record { frame = p.place.frame; end = p.end }
+with_stack (Some s) p = record { frame = s.frame; end = max s.end p.end }
+
+abbrev pub with_portion : Room → Portion → Room
+with_portion room p = record { end = max room.end p.end; stack = if p.is_stack then Some (with_stack room.stack p) else room.stack }

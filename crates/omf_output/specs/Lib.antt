@@ -1,0 +1,3 @@
+pub mod Rom
+pub mod Exe
+pub mod Inner

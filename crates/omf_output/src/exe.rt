@@ -1,0 +1,23 @@
+//! MZ files (.EXE) of linked modules: what DOS loads at a paragraph is what the modules put there at their placements moved to that paragraph.
+
+mod fault;
+mod file;
+pub mod laws;
+mod laying;
+mod link;
+mod member;
+mod movers;
+mod moving;
+mod room;
+pub mod rows;
+mod starting;
+mod words;
+
+pub use fault::ExeFault;
+pub use file::{FarAddress, FileFault, Program, write_exe};
+pub use link::{ExeFile, link_exe};
+pub use member::Member;
+pub use movers::{Movers, Moving};
+pub use moving::{movable, site};
+pub use room::Stack;
+pub use words::{Words, WordsFault};

@@ -1,0 +1,285 @@
+//! The bytes that modules lay, from address 0 on.
+
+ghost use Rattle.std.specs.Prelude.{◌≡◌, Some, ◌+◌, ◌<◌, ◌≤◌, ◌^◌, All, fold, length, max, flat_map, IfOk, OnOk};
+ghost use Rattle.omf_check.specs.Module.{recs_of};
+ghost use Rattle.omf_image.specs.Inner.Expanding.{expanded};
+ghost use Rattle.omf_image.specs.Limits.{profile_limits};
+ghost use Rattle.omf_records.specs.Inner.Seen.{contents_seen, kind_seen, odd_if, rec_seen};
+ghost use Rattle.omf_records.specs.Values.{width};
+ghost use Rattle.omf_reloc.specs.Inner.PieceSeen.{piece_seen};
+ghost use Rattle.omf_reloc.specs.Inner.Walking.{Expands};
+ghost use Rattle.omf_reloc.specs.Inner.Widths.{fixupp_type};
+ghost use Rattle.omf_output.specs.Inner.Laying.{CanEnd, CanLay, DataFit, EndsIn, FixupFits, address_at, fixed_at, laid_by, overlaid, record_ends, source_after, source_in, with_data};
+ghost use Rattle.omf_check.specs.Sound.{ModuleHolds};
+ghost use Rattle.omf_output.specs.Exe.Based.{Holds};
+ghost use Rattle.omf_output.specs.Exe.Members.{all_moving};
+ghost use Rattle.omf_output.specs.Exe.Memory.{all_chunks, chunks, data_end, flat, put, segment_address};
+ghost use Rattle.omf_output.specs.Exe.Moved.{Movers};
+
+use crate::exe::member::Member;
+use omf_check::Checked;
+use omf_frame::{Index, Width};
+use omf_image::{Limits, expand};
+use omf_placement::Placement;
+use omf_records::{At, Blocks, Rec};
+use omf_reloc::{Piece, PlainFixup, measure, outcome, pieces_of};
+use std::alloc::{AllocError, Global};
+
+/// The address of a segment; 0 if the placement has no entry for it.
+pub(crate) fn segment_address(placement: &Placement, segment: u16) -> usize
+    ensures value { result ≡ segment_address placement.now segment }
+    ensures low { result < 2 ^ 32 }
+{
+    match placement.segment(usize::from(segment)) {
+        Some(place) => place.address as usize,
+        None => 0,
+    }
+}
+
+/// The address of a data record.
+fn address_at(placement: &Placement, segment: &At<Index>, offset: &At<u32>) -> usize
+    ensures { result ≡ address_at placement.now segment.now.item offset.now.item }
+{
+    segment_address(placement, segment.item.0) + offset.item as usize
+}
+
+/// The expanded bytes of an LIDATA's blocks.
+fn expanded(alloc: Global, blocks: Blocks<'_>) -> Result<Vec<u8>, AllocError>
+    requires { Expands (odd_if blocks.width 0xA2) blocks.bytes.now }
+    ensures { IfOk result (λ v. v.items ≡ expanded (width (odd_if blocks.entry.width 0xA2)) profile_limits blocks.entry.bytes.now) }
+{
+    let (bytes, _moved) = expand(alloc, blocks, Limits::profile())?;
+    Ok(bytes)
+}
+
+/// Puts bytes at an address.
+fn put(image: &mut [u8], at: usize, bytes: &[u8])
+    requires { at + length bytes.now ≤ length image.old }
+    ensures { image.new ≡ overlaid at bytes.now image.old }
+{
+    image[at..at + bytes.len()].copy_from_slice(bytes);
+}
+
+/// Puts the data of a data record at their address. Other records have none.
+fn put_data(
+    alloc: Global,
+    image: &mut [u8],
+    placement: &Placement,
+    rec: &Rec<'_>,
+) -> Result<(), AllocError>
+    requires { DataFit placement.now (length image.old) (kind_seen rec.now) (contents_seen rec.now) }
+    ensures { OnOk result (image.new ≡ with_data placement.now (kind_seen rec.now) (contents_seen rec.now) image.old) }
+{
+    match rec {
+        Rec::Plain {
+            segment,
+            offset,
+            data,
+            ..
+        } => {
+            put(image, address_at(placement, segment, offset), data);
+            Ok(())
+        }
+        Rec::Iterated {
+            segment,
+            offset,
+            blocks,
+        } => {
+            let bytes = expanded(alloc, *blocks)?;
+            put(image, address_at(placement, segment, offset), &bytes);
+            Ok(())
+        }
+        Rec::Header { .. }
+        | Rec::Comment { .. }
+        | Rec::Names(_)
+        | Rec::Segment { .. }
+        | Rec::Group { .. }
+        | Rec::Externs(_)
+        | Rec::Publics { .. }
+        | Rec::Communals(_)
+        | Rec::Fixups { .. }
+        | Rec::ModEnd { .. }
+        | Rec::LocalNames(_)
+        | Rec::LocalExterns { .. }
+        | Rec::LocalPublics { .. }
+        | Rec::LocalCommunals(_)
+        | Rec::Carried { .. } => Ok(()),
+    }
+}
+
+/// The segment of an LEDATA and the offset of its first byte there.
+type Source = (u16, u32);
+
+/// The last data record, if it is an LEDATA, up to and including this record.
+fn source_in(rec: &Rec<'_>, last: Option<Source>) -> Option<Source>
+    ensures { result ≡ source_in (contents_seen rec.now) last }
+{
+    match rec {
+        Rec::Plain {
+            segment,
+            offset,
+            ..
+        } => Some((segment.item.0, offset.item)),
+        Rec::Iterated { .. } => None,
+        Rec::Header { .. }
+        | Rec::Comment { .. }
+        | Rec::Names(_)
+        | Rec::Segment { .. }
+        | Rec::Group { .. }
+        | Rec::Externs(_)
+        | Rec::Publics { .. }
+        | Rec::Communals(_)
+        | Rec::Fixups { .. }
+        | Rec::ModEnd { .. }
+        | Rec::LocalNames(_)
+        | Rec::LocalExterns { .. }
+        | Rec::LocalPublics { .. }
+        | Rec::LocalCommunals(_)
+        | Rec::Carried { .. } => last,
+    }
+}
+
+/// The same, up to and including this piece.
+fn source_after(piece: &Piece<'_>, last: Option<Source>) -> Option<Source>
+    ensures { result ≡ source_after (piece_seen piece.now) last }
+{
+    match piece {
+        Piece::Kept(rec) => source_in(rec, last),
+        Piece::Fixed { .. } | Piece::End { .. } => last,
+    }
+}
+
+/// Applies a fixup where its data are. One that does not reach changes nothing.
+fn fix(image: &mut [u8], placement: &Placement, source: Source, width: Width, fixup: &PlainFixup)
+    requires { FixupFits placement.now (length image.old) (Some source) (fixupp_type width, fixup.now) }
+    ensures { image.new ≡ fixed_at placement.now source image.old (fixupp_type width, fixup.now) }
+{
+    let (segment, offset) = source;
+    if let Ok(additions) = outcome(placement, segment, offset, width, fixup) {
+        let at = segment_address(placement, segment) + offset as usize;
+        additions.add_to(image, at + usize::from(fixup.location.offset()));
+    }
+}
+
+/// Takes a piece: puts its data, or applies its fixup. `last` is the last data record before it.
+fn take(
+    alloc: Global,
+    image: &mut [u8],
+    placement: &Placement,
+    last: Option<Source>,
+    piece: &Piece<'_>,
+) -> Result<(), AllocError>
+    requires { CanLay placement.now (length image.old) last (piece_seen piece.now) }
+    ensures { OnOk result (image.new ≡ laid_by placement.now last (piece_seen piece.now) image.old) }
+{
+    match piece {
+        Piece::Kept(rec) => put_data(alloc, image, placement, rec),
+        Piece::Fixed { width, fixup } => {
+            if let Some(source) = last {
+                fix(image, placement, source, *width, fixup);
+            }
+            Ok(())
+        }
+        Piece::End { .. } => Ok(()),
+    }
+}
+
+/// Lays a module: puts its data at their addresses, in file order, and applies their fixups there.
+fn lay_module(
+    alloc: Global,
+    image: &mut [u8],
+    module: &Checked,
+    placement: &Placement,
+) -> Result<(), AllocError>
+    requires { All (λ x. x ≤ length image.old) (flat_map (record_ends placement.now) (recs_of «module».now.bytes)) }
+    ensures { OnOk result ((mv : Movers) → image.new ≡ fold (put 0) image.old (chunks mv placement.now (recs_of «module».now.bytes))) }
+{
+    let mut last = None;
+    for (_place, piece) in pieces_of(module) {
+        take(alloc, image, placement, last, &piece)?;
+        last = source_after(&piece, last);
+    }
+    Ok(())
+}
+
+/// Lays a module of a program.
+fn lay_member(alloc: Global, image: &mut [u8], member: &Member<'_>) -> Result<(), AllocError>
+    requires { EndsIn (length image.old) member.now }
+    ensures { OnOk result (image.new ≡ fold (put 0) image.old (chunks member.now.movers member.now.places (recs_of member.now.bytes))) }
+{
+    lay_module(alloc, image, member.module, member.placement)?;
+    Ok(())
+}
+
+/// Lays all modules, one after the other.
+fn lay_all(alloc: Global, image: &mut [u8], members: &[Member<'_>]) -> Result<(), AllocError>
+    requires { All (EndsIn (length image.old)) members.now }
+    ensures { OnOk result (image.new ≡ fold (put 0) image.old (all_chunks (all_moving members.now))) }
+{
+    for member in members {
+        lay_member(alloc, image, member)?;
+    }
+    Ok(())
+}
+
+/// The first address after the data of a record; 0 if it has none.
+fn record_end(placement: &Placement, rec: &Rec<'_>) -> usize
+    requires { CanEnd (rec_seen rec.now) }
+    ensures { result ≡ fold max 0 (record_ends placement.now (rec_seen rec.now)) }
+{
+    match measure(rec) {
+        Some(extent) => {
+            let first = segment_address(placement, extent.segment) + extent.first as usize;
+            first + extent.len as usize
+        }
+        None => 0,
+    }
+}
+
+/// The first address after the data of a module, and of those before it.
+fn with_end(before: usize, module: &Checked, placement: &Placement) -> usize
+    ensures end { result ≡ fold max before (flat_map (record_ends placement.now) (recs_of «module».now.bytes)) }
+    ensures holds { ModuleHolds profile_limits (recs_of «module».now.bytes) }
+{
+    let mut end = before;
+    for (_place, rec) in module.records() {
+        end = end.max(record_end(placement, &rec));
+    }
+    end
+}
+
+/// The same for a module of a program.
+fn with_member(before: usize, member: &Member<'_>) -> usize
+    ensures end { result ≡ fold max before (flat_map (record_ends member.now.places) (recs_of member.now.bytes)) }
+    ensures holds { Holds member.now }
+{
+    with_end(before, member.module, member.placement)
+}
+
+/// The first address after the data of all modules.
+pub(crate) fn data_end(members: &[Member<'_>]) -> usize
+    ensures end { result ≡ data_end (all_chunks (all_moving members.now)) }
+    ensures hold { All Holds members.now }
+{
+    let mut end = 0;
+    for member in members {
+        end = with_member(end, member);
+    }
+    end
+}
+
+/// The bytes from address 0 up to an address where the data of all modules end: where no data record has one, 0.
+pub(crate) fn image_of(
+    alloc: Global,
+    members: &[Member<'_>],
+    end: usize,
+) -> Result<Vec<u8>, AllocError>
+    requires end { end ≡ data_end (all_chunks (all_moving members.now)) }
+    requires hold { All Holds members.now }
+    ensures { IfOk result (λ v. v.items ≡ flat 0 end (all_chunks (all_moving members.now))) }
+{
+    let mut image = Vec::new(alloc);
+    image.resize(end, 0)?;
+    lay_all(alloc, &mut image, members)?;
+    Ok(image)
+}

@@ -1,0 +1,188 @@
+//! Which parts of a placement move with a program.
+
+ghost use Rattle.std.specs.Prelude.{◌≡◌, ◌++◌, ◌==◌, ◌&&◌, [], ◌∷◌, OnOk, OnErr, List, ℕ, length, option_map};
+ghost use Rattle.omf_check.specs.Module.{recs_of};
+ghost use Rattle.omf_records.specs.Inner.Seen.{contents_seen, kind_seen};
+ghost use Rattle.omf_records.specs.Values.{SegmentItem};
+ghost use Rattle.omf_output.specs.Exe.Based.{same_flags};
+ghost use Rattle.omf_output.specs.Inner.Laying.{flags_left};
+ghost use Rattle.omf_output.specs.Exe.Members.{segdefs, segdefs_in};
+ghost use Rattle.omf_output.specs.Exe.Moved.{both, frame_moves, moves, moving_of, target_moves};
+
+use omf_check::{Checked, FrameMethod, TargetMethod, entry_of};
+use omf_placement::Placement;
+use omf_records::{Kind, Rec};
+use std::alloc::{AllocError, Global};
+use std::marker::Model;
+
+/// How an entry of a placement moves when DOS loads the program at a paragraph. The two flags may differ: a public of an absolute segment
+/// in a group that moves has an address that stays, in a frame that moves.
+#[derive(Clone, Copy, Debug, PartialEq, Eq)]
+pub struct Moving {
+    /// The address moves.
+    pub address: bool,
+    /// The frame moves.
+    pub frame: bool,
+}
+
+impl Moving {
+    /// The address and the frame both move, or both stay.
+    pub fn both(moves: bool) -> Moving
+        ensures { result ≡ both moves }
+    {
+        Moving {
+            address: moves,
+            frame: moves,
+        }
+    }
+}
+
+/// Which segments, groups and externals of a module move with the program, each list in index order.
+#[derive(Drop)]
+pub struct Movers {
+    segments: Vec<bool>,
+    groups: Vec<bool>,
+    externals: Vec<Moving>,
+}
+
+impl Model for Movers {
+    ghost use Rattle.omf_output.specs.Exe.Moved.{Movers as Moved};
+
+    ghost Value = { Moved };
+
+    ghost view = { λ m. record { segments = m.segments.items; groups = m.groups.items; externals = m.externals.items } };
+}
+
+/// The flags left after that of a record's segment, if it moves exactly if it is not absolute. A record that is no SEGDEF takes none.
+fn flags_after<'a>(left: &'a [bool], rec: &Rec<'_>) -> Option<&'a [bool]>
+    ensures { (rest : List (ℕ × SegmentItem)) → same_flags left.now (segdefs_in (kind_seen rec.now) (contents_seen rec.now) ++ rest) ≡ flags_left (option_map (λ b. b.now) result) rest }
+{
+    let Rec::Segment { segment, .. } = rec else {
+        return Some(left);
+    };
+    match left.split_first() {
+        Some((moves, rest)) if *moves == segment.absolute.is_none() => Some(rest),
+        Some(_) | None => None,
+    }
+}
+
+/// Whether these are the flags of a module's segments, each set exactly if its segment is not absolute.
+fn are_flags(flags: &[bool], module: &Checked) -> bool
+    ensures { result ≡ same_flags flags.now (segdefs (recs_of «module».now.bytes)) }
+{
+    let mut left = flags;
+    for (_place, rec) in module.records() {
+        match flags_after(left, &rec) {
+            Some(rest) => left = rest,
+            None => return false,
+        }
+    }
+    left.is_empty()
+}
+
+impl Movers {
+    /// Movers without entries.
+    pub fn new(alloc: Global) -> Movers
+        ensures { result ≡ record { segments = []; groups = []; externals = [] } }
+    {
+        Movers {
+            segments: Vec::new(alloc),
+            groups: Vec::new(alloc),
+            externals: Vec::new(alloc),
+        }
+    }
+
+    /// Adds whether the next segment moves.
+    ///
+    /// # Errors
+    ///
+    /// `AllocError` if memory runs out: nothing is changed.
+    pub fn push_segment(&mut self, moves: bool) -> Result<(), AllocError>
+        ensures ok { OnOk result (self.new ≡ record self.old { segments = self.old.segments ++ moves ∷ [] }) }
+        ensures err { OnErr result (self.new ≡ self.old) }
+    {
+        self.segments.push(moves)?;
+        Ok(())
+    }
+
+    /// Adds whether the next group moves.
+    ///
+    /// # Errors
+    ///
+    /// `AllocError` if memory runs out: nothing is changed.
+    pub fn push_group(&mut self, moves: bool) -> Result<(), AllocError>
+        ensures ok { OnOk result (self.new ≡ record self.old { groups = self.old.groups ++ moves ∷ [] }) }
+        ensures err { OnErr result (self.new ≡ self.old) }
+    {
+        self.groups.push(moves)?;
+        Ok(())
+    }
+
+    /// Adds how the next external moves.
+    ///
+    /// # Errors
+    ///
+    /// `AllocError` if memory runs out: nothing is changed.
+    pub fn push_external(&mut self, moving: Moving) -> Result<(), AllocError>
+        ensures ok { OnOk result (self.new ≡ record self.old { externals = self.old.externals ++ moving ∷ [] }) }
+        ensures err { OnErr result (self.new ≡ self.old) }
+    {
+        self.externals.push(moving)?;
+        Ok(())
+    }
+
+    /// Whether the segment with index `i`, from 1, moves; one without an entry does not.
+    pub fn segment_moves(&self, i: usize) -> bool
+        ensures { result ≡ moves self.now.segments i }
+    {
+        entry_of(&self.segments, i).unwrap_or(false)
+    }
+
+    /// How the entry of a target moves.
+    fn moving_of(&self, target: &TargetMethod) -> Moving
+        ensures { result ≡ moving_of self.now target.now }
+    {
+        let index = usize::from(target.index.0);
+        match target.kind {
+            Kind::Segment => Moving::both(entry_of(&self.segments, index).unwrap_or(false)),
+            Kind::Group => Moving::both(entry_of(&self.groups, index).unwrap_or(false)),
+            Kind::External => entry_of(&self.externals, index).unwrap_or(Moving::both(false)),
+        }
+    }
+
+    /// Whether the address of a target moves.
+    pub fn target_moves(&self, target: &TargetMethod) -> bool
+        ensures { result ≡ target_moves self.now target.now }
+    {
+        self.moving_of(target).address
+    }
+
+    /// Whether a frame moves. `segment` is the segment of the last data record, whose frame F4 is; F5 is the frame of `target` (TIS OMF 1.1,
+    /// "FIXUPP").
+    pub fn frame_moves(&self, segment: u16, target: &TargetMethod, method: &FrameMethod) -> bool
+        ensures { result ≡ frame_moves self.now segment target.now method.now }
+    {
+        match method {
+            FrameMethod::Of(entry) => self.moving_of(entry).frame,
+            FrameMethod::Location => self.segment_moves(usize::from(segment)),
+            FrameMethod::Target => self.moving_of(target).frame,
+        }
+    }
+
+    /// Whether the segments of a module move exactly where they are not absolute.
+    fn are_of_segments(&self, module: &Checked) -> bool
+        ensures { result ≡ same_flags self.now.segments (segdefs (recs_of «module».now.bytes)) }
+    {
+        are_flags(&self.segments, module)
+    }
+
+    /// Whether these are the movers of a module at its placement: there is one for each entry of the placement, and a segment moves exactly
+    /// if it is not absolute.
+    pub(crate) fn are_of(&self, module: &Checked, placement: &Placement) -> bool
+        ensures { result ≡ (same_flags self.now.segments (segdefs (recs_of «module».now.bytes)) && ((length self.now.groups == length placement.now.groups) && (length self.now.externals == length placement.now.externals))) }
+    {
+        self.are_of_segments(module)
+            && self.groups.len() == placement.group_count()
+            && self.externals.len() == placement.external_count()
+    }
+}

@@ -1,0 +1,163 @@
+//! The memory that the segments of a program take, and its stack.
+
+ghost use Rattle.std.specs.Prelude.{◌≡◌, true, ◌∷◌, ◌++◌, ◌<◌, ◌≤◌, ◌^◌, ◌+◌, List, ℕ, [], None, filter_map, fold, option_to_list, zip};
+ghost use Rattle.omf_records.specs.Inner.Seen.{contents_seen, kind_seen, odd_if};
+ghost use Rattle.omf_records.specs.Values.{SegmentItem};
+ghost use Rattle.omf_check.specs.Module.{recs_of};
+ghost use Rattle.omf_check.specs.Tables.{segment_length};
+ghost use Rattle.omf_output.specs.Exe.Members.{is_stack, memory_end, portion, portions, portions_in, segdefs, segdefs_in, stack};
+ghost use Rattle.omf_output.specs.Inner.Rooms.{no_room, with_portion, with_stack};
+
+use crate::exe::member::Member;
+use omf_check::Checked;
+use omf_frame::Width;
+use omf_placement::{Frame, Placed};
+use omf_records::{Acbp, Combination, Rec, Segment};
+use std::marker::Model;
+
+/// A stack: the frame of its first segment, and the first address after all of its segments.
+#[derive(Clone, Copy, Debug, PartialEq, Eq)]
+pub struct Stack {
+    /// The frame.
+    pub frame: Frame,
+    /// The first address after the stack.
+    pub end: u64,
+}
+
+/// The memory that segments take.
+#[derive(Drop)]
+pub(crate) struct Room {
+    /// The first address after them.
+    pub(crate) end: u64,
+    /// The stack, if one of them is a part of it.
+    pub(crate) stack: Option<Stack>,
+}
+
+impl Model for Room {
+    ghost use Rattle.omf_output.specs.Inner.Rooms.{Room as Rooms};
+
+    ghost Value = { Rooms };
+
+    ghost view = { λ r. record { end = r.end; stack = r.stack } };
+}
+
+/// The length of a segment in bytes, in a SEGDEF of this width (TIS OMF 1.1, "SEGDEF", B bit).
+fn segment_length(width: Width, segment: &Segment) -> u64
+    ensures value { result ≡ segment_length (odd_if width 0x98) segment.now }
+    ensures low { result ≤ 2 ^ 32 }
+{
+    if !segment.attribute.is_big() {
+        return u64::from(segment.size);
+    }
+    match width {
+        Width::Bits16 => 1 << 16,
+        Width::Bits32 => 1 << 32,
+    }
+}
+
+/// Whether the combination of a segment is that of the stack (TIS OMF 1.1, "SEGDEF", C field).
+fn is_stack(attribute: Acbp) -> bool
+    ensures { result ≡ is_stack attribute }
+{
+    match attribute.combination() {
+        Combination::Stack => true,
+        Combination::Private
+        | Combination::Reserved1
+        | Combination::Public
+        | Combination::Reserved3
+        | Combination::Public4
+        | Combination::Common
+        | Combination::Public7 => false,
+    }
+}
+
+/// The stack with one more of its segments.
+fn with_stack(stack: Option<Stack>, frame: Frame, end: u64) -> Stack
+    ensures { (place : Placed) → place.frame ≡ frame → result ≡ with_stack stack (record { place = place; end = end; is_stack = true }) }
+{
+    match stack {
+        Some(stack) => Stack {
+            frame: stack.frame,
+            end: stack.end.max(end),
+        },
+        None => Stack { frame, end },
+    }
+}
+
+impl Room {
+    /// That of no segments.
+    fn new() -> Room
+        ensures { result ≡ no_room }
+    {
+        Room {
+            end: 0,
+            stack: None,
+        }
+    }
+
+    /// The memory with that of one more segment, which is at a place. An absolute segment takes none of the program's.
+    fn with_segment(self, place: Placed, width: Width, segment: &Segment) -> Room
+        ensures { result ≡ fold with_portion self (option_to_list (portion (place, (odd_if width 0x98, segment.now)))) }
+    {
+        if segment.absolute.is_some() {
+            return self;
+        }
+        let end = u64::from(place.address) + segment_length(width, segment);
+        let stack = if is_stack(segment.attribute) {
+            Some(with_stack(self.stack, place.frame, end))
+        } else {
+            self.stack
+        };
+        Room {
+            end: self.end.max(end),
+            stack,
+        }
+    }
+}
+
+/// The memory with that of a record's segment, which is at the first of the places left; and the places left for the segments after it. A
+/// record that is no SEGDEF changes nothing.
+fn take<'a>(room: Room, left: &'a [Placed], rec: &Rec<'_>) -> (Room, &'a [Placed])
+    ensures { (rest : List (ℕ × SegmentItem)) → fold with_portion result.0 (filter_map portion (zip result.1.now rest)) ≡ fold with_portion room (filter_map portion (zip left.now (segdefs_in (kind_seen rec.now) (contents_seen rec.now) ++ rest))) }
+{
+    let Rec::Segment { width, segment } = rec else {
+        return (room, left);
+    };
+    match left.split_first() {
+        Some((place, rest)) => (room.with_segment(*place, *width, segment), rest),
+        None => (room, left),
+    }
+}
+
+/// The memory with that of a module's segments, which are at these places.
+fn with_module(before: Room, module: &Checked, places: &[Placed]) -> Room
+    ensures { result ≡ fold with_portion before (filter_map portion (zip places.now (segdefs (recs_of «module».now.bytes)))) }
+{
+    let mut room = before;
+    let mut left = places;
+    for (_place, rec) in module.records() {
+        let (next, rest) = take(room, left, &rec);
+        room = next;
+        left = rest;
+    }
+    room
+}
+
+/// The same for a module of a program.
+fn with_member(before: Room, member: &Member<'_>) -> Room
+    ensures { result ≡ fold with_portion before (portions_in member.now) }
+{
+    with_module(before, member.module, member.placement.segments())
+}
+
+/// The memory that the segments of all modules take.
+pub(crate) fn room_of(members: &[Member<'_>]) -> Room
+    ensures end { result.end ≡ memory_end (portions members.now) }
+    ensures stack { result.stack ≡ stack (portions members.now) }
+{
+    let mut room = Room::new();
+    for member in members {
+        room = with_member(room, member);
+    }
+    room
+}

@@ -1,0 +1,70 @@
+//! Worked examples, each evaluated by the check.
+
+ghost use Rattle.std.specs.Prelude.{◌≡◌, [], ◌∷◌, ◌++◌, length, Some, None, Ok, Err, true, false};
+ghost use Rattle.std.specs.List.{repeat};
+ghost use Rattle.omf_check.specs.Threads.{F0, T0};
+ghost use Rattle.omf_check.specs.declared.method.FrameMethod.TheVariants.{Target as F5};
+ghost use Rattle.omf_reloc.specs.Image.{start};
+ghost use Rattle.omf_output.specs.Exe.Exe.{exe};
+ghost use Rattle.omf_output.specs.Exe.Memory.{IsProgram, program};
+ghost use Rattle.omf_output.specs.Exe.Judged.{pieces_move};
+ghost use Rattle.omf_reloc.specs.Plain.{pieces};
+ghost use Rattle.omf_output.specs.Exe.Loading.{loaded};
+ghost use Rattle.omf_output.specs.Exe.Moved.{moved};
+ghost use Rattle.omf_output.specs.Exe.Rows.{at_0, base_under_offset, file, fixup, loads_its_segment, numbered, one_of_two, place};
+ghost use Rattle.omf_output.specs.Exe.Overlaps.{all_words};
+ghost use Rattle.omf_reloc.specs.Inner.Pieces.{single_pieces};
+ghost use Rattle.omf_output.specs.Exe.Relocations.{moves_together, sites};
+
+/// A file of 36 bytes, of which 32 are the header, with one entry: at 1234H, `mov ax, 0` and `retf` become `mov ax, 1234H` and `retf`.
+pub fn one_word()
+    ensures { loaded file 0x1234
+        ≡ record { address = 0x12340; image = 0xB8 ∷ 0x34 ∷ 0x12 ∷ 0xCB ∷ []; code = (0x1234, 0); stack = (0x1234, 256) } }
+{}
+
+/// A file of 52 bytes with an entry in paragraph 1 of the image, whose word 00FFH becomes 0900H at 0801H; CS:IP is 1:2 and SS:SP is 2:FFFEH there.
+pub fn word_with_carry()
+    ensures { loaded (0x4D ∷ 0x5A ∷ 52 ∷ 0 ∷ 1 ∷ 0 ∷ 1 ∷ 0 ∷ 2 ∷ 0 ∷ 0 ∷ 0 ∷ 0xFF ∷ 0xFF ∷ 2 ∷ 0 ∷ 0xFE ∷ 0xFF ∷ 0 ∷ 0 ∷ 2 ∷ 0 ∷ 1 ∷ 0 ∷ 28 ∷ 0 ∷ 0 ∷ 0 ∷ 0 ∷ 0 ∷ 1 ∷ 0 ∷ repeat 16 (0x90 ∷ []) ++ 0xFF ∷ 0 ∷ 0xCB ∷ 0xCC ∷ []) 0x801
+        ≡ record { address = 0x8010; image = repeat 16 (0x90 ∷ []) ++ 0 ∷ 9 ∷ 0xCB ∷ 0xCC ∷ []; code = (0x802, 2); stack = (0x803, 0xFFFE) } }
+{}
+
+/// Two whole pages, with no entry: 1,024 bytes of which 32 are the header.
+pub fn whole_pages()
+    ensures { length (loaded (0x4D ∷ 0x5A ∷ 0 ∷ 0 ∷ 2 ∷ 0 ∷ 0 ∷ 0 ∷ 2 ∷ 0 ∷ 0 ∷ 0 ∷ 0xFF ∷ 0xFF ∷ 0 ∷ 0 ∷ 0 ∷ 0 ∷ 0 ∷ 0 ∷ 0 ∷ 0 ∷ 0 ∷ 0 ∷ 28 ∷ 0 ∷ 0 ∷ 0 ∷ 0 ∷ 0 ∷ 0 ∷ 0 ∷ repeat 1000 (0x90 ∷ [])) 1).image ≡ 992 }
+{}
+
+/// The file of a module that loads its own segment's base; its start is 0:0, and 1234H:0 at 1234H; and it is a program.
+pub fn file_of_a_module()
+    ensures written { exe (program 4 (at_0 ∷ []) (0, 0) (0, 256) 0) ≡ file }
+    ensures begun { start at_0.places loads_its_segment ≡ Some (0, 0) }
+    ensures moved_too { start (moved 0x1234 at_0.movers at_0.places) loads_its_segment ≡ Some (0x1234, 0) }
+    ensures judged { pieces_move at_0.movers (pieces loads_its_segment) ≡ true }
+    ensures fit { IsProgram 4 (at_0 ∷ []) (0, 0) (0, 256) }
+{}
+
+/// A base moves with its frame, whatever its target; a far pointer and an offset move only where both do, or neither; a distance only where
+/// its data do too.
+pub fn what_moves_together()
+    ensures base { moves_together one_of_two 1 (fixup 0xC801 (F0 1) (T0 2)) ≡ true }
+    ensures pointer { moves_together one_of_two 1 (fixup 0xCC01 F5 (T0 1)) ≡ true }
+    ensures mixed_pointer { moves_together one_of_two 1 (fixup 0xCC01 (F0 1) (T0 2)) ≡ false }
+    ensures pointer_that_stays { moves_together one_of_two 1 (fixup 0xCC01 F5 (T0 2)) ≡ true }
+    ensures mixed_offset { moves_together one_of_two 1 (fixup 0xC401 (F0 2) (T0 1)) ≡ false }
+    ensures distance { moves_together one_of_two 1 (fixup 0x8401 F5 (T0 1)) ≡ true }
+    ensures distance_to_what_stays { moves_together one_of_two 1 (fixup 0x8401 F5 (T0 2)) ≡ false }
+{}
+
+/// The words that move: a base at its location, the selector of a far pointer two bytes after its first; none of a frame that stays, of an offset or
+/// of a distance.
+pub fn words_that_move()
+    ensures { sites one_of_two 1 (fixup 0xC801 (F0 1) (T0 2) ∷ fixup 0xCC05 F5 (T0 1) ∷ fixup 0xCC0A F5 (T0 2) ∷ fixup 0xC410 F5 (T0 1) ∷ fixup 0x8412 F5 (T0 1) ∷ []) ≡ 1 ∷ 7 ∷ [] }
+{}
+
+/// The word of a module that loads its own segment, at 0, is at 1. It comes after a word at 4, where the module's data end; its data overlap a word
+/// at 3, and so does the second of two fixups the word of the first.
+pub fn words_in_file_order()
+    ensures first { all_words at_0.movers at_0.places None (numbered 0 (single_pieces loads_its_segment)) [] ≡ Ok (1 ∷ []) }
+    ensures after { all_words at_0.movers at_0.places None (numbered 0 (single_pieces loads_its_segment)) (4 ∷ []) ≡ Ok (4 ∷ 1 ∷ []) }
+    ensures under_data { all_words at_0.movers at_0.places None (numbered 0 (single_pieces loads_its_segment)) (3 ∷ []) ≡ Err (place 1) }
+    ensures under_fixup { all_words at_0.movers at_0.places None (numbered 0 base_under_offset) [] ≡ Err (place 2) }
+{}

@@ -1,5 +1,0 @@
-use Rattle.std.proofs.Common.{◌≡◌, ◌%◌, sum, take}
-use Rattle.omf_rom.proofs.line.byte_sum.Given as goal
-
-abbrev pub invariant-loop-byte : goal.invariant-loop-byte
-invariant-loop-byte l = l.total ≡ sum (take l.byte-index l.bytes) % 256
