@@ -10,3 +10,13 @@ pub mod StartLaws
 pub mod SegmentsLaws
 pub mod SpaceLaws
 pub mod InputLaws
+pub mod DecimalLaws
+pub mod HexLaws
+pub mod NamingLaws
+pub mod SparseLaws
+pub mod LineLaws
+pub mod WalkLaws
+pub mod EachLaws
+pub mod KeyLaws
+pub mod KeyNames
+pub mod ItemLaws

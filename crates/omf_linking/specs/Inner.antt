@@ -4,3 +4,7 @@ pub mod Runs
 pub mod Sweeping
 pub mod Searching
 pub mod Gathering
+pub mod LineParsing
+pub mod Naming
+pub mod Walking
+pub mod Forms

@@ -12,4 +12,5 @@ pub mod LinkedMemory
 pub mod Starts
 pub mod Rows
 pub mod Space
+pub mod Locator
 pub mod Inner

@@ -7,6 +7,7 @@ mod entry;
 mod fault;
 mod files;
 pub mod laws;
+pub mod locator;
 mod memory;
 mod parts;
 mod placing;

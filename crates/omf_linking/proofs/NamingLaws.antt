@@ -1,0 +1,166 @@
+-- Finding what a key names, one after another.
+use Rattle.std.proofs.Common.{◌≡◌, ℕ, zero, suc, ◌+◌, ◌-◌, ◌<◌, ◌≤◌, ◌/◌, ◌%◌, Bool, true, false, List, [], ◌∷◌, ◌++◌, length, drop, get_or, add-one, drop-cons, refl, sym, ap, ap₂, ◌∙◌, arith}
+use Rattle.std.specs.Prelude.{◌==◌, if◌then◌else◌, filter, flat_map, is_some, option_map, slice_get, Option, Some, None, Result, Ok, Err}
+use Rattle.std.specs.List.{count_by, slice_split}
+use Rattle.std.proofs.lemmas.Bool.{eqb-true, true≢false}
+use Rattle.std.proofs.lemmas.List.Splits.{length-slice_split}
+use Rattle.omf_frame.specs.Framing.{Raw}
+use Rattle.omf_frame.specs.declared.fault.Place.{Place}
+use Rattle.omf_records.specs.Values.{Rec}
+use Rattle.omf_check.specs.Listed.{placed_from}
+use Rattle.omf_check.specs.Module.{Module, records_in, typed_modules}
+use Rattle.omf_check.specs.WellFormed.{recs}
+use Rattle.omf_placement.specs.Inner.EntryReading.{words_of}
+use Rattle.omf_placement.specs.Inner.Parsing.{parts_after}
+use Rattle.std.specs.Fmt.{digit_glyph}
+use Rattle.omf_placement.specs.Quoted.{escaped, hex, is_plain}
+use Rattle.omf_linking.proofs.HexLaws.{hex_two}
+use Rattle.omf_linking.specs.Inner.Naming.{one_with}
+use Rattle.omf_linking.specs.Locator.Keys.{count_from, header_name, module_name, the_one}
+use Rattle.omf_linking.specs.Locator.LinkEntries.{Key, Named, class_after, classed_entry, entry_of_parts, frame_in, has_comment, name_entry, named_entry, opens, place_in}
+use Rattle.omf_placement.specs.Entries.{said}
+use Rattle.omf_linking.specs.declared.locator.fault.LineFault.{LineFault}
+use Rattle.omf_linking.specs.declared.locator.fault.LineFault.TheVariants as why
+
+-- the bytes of a name that are left
+pub next_written : (name : List ℕ) (k d : ℕ) → k < length name → flat_map escaped (drop k name) ≡ escaped (get_or name k d) ++ flat_map escaped (drop (k + 1) name)
+next_written name k d h = rw (add-one, drop-cons name k d h) refl
+
+-- the numbers that are left, up to n
+pub count_next : (i n : ℕ) → i < n → count_from i (n - i) ≡ i ∷ count_from (i + 1) (n - (i + 1))
+count_next i n h =
+    let e : n - i ≡ suc (n - (i + 1)) = omega arith in
+    rw e refl
+
+pub count_none : (i n : ℕ) → n ≤ i → count_from i (n - i) ≡ []
+count_none i n h = let e : n - i ≡ 0 = omega arith in rw e refl
+
+the_first : (i : ℕ) (is : List ℕ) → the_one (i ∷ is) ≡ one_with (Some i) is
+the_first i [] = refl
+the_first i (j ∷ is) = refl
+
+module _ (P : ℕ → Bool) (i n : ℕ) (all : Result ℕ LineFault) (more : i < n) where
+  -- a number that is not named
+  pub not_named : (found : Option ℕ) → P i ≡ false → one_with found (filter P (count_from i (n - i))) ≡ all → one_with found (filter P (count_from (i + 1) (n - (i + 1)))) ≡ all
+  not_named found e h =
+      let same : filter P (i ∷ count_from (i + 1) (n - (i + 1))) ≡ filter P (count_from (i + 1) (n - (i + 1))) = rw e refl in
+      ap (one_with found) (sym same) ∙ ap (λ (xs : List ℕ). one_with found (filter P xs)) (sym (count_next i n more)) ∙ h
+
+  -- one that is
+  found_one : P i ≡ true → filter P (count_from i (n - i)) ≡ i ∷ filter P (count_from (i + 1) (n - (i + 1)))
+  found_one e = ap (filter P) (count_next i n more) ∙ rw e refl
+
+  pub first_named : P i ≡ true → one_with None (filter P (count_from i (n - i))) ≡ all → one_with (Some i) (filter P (count_from (i + 1) (n - (i + 1)))) ≡ all
+  first_named e h = sym (the_first i (filter P (count_from (i + 1) (n - (i + 1))))) ∙ ap the_one (sym (found_one e)) ∙ h
+
+  pub second_named : (k : ℕ) → P i ≡ true → one_with (Some k) (filter P (count_from i (n - i))) ≡ all → all ≡ Err why.Several
+  second_named k e h = sym h ∙ ap (one_with (Some k)) (found_one e)
+
+-- with what is found so far
+pub then_first : (P : ℕ → Bool) (i n : ℕ) (all : Result ℕ LineFault) → i < n → (found : Option ℕ) → is_some found ≡ false → P i ≡ true → one_with found (filter P (count_from i (n - i))) ≡ all → one_with (Some i) (filter P (count_from (i + 1) (n - (i + 1)))) ≡ all
+then_first P i n all more None s e h = first_named P i n all more e h
+then_first P i n all more (Some k) s e h = absurd cc
+
+pub then_second : (P : ℕ → Bool) (i n : ℕ) (all : Result ℕ LineFault) → i < n → (found : Option ℕ) → is_some found ≡ true → P i ≡ true → one_with found (filter P (count_from i (n - i))) ≡ all → Err why.Several ≡ all
+then_second P i n all more None s e h = absurd cc
+then_second P i n all more (Some k) s e h = sym (second_named P i n all more k e h)
+
+-- at the end
+pub all_named : (P : ℕ → Bool) (i n : ℕ) (found : Option ℕ) (all : Result ℕ LineFault) → n ≤ i → one_with found (filter P (count_from i (n - i))) ≡ all → one_with found [] ≡ all
+all_named P i n found all e h = ap (λ (xs : List ℕ). one_with found (filter P xs)) (sym (count_none i n e)) ∙ h
+
+-- the name of the first record
+abbrev pub name_in : List (Place × Rec) → List ℕ
+name_in [] = []
+name_in (x ∷ xs) = header_name x.1.contents
+
+pub first_name : (rs : List Raw) (all : List (Place × Rec)) → all ≡ placed_from 0 0 rs → module_name (recs rs) ≡ name_in all
+first_name [] all e = ap name_in (sym e)
+first_name (r ∷ rs) all e = ap name_in (sym e)
+
+-- modules by their numbers
+pub next_module : (ms : List Module) (j : ℕ) (m : Module) → m ≡ get_or ms j m → j < length ms → slice_get (typed_modules ms) j ≡ Some (recs (records_in m.bytes))
+next_module [] j m e h = absurd (omega (arith, h))
+next_module (x ∷ ms) zero m e h = ap (λ (y : Module). Some (recs (records_in y.bytes))) (sym e)
+next_module (x ∷ ms) (suc j) m e h = next_module ms j m e (omega (arith, h))
+
+-- ---- words
+
+module _ (a b s : List ℕ) where
+  pub no_frame_more : (more : List (List ℕ)) (n : ℕ) → length more ≡ n + 1 → frame_in (a ∷ b ∷ more) ≡ None
+  no_frame_more [] n e = absurd (omega arith)
+  no_frame_more (w ∷ ws) n e = refl
+
+  pub no_place_more : (more : List (List ℕ)) (n : ℕ) → length more ≡ n + 1 → place_in (a ∷ b ∷ s ∷ more) ≡ None
+  no_place_more [] n e = absurd (omega arith)
+  no_place_more (w ∷ ws) n e = refl
+
+pub no_opens_more : (k : Key) (ws : List (List ℕ)) (n : ℕ) → length ws ≡ n + 1 → opens k ws ≡ None
+no_opens_more k [] n e = absurd (omega arith)
+no_opens_more k (w ∷ ws) n e = refl
+
+pub words_some : (text : List ℕ) → length (words_of text) ≡ count_by (λ c. c == 32) text + 1
+words_some text = length-slice_split (λ c. c == 32) text
+
+pub parts_some : {A : Type 0} (f : A → List ℕ) (o : Option A) → is_some o ≡ true → (n : ℕ) × (length (parts_after 32 (option_map f o)) ≡ n + 1)
+parts_some f None e = absurd cc
+parts_some f (Some t) e = (count_by (λ c. c == 32) (f t), length-slice_split (λ c. c == 32) (f t))
+
+module _ (ws a_rest b_rest : List (List ℕ)) (a b : List ℕ) (one : ws ≡ a ∷ a_rest) (two : a_rest ≡ b ∷ b_rest) where
+  pub too_many_frame : (n : ℕ) → length b_rest ≡ n + 1 → None ≡ frame_in ws
+  too_many_frame n e = sym (ap frame_in (one ∙ ap (λ (t : List (List ℕ)). a ∷ t) two) ∙ no_frame_more a b [] b_rest n e)
+
+  pub too_many_place : (s : List ℕ) (s_rest : List (List ℕ)) → b_rest ≡ s ∷ s_rest → (n : ℕ) → length s_rest ≡ n + 1 → None ≡ place_in ws
+  too_many_place s s_rest three n e = sym (ap place_in (one ∙ ap (λ (t : List (List ℕ)). a ∷ t) (two ∙ ap (λ (t : List (List ℕ)). b ∷ t) three)) ∙ no_place_more a b s s_rest n e)
+
+-- ---- parts of a line between its quotes
+
+-- more parts after a class, and no comment before them
+no_class : (letter name class rest : List ℕ) (more : List (List ℕ)) (n : ℕ) → length more ≡ n + 1 → has_comment rest ≡ false → classed_entry letter name (class ∷ rest ∷ more) ≡ None
+no_class letter name class rest [] n e h = absurd (omega arith)
+no_class letter name class rest (m ∷ more) n e h = rw h refl
+
+pub class_open : (letter name class rest : List ℕ) (parts tail more : List (List ℕ)) (n : ℕ) → parts ≡ class ∷ tail → tail ≡ rest ∷ more → length more ≡ n + 1 → has_comment rest ≡ false → None ≡ classed_entry letter name parts
+class_open letter name class rest parts tail more n a b e h = sym (ap (classed_entry letter name) (a ∙ ap (λ (t : List (List ℕ)). class ∷ t) b) ∙ no_class letter name class rest more n e h)
+
+-- more parts after a name
+some_after : (letter name rest : List ℕ) (more : List (List ℕ)) (n : ℕ) → length more ≡ n + 1
+    → named_entry letter (name ∷ rest ∷ more) ≡ (if has_comment rest then name_entry letter (Named name) name rest else class_after letter name (said rest) more)
+some_after letter name rest [] n e = absurd (omega arith)
+some_after letter name rest (m ∷ more) n e = refl
+
+not_blank : (letter name text : List ℕ) (more : List (List ℕ)) → (length text == 0) ≡ false → class_after letter name text more ≡ None
+not_blank letter name [] more e = absurd (true≢false e)
+not_blank letter name (c ∷ cs) more e = refl
+
+is_blank : (letter name text : List ℕ) (more : List (List ℕ)) → (length text == 0) ≡ true → class_after letter name text more ≡ classed_entry letter name more
+is_blank letter name [] more e = refl
+is_blank letter name (c ∷ cs) more e = let none : length (c ∷ cs) ≡ 0 = eqb-true (length (c ∷ cs)) 0 e in absurd (omega arith)
+
+module _ (letter name rest : List ℕ) (parts tail more : List (List ℕ)) (n : ℕ) (one : parts ≡ name ∷ tail) (two : tail ≡ rest ∷ more) (some : length more ≡ n + 1) (plain : has_comment rest ≡ false) where
+  after_name : named_entry letter parts ≡ class_after letter name (said rest) more
+  after_name = ap (named_entry letter) (one ∙ ap (λ (t : List (List ℕ)). name ∷ t) two) ∙ some_after letter name rest more n some ∙ rw plain refl
+
+  pub name_then_words : (length (said rest) == 0) ≡ false → None ≡ named_entry letter parts
+  name_then_words e = sym (after_name ∙ not_blank letter name (said rest) more e)
+
+  pub name_then_class : (length (said rest) == 0) ≡ true → named_entry letter parts ≡ classed_entry letter name more
+  name_then_class e = after_name ∙ is_blank letter name (said rest) more e
+
+pub line_with_name : (front : List ℕ) (parts more : List (List ℕ)) (n : ℕ) → parts ≡ front ∷ more → length more ≡ n + 1 → has_comment front ≡ false → entry_of_parts parts ≡ named_entry (said front) more
+line_with_name front parts [] n e s h = absurd (omega arith)
+line_with_name front parts (m ∷ more) n e s h = ap entry_of_parts e ∙ rw h refl
+
+pub quote_parts : (text : List ℕ) → length (slice_split (λ c. c == 34) text) ≡ count_by (λ c. c == 34) text + 1
+quote_parts text = length-slice_split (λ c. c == 34) text
+
+pub quotes_some : {A : Type 0} (f : A → List ℕ) (o : Option A) → is_some o ≡ true → (n : ℕ) × (length (parts_after 34 (option_map f o)) ≡ n + 1)
+quotes_some f None e = absurd cc
+quotes_some f (Some t) e = (count_by (λ c. c == 34) (f t), length-slice_split (λ c. c == 34) (f t))
+
+-- a byte that is not plain, as it is written
+pub escaped_is : (b high low : ℕ) → b < 256 → is_plain b ≡ false → high ≡ digit_glyph true (b / 16) → low ≡ digit_glyph true (b % 16) → escaped b ≡ 92 ∷ 120 ∷ high ∷ low ∷ []
+escaped_is b high low small plain h l =
+    let digits : high ∷ low ∷ [] ≡ hex 2 b = ap₂ (λ x y. x ∷ y ∷ []) h l ∙ hex_two b small in
+    let cases : escaped b ≡ 92 ∷ 120 ∷ hex 2 b = rw plain refl in
+    cases ∙ ap (λ (t : List ℕ). 92 ∷ 120 ∷ t) (sym digits)

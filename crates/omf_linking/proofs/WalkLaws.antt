@@ -1,0 +1,159 @@
+-- The item of a line, from what is kept of the lines before it.
+use Rattle.std.proofs.Common.{◌≡◌, ℕ, zero, suc, cond, get_or, ◌+◌, ◌-◌, ◌<◌, ◌≤◌, Bool, true, false, List, [], ◌∷◌, ◌++◌, length, append-nil, map, set, refl, sym, ap, ap₂, ◌∙◌, arith, subst}
+use Rattle.std.specs.Prelude.{◌==◌, filter, filter_map, option_map, option_and_then, slice_get, Option, Some, None, Result, Ok, Err}
+use Rattle.std.specs.List.{enumerate_from, last_or, list_any}
+use Rattle.std.proofs.lemmas.List.{length-map}
+use Rattle.std.proofs.lemmas.List.FromFn.{length-enumerate_from}
+use Rattle.std.proofs.lemmas.List.Elements.{filter_map-append}
+use Rattle.std.proofs.lemmas.Option.{get_or_from_slice_get, slice_get_past}
+use Rattle.omf_frame.specs.Bytes.{last}
+use Rattle.omf_records.specs.Values.{Rec}
+use Rattle.omf_records.specs.Inner.Seen.{map_ok}
+use Rattle.omf_reloc.specs.Reach.{entries}
+use Rattle.omf_reloc.specs.declared.fault.Kind.{Kind}
+use Rattle.omf_linking.specs.Inner.Walking.{AreLines, IsGiven, IsTaken}
+use Rattle.omf_linking.specs.Locator.Items.{Item, Nothing, Opened, Given, current, is_again, item_of, item_in, kind_of, module_at, opened, unless_again}
+use Rattle.omf_linking.specs.Locator.Keys.{count_from, entry_named, module_named, names_entry, the_one}
+use Rattle.omf_linking.specs.Locator.LinkEntries.{Key, Target, LinkEntry, Opens, Gives}
+use Rattle.omf_linking.specs.Locator.Sparse.{Sparse, sparse_all, sparse_of}
+use Rattle.omf_linking.specs.declared.locator.fault.LineFault.{LineFault}
+use Rattle.omf_linking.specs.declared.locator.fault.LineFault.TheVariants as why
+use Rattle.omf_linking.specs.declared.locator.fault.LocatorFault.{LocatorFault}
+use Rattle.omf_linking.specs.declared.locator.fault.LocatorFault.TheVariants as fault
+use Rattle.omf_linking.specs.declared.locator.lines.Lines.{Lines}
+use Rattle.omf_linking.proofs.SparseLaws.{all_nothing_more, all_set, other_module, slice_get_all}
+
+-- the last of a list
+last_after : (x : ℕ) (xs : List ℕ) → last_or (Some x) xs ≡ slice_get (x ∷ xs) (length xs)
+last_after x [] = refl
+last_after x (y ∷ ys) = last_after y ys
+
+last_is : (xs : List ℕ) → slice_get xs (length xs - 1) ≡ last xs
+last_is [] = refl
+last_is (x ∷ xs) = let e : suc (length xs) - 1 ≡ length xs = omega arith in rw e (sym (last_after x xs))
+
+pub current_is : (ms : List (List Rec)) (s : Lines) (items : List Item) (o : Option ℕ) → AreLines ms s items → o ≡ slice_get s.opened.items (length s.opened.items - 1) → current items ≡ o
+current_is ms s items o at e = ap last (sym at.opened_is) ∙ sym (last_is s.opened.items) ∙ sym e
+
+-- a fault of a line
+pub fault_taken : (ms : List (List Rec)) (new : Lines) (items : List Item) (n : ℕ) (w : LineFault) (r : Result Item LineFault) (told : Result (Unit {0}) LocatorFault) → told ≡ Err (fault.Line n w) → r ≡ Err w → IsTaken ms new items n r told
+fault_taken ms new items n w r told e is = subst (λ (x : Result (Unit {0}) LocatorFault). IsTaken ms new items n r x) (sym e) (refl, is)
+
+-- ---- a module begins
+
+module _ (ms : List (List Rec)) (items : List Item) (k : Key) (j : ℕ) (named : module_named ms k ≡ Ok j) where
+  opens_by : item_of ms items (Some (Opens k)) ≡ unless_again items (Ok (Opened j))
+  opens_by = ap (λ (r : Result ℕ LineFault). unless_again items (map_ok Opened r)) named
+
+  pub opens_again : list_any (λ i. i == j) (filter_map opened items) ≡ true → item_of ms items (Some (Opens k)) ≡ Err why.Twice
+  opens_again e = opens_by ∙ rw e refl
+
+  pub opens_first : list_any (λ i. i == j) (filter_map opened items) ≡ false → item_of ms items (Some (Opens k)) ≡ Ok (Opened j)
+  opens_first e = opens_by ∙ rw e refl
+
+pub opens_none : (ms : List (List Rec)) (items : List Item) (k : Key) (w : LineFault) → module_named ms k ≡ Err w → item_of ms items (Some (Opens k)) ≡ Err w
+opens_none ms items k w e = ap (λ (r : Result ℕ LineFault). unless_again items (map_ok Opened r)) e
+
+pub more_opened : (ms : List (List Rec)) (s new : Lines) (items : List Item) (j : ℕ) → AreLines ms s items → new.opened.items ≡ s.opened.items ++ j ∷ [] → new.given.items ≡ s.given.items → AreLines ms new (items ++ Opened j ∷ [])
+more_opened ms s new items j at o g = record {
+  opened_is = o ∙ ap (λ (xs : List ℕ). xs ++ j ∷ []) at.opened_is ∙ sym (filter_map-append opened items (Opened j ∷ []));
+  given_is = g ∙ at.given_is ∙ sym (all_nothing_more items (Opened j) ms refl refl refl);
+}
+
+-- a line that does nothing
+pub more_nothing : (ms : List (List Rec)) (s : Lines) (items : List Item) → AreLines ms s items → AreLines ms s (items ++ Nothing ∷ [])
+more_nothing ms s items at = record {
+  opened_is = at.opened_is ∙ sym (same_opened items Nothing refl);
+  given_is = at.given_is ∙ sym (all_nothing_more items Nothing ms refl refl refl);
+}
+  where
+    same_opened : (xs : List Item) (x : Item) → filter_map opened (x ∷ []) ≡ [] → filter_map opened (xs ++ x ∷ []) ≡ filter_map opened xs
+    same_opened xs x e = filter_map-append opened xs (x ∷ []) ∙ ap (λ (ys : List ℕ). filter_map opened xs ++ ys) e ∙ append-nil (filter_map opened xs)
+
+-- ---- an entry is given something
+
+module _ (ms : List (List Rec)) (items : List Item) (k : Key) (t : Target) (j : ℕ) (now : current items ≡ Some j) where
+  gives_by : item_of ms items (Some (Gives k t)) ≡ item_in items (module_at ms j) k t
+  gives_by = ap (λ (o : Option ℕ). item_in items (option_and_then (module_at ms) o) k t) now
+
+  pub gives_far : length ms ≤ j → item_of ms items (Some (Gives k t)) ≡ Err why.NoModule
+  gives_far far = gives_by ∙ ap (λ (o : Option (List Rec)). item_in items (option_map (λ m. (j, m)) o) k t) (slice_get_past ms j far)
+
+  module _ (m : List Rec) (found : slice_get ms j ≡ Some m) where
+    gives_in : item_of ms items (Some (Gives k t)) ≡ unless_again items (map_ok (λ i. Given j i t) (entry_named m (kind_of t) k))
+    gives_in = gives_by ∙ ap (λ (o : Option (List Rec)). item_in items (option_map (λ x. (j, x)) o) k t) found
+
+    pub gives_none : (w : LineFault) → entry_named m (kind_of t) k ≡ Err w → item_of ms items (Some (Gives k t)) ≡ Err w
+    gives_none w e = gives_in ∙ ap (λ (r : Result ℕ LineFault). unless_again items (map_ok (λ i. Given j i t) r)) e
+
+    module _ (i : ℕ) (named : entry_named m (kind_of t) k ≡ Ok i) where
+      gives_one : item_of ms items (Some (Gives k t)) ≡ unless_again items (Ok (Given j i t))
+      gives_one = gives_in ∙ ap (λ (r : Result ℕ LineFault). unless_again items (map_ok (λ x. Given j x t) r)) named
+
+      pub gives_again : is_again items (Given j i t) ≡ true → item_of ms items (Some (Gives k t)) ≡ Err why.Twice
+      gives_again e = gives_one ∙ unless_true items (Given j i t) e
+        where
+          unless_true : (xs : List Item) (x : Item) → is_again xs x ≡ true → unless_again xs (Ok x) ≡ Err why.Twice
+          unless_true xs x e = rw e refl
+
+      pub gives_first : is_again items (Given j i t) ≡ false → item_of ms items (Some (Gives k t)) ≡ Ok (Given j i t)
+      gives_first e = gives_one ∙ unless_false items (Given j i t) e
+        where
+          unless_false : (xs : List Item) (x : Item) → is_again xs x ≡ false → unless_again xs (Ok x) ≡ Ok x
+          unless_false xs x e = rw e refl
+
+all_put : (items : List Item) (j i : ℕ) (t : Target) (ms : List (List Rec)) (m : List Rec) → slice_get ms j ≡ Some m → sparse_all ms (items ++ Given j i t ∷ []) ≡ set (sparse_all ms items) j (sparse_of (items ++ Given j i t ∷ []) (j, m))
+all_put items j i t ms m found =
+    let z : j - 0 ≡ j = omega arith in
+    let all = all_set (sparse_of items) (sparse_of (items ++ Given j i t ∷ [])) j (λ k n e. other_module items j i t k n e) 0 ms m (sparse_of (items ++ Given j i t ∷ []) (j, m)) (omega arith) (rw z found) refl in
+    all ∙ ap (λ (k : ℕ). set (sparse_all ms items) k (sparse_of (items ++ Given j i t ∷ []) (j, m))) z
+
+-- one module's tables after the line
+pub more_given : (ms : List (List Rec)) (s new : Lines) (items : List Item) (j i : ℕ) (t : Target) (m : List Rec) (v : Sparse) → AreLines ms s items → slice_get ms j ≡ Some m → v ≡ sparse_of (items ++ Given j i t ∷ []) (j, m)
+    → new.opened.items ≡ s.opened.items → new.given.items ≡ set s.given.items j v → AreLines ms new (items ++ Given j i t ∷ [])
+more_given ms s new items j i t m v at found is o g = record {
+  opened_is = o ∙ at.opened_is ∙ sym (same_opened items (Given j i t) refl);
+  given_is = g ∙ ap₂ (λ (xs : List Sparse) (x : Sparse). set xs j x) at.given_is is
+      ∙ sym (all_put items j i t ms m found);
+}
+  where
+    same_opened : (xs : List Item) (x : Item) → filter_map opened (x ∷ []) ≡ [] → filter_map opened (xs ++ x ∷ []) ≡ filter_map opened xs
+    same_opened xs x e = filter_map-append opened xs (x ∷ []) ∙ ap (λ (ys : List ℕ). filter_map opened xs ++ ys) e ∙ append-nil (filter_map opened xs)
+
+pub as_many_lines : (ms : List (List Rec)) (s : Lines) (items : List Item) → AreLines ms s items → length s.given.items ≡ length ms
+as_many_lines ms s items at = ap length at.given_is ∙ length-map (enumerate_from 0 ms) (sparse_of items) ∙ length-enumerate_from 0 ms
+
+-- ---- the tables of the module, and the index that a key names
+
+pub own_tables : (ms : List (List Rec)) (s : Lines) (items : List Item) (j : ℕ) (m : List Rec) (x : Sparse) → AreLines ms s items → slice_get ms j ≡ Some m → x ≡ get_or s.given.items j x → x ≡ sparse_of items (j, m)
+own_tables ms s items j m x at found e =
+    let z : 0 + j ≡ j = omega arith in
+    let own : slice_get (sparse_all ms items) j ≡ Some (sparse_of items (0 + j, m)) = slice_get_all (sparse_of items) 0 j ms m found in
+    let here : slice_get s.given.items j ≡ Some (sparse_of items (j, m)) = ap (λ (xs : List Sparse). slice_get xs j) at.given_is ∙ own ∙ ap (λ (k : ℕ). Some (sparse_of items (k, m))) z in
+    e ∙ get_or_from_slice_get s.given.items j (sparse_of items (j, m)) x here
+
+module _ (m : ℕ × List Rec) (i : ℕ) (t : Target) (old new : Sparse) (b : Bool) (given : IsGiven m i t old new b) (items : List Item) (is : old ≡ sparse_of items m) where
+  pub not_given : b ≡ false → 1 ≤ i → i ≤ entries m.1 (kind_of t) → is_again items (Given m.0 i t) ≡ true
+  not_given e low high = let g : IsGiven m i t old new false = subst (λ (x : Bool). IsGiven m i t old new x) e given in g items is low high
+
+  pub now_given : b ≡ true → (is_again items (Given m.0 i t) ≡ false) × (new ≡ sparse_of (items ++ Given m.0 i t ∷ []) m)
+  now_given e = let g : IsGiven m i t old new true = subst (λ (x : Bool). IsGiven m i t old new x) e given in g items is
+
+in_count : (P : ℕ → Bool) (first n i : ℕ) (rest : List ℕ) → filter P (count_from first n) ≡ i ∷ rest → (first ≤ i) × (i < first + n)
+in_count P first zero i rest e = absurd cc
+in_count P first (suc n) i rest e = by (P first) (λ g. in_count P (first + 1) n i rest g) e
+  where
+    by : (b : Bool) → (filter P (count_from (first + 1) n) ≡ i ∷ rest → (first + 1 ≤ i) × (i < first + 1 + n)) → cond b (first ∷ filter P (count_from (first + 1) n)) (filter P (count_from (first + 1) n)) ≡ i ∷ rest → (first ≤ i) × (i < first + suc n)
+    by true h g = let same : first ≡ i = cc in (omega arith, omega arith)
+    by false h g = let k = h g in (omega (arith, k.0), omega (arith, k.1))
+
+one_of : (xs : List ℕ) (i : ℕ) → the_one xs ≡ Ok i → (rest : List ℕ) × (xs ≡ i ∷ rest)
+one_of [] i e = absurd cc
+one_of (x ∷ []) i e = let same : x ≡ i = cc in ([], ap (λ (y : ℕ). y ∷ []) same)
+one_of (x ∷ y ∷ zs) i e = absurd cc
+
+pub named_within : (m : List Rec) (kind : Kind) (k : Key) (i : ℕ) → entry_named m kind k ≡ Ok i → (1 ≤ i) × (i ≤ entries m kind)
+named_within m kind k i e =
+    let f = one_of (filter (names_entry m k kind) (count_from 1 (entries m kind))) i e in
+    let h = in_count (names_entry m k kind) 1 (entries m kind) i f.0 f.1 in
+    (h.0, omega (arith, h.1))

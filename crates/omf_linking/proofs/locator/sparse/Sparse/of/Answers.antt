@@ -1,0 +1,15 @@
+use Rattle.std.proofs.Common.{◌≡◌, [], ap, ◌∙◌, ℕ, List}
+use Rattle.std.specs.Prelude.{None, Option, replicate}
+use Rattle.omf_check.specs.Module.{records_in}
+use Rattle.omf_check.specs.WellFormed.{recs}
+use Rattle.omf_placement.specs.declared.frame.Frame.{Frame}
+use Rattle.omf_placement.specs.declared.frame.Placed.{Placed}
+use Rattle.omf_linking.proofs.SparseLaws.{nothing_given}
+use Rattle.omf_linking.proofs.locator.sparse.Sparse.of.Goals as goal
+
+pub returns : goal.returns
+returns c j =
+    nothing_given j (recs (records_in c.args.«module».now.bytes)) _ _ _
+    (c.in_ok-no_places.ensures.none ∙ ap (λ (n : ℕ). replicate n None) c.segments.ensures.count)
+    (c.in_ok-no_frames.ensures.none ∙ ap (λ (n : ℕ). replicate n None) c.groups.ensures.count)
+    (c.in_ok-no_places-2.ensures.none ∙ ap (λ (n : ℕ). replicate n None) c.externals.ensures.count)

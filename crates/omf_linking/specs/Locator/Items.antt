@@ -1,0 +1,94 @@
+-- The lines of a locator's text, each by the modules and by the lines before it (this profile's rule).
+use Rattle.std.specs.Prelude.{ℕ, List, [], ◌∷◌, ◌++◌, length, map, filter_map, find, Bool, false, ◌==◌, ◌&&◌, Option, Some, None, option_map, option_and_then, is_some, slice_get, Result, Ok, Err, if◌then◌else◌}
+use Rattle.std.specs.List.{list_any}
+use Rattle.omf_frame.specs.Bytes.{last}
+use Rattle.omf_records.specs.Values.{Rec}
+use Rattle.omf_records.specs.Inner.Seen.{map_ok}
+use Rattle.omf_placement.specs.declared.frame.Frame.{Frame}
+use Rattle.omf_placement.specs.declared.frame.Placed.{Placed}
+use Rattle.omf_reloc.specs.declared.fault.Kind.{Kind}
+use Rattle.omf_reloc.specs.declared.fault.Kind.TheVariants as kinds
+use Rattle.omf_linking.specs.Locator.Keys.{entry_named, module_named}
+use Rattle.omf_linking.specs.Locator.LinkEntries.{Key, Target, SegmentPlace, GroupFrame, ExternalPlace, LinkEntry, Blank, Opens, Gives, Line}
+use Rattle.omf_linking.specs.declared.locator.fault.LineFault.{LineFault}
+use Rattle.omf_linking.specs.declared.locator.fault.LineFault.TheVariants as why
+use Rattle.omf_linking.specs.declared.locator.fault.LocatorFault.{LocatorFault}
+use Rattle.omf_linking.specs.declared.locator.fault.LocatorFault.TheVariants as fault
+
+-- What a line does: nothing; it begins the lines of a module, by its number from 0; or it gives something to an entry of a module, by its index from 1.
+pub data Item : Type 0 where
+  Nothing : Item
+  Opened : ℕ → Item
+  Given : ℕ → ℕ → Target → Item
+
+-- The modules that items begin, and the one whose lines follow: that of the last `M` line.
+abbrev pub opened : Item → Option ℕ
+opened (Opened j) = Some j
+opened _ = None
+
+abbrev pub current : List Item → Option ℕ
+current items = last (filter_map opened items)
+
+-- What items give: the module and the index of an entry, and its place or its frame.
+abbrev pub segment_given : Item → Option ((ℕ × ℕ) × Placed)
+segment_given (Given j i (SegmentPlace p)) = Some ((j, i), p)
+segment_given _ = None
+
+abbrev pub group_given : Item → Option ((ℕ × ℕ) × Option Frame)
+group_given (Given j i (GroupFrame f)) = Some ((j, i), f)
+group_given _ = None
+
+abbrev pub external_given : Item → Option ((ℕ × ℕ) × Placed)
+external_given (Given j i (ExternalPlace p)) = Some ((j, i), p)
+external_given _ = None
+
+-- What is given to an entry.
+abbrev pub given_to : {V : Type 0} → List ((ℕ × ℕ) × V) → ℕ → ℕ → Option V
+given_to gs j i = option_map (λ g. g.1) (find (λ g. (g.0.0 == j) && (g.0.1 == i)) gs)
+
+abbrev pub segment_place : List Item → ℕ → ℕ → Option Placed
+segment_place items j i = given_to (filter_map segment_given items) j i
+
+abbrev pub group_frame : List Item → ℕ → ℕ → Option (Option Frame)
+group_frame items j i = given_to (filter_map group_given items) j i
+
+abbrev pub external_place : List Item → ℕ → ℕ → Option Placed
+external_place items j i = given_to (filter_map external_given items) j i
+
+-- A line was before this one for the same module, or gives something to the same entry.
+abbrev pub is_again : List Item → Item → Bool
+is_again before Nothing = false
+is_again before (Opened j) = list_any (λ k. k == j) (filter_map opened before)
+is_again before (Given j i (SegmentPlace p)) = is_some (segment_place before j i)
+is_again before (Given j i (GroupFrame f)) = is_some (group_frame before j i)
+is_again before (Given j i (ExternalPlace p)) = is_some (external_place before j i)
+
+abbrev pub unless_again : List Item → Result Item LineFault → Result Item LineFault
+unless_again before (Ok x) = if is_again before x then Err why.Twice else Ok x
+unless_again before (Err w) = Err w
+
+-- The kind of what is given something.
+abbrev pub kind_of : Target → Kind
+kind_of (SegmentPlace p) = kinds.Segment
+kind_of (GroupFrame f) = kinds.Group
+kind_of (ExternalPlace p) = kinds.External
+
+-- The module that a line is for: its number, and its records.
+abbrev pub module_at : List (List Rec) → ℕ → Option (ℕ × List Rec)
+module_at ms j = option_map (λ m. (j, m)) (slice_get ms j)
+
+-- The item of a line after others, by its entry; or why it has none.
+abbrev pub item_in : List Item → Option (ℕ × List Rec) → Key → Target → Result Item LineFault
+item_in before None k t = Err why.NoModule
+item_in before (Some m) k t = unless_again before (map_ok (λ i. Given m.0 i t) (entry_named m.1 (kind_of t) k))
+
+abbrev pub item_of : List (List Rec) → List Item → Option LinkEntry → Result Item LineFault
+item_of ms before None = Err why.NotUnderstood
+item_of ms before (Some Blank) = Ok Nothing
+item_of ms before (Some (Opens k)) = unless_again before (map_ok Opened (module_named ms k))
+item_of ms before (Some (Gives k t)) = item_in before (option_and_then (module_at ms) (current before)) k t
+
+-- The items of lines after others; or the first line that has none, and why.
+abbrev pub items_after : List (List Rec) → List Item → List Line → Result (List Item) LocatorFault
+items_after ms before [] = Ok before
+items_after ms before (l ∷ ls) = elim (item_of ms before l.1) [ Ok x ↦ items_after ms (before ++ x ∷ []) ls | Err w ↦ Err (fault.Line l.0 w) ]

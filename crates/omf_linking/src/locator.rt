@@ -1,0 +1,31 @@
+//! Placements by names: a text places the segments, groups and externals of several modules, and names each of them.
+//!
+//! ```text
+//! M "main.asm"                 ; the lines after it are for this module, up to the next M
+//! S "_TEXT" 7C00 0 0           ; a segment: address, base of the frame, selector
+//! S "_DATA" "DATA" 7C40 real   ; the segment of this name and class; its real-mode frame
+//! G "DGROUP" 7C40 7C4          ; a group: base and selector; or `real` for the frame of its lowest member
+//! X "_printf" FFFF0 F0000 F000 ; an external
+//! M #2                         ; the second module of the input
+//! S #1 7D00 real               ; its first segment
+//! ```
+//!
+//! A key, `"NAME"`, `"NAME" "CLASS"` or `#N`, names exactly one module of the input, or one entry of the module's table; the order of the lines
+//! of a module and of the modules is free. A text need not place every entry: `sparse_places` returns what it gives each module, entry by entry.
+//!
+//! Module `forms` has the keys for a draft of such a text: a name that no other entry has, else a segment's name and class, else `#N`. By the laws of module `laws`
+//! each of them names its entry and no other.
+mod entry;
+mod fault;
+pub mod forms;
+mod keys;
+pub mod laws;
+mod lines;
+pub mod rows;
+mod sparse;
+
+pub use entry::{Key, LinkEntry, Target, link_entry_on};
+pub use fault::{LineFault, LocatorFault};
+pub use keys::{class_name, entry_count, entry_name, entry_named, module_name, module_named};
+pub use lines::sparse_places;
+pub use sparse::Sparse;

@@ -1,0 +1,269 @@
+//! The entries of lines of a locator's text (this profile's rule).
+
+ghost use Rattle.std.specs.Prelude.{◌≡◌, ◌∷◌, ◌==◌, ◌<◌, [], option_map, length, IfSome};
+ghost use Rattle.std.specs.List.{list_all, list_any, slice_split};
+ghost use Rattle.omf_placement.specs.Inner.EntryReading.{frame_of, real_of, words_of};
+ghost use Rattle.omf_linking.specs.Locator.LinkEntries.{class_after, classed_entry, decimal_of, entry_by, entry_of_parts, frame_in, has_comment, is_printed, link_entry_on, name_entry, named_entry, number_of, numbered_entry, opens, place_in, unnamed_entry, words_in};
+ghost use Rattle.omf_linking.specs.Inner.LineParsing.{key_seen, seen, target_seen, words_left};
+
+use omf_placement::cut::cut;
+use omf_placement::{Frame, Placed, hexadecimal, placed_of, said_by};
+
+/// A key: what names a module, or an entry of a module's table.
+#[derive(Clone, Copy)]
+pub enum Key<'a> {
+    /// `"NAME"`: the name, as the programs print it in quotes.
+    Named(&'a [u8]),
+    /// `"NAME" "CLASS"`: the names of a segment and of its class.
+    OfClass(&'a [u8], &'a [u8]),
+    /// `#N`: the number, from 1.
+    Numbered(u32),
+}
+
+/// What a line gives.
+#[derive(Clone, Copy)]
+pub enum Target {
+    /// The place of a segment.
+    Segment(Placed),
+    /// The frame of a group; none if it is that of its lowest member.
+    Group(Option<Frame>),
+    /// The place of an external.
+    External(Placed),
+}
+
+/// The entry of a line.
+#[derive(Clone, Copy)]
+pub enum LinkEntry<'a> {
+    /// A blank line, or a comment.
+    Blank,
+    /// `M key`: the lines of a module follow.
+    Opens(Key<'a>),
+    /// `S key ..`, `G key ..` or `X key ..`: what an entry of the module is given.
+    Gives(Key<'a>, Target),
+}
+
+/// Parses a number of 1 to 9 decimal digits.
+fn decimal_of(word: &[u8]) -> Option<u32>
+    ensures { result ≡ decimal_of word.now }
+{
+    if word.is_empty() || word.len() > 9 {
+        return None;
+    }
+    let mut value = 0u32;
+    let mut left = word;
+    while let Some((digit, rest)) = left.split_first() {
+        value = value * 10 + char::from(*digit).to_digit(10)?;
+        left = rest;
+    }
+    Some(value)
+}
+
+/// Parses `#` and a decimal number.
+fn number_of(word: &[u8]) -> Option<u32>
+    ensures { result ≡ number_of word.now }
+{
+    match word {
+        [b'#', digits @ ..] => decimal_of(digits),
+        _ => None,
+    }
+}
+
+/// Parses a place in the real-mode frame of its address.
+fn real_of(address: &[u8]) -> Option<Placed>
+    ensures { result ≡ real_of address.now }
+{
+    let address = hexadecimal(address, 8)?;
+    let frame = Frame::real(address)?;
+    Some(Placed { address, frame })
+}
+
+/// Parses a frame: its base and its selector.
+fn frame_of(base: &[u8], selector: &[u8]) -> Option<Frame>
+    ensures { result ≡ frame_of base.now selector.now }
+{
+    let base = hexadecimal(base, 8)?;
+    let selector = hexadecimal(selector, 4)? as u16;
+    Some(Frame { base, selector })
+}
+
+/// Parses a place: `address base selector`, or `address real`.
+fn place_in(words: Option<&[u8]>) -> Option<Placed>
+    ensures { result ≡ place_in (words_left words.entry) }
+{
+    let (address, more) = cut(words?, b' ');
+    let (second, more) = cut(more?, b' ');
+    let Some(more) = more else {
+        return if second == b"real".as_slice() {
+            real_of(address)
+        } else {
+            None
+        };
+    };
+    let (third, more) = cut(more, b' ');
+    if more.is_some() {
+        return None;
+    }
+    placed_of(address, second, third)
+}
+
+/// Parses a frame: `base selector`, or `real` for none.
+fn frame_in(words: Option<&[u8]>) -> Option<Option<Frame>>
+    ensures { result ≡ frame_in (words_left words.entry) }
+{
+    let (first, more) = cut(words?, b' ');
+    let Some(more) = more else {
+        return if first == b"real".as_slice() {
+            Some(None)
+        } else {
+            None
+        };
+    };
+    let (second, more) = cut(more, b' ');
+    if more.is_some() {
+        return None;
+    }
+    Some(Some(frame_of(first, second)?))
+}
+
+/// Returns the entry of an `M` line, after whose key nothing follows.
+fn opens<'a>(key: Key<'a>, words: Option<&[u8]>) -> Option<LinkEntry<'a>>
+    ensures { option_map seen result ≡ opens (key_seen key.entry) (words_left words.entry) }
+{
+    match words {
+        None => Some(LinkEntry::Opens(key)),
+        Some(_) => None,
+    }
+}
+
+/// Returns the entry of a letter, a key and the words after it, if there are any.
+fn entry_by<'a>(letter: &[u8], key: Key<'a>, words: Option<&[u8]>) -> Option<LinkEntry<'a>>
+    ensures { option_map seen result ≡ entry_by letter.now (key_seen key.entry) (words_left words.entry) }
+{
+    if letter == b"M".as_slice() {
+        return opens(key, words);
+    }
+    if letter == b"S".as_slice() {
+        return Some(LinkEntry::Gives(key, Target::Segment(place_in(words)?)));
+    }
+    if letter == b"G".as_slice() {
+        return Some(LinkEntry::Gives(key, Target::Group(frame_in(words)?)));
+    }
+    if letter == b"X".as_slice() {
+        return Some(LinkEntry::Gives(key, Target::External(place_in(words)?)));
+    }
+    None
+}
+
+/// Returns the entry of a letter, a number and words.
+fn numbered_entry<'a>(said: &[u8]) -> Option<LinkEntry<'a>>
+    ensures { option_map seen result ≡ numbered_entry (words_of said.now) }
+{
+    let (letter, more) = cut(said, b' ');
+    let (number, words) = cut(more?, b' ');
+    let number = number_of(number)?;
+    entry_by(letter, Key::Numbered(number), words)
+}
+
+/// Returns the entry of a line without a name: blank, or one with a number.
+fn unnamed_entry<'a>(said: &[u8]) -> Option<LinkEntry<'a>>
+    ensures { option_map seen result ≡ unnamed_entry said.now }
+{
+    if said.is_empty() {
+        return Some(LinkEntry::Blank);
+    }
+    numbered_entry(said)
+}
+
+/// Returns whether a byte may be in a name as it is written: 20H to 7EH.
+fn is_printed(byte: u8) -> bool
+    ensures { result ≡ is_printed byte }
+{
+    byte >= 0x20 && byte <= 0x7E
+}
+
+/// Returns whether a name is written in bytes 20H to 7EH.
+fn is_name(name: &[u8]) -> bool
+    ensures { result ≡ list_all is_printed name.now }
+{
+    name.iter().all(|byte| is_printed(*byte))
+}
+
+/// Returns whether a comment begins in a text.
+fn has_comment(text: &[u8]) -> bool
+    ensures { result ≡ has_comment text.now }
+{
+    text.iter().any(|byte| *byte == b';')
+}
+
+/// Returns the words of a text, if it is not empty.
+fn words_in(said: &[u8]) -> Option<&[u8]>
+    ensures { words_left result ≡ words_in said.now }
+{
+    if said.is_empty() {
+        return None;
+    }
+    Some(said)
+}
+
+/// Returns the entry of a letter, a key that ends with a name, and the rest of the line.
+fn name_entry<'a>(letter: &[u8], key: Key<'a>, name: &[u8], rest: &[u8]) -> Option<LinkEntry<'a>>
+    ensures { option_map seen result ≡ name_entry letter.now (key_seen key.entry) name.now rest.now }
+{
+    if !is_name(name) {
+        return None;
+    }
+    entry_by(letter, key, words_in(said_by(rest)))
+}
+
+/// Returns the entry of a letter, a segment's name, and what follows the opening quote of its class.
+fn classed_entry<'a>(letter: &[u8], name: &'a [u8], text: &'a [u8]) -> Option<LinkEntry<'a>>
+    ensures { option_map seen result ≡ classed_entry letter.now name.now (slice_split (λ c. c == 34) text.now) }
+{
+    let (class, more) = cut(text, b'"');
+    let (rest, more) = cut(more?, b'"');
+    if more.is_some() && !has_comment(rest) {
+        return None;
+    }
+    if !is_name(name) {
+        return None;
+    }
+    name_entry(letter, Key::OfClass(name, class), class, rest)
+}
+
+/// Returns the entry of a letter and what follows the opening quote of a name.
+fn named_entry<'a>(letter: &[u8], text: &'a [u8]) -> Option<LinkEntry<'a>>
+    ensures { option_map seen result ≡ named_entry letter.now (slice_split (λ c. c == 34) text.now) }
+{
+    let (name, more) = cut(text, b'"');
+    let (rest, more) = cut(more?, b'"');
+    let Some(class) = more else {
+        return name_entry(letter, Key::Named(name), name, rest);
+    };
+    if has_comment(rest) {
+        return name_entry(letter, Key::Named(name), name, rest);
+    }
+    if !said_by(rest).is_empty() {
+        return None;
+    }
+    classed_entry(letter, name, class)
+}
+
+/// Parses a line: a letter, a key, and a place or a frame; or nothing. `None` if it is none of these.
+///
+/// - `M key`
+/// - `S key address base selector` or `S key address real`, and the same with `X`
+/// - `G key base selector` or `G key real`
+///
+/// A key is `"NAME"`, `"NAME" "CLASS"` or `#N`. From a `;` outside of names on a line is a comment.
+pub fn link_entry_on(line: &[u8]) -> Option<LinkEntry<'_>>
+    ensures { option_map seen result ≡ link_entry_on line.now }
+{
+    let (front, more) = cut(line, b'"');
+    let Some(text) = more else {
+        return unnamed_entry(said_by(front));
+    };
+    if has_comment(front) {
+        return unnamed_entry(said_by(front));
+    }
+    named_entry(said_by(front), text)
+}

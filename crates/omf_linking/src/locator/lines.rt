@@ -1,0 +1,200 @@
+//! What the lines of a locator's text give the modules.
+
+ghost use Rattle.std.specs.Prelude.{◌≡◌, ◌<◌, ◌^◌, [], Err, IfErr, IfOk, List, Some, length, option_map, slice_get};
+ghost use Rattle.omf_check.specs.Module.{typed_modules};
+ghost use Rattle.omf_records.specs.Inner.Seen.{map_ok};
+ghost use Rattle.omf_linking.specs.Inner.LineParsing.{key_seen, seen, target_seen};
+ghost use Rattle.omf_linking.specs.Inner.Walking.{AreLines, IsTaken};
+ghost use Rattle.omf_linking.specs.Locator.Items.{Item, item_of, items_after, kind_of};
+ghost use Rattle.omf_linking.specs.Locator.LinkEntries.{Gives as Entry, Opens, link_lines};
+ghost use Rattle.omf_linking.specs.Locator.Sparse.{IsOutcome};
+ghost use Rattle.omf_linking.specs.Locator.Sparse.{bad_lines, sparse, sparse_all};
+ghost use Rattle.omf_linking.specs.declared.locator.fault.LocatorFault.TheVariants.{Line, Memory};
+
+use crate::locator::entry::{Key, LinkEntry, Target, link_entry_on};
+use crate::locator::fault::{LineFault, LocatorFault};
+use crate::locator::keys::{entry_named, module_named};
+use crate::locator::sparse::Sparse;
+use omf_check::Checked;
+use omf_placement::cut::cut;
+use omf_reloc::Kind;
+use std::alloc::{AllocError, Global};
+
+/// What the lines so far give the modules.
+#[derive(Drop)]
+pub struct Lines {
+    /// The modules whose lines began, by their numbers from 0. The last is that of the lines to come.
+    opened: Vec<u32>,
+    /// What is given to the entries of each module.
+    given: Vec<Sparse>,
+}
+
+/// Returns the kind of what a line gives something.
+fn kind_of(target: Target) -> Kind
+    ensures { result ≡ kind_of (target_seen target) }
+{
+    match target {
+        Target::Segment(_) => Kind::Segment,
+        Target::Group(_) => Kind::Group,
+        Target::External(_) => Kind::External,
+    }
+}
+
+/// Returns the fault of a line.
+fn at_fault(line: u64, why: LineFault) -> Result<(), LocatorFault>
+    ensures { result ≡ Err (Line line why) }
+{
+    Err(LocatorFault::Line { line, why })
+}
+
+impl Lines {
+    /// Returns what no lines give.
+    fn new(alloc: Global, modules: &[Checked]) -> Result<Lines, AllocError>
+        ensures { IfOk result (λ s. AreLines (typed_modules modules.now) s []) }
+    {
+        let mut given = Vec::new(alloc);
+        for module in modules {
+            let sparse = Sparse::of(alloc, module)?;
+            given.push(sparse)?;
+        }
+        let opened = Vec::new(alloc);
+        Ok(Lines { opened, given })
+    }
+
+    /// Adds a line with which the lines of a module begin.
+    fn open(&mut self, modules: &[Checked], line: u64, key: Key<'_>) -> Result<(), LocatorFault>
+        requires { length modules.now < 2 ^ 32 }
+        ensures { (items : List Item) → AreLines (typed_modules modules.now) self.old items → IsTaken (typed_modules modules.now) self.new items line (item_of (typed_modules modules.now) items (Some (Opens (key_seen key.entry)))) result }
+    {
+        let number = match module_named(modules, key) {
+            Ok(number) => number,
+            Err(why) => return at_fault(line, why),
+        };
+        if self.opened.contains(&number) {
+            return at_fault(line, LineFault::Twice);
+        }
+        self.opened.push(number)?;
+        Ok(())
+    }
+
+    /// Adds a line that gives an entry of the current module its place or its frame.
+    fn add(
+        &mut self,
+        modules: &[Checked],
+        line: u64,
+        key: Key<'_>,
+        target: Target,
+    ) -> Result<(), LocatorFault>
+        ensures { (items : List Item) → AreLines (typed_modules modules.now) self.old items → IsTaken (typed_modules modules.now) self.new items line (item_of (typed_modules modules.now) items (Some (Entry (key_seen key.entry) (target_seen target)))) result }
+    {
+        let Some(number) = self.opened.last().copied() else {
+            return at_fault(line, LineFault::NoModule);
+        };
+        let at = number as usize;
+        if at >= modules.len() {
+            return at_fault(line, LineFault::NoModule);
+        }
+        if at >= self.given.len() {
+            return at_fault(line, LineFault::NoModule);
+        }
+        let index = match entry_named(&modules[at], kind_of(target), key) {
+            Ok(index) => index,
+            Err(why) => return at_fault(line, why),
+        };
+        if !self.given[at].give(index, target) {
+            return at_fault(line, LineFault::Twice);
+        }
+        Ok(())
+    }
+
+    /// Adds a line that is an entry.
+    fn enter(
+        &mut self,
+        modules: &[Checked],
+        line: u64,
+        entry: LinkEntry<'_>,
+    ) -> Result<(), LocatorFault>
+        requires { length modules.now < 2 ^ 32 }
+        ensures { (items : List Item) → AreLines (typed_modules modules.now) self.old items → IsTaken (typed_modules modules.now) self.new items line (item_of (typed_modules modules.now) items (Some (seen entry.entry))) result }
+    {
+        match entry {
+            LinkEntry::Blank => Ok(()),
+            LinkEntry::Opens(key) => self.open(modules, line, key),
+            LinkEntry::Gives(key, target) => self.add(modules, line, key, target),
+        }
+    }
+
+    /// Adds a line.
+    fn take(
+        &mut self,
+        modules: &[Checked],
+        line: u64,
+        entry: Option<LinkEntry<'_>>,
+    ) -> Result<(), LocatorFault>
+        requires { length modules.now < 2 ^ 32 }
+        ensures { (items : List Item) → AreLines (typed_modules modules.now) self.old items → IsTaken (typed_modules modules.now) self.new items line (item_of (typed_modules modules.now) items (option_map seen entry.entry)) result }
+    {
+        match entry {
+            Some(entry) => self.enter(modules, line, entry),
+            None => at_fault(line, LineFault::NotUnderstood),
+        }
+    }
+}
+
+/// Returns the number of the first line that is no entry.
+fn first_bad_line(text: &[u8]) -> Option<u64>
+    ensures { result ≡ slice_get (bad_lines text.now) 0 }
+{
+    let mut rest = Some(text);
+    let mut number = 0u64;
+    while let Some(lines) = rest {
+        let (line, more) = cut(lines, b'\n');
+        number += 1;
+        if link_entry_on(line).is_none() {
+            return Some(number);
+        }
+        rest = more;
+    }
+    None
+}
+
+/// Returns what the lines of a text give modules.
+fn taken(alloc: Global, modules: &[Checked], text: &[u8]) -> Result<Vec<Sparse>, LocatorFault>
+    requires { length modules.now < 2 ^ 32 }
+    ensures { IsOutcome (map_ok (sparse_all (typed_modules modules.now)) (items_after (typed_modules modules.now) [] (link_lines text.now))) (map_ok (λ v. v.items) result) }
+{
+    let mut taken = Lines::new(alloc, modules)?;
+    let mut rest = Some(text);
+    let mut number = 0u64;
+    while let Some(lines) = rest {
+        let (line, more) = cut(lines, b'\n');
+        number += 1;
+        taken.take(modules, number, link_entry_on(line))?;
+        rest = more;
+    }
+    Ok(taken.given)
+}
+
+/// Returns what a text gives each module, entry by entry.
+///
+/// # Errors
+///
+/// `Line` for the first line that is no entry; or else for the first whose key does not name exactly one module of the input or one entry of
+/// its module, that is before the first `M`, or that is for the same module or entry as an earlier one. `Memory` if memory runs out, only if
+/// every line is an entry.
+pub fn sparse_places(
+    alloc: Global,
+    modules: &[Checked],
+    text: &[u8],
+) -> Result<Vec<Sparse>, LocatorFault>
+    requires { length modules.now < 2 ^ 32 }
+    ensures given { IsOutcome (sparse (typed_modules modules.now) text.now) (map_ok (λ v. v.items) result) }
+    ensures lines { IfErr result (λ fault. fault ≡ Memory → bad_lines text.now ≡ []) }
+    ensures each { IfOk result (λ v. length v.items ≡ length modules.now) }
+{
+    if let Some(line) = first_bad_line(text) {
+        let why = LineFault::NotUnderstood;
+        return Err(LocatorFault::Line { line, why });
+    }
+    taken(alloc, modules, text)
+}

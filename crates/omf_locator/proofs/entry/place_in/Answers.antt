@@ -1,9 +1,0 @@
-use Rattle.std.proofs.Common.{sym, ◌∙◌}
-use Rattle.omf_placement.specs.Inner.EntryReading.{words_of}
-use Rattle.omf_locator.proofs.NamingLaws.{parts_some, too_many_place}
-use Rattle.omf_locator.proofs.entry.place_in.Goals as goal
-
-pub returns-then-is_some : goal.returns-then-is_some
-returns-then-is_some c =
-    let more = parts_some (λ t. t.now) c.cut-3.result.1 (sym c.is_some.ensures ∙ c.if-is_some.true) in
-    rw c.in_ok-words.was (too_many_place (words_of c.in_ok-words.field-0.now) (words_of c.in_ok-more.field-0.now) (words_of c.in-Some.more.now) _ _ (rw c.in_ok-more.was at c.cut.ensures.parts) (rw c.in-Some.is at c.cut-2.ensures.parts) _ _ c.cut-3.ensures.parts more.0 more.1)

@@ -1,5 +1,0 @@
-use Rattle.omf_locator.proofs.KeyLaws.{text-more}
-use Rattle.omf_locator.proofs.forms.TextTable.add.Goals as goal
-
-pub returns : goal.returns
-returns c = text-more c.args.self.now.repeated c.insert.new.self c.args.text.now _ c.contains_key-again.ensures c.in_ok-insert.ensures.updates

@@ -1,7 +1,0 @@
-use Rattle.std.proofs.Common.{◌∙◌, ap, false, rules}
-use Rattle.std.specs.Prelude.{unwrap_or}
-use Rattle.omf_locator.proofs.KeyLaws.{kept-repeated}
-use Rattle.omf_locator.proofs.forms.TextTable.is_repeated.Goals as goal
-
-pub returns : goal.returns
-returns c = λ texts h. search rules ∙ kept-repeated c.args.self.now.repeated c.args.text.now texts h

@@ -1,8 +1,0 @@
-use Rattle.std.proofs.Common.{refl}
-use Rattle.omf_check.specs.Module.{typed_modules}
-use Rattle.omf_locator.specs.Items.{Nothing}
-use Rattle.omf_locator.proofs.WalkLaws.{more_nothing}
-use Rattle.omf_locator.proofs.lines.Lines.enter.Goals as goal
-
-pub returns-in-Blank : goal.returns-in-Blank
-returns-in-Blank c items at = rw c.in-Blank.is (Nothing, refl, more_nothing (typed_modules c.args.modules.now) c.args.self.now items at)

@@ -1,7 +1,0 @@
-use Rattle.std.specs.Prelude.{refl}
-use Rattle.std.specs.Fmt.{digits}
-use Rattle.omf_locator.proofs.rows.entries_that_keys_name.Goals as goal
-
-pub returns-clause-escaped : goal.returns-clause-escaped
-unfolding digits
-returns-clause-escaped c = refl

@@ -1,4 +1,0 @@
-pub mod Parsing
-pub mod Naming
-pub mod Walking
-pub mod Forms

@@ -1,9 +1,0 @@
-pub mod LinkEntries
-pub mod Keys
-pub mod Items
-pub mod Sparse
-pub mod KeyForms
-pub mod Drafted
-pub mod Laws
-pub mod Rows
-pub mod Inner
