@@ -169,10 +169,24 @@ static void memory_calls(void) {
     AT_EACH_REFUSAL("canon: memory", (struct omf_answer){.size = sizeof first}, omf_canon(spelled, sizeof spelled, false, out, sizeof out));
 }
 
+/* Answers, and the line that is handed out for each. */
+static const struct {
+    struct omf_answer is;
+    const char *text;
+} lines[] = {
+    {{.status = OMF_MEMORY}, "memory"},
+    {{.status = OMF_LINE, .line = 2}, "placement line 2"},
+    {{.status = OMF_TOO_LONG}, "placement too long"},
+    {{.status = OMF_REACH, .reason = OMF_MISSING, .kind = OMF_SEGMENT, .index = 1}, "reach 1 Missing segment 1"},
+    {{.status = OMF_REACH, .reason = OMF_EXTRA, .kind = OMF_GROUP, .index = 3}, "reach 2 Extra group 3"},
+    {{.status = OMF_REACH, .reason = OMF_ABSOLUTE, .index = 1}, "reach 3 Absolute 1"},
+    {{.status = OMF_REACH, .reason = OMF_TOO_FAR, .kind = OMF_LOCATION, .number = 4, .within = 3}, "reach 4 TooFar Location record 4 within 3"},
+};
+
 static void reason_calls(void) {
     static const char sentence[] = "the input ends inside a record", line[] = "refused 2 Cut record 4 at 34 within 2";
     const struct omf_answer cut = omf_check(first, 36, false), done = omf_check(first, sizeof first, false);
-    const struct omf_answer room = {.status = OMF_ROOM, .size = 5}, far = {.status = OMF_REACH, .reason = OMF_MISSING, .kind = OMF_SEGMENT, .index = 1};
+    const struct omf_answer room = {.status = OMF_ROOM, .size = 5};
     if (omf_version() != OMF_VERSION_NUMBER) {
         printf("version: %u\n", omf_version());
         failures++;
@@ -180,7 +194,8 @@ static void reason_calls(void) {
     AT_EACH_ROOM("name", "Cut", (size_t)3, omf_reason_name(OMF_CUT, out, room));
     AT_EACH_ROOM("sentence", sentence, sizeof sentence - 1, omf_reason_sentence(OMF_CUT, out, room));
     AT_EACH_ROOM("line", line, sizeof line - 1, omf_fault_line(&cut, out, room));
-    AT_EACH_ROOM("reach line", "reach 1 Missing segment 1", (size_t)25, omf_fault_line(&far, out, room));
+    for (size_t at = 0; at < sizeof lines / sizeof lines[0]; at++)
+        AT_EACH_ROOM(lines[at].text, lines[at].text, strlen(lines[at].text), omf_fault_line(&lines[at].is, out, room));
     expect("no name", omf_reason_name(0, NULL, 0), (struct omf_answer){.size = 0});
     expect("no sentence", omf_reason_sentence(34, NULL, 0), (struct omf_answer){.size = 0});
     expect("no fault", omf_fault_line(&done, NULL, 0), (struct omf_answer){.size = 0});

@@ -1,9 +1,8 @@
 #!/usr/bin/env bash
 # Tries the C library: run.sh [FOLDER..]. LIBRARY names the archive (libomf.a), OMF the program (omf), OMF_DUMP the program omf-dump.
 #
-# The program tables.c is built by two C compilers and two of C++; it makes each call that hands out a table or an image. The program calls.c
-# is built by gcc and by clang. Each goes through every other call and every status. Then each checks, lists, makes
-# canonical and relocates every module of examples/ and of the folders, and what it prints is compared with what the program prints. The
+# calls.sh builds tables.c and calls.c by each compiler and runs them. Then calls.c of gcc and of clang checks, lists, makes canonical and
+# relocates every module of examples/ and of the folders, and what it prints is compared with what the program prints. The
 # same is done once under valgrind, and by the Python package over a shared library. The examples show.c and show.py are compared with
 # `omf-dump --json` and `omf reloc`, on each module whose placement reaches. A tool that is missing is named and passed over.
 set -uo pipefail
@@ -65,35 +64,12 @@ compare() { # compare NAME COMMAND..: what the command prints for each job is wh
     done
 }
 
-# The tables, by C and C++ compilers.
-for compiler in "gcc -std=c11" "clang -std=c11" "g++ -x c++" "clang++ -x c++"; do
-    name=${compiler%% *}
-    if ! command -v "$name" > /dev/null; then
-        echo "$name is missing: passed over"
-        continue
-    fi
-    $compiler -Wall -Wextra -Werror -O1 -g -I"$here/../../include" -c "$here/tables.c" -o "$work/tables.o" \
-        && "$name" "$work/tables.o" -Wl,--wrap=malloc,--wrap=realloc "$library" -o "$work/tables-$name" || {
-        fail "$name does not build the tables"
-        continue
-    }
-    said=$("$work/tables-$name") || fail "$name: a table is another one: $said"
-    echo "$name: $said"
-done
+LIBRARY=$library "$here/calls.sh" "$work" || fail "a call answers otherwise, or is not built"
 version=$(cat "$here/../../VERSION")
 grep -q "^#define OMF_VERSION \"$version\"$" "$here/../../include/omf.h" || fail "the header's version is not that of the file VERSION"
 
 for compiler in gcc clang; do
-    if ! command -v "$compiler" > /dev/null; then
-        echo "$compiler is missing: passed over"
-        continue
-    fi
-    "$compiler" -std=c11 -Wall -Wextra -Werror -O1 -g -Wl,--wrap=malloc,--wrap=realloc -I"$here/../../include" "$here/calls.c" "$library" -o "$work/calls-$compiler" || {
-        fail "$compiler does not build it"
-        continue
-    }
-    said=$("$work/calls-$compiler") || fail "$compiler: a call answers otherwise"
-    echo "$compiler: $said"
+    [ -x "$work/calls-$compiler" ] || continue
     compare "$compiler" "$work/calls-$compiler"
     echo "$compiler: ${jobs[*]} as the program, on $count modules"
 done

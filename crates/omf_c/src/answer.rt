@@ -8,7 +8,7 @@ use omf_reloc::{Cause, Kind, ReachFault};
 
 /// The result of a call, in numbers. A field is 0 unless it is described for the status.
 #[repr(C)]
-#[derive(Clone, Copy, Debug, PartialEq, Eq)]
+#[derive(Clone, Copy, PartialEq, Eq)]
 pub struct Answer {
     /// 0 done; 1 out of memory; 4 the module is refused; 5 a line of the placement is no entry; 6 the placement is too long; 7 the
     /// placement does not reach; 8 the text does not fit the buffer.

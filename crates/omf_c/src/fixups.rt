@@ -19,7 +19,7 @@ use omf_reloc::{FrameMethod, Piece, PlainFixup, pieces_of};
 use std::alloc::{AllocError, Global};
 
 /// The segment and the offset of a data record, in bytes.
-#[derive(Clone, Copy, Debug, PartialEq, Eq)]
+#[derive(Clone, Copy)]
 pub struct DataPlace {
     pub segment: u16,
     pub offset: u32,

@@ -2,7 +2,7 @@
 
 /// Where a name is in the module: its first byte, and its number of bytes, 0 to 255. An offset of 0 is no name.
 #[repr(C)]
-#[derive(Clone, Copy, Debug, Drop, PartialEq, Eq)]
+#[derive(Clone, Copy, Drop)]
 pub struct NamePlace {
     /// In bytes from the start of the module.
     pub offset: u64,
@@ -12,7 +12,7 @@ pub struct NamePlace {
 
 /// A segment (TIS OMF 1.1, "SEGDEF").
 #[repr(C)]
-#[derive(Clone, Copy, Debug, Drop, PartialEq, Eq)]
+#[derive(Clone, Copy, Drop)]
 pub struct SegmentRow {
     pub name: NamePlace,
     pub class_name: NamePlace,
@@ -34,7 +34,7 @@ pub struct SegmentRow {
 
 /// A group (TIS OMF 1.1, "GRPDEF").
 #[repr(C)]
-#[derive(Clone, Copy, Debug, Drop, PartialEq, Eq)]
+#[derive(Clone, Copy, Drop)]
 pub struct GroupRow {
     pub name: NamePlace,
     /// The number of its members.
@@ -43,7 +43,7 @@ pub struct GroupRow {
 
 /// A member of a group.
 #[repr(C)]
-#[derive(Clone, Copy, Debug, Drop, PartialEq, Eq)]
+#[derive(Clone, Copy, Drop)]
 pub struct MemberRow {
     /// The index of a segment, from 1.
     pub segment: u32,
@@ -51,7 +51,7 @@ pub struct MemberRow {
 
 /// An external name (TIS OMF 1.1, "EXTDEF", "COMDEF", "LEXTDEF", "LCOMDEF").
 #[repr(C)]
-#[derive(Clone, Copy, Debug, Drop, PartialEq, Eq)]
+#[derive(Clone, Copy, Drop)]
 pub struct ExternalRow {
     pub name: NamePlace,
     pub type_index: u32,
@@ -68,7 +68,7 @@ pub struct ExternalRow {
 
 /// A public name (TIS OMF 1.1, "PUBDEF", "LPUBDEF").
 #[repr(C)]
-#[derive(Clone, Copy, Debug, Drop, PartialEq, Eq)]
+#[derive(Clone, Copy, Drop)]
 pub struct PublicRow {
     pub name: NamePlace,
     /// In bytes: in its segment, or in its base frame if it has no segment.
@@ -85,7 +85,7 @@ pub struct PublicRow {
 
 /// A fixup with its threads resolved (TIS OMF 1.1, "FIXUPP").
 #[repr(C)]
-#[derive(Clone, Copy, Debug, Drop, PartialEq, Eq)]
+#[derive(Clone, Copy, Drop)]
 pub struct FixupRow {
     /// The first byte of its location, in bytes from the start of its segment.
     pub offset: u64,
@@ -114,7 +114,7 @@ pub struct FixupRow {
 
 /// A run of bytes of a relocated segment. No byte next to it is covered.
 #[repr(C)]
-#[derive(Clone, Copy, Debug, Drop, PartialEq, Eq)]
+#[derive(Clone, Copy, Drop)]
 pub struct RunRow {
     /// Its number of bytes.
     pub size: u64,
@@ -126,7 +126,7 @@ pub struct RunRow {
 
 /// The start address of a relocated module (TIS OMF 1.1, "MODEND").
 #[repr(C)]
-#[derive(Clone, Copy, Debug, Drop, PartialEq, Eq)]
+#[derive(Clone, Copy, Drop)]
 pub struct StartRow {
     /// The selector of its frame.
     pub selector: u32,
