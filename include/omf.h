@@ -1,4 +1,4 @@
-/* omf.h - checks, lists and relocates object modules in OMF (TIS OMF 1.1), and makes their canonical bytes.
+/* omf.h - checks, lists and relocates object modules in OMF (TIS OMF 1.1), makes their canonical bytes, and reads libraries of them.
  *
  * The functions are written in Rattle, which is Rust with contracts. What this file states about results and about the buffer `out` is
  * proved, with one exception, which is tested: that OMF_MEMORY is returned only if memory ran out. The caller keeps to C's rules: each
@@ -34,7 +34,8 @@ enum omf_status {
     OMF_LINE = 5,      /* line `line` of the placement is no entry, or it asks for the frame of a group that has none */
     OMF_TOO_LONG = 6,  /* the placement has more than 4,194,304 bytes */
     OMF_REACH = 7,     /* the placement does not reach: `reason`, an enum omf_reach */
-    OMF_ROOM = 8       /* the text or the table does not fit `out`, which is unchanged; `size` is the size needed, in bytes or rows */
+    OMF_ROOM = 8,      /* the text or the table does not fit `out`, which is unchanged; `size` is the size needed, in bytes or rows */
+    OMF_NO_LIBRARY = 9 /* the bytes are no library: `reason`, an enum omf_no_library */
 };
 
 /* `reason` at OMF_REACH: the first of these that applies. */
@@ -43,6 +44,15 @@ enum omf_reach {
     OMF_EXTRA = 2,     /* the module has no `index` of kind `kind`, but the placement has */
     OMF_ABSOLUTE = 3,  /* absolute segment `index` is not placed where its SEGDEF says */
     OMF_TOO_FAR = 4    /* the fixup, or the start, at offset `within` of record `number` does not reach: `kind`, an enum omf_cause */
+};
+
+/* `reason` at OMF_NO_LIBRARY: the first of these that applies. */
+enum omf_no_library {
+    OMF_NO_LIBRARY_HEADER = 1,  /* the bytes do not begin with F0H */
+    OMF_LIBRARY_HEADER_CUT = 2, /* the bytes end in the header */
+    OMF_PAGE_SIZE = 3,          /* the header's length, in `size`, is no page size: a power of two from 16 to 32,768 */
+    OMF_NO_LIBRARY_END = 4,     /* the bytes end at `size`, after `record_count` members, where a member or F1H must begin */
+    OMF_NO_DICTIONARY = 5       /* omf_library_find: the dictionary is not in the bytes */
 };
 
 /* `kind` at OMF_MISSING and OMF_EXTRA. */
@@ -64,7 +74,7 @@ enum omf_reason {
 /* The result of a call. A field is 0 unless it is described for the status. */
 struct omf_answer {
     uint32_t status;       /* an enum omf_status */
-    uint32_t reason;       /* OMF_REFUSED: an enum omf_reason; OMF_REACH: an enum omf_reach */
+    uint32_t reason;       /* OMF_REFUSED: an enum omf_reason; OMF_REACH: an enum omf_reach; OMF_NO_LIBRARY: an enum omf_no_library */
     uint32_t kind;         /* OMF_MISSING, OMF_EXTRA: an enum omf_kind; OMF_TOO_FAR: an enum omf_cause */
     uint32_t index;        /* OMF_MISSING, OMF_EXTRA, OMF_ABSOLUTE: the index, from 1 */
     uint32_t number;       /* OMF_REFUSED, OMF_TOO_FAR: the number of the record, from 0 */
@@ -72,12 +82,13 @@ struct omf_answer {
     uint64_t start;        /* OMF_REFUSED: the record's offset in `bytes` */
     uint64_t line;         /* OMF_LINE: the number of the line, from 1 */
     uint64_t size;         /* OMF_DONE, OMF_ROOM: the size of the text in bytes, or the number of rows; omf_check at OMF_DONE: the size of the
-                              module */
-    uint64_t record_count; /* omf_check at OMF_DONE: the number of records in the module; omf_image at OMF_DONE, OMF_ROOM: that of runs */
+                              module; a library's members and faults: omf_library_members, omf_library_find */
+    uint64_t record_count; /* omf_check at OMF_DONE: the number of records in the module; omf_image at OMF_DONE, OMF_ROOM: that of runs; of
+                              libraries as with `size` */
 };
 
-/* Each call reads the module at the start of `bytes`; bytes after its MODEND are ignored. With `refuse_vendor_comments`, comments of the
- * classes C0H to FFH are refused. `out` has a size of `room` bytes. At OMF_DONE the whole text is at its start and the bytes after the text
+/* Each call but those for libraries reads the module at the start of `bytes`; bytes after its MODEND are ignored. With
+ * `refuse_vendor_comments`, comments of the classes C0H to FFH are refused. `out` has a size of `room` bytes. At OMF_DONE the whole text is at its start and the bytes after the text
  * are unchanged; at every other status all of `out` is unchanged. A text is not followed by a zero byte. To find the size needed, call with
  * `room` 0: OMF_ROOM returns it in `size`. */
 
@@ -200,6 +211,24 @@ struct omf_start {
 };
 struct omf_answer omf_start(const uint8_t *bytes, size_t length, const uint8_t *placement, size_t placement_length,
                             bool refuse_vendor_comments, struct omf_start *out, size_t room);
+
+/* A library of modules (TIS OMF 1.1, appendix 2), as omf-lib and LIB make them. The calls read all of `bytes`. */
+
+/* A member. It is a well-formed module, of `size` bytes at bytes + `offset`. */
+struct omf_library_member {
+    uint64_t offset;       /* in bytes from the start of the library; a multiple of the page size */
+    uint64_t size;         /* in bytes */
+};
+
+/* The table of the members, in order. Returns OMF_DONE, OMF_NO_LIBRARY, OMF_REFUSED, OMF_ROOM or OMF_MEMORY. At OMF_REFUSED a member is not well
+ * formed: `size` is its offset in the library and `record_count` the number of members before it; `reason`, `number`, `start` and `within` are
+ * those of omf_check on the bytes from there on. */
+struct omf_answer omf_library_members(const uint8_t *bytes, size_t length, bool refuse_vendor_comments, struct omf_library_member *out, size_t room);
+
+/* Looks up a name in the library's dictionary, wherever its hash is. Returns OMF_DONE: `record_count` is 1 and `size` the offset of the member that
+ * the first entry of the name leads to, or both are 0 if the name has no entry; or OMF_NO_LIBRARY. A damaged dictionary may lead to an offset that
+ * is no member's: compare it with the table. */
+struct omf_answer omf_library_find(const uint8_t *bytes, size_t length, const uint8_t *name, size_t name_length);
 
 /* The name and the sentence of a reason, 1 to 33, as `Cut` and `the input ends inside a record`; nothing for any other number. They return
  * OMF_DONE or OMF_ROOM. */

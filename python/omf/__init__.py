@@ -25,8 +25,8 @@ from typing import Any, List, NamedTuple, Optional, Tuple, Type, Union
 
 __version__ = "0.4.0"
 __all__ = [
-    "Module", "Segment", "Group", "External", "Communal", "Public", "Fixup", "Method", "LOCATIONS", "Run", "Image",
-    "Error", "Refused", "PlacementLine", "PlacementTooLong", "Unreachable", "reason_name", "reason_sentence",
+    "Module", "Segment", "Group", "External", "Communal", "Public", "Fixup", "Method", "LOCATIONS", "Run", "Image", "Library", "Member",
+    "Error", "Refused", "NoLibrary", "PlacementLine", "PlacementTooLong", "Unreachable", "reason_name", "reason_sentence",
 ]
 
 Data = Union[bytes, bytearray, memoryview]
@@ -48,12 +48,13 @@ _Member = _struct("_Member", (_U32, "segment"))
 _External = _struct("_External", (_Name, "name"), (_U32, "type_index is_local communal elements element_size unused"))
 _Public = _struct("_Public", (_Name, "name"), (_U32, "offset segment group frame type_index is_local"))
 _Run = _struct("_Run", (_U64, "size"), (_U32, "segment offset"))
+_LibraryMember = _struct("_LibraryMember", (_U64, "offset size"))
 _Start = _struct("_Start", (_U32, "selector offset"))
 _Fixup = _struct("_Fixup", (_U64, "offset"), (_U32, "segment location size is_self_relative frame_method frame_index target_method"),
                  (_U32, "target_index displacement bits number within"))
 
 _TABLES = {"segments": _Segment, "groups": _Group, "group_members": _Member, "externals": _External, "publics": _Public, "fixups": _Fixup}
-_DONE, _MEMORY, _REFUSED, _LINE, _TOO_LONG, _REACH, _ROOM = 0, 1, 4, 5, 6, 7, 8
+_DONE, _MEMORY, _REFUSED, _LINE, _TOO_LONG, _REACH, _ROOM, _NO_LIBRARY = 0, 1, 4, 5, 6, 7, 8, 9
 
 
 def _load() -> ctypes.CDLL:
@@ -67,7 +68,7 @@ def _load() -> ctypes.CDLL:
     calls = {"omf_check": module + flag, "omf_list": module + flag + out, "omf_canon": module + flag + out}
     calls.update(omf_image=module + module + flag + out + out, omf_start=module + module + flag + out, omf_reason_name=[_U32] + out, omf_reason_sentence=[_U32] + out,
                  omf_fault_line=[ctypes.POINTER(_Answer)] + out)
-    calls.update({f"omf_{name}": module + flag + out for name in _TABLES})
+    calls.update({f"omf_{name}": module + flag + out for name in [*_TABLES, "library_members"]}, omf_library_find=module + module)
     for name, arguments in calls.items():
         call = getattr(library, name)
         call.argtypes, call.restype = arguments, _Answer
@@ -124,6 +125,27 @@ class Refused(Error):
         self.start: int = answer.start
         self.within: int = answer.within
         self.offset: int = answer.start + answer.within
+
+
+class NoLibrary(Error):
+    """The bytes are no library, or a member is not well formed.
+
+    reason is 1 if they do not begin with F0H, 2 if they end in the header, 3 if its length is no page size, 4 if they end where a member or F1H
+    must begin, 5 if the dictionary is not in them; None for a member: refusal is then its Refused. offset is where the fault is, in bytes, or None.
+    """
+
+    def __init__(self, answer: Any) -> None:
+        self.refusal: Optional[Refused] = None
+        self.reason: Optional[int] = answer.reason
+        self.offset: Optional[int] = answer.size if answer.status == _REFUSED or answer.reason == 4 else None
+        if answer.status == _REFUSED:
+            plain = _Answer(status=_REFUSED, reason=answer.reason, number=answer.number, within=answer.within, start=answer.start)
+            line = _said(_library.omf_fault_line, ctypes.byref(plain))
+            self.refusal, self.reason = Refused(line, plain), None
+            super().__init__(f"the member at {answer.size} is refused: {line}")
+        else:
+            super().__init__({1: "no library header at 0", 2: "the header is cut", 3: f"{answer.size} is no page size",
+                              4: f"no member and no end at {answer.size}", 5: "the dictionary is not in the library"}[answer.reason])
 
 
 class PlacementLine(Error):
@@ -396,3 +418,44 @@ class Module:
     def canonical(self) -> bytes:
         """The canonical bytes: the same for all modules that differ only in encodings, checksums, threads or the division of fixups."""
         return bytes(_made(_library.omf_canon, ctypes.c_uint8, *self._bytes(), self._flag))
+
+
+class Member(NamedTuple):
+    """A member of a library: its offset in the library and its bytes, which are a well-formed module."""
+
+    offset: int
+    data: bytes
+
+    @property
+    def module(self) -> Module:
+        """The module."""
+        return Module(self.data)
+
+
+class Library:
+    """A library of modules (TIS OMF 1.1, appendix 2). Raises NoLibrary if the bytes are none, or if a member is not well formed.
+
+    members has the members in order. With refuse_vendor_comments, comments of the classes C0H to FFH are refused.
+    """
+
+    def __init__(self, data: Data, refuse_vendor_comments: bool = False) -> None:
+        self._data = bytes(data)
+        answer, rows = _filled(_library.omf_library_members, _LibraryMember, self._data, len(self._data), bool(refuse_vendor_comments))
+        if answer.status == _MEMORY:
+            raise MemoryError("out of memory")
+        if answer.status != _DONE:
+            raise NoLibrary(answer)
+        self.members: Tuple[Member, ...] = tuple(Member(row.offset, self._data[row.offset:row.offset + row.size]) for row in rows)
+
+    def find(self, name: str) -> Optional[Member]:
+        """The member that the dictionary gives for a public name; None if it has no such entry, or leads to no member.
+
+        All blocks and buckets are looked at, wherever the name's hash is. Raises NoLibrary if the dictionary is not in the bytes.
+        """
+        spelled = name.encode("latin-1")
+        answer = _library.omf_library_find(self._data, len(self._data), spelled, len(spelled))
+        if answer.status != _DONE:
+            raise NoLibrary(answer)
+        if not answer.record_count:
+            return None
+        return next((member for member in self.members if member.offset == answer.size), None)

@@ -153,8 +153,39 @@ class Faults(unittest.TestCase):
             omf.Module(FIRST).relocate(b"\n" * 4194305)
 
     def test_each_fault_is_an_error(self):
-        for fault in (omf.Refused, omf.PlacementLine, omf.PlacementTooLong, omf.Unreachable):
+        for fault in (omf.Refused, omf.PlacementLine, omf.PlacementTooLong, omf.Unreachable, omf.NoLibrary):
             self.assertTrue(issubclass(fault, omf.Error))
+
+
+# Pages of 16 bytes: a header with a dictionary of one block at 64, a member of 24 bytes at 16 with the public P, F1H. The dictionary has one entry, in
+# bucket 3: P, page 1.
+MEMBER = record(0x80, "01 41") + record(0x90, "00 00 00 00 01 50 00 00 00") + b"\x8A\x02\0\0\x74"
+LIBRARY = (bytes.fromhex("F0 0D 00 40 00 00 00 01 00 01").ljust(16, b"\0") + MEMBER.ljust(32, b"\0") + b"\xF1\x0D\0".ljust(16, b"\0")
+           + (b"\0\0\0\x13".ljust(37, b"\0") + b"\x15" + b"\x01P\x01\0").ljust(512, b"\0"))
+
+
+class Libraries(unittest.TestCase):
+    def test_members_are_modules(self):
+        library = omf.Library(LIBRARY)
+        self.assertEqual(library.members, (omf.Member(16, MEMBER),))
+        self.assertEqual([public.name for public in library.members[0].module.publics], ["P"])
+
+    def test_the_dictionary_leads_to_the_member(self):
+        library = omf.Library(LIBRARY)
+        self.assertEqual((library.find("P"), library.find("p")), (library.members[0], None))
+
+    def test_bytes_that_are_no_library_have_a_reason(self):
+        for data, reason, offset in ((FIRST, 1, None), (LIBRARY[:9], 2, None), (LIBRARY[:48], 4, 48)):
+            with self.assertRaises(omf.NoLibrary) as caught:
+                omf.Library(data)
+            self.assertEqual((caught.exception.reason, caught.exception.offset), (reason, offset))
+
+    def test_a_member_may_be_refused(self):
+        with self.assertRaises(omf.NoLibrary) as caught:
+            omf.Library(LIBRARY[:22] + b"\xFF" + LIBRARY[23:])
+        is_ = caught.exception
+        self.assertEqual((is_.reason, is_.offset, is_.refusal.name, is_.refusal.record, str(is_)),
+                         (None, 16, "UnknownType", 1, "the member at 16 is refused: refused 3 UnknownType record 1 at 6 within 0"))
 
 
 if __name__ == "__main__":

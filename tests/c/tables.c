@@ -223,6 +223,68 @@ static void starts(void) {
     if (!has(omf_start(none, sizeof none, NULL, 0, false, out, 2), OMF_DONE, 0)) fail("start", "none");
 }
 
+/* A library with pages of 16 bytes and a dictionary of one block: hello.c with the public _hello from 16 on, gets.asm with _gets and _getc from
+ * 64 on. */
+static const uint8_t members_of_library[] = {
+    0xF0, 0x0D, 0x00, 0x00, 0x02, 0x00, 0x00, 0x01, 0x00, 0x01, 0x00, 0x00, 0x00, 0x00, 0x00, 0x00,                   /* header */
+    0x80, 0x09, 0x00, 0x07, 0x68, 0x65, 0x6C, 0x6C, 0x6F, 0x2E, 0x63, 0xCB,                                           /* 16 THEADR */
+    0x90, 0x0F, 0x00, 0x00, 0x00, 0x00, 0x00, 0x06, 0x5F, 0x68, 0x65, 0x6C, 0x6C, 0x6F, 0x00, 0x00, 0x00, 0xE8,       /* PUBDEF */
+    0x8A, 0x02, 0x00, 0x00, 0x74, 0, 0, 0, 0, 0, 0, 0, 0, 0, 0, 0, 0, 0,                                              /* MODEND */
+    0x80, 0x0D, 0x00, 0x0B, 0x2E, 0x2E, 0x5C, 0x67, 0x65, 0x74, 0x73, 0x2E, 0x61, 0x73, 0x6D, 0x8E,                   /* 64 THEADR */
+    0x90, 0x17, 0x00, 0x00, 0x00, 0x00, 0x00, 0x05, 0x5F, 0x67, 0x65, 0x74, 0x73, 0x00, 0x00, 0x00,                   /* PUBDEF */
+    0x05, 0x5F, 0x67, 0x65, 0x74, 0x63, 0x10, 0x00, 0x00, 0x2B, 0x8A, 0x02, 0x00, 0x00, 0x74, 0x00, 0xF1, 0x8D, 0x01, /* MODEND, end */
+};
+static const uint8_t dictionary[] = {
+    0x00, 0x00, 0x00, 0x00, 0x00, 0x13, 0x00, 0x00, 0x00, 0x00, 0x00, 0x00, 0x00, 0x00, 0x00, 0x00, 0x00, 0x00, 0x18, 0x00, /* buckets */
+    0x00, 0x00, 0x00, 0x00, 0x00, 0x00, 0x00, 0x00, 0x00, 0x1C, 0x00, 0x00, 0x00, 0x00, 0x00, 0x00, 0x00, 0x20,
+    0x06, 0x5F, 0x68, 0x65, 0x6C, 0x6C, 0x6F, 0x01, 0x00, 0x00,                                                             /* _hello, page 1 */
+    0x05, 0x5F, 0x67, 0x65, 0x74, 0x73, 0x04, 0x00, 0x05, 0x5F, 0x67, 0x65, 0x74, 0x63, 0x04, 0x00,                         /* _gets, _getc */
+};
+static uint8_t library[1024];
+static const struct omf_library_member library_members[] = {{16, 35}, {64, 47}};
+
+static bool finds(const char *name, uint64_t offset) {
+    const struct omf_answer is = omf_library_find(library, sizeof library, (const uint8_t *)name, strlen(name));
+    return is.status == OMF_DONE && is.size == offset && is.record_count == (offset != 0);
+}
+
+static bool lacks(size_t length, uint32_t reason, uint64_t size, uint64_t count) {
+    struct omf_library_member out[2];
+    const struct omf_answer is = omf_library_members(library, length, false, out, 2);
+    return is.status == OMF_NO_LIBRARY && is.reason == reason && is.size == size && is.record_count == count;
+}
+
+static void libraries(void) {
+    struct omf_library_member out[3], before[3];
+    struct omf_answer is;
+    long n = 0;
+    memcpy(library, members_of_library, sizeof members_of_library);
+    memcpy(library + 512, dictionary, sizeof dictionary);
+    memset(before, 7, sizeof before);
+    for (size_t room = 0; room <= 3; room++) {
+        memset(out, 7, sizeof out);
+        is = omf_library_members(library, sizeof library, true, out, room);
+        if (!has(is, room < 2 ? OMF_ROOM : OMF_DONE, 2)) fail("library", "another answer");
+        if (room >= 2) memcpy(before, library_members, sizeof library_members);
+        if (memcmp(out, before, sizeof out) != 0) fail("library", "other members");
+    }
+    do {
+        refused_from = n++;
+        allocations = 0;
+        is = omf_library_members(library, sizeof library, false, out, 3);
+        refused_from = -1;
+    } while (has(is, OMF_MEMORY, 0));
+    if (n < 2 || !has(is, OMF_DONE, 2)) fail("library", "refused allocations");
+    if (!finds("_hello", 16) || !finds("_gets", 64) || !finds("_getc", 64) || !finds("_HELLO", 0) || !finds("", 0)) fail("library", "another member found");
+    if (omf_library_find(library, 600, NULL, 0).reason != OMF_NO_DICTIONARY) fail("library", "a dictionary that is not there");
+    if (!lacks(0, OMF_NO_LIBRARY_HEADER, 0, 0) || !lacks(15, OMF_LIBRARY_HEADER_CUT, 0, 0) || !lacks(112, OMF_NO_LIBRARY_END, 112, 2)) fail("library", "another fault");
+    library[27] = 1;
+    is = omf_library_members(library, sizeof library, false, out, 3);
+    if (is.status != OMF_REFUSED || is.reason != OMF_CHECKSUM || is.size != 16 || is.record_count != 0 || is.number != 0 || is.start != 0) fail("library", "a member refused");
+    library[1] = 0x0E;
+    if (!lacks(sizeof library, OMF_PAGE_SIZE, 17, 0)) fail("library", "another page size");
+}
+
 int main(void) {
     images();
     image_faults();
@@ -236,6 +298,7 @@ int main(void) {
     other_segments();
     other_publics();
     other_fixups();
+    libraries();
     if (omf_groups(others, sizeof others, false, NULL, 0).status != OMF_DONE) fail("no groups", "another answer");
     if (failures == 0) printf("every table has its rows, every image its runs and bytes\n");
     return failures > 0;

@@ -5,3 +5,4 @@ pub mod Making
 pub mod Runs
 pub mod Tables
 pub mod Texts
+pub mod Libraries

@@ -11,10 +11,11 @@ use omf_reloc::{Cause, Kind, ReachFault};
 #[derive(Clone, Copy, PartialEq, Eq)]
 pub struct Answer {
     /// 0 done; 1 out of memory; 4 the module is refused; 5 a line of the placement is no entry; 6 the placement is too long; 7 the
-    /// placement does not reach; 8 the text does not fit the buffer.
+    /// placement does not reach; 8 the text does not fit the buffer; 9 the bytes are no library.
     pub status: u32,
     /// At status 4 the reason, 1 to 33. At status 7: 1 an entry is missing, 2 there is an extra entry, 3 an absolute segment is misplaced,
-    /// 4 a reference does not reach.
+    /// 4 a reference does not reach. At status 9: 1 there is no header, 2 the bytes end in it, 3 its length is no page size, 4 there is no end after
+    /// the members, 5 the dictionary is not in the bytes.
     pub reason: u32,
     /// At status 7 with reason 1 or 2: 1 a segment, 2 a group, 3 an external. With reason 4: 1 its target, 2 its location, 3 its distance.
     pub kind: u32,
@@ -28,9 +29,11 @@ pub struct Answer {
     pub start: u64,
     /// At status 5: the number of the line, from 1.
     pub line: u64,
-    /// The size of the text in bytes, or the number of rows, at status 0 or 8. For `omf_check` at status 0: the size of the module.
+    /// The size of the text in bytes, or the number of rows, at status 0 or 8. For `omf_check` at status 0: the size of the module. For
+    /// `omf_library_find` at status 0: the offset of the page. Of a library, at status 4 or 9: where the member or the end is looked for, or the page size.
     pub size: u64,
-    /// For `omf_check` at status 0: the number of records in the module.
+    /// For `omf_check` at status 0: the number of records in the module. For `omf_library_find`: 1 if the name has an entry. Of a library, at status
+    /// 4 or 9: the number of members before.
     pub record_count: u64,
 }
 

@@ -8,6 +8,7 @@ mod answer;
 mod calls;
 mod fixups;
 mod images;
+mod libraries;
 mod making;
 mod reasons;
 mod row_calls;
@@ -19,10 +20,12 @@ mod texts;
 
 pub use answer::Answer;
 pub use calls::{omf_canon, omf_check, omf_image, omf_list, omf_reloc, omf_start};
+pub use libraries::{omf_library_find, omf_library_members};
 pub use row_calls::{
     omf_externals, omf_fixups, omf_group_members, omf_groups, omf_publics, omf_segments,
 };
 pub use rows::{
-    ExternalRow, FixupRow, GroupRow, MemberRow, NamePlace, PublicRow, RunRow, SegmentRow, StartRow,
+    ExternalRow, FixupRow, GroupRow, LibraryMemberRow, MemberRow, NamePlace, PublicRow, RunRow, SegmentRow,
+    StartRow,
 };
 pub use texts::{omf_fault_line, omf_reason_name, omf_reason_sentence, omf_version};

@@ -133,3 +133,13 @@ pub struct StartRow {
     /// In bytes, in its frame.
     pub offset: u32,
 }
+
+/// A member of a library (TIS OMF 1.1, appendix 2).
+#[repr(C)]
+#[derive(Clone, Copy, Drop)]
+pub struct LibraryMemberRow {
+    /// Of its first byte, in bytes from the start of the library.
+    pub offset: u64,
+    /// In bytes.
+    pub size: u64,
+}
