@@ -34,11 +34,17 @@ def text_of(field):
     return front.encode() + b"".join(bytes([int(it[:2], 16)]) + it[2:].encode() for it in parts)
 
 
+def bytes_of(field):
+    """Bytes in hexadecimal; `XX*N` is N times a byte."""
+    parts = (it.partition("*") for it in field.split())
+    return b"".join(bytes.fromhex(digits) * int(times or 1) for digits, _, times in parts)
+
+
 def case_of(number, rule, line):
     name, call, records, text, status, printed = (it.strip() for it in line.split("|"))
     words = ["" if it == '""' else it for it in call.split(" ")]
     wanted = bytes.fromhex(printed[4:]) if printed.startswith("hex ") else text_of(printed)
-    return Case(number, rule, name, words, bytes.fromhex(records) + text_of(text), int(status), wanted)
+    return Case(number, rule, name, words, bytes_of(records) + text_of(text), int(status), wanted)
 
 
 def cases_of(path):
