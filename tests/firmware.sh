@@ -1,7 +1,7 @@
 #!/usr/bin/env bash
-# Has other tools read the texts of crates/omf_rom/src/tests.rt, and compares what they read with the memory: firmware.sh
+# Has other tools read the texts of crates/omf_module_tests/src/tests/chips.rt, and compares what they read with the memory: firmware.sh
 #
-# The tests of that crate show that the library writes these texts. objcopy (Debian's package: binutils) and srec_cat (srecord) read Intel
+# Those tests show that the library writes these texts. objcopy (Debian's package: binutils) and srec_cat (srecord) read Intel
 # HEX and S-records; a tool that is not installed is skipped. The status is 0 where each tool that is there reads the memory.
 set -euo pipefail
 cd "$(dirname "$0")/.."
@@ -16,7 +16,7 @@ import re
 import sys
 
 work = pathlib.Path(sys.argv[1])
-source = pathlib.Path("crates/omf_rom/src/tests.rt").read_text(encoding="utf-8")
+source = pathlib.Path("crates/omf_module_tests/src/tests/chips.rt").read_text(encoding="utf-8")
 literal = r'(b"(?:[^"\\]|\\.)*")'
 endings = {"LINEAR": "hex", "SEGMENTS": "hex", "S24": "srec", "S32": "srec"}
 for name, ending in endings.items():

@@ -3,22 +3,19 @@
 #
 # A command is a line `$ ..` in a block ```console of the page; the lines after it, up to the next command or the end of the
 # block, are what it must print. Bytes that the page shows before the command are compared with the file that the command reads.
-# OMF, OMF_PLACE, OMF_LINK, OMF_DUMP and OMF_LIB name the programs (omf, omf-place, omf-link, omf-dump and omf-lib, if not set), OMF_USES the program
-# of crates/omf_uses, and LIBOMF the shared library (crates/omf_uses/out/omf_uses and build/libomf.so). Where there is no omf, or OMF is
-# empty, `rt try` runs it from its sources, without any proof; commands that need the system's own files or another program are then left
-# out. So are commands whose tools are not installed, and those on files that are not part of the repository. The last line has how many
-# were left out.
+# OMF, OMF_PLACE, OMF_LINK, OMF_DUMP and OMF_LIB name the programs (omf, omf-place, omf-link, omf-dump and omf-lib, if not set), and LIBOMF
+# the shared library (build/libomf.so). Where there is no omf, or OMF is empty, `rt try` runs it from its sources, without any proof; commands
+# that need the system's own files or another program are then left out. So are commands whose tools are not installed, and those on files
+# that are not part of the repository. The last line has how many were left out.
 set -euo pipefail
 cd "$(dirname "$0")/.."
 omf=${OMF-omf}
-uses=$(realpath -m "${OMF_USES:-crates/omf_uses/out/omf_uses}")
 library=$(realpath -m "${LIBOMF:-build/libomf.so}")
 work=$(mktemp -d)
 # A page compiles a program `show`.
 made=$([ -e show ] || echo show)
 trap 'rm -rf "$work" ${made:+"$made"}' EXIT
 mkdir "$work/bin" "$work/cases"
-export PAIR=$uses
 [ $# -gt 0 ] || set -- docs/REASONS.md
 
 # In $work: N.command and N.said for the N-th command, and N.bytes where bytes are shown before it.
@@ -40,10 +37,9 @@ awk -v work="$work" '
 lacks_tool() {
     grep -q 'nasm\|/tmp/\(lamp\|far\)\.obj' <<< "$1" && ! command -v nasm > /dev/null && return
     grep -q 'omf-place' <<< "$1" && ! command -v omf-place > /dev/null && return
-    grep -q 'omf-link\|examples/link/run' <<< "$1" && ! command -v omf-link > /dev/null && return
+    grep -q 'omf-link\|examples/link/run\|examples/pair/run' <<< "$1" && ! command -v omf-link > /dev/null && return
     grep -q 'omf-dump' <<< "$1" && ! command -v omf-dump > /dev/null && return
     grep -q 'omf-lib' <<< "$1" && ! command -v omf-lib > /dev/null && return
-    grep -q 'examples/pair/run\|out/omf_uses' <<< "$1" && ! [ -x "$uses" ] && return
     grep -q '/srv/\|FOLDER\|< slow' <<< "$1" && return
     grep -q 'pkg-config\|\./show' <<< "$1" && ! pkg-config --exists omf 2> /dev/null && return
     grep -q 'build/libomf' <<< "$1" && ! [ -e "$library" ] && return
@@ -82,10 +78,10 @@ else
 fi
 PATH=$work/bin:$PATH
 # The examples' scripts find the programs on the path.
-unset OMF OMF_PLACE OMF_LINK
+unset OMF OMF_PLACE OMF_LINK LINK
 
 for number in $(seq "$commands"); do
-    command=$(sed "s|crates/omf_uses/out/omf_uses|$uses|; s|build/libomf\\.so|$library|" "$work/$number.command")
+    command=$(sed "s|build/libomf\\.so|$library|" "$work/$number.command")
     if [ -e "$work/$number.bytes" ]; then
         file=$(grep -o "examples/[^ ;|]*\.omf" <<< "$command" | head -1 || true)
         shown=$(tr -d ' \n' < "$work/$number.bytes")
@@ -99,7 +95,7 @@ for number in $(seq "$commands"); do
         continue
     elif [ $collects = no ]; then
         bash -c "$command" > "$work/got" 2>&1 || true
-    elif grep -q '/dev/full\|< examples$\|check examples/\|omf-\|omf_uses\|libomf\|\./list\|run\.sh' <<< "$command"; then
+    elif grep -q '/dev/full\|< examples$\|check examples/\|omf-\|libomf\|\./list\|run\.sh' <<< "$command"; then
         left_out=$((left_out + 1))
         continue
     elif grep -q omf <<< "$command" && ! grep -q '^cat [^|]*$' <<< "$command"; then

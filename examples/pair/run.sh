@@ -1,13 +1,13 @@
 #!/usr/bin/env bash
-# Derives the placements of two modules that call one another, lays their images into a boot sector, boots it in an emulator, and
-# compares what it prints with said.txt. PAIR names the program (crates/omf_uses, which `rt run` there builds).
+# Links two modules that call one another at the addresses of pair.link, makes a boot sector, boots it in an emulator, and compares what it
+# prints with said.txt. LINK names the program; if not set, omf-link, or where that is not installed, crates/omf_link/out/omf_link.
 #
-# Debian's packages: nasm (to assemble the sources anew and compare), qemu-system-x86, python3.
+# Debian's packages: nasm (to assemble the sources anew and compare), qemu-system-x86.
 set -euo pipefail
 cd "$(dirname "$0")"
-pair=${PAIR:-../../crates/omf_uses/out/omf_uses}
+link=${LINK:-$(command -v omf-link || echo ../../crates/omf_link/out/omf_link)}
 
-for tool in "$pair" python3 qemu-system-i386; do
+for tool in "$link" qemu-system-i386; do
     command -v "$tool" > /dev/null || { echo "skipped: $tool is not installed"; exit 0; }
 done
 work=$(mktemp -d)
@@ -24,10 +24,11 @@ if command -v nasm > /dev/null; then
     done
 fi
 
-# Before the placements and the images the program prints what its samples show.
-cat caller.obj callee.obj | "$pair" | grep -E '^(S|E|START|[0-9A-F]{4}:)' > "$work/shown"
-cat "$work/shown"
-python3 sector.py < "$work/shown" > "$work/sector.img"
+"$link" map -t pair.link caller.obj callee.obj | grep '^external'
+"$link" image -t pair.link caller.obj callee.obj
+
+# The sector begins at 7C00H and has 512 bytes; those that no module has are 0.
+"$link" bin --base 7C00 --size 200 --fill 0 -t pair.link -o "$work/sector.img" caller.obj callee.obj
 
 # The sector ends the emulator by port F4H, which makes the status odd.
 timeout 60 qemu-system-i386 -display none -monitor none -serial "file:$work/said" -device isa-debug-exit,iobase=0xf4,iosize=1 \

@@ -24,8 +24,6 @@ pub mod needed;
 pub mod rows;
 mod search;
 mod spans;
-#[cfg(test)]
-mod tests;
 
 pub use account::{Region, RegionKind, account_of};
 pub use dictionary::{BLOCK, Bucket, Dictionary, Look};

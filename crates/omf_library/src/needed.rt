@@ -12,8 +12,6 @@ mod defaults;
 pub mod laws;
 mod names;
 mod search;
-#[cfg(test)]
-mod tests;
 mod walk;
 
 pub use defaults::default_libraries;

@@ -7,6 +7,7 @@ use std::alloc::Global;
 use verdicts::ANY;
 
 mod canonical;
+mod chips;
 mod contents;
 mod devices;
 mod exe;
@@ -18,8 +19,10 @@ mod headline;
 mod image;
 mod inputs;
 mod layouts;
+mod libraries;
 mod limits;
 mod linking;
+mod needed;
 mod placing;
 mod readers;
 mod reading;

@@ -10,8 +10,6 @@ mod memory;
 mod rows;
 mod run;
 mod srec;
-#[cfg(test)]
-mod tests;
 
 pub use binary::{fits, write_binary};
 pub use form::{Chip, Form};

@@ -3,3 +3,5 @@
 
 #[cfg(test)]
 mod tests;
+#[cfg(test)]
+mod uses;

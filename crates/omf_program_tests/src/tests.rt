@@ -13,4 +13,5 @@ mod printing;
 mod scarce;
 mod spelled;
 mod tools;
+mod uses;
 mod verdicts;

@@ -1,9 +1,9 @@
-//! Each call with ample memory. The texts were worked out by hand; `tests/firmware.sh` has other tools read them.
+//! Files for chips, by each call with ample memory. The texts were worked out by hand; `tests/firmware.sh` has other tools read them.
 
-use crate::rom::{
+use omf_image::Image;
+use omf_output::rom::{
     Chip, FileFault, Form, HexBase, Run, SAddress, first_above, fits, memory_file, write_s_records,
 };
-use omf_image::Image;
 use std::alloc::Global;
 
 /// Three runs: across 64 KB, in the same block of 16 addresses, and far above.

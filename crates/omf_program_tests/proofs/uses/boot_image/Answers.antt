@@ -7,7 +7,7 @@ use Rattle.omf_image.specs.Overlay.{byte_at}
 use Rattle.omf_placement.specs.Placement.{Places}
 use Rattle.omf_reloc.specs.Image.{image}
 use Rattle.omf_reloc.specs.Reach.{reach_fault}
-use Rattle.omf_uses.proofs.boot.boot_image.Goals as goal
+use Rattle.omf_program_tests.proofs.uses.boot_image.Goals as goal
 
 pub returns-in_err-reach : goal.returns-in_err-reach
 returns-in_err-reach c =

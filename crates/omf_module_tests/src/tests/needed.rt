@@ -2,9 +2,10 @@
 //! one character: a small letter is one of a PUBDEF or an EXTDEF, a capital one of an LPUBDEF or a LEXTDEF, a digit among
 //! the externals one of a COMDEF.
 
-use crate::needed::{default_libraries, needed_members};
-use omf_check::{Checked, Profile, check};
+use super::verdicts::ANY;
+use omf_check::{Checked, check};
 use omf_frame::Bytes;
+use omf_library::needed::{default_libraries, needed_members};
 use std::alloc::{AllocError, Global};
 use std::test::Fail;
 
@@ -75,13 +76,10 @@ fn bytes_of(alloc: Global, module: &Module<'_>) -> Result<Vec<u8>, AllocError> {
 
 /// Modules, checked.
 fn checked_of(alloc: Global, modules: &[Module<'_>]) -> Result<Vec<Checked>, Fail> {
-    let profile = Profile {
-        refuse_vendor_comments: false,
-    };
     let mut all = Vec::new(alloc);
     for module in modules {
         let bytes = bytes_of(alloc, module)?;
-        all.push(check(alloc, &mut Bytes::new(&bytes), profile)?)?;
+        all.push(check(alloc, &mut Bytes::new(&bytes), ANY)?)?;
     }
     Ok(all)
 }
@@ -139,9 +137,6 @@ fn local_names_do_not_count(rt: HostRuntime) -> Result<(), Fail> {
 #[test]
 fn libraries_are_asked_for_once(rt: HostRuntime) -> Result<(), Fail> {
     let alloc = rt.alloc();
-    let profile = Profile {
-        refuse_vendor_comments: false,
-    };
     let mut modules = Vec::new(alloc);
     for texts in ["bXa", "", "cab"] {
         let mut bytes = Vec::new(alloc);
@@ -150,7 +145,7 @@ fn libraries_are_asked_for_once(rt: HostRuntime) -> Result<(), Fail> {
             bytes.extend_from_slice(&comment_record(*text))?;
         }
         bytes.extend_from_slice(&[0x8A, 2, 0, 0, 0x74])?;
-        modules.push(check(alloc, &mut Bytes::new(&bytes), profile)?)?;
+        modules.push(check(alloc, &mut Bytes::new(&bytes), ANY)?)?;
     }
     let names = default_libraries(alloc, &modules)?;
     let mut all = Vec::new(alloc);

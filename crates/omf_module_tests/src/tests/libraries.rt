@@ -1,13 +1,11 @@
-//! A library of one module of 11 bytes, with pages of 16 bytes; offsets worked out by hand.
+//! Libraries: one of one module of 11 bytes, with pages of 16 bytes; offsets worked out by hand.
 
-ghost use Rattle.std.specs.Prelude.{◌≤◌};
-
-use crate::{
+use super::verdicts::ANY;
+use omf_frame::Reason;
+use omf_library::{
     LibraryFault, MakeFault, Member, Part, RegionKind, account_of, make, members_in, read_header,
     spans_in,
 };
-use omf_check::Profile;
-use omf_frame::Reason;
 use std::alloc::Global;
 use std::test::Fail;
 
@@ -18,13 +16,8 @@ const LIBRARY: [u8; 35] = [
 ];
 
 /// The members of the first bytes of the library.
-fn members_of(alloc: Global, length: usize) -> Result<Vec<Member>, LibraryFault>
-    requires { length ≤ 35 }
-{
-    let profile = Profile {
-        refuse_vendor_comments: false,
-    };
-    members_in(alloc, profile, &LIBRARY[..length])
+fn members_of(alloc: Global, length: usize) -> Result<Vec<Member>, LibraryFault> {
+    members_in(alloc, ANY, LIBRARY.get(..length).unwrap_or(&[]))
 }
 
 #[test]
@@ -73,9 +66,6 @@ fn a_member_is_cut(rt: HostRuntime) -> Result<(), Fail> {
 
 /// A library of the module, without publics.
 fn made_of(alloc: Global, module: &[u8]) -> Result<Vec<u8>, MakeFault> {
-    let profile = Profile {
-        refuse_vendor_comments: false,
-    };
     let mut bytes = Vec::new(alloc);
     bytes.extend_from_slice(module)?;
     let mut parts = Vec::new(alloc);
@@ -83,7 +73,7 @@ fn made_of(alloc: Global, module: &[u8]) -> Result<Vec<u8>, MakeFault> {
         bytes,
         names: Vec::new(alloc),
     })?;
-    make(alloc, profile, true, parts.as_slice())
+    make(alloc, ANY, true, parts.as_slice())
 }
 
 /// The header and the module take two pages of 16 bytes; the F1H record ends at 512; the dictionary has two blocks.
