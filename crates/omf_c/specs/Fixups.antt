@@ -8,7 +8,7 @@ use Rattle.omf_records.specs.Values.{DataItem, is_segment_relative, location_off
 use Rattle.omf_check.specs.Listed.{placed_from}
 use Rattle.omf_check.specs.declared.method.FrameMethod.{FrameMethod}
 use Rattle.omf_check.specs.declared.method.FrameMethod.TheVariants.{Of, Location as F4, Target as F5}
-use Rattle.omf_reloc.specs.Plain.{Piece, Kept, Fixed, End, PlainFixup, data_of}
+use Rattle.omf_reloc.specs.Plain.{Piece, Fixed, PlainFixup, data_of}
 -- computed: what `pieces_of` of omf_reloc gives, whose contract ties them to the module's pieces.
 use Rattle.omf_reloc.specs.Inner.Pieces.{placed_pieces}
 use Rattle.omf_c.specs.Tables.{flag}

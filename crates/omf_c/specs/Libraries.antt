@@ -18,14 +18,18 @@ use Rattle.omf_c.specs.declared.rows.LibraryMemberRow.{LibraryMemberRow}
 abbrev pub library_row : Member → LibraryMemberRow
 library_row m = record { offset = m.offset; size = m.length }
 
+-- The result for bytes that are no library, by the number of the reason alone.
+abbrev pub no_library : ℕ → Answer
+no_library reason = record done { status = 9; reason = reason }
+
 -- The result for bytes that are no library: the number of the reason; the page size; where the end is missing and how many members are before it; the refusal of a
 -- member, where it begins, and how many are before it.
 abbrev pub of_library_fault : LibraryFault → Answer
 of_library_fault fault.Memory = record done { status = 1 }
-of_library_fault fault.NoHeader = record done { status = 9; reason = 1 }
-of_library_fault fault.HeaderCut = record done { status = 9; reason = 2 }
-of_library_fault (fault.PageSize n) = record done { status = 9; reason = 3; size = n }
-of_library_fault (fault.NoEnd members at) = record done { status = 9; reason = 4; size = at; record_count = members }
+of_library_fault fault.NoHeader = no_library 1
+of_library_fault fault.HeaderCut = no_library 2
+of_library_fault (fault.PageSize n) = record (no_library 3) { size = n }
+of_library_fault (fault.NoEnd members at) = record (no_library 4) { size = at; record_count = members }
 of_library_fault (fault.Refused members at why place) = record done { status = 4; reason = reason_number why; number = place.number; within = place.within; start = place.start; size = at; record_count = members }
 
 -- The rows of the members of a library, or why the bytes are none.
@@ -48,7 +52,7 @@ of_entry page (Some number) = record done { record_count = 1; size = number * pa
 
 -- The result for the first entry of a name in a dictionary, if there is a dictionary.
 abbrev pub IsEntryOf : Header → List ℕ → Option Dictionary → Answer → Type 0
-IsEntryOf header name None answer = answer ≡ record done { status = 9; reason = 5 }
+IsEntryOf header name None answer = answer ≡ no_library 5
 IsEntryOf header name (Some d) answer = (entry : Option ℕ) × IsFirstEntry d.is_case_sensitive d.bytes.now name entry × (answer ≡ of_entry header.page entry)
 
 -- The result for a name in the dictionary of bytes with this header, or for bytes without a header.

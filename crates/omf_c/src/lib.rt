@@ -25,7 +25,7 @@ pub use row_calls::{
     omf_externals, omf_fixups, omf_group_members, omf_groups, omf_publics, omf_segments,
 };
 pub use rows::{
-    ExternalRow, FixupRow, GroupRow, LibraryMemberRow, MemberRow, NamePlace, PublicRow, RunRow, SegmentRow,
-    StartRow,
+    ExternalRow, FixupRow, GroupRow, LibraryMemberRow, MemberRow, NamePlace, PublicRow, RunRow,
+    SegmentRow, StartRow,
 };
 pub use texts::{omf_fault_line, omf_reason_name, omf_reason_sentence, omf_version};

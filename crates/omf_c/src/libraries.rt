@@ -2,7 +2,7 @@
 
 ghost use Rattle.std.specs.Prelude.{◌≡◌, IfOk, Ok, map};
 ghost use Rattle.omf_records.specs.Inner.Seen.{map_ok};
-ghost use Rattle.omf_c.specs.Libraries.{AreRowsIn, IsFound, IsFoundIn, IsLibraryAnswered, library_row, of_entry, of_library_fault};
+ghost use Rattle.omf_c.specs.Libraries.{AreRowsIn, IsFound, IsFoundIn, IsLibraryAnswered, library_row, no_library, of_entry, of_library_fault};
 
 use crate::answer::{Answer, NOTHING, hand_out};
 use crate::making::profile;
@@ -12,7 +12,9 @@ use omf_library::{Header, LibraryFault, Member, dictionary_in, members_in, read_
 use std::alloc::{AllocError, Global};
 
 /// The result for bytes that are no library, by its reason.
-fn no_library(reason: u32) -> Answer {
+fn no_library(reason: u32) -> Answer
+    ensures { result ≡ no_library reason }
+{
     Answer {
         status: 9,
         reason,
