@@ -18,7 +18,7 @@ fn digit(number: u32) -> u8
 
 /// A byte in two hexadecimal digits.
 #[inline(always)]
-pub fn two_digits(byte: u8) -> [u8; 2]
+pub(crate) fn two_digits(byte: u8) -> [u8; 2]
     ensures { result ≡ hex 2 byte }
 {
     let number = u32::from(byte);
@@ -26,7 +26,7 @@ pub fn two_digits(byte: u8) -> [u8; 2]
 }
 
 /// A number in eight hexadecimal digits.
-pub fn eight_digits(number: u32) -> [u8; 8]
+pub(crate) fn eight_digits(number: u32) -> [u8; 8]
     ensures { result ≡ hex 8 number }
 {
     [
@@ -42,7 +42,7 @@ pub fn eight_digits(number: u32) -> [u8; 8]
 }
 
 /// A number in four hexadecimal digits.
-pub fn four_digits(number: u16) -> [u8; 4]
+pub(crate) fn four_digits(number: u16) -> [u8; 4]
     ensures { result ≡ hex 4 number }
 {
     let number = u32::from(number);

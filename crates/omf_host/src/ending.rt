@@ -17,6 +17,19 @@ pub enum Status {
 }
 
 impl Status {
+    /// The status with an exit status.
+    pub fn of_code(code: u8) -> Status
+        requires { code ≤ 3 }
+        ensures { exit_code result ≡ code }
+    {
+        match code {
+            0 => Status::Done,
+            1 => Status::Refused,
+            2 => Status::Misused,
+            _ => Status::Failed,
+        }
+    }
+
     /// The exit status of the process.
     pub fn code(self) -> u8
         ensures code { result ≡ exit_code self }

@@ -1,4 +1,4 @@
-//! Files by name: reading, and writing of files that are not there.
+//! Files by name: reading, and writing of whole files.
 
 use std::alloc::AllocError;
 use std::fs::File;
@@ -39,6 +39,27 @@ fn fill_new(rt: &HostRuntime, path: &str, bytes: &[u8]) -> io::Result<()> {
             Err(error)
         }
     }
+}
+
+/// Writes a file: beside it, as `PATH.tmp`, which is then renamed. So the file has all of the bytes, or is as it was before.
+///
+/// # Errors
+///
+/// `AllocError` if there is no memory for the name. Nothing is written then.
+pub fn write_whole(
+    rt: &HostRuntime,
+    path: &str,
+    bytes: &[u8],
+) -> Result<io::Result<()>, AllocError> {
+    let beside = format!(in rt.alloc(); "{path}.tmp")?;
+    if let Err(error) = fill_new(rt, beside.as_str(), bytes) {
+        return Ok(Err(error));
+    }
+    let renamed = fs::rename(rt, beside.as_str(), path);
+    if renamed.is_err() {
+        let _ = fs::remove_file(rt, beside.as_str());
+    }
+    Ok(renamed)
 }
 
 /// Whether a path has a file, a folder or a link.

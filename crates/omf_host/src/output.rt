@@ -5,7 +5,7 @@ ghost use Rattle.omf_host.specs.declared.ending.Status.{Status as AnyStatus};
 ghost use Rattle.std.specs.Io.KnownBytes.{Keeps};
 ghost use Rattle.std.specs.Process.{exit_status};
 ghost use Rattle.omf_host.specs.Ending.{IsPut, exit_code, flushed_status};
-ghost use Rattle.omf_host.specs.declared.ending.Status.TheVariants.{Failed};
+ghost use Rattle.omf_host.specs.declared.ending.Status.TheVariants.{Failed, Misused};
 
 use crate::ending::Status;
 use omf_frame::{Sink, Writing, push_all};
@@ -21,6 +21,15 @@ pub fn put<K: Sink>(writer: &mut K, bytes: &[u8]) -> Status
         Ok(()) => Status::Done,
         Err(_) => Status::Failed,
     }
+}
+
+/// Writes how a program is called. Returns `Misused`.
+pub fn misused<K: Sink>(writer: &mut K, usage: &[u8]) -> Status
+    ensures status { result ≡ Misused }
+    ensures text { (wrote : AnyStatus) × IsPut (K.seen writer.old) (K.seen writer.new) usage.now wrote }
+{
+    let _ = put(writer, usage);
+    Status::Misused
 }
 
 /// Writes the line `memory`. Returns `Failed`.

@@ -1,6 +1,6 @@
 //! Numbers and names as text.
 
-ghost use Rattle.std.specs.Prelude.{◌≡◌, decimal, flat_map, string_bytes};
+ghost use Rattle.std.specs.Prelude.{◌≡◌, ◌∷◌, decimal, flat_map, string_bytes};
 ghost use Rattle.omf_frame.specs.Bytes.{AddsText};
 ghost use Rattle.omf_placement.specs.Quoted.{escaped, hex, is_plain, quoted};
 ghost use Rattle.omf_host.specs.Lines.{shown_name};
@@ -70,22 +70,27 @@ pub fn is_plain(byte: u8) -> bool
     byte >= 0x20 && byte <= 0x7E && byte != b'"' && byte != b'\\'
 }
 
-/// Appends a byte of a name, as it is or as `\x` and two hexadecimal digits.
-fn put_escaped(text: &mut Vec<u8>, byte: u8) -> Result<(), AllocError>
-    ensures { AddsText result text.old.items text.new.items (escaped byte) }
+/// Appends a byte as `\x` and two hexadecimal digits.
+fn put_digits(text: &mut String, byte: u8) -> Result<(), AllocError>
+    ensures { AddsText result (string_bytes text.old) (string_bytes text.new) (92 ∷ 120 ∷ hex 2 byte) }
+{
+    write!(text, "\\x{byte:02X}")
+}
+
+/// Appends a byte of a name, as it is or by its digits.
+fn put_escaped(text: &mut String, byte: u8) -> Result<(), AllocError>
+    ensures { AddsText result (string_bytes text.old) (string_bytes text.new) (escaped byte) }
 {
     if is_plain(byte) {
-        text.push(byte)?;
-        Ok(())
+        text.push(char::from(byte))
     } else {
-        text.extend_from_slice(b"\\x")?;
-        put_byte(text, byte)
+        put_digits(text, byte)
     }
 }
 
 /// Appends a name as it is safe on a terminal: bytes that are not plain as `\x` and two hexadecimal digits.
-pub fn put_name(text: &mut Vec<u8>, name: &[u8]) -> Result<(), AllocError>
-    ensures { AddsText result text.old.items text.new.items (shown_name name.now) }
+pub fn put_name(text: &mut String, name: &[u8]) -> Result<(), AllocError>
+    ensures { AddsText result (string_bytes text.old) (string_bytes text.new) (shown_name name.now) }
 {
     for byte in name {
         put_escaped(text, *byte)?;
@@ -94,11 +99,10 @@ pub fn put_name(text: &mut Vec<u8>, name: &[u8]) -> Result<(), AllocError>
 }
 
 /// Appends a name in double quotes, as `put_name` does.
-pub fn put_quoted(text: &mut Vec<u8>, name: &[u8]) -> Result<(), AllocError>
-    ensures { AddsText result text.old.items text.new.items (quoted name.now) }
+pub fn put_quoted(text: &mut String, name: &[u8]) -> Result<(), AllocError>
+    ensures { AddsText result (string_bytes text.old) (string_bytes text.new) (quoted name.now) }
 {
-    text.push(b'"')?;
+    text.push('"')?;
     put_name(text, name)?;
-    text.push(b'"')?;
-    Ok(())
+    text.push('"')
 }

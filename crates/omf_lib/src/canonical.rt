@@ -2,14 +2,14 @@
 
 use crate::asked::Make;
 use crate::fault::Fault;
-use crate::files::read_input;
 use crate::library::{Library, read_members};
-use crate::making::{Members, put_unread, write_members};
+use crate::making::{Members, write_members};
 use crate::members::{Verdict, judge};
 use crate::shown::{Shown, Stop};
 use crate::span::Span;
 use omf_canon::canon;
 use omf_check::{Checked, Profile};
+use omf_host::{Status, read_input};
 use omf_library::{Part, read_header};
 use std::alloc::{AllocError, Global};
 
@@ -77,7 +77,7 @@ fn write_canonical(
         push_canonical(shown, &mut parts, asked.profile, member)?;
         push_name(rt.alloc(), &mut names, member)?;
     }
-    if shown.status != 0 {
+    if shown.status != Status::Done {
         return Ok(());
     }
     let members = Members {
@@ -96,7 +96,7 @@ pub fn canon_library(rt: &HostRuntime, shown: &mut Shown, asked: &Make) -> Resul
     };
     let bytes = match read_input(rt, name.as_str()) {
         Ok(bytes) => bytes,
-        Err(error) => return Ok(put_unread(shown, name.as_str(), &error)?),
+        Err(error) => return Ok(shown.unread(name.as_str(), &error)?),
     };
     let library = match read_header(&bytes) {
         Ok(header) => read_members(rt.alloc(), &bytes, header)?,

@@ -6,9 +6,9 @@ use crate::listing::put_public;
 use crate::members::{Verdict, judge};
 use crate::publics::publics_of;
 use crate::shown::{Shown, Stop};
-use crate::text::{put_escaped, put_quoted};
 use omf_check::Profile;
 use omf_frame::Sink;
+use omf_host::put_quoted;
 use omf_library::{Dictionary, Rule, read_header};
 use std::alloc::AllocError;
 use std::fmt::Write;
@@ -78,7 +78,7 @@ fn put_entry(
     let Some(page) = dictionary.first_entry(name) else {
         return Ok(false);
     };
-    write!(text, "E {page}")?;
+    write!(text, "E {page} ")?;
     put_quoted(text, name)?;
     put_found(text, dictionary, Rule::Restart, name, page)?;
     put_found(text, dictionary, Rule::Keep, name, page)?;
@@ -91,23 +91,20 @@ fn put_name(
     shown: &mut Shown,
     library: &Library<'_>,
     all: &[Defined],
-    name: &[u8],
+    name: &str,
 ) -> Result<(), AllocError> {
-    let is_public = put_members(&mut shown.text, all, name)?;
+    let is_public = put_members(&mut shown.text, all, name.as_bytes())?;
     let has_entry = match library.dictionary() {
-        Some(dictionary) => put_entry(&mut shown.text, dictionary, name)?,
+        Some(dictionary) => put_entry(&mut shown.text, dictionary, name.as_bytes())?,
         None => false,
     };
     if is_public || has_entry {
         return Ok(());
     }
-    shown.raise(1);
-    shown.text.push_str("refused ")?;
-    put_escaped(&mut shown.text, name)?;
-    shown.text.push_str(": no such public\n")
+    shown.refuse(name, "no such public")
 }
 
-/// Writes where names are defined in a library; or why a file is none. Returns the status.
+/// Writes where names are defined in a library; or why a file is none.
 pub fn find<K: Sink>(
     shown: &mut Shown,
     writer: &mut K,
@@ -123,7 +120,7 @@ pub fn find<K: Sink>(
     }
     let all = all_publics(shown, &library)?;
     for name in names {
-        put_name(shown, &library, all.as_slice(), name.as_bytes())?;
+        put_name(shown, &library, all.as_slice(), name.as_str())?;
         shown.flush(writer)?;
     }
     Ok(())

@@ -1,10 +1,7 @@
 //! The program on the arguments, the files and the standard output of its process.
 
-ghost use Rattle.std.specs.Prelude.{◌≤◌};
-
 use crate::asked::{Asked, Look, Make, read_arguments};
 use crate::canonical::canon_library;
-use crate::files::{read_input, shown_path};
 use crate::finding::find;
 use crate::judging::judge_file;
 use crate::listing::list;
@@ -12,48 +9,16 @@ use crate::making::make_library;
 use crate::shown::{Shown, Stop};
 use crate::taking::get;
 use omf_check::Profile;
-use omf_frame::{Sink, Writing, push_all};
+use omf_frame::{Sink, Writing};
+use omf_host::{
+    Status, arguments, end, misused, out_of_memory, put, put_title, put_unread, read_input,
+};
 use std::alloc::{AllocError, Global};
-use std::io::{ErrorKind, Write};
 use std::process::ExitCode;
-use std::{env, io};
 
 /// How the program is called.
 const USAGE: &[u8] =
     b"usage: omf-lib list|check [--refuse-vendor-comments] LIB ..\n       omf-lib find LIB NAME ..\n       omf-lib get LIB [MEMBER ..] -d DIR [--numbered]\n       omf-lib make [--refuse-vendor-comments] -o LIB FILE ..\n       omf-lib canon [--refuse-vendor-comments] -o LIB LIB\n";
-
-/// The line when out of memory.
-const MEMORY: &[u8] = b"memory\n";
-
-/// The arguments of the process without the program's own name; None if one of them is not UTF-8.
-fn arguments(rt: &HostRuntime) -> Result<Option<Vec<String>>, AllocError> {
-    match env::args(rt) {
-        Ok(words) => Ok(Some(words.skip(1).collect(rt.alloc())?)),
-        Err(error) if error.kind() == ErrorKind::OutOfMemory => Err(AllocError),
-        Err(_) => Ok(None),
-    }
-}
-
-/// Writes all of the bytes. Returns the status: 0, or 3 if they could not be written.
-fn put<K: Sink>(writer: &mut K, bytes: &[u8]) -> u8 {
-    match push_all(writer, bytes) {
-        Ok(()) => 0,
-        Err(_) => 3,
-    }
-}
-
-/// Writes the line of a file that could not be read.
-fn put_unread<K: Sink>(
-    alloc: Global,
-    writer: &mut K,
-    name: &str,
-    error: &io::Error,
-) -> Result<(), Stop> {
-    let name = shown_path(alloc, name)?;
-    let line = format!(in alloc; "read {name}: {error}\n")?;
-    let _ = put(writer, line.as_bytes());
-    Ok(())
-}
 
 /// The bytes of a file; None, after a line, if it could not be read.
 fn input_of<K: Sink>(
@@ -64,34 +29,33 @@ fn input_of<K: Sink>(
     match read_input(rt, name) {
         Ok(bytes) => Ok(Some(bytes)),
         Err(error) => {
-            put_unread(rt.alloc(), writer, name, &error)?;
+            let mut line = String::new(rt.alloc());
+            put_unread(&mut line, name, &error)?;
+            let _ = put(writer, line.as_bytes());
             Ok(None)
         }
     }
 }
 
 /// The status of a task on one file, after the line `memory` if memory ran out.
-fn settled<K: Sink>(writer: &mut K, answer: Result<u8, Stop>) -> u8 {
+fn settled<K: Sink>(writer: &mut K, answer: Result<Status, Stop>) -> Status {
     match answer {
         Ok(status) => status,
-        Err(Stop::Memory) => {
-            let _ = put(writer, MEMORY);
-            3
-        }
-        Err(Stop::Write) => 3,
+        Err(Stop::Memory) => out_of_memory(writer),
+        Err(Stop::Write) => Status::Failed,
     }
 }
 
-/// Looks at one file. Returns the status: 0, 1 if something is refused, 3 if it could not be read.
+/// Looks at one file. Returns the status.
 fn look_at<K: Sink>(
     rt: &HostRuntime,
     writer: &mut K,
     look: Look,
     profile: Profile,
     name: &str,
-) -> Result<u8, Stop> {
+) -> Result<Status, Stop> {
     let Some(bytes) = input_of(rt, writer, name)? else {
-        return Ok(3);
+        return Ok(Status::Failed);
     };
     match look {
         Look::List => list(rt.alloc(), writer, profile, &bytes),
@@ -100,9 +64,9 @@ fn look_at<K: Sink>(
 }
 
 /// Writes a line with the name of one of several files.
-fn put_title<K: Sink>(alloc: Global, writer: &mut K, name: &str) -> Result<u8, Stop> {
-    let mut line = shown_path(alloc, name)?;
-    line.push_str(":\n")?;
+fn show_title<K: Sink>(alloc: Global, writer: &mut K, name: &str) -> Result<Status, Stop> {
+    let mut line = String::new(alloc);
+    put_title(&mut line, name)?;
     Ok(put(writer, line.as_bytes()))
 }
 
@@ -113,15 +77,15 @@ fn look_at_all<K: Sink>(
     look: Look,
     profile: Profile,
     files: &[String],
-) -> u8 {
-    let mut status = 0u8;
+) -> Status {
+    let mut status = Status::Done;
     for name in files {
         if files.len() > 1 {
-            let titled = put_title(rt.alloc(), writer, name.as_str());
-            status = status.max(settled(writer, titled));
+            let titled = show_title(rt.alloc(), writer, name.as_str());
+            status = status.worst(settled(writer, titled));
         }
         let answer = look_at(rt, writer, look, profile, name.as_str());
-        status = status.max(settled(writer, answer));
+        status = status.worst(settled(writer, answer));
     }
     status
 }
@@ -132,9 +96,9 @@ fn act_on<K: Sink>(
     writer: &mut K,
     asked: &Asked,
     file: &str,
-) -> Result<u8, Stop> {
+) -> Result<Status, Stop> {
     let Some(bytes) = input_of(rt, writer, file)? else {
-        return Ok(3);
+        return Ok(Status::Failed);
     };
     let mut shown = Shown::new(rt.alloc());
     match asked {
@@ -147,7 +111,7 @@ fn act_on<K: Sink>(
 }
 
 /// Makes a library. Returns the status.
-fn act_make<K: Sink>(rt: &HostRuntime, writer: &mut K, asked: &Make) -> Result<u8, Stop> {
+fn act_make<K: Sink>(rt: &HostRuntime, writer: &mut K, asked: &Make) -> Result<Status, Stop> {
     let mut shown = Shown::new(rt.alloc());
     make_library(rt, &mut shown, asked)?;
     shown.flush(writer)?;
@@ -155,7 +119,7 @@ fn act_make<K: Sink>(rt: &HostRuntime, writer: &mut K, asked: &Make) -> Result<u
 }
 
 /// Makes a library of the canonical bytes of another one's members. Returns the status.
-fn act_canon<K: Sink>(rt: &HostRuntime, writer: &mut K, asked: &Make) -> Result<u8, Stop> {
+fn act_canon<K: Sink>(rt: &HostRuntime, writer: &mut K, asked: &Make) -> Result<Status, Stop> {
     let mut shown = Shown::new(rt.alloc());
     canon_library(rt, &mut shown, asked)?;
     shown.flush(writer)?;
@@ -163,7 +127,7 @@ fn act_canon<K: Sink>(rt: &HostRuntime, writer: &mut K, asked: &Make) -> Result<
 }
 
 /// Does what the arguments ask for. Returns the status.
-fn act<K: Sink>(rt: &HostRuntime, writer: &mut K, asked: &Asked) -> u8 {
+fn act<K: Sink>(rt: &HostRuntime, writer: &mut K, asked: &Asked) -> Status {
     match asked {
         Asked::Look {
             look,
@@ -196,21 +160,11 @@ fn asked_of(rt: &HostRuntime) -> Result<Option<Asked>, AllocError> {
 /// Runs the program. Returns the exit status: 0 done, 1 something is refused, 2 the arguments are not understood, 3 a
 /// file could not be read or written, the output could not be written, or memory ran out.
 pub fn run(rt: &HostRuntime) -> ExitCode {
-    let mut output = rt.stdout();
-    let mut writer = Writing::new(&mut output);
+    let mut output = Writing::new(rt.stdout());
     let status = match asked_of(rt) {
-        Ok(Some(asked)) => act(rt, &mut writer, &asked),
-        Ok(None) => {
-            let _ = put(&mut writer, USAGE);
-            2
-        }
-        Err(AllocError) => {
-            let _ = put(&mut writer, MEMORY);
-            3
-        }
+        Ok(Some(asked)) => act(rt, &mut output, &asked),
+        Ok(None) => misused(&mut output, USAGE),
+        Err(AllocError) => out_of_memory(&mut output),
     };
-    match status {
-        0 if output.flush().is_err() => ExitCode::from(3),
-        _ => ExitCode::from(status),
-    }
+    end(&mut output, status)
 }

@@ -11,6 +11,7 @@ use crate::shown::{Shown, Stop};
 use crate::span::Span;
 use omf_check::Profile;
 use omf_frame::Sink;
+use omf_host::Status;
 use omf_library::{BLOCK, BUCKETS, Bucket, Dictionary, Rule, read_header};
 use std::alloc::{AllocError, Global};
 use std::fmt::Write;
@@ -254,7 +255,7 @@ fn judge_library<K: Sink>(
         }
         Err(fault) => report.shown.fault(fault)?,
     }
-    if report.shown.status == 0 {
+    if report.shown.status == Status::Done {
         put_counts(report, library.members.len())?;
     }
     Ok(())
@@ -266,7 +267,7 @@ pub fn judge_file<K: Sink>(
     writer: &mut K,
     profile: Profile,
     bytes: &[u8],
-) -> Result<u8, Stop> {
+) -> Result<Status, Stop> {
     let mut report = Report {
         shown: Shown::new(alloc),
         publics: 0,

@@ -6,16 +6,17 @@ use crate::members::{Verdict, judge};
 use crate::publics::publics_of;
 use crate::shown::{Shown, Stop};
 use crate::span::{Span, name_of};
-use crate::text::{put_quoted, put_reason};
+use crate::text::put_reason;
 use omf_check::Profile;
 use omf_frame::Sink;
+use omf_host::{Status, put_quoted};
 use omf_library::{Header, read_header};
 use std::alloc::{AllocError, Global};
 use std::fmt::Write;
 
 /// Appends the line of a public of a member.
 pub fn put_public(text: &mut String, member: usize, name: &[u8]) -> Result<(), AllocError> {
-    write!(text, "P {member}")?;
+    write!(text, "P {member} ")?;
     put_quoted(text, name)?;
     text.push('\n')
 }
@@ -56,7 +57,7 @@ fn put_member(text: &mut String, header: Header, member: &Span<'_>) -> Result<()
     } = *member;
     let page = offset.checked_div(header.page as usize).unwrap_or(0);
     let length = bytes.len();
-    write!(text, "M {number} {page} {offset:08X} {length}")?;
+    write!(text, "M {number} {page} {offset:08X} {length} ")?;
     put_quoted(text, name_of(bytes))
 }
 
@@ -76,7 +77,7 @@ fn list_member(
             put_publics(&mut shown.text, member.number, names.as_slice())
         }
         Verdict::Refused { reason, place } => {
-            shown.raise(1);
+            shown.raise(Status::Refused);
             shown.text.push_str(" refused")?;
             put_reason(&mut shown.text, reason, place)?;
             shown.text.push('\n')
@@ -120,7 +121,7 @@ pub fn list<K: Sink>(
     writer: &mut K,
     profile: Profile,
     bytes: &[u8],
-) -> Result<u8, Stop> {
+) -> Result<Status, Stop> {
     let mut shown = Shown::new(alloc);
     match read_header(bytes) {
         Ok(header) => {

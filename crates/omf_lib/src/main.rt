@@ -6,7 +6,6 @@
 mod asked;
 mod canonical;
 mod fault;
-mod files;
 mod finding;
 mod host;
 mod judging;

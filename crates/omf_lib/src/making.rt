@@ -1,32 +1,24 @@
 //! The task `omf-lib make`: a library of modules; and what `canon` has in common with it.
 
 use crate::asked::Make;
-use crate::files::{Written, read_input, shown_path, write_new};
 use crate::members::{Verdict, judge};
 use crate::shown::{Shown, Stop};
 use crate::span::Span;
-use crate::text::{put_quoted, put_reason};
+use crate::text::put_reason;
+use omf_host::{Status, Written, put_name, put_quoted, read_input, write_new};
 use omf_library::{MakeFault, Part, make};
-use std::alloc::{AllocError, Global};
+use std::alloc::AllocError;
 use std::fmt::Write;
-use std::io;
 
 /// Appends the line of a file that is refused.
 fn put_refused(shown: &mut Shown, name: &str, why: &Verdict) -> Result<(), AllocError> {
-    let name = shown_path(*shown.text.allocator(), name)?;
-    shown.raise(1);
-    write!(&mut shown.text, "{name}: refused")?;
+    shown.raise(Status::Refused);
+    put_name(&mut shown.text, name.as_bytes())?;
+    shown.text.push_str(": refused")?;
     if let Verdict::Refused { reason, place } = why {
         put_reason(&mut shown.text, *reason, *place)?;
     }
     shown.text.push('\n')
-}
-
-/// Appends the line of a file that could not be read.
-pub fn put_unread(shown: &mut Shown, name: &str, error: &io::Error) -> Result<(), AllocError> {
-    shown.raise(3);
-    let name = shown_path(*shown.text.allocator(), name)?;
-    write!(&mut shown.text, "read {name}: {error}\n")
 }
 
 /// Appends the part of a file; or a line, if it is no module or could not be read.
@@ -39,7 +31,7 @@ fn push_part(
 ) -> Result<(), AllocError> {
     let bytes = match read_input(rt, name) {
         Ok(bytes) => bytes,
-        Err(error) => return put_unread(shown, name, &error),
+        Err(error) => return shown.unread(name, &error),
     };
     let span = Span {
         number: 0,
@@ -55,11 +47,11 @@ fn push_part(
     }
 }
 
-/// The name of a part, as it is printed.
-fn name_of(alloc: Global, names: &[String], number: usize) -> Result<String, AllocError> {
+/// Appends the name of a part.
+fn put_name_of(text: &mut String, names: &[String], number: usize) -> Result<(), AllocError> {
     match names.get(number) {
-        Some(name) => shown_path(alloc, name.as_str()),
-        None => Ok(String::new(alloc)),
+        Some(name) => put_name(text, name.as_bytes()),
+        None => Ok(()),
     }
 }
 
@@ -72,16 +64,18 @@ fn put_twice(
     second: usize,
     number: usize,
 ) -> Result<(), AllocError> {
-    let alloc = *shown.text.allocator();
-    let one = name_of(alloc, names, first)?;
-    let other = name_of(alloc, names, second)?;
-    shown.text.push_str("twice")?;
+    shown.raise(Status::Refused);
+    shown.text.push_str("twice ")?;
     if let Some(part) = parts.get(second)
         && let Some(defined) = part.names.get(number)
     {
         put_quoted(&mut shown.text, defined.name.as_slice())?;
     }
-    write!(&mut shown.text, " in {one} and {other}\n")
+    shown.text.push_str(" in ")?;
+    put_name_of(&mut shown.text, names, first)?;
+    shown.text.push_str(" and ")?;
+    put_name_of(&mut shown.text, names, second)?;
+    shown.text.push('\n')
 }
 
 /// Appends the line of a fault.
@@ -92,8 +86,7 @@ fn put_fault(
     parts: &[Part],
     fault: MakeFault,
 ) -> Result<(), Stop> {
-    shown.raise(1);
-    let output = shown_path(*shown.text.allocator(), asked.output.as_str())?;
+    let output = asked.output.as_str();
     match fault {
         MakeFault::Memory => return Err(Stop::Memory),
         MakeFault::Twice {
@@ -101,12 +94,9 @@ fn put_fault(
             second,
             name,
         } => put_twice(shown, names, parts, first, second, name)?,
-        MakeFault::TooLarge => write!(&mut shown.text, "refused {output}: too large\n")?,
+        MakeFault::TooLarge => shown.refuse(output, "too large")?,
         MakeFault::Refused { .. } | MakeFault::Unlike => {
-            write!(
-                &mut shown.text,
-                "refused {output}: not read back as it was made\n"
-            )?
+            shown.refuse(output, "not read back as it was made")?
         }
     }
     Ok(())
@@ -120,23 +110,16 @@ fn write_library(
     count: usize,
     bytes: &[u8],
 ) -> Result<(), AllocError> {
-    let output = shown_path(rt.alloc(), asked.output.as_str())?;
-    match write_new(rt, asked.output.as_str(), bytes)? {
+    let output = asked.output.as_str();
+    match write_new(rt, output, bytes)? {
         Written::Whole => {
             let length = bytes.len();
-            write!(
-                &mut shown.text,
-                "wrote {output} {length} bytes, {count} members\n"
-            )
+            shown.text.push_str("wrote ")?;
+            put_name(&mut shown.text, output.as_bytes())?;
+            write!(&mut shown.text, " {length} bytes, {count} members\n")
         }
-        Written::IsThere => {
-            shown.raise(1);
-            write!(&mut shown.text, "refused {output}: it is there already\n")
-        }
-        Written::Failed(error) => {
-            shown.raise(3);
-            write!(&mut shown.text, "write {output}: {error}\n")
-        }
+        Written::IsThere => shown.refuse(output, "it is there already"),
+        Written::Failed(error) => shown.unwritten(output, &error),
     }
 }
 
@@ -172,7 +155,7 @@ pub fn make_library(rt: &HostRuntime, shown: &mut Shown, asked: &Make) -> Result
     for name in asked.files.iter() {
         push_part(rt, shown, &mut parts, asked, name.as_str())?;
     }
-    if shown.status != 0 {
+    if shown.status != Status::Done {
         return Ok(());
     }
     let members = Members {

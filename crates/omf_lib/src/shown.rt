@@ -2,8 +2,10 @@
 
 use crate::fault::Fault;
 use crate::text::put_fault;
-use omf_frame::{Sink, push_all};
+use omf_frame::Sink;
+use omf_host::{Status, put, put_failure, put_unread, put_unwritten};
 use std::alloc::{AllocError, Global};
+use std::io;
 
 /// Why a task stopped.
 #[derive(Clone, Copy)]
@@ -23,8 +25,7 @@ impl From<AllocError> for Stop {
 #[derive(Drop)]
 pub struct Shown {
     pub text: String,
-    /// 0; 1 if something is refused; 3 if something could not be read or written.
-    pub status: u8,
+    pub status: Status,
 }
 
 impl Shown {
@@ -32,24 +33,42 @@ impl Shown {
     pub fn new(alloc: Global) -> Shown {
         Shown {
             text: String::new(alloc),
-            status: 0,
+            status: Status::Done,
         }
     }
 
     /// A status is never lowered.
-    pub fn raise(&mut self, status: u8) {
-        self.status = self.status.max(status);
+    pub fn raise(&mut self, status: Status) {
+        self.status = self.status.worst(status);
     }
 
     /// Appends the line of a fault.
     pub fn fault(&mut self, fault: Fault<'_>) -> Result<(), AllocError> {
-        self.raise(1);
+        self.raise(Status::Refused);
         put_fault(&mut self.text, fault)
+    }
+
+    /// Appends the line of a name that is refused: `refused NAME: REASON`.
+    pub fn refuse(&mut self, name: &str, reason: &str) -> Result<(), AllocError> {
+        self.raise(Status::Refused);
+        put_failure(&mut self.text, "refused", name, reason)
+    }
+
+    /// Appends the line of a file that could not be read.
+    pub fn unread(&mut self, name: &str, error: &io::Error) -> Result<(), AllocError> {
+        self.raise(Status::Failed);
+        put_unread(&mut self.text, name, error)
+    }
+
+    /// Appends the line of a file that could not be written.
+    pub fn unwritten(&mut self, name: &str, error: &io::Error) -> Result<(), AllocError> {
+        self.raise(Status::Failed);
+        put_unwritten(&mut self.text, name, error)
     }
 
     /// Writes the text so far.
     pub fn flush<K: Sink>(&mut self, writer: &mut K) -> Result<(), Stop> {
-        if push_all(writer, self.text.as_bytes()).is_err() {
+        if put(writer, self.text.as_bytes()) != Status::Done {
             return Err(Stop::Write);
         }
         self.text.clear();

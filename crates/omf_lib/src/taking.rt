@@ -2,12 +2,12 @@
 
 use crate::asked::Get;
 use crate::fault::Fault;
-use crate::files::{Written, shown_path, write_new};
 use crate::library::{Library, read_members};
 use crate::naming::{is_named, is_outside, path_of, shown_name};
 use crate::shown::{Shown, Stop};
 use crate::span::Span;
 use omf_frame::Sink;
+use omf_host::{Status, Written, write_new};
 use omf_library::read_header;
 use std::alloc::{AllocError, Global};
 use std::fmt::Write;
@@ -22,21 +22,17 @@ fn take(
 ) -> Result<(), AllocError> {
     let length = member.bytes.len();
     if is_outside(name) {
-        shown.raise(1);
+        shown.raise(Status::Refused);
         return write!(&mut shown.text, "refused {name}.obj: outside the folder\n");
     }
     let path = path_of(rt.alloc(), folder, name)?;
     match write_new(rt, path.as_str(), member.bytes)? {
         Written::Whole => write!(&mut shown.text, "wrote {name}.obj {length}\n"),
         Written::IsThere => {
-            shown.raise(1);
+            shown.raise(Status::Refused);
             write!(&mut shown.text, "refused {name}.obj: it is there already\n")
         }
-        Written::Failed(error) => {
-            shown.raise(3);
-            let path = shown_path(rt.alloc(), path.as_str())?;
-            write!(&mut shown.text, "write {path}: {error}\n")
-        }
+        Written::Failed(error) => shown.unwritten(path.as_str(), &error),
     }
 }
 
@@ -96,9 +92,7 @@ fn put_unnamed(
 ) -> Result<(), AllocError> {
     for argument in get.members.iter() {
         if !names_member(alloc, library, argument.as_str())? {
-            shown.raise(1);
-            let argument = shown_path(alloc, argument.as_str())?;
-            write!(&mut shown.text, "refused {argument}: no such member\n")?;
+            shown.refuse(argument.as_str(), "no such member")?;
         }
     }
     Ok(())

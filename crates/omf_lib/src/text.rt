@@ -1,33 +1,10 @@
-//! Names, offsets and faults as text.
+//! Reasons and faults as text.
 
 use crate::fault::{Fault, Named, Public};
 use omf_frame::{Place, Reason};
+use omf_host::put_quoted;
 use std::alloc::AllocError;
 use std::fmt::Write;
-
-/// Whether a byte of a name is printed as it is: 20H to 7EH without the quote and the backslash.
-pub fn is_plain(byte: u8) -> bool {
-    byte >= 0x20 && byte <= 0x7E && byte != b'"' && byte != b'\\'
-}
-
-/// Appends a name; bytes that are not printed as they are become `\xNN`.
-pub fn put_escaped(text: &mut String, name: &[u8]) -> Result<(), AllocError> {
-    for byte in name {
-        if is_plain(*byte) {
-            text.push(char::from(*byte))?;
-        } else {
-            write!(text, "\\x{byte:02X}")?;
-        }
-    }
-    Ok(())
-}
-
-/// Appends a space and a name in quotes.
-pub fn put_quoted(text: &mut String, name: &[u8]) -> Result<(), AllocError> {
-    text.push_str(" \"")?;
-    put_escaped(text, name)?;
-    text.push('"')
-}
 
 /// Appends a reason, and its place in the member, as `omf check` prints them.
 pub fn put_reason(text: &mut String, reason: Reason, place: Place) -> Result<(), AllocError> {
@@ -70,7 +47,7 @@ fn put_of_entry(
 ) -> Result<(), AllocError> {
     let page = entry.page;
     put_head(text, number, name, entry.offset)?;
-    write!(text, " page {page}")?;
+    write!(text, " page {page} ")?;
     put_quoted(text, entry.name)
 }
 
@@ -82,6 +59,7 @@ fn put_of_public(
     public: Public<'_>,
 ) -> Result<(), AllocError> {
     put_of_member(text, number, name, public.offset, public.member)?;
+    text.push(' ')?;
     put_quoted(text, public.name)
 }
 

@@ -1,19 +1,13 @@
 //! The program on the arguments, the files, the standard input and the standard output of its process.
 
-use omf_cmd::{Fault, Program, print_all, run_with, tell};
-use omf_frame::{Buffered, Sink, Writing};
+use omf_cmd::{Fault, Program};
+use omf_frame::{Sink, Writing};
+use omf_host::{Status, end, misused, out_of_memory, program_and_arguments, put};
 use omf_linker::asked::{Asked, sorted};
-use omf_linker::host::{arguments, read_or_tell, write_or_tell};
+use omf_linker::host::{read_or_tell, run_on_input, write_or_tell};
 use omf_linker::link::{FilesFault, InputFile, Link, Task, files_text, shown_text, task_of};
 use std::alloc::AllocError;
-use std::io::BufReader;
 use std::process::ExitCode;
-
-/// The number of bytes read from the standard input at once.
-const PIECE: usize = 65_536;
-
-/// The line when out of memory.
-const MEMORY: &[u8] = b"memory\n";
 
 /// Reads the files. None if one could not be read.
 fn read_files<K: Sink>(
@@ -49,12 +43,11 @@ fn written<K: Sink>(
     name: Option<&str>,
     shown: &[u8],
     writer: &mut K,
-) -> Result<u8, AllocError> {
-    let done = match name {
-        Some(name) => write_or_tell(rt, name, shown, writer)?,
-        None => print_all(writer, shown, ()).is_ok(),
-    };
-    Ok(if done { 0 } else { 3 })
+) -> Result<Status, AllocError> {
+    match name {
+        Some(name) => write_or_tell(rt, name, shown, writer),
+        None => Ok(put(writer, shown)),
+    }
 }
 
 /// Does a task for the files and the text that are named. None if one of them could not be read.
@@ -95,7 +88,7 @@ fn on_files<K: Sink>(
     task: Task,
     asked: &Asked,
     writer: &mut K,
-) -> Result<u8, AllocError> {
+) -> Result<Status, AllocError> {
     let found = if is_on_input(asked) {
         of_input(rt, task, writer)?
     } else {
@@ -108,18 +101,10 @@ fn on_files<K: Sink>(
         }
         Some(Err(fault)) => {
             fault.print(writer);
-            Ok(fault.status())
+            Ok(Status::of_code(fault.status()))
         }
-        None => Ok(3),
+        None => Ok(Status::Failed),
     }
-}
-
-/// Does what arguments ask for on the standard input. Returns the status.
-fn on_input<K: Sink>(rt: &HostRuntime, words: &[String], writer: &mut K) -> Result<u8, AllocError> {
-    let Ok(input) = BufReader::with_capacity(rt.alloc(), PIECE, rt.reader()) else {
-        return Err(AllocError);
-    };
-    Ok(run_with::<Link, _, _>(rt.alloc(), words, &mut Buffered::new(input), writer))
 }
 
 /// Whether all is on the standard input, modules and a text after them.
@@ -135,12 +120,13 @@ fn is_on_input(asked: &Asked) -> bool {
 }
 
 /// Does what the arguments ask for. Returns the status.
-fn act<K: Sink>(rt: &HostRuntime, writer: &mut K) -> Result<u8, AllocError> {
-    let words = arguments(rt)?;
-    if let Some(asked) = sorted(rt.alloc(), &words, 2)? {
+fn act<K: Sink>(rt: &HostRuntime, writer: &mut K) -> Result<Status, AllocError> {
+    if let Some(words) = program_and_arguments(rt)?
+        && let Some(asked) = sorted(rt.alloc(), &words, 2)?
+    {
         let on_input_alone = is_on_input(&asked);
         if on_input_alone && asked.output.is_none() {
-            return on_input(rt, asked.words.as_slice(), writer);
+            return run_on_input::<Link, _>(rt, asked.words.as_slice(), writer);
         }
         if let Some(task) = task_of(rt.alloc(), asked.words.as_slice())?
             && (on_input_alone || !asked.files.is_empty())
@@ -148,8 +134,7 @@ fn act<K: Sink>(rt: &HostRuntime, writer: &mut K) -> Result<u8, AllocError> {
             return on_files(rt, task, &asked, writer);
         }
     }
-    tell(writer, Link::usage());
-    Ok(2)
+    Ok(misused(writer, Link::usage()))
 }
 
 /// Runs the program. Returns the exit status: 0 done, 1 an input or its text is refused, has no room or does not fit, 2 the arguments are not
@@ -158,13 +143,7 @@ pub fn run(rt: &HostRuntime) -> ExitCode {
     let mut output = Writing::new(rt.stdout());
     let status = match act(rt, &mut output) {
         Ok(status) => status,
-        Err(AllocError) => {
-            tell(&mut output, MEMORY);
-            3
-        }
+        Err(AllocError) => out_of_memory(&mut output),
     };
-    match status {
-        0 if output.flush().is_err() => ExitCode::from(3),
-        _ => ExitCode::from(status),
-    }
+    end(&mut output, status)
 }

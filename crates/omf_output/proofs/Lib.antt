@@ -32,3 +32,5 @@ pub mod StartLaws
 pub mod Steps
 pub mod MovedWords
 pub mod ApartLaws
+pub mod LowLaws
+pub mod DerivingLaws

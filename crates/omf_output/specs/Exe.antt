@@ -13,3 +13,4 @@ pub mod Based
 pub mod Linked
 pub mod Rows
 pub mod Laws
+pub mod Derived

@@ -2,10 +2,12 @@
 
 mod fault;
 mod file;
+mod groups;
 pub mod laws;
 mod laying;
 mod link;
 mod member;
+mod movement;
 mod movers;
 mod moving;
 mod room;
@@ -17,6 +19,7 @@ pub use fault::ExeFault;
 pub use file::{FarAddress, FileFault, Program, write_exe};
 pub use link::{ExeFile, link_exe};
 pub use member::Member;
+pub use movement::movers_of;
 pub use movers::{Movers, Moving};
 pub use moving::{movable, site};
 pub use room::Stack;

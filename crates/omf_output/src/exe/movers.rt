@@ -92,6 +92,17 @@ impl Movers {
         }
     }
 
+    /// The movers with these entries.
+    pub fn of(segments: Vec<bool>, groups: Vec<bool>, externals: Vec<Moving>) -> Movers
+        ensures { result ≡ record { segments = segments.items; groups = groups.items; externals = externals.items } }
+    {
+        Movers {
+            segments,
+            groups,
+            externals,
+        }
+    }
+
     /// Adds whether the next segment moves.
     ///
     /// # Errors

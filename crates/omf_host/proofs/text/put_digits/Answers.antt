@@ -1,0 +1,5 @@
+use Rattle.omf_host.proofs.Padded.{zeros_first}
+use Rattle.omf_host.proofs.text.put_digits.Goals as goal
+
+pub returns : goal.returns
+returns c = rw (c.in_radix.ensures, c.laid_out.ensures, zeros_first) at c.write.ensures.bytes

@@ -1,0 +1,213 @@
+//! What moves of modules that are laid out together and whose externals are derived.
+
+ghost use Rattle.std.specs.Prelude.{◌≡◌, ◌<◌, ◌^◌, List, IfOk, IfErr, length, map};
+ghost use Rattle.std.specs.List.{AllZip};
+ghost use Rattle.omf_check.specs.Module.{recs_of, typed_modules};
+ghost use Rattle.omf_placement.specs.Derive.{placed_modules};
+ghost use Rattle.omf_placement.specs.Derivation.{IsPlaceOf};
+ghost use Rattle.omf_output.specs.Exe.Derived.{AreMovers, IsLowTable, IsMoversFault, Named, all_movers, based, external_moving, externals_moving, frame_at, frame_if, movers_in, moving_between, place_at, place_if};
+
+use crate::exe::groups::{LowTable, segments_moving};
+use crate::exe::movers::{Movers, Moving};
+use omf_check::Checked;
+use omf_placement::{DeriveFault, Frame, Given, Placed, Placement, derive};
+use std::alloc::{AllocError, Global};
+
+/// The frame at address 0, or 16 bytes higher.
+fn frame_if(up: bool) -> Frame
+    ensures { result ≡ frame_if up }
+{
+    if up {
+        Frame {
+            base: 16,
+            selector: 1,
+        }
+    } else {
+        Frame {
+            base: 0,
+            selector: 0,
+        }
+    }
+}
+
+/// The place at address 0, or 16 bytes higher.
+fn place_if(up: bool) -> Placed
+    ensures { result ≡ place_if up }
+{
+    let address = if up { 16 } else { 0 };
+    Placed {
+        address,
+        frame: frame_if(up),
+    }
+}
+
+/// The place at address 0, or 16 bytes higher if both flags are set.
+fn place_of(up: bool, moves: bool) -> Placed
+    ensures { result ≡ place_at up moves }
+{
+    if up { place_if(moves) } else { place_if(false) }
+}
+
+/// The frame of such a place.
+fn frame_of(up: bool, moves: bool) -> Frame
+    ensures { result ≡ frame_at up moves }
+{
+    if up { frame_if(moves) } else { frame_if(false) }
+}
+
+/// Places at address 0; if `up` is set, those of what moves are 16 bytes higher.
+fn places_of(alloc: Global, up: bool, moving: &[bool]) -> Result<Vec<Placed>, AllocError>
+    ensures { IfOk result (λ v. v.items ≡ map (place_at up) moving.now) }
+{
+    let mut places = Vec::new(alloc);
+    for moves in moving {
+        places.push(place_of(up, *moves))?;
+    }
+    Ok(places)
+}
+
+/// Frames at address 0; if `up` is set, those of what moves are 16 bytes higher.
+fn frames_of(alloc: Global, up: bool, moving: &[bool]) -> Result<Vec<Frame>, AllocError>
+    ensures { IfOk result (λ v. v.items ≡ map (frame_at up) moving.now) }
+{
+    let mut frames = Vec::new(alloc);
+    for moves in moving {
+        frames.push(frame_of(up, *moves))?;
+    }
+    Ok(frames)
+}
+
+/// The places of a module whose segments and groups are at address 0; if `up` is set, those that move are 16 bytes higher.
+fn based<'a>(
+    alloc: Global,
+    up: bool,
+    table: &LowTable<'a>,
+    module: &'a Checked,
+) -> Result<Placement, AllocError>
+    ensures { (ls : List Named) → IsLowTable table.now.by_name ls → IfOk result (λ p. p ≡ based up ls (recs_of «module».entry.now.bytes)) }
+{
+    let segments = places_of(alloc, up, &segments_moving(alloc, module)?)?;
+    let groups = frames_of(alloc, up, &table.names_moving(alloc, module)?)?;
+    Ok(Placement::of(segments, groups, Vec::new(alloc)))
+}
+
+/// These places of all modules.
+fn all_based<'a>(
+    alloc: Global,
+    up: bool,
+    table: &LowTable<'a>,
+    modules: &'a [Checked],
+) -> Result<Vec<Placement>, AllocError>
+    ensures { (ls : List Named) → IsLowTable table.now.by_name ls → IfOk result (λ v. v.items ≡ map (based up ls) (typed_modules modules.entry.now)) }
+{
+    let mut placements = Vec::new(alloc);
+    for module in modules {
+        placements.push(based(alloc, up, table, module)?)?;
+    }
+    Ok(placements)
+}
+
+/// How a place moves, by its two places.
+fn moving_between(low: &Placed, high: &Placed) -> Moving
+    ensures { result ≡ moving_between low.now high.now }
+{
+    Moving {
+        address: low.address != high.address,
+        frame: low.frame.base != high.frame.base,
+    }
+}
+
+/// How an external moves, by its places in two placements.
+fn external_moving(low: &Placement, high: &Placement, i: usize) -> Moving
+    ensures { result ≡ external_moving low.now high.now i }
+{
+    let Some(low) = low.external(i) else {
+        return Moving::both(false);
+    };
+    match high.external(i) {
+        Some(high) => moving_between(&low, &high),
+        None => Moving::both(false),
+    }
+}
+
+/// How the externals of a module move, by its two placements.
+fn externals_moving(
+    alloc: Global,
+    low: &Placement,
+    high: &Placement,
+) -> Result<Vec<Moving>, AllocError>
+    ensures { IfOk result (λ v. v.items ≡ externals_moving (low.now, high.now)) }
+{
+    let mut moving = Vec::new(alloc);
+    for before in 0..low.external_count() {
+        moving.push(external_moving(low, high, before + 1))?;
+    }
+    Ok(moving)
+}
+
+/// What moves of a module, by its two placements.
+fn movers_in<'a>(
+    alloc: Global,
+    table: &LowTable<'a>,
+    module: &'a Checked,
+    low: &Placement,
+    high: &Placement,
+) -> Result<Movers, AllocError>
+    ensures { (ls : List Named) → IsLowTable table.now.by_name ls → IfOk result (λ m. m ≡ movers_in ls (recs_of «module».entry.now.bytes, (low.now, high.now))) }
+{
+    let segments = segments_moving(alloc, module)?;
+    let groups = table.names_moving(alloc, module)?;
+    let externals = externals_moving(alloc, low, high)?;
+    Ok(Movers::of(segments, groups, externals))
+}
+
+/// What moves of all modules, by their two placements.
+fn all_movers<'a>(
+    alloc: Global,
+    table: &LowTable<'a>,
+    modules: &'a [Checked],
+    low: &[Placement],
+    high: &[Placement],
+) -> Result<Vec<Movers>, AllocError>
+    requires low { length low.now ≡ length modules.now }
+    requires high { length high.now ≡ length modules.now }
+    ensures { (ls : List Named) → IsLowTable table.now.by_name ls → IfOk result (λ v. v.items ≡ all_movers ls (typed_modules modules.entry.now) low.now high.now) }
+{
+    let mut movers = Vec::new(alloc);
+    for (j, module) in modules.iter().enumerate() {
+        movers.push(movers_in(alloc, table, module, &low[j], &high[j])?)?;
+    }
+    Ok(movers)
+}
+
+/// What moves of modules that are laid out together, each with its place in `places`, and whose externals are derived with these places given
+/// by hand:
+///
+/// - a segment, unless it is absolute;
+/// - a group, if the lowest member of the groups of its name, over all modules, moves;
+/// - an external as the base of the public whose place it has: its address as the segment does, its frame as the group does, or the segment
+///   if there is no group. One with a place given by hand does not move.
+///
+/// There must be one of `places` for each module, and fewer than 2^32 modules.
+///
+/// # Errors
+///
+/// Those of `derive` with the segments and groups at address 0, or 16 bytes higher; `Memory` if memory runs out.
+pub fn movers_of(
+    alloc: Global,
+    modules: &[Checked],
+    places: &[Placement],
+    given: &[Given],
+) -> Result<Vec<Movers>, DeriveFault>
+    requires few { length modules.now < 2 ^ 32 }
+    requires placed { length places.now ≡ length modules.now }
+    ensures movers { IfOk result (λ v. AreMovers (typed_modules modules.now) (placed_modules modules.now places.now) given.now v.items) }
+    ensures fault { IfErr result (IsMoversFault (typed_modules modules.now) (placed_modules modules.now places.now) given.now) }
+{
+    let table = LowTable::of(alloc, modules, places)?;
+    let at_0 = all_based(alloc, false, &table, modules)?;
+    let low = derive(alloc, modules, &at_0, given)?;
+    let higher = all_based(alloc, true, &table, modules)?;
+    let high = derive(alloc, modules, &higher, given)?;
+    Ok(all_movers(alloc, &table, modules, &low, &high)?)
+}
