@@ -20,6 +20,7 @@ mod ending;
 mod files;
 mod lines;
 mod output;
+mod question;
 mod text;
 mod words;
 
@@ -27,5 +28,6 @@ pub use ending::Status;
 pub use files::{Written, read_input, write_new, write_whole};
 pub use lines::{put_failure, put_title, put_unread, put_unwritten};
 pub use output::{end, misused, out_of_memory, put};
+pub use question::{Question, answer, question_in};
 pub use text::{is_plain, put_byte, put_decimal, put_eight, put_four, put_name, put_quoted};
 pub use words::{arguments, program_and_arguments};

@@ -2,7 +2,9 @@
 
 use omf_cmd::{Fault, Program};
 use omf_frame::{Sink, Writing};
-use omf_host::{Status, end, misused, out_of_memory, program_and_arguments, put};
+use omf_host::{
+    Status, answer, end, misused, out_of_memory, program_and_arguments, put, question_in,
+};
 use omf_linker::asked::{Asked, sorted};
 use omf_linker::host::{read_or_tell, run_on_input, write_or_tell};
 use omf_linker::link::{FilesFault, InputFile, Link, Task, files_text, shown_text, task_of};
@@ -121,9 +123,13 @@ fn is_on_input(asked: &Asked) -> bool {
 
 /// Does what the arguments ask for. Returns the status.
 fn act<K: Sink>(rt: &HostRuntime, writer: &mut K) -> Result<Status, AllocError> {
-    if let Some(words) = program_and_arguments(rt)?
-        && let Some(asked) = sorted(rt.alloc(), &words, 2)?
-    {
+    let Some(words) = program_and_arguments(rt)? else {
+        return Ok(misused(writer, Link::usage()));
+    };
+    if let Some(question) = question_in(words.get(1..).unwrap_or(&[])) {
+        return answer(rt.alloc(), writer, question, "omf-link", Link::usage());
+    }
+    if let Some(asked) = sorted(rt.alloc(), &words, 2)? {
         let on_input_alone = is_on_input(&asked);
         if on_input_alone && asked.output.is_none() {
             return run_on_input::<Link, _>(rt, asked.words.as_slice(), writer);

@@ -2,7 +2,9 @@
 
 use omf_cmd::{Program, run_with};
 use omf_frame::{Bytes, Sink, Writing};
-use omf_host::{Status, end, misused, out_of_memory, program_and_arguments};
+use omf_host::{
+    Status, answer, end, misused, out_of_memory, program_and_arguments, question_in,
+};
 use omf_linker::asked::{Asked, sorted};
 use omf_linker::host::{read_or_tell, run_on_input};
 use omf_linker::place::Place;
@@ -25,8 +27,13 @@ fn on_file<K: Sink>(
 
 /// Does what the arguments ask for. Returns the status.
 fn act<K: Sink>(rt: &HostRuntime, writer: &mut K) -> Result<Status, AllocError> {
-    if let Some(words) = program_and_arguments(rt)?
-        && let Some(asked) = sorted(rt.alloc(), &words, 1)?
+    let Some(words) = program_and_arguments(rt)? else {
+        return Ok(misused(writer, Place::usage()));
+    };
+    if let Some(question) = question_in(words.get(1..).unwrap_or(&[])) {
+        return answer(rt.alloc(), writer, question, "omf-place", Place::usage());
+    }
+    if let Some(asked) = sorted(rt.alloc(), &words, 1)?
         && asked.text.is_none()
         && asked.output.is_none()
     {
