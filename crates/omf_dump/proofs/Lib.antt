@@ -2,12 +2,10 @@ pub mod AnswerLaws
 pub mod BlockLaws
 pub mod ExpandedLaws
 pub mod HeaderLaws
-pub mod Hexadecimal
 pub mod ItemLaws
 pub mod KnownLaws
 pub mod LaterLaws
 pub mod LibraryLaws
-pub mod Lines
 pub mod PairLaws
 pub mod RowLaws
 pub mod StreamLaws

@@ -9,10 +9,10 @@ use crate::entry::Entry;
 use crate::format::Format;
 use crate::item::put_spaces;
 use crate::value::{
-    put_decimal, put_list, put_marked, put_method, put_named, put_number, put_quoted, put_small,
-    put_word,
+    put_list, put_marked, put_method, put_named, put_number, put_quoted, put_small, put_word,
 };
 use omf_frame::Width;
+use omf_host::put_decimal;
 use std::alloc::AllocError;
 
 /// Appends the name of a field, up to its value.

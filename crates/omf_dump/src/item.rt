@@ -7,8 +7,9 @@ ghost use Rattle.omf_dump.specs.Render.{block_text, bytes_block, head_text, item
 
 use crate::format::{Format, Style};
 use crate::part::first;
-use crate::value::{is_plain, put_after_spaces, put_byte, put_bytes, put_decimal, put_eight};
+use crate::value::{put_after_spaces, put_bytes};
 use omf_frame::{Place, RawRecord, type_name};
+use omf_host::{is_plain, put_byte, put_decimal, put_eight};
 use std::alloc::AllocError;
 
 /// The number of bytes in a line.

@@ -17,8 +17,8 @@ use crate::later::{after_member, front_kind};
 use crate::output::send;
 use crate::part::{after, first};
 use crate::spot::Spot;
-use crate::value::put_decimal;
 use omf_frame::{Sink, Width, is_header};
+use omf_host::put_decimal;
 use std::alloc::{AllocError, Global};
 
 /// The type of the record after the members.

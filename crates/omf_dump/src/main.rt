@@ -9,7 +9,6 @@ mod answer;
 mod blocks;
 mod comment;
 mod contents;
-mod digits;
 mod entry;
 mod fault;
 mod field;

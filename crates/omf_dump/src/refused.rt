@@ -16,8 +16,8 @@ use crate::item::{
 };
 use crate::looks::{is_foreign, looks_like};
 use crate::part::{after, first};
-use crate::value::put_decimal;
 use omf_frame::{Place, Reason, Width};
+use omf_host::put_decimal;
 use omf_library::{LibraryFault, read_header};
 use std::alloc::AllocError;
 

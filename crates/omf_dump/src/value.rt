@@ -1,71 +1,16 @@
 //! Values: numbers, words, bytes and entries, as text or as JSON.
 
-ghost use Rattle.std.specs.Prelude.{◌≡◌, ◌++◌, ◌∷◌, [], flat_map, decimal, string_bytes, if◌then◌else◌};
+ghost use Rattle.std.specs.Prelude.{◌≡◌, ◌++◌, ◌∷◌, [], flat_map, if◌then◌else◌};
 ghost use Rattle.omf_frame.specs.Bytes.{AddsText};
-ghost use Rattle.omf_placement.specs.Quoted.{hex, is_plain};
+ghost use Rattle.omf_placement.specs.Quoted.{hex};
 ghost use Rattle.omf_dump.specs.declared.format.Format.TheVariants as format;
 ghost use Rattle.omf_dump.specs.Render.{bytes_text, digits, entry_text, escape, escaped, hexadecimal, index_text, marked_text, method_entry, method_text, name_beside, named_text, quoted, spaced, word_text};
 
-use crate::digits::{eight_digits, four_digits, two_digits};
 use crate::entry::Entry;
 use crate::format::Format;
-use itoa::Buffer;
 use omf_frame::{Name, Width};
+use omf_host::{is_plain, put_byte, put_decimal, put_eight, put_four};
 use std::alloc::AllocError;
-use std::fmt::Write;
-
-/// Appends a decimal number.
-pub(crate) fn put_decimal(text: &mut Vec<u8>, number: u64) -> Result<(), AllocError>
-    ensures { AddsText result text.old.items text.new.items (decimal number) }
-{
-    let mut buffer = Buffer::new();
-    text.extend_from_slice(buffer.format(number).as_bytes())
-}
-
-/// Appends a byte in two hexadecimal digits.
-pub(crate) fn put_byte(text: &mut Vec<u8>, byte: u8) -> Result<(), AllocError>
-    ensures { AddsText result text.old.items text.new.items (hex 2 byte) }
-{
-    text.extend_from_slice(&two_digits(byte))
-}
-
-/// Writes a number in at least eight hexadecimal digits.
-fn write_eight(text: &mut String, number: u64) -> Result<(), AllocError>
-    ensures { AddsText result (string_bytes text.old) (string_bytes text.new) (hex 8 number) }
-{
-    write!(text, "{number:08X}")
-}
-
-/// Writes a number in at least four hexadecimal digits.
-fn write_four(text: &mut String, number: u64) -> Result<(), AllocError>
-    ensures { AddsText result (string_bytes text.old) (string_bytes text.new) (hex 4 number) }
-{
-    write!(text, "{number:04X}")
-}
-
-/// Appends a number in at least eight hexadecimal digits. Those of more than 32 bits are rare.
-pub(crate) fn put_eight(text: &mut Vec<u8>, number: u64) -> Result<(), AllocError>
-    ensures { AddsText result text.old.items text.new.items (hex 8 number) }
-{
-    if let Ok(number) = u32::try_from(number) {
-        return text.extend_from_slice(&eight_digits(number));
-    }
-    let mut shown = String::new(*text.allocator());
-    write_eight(&mut shown, number)?;
-    text.extend_from_slice(shown.as_bytes())
-}
-
-/// Appends a number in at least four hexadecimal digits. Those of more than 16 bits are rare.
-pub(crate) fn put_four(text: &mut Vec<u8>, number: u64) -> Result<(), AllocError>
-    ensures { AddsText result text.old.items text.new.items (hex 4 number) }
-{
-    if let Ok(number) = u16::try_from(number) {
-        return text.extend_from_slice(&four_digits(number));
-    }
-    let mut shown = String::new(*text.allocator());
-    write_four(&mut shown, number)?;
-    text.extend_from_slice(shown.as_bytes())
-}
 
 /// Appends a number of a 16-bit or a 32-bit field.
 pub(crate) fn put_number(
@@ -108,13 +53,6 @@ pub(crate) fn put_word(text: &mut Vec<u8>, format: Format, word: &str) -> Result
     }
 }
 
-/// Whether a byte is printed as it is: 20H to 7EH without the quote and the backslash.
-pub(crate) fn is_plain(byte: u8) -> bool
-    ensures { result ≡ is_plain byte }
-{
-    byte >= 0x20 && byte <= 0x7E && byte != b'"' && byte != b'\\'
-}
-
 /// What comes before the two digits of a byte that is not printed as it is.
 fn escape(format: Format) -> &'static [u8]
     ensures { result.now ≡ escape format }
@@ -139,7 +77,7 @@ fn put_escaped(text: &mut Vec<u8>, format: Format, byte: u8) -> Result<(), Alloc
 }
 
 /// Appends the bytes of a name, each as it is or by its digits.
-pub(crate) fn put_name(text: &mut Vec<u8>, format: Format, bytes: &[u8]) -> Result<(), AllocError>
+fn put_name(text: &mut Vec<u8>, format: Format, bytes: &[u8]) -> Result<(), AllocError>
     ensures { AddsText result text.old.items text.new.items (flat_map (escaped format) bytes.now) }
 {
     for byte in bytes {

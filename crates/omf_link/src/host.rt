@@ -1,18 +1,20 @@
 //! The program on the arguments, the files, the standard input and the standard output of its process.
 
+use crate::exe;
 use omf_cmd::{Fault, Program};
 use omf_frame::{Sink, Writing};
 use omf_host::{
     Status, answer, end, misused, out_of_memory, program_and_arguments, put, question_in,
 };
 use omf_linker::asked::{Asked, sorted};
+use omf_linker::exe::{Call, call_of};
 use omf_linker::host::{read_or_tell, run_on_input, write_or_tell};
 use omf_linker::link::{FilesFault, InputFile, Link, Task, files_text, shown_text, task_of};
 use std::alloc::AllocError;
 use std::process::ExitCode;
 
 /// Reads the files. None if one could not be read.
-fn read_files<K: Sink>(
+pub(crate) fn read_files<K: Sink>(
     rt: &HostRuntime,
     names: &[String],
     writer: &mut K,
@@ -130,6 +132,11 @@ fn act<K: Sink>(rt: &HostRuntime, writer: &mut K) -> Result<Status, AllocError> 
         return answer(rt.alloc(), writer, question, "omf-link", Link::usage());
     }
     if let Some(asked) = sorted(rt.alloc(), &words, 2)? {
+        match call_of(&asked) {
+            Call::Other => {}
+            Call::Misused => return Ok(misused(writer, exe::USAGE)),
+            Call::Exe(output) => return exe::on_files(rt, asked.files.as_slice(), output, writer),
+        }
         let on_input_alone = is_on_input(&asked);
         if on_input_alone && asked.output.is_none() {
             return run_on_input::<Link, _>(rt, asked.words.as_slice(), writer);

@@ -1,8 +1,9 @@
-//! `omf-link`: the memory image of several modules, their map, and a draft of a link text.
+//! `omf-link`: the memory image of several modules, their map, a draft of a link text, and a DOS program of modules and libraries.
 //!
 //! Without file names it reads modules and a text from the standard input (`omf_linker::link::Link`). With file names it reads the files.
 #![tactic(auto)]
 
+mod exe;
 mod host;
 
 use std::process::ExitCode;

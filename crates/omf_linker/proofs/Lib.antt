@@ -15,3 +15,4 @@ pub mod FitLaws
 pub mod PlacesLaws
 pub mod MapLaws
 pub mod SeenLaws
+pub mod ExeLaws

@@ -4,4 +4,5 @@ pub mod Drafting
 pub mod Map
 pub mod Link
 pub mod Place
+pub mod Exe
 pub mod Inner

@@ -1,9 +1,10 @@
-//! The programs `omf-link` and `omf-place`, and the layout options that both take; a first text for a link (`drafting`), and the map of
-//! a finished one (`map`).
+//! The programs `omf-link` and `omf-place`, and the layout options that both take; a first text for a link (`drafting`), the map of
+//! a finished one (`map`), and DOS programs (`exe`).
 #![tactic(auto)]
 
 pub mod asked;
 pub mod drafting;
+pub mod exe;
 pub mod host;
 pub mod link;
 pub mod map;

@@ -11,8 +11,8 @@ ghost use Rattle.omf_output.specs.declared.rom.srec.SAddress.{SAddress as Width}
 
 use crate::options::valued;
 use clap::{ArgMatches, Command};
-use omf_placement::hexadecimal;
 use omf_output::rom::{Chip, Form, HexBase, SAddress};
+use omf_placement::hexadecimal;
 use std::alloc::{AllocError, Global};
 
 /// The default fill: the byte of an erased chip.

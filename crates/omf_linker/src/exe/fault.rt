@@ -1,0 +1,45 @@
+//! Why modules are no program.
+
+use omf_output::exe::ExeFault;
+use omf_placement::DeriveFault;
+use std::alloc::{AllocError, AllocFailed};
+use thiserror::Error;
+
+/// Why modules are no program. They count from 0.
+#[derive(Clone, Copy, Debug, PartialEq, Eq, Error)]
+pub enum ProgramFault {
+    /// Out of memory.
+    #[error("memory ran out")]
+    Memory,
+    /// A segment does not end below 2^20.
+    #[error("the segments end after 1,048,576")]
+    NoRoom,
+    /// An external has no place.
+    #[error("an external finds no place")]
+    External(DeriveFault),
+    /// The modules at their placements are no program.
+    #[error("the modules are no program")]
+    Exe(ExeFault),
+}
+
+impl From<AllocError> for ProgramFault {
+    ghost use Rattle.std.specs.Prelude.{◌≡◌};
+    ghost use Rattle.omf_linker.specs.declared.exe.fault.ProgramFault.TheVariants.{Memory};
+
+    ghost from_gives = { λ _ e. e ≡ Memory };
+
+    fn from(_error: AllocError) -> ProgramFault {
+        ProgramFault::Memory
+    }
+}
+
+impl<T: Drop> From<AllocFailed<T>> for ProgramFault {
+    ghost use Rattle.std.specs.Prelude.{◌≡◌};
+    ghost use Rattle.omf_linker.specs.declared.exe.fault.ProgramFault.TheVariants.{Memory};
+
+    ghost from_gives = { λ _ e. e ≡ Memory };
+
+    fn from(_error: AllocFailed<T>) -> ProgramFault {
+        ProgramFault::Memory
+    }
+}

@@ -1,0 +1,118 @@
+//! The program of modules: their layout, their externals, what moves of them, and the file.
+
+ghost use Rattle.std.specs.Prelude.{◌≡◌, ◌<◌, ◌^◌, [], IfErr, IfOk, Ok, length};
+ghost use Rattle.omf_check.specs.Module.{typed_modules};
+ghost use Rattle.omf_output.specs.Exe.Derived.{AreMovers};
+ghost use Rattle.omf_placement.specs.Derive.{placed_modules};
+ghost use Rattle.omf_placement.specs.Inner.Derived.{derived};
+ghost use Rattle.omf_linker.specs.Exe.Program.{AreLaid, AreMade, IsExternalFault, IsProgramFault, IsProgramOf, members_from};
+
+use crate::exe::fault::ProgramFault;
+use omf_check::Checked;
+use omf_layout::several::place_segments;
+use omf_layout::{Frames, LayoutFault, Options};
+use omf_output::exe::{ExeFault, ExeFile, Member, Movers, link_exe, movers_of};
+use omf_placement::{DeriveFault, Placement, derive};
+use std::alloc::{AllocError, Global};
+
+/// The places of modules from address 0 on, in real mode.
+fn places_of(alloc: Global, modules: &[Checked]) -> Result<Vec<Placement>, ProgramFault>
+    requires { length modules.now < 2 ^ 32 }
+    ensures laid { IfOk result (λ v. AreLaid modules.now v.items) }
+    ensures fault { IfErr result (IsProgramFault modules.now) }
+{
+    let options = Options {
+        base: 0,
+        frames: Frames::Real,
+    };
+    match place_segments(alloc, modules, options) {
+        Ok((places, _free)) => Ok(places),
+        Err(LayoutFault::NoRoom) => Err(ProgramFault::NoRoom),
+        Err(LayoutFault::Memory) => Err(ProgramFault::Memory),
+    }
+}
+
+/// The placements of modules at their places, and what moves of them.
+#[derive(Drop)]
+struct Settled {
+    placements: Vec<Placement>,
+    movers: Vec<Movers>,
+}
+
+/// Settles modules at their places.
+fn settle(alloc: Global, modules: &[Checked], places: &[Placement]) -> Result<Settled, DeriveFault>
+    requires few { length modules.now < 2 ^ 32 }
+    requires laid { AreLaid modules.now places.now }
+    ensures derived { IfOk result (λ s. derived (placed_modules modules.now places.now) [] ≡ Ok s.placements.items) }
+    ensures moving { IfOk result (λ s. AreMovers (typed_modules modules.now) (placed_modules modules.now places.now) [] s.movers.items) }
+    ensures fault { IfErr result (IsExternalFault modules.now) }
+{
+    let placements = derive(alloc, modules, places, &[])?;
+    let movers = movers_of(alloc, modules, places, &[])?;
+    Ok(Settled { placements, movers })
+}
+
+/// The members of the program.
+fn members_of<'a>(
+    alloc: Global,
+    modules: &'a [Checked],
+    placements: &'a [Placement],
+    movers: &'a [Movers],
+) -> Result<Vec<Member<'a>>, AllocError>
+    requires few { length modules.now < 2 ^ 32 }
+    requires placed { length placements.now ≡ length modules.now }
+    requires moved { length movers.now ≡ length modules.now }
+    ensures { IfOk result (λ v. v.items ≡ members_from 0 modules.entry.now placements.entry.now movers.entry.now) }
+{
+    let mut members = Vec::new(alloc);
+    for (j, module) in modules.iter().enumerate() {
+        let number = j as u32;
+        members.push(Member {
+            number,
+            module,
+            placement: &placements[j],
+            movers: &movers[j],
+        })?;
+    }
+    Ok(members)
+}
+
+/// The file of members.
+fn file_of(
+    alloc: Global,
+    modules: &[Checked],
+    members: &[Member<'_>],
+) -> Result<ExeFile, ProgramFault>
+    requires { AreMade modules.now members.now }
+    ensures program { IfOk result (λ e. IsProgramOf modules.now e.bytes.items e.has_stack) }
+    ensures fault { IfErr result (IsProgramFault modules.now) }
+{
+    match link_exe(alloc, members) {
+        Ok(file) => Ok(file),
+        Err(ExeFault::Memory) => Err(ProgramFault::Memory),
+        Err(fault) => Err(ProgramFault::Exe(fault)),
+    }
+}
+
+/// The MZ file (.EXE) of modules: laid out from address 0 on in real mode, each external at the only public of its name.
+///
+/// What DOS loads at paragraph k, for every k, is what the modules lay at their placements moved by k paragraphs.
+///
+/// # Errors
+///
+/// `NoRoom` if a segment does not end below 2^20; otherwise `External` for the first external without a place; otherwise `Exe` with the
+/// first fault of `link_exe`. `Memory` if memory runs out.
+pub fn program_of(alloc: Global, modules: &[Checked]) -> Result<ExeFile, ProgramFault>
+    requires { length modules.now < 2 ^ 32 }
+    ensures program { IfOk result (λ e. IsProgramOf modules.now e.bytes.items e.has_stack) }
+    ensures fault { IfErr result (IsProgramFault modules.now) }
+{
+    let places = places_of(alloc, modules)?;
+    let settled = match settle(alloc, modules, &places) {
+        Ok(settled) => settled,
+        Err(DeriveFault::Memory) => return Err(ProgramFault::Memory),
+        Err(fault) => return Err(ProgramFault::External(fault)),
+    };
+    let members = members_of(alloc, modules, &settled.placements, &settled.movers)?;
+    file_of(alloc, modules, &members)
+}

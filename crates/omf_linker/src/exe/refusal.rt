@@ -1,0 +1,33 @@
+//! Why files are no program, as a line.
+
+use crate::link::FilesFault;
+use omf_cmd::{Fault, tell};
+use omf_frame::Sink;
+use omf_host::Status;
+
+/// Why files are no program.
+#[derive(Drop)]
+pub enum Refusal {
+    /// A file does not hold modules and padding alone; or memory ran out.
+    Files(FilesFault),
+    /// Any other reason, as a line.
+    Line(Vec<u8>),
+}
+
+impl Refusal {
+    /// How the program ends: `Refused`, or `Failed` if memory ran out.
+    pub fn status(&self) -> Status {
+        match self {
+            Refusal::Files(fault) => Status::of_code(fault.status()),
+            Refusal::Line(_) => Status::Refused,
+        }
+    }
+
+    /// Prints the line. A failing writer is ignored.
+    pub fn print<K: Sink>(&self, writer: &mut K) {
+        match self {
+            Refusal::Files(fault) => fault.print(writer),
+            Refusal::Line(line) => tell(writer, line),
+        }
+    }
+}

@@ -1,0 +1,83 @@
+//! Parts of modules as a person finds them: a segment by its name, and an offset in it.
+
+use omf_check::Checked;
+use omf_frame::Place;
+use omf_records::Rec;
+use omf_reloc::{Piece, pieces_of};
+
+/// Where a part of a module is: the index of the segment of its data, and its offset there.
+#[derive(Clone, Copy)]
+pub(crate) struct Spot {
+    pub(crate) segment: u16,
+    pub(crate) offset: u64,
+}
+
+/// The spot of a data record's first byte.
+fn data_spot(rec: &Rec<'_>) -> Option<Spot> {
+    match rec {
+        Rec::Plain {
+            segment,
+            offset,
+            ..
+        } => Some(Spot {
+            segment: segment.item.0,
+            offset: u64::from(offset.item),
+        }),
+        Rec::Iterated {
+            segment,
+            offset,
+            ..
+        } => Some(Spot {
+            segment: segment.item.0,
+            offset: u64::from(offset.item),
+        }),
+        Rec::Header { .. }
+        | Rec::Comment { .. }
+        | Rec::Names(_)
+        | Rec::Segment { .. }
+        | Rec::Group { .. }
+        | Rec::Externs(_)
+        | Rec::Publics { .. }
+        | Rec::Communals(_)
+        | Rec::Fixups { .. }
+        | Rec::ModEnd { .. }
+        | Rec::LocalNames(_)
+        | Rec::LocalExterns { .. }
+        | Rec::LocalPublics { .. }
+        | Rec::LocalCommunals(_)
+        | Rec::Carried { .. } => None,
+    }
+}
+
+/// The spot of a piece, and the spot of the last data record up to and including it.
+fn spots(piece: &Piece<'_>, last: Option<Spot>) -> (Option<Spot>, Option<Spot>) {
+    match piece {
+        Piece::Kept(rec) => {
+            let spot = data_spot(rec);
+            (spot, spot.or(last))
+        }
+        Piece::Fixed { fixup, .. } => match last {
+            Some(spot) => {
+                let within = u64::from(fixup.location.offset());
+                let offset = spot.offset.saturating_add(within);
+                let segment = spot.segment;
+                (Some(Spot { segment, offset }), last)
+            }
+            None => (None, None),
+        },
+        Piece::End { .. } => (None, last),
+    }
+}
+
+/// The spot of the part of a module at a place: a data record, or a fixup of one. None for any other part.
+pub(crate) fn spot_of(module: &Checked, place: Place) -> Option<Spot> {
+    let mut last = None;
+    for (here, piece) in pieces_of(module) {
+        let (spot, next) = spots(&piece, last);
+        if here.number == place.number && here.within == place.within {
+            return spot;
+        }
+        last = next;
+    }
+    None
+}
