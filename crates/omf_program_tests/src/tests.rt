@@ -1,6 +1,5 @@
 //! `modules` has the modules, `tools` the programs, `scarce` memory that runs out, `calls` how a call is tested against it.
 
-mod blocks;
 mod calls;
 mod changes;
 mod devices;

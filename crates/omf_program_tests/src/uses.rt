@@ -1,9 +1,11 @@
 //! Four uses of the libraries, each in a dozen lines: a file is judged, a boot sector is relocated, a module gets a key, and two modules are
 //! linked by their public names.
 
-ghost use Rattle.std.specs.Prelude.{◌≡◌, List, ℕ, Some, IfOk, string_bytes};
+ghost use Rattle.std.specs.Prelude.{◌≡◌, List, ℕ, Some, IfOk, length, string_bytes};
 ghost use Rattle.omf_canon.specs.Canonical.{canonical};
-ghost use Rattle.omf_check.specs.Module.{recs_of};
+ghost use Rattle.omf_check.specs.Module.{recs_of, typed_modules};
+ghost use Rattle.omf_linking.specs.Placing.{IsOutcome, linked};
+ghost use Rattle.omf_records.specs.Inner.Seen.{map_ok};
 ghost use Rattle.omf_program_tests.specs.Uses.{boot_place, IsBootImage, IsVerdict};
 ghost use Rattle.sha2.specs.Sha256.{sha256};
 
@@ -70,8 +72,11 @@ pub fn key(alloc: Global, module: &Checked) -> Result<[u8; 32], AllocError>
 /// The placements of two modules by the addresses of their segments: an external of one has the place of the other's public of that name.
 pub fn link_two(
     alloc: Global,
-    modules: &[Checked; 2],
-    addresses: &str,
-) -> Result<Vec<Placement>, LinkFault> {
-    link(alloc, modules, addresses.as_bytes())
+    modules: &[Checked],
+    addresses: &[u8],
+) -> Result<Vec<Placement>, LinkFault>
+    requires { length modules.now ≡ 2 }
+    ensures { IsOutcome (linked (typed_modules modules.now) addresses.now) (map_ok (λ v. v.items) result) }
+{
+    link(alloc, modules, addresses)
 }

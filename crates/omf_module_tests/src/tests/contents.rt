@@ -74,10 +74,10 @@ fn becomes(alloc: Global, row: &str, body: Option<&[u8]>) -> bool {
 #[test]
 fn contents_are_written_in_their_shortest_encoding(rt: HostRuntime) {
     for row in &SHORTEST {
-        assert!(rt; becomes(rt.alloc(), *row, None), "{row}");
+        assert!(rt; becomes(rt.alloc(), *row, None));
     }
     for (row, body) in &LONGER {
-        assert!(rt; becomes(rt.alloc(), *row, Some(*body)), "{row}");
+        assert!(rt; becomes(rt.alloc(), *row, Some(*body)));
     }
 }
 
@@ -134,7 +134,7 @@ static READS: [(&str, &[Next]); 2] = [
 #[test]
 fn subrecords_are_read_one_by_one(rt: HostRuntime) {
     for (row, results) in &READS {
-        assert!(rt; reads(rt.alloc(), *row, *results), "{row}");
+        assert!(rt; reads(rt.alloc(), *row, *results));
     }
 }
 
@@ -182,6 +182,6 @@ fn is_copied(alloc: Global, row: &str, bytes: Option<&[u8]>) -> bool {
 #[test]
 fn fixups_are_copied(rt: HostRuntime) {
     for (row, bytes) in &COPIES {
-        assert!(rt; is_copied(rt.alloc(), *row, *bytes), "{row}");
+        assert!(rt; is_copied(rt.alloc(), *row, *bytes));
     }
 }

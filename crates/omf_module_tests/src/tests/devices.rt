@@ -126,8 +126,8 @@ fn gives_answers(reads: &Reads) -> bool {
 
 #[test]
 fn pieces_are_read_until_a_reader_fails(rt: HostRuntime) {
-    for (at, reads) in READS.iter().enumerate() {
-        assert!(rt; gives_answers(reads), "{at}");
+    for reads in &READS {
+        assert!(rt; gives_answers(reads));
     }
 }
 
@@ -180,8 +180,8 @@ fn is_written(alloc: Global, writes: &Writes) -> bool {
 
 #[test]
 fn a_record_is_written_until_a_taker_fails(rt: HostRuntime) {
-    for (at, writes) in WRITES.iter().enumerate() {
-        assert!(rt; is_written(rt.alloc(), writes), "{at}");
+    for writes in &WRITES {
+        assert!(rt; is_written(rt.alloc(), writes));
     }
 }
 

@@ -1,4 +1,4 @@
-//! Blocks that are expanded, pieces that overlap, and intervals, with ample memory.
+//! Blocks that are expanded, pieces that overlap, and intervals, with ample memory and while a growth is refused.
 
 use omf_frame::Width;
 use omf_image::{Extent, Image, Limits, Run, expand, expanded_len, painted};
@@ -24,7 +24,7 @@ struct Expanded {
     moved: (u64, u64),
 }
 
-static EXPANDED: [Expanded; 6] = [
+static EXPANDED: [Expanded; 7] = [
     Expanded {
         width: Width::Bits32,
         rows: &["02 00 00 00 02 00 02 00 00 00 00 00 01 AA 01 00 00 00 00 00 02 BB CC"],
@@ -38,6 +38,13 @@ static EXPANDED: [Expanded; 6] = [
         front: b"\xAA\xAA\xBB\xCC\xAA\xAA\xBB\xCC\xAA\xAA\xBB\xCC",
         repeats: 0,
         moved: (12, 29),
+    },
+    Expanded {
+        width: Width::Bits16,
+        rows: &["01 00 00 00 02 AA BB 02 00 00 00 01 CC"],
+        front: b"\xAA\xBB\xCC\xCC",
+        repeats: 0,
+        moved: (4, 17),
     },
     Expanded {
         width: Width::Bits16,
@@ -116,8 +123,8 @@ fn is_repeated(bytes: &[u8], front: &[u8], repeats: usize) -> bool {
     }
 }
 
-/// Whether blocks expand to the bytes of a row.
-fn expands(alloc: Global, bytes: &[u8], row: &Expanded) -> bool {
+/// Whether blocks expand to the bytes of a row, or a growth is refused and it `may_fail`.
+fn expands(alloc: Global, bytes: &[u8], row: &Expanded, may_fail: bool) -> bool {
     let blocks = Blocks {
         bytes,
         width: row.width,
@@ -132,23 +139,31 @@ fn expands(alloc: Global, bytes: &[u8], row: &Expanded) -> bool {
                 && row.moved.0 <= moved
                 && moved <= row.moved.1
         }
-        Err(AllocError) => false,
+        Err(AllocError) => may_fail,
     }
 }
 
-/// Whether the blocks of a row expand to its bytes.
-fn is_expanded(alloc: Global, row: &Expanded) -> bool {
+/// Whether the blocks of a row expand to its bytes, or a growth is refused and it `may_fail`.
+fn is_expanded(alloc: Global, row: &Expanded, may_fail: bool) -> bool {
     match joined(alloc, row.rows) {
-        Ok(bytes) => expands(alloc, &bytes, row),
-        Err(_) => false,
+        Ok(bytes) => expands(alloc, &bytes, row, may_fail),
+        Err(_) => may_fail,
     }
+}
+
+/// The first row that expands to something else.
+fn first_other_row(alloc: Global, may_fail: bool) -> Option<usize> {
+    for (at, row) in EXPANDED.iter().enumerate() {
+        if !is_expanded(alloc, row, may_fail) {
+            return Some(at);
+        }
+    }
+    None
 }
 
 #[test]
 fn blocks_are_expanded(rt: HostRuntime) {
-    for (at, row) in EXPANDED.iter().enumerate() {
-        assert!(rt; is_expanded(rt.alloc(), row), "{at}");
-    }
+    assert!(rt; first_other_row(rt.alloc(), false) == None);
 }
 
 /// A piece that is laid: its segment, its offset and its bytes.
@@ -166,7 +181,7 @@ struct Layout {
 /// Six bytes from offset 2 on.
 const SIX: &[Seen] = &[(1, 0, Some((2, b"ABCDEF"))), (1, 1, None)];
 
-static LAYOUTS: [Layout; 10] = [
+static LAYOUTS: [Layout; 12] = [
     Layout {
         pieces: &[],
         runs: &[(1, 0, None)],
@@ -257,6 +272,29 @@ static LAYOUTS: [Layout; 10] = [
             (1, 3, None),
         ],
     },
+    // The last piece joins the others. Each has the bytes of the system's smallest block, so that a piece that grows needs another.
+    Layout {
+        pieces: &[
+            (1, 0, b"AAAAAAAAAAAAAAAAAAAAAAAA"),
+            (1, 48, b"CCCCCCCCCCCCCCCCCCCCCCCC"),
+            (1, 24, b"BBBBBBBBBBBBBBBBBBBBBBBB"),
+        ],
+        runs: &[
+            (
+                1,
+                0,
+                Some((
+                    0,
+                    b"AAAAAAAAAAAAAAAAAAAAAAAABBBBBBBBBBBBBBBBBBBBBBBBCCCCCCCCCCCCCCCCCCCCCCCC",
+                )),
+            ),
+            (1, 1, None),
+        ],
+    },
+    Layout {
+        pieces: &[(1, 4, b"A"), (1, 5, b"B")],
+        runs: &[(1, 0, Some((4, b"AB"))), (1, 1, None)],
+    },
     // Two segments; a piece over several runs, and one over the end of a run.
     Layout {
         pieces: &[
@@ -290,12 +328,14 @@ fn lay(alloc: Global, image: &mut Image, piece: &Laid) -> Result<(), AllocError>
     Ok(())
 }
 
-/// Lays pieces one after another.
-fn lay_all(alloc: Global, image: &mut Image, pieces: &[Laid]) -> Result<(), AllocError> {
-    for piece in pieces {
-        lay(alloc, image, piece)?;
+/// Lays pieces one after another, and returns how many are laid.
+fn lay_all(alloc: Global, image: &mut Image, pieces: &[Laid]) -> usize {
+    for (at, piece) in pieces.iter().enumerate() {
+        if lay(alloc, image, piece).is_err() {
+            return at;
+        }
     }
-    Ok(())
+    pieces.len()
 }
 
 /// Whether an image has a run, and its first byte alone.
@@ -322,17 +362,52 @@ fn are_runs(image: &Image, runs: &[Seen]) -> bool {
     true
 }
 
-/// Whether pieces give their runs.
-fn is_laid(alloc: Global, layout: &Layout) -> bool {
+/// Whether two images have the same first four runs of segment 1.
+fn are_alike(image: &Image, other: &Image) -> bool {
+    for k in 0..4 {
+        if image.run_with_bytes(1, k) != other.run_with_bytes(1, k) {
+            return false;
+        }
+    }
+    true
+}
+
+/// Whether an image is as the first pieces alone give it.
+fn is_front(alloc: Global, image: &Image, pieces: &[Laid]) -> bool {
+    let mut other = Image::new(alloc);
+    lay_all(alloc, &mut other, pieces) == pieces.len() && are_alike(image, &other)
+}
+
+/// Whether pieces give their runs; or a growth is refused, it `may_fail`, and the image is as it was before that piece.
+fn is_laid(alloc: Global, layout: &Layout, may_fail: bool) -> bool {
     let mut image = Image::new(alloc);
-    lay_all(alloc, &mut image, layout.pieces).is_ok() && are_runs(&image, layout.runs)
+    let count = lay_all(alloc, &mut image, layout.pieces);
+    if count == layout.pieces.len() {
+        return are_runs(&image, layout.runs);
+    }
+    may_fail && is_front(alloc, &image, layout.pieces.get(..count).unwrap_or(&[]))
+}
+
+/// The first layout with other runs.
+fn first_other_layout(alloc: Global, may_fail: bool) -> Option<usize> {
+    for (at, layout) in LAYOUTS.iter().enumerate() {
+        if !is_laid(alloc, layout, may_fail) {
+            return Some(at);
+        }
+    }
+    None
 }
 
 #[test]
 fn pieces_are_laid_overwrite_and_join(rt: HostRuntime) {
-    for (at, layout) in LAYOUTS.iter().enumerate() {
-        assert!(rt; is_laid(rt.alloc(), layout), "{at}");
-    }
+    assert!(rt; first_other_layout(rt.alloc(), false) == None);
+}
+
+/// tests/growths.sh refuses each growth in turn.
+#[test]
+fn a_refused_growth_expands_and_lays_nothing_else(rt: HostRuntime) {
+    let blocks = first_other_row(rt.alloc(), true);
+    assert!(rt; blocks.or(first_other_layout(rt.alloc(), true)).is_none());
 }
 
 /// Intervals that are empty, equal, within one another, and side by side, and the last offset.

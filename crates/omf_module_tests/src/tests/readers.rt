@@ -42,8 +42,8 @@ static READERS: [(Reader, Answer); 6] = [
 
 #[test]
 fn a_reader_may_be_interrupted_but_not_fail(rt: HostRuntime) {
-    for (at, (reader, answer)) in READERS.iter().enumerate() {
-        assert!(rt; answer_over(rt.alloc(), reader) == Some(*answer), "{at}");
+    for (reader, answer) in &READERS {
+        assert!(rt; answer_over(rt.alloc(), reader) == Some(*answer));
     }
 }
 

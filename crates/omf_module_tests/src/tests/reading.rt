@@ -139,9 +139,6 @@ fn written_after(calls: u32) -> (Option<ErrorKind>, u32) {
 #[test]
 fn a_record_is_written_until_a_writer_fails(rt: HostRuntime) {
     for (before, error, after) in &WRITES {
-        assert!(rt;
-            written_after(*before) == (Some(*error), *after),
-            "{before}"
-        );
+        assert!(rt; written_after(*before) == (Some(*error), *after));
     }
 }

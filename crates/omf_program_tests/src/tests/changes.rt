@@ -50,7 +50,7 @@ fn modules_cut_to_every_length(rt: HostRuntime) {
 }
 
 /// What is found of some bytes.
-#[derive(Clone, Copy, Debug)]
+#[derive(Clone, Copy)]
 enum Found {
     Refused,
     /// Accepted, but the placement does not reach.
@@ -197,34 +197,31 @@ fn is_checksum(plan: &Plan, at: usize) -> bool {
     }
 }
 
-/// The module with all checksum bytes 00, which are right whatever the sums.
-fn unchecked(alloc: Global, sample: &Sample) -> Result<Vec<u8>, AllocError> {
-    let mut bytes = Vec::new(alloc);
+/// Appends the bytes of a module, with all checksum bytes 00, which are right whatever the sums, unless `summed`.
+fn push_bytes(bytes: &mut Vec<u8>, sample: &Sample, summed: bool) -> Result<(), AllocError> {
     for (at, byte) in sample.bytes.iter().enumerate() {
-        let is_zero = is_checksum(sample.plan, at);
+        let is_zero = !summed && is_checksum(sample.plan, at);
         bytes.push(if is_zero { 0 } else { *byte })?;
     }
-    Ok(bytes)
+    Ok(())
 }
 
-/// A module whose bytes are replaced, and what is found of it.
+/// How many modules with one byte replaced are relocated at least: those with a checksum byte of 00, or with another header name.
+fn least_relocated(plan: &Plan, summed: bool) -> usize {
+    if summed { plan.records.len() } else { 255 }
+}
+
+/// A module of which a byte is replaced, and what is found of it.
 type Outcome = (&'static str, Tally);
 
-/// Judges a module with each byte replaced, and whether at least `least` of these are relocated. Returns what is found if not.
-fn other_outcome(alloc: Global, sample: &Sample, bytes: Vec<u8>, least: usize) -> Option<Outcome> {
-    match try_bytes(alloc, bytes, &sample.placement) {
-        Ok(count) if count >= least => None,
-        tally => Some((sample.plan.name, tally)),
-    }
-}
-
-/// At least the modules with a checksum byte of 00 are relocated.
-fn first_other(alloc: Global) -> Result<Option<Outcome>, AllocError> {
+/// The first module of which something else is found, with its checksums or without: then layout and meaning are judged.
+fn first_other(alloc: Global, summed: bool) -> Result<Option<Outcome>, AllocError> {
     for sample in &samples(alloc)? {
-        let bytes = sample.bytes.clone()?;
-        let other = other_outcome(alloc, sample, bytes, sample.plan.records.len());
-        if other.is_some() {
-            return Ok(other);
+        let mut bytes = Vec::new(alloc);
+        push_bytes(&mut bytes, sample, summed)?;
+        match try_bytes(alloc, bytes, &sample.placement) {
+            Ok(count) if count >= least_relocated(sample.plan, summed) => {}
+            tally => return Ok(Some((sample.plan.name, tally))),
         }
     }
     Ok(None)
@@ -232,23 +229,10 @@ fn first_other(alloc: Global) -> Result<Option<Outcome>, AllocError> {
 
 #[test]
 fn each_byte_replaced(rt: HostRuntime) {
-    let other = first_other(rt.alloc());
-    assert!(rt; matches!(other, Ok(None)), "{other:?}");
-}
-
-/// Without checksums layout and meaning are judged. At least the modules with another header name are relocated.
-fn first_other_unchecked(alloc: Global) -> Result<Option<Outcome>, AllocError> {
-    for sample in &samples(alloc)? {
-        let other = other_outcome(alloc, sample, unchecked(alloc, sample)?, 255);
-        if other.is_some() {
-            return Ok(other);
-        }
-    }
-    Ok(None)
+    assert!(rt; matches!(first_other(rt.alloc(), true), Ok(None)));
 }
 
 #[test]
 fn each_byte_replaced_without_checksums(rt: HostRuntime) {
-    let other = first_other_unchecked(rt.alloc());
-    assert!(rt; matches!(other, Ok(None)), "{other:?}");
+    assert!(rt; matches!(first_other(rt.alloc(), false), Ok(None)));
 }

@@ -49,7 +49,12 @@ fn leaves(
 }
 
 /// Whether a program leaves the front of its text in a writer with room for `room` bytes, and ends with the status 3 if that is not all.
-fn leaves_front(alloc: Global, line: &Line, room: usize, full: Full) -> Result<bool, AllocError> {
+pub fn leaves_front(
+    alloc: Global,
+    line: &Line,
+    room: usize,
+    full: Full,
+) -> Result<bool, AllocError> {
     let mut writer = Taker::new(alloc, room, full)?;
     match line.text.get(..room) {
         Some(front) if room < line.text.len() => leaves(alloc, line, &mut writer, 3, front),
@@ -85,12 +90,7 @@ fn slow_reader(bytes: &[u8], piece: usize, times: u64) -> Script<'_> {
 }
 
 /// A writer that works in pieces, with interruptions before each.
-pub fn slow_writer(
-    alloc: Global,
-    room: usize,
-    piece: usize,
-    times: u64,
-) -> Result<Taker, AllocError> {
+fn slow_writer(alloc: Global, room: usize, piece: usize, times: u64) -> Result<Taker, AllocError> {
     let writer = Taker::new(alloc, room, Full::Fails)?;
     Ok(writer.in_pieces(piece.max(1)).interrupted(times))
 }
@@ -99,7 +99,7 @@ pub fn slow_writer(
 static PIECES: [(usize, u64); 5] = [(1, 3), (2, 0), (7, 3), (65, 3), (usize::MAX, 999)];
 
 /// Whether a program is done over such a reader and such a writer.
-fn is_done(alloc: Global, line: &Line, piece: usize, times: u64) -> Result<bool, AllocError> {
+pub fn is_done(alloc: Global, line: &Line, piece: usize, times: u64) -> Result<bool, AllocError> {
     let mut reader = slow_reader(&line.input, piece, times);
     let mut writer = slow_writer(alloc, line.text.len(), piece, times)?;
     let status = run(alloc, line, &mut reader, &mut writer)?;
@@ -237,8 +237,8 @@ fn is_limited(alloc: Global, limit: &Limit) -> Result<bool, AllocError> {
 
 #[test]
 fn a_text_has_a_limit(rt: HostRuntime) {
-    for (at, limit) in LIMITS.iter().enumerate() {
-        assert!(rt; is_limited(rt.alloc(), limit) == Ok(true), "{at}");
+    for limit in &LIMITS {
+        assert!(rt; is_limited(rt.alloc(), limit) == Ok(true));
     }
 }
 
@@ -286,10 +286,7 @@ fn leaves_after_refusal(alloc: Global, refusal: &Refusal) -> Result<bool, AllocE
 
 #[test]
 fn what_follows_a_refusal_is_left(rt: HostRuntime) {
-    for (at, refusal) in REFUSALS.iter().enumerate() {
-        assert!(rt;
-            leaves_after_refusal(rt.alloc(), refusal) == Ok(true),
-            "{at}"
-        );
+    for refusal in &REFUSALS {
+        assert!(rt; leaves_after_refusal(rt.alloc(), refusal) == Ok(true));
     }
 }

@@ -1,21 +1,24 @@
 //! Texts of more than 64 KB, which are written in pieces.
 
-use super::devices::slow_writer;
+use super::devices::{is_done, leaves_front};
 use super::modules::bytes_of;
-use super::tools::run_job;
-use omf_cmd::{Job, RunFault};
-use omf_frame::faulty::{Full, Script, Taker, Then};
+use super::tools::{Asked, Line, Reads, Tool};
+use omf_frame::faulty::Full;
 use omf_samples::{END, HEADER, NAMES};
 use std::alloc::{AllocError, Global};
 use std::fmt::Write;
 
-/// An input of a job of `omf`, and its text.
-#[derive(Drop)]
-struct Large {
-    job: Job,
-    input: Vec<u8>,
-    text: String,
-}
+static RELOC: Asked = Asked {
+    tool: Tool::Omf,
+    arguments: &["omf", "reloc"],
+    reads: Reads::All,
+};
+
+static LIST: Asked = Asked {
+    tool: Tool::Omf,
+    arguments: &["omf", "list"],
+    reads: Reads::Module,
+};
 
 /// The number of data records, each of 1,000 bytes.
 const RECORDS: u8 = 41;
@@ -50,17 +53,17 @@ fn push_line(text: &mut String, first: u32, count: u32) -> Result<(), AllocError
 }
 
 /// `reloc` prints 2,562 lines of 16 bytes, and one of 8.
-fn relocated(alloc: Global) -> Result<Large, AllocError> {
-    let input = data_module(alloc)?;
+fn relocated(alloc: Global) -> Result<Line, AllocError> {
     let mut text = String::new(alloc);
     for line in 0..2_562 {
         push_line(&mut text, 16 * line, 16)?;
     }
     push_line(&mut text, 40_992, 8)?;
-    Ok(Large {
-        job: Job::Reloc,
-        input,
-        text,
+    Ok(Line {
+        asked: &RELOC,
+        input: data_module(alloc)?,
+        needed: usize::MAX,
+        text: text.into_bytes(),
     })
 }
 
@@ -87,28 +90,12 @@ fn list_text(alloc: Global) -> Result<String, AllocError> {
     Ok(text)
 }
 
-fn listed(alloc: Global) -> Result<Large, AllocError> {
-    Ok(Large {
-        job: Job::List,
+fn listed(alloc: Global) -> Result<Line, AllocError> {
+    Ok(Line {
+        asked: &LIST,
         input: many_records(alloc)?,
-        text: list_text(alloc)?,
-    })
-}
-
-/// Runs the job over a writer.
-fn run(alloc: Global, large: &Large, writer: &mut Taker) -> Result<(), RunFault> {
-    let mut reader = Script::new(&large.input, Then::Ends);
-    run_job(alloc, large.job, &mut reader, writer)
-}
-
-/// Whether a run leaves the front of its text in a writer with this room, and names the writer if that is not all.
-fn leaves_front(alloc: Global, large: &Large, room: usize) -> Result<bool, AllocError> {
-    let mut writer = Taker::new(alloc, room, Full::Fails)?;
-    let ran = run(alloc, large, &mut writer);
-    let text = large.text.as_bytes();
-    Ok(match text.get(..room) {
-        Some(front) if room < text.len() => ran == Err(RunFault::Write) && writer.bytes() == front,
-        _ => ran == Ok(()) && writer.bytes() == text,
+        needed: usize::MAX,
+        text: list_text(alloc)?.into_bytes(),
     })
 }
 
@@ -119,29 +106,22 @@ static ROOMS: [usize; 13] = [
 ];
 
 /// The first room in which something else is left.
-fn first_other(alloc: Global, large: &Large) -> Result<Option<usize>, AllocError> {
+fn first_other(alloc: Global, line: &Line) -> Result<Option<usize>, AllocError> {
     for room in &ROOMS {
-        if !leaves_front(alloc, large, *room)? {
+        if !leaves_front(alloc, line, *room, Full::Fails)? {
             return Ok(Some(*room));
         }
     }
     Ok(None)
 }
 
-/// Whether a text is written in pieces of 1,000 bytes, with interruptions.
-fn is_written_in_pieces(alloc: Global, large: &Large) -> Result<bool, AllocError> {
-    let mut writer = slow_writer(alloc, large.text.len(), 1000, 3)?;
-    let ran = run(alloc, large, &mut writer);
-    Ok(ran == Ok(()) && writer.bytes() == large.text.as_bytes())
-}
-
-/// Whether `reloc` writes its text so.
+/// Whether `reloc` writes its text so, and in pieces of 1,000 bytes with interruptions.
 fn relocates(alloc: Global) -> Result<bool, AllocError> {
-    let large = relocated(alloc)?;
+    let line = relocated(alloc)?;
     Ok(
-        large.text.len() == 158_882
-            && first_other(alloc, &large)? == None
-            && is_written_in_pieces(alloc, &large)?,
+        line.text.len() == 158_882
+            && first_other(alloc, &line)? == None
+            && is_done(alloc, &line, 1000, 3)?,
     )
 }
 

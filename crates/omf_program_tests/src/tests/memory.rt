@@ -3,11 +3,11 @@
 use super::calls::{Call, Tried, first_failing, first_wrong, refused_if, right_if};
 use super::modules::{ANY, Sample, samples};
 use super::printing::{FaultLine, LINES};
-use super::tools::{Line, lines, run, run_job};
+use super::tools::{Line, lines, run};
 use super::verdicts::by_check;
 use omf_canon::{CanonFault, canon, canon_to};
 use omf_check::{CheckFault, Checked, Session};
-use omf_cmd::{Job, RunFault, fault_line};
+use omf_cmd::fault_line;
 use omf_frame::faulty::{Full, Script, Taker, Then};
 use omf_frame::{FrameFault, Framer};
 use omf_image::Image;
@@ -325,52 +325,6 @@ fn first_failing_program(alloc: Global) -> Result<Option<usize>, AllocError> {
 #[test]
 fn programs(rt: HostRuntime) {
     assert!(rt; first_failing_program(rt.alloc()) == Ok(None));
-}
-
-/// A job of `omf`.
-#[derive(Drop)]
-struct OnInput<'a> {
-    line: &'a Line,
-    job: Job,
-}
-
-impl<'a> Call for OnInput<'a> {
-    fn run(&self, alloc: Global) -> Tried {
-        let text = self.line.text.as_slice();
-        let Ok(mut writer) = Taker::new(alloc, text.len(), Full::Fails) else {
-            return Tried::Refused;
-        };
-        let mut reader = Script::new(&self.line.input, Then::Ends);
-        match run_job(alloc, self.job, &mut reader, &mut writer) {
-            Ok(()) => right_if(writer.bytes() == text),
-            Err(fault) => {
-                refused_if(fault == RunFault::Memory && text.starts_with(writer.bytes()))
-            }
-        }
-    }
-}
-
-/// The lines that are a job of `omf`.
-fn jobs_of(alloc: Global, lines: &[Line]) -> Result<Vec<OnInput<'_>>, AllocError> {
-    let mut calls = Vec::new(alloc);
-    for line in lines {
-        if let Some(job) = line.asked.job {
-            calls.push(OnInput { line, job })?;
-        }
-    }
-    Ok(calls)
-}
-
-/// The first of the jobs with another result while memory runs out.
-fn first_failing_job(alloc: Global) -> Result<Option<usize>, AllocError> {
-    let lines = lines(alloc)?;
-    let calls = jobs_of(alloc, &lines)?;
-    first_failing(alloc, &calls)
-}
-
-#[test]
-fn jobs(rt: HostRuntime) {
-    assert!(rt; first_failing_job(rt.alloc()) == Ok(None));
 }
 
 impl Call for FaultLine {

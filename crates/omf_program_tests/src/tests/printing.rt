@@ -1,17 +1,16 @@
 //! Texts, arguments and faults, by the calls that make them.
 
-use super::modules::{Sample, bytes_of, input_of, samples};
-use super::tools::run_job;
+use super::modules::{bytes_of, module_of};
 use omf_check::Checked;
 use omf_cmd::{
     Fault, Gathered, Job, Listing, Omf, RunFault, command, eight_digits, main_with, print_all,
-    print_bytes, print_image, print_list, print_start, run_and_flush, run_with, tell, words_from,
+    print_bytes, print_image, print_list, print_start, run_and_flush, tell, words_from,
 };
 use omf_frame::faulty::{Full, Taker};
 use omf_frame::{Bytes, Place, Reason, Sink, Writing};
 use omf_image::Image;
 use omf_reloc::{Cause, Kind, ReachFault};
-use omf_samples::{END, HEADER, MODULE};
+use omf_samples::MODULE;
 use std::alloc::{AllocError, Global};
 use std::io;
 use std::io::{Error, ErrorKind, Write};
@@ -123,7 +122,7 @@ fn is_printed(alloc: Global, row: &Row) -> Result<bool, AllocError> {
 #[test]
 fn prints_images_and_starts(rt: HostRuntime) {
     for row in &IMAGES {
-        assert!(rt; is_printed(rt.alloc(), row) == Ok(true), "{}", row.text);
+        assert!(rt; is_printed(rt.alloc(), row) == Ok(true));
     }
 }
 
@@ -222,19 +221,11 @@ fn prints_line(alloc: Global, case: &FaultLine) -> bool {
     writer.text.pop() == Some(b'\n') && writer.text.as_slice() == case.line.as_bytes()
 }
 
-/// The first fault that prints something else.
-fn first_other_line(alloc: Global) -> Option<usize> {
-    for (at, case) in LINES.iter().enumerate() {
-        if !prints_line(alloc, case) {
-            return Some(at);
-        }
-    }
-    None
-}
-
 #[test]
 fn prints_faults(rt: HostRuntime) {
-    assert!(rt; first_other_line(rt.alloc()) == None);
+    for case in &LINES {
+        assert!(rt; prints_line(rt.alloc(), case));
+    }
 }
 
 const FLAG: &str = "--refuse-vendor-comments";
@@ -270,8 +261,8 @@ fn found(alloc: Global, arguments: &[&str]) -> Result<Option<(Job, bool)>, Alloc
 
 #[test]
 fn finds_jobs_in_arguments(rt: HostRuntime) {
-    for (at, (arguments, wanted)) in ARGUMENTS.iter().enumerate() {
-        assert!(rt; found(rt.alloc(), *arguments) == Ok(*wanted), "{at}");
+    for (arguments, wanted) in &ARGUMENTS {
+        assert!(rt; found(rt.alloc(), *arguments) == Ok(*wanted));
     }
 }
 
@@ -305,49 +296,31 @@ static ANSWERS: [Answer; 3] = [
     },
 ];
 
-/// The statuses with which `omf` ends, by `main_with` and by the call for all programs.
-fn statuses<K: Sink>(
-    alloc: Global,
-    arguments: &[&str],
-    writer: &mut K,
-    other: &mut K,
-) -> Result<(u8, u8), AllocError> {
+/// The status with which `omf` ends on a module.
+fn ended<K: Sink>(alloc: Global, arguments: &[&str], writer: &mut K) -> Result<u8, AllocError> {
     let input = bytes_of(alloc, MODULE)?;
     let words = words_from(alloc, arguments)?;
-    let status = main_with(alloc, &words, &mut Bytes::new(&input), writer);
-    let by_all = run_with::<Omf, _, _>(alloc, &words, &mut Bytes::new(&input), other);
-    Ok((status, by_all))
+    Ok(main_with(alloc, &words, &mut Bytes::new(&input), writer))
 }
 
-/// Whether `omf` writes its answer.
-fn is_written(alloc: Global, answer: &Answer) -> Result<bool, AllocError> {
+/// Whether `omf` writes its answer, and ends as it must where nothing can be written.
+fn is_answered(alloc: Global, answer: &Answer) -> Result<bool, AllocError> {
     let mut writer = Gathered::new(alloc);
-    let mut other = Gathered::new(alloc);
-    let ended = statuses(alloc, answer.arguments, &mut writer, &mut other)?;
-    let text = answer.text.as_bytes();
+    let mut full = Taker::new(alloc, 0, Full::TakesNone)?;
+    let written = ended(alloc, answer.arguments, &mut writer)?;
+    let unwritten = ended(alloc, answer.arguments, &mut full)?;
     Ok(
-        ended == (answer.status, answer.status)
-            && writer.text.as_slice() == text
-            && other.text.as_slice() == text,
+        written == answer.status
+            && unwritten == answer.unwritten
+            && writer.text.as_slice() == answer.text.as_bytes(),
     )
 }
 
-/// Whether `omf` ends as it must where nothing can be written.
-fn is_unwritten(alloc: Global, answer: &Answer) -> Result<bool, AllocError> {
-    let mut writer = Taker::new(alloc, 0, Full::TakesNone)?;
-    let mut other = Taker::new(alloc, 0, Full::TakesNone)?;
-    let ended = statuses(alloc, answer.arguments, &mut writer, &mut other)?;
-    Ok(ended == (answer.unwritten, answer.unwritten))
-}
-
-/// The first answer that is written otherwise.
-fn first_other_answer(alloc: Global) -> Result<Option<usize>, AllocError> {
-    for (at, answer) in ANSWERS.iter().enumerate() {
-        if !is_written(alloc, answer)? || !is_unwritten(alloc, answer)? {
-            return Ok(Some(at));
-        }
+#[test]
+fn runs_on_arguments(rt: HostRuntime) {
+    for answer in &ANSWERS {
+        assert!(rt; is_answered(rt.alloc(), answer) == Ok(true));
     }
-    Ok(None)
 }
 
 /// A writer that cannot be flushed.
@@ -388,24 +361,11 @@ fn is_flushed(alloc: Global, answer: &Answer) -> Result<bool, AllocError> {
     )
 }
 
-/// The first answer that is not flushed.
-fn first_unflushed(alloc: Global) -> Result<Option<usize>, AllocError> {
-    for (at, answer) in ANSWERS.iter().enumerate() {
-        if !is_flushed(alloc, answer)? {
-            return Ok(Some(at));
-        }
-    }
-    Ok(None)
-}
-
 #[test]
 fn flushes_the_output(rt: HostRuntime) {
-    assert!(rt; first_unflushed(rt.alloc()) == Ok(None));
-}
-
-#[test]
-fn runs_on_arguments(rt: HostRuntime) {
-    assert!(rt; first_other_answer(rt.alloc()) == Ok(None));
+    for answer in &ANSWERS {
+        assert!(rt; is_flushed(rt.alloc(), answer) == Ok(true));
+    }
 }
 
 /// Whether texts are written until the writer is full.
@@ -422,84 +382,36 @@ fn writes_texts(rt: HostRuntime) {
     assert!(rt; are_written(rt.alloc()) == Ok(true));
 }
 
-/// The text of a job over an input; None if it has a fault.
-fn text_of(alloc: Global, job: Job, input: &[u8]) -> Option<Vec<u8>> {
+/// The texts of `list` and of `reloc` on `MODULE`.
+const LISTED: &[u8] =
+    b"R 0 00000000 80 2 THEADR\nR 1 00000006 96 3 LNAMES\nR 2 0000000D 98 6 SEGDEF\nR 3 00000017 A0 7 LEDATA\nR 4 00000022 9C 5 FIXUPP\nR 5 0000002B 8A 1 MODEND\nS 1 4 \"T\"\n";
+
+const RELOCATED: &[u8] = b"0001:00000000 B8 20 00 90\n";
+
+/// Whether a module is listed so, by its call.
+fn is_listed(alloc: Global, module: &Checked) -> bool {
     let mut writer = Gathered::new(alloc);
-    match run_job(alloc, job, &mut Bytes::new(input), &mut writer) {
-        Ok(()) => Some(writer.text),
-        Err(_) => None,
-    }
+    print_list(alloc, module, &mut writer).is_ok() && writer.text.as_slice() == LISTED
 }
 
-/// The text of each job on a module of a header and an end.
-static TEXTS: [(Job, &[u8]); 4] = [
-    (Job::Check, b"OK 2 records, 11 bytes\n"),
-    (
-        Job::List,
-        b"R 0 00000000 80 2 THEADR\nR 1 00000006 8A 1 MODEND\n",
-    ),
-    (Job::Canon, b"\x80\x03\x00\x01\x41\x3B\x8A\x02\x00\x00\x74"),
-    (Job::Reloc, b""),
-];
-
-/// Whether a job has its text.
-fn has_text(alloc: Global, job: Job, text: &[u8]) -> Result<bool, AllocError> {
-    let input = bytes_of(alloc, &[HEADER, END])?;
-    Ok(text_of(alloc, job, &input).is_some_and(|printed| printed.as_slice() == text))
-}
-
-#[test]
-fn prints_modules(rt: HostRuntime) {
-    for (at, (job, text)) in TEXTS.iter().enumerate() {
-        assert!(rt; has_text(rt.alloc(), *job, *text) == Ok(true), "{at}");
-    }
-}
-
-/// The text of a module by a placement text; None if it has a fault.
-fn listing_of(alloc: Global, sample: &Sample) -> Option<Vec<u8>> {
+/// Whether a module at its placement is printed so, by the calls.
+fn is_relocated(alloc: Global, module: &Checked) -> bool {
     let mut writer = Gathered::new(alloc);
-    let Ok(listing) = Listing::of(alloc, &sample.module, sample.plan.placement.as_bytes()) else {
-        return None;
-    };
-    match listing.print(alloc, &mut writer) {
-        Ok(()) => Some(writer.text),
-        Err(_) => None,
-    }
-}
-
-/// The text of `list` by its call on a module; None if it has a fault.
-fn list_of(alloc: Global, sample: &Sample) -> Option<Vec<u8>> {
-    let mut writer = Gathered::new(alloc);
-    match print_list(alloc, &sample.module, &mut writer) {
-        Ok(()) => Some(writer.text),
-        Err(_) => None,
+    match Listing::of(alloc, module, b"S 10020 10000 1000") {
+        Ok(listing) => {
+            listing.print(alloc, &mut writer).is_ok() && writer.text.as_slice() == RELOCATED
+        }
+        Err(_) => false,
     }
 }
 
 /// Whether the calls on a module print what the jobs print.
-fn prints_as_jobs(alloc: Global, sample: &Sample) -> Result<bool, AllocError> {
-    let input = input_of(alloc, sample.plan.records, sample.plan.placement)?;
-    let relocated = text_of(alloc, Job::Reloc, &input);
-    let listed = text_of(alloc, Job::List, &input);
-    Ok(
-        relocated.is_some()
-            && listed.is_some()
-            && listing_of(alloc, sample) == relocated
-            && list_of(alloc, sample) == listed,
-    )
-}
-
-/// The first module of which the calls print something else.
-fn first_other(alloc: Global) -> Result<Option<&'static str>, AllocError> {
-    for sample in &samples(alloc)? {
-        if !prints_as_jobs(alloc, sample)? {
-            return Ok(Some(sample.plan.name));
-        }
-    }
-    Ok(None)
+fn prints_as_jobs(alloc: Global) -> Result<bool, AllocError> {
+    let module = module_of(alloc, MODULE)?;
+    Ok(is_listed(alloc, &module) && is_relocated(alloc, &module))
 }
 
 #[test]
 fn prints_by_calls_on_a_module(rt: HostRuntime) {
-    assert!(rt; first_other(rt.alloc()) == Ok(None));
+    assert!(rt; prints_as_jobs(rt.alloc()) == Ok(true));
 }

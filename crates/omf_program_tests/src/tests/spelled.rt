@@ -49,7 +49,15 @@ struct Spelling {
     spelled: &'static [u8],
 }
 
-static SPELLINGS: [Spelling; 5] = [
+static SPELLINGS: [Spelling; 11] = [
+    Spelling {
+        field: AnyField::Index(127),
+        spelled: b"\x7F",
+    },
+    Spelling {
+        field: AnyField::Index(128),
+        spelled: b"\x80\x80",
+    },
     Spelling {
         field: AnyField::Index(300),
         spelled: b"\x81\x2C",
@@ -65,6 +73,22 @@ static SPELLINGS: [Spelling; 5] = [
     Spelling {
         field: AnyField::CommunalLength(0x8000),
         spelled: b"\x81\x00\x80",
+    },
+    Spelling {
+        field: AnyField::CommunalLength(128),
+        spelled: b"\x80",
+    },
+    Spelling {
+        field: AnyField::CommunalLength(129),
+        spelled: b"\x81\x81\x00",
+    },
+    Spelling {
+        field: AnyField::CommunalLength(65_536),
+        spelled: b"\x84\x00\x00\x01",
+    },
+    Spelling {
+        field: AnyField::CommunalLength(16_777_216),
+        spelled: b"\x88\x00\x00\x00\x01",
     },
     Spelling {
         field: AnyField::Name(b"FLAT"),

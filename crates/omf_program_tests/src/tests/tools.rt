@@ -1,7 +1,7 @@
 //! The programs, with arguments and inputs on which they end with the status 0.
 
-use super::modules::{ANY, Plan, bytes_of, pair, plans};
-use omf_cmd::{Gathered, Job, Omf, RunFault, run_canon, run_check, run_list, run_on, run_reloc};
+use super::modules::{Plan, bytes_of, pair, plans};
+use omf_cmd::{Gathered, Omf, run_on};
 use omf_frame::{Bytes, Sink, Source};
 use omf_linker::link::Link;
 use omf_linker::place::Place;
@@ -32,21 +32,6 @@ impl Tool {
     }
 }
 
-/// Runs a job of `omf`.
-pub fn run_job<S: Source, K: Sink>(
-    alloc: Global,
-    job: Job,
-    reader: &mut S,
-    writer: &mut K,
-) -> Result<(), RunFault> {
-    match job {
-        Job::Check => run_check(alloc, ANY, reader, writer),
-        Job::List => run_list(alloc, ANY, reader, writer),
-        Job::Canon => run_canon(alloc, ANY, reader, writer),
-        Job::Reloc => run_reloc(alloc, ANY, reader, writer),
-    }
-}
-
 /// How much of its input a program reads.
 #[derive(Clone, Copy)]
 pub enum Reads {
@@ -54,11 +39,10 @@ pub enum Reads {
     All,
 }
 
-/// A program with its arguments, the job of `omf` that they ask for, and how much of its input it reads.
+/// A program with its arguments, and how much of its input it reads.
 pub struct Asked {
     pub tool: Tool,
     pub arguments: &'static [&'static str],
-    pub job: Option<Job>,
     pub reads: Reads,
 }
 
@@ -66,31 +50,26 @@ static JOBS: [Asked; 5] = [
     Asked {
         tool: Tool::Omf,
         arguments: &["omf", "check"],
-        job: Some(Job::Check),
         reads: Reads::Module,
     },
     Asked {
         tool: Tool::Omf,
         arguments: &["omf", "list"],
-        job: Some(Job::List),
         reads: Reads::Module,
     },
     Asked {
         tool: Tool::Omf,
         arguments: &["omf", "canon"],
-        job: Some(Job::Canon),
         reads: Reads::Module,
     },
     Asked {
         tool: Tool::Omf,
         arguments: &["omf", "reloc"],
-        job: Some(Job::Reloc),
         reads: Reads::All,
     },
     Asked {
         tool: Tool::Omf,
         arguments: &["omf", "check", "--refuse-vendor-comments"],
-        job: None,
         reads: Reads::Module,
     },
 ];
@@ -108,19 +87,16 @@ static LINKS: [Asked; 3] = [
     Asked {
         tool: Tool::Link,
         arguments: &["omf-link", "image"],
-        job: None,
         reads: Reads::All,
     },
     Asked {
         tool: Tool::Link,
         arguments: &["omf-link", "map"],
-        job: None,
         reads: Reads::All,
     },
     Asked {
         tool: Tool::Link,
         arguments: &["omf-link", "draft"],
-        job: None,
         reads: Reads::All,
     },
 ];

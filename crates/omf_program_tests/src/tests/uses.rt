@@ -6,7 +6,7 @@ use omf_check::Checked;
 use omf_cmd::RunFault;
 use omf_frame::Bytes;
 use omf_linking::LinkFault;
-use omf_placement::{DeriveFault, Placed};
+use omf_placement::{DeriveFault, Placed, Placement};
 use omf_reloc::{Frame, Kind, ReachFault};
 use omf_samples::{DATA, END, EXTERNAL, FIXUP, HEADER, LONG_DATA, MODULE, NAMES, PUBLIC, SEGMENT};
 use std::alloc::{AllocError, Global};
@@ -30,10 +30,7 @@ fn is_judged(alloc: Global, records: &[&str], line: &str) -> Result<bool, AllocE
 #[test]
 fn a_file_is_judged(rt: HostRuntime) {
     for (records, line) in &VERDICTS {
-        assert!(rt;
-            is_judged(rt.alloc(), *records, *line) == Ok(true),
-            "{line}"
-        );
+        assert!(rt; is_judged(rt.alloc(), *records, *line) == Ok(true));
     }
 }
 
@@ -61,11 +58,8 @@ fn is_booted(
 
 #[test]
 fn a_boot_sector_is_relocated(rt: HostRuntime) {
-    for (at, (records, wanted)) in SECTORS.iter().enumerate() {
-        assert!(rt;
-            is_booted(rt.alloc(), *records, *wanted) == Ok(true),
-            "{at}"
-        );
+    for (records, wanted) in &SECTORS {
+        assert!(rt; is_booted(rt.alloc(), *records, *wanted) == Ok(true));
     }
 }
 
@@ -86,8 +80,8 @@ fn has_key(alloc: Global, records: &[&str]) -> Result<bool, AllocError> {
 
 #[test]
 fn modules_that_differ_in_encodings_have_one_key(rt: HostRuntime) {
-    for (at, records) in KEYED.iter().enumerate() {
-        assert!(rt; has_key(rt.alloc(), *records) == Ok(true), "{at}");
+    for records in &KEYED {
+        assert!(rt; has_key(rt.alloc(), *records) == Ok(true));
     }
 }
 
@@ -95,7 +89,7 @@ fn modules_that_differ_in_encodings_have_one_key(rt: HostRuntime) {
 const CALLER: &[&str] = &[HEADER, NAMES, SEGMENT, EXTERNAL, END];
 
 /// The addresses of two modules: a segment of each, in the frame at 10000H.
-const ADDRESSES: &str = "S 10020 10000 1000\nM\nS 10100 10000 1000\n";
+const ADDRESSES: &[u8] = b"S 10020 10000 1000\nM\nS 10100 10000 1000\n";
 
 const UNDEFINED: LinkFault = LinkFault::External(DeriveFault::Undefined {
     module: 0,
@@ -117,15 +111,21 @@ static LINKS: [(&[&str], Result<Placed, LinkFault>); 2] = [
     (&[HEADER, NAMES, SEGMENT, END], Err(UNDEFINED)),
 ];
 
-/// Whether the first module's external 1, which it alone has, gets this place, or the modules this fault.
-fn are_linked(alloc: Global, modules: &[Checked; 2], wanted: Result<Placed, LinkFault>) -> bool {
+/// The place of external 1 of the first of two modules, if it alone has one.
+fn place_in(placements: &[Placement]) -> Option<Placed> {
+    match placements {
+        [caller, callee] if callee.external(1).is_none() => caller.external(1),
+        _ => None,
+    }
+}
+
+/// Whether the first of two modules gets this place for its external, or both get this fault.
+fn are_linked(alloc: Global, modules: &[Checked], wanted: Result<Placed, LinkFault>) -> bool {
+    if modules.len() != 2 {
+        return false;
+    }
     match link_two(alloc, modules, ADDRESSES) {
-        Ok(placements) => match placements.as_slice() {
-            [caller, callee] => {
-                caller.external(1) == wanted.ok() && callee.external(1).is_none()
-            }
-            _ => false,
-        },
+        Ok(placements) => place_in(&placements) == wanted.ok(),
         Err(fault) => wanted.err() == Some(fault),
     }
 }
@@ -136,16 +136,15 @@ fn is_linked(
     records: &[&str],
     wanted: Result<Placed, LinkFault>,
 ) -> Result<bool, AllocError> {
-    let modules = [module_of(alloc, CALLER)?, module_of(alloc, records)?];
+    let mut modules = Vec::new(alloc);
+    modules.push(module_of(alloc, CALLER)?)?;
+    modules.push(module_of(alloc, records)?)?;
     Ok(are_linked(alloc, &modules, wanted))
 }
 
 #[test]
 fn two_modules_are_linked(rt: HostRuntime) {
-    for (at, (records, wanted)) in LINKS.iter().enumerate() {
-        assert!(rt;
-            is_linked(rt.alloc(), *records, *wanted) == Ok(true),
-            "{at}"
-        );
+    for (records, wanted) in &LINKS {
+        assert!(rt; is_linked(rt.alloc(), *records, *wanted) == Ok(true));
     }
 }
