@@ -7,7 +7,8 @@ use crate::options::{Asked, read_arguments};
 use crate::value::put_quoted;
 use omf_frame::{Sink, Writing};
 use omf_host::{
-    Status, arguments, end, misused, out_of_memory, put, put_title, put_unread, read_input,
+    Status, answer, arguments, end, misused, out_of_memory, put, put_title, put_unread,
+    question_in, read_input,
 };
 use std::alloc::{AllocError, Global};
 use std::io;
@@ -116,9 +117,13 @@ fn show_inputs<K: Sink>(rt: &HostRuntime, asked: &Asked, writer: &mut K) -> Stat
 
 /// Does what the arguments ask for. Returns the status.
 fn act<K: Sink>(rt: &HostRuntime, writer: &mut K) -> Result<Status, AllocError> {
-    if let Some(words) = arguments(rt)?
-        && let Some(asked) = read_arguments(rt.alloc(), words)?
-    {
+    let Some(words) = arguments(rt)? else {
+        return Ok(misused(writer, USAGE));
+    };
+    if let Some(question) = question_in(&words) {
+        return answer(rt.alloc(), writer, question, "omf-dump", USAGE);
+    }
+    if let Some(asked) = read_arguments(rt.alloc(), words)? {
         return Ok(show_inputs(rt, &asked, writer));
     }
     Ok(misused(writer, USAGE))

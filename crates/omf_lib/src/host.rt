@@ -11,7 +11,8 @@ use crate::taking::get;
 use omf_check::Profile;
 use omf_frame::{Sink, Writing};
 use omf_host::{
-    Status, arguments, end, misused, out_of_memory, put, put_title, put_unread, read_input,
+    Status, answer, arguments, end, misused, out_of_memory, put, put_title, put_unread,
+    question_in, read_input,
 };
 use std::alloc::{AllocError, Global};
 use std::process::ExitCode;
@@ -149,11 +150,17 @@ fn act<K: Sink>(rt: &HostRuntime, writer: &mut K, asked: &Asked) -> Status {
     }
 }
 
-/// What the arguments of the process ask for; None if they are not understood.
-fn asked_of(rt: &HostRuntime) -> Result<Option<Asked>, AllocError> {
-    match arguments(rt)? {
-        Some(words) => read_arguments(rt.alloc(), words),
-        None => Ok(None),
+/// Does what the arguments of the process ask for. Returns the status.
+fn on_arguments<K: Sink>(rt: &HostRuntime, writer: &mut K) -> Result<Status, AllocError> {
+    let Some(words) = arguments(rt)? else {
+        return Ok(misused(writer, USAGE));
+    };
+    if let Some(question) = question_in(&words) {
+        return answer(rt.alloc(), writer, question, "omf-lib", USAGE);
+    }
+    match read_arguments(rt.alloc(), words)? {
+        Some(asked) => Ok(act(rt, writer, &asked)),
+        None => Ok(misused(writer, USAGE)),
     }
 }
 
@@ -161,9 +168,8 @@ fn asked_of(rt: &HostRuntime) -> Result<Option<Asked>, AllocError> {
 /// file could not be read or written, the output could not be written, or memory ran out.
 pub fn run(rt: &HostRuntime) -> ExitCode {
     let mut output = Writing::new(rt.stdout());
-    let status = match asked_of(rt) {
-        Ok(Some(asked)) => act(rt, &mut output, &asked),
-        Ok(None) => misused(&mut output, USAGE),
+    let status = match on_arguments(rt, &mut output) {
+        Ok(status) => status,
         Err(AllocError) => out_of_memory(&mut output),
     };
     end(&mut output, status)

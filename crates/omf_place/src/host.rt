@@ -2,9 +2,7 @@
 
 use omf_cmd::{Program, run_with};
 use omf_frame::{Bytes, Sink, Writing};
-use omf_host::{
-    Status, answer, end, misused, out_of_memory, program_and_arguments, question_in,
-};
+use omf_host::{Status, answer, end, misused, out_of_memory, program_and_arguments, question_in};
 use omf_linker::asked::{Asked, sorted};
 use omf_linker::host::{read_or_tell, run_on_input};
 use omf_linker::place::Place;
