@@ -27,10 +27,14 @@ fi
 "$link" image -t program.link start.obj say.obj mark.obj > "$work/shown"
 cat "$work/shown"
 
+# The text names its modules, so their order does not matter.
+"$link" image -t program.link mark.obj say.obj start.obj | cmp - "$work/shown"
+echo "the modules in another order give the same"
+
 # The draft of their text, with the code in the frame of base 0 and the mark at the end of the sector, gives the same as program.link.
 "$link" draft --base 7C00 --real start.obj say.obj mark.obj > "$work/draft"
-# The lines are found by the names in their comments, since addresses move with each change of the sources.
-sed -E '/"text"/s/^S ([0-9A-F]+) .*;/S \1 0 0 ;/; /"mark"/s/^S .*;/S 7DFE 0 0 ;/' "$work/draft" > "$work/drafted"
+# The lines are found by their names, since addresses move with each change of the sources.
+sed -E 's/^(S "text" [0-9A-F]+) .*;/\1 0 0 ;/; s/^S "mark" .*;/S "mark" 7DFE 0 0 ;/' "$work/draft" > "$work/drafted"
 "$link" image -t "$work/drafted" start.obj say.obj mark.obj | cmp - "$work/shown"
 echo "the draft, with three lines changed, gives the same"
 

@@ -9,6 +9,7 @@ pub mod PlaceRuns
 pub mod PlaceWords
 pub mod RomFiles
 pub mod NameLaws
+pub mod KeyLines
 pub mod EntryLaws
 pub mod DraftLaws
 pub mod FitLaws

@@ -4,6 +4,7 @@ use Rattle.std.specs.Prelude.{Some, decimal, flat_map}
 use Rattle.omf_frame.specs.declared.fault.Place.{Place}
 use Rattle.omf_frame.specs.declared.fault.Reason.{Reason}
 use Rattle.omf_linking.specs.declared.fault.LinkFault.TheVariants as link
+use Rattle.omf_linking.specs.declared.locator.fault.LineFault.{LineFault}
 use Rattle.omf_linking.specs.declared.space.fault.MemoryFault.TheVariants as space
 use Rattle.omf_linking.specs.declared.space.stretch.Owner.{Owner}
 use Rattle.omf_placement.specs.Quoted.{hex, quoted}
@@ -12,7 +13,7 @@ use Rattle.omf_cmd.specs.FaultLine.{fault_text, fault_words as run_words}
 use Rattle.omf_cmd.specs.Printed.{line, spaced}
 use Rattle.omf_cmd.specs.declared.fault.RunFault.TheVariants as run
 use Rattle.omf_cmd.proofs.Written.{front_words}
-use Rattle.omf_linker.specs.Link.Faults.{external_words, input_at, link_words, module_words, outside_words, owner_words, space_words}
+use Rattle.omf_linker.specs.Link.Faults.{external_words, input_at, link_words, module_words, outside_words, owner_words, space_words, text_line, why_text}
 
 after_front : (front ws : List (List ℕ)) → 0 < length ws → line (front ++ ws) ≡ flat_map spaced front ++ line ws
 after_front front [] some = absurd (omega (arith, some))
@@ -40,3 +41,7 @@ outside_line a o = after_front (codes "outside" ∷ hex 8 a ∷ []) (owner_words
 -- an offset in the input, and why
 pub no_text_line : (at : ℕ) (name : List ℕ) → line (link_words (link.NoText at) name) ≡ input_at at ++ line (codes ": no module and no text" ∷ [])
 no_text_line at name = append_assoc (input_at at) (codes ": no module and no text") (10 ∷ [])
+
+-- a line of the text, and why it does not fit
+pub text_fault_line : (n : ℕ) (why : LineFault) (name : List ℕ) → line (link_words (link.Line n why) name) ≡ text_line n ++ line (why_text why ∷ [])
+text_fault_line n why name = append_assoc (text_line n) (why_text why) (10 ∷ [])

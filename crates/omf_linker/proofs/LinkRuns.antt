@@ -1,5 +1,5 @@
 -- A run of `omf-link`, from its steps.
-use Rattle.std.proofs.Common.{◌≡◌, ℕ, List, [], ◌∷◌, Result, Ok, Err, Vec, Global, sym, ap, subst, ◌∙◌, inl, inr}
+use Rattle.std.proofs.Common.{◌≡◌, ℕ, ◌+◌, List, [], ◌∷◌, Result, Ok, Err, Vec, Global, sym, ap, subst, ◌∙◌, inl, inr}
 use Rattle.std.specs.Io.KnownBytes.{Consumes, IsAtEnd}
 use Rattle.std.specs.Prelude.{⊤, Option, Some, None, IfSome, filter_map, option_map, slice_get, zip}
 use Rattle.std.proofs.KnownBytes.{Consumes-whole}
@@ -15,8 +15,15 @@ use Rattle.omf_records.specs.Values.{Rec}
 use Rattle.omf_reloc.specs.declared.fault.ReachFault.{ReachFault}
 use Rattle.omf_output.specs.declared.rom.form.Form.{Form}
 use Rattle.omf_linking.specs.Faults.{all_far, far_by, of_derive}
-use Rattle.omf_linking.specs.Parts.{Part, parsed_parts}
-use Rattle.omf_linking.specs.Placing.{by_parts, derived_or, found, given_of, linked, miscount, places_of, unless_far}
+use Rattle.omf_linking.specs.Locator.Sparse.{Sparse, sparse}
+use Rattle.omf_linking.specs.Placing.{all_given, by_sparse, derived_or, found, frames_given, given_of, in_front, linked, or_missing, placed_by, places_given, places_of, with_segments}
+use Rattle.omf_linking.specs.declared.locator.fault.LocatorFault.{LocatorFault}
+use Rattle.omf_linking.specs.declared.locator.fault.LocatorFault.TheVariants as locator
+use Rattle.omf_placement.specs.declared.frame.Frame.{Frame}
+use Rattle.omf_placement.specs.declared.frame.Placed.{Placed}
+use Rattle.omf_records.specs.Inner.Seen.{map_ok}
+use Rattle.omf_reloc.specs.declared.fault.Kind.{Kind}
+use Rattle.omf_reloc.specs.declared.fault.Kind.TheVariants as kinds
 use Rattle.omf_check.specs.Module.{typed_modules}
 use Rattle.omf_linking.specs.Reading.{AreModules, IsPartRead, IsReadCause}
 use Rattle.omf_linking.specs.Relocated.{first_fault}
@@ -58,7 +65,7 @@ no_memory o ms (fault.Link link.Read name) n = let is = n.0 in absurd cc
 no_memory o ms (fault.Link (link.Refused j why at) name) n = let is = n.0 in absurd cc
 no_memory o ms (fault.Link (link.NoText at) name) n = let is = n.0 in absurd cc
 no_memory o ms (fault.Link link.NoModules name) n = let is = n.0 in absurd cc
-no_memory o ms (fault.Link (link.Line k) name) n = let is = n.0 in absurd cc
+no_memory o ms (fault.Link (link.Line k why) name) n = let is = n.0 in absurd cc
 no_memory o ms (fault.Link (link.External f) name) n = let is = n.0 in absurd cc
 no_memory o ms (fault.Link (link.Reach j f) name) n = let is = n.0 in absurd cc
 no_memory o ms (fault.Link (link.Starts j k) name) n = let is = n.0 in absurd cc
@@ -91,22 +98,42 @@ not_far : (g : PlacedModule → Option ReachFault) (ms : List (ℕ × PlacedModu
 not_far g [] e = absurd cc
 not_far g (m ∷ ms) e = far_first m.0 (g m.1) (filter_map (far_by g) ms) (not_far g ms) e
 
-not_unless : (fs : List LinkFault) (r : Result (List Places) LinkFault) → (slice_get fs 0 ≡ Some link.Read → ⊥) → (r ≡ Err link.Read → ⊥) → unless_far fs r ≡ Err link.Read → ⊥
-not_unless [] r far not e = not e
-not_unless (f ∷ fs) r far not e = let same : f ≡ link.Read = cc in far (ap Some same)
+-- a module's places
+missing_found : {A : Type 0} (j : ℕ) (kind : Kind) (r : Result A ℕ) → or_missing j kind r ≡ Err link.Read → ⊥
+missing_found j kind (Ok a) e = absurd cc
+missing_found j kind (Err i) e = absurd cc
 
-not_placed : (ms : List (List Rec)) (ps : List Part) (r : Result (List Places) ℕ) → found ms ps r ≡ Err link.Read → ⊥
-not_placed ms ps (Ok pls) e =
-    not_unless (all_far miscount (zip ms pls)) (derived_or (derived (zip ms pls) (given_of ps))) (not_far miscount (enumerate_from 0 (zip ms pls))) (not_found (derived (zip ms pls) (given_of ps))) e
-not_placed ms ps (Err n) e = absurd cc
+mapped_found : {A B : Type 0} (f : A → B) (r : Result A LinkFault) → (r ≡ Err link.Read → ⊥) → map_ok f r ≡ Err link.Read → ⊥
+mapped_found f (Ok a) not e = absurd cc
+mapped_found f (Err x) not e = let same : x ≡ link.Read = cc in not (ap Err same)
 
-not_parsed : (ms : List (List Rec)) (r : Result (List Part) ℕ) → by_parts ms r ≡ Err link.Read → ⊥
-not_parsed ms (Ok ps) e = not_placed ms ps (places_of ms ps) e
-not_parsed ms (Err n) e = absurd cc
+with_found : (j : ℕ) (m : List Rec) (gs : List (Option (Option Frame))) (r : Result (List Placed) LinkFault) → (r ≡ Err link.Read → ⊥) → with_segments j m gs r ≡ Err link.Read → ⊥
+with_found j m gs (Ok ps) not e = mapped_found (placed_by ps) (or_missing j kinds.Group (frames_given m ps gs)) (missing_found j kinds.Group (frames_given m ps gs)) e
+with_found j m gs (Err x) not e = let same : x ≡ link.Read = cc in not (ap Err same)
+
+front_found : (r : Result Places LinkFault) (q : Result (List Places) LinkFault) → (r ≡ Err link.Read → ⊥) → (q ≡ Err link.Read → ⊥) → in_front r q ≡ Err link.Read → ⊥
+front_found (Ok pl) q not more e = mapped_found (λ pls. pl ∷ pls) q more e
+front_found (Err x) q not more e = let same : x ≡ link.Read = cc in not (ap Err same)
+
+not_given : (j : ℕ) (m : List Rec) (s : Sparse) → places_given j m s ≡ Err link.Read → ⊥
+not_given j m s e = with_found j m s.groups (or_missing j kinds.Segment (all_given 1 s.segments)) (missing_found j kinds.Segment (all_given 1 s.segments)) e
+
+not_placed : (j : ℕ) (ms : List (List Rec × Sparse)) → places_of j ms ≡ Err link.Read → ⊥
+not_placed j [] e = absurd cc
+not_placed j (m ∷ ms) e = front_found (places_given j m.0 m.1) (places_of (j + 1) ms) (not_given j m.0 m.1) (not_placed (j + 1) ms) e
+
+not_by : (ms : List (List Rec)) (ss : List Sparse) (r : Result (List Places) LinkFault) → (r ≡ Err link.Read → ⊥) → found ms ss r ≡ Err link.Read → ⊥
+not_by ms ss (Ok pls) not e = not_found (derived (zip ms pls) (given_of ss)) e
+not_by ms ss (Err x) not e = let same : x ≡ link.Read = cc in not (ap Err same)
+
+not_read : (ms : List (List Rec)) (r : Result (List Sparse) LocatorFault) → by_sparse ms r ≡ Err link.Read → ⊥
+not_read ms (Ok ss) e = not_by ms ss (places_of 0 (zip ms ss)) (not_placed 0 (zip ms ss)) e
+not_read ms (Err locator.Memory) e = absurd cc
+not_read ms (Err (locator.Line n why)) e = absurd cc
 
 not_linked : (ms : List (List Rec)) (text : List ℕ) → linked ms text ≡ Err link.Read → ⊥
 not_linked [] text e = absurd cc
-not_linked (m ∷ ms) text e = not_parsed (m ∷ ms) (parsed_parts text) e
+not_linked (m ∷ ms) text e = not_read (m ∷ ms) (sparse (m ∷ ms) text) e
 
 not_started : (ss : List (ℕ × (ℕ × ℕ))) → one_start ss ≡ Err link.Read → ⊥
 not_started [] e = absurd cc
@@ -135,7 +162,7 @@ not_told Is ms (Err (fault.Link link.Read name)) not (inr h) = let is = h.0 in a
 not_told Is ms (Err (fault.Link (link.Refused j why at) name)) not h = tt
 not_told Is ms (Err (fault.Link (link.NoText at) name)) not h = tt
 not_told Is ms (Err (fault.Link link.NoModules name)) not h = tt
-not_told Is ms (Err (fault.Link (link.Line n) name)) not h = tt
+not_told Is ms (Err (fault.Link (link.Line n why) name)) not h = tt
 not_told Is ms (Err (fault.Link (link.External f) name)) not h = tt
 not_told Is ms (Err (fault.Link (link.Reach j f) name)) not h = tt
 not_told Is ms (Err (fault.Link (link.Starts j k) name)) not h = tt
@@ -151,7 +178,7 @@ not_drafted o ms (Err (fault.Link link.Read name)) h = h
 not_drafted o ms (Err (fault.Link (link.Refused j why at) name)) h = tt
 not_drafted o ms (Err (fault.Link (link.NoText at) name)) h = tt
 not_drafted o ms (Err (fault.Link link.NoModules name)) h = tt
-not_drafted o ms (Err (fault.Link (link.Line n) name)) h = tt
+not_drafted o ms (Err (fault.Link (link.Line n why) name)) h = tt
 not_drafted o ms (Err (fault.Link (link.External f) name)) h = tt
 not_drafted o ms (Err (fault.Link (link.Reach j f) name)) h = tt
 not_drafted o ms (Err (fault.Link (link.Starts j k) name)) h = tt
@@ -180,7 +207,7 @@ not_refused input (Err (fault.Link link.Read name)) h = h.0
 not_refused input (Err (fault.Link (link.Refused j why at) name)) h = tt
 not_refused input (Err (fault.Link (link.NoText at) name)) h = tt
 not_refused input (Err (fault.Link link.NoModules name)) h = tt
-not_refused input (Err (fault.Link (link.Line n) name)) h = tt
+not_refused input (Err (fault.Link (link.Line n why) name)) h = tt
 not_refused input (Err (fault.Link (link.External f) name)) h = tt
 not_refused input (Err (fault.Link (link.Reach j f) name)) h = tt
 not_refused input (Err (fault.Link (link.Starts j k) name)) h = tt
@@ -204,7 +231,7 @@ module _ (old new : Device) where
   unbroken (Err (fault.Link (link.Refused j why at) name)) h n = h
   unbroken (Err (fault.Link (link.NoText at) name)) h n = h
   unbroken (Err (fault.Link link.NoModules name)) h n = h
-  unbroken (Err (fault.Link (link.Line k) name)) h n = h
+  unbroken (Err (fault.Link (link.Line k why) name)) h n = h
   unbroken (Err (fault.Link (link.External f) name)) h n = h
   unbroken (Err (fault.Link (link.Reach j f) name)) h n = h
   unbroken (Err (fault.Link (link.Starts j k) name)) h n = h
@@ -223,7 +250,7 @@ module _ (old new : Device) where
   told_cause A (link.Refused j why at) name e h = absurd h
   told_cause A (link.NoText at) name e h = absurd h
   told_cause A link.NoModules name e h = absurd h
-  told_cause A (link.Line k) name e h = absurd h
+  told_cause A (link.Line k why) name e h = absurd h
   told_cause A (link.External d) name e h = absurd h
   told_cause A (link.Reach j d) name e h = absurd h
   told_cause A (link.Starts j k) name e h = absurd h
@@ -242,7 +269,7 @@ read_whole t input old new (Err (fault.Link link.Read name)) c i = (input, c)
 read_whole t input old new (Err (fault.Link (link.Refused j why at) name)) c i = (c, i)
 read_whole t input old new (Err (fault.Link (link.NoText at) name)) c i = (c, i)
 read_whole t input old new (Err (fault.Link link.NoModules name)) c i = (c, i)
-read_whole t input old new (Err (fault.Link (link.Line n) name)) c i = (c, i)
+read_whole t input old new (Err (fault.Link (link.Line n why) name)) c i = (c, i)
 read_whole t input old new (Err (fault.Link (link.External f) name)) c i = (c, i)
 read_whole t input old new (Err (fault.Link (link.Reach j f) name)) c i = (c, i)
 read_whole t input old new (Err (fault.Link (link.Starts j k) name)) c i = (c, i)
@@ -263,7 +290,7 @@ part_of t A input before after old new link.Read name h p = p
 part_of t A input before after old new (link.Refused j why at) name h p = absurd h
 part_of t A input before after old new (link.NoText at) name h p = absurd h
 part_of t A input before after old new link.NoModules name h p = absurd h
-part_of t A input before after old new (link.Line k) name h p = absurd h
+part_of t A input before after old new (link.Line k why) name h p = absurd h
 part_of t A input before after old new (link.External d) name h p = absurd h
 part_of t A input before after old new (link.Reach j d) name h p = absurd h
 part_of t A input before after old new (link.Starts j k) name h p = absurd h

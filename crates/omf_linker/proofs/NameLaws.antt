@@ -14,7 +14,6 @@ use Rattle.omf_records.specs.Values.{Rec}
 use Rattle.omf_check.specs.Listed.{placed_from}
 use Rattle.omf_check.specs.Module.{Module, records_in, typed_modules}
 use Rattle.omf_check.specs.WellFormed.{recs}
-use Rattle.omf_linker.specs.Drafting.Text.{header_name, module_name}
 use Rattle.omf_linker.specs.Drafting.Names.{names_asked, public_names, has_name, IsNameTable, HasMore}
 
 abbrev pub Map : Type 0
@@ -68,15 +67,6 @@ listed_names local xs = flat_map (λ x. names_asked local x.1.kind x.1.contents)
 pub listed-names : (local : Bool) (number start : ℕ) (rs : List Raw) → listed_names local (placed_from number start rs) ≡ public_names local (recs rs)
 listed-names local number start [] = refl
 listed-names local number start (r ∷ rs) = ap (λ xs. names_asked local r.kind (typed r).contents ++ xs) (listed-names local (number + 1) (start + length (raw_bytes r)) rs)
-
--- The name of a module is that of its first record.
-abbrev pub name_in : List (Place × Rec) → List ℕ
-name_in [] = []
-name_in (x ∷ xs) = header_name x.1.contents
-
-pub first-name : (rs : List Raw) (all : List (Place × Rec)) → all ≡ placed_from 0 0 rs → module_name (recs rs) ≡ name_in all
-first-name [] all e = ap name_in (sym e)
-first-name (r ∷ rs) all e = ap name_in (sym e)
 
 -- The next module.
 pub next-one : (ms : List Module) (j : ℕ) (m : Module) → m ≡ get_or ms j m → j < length ms → typed_modules (drop j ms) ≡ recs (records_in m.bytes) ∷ typed_modules (drop (j + 1) ms)

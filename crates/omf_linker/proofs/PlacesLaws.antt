@@ -1,6 +1,6 @@
 -- The places of modules have an entry for each segment and each group.
 use Rattle.std.proofs.Common.{◌≡◌, ℕ, zero, suc, ◌+◌, ◌<◌, List, [], ◌∷◌, ◌++◌, length, get_or, sym, ap, subst, ◌∙◌, append_assoc, append-nil, arith}
-use Rattle.std.specs.Prelude.{All, Some, Result, Ok}
+use Rattle.std.specs.Prelude.{All, Some, Result, Ok, slice_get, zip}
 use Rattle.std.specs.List.{AllZip}
 use Rattle.std.proofs.lemmas.List.{length-map}
 use Rattle.std.proofs.lemmas.List.Elements.{All-nil}
@@ -15,7 +15,7 @@ use Rattle.omf_layout.specs.declared.options.Options.{Options}
 use Rattle.omf_layout.specs.Layout.{Laid}
 use Rattle.omf_layout.specs.Reading.{IsShortFrame, IsShortPlace, AreShort}
 use Rattle.omf_layout.proofs.TableLaws.{entry-at}
-use Rattle.omf_linking.specs.Parts.{parsed_parts}
+use Rattle.omf_linking.specs.Locator.Sparse.{sparse}
 use Rattle.omf_linking.specs.Placing.{places_of}
 use Rattle.omf_layout.specs.Several.Laws.{PlacedLieApart}
 use Rattle.omf_layout.specs.Several.Laying.{laid}
@@ -24,7 +24,8 @@ use Rattle.omf_layout.proofs.SeveralLaws.FitLaws.{places-lie-apart}
 use Rattle.omf_linker.specs.Drafting.Fit.{FitsSoFar, FitModules}
 use Rattle.omf_linker.proofs.FitLaws.{places-fit}
 use Rattle.omf_linker.specs.Drafting.Laws.{IsDraft, DraftsAreRead, DraftsFit, DraftsLieApart}
-use Rattle.omf_linker.specs.Drafting.Reading.{GivesPlaces, HasEntries}
+use Rattle.omf_linking.specs.Locator.Drafted.{HasEntries}
+use Rattle.omf_linker.specs.Drafting.Reading.{GivesPlaces}
 use Rattle.omf_linker.specs.Drafting.Text.{link_text}
 use Rattle.omf_linker.proofs.DraftLaws.{link-text-read}
 
@@ -38,7 +39,7 @@ pub all-have : (o : Options) (ms : List (List Rec)) (l : Laid (List Places)) →
 all-have o ms l h = each-has ms l.what (places-fit o ms l h).so_far
 
 pub drafts-are-read : DraftsAreRead
-drafts-are-read o ms l h some short = link-text-read o.frames ms l.what some (all-have o ms l h) short
+drafts-are-read o ms l h low few short = link-text-read o.frames ms l.what low (all-have o ms l h) few short
 
 -- The draft's text gives the modules the places that it was made of.
 same-value : {A E : Type 0} (r : Result A E) (x y : A) → r ≡ Ok x → r ≡ Ok y → x ≡ y
@@ -46,9 +47,9 @@ same-value r x y e f = cc
 
 given-same : (o : Options) (ms : List (List Rec)) (l : Laid (List Places)) (pls : List Places) → IsDraft o ms l → GivesPlaces ms (link_text o.frames ms l.what) pls → l.what ≡ pls
 given-same o ms l pls d g =
-    let read = drafts-are-read o ms l d.is d.some d.short in
-    let parts = same-value (parsed_parts (link_text o.frames ms l.what)) read.parts g.parts read.parses g.parses in
-    same-value (places_of ms g.parts) l.what pls (sym (ap (places_of ms) parts) ∙ read.places) g.places
+    let read = drafts-are-read o ms l d.is d.modules d.entries d.short in
+    let given = same-value (sparse ms (link_text o.frames ms l.what)) read.given g.given read.reads g.reads in
+    same-value (places_of 0 (zip ms g.given)) l.what pls (sym (ap (λ ss. places_of 0 (zip ms ss)) given) ∙ read.places) g.places
 
 pub drafts-fit : DraftsFit
 drafts-fit o ms l pls d g = subst (FitModules ms) (given-same o ms l pls d g) (places-fit o ms l d.is)
@@ -81,7 +82,19 @@ more-parts old mid new front part rest left all e f g h =
 pub all-parts : (now left all : List ℕ) → left ≡ [] → now ++ left ≡ all → now ≡ all
 all-parts now left all e h = sym (append-nil now) ∙ ap (λ t. now ++ t) (sym e) ∙ h
 
--- What is printed in four steps.
-pub four-steps : (t0 t1 t2 t3 a b c d : List ℕ) → t1 ≡ t0 ++ a → t2 ≡ t1 ++ b → t3 ≡ t2 ++ c → t3 ++ d ≡ t0 ++ (a ++ b ++ c ++ d)
-four-steps t0 t1 t2 t3 a b c d e f g =
-    ap (λ t. t ++ d) (g ∙ ap (λ t. t ++ c) (f ∙ ap (λ t. t ++ b) e ∙ append_assoc t0 a b) ∙ append_assoc t0 (a ++ b) c) ∙ append_assoc t0 (a ++ b ++ c) d
+-- What is printed in three steps.
+pub three-steps : (t0 t1 t2 a b c : List ℕ) → t1 ≡ t0 ++ a → t2 ≡ t1 ++ b → t2 ++ c ≡ t0 ++ (a ++ b ++ c)
+three-steps t0 t1 t2 a b c e f =
+    ap (λ t. t ++ c) (f ∙ ap (λ t. t ++ b) e ∙ append_assoc t0 a b) ∙ append_assoc t0 (a ++ b) c
+
+-- The typed records of a module at its number.
+typed-slice : (ms : List Module) (j : ℕ) (m : Module) → m ≡ get_or ms j m → j < length ms → slice_get (typed_modules ms) j ≡ Some (recs (records_in m.bytes))
+typed-slice [] j m e h = absurd (omega (arith, h))
+typed-slice (x ∷ ms) zero m e h = ap (λ (y : Module). Some (recs (records_in y.bytes))) (sym e)
+typed-slice (x ∷ ms) (suc j) m e h = typed-slice ms j m e (omega (arith, h))
+
+pub typed-at : (ms : List Module) (j : ℕ) (m : Module) → m ≡ get_or ms j m → j < length ms → entry (typed_modules ms) (j + 1) ≡ Some (recs (records_in m.bytes))
+typed-at ms j m e h = entry-at (typed_modules ms) j ∙ typed-slice ms j m e h
+
+pub typed-length : (ms : List Module) → length (typed_modules ms) ≡ length ms
+typed-length ms = length-map ms (λ (m : Module). recs (records_in m.bytes))

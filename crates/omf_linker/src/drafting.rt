@@ -1,5 +1,5 @@
-//! A first text for a link: a part for each module, with its segments and groups at their places from `omf_layout::several`, and with
-//! open places to be filled in.
+//! A first text for a link: for each module, named by a key, its segments and groups at their places from `omf_layout::several`, and
+//! places to be filled in.
 
 mod draft;
 pub mod laws;

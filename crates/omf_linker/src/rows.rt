@@ -9,6 +9,7 @@ ghost use Rattle.omf_reloc.specs.declared.fault.Kind.TheVariants as kind;
 ghost use Rattle.omf_reloc.specs.declared.fault.ReachFault.TheVariants as reach;
 ghost use Rattle.omf_layout.specs.declared.options.Frames.TheVariants.{Real, Flat};
 ghost use Rattle.omf_linking.specs.declared.fault.LinkFault.TheVariants as link;
+ghost use Rattle.omf_linking.specs.declared.locator.fault.LineFault.TheVariants as why;
 ghost use Rattle.omf_linking.specs.declared.space.fault.MemoryFault.TheVariants as space;
 ghost use Rattle.omf_linker.specs.Options.{options_named};
 ghost use Rattle.omf_linker.specs.Link.Rows.{bytes_at, line_of, segment_of, started_text, text_of};
@@ -52,7 +53,11 @@ pub fn fault_lines()
     ensures refused { line_of (link.Refused 1 reason.Cut (place 4 34 2)) [] ≡ codes "module 2 refused 2 Cut record 4 at 34 within 2" }
     ensures no_text { line_of (link.NoText 153) [] ≡ codes "input at 153: no module and no text" }
     ensures no_modules { line_of link.NoModules [] ≡ codes "no modules" }
-    ensures text { line_of (link.Line 3) [] ≡ codes "placement line 3" }
+    ensures text { line_of (link.Line 3 why.NotUnderstood) [] ≡ codes "text line 3: not understood" }
+    ensures before { line_of (link.Line 1 why.NoModule) [] ≡ codes "text line 1: no M line before it" }
+    ensures unknown { line_of (link.Line 12 why.Unknown) [] ≡ codes "text line 12: names nothing" }
+    ensures several { line_of (link.Line 2 why.Several) [] ≡ codes "text line 2: names more than one" }
+    ensures again { line_of (link.Line 4 why.Twice) [] ≡ codes "text line 4: a second line for the same" }
     ensures undefined { line_of (link.External (derive.Undefined 0 2)) (codes "_main") ≡ codes "module 1 external 2 Undefined \"_main\"" }
     ensures twice { line_of (link.External (derive.Twice 2 1)) (0x22 ∷ 0xFF ∷ []) ≡ codes "module 3 external 1 Twice \"\\x22\\xFF\"" }
     ensures high { line_of (link.External (derive.TooHigh 0 1)) [] ≡ codes "module 1 external 1 TooHigh \"\"" }

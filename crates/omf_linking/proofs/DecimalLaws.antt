@@ -19,12 +19,12 @@ grows : (j k n : ℕ) → n ≡ j + k → 10 ^ k ≤ 10 ^ n
 grows zero k n e = let same : n ≡ k = omega arith in rw same (omega arith)
 grows (suc j) k n e = let next : n ≡ suc (j + k) = omega arith in rw (next, pow-suc 10 (j + k)) (omega (arith, grows j k (j + k) refl))
 
-pub at_most_nine : (k : ℕ) → k ≤ 9 → 10 ^ k ≤ 2 ^ 32
-at_most_nine k h = let low = grows (9 - k) k 9 (omega arith) in omega (arith, low)
+pub at_most_ten : (k : ℕ) → k ≤ 10 → 10 ^ k ≤ 2 ^ 64
+at_most_ten k h = let low = grows (10 - k) k 10 (omega arith) in omega (arith, low)
 
--- the value with one more digit fits 32 bits
-pub digit_fits : (value digit most n : ℕ) → value < 10 ^ (most - n) → digit < 10 → 0 < n → n ≤ most → most ≤ 9 → value * 10 + digit < 2 ^ 32
-digit_fits value digit most n h d p q r = omega (arith, next_below value digit (most - n) h d, at_most_nine (suc (most - n)) (omega arith))
+-- the value with one more digit fits 64 bits
+pub digit_fits : (value digit most n : ℕ) → value < 10 ^ (most - n) → digit < 10 → 0 < n → n ≤ most → most ≤ 10 → value * 10 + digit < 2 ^ 64
+digit_fits value digit most n h d p q r = omega (arith, next_below value digit (most - n) h d, at_most_ten (suc (most - n)) (omega arith))
 
 -- and is below the power of 10 allowed so far
 pub still_below : (value digit most n rest : ℕ) → value < 10 ^ (most - n) → digit < 10 → rest + 1 ≡ n → n ≤ most → value * 10 + digit < 10 ^ (most - rest)

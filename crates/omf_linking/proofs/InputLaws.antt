@@ -96,7 +96,7 @@ module _ (p : Profile) where
   one_more input rs a e (Err fault.Memory, s, h) = absurd cc
   one_more input rs a e (Err fault.Read, s, h) = absurd h
   one_more input rs a e (Err fault.NoModules, s, h) = absurd h
-  one_more input rs a e (Err (fault.Line n), s, h) = absurd h
+  one_more input rs a e (Err (fault.Line n why), s, h) = absurd h
   one_more input rs a e (Err (fault.External f), s, h) = absurd h
   one_more input rs a e (Err (fault.Reach k f), s, h) = absurd h
   one_more input rs a e (Err (fault.Starts j k), s, h) = absurd h

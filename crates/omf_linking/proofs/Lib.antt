@@ -1,6 +1,5 @@
 pub mod AfterLaws
 pub mod FilesLaws
-pub mod PartLaws
 pub mod PlacesLaws
 pub mod LinkLaws
 pub mod ReadingLaws

@@ -1,169 +1,233 @@
--- The places of modules by the parts of a text, module by module.
-use Rattle.std.proofs.Common.{◌≡◌, ℕ, suc, ◌+◌, ◌<◌, ◌≤◌, List, [], ◌∷◌, ◌++◌, length, drop, get_or, add-one, drop-cons, append_assoc, append-nil, refl, sym, ap, ap₂, subst, Bool, true, false, ◌∙◌, arith}
-use Rattle.std.specs.Prelude.{flat_map, option_to_list, Option, Some, None, MatchOption, Result, Ok, Err, IsOk, OnOk, is_err, filter_map, map}
-use Rattle.std.specs.List.{enumerate_from}
-use Rattle.std.proofs.lemmas.List.{drop_all}
+-- The places that a text gives modules, entry by entry.
+use Rattle.std.proofs.Common.{◌≡◌, ℕ, zero, suc, ◌+◌, ◌<◌, ◌≤◌, List, [], ◌∷◌, ◌++◌, length, drop, get_or, refl, sym, ap, ap₂, ◌∙◌, append_assoc, append-nil, subst, arith}
+use Rattle.std.specs.Prelude.{map, filter_map, flat_map, zip, option_to_list, Option, None, Some, Result, Ok, Err}
+use Rattle.std.specs.List.{AllZip, enumerate_from}
+use Rattle.std.proofs.Math.Seq.{drop-nil}
+use Rattle.std.proofs.lemmas.List.{length-map}
+use Rattle.std.proofs.lemmas.List.FromFn.{length-enumerate_from}
 use Rattle.omf_check.specs.Module.{Module, records_in, typed_modules}
+use Rattle.omf_check.specs.Tables.{segments, groups}
 use Rattle.omf_check.specs.WellFormed.{recs}
-use Rattle.omf_placement.specs.declared.several.given.Given.{Given}
+use Rattle.omf_placement.specs.Derivation.{IsPlaceOf}
 use Rattle.omf_placement.specs.Placement.{Places}
-use Rattle.omf_placement.specs.PlacementText.{IsAnswer}
-use Rattle.omf_placement.specs.declared.fault.TextFault.{TextFault}
-use Rattle.omf_placement.specs.declared.fault.TextFault.TheVariants as text
+use Rattle.omf_placement.specs.declared.several.given.Given.{Given}
+use Rattle.omf_placement.specs.declared.frame.Frame.{Frame}
+use Rattle.omf_placement.specs.declared.frame.Placed.{Placed}
+use Rattle.omf_records.specs.Inner.Seen.{map_ok}
 use Rattle.omf_records.specs.Values.{Rec}
-use Rattle.omf_check.specs.Tables.{externals, is_defined}
-use Rattle.omf_linking.specs.Parts.{Part, GivenLine}
-use Rattle.omf_linking.specs.Inner.Parsing.{IsKept, place_by, given_by}
-use Rattle.omf_linking.specs.Placing.{places_of, place_of, no_places, in_front, and_then_others, given_as, given_in, given_of, stray}
+use Rattle.omf_reloc.specs.declared.fault.Kind.{Kind}
+use Rattle.omf_reloc.specs.declared.fault.Kind.TheVariants as kinds
+use Rattle.omf_linking.specs.Locator.Items.{Item, items_after}
+use Rattle.omf_linking.specs.Locator.LinkEntries.{link_lines}
+use Rattle.omf_linking.specs.Locator.Sparse.{Sparse, bad_lines, sparse, sparse_all, sparse_of, unless_bad}
+use Rattle.omf_linking.specs.Placing.{IsOutcome, all_given, by_sparse, frame_given, frames_given, given_as, given_in, given_of, in_front, linked, or_missing, placed_by, places_given, places_of, with_segments}
+use Rattle.omf_linking.specs.declared.fault.LinkFault.{LinkFault}
+use Rattle.omf_linking.specs.declared.fault.LinkFault.TheVariants as fault
+use Rattle.omf_linking.specs.declared.locator.fault.LocatorFault.{LocatorFault}
+use Rattle.omf_linking.proofs.SparseLaws.{length_count}
 
--- places before others
-abbrev pub behind : List Places → Result (List Places) ℕ → Result (List Places) ℕ
-behind pls (Ok qs) = Ok (pls ++ qs)
-behind pls (Err n) = Err n
+-- ---- what is left of a list
 
-pub behind_none : (r : Result (List Places) ℕ) → behind [] r ≡ r
-behind_none (Ok qs) = refl
-behind_none (Err n) = refl
+pub next-of : {A : Type 0} (xs : List A) (j : ℕ) (x : A) → x ≡ get_or xs j x → j < length xs → drop j xs ≡ x ∷ drop (j + 1) xs
+next-of [] j x e h = absurd (omega (arith, h))
+next-of (y ∷ xs) zero x e h = ap (λ z. z ∷ xs) (sym e)
+next-of (y ∷ xs) (suc j) x e h =
+    let same : suc (j + 1) ≡ suc j + 1 = omega arith in
+    next-of xs j x e (omega (arith, h)) ∙ ap (λ n. x ∷ drop n (y ∷ xs)) same
 
-behind_one : (pls now : List Places) (pl : Places) (r : Result (List Places) ℕ) → now ≡ pls ++ pl ∷ [] → behind now r ≡ behind pls (in_front pl r)
-behind_one pls now pl (Ok qs) e = ap (λ (xs : List Places). Ok (xs ++ qs)) e ∙ ap Ok (append_assoc pls (pl ∷ []) qs)
-behind_one pls now pl (Err n) e = refl
+pub next-at : {A : Type 0} (xs : List A) (j : ℕ) (d : A) → j < length xs → drop j xs ≡ get_or xs j d ∷ drop (j + 1) xs
+next-at [] j d h = absurd (omega (arith, h))
+next-at (y ∷ xs) zero d h = refl
+next-at (y ∷ xs) (suc j) d h =
+    let same : suc (j + 1) ≡ suc j + 1 = omega arith in
+    next-at xs j d (omega (arith, h)) ∙ ap (λ n. get_or xs j d ∷ drop n (y ∷ xs)) same
 
--- The places so far, and the modules and parts that are left, give the places of all.
-abbrev pub ArePlaced : List (List Rec) → List Part → List Places → List (List Rec) → List Part → Type 0
-ArePlaced ms ps pls left parts = behind pls (places_of left parts) ≡ places_of ms ps
+pub none-of : {A : Type 0} (xs : List A) (j : ℕ) → length xs ≤ j → drop j xs ≡ []
+none-of [] j h = drop-nil j
+none-of (x ∷ xs) zero h = absurd (omega (arith, h))
+none-of (x ∷ xs) (suc j) h = none-of xs j (omega (arith, h))
 
--- The externals that are given so far, and those of the parts that are left, are all.
-abbrev pub AreGiven : List Part → List Given → ℕ → List Part → Type 0
-AreGiven ps given j parts = given ++ flat_map given_in (enumerate_from j parts) ≡ given_of ps
+-- ---- a table whose first entries are taken
 
-module _ (ms : List (List Rec)) (ps : List Part) (m : List Rec) (left next : List (List Rec)) (first : next ≡ m ∷ left) where
-  pub one_placed : (pls now : List Places) (pl : Places) (p : Part) (parts more : List Part) → more ≡ p ∷ parts → place_of m p ≡ Ok pl → now ≡ pls ++ pl ∷ [] → ArePlaced ms ps pls next more → ArePlaced ms ps now left parts
-  one_placed pls now pl p parts more s e n h =
-      behind_one pls now pl (places_of left parts) n ∙ ap (λ (r : Result Places ℕ). behind pls (and_then_others r (places_of left parts))) (sym e)
-      ∙ ap (λ (xs : List Part). behind pls (places_of (m ∷ left) xs)) (sym s) ∙ ap (λ (xs : List (List Rec)). behind pls (places_of xs more)) (sym first) ∙ h
+module _ {A : Type 0} where
+  abbrev pub with_front : List A → Result (List A) ℕ → Result (List A) ℕ
+  with_front xs r = map_ok (λ ys. xs ++ ys) r
 
-  pub none_placed : (pls now : List Places) (more : List Part) → more ≡ [] → now ≡ pls ++ no_places ∷ [] → ArePlaced ms ps pls next more → ArePlaced ms ps now left []
-  none_placed pls now more s n h =
-      behind_one pls now no_places (places_of left []) n
-      ∙ ap (λ (xs : List Part). behind pls (places_of (m ∷ left) xs)) (sym s) ∙ ap (λ (xs : List (List Rec)). behind pls (places_of xs more)) (sym first) ∙ h
+  pub none-taken : (r : Result (List A) ℕ) → with_front [] r ≡ r
+  none-taken (Ok ys) = refl
+  none-taken (Err i) = refl
 
-  pub not_placed : (pls : List Places) (n : ℕ) (p : Part) (parts more : List Part) → more ≡ p ∷ parts → place_of m p ≡ Err n → ArePlaced ms ps pls next more → places_of ms ps ≡ Err n
-  not_placed pls n p parts more s e h =
-      sym h ∙ ap (λ (xs : List (List Rec)). behind pls (places_of xs more)) first ∙ ap (λ (xs : List Part). behind pls (places_of (m ∷ left) xs)) s
-      ∙ ap (λ (r : Result Places ℕ). behind pls (and_then_others r (places_of left parts))) e
+  one-taken : (xs : List A) (a : A) (r : Result (List A) ℕ) → with_front xs (map_ok (λ ys. a ∷ ys) r) ≡ with_front (xs ++ a ∷ []) r
+  one-taken xs a (Ok ys) = ap Ok (sym (append_assoc xs (a ∷ []) ys))
+  one-taken xs a (Err i) = refl
 
-pub part_left : (ms : List (List Rec)) (ps : List Part) (pls : List Places) (p : Part) (left : List (List Rec)) (parts more : List Part) → left ≡ [] → more ≡ p ∷ parts → ArePlaced ms ps pls left more → places_of ms ps ≡ Err p.line
-part_left ms ps pls p left parts more e s h =
-    sym h ∙ ap (λ (xs : List (List Rec)). behind pls (places_of xs more)) e ∙ ap (λ (xs : List Part). behind pls (places_of [] xs)) s
+  pub more-taken : (xs ys : List A) (a : A) (i : ℕ) (os rest : List (Option A)) → os ≡ Some a ∷ rest → ys ≡ xs ++ a ∷ [] → with_front xs (all_given i os) ≡ with_front ys (all_given (i + 1) rest)
+  more-taken xs ys a i os rest e f = ap (λ t. with_front xs (all_given i t)) e ∙ one-taken xs a (all_given (i + 1) rest) ∙ ap (λ t. with_front t (all_given (i + 1) rest)) (sym f)
 
-pub all_placed : (ms : List (List Rec)) (ps : List Part) (pls : List Places) (left : List (List Rec)) (more : List Part) → left ≡ [] → more ≡ [] → ArePlaced ms ps pls left more → places_of ms ps ≡ Ok pls
-all_placed ms ps pls left more e s h =
-    sym h ∙ ap (λ (xs : List (List Rec)). behind pls (places_of xs more)) e ∙ ap (λ (xs : List Part). behind pls (places_of [] xs)) s ∙ ap Ok (append-nil pls)
+  pub none-there : (xs : List A) (i : ℕ) (os rest : List (Option A)) → os ≡ None ∷ rest → with_front xs (all_given i os) ≡ Err i
+  none-there xs i os rest e = ap (λ t. with_front xs (all_given i t)) e
 
--- externals of one more part
-pub one_given : (ps : List Part) (given now : List Given) (j : ℕ) (p : Part) (parts more : List Part) → more ≡ p ∷ parts → now ≡ given ++ given_in (j, p) → AreGiven ps given j more → AreGiven ps now (j + 1) parts
-one_given ps given now j p parts more s n h =
-    ap (λ (xs : List Given). xs ++ flat_map given_in (enumerate_from (j + 1) parts)) n ∙ append_assoc given (given_in (j, p)) (flat_map given_in (enumerate_from (j + 1) parts))
-    ∙ ap (λ (xs : List Part). given ++ flat_map given_in (enumerate_from j xs)) (sym s) ∙ h
+  pub all-taken : (xs : List A) (i : ℕ) (os : List (Option A)) → os ≡ [] → with_front xs (all_given i os) ≡ Ok xs
+  all-taken xs i os e = ap (λ t. with_front xs (all_given i t)) e ∙ ap Ok (append-nil xs)
 
-pub none_given : (ps : List Part) (given : List Given) (j k : ℕ) (more : List Part) → more ≡ [] → AreGiven ps given j more → AreGiven ps given k []
-none_given ps given j k more s h = ap (λ (xs : List Part). given ++ flat_map given_in (enumerate_from j xs)) (sym s) ∙ h
+-- the frames of the groups from an index on
+module _ (m : List Rec) (ps : List Placed) where
+  abbrev pub frames_left : ℕ → List (Option (Option Frame)) → List (Option Frame)
+  frames_left i gs = map (frame_given m ps) (enumerate_from i gs)
 
-pub all_given : (ps : List Part) (given : List Given) (j : ℕ) (more : List Part) → more ≡ [] → AreGiven ps given j more → given ≡ given_of ps
-all_given ps given j more s h = sym (append-nil given) ∙ ap (λ (xs : List Part). given ++ flat_map given_in (enumerate_from j xs)) (sym s) ∙ h
+  pub next-frame : (gs : List (Option (Option Frame))) (k : ℕ) → k < length gs → frames_left (k + 1) (drop k gs) ≡ frame_given m ps (k + 1, get_or gs k None) ∷ frames_left (k + 1 + 1) (drop (k + 1) gs)
+  next-frame gs k h = ap (frames_left (k + 1)) (next-at gs k None h)
 
--- ---- the next module with the next part, if there is one
+  pub no-frame : (gs : List (Option (Option Frame))) (k : ℕ) → length gs ≤ k → frames_left (k + 1) (drop k gs) ≡ []
+  no-frame gs k h = ap (frames_left (k + 1)) (none-of gs k h)
 
-module _ (ms : List (List Rec)) (ps : List Part) (m : List Rec) (left next : List (List Rec)) (first : next ≡ m ∷ left) where
-  pub next_placed : (pls now : List Places) (pl : Places) (o : Option Part) (parts more : List Part) → more ≡ option_to_list o ++ parts → (o ≡ None → more ≡ []) → place_by m o ≡ Ok pl → now ≡ pls ++ pl ∷ [] → ArePlaced ms ps pls next more → ArePlaced ms ps now left parts
-  next_placed pls now pl None parts more s none e n h =
-      let gone : parts ≡ [] = sym s ∙ none refl in
-      let same : no_places ≡ pl = cc in
-      subst (λ (xs : List Part). ArePlaced ms ps now left xs) (sym gone) (none_placed ms ps m left next first pls now more (none refl) (n ∙ ap (λ (x : Places). pls ++ x ∷ []) (sym same)) h)
-  next_placed pls now pl (Some p) parts more s none e n h = one_placed ms ps m left next first pls now pl p parts more s e n h
+-- a module with frames for its first groups, and those of the others
+abbrev pub framed : ℕ → List Rec → Places → ℕ → List (Option (Option Frame)) → Result Places LinkFault
+framed j m pl i gs = map_ok (placed_by pl.segments) (or_missing j kinds.Group (with_front pl.groups (all_given i (frames_left m pl.segments i gs))))
 
-  pub next_fails : (pls : List Places) (n : ℕ) (o : Option Part) (parts more : List Part) → more ≡ option_to_list o ++ parts → place_by m o ≡ Err n → ArePlaced ms ps pls next more → places_of ms ps ≡ Err n
-  next_fails pls n None parts more s e h = cc
-  next_fails pls n (Some p) parts more s e h = not_placed ms ps m left next first pls n p parts more s e h
+-- ---- as many entries
 
-pub next_given : (ps : List Part) (given now : List Given) (j : ℕ) (o : Option Part) (parts more : List Part) → more ≡ option_to_list o ++ parts → (o ≡ None → more ≡ []) → now ≡ given ++ given_by j o → AreGiven ps given j more → AreGiven ps now (j + 1) parts
-next_given ps given now j None parts more s none n h =
-    let gone : parts ≡ [] = sym s ∙ none refl in
-    let same : now ≡ given = n ∙ append-nil given in
-    subst (λ (xs : List Part). AreGiven ps now (j + 1) xs) (sym gone) (subst (λ (gs : List Given). AreGiven ps gs (j + 1) []) (sym same) (none_given ps given j (j + 1) more (none refl) h))
-next_given ps given now j (Some p) parts more s none n h = one_given ps given now j p parts more s n h
+nat-inner : {X : Type 0} (p q : X) → ◌≡◌ {A = Result X ℕ} (Ok p) (Ok q) → p ≡ q
+nat-inner p q h = cc
 
--- a list of no length
-pub nothing_left : {X : Type 0} (l : List X) → length l ≡ 0 → l ≡ []
-nothing_left [] h = refl
-nothing_left (x ∷ xs) h = absurd (omega arith)
+one-longer : {A : Type 0} (a : A) (r : Result (List A) ℕ) (xs : List A) (n : ℕ) → ((ys : List A) → r ≡ Ok ys → length ys ≡ n) → map_ok (λ ys. a ∷ ys) r ≡ Ok xs → length xs ≡ suc n
+one-longer a (Ok ys) xs n h e = sym (ap length (nat-inner (a ∷ ys) xs e)) ∙ ap suc (h ys refl)
+one-longer a (Err k) xs n h e = absurd cc
 
--- the modules after the first
-pub next_typed : (ms : List Module) (j : ℕ) (m : Module) → m ≡ get_or ms j m → j < length ms → typed_modules (drop j ms) ≡ recs (records_in m.bytes) ∷ typed_modules (drop (j + 1) ms)
-next_typed ms j m e h =
-    let next : drop j ms ≡ m ∷ drop (j + 1) ms = rw (add-one, drop-cons ms j m h) (ap (λ (x : Module). x ∷ drop (suc j) ms) (sym e)) in
-    ap typed_modules next
+length-of : {A : Type 0} (i : ℕ) (os : List (Option A)) (xs : List A) → all_given i os ≡ Ok xs → length xs ≡ length os
+length-of i [] xs e = sym (ap length (nat-inner [] xs e))
+length-of i (None ∷ os) xs e = absurd cc
+length-of i (Some a ∷ os) xs e = one-longer a (all_given (i + 1) os) xs (length os) (λ ys g. length-of (i + 1) os ys g) e
 
-pub none_typed : (ms : List Module) (j : ℕ) → length ms ≤ j → typed_modules (drop j ms) ≡ []
-none_typed ms j h = ap typed_modules (drop_all j ms h)
+-- the tables of a module with all its entries
+pub record HasTables (m : List Rec) (s : Sparse) : Type 0 where
+  pub segments : length s.segments ≡ length (segments m)
+  pub groups : length s.groups ≡ length (groups m)
 
--- if there is no next part none is left
-pub none_left : {A : Type 0} (P : A → Type 0) (o : Option A) (a b : ℕ) → MatchOption o ((a ≡ 0) × (b ≡ 0)) P → o ≡ None → a ≡ 0
-none_left P None a b h e = h.0
-none_left P (Some x) a b h e = absurd cc
+sparse-has : (items : List Item) (j : ℕ) (m : List Rec) → HasTables m (sparse_of items (j, m))
+sparse-has items j m = record {
+  segments = length-map _ _ ∙ length_count 1 (length (segments m));
+  groups = length-map _ _ ∙ length_count 1 (length (groups m));
+}
 
--- ---- places so far, of which some may be lost where memory ran out
+all-have : (items : List Item) (j : ℕ) (ms : List (List Rec)) → AllZip HasTables ms (map (sparse_of items) (enumerate_from j ms))
+all-have items j [] = tt
+all-have items j (m ∷ ms) = (sparse-has items j m, all-have items (j + 1) ms)
 
--- a result that is no line at fault has a place
-pub has_place : (r : Result Places ℕ) (place : Result Places TextFault) → IsAnswer r place → ((n : ℕ) → place ≡ Err (text.Line n) → ⊥) → (pl : Places) × (r ≡ Ok pl)
-has_place r (Ok pl) h none = (pl, h)
-has_place r (Err text.Memory) h none = by r h
+pub sparse-tables : (ms : List (List Rec)) (items : List Item) → AllZip HasTables ms (sparse_all ms items)
+sparse-tables ms items = all-have items 0 ms
+
+ok-inner : {X : Type 0} (p q : X) → ◌≡◌ {A = Result X LinkFault} (Ok p) (Ok q) → p ≡ q
+ok-inner p q h = cc
+
+missing-ok : {A : Type 0} (j : ℕ) (k : Kind) (r : Result A ℕ) (a : A) → or_missing j k r ≡ Ok a → r ≡ Ok a
+missing-ok j k (Ok b) a e = ap Ok (ok-inner b a e)
+missing-ok j k (Err i) a e = absurd cc
+
+has-places : (j : ℕ) (m : List Rec) (s : Sparse) (pl : Places) → HasTables m s → places_given j m s ≡ Ok pl → IsPlaceOf m pl
+has-places j m s pl h e = by (or_missing j kinds.Segment (all_given 1 s.segments)) refl e
   where
-    by : (q : Result Places ℕ) → IsOk q → (pl : Places) × (q ≡ Ok pl)
-    by (Ok pl) k = (pl, refl)
-    by (Err n) k = absurd cc
-has_place r (Err (text.Line n)) h none = absurd (none n refl)
+    fill : (ps : List Placed) → all_given 1 s.segments ≡ Ok ps → (r : Result (List Frame) LinkFault) → or_missing j kinds.Group (frames_given m ps s.groups) ≡ r → map_ok (placed_by ps) r ≡ Ok pl → IsPlaceOf m pl
+    fill ps p (Ok fs) g f =
+        let same : placed_by ps fs ≡ pl = ok-inner (placed_by ps fs) pl f in
+        let frames = length-of 1 (map (frame_given m ps) (enumerate_from 1 s.groups)) fs (missing-ok j kinds.Group (frames_given m ps s.groups) fs g) in
+        record {
+          segments = sym (ap (λ (q : Places). length q.segments) same) ∙ length-of 1 s.segments ps p ∙ h.segments;
+          groups = sym (ap (λ (q : Places). length q.groups) same) ∙ frames ∙ length-map (enumerate_from 1 s.groups) (frame_given m ps) ∙ length-enumerate_from 1 s.groups ∙ h.groups;
+        }
+    fill ps p (Err x) g f = absurd cc
 
-differ : (pl : Places) (n : ℕ) → ◌≡◌ {A = Result Places TextFault} (Ok pl) (Err (text.Line n)) → ⊥
-differ pl n e = cc
+    by : (r : Result (List Placed) LinkFault) → or_missing j kinds.Segment (all_given 1 s.segments) ≡ r → with_segments j m s.groups r ≡ Ok pl → IsPlaceOf m pl
+    by (Ok ps) g f = fill ps (missing-ok j kinds.Segment (all_given 1 s.segments) ps g) (or_missing j kinds.Group (frames_given m ps s.groups)) refl f
+    by (Err x) g f = absurd cc
 
-ok_same : (p q : Places) → ◌≡◌ {A = Result Places ℕ} (Ok p) (Ok q) → p ≡ q
-ok_same p q e = cc
+more-have : (j : ℕ) (m : List Rec) (ms : List (List Rec)) (s : Sparse) (r : Result Places LinkFault) (q : Result (List Places) LinkFault) (pls : List Places) → HasTables m s → places_given j m s ≡ r
+    → ((more : List Places) → q ≡ Ok more → AllZip IsPlaceOf ms more) → in_front r q ≡ Ok pls → AllZip IsPlaceOf (m ∷ ms) pls
+more-have j m ms s (Ok pl) (Ok more) pls h e k f = subst (AllZip IsPlaceOf (m ∷ ms)) (ok-inner (pl ∷ more) pls f) (has-places j m s pl h e, k more refl)
+more-have j m ms s (Ok pl) (Err x) pls h e k f = absurd cc
+more-have j m ms s (Err x) q pls h e k f = absurd cc
 
-pub no_line : (place : Result Places TextFault) (short now : Bool) (old new : List Places) → IsKept place short old new (Ok now) → (n : ℕ) → place ≡ Err (text.Line n) → ⊥
-no_line place short true old new h n e = h n e
-no_line place short false old new h n e = differ h.1 n (sym h.2 ∙ e)
+pub all-have-places : (j : ℕ) (ms : List (List Rec)) (ss : List Sparse) (pls : List Places) → AllZip HasTables ms ss → places_of j (zip ms ss) ≡ Ok pls → AllZip IsPlaceOf ms pls
+all-have-places j [] [] pls h e = subst (AllZip IsPlaceOf []) (ok-inner [] pls e) tt
+all-have-places j [] (s ∷ ss) pls h e = absurd h
+all-have-places j (m ∷ ms) [] pls h e = absurd h
+all-have-places j (m ∷ ms) (s ∷ ss) pls h e = more-have j m ms s (places_given j m s) (places_of (j + 1) (zip ms ss)) pls h.0 refl (λ more g. all-have-places (j + 1) ms ss more h.1 g) e
 
--- the place of one more module
-pub kept_as : (r : Result Places ℕ) (place : Result Places TextFault) (pl : Places) (short : Bool) (old new pls : List Places) → IsAnswer r place → r ≡ Ok pl → (short ≡ false → old ≡ pls) → IsKept place short old new (Ok false) → new ≡ pls ++ pl ∷ []
-kept_as r place pl short old new pls h e same k =
-    let mine : r ≡ Ok k.1 = subst (IsAnswer r) k.2 h in
-    let one : k.1 ≡ pl = ok_same k.1 pl (sym mine ∙ e) in
-    k.3 ∙ ap₂ (λ (xs : List Places) (x : Places). xs ++ x ∷ []) (same k.0) one
+-- ---- the places of the modules so far
 
-pub on_place : {P : Type 0} (place : Result Places TextFault) (pl : Places) → place ≡ Ok pl → OnOk place P → P
-on_place {P} place pl e h = subst (λ (r : Result Places TextFault). OnOk r P) e h
+abbrev pub after : List Places → Result (List Places) LinkFault → Result (List Places) LinkFault
+after xs r = map_ok (λ ys. xs ++ ys) r
 
--- ---- the externals that a part gives, line by line
+pub none-placed : (r : Result (List Places) LinkFault) → after [] r ≡ r
+none-placed (Ok ys) = refl
+none-placed (Err f) = refl
 
-pub ok_gives : {A E P : Type 0} (r : Result A E) → is_err r ≡ false → OnOk r P → P
-ok_gives (Ok a) e h = h
-ok_gives (Err x) e h = absurd cc
+one-placed : (xs : List Places) (pl : Places) (r : Result (List Places) LinkFault) → after xs (in_front (Ok pl) r) ≡ after (xs ++ pl ∷ []) r
+one-placed xs pl (Ok ys) = ap Ok (sym (append_assoc xs (pl ∷ []) ys))
+one-placed xs pl (Err f) = refl
 
-module _ (gs : List GivenLine) (i : ℕ) (d : GivenLine) (inside : i < length gs) where
-  next_line : drop i gs ≡ get_or gs i d ∷ drop (i + 1) gs
-  next_line = rw (add-one, drop-cons gs i d inside) refl
+module _ (ms : List Module) (ss : List Sparse) (j : ℕ) (m : Module) (s : Sparse) (m-is : m ≡ get_or ms j m) (s-is : s ≡ get_or ss j s) (h : j < length ms) (each : length ss ≡ length ms) where
+  next-pair : zip (typed_modules (drop j ms)) (drop j ss) ≡ (recs (records_in m.bytes), s) ∷ zip (typed_modules (drop (j + 1) ms)) (drop (j + 1) ss)
+  next-pair = ap₂ (λ (a : List Module) (b : List Sparse). zip (typed_modules a) b) (next-of ms j m m-is h) (next-of ss j s s-is (omega (arith, h, each)))
 
-  pub line_fine : (m : List Rec) (n : ℕ) (b : Bool) (all : List ℕ) → n ≡ length (externals m) → b ≡ is_defined n (get_or gs i d).1.0 → b ≡ true → filter_map (stray m) (drop i gs) ≡ all → filter_map (stray m) (drop (i + 1) gs) ≡ all
-  line_fine m n b all count e is h =
-      let defined : is_defined (length (externals m)) (get_or gs i d).1.0 ≡ true = ap (λ (k : ℕ). is_defined k (get_or gs i d).1.0) (sym count) ∙ sym e ∙ is in
-      let none : stray m (get_or gs i d) ≡ None = rw defined refl in
-      let same : filter_map (stray m) (get_or gs i d ∷ drop (i + 1) gs) ≡ filter_map (stray m) (drop (i + 1) gs) = rw none refl in
-      sym same ∙ ap (λ (xs : List GivenLine). filter_map (stray m) xs) (sym next_line) ∙ h
+  pub more-placed : (xs ys : List Places) (pl : Places) → places_given j (recs (records_in m.bytes)) s ≡ Ok pl → ys ≡ xs ++ pl ∷ []
+      → after xs (places_of j (zip (typed_modules (drop j ms)) (drop j ss))) ≡ after ys (places_of (j + 1) (zip (typed_modules (drop (j + 1) ms)) (drop (j + 1) ss)))
+  more-placed xs ys pl e f =
+      let rest = places_of (j + 1) (zip (typed_modules (drop (j + 1) ms)) (drop (j + 1) ss)) in
+      ap (λ t. after xs (places_of j t)) next-pair ∙ ap (λ r. after xs (in_front r rest)) e ∙ one-placed xs pl rest ∙ ap (λ t. after t rest) (sym f)
 
-  pub line_given : (j : ℕ) (given now all : List Given) (g : Given) → now ≡ given ++ g ∷ [] → g ≡ given_as j (get_or gs i d) → given ++ map (given_as j) (drop i gs) ≡ all → now ++ map (given_as j) (drop (i + 1) gs) ≡ all
-  line_given j given now all g n e h =
-      let rest : List Given = map (given_as j) (drop (i + 1) gs) in
-      ap (λ (xs : List Given). xs ++ rest) n ∙ append_assoc given (g ∷ []) rest ∙ ap (λ (x : Given). given ++ x ∷ rest) e
-      ∙ ap (λ (xs : List GivenLine). given ++ map (given_as j) xs) (sym next_line) ∙ h
+  pub not-placed : (xs : List Places) (f : LinkFault) → places_given j (recs (records_in m.bytes)) s ≡ Err f → after xs (places_of j (zip (typed_modules (drop j ms)) (drop j ss))) ≡ Err f
+  not-placed xs f e = ap (λ t. after xs (places_of j t)) next-pair ∙ ap (λ r. after xs (in_front r (places_of (j + 1) (zip (typed_modules (drop (j + 1) ms)) (drop (j + 1) ss))))) e
+
+module _ (ms : List Module) (ss : List Sparse) (j : ℕ) (m : Module) (s : Sparse) (m-is : m ≡ get_or ms j m) (s-is : s ≡ get_or ss j s) (h : j < length ms) (each : length ss ≡ length ms) (xs : List Places) where
+  pub not-placed-outcome : (f : LinkFault) (all : Result (List Places) LinkFault) → IsOutcome {A = Places} (places_given j (recs (records_in m.bytes)) s) (Err f)
+      → after xs (places_of j (zip (typed_modules (drop j ms)) (drop j ss))) ≡ all → IsOutcome {A = List Places} all (Err f)
+  not-placed-outcome fault.Memory all o e = tt
+  not-placed-outcome fault.Read all o e = sym e ∙ not-placed ms ss j m s m-is s-is h each xs fault.Read o
+  not-placed-outcome (fault.Refused k why at) all o e = sym e ∙ not-placed ms ss j m s m-is s-is h each xs (fault.Refused k why at) o
+  not-placed-outcome (fault.NoText at) all o e = sym e ∙ not-placed ms ss j m s m-is s-is h each xs (fault.NoText at) o
+  not-placed-outcome fault.NoModules all o e = sym e ∙ not-placed ms ss j m s m-is s-is h each xs fault.NoModules o
+  not-placed-outcome (fault.Line n why) all o e = sym e ∙ not-placed ms ss j m s m-is s-is h each xs (fault.Line n why) o
+  not-placed-outcome (fault.External f) all o e = sym e ∙ not-placed ms ss j m s m-is s-is h each xs (fault.External f) o
+  not-placed-outcome (fault.Reach k f) all o e = sym e ∙ not-placed ms ss j m s m-is s-is h each xs (fault.Reach k f) o
+  not-placed-outcome (fault.Starts a b) all o e = sym e ∙ not-placed ms ss j m s m-is s-is h each xs (fault.Starts a b) o
+  not-placed-outcome (fault.Space f) all o e = sym e ∙ not-placed ms ss j m s m-is s-is h each xs (fault.Space f) o
+
+pub all-placed : (ms : List Module) (ss : List Sparse) (j : ℕ) (xs : List Places) → length ms ≤ j → after xs (places_of j (zip (typed_modules (drop j ms)) (drop j ss))) ≡ Ok xs
+all-placed ms ss j xs h = ap (λ (t : List Module). after xs (places_of j (zip (typed_modules t) (drop j ss)))) (none-of ms j h) ∙ ap Ok (append-nil xs)
+
+-- ---- the externals so far
+
+module _ {A B : Type 0} (f : A → Option B) (x : A) (rest : List A) where
+  picked : (o : Option B) → f x ≡ o → filter_map f (x ∷ rest) ≡ option_to_list (f x) ++ filter_map f rest
+  picked None k = rw k refl
+  picked (Some y) k = rw k refl
+
+  pub more-picked : (old new : List B) (left : List A) (all : List B) → left ≡ x ∷ rest → new ≡ old ++ option_to_list (f x) → old ++ filter_map f left ≡ all → new ++ filter_map f rest ≡ all
+  more-picked old new left all e g h =
+      ap (λ t. t ++ filter_map f rest) g ∙ append_assoc old (option_to_list (f x)) (filter_map f rest) ∙ ap (λ t. old ++ t) (sym (ap (filter_map f) e ∙ picked (f x) refl)) ∙ h
+
+pub more-mapped : {A B : Type 0} (f : A → List B) (x : A) (rest left : List A) (old new all : List B) → left ≡ x ∷ rest → new ≡ old ++ f x → old ++ flat_map f left ≡ all → new ++ flat_map f rest ≡ all
+more-mapped f x rest left old new all e g h =
+    ap (λ t. t ++ flat_map f rest) g ∙ append_assoc old (f x) (flat_map f rest) ∙ ap (λ t. old ++ t) (sym (ap (flat_map f) e)) ∙ h
+
+-- ---- the text of modules
+
+pub some_linked : (ms : List Module) (text : List ℕ) → 0 < length ms → linked (typed_modules ms) text ≡ by_sparse (typed_modules ms) (sparse (typed_modules ms) text)
+some_linked [] text h = absurd (omega (arith, h))
+some_linked (m ∷ ms) text h = refl
+
+-- what a text gives has all tables of the modules
+of-items : (ms : List (List Rec)) (r : Result (List Item) LocatorFault) (ss : List Sparse) → map_ok (sparse_all ms) r ≡ Ok ss → AllZip HasTables ms ss
+of-items ms (Ok items) ss e = subst (AllZip HasTables ms) (same (sparse_all ms items) ss e) (sparse-tables ms items)
+  where
+    same : {X : Type 0} (p q : X) → ◌≡◌ {A = Result X LocatorFault} (Ok p) (Ok q) → p ≡ q
+    same p q h = cc
+of-items ms (Err f) ss e = absurd cc
+
+of-lines : (ms : List (List Rec)) (ns : List ℕ) (r : Result (List Item) LocatorFault) (ss : List Sparse) → unless_bad ns (map_ok (sparse_all ms) r) ≡ Ok ss → AllZip HasTables ms ss
+of-lines ms [] r ss e = of-items ms r ss e
+of-lines ms (n ∷ ns) r ss e = absurd cc
+
+pub text-tables : (ms : List (List Rec)) (text : List ℕ) (ss : List Sparse) → sparse ms text ≡ Ok ss → AllZip HasTables ms ss
+text-tables ms text ss e = of-lines ms (bad_lines text) (items_after ms [] (link_lines text)) ss e

@@ -56,7 +56,7 @@ refused_behind p input ms rest number fault.Read h c b r = absurd r
 refused_behind p input ms rest number (fault.Refused k why at) h c b r = record { modules = ms; rest = rest; front = h; counted = c ∙ sym r.0; begun = b; refused = r.1 }
 refused_behind p input ms rest number (fault.NoText at) h c b r = absurd r
 refused_behind p input ms rest number fault.NoModules h c b r = absurd r
-refused_behind p input ms rest number (fault.Line n) h c b r = absurd r
+refused_behind p input ms rest number (fault.Line n why) h c b r = absurd r
 refused_behind p input ms rest number (fault.External f) h c b r = absurd r
 refused_behind p input ms rest number (fault.Reach k f) h c b r = absurd r
 refused_behind p input ms rest number (fault.Starts j k) h c b r = absurd r

@@ -208,7 +208,7 @@ other_module items j i (ExternalPlace p) k m e =
     (ap (λ (gs : List ((ℕ × ℕ) × Option Frame)). map (given_to gs k) (count_from 1 (length (groups m)))) (same_groups items x refl))
     (ap (λ (gs : List ((ℕ × ℕ) × Placed)). map (given_to gs k) (count_from 1 (length (externals m)))) (more_externals items x) ∙ table_other (filter_map external_given items) j i p (length (externals m)) k e)
 
-length_count : (first n : ℕ) → length (count_from first n) ≡ n
+pub length_count : (first n : ℕ) → length (count_from first n) ≡ n
 length_count first zero = refl
 length_count first (suc n) = ap suc (length_count (first + 1) n)
 

@@ -7,14 +7,14 @@ use Rattle.omf_placement.specs.declared.several.fault.DeriveFault.{DeriveFault}
 use Rattle.omf_placement.specs.declared.several.fault.DeriveFault.TheVariants as derive
 use Rattle.omf_linking.specs.declared.space.fault.MemoryFault.{MemoryFault}
 use Rattle.omf_linking.specs.declared.space.fault.MemoryFault.TheVariants as memory
-use Rattle.omf_placement.specs.declared.fault.TextFault.{TextFault}
-use Rattle.omf_placement.specs.declared.fault.TextFault.TheVariants as text
+use Rattle.omf_linking.specs.declared.locator.fault.LocatorFault.{LocatorFault}
+use Rattle.omf_linking.specs.declared.locator.fault.LocatorFault.TheVariants as locator
 use Rattle.omf_linking.specs.declared.fault.LinkFault.{LinkFault}
 use Rattle.omf_linking.specs.declared.fault.LinkFault.TheVariants as fault
 
-abbrev pub of_text : TextFault → LinkFault
-of_text text.Memory = fault.Memory
-of_text (text.Line n) = fault.Line n
+abbrev pub of_locator : LocatorFault → LinkFault
+of_locator locator.Memory = fault.Memory
+of_locator (locator.Line n why) = fault.Line n why
 
 abbrev pub of_derive : DeriveFault → LinkFault
 of_derive derive.Memory = fault.Memory

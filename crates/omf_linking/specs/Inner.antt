@@ -1,4 +1,3 @@
-pub mod Parsing
 pub mod Laying
 pub mod Runs
 pub mod Sweeping

@@ -1,5 +1,3 @@
-pub mod LinkEntries
-pub mod Parts
 pub mod Faults
 pub mod Placing
 pub mod Reading

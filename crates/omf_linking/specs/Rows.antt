@@ -1,22 +1,33 @@
 -- Definitions for the worked examples.
-use Rattle.std.specs.Prelude.{ℕ, List, [], ◌∷◌, Bool, Option, Some, None, slice_get, ◌==◌, if◌then◌else◌}
-use Rattle.std.specs.List.{join_with_byte}
+use Rattle.std.specs.Prelude.{ℕ, List, [], ◌∷◌, Bool, Option, Some, None, codes, slice_get, ◌==◌, if◌then◌else◌}
 use Rattle.omf_placement.specs.declared.several.given.Given.{Given}
 use Rattle.omf_placement.specs.declared.frame.Frame.{Frame}
 use Rattle.omf_placement.specs.declared.frame.Placed.{Placed}
+use Rattle.omf_placement.specs.Placement.{Places}
 use Rattle.omf_records.specs.Values.{Rec, ModEnd, Segment}
 use Rattle.omf_linking.specs.Space.Memory.{Share}
-use Rattle.omf_linking.specs.Parts.{Part, GivenLine}
+use Rattle.omf_linking.specs.Locator.Rows.{lines}
+use Rattle.omf_linking.specs.Locator.Sparse.{Sparse}
+use Rattle.omf_linking.specs.Placing.{placed_by}
 use Rattle.omf_linking.specs.Segments.{ModuleBytes}
 use Rattle.omf_linking.specs.declared.relocated.Relocated.{Relocated}
 
--- A text of these lines.
-abbrev pub lines : List (List ℕ) → List ℕ
-lines ls = join_with_byte 10 ls
+-- What is given to groups alone, and to externals alone.
+abbrev pub given_groups : List (Option (Option Frame)) → Sparse
+given_groups fs = record { segments = []; groups = fs; externals = [] }
 
--- A part that begins at a line.
-abbrev pub part : ℕ → List Placed → List (ℕ × Option Frame) → List GivenLine → Part
-part n segments groups given = record { line = n; draft = record { segments = segments; groups = groups; externals = [] }; given = given }
+abbrev pub given_externals : List (Option Placed) → Sparse
+given_externals ps = record { segments = []; groups = []; externals = ps }
+
+-- The places of the three segments of module m, and a text that gives it these. The first and the last have one name.
+abbrev pub place_at : ℕ → Placed
+place_at address = record { address = address; frame = record { base = 0; selector = 0 } }
+
+abbrev pub three_places : Places
+three_places = placed_by (place_at 0x10 ∷ place_at 0x20 ∷ place_at 0x30 ∷ []) []
+
+abbrev pub three_lines : List ℕ
+three_lines = lines (codes "M \"m\"" ∷ codes "S \"A\" \"B\" 30 0 0" ∷ codes "S #1 10 0 0" ∷ codes "S \"B\" 20 0 0" ∷ [])
 
 -- An external of a module with its place in the text, in the frame at 0.
 abbrev pub given_at : ℕ → ℕ → ℕ → Given

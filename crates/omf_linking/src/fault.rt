@@ -1,12 +1,13 @@
 //! Why modules cannot be linked.
 
 ghost use Rattle.std.specs.Prelude.{◌≡◌};
-ghost use Rattle.omf_linking.specs.Faults.{of_derive, of_memory, of_text};
+ghost use Rattle.omf_linking.specs.Faults.{of_derive, of_locator, of_memory};
 ghost use Rattle.omf_linking.specs.declared.fault.LinkFault.TheVariants.{Memory};
 
+use crate::locator::{LineFault, LocatorFault};
 use crate::space::MemoryFault;
 use omf_frame::{Place, Reason};
-use omf_reloc::{DeriveFault, ReachFault, TextFault};
+use omf_reloc::{DeriveFault, ReachFault};
 use std::alloc::{AllocError, AllocFailed};
 use thiserror::Error;
 
@@ -35,14 +36,18 @@ pub enum LinkFault {
     /// There is no module to link.
     #[error("there is no module")]
     NoModules,
-    /// This line of the text, counted from 1, is not an entry; or it is an `M` without a further module, gives an external that its
-    /// module does not have, or is a `G real` of a group whose frame is not found.
-    #[error("a line of the text is not understood")]
-    Line(u64),
+    /// A line of the text does not fit.
+    #[error("a line of the text does not fit")]
+    Line {
+        /// The line, counted from 1.
+        line: u64,
+        /// Why it does not fit.
+        why: LineFault,
+    },
     /// An external has no place.
     #[error("an external finds no place")]
     External(DeriveFault),
-    /// The placement of a module does not fit it, or a fixup or the start is out of range.
+    /// The text gives an entry of a module no place, or the placement of a module does not fit it, or a fixup or the start is out of range.
     #[error("a module's placement does not reach")]
     Reach {
         /// The module, from 0.
@@ -89,13 +94,13 @@ impl<T: Drop> From<AllocFailed<T>> for LinkFault {
     }
 }
 
-impl From<TextFault> for LinkFault {
-    ghost from_gives = { λ fault e. e ≡ of_text fault };
+impl From<LocatorFault> for LinkFault {
+    ghost from_gives = { λ fault e. e ≡ of_locator fault };
 
-    fn from(fault: TextFault) -> LinkFault {
+    fn from(fault: LocatorFault) -> LinkFault {
         match fault {
-            TextFault::Memory => LinkFault::Memory,
-            TextFault::Line(number) => LinkFault::Line(number),
+            LocatorFault::Memory => LinkFault::Memory,
+            LocatorFault::Line { line, why } => LinkFault::Line { line, why },
         }
     }
 }

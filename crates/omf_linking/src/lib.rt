@@ -3,13 +3,11 @@
 #![tactic(auto)]
 
 mod after;
-mod entry;
 mod fault;
 mod files;
 pub mod laws;
 pub mod locator;
 mod memory;
-mod parts;
 mod placing;
 mod reading;
 mod relocated;
@@ -21,8 +19,7 @@ pub mod space;
 pub use fault::{FileFault, LinkFault};
 pub use files::{InputFile, modules_of_files};
 pub use memory::memory_image;
-pub use parts::{Part, parse_parts};
-pub use placing::{link, link_parts};
+pub use placing::link;
 pub use reading::{modules_in, read_all};
 pub use relocated::{Relocated, relocate_all, start_of};
 pub use segments::segments_of;

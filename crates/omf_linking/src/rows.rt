@@ -2,44 +2,31 @@
 
 ghost use Rattle.std.specs.Prelude.{◌≡◌, [], ◌∷◌, codes, true, false, Some, None, Ok, Err};
 ghost use Rattle.omf_linking.specs.Space.Segments.{segment_shares};
-ghost use Rattle.omf_placement.specs.Entries.{Blank, SegmentEntry};
 ghost use Rattle.omf_reloc.specs.Rows.{at, frame};
-ghost use Rattle.omf_linking.specs.LinkEntries.{link_entry_said, NextModule, GivenExternal, OfPlacement};
-ghost use Rattle.omf_linking.specs.Parts.{parsed_parts};
-ghost use Rattle.omf_linking.specs.Placing.{given_of, places_of};
-ghost use Rattle.omf_linking.specs.Rows.{ending, given_at, lines, lying, part, share};
+ghost use Rattle.omf_reloc.specs.declared.fault.Kind.TheVariants.{Group, Segment};
+ghost use Rattle.omf_reloc.specs.declared.fault.ReachFault.TheVariants.{Missing};
+ghost use Rattle.omf_linking.specs.Locator.Rows.{given_segments, named_only, three_segments};
+ghost use Rattle.omf_linking.specs.Placing.{given_of, linked, placed_by, places_given};
+ghost use Rattle.omf_linking.specs.Rows.{ending, given_at, given_externals, given_groups, lying, share, three_lines, three_places};
 ghost use Rattle.omf_linking.specs.Segments.{all_segments, is_common};
 ghost use Rattle.omf_linking.specs.Starts.{main_starts, one_start};
-ghost use Rattle.omf_linking.specs.declared.fault.LinkFault.TheVariants.{Starts};
+ghost use Rattle.omf_linking.specs.declared.fault.LinkFault.TheVariants.{Line, NoModules, Reach, Starts};
+ghost use Rattle.omf_linking.specs.declared.locator.fault.LineFault.TheVariants.{Unknown};
 
-/// Entries of lines: the next part, an external, a segment, a blank. An `E` line is not understood, nor is an index of five digits.
-pub fn lines_of_a_link()
-    ensures next { link_entry_said (codes "M") ≡ Some NextModule }
-    ensures given { link_entry_said (codes "X 1 46C 400 40") ≡ Some (GivenExternal 1 (at 0x46C 0x400 0x40)) }
-    ensures segment { link_entry_said (codes "S 7C00 0 0") ≡ Some (OfPlacement (SegmentEntry (at 0x7C00 0 0))) }
-    ensures nothing { link_entry_said [] ≡ Some (OfPlacement Blank) }
-    ensures external { link_entry_said (codes "E 1 0 0") ≡ None }
-    ensures long { link_entry_said (codes "X 00001 0 0 0") ≡ None }
+/// What a text gives a module: a place for each of its segments; none for the second; a group with a line `real` and without a member.
+pub fn places_that_a_text_gives()
+    ensures all { places_given 0 three_segments (given_segments (Some (at 0x10 0 0) ∷ Some (at 0x20 0 0) ∷ Some (at 0x30 0 0) ∷ [])) ≡ Ok (placed_by (at 0x10 0 0 ∷ at 0x20 0 0 ∷ at 0x30 0 0 ∷ []) []) }
+    ensures segment { places_given 1 three_segments (given_segments (Some (at 0x10 0 0) ∷ None ∷ None ∷ [])) ≡ Err (Reach 1 (Missing Segment 2)) }
+    ensures group { places_given 0 [] (given_groups (Some (Some (frame 0 8)) ∷ Some None ∷ [])) ≡ Err (Reach 0 (Missing Group 2)) }
+    ensures external { given_of (given_externals [] ∷ given_externals (None ∷ Some (at 0x30 0 0) ∷ []) ∷ []) ≡ given_at 1 2 0x30 ∷ [] }
 {}
 
-/// Texts of two parts: the second begins after the line `M`, and lines count over the whole text.
-pub fn parts_of_a_text()
-    ensures parts { parsed_parts (lines (codes "S 20 0 0" ∷ codes "X 1 30 0 0" ∷ codes " M ; next" ∷ codes "G 0 8" ∷ [])) ≡ Ok (part 1 (at 0x20 0 0 ∷ []) [] ((2, (1, at 0x30 0 0)) ∷ []) ∷ part 3 [] ((4, Some (frame 0 8)) ∷ []) [] ∷ []) }
-    ensures fault { parsed_parts (lines (codes "M" ∷ codes "E 1 0 0" ∷ codes "q" ∷ [])) ≡ Err 2 }
-{}
-
-/// A part without a module is at fault at the line that begins it; a module without a part has no entries.
-pub fn parts_and_modules()
-    ensures beyond { places_of [] (part 3 [] [] [] ∷ []) ≡ Err 3 }
-    ensures none { places_of ([] ∷ []) [] ≡ Ok (record { segments = []; groups = []; externals = [] } ∷ []) }
-{}
-
-/// An `X` line gives a place to an external of its part's module. If the module has no such external, the line is at fault, ahead of a
-/// group without a frame.
-pub fn externals_given_by_hand()
-    ensures given { given_of (part 1 [] [] [] ∷ part 3 [] [] ((4, (2, at 0x30 0 0)) ∷ []) ∷ []) ≡ given_at 1 2 0x30 ∷ [] }
-    ensures frame { places_of ([] ∷ []) (part 1 [] ((1, None) ∷ []) [] ∷ []) ≡ Err 1 }
-    ensures stray { places_of ([] ∷ []) (part 1 [] ((1, None) ∷ []) ((2, (2, at 0 0 0)) ∷ []) ∷ []) ≡ Err 2 }
+/// A text gives a module the same places, whatever the order of the modules. No modules, and a line at fault.
+pub fn modules_in_any_order()
+    ensures first { linked (three_segments ∷ named_only (codes "a") ∷ []) three_lines ≡ Ok (three_places ∷ placed_by [] [] ∷ []) }
+    ensures second { linked (named_only (codes "a") ∷ three_segments ∷ []) three_lines ≡ Ok (placed_by [] [] ∷ three_places ∷ []) }
+    ensures none { linked [] three_lines ≡ Err NoModules }
+    ensures unknown { linked (named_only (codes "a") ∷ []) three_lines ≡ Err (Line 1 Unknown) }
 {}
 
 /// The start is that of the one main module that names one: bit 7 of the type byte of its MODEND is set. Of two or more the first two are

@@ -26,6 +26,7 @@ mod readers;
 mod reading;
 mod samples;
 mod sessions;
+mod texts;
 mod verdicts;
 
 /// The module of these records; `None` if it is refused, or memory runs out.

@@ -1,5 +1,5 @@
 -- Laws of drafts, each the contract of a function of the same name.
-use Rattle.std.specs.Prelude.{◌≡◌, ◌<◌, ⊤, ℕ, Bool, List, [], ◌∷◌, length, map, zip, All, Some, IsSome}
+use Rattle.std.specs.Prelude.{◌≡◌, ◌<◌, ◌^◌, ⊤, ℕ, Bool, List, [], ◌∷◌, length, map, zip, All, Some, IsSome}
 use Rattle.std.specs.List.{AllZip}
 use Rattle.omf_records.specs.Values.{Rec, Contents, Publics}
 use Rattle.omf_placement.specs.Placement.{Places}
@@ -12,17 +12,18 @@ use Rattle.omf_layout.specs.Several.Laying.{laid}
 use Rattle.omf_layout.specs.Several.Placing.{arranged_places}
 use Rattle.omf_linker.specs.Drafting.Fit.{FitModules}
 use Rattle.omf_linker.specs.Drafting.Names.{seen_names}
-use Rattle.omf_linker.specs.Drafting.Reading.{GivesPlaces, IsReadBack}
+use Rattle.omf_linker.specs.Drafting.Reading.{GivesPlaces, HasFew, IsReadBack}
 use Rattle.omf_linker.specs.Drafting.Text.{link_text}
 
--- The draft of one module or more, read back, gives each of them its places, if their numbers are short enough for a text.
+-- The draft of modules, read back, gives each of them its places, if all numbers are short enough for a text.
 abbrev pub DraftsAreRead : Type 0
-DraftsAreRead = (o : Options) (ms : List (List Rec)) (l : Laid (List Places)) → arranged_places o ms ≡ Some l → 0 < length ms → All AreShort l.what → IsReadBack ms l.what (link_text o.frames ms l.what)
+DraftsAreRead = (o : Options) (ms : List (List Rec)) (l : Laid (List Places)) → arranged_places o ms ≡ Some l → length ms < 2 ^ 32 → All HasFew ms → All AreShort l.what → IsReadBack ms l.what (link_text o.frames ms l.what)
 
--- A draft of one module or more whose numbers are short enough.
+-- A draft of modules whose numbers are short enough.
 pub record IsDraft (o : Options) (ms : List (List Rec)) (l : Laid (List Places)) : Type 0 where
   pub is : arranged_places o ms ≡ Some l
-  pub some : 0 < length ms
+  pub modules : length ms < 2 ^ 32
+  pub entries : All HasFew ms
   pub short : All AreShort l.what
 
 -- Its text gives the modules places that fit them, and do not overlap.

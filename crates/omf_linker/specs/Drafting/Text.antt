@@ -1,66 +1,87 @@
--- The draft of a link's text (this profile's rule): a part for each module, with a line `M` before each but the first.
-use Rattle.std.specs.Prelude.{ℕ, List, [], ◌∷◌, ◌++◌, flat_map, zip, Bool, Option, option_map, ◌==◌, codes, decimal, if◌then◌else◌}
+-- The draft of a link's text (this profile's rule): the lines of each module, after a line `M` that names it.
+use Rattle.std.specs.Prelude.{ℕ, List, [], ◌∷◌, ◌++◌, flat_map, zip, Bool, Option, option_map, codes, decimal, if◌then◌else◌}
 use Rattle.std.specs.List.{enumerate_from}
-use Rattle.omf_records.specs.Values.{Rec, Contents, Header, GroupItem}
+use Rattle.omf_records.specs.Values.{Rec, GroupItem}
 use Rattle.omf_check.specs.Tables.{names, segments, groups}
+use Rattle.omf_check.specs.declared.segment.SegInfo.{SegInfo}
 use Rattle.omf_placement.specs.Derive.{named_externals}
 use Rattle.omf_placement.specs.declared.frame.Frame.{Frame}
 use Rattle.omf_placement.specs.declared.frame.Placed.{Placed}
-use Rattle.omf_placement.specs.Placement.{Places}
+use Rattle.omf_placement.specs.Entries.{in_words}
+use Rattle.omf_placement.specs.Placement.{Places, real_frame}
+use Rattle.omf_placement.specs.Quoted.{number, named}
+use Rattle.omf_layout.specs.declared.alignment.Alignment.{Alignment}
 use Rattle.omf_layout.specs.declared.options.Frames.{Frames}
+use Rattle.omf_layout.specs.declared.options.Frames.TheVariants.{Real, Flat}
 use Rattle.omf_layout.specs.declared.options.Options.{Options}
-use Rattle.omf_layout.specs.Draft.{line, segment_line, frame_entry, room_text}
-use Rattle.omf_placement.specs.Quoted.{number, quoted, named}
+use Rattle.omf_layout.specs.Draft.{alignment_text, is_same_frame, room_text}
 use Rattle.omf_layout.specs.Wants.{alignments, rooms}
 use Rattle.omf_layout.specs.Several.Placing.{arranged_places}
+use Rattle.omf_linking.specs.Locator.KeyForms.{is_repeated, key_form, key_text, key_words, module_key_by, module_texts}
+use Rattle.omf_linking.specs.Locator.Keys.{module_name}
+use Rattle.omf_linking.specs.declared.locator.forms.KeyForm.{KeyForm}
+use Rattle.omf_placement.specs.Quoted.{quoted}
+use Rattle.omf_reloc.specs.declared.fault.Kind.TheVariants as kinds
 use Rattle.omf_linker.specs.Drafting.Names.{has_name, seen_names}
 
--- The name of a module: that of its first record, a THEADR or an LHEADR. It is printed in a comment.
-abbrev pub header_name : Contents → List ℕ
-header_name (Header name) = name
-header_name _ = []
+-- The line before the lines of module j: its name as a key, or its number from 1 if another module has the name.
+abbrev pub opening_by : Bool → ℕ → List Rec → List ℕ
+opening_by repeated j m = codes "M " ++ key_words (module_key_by repeated j m) ++ 10 ∷ []
 
-abbrev pub module_name : List Rec → List ℕ
-module_name [] = []
-module_name (r ∷ rs) = header_name r.contents
+abbrev pub opening_line : List (List Rec) → ℕ → List Rec → List ℕ
+opening_line ms j m = opening_by (is_repeated (module_texts ms) (quoted (module_name m))) j m
 
-abbrev pub name_line : List Rec → List ℕ
-name_line m = codes "; module " ++ quoted (module_name m) ++ 10 ∷ []
+-- A place: in real mode a segment in the frame of its paragraph has its address and `real`; any other its address, base and selector.
+abbrev pub full_place : Placed → List ℕ
+full_place p = in_words (number p.address ∷ number p.frame.base ∷ number p.frame.selector ∷ [])
 
--- A line for each segment, as in the draft of one module.
+abbrev pub place_text : Frames → Placed → List ℕ
+place_text Real p = if is_same_frame (real_frame p.address) p.frame then in_words (number p.address ∷ codes "real" ∷ []) else full_place p
+place_text (Flat selector) p = full_place p
+
+-- A line for each segment: its key, its place, and in a comment its class, its alignment in bytes and its length. Numbers in comments are decimal.
+abbrev pub segment_comment : List Rec → SegInfo → Alignment → List ℕ
+segment_comment m s a = codes "class " ++ named (names m) s.class ++ 32 ∷ alignment_text s.absolute a ++ codes " length " ++ decimal s.length
+
+abbrev pub segment_line_by : Frames → List Rec → KeyForm → ℕ × ((SegInfo × Alignment) × Placed) → List ℕ
+segment_line_by frames m form s = codes "S " ++ key_text m kinds.Segment form s.0 ++ 32 ∷ place_text frames s.1.1 ++ codes " ; " ++ segment_comment m s.1.0.0 s.1.0.1 ++ 10 ∷ []
+
+abbrev pub segment_line : Frames → List Rec → ℕ × ((SegInfo × Alignment) × Placed) → List ℕ
+segment_line frames m s = segment_line_by frames m (key_form m kinds.Segment s.0) s
+
 abbrev pub segment_lines : Frames → List Rec → List Placed → List ℕ
 segment_lines frames m xs = flat_map (segment_line frames m) (enumerate_from 1 (zip (zip (segments m) (alignments m)) xs))
 
--- A line for each group with its frame, which groups of that name in other modules share.
-abbrev pub group_line : List Rec → ℕ × (GroupItem × Frame) → List ℕ
-group_line m g = line (frame_entry g.1.1) (decimal g.0 ∷ named (names m) g.1.0.name.item ∷ [])
+-- A line for each group: its key and its frame, which groups of that name in other modules share.
+abbrev pub group_line_by : List Rec → KeyForm → ℕ → Frame → List ℕ
+group_line_by m form i f = codes "G " ++ key_text m kinds.Group form i ++ 32 ∷ in_words (number f.base ∷ number f.selector ∷ []) ++ 10 ∷ []
+
+abbrev pub group_line : List Rec → ℕ × Frame → List ℕ
+group_line m g = group_line_by m (key_form m kinds.Group g.0) g.0 g.1
 
 abbrev pub group_lines : List Rec → List Frame → List ℕ
-group_lines m fs = flat_map (group_line m) (enumerate_from 1 (zip (groups m) fs))
+group_lines m fs = flat_map (group_line m) (enumerate_from 1 fs)
 
--- The line that would give an external its place, in a comment, followed by the external's index, its name and a communal's length.
-abbrev pub wanted_entry : ℕ → List ℕ
-wanted_entry i = codes "; X " ++ number i ++ codes " address base selector"
-
-abbrev pub wanted_line : ℕ → List ℕ → Option ℕ → List ℕ
-wanted_line i name room = line (wanted_entry i) (decimal i ∷ quoted name ∷ room_text room ∷ [])
+-- The line that would give an external its place, in a comment, followed by a communal's length.
+abbrev pub wanted_line_by : List Rec → KeyForm → ℕ → Option ℕ → List ℕ
+wanted_line_by m form i room = codes "; X " ++ key_text m kinds.External form i ++ codes " address base selector ; " ++ room_text room ++ 10 ∷ []
 
 -- It is printed for each external that sees no public of its name.
-abbrev pub external_text : (Bool → List (List ℕ)) → ℕ × ((List ℕ × Bool) × Option ℕ) → List ℕ
-external_text among e = if has_name (among e.1.0.1) e.1.0.0 then [] else wanted_line e.0 e.1.0.0 e.1.1
+abbrev pub external_by : Bool → List Rec → KeyForm → ℕ → Option ℕ → List ℕ
+external_by seen m form i room = if seen then [] else wanted_line_by m form i room
+
+abbrev pub external_text : (Bool → List (List ℕ)) → List Rec → ℕ × ((List ℕ × Bool) × Option ℕ) → List ℕ
+external_text among m e = external_by (has_name (among e.1.0.1) e.1.0.0) m (key_form m kinds.External e.0) e.0 e.1.1
 
 abbrev pub wanted_lines : (Bool → List (List ℕ)) → List Rec → List ℕ
-wanted_lines among m = flat_map (external_text among) (enumerate_from 1 (zip (named_externals m) (rooms m)))
+wanted_lines among m = flat_map (external_text among m) (enumerate_from 1 (zip (named_externals m) (rooms m)))
 
--- The part of a module, and the line before it, by the module's number from 0.
+-- The lines of a module, and the line before them, by the module's number from 0.
 abbrev pub part_text : Frames → (Bool → List (List ℕ)) → List Rec → Places → List ℕ
-part_text frames among m pl = name_line m ++ segment_lines frames m pl.segments ++ group_lines m pl.groups ++ wanted_lines among m
-
-abbrev pub border : ℕ → List ℕ
-border j = if j == 0 then [] else codes "M" ++ 10 ∷ []
+part_text frames among m pl = segment_lines frames m pl.segments ++ group_lines m pl.groups ++ wanted_lines among m
 
 abbrev pub module_text : Frames → List (List Rec) → ℕ × (List Rec × Places) → List ℕ
-module_text frames ms m = border m.0 ++ part_text frames (seen_names ms m.1.0) m.1.0 m.1.1
+module_text frames ms m = opening_line ms m.0 m.1.0 ++ part_text frames (seen_names ms m.1.0) m.1.0 m.1.1
 
 -- The text of modules at these places.
 abbrev pub link_text : Frames → List (List Rec) → List Places → List ℕ

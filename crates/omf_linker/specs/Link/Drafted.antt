@@ -1,5 +1,5 @@
 -- The draft of a link text for several modules, or why there is none.
-use Rattle.std.specs.Prelude.{◌≡◌, ◌<◌, ℕ, List, [], length, Some, None, Result, Ok, Err}
+use Rattle.std.specs.Prelude.{◌≡◌, ℕ, List, [], Some, None, Result, Ok, Err}
 use Rattle.omf_records.specs.Values.{Rec}
 use Rattle.omf_placement.specs.Placement.{Places}
 use Rattle.omf_layout.specs.Layout.{Laid}
@@ -11,10 +11,10 @@ use Rattle.omf_linking.specs.declared.fault.LinkFault.TheVariants as link
 use Rattle.omf_linker.specs.declared.link.fault.ImageFault.{ImageFault}
 use Rattle.omf_linker.specs.declared.link.fault.ImageFault.TheVariants as fault
 
--- A text is the draft for modules with these options. Read again, it gives the modules, if there are any, the places of their segments and groups.
+-- A text is the draft for modules with these options. Read again, it gives the modules the places of their segments and groups.
 pub record IsDraft (o : Options) (ms : List (List Rec)) (text : List ℕ) : Type 0 where
   pub text_is : drafted o ms ≡ Some text
-  pub read : (l : Laid (List Places)) → arranged_places o ms ≡ Some l → 0 < length ms → IsReadBack ms l.what text
+  pub read : (l : Laid (List Places)) → arranged_places o ms ≡ Some l → IsReadBack ms l.what text
 
 -- The result for modules: their draft, or no room. Out of memory is possible in either case.
 abbrev pub IsDrafted : Options → List (List Rec) → Result (List ℕ) ImageFault → Type 0

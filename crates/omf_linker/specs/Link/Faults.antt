@@ -10,6 +10,8 @@ use Rattle.omf_placement.specs.Entries.{in_words}
 use Rattle.omf_records.specs.Values.{Rec}
 use Rattle.omf_linking.specs.declared.fault.LinkFault.{LinkFault}
 use Rattle.omf_linking.specs.declared.fault.LinkFault.TheVariants as link
+use Rattle.omf_linking.specs.declared.locator.fault.LineFault.{LineFault}
+use Rattle.omf_linking.specs.declared.locator.fault.LineFault.TheVariants as why
 use Rattle.omf_cmd.specs.FaultLine.{fault_words as run_words}
 use Rattle.omf_placement.specs.Quoted.{hex, quoted}
 use Rattle.omf_cmd.specs.Programs.{FaultReport}
@@ -71,14 +73,25 @@ space_words (space.Overlap a s t) = codes "overlap" ∷ hex 8 a ∷ owner_words 
 abbrev pub input_at : ℕ → List ℕ
 input_at at = codes "input at " ++ decimal at
 
--- The line of a link fault. Refusals, lines and placements that do not reach have the words of `omf`; refusals and reach faults follow the number of their module.
+-- A line of the text that does not fit: its number, and why.
+abbrev pub text_line : ℕ → List ℕ
+text_line n = codes "text line " ++ decimal n
+
+abbrev pub why_text : LineFault → List ℕ
+why_text why.NotUnderstood = codes ": not understood"
+why_text why.NoModule = codes ": no M line before it"
+why_text why.Unknown = codes ": names nothing"
+why_text why.Several = codes ": names more than one"
+why_text why.Twice = codes ": a second line for the same"
+
+-- The line of a link fault. Refusals and placements that do not reach have the words of `omf`, after the number of their module.
 abbrev pub link_words : LinkFault → List ℕ → List (List ℕ)
 link_words link.Memory name = run_words run.Memory
 link_words link.Read name = run_words run.Read
 link_words (link.Refused j why at) name = module_words j ++ run_words (run.Refused why at)
 link_words (link.NoText at) name = (input_at at ++ codes ": no module and no text") ∷ []
 link_words link.NoModules name = codes "no modules" ∷ []
-link_words (link.Line n) name = run_words (run.Line n)
+link_words (link.Line n why) name = (text_line n ++ why_text why) ∷ []
 link_words (link.External f) name = derive_words f name
 link_words (link.Reach j f) name = module_words j ++ run_words (run.Reach f)
 link_words (link.Starts j k) name = codes "starts" ∷ module_words j ++ module_words k

@@ -2,7 +2,6 @@
 
 ghost use Rattle.std.specs.Prelude.{◌≡◌, ◌<◌, ◌^◌, [], All, List, ℕ, IfOk, length, string_bytes, zip, Some, slice_get};
 ghost use Rattle.std.specs.List.{AllZip};
-ghost use Rattle.omf_frame.specs.Bytes.{AddsText};
 ghost use Rattle.omf_records.specs.Inner.Seen.{map_ok};
 ghost use Rattle.omf_records.specs.Values.{Rec as Typed};
 ghost use Rattle.omf_placement.specs.Placement.{Places};
@@ -10,26 +9,18 @@ ghost use Rattle.omf_layout.specs.Layout.{IsAnswer, Laid};
 ghost use Rattle.omf_layout.specs.Reading.{AreShort};
 ghost use Rattle.omf_layout.specs.Several.Placing.{arranged_places};
 ghost use Rattle.omf_check.specs.Module.{typed_modules};
-ghost use Rattle.omf_linker.specs.Drafting.Reading.{HasEntries, IsReadBack};
-ghost use Rattle.omf_linker.specs.Drafting.Text.{border, drafted, link_text, module_text};
+ghost use Rattle.omf_linking.specs.Locator.Drafted.{HasEntries};
+ghost use Rattle.omf_linker.specs.Drafting.Reading.{HasFew, IsReadBack};
+ghost use Rattle.omf_linker.specs.Drafting.Text.{drafted, link_text};
 
 use crate::drafting::names::NameTable;
-use crate::drafting::part::print_part;
+use crate::drafting::part::{print_opening, print_part};
 use omf_check::Checked;
 use omf_layout::several::place_segments;
 use omf_layout::{Frames, LayoutFault, Options};
+use omf_linking::locator::forms::{TextTable, module_texts};
 use omf_placement::Placement;
 use std::alloc::{AllocError, Global};
-
-/// Prints the line before the part of the module with this number, from 0.
-fn print_border(text: &mut String, number: usize) -> Result<(), AllocError>
-    ensures { AddsText result (string_bytes text.old) (string_bytes text.new) (border number) }
-{
-    if number == 0 {
-        return Ok(());
-    }
-    text.push_str("M\n")
-}
 
 /// Returns the text of modules at these placements.
 fn text_of(
@@ -38,24 +29,30 @@ fn text_of(
     frames: Frames,
     placements: &[Placement],
 ) -> Result<String, AllocError>
-    requires { AllZip HasEntries (typed_modules modules.now) placements.now }
+    requires few { length modules.now < 2 ^ 32 }
+    requires entries { AllZip HasEntries (typed_modules modules.now) placements.now }
     ensures text { IfOk result (λ text. string_bytes text ≡ link_text frames (typed_modules modules.now) placements.now) }
     ensures short { IfOk result (λ text. All AreShort placements.now) }
+    ensures entries { IfOk result (λ text. All HasFew (typed_modules modules.now)) }
 {
     let all = NameTable::of(alloc, modules)?;
+    let kept = module_texts(alloc, modules)?;
+    let names: &[String] = &kept;
+    let table = TextTable::of(alloc, names)?;
     let mut text = String::new(alloc);
     for (number, module) in modules.iter().enumerate() {
-        print_border(&mut text, number)?;
+        let repeated = table.is_repeated(names[number].as_bytes());
+        print_opening(&mut text, module, number as u32, repeated)?;
         print_part(alloc, &mut text, module, frames, &placements[number], &all)?;
     }
     Ok(text)
 }
 
-/// Returns a first text for a link: a part for each module, with a line `M` before each but the first. A part has a comment with the
-/// module's name; a line for each segment and each group at its place from `place_segments`, with the comments of `omf_layout`'s drafts;
-/// and for each external that sees no public of its name an `X` line in a comment, where its place is to be filled in, with its name and
-/// a communal's length. A local external sees the local publics of its module, any other the publics of all modules. Indices in `X` lines
-/// are hexadecimal, numbers in comments decimal.
+/// Returns a first text for a link. For each module it has a line `M` with the module's key; a line for each segment at its place from
+/// `place_segments`, with its class, alignment and length in a comment; a line for each group with its frame; and for each external that
+/// sees no public of its name an `X` line in a comment, where its place is to be filled in, with a communal's length. A local external
+/// sees the local publics of its module, any other the publics of all modules. Each line names its module or entry by a key of
+/// `omf_linking::locator::forms`: a name that no other has, else a segment's name and class, else its number.
 ///
 /// # Errors
 ///
@@ -67,8 +64,8 @@ pub fn link_draft(
 ) -> Result<String, LayoutFault>
     requires { length modules.now < 2 ^ 32 }
     ensures text { IsAnswer (drafted options (typed_modules modules.now)) (map_ok string_bytes result) }
-    // Read back, it gives each module, if there are any, its places from `place_segments`.
-    ensures read { IfOk result (λ text. (l : Laid (List Places)) → arranged_places options (typed_modules modules.now) ≡ Some l → 0 < length modules.now → IsReadBack (typed_modules modules.now) l.what (string_bytes text)) }
+    // Read back, it gives each module its places from `place_segments`.
+    ensures read { IfOk result (λ text. (l : Laid (List Places)) → arranged_places options (typed_modules modules.now) ≡ Some l → IsReadBack (typed_modules modules.now) l.what (string_bytes text)) }
 {
     let (placements, _free) = place_segments(alloc, modules, options)?;
     let text = text_of(alloc, modules, options.frames, &placements)?;

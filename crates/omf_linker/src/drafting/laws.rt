@@ -3,9 +3,9 @@
 ghost use Rattle.omf_linker.specs.Drafting.Fit.{LayoutsFit, PlacesFit};
 ghost use Rattle.omf_linker.specs.Drafting.Laws.{DraftsAreRead, DraftsFit, DraftsLieApart, DraftsLookAmongPublics};
 
-/// The draft of modules is a link's text: it has no faulty line, it has a part for each module and gives no external a place, and the
-/// parts give the modules the places of their segments and groups. The law assumes numbers short enough for a text: addresses and bases
-/// below 2^32, selectors below 2^16.
+/// The draft of modules is a link's text: it has no faulty line, it gives each module the places of its segments and groups, and no
+/// external a place. The law assumes numbers short enough for a text: addresses, bases, and the numbers of modules and entries below 2^32,
+/// selectors below 2^16.
 pub fn drafts_are_read()
     ensures { DraftsAreRead }
 {}

@@ -1,56 +1,192 @@
-//! The part of a module.
+//! The lines of a module.
 
-ghost use Rattle.std.specs.Prelude.{◌≡◌, ◌∷◌, [], All, Bool, List, ℕ, OnOk, IfOk, codes, decimal, flat_map, length, string_bytes, true, false, zip};
+ghost use Rattle.std.specs.Prelude.{◌≡◌, ◌<◌, ◌^◌, ◌∷◌, ◌++◌, [], All, Bool, List, ℕ, OnOk, IfOk, codes, decimal, flat_map, length, string_bytes, true, false, zip};
 ghost use Rattle.std.specs.List.{enumerate_from};
 ghost use Rattle.omf_frame.specs.Bytes.{AddsText};
-ghost use Rattle.omf_records.specs.Inner.Seen.{contents_seen};
 ghost use Rattle.omf_check.specs.Module.{recs_of};
-ghost use Rattle.omf_check.specs.Tables.{externals, groups, segments};
+ghost use Rattle.omf_check.specs.Tables.{externals, groups, names, segments};
 ghost use Rattle.omf_placement.specs.Derive.{named_externals};
-ghost use Rattle.omf_placement.specs.Quoted.{quoted};
+ghost use Rattle.omf_placement.specs.Placement.{real_frame};
+ghost use Rattle.omf_placement.specs.Quoted.{named};
+ghost use Rattle.omf_layout.specs.Draft.{alignment_text, is_same_frame};
 ghost use Rattle.omf_layout.specs.Reading.{IsShortFrame, IsShortPlace};
 ghost use Rattle.omf_layout.specs.Wants.{rooms};
+ghost use Rattle.omf_linking.specs.Inner.Forms.{AreKeys};
+ghost use Rattle.omf_linking.specs.Locator.KeyForms.{key_words, module_key_by};
+ghost use Rattle.omf_reloc.specs.declared.fault.Kind.TheVariants.{External as Externals, Segment as Segments};
 ghost use Rattle.omf_linker.specs.Drafting.Names.{IsNameTable, has_name, public_names};
-ghost use Rattle.omf_linker.specs.Drafting.Text.{external_text, group_lines, header_name, module_name, name_line, part_text, segment_lines, wanted_entry, wanted_line, wanted_lines};
+ghost use Rattle.omf_linker.specs.Drafting.Text.{external_by, full_place, group_line_by, group_lines, opening_by, part_text, place_text, segment_line, segment_line_by, segment_lines, wanted_line_by, wanted_lines};
 
 use crate::drafting::names::NameTable;
-use omf_check::{Checked, entry_of};
-use omf_frame::Name;
-use omf_layout::printing::{print_index, print_quoted, print_room};
+use omf_check::{Checked, SegInfo, entry_of};
+use omf_layout::printing::{print_name, print_quoted, print_room, print_segment_room};
 use omf_layout::wants::{alignments_of, rooms_of};
-use omf_layout::{Frames, print_groups, print_segments};
-use omf_placement::Placement;
-use omf_records::Rec;
+use omf_layout::{Alignment, Frames};
+use omf_linking::locator::forms::{KeyForm, Keys, print_key};
+use omf_linking::locator::module_name;
+use omf_placement::{Frame, Placed, Placement};
+use omf_reloc::Kind;
 use std::alloc::{AllocError, Global};
 use std::fmt::Write;
 
-/// Prints the name of a THEADR or an LHEADR in double quotes.
-fn print_header(text: &mut String, rec: &Rec<'_>) -> Result<(), AllocError>
-    ensures { AddsText result (string_bytes text.old) (string_bytes text.new) (quoted (header_name (contents_seen rec.now))) }
+/// Prints the key of the module with this number, from 0: its name, or its number from 1 if another module has the name.
+fn print_module_key(
+    text: &mut String,
+    module: &Checked,
+    number: u32,
+    repeated: bool,
+) -> Result<(), AllocError>
+    ensures { AddsText result (string_bytes text.old) (string_bytes text.new) (key_words (module_key_by repeated number (recs_of «module».now.bytes))) }
 {
-    let Rec::Header { name, .. } = rec else {
-        return print_quoted(text, &[]);
-    };
-    print_quoted(text, name.0)
-}
-
-/// Prints the name of a module in double quotes.
-fn print_module_name(text: &mut String, module: &Checked) -> Result<(), AllocError>
-    ensures { AddsText result (string_bytes text.old) (string_bytes text.new) (quoted (module_name (recs_of «module».now.bytes))) }
-{
-    match module.records().next() {
-        Some((_, rec)) => print_header(text, &rec),
-        None => print_quoted(text, &[]),
+    let one_more = u64::from(number) + 1;
+    if repeated {
+        write!(text, "#{one_more}")
+    } else {
+        print_quoted(text, module_name(module))
     }
 }
 
-/// Prints the comment with a module's name.
-fn print_name_line(text: &mut String, module: &Checked) -> Result<(), AllocError>
-    ensures { AddsText result (string_bytes text.old) (string_bytes text.new) (name_line (recs_of «module».now.bytes)) }
+/// Prints the line before the lines of a module.
+pub fn print_opening(
+    text: &mut String,
+    module: &Checked,
+    number: u32,
+    repeated: bool,
+) -> Result<(), AllocError>
+    ensures { AddsText result (string_bytes text.old) (string_bytes text.new) (opening_by repeated number (recs_of «module».now.bytes)) }
 {
-    text.push_str("; module ")?;
-    print_module_name(text, module)?;
+    text.push_str("M ")?;
+    print_module_key(text, module, number, repeated)?;
     text.push_str("\n")
+}
+
+/// Returns whether a segment has the real-mode frame of its address.
+fn is_in_paragraph(place: Placed) -> bool
+    ensures { result ≡ is_same_frame (real_frame place.address) place.frame }
+{
+    match Frame::real(place.address) {
+        Some(own) => own.base == place.frame.base && own.selector == place.frame.selector,
+        None => false,
+    }
+}
+
+/// Prints an address and a frame.
+fn print_full_place(text: &mut String, place: Placed) -> Result<(), AllocError>
+    ensures { AddsText result (string_bytes text.old) (string_bytes text.new) (full_place place) }
+{
+    let address = place.address;
+    let Frame { base, selector } = place.frame;
+    write!(text, "{address:X} {base:X} {selector:X}")
+}
+
+/// Prints the place of a segment.
+fn print_place(text: &mut String, frames: Frames, place: Placed) -> Result<(), AllocError>
+    ensures { AddsText result (string_bytes text.old) (string_bytes text.new) (place_text frames place) }
+{
+    let address = place.address;
+    match frames {
+        Frames::Real => {
+            if is_in_paragraph(place) {
+                write!(text, "{address:X} real")
+            } else {
+                print_full_place(text, place)
+            }
+        }
+        Frames::Flat { .. } => print_full_place(text, place),
+    }
+}
+
+/// A segment, and how it is named.
+#[derive(Clone, Copy)]
+struct SegmentLine {
+    /// The form of its key.
+    form: KeyForm,
+    /// Its index, from 1.
+    index: u16,
+    /// What its SEGDEF has.
+    segment: SegInfo,
+    /// Its alignment.
+    alignment: Alignment,
+    /// Its place.
+    place: Placed,
+}
+
+/// Prints the name of a segment's class in double quotes, or a dash for index 0.
+fn print_class(text: &mut String, module: &Checked, class: u16) -> Result<(), AllocError>
+    ensures { AddsText result (string_bytes text.old) (string_bytes text.new) (named (names (recs_of «module».now.bytes)) class) }
+{
+    print_name(text, module.name(class))
+}
+
+/// Prints a segment's comment: its class, its alignment and its length.
+fn print_segment_comment(
+    text: &mut String,
+    module: &Checked,
+    segment: SegInfo,
+    alignment: Alignment,
+) -> Result<(), AllocError>
+    ensures { AddsText result (string_bytes text.old) (string_bytes text.new) (codes " ; class " ++ named (names (recs_of «module».now.bytes)) segment.class ++ 32 ∷ alignment_text segment.absolute alignment ++ codes " length " ++ decimal segment.length ++ 10 ∷ []) }
+{
+    text.push_str(" ; class ")?;
+    print_class(text, module, segment.class)?;
+    print_segment_room(text, segment.absolute, alignment, segment.length)
+}
+
+/// Prints a segment's line.
+fn print_segment(
+    text: &mut String,
+    module: &Checked,
+    frames: Frames,
+    line: SegmentLine,
+) -> Result<(), AllocError>
+    ensures short { IsShortPlace line.place }
+    ensures line { AddsText result (string_bytes text.old) (string_bytes text.new) (segment_line_by frames (recs_of «module».now.bytes) line.form (line.index, ((line.segment, line.alignment), line.place))) }
+{
+    text.push_str("S ")?;
+    print_key(text, module, Kind::Segment, line.form, line.index)?;
+    text.push_str(" ")?;
+    print_place(text, frames, line.place)?;
+    print_segment_comment(text, module, line.segment, line.alignment)
+}
+
+/// Prints a line for each segment.
+fn print_segments(
+    text: &mut String,
+    module: &Checked,
+    frames: Frames,
+    keys: &Keys,
+    alignments: &[Alignment],
+    placement: &Placement,
+) -> Result<(), AllocError>
+    requires keys { AreKeys (recs_of «module».now.bytes) Segments keys.now.by_name.items keys.now.by_class.items }
+    requires aligned { length alignments.now ≡ length (segments (recs_of «module».now.bytes)) }
+    requires placed { length placement.now.segments ≡ length (segments (recs_of «module».now.bytes)) }
+    ensures few { OnOk result (length (segments (recs_of «module».now.bytes)) < 2 ^ 32) }
+    ensures short { OnOk result (All IsShortPlace placement.now.segments) }
+    ensures lines { AddsText result (string_bytes text.old) (string_bytes text.new) (flat_map (segment_line frames (recs_of «module».now.bytes)) (enumerate_from 1 (zip (zip (segments (recs_of «module».now.bytes)) alignments.now) placement.now.segments))) }
+{
+    for before in 0..module.segments() {
+        let index = before + 1;
+        let Some(segment) = module.segment(index) else {
+            unreachable!()
+        };
+        let Some(alignment) = entry_of(alignments, usize::from(index)) else {
+            unreachable!()
+        };
+        let Some(place) = placement.segment(usize::from(index)) else {
+            unreachable!()
+        };
+        let form = keys.form(index);
+        let line = SegmentLine {
+            form,
+            index,
+            segment,
+            alignment,
+            place,
+        };
+        print_segment(text, module, frames, line)?;
+    }
+    Ok(())
 }
 
 /// Prints a line for each segment.
@@ -62,46 +198,68 @@ fn print_segment_lines(
     placement: &Placement,
 ) -> Result<(), AllocError>
     requires { length placement.now.segments ≡ length (segments (recs_of «module».now.bytes)) }
+    ensures few { OnOk result (length (segments (recs_of «module».now.bytes)) < 2 ^ 32) }
     ensures short { OnOk result (All IsShortPlace placement.now.segments) }
     ensures lines { AddsText result (string_bytes text.old) (string_bytes text.new) (segment_lines frames (recs_of «module».now.bytes) placement.now.segments) }
 {
     let alignments = alignments_of(alloc, module)?;
-    print_segments(text, module, frames, &alignments, placement)
+    let keys = Keys::of(alloc, module, Kind::Segment)?;
+    print_segments(text, module, frames, &keys, &alignments, placement)
 }
 
-/// Prints a line for each group with its own frame: in a flat frame no entry is `G real`.
+/// Prints a group's line.
+fn print_group(
+    text: &mut String,
+    module: &Checked,
+    form: KeyForm,
+    index: u16,
+    frame: Frame,
+) -> Result<(), AllocError>
+    ensures short { IsShortFrame frame }
+    ensures line { AddsText result (string_bytes text.old) (string_bytes text.new) (group_line_by (recs_of «module».now.bytes) form index frame) }
+{
+    let Frame { base, selector } = frame;
+    text.push_str("G ")?;
+    print_key(text, module, Kind::Group, form, index)?;
+    write!(text, " {base:X} {selector:X}\n")
+}
+
+/// Prints a line for each group with its own frame.
 fn print_group_lines(
+    alloc: Global,
     text: &mut String,
     module: &Checked,
     placement: &Placement,
 ) -> Result<(), AllocError>
     requires { length placement.now.groups ≡ length (groups (recs_of «module».now.bytes)) }
+    ensures few { OnOk result (length (groups (recs_of «module».now.bytes)) < 2 ^ 32) }
     ensures short { OnOk result (All IsShortFrame placement.now.groups) }
     ensures lines { AddsText result (string_bytes text.old) (string_bytes text.new) (group_lines (recs_of «module».now.bytes) placement.now.groups) }
 {
-    let given = Frames::Flat { selector: 0 };
-    print_groups(text, module, given, placement)
-}
-
-/// Prints the entry of an external that is to be filled in.
-fn print_wanted_entry(text: &mut String, index: u16) -> Result<(), AllocError>
-    ensures { AddsText result (string_bytes text.old) (string_bytes text.new) (wanted_entry index) }
-{
-    write!(text, "; X {index:X} address base selector")
+    let keys = Keys::of(alloc, module, Kind::Group)?;
+    for before in 0..module.groups() {
+        let index = before + 1;
+        let Some(frame) = placement.group(usize::from(index)) else {
+            unreachable!()
+        };
+        print_group(text, module, keys.form(index), index, frame)?;
+    }
+    Ok(())
 }
 
 /// Prints the line of an external that is to be filled in.
 fn print_wanted(
     text: &mut String,
+    module: &Checked,
+    form: KeyForm,
     index: u16,
-    name: Name<'_>,
     room: Option<u64>,
 ) -> Result<(), AllocError>
-    ensures { AddsText result (string_bytes text.old) (string_bytes text.new) (wanted_line index name.entry room) }
+    ensures { AddsText result (string_bytes text.old) (string_bytes text.new) (wanted_line_by (recs_of «module».now.bytes) form index room) }
 {
-    print_wanted_entry(text, index)?;
-    print_index(text, index)?;
-    print_quoted(text, name.0)?;
+    text.push_str("; X ")?;
+    print_key(text, module, Kind::External, form, index)?;
+    text.push_str(" address base selector ;")?;
     print_room(text, room)
 }
 
@@ -113,22 +271,21 @@ fn is_public<'a>(all: &NameTable<'a>, own: &NameTable<'a>, name: &'a [u8], local
     if local { own.has(name) } else { all.has(name) }
 }
 
-/// Prints the line of an external that sees no public of its name.
-fn print_external<'a>(
+/// Prints the line of an external, unless it sees a public of its name.
+fn print_external(
     text: &mut String,
-    all: &NameTable<'a>,
-    own: &NameTable<'a>,
+    module: &Checked,
+    seen: bool,
+    form: KeyForm,
     index: u16,
-    name: Name<'a>,
-    local: bool,
     room: Option<u64>,
 ) -> Result<(), AllocError>
-    ensures { (among : Bool → List (List ℕ)) → IsNameTable all.now.names (among false) → IsNameTable own.now.names (among true) → AddsText result (string_bytes text.old) (string_bytes text.new) (external_text among (index, ((name.entry, local), room))) }
+    ensures { AddsText result (string_bytes text.old) (string_bytes text.new) (external_by seen (recs_of «module».now.bytes) form index room) }
 {
-    if is_public(all, own, name.0, local) {
+    if seen {
         return Ok(());
     }
-    print_wanted(text, index, name, room)
+    print_wanted(text, module, form, index, room)
 }
 
 /// Prints a line for each external that sees no public of its name; `asked` has the lengths of the communals.
@@ -137,8 +294,10 @@ fn print_wanted_lines<'a>(
     module: &'a Checked,
     all: &NameTable<'a>,
     own: &NameTable<'a>,
+    keys: &Keys,
     asked: &[Option<u64>],
 ) -> Result<(), AllocError>
+    requires keys { AreKeys (recs_of «module».now.bytes) Externals keys.now.by_name.items keys.now.by_class.items }
     requires asked { asked.now ≡ rooms (recs_of «module».now.bytes) }
     requires as_many { length asked.now ≡ length (externals (recs_of «module».now.bytes)) }
     ensures { (among : Bool → List (List ℕ)) → IsNameTable all.now.names (among false) → IsNameTable own.now.names (among true) → AddsText result (string_bytes text.old) (string_bytes text.new) (wanted_lines among (recs_of «module».entry.now.bytes)) }
@@ -152,12 +311,29 @@ fn print_wanted_lines<'a>(
             unreachable!()
         };
         let local = module.local(index).unwrap_or(false);
-        print_external(text, all, own, index, name, local, room)?;
+        let seen = is_public(all, own, name.0, local);
+        let form = keys.form(index);
+        print_external(text, module, seen, form, index, room)?;
     }
     Ok(())
 }
 
-/// Adds the part of a module at this placement; `all` has the names of the publics of all modules.
+/// Prints a line for each external of a module that sees no public of its name; `all` has the names of the publics of all modules.
+fn print_wanted_part<'a>(
+    alloc: Global,
+    text: &mut String,
+    module: &'a Checked,
+    all: &NameTable<'a>,
+) -> Result<(), AllocError>
+    ensures { (among : Bool → List (List ℕ)) → IsNameTable all.now.names (among false) → among true ≡ public_names true (recs_of «module».entry.now.bytes) → AddsText result (string_bytes text.old) (string_bytes text.new) (wanted_lines among (recs_of «module».entry.now.bytes)) }
+{
+    let rooms = rooms_of(alloc, module)?;
+    let own = NameTable::of_locals(alloc, module)?;
+    let keys = Keys::of(alloc, module, Kind::External)?;
+    print_wanted_lines(text, module, all, &own, &keys, &rooms)
+}
+
+/// Adds the lines of a module at this placement, after that which begins them; `all` has the names of the publics of all modules.
 pub fn print_part<'a>(
     alloc: Global,
     text: &mut String,
@@ -168,14 +344,13 @@ pub fn print_part<'a>(
 ) -> Result<(), AllocError>
     requires segments { length placement.now.segments ≡ length (segments (recs_of «module».now.bytes)) }
     requires groups { length placement.now.groups ≡ length (groups (recs_of «module».now.bytes)) }
+    ensures few_segments { OnOk result (length (segments (recs_of «module».now.bytes)) < 2 ^ 32) }
+    ensures few_groups { OnOk result (length (groups (recs_of «module».now.bytes)) < 2 ^ 32) }
     ensures segments { OnOk result (All IsShortPlace placement.now.segments) }
     ensures groups { OnOk result (All IsShortFrame placement.now.groups) }
     ensures text { (among : Bool → List (List ℕ)) → IsNameTable all.now.names (among false) → among true ≡ public_names true (recs_of «module».entry.now.bytes) → AddsText result (string_bytes text.old) (string_bytes text.new) (part_text frames among (recs_of «module».entry.now.bytes) placement.now) }
 {
-    let rooms = rooms_of(alloc, module)?;
-    let own = NameTable::of_locals(alloc, module)?;
-    print_name_line(text, module)?;
     print_segment_lines(alloc, text, module, frames, placement)?;
-    print_group_lines(text, module, placement)?;
-    print_wanted_lines(text, module, all, &own, &rooms)
+    print_group_lines(alloc, text, module, placement)?;
+    print_wanted_part(alloc, text, module, all)
 }

@@ -75,7 +75,7 @@ impl Fault for FilesFault {
                 LinkFault::Refused { .. } => 1,
                 LinkFault::NoText(_) => 1,
                 LinkFault::NoModules => 1,
-                LinkFault::Line(_) => 1,
+                LinkFault::Line { .. } => 1,
                 LinkFault::External(_) => 1,
                 LinkFault::Reach { .. } => 1,
                 LinkFault::Starts { .. } => 1,

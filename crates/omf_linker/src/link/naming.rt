@@ -43,7 +43,7 @@ fn name_of(modules: &[Checked], fault: LinkFault) -> &[u8]
         LinkFault::Refused { .. } => &[],
         LinkFault::NoText(_) => &[],
         LinkFault::NoModules => &[],
-        LinkFault::Line(_) => &[],
+        LinkFault::Line { .. } => &[],
         LinkFault::Reach { .. } => &[],
         LinkFault::Starts { .. } => &[],
         LinkFault::Space(_) => &[],

@@ -6,8 +6,8 @@ ghost use Rattle.omf_cmd.specs.Printed.{line, spaced};
 ghost use Rattle.omf_cmd.specs.Runs.{IsWritten, PrintsOr};
 ghost use Rattle.omf_cmd.specs.declared.fault.RunFault.TheVariants.{Write};
 ghost use Rattle.omf_placement.specs.Quoted.{hex};
-ghost use Rattle.omf_linker.specs.Link.Faults.{derive_words, external_words, input_at, link_words, module_words, outside_words, owner_words, space_words};
-ghost use Rattle.omf_linking.specs.declared.fault.LinkFault.TheVariants.{NoText, Starts};
+ghost use Rattle.omf_linker.specs.Link.Faults.{derive_words, external_words, input_at, link_words, module_words, outside_words, owner_words, space_words, text_line, why_text};
+ghost use Rattle.omf_linking.specs.declared.fault.LinkFault.TheVariants.{Line, NoText, Starts};
 ghost use Rattle.omf_linking.specs.declared.space.fault.MemoryFault.TheVariants.{Beyond, Overlap};
 
 use itoa::Buffer;
@@ -16,6 +16,7 @@ use omf_cmd::{
 };
 use omf_frame::Sink;
 use omf_linking::LinkFault;
+use omf_linking::locator::LineFault;
 use omf_linking::space::{MemoryFault, Owner};
 use omf_reloc::DeriveFault;
 
@@ -108,6 +109,37 @@ fn print_no_text<K: Sink>(writer: &mut K, at: u64)
     }
 }
 
+/// Writes the front of the line of a text's line that does not fit: its number.
+fn write_text_line<K: Sink>(writer: &mut K, number: u64) -> Result<(), RunFault>
+    ensures { PrintsOr Write (K.seen writer.old) (K.seen writer.new) (Ok (text_line number)) result }
+{
+    let mut digits = Buffer::new();
+    print_all(writer, b"text line ", RunFault::Write)?;
+    print_all(writer, digits.format(number).as_bytes(), RunFault::Write)
+}
+
+/// Returns the end of the line of a text's line that does not fit: why it does not.
+fn why_text(why: LineFault) -> &'static str
+    ensures { result.now ≡ why_text why }
+{
+    match why {
+        LineFault::NotUnderstood => ": not understood",
+        LineFault::NoModule => ": no M line before it",
+        LineFault::Unknown => ": names nothing",
+        LineFault::Several => ": names more than one",
+        LineFault::Twice => ": a second line for the same",
+    }
+}
+
+/// Prints the line of a text's line that does not fit.
+fn print_text_line<K: Sink>(writer: &mut K, number: u64, why: LineFault)
+    ensures { IsWritten (K.seen writer.old) (K.seen writer.new) (line (link_words (Line number why) [])) }
+{
+    if let Ok(()) = write_text_line(writer, number) {
+        print_words(writer, &[why_text(why)]);
+    }
+}
+
 /// Prints the line of two modules that both have a start address.
 fn print_starts<K: Sink>(writer: &mut K, first: u32, second: u32)
     ensures { IsWritten (K.seen writer.old) (K.seen writer.new) (line (link_words (Starts first second) [])) }
@@ -196,7 +228,7 @@ pub fn print_link<K: Sink>(writer: &mut K, fault: LinkFault, name: &[u8])
         } => print_in_module(writer, module, &RunFault::Refused { reason, place }),
         LinkFault::NoText(at) => print_no_text(writer, at),
         LinkFault::NoModules => print_words(writer, &["no modules"]),
-        LinkFault::Line(number) => RunFault::Line(number).print(writer),
+        LinkFault::Line { line, why } => print_text_line(writer, line, why),
         LinkFault::External(fault) => print_derive(writer, fault, name),
         LinkFault::Reach { module, fault } => {
             print_in_module(writer, module, &RunFault::Reach(fault));

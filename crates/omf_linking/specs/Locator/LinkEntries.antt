@@ -1,5 +1,5 @@
 -- The entry of a line of a locator's text (this profile's rule): a letter, a key, and a place or a frame.
-use Rattle.std.specs.Prelude.{ℕ, List, [], ◌∷◌, length, map, Bool, ◌==◌, ◌&&◌, ◌||◌, nat_le, nat_lt, Option, Some, None, option_map, option_and_then, codes, if◌then◌else◌, bytes_eq}
+use Rattle.std.specs.Prelude.{ℕ, List, [], ◌∷◌, length, map, Bool, ◌==◌, ◌&&◌, ◌||◌, ◌^◌, nat_le, nat_lt, Option, Some, None, option_map, option_and_then, codes, if◌then◌else◌, bytes_eq}
 use Rattle.std.specs.List.{list_all, list_any, slice_split}
 use Rattle.std.specs.Char.{is_digit}
 use Rattle.std.specs.Str.Parse.{digits_value}
@@ -55,9 +55,12 @@ entry_by letter k ws =
     else if bytes_eq letter (codes "X") then option_map (λ p. Gives k (ExternalPlace p)) (place_in ws)
     else None
 
--- A number: `#` and 1 to 9 decimal digits.
+-- A number: `#` and 1 to 10 decimal digits. It is below 2^32.
+abbrev pub if_short : ℕ → Option ℕ
+if_short n = if nat_lt n (2 ^ 32) then Some n else None
+
 abbrev pub decimal_of : List ℕ → Option ℕ
-decimal_of cs = if nat_lt 0 (length cs) && (nat_le (length cs) 9 && list_all (λ c. is_digit c 10) cs) then Some (digits_value 10 cs) else None
+decimal_of cs = if nat_lt 0 (length cs) && (nat_le (length cs) 10 && list_all (λ c. is_digit c 10) cs) then if_short (digits_value 10 cs) else None
 
 abbrev pub number_of : List ℕ → Option ℕ
 number_of [] = None

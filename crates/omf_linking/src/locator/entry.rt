@@ -3,7 +3,7 @@
 ghost use Rattle.std.specs.Prelude.{◌≡◌, ◌∷◌, ◌==◌, ◌<◌, [], option_map, length, IfSome};
 ghost use Rattle.std.specs.List.{list_all, list_any, slice_split};
 ghost use Rattle.omf_placement.specs.Inner.EntryReading.{frame_of, real_of, words_of};
-ghost use Rattle.omf_linking.specs.Locator.LinkEntries.{class_after, classed_entry, decimal_of, entry_by, entry_of_parts, frame_in, has_comment, is_printed, link_entry_on, name_entry, named_entry, number_of, numbered_entry, opens, place_in, unnamed_entry, words_in};
+ghost use Rattle.omf_linking.specs.Locator.LinkEntries.{class_after, classed_entry, decimal_of, entry_by, entry_of_parts, frame_in, has_comment, if_short, is_printed, link_entry_on, name_entry, named_entry, number_of, numbered_entry, opens, place_in, unnamed_entry, words_in};
 ghost use Rattle.omf_linking.specs.Inner.LineParsing.{key_seen, seen, target_seen, words_left};
 
 use omf_placement::cut::cut;
@@ -42,20 +42,31 @@ pub enum LinkEntry<'a> {
     Gives(Key<'a>, Target),
 }
 
-/// Parses a number of 1 to 9 decimal digits.
+/// Returns a number as 32 bits, if it is below 2^32.
+fn if_short(number: u64) -> Option<u32>
+    ensures { result ≡ if_short number }
+{
+    if number < 0x1_0000_0000 {
+        Some(number as u32)
+    } else {
+        None
+    }
+}
+
+/// Parses a number of 1 to 10 decimal digits below 2^32.
 fn decimal_of(word: &[u8]) -> Option<u32>
     ensures { result ≡ decimal_of word.now }
 {
-    if word.is_empty() || word.len() > 9 {
+    if word.is_empty() || word.len() > 10 {
         return None;
     }
-    let mut value = 0u32;
+    let mut value = 0u64;
     let mut left = word;
     while let Some((digit, rest)) = left.split_first() {
-        value = value * 10 + char::from(*digit).to_digit(10)?;
+        value = value * 10 + u64::from(char::from(*digit).to_digit(10)?);
         left = rest;
     }
-    Some(value)
+    if_short(value)
 }
 
 /// Parses `#` and a decimal number.

@@ -23,13 +23,14 @@ pub fn lines_of_a_link()
     ensures nothing { link_entry_on (codes "; S \"a\"") ≡ Some Blank }
 {}
 
-/// Lines that are no entry: an open name, a number with other characters, a hexadecimal or a long number, a word too many or too few, a placement
+/// Lines that are no entry: an open name, a number with other characters, a hexadecimal, a large or a long number, a word too many or too few, a placement
 /// text's line, and a name with a control character.
 pub fn lines_that_are_none()
     ensures open { link_entry_on (codes "M \"a") ≡ None }
     ensures joined { link_entry_on (codes "S #37C00 real") ≡ None }
     ensures hexadecimal { link_entry_on (codes "M #A") ≡ None }
-    ensures long { link_entry_on (codes "M #1234567890") ≡ None }
+    ensures large { link_entry_on (codes "M #4294967296") ≡ None }
+    ensures long { link_entry_on (codes "M #00000000001") ≡ None }
     ensures more { link_entry_on (codes "M #1 0") ≡ None }
     ensures less { link_entry_on (codes "S \"a\" 7C00") ≡ None }
     ensures between { link_entry_on (codes "S \"a\" 7C00 \"b\" real") ≡ None }

@@ -45,7 +45,7 @@ static CASES: [Case; 6] = [
     Case {
         name: "one public",
         modules: &[CALLER, CALLEE],
-        text: "S 10020 10000 1000\nM\nS 20040 20000 2000",
+        text: "M #1\nS #1 10020 10000 1000\nM #2\nS #1 20040 20000 2000",
         answer: Some(Ok(Placed {
             address: 0x20042,
             frame: Frame {
@@ -57,13 +57,13 @@ static CASES: [Case; 6] = [
     Case {
         name: "two publics",
         modules: &[CALLER, CALLEE, CALLEE],
-        text: "S 10020 10000 1000\nM\nS 20040 20000 2000\nM\nS 20040 20000 2000",
+        text: "M #1\nS #1 10020 10000 1000\nM #2\nS #1 20040 20000 2000\nM #3\nS #1 20040 20000 2000",
         answer: TWICE,
     },
     Case {
         name: "a given place",
         modules: &[CALLER, CALLEE, CALLEE],
-        text: "S 10020 10000 1000\nX 1 30000 30000 3000\nM\nS 20040 20000 2000\nM\nS 20040 20000 2000",
+        text: "M #1\nS #1 10020 10000 1000\nX #1 30000 30000 3000\nM #2\nS #1 20040 20000 2000\nM #3\nS #1 20040 20000 2000",
         answer: Some(Ok(Placed {
             address: 0x30000,
             frame: Frame {
@@ -75,7 +75,7 @@ static CASES: [Case; 6] = [
     Case {
         name: "a public in a group",
         modules: &[CALLER, [GROUP, "90 08 00 01 01 01 58 02 00 00 0B", ""]],
-        text: "S 10020 10000 1000\nM\nS 20040 20000 2000\nG 20010 2001",
+        text: "M #1\nS #1 10020 10000 1000\nM #2\nS #1 20040 20000 2000\nG #1 20010 2001",
         answer: Some(Ok(Placed {
             address: 0x20042,
             frame: Frame {
@@ -87,7 +87,7 @@ static CASES: [Case; 6] = [
     Case {
         name: "a local external and a local public",
         modules: &[LOCAL, CALLEE],
-        text: "S 10020 10000 1000\nM\nS 20040 20000 2000",
+        text: "M #1\nS #1 10020 10000 1000\nM #2\nS #1 20040 20000 2000",
         answer: Some(Ok(Placed {
             address: 0x10023,
             frame: Frame {

@@ -26,7 +26,7 @@ const LINKED: &[&str] = &[
 ];
 
 /// Their segments side by side, the second before the first.
-const TEXT: &[u8] = b"S 10002 10000 1000\nM\nS 10000 10000 1000\n";
+const TEXT: &[u8] = b"M #1\nS #1 10002 10000 1000\nM #2\nS #1 10000 10000 1000\n";
 
 /// The bytes of the modules, and then the text.
 fn input_of(alloc: Global) -> Result<Vec<u8>, BadHex> {

@@ -36,11 +36,11 @@ const FLAT: Options = Options {
 };
 
 const DRAFT: &str =
-    "; module \"M\"\nS 401000 0 8 ; 1 \"A\" class \"A\" align 1 length 5\nG 0 8 ; 1 \"B\"\n\
-     ; X 2 address base selector ; 2 \"Y\" to be filled in\n\
-     ; X 3 address base selector ; 3 \"Z\" communal length 7\n\
-     M\n; module \"N\"\nS 401005 0 8 ; 1 \"A\" class \"A\" align 1 length 4\n\
-     ; X 1 address base selector ; 1 \"X\" to be filled in\n";
+    "M \"M\"\nS \"A\" 401000 0 8 ; class \"A\" align 1 length 5\nG \"B\" 0 8\n\
+     ; X \"Y\" address base selector ; to be filled in\n\
+     ; X \"Z\" address base selector ; communal length 7\n\
+     M \"N\"\nS \"A\" 401005 0 8 ; class \"A\" align 1 length 4\n\
+     ; X \"X\" address base selector ; to be filled in\n";
 
 /// Whether modules have the draft, or a growth is refused.
 fn is_drafted(alloc: Global, modules: &[Checked]) -> bool {

@@ -32,37 +32,37 @@ struct Case {
 static CASES: [Case; 6] = [
     Case {
         files: &[("a.obj", PADDED), ("b.obj", MODULE)],
-        text: "S 7C00 0 0\nM\nS 7C02 0 0",
+        text: "M #1\nS #1 7C00 0 0\nM #2\nS #1 7C02 0 0",
         status: 0,
         printed: "00007C00: CC DD CC DD\n",
     },
     Case {
         files: &[("a.obj", MODULE), ("old lib", "F00D00")],
-        text: "S 7C00 0 0",
+        text: "M #1\nS #1 7C00 0 0",
         status: 1,
         printed: "file \"old lib\" module 1 refused 4 UnsupportedType record 0 at 0 within 0\n",
     },
     Case {
         files: &[("b\u{1B}[2J", FOLLOWED), ("a.obj", MODULE)],
-        text: "S 7C00 0 0\nM\nS 7C02 0 0",
+        text: "M #1\nS #1 7C00 0 0\nM #2\nS #1 7C02 0 0",
         status: 1,
         printed: "file \"b\\x1B[2J\" at 39: neither a module nor padding\n",
     },
     Case {
         files: &[("a.obj", WITH_TEXT)],
-        text: "S 7C00 0 0",
+        text: "M #1\nS #1 7C00 0 0",
         status: 1,
         printed: "file \"a.obj\" at 37: neither a module nor padding\n",
     },
     Case {
         files: &[("a.obj", MODULE), ("empty.obj", "")],
-        text: "S 7C00 0 0",
+        text: "M #1\nS #1 7C00 0 0",
         status: 1,
         printed: "file \"empty.obj\" module 1 refused 1 NoEnd record 0 at 0 within 0\n",
     },
     Case {
         files: &[("a.obj", MODULE), ("b.obj", MODULE)],
-        text: "S 7C00 0 0",
+        text: "M #1\nS #1 7C00 0 0",
         status: 1,
         printed: "module 2 reach 1 Missing segment 1\n",
     },

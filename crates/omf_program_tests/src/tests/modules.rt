@@ -180,7 +180,7 @@ static PAIR: Plan = Plan {
         PUBLIC,
         END,
     ],
-    placement: "S 10020 10000 1000\nM\nS 20040 20000 2000\n",
+    placement: "M #1\nS #1 10020 10000 1000\nM #2\nS #1 20040 20000 2000\n",
     canonical: &[],
     images: &[],
     start: None,

@@ -89,7 +89,7 @@ fn modules_that_differ_in_encodings_have_one_key(rt: HostRuntime) {
 const CALLER: &[&str] = &[HEADER, NAMES, SEGMENT, EXTERNAL, END];
 
 /// The addresses of two modules: a segment of each, in the frame at 10000H.
-const ADDRESSES: &[u8] = b"S 10020 10000 1000\nM\nS 10100 10000 1000\n";
+const ADDRESSES: &[u8] = b"M #1\nS #1 10020 10000 1000\nM #2\nS #1 10100 10000 1000\n";
 
 const UNDEFINED: LinkFault = LinkFault::External(DeriveFault::Undefined {
     module: 0,

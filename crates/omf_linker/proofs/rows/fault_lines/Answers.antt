@@ -49,3 +49,19 @@ returns-clause-beyond c = refl
 pub returns-clause-overlap : goal.returns-clause-overlap
 unfolding digits
 returns-clause-overlap c = refl
+
+pub returns-clause-before : goal.returns-clause-before
+unfolding digits
+returns-clause-before c = refl
+
+pub returns-clause-unknown : goal.returns-clause-unknown
+unfolding digits
+returns-clause-unknown c = refl
+
+pub returns-clause-several : goal.returns-clause-several
+unfolding digits
+returns-clause-several c = refl
+
+pub returns-clause-again : goal.returns-clause-again
+unfolding digits
+returns-clause-again c = refl

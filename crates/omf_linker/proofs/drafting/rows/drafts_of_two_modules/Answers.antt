@@ -9,3 +9,7 @@ returns-clause-flat c = refl
 pub returns-clause-real : goal.returns-clause-real
 unfolding digits
 returns-clause-real c = refl
+
+pub returns-clause-keys : goal.returns-clause-keys
+unfolding digits
+returns-clause-keys c = refl

@@ -15,7 +15,7 @@ pub returns-in-Read : goal.returns-in-Read
 returns-in-Read g c = rw c.in-Read.is c.print-in-Read.ensures
 
 pub returns-in-Line : goal.returns-in-Line
-returns-in-Line g c = rw c.in-Line.is c.print-in-Line.ensures
+returns-in-Line g c = rw c.in-Line.is c.print_text_line.ensures
 
 pub returns-in-Starts : goal.returns-in-Starts
 returns-in-Starts g c = rw c.in-Starts.is c.print_starts.ensures

@@ -1,14 +1,11 @@
-use Rattle.std.proofs.Common.{arith}
-use Rattle.std.proofs.lemmas.List.{length-map}
-use Rattle.omf_check.specs.Module.{Module, records_in, typed_modules}
-use Rattle.omf_check.specs.WellFormed.{recs}
+use Rattle.omf_check.specs.Module.{typed_modules}
 use Rattle.omf_linker.proofs.LinkRuns.{no_memory}
 use Rattle.omf_linker.proofs.link.running.draft_shown.Goals as goal
 
 pub returns-in-Ok : goal.returns-in-Ok
 returns-in-Ok c = rw c.into_bytes.ensures.value (record {
   text_is = c.in-Ok.ensures.text;
-  read = λ l placed some. c.in-Ok.ensures.read l placed (omega (arith, some, length-map c.args.modules.now (λ (m : Module). recs (records_in m.bytes))));
+  read = c.in-Ok.ensures.read;
 })
 
 pub returns-in-Err-NoRoom : goal.returns-in-Err-NoRoom

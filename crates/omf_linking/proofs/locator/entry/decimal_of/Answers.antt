@@ -1,4 +1,4 @@
-use Rattle.std.proofs.Common.{◌<◌, length, rules, arith}
+use Rattle.std.proofs.Common.{◌≡◌, ◌<◌, ◌∙◌, length, rules, arith}
 use Rattle.omf_linking.proofs.DecimalLaws.{some_power, digit_fits, still_below, next_value, next_digits}
 use Rattle.omf_linking.proofs.locator.entry.decimal_of.Goals as goal
 
@@ -11,16 +11,23 @@ loop-digit-init c = record {
 }
 
 pub overflow_mul-value : goal.overflow_mul-value
-overflow_mul-value c = omega (arith, digit_fits c.loop-digit.value 0 9 (length c.loop-digit.left.now) c.loop-digit.invariant.bound (omega arith) (omega (arith, c.in-Some.ensures.cases.1)) c.loop-digit.invariant.short (omega arith))
+overflow_mul-value c = omega (arith, digit_fits c.loop-digit.value 0 10 (length c.loop-digit.left.now) c.loop-digit.invariant.bound (omega arith) (omega (arith, c.in-Some.ensures.cases.1)) c.loop-digit.invariant.short (omega arith))
 
 pub overflow_add-value : goal.overflow_add-value
-overflow_add-value c = let told = c.in_ok-value.ensures.value in let d : c.in_ok-value.field-0 < 10 = omega (arith, told.0, told.1) in
-    omega (arith, digit_fits c.loop-digit.value c.in_ok-value.field-0 9 (length c.loop-digit.left.now) c.loop-digit.invariant.bound d (omega (arith, c.in-Some.ensures.cases.1)) c.loop-digit.invariant.short (omega arith))
+overflow_add-value c =
+    let told = c.in_ok-to_digit.ensures.value in
+    let same : c.from-in-Some.result ≡ c.in_ok-to_digit.field-0 = search rules in
+    let d : c.from-in-Some.result < 10 = omega (arith, told.0, told.1, same) in
+    omega (arith, same, digit_fits c.loop-digit.value c.from-in-Some.result 10 (length c.loop-digit.left.now) c.loop-digit.invariant.bound d (omega (arith, c.in-Some.ensures.cases.1)) c.loop-digit.invariant.short (omega arith))
 
 pub loop-digit-preserved : goal.loop-digit-preserved
-loop-digit-preserved c = let told = c.in_ok-value.ensures.value in let d : c.in_ok-value.field-0 < 10 = omega (arith, told.0, told.1) in record {
-  value = next_value _ _ _ _ _ _ _ c.in-Some.ensures.cases.0 c.from.ensures told.1 c.loop-digit.invariant.value;
-  digits = next_digits _ _ _ _ _ c.in-Some.ensures.cases.0 c.from.ensures told.0 c.loop-digit.invariant.digits;
-  bound = still_below c.loop-digit.value c.in_ok-value.field-0 9 (length c.loop-digit.left.now) (length c.in-Some.rest.now) c.loop-digit.invariant.bound d c.in-Some.ensures.cases.1 c.loop-digit.invariant.short;
-  short = omega (arith, c.in-Some.ensures.cases.1, c.loop-digit.invariant.short);
-}
+loop-digit-preserved c =
+    let told = c.in_ok-to_digit.ensures.value in
+    let same : c.from-in-Some.result ≡ c.in_ok-to_digit.field-0 = search rules in
+    let d : c.from-in-Some.result < 10 = omega (arith, told.0, told.1, same) in
+    record {
+      value = next_value _ _ _ _ _ _ _ c.in-Some.ensures.cases.0 c.from.ensures (same ∙ told.1) c.loop-digit.invariant.value;
+      digits = next_digits _ _ _ _ _ c.in-Some.ensures.cases.0 c.from.ensures told.0 c.loop-digit.invariant.digits;
+      bound = still_below c.loop-digit.value c.from-in-Some.result 10 (length c.loop-digit.left.now) (length c.in-Some.rest.now) c.loop-digit.invariant.bound d c.in-Some.ensures.cases.1 c.loop-digit.invariant.short;
+      short = omega (arith, c.in-Some.ensures.cases.1, c.loop-digit.invariant.short);
+    }

@@ -9,8 +9,8 @@ abbrev pub invariant-loop-digit : goal.invariant-loop-digit
 invariant-loop-digit l = record {
   value : digits_value_after 10 l.value l.left ≡ digits_value 10 l.word;
   digits : list_all (λ c. is_digit c 10) l.left ≡ list_all (λ c. is_digit c 10) l.word;
-  bound : l.value < 10 ^ (9 - length l.left);
-  short : length l.left ≤ 9;
+  bound : l.value < 10 ^ (10 - length l.left);
+  short : length l.left ≤ 10;
 }
 
 abbrev pub decreases-loop-digit : goal.decreases-loop-digit

@@ -1,4 +1,4 @@
-use Rattle.std.proofs.Common.{◌≡◌, ◌+◌, ◌<◌, ◌∷◌, [], ◌++◌, ◌∙◌, ap, ap₂, refl, arith, rules, not, ◌&&◌, length, get_or}
+use Rattle.std.proofs.Common.{◌≡◌, ◌+◌, ◌∙◌, ap, ap₂, arith, rules, not, ◌&&◌, get_or}
 use Rattle.std.specs.Prelude.{map, string_bytes}
 use Rattle.std.specs.List.{range_with_len}
 use Rattle.omf_check.specs.Module.{records_in}

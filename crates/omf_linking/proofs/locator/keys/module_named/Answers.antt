@@ -1,4 +1,4 @@
-use Rattle.std.proofs.Common.{◌≡◌, ◌<◌, ℕ, length, sym, subst, ◌∙◌}
+use Rattle.std.proofs.Common.{◌<◌, ℕ, length, sym, subst, ◌∙◌}
 use Rattle.std.proofs.lemmas.List.{length-map}
 use Rattle.omf_check.specs.Module.{Module, records_in, typed_modules}
 use Rattle.omf_check.specs.WellFormed.{recs}

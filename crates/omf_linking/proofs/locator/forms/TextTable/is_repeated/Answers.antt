@@ -1,5 +1,4 @@
-use Rattle.std.proofs.Common.{◌∙◌, ap, false, rules}
-use Rattle.std.specs.Prelude.{unwrap_or}
+use Rattle.std.proofs.Common.{◌∙◌, rules}
 use Rattle.omf_linking.proofs.KeyLaws.{kept-repeated}
 use Rattle.omf_linking.proofs.locator.forms.TextTable.is_repeated.Goals as goal
 

@@ -1,4 +1,4 @@
-use Rattle.std.proofs.Common.{◌+◌, ◌∷◌, [], ◌∙◌, drop, subst}
+use Rattle.std.proofs.Common.{◌+◌, ◌∷◌, [], drop, subst}
 use Rattle.std.specs.Prelude.{map, string_bytes}
 use Rattle.omf_linking.specs.Locator.KeyForms.{IsTextTable}
 use Rattle.omf_placement.proofs.Filling.{Adds, fill-more, fill-end}

@@ -1,15 +1,14 @@
-use Rattle.std.proofs.Common.{◌≡◌, ◌≤◌, ◌++◌, ◌-◌, ◌∷◌, [], ◌∙◌, List, ℕ, Bool, length, vec_len, get_or, refl, sym, ap, subst, arith, rules}
-use Rattle.std.specs.Prelude.{Some, Ok, Err, slice_get, true, false}
-use Rattle.std.specs.List.{list_any}
+use Rattle.std.proofs.Common.{◌≡◌, ◌≤◌, ◌-◌, ◌∙◌, List, ℕ, length, vec_len, get_or, refl, sym, ap, subst, arith, rules}
+use Rattle.std.specs.Prelude.{Some, Ok, Err, slice_get}
 use Rattle.omf_check.specs.Module.{records_in, typed_modules}
 use Rattle.omf_check.specs.WellFormed.{recs}
 use Rattle.omf_linking.specs.Inner.LineParsing.{key_seen, target_seen}
-use Rattle.omf_linking.specs.Locator.Items.{Nothing, Opened, Given, current, kind_of, opened}
+use Rattle.omf_linking.specs.Locator.Items.{Given, current, kind_of}
 use Rattle.omf_linking.specs.Locator.Keys.{entry_named}
 use Rattle.omf_linking.specs.declared.locator.fault.LineFault.TheVariants as why
 use Rattle.omf_linking.proofs.EachLaws.{typed_length}
 use Rattle.omf_linking.proofs.NamingLaws.{next_module}
-use Rattle.omf_linking.proofs.WalkLaws.{as_many_lines, current_is, fault_taken, gives_again, gives_far, gives_first, gives_none, more_given, more_nothing, more_opened, named_within, not_given, now_given, opens_again, opens_first, own_tables}
+use Rattle.omf_linking.proofs.WalkLaws.{as_many_lines, current_is, fault_taken, gives_again, gives_far, gives_first, gives_none, more_given, named_within, not_given, now_given, own_tables}
 use Rattle.omf_linking.proofs.locator.lines.Lines.add.Goals as goal
 
 pub returns-then-at-modules : goal.returns-then-at-modules

@@ -1,9 +1,7 @@
-use Rattle.std.proofs.Common.{◌≡◌, [], ap, ◌∙◌, ℕ, List}
-use Rattle.std.specs.Prelude.{None, Option, replicate}
+use Rattle.std.proofs.Common.{ap, ◌∙◌, ℕ}
+use Rattle.std.specs.Prelude.{None, replicate}
 use Rattle.omf_check.specs.Module.{records_in}
 use Rattle.omf_check.specs.WellFormed.{recs}
-use Rattle.omf_placement.specs.declared.frame.Frame.{Frame}
-use Rattle.omf_placement.specs.declared.frame.Placed.{Placed}
 use Rattle.omf_linking.proofs.SparseLaws.{nothing_given}
 use Rattle.omf_linking.proofs.locator.sparse.Sparse.of.Goals as goal
 
