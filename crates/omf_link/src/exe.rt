@@ -7,9 +7,6 @@ use omf_linker::exe::exe_of_files;
 use omf_linker::host::write_or_tell;
 use std::alloc::AllocError;
 
-/// How the task is called.
-pub const USAGE: &[u8] = b"usage: omf-link exe -o FILE FILE ..\n";
-
 /// The line of a program without a stack.
 const NO_STACK: &[u8] = b"no stack: SS:SP is 0:0 from the load address\n";
 

@@ -134,7 +134,7 @@ fn act<K: Sink>(rt: &HostRuntime, writer: &mut K) -> Result<Status, AllocError> 
     if let Some(asked) = sorted(rt.alloc(), &words, 2)? {
         match call_of(&asked) {
             Call::Other => {}
-            Call::Misused => return Ok(misused(writer, exe::USAGE)),
+            Call::Misused => return Ok(misused(writer, Link::usage())),
             Call::Exe(output) => return exe::on_files(rt, asked.files.as_slice(), output, writer),
         }
         let on_input_alone = is_on_input(&asked);

@@ -1,5 +1,5 @@
 -- The faults of `omf-link`: the name of the external, the printed line, and what is reported (a rule of this profile).
-use Rattle.std.specs.Prelude.{◌≡◌, ◌⊎◌, ℕ, ◌+◌, List, [], ◌∷◌, ◌++◌, Option, Some, None, option_and_then, unwrap_or, slice_get, codes, decimal}
+use Rattle.std.specs.Prelude.{◌≡◌, ◌⊎◌, ℕ, ◌+◌, List, [], ◌∷◌, ◌++◌, Option, Some, None, flat_map, option_and_then, unwrap_or, slice_get, codes, decimal}
 use Rattle.omf_check.specs.Tables.{entry, externals}
 use Rattle.omf_placement.specs.declared.several.fault.DeriveFault.{DeriveFault}
 use Rattle.omf_placement.specs.declared.several.fault.DeriveFault.TheVariants as derive
@@ -134,4 +134,11 @@ report fault.Write = record { status = 3; text = [] }
 
 -- The usage.
 abbrev pub usage : List ℕ
-usage = codes "usage: omf-link image | map | bin --base ADDRESS --size SIZE [--fill BYTE] | hex [--addresses linear | segment] | srec [--addresses 16 | 24 | 32] | draft [--base ADDRESS] [--real | --flat SELECTOR] [-t TEXT] [-o FILE] [FILE ..]" ++ 10 ∷ []
+usage = flat_map (λ line. line ++ 10 ∷ [])
+    (codes "usage: omf-link exe -o FILE FILE .."
+    ∷ codes "       omf-link image|map [-t TEXT] [-o FILE] [FILE ..]"
+    ∷ codes "       omf-link bin --base ADDRESS --size SIZE [--fill BYTE] [-t TEXT] [-o FILE] [FILE ..]"
+    ∷ codes "       omf-link hex [--addresses linear|segment] [-t TEXT] [-o FILE] [FILE ..]"
+    ∷ codes "       omf-link srec [--addresses 16|24|32] [-t TEXT] [-o FILE] [FILE ..]"
+    ∷ codes "       omf-link draft [--base ADDRESS] [--real | --flat SELECTOR] [-o FILE] [FILE ..]"
+    ∷ [])

@@ -2,11 +2,11 @@
 
 use super::module_of;
 use omf_check::Checked;
+use omf_frame::Place;
 use omf_output::exe::{
     ExeFault, ExeFile, FarAddress, FileFault, Member, Movers, Moving, Program, Words, WordsFault,
     link_exe, movable, write_exe,
 };
-use omf_frame::Place;
 use omf_placement::{Frame, Placement};
 use std::alloc::Global;
 
