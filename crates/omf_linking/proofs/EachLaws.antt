@@ -1,5 +1,5 @@
 -- What a text gives has one entry for each module.
-use Rattle.std.proofs.Common.{◌≡◌, ℕ, Global, Vec, List, length, ap, ◌∙◌}
+use Rattle.std.proofs.Common.{◌≡◌, Global, Vec, List, length, ap, ◌∙◌}
 use Rattle.std.specs.Prelude.{Ok, Err, IfOk, Result}
 use Rattle.std.specs.List.{enumerate_from}
 use Rattle.std.proofs.lemmas.List.{length-map}

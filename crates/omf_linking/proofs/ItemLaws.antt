@@ -1,6 +1,6 @@
 -- The items of a draft's lines, and what they give each module.
-use Rattle.std.proofs.Common.{◌≡◌, ℕ, zero, suc, ◌+◌, ◌<◌, ◌≤◌, true, false, ◌&&◌, List, [], ◌∷◌, ◌++◌, length, refl, sym, ap, ap₂, subst, ◌∙◌, ◌⊎◌, inl, inr, append_assoc, append-nil, arith, cond}
-use Rattle.std.specs.Prelude.{map, filter_map, flat_map, Option, Some, None, option_map, option_and_then, is_some, slice_get, Result, Ok, Err, find, ◌==◌, ◌||◌, zip, if◌then◌else◌}
+use Rattle.std.proofs.Common.{◌≡◌, ℕ, zero, suc, ◌+◌, ◌<◌, ◌≤◌, false, ◌&&◌, List, [], ◌∷◌, ◌++◌, length, refl, sym, ap, ap₂, subst, ◌∙◌, ◌⊎◌, inl, inr, append_assoc, append-nil, arith, cond}
+use Rattle.std.specs.Prelude.{map, filter_map, Option, Some, None, option_map, option_and_then, is_some, slice_get, Result, Ok, Err, find, ◌==◌, ◌||◌, zip, if◌then◌else◌}
 use Rattle.omf_linking.proofs.KeyNames.{keys-name, keys-name-module}
 use Rattle.std.specs.List.{AllZip, cons_option, enumerate_from, last_or, list_any}
 use Rattle.std.specs.Option.{option_or}
@@ -11,19 +11,18 @@ use Rattle.std.proofs.lemmas.Option.{none-some, same_Some}
 use Rattle.omf_frame.specs.Bytes.{last}
 use Rattle.omf_records.specs.Values.{Rec}
 use Rattle.omf_records.specs.Inner.Seen.{map_ok}
-use Rattle.omf_check.specs.Tables.{segments, groups, externals}
+use Rattle.omf_check.specs.Tables.{externals}
 use Rattle.omf_placement.specs.declared.frame.Frame.{Frame}
 use Rattle.omf_placement.specs.declared.frame.Placed.{Placed}
 use Rattle.omf_placement.specs.Placement.{Places}
 use Rattle.omf_reloc.specs.declared.fault.Kind.TheVariants as kinds
 use Rattle.omf_layout.proofs.TextLaws.{told-append}
 use Rattle.omf_linking.specs.Locator.Items.{Item, Nothing, Opened, Given, opened, current, segment_given, group_given, external_given, given_to, segment_place, group_frame, external_place, item_in, item_of, items_after, module_at, unless_again}
-use Rattle.omf_linking.specs.Locator.Keys.{count_from, entry_named, module_named}
+use Rattle.omf_linking.specs.Locator.Keys.{count_from, entry_named}
 use Rattle.omf_linking.specs.Locator.LinkEntries.{Key, Target, SegmentPlace, GroupFrame, LinkEntry, Blank, Opens, Gives, Line}
 use Rattle.omf_linking.specs.Locator.Sparse.{Sparse, sparse_of, sparse_all}
 use Rattle.omf_linking.specs.declared.locator.fault.LineFault.{LineFault}
 use Rattle.omf_linking.specs.declared.locator.fault.LineFault.TheVariants as why
-use Rattle.omf_linking.specs.declared.locator.fault.LocatorFault.{LocatorFault}
 use Rattle.omf_linking.specs.declared.locator.fault.LocatorFault.TheVariants as fault
 use Rattle.omf_linking.specs.Locator.Drafted.{AllNamed, AreNamed, HasEntries, Labels, all_lines, blanks, group_lines_of, labels_from, module_lines, segment_lines_of, told_from, told_places}
 

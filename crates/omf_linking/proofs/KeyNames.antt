@@ -1,6 +1,6 @@
 -- The keys of a draft name exactly their entries.
-use Rattle.std.proofs.Common.{◌≡◌, ℕ, zero, suc, ◌+◌, ◌<◌, ◌≤◌, Bool, true, false, not, ◌&&◌, List, [], ◌∷◌, ◌++◌, length, refl, sym, ap, ap₂, subst, ◌∙◌, inl, inr, arith, cond}
-use Rattle.std.specs.Prelude.{map, flat_map, filter, Option, Some, None, option_map, is_some, slice_get, Ok, bytes_eq, ◌||◌, ◌==◌, if◌then◌else◌}
+use Rattle.std.proofs.Common.{◌≡◌, ℕ, zero, suc, ◌+◌, ◌<◌, ◌≤◌, Bool, true, false, not, List, [], ◌∷◌, ◌++◌, length, refl, sym, ap, ap₂, subst, ◌∙◌, inl, inr, arith}
+use Rattle.std.specs.Prelude.{map, flat_map, filter, Option, Some, None, option_map, is_some, slice_get, Ok, bytes_eq, ◌||◌}
 use Rattle.std.specs.List.{range_with_len}
 use Rattle.std.proofs.lemmas.Bool.{and_from, cases_Bool, cases_lt, cond-true, cond-false, cond_both, and_parts, eq-eqb, ne_eqb, false≢true}
 use Rattle.std.proofs.lemmas.Option.{none-some, same_Some}
@@ -10,7 +10,7 @@ use Rattle.omf_placement.specs.Quoted.{escaped, quoted}
 use Rattle.omf_reloc.specs.declared.fault.Kind.{Kind}
 use Rattle.omf_reloc.specs.declared.fault.Kind.TheVariants as kinds
 use Rattle.omf_linking.specs.Locator.Keys.{class_name, count_from, entry_name, entry_named, is_written, module_name, module_named, names_entry, names_module, the_one}
-use Rattle.omf_linking.specs.Locator.LinkEntries.{Key, Named, OfClass, Numbered}
+use Rattle.omf_linking.specs.Locator.LinkEntries.{Named, OfClass, Numbered}
 use Rattle.omf_reloc.specs.Reach.{entries}
 use Rattle.omf_linking.specs.Locator.KeyForms.{form_by, has_key, has_text, is_repeated, key_form, key_of, key_text, key_texts, key_words, module_key, module_key_by, module_texts, owns, shown, spelled}
 use Rattle.omf_linking.proofs.KeyLaws.{no-external-class, no-group-class}

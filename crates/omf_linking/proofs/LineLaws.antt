@@ -3,7 +3,6 @@ use denote.Ref.{Bor}
 use Rattle.std.proofs.Common.{◌≡◌, ℕ, ◌+◌, ◌<◌, ◌≤◌, List, [], ◌∷◌, ◌++◌, length, refl, sym, ap, ◌∙◌, arith}
 use Rattle.std.specs.Prelude.{map, filter_map, slice_get, Option, Some, None, option_map, Result, Ok, Err, IfSome}
 use Rattle.std.specs.List.{enumerate_from}
-use Rattle.omf_placement.specs.Inner.Parsing.{parts_after}
 use Rattle.omf_records.specs.Values.{Rec}
 use Rattle.omf_records.specs.Inner.Seen.{map_ok}
 use Rattle.omf_linking.specs.Inner.Walking.{AreLines, IsTaken}

@@ -10,7 +10,6 @@ use Rattle.omf_check.specs.Tables.{segments, groups}
 use Rattle.omf_check.specs.WellFormed.{recs}
 use Rattle.omf_placement.specs.Derivation.{IsPlaceOf}
 use Rattle.omf_placement.specs.Placement.{Places}
-use Rattle.omf_placement.specs.declared.several.given.Given.{Given}
 use Rattle.omf_placement.specs.declared.frame.Frame.{Frame}
 use Rattle.omf_placement.specs.declared.frame.Placed.{Placed}
 use Rattle.omf_records.specs.Inner.Seen.{map_ok}
@@ -20,7 +19,7 @@ use Rattle.omf_reloc.specs.declared.fault.Kind.TheVariants as kinds
 use Rattle.omf_linking.specs.Locator.Items.{Item, items_after}
 use Rattle.omf_linking.specs.Locator.LinkEntries.{link_lines}
 use Rattle.omf_linking.specs.Locator.Sparse.{Sparse, bad_lines, sparse, sparse_all, sparse_of, unless_bad}
-use Rattle.omf_linking.specs.Placing.{IsOutcome, all_given, by_sparse, frame_given, frames_given, given_as, given_in, given_of, in_front, linked, or_missing, placed_by, places_given, places_of, with_segments}
+use Rattle.omf_linking.specs.Placing.{IsOutcome, all_given, by_sparse, frame_given, frames_given, in_front, linked, or_missing, placed_by, places_given, places_of, with_segments}
 use Rattle.omf_linking.specs.declared.fault.LinkFault.{LinkFault}
 use Rattle.omf_linking.specs.declared.fault.LinkFault.TheVariants as fault
 use Rattle.omf_linking.specs.declared.locator.fault.LocatorFault.{LocatorFault}

@@ -1,6 +1,6 @@
 -- The item of a line, from what is kept of the lines before it.
-use Rattle.std.proofs.Common.{◌≡◌, ℕ, zero, suc, cond, get_or, ◌+◌, ◌-◌, ◌<◌, ◌≤◌, Bool, true, false, List, [], ◌∷◌, ◌++◌, length, append-nil, map, set, refl, sym, ap, ap₂, ◌∙◌, arith, subst}
-use Rattle.std.specs.Prelude.{◌==◌, filter, filter_map, option_map, option_and_then, slice_get, Option, Some, None, Result, Ok, Err}
+use Rattle.std.proofs.Common.{◌≡◌, ℕ, zero, suc, cond, get_or, ◌+◌, ◌-◌, ◌<◌, ◌≤◌, Bool, true, false, List, [], ◌∷◌, ◌++◌, length, append-nil, set, refl, sym, ap, ap₂, ◌∙◌, arith, subst}
+use Rattle.std.specs.Prelude.{◌==◌, filter, filter_map, option_map, option_and_then, slice_get, Option, Some, Result, Ok, Err}
 use Rattle.std.specs.List.{enumerate_from, last_or, list_any}
 use Rattle.std.proofs.lemmas.List.{length-map}
 use Rattle.std.proofs.lemmas.List.FromFn.{length-enumerate_from}
@@ -14,7 +14,7 @@ use Rattle.omf_reloc.specs.declared.fault.Kind.{Kind}
 use Rattle.omf_linking.specs.Inner.Walking.{AreLines, IsGiven, IsTaken}
 use Rattle.omf_linking.specs.Locator.Items.{Item, Nothing, Opened, Given, current, is_again, item_of, item_in, kind_of, module_at, opened, unless_again}
 use Rattle.omf_linking.specs.Locator.Keys.{count_from, entry_named, module_named, names_entry, the_one}
-use Rattle.omf_linking.specs.Locator.LinkEntries.{Key, Target, LinkEntry, Opens, Gives}
+use Rattle.omf_linking.specs.Locator.LinkEntries.{Key, Target, Opens, Gives}
 use Rattle.omf_linking.specs.Locator.Sparse.{Sparse, sparse_all, sparse_of}
 use Rattle.omf_linking.specs.declared.locator.fault.LineFault.{LineFault}
 use Rattle.omf_linking.specs.declared.locator.fault.LineFault.TheVariants as why

@@ -15,6 +15,7 @@ mod externals;
 mod framers;
 mod framing;
 mod headline;
+mod host;
 mod image;
 mod inputs;
 mod layouts;

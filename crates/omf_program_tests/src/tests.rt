@@ -4,6 +4,7 @@ mod calls;
 mod changes;
 mod devices;
 mod drafts;
+mod exe;
 mod files;
 mod large;
 mod memory;

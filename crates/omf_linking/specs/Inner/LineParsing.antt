@@ -1,5 +1,5 @@
 -- The entries of the code, and the steps of parsing a line.
-use Rattle.std.specs.Prelude.{◌≡◌, ℕ, List, [], ◌∷◌, Option, Some, None, option_map}
+use Rattle.std.specs.Prelude.{ℕ, List, [], Option, Some, None}
 use Rattle.omf_placement.specs.Inner.EntryReading.{words_of}
 use Rattle.omf_linking.specs.Locator.LinkEntries.{Key, Named, OfClass, Numbered, Target, SegmentPlace, GroupFrame, ExternalPlace, LinkEntry, Blank, Opens, Gives}
 use Rattle.omf_linking.specs.declared.locator.entry.Key.TheVariants as keys

@@ -1,5 +1,5 @@
 -- The lines of a draft, by their entries: each names its module or entry by a key (this profile's rule).
-use Rattle.std.specs.Prelude.{◌≡◌, ◌≤◌, ⊤, ℕ, zero, suc, ◌+◌, List, [], ◌∷◌, ◌++◌, length, map, flat_map, Option, Some, None, Ok}
+use Rattle.std.specs.Prelude.{◌≡◌, ◌≤◌, ⊤, ℕ, zero, suc, ◌+◌, List, [], ◌∷◌, ◌++◌, length, map, Option, Some, None, Ok}
 use Rattle.std.specs.List.{enumerate_from}
 use Rattle.omf_records.specs.Values.{Rec}
 use Rattle.omf_check.specs.Tables.{segments, groups, externals}

@@ -1,5 +1,5 @@
 -- The lines of a locator's text, each by the modules and by the lines before it (this profile's rule).
-use Rattle.std.specs.Prelude.{ℕ, List, [], ◌∷◌, ◌++◌, length, map, filter_map, find, Bool, false, ◌==◌, ◌&&◌, Option, Some, None, option_map, option_and_then, is_some, slice_get, Result, Ok, Err, if◌then◌else◌}
+use Rattle.std.specs.Prelude.{ℕ, List, [], ◌∷◌, ◌++◌, filter_map, find, Bool, false, ◌==◌, ◌&&◌, Option, Some, None, option_map, option_and_then, is_some, slice_get, Result, Ok, Err, if◌then◌else◌}
 use Rattle.std.specs.List.{list_any}
 use Rattle.omf_frame.specs.Bytes.{last}
 use Rattle.omf_records.specs.Values.{Rec}

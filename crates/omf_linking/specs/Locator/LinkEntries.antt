@@ -1,5 +1,5 @@
 -- The entry of a line of a locator's text (this profile's rule): a letter, a key, and a place or a frame.
-use Rattle.std.specs.Prelude.{ℕ, List, [], ◌∷◌, length, map, Bool, ◌==◌, ◌&&◌, ◌||◌, ◌^◌, nat_le, nat_lt, Option, Some, None, option_map, option_and_then, codes, if◌then◌else◌, bytes_eq}
+use Rattle.std.specs.Prelude.{ℕ, List, [], ◌∷◌, length, map, Bool, ◌==◌, ◌&&◌, ◌^◌, nat_le, nat_lt, Option, Some, None, option_map, option_and_then, codes, if◌then◌else◌, bytes_eq}
 use Rattle.std.specs.List.{list_all, list_any, slice_split}
 use Rattle.std.specs.Char.{is_digit}
 use Rattle.std.specs.Str.Parse.{digits_value}

@@ -1,10 +1,11 @@
-//! Contents of records, with ample memory: they are read, and written in their shortest encodings, worked out by hand from the format.
+//! Contents of records: they are read, and written in their shortest encodings, worked out by hand from the format, with ample memory and
+//! while a growth is refused.
 
 use super::framers::framed;
 use omf_frame::{Framer, Reason};
 use omf_records::{FIXUP_LIMIT, Rec, Subrecord, Unread, put_rec, unread_fixups, view, view_known};
 use omf_samples::{ABSOLUTE, START};
-use std::alloc::Global;
+use std::alloc::{AllocError, Global};
 
 /// Records whose contents are their own shortest encoding.
 static SHORTEST: [&str; 26] = [
@@ -46,39 +47,57 @@ static LONGER: [(&str, &[u8]); 3] = [
     ("B0 08 00 01 58 00 62 81 80 00 8C", b"\x01\x58\x00\x62\x80"),
 ];
 
-/// Whether a record is of this type, and its contents are written as these.
-fn is_put(alloc: Global, rec: &Rec<'_>, kind: u8, body: &[u8]) -> bool {
+/// Whether a record is of this type, and its contents are written as these; or a growth is refused, it `may_fail`, and nothing is written.
+fn is_put(alloc: Global, rec: &Rec<'_>, kind: u8, body: &[u8], may_fail: bool) -> bool {
     let mut out = Vec::new(alloc);
-    put_rec(&mut out, rec).is_ok() && out.as_slice() == body && rec.kind() == kind
+    match put_rec(&mut out, rec) {
+        Ok(()) => out.as_slice() == body && rec.kind() == kind,
+        Err(AllocError) => may_fail && out.is_empty(),
+    }
 }
 
 /// Whether the contents of the record at hand are written as these, or as they are, as `view` and `view_known` read them.
-fn is_written(alloc: Global, framer: &Framer, body: Option<&[u8]>) -> bool {
+fn is_written(alloc: Global, framer: &Framer, body: Option<&[u8]>, may_fail: bool) -> bool {
     let Some(raw) = framer.raw() else {
-        return false;
+        return may_fail;
     };
     let body = body.unwrap_or(raw.body);
     match view(raw) {
         Ok(rec) => {
-            is_put(alloc, &rec, raw.kind, body) && is_put(alloc, &view_known(raw), raw.kind, body)
+            is_put(alloc, &rec, raw.kind, body, may_fail)
+                && is_put(alloc, &view_known(raw), raw.kind, body, may_fail)
         }
         Err(_) => false,
     }
 }
 
-/// Whether a row's contents are written as these, or as they are.
-fn becomes(alloc: Global, row: &str, body: Option<&[u8]>) -> bool {
-    is_written(alloc, &framed(alloc, row), body)
+/// Whether a row's contents are written as these, or as they are; or a growth is refused, it `may_fail`, and nothing is written.
+fn becomes(alloc: Global, row: &str, body: Option<&[u8]>, may_fail: bool) -> bool {
+    is_written(alloc, &framed(alloc, row), body, may_fail)
+}
+
+/// Whether the contents of all records that have their shortest encoding are written as they are; or a growth is refused and it `may_fail`.
+fn are_written(alloc: Global, may_fail: bool) -> bool {
+    for row in &SHORTEST {
+        if !becomes(alloc, *row, None, may_fail) {
+            return false;
+        }
+    }
+    true
 }
 
 #[test]
 fn contents_are_written_in_their_shortest_encoding(rt: HostRuntime) {
-    for row in &SHORTEST {
-        assert!(rt; becomes(rt.alloc(), *row, None));
-    }
+    assert!(rt; are_written(rt.alloc(), false));
     for (row, body) in &LONGER {
-        assert!(rt; becomes(rt.alloc(), *row, Some(*body)));
+        assert!(rt; becomes(rt.alloc(), *row, Some(*body), false));
     }
+}
+
+/// tests/growths.sh refuses each growth in turn.
+#[test]
+fn a_refused_growth_writes_nothing(rt: HostRuntime) {
+    assert!(rt; are_written(rt.alloc(), true));
 }
 
 /// The offset of the next subrecord in its record, none after the last, or the fault and its offset.

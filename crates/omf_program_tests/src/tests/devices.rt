@@ -11,41 +11,63 @@ use omf_reloc::{Kind, ReachFault};
 use omf_samples::{HEADER, MODULE};
 use std::alloc::{AllocError, Global};
 
-/// Whether a program over a reader ends with this status, and writes this text.
+/// A reader and a writer of a program: how many bytes of the input there are, and what comes then; the room of the writer, and what it does
+/// when it is full; the bytes in a piece, and the interruptions before each.
+#[derive(Clone, Copy)]
+struct Devices {
+    count: usize,
+    then: Then,
+    room: usize,
+    full: Full,
+    piece: usize,
+    reader_times: u64,
+    writer_times: u64,
+}
+
+/// All of the input, and room for all of the text, in one piece.
+const PLAIN: Devices = Devices {
+    count: usize::MAX,
+    then: Then::Ends,
+    room: usize::MAX,
+    full: Full::Fails,
+    piece: usize::MAX,
+    reader_times: 0,
+    writer_times: 0,
+};
+
+/// Whether a program over these devices ends with this status, and writes this text.
 fn ends(
     alloc: Global,
     line: &Line,
-    reader: &mut Script<'_>,
+    devices: &Devices,
     status: u8,
     text: &[u8],
 ) -> Result<bool, AllocError> {
-    let mut writer = Gathered::new(alloc);
-    let ended = run(alloc, line, reader, &mut writer)?;
-    Ok(ended == status && writer.text.as_slice() == text)
+    let piece = devices.piece.max(1);
+    let front = line.input.get(..devices.count).unwrap_or(&line.input);
+    let room = devices.room.min(line.text.len().max(5));
+    let mut reader = Script::new(front, devices.then)
+        .in_pieces(piece)
+        .interrupted(devices.reader_times);
+    let mut writer = Taker::new(alloc, room, devices.full)?
+        .in_pieces(piece)
+        .interrupted(devices.writer_times);
+    let ended = run(alloc, line, &mut reader, &mut writer)?;
+    Ok(ended == status && writer.bytes() == text)
 }
 
 /// Whether a program names a reader that fails after `count` bytes, unless these bytes decide its answer.
 fn names_reader(alloc: Global, line: &Line, count: usize) -> Result<bool, AllocError> {
-    let front = line.input.get(..count).unwrap_or(&[]);
-    let mut reader = Script::new(front, Then::Fails);
+    let devices = Devices {
+        count,
+        then: Then::Fails,
+        ..PLAIN
+    };
     if count < line.needed {
-        ends(alloc, line, &mut reader, 3, b"read\n")
+        ends(alloc, line, &devices, 3, b"read\n")
     } else {
-        ends(alloc, line, &mut reader, 0, &line.text)
+        ends(alloc, line, &devices, 0, &line.text)
     }
-}
-
-/// Whether a program over a writer ends with this status, and leaves this text there.
-fn leaves(
-    alloc: Global,
-    line: &Line,
-    writer: &mut Taker,
-    status: u8,
-    text: &[u8],
-) -> Result<bool, AllocError> {
-    let mut reader = Script::new(&line.input, Then::Ends);
-    let ended = run(alloc, line, &mut reader, writer)?;
-    Ok(ended == status && writer.bytes() == text)
 }
 
 /// Whether a program leaves the front of its text in a writer with room for `room` bytes, and ends with the status 3 if that is not all.
@@ -55,10 +77,14 @@ pub fn leaves_front(
     room: usize,
     full: Full,
 ) -> Result<bool, AllocError> {
-    let mut writer = Taker::new(alloc, room, full)?;
+    let devices = Devices {
+        room,
+        full,
+        ..PLAIN
+    };
     match line.text.get(..room) {
-        Some(front) if room < line.text.len() => leaves(alloc, line, &mut writer, 3, front),
-        _ => leaves(alloc, line, &mut writer, 0, &line.text),
+        Some(front) if room < line.text.len() => ends(alloc, line, &devices, 3, front),
+        _ => ends(alloc, line, &devices, 0, &line.text),
     }
 }
 
@@ -82,28 +108,18 @@ fn leaves_fronts(alloc: Global, line: &Line, full: Full) -> Result<bool, AllocEr
     Ok(true)
 }
 
-/// A reader that works in pieces, with interruptions before each.
-fn slow_reader(bytes: &[u8], piece: usize, times: u64) -> Script<'_> {
-    Script::new(bytes, Then::Ends)
-        .in_pieces(piece.max(1))
-        .interrupted(times)
-}
-
-/// A writer that works in pieces, with interruptions before each.
-fn slow_writer(alloc: Global, room: usize, piece: usize, times: u64) -> Result<Taker, AllocError> {
-    let writer = Taker::new(alloc, room, Full::Fails)?;
-    Ok(writer.in_pieces(piece.max(1)).interrupted(times))
-}
-
 /// The bytes in a piece, and the interruptions before each.
 static PIECES: [(usize, u64); 5] = [(1, 3), (2, 0), (7, 3), (65, 3), (usize::MAX, 999)];
 
 /// Whether a program is done over such a reader and such a writer.
 pub fn is_done(alloc: Global, line: &Line, piece: usize, times: u64) -> Result<bool, AllocError> {
-    let mut reader = slow_reader(&line.input, piece, times);
-    let mut writer = slow_writer(alloc, line.text.len(), piece, times)?;
-    let status = run(alloc, line, &mut reader, &mut writer)?;
-    Ok(status == 0 && writer.bytes() == line.text.as_slice())
+    let devices = Devices {
+        piece,
+        reader_times: times,
+        writer_times: times,
+        ..PLAIN
+    };
+    ends(alloc, line, &devices, 0, &line.text)
 }
 
 /// Whether a program is done in each kind of pieces.
@@ -118,11 +134,17 @@ fn is_done_in_pieces(alloc: Global, line: &Line) -> Result<bool, AllocError> {
 
 /// Whether a program gives up after the thousandth interruption in a row, of a reader and, if it writes anything, of a writer.
 fn gives_up(alloc: Global, line: &Line) -> Result<bool, AllocError> {
-    let mut reader = slow_reader(&line.input, usize::MAX, 1000);
-    let mut writer = slow_writer(alloc, line.text.len(), usize::MAX, 1000)?;
+    let reader = Devices {
+        reader_times: 1000,
+        ..PLAIN
+    };
+    let writer = Devices {
+        writer_times: 1000,
+        ..PLAIN
+    };
     Ok(
-        ends(alloc, line, &mut reader, 3, b"read\n")?
-            && (line.text.is_empty() || leaves(alloc, line, &mut writer, 3, b"")?),
+        ends(alloc, line, &reader, 3, b"read\n")?
+            && (line.text.is_empty() || ends(alloc, line, &writer, 3, b"")?),
     )
 }
 
@@ -138,9 +160,9 @@ fn has_left<S: Source>(reader: &mut S, rest: &[u8]) -> bool {
 /// Whether a program leaves what follows the module, unless it reads all of its input.
 fn leaves_the_rest(alloc: Global, line: &Line) -> Result<bool, AllocError> {
     let mut reader = Script::new(&line.input, Then::Ends);
-    let done = ends(alloc, line, &mut reader, 0, &line.text)?;
+    let status = run(alloc, line, &mut reader, &mut Gathered::new(alloc))?;
     let rest = line.input.get(line.needed..).unwrap_or(&[]);
-    Ok(done && has_left(&mut reader, rest))
+    Ok(status == 0 && has_left(&mut reader, rest))
 }
 
 /// What is tried of a program.
@@ -249,7 +271,7 @@ const BEHIND: &[u8; 6] = b"behind";
 fn stops_beyond(alloc: Global, piece: usize) -> Result<bool, AllocError> {
     let mut input = spaced(alloc, b' ', LIMIT + 1)?;
     input.extend_from_slice(BEHIND)?;
-    let mut reader = slow_reader(&input, piece, 0);
+    let mut reader = Script::new(&input, Then::Ends).in_pieces(piece.max(1));
     let failed = fails(alloc, &mut reader, RunFault::TooLong);
     Ok(failed && has_left(&mut reader, BEHIND))
 }

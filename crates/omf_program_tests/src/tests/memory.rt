@@ -1,29 +1,24 @@
 //! Calls on modules, and programs, while memory runs out.
 
 use super::calls::{Call, Tried, first_failing, first_wrong, refused_if, right_if};
-use super::modules::{ANY, Sample, samples};
+use super::modules::{Sample, samples};
 use super::printing::{FaultLine, LINES};
 use super::tools::{Line, lines, run};
 use super::verdicts::by_check;
 use omf_canon::{CanonFault, canon, canon_to};
-use omf_check::{CheckFault, Checked, Session};
+use omf_check::CheckFault;
 use omf_cmd::fault_line;
 use omf_frame::faulty::{Full, Script, Taker, Then};
 use omf_frame::{FrameFault, Framer};
 use omf_image::Image;
-use omf_reloc::{
-    Draft, Frame, Placed, Placement, TextFault, parse_placement, reach, relocate, start,
-};
+use omf_reloc::{Frame, Placed, Placement, reach, relocate, start};
 use std::alloc::{AllocError, Global};
 
 /// A call on a module.
 #[derive(Clone, Copy)]
 enum What {
     Check,
-    /// A session that is fed pieces of this size.
-    Session(usize),
     Framer,
-    Parse,
     Push,
     Canon,
     CanonTo,
@@ -41,9 +36,7 @@ impl<'a> Call for OnModule<'a> {
         let sample = self.sample;
         match self.what {
             What::Check => checks(alloc, sample),
-            What::Session(size) => feeds_in_pieces(alloc, sample, size),
             What::Framer => frames(alloc, sample),
-            What::Parse => parses(alloc, sample),
             What::Push => pushes(alloc, sample),
             What::Canon => makes_canonical(alloc, sample),
             What::CanonTo => writes_canonical(alloc, sample),
@@ -57,47 +50,6 @@ fn checks(alloc: Global, sample: &Sample) -> Tried {
         Ok(module) => right_if(module.bytes() == sample.bytes.as_slice()),
         Err(fault) => refused_if(fault == CheckFault::Memory),
     }
-}
-
-/// The number of bytes that a session takes of a piece.
-fn fed(session: &mut Session, piece: &[u8]) -> Result<usize, CheckFault> {
-    match session.feed(piece) {
-        Ok(fed) => Ok(fed.taken),
-        Err(fault) => Err(fault),
-    }
-}
-
-/// Whether a session that ran out of memory keeps that fault, and takes nothing more.
-fn keeps_memory(session: Session, bytes: &[u8]) -> bool {
-    let mut session = session;
-    fed(&mut session, bytes) == Err(CheckFault::Memory)
-        && session.want() == 0
-        && !session.ended()
-        && session.finish().err() == Some(CheckFault::Memory)
-}
-
-/// Whether a verdict is a module of these bytes.
-fn is_module(verdict: Result<Checked, CheckFault>, bytes: &[u8]) -> bool {
-    match verdict {
-        Ok(module) => module.bytes() == bytes,
-        Err(_) => false,
-    }
-}
-
-fn feeds_in_pieces(alloc: Global, sample: &Sample, size: usize) -> Tried {
-    let bytes = sample.bytes.as_slice();
-    let mut session = Session::new(alloc, ANY);
-    let mut rest = bytes;
-    for _ in 0..100 {
-        let piece = rest.get(..size).unwrap_or(rest);
-        match fed(&mut session, piece) {
-            Ok(taken) => rest = rest.get(taken..).unwrap_or(&[]),
-            Err(fault) => {
-                return refused_if(fault == CheckFault::Memory && keeps_memory(session, bytes));
-            }
-        }
-    }
-    right_if(is_module(session.finish(), bytes))
 }
 
 /// Whether a framer takes a whole record, and the number of bytes that it takes.
@@ -148,20 +100,6 @@ fn are_same(placement: &Placement, other: &Placement) -> bool {
         }
     }
     true
-}
-
-fn resolves(alloc: Global, sample: &Sample, draft: Draft) -> Tried {
-    match draft.resolve(alloc, &sample.module) {
-        Ok(placement) => right_if(are_same(&placement, &sample.placement)),
-        Err(fault) => refused_if(fault == TextFault::Memory),
-    }
-}
-
-fn parses(alloc: Global, sample: &Sample) -> Tried {
-    match parse_placement(alloc, sample.plan.placement.as_bytes()) {
-        Ok(draft) => resolves(alloc, sample, draft),
-        Err(fault) => refused_if(fault == TextFault::Memory),
-    }
 }
 
 /// Pushes entries until one finds no memory.
@@ -247,12 +185,9 @@ fn relocates(alloc: Global, sample: &Sample) -> Tried {
     }
 }
 
-static WHATS: [What; 9] = [
+static WHATS: [What; 6] = [
     What::Check,
-    What::Session(1),
-    What::Session(1000),
     What::Framer,
-    What::Parse,
     What::Push,
     What::Canon,
     What::CanonTo,

@@ -1,33 +1,22 @@
-//! Fields and records that are put while memory runs out: what was put before stays.
+//! Fields that are put while memory runs out: what was put before stays.
 
 use super::calls::{Call, Tried, first_failing, first_wrong, refused_if, right_if};
-use super::modules::{Plan, bytes_of, module_of, plans};
-use omf_check::Checked;
 use omf_frame::{CommunalLength, Field, Index, Le16, Le32, Name};
-use omf_records::{Rec, put_rec};
 use std::alloc::{AllocError, Global};
 
-/// The bytes in the system's smallest block.
-const SMALLEST: usize = 24;
+/// What a vector has before: as many bytes as the system's smallest block.
+static BEFORE: [u8; 24] = [0x55; 24];
 
-/// What a vector has before.
-static BEFORE: [u8; SMALLEST] = [0x55; SMALLEST];
-
-/// The first `count` of these bytes.
-fn before(count: usize) -> &'static [u8] {
-    BEFORE.get(..count).unwrap_or(&[])
-}
-
-/// A vector of `count` bytes, with room for the rest of the smallest block.
-fn nearly_full(alloc: Global, count: usize) -> Result<Vec<u8>, AllocError> {
-    let mut out = Vec::with_capacity(alloc, SMALLEST)?;
-    out.extend_from_slice(before(count))?;
+/// A vector that is full with those.
+fn full(alloc: Global) -> Result<Vec<u8>, AllocError> {
+    let mut out = Vec::with_capacity(alloc, BEFORE.len())?;
+    out.extend_from_slice(&BEFORE)?;
     Ok(out)
 }
 
-/// Whether `put` follows the first `count` bytes of a vector, or nothing if memory ran out.
-fn compared(done: Result<(), AllocError>, out: &[u8], count: usize, put: &[u8]) -> Tried {
-    let rest = out.strip_prefix(before(count));
+/// Whether `put` follows those bytes in a vector, or nothing if memory ran out.
+fn compared(done: Result<(), AllocError>, out: &[u8], put: &[u8]) -> Tried {
+    let rest = out.strip_prefix(&BEFORE);
     match done {
         Ok(()) => right_if(rest == Some(put)),
         Err(AllocError) => refused_if(rest == Some(&[])),
@@ -111,79 +100,11 @@ fn put_field(out: &mut Vec<u8>, field: &AnyField) -> Result<(), AllocError> {
 
 impl Call for Spelling {
     fn run(&self, alloc: Global) -> Tried {
-        let Ok(mut out) = nearly_full(alloc, SMALLEST) else {
+        let Ok(mut out) = full(alloc) else {
             return Tried::Refused;
         };
         let done = put_field(&mut out, &self.field);
-        compared(done, &out, SMALLEST, self.spelled)
-    }
-}
-
-/// This many bytes leave room for the first fields of a record, and no more.
-const NEARLY: usize = 22;
-
-/// A module, and its records as `put_rec` spells them.
-#[derive(Drop)]
-struct Records {
-    module: Checked,
-    shortest: Vec<u8>,
-}
-
-/// Each record of a canonical module is its own shortest spelling. A module whose records are as many as those of its canonical one is put
-/// from its own spellings, of which some are longer.
-fn records_of(alloc: Global, plan: &Plan) -> Result<Records, AllocError> {
-    let source = if plan.records.len() == plan.canonical.len() {
-        plan.records
-    } else {
-        plan.canonical
-    };
-    let module = module_of(alloc, source)?;
-    let shortest = bytes_of(alloc, plan.canonical)?;
-    Ok(Records { module, shortest })
-}
-
-fn all_records(alloc: Global) -> Result<Vec<Records>, AllocError> {
-    let mut all = Vec::new(alloc);
-    for plan in plans() {
-        all.push(records_of(alloc, plan)?)?;
-    }
-    Ok(all)
-}
-
-/// The contents of the record at an offset.
-fn contents_at(bytes: &[u8], start: usize) -> Option<&[u8]> {
-    match bytes.get(start..)? {
-        [_, low, high, rest @ ..] => {
-            let size = usize::from(*low) + 256 * usize::from(*high);
-            rest.get(..size.checked_sub(1)?)
-        }
-        _ => None,
-    }
-}
-
-/// Puts a record after other bytes.
-fn put_one(alloc: Global, rec: &Rec<'_>, contents: &[u8]) -> Tried {
-    let Ok(mut out) = nearly_full(alloc, NEARLY) else {
-        return Tried::Refused;
-    };
-    let done = put_rec(&mut out, rec);
-    compared(done, &out, NEARLY, contents)
-}
-
-impl Call for Records {
-    fn run(&self, alloc: Global) -> Tried {
-        let mut start = 0usize;
-        for (_place, rec) in self.module.records() {
-            let Some(contents) = contents_at(&self.shortest, start) else {
-                return Tried::Wrong;
-            };
-            let tried = put_one(alloc, &rec, contents);
-            if tried != Tried::Right {
-                return tried;
-            }
-            start = start.saturating_add(contents.len()).saturating_add(4);
-        }
-        right_if(start == self.shortest.len())
+        compared(done, &out, self.spelled)
     }
 }
 
@@ -192,23 +113,7 @@ fn puts_fields(rt: HostRuntime) {
     assert!(rt; first_failing(rt.alloc(), &SPELLINGS) == Ok(None));
 }
 
-/// The first of the records that are put otherwise while memory runs out.
-fn first_failing_records(alloc: Global) -> Result<Option<usize>, AllocError> {
-    first_failing(alloc, &all_records(alloc)?)
-}
-
-#[test]
-fn puts_records(rt: HostRuntime) {
-    assert!(rt; first_failing_records(rt.alloc()) == Ok(None));
-}
-
-/// The first of the fields and records that are put otherwise.
-fn first_wrong_put(alloc: Global) -> Result<Option<usize>, AllocError> {
-    let fields = first_wrong(alloc, &SPELLINGS);
-    Ok(fields.or(first_wrong(alloc, &all_records(alloc)?)))
-}
-
 #[test]
 fn a_refused_growth_puts_nothing(rt: HostRuntime) {
-    assert!(rt; first_wrong_put(rt.alloc()).unwrap_or(None).is_none());
+    assert!(rt; first_wrong(rt.alloc(), &SPELLINGS).is_none());
 }

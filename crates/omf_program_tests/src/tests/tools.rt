@@ -78,7 +78,6 @@ static JOBS: [Asked; 5] = [
 static PLACES: [Asked; 1] = [Asked {
     tool: Tool::Place,
     arguments: &["omf-place"],
-    job: None,
     reads: Reads::Module,
 }];
 

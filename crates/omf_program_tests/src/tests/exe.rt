@@ -1,0 +1,135 @@
+//! Runs of `omf-link exe` over files.
+
+use omf_cmd::Gathered;
+use omf_linker::exe::exe_of_files;
+use omf_linker::link::InputFile;
+use omf_samples::bytes_of;
+use std::alloc::Global;
+
+/// A main module: `mov ax, SEGMENT` and `retf` in the segment T, and 16 bytes of stack.
+const ONE: &str = "80030001413B 960600000154015300 98070028040002010100 98070074100003010100 A00800010000B80000CB00 9C0500C801540100 8A0700C1000101000000";
+
+/// The same without the stack.
+const NO_STACK: &str = "80030001413B 960600000154015300 98070028040002010100 A00800010000B80000CB00 9C0500C801540100 8A0700C1000101000000";
+
+/// A main module: `call far f` in the segment T.
+const CALLS: &str = "80030001413B 96040000015400 98070028050002010100 8C040001660000 A009000100009A0000000000 9C0500CC01560100 8A0700C1000101000000";
+
+/// A main module: `mov bx, f` in the segment T, where the offset of f counts from the frame of T.
+const FRAMED: &str = "80030001413B 96040000015400 98070028030002010100 8C040001660000 A00700010000BB000000 9C0600C40106010100 8A0700C1000101000000";
+
+/// A module with the public f at 0:1234H, in no segment.
+const ABSOLUTE: &str = "80030001420096040000015400 900A0000000000016634120000 8A02000000";
+
+/// A library of two members, which have the publics g and f, each in the segment T of one byte.
+const LIBRARY: &str = "F00D0000000000000000000000000000 80030001420096040000015400980700280100020101009008000001016700000000A0050001000090008A020000000080030001420096040000015400980700280100020101009008000001016600000000A00500010000CB008A0200000000F1";
+
+/// The names of files and their bytes, and the file of their program; without one, the line.
+struct Case {
+    files: &'static [(&'static str, &'static str)],
+    program: &'static str,
+    has_stack: bool,
+    line: &'static str,
+}
+
+static CASES: [Case; 7] = [
+    // The word at 1 moves. Two paragraphs from the end of the image on, the stack ends at 1:10H.
+    Case {
+        files: &[("one.obj", ONE)],
+        program: "4D5A2400010001000200 0200FFFF0100100000000000 00001C000000 01000000 B80000CB",
+        has_stack: true,
+        line: "",
+    },
+    Case {
+        files: &[("one.obj", NO_STACK)],
+        program: "4D5A2400010001000200 0000FFFF0000000000000000 00001C000000 01000000 B80000CB",
+        has_stack: false,
+        line: "",
+    },
+    // Only the second member takes part: its byte is at 5, and the selector at 3 moves.
+    Case {
+        files: &[("calls.obj", CALLS), ("l.lib", LIBRARY)],
+        program: "4D5A2600010001000200 0000FFFF0000000000000000 00001C000000 03000000 9A05000000CB",
+        has_stack: false,
+        line: "",
+    },
+    Case {
+        files: &[("calls.obj", CALLS)],
+        program: "",
+        has_stack: false,
+        line: "file \"calls.obj\" module 1 external 1 Undefined \"f\"\n",
+    },
+    Case {
+        files: &[("a.obj", ONE), ("b.obj", NO_STACK)],
+        program: "",
+        has_stack: false,
+        line: "two starts: file \"a.obj\" module 1 and file \"b.obj\" module 1\n",
+    },
+    // The frame moves, and the public does not.
+    Case {
+        files: &[("a.obj", FRAMED), ("b.obj", ABSOLUTE)],
+        program: "",
+        has_stack: false,
+        line: "file \"a.obj\" module 1 segment \"T\" offset 00000001: does not move with the program\n",
+    },
+    Case {
+        files: &[("l.lib", LIBRARY)],
+        program: "",
+        has_stack: false,
+        line: "no start: no main module names one\n",
+    },
+];
+
+/// A file with bytes in hexadecimal; `None` where it finds no memory.
+fn file_of(alloc: Global, name: &str, bytes: &str) -> Option<InputFile> {
+    let name = match name.to_string(alloc) {
+        Ok(name) => name,
+        Err(_) => return None,
+    };
+    match bytes_of(alloc, bytes) {
+        Ok(bytes) => Some(InputFile::new(name, bytes)),
+        Err(_) => None,
+    }
+}
+
+/// The files of a case; `None` where they find no memory.
+fn files_of(alloc: Global, case: &Case) -> Option<Vec<InputFile>> {
+    let mut files = Vec::new(alloc);
+    for (name, bytes) in case.files {
+        let file = file_of(alloc, *name, *bytes)?;
+        if files.push(file).is_err() {
+            return None;
+        }
+    }
+    Some(files)
+}
+
+/// Whether a program's file is as it is to be.
+fn is_program(alloc: Global, case: &Case, bytes: &[u8], has_stack: bool) -> bool {
+    match bytes_of(alloc, case.program) {
+        Ok(wanted) => bytes == wanted.as_slice() && has_stack == case.has_stack,
+        Err(_) => false,
+    }
+}
+
+/// Whether the files of a case give the program or the line that they are to give.
+fn is_right(alloc: Global, case: &Case) -> bool {
+    let Some(files) = files_of(alloc, case) else {
+        return false;
+    };
+    match exe_of_files(alloc, &files) {
+        Ok(file) => is_program(alloc, case, &file.bytes, file.has_stack),
+        Err(refusal) => {
+            let mut sink = Gathered::new(alloc);
+            refusal.print(&mut sink);
+            sink.text.as_slice() == case.line.as_bytes()
+        }
+    }
+}
+
+#[test]
+fn files_are_programs_or_refused_by_name(rt: HostRuntime) {
+    for (at, case) in CASES.iter().enumerate() {
+        assert!(rt; is_right(rt.alloc(), case), "{at}");
+    }
+}
