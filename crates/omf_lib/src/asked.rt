@@ -26,6 +26,16 @@ pub struct Make {
     pub profile: Profile,
     pub output: String,
     pub files: Vec<String>,
+    /// Whether names that differ in case are one.
+    pub ignores_case: bool,
+}
+
+/// Names to find in a library.
+#[derive(Drop)]
+pub struct Find {
+    pub names: Vec<String>,
+    /// Whether names are compared without case.
+    pub ignores_case: bool,
 }
 
 /// What the arguments ask for; `-` is the standard input.
@@ -42,7 +52,7 @@ pub enum Asked {
     },
     Find {
         file: String,
-        names: Vec<String>,
+        find: Find,
     },
     /// Of the modules in the files.
     Make(Make),
@@ -58,6 +68,7 @@ struct Words {
     output: Option<String>,
     is_numbered: bool,
     refuse_vendor_comments: bool,
+    ignores_case: bool,
 }
 
 /// What one argument is.
@@ -68,6 +79,7 @@ enum Word {
     Output,
     Numbered,
     RefuseVendorComments,
+    IgnoreCase,
     Name,
     Unknown,
 }
@@ -79,6 +91,7 @@ fn word_of(argument: &str) -> Word {
         "-o" => Word::Output,
         "--numbered" => Word::Numbered,
         "--refuse-vendor-comments" => Word::RefuseVendorComments,
+        "--ignore-case" => Word::IgnoreCase,
         "-" => Word::Name,
         _ if argument.starts_with('-') => Word::Unknown,
         _ => Word::Name,
@@ -93,6 +106,7 @@ fn read_words(alloc: Global, arguments: Vec<String>) -> Result<Option<Words>, Al
         output: None,
         is_numbered: false,
         refuse_vendor_comments: false,
+        ignores_case: false,
     };
     let mut words = arguments.into_iter();
     while let Some(argument) = words.next() {
@@ -107,6 +121,7 @@ fn read_words(alloc: Global, arguments: Vec<String>) -> Result<Option<Words>, Al
             },
             Word::Numbered => read.is_numbered = true,
             Word::RefuseVendorComments => read.refuse_vendor_comments = true,
+            Word::IgnoreCase => read.ignores_case = true,
             Word::Name => read.names.push(argument)?,
             Word::Unknown => return Ok(None),
         }
@@ -114,12 +129,13 @@ fn read_words(alloc: Global, arguments: Vec<String>) -> Result<Option<Words>, Al
     Ok(Some(read))
 }
 
-/// A look at files; None without a file, or with an option of `get`.
+/// A look at files; None without a file, or with an option of another task.
 fn look_of(look: Look, words: Words) -> Option<Asked> {
     if words.names.is_empty()
         || words.folder.is_some()
         || words.output.is_some()
         || words.is_numbered
+        || words.ignores_case
     {
         return None;
     }
@@ -133,7 +149,7 @@ fn look_of(look: Look, words: Words) -> Option<Asked> {
     })
 }
 
-/// Whether an option is given.
+/// Whether an option is given that `find` does not take.
 fn has_option(words: &Words) -> bool {
     words.folder.is_some()
         || words.output.is_some()
@@ -141,19 +157,21 @@ fn has_option(words: &Words) -> bool {
         || words.refuse_vendor_comments
 }
 
-/// Names to find; None without a file or a name, or with an option.
+/// Names to find; None without a file or a name, or with an option of another task.
 fn find_of(alloc: Global, words: Words) -> Result<Option<Asked>, AllocError> {
     if words.names.len() < 2 || has_option(&words) {
         return Ok(None);
     }
+    let ignores_case = words.ignores_case;
     let mut names = words.names.into_iter();
     let Some(file) = names.next() else {
         return Ok(None);
     };
-    Ok(Some(Asked::Find {
-        file,
+    let find = Find {
         names: names.collect(alloc)?,
-    }))
+        ignores_case,
+    };
+    Ok(Some(Asked::Find { file, find }))
 }
 
 /// Members to take; None without a file or a folder, or with an option of the other tasks.
@@ -164,6 +182,7 @@ fn get_of(alloc: Global, words: Words) -> Result<Option<Asked>, AllocError> {
         output,
         is_numbered,
         refuse_vendor_comments,
+        ignores_case,
     } = words;
     let Some(folder) = folder else {
         return Ok(None);
@@ -173,7 +192,7 @@ fn get_of(alloc: Global, words: Words) -> Result<Option<Asked>, AllocError> {
         return Ok(None);
     };
     // The empty name, as from a variable that is not set, would be the root folder.
-    if refuse_vendor_comments || output.is_some() || folder.is_empty() {
+    if refuse_vendor_comments || ignores_case || output.is_some() || folder.is_empty() {
         return Ok(None);
     }
     let get = Get {
@@ -192,6 +211,7 @@ fn make_of(words: Words) -> Option<Make> {
         output,
         is_numbered,
         refuse_vendor_comments,
+        ignores_case,
     } = words;
     let output = output?;
     if names.is_empty() || output.is_empty() || folder.is_some() || is_numbered {
@@ -204,12 +224,14 @@ fn make_of(words: Words) -> Option<Make> {
         profile,
         output,
         files: names,
+        ignores_case,
     })
 }
 
-/// A library to make of the members of one; None without their two names, or with an option of `get`.
+/// A library to make of the members of one, whose flag on case it keeps; None without their two names, or with an option of
+/// another task.
 fn canon_of(words: Words) -> Option<Asked> {
-    if words.names.len() != 1 {
+    if words.names.len() != 1 || words.ignores_case {
         return None;
     }
     Some(Asked::Canon(make_of(words)?))

@@ -2,24 +2,23 @@
 
 use crate::asked::Make;
 use crate::fault::Fault;
-use crate::library::{Library, read_members};
+use crate::library::{Library, member_of, read_library};
 use crate::making::{Members, write_members};
-use crate::members::{Verdict, judge};
+use crate::members::{Member, Verdict, judge};
 use crate::shown::{Shown, Stop};
-use crate::span::Span;
 use omf_canon::canon;
 use omf_check::{Checked, Profile};
 use omf_host::{Status, read_input};
-use omf_library::{Part, read_header};
+use omf_library::Part;
 use std::alloc::{AllocError, Global};
 
 /// A member that the check accepts; None, after a line, if it refuses it.
 fn accepted(
     shown: &mut Shown,
     profile: Profile,
-    member: &Span<'_>,
+    member: &Member<'_>,
 ) -> Result<Option<Checked>, AllocError> {
-    match judge(*shown.text.allocator(), profile, member)? {
+    match judge(*shown.text.allocator(), profile, member.bytes)? {
         Verdict::Accepted(module) => Ok(Some(module)),
         Verdict::Refused { reason, place } => {
             shown.fault(Fault::Member {
@@ -38,14 +37,14 @@ fn push_canonical(
     shown: &mut Shown,
     parts: &mut Vec<Part>,
     profile: Profile,
-    member: &Span<'_>,
+    member: &Member<'_>,
 ) -> Result<(), AllocError> {
     let alloc = *shown.text.allocator();
     let Some(module) = accepted(shown, profile, member)? else {
         return Ok(());
     };
     let bytes = canon(alloc, &module)?;
-    let canonical = Span {
+    let canonical = Member {
         number: member.number,
         offset: member.offset,
         bytes: &bytes,
@@ -58,8 +57,7 @@ fn push_canonical(
 }
 
 /// Appends the name of a member by its number.
-fn push_name(alloc: Global, names: &mut Vec<String>, member: &Span<'_>) -> Result<(), AllocError> {
-    let number = member.number;
+fn push_name(alloc: Global, names: &mut Vec<String>, number: usize) -> Result<(), AllocError> {
     names.push(format!(in alloc; "member {number}")?)?;
     Ok(())
 }
@@ -73,9 +71,10 @@ fn write_canonical(
 ) -> Result<(), Stop> {
     let mut parts = Vec::new(rt.alloc());
     let mut names = Vec::new(rt.alloc());
-    for member in library.members.iter() {
-        push_canonical(shown, &mut parts, asked.profile, member)?;
-        push_name(rt.alloc(), &mut names, member)?;
+    for (number, span) in library.spans.members.iter().enumerate() {
+        let member = member_of(number, span);
+        push_canonical(shown, &mut parts, asked.profile, &member)?;
+        push_name(rt.alloc(), &mut names, number)?;
     }
     if shown.status != Status::Done {
         return Ok(());
@@ -98,12 +97,12 @@ pub fn canon_library(rt: &HostRuntime, shown: &mut Shown, asked: &Make) -> Resul
         Ok(bytes) => bytes,
         Err(error) => return Ok(shown.unread(name.as_str(), &error)?),
     };
-    let library = match read_header(&bytes) {
-        Ok(header) => read_members(rt.alloc(), &bytes, header)?,
+    let library = match read_library(rt.alloc(), &bytes)? {
+        Ok(library) => library,
         Err(fault) => return Ok(shown.fault(Fault::from(fault))?),
     };
-    match library.end {
-        Err(fault) => Ok(shown.fault(fault)?),
+    match library.spans.end {
+        Err(fault) => Ok(shown.fault(Fault::from(fault))?),
         Ok(_) => write_canonical(rt, shown, asked, &library),
     }
 }

@@ -1,7 +1,7 @@
-//! What can be wrong with a library. The numbers are those of docs/LIBRARIES.md.
+//! What can be wrong with a library, or odd about it. The numbers are those of docs/LIBRARIES.md.
 
 use omf_frame::{Place, Reason};
-use omf_library::LibraryFault;
+use omf_library::{LibraryFault, SpanFault};
 
 /// What is wrong, and where: offsets in the file; members are counted from 0.
 #[derive(Clone, Copy)]
@@ -54,6 +54,19 @@ pub enum Fault<'a> {
     LongSearches(usize),
 }
 
+/// What is odd about a library and no fault, and where.
+#[derive(Clone, Copy)]
+pub enum Note<'a> {
+    /// 17: the bytes between a member and the next page are not all zero; the offset of the first that is not.
+    Padding { offset: usize, member: usize },
+    /// 18: bytes between the F1H record and the dictionary.
+    Gap { offset: usize, length: usize },
+    /// 19: bytes after the dictionary, or after the F1H record if the header has none, that are no extended dictionary.
+    After { offset: usize, length: usize },
+    /// 20: a communal of a member is found by neither search.
+    Communal(Public<'a>),
+}
+
 /// An entry of the dictionary: the offset of its bucket, its page and its name.
 #[derive(Clone, Copy)]
 pub struct Named<'a> {
@@ -62,7 +75,7 @@ pub struct Named<'a> {
     pub name: &'a [u8],
 }
 
-/// A public of a member.
+/// A public or a communal of a member.
 #[derive(Clone, Copy)]
 pub struct Public<'a> {
     pub offset: usize,
@@ -71,6 +84,11 @@ pub struct Public<'a> {
 }
 
 impl From<LibraryFault> for Fault<'static> {
+    ghost use Rattle.std.specs.Prelude.{◌≡◌};
+    ghost use Rattle.omf_lib.specs.Lines.{header_fault};
+
+    ghost from_gives = { λ f fault. fault ≡ header_fault f };
+
     fn from(fault: LibraryFault) -> Fault<'static> {
         match fault {
             LibraryFault::HeaderCut => Fault::HeaderCut,
@@ -79,6 +97,21 @@ impl From<LibraryFault> for Fault<'static> {
             | LibraryFault::Memory
             | LibraryFault::Refused { .. }
             | LibraryFault::NoEnd { .. } => Fault::NoHeader,
+        }
+    }
+}
+
+impl From<SpanFault> for Fault<'static> {
+    ghost use Rattle.std.specs.Prelude.{◌≡◌};
+    ghost use Rattle.omf_lib.specs.Lines.{page_fault};
+
+    ghost from_gives = { λ f fault. fault ≡ page_fault f };
+
+    fn from(fault: SpanFault) -> Fault<'static> {
+        match fault {
+            SpanFault::NoMember { offset, member } => Fault::NoMember { offset, member },
+            SpanFault::MemberCut { offset, member } => Fault::MemberCut { offset, member },
+            SpanFault::NoEnd { offset, member } => Fault::NoEnd { offset, member },
         }
     }
 }

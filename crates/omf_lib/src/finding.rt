@@ -1,127 +1,315 @@
 //! The text of `omf-lib find`: which member has a public, and how the dictionary leads there.
 
+ghost use Rattle.std.specs.Prelude.{◌≡◌, ◌++◌, ◌&&◌, ◌||◌, not, List, ℕ, Bool, IfOk, OnOk, map, string_bytes};
+ghost use Rattle.std.specs.Io.KnownBytes.{Appends};
+ghost use Rattle.omf_frame.specs.Bytes.{AddsText};
+ghost use Rattle.omf_library.specs.Names.{names_seen};
+ghost use Rattle.omf_lib.specs.Find.{any_profile, AreNamesFound, ArePlaces, entry_text, found_word, is_nowhere, IsEntry, IsEntryText, IsFound, IsFoundIn, IsNameFound, name_text, public_text, publics_text, refused_status};
+ghost use Rattle.omf_lib.specs.Members.{AreAllPublics, ArePublics, is_public, public_seen, publics_among, publics_seen, Public};
+
+use crate::asked::Find;
 use crate::fault::Fault;
-use crate::library::{Library, read_members};
+use crate::library::{Library, read_library};
 use crate::listing::put_public;
 use crate::members::{Verdict, judge};
-use crate::publics::publics_of;
-use crate::shown::{Shown, Stop};
+use crate::names::is_same_name;
+use crate::shown::{Stop, send, status_of};
+use crate::text::put_fault;
 use omf_check::Profile;
 use omf_frame::Sink;
-use omf_host::put_quoted;
-use omf_library::{Dictionary, Rule, read_header};
-use std::alloc::AllocError;
+use omf_host::{Status, put_failure, put_quoted};
+use omf_library::{Defined, Dictionary, Kind, Rule, Sought, Span, defined_names};
+use std::alloc::{AllocError, Global};
 use std::fmt::Write;
 
-/// A member's number, and one of its publics.
+/// A public: the number of its member, and its name.
 #[derive(Drop)]
-struct Defined {
+struct Listed {
     member: usize,
     name: Vec<u8>,
 }
 
-/// The publics of all members, in order. A member that is refused has none.
-fn all_publics(shown: &mut Shown, library: &Library<'_>) -> Result<Vec<Defined>, AllocError> {
-    let alloc = *shown.text.allocator();
+/// Whether a name is that of a PUBDEF.
+fn is_public(kind: Kind) -> bool
+    ensures { result ≡ is_public kind }
+{
+    match kind {
+        Kind::Public => true,
+        Kind::Import | Kind::Communal => false,
+    }
+}
+
+/// Appends the publics among the names of a module.
+fn push_named(all: &mut Vec<Listed>, member: usize, names: Vec<Defined>) -> Result<(), AllocError>
+    ensures { OnOk result (publics_seen all.new.items ≡ publics_seen all.old.items ++ publics_among member (names_seen names.items)) }
+{
+    for defined in names {
+        let Defined { kind, name } = defined;
+        if is_public(kind) {
+            all.push(Listed { member, name })?;
+        }
+    }
+    Ok(())
+}
+
+/// Appends the publics of a member. One that is refused has none.
+fn push_publics(
+    alloc: Global,
+    all: &mut Vec<Listed>,
+    number: usize,
+    member: &Span<'_>,
+) -> Result<(), AllocError>
+    ensures { OnOk result ((own : List Public) × ArePublics any_profile number member.now.bytes.now own × (publics_seen all.new.items ≡ publics_seen all.old.items ++ own)) }
+{
     let profile = Profile {
         refuse_vendor_comments: false,
     };
-    let mut defined = Vec::new(alloc);
-    for member in library.members.iter() {
-        if let Verdict::Accepted(module) = judge(alloc, profile, member)? {
-            for name in publics_of(alloc, &module)? {
-                defined.push(Defined {
-                    member: member.number,
-                    name,
-                })?;
-            }
-        }
+    match judge(alloc, profile, member.bytes)? {
+        Verdict::Accepted(module) => push_named(all, number, defined_names(alloc, &module)?),
+        Verdict::Refused { .. } => Ok(()),
     }
-    Ok(defined)
 }
 
-/// Appends a line for each member that has a public of this name. Returns whether there is one.
-fn put_members(text: &mut String, all: &[Defined], name: &[u8]) -> Result<bool, AllocError> {
-    let mut is_there = false;
-    for defined in all {
-        if defined.name.as_slice() == name {
-            is_there = true;
-            put_public(text, defined.member, name)?;
-        }
+/// The publics of the members, in order.
+fn all_publics(alloc: Global, members: &[Span<'_>]) -> Result<Vec<Listed>, AllocError>
+    ensures { IfOk result (λ all. AreAllPublics any_profile 0 members.now (publics_seen all.items)) }
+{
+    let mut all = Vec::new(alloc);
+    for (number, member) in members.iter().enumerate() {
+        push_publics(alloc, &mut all, number, member)?;
     }
-    Ok(is_there)
+    Ok(all)
+}
+
+/// Appends the line of a public, if it has this name.
+fn put_matching(
+    text: &mut String,
+    is_case_sensitive: bool,
+    public: &Listed,
+    name: &[u8],
+) -> Result<(), AllocError>
+    ensures { AddsText result (string_bytes text.old) (string_bytes text.new) (public_text is_case_sensitive name.now (public_seen public.now)) }
+{
+    if is_same_name(is_case_sensitive, public.name.as_slice(), name) {
+        put_public(text, public.member, public.name.as_slice())
+    } else {
+        Ok(())
+    }
+}
+
+/// Appends a line for each public of a name.
+fn put_publics(
+    text: &mut String,
+    is_case_sensitive: bool,
+    all: &[Listed],
+    name: &[u8],
+) -> Result<(), AllocError>
+    ensures { AddsText result (string_bytes text.old) (string_bytes text.new) (publics_text is_case_sensitive name.now (publics_seen all.now)) }
+{
+    let mut rest = all;
+    while let [public, others @ ..] = rest {
+        put_matching(text, is_case_sensitive, public, name)?;
+        rest = others;
+    }
+    Ok(())
+}
+
+/// What a dictionary has for a name: the page of the first entry, and what the two searches find.
+#[derive(Clone, Copy)]
+struct Entry {
+    first: Option<u16>,
+    restart: Sought,
+    keep: Sought,
+}
+
+/// Whether names that differ in case differ.
+fn is_sensitive(dictionary: Dictionary<'_>, ignores_case: bool) -> bool
+    ensures { result ≡ (dictionary.entry.is_case_sensitive && not ignores_case) }
+{
+    dictionary.is_case_sensitive && !ignores_case
+}
+
+/// What a dictionary has for a name.
+fn entry_of(dictionary: Dictionary<'_>, ignores_case: bool, name: &[u8]) -> Entry
+    ensures { IsEntry (dictionary.entry.is_case_sensitive && not ignores_case) dictionary.entry.bytes.now name.now result }
+{
+    let compared = Dictionary {
+        bytes: dictionary.bytes,
+        is_case_sensitive: is_sensitive(dictionary, ignores_case),
+    };
+    Entry {
+        first: compared.first_entry(name),
+        restart: compared.search(Rule::Restart, name),
+        keep: compared.search(Rule::Keep, name),
+    }
 }
 
 /// Appends a word for a search that finds a page.
-fn put_found(
-    text: &mut String,
-    dictionary: Dictionary<'_>,
-    rule: Rule,
-    name: &[u8],
-    page: u16,
-) -> Result<(), AllocError> {
-    if dictionary.search(rule, name).page != Some(page) {
-        return Ok(());
+fn put_found(text: &mut String, found: Option<u16>, page: u16, word: &str) -> Result<(), AllocError>
+    ensures { AddsText result (string_bytes text.old) (string_bytes text.new) (found_word found page word.now) }
+{
+    match found {
+        Some(found) => {
+            if found == page {
+                text.push_str(word)
+            } else {
+                Ok(())
+            }
+        }
+        None => Ok(()),
     }
-    text.push_str(match rule {
-        Rule::Restart => " restart",
-        Rule::Keep => " keep",
-    })
 }
 
-/// Appends the line of the name's first entry in the dictionary. Returns whether there is one.
-fn put_entry(
-    text: &mut String,
-    dictionary: Dictionary<'_>,
-    name: &[u8],
-) -> Result<bool, AllocError> {
-    let Some(page) = dictionary.first_entry(name) else {
-        return Ok(false);
+/// Appends the line of the first entry of a name, if there is one.
+fn put_entry(text: &mut String, name: &[u8], entry: Entry) -> Result<(), AllocError>
+    ensures { AddsText result (string_bytes text.old) (string_bytes text.new) (entry_text name.now entry) }
+{
+    let Some(page) = entry.first else {
+        return Ok(());
     };
     write!(text, "E {page} ")?;
     put_quoted(text, name)?;
-    put_found(text, dictionary, Rule::Restart, name, page)?;
-    put_found(text, dictionary, Rule::Keep, name, page)?;
-    text.push('\n')?;
-    Ok(true)
+    put_found(text, entry.restart.page, page, " restart")?;
+    put_found(text, entry.keep.page, page, " keep")?;
+    text.push('\n')
 }
 
-/// Appends the lines of a name.
-fn put_name(
-    shown: &mut Shown,
-    library: &Library<'_>,
-    all: &[Defined],
-    name: &str,
-) -> Result<(), AllocError> {
-    let is_public = put_members(&mut shown.text, all, name.as_bytes())?;
-    let has_entry = match library.dictionary() {
-        Some(dictionary) => put_entry(&mut shown.text, dictionary, name.as_bytes())?,
-        None => false,
-    };
-    if is_public || has_entry {
-        return Ok(());
+/// Appends the line of the first entry of a name, if there is a dictionary with one.
+fn put_first_entry(
+    text: &mut String,
+    dictionary: Option<Dictionary<'_>>,
+    ignores_case: bool,
+    name: &[u8],
+) -> Result<(), AllocError>
+    ensures { OnOk result ((own : List ℕ) × IsEntryText ignores_case dictionary.entry name.now own × (string_bytes text.new ≡ string_bytes text.old ++ own)) }
+{
+    match dictionary {
+        Some(dictionary) => {
+            put_entry(text, name, entry_of(dictionary, ignores_case, name))?;
+            Ok(())
+        }
+        None => Ok(()),
     }
-    shown.refuse(name, "no such public")
 }
 
-/// Writes where names are defined in a library; or why a file is none.
-pub fn find<K: Sink>(
-    shown: &mut Shown,
-    writer: &mut K,
-    names: &[String],
-    bytes: &[u8],
-) -> Result<(), Stop> {
-    let library = match read_header(bytes) {
-        Ok(header) => read_members(*shown.text.allocator(), bytes, header)?,
-        Err(fault) => return Ok(shown.fault(Fault::from(fault))?),
-    };
-    if let Err(fault) = library.end {
-        return Ok(shown.fault(fault)?);
+/// Names are looked up among these.
+#[derive(Clone, Copy)]
+struct Sources<'a> {
+    ignores_case: bool,
+    dictionary: Option<Dictionary<'a>>,
+    publics: &'a [Listed],
+}
+
+/// The places of a name; empty if it is nowhere.
+fn places_of(alloc: Global, sources: Sources<'_>, name: &[u8]) -> Result<String, AllocError>
+    ensures { IfOk result (λ text. ArePlaces sources.entry.ignores_case sources.entry.dictionary (publics_seen sources.entry.publics.now) name.now (string_bytes text)) }
+{
+    let mut text = String::new(alloc);
+    put_publics(&mut text, !sources.ignores_case, sources.publics, name)?;
+    put_first_entry(&mut text, sources.dictionary, sources.ignores_case, name)?;
+    Ok(text)
+}
+
+/// Whether a text is empty.
+fn is_nowhere(text: &[u8]) -> bool
+    ensures { result ≡ is_nowhere text.now }
+{
+    match text {
+        [] => true,
+        [_, ..] => false,
     }
-    let all = all_publics(shown, &library)?;
+}
+
+/// Appends the places of a name, or that it is nowhere. Returns whether it is refused.
+fn put_places(text: &mut String, name: &str, places: &str) -> Result<bool, AllocError>
+    ensures { IfOk result (λ is_refused. (is_refused ≡ is_nowhere places.now) × (string_bytes text.new ≡ string_bytes text.old ++ name_text name.now places.now)) }
+{
+    if is_nowhere(places.as_bytes()) {
+        put_failure(text, "refused", name, "no such public")?;
+        Ok(true)
+    } else {
+        text.push_str(places)?;
+        Ok(false)
+    }
+}
+
+/// Appends the text of a name. Returns whether it is refused.
+fn put_name(text: &mut String, sources: Sources<'_>, name: &String) -> Result<bool, AllocError>
+    ensures { IfOk result (λ is_refused. (own : List ℕ) × IsNameFound sources.entry.ignores_case sources.entry.dictionary (publics_seen sources.entry.publics.now) (string_bytes name.now) is_refused own × (string_bytes text.new ≡ string_bytes text.old ++ own)) }
+{
+    let places = places_of(*text.allocator(), sources, name.as_bytes())?;
+    let is_refused = put_places(text, name.as_str(), places.as_str())?;
+    Ok(is_refused)
+}
+
+/// Whether one of two is.
+fn is_either(one: bool, other: bool) -> bool
+    ensures { result ≡ (one || other) }
+{
+    one || other
+}
+
+/// Appends the text of each name. Returns whether one is refused.
+fn put_names(text: &mut String, sources: Sources<'_>, names: &[String]) -> Result<bool, AllocError>
+    ensures { IfOk result (λ is_refused. (own : List ℕ) × AreNamesFound sources.entry.ignores_case sources.entry.dictionary (publics_seen sources.entry.publics.now) (map string_bytes names.now) is_refused own × (string_bytes text.new ≡ string_bytes text.old ++ own)) }
+{
+    let mut is_refused = false;
     for name in names {
-        put_name(shown, &library, all.as_slice(), name.as_str())?;
-        shown.flush(writer)?;
+        let is_one_refused = put_name(text, sources, name)?;
+        is_refused = is_either(is_refused, is_one_refused);
     }
-    Ok(())
+    Ok(is_refused)
+}
+
+/// Appends what is printed for a library. Returns whether it is refused.
+fn put_library(text: &mut String, asked: &Find, library: &Library<'_>) -> Result<bool, AllocError>
+    ensures { IfOk result (λ is_refused. (own : List ℕ) × IsFoundIn asked.now library.now.header library.now.bytes.now library.now.spans.members.items library.now.spans.end is_refused own × (string_bytes text.new ≡ string_bytes text.old ++ own)) }
+{
+    match library.spans.end {
+        Ok(_) => {
+            let publics = all_publics(*text.allocator(), library.spans.members.as_slice())?;
+            let sources = Sources {
+                ignores_case: asked.ignores_case,
+                dictionary: library.dictionary(),
+                publics: publics.as_slice(),
+            };
+            let is_refused = put_names(text, sources, asked.names.as_slice())?;
+            Ok(is_refused)
+        }
+        Err(fault) => {
+            put_fault(text, Fault::from(fault))?;
+            Ok(true)
+        }
+    }
+}
+
+/// Appends what is printed for a file. Returns whether it is refused.
+fn put_file(text: &mut String, asked: &Find, bytes: &[u8]) -> Result<bool, AllocError>
+    ensures { IfOk result (λ is_refused. (own : List ℕ) × IsFound asked.now bytes.now is_refused own × (string_bytes text.new ≡ string_bytes text.old ++ own)) }
+{
+    match read_library(*text.allocator(), bytes)? {
+        Ok(library) => {
+            let is_refused = put_library(text, asked, &library)?;
+            Ok(is_refused)
+        }
+        Err(fault) => {
+            put_fault(text, Fault::from(fault))?;
+            Ok(true)
+        }
+    }
+}
+
+/// Writes where names are in a library; or why a file is none. Returns the status.
+pub fn find<K: Sink>(
+    alloc: Global,
+    writer: &mut K,
+    asked: &Find,
+    bytes: &[u8],
+) -> Result<Status, Stop>
+    ensures { IfOk result (λ status. (is_refused : Bool) × (text : List ℕ) × IsFound asked.now bytes.now is_refused text × (status ≡ refused_status is_refused) × Appends (K.seen writer.old).bytes (K.seen writer.new).bytes text) }
+{
+    let mut text = String::new(alloc);
+    let is_refused = put_file(&mut text, asked, bytes)?;
+    send(writer, text.as_str())?;
+    Ok(status_of(is_refused))
 }

@@ -1,6 +1,6 @@
 //! The program on the arguments, the files and the standard output of its process.
 
-use crate::asked::{Asked, Look, Make, read_arguments};
+use crate::asked::{Asked, Get, Look, Make, read_arguments};
 use crate::canonical::canon_library;
 use crate::finding::find;
 use crate::judging::judge_file;
@@ -19,7 +19,7 @@ use std::process::ExitCode;
 
 /// How the program is called.
 const USAGE: &[u8] =
-    b"usage: omf-lib list|check [--refuse-vendor-comments] LIB ..\n       omf-lib find LIB NAME ..\n       omf-lib get LIB [MEMBER ..] -d DIR [--numbered]\n       omf-lib make [--refuse-vendor-comments] -o LIB FILE ..\n       omf-lib canon [--refuse-vendor-comments] -o LIB LIB\n";
+    b"usage: omf-lib list|check [--refuse-vendor-comments] LIB ..\n       omf-lib find [--ignore-case] LIB NAME ..\n       omf-lib get LIB [MEMBER ..] -d DIR [--numbered]\n       omf-lib make [--refuse-vendor-comments] [--ignore-case] -o LIB FILE ..\n       omf-lib canon [--refuse-vendor-comments] -o LIB LIB\n";
 
 /// The bytes of a file; None, after a line, if it could not be read.
 fn input_of<K: Sink>(
@@ -91,6 +91,19 @@ fn look_at_all<K: Sink>(
     status
 }
 
+/// Takes members out of a library. Returns the status.
+fn act_get<K: Sink>(
+    rt: &HostRuntime,
+    writer: &mut K,
+    asked: &Get,
+    bytes: &[u8],
+) -> Result<Status, Stop> {
+    let mut shown = Shown::new(rt.alloc());
+    get(rt, &mut shown, writer, asked, bytes)?;
+    shown.flush(writer)?;
+    Ok(shown.status)
+}
+
 /// Takes members out of a library, or finds names in it. Returns the status.
 fn act_on<K: Sink>(
     rt: &HostRuntime,
@@ -101,14 +114,11 @@ fn act_on<K: Sink>(
     let Some(bytes) = input_of(rt, writer, file)? else {
         return Ok(Status::Failed);
     };
-    let mut shown = Shown::new(rt.alloc());
     match asked {
-        Asked::Get { get: asked, .. } => get(rt, &mut shown, writer, asked, &bytes)?,
-        Asked::Find { names, .. } => find(&mut shown, writer, names.as_slice(), &bytes)?,
-        Asked::Look { .. } | Asked::Make(_) | Asked::Canon(_) => {}
+        Asked::Get { get: asked, .. } => act_get(rt, writer, asked, &bytes),
+        Asked::Find { find: asked, .. } => find(rt.alloc(), writer, asked, &bytes),
+        Asked::Look { .. } | Asked::Make(_) | Asked::Canon(_) => Ok(Status::Done),
     }
-    shown.flush(writer)?;
-    Ok(shown.status)
 }
 
 /// Makes a library. Returns the status.

@@ -1,18 +1,18 @@
-//! The text of `omf-lib check`: what is wrong with a library.
+//! The text of `omf-lib check`: what is wrong with a library, and what is odd about it.
 
 ghost use Rattle.std.specs.Prelude.{◌<◌};
 ghost use Rattle.omf_library.specs.Dictionary.{block_count};
 
-use crate::fault::{Fault, Named, Public};
-use crate::library::{Library, page_of, read_members};
-use crate::members::{Verdict, judge};
-use crate::publics::publics_of;
+use crate::fault::{Fault, Named, Note, Public};
+use crate::library::{Library, member_of, page_of, read_library};
+use crate::members::{Member, Verdict, judge};
+use crate::noting::note_regions;
 use crate::shown::{Shown, Stop};
-use crate::span::Span;
+use crate::text::put_note;
 use omf_check::Profile;
 use omf_frame::Sink;
 use omf_host::Status;
-use omf_library::{BLOCK, BUCKETS, Bucket, Dictionary, Rule, read_header};
+use omf_library::{BLOCK, BUCKETS, Bucket, Defined, Dictionary, Kind, Rule, defined_names};
 use std::alloc::{AllocError, Global};
 use std::fmt::Write;
 
@@ -26,6 +26,8 @@ const FIRST_CREDIT: u64 = 1 << 20;
 #[derive(Drop)]
 struct Report {
     shown: Shown,
+    /// The notes on communals, which follow the faults.
+    notes: String,
     publics: u64,
     entries: u64,
     /// What the searches may still cost. They end where it would be less than 0, so the time of a check is linear in the
@@ -47,6 +49,15 @@ impl Report {
         self.credit = credit.saturating_add(CREDIT).checked_sub(cost);
         Some(sought.page)
     }
+
+    /// Searches for a name by the rule of the standard, and then by the other one. Returns None once the searches have cost
+    /// too much.
+    fn search_both(&mut self, dictionary: Dictionary<'_>, name: &[u8]) -> Option<Option<u16>> {
+        match self.search(dictionary, Rule::Restart, name)? {
+            Some(page) => Some(Some(page)),
+            None => self.search(dictionary, Rule::Keep, name),
+        }
+    }
 }
 
 /// Looks up a public of the member that begins at a page.
@@ -56,52 +67,64 @@ fn look_up(
     page: Option<usize>,
     public: Public<'_>,
 ) -> Result<(), AllocError> {
-    let Some(restarted) = report.search(dictionary, Rule::Restart, public.name) else {
-        return Ok(());
-    };
-    let found = match restarted {
-        Some(found) => Some(found),
-        None => report.search(dictionary, Rule::Keep, public.name).flatten(),
-    };
-    match found {
-        None => report.shown.fault(Fault::NoEntry(public)),
-        Some(found) if page == Some(usize::from(found)) => Ok(()),
-        Some(_) => report.shown.fault(Fault::OtherMember(public)),
+    match report.search_both(dictionary, public.name) {
+        None => Ok(()),
+        Some(None) => report.shown.fault(Fault::NoEntry(public)),
+        Some(Some(found)) if page == Some(usize::from(found)) => Ok(()),
+        Some(Some(_)) => report.shown.fault(Fault::OtherMember(public)),
     }
 }
 
-/// Looks up the publics of a member, if there is a dictionary.
+/// Looks up a communal of a member. The entry may be that of another member.
+fn look_up_communal(
+    report: &mut Report,
+    dictionary: Dictionary<'_>,
+    communal: Public<'_>,
+) -> Result<(), AllocError> {
+    match report.search_both(dictionary, communal.name) {
+        Some(None) => put_note(&mut report.notes, Note::Communal(communal)),
+        None | Some(Some(_)) => Ok(()),
+    }
+}
+
+/// Looks up the publics and communals of a member, if there is a dictionary.
 fn look_up_all(
     report: &mut Report,
     library: &Library<'_>,
-    member: &Span<'_>,
-    names: &[Vec<u8>],
+    member: &Member<'_>,
+    names: &[Defined],
 ) -> Result<(), AllocError> {
     let Some(dictionary) = library.dictionary() else {
         return Ok(());
     };
-    let page = page_of(library, member.offset);
-    for name in names {
-        report.publics = report.publics.saturating_add(1);
+    let page = page_of(library.header, member.offset);
+    for defined in names {
         let public = Public {
             offset: member.offset,
             member: member.number,
-            name: name.as_slice(),
+            name: defined.name.as_slice(),
         };
-        look_up(report, dictionary, page, public)?;
+        match defined.kind {
+            Kind::Public => {
+                report.publics = report.publics.saturating_add(1);
+                look_up(report, dictionary, page, public)?;
+            }
+            Kind::Communal => look_up_communal(report, dictionary, public)?,
+            Kind::Import => {}
+        }
     }
     Ok(())
 }
 
-/// Checks a member, and looks up its publics.
+/// Checks a member, and looks up its publics and communals.
 fn judge_member(
     report: &mut Report,
     profile: Profile,
     library: &Library<'_>,
-    member: &Span<'_>,
+    member: &Member<'_>,
 ) -> Result<(), AllocError> {
     let alloc = *report.shown.text.allocator();
-    match judge(alloc, profile, member)? {
+    match judge(alloc, profile, member.bytes)? {
         Verdict::Refused { reason, place } => report.shown.fault(Fault::Member {
             offset: member.offset,
             member: member.number,
@@ -109,7 +132,7 @@ fn judge_member(
             place,
         }),
         Verdict::Accepted(module) => {
-            let names = publics_of(alloc, &module)?;
+            let names = defined_names(alloc, &module)?;
             look_up_all(report, library, member, names.as_slice())
         }
     }
@@ -118,8 +141,8 @@ fn judge_member(
 /// The pages at which members begin: true at the number of each.
 fn pages_of(alloc: Global, library: &Library<'_>) -> Result<Vec<bool>, AllocError> {
     let mut pages = vec![in alloc; false; 65536]?;
-    for member in library.members.iter() {
-        if let Some(page) = page_of(library, member.offset)
+    for member in library.spans.members.iter() {
+        if let Some(page) = page_of(library.header, member.offset)
             && let Some(is_one) = pages.get_mut(page)
         {
             *is_one = true;
@@ -237,31 +260,39 @@ fn put_counts(report: &mut Report, members: usize) -> Result<(), AllocError> {
     )
 }
 
-/// Checks a library, and writes a line for each fault; or one with counts, if there is none.
+/// Appends the lines of what is odd about a library.
+fn put_notes(report: &mut Report, library: &Library<'_>) -> Result<(), AllocError> {
+    note_regions(&mut report.shown.text, library)?;
+    report.shown.text.push_str(report.notes.as_str())
+}
+
+/// Checks a library, and writes a line for each fault; or one with counts, if there is none. The notes follow.
 fn judge_library<K: Sink>(
     report: &mut Report,
     writer: &mut K,
     profile: Profile,
     library: &Library<'_>,
 ) -> Result<(), Stop> {
-    for member in library.members.iter() {
-        judge_member(report, profile, library, member)?;
+    for (number, span) in library.spans.members.iter().enumerate() {
+        judge_member(report, profile, library, &member_of(number, span))?;
         report.shown.flush(writer)?;
     }
-    match library.end {
+    match library.spans.end {
         Ok(end) => {
             judge_place(&mut report.shown, library, end)?;
             judge_entries(report, writer, library)?;
         }
-        Err(fault) => report.shown.fault(fault)?,
+        Err(fault) => report.shown.fault(Fault::from(fault))?,
     }
     if report.shown.status == Status::Done {
-        put_counts(report, library.members.len())?;
+        put_counts(report, library.spans.members.len())?;
     }
+    put_notes(report, library)?;
     Ok(())
 }
 
-/// Writes what is wrong with a file: a line for each fault; or a line with counts. Returns the status.
+/// Writes what is wrong with a file: a line for each fault, or a line with counts; then a line for each note. Returns the
+/// status.
 pub fn judge_file<K: Sink>(
     alloc: Global,
     writer: &mut K,
@@ -270,15 +301,13 @@ pub fn judge_file<K: Sink>(
 ) -> Result<Status, Stop> {
     let mut report = Report {
         shown: Shown::new(alloc),
+        notes: String::new(alloc),
         publics: 0,
         entries: 0,
         credit: Some(FIRST_CREDIT),
     };
-    match read_header(bytes) {
-        Ok(header) => {
-            let library = read_members(alloc, bytes, header)?;
-            judge_library(&mut report, writer, profile, &library)?;
-        }
+    match read_library(alloc, bytes)? {
+        Ok(library) => judge_library(&mut report, writer, profile, &library)?,
         Err(fault) => report.shown.fault(Fault::from(fault))?,
     }
     report.shown.flush(writer)?;

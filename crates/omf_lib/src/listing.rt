@@ -1,30 +1,36 @@
 //! The text of `omf-lib list`.
 
+ghost use Rattle.std.specs.Prelude.{string_bytes};
+ghost use Rattle.omf_frame.specs.Bytes.{AddsText};
+ghost use Rattle.omf_lib.specs.Lines.{public_line};
+
 use crate::fault::Fault;
-use crate::library::{Library, read_members};
-use crate::members::{Verdict, judge};
-use crate::publics::publics_of;
+use crate::library::{Library, member_of, page_of, read_library};
+use crate::members::{Member, Verdict, judge, name_of};
 use crate::shown::{Shown, Stop};
-use crate::span::{Span, name_of};
 use crate::text::put_reason;
 use omf_check::Profile;
 use omf_frame::Sink;
 use omf_host::{Status, put_quoted};
-use omf_library::{Header, read_header};
+use omf_library::{Defined, Header, Kind, defined_names};
 use std::alloc::{AllocError, Global};
 use std::fmt::Write;
 
 /// Appends the line of a public of a member.
-pub fn put_public(text: &mut String, member: usize, name: &[u8]) -> Result<(), AllocError> {
+pub fn put_public(text: &mut String, member: usize, name: &[u8]) -> Result<(), AllocError>
+    ensures { AddsText result (string_bytes text.old) (string_bytes text.new) (public_line member name.now) }
+{
     write!(text, "P {member} ")?;
     put_quoted(text, name)?;
     text.push('\n')
 }
 
 /// Appends a line for each public of a member.
-fn put_publics(text: &mut String, member: usize, names: &[Vec<u8>]) -> Result<(), AllocError> {
-    for name in names {
-        put_public(text, member, name.as_slice())?;
+fn put_publics(text: &mut String, member: usize, names: &[Defined]) -> Result<(), AllocError> {
+    for defined in names {
+        if defined.kind == Kind::Public {
+            put_public(text, member, defined.name.as_slice())?;
+        }
     }
     Ok(())
 }
@@ -49,13 +55,13 @@ fn put_header(text: &mut String, header: Header) -> Result<(), AllocError> {
 }
 
 /// Appends the line of a member, without its line feed.
-fn put_member(text: &mut String, header: Header, member: &Span<'_>) -> Result<(), AllocError> {
-    let Span {
+fn put_member(text: &mut String, header: Header, member: &Member<'_>) -> Result<(), AllocError> {
+    let Member {
         number,
         offset,
         bytes,
     } = *member;
-    let page = offset.checked_div(header.page as usize).unwrap_or(0);
+    let page = page_of(header, offset).unwrap_or(0);
     let length = bytes.len();
     write!(text, "M {number} {page} {offset:08X} {length} ")?;
     put_quoted(text, name_of(bytes))
@@ -66,14 +72,14 @@ fn list_member(
     shown: &mut Shown,
     profile: Profile,
     library: &Library<'_>,
-    member: &Span<'_>,
+    member: &Member<'_>,
 ) -> Result<(), AllocError> {
     put_member(&mut shown.text, library.header, member)?;
     let alloc = *shown.text.allocator();
-    match judge(alloc, profile, member)? {
+    match judge(alloc, profile, member.bytes)? {
         Verdict::Accepted(module) => {
             shown.text.push('\n')?;
-            let names = publics_of(alloc, &module)?;
+            let names = defined_names(alloc, &module)?;
             put_publics(&mut shown.text, member.number, names.as_slice())
         }
         Verdict::Refused { reason, place } => {
@@ -104,13 +110,13 @@ fn list_library<K: Sink>(
     library: &Library<'_>,
 ) -> Result<(), Stop> {
     put_header(&mut shown.text, library.header)?;
-    for member in library.members.iter() {
-        list_member(shown, profile, library, member)?;
+    for (number, span) in library.spans.members.iter().enumerate() {
+        list_member(shown, profile, library, &member_of(number, span))?;
         shown.flush(writer)?;
     }
     put_extended(&mut shown.text, library)?;
-    if let Err(fault) = library.end {
-        shown.fault(fault)?;
+    if let Err(fault) = library.spans.end {
+        shown.fault(Fault::from(fault))?;
     }
     Ok(())
 }
@@ -123,11 +129,8 @@ pub fn list<K: Sink>(
     bytes: &[u8],
 ) -> Result<Status, Stop> {
     let mut shown = Shown::new(alloc);
-    match read_header(bytes) {
-        Ok(header) => {
-            let library = read_members(alloc, bytes, header)?;
-            list_library(&mut shown, writer, profile, &library)?;
-        }
+    match read_library(alloc, bytes)? {
+        Ok(library) => list_library(&mut shown, writer, profile, &library)?,
         Err(fault) => shown.fault(Fault::from(fault))?,
     }
     shown.flush(writer)?;

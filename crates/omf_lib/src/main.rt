@@ -13,10 +13,10 @@ mod library;
 mod listing;
 mod making;
 mod members;
+mod names;
 mod naming;
-mod publics;
+mod noting;
 mod shown;
-mod span;
 mod taking;
 mod text;
 

@@ -2,11 +2,11 @@
 
 use crate::asked::Make;
 use crate::members::{Verdict, judge};
+use crate::names::is_same_name;
 use crate::shown::{Shown, Stop};
-use crate::span::Span;
 use crate::text::put_reason;
 use omf_host::{Status, Written, put_name, put_quoted, read_input, write_new};
-use omf_library::{MakeFault, Part, make};
+use omf_library::{Defined, Kind, MakeFault, Part, make};
 use std::alloc::AllocError;
 use std::fmt::Write;
 
@@ -33,12 +33,7 @@ fn push_part(
         Ok(bytes) => bytes,
         Err(error) => return shown.unread(name, &error),
     };
-    let span = Span {
-        number: 0,
-        offset: 0,
-        bytes: &bytes,
-    };
-    match judge(rt.alloc(), asked.profile, &span)? {
+    match judge(rt.alloc(), asked.profile, &bytes)? {
         Verdict::Accepted(module) => {
             parts.push(Part::new(rt.alloc(), &module)?)?;
             Ok(())
@@ -55,27 +50,51 @@ fn put_name_of(text: &mut String, names: &[String], number: usize) -> Result<(),
     }
 }
 
-/// Appends the line of a name that two parts define. `names` are those of the parts, `number` is that in the second.
+/// A name that two parts define, as each spells it.
+#[derive(Clone, Copy)]
+struct Twice<'a> {
+    first: &'a [u8],
+    second: &'a [u8],
+}
+
+/// The first public or import that is this name, but for its case; the name itself if there is none.
+fn spelled<'a>(names: &'a [Defined], name: &'a [u8]) -> &'a [u8] {
+    for defined in names {
+        if defined.kind != Kind::Communal && is_same_name(false, defined.name.as_slice(), name) {
+            return defined.name.as_slice();
+        }
+    }
+    name
+}
+
+/// The name of this number in the second part, and the one in the first part that is the same but for its case.
+fn twice_of<'a>(first: &'a Part, second: &'a Part, number: usize) -> Option<Twice<'a>> {
+    let name = second.names.get(number)?.name.as_slice();
+    Some(Twice {
+        first: spelled(first.names.as_slice(), name),
+        second: name,
+    })
+}
+
+/// Appends the line of a name that two files define. It has both spellings if they differ.
 fn put_twice(
-    shown: &mut Shown,
+    text: &mut String,
     names: &[String],
-    parts: &[Part],
+    twice: Twice<'_>,
     first: usize,
     second: usize,
-    number: usize,
 ) -> Result<(), AllocError> {
-    shown.raise(Status::Refused);
-    shown.text.push_str("twice ")?;
-    if let Some(part) = parts.get(second)
-        && let Some(defined) = part.names.get(number)
-    {
-        put_quoted(&mut shown.text, defined.name.as_slice())?;
+    text.push_str("twice ")?;
+    put_quoted(text, twice.first)?;
+    text.push_str(" in ")?;
+    put_name_of(text, names, first)?;
+    text.push_str(" and ")?;
+    if twice.first != twice.second {
+        put_quoted(text, twice.second)?;
+        text.push_str(" in ")?;
     }
-    shown.text.push_str(" in ")?;
-    put_name_of(&mut shown.text, names, first)?;
-    shown.text.push_str(" and ")?;
-    put_name_of(&mut shown.text, names, second)?;
-    shown.text.push('\n')
+    put_name_of(text, names, second)?;
+    text.push('\n')
 }
 
 /// Appends the line of a fault.
@@ -93,7 +112,14 @@ fn put_fault(
             first,
             second,
             name,
-        } => put_twice(shown, names, parts, first, second, name)?,
+        } => {
+            shown.raise(Status::Refused);
+            if let (Some(one), Some(other)) = (parts.get(first), parts.get(second))
+                && let Some(twice) = twice_of(one, other, name)
+            {
+                put_twice(&mut shown.text, names, twice, first, second)?;
+            }
+        }
         MakeFault::TooLarge => shown.refuse(output, "too large")?,
         MakeFault::Refused { .. } | MakeFault::Unlike => {
             shown.refuse(output, "not read back as it was made")?
@@ -161,7 +187,7 @@ pub fn make_library(rt: &HostRuntime, shown: &mut Shown, asked: &Make) -> Result
     let members = Members {
         names: asked.files.as_slice(),
         parts: parts.as_slice(),
-        is_case_sensitive: true,
+        is_case_sensitive: !asked.ignores_case,
     };
     write_members(rt, shown, asked, members)
 }

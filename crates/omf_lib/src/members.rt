@@ -1,9 +1,19 @@
-//! The check of a member.
+//! Members, and the check of one.
 
-use crate::span::Span;
+ghost use Rattle.std.specs.Prelude.{IfOk};
+ghost use Rattle.omf_lib.specs.Members.{IsVerdict};
+
 use omf_check::{CheckFault, Checked, Profile, check};
 use omf_frame::{Bytes, Place, Reason};
 use std::alloc::{AllocError, Global};
+
+/// A member of a library: its number from 0, its offset, and its bytes from the THEADR to the MODEND.
+#[derive(Clone, Copy)]
+pub struct Member<'a> {
+    pub number: usize,
+    pub offset: usize,
+    pub bytes: &'a [u8],
+}
 
 /// The answer of the check to a member.
 #[derive(Drop)]
@@ -13,11 +23,21 @@ pub enum Verdict {
 }
 
 /// Checks a member.
-pub fn judge(alloc: Global, profile: Profile, member: &Span<'_>) -> Result<Verdict, AllocError> {
-    match check(alloc, &mut Bytes::new(member.bytes), profile) {
+pub fn judge(alloc: Global, profile: Profile, bytes: &[u8]) -> Result<Verdict, AllocError>
+    ensures { IfOk result (λ v. IsVerdict profile bytes.now v) }
+{
+    match check(alloc, &mut Bytes::new(bytes), profile) {
         Ok(module) => Ok(Verdict::Accepted(module)),
         Err(CheckFault::Refused { reason, place }) => Ok(Verdict::Refused { reason, place }),
         // Bytes in memory are always read.
         Err(CheckFault::Memory | CheckFault::Read) => Err(AllocError),
+    }
+}
+
+/// The name in the first record of a module, which is a THEADR or an LHEADR.
+pub fn name_of<'a>(module: &'a [u8]) -> &'a [u8] {
+    match module {
+        [_, _, _, length, rest @ ..] => rest.get(..usize::from(*length)).unwrap_or(rest),
+        _ => &[],
     }
 }

@@ -1,12 +1,12 @@
 //! The file names of members.
 
-use crate::span::{Span, name_of};
+use crate::members::{Member, name_of};
 use omf_host::put_name;
 use std::alloc::{AllocError, Global};
 
 /// A member's name as text: that of its THEADR, with bytes other than printable ASCII, quotes and backslashes as
 /// `\xNN`.
-pub fn shown_name(alloc: Global, member: &Span<'_>) -> Result<String, AllocError> {
+pub fn shown_name(alloc: Global, member: &Member<'_>) -> Result<String, AllocError> {
     let mut name = String::new(alloc);
     put_name(&mut name, name_of(member.bytes))?;
     Ok(name)

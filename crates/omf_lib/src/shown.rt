@@ -1,5 +1,9 @@
 //! Text that is written as it grows.
 
+ghost use Rattle.std.specs.Prelude.{◌≡◌, IfOk};
+ghost use Rattle.std.specs.Io.KnownBytes.{Appends};
+ghost use Rattle.omf_lib.specs.Find.{refused_status};
+
 use crate::fault::Fault;
 use crate::text::put_fault;
 use omf_frame::Sink;
@@ -18,6 +22,27 @@ pub enum Stop {
 impl From<AllocError> for Stop {
     fn from(_error: AllocError) -> Stop {
         Stop::Memory
+    }
+}
+
+/// Writes a text.
+pub fn send<K: Sink>(writer: &mut K, text: &str) -> Result<(), Stop>
+    ensures { IfOk result (λ _. Appends (K.seen writer.old).bytes (K.seen writer.new).bytes text.now) }
+{
+    match put(writer, text.as_bytes()) {
+        Status::Done => Ok(()),
+        Status::Refused | Status::Misused | Status::Failed => Err(Stop::Write),
+    }
+}
+
+/// The status of what is refused or not.
+pub fn status_of(is_refused: bool) -> Status
+    ensures { result ≡ refused_status is_refused }
+{
+    if is_refused {
+        Status::Refused
+    } else {
+        Status::Done
     }
 }
 
@@ -68,9 +93,7 @@ impl Shown {
 
     /// Writes the text so far.
     pub fn flush<K: Sink>(&mut self, writer: &mut K) -> Result<(), Stop> {
-        if put(writer, self.text.as_bytes()) != Status::Done {
-            return Err(Stop::Write);
-        }
+        send(writer, self.text.as_str())?;
         self.text.clear();
         Ok(())
     }

@@ -2,13 +2,12 @@
 
 use crate::asked::Get;
 use crate::fault::Fault;
-use crate::library::{Library, read_members};
+use crate::library::{Library, member_of, read_library};
+use crate::members::Member;
 use crate::naming::{is_named, is_outside, path_of, shown_name};
 use crate::shown::{Shown, Stop};
-use crate::span::Span;
 use omf_frame::Sink;
 use omf_host::{Status, Written, write_new};
-use omf_library::read_header;
 use std::alloc::{AllocError, Global};
 use std::fmt::Write;
 
@@ -18,7 +17,7 @@ fn take(
     shown: &mut Shown,
     folder: &str,
     name: &str,
-    member: &Span<'_>,
+    member: &Member<'_>,
 ) -> Result<(), AllocError> {
     let length = member.bytes.len();
     if is_outside(name) {
@@ -61,11 +60,12 @@ fn take_members<K: Sink>(
     get: &Get,
     library: &Library<'_>,
 ) -> Result<(), Stop> {
-    for member in library.members.iter() {
-        let name = shown_name(rt.alloc(), member)?;
-        if is_asked(get, member.number, name.as_str()) {
-            let name = file_name(rt.alloc(), get, member.number, name)?;
-            take(rt, shown, get.folder.as_str(), name.as_str(), member)?;
+    for (number, span) in library.spans.members.iter().enumerate() {
+        let member = member_of(number, span);
+        let name = shown_name(rt.alloc(), &member)?;
+        if is_asked(get, number, name.as_str()) {
+            let name = file_name(rt.alloc(), get, number, name)?;
+            take(rt, shown, get.folder.as_str(), name.as_str(), &member)?;
             shown.flush(writer)?;
         }
     }
@@ -74,9 +74,9 @@ fn take_members<K: Sink>(
 
 /// Whether an argument names one of the members.
 fn names_member(alloc: Global, library: &Library<'_>, argument: &str) -> Result<bool, AllocError> {
-    for member in library.members.iter() {
-        let name = shown_name(alloc, member)?;
-        if is_named(argument, member.number, name.as_str()) {
+    for (number, span) in library.spans.members.iter().enumerate() {
+        let name = shown_name(alloc, &member_of(number, span))?;
+        if is_named(argument, number, name.as_str()) {
             return Ok(true);
         }
     }
@@ -106,12 +106,12 @@ pub fn get<K: Sink>(
     get: &Get,
     bytes: &[u8],
 ) -> Result<(), Stop> {
-    let library = match read_header(bytes) {
-        Ok(header) => read_members(rt.alloc(), bytes, header)?,
+    let library = match read_library(rt.alloc(), bytes)? {
+        Ok(library) => library,
         Err(fault) => return Ok(shown.fault(Fault::from(fault))?),
     };
-    match library.end {
-        Err(fault) => Ok(shown.fault(fault)?),
+    match library.spans.end {
+        Err(fault) => Ok(shown.fault(Fault::from(fault))?),
         Ok(_) => {
             put_unnamed(rt.alloc(), shown, get, &library)?;
             take_members(rt, shown, writer, get, &library)

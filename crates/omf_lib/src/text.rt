@@ -1,13 +1,19 @@
-//! Reasons and faults as text.
+//! Reasons, faults and notes as text.
 
-use crate::fault::{Fault, Named, Public};
+ghost use Rattle.std.specs.Prelude.{◌++◌, string_bytes};
+ghost use Rattle.omf_frame.specs.Bytes.{AddsText};
+ghost use Rattle.omf_lib.specs.Lines.{fault_head, fault_line, fault_words, of_entry, of_member, of_public, reason_text};
+
+use crate::fault::{Fault, Named, Note, Public};
 use omf_frame::{Place, Reason};
 use omf_host::put_quoted;
 use std::alloc::AllocError;
 use std::fmt::Write;
 
 /// Appends a reason, and its place in the member, as `omf check` prints them.
-pub fn put_reason(text: &mut String, reason: Reason, place: Place) -> Result<(), AllocError> {
+pub fn put_reason(text: &mut String, reason: Reason, place: Place) -> Result<(), AllocError>
+    ensures { AddsText result (string_bytes text.old) (string_bytes text.new) (reason_text reason place) }
+{
     let code = reason.number();
     let name = reason.name();
     let Place {
@@ -22,7 +28,9 @@ pub fn put_reason(text: &mut String, reason: Reason, place: Place) -> Result<(),
 }
 
 /// Appends the head of a fault's line.
-fn put_head(text: &mut String, number: u8, name: &str, offset: usize) -> Result<(), AllocError> {
+fn put_head(text: &mut String, number: u8, name: &str, offset: usize) -> Result<(), AllocError>
+    ensures { AddsText result (string_bytes text.old) (string_bytes text.new) (fault_head number name.now offset) }
+{
     write!(text, "fault {number} {name} at {offset}")
 }
 
@@ -33,7 +41,9 @@ fn put_of_member(
     name: &str,
     offset: usize,
     member: usize,
-) -> Result<(), AllocError> {
+) -> Result<(), AllocError>
+    ensures { AddsText result (string_bytes text.old) (string_bytes text.new) (of_member number name.now offset member) }
+{
     put_head(text, number, name, offset)?;
     write!(text, " member {member}")
 }
@@ -44,10 +54,13 @@ fn put_of_entry(
     number: u8,
     name: &str,
     entry: Named<'_>,
-) -> Result<(), AllocError> {
+) -> Result<(), AllocError>
+    ensures { AddsText result (string_bytes text.old) (string_bytes text.new) (of_entry number name.now entry.entry) }
+{
     let page = entry.page;
     put_head(text, number, name, entry.offset)?;
-    write!(text, " page {page} ")?;
+    write!(text, " page {page}")?;
+    text.push(' ')?;
     put_quoted(text, entry.name)
 }
 
@@ -57,14 +70,18 @@ fn put_of_public(
     number: u8,
     name: &str,
     public: Public<'_>,
-) -> Result<(), AllocError> {
+) -> Result<(), AllocError>
+    ensures { AddsText result (string_bytes text.old) (string_bytes text.new) (of_public number name.now public.entry) }
+{
     put_of_member(text, number, name, public.offset, public.member)?;
     text.push(' ')?;
     put_quoted(text, public.name)
 }
 
 /// Appends a fault without its line feed.
-fn put_words(text: &mut String, fault: Fault<'_>) -> Result<(), AllocError> {
+fn put_words(text: &mut String, fault: Fault<'_>) -> Result<(), AllocError>
+    ensures { AddsText result (string_bytes text.old) (string_bytes text.new) (fault_words fault.entry) }
+{
     match fault {
         Fault::NoHeader => put_head(text, 1, "NoHeader", 0),
         Fault::HeaderCut => put_head(text, 2, "HeaderCut", 0),
@@ -98,7 +115,49 @@ fn put_words(text: &mut String, fault: Fault<'_>) -> Result<(), AllocError> {
 }
 
 /// Appends the line of a fault.
-pub fn put_fault(text: &mut String, fault: Fault<'_>) -> Result<(), AllocError> {
+pub fn put_fault(text: &mut String, fault: Fault<'_>) -> Result<(), AllocError>
+    ensures { AddsText result (string_bytes text.old) (string_bytes text.new) (fault_line fault.entry) }
+{
     put_words(text, fault)?;
+    text.push('\n')
+}
+
+/// Appends the head of a note's line.
+fn put_note_head(
+    text: &mut String,
+    number: u8,
+    name: &str,
+    offset: usize,
+) -> Result<(), AllocError> {
+    write!(text, "note {number} {name} at {offset}")
+}
+
+/// Appends a note without its line feed.
+fn put_note_words(text: &mut String, note: Note<'_>) -> Result<(), AllocError> {
+    match note {
+        Note::Padding { offset, member } => {
+            put_note_head(text, 17, "Padding", offset)?;
+            write!(text, " member {member}")
+        }
+        Note::Gap { offset, length } => {
+            put_note_head(text, 18, "Gap", offset)?;
+            write!(text, " length {length}")
+        }
+        Note::After { offset, length } => {
+            put_note_head(text, 19, "After", offset)?;
+            write!(text, " length {length}")
+        }
+        Note::Communal(public) => {
+            let member = public.member;
+            put_note_head(text, 20, "Communal", public.offset)?;
+            write!(text, " member {member} ")?;
+            put_quoted(text, public.name)
+        }
+    }
+}
+
+/// Appends the line of a note.
+pub fn put_note(text: &mut String, note: Note<'_>) -> Result<(), AllocError> {
+    put_note_words(text, note)?;
     text.push('\n')
 }

@@ -7,6 +7,7 @@ use std::alloc::Global;
 use verdicts::ANY;
 
 mod canonical;
+mod changed_libraries;
 mod chips;
 mod contents;
 mod devices;

@@ -1,0 +1,93 @@
+-- What `omf-lib find` prints (a format of this profile).
+use Rattle.std.specs.Prelude.{◌≡◌, ◌⊎◌, ℕ, ◌==◌, ◌&&◌, ◌||◌, not, Bool, true, false, if◌then◌else◌, List, [], ◌∷◌, ◌++◌, flat_map, map, codes, decimal, string_bytes, Option, Some, None, Result, Ok, Err}
+use Rattle.omf_check.specs.declared.profile.Profile.{Profile}
+use Rattle.omf_host.specs.Lines.{failure_line}
+use Rattle.omf_host.specs.declared.ending.Status.{Status}
+use Rattle.omf_host.specs.declared.ending.Status.TheVariants as status
+use Rattle.omf_library.specs.Dictionary.{IsFirstEntry, IsSought, is_same_name}
+use Rattle.omf_library.specs.Library.{HasHeader, IsHeaderRead, header_of, page_size}
+use Rattle.omf_library.specs.Made.{IsDictionary}
+use Rattle.omf_library.specs.Spans.{AreSpansIn}
+use Rattle.omf_library.specs.declared.dictionary.Dictionary.{Dictionary}
+use Rattle.omf_library.specs.declared.fault.LibraryFault.{LibraryFault}
+use Rattle.omf_library.specs.declared.header.Header.{Header}
+use Rattle.omf_library.specs.declared.search.Rule.TheVariants as rule
+use Rattle.omf_library.specs.declared.spans.Span.{Span}
+use Rattle.omf_library.specs.declared.spans.SpanFault.{SpanFault}
+use Rattle.omf_placement.specs.Quoted.{quoted}
+use Rattle.omf_lib.specs.Lines.{fault_line, header_fault, page_fault, public_line}
+use Rattle.omf_lib.specs.Members.{AreAllPublics, Public}
+use Rattle.omf_lib.specs.declared.asked.Find.{Find}
+use Rattle.omf_lib.specs.declared.finding.Entry.{Entry}
+
+-- A line for each public of a name.
+abbrev pub public_text : Bool → List ℕ → Public → List ℕ
+public_text sensitive name p = if is_same_name sensitive p.name name then public_line p.member p.name else []
+
+abbrev pub publics_text : Bool → List ℕ → List Public → List ℕ
+publics_text sensitive name ps = flat_map (public_text sensitive name) ps
+
+-- What a dictionary has for a name: its first entry, and what the two searches find.
+pub record IsEntry (sensitive : Bool) (dictionary name : List ℕ) (e : Entry) : Type 0 where
+  pub first : IsFirstEntry sensitive dictionary name e.first
+  pub restart : IsSought rule.Restart sensitive dictionary name e.restart
+  pub keep : IsSought rule.Keep sensitive dictionary name e.keep
+
+-- The line of the first entry: its page, the name, and a word for each search that finds this page.
+abbrev pub found_word : Option ℕ → ℕ → List ℕ → List ℕ
+found_word None page word = []
+found_word (Some found) page word = if found == page then word else []
+
+abbrev pub entry_line : Option ℕ → List ℕ → Option ℕ → Option ℕ → List ℕ
+entry_line None name restart keep = []
+entry_line (Some page) name restart keep = codes "E " ++ decimal page ++ 32 ∷ quoted name ++ found_word restart page (codes " restart") ++ found_word keep page (codes " keep") ++ 10 ∷ []
+
+abbrev pub entry_text : List ℕ → Entry → List ℕ
+entry_text name e = entry_line e.first name e.restart.page e.keep.page
+
+abbrev pub IsEntryText : Bool → Option Dictionary → List ℕ → List ℕ → Type 0
+IsEntryText ignores None name text = text ≡ []
+IsEntryText ignores (Some d) name text = (e : Entry) × IsEntry (d.is_case_sensitive && not ignores) d.bytes.now name e × (text ≡ entry_text name e)
+
+-- A name is refused if it is nowhere.
+abbrev pub is_nowhere : List ℕ → Bool
+is_nowhere [] = true
+is_nowhere (c ∷ text) = false
+
+abbrev pub name_text : List ℕ → List ℕ → List ℕ
+name_text name places = if is_nowhere places then failure_line (codes "refused") name (codes "no such public") else places
+
+-- The places of a name: the members that have it as a public, and its entry.
+abbrev pub ArePlaces : Bool → Option Dictionary → List Public → List ℕ → List ℕ → Type 0
+ArePlaces ignores dictionary publics name text = (entry : List ℕ) × IsEntryText ignores dictionary name entry × (text ≡ publics_text (not ignores) name publics ++ entry)
+
+abbrev pub IsNameFound : Bool → Option Dictionary → List Public → List ℕ → Bool → List ℕ → Type 0
+IsNameFound ignores dictionary publics name is_refused text = (places : List ℕ) × ArePlaces ignores dictionary publics name places
+    × (is_refused ≡ is_nowhere places) × (text ≡ name_text name places)
+
+-- The names one after another. It is refused if a name is.
+abbrev pub AreNamesFound : Bool → Option Dictionary → List Public → List (List ℕ) → Bool → List ℕ → Type 0
+AreNamesFound ignores dictionary publics [] is_refused text = (is_refused ≡ false) × (text ≡ [])
+AreNamesFound ignores dictionary publics (n ∷ ns) is_refused text = (one : Bool) × (others : Bool) × (own : List ℕ) × (rest : List ℕ) × IsNameFound ignores dictionary publics n one own
+    × AreNamesFound ignores dictionary publics ns others rest × (is_refused ≡ (one || others)) × (text ≡ own ++ rest)
+
+-- All comments are accepted in members here.
+abbrev pub any_profile : Profile
+any_profile = record { refuse_vendor_comments = false }
+
+-- What is printed for a library with this header and these members; or for a file in which something else is there in place of a member.
+abbrev pub IsFoundIn : Find → Header → List ℕ → List Span → Result ℕ SpanFault → Bool → List ℕ → Type 0
+IsFoundIn asked h bytes members (Err f) is_refused text = (is_refused ≡ true) × (text ≡ fault_line (page_fault f))
+IsFoundIn asked h bytes members (Ok end) is_refused text = (dictionary : Option Dictionary) × (publics : List Public) × IsDictionary h bytes dictionary
+    × AreAllPublics any_profile 0 members publics × AreNamesFound asked.ignores_case dictionary publics (map string_bytes asked.names.items) is_refused text
+
+-- What is printed for a file.
+abbrev pub IsFound : Find → List ℕ → Bool → List ℕ → Type 0
+IsFound asked bytes is_refused text =
+    ((f : LibraryFault) × IsHeaderRead bytes (Err f) × (is_refused ≡ true) × (text ≡ fault_line (header_fault f)))
+    ⊎ (HasHeader bytes × (members : List Span) × (end : Result ℕ SpanFault) × AreSpansIn bytes (page_size bytes) members end × IsFoundIn asked (header_of bytes) bytes members end is_refused text)
+
+-- The status of what is refused or not.
+abbrev pub refused_status : Bool → Status
+refused_status true = status.Refused
+refused_status false = status.Done

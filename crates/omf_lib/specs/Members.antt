@@ -1,0 +1,61 @@
+-- The members of a library, and the publics that they have (this profile's rule).
+use Rattle.std.specs.Prelude.{◌≡◌, ◌⊎◌, ℕ, ◌+◌, Bool, true, false, if◌then◌else◌, List, [], ◌∷◌, ◌++◌, map, Result, Ok, Err}
+use Rattle.omf_frame.specs.declared.fault.Place.{Place}
+use Rattle.omf_frame.specs.declared.fault.Reason.{Reason}
+use Rattle.omf_image.specs.Limits.{profile_limits}
+use Rattle.omf_check.specs.Checking.{Decides}
+use Rattle.omf_check.specs.Module.{Module, recs_of}
+use Rattle.omf_check.specs.Refusal.{IsRefused}
+use Rattle.omf_check.specs.declared.profile.Profile.{Profile}
+use Rattle.omf_library.specs.Library.{HasHeader, IsHeaderRead, header_of, page_size}
+use Rattle.omf_library.specs.Names.{Defined, defined_names}
+use Rattle.omf_library.specs.Spans.{AreSpansIn}
+use Rattle.omf_library.specs.declared.fault.LibraryFault.{LibraryFault}
+use Rattle.omf_library.specs.declared.names.Kind.{Kind}
+use Rattle.omf_library.specs.declared.names.Kind.TheVariants as kind
+use Rattle.omf_library.specs.declared.spans.Span.{Span}
+use Rattle.omf_lib.specs.declared.finding.Listed.{Listed}
+use Rattle.omf_lib.specs.declared.library.Library.{Library}
+use Rattle.omf_lib.specs.declared.members.Verdict.{Verdict}
+use Rattle.omf_lib.specs.declared.members.Verdict.TheVariants as verdict
+
+-- The bytes begin with a module that the check accepts; or it refuses them, with this reason and place.
+abbrev pub IsVerdict : Profile → List ℕ → Verdict → Type 0
+IsVerdict profile bytes (verdict.Accepted m) = Decides profile bytes (Ok m)
+IsVerdict profile bytes (verdict.Refused why at) = IsRefused profile profile_limits bytes why at
+
+-- A public: the number of its member, and its name.
+pub record Public : Type 0 where
+  pub member : ℕ
+  pub name : List ℕ
+
+abbrev pub public_seen : Listed → Public
+public_seen p = record { member = p.member; name = p.name.items }
+
+abbrev pub publics_seen : List Listed → List Public
+publics_seen ps = map public_seen ps
+
+abbrev pub is_public : Kind → Bool
+is_public kind.Public = true
+is_public _ = false
+
+-- The publics among the names that a module defines.
+abbrev pub publics_among : ℕ → List Defined → List Public
+publics_among member [] = []
+publics_among member (d ∷ ds) = if is_public d.kind then record { member = member; name = d.name } ∷ publics_among member ds else publics_among member ds
+
+-- The publics of a member: those of the module, or none if the check refuses it.
+abbrev pub ArePublics : Profile → ℕ → List ℕ → List Public → Type 0
+ArePublics profile number bytes ps =
+    ((m : Module) × Decides profile bytes (Ok m) × (ps ≡ publics_among number (defined_names (recs_of m.bytes))))
+    ⊎ ((why : Reason) × (at : Place) × IsRefused profile profile_limits bytes why at × (ps ≡ []))
+
+-- The publics of members, in order. The first of these members has this number.
+abbrev pub AreAllPublics : Profile → ℕ → List Span → List Public → Type 0
+AreAllPublics profile number [] ps = ps ≡ []
+AreAllPublics profile number (m ∷ ms) ps = (own : List Public) × (others : List Public) × ArePublics profile number m.bytes.now own × AreAllPublics profile (number + 1) ms others × (ps ≡ own ++ others)
+
+-- What of a file can be read as a library: its header, its members, and how they end; or why it has no header.
+abbrev pub IsLibraryRead : List ℕ → Result Library LibraryFault → Type 0
+IsLibraryRead bytes (Ok l) = HasHeader bytes × (l.bytes.now ≡ bytes) × (l.header ≡ header_of bytes) × AreSpansIn bytes (page_size bytes) l.spans.members.items l.spans.end
+IsLibraryRead bytes (Err f) = IsHeaderRead bytes (Err f)
