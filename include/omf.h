@@ -226,7 +226,7 @@ struct omf_library_member {
 struct omf_answer omf_library_members(const uint8_t *bytes, size_t length, bool refuse_vendor_comments, struct omf_library_member *out, size_t room);
 
 /* Looks up a name in the library's dictionary, wherever its hash is. Returns OMF_DONE: `record_count` is 1 and `size` the offset of the member that
- * the first entry of the name leads to, or both are 0 if the name has no entry; or OMF_NO_LIBRARY. A damaged dictionary may lead to an offset that
+ * the first entry of the name points to, or both are 0 if the name has no entry; or OMF_NO_LIBRARY. A damaged dictionary may point to an offset that
  * is no member's: compare it with the table. */
 struct omf_answer omf_library_find(const uint8_t *bytes, size_t length, const uint8_t *name, size_t name_length);
 

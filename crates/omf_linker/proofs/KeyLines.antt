@@ -155,7 +155,7 @@ key-printed (Named n) h = in-quotes n h
 key-printed (OfClass n c) h = both-pass is_printed (34 ∷ n ++ 34 ∷ []) (32 ∷ (34 ∷ c ++ 34 ∷ [])) (in-quotes n h.0) (in-quotes c h.1)
 key-printed (Numbered k) h = glyphs-printed (decimal k) (glyphs-decimal k)
 
--- ---- what is said in a line
+-- ---- the words of a line
 
 kept : (e : List ℕ) → Passes is_printed e → without_return e ≡ e
 kept [] h = refl

@@ -46,7 +46,7 @@ pub record AreMade (ms : List Module) (members : List Member) : Type 0 where
   pub moving : AreMovers (typed_modules ms) (placed_modules ms places) [] movers
   pub numbered : members ≡ members_from 0 ms placements movers
 
--- The bytes of the program, and whether it has a stack. What DOS loads at paragraph k, for every k, is what these modules lay at their placements moved
+-- The bytes of the program, and whether it has a stack. What DOS loads at paragraph k, for every k, is what these modules are at their placements moved
 -- by k paragraphs.
 pub record IsProgramOf (ms : List Module) (bytes : List ℕ) (has_stack : Bool) : Type 0 where
   pub members : List Member

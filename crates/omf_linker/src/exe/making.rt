@@ -96,7 +96,7 @@ fn file_of(
 
 /// The MZ file (.EXE) of modules: laid out from address 0 on in real mode, each external at the only public of its name.
 ///
-/// What DOS loads at paragraph k, for every k, is what the modules lay at their placements moved by k paragraphs.
+/// What DOS loads at paragraph k, for every k, is what the modules are at their placements moved by k paragraphs.
 ///
 /// # Errors
 ///
