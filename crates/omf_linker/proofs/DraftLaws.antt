@@ -1,6 +1,6 @@
 -- A draft is the text of a link, which gives the modules their places.
-use Rattle.std.proofs.Common.{◌≡◌, ℕ, suc, ◌+◌, ◌<◌, ◌≤◌, ◌^◌, List, [], ◌∷◌, ◌++◌, length, refl, sym, ap, ap₂, ◌∙◌, append-nil, arith}
-use Rattle.std.specs.Prelude.{flat_map, filter_map, map, zip, All, Option, Some, None, Ok}
+use Rattle.std.proofs.Common.{◌≡◌, ℕ, suc, ◌+◌, ◌<◌, ◌^◌, List, [], ◌∷◌, ◌++◌, length, refl, sym, ap, ap₂, ◌∙◌, append-nil, arith}
+use Rattle.std.specs.Prelude.{flat_map, filter_map, map, zip, All, Some, None, Ok}
 use Rattle.std.specs.List.{AllZip, enumerate_from}
 use Rattle.std.proofs.lemmas.List.Elements.{All-head, All-tail}
 use Rattle.omf_records.specs.Inner.Seen.{map_ok}
@@ -15,13 +15,13 @@ use Rattle.omf_layout.proofs.TextLaws.{no-lines, more-lines, told-append}
 use Rattle.omf_linking.specs.Locator.Drafted.{HasEntries, all_lines, labels, labels_from, module_lines, told_from, told_places}
 use Rattle.omf_linking.specs.Locator.Items.{items_after}
 use Rattle.omf_linking.specs.Locator.LinkEntries.{Blank, LinkEntry, bad_line, link_entry_on, link_lines}
-use Rattle.omf_linking.specs.Locator.Sparse.{sparse, sparse_all, unless_bad}
-use Rattle.omf_linking.specs.Placing.{all_given, frame_given, given_as, given_in, given_of, in_front, or_missing, placed_by, places_given, places_of, with_segments}
+use Rattle.omf_linking.specs.Locator.Sparse.{sparse_all, unless_bad}
+use Rattle.omf_linking.specs.Placing.{all_given, frame_given, given_as, given_in, in_front, or_missing, placed_by, places_given, places_of, with_segments}
 use Rattle.omf_linking.proofs.ItemLaws.{drafted-told}
 use Rattle.omf_reloc.specs.declared.fault.Kind.TheVariants as kinds
 use Rattle.omf_linker.specs.Drafting.Reading.{HasFew, IsReadBack}
 use Rattle.omf_linker.specs.Drafting.Text.{link_text, module_text}
-use Rattle.omf_linker.proofs.EntryLaws.{IsToldModule, Told, module-is-told}
+use Rattle.omf_linker.proofs.EntryLaws.{Told, module-is-told}
 
 -- ---- places that are all given
 

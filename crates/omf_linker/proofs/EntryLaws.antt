@@ -1,5 +1,5 @@
 -- The lines of a draft as lines of a link's text.
-use Rattle.std.proofs.Common.{◌≡◌, ℕ, zero, suc, ◌+◌, ◌<◌, ◌≤◌, ◌^◌, Bool, true, false, ◌==◌, ◌&&◌, eqb, List, [], ◌∷◌, ◌++◌, length, length-append, refl, sym, ap, ap₂, subst, ◌∙◌, append_assoc, append-nil, arith, codes}
+use Rattle.std.proofs.Common.{◌≡◌, ℕ, zero, suc, ◌+◌, ◌<◌, ◌≤◌, ◌^◌, Bool, true, false, ◌==◌, eqb, List, [], ◌∷◌, ◌++◌, length, length-append, refl, sym, ap, ap₂, subst, ◌∙◌, append_assoc, append-nil, arith, codes}
 use Rattle.std.specs.Prelude.{flat_map, map, All, Option, None, Some, decimal, if◌then◌else◌, option_and_then, option_map, unwrap_or}
 use Rattle.std.specs.List.{enumerate_from, zip}
 use Rattle.std.proofs.lemmas.Bool.{and_parts, cond_both, eqb-true, false≢true}
@@ -12,9 +12,9 @@ use Rattle.omf_placement.specs.Derive.{named_externals}
 use Rattle.omf_placement.specs.declared.frame.Frame.{Frame}
 use Rattle.omf_placement.specs.declared.frame.Placed.{Placed}
 use Rattle.omf_placement.specs.Entries.{IsHexadecimal, in_words}
-use Rattle.omf_placement.specs.Inner.EntryReading.{frame_of, hexadecimal, real_of}
+use Rattle.omf_placement.specs.Inner.EntryReading.{hexadecimal}
 use Rattle.omf_placement.specs.Placement.{Places, real_frame}
-use Rattle.omf_placement.specs.Quoted.{escaped, number, quoted, named}
+use Rattle.omf_placement.specs.Quoted.{number, quoted, named}
 use Rattle.omf_placement.proofs.EntryLaws.{hexadecimal-to, placed-to}
 use Rattle.omf_layout.specs.declared.alignment.Alignment.{Alignment}
 use Rattle.omf_layout.specs.declared.options.Frames.{Frames}
@@ -30,7 +30,7 @@ use Rattle.omf_layout.proofs.TextLaws.{IsLineOf, SpellsLines, no-lines, one-line
 use Rattle.omf_linking.specs.Locator.Drafted.{HasEntries, blanks, group_lines_of, labels, module_lines, segment_lines_of}
 use Rattle.omf_linking.specs.Locator.KeyForms.{class_of, is_repeated, key_form, key_of, key_text, key_words, module_key, module_key_by, module_texts, spelled}
 use Rattle.omf_linking.specs.Locator.Keys.{entry_name, module_name}
-use Rattle.omf_linking.specs.Locator.LinkEntries.{Blank, Gives, GroupFrame, Key, LinkEntry, Opens, SegmentPlace, entry_by, frame_in, link_entry_on, place_in}
+use Rattle.omf_linking.specs.Locator.LinkEntries.{Blank, Gives, GroupFrame, Key, LinkEntry, Opens, SegmentPlace, frame_in, link_entry_on, place_in}
 use Rattle.omf_linking.specs.declared.locator.forms.KeyForm.{KeyForm}
 use Rattle.omf_linking.specs.declared.locator.forms.KeyForm.TheVariants as form
 use Rattle.omf_linking.proofs.KeyNames.{keys-written}
@@ -38,7 +38,7 @@ use Rattle.omf_reloc.specs.declared.fault.Kind.{Kind}
 use Rattle.omf_reloc.specs.declared.fault.Kind.TheVariants as kinds
 use Rattle.omf_linker.specs.Drafting.Names.{has_name, seen_names}
 use Rattle.omf_linker.specs.Drafting.Reading.{HasFew}
-use Rattle.omf_linker.specs.Drafting.Text.{external_text, full_place, group_line, group_lines, module_text, opening_line, part_text, place_text, segment_comment, segment_line, segment_lines, wanted_line_by, wanted_lines}
+use Rattle.omf_linker.specs.Drafting.Text.{external_text, full_place, group_line, group_lines, module_text, opening_line, place_text, segment_comment, segment_line, segment_lines, wanted_line_by, wanted_lines}
 use Rattle.omf_linker.proofs.KeyLines.{AreWords, IsKey, IsLetter, IsName, Quoteless, Spaceless, comment-end, comment-read, glyphs-decimal, glyphs-number, glyphs-printed, in-quotes, key-alone, key-words, no-end, no-name, quoteless-both, quoteless-glyphs, spaceless-glyphs, spelled-name}
 
 -- ---- words

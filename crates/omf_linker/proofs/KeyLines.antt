@@ -1,22 +1,22 @@
 -- Lines with a letter, a key and words, as they are read.
-use Rattle.std.proofs.Common.{◌≡◌, ℕ, zero, suc, ◌+◌, ◌-◌, ◌/◌, ◌%◌, ◌<◌, ◌≤◌, ◌^◌, Bool, true, false, cond, eqb, not, nat_le, nat_lt, ◌&&◌, ◌==◌, List, [], ◌∷◌, ◌++◌, length, reverse, take, refl, sym, ap, ap₂, ◌∙◌, append_assoc, append-nil, arith, codes, inl, inr}
-use Rattle.std.specs.Prelude.{◌⊎◌, ◌||◌, All, Option, None, Some, bytes_eq, decimal, flat_map, option_and_then, option_map, replicate}
+use Rattle.std.proofs.Common.{◌≡◌, ℕ, zero, suc, ◌+◌, ◌-◌, ◌/◌, ◌%◌, ◌<◌, ◌≤◌, ◌^◌, Bool, true, false, cond, eqb, not, nat_le, nat_lt, ◌&&◌, ◌==◌, List, [], ◌∷◌, ◌++◌, length, reverse, take, refl, sym, ap, ◌∙◌, append_assoc, append-nil, arith, codes, inl, inr}
+use Rattle.std.specs.Prelude.{◌⊎◌, ◌||◌, All, None, Some, decimal, flat_map, option_and_then, replicate}
 use Rattle.std.specs.Char.{digit_value, is_digit}
 use Rattle.std.specs.Fmt.{digits, digits_onto, digit_glyph}
-use Rattle.std.specs.List.{before_first, list_all, list_any, onto_first, prefix_len, slice_split}
+use Rattle.std.specs.List.{before_first, list_all, onto_first, prefix_len, slice_split}
 use Rattle.std.specs.Str.Parse.{AllDigits}
-use Rattle.std.proofs.lemmas.Bool.{and_from, and_parts, cond-false, cond-true, cond_both, eqb-true, false≢true, le-leb, leb-true, lt-ltb, ltb-false, ltb-true, ne_eqb, not_from_false}
+use Rattle.std.proofs.lemmas.Bool.{and_from, and_parts, cond-false, cond-true, cond_both, false≢true, le-leb, leb-true, lt-ltb, ltb-false, ltb-true, ne_eqb}
 use Rattle.std.proofs.lemmas.Fmt.{decimal_is_IsNumeral, length-decimal-le}
 use Rattle.std.proofs.lemmas.List.{reverse-reverse}
 use Rattle.std.proofs.lemmas.List.Elements.{All-nil, All-cons, All-head, All-tail}
 use Rattle.std.proofs.lemmas.List.Splits.{length-slice_split, slice_split_at, slice_split_none}
-use Rattle.omf_placement.specs.Entries.{in_words, said, without_return, without_spaces}
+use Rattle.omf_placement.specs.Entries.{said, without_return, without_spaces}
 use Rattle.omf_placement.specs.Inner.EntryReading.{words_of}
 use Rattle.omf_placement.specs.Quoted.{escaped, hex, is_plain as is_shown, number}
-use Rattle.omf_layout.proofs.DigitLaws.{is_mark, marks-decimal, marks-number}
+use Rattle.omf_layout.proofs.DigitLaws.{is_mark, marks-decimal}
 use Rattle.omf_layout.proofs.SaidLaws.{IsTight, IsWord, Passes, both-pass, is-said, is_plain, is_printed, pass-more, tight-two, tight-word}
 use Rattle.omf_linking.specs.Locator.KeyForms.{key_words}
-use Rattle.omf_linking.specs.Locator.LinkEntries.{Blank, Key, LinkEntry, Named, Numbered, OfClass, class_after, classed_entry, decimal_of, entry_by, entry_of_parts, has_comment, if_short, is_printed as in_name, link_entry_on, name_entry, named_entry, number_of, numbered_entry, unnamed_entry, words_in}
+use Rattle.omf_linking.specs.Locator.LinkEntries.{Blank, Key, Named, Numbered, OfClass, classed_entry, entry_by, entry_of_parts, has_comment, if_short, is_printed as in_name, link_entry_on, name_entry, named_entry, number_of, numbered_entry, unnamed_entry, words_in}
 
 -- ---- digits
 

@@ -14,7 +14,7 @@ use Rattle.omf_placement.specs.Placement.{Places}
 use Rattle.omf_records.specs.Values.{Rec}
 use Rattle.omf_reloc.specs.declared.fault.ReachFault.{ReachFault}
 use Rattle.omf_output.specs.declared.rom.form.Form.{Form}
-use Rattle.omf_linking.specs.Faults.{all_far, far_by, of_derive}
+use Rattle.omf_linking.specs.Faults.{far_by, of_derive}
 use Rattle.omf_linking.specs.Locator.Sparse.{Sparse, sparse}
 use Rattle.omf_linking.specs.Placing.{all_given, by_sparse, derived_or, found, frames_given, given_of, in_front, linked, or_missing, placed_by, places_given, places_of, with_segments}
 use Rattle.omf_linking.specs.declared.locator.fault.LocatorFault.{LocatorFault}

@@ -1,4 +1,5 @@
-//! Tests of the libraries by their public calls: records, fields, images; checking, placements, relocation, canonical bytes, layouts and links.
+//! Tests of the libraries by their public calls: records and images; checking, relocation, canonical bytes, layouts and links; libraries of
+//! modules, and files for chips and programs.
 #![tactic(auto)]
 
 #[cfg(test)]

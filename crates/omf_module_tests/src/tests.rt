@@ -1,4 +1,5 @@
-//! Calls on records, images and whole modules, with ample memory. Expected values are worked out by hand from the format.
+//! Calls on records, images and whole modules, with ample memory and while a growth is refused. Expected values are worked out by hand from the
+//! format.
 
 use omf_check::{Checked, check};
 use omf_frame::Bytes;

@@ -1,8 +1,8 @@
 -- The draft of a link's text (this profile's rule): the lines of each module, after a line `M` that names it.
 use Rattle.std.specs.Prelude.{ℕ, List, [], ◌∷◌, ◌++◌, flat_map, zip, Bool, Option, option_map, codes, decimal, if◌then◌else◌}
 use Rattle.std.specs.List.{enumerate_from}
-use Rattle.omf_records.specs.Values.{Rec, GroupItem}
-use Rattle.omf_check.specs.Tables.{names, segments, groups}
+use Rattle.omf_records.specs.Values.{Rec}
+use Rattle.omf_check.specs.Tables.{names, segments}
 use Rattle.omf_check.specs.declared.segment.SegInfo.{SegInfo}
 use Rattle.omf_placement.specs.Derive.{named_externals}
 use Rattle.omf_placement.specs.declared.frame.Frame.{Frame}

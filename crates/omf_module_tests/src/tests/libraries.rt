@@ -3,14 +3,13 @@
 use super::verdicts::ANY;
 use omf_frame::Reason;
 use omf_library::{
-    LibraryFault, MakeFault, Member, Part, RegionKind, account_of, make, members_in, read_header,
-    spans_in,
+    Header, LibraryFault, Member, Part, Region, RegionKind, Spans, account_of, make, members_in,
+    read_header, spans_in,
 };
-use std::alloc::Global;
-use std::test::Fail;
+use std::alloc::{AllocError, Global};
 
 /// The header record, without a dictionary; a THEADR and a MODEND; five bytes of padding; the F1H.
-const LIBRARY: [u8; 35] = [
+const LIBRARY: &[u8] = &[
     0xF0, 0x0D, 0, 0, 0, 0, 0, 0, 0, 0, 0, 0, 0, 0, 0, 0, 0x80, 3, 0, 1, 0x41, 0x3B, 0x8A, 2, 0, 0,
     0x74, 0, 0, 0, 0, 0, 0xF1, 0, 0,
 ];
@@ -20,89 +19,119 @@ fn members_of(alloc: Global, length: usize) -> Result<Vec<Member>, LibraryFault>
     members_in(alloc, ANY, LIBRARY.get(..length).unwrap_or(&[]))
 }
 
-#[test]
-fn a_member_and_an_end(rt: HostRuntime) -> Result<(), Fail> {
-    let members = members_of(rt.alloc(), 35)?;
-    let member = Member {
-        offset: 16,
-        length: 11,
-    };
-    assert_eq!(rt; members.len(), 1);
-    assert_eq!(rt; members[0], member);
-    Ok(())
+/// The offset and the length of the only member.
+fn member_of(alloc: Global, length: usize) -> Option<(u64, u64)> {
+    match members_of(alloc, length) {
+        Ok(members) => match members.as_slice() {
+            [member] => Some((member.offset, member.length)),
+            _ => None,
+        },
+        Err(_) => None,
+    }
 }
 
-#[test]
-fn no_end(rt: HostRuntime) -> Result<(), Fail> {
-    let fault = members_of(rt.alloc(), 32);
-    assert!(rt;
-        matches!(
-            fault,
-            Err(LibraryFault::NoEnd {
-                member: 1,
-                offset: 32
-            })
-        )
-    );
-    Ok(())
-}
-
-#[test]
-fn a_member_is_cut(rt: HostRuntime) -> Result<(), Fail> {
-    let fault = members_of(rt.alloc(), 26);
-    assert!(rt;
-        matches!(
-            fault,
-            Err(LibraryFault::Refused {
-                member: 0,
-                offset: 16,
+/// The number, the offset and the kind of the fault in the first bytes of the library: no end, or a member that is cut.
+fn fault_of(alloc: Global, length: usize) -> Option<(u64, u64, bool)> {
+    match members_of(alloc, length) {
+        Ok(_) => None,
+        Err(LibraryFault::NoEnd { member, offset }) => Some((member, offset, false)),
+        Err(
+            LibraryFault::Refused {
+                member,
+                offset,
                 reason: Reason::Cut,
                 ..
-            })
-        )
-    );
-    Ok(())
+            },
+        ) => Some((member, offset, true)),
+        Err(_) => None,
+    }
 }
 
-/// A library of the module, without publics.
-fn made_of(alloc: Global, module: &[u8]) -> Result<Vec<u8>, MakeFault> {
-    let mut bytes = Vec::new(alloc);
-    bytes.extend_from_slice(module)?;
-    let mut parts = Vec::new(alloc);
-    parts.push(Part {
-        bytes,
-        names: Vec::new(alloc),
-    })?;
-    make(alloc, ANY, true, parts.as_slice())
-}
-
-/// The header and the module take two pages of 16 bytes; the F1H record ends at 512; the dictionary has two blocks.
 #[test]
-fn a_library_is_made(rt: HostRuntime) -> Result<(), Fail> {
-    let made = made_of(rt.alloc(), &LIBRARY[16..27])?;
-    assert_eq!(rt; made.len(), 1536);
-    assert_eq!(rt; made[32], 0xF1);
-    Ok(())
+fn a_member_and_an_end(rt: HostRuntime) {
+    assert!(rt; member_of(rt.alloc(), 35) == Some((16, 11)));
+}
+
+#[test]
+fn no_end_and_a_member_that_is_cut(rt: HostRuntime) {
+    assert!(rt; fault_of(rt.alloc(), 32) == Some((1, 32, false)));
+    assert!(rt; fault_of(rt.alloc(), 26) == Some((0, 16, true)));
+}
+
+/// The part of a module, without publics; `None` if memory runs out.
+fn part_of(alloc: Global, module: &[u8]) -> Option<Part> {
+    match Vec::from_slice(alloc, module) {
+        Ok(bytes) => Some(Part {
+            bytes,
+            names: Vec::new(alloc),
+        }),
+        Err(AllocError) => None,
+    }
+}
+
+/// The length of a library of the module, and its byte at 32; `None` if none is made.
+fn made_of(alloc: Global, parts: &[Part]) -> Option<(usize, Option<u8>)> {
+    match make(alloc, ANY, true, parts) {
+        Ok(made) => Some((made.len(), made.get(32).copied())),
+        Err(_) => None,
+    }
+}
+
+/// Whether the header and the module take two pages of 16 bytes; the F1H record ends at 512; the dictionary has two blocks.
+fn is_made(alloc: Global) -> bool {
+    let mut parts = Vec::new(alloc);
+    match part_of(alloc, LIBRARY.get(16..27).unwrap_or(&[])) {
+        Some(part) => {
+            parts.push(part).is_ok() && made_of(alloc, &parts) == Some((1536, Some(0xF1)))
+        }
+        None => false,
+    }
+}
+
+#[test]
+fn a_library_is_made(rt: HostRuntime) {
+    assert!(rt; is_made(rt.alloc()));
 }
 
 /// The regions of the library: the header's fields and the rest of its page, the member and its padding, the F1H record.
-#[test]
-fn all_bytes_are_in_regions(rt: HostRuntime) -> Result<(), Fail> {
-    let header = read_header(&LIBRARY)?;
-    let spans = spans_in(rt.alloc(), &LIBRARY, 16)?;
-    let regions = account_of(rt.alloc(), header, &spans, &LIBRARY)?;
-    let kinds = [
-        RegionKind::Header,
-        RegionKind::Padding,
-        RegionKind::Member,
-        RegionKind::Padding,
-        RegionKind::End,
-    ];
-    let lengths = [10, 6, 11, 5, 3];
-    assert_eq!(rt; spans.end, Ok(32));
-    assert_eq!(rt; regions.len(), 5);
-    for (region, (kind, length)) in regions.iter().zip(kinds.iter().zip(lengths.iter())) {
-        assert!(rt; region.kind == *kind && region.length == *length);
+static REGIONS: [(RegionKind, usize); 5] = [
+    (RegionKind::Header, 10),
+    (RegionKind::Padding, 6),
+    (RegionKind::Member, 11),
+    (RegionKind::Padding, 5),
+    (RegionKind::End, 3),
+];
+
+/// Whether regions are those of the library.
+fn are_regions(regions: &[Region]) -> bool {
+    for (region, (kind, length)) in regions.iter().zip(&REGIONS) {
+        if region.kind != *kind || region.length != *length {
+            return false;
+        }
     }
-    Ok(())
+    regions.len() == REGIONS.len()
+}
+
+/// Whether the library has its regions, by its header and its members.
+fn has_regions(alloc: Global, header: Header, spans: &Spans<'_>) -> bool {
+    match account_of(alloc, header, spans, LIBRARY) {
+        Ok(regions) => spans.end == Ok(32) && are_regions(&regions),
+        Err(AllocError) => false,
+    }
+}
+
+/// The same, by its header.
+fn is_accounted(alloc: Global, header: Header) -> bool {
+    match spans_in(alloc, LIBRARY, 16) {
+        Ok(spans) => has_regions(alloc, header, &spans),
+        Err(AllocError) => false,
+    }
+}
+
+#[test]
+fn all_bytes_are_in_regions(rt: HostRuntime) {
+    match read_header(LIBRARY) {
+        Ok(header) => assert!(rt; is_accounted(rt.alloc(), header)),
+        Err(_) => assert!(rt; false),
+    }
 }

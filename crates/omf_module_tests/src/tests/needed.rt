@@ -1,157 +1,143 @@
-//! Which members a program takes, worked out by hand. A module is given by its publics and its externals, each a name of
-//! one character: a small letter is one of a PUBDEF or an EXTDEF, a capital one of an LPUBDEF or a LEXTDEF, a digit among
-//! the externals one of a COMDEF.
+//! Which members a program takes, worked out by hand. A module is given by a text: a capital begins records of a kind, and each small letter or
+//! digit after it is the name in one of them. P is a PUBDEF, Q an LPUBDEF, X an EXTDEF, Y a LEXTDEF, C a COMDEF; L is a comment with the name of
+//! a library, N another comment.
 
 use super::verdicts::ANY;
-use omf_check::{Checked, check};
-use omf_frame::Bytes;
+use omf_check::Checked;
 use omf_library::needed::{default_libraries, needed_members};
+use omf_linking::modules_in;
 use std::alloc::{AllocError, Global};
-use std::test::Fail;
 
-/// The publics and the externals of a module.
-type Module<'a> = (&'a str, &'a str);
-
-/// The record of a public.
-fn public_record(name: u8) -> [u8; 13] {
-    let kind = if name.is_ascii_uppercase() {
-        0xB6
-    } else {
-        0x90
-    };
-    let sum = 0u8.wrapping_sub(kind).wrapping_sub(11).wrapping_sub(name);
-    [kind, 10, 0, 0, 0, 0, 0, 1, name, 0, 0, 0, sum]
-}
-
-/// The record of an external that is no communal.
-fn external_record(name: u8) -> [u8; 7] {
-    let kind = if name.is_ascii_uppercase() {
-        0xB4
-    } else {
-        0x8C
-    };
-    let sum = 0u8.wrapping_sub(kind).wrapping_sub(5).wrapping_sub(name);
-    [kind, 4, 0, 1, name, 0, sum]
-}
-
-/// The record of a near communal of one byte.
-fn communal_record(name: u8) -> [u8; 9] {
-    let sum = 0u8.wrapping_sub(0xB0).wrapping_sub(0x6A).wrapping_sub(name);
-    [0xB0, 6, 0, 1, name, 0, 0x62, 1, sum]
-}
-
-/// Adds the record of an external.
-fn put_external(bytes: &mut Vec<u8>, name: u8) -> Result<(), AllocError> {
-    if name.is_ascii_digit() {
-        bytes.extend_from_slice(&communal_record(name))?;
-    } else {
-        bytes.extend_from_slice(&external_record(name))?;
+/// The bytes of a record of a kind before its name, and those after it; the checksum is 0, which is right whatever the sum.
+fn around(kind: u8) -> (&'static [u8], &'static [u8]) {
+    match kind {
+        b'P' => (b"\x90\x0A\0\0\0\0\0\x01", b"\0\0\0\0"),
+        b'Q' => (b"\xB6\x0A\0\0\0\0\0\x01", b"\0\0\0\0"),
+        b'X' => (b"\x8C\x04\0\x01", b"\0\0"),
+        b'Y' => (b"\xB4\x04\0\x01", b"\0\0"),
+        b'C' => (b"\xB0\x06\0\x01", b"\0\x62\x01\0"),
+        b'L' => (b"\x88\x04\0\0\x9F", b"\0"),
+        _ => (b"\x88\x04\0\0\0", b"\0"),
     }
-    Ok(())
 }
 
-/// The record of a comment with a text of one character: a small letter is the name of a library.
-fn comment_record(text: u8) -> [u8; 7] {
-    let class = if text.is_ascii_lowercase() { 0x9F } else { 0 };
-    let sum = 0u8
-        .wrapping_sub(0x8C)
-        .wrapping_sub(class)
-        .wrapping_sub(text);
-    [0x88, 4, 0, 0, class, text, sum]
+/// Appends a record of a kind.
+fn put_record(bytes: &mut Vec<u8>, kind: u8, name: u8) -> Result<(), AllocError> {
+    let (front, back) = around(kind);
+    bytes.extend_from_slice(front)?;
+    bytes.push(name)?;
+    bytes.extend_from_slice(back)
 }
 
-/// The bytes of a module.
-fn bytes_of(alloc: Global, module: &Module<'_>) -> Result<Vec<u8>, AllocError> {
+/// Appends the module of a text.
+fn put_module(bytes: &mut Vec<u8>, text: &str) -> Result<(), AllocError> {
+    bytes.extend_from_slice(b"\x80\x03\0\x01\x41\x3B")?;
+    let mut kind = b'N';
+    for byte in text.as_bytes() {
+        if byte.is_ascii_uppercase() {
+            kind = *byte;
+        } else {
+            put_record(bytes, kind, *byte)?;
+        }
+    }
+    bytes.extend_from_slice(b"\x8A\x02\0\0\x74")
+}
+
+/// The bytes of modules, with a semicolon between their texts.
+fn bytes_of(alloc: Global, texts: &str) -> Result<Vec<u8>, AllocError> {
     let mut bytes = Vec::new(alloc);
-    bytes.extend_from_slice(&[0x80, 3, 0, 1, 0x41, 0x3B])?;
-    for name in module.0.as_bytes() {
-        bytes.extend_from_slice(&public_record(*name))?;
+    for text in texts.split(';') {
+        put_module(&mut bytes, text)?;
     }
-    for name in module.1.as_bytes() {
-        put_external(&mut bytes, *name)?;
-    }
-    bytes.extend_from_slice(&[0x8A, 2, 0, 0, 0x74])?;
     Ok(bytes)
 }
 
-/// Modules, checked.
-fn checked_of(alloc: Global, modules: &[Module<'_>]) -> Result<Vec<Checked>, Fail> {
-    let mut all = Vec::new(alloc);
-    for module in modules {
-        let bytes = bytes_of(alloc, module)?;
-        all.push(check(alloc, &mut Bytes::new(&bytes), ANY)?)?;
+/// Those modules; `None` if one is refused, or memory runs out.
+fn modules_of(alloc: Global, texts: &str) -> Option<Vec<Checked>> {
+    match bytes_of(alloc, texts) {
+        Ok(bytes) => match modules_in(alloc, ANY, &bytes) {
+            Ok((modules, _text)) => Some(modules),
+            Err(_) => None,
+        },
+        Err(AllocError) => None,
     }
-    Ok(all)
 }
+
+/// Modules, members, and the numbers of the members that the modules take.
+type Taken = (&'static str, &'static str, &'static [usize]);
+
+static TAKEN: [Taken; 13] = [
+    // A chain; a member that nobody needs; a member that is found after the one that needs it, and before it.
+    ("Xa", "PaXb;Pc;Pb", &[0, 2]),
+    ("Xb", "PaXb;Pc;Pb", &[2]),
+    ("", "PaXb;Pc;Pb", &[]),
+    ("Xd", "PaXb;Pc;Pb", &[]),
+    ("Xb", "Pa;PbXa", &[0, 1]),
+    ("Xa", "PaXb;PbXa", &[0, 1]),
+    // The first member of a name is taken, also if a later one is needed for another name; none, if a module has the name.
+    ("Xa", "Pa;PaXb;Pb", &[0]),
+    ("Xa;Pa", "Pa;PaXb;Pb", &[]),
+    ("PaXa", "Pa;PaXb;Pb", &[]),
+    ("Xab", "Pa;Pab", &[0, 1]),
+    // A local public does not count, nor does a local external; a communal counts as an external.
+    ("Ya", "Qa", &[]),
+    ("Xa", "Qa;Pa", &[1]),
+    ("C1", "C1;P1", &[1]),
+];
 
 /// Whether modules take exactly these members.
-fn takes(
-    alloc: Global,
-    modules: &[Module<'_>],
-    members: &[Module<'_>],
-    numbers: &[usize],
-) -> Result<bool, Fail> {
-    let modules = checked_of(alloc, modules)?;
-    let members = checked_of(alloc, members)?;
-    let found = needed_members(alloc, &modules, &members)?;
-    Ok(found.as_slice() == numbers)
+fn are_taken(alloc: Global, modules: &[Checked], members: &[Checked], numbers: &[usize]) -> bool {
+    match needed_members(alloc, modules, members) {
+        Ok(found) => found.as_slice() == numbers,
+        Err(AllocError) => false,
+    }
 }
 
-/// A chain; a member that nobody needs; a member that is found after the one that needs it, and before it.
-#[test]
-fn members_in_chains_join(rt: HostRuntime) -> Result<(), Fail> {
-    let alloc = rt.alloc();
-    let members = [("a", "b"), ("c", ""), ("b", "")];
-    assert!(rt; takes(alloc, &[("", "a")], &members, &[0, 2])?);
-    assert!(rt; takes(alloc, &[("", "b")], &members, &[2])?);
-    assert!(rt; takes(alloc, &[("", "")], &members, &[])?);
-    assert!(rt; takes(alloc, &[("", "d")], &members, &[])?);
-    assert!(rt; takes(alloc, &[("", "b")], &[("a", ""), ("b", "a")], &[0, 1])?);
-    assert!(rt; takes(alloc, &[("", "a")], &[("a", "b"), ("b", "a")], &[0, 1])?);
-    Ok(())
+/// Whether the modules of a row take its members.
+fn is_right(alloc: Global, row: &Taken) -> bool {
+    let Some(modules) = modules_of(alloc, row.0) else {
+        return false;
+    };
+    match modules_of(alloc, row.1) {
+        Some(members) => are_taken(alloc, &modules, &members, row.2),
+        None => false,
+    }
 }
 
-/// The first member of a name is taken, also if a later one is needed for another name; none, if a module has the name.
 #[test]
-fn the_first_member_is_taken(rt: HostRuntime) -> Result<(), Fail> {
-    let alloc = rt.alloc();
-    let twice = [("a", ""), ("a", "b"), ("b", "")];
-    assert!(rt; takes(alloc, &[("", "a")], &twice, &[0])?);
-    assert!(rt; takes(alloc, &[("", "a"), ("a", "")], &twice, &[])?);
-    assert!(rt; takes(alloc, &[("a", "a")], &twice, &[])?);
-    assert!(rt; takes(alloc, &[("", "ab")], &[("a", ""), ("ab", "")], &[0, 1])?);
-    Ok(())
+fn members_are_taken_by_need(rt: HostRuntime) {
+    for row in &TAKEN {
+        assert!(rt; is_right(rt.alloc(), row));
+    }
 }
 
-/// A local public does not count, nor does a local external; a communal counts as an external.
-#[test]
-fn local_names_do_not_count(rt: HostRuntime) -> Result<(), Fail> {
-    let alloc = rt.alloc();
-    assert!(rt; takes(alloc, &[("", "A")], &[("A", "")], &[])?);
-    assert!(rt; takes(alloc, &[("", "a")], &[("A", ""), ("a", "")], &[1])?);
-    assert!(rt; takes(alloc, &[("", "1")], &[("", "1"), ("1", "")], &[1])?);
-    Ok(())
-}
-
-/// The libraries that three modules ask for: each name once, where it comes first.
-#[test]
-fn libraries_are_asked_for_once(rt: HostRuntime) -> Result<(), Fail> {
-    let alloc = rt.alloc();
-    let mut modules = Vec::new(alloc);
-    for texts in ["bXa", "", "cab"] {
-        let mut bytes = Vec::new(alloc);
-        bytes.extend_from_slice(&[0x80, 3, 0, 1, 0x41, 0x3B])?;
-        for text in texts.as_bytes() {
-            bytes.extend_from_slice(&comment_record(*text))?;
+/// Whether names of one letter are those of a text.
+fn are_letters(names: &[&[u8]], letters: &[u8]) -> bool {
+    for (name, letter) in names.iter().zip(letters) {
+        if name.first() != Some(letter) || name.len() != 1 {
+            return false;
         }
-        bytes.extend_from_slice(&[0x8A, 2, 0, 0, 0x74])?;
-        modules.push(check(alloc, &mut Bytes::new(&bytes), ANY)?)?;
     }
-    let names = default_libraries(alloc, &modules)?;
-    let mut all = Vec::new(alloc);
-    for name in names.iter() {
-        all.extend_from_slice(name)?;
+    names.len() == letters.len()
+}
+
+/// Whether modules ask for libraries of these names.
+fn are_asked(alloc: Global, modules: &[Checked], letters: &[u8]) -> bool {
+    match default_libraries(alloc, modules) {
+        Ok(names) => are_letters(&names, letters),
+        Err(AllocError) => false,
     }
-    assert!(rt; names.len() == 3 && all.as_slice() == b"bac".as_slice());
-    Ok(())
+}
+
+/// Whether three modules ask for each library once, where it comes first.
+fn ask_once(alloc: Global) -> bool {
+    match modules_of(alloc, "LbNxLa;;Lcab") {
+        Some(modules) => are_asked(alloc, &modules, b"bac"),
+        None => false,
+    }
+}
+
+#[test]
+fn libraries_are_asked_for_once(rt: HostRuntime) {
+    assert!(rt; ask_once(rt.alloc()));
 }
