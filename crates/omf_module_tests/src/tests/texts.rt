@@ -9,11 +9,14 @@ use omf_reloc::{Kind, ReachFault};
 use omf_samples::{END, EXTERNAL, HEADER, NAMES, SEGMENT};
 use std::alloc::Global;
 
-/// The addresses of the first two segments and of the first external, or the fault.
-type Given = Result<[Option<u32>; 3], LocatorFault>;
+/// The addresses of the first two segments and of the first external.
+type Addresses = (Option<u32>, Option<u32>, Option<u32>);
+
+/// What a text gives a module, or the fault.
+type Given = Result<Addresses, LocatorFault>;
 
 /// The same, of a module that is linked.
-type Linked = Result<[Option<u32>; 3], LinkFault>;
+type Linked = Result<Addresses, LinkFault>;
 
 /// A text, what it gives the module, and what this is linked to.
 struct Case {
@@ -52,7 +55,7 @@ static CASES: [Case; 5] = [
     },
     Case {
         text: "M \"A\" ; the second one\nS #2 20 0 0\nX \"X\" 30 0 0\n",
-        given: Ok([None, Some(0x20), Some(0x30)]),
+        given: Ok((None, Some(0x20), Some(0x30))),
         linked: Err(LinkFault::Reach {
             module: 0,
             fault: ReachFault::Missing(Kind::Segment, 1),
@@ -60,12 +63,12 @@ static CASES: [Case; 5] = [
     },
     Case {
         text: "M #1\nS #2 20 real\nS #1 10 real\nX #1 30 0 0",
-        given: Ok([Some(0x10), Some(0x20), Some(0x30)]),
-        linked: Ok([Some(0x10), Some(0x20), Some(0x30)]),
+        given: Ok((Some(0x10), Some(0x20), Some(0x30))),
+        linked: Ok((Some(0x10), Some(0x20), Some(0x30))),
     },
     Case {
         text: "",
-        given: Ok([None, None, None]),
+        given: Ok((None, None, None)),
         linked: Err(LinkFault::Reach {
             module: 0,
             fault: ReachFault::Missing(Kind::Segment, 1),
@@ -82,26 +85,26 @@ fn address_of(place: Option<Placed>) -> Option<u32> {
 }
 
 /// What a module is given.
-fn given_of(sparse: &[Sparse]) -> [Option<u32>; 3] {
+fn given_of(sparse: &[Sparse]) -> Addresses {
     match sparse {
-        [one] => [
+        [one] => (
             address_of(one.segment(1)),
             address_of(one.segment(2)),
             address_of(one.external(1)),
-        ],
-        _ => [None, None, None],
+        ),
+        _ => (None, None, None),
     }
 }
 
 /// The places of a module.
-fn placed_of(placements: &[Placement]) -> [Option<u32>; 3] {
+fn placed_of(placements: &[Placement]) -> Addresses {
     match placements {
-        [one] => [
+        [one] => (
             address_of(one.segment(1)),
             address_of(one.segment(2)),
             address_of(one.external(1)),
-        ],
-        _ => [None, None, None],
+        ),
+        _ => (None, None, None),
     }
 }
 
