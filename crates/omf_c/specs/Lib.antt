@@ -6,3 +6,4 @@ pub mod Runs
 pub mod Tables
 pub mod Texts
 pub mod Libraries
+pub mod Linking

@@ -74,7 +74,7 @@ fn cause_number(cause: Cause) -> u32
 }
 
 /// The result for a placement that does not reach.
-fn reach_answer(fault: ReachFault) -> Answer
+pub(crate) fn reach_answer(fault: ReachFault) -> Answer
     ensures { result ≡ of_reach fault }
 {
     let fails = Answer {

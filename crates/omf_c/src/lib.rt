@@ -9,6 +9,7 @@ mod calls;
 mod fixups;
 mod images;
 mod libraries;
+mod linking;
 mod making;
 mod reasons;
 mod row_calls;
@@ -21,6 +22,7 @@ mod texts;
 pub use answer::Answer;
 pub use calls::{omf_canon, omf_check, omf_image, omf_list, omf_reloc, omf_start};
 pub use libraries::{omf_library_find, omf_library_members};
+pub use linking::{omf_exe, omf_link_image};
 pub use row_calls::{
     omf_externals, omf_fixups, omf_group_members, omf_groups, omf_publics, omf_segments,
 };
