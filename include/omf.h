@@ -1,4 +1,4 @@
-/* omf.h - checks, lists and relocates object modules in OMF (TIS OMF 1.1), makes their canonical bytes, and reads libraries of them.
+/* omf.h - checks, lists and relocates object modules in OMF (TIS OMF 1.1), makes their canonical bytes, links them, and reads libraries of them.
  *
  * The functions are written in Rattle, which is Rust with contracts. What this file states about results and about the buffer `out` is
  * proved, with one exception, which is tested: that OMF_MEMORY is returned only if memory ran out. The caller keeps to C's rules: each
@@ -35,7 +35,8 @@ enum omf_status {
     OMF_TOO_LONG = 6,  /* the placement has more than 4,194,304 bytes */
     OMF_REACH = 7,     /* the placement does not reach: `reason`, an enum omf_reach */
     OMF_ROOM = 8,      /* the text or the table does not fit `out`, which is unchanged; `size` is the size needed, in bytes or rows */
-    OMF_NO_LIBRARY = 9 /* the bytes are no library: `reason`, an enum omf_no_library */
+    OMF_NO_LIBRARY = 9, /* the bytes are no library: `reason`, an enum omf_no_library */
+    OMF_NOT_LINKED = 10 /* the modules are not linked: `reason`, an enum omf_not_linked */
 };
 
 /* `reason` at OMF_REACH: the first of these that applies. */
@@ -53,6 +54,27 @@ enum omf_no_library {
     OMF_PAGE_SIZE = 3,          /* the header's length, in `size`, is no page size: a power of two from 16 to 32,768 */
     OMF_NO_LIBRARY_END = 4,     /* the bytes end at `size`, after `record_count` members, where a member or F1H must begin */
     OMF_NO_DICTIONARY = 5       /* omf_library_find: the dictionary is not in the bytes */
+};
+
+/* `reason` at OMF_NOT_LINKED. Modules count from 0; `record_count` is the module, and `index` the segment or the external, from 1. */
+enum omf_not_linked {
+    OMF_NO_TEXT = 1,       /* what follows the modules from offset `size` on is no module and no text; omf_exe: is no module */
+    OMF_NO_MODULES = 2,
+    OMF_UNDEFINED = 3,     /* no module has a public of the external's name */
+    OMF_TWICE = 4,         /* two have */
+    OMF_PUBLIC_HIGH = 5,   /* its address is 2^32 or more */
+    OMF_STARTS = 6,        /* two main modules name a start: `record_count` and `size` */
+    OMF_BEYOND = 7,        /* a segment has a byte beyond the last address */
+    OMF_OVERLAP = 8,       /* two segments have a byte at address `start`: that of `record_count`, `index`, and segment `within` of module `number` */
+    OMF_OUTSIDE = 9,       /* a byte is at address `start`, which is not one of those asked for; `index` is 0 if no segment has it */
+    OMF_HIGH = 10,         /* the program does not end below 2^20 */
+    OMF_MOVERS = 11,       /* is not returned */
+    OMF_STAYS = 12,        /* the part at offset `within` of record `number`, which begins at `start`, does not move with the program */
+    OMF_NO_START = 13,     /* no main module names a start */
+    OMF_START_HIGH = 14,   /* the offset of the start is over 65,535 */
+    OMF_STACK_HIGH = 15,   /* the end of the stack is not in its frame */
+    OMF_WORD_OVERLAP = 16, /* the part at offset `within` of record `number` overlaps a relocation word */
+    OMF_MANY_WORDS = 17    /* more than 65,535 relocation words */
 };
 
 /* `kind` at OMF_MISSING and OMF_EXTRA. */
@@ -74,7 +96,8 @@ enum omf_reason {
 /* The result of a call. A field is 0 unless it is described for the status. */
 struct omf_answer {
     uint32_t status;       /* an enum omf_status */
-    uint32_t reason;       /* OMF_REFUSED: an enum omf_reason; OMF_REACH: an enum omf_reach; OMF_NO_LIBRARY: an enum omf_no_library */
+    uint32_t reason;       /* OMF_REFUSED: an enum omf_reason; OMF_REACH: an enum omf_reach; OMF_NO_LIBRARY: an enum omf_no_library; OMF_NOT_LINKED: an
+                              enum omf_not_linked */
     uint32_t kind;         /* OMF_MISSING, OMF_EXTRA: an enum omf_kind; OMF_TOO_FAR: an enum omf_cause */
     uint32_t index;        /* OMF_MISSING, OMF_EXTRA, OMF_ABSOLUTE: the index, from 1 */
     uint32_t number;       /* OMF_REFUSED, OMF_TOO_FAR: the number of the record, from 0 */
@@ -87,7 +110,7 @@ struct omf_answer {
                               libraries as with `size` */
 };
 
-/* Each call but those for libraries reads the module at the start of `bytes`; bytes after its MODEND are ignored. With
+/* Each call but those for libraries and links reads the module at the start of `bytes`; bytes after its MODEND are ignored. With
  * `refuse_vendor_comments`, comments of the classes C0H to FFH are refused. `out` has a size of `room` bytes. At OMF_DONE the whole text is at its start and the bytes after the text
  * are unchanged; at every other status all of `out` is unchanged. A text is not followed by a zero byte. To find the size needed, call with
  * `room` 0: OMF_ROOM returns it in `size`. */
@@ -229,6 +252,18 @@ struct omf_answer omf_library_members(const uint8_t *bytes, size_t length, bool 
  * the first entry of the name points to, or both are 0 if the name has no entry; or OMF_NO_LIBRARY. A damaged dictionary may point to an offset that
  * is no member's: compare it with the table. */
 struct omf_answer omf_library_find(const uint8_t *bytes, size_t length, const uint8_t *name, size_t name_length);
+
+/* Links modules. `input` has them one after another, each with padding after it (bytes of one value, 00H or 1AH) or none, and after them the text
+ * with their addresses, by names (docs/LINK.md). Hands out the memory of `size` addresses from `base` on, `fill` where the modules have no byte.
+ * Returns OMF_DONE, OMF_NOT_LINKED, OMF_ROOM, OMF_MEMORY; OMF_REFUSED or OMF_REACH with the module in `record_count`; or OMF_LINE with `line` and in
+ * `reason` why: 1 not understood, 2 no M line before it, 3 names nothing, 4 names more than one, 5 a second line for the same. */
+struct omf_answer omf_link_image(const uint8_t *input, size_t length, uint32_t base, uint32_t size, uint8_t fill, uint8_t *out, size_t room);
+
+/* Makes a DOS program (.EXE) of the modules of `input`, one after another as above, with nothing after them: laid out from address 0 on in real mode, as
+ * `omf-link exe` does; take members of libraries by omf_library_members and omf_library_find. Loaded at any paragraph, the file is what the modules are at
+ * their placements moved there. Returns OMF_DONE, OMF_NOT_LINKED, OMF_ROOM, OMF_MEMORY; or OMF_REFUSED or OMF_REACH with the module in
+ * `record_count`. */
+struct omf_answer omf_exe(const uint8_t *input, size_t length, uint8_t *out, size_t room);
 
 /* The name and the sentence of a reason, 1 to 33, as `Cut` and `the input ends inside a record`; nothing for any other number. They return
  * OMF_DONE or OMF_ROOM. */

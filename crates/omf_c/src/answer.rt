@@ -10,12 +10,13 @@ use omf_reloc::{Cause, Kind, ReachFault};
 #[repr(C)]
 #[derive(Clone, Copy, PartialEq, Eq)]
 pub struct Answer {
-    /// 0 done; 1 out of memory; 4 the module is refused; 5 a line of the placement is no entry; 6 the placement is too long; 7 the
-    /// placement does not reach; 8 the text does not fit the buffer; 9 the bytes are no library.
+    /// 0 done; 1 out of memory; 4 the module is refused; 5 a line of the text is no entry; 6 the placement is too long; 7 the placement does
+    /// not reach; 8 the text does not fit the buffer; 9 the bytes are no library; 10 the modules are not linked.
     pub status: u32,
     /// At status 4 the reason, 1 to 33. At status 7: 1 an entry is missing, 2 there is an extra entry, 3 an absolute segment is misplaced,
     /// 4 a reference does not reach. At status 9: 1 there is no header, 2 the bytes end in it, 3 its length is no page size, 4 there is no end after
-    /// the members, 5 the dictionary is not in the bytes.
+    /// the members, 5 the dictionary is not in the bytes. At status 10 the fault, an `enum omf_not_linked` of `include/omf.h`, which describes
+    /// the other fields of each.
     pub reason: u32,
     /// At status 7 with reason 1 or 2: 1 a segment, 2 a group, 3 an external. With reason 4: 1 its target, 2 its location, 3 its distance.
     pub kind: u32,
