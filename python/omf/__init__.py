@@ -21,12 +21,13 @@ import os
 from enum import IntEnum
 from functools import cached_property
 from itertools import accumulate
-from typing import Any, List, NamedTuple, Optional, Tuple, Type, Union
+from typing import Any, Iterable, List, NamedTuple, Optional, Tuple, Type, Union
 
 __version__ = "0.4.0"
 __all__ = [
     "Module", "Segment", "Group", "External", "Communal", "Public", "Fixup", "Method", "LOCATIONS", "Run", "Image", "Library", "Member",
-    "Error", "Refused", "NoLibrary", "PlacementLine", "PlacementTooLong", "Unreachable", "reason_name", "reason_sentence",
+    "link", "link_exe", "Error", "Refused", "NoLibrary", "NotLinked", "PlacementLine", "PlacementTooLong", "Unreachable", "reason_name",
+    "reason_sentence",
 ]
 
 Data = Union[bytes, bytearray, memoryview]
@@ -54,7 +55,7 @@ _Fixup = _struct("_Fixup", (_U64, "offset"), (_U32, "segment location size is_se
                  (_U32, "target_index displacement bits number within"))
 
 _TABLES = {"segments": _Segment, "groups": _Group, "group_members": _Member, "externals": _External, "publics": _Public, "fixups": _Fixup}
-_DONE, _MEMORY, _REFUSED, _LINE, _TOO_LONG, _REACH, _ROOM, _NO_LIBRARY = 0, 1, 4, 5, 6, 7, 8, 9
+_DONE, _MEMORY, _REFUSED, _LINE, _TOO_LONG, _REACH, _ROOM, _NO_LIBRARY, _NOT_LINKED = 0, 1, 4, 5, 6, 7, 8, 9, 10
 
 
 def _load() -> ctypes.CDLL:
@@ -68,6 +69,7 @@ def _load() -> ctypes.CDLL:
     calls = {"omf_check": module + flag, "omf_list": module + flag + out, "omf_canon": module + flag + out}
     calls.update(omf_image=module + module + flag + out + out, omf_start=module + module + flag + out, omf_reason_name=[_U32] + out, omf_reason_sentence=[_U32] + out,
                  omf_fault_line=[ctypes.POINTER(_Answer)] + out)
+    calls.update(omf_link_image=module + [_U32, _U32, ctypes.c_uint8] + out, omf_exe=module + out)
     calls.update({f"omf_{name}": module + flag + out for name in [*_TABLES, "library_members"]}, omf_library_find=module + module)
     for name, arguments in calls.items():
         call = getattr(library, name)
@@ -459,3 +461,67 @@ class Library:
         if not answer.record_count:
             return None
         return next((member for member in self.members if member.offset == answer.size), None)
+
+
+_LINES = {1: "not understood", 2: "no M line before it", 3: "names nothing", 4: "names more than one", 5: "a second line for the same"}
+_LINKS = {
+    1: "no module and no text at {0.size}", 2: "no modules", 3: "module {0.record_count} external {0.index} is not defined",
+    4: "module {0.record_count} external {0.index} is defined twice", 5: "module {0.record_count} external {0.index} has its public at 2^32 or more",
+    6: "two starts: module {0.record_count} and module {0.size}", 7: "module {0.record_count} segment {0.index} ends beyond the last address",
+    8: "overlap at {0.start:08X}: module {0.record_count} segment {0.index} and module {0.number} segment {0.within}",
+    9: "a byte at {0.start:08X} is outside", 10: "the program ends after 1048576",
+    12: "module {0.record_count} record {0.number} at {0.start} within {0.within} does not move with the program",
+    13: "no start: no main module names one", 14: "module {0.record_count} start: its offset is over 65535",
+    15: "the end of the stack is not in its frame", 16: "module {0.record_count} record {0.number} at {0.start} within {0.within} overlaps a relocation word",
+    17: "more than 65535 relocation words",
+}
+
+
+class NotLinked(Error):
+    """Modules are not linked. Modules count from 0 here, segments and externals from 1.
+
+    reason is a number of enum omf_not_linked in include/omf.h, or None: then fault is the Refused or Unreachable of the module, or line is the number
+    of the line of the text that does not fit, from 1. module is the module, or None if the fault has none.
+    """
+
+    def __init__(self, answer: Any) -> None:
+        self.reason: Optional[int] = answer.reason if answer.status == _NOT_LINKED else None
+        self.line: Optional[int] = answer.line if answer.status == _LINE else None
+        self.fault: Optional[Error] = None
+        is_one = answer.status in (_REFUSED, _REACH) or self.reason in (3, 4, 5, 6, 7, 8, 12, 14, 16)
+        self.module: Optional[int] = answer.record_count if is_one or (self.reason == 9 and answer.index) else None
+        if self.reason is not None:
+            super().__init__(_LINKS[self.reason].format(answer))
+        elif self.line is not None:
+            super().__init__(f"text line {self.line}: {_LINES[answer.reason]}")
+        else:
+            plain = _Answer(*(getattr(answer, name) if name != "record_count" else 0 for name, _ in _Answer._fields_))
+            line = _said(_library.omf_fault_line, ctypes.byref(plain))
+            self.fault = (Refused if answer.status == _REFUSED else Unreachable)(line, plain)
+            super().__init__(f"module {self.module} {line}")
+
+
+def _linked(call: Any, *arguments: Any) -> bytes:
+    """What a link makes."""
+    answer, made = _filled(call, ctypes.c_uint8, *arguments)
+    if answer.status == _MEMORY:
+        raise MemoryError("out of memory")
+    if answer.status != _DONE:
+        raise NotLinked(answer)
+    return bytes(made)
+
+
+def link(modules: Iterable[Data], text: Union[str, bytes], base: int, size: int, fill: int = 0) -> bytes:
+    """The memory of modules: size bytes from the address base on, with fill where no module has a byte.
+
+    text has the address of each segment, by names (docs/LINK.md). Raises NotLinked.
+    """
+    spelled = text.encode("latin-1") if isinstance(text, str) else bytes(text)
+    joined = b"".join([*map(bytes, modules), spelled])
+    return _linked(_library.omf_link_image, joined, len(joined), base, size, fill)
+
+
+def link_exe(modules: Iterable[Data]) -> bytes:
+    """A DOS program (.EXE) of modules, as `omf-link exe` makes it. Members of libraries are modules: Library.find. Raises NotLinked."""
+    joined = b"".join(map(bytes, modules))
+    return _linked(_library.omf_exe, joined, len(joined))

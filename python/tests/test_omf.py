@@ -153,7 +153,7 @@ class Faults(unittest.TestCase):
             omf.Module(FIRST).relocate(b"\n" * 4194305)
 
     def test_each_fault_is_an_error(self):
-        for fault in (omf.Refused, omf.PlacementLine, omf.PlacementTooLong, omf.Unreachable, omf.NoLibrary):
+        for fault in (omf.Refused, omf.PlacementLine, omf.PlacementTooLong, omf.Unreachable, omf.NoLibrary, omf.NotLinked):
             self.assertTrue(issubclass(fault, omf.Error))
 
 
@@ -186,6 +186,47 @@ class Libraries(unittest.TestCase):
         is_ = caught.exception
         self.assertEqual((is_.reason, is_.offset, is_.refusal.name, is_.refusal.record, str(is_)),
                          (None, 16, "UnknownType", 1, "the member at 16 is refused: refused 3 UnknownType record 1 at 6 within 0"))
+
+
+# A main module A: the segments T (mov ax, T; retf) and S (a stack of 16 bytes), a start at offset 0 of T. f is 0:1234H, in no segment; FRAMED refers to it
+# in the frame of T.
+ONE = bytes.fromhex("80030001413B 960600000154015300 98070028040002010100 98070074100003010100 A00800010000B80000CB00 9C0500C801540100 8A0700C1000101000000")
+FRAMED = bytes.fromhex("80030001413B 96040000015400 98070028030002010100 8C040001660000 A00700010000BB000000 9C0600C40106010100 8A0700C1000101000000")
+ABSOLUTE = bytes.fromhex("80030001420096040000015400 900A0000000000016634120000 8A02000000")
+TEXT = 'M "A"\nS "T" 7C00 real\nS "S" 7D00 real\n'
+
+
+class Links(unittest.TestCase):
+    def test_modules_have_one_memory(self):
+        self.assertEqual(omf.link([ONE], TEXT, 0x7BFE, 8, 0x90), bytes.fromhex("9090 B8C007CB 9090"))
+
+    def test_modules_make_a_program(self):
+        wanted = "4D5A24000100010002000200FFFF010010000000000000001C00000001000000 B80000CB"
+        self.assertEqual(omf.link_exe([ONE]), bytes.fromhex(wanted))
+
+    def fault_of(self, call, *arguments):
+        with self.assertRaises(omf.NotLinked) as caught:
+            call(*arguments)
+        return caught.exception
+
+    def test_a_fault_has_its_reason_and_its_module(self):
+        is_ = self.fault_of(omf.link_exe, [ABSOLUTE, FRAMED])
+        self.assertEqual((is_.reason, is_.module, str(is_)), (12, 1, "module 1 record 5 at 40 within 3 does not move with the program"))
+        is_ = self.fault_of(omf.link_exe, [FRAMED])
+        self.assertEqual((is_.reason, is_.module, str(is_)), (3, 0, "module 0 external 1 is not defined"))
+        is_ = self.fault_of(omf.link, [ONE], TEXT, 0x7C01, 8)
+        self.assertEqual((is_.reason, is_.module, str(is_)), (9, 0, "a byte at 00007C00 is outside"))
+        self.assertEqual(self.fault_of(omf.link_exe, []).reason, 2)
+
+    def test_a_line_has_its_number(self):
+        is_ = self.fault_of(omf.link, [ONE], TEXT.replace("T", "U"), 0x7C00, 8)
+        self.assertEqual((is_.reason, is_.line, str(is_)), (None, 2, "text line 2: names nothing"))
+
+    def test_a_module_has_its_fault(self):
+        is_ = self.fault_of(omf.link_exe, [ABSOLUTE, ONE[:-1]])
+        self.assertEqual((is_.module, is_.fault.name), (1, "Cut"))
+        is_ = self.fault_of(omf.link, [ONE], 'M "A"\nS "T" 7C00 real\n', 0x7C00, 8)
+        self.assertEqual((is_.module, str(is_)), (0, "module 0 reach 1 Missing segment 2"))
 
 
 if __name__ == "__main__":

@@ -285,6 +285,131 @@ static void libraries(void) {
     if (!lacks(sizeof library, OMF_PAGE_SIZE, 17, 0)) fail("library", "another page size");
 }
 
+/* A main module A with the segments T (4 bytes: mov ax, T and retf, with the selector of T at 1) and S (16 bytes without data), which is the stack
+ * of a program; a start at offset 0 of T. */
+static const uint8_t with_stack[] = {
+    0x80, 0x03, 0x00, 0x01, 0x41, 0x3B, 0x96, 0x06, 0x00, 0x00, 0x01, 0x54, 0x01, 0x53, 0x00,                               /* THEADR, LNAMES */
+    0x98, 0x07, 0x00, 0x28, 0x04, 0x00, 0x02, 0x01, 0x01, 0x00, 0x98, 0x07, 0x00, 0x74, 0x10, 0x00, 0x03, 0x01, 0x01, 0x00, /* SEGDEF, SEGDEF */
+    0xA0, 0x08, 0x00, 0x01, 0x00, 0x00, 0xB8, 0x00, 0x00, 0xCB, 0x00, 0x9C, 0x05, 0x00, 0xC8, 0x01, 0x54, 0x01, 0x00,       /* LEDATA, FIXUPP */
+    0x8A, 0x07, 0x00, 0xC1, 0x00, 0x01, 0x01, 0x00, 0x00, 0x00,                                                             /* MODEND */
+};
+
+/* A main module: mov bx, f in the segment T, where the offset of f counts from the frame of T. */
+static const uint8_t framed[] = {
+    0x80, 0x03, 0x00, 0x01, 0x41, 0x3B, 0x96, 0x04, 0x00, 0x00, 0x01, 0x54, 0x00, 0x98, 0x07, 0x00, 0x28, 0x03, 0x00, 0x02, 0x01, 0x01, 0x00, /* to SEGDEF */
+    0x8C, 0x04, 0x00, 0x01, 0x66, 0x00, 0x00, 0xA0, 0x07, 0x00, 0x01, 0x00, 0x00, 0xBB, 0x00, 0x00, 0x00,                   /* 23 EXTDEF, LEDATA */
+    0x9C, 0x06, 0x00, 0xC4, 0x01, 0x06, 0x01, 0x01, 0x00, 0x8A, 0x07, 0x00, 0xC1, 0x00, 0x01, 0x01, 0x00, 0x00, 0x00,       /* 40 FIXUPP, MODEND */
+};
+
+/* The public f at 0:1234H, in no segment. */
+static const uint8_t absolute[] = {
+    0x80, 0x03, 0x00, 0x01, 0x42, 0x00, 0x96, 0x04, 0x00, 0x00, 0x01, 0x54, 0x00,                               /* THEADR, LNAMES */
+    0x90, 0x0A, 0x00, 0x00, 0x00, 0x00, 0x00, 0x01, 0x66, 0x34, 0x12, 0x00, 0x00, 0x8A, 0x02, 0x00, 0x00, 0x00, /* PUBDEF, MODEND */
+};
+
+static const char addresses[] = "M \"A\"\nS \"T\" 7C00 real\nS \"S\" 7D00 real\n";
+static const uint8_t memory[] = {0x90, 0x90, 0xB8, 0xC0, 0x07, 0xCB, 0x90, 0x90};
+static const uint8_t program[] = {
+    0x4D, 0x5A, 0x24, 0x00, 0x01, 0x00, 0x01, 0x00, 0x02, 0x00, 0x02, 0x00, 0xFF, 0xFF, 0x01, 0x00, 0x10, 0x00, 0x00, 0x00, 0x00, 0x00, /* header */
+    0x00, 0x00, 0x1C, 0x00, 0x00, 0x00, 0x01, 0x00, 0x00, 0x00, 0xB8, 0x00, 0x00, 0xCB,                                     /* relocation, image */
+};
+
+static uint8_t input[256];
+static size_t input_length;
+
+/* Makes the input of two parts. */
+static void joins(const void *first, size_t first_length, const void *second, size_t second_length) {
+    memcpy(input, first, first_length);
+    if (second_length) memcpy(input + first_length, second, second_length);
+    input_length = first_length + second_length;
+}
+
+/* Links the input: the memory from an address on if there is one, or else the program. */
+static struct omf_answer linked(uint32_t base, uint8_t *out, size_t room) {
+    return base ? omf_link_image(input, input_length, base, 8, 0x90, out, room) : omf_exe(input, input_length, out, room);
+}
+
+/* Makes the call with each room, and with each allocation refused. */
+static void links(const char *name, uint32_t base, const uint8_t *wanted, size_t size) {
+    struct omf_answer is;
+    uint8_t before[64];
+    long n = 0;
+    for (size_t room = 0; room <= size + 1; room++) {
+        uint8_t *out = (uint8_t *)malloc(room ? room : 1);
+        if (!out) exit(2);
+        memset(out, 7, room ? room : 1);
+        memset(before, 7, sizeof before);
+        if (!has(linked(base, out, room), room < size ? OMF_ROOM : OMF_DONE, size)) fail(name, "another answer");
+        if (room >= size) memcpy(before, wanted, size);
+        if (memcmp(out, before, room) != 0) fail(name, "other bytes");
+        free(out);
+    }
+    memset(before, 7, sizeof before);
+    do {
+        uint8_t out[64];
+        memset(out, 7, sizeof out);
+        refused_from = n++;
+        allocations = 0;
+        is = linked(base, out, sizeof out);
+        refused_from = -1;
+        if (is.status == OMF_MEMORY && !(has(is, OMF_MEMORY, 0) && memcmp(out, before, sizeof out) == 0)) fail(name, "memory");
+    } while (is.status == OMF_MEMORY);
+    if (n < 2 || !has(is, OMF_DONE, size)) fail(name, "refused allocations");
+}
+
+/* Whether the call has this answer and leaves the buffer as it is. */
+static bool unlinked(uint32_t base, struct omf_answer wanted) {
+    uint8_t out[64], before[64];
+    memset(out, 7, sizeof out);
+    memset(before, 7, sizeof before);
+    const struct omf_answer is = linked(base, out, sizeof out);
+    return is.status == wanted.status && is.reason == wanted.reason && is.kind == wanted.kind && is.index == wanted.index && is.number == wanted.number
+        && is.within == wanted.within && is.start == wanted.start && is.line == wanted.line && is.size == wanted.size
+        && is.record_count == wanted.record_count && memcmp(out, before, sizeof out) == 0;
+}
+
+/* An answer: status, reason, kind, index, number, within, start, line, size, record_count. */
+static struct omf_answer answer(uint32_t status, uint32_t reason, uint32_t kind, uint32_t index, uint32_t number, uint32_t within, uint64_t start,
+                                uint64_t line, uint64_t size, uint64_t record_count) {
+    const struct omf_answer is = {status, reason, kind, index, number, within, start, line, size, record_count};
+    return is;
+}
+
+static void memories(void) {
+    static const char unknown[] = "M \"A\"\nS \"U\" 7C00 real\n", one[] = "M \"A\"\nS \"T\" 7C00 real\n";
+    static const uint8_t other[] = {0xFF};
+    joins(with_stack, sizeof with_stack, addresses, strlen(addresses));
+    links("link", 0x7BFE, memory, sizeof memory);
+    if (!unlinked(0x7C01, answer(OMF_NOT_LINKED, OMF_OUTSIDE, 0, 1, 0, 0, 0x7C00, 0, 0, 0))) fail("link", "outside");
+    input_length = 0;
+    if (!unlinked(1, answer(OMF_NOT_LINKED, OMF_NO_MODULES, 0, 0, 0, 0, 0, 0, 0, 0))) fail("link", "no modules");
+    joins(with_stack, sizeof with_stack, other, sizeof other);
+    if (!unlinked(1, answer(OMF_NOT_LINKED, OMF_NO_TEXT, 0, 0, 0, 0, 0, 0, sizeof with_stack, 0))) fail("link", "no text");
+    joins(with_stack, sizeof with_stack, unknown, strlen(unknown));
+    if (!unlinked(1, answer(OMF_LINE, 3, 0, 0, 0, 0, 0, 2, 0, 0))) fail("link", "line");
+    joins(with_stack, sizeof with_stack, one, strlen(one));
+    if (!unlinked(1, answer(OMF_REACH, OMF_MISSING, OMF_SEGMENT, 2, 0, 0, 0, 0, 0, 0))) fail("link", "missing segment");
+    joins(absolute, sizeof absolute, framed, sizeof framed - 8);
+    if (!unlinked(1, answer(OMF_REFUSED, OMF_CUT, 0, 0, 6, 2, 49, 0, 0, 1))) fail("link", "cut");
+}
+
+static void programs(void) {
+    joins(with_stack, sizeof with_stack, NULL, 0);
+    links("program", 0, program, sizeof program);
+    joins(with_stack, sizeof with_stack, with_stack, sizeof with_stack);
+    if (!unlinked(0, answer(OMF_NOT_LINKED, OMF_STARTS, 0, 0, 0, 0, 0, 0, 1, 0))) fail("program", "two starts");
+    joins(framed, sizeof framed, absolute, sizeof absolute);
+    if (!unlinked(0, answer(OMF_NOT_LINKED, OMF_STAYS, 0, 0, 5, 3, 40, 0, 0, 0))) fail("program", "a part that stays");
+    joins(absolute, sizeof absolute, framed, sizeof framed);
+    if (!unlinked(0, answer(OMF_NOT_LINKED, OMF_STAYS, 0, 0, 5, 3, 40, 0, 0, 1))) fail("program", "a part of the second that stays");
+    joins(framed, sizeof framed, NULL, 0);
+    if (!unlinked(0, answer(OMF_NOT_LINKED, OMF_UNDEFINED, 0, 1, 0, 0, 0, 0, 0, 0))) fail("program", "undefined");
+    joins(absolute, sizeof absolute, NULL, 0);
+    if (!unlinked(0, answer(OMF_NOT_LINKED, OMF_NO_START, 0, 0, 0, 0, 0, 0, 0, 0))) fail("program", "no start");
+    joins(with_stack, sizeof with_stack, addresses, strlen(addresses));
+    if (!unlinked(0, answer(OMF_NOT_LINKED, OMF_NO_TEXT, 0, 0, 0, 0, 0, 0, sizeof with_stack, 0))) fail("program", "a text");
+}
+
 int main(void) {
     images();
     image_faults();
@@ -299,7 +424,9 @@ int main(void) {
     other_publics();
     other_fixups();
     libraries();
+    memories();
+    programs();
     if (omf_groups(others, sizeof others, false, NULL, 0).status != OMF_DONE) fail("no groups", "another answer");
-    if (failures == 0) printf("every table has its rows, every image its runs and bytes\n");
+    if (failures == 0) printf("every table has its rows, every image and every link its bytes\n");
     return failures > 0;
 }

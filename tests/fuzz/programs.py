@@ -1,17 +1,19 @@
 #!/usr/bin/env python3
-"""Runs omf-dump and omf-lib on changed files, and compares what they print with `omf` and with a second reading of the standard.
+"""Runs omf-dump, omf-lib and omf-link on changed files, and compares what they print with `omf` and with a second reading of the standard.
 
-usage: tests/fuzz/programs.py SECONDS [dump|library ..] [--seeds FOLDER] [--number N] [--keep FOLDER] [--every N]
+usage: tests/fuzz/programs.py SECONDS [dump|library|exe ..] [--seeds FOLDER] [--number N] [--keep FOLDER] [--every N]
 
 dump     changed modules: omf-dump refuses exactly what `omf check` refuses, at the same place and for the same reason, and shows the records that
          `omf list` lists; each line of JSON is read by Python; text and JSON have the same records; a name gives no control characters
 library  changed libraries: omf-lib finds the members that tests/fuzz/libraries.py finds; where the check is OK each public is found; `get` writes
          exactly the members, only into its folder, and changes no file that is there
+exe      one to four modules, made at random or changed: what `omf-link exe` writes, loaded by tests/fuzz/executables.py at several paragraphs, has the
+         bytes and the start that `omf-link image` has at addresses so much higher; of a fault there is one line and no file
 
 The seeds are examples/, the data of the crates, libraries made of these modules, and the files of FOLDER that have less than 5 KB. --number begins
 the random numbers, so that a run can be repeated. An input that breaks a promise is kept in the folder of --keep, or in that which is printed.
 With --every only each Nth module is given to `omf check` too, which is most of the time where the program has run-time checks.
-OMF, OMF_DUMP and OMF_LIB name programs; else those of crates/*/out are taken, and else they are built without their proofs.
+OMF, OMF_DUMP, OMF_LIB and OMF_LINK name programs; else those of crates/*/out are taken, and else they are built without their proofs.
 The status is 0 where every promise held. It stops at the tenth that did not hold."""
 import argparse
 import json
@@ -27,6 +29,7 @@ import sys
 import tempfile
 import time
 
+import executables
 import libraries
 
 ROOT = pathlib.Path(__file__).resolve().parent.parent.parent
@@ -434,6 +437,61 @@ class Library:
         promised(status != 0 or asked or len(found) == len(own), "not all members")
 
 
+# omf-link exe.
+
+NO_STACK = b"no stack: SS:SP is 0:0 from the load address\n"
+
+
+class Exe:
+    def __init__(self, seeds, random_, every):
+        self.link, self.random = program("omf_link"), random_
+        self.modules = [it for it in seeds if it[:1] != b"\xF0" and libraries.module_length(it)]
+        self.accepted = self.compared = 0
+
+    def inputs(self):
+        random_ = self.random
+        main, count = random_.randrange(4), random_.randrange(4) + 1
+        made = [executables.module(random_, number, number == main % count) for number in range(count)]
+        if random_.randrange(4) == 0:
+            at = random_.randrange(count)
+            made[at] = changed_module(random_, [made[at]]) if random_.randrange(2) else random_.choice(self.modules)
+        return made
+
+    def look(self, inputs, folder):
+        names = [f"in{number}.obj" for number in range(len(inputs))]
+        for name, bytes_ in zip(names, inputs):
+            (folder / name).write_bytes(bytes_)
+        file = folder / "p.exe"
+        file.unlink(missing_ok=True)
+        done = subprocess.run([self.link, "exe", "-o", file.name, *names], stdout=subprocess.PIPE, stderr=subprocess.PIPE, cwd=folder, timeout=TIMEOUT)
+        promised(done.returncode in (0, 1) and done.stderr.count(b"\n") <= 1 and done.stdout.count(b"\n") <= 1, f"exe: status {done.returncode}, {done}")
+        promised(file.exists() == (done.returncode == 0), f"exe: status {done.returncode}, and a file: {file.exists()}")
+        promised((done.stdout in (b"", NO_STACK)) == (done.returncode == 0), f"exe: {done.stdout[:200]}")
+        if done.returncode == 0:
+            self.accepted += 1
+            self.compare(names, file.read_bytes(), folder)
+
+    def compare(self, names, file, folder):
+        """The file at some paragraphs, and the memory of the modules there."""
+        status, text = run([self.link, "draft", "--base", "0", "--real", *names], folder=folder)
+        promised(status == 0, f"draft: {text[:200]}")
+        for paragraph in (0, 1, self.random.randrange(2, 0x8000)):
+            image, start, size = executables.loaded(file, paragraph)
+            (folder / "text").write_bytes(executables.moved(text, paragraph))
+            status, lines = run([self.link, "image", "-t", "text", *names], folder=folder)
+            promised(status == 0, f"image at {paragraph}: {lines[:200]}")
+            memory, own = executables.memory_of(lines)
+            promised(own == start, f"start {own}, loaded {start}")
+            at = executables.PARAGRAPH * paragraph
+            promised(all(at <= it < at + len(image) and image[it - at] == byte for it, byte in memory.items()), f"other bytes at {paragraph}")
+            promised(all(byte == 0 or at + number in memory for number, byte in enumerate(image)), f"more bytes at {paragraph}")
+            promised(not memory or max(memory) == at + len(image) - 1, f"bytes after the last at {paragraph}")
+            self.compared += 1
+
+
+TARGETS = {"dump": Dump, "library": Library, "exe": Exe}
+
+
 def load_seeds(more):
     """The modules and the libraries to begin with, each once."""
     paths = [*ROOT.glob("examples/**/*"), *ROOT.glob("crates/*/data/*"), *ROOT.glob("tests/fuzz/*.omf")]
@@ -458,7 +516,7 @@ def alone(one, inputs, folder):
 
 def fuzz(name, seconds, seeds, number, kept, every):
     """Looks at changed inputs for that time. Returns how many broke a promise."""
-    one = {"dump": Dump, "library": Library}[name](seeds, random.Random(number), every)
+    one = TARGETS[name](seeds, random.Random(number), every)
     begun, broken, count, rounds = time.monotonic(), 0, 0, 0
     before = resource.getrusage(resource.RUSAGE_CHILDREN)
     with tempfile.TemporaryDirectory() as folder:
@@ -478,7 +536,7 @@ def fuzz(name, seconds, seeds, number, kept, every):
                 print(f"{name}: not so: {alone_error or error!r}: {kept / f'{name}-{number}-{rounds}-0'} ({len(guilty)} inputs)", flush=True)
     after = resource.getrusage(resource.RUSAGE_CHILDREN)
     used = after.ru_utime + after.ru_stime - before.ru_utime - before.ru_stime
-    print(f"{name}: {count} inputs, {one.accepted} accepted, {one.compared} compared with omf check, {broken} broken promises, {used:.0f} s", flush=True)
+    print(f"{name}: {count} inputs, {one.accepted} accepted, {one.compared} compared with another program, {broken} broken promises, {used:.0f} s", flush=True)
     return broken
 
 
@@ -491,9 +549,9 @@ def main():
     parser.add_argument("--keep")
     parser.add_argument("--every", type=int, default=1)
     asked = parser.parse_args()
-    targets = asked.targets or ["dump", "library"]
-    if set(targets) - {"dump", "library"}:
-        parser.error("the targets are dump and library")
+    targets = asked.targets or list(TARGETS)
+    if set(targets) - set(TARGETS):
+        parser.error(f"the targets are {', '.join(TARGETS)}")
     kept = pathlib.Path(asked.keep) if asked.keep else pathlib.Path(tempfile.gettempdir()) / f"programs-{os.getpid()}"
     seeds = load_seeds(asked.seeds)
     sys.exit(1 if sum(fuzz(it, asked.seconds, seeds, asked.number, kept, asked.every) for it in targets) else 0)

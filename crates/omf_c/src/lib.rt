@@ -13,10 +13,14 @@ mod linking;
 mod making;
 mod reasons;
 mod row_calls;
+#[cfg(test)]
+mod row_tests;
 mod rows;
 mod runs;
 mod table;
 mod tables;
+#[cfg(test)]
+mod tests;
 mod texts;
 
 pub use answer::Answer;

@@ -1,0 +1,103 @@
+"""DOS programs (MZ files) as DOS loads them, and modules to link them of: made and read by the published formats, apart from the crates."""
+import re
+import struct
+
+from libraries import record
+
+PARAGRAPH = 16
+NAMES = (b"f", b"g", b"h")
+
+
+def loaded(file, paragraph):
+    """What DOS makes of a file at a paragraph: the bytes from there on, CS and IP, and the number of bytes of memory."""
+    mark, last, pages, words, head, least, _, stack, pointer, checksum, ip, cs, table, overlay = struct.unpack_from("<2s13H", file)
+    if (mark, checksum, overlay) != (b"MZ", 0, 0) or len(file) != 512 * pages - (512 - last if last else 0):
+        raise ValueError("the header")
+    image = bytearray(file[PARAGRAPH * head:])
+    for number in range(words):
+        offset, segment = struct.unpack_from("<2H", file, table + 4 * number)
+        at = PARAGRAPH * segment + offset
+        word = struct.unpack_from("<H", image, at)[0]
+        struct.pack_into("<H", image, at, (word + paragraph) % 65536)
+    return bytes(image), ((cs + paragraph) % 65536, ip), len(image) + PARAGRAPH * least
+
+
+def moved(text, paragraph):
+    """A drafted text with all that is not absolute this number of paragraphs higher, and with one frame for the groups of a name: the lowest."""
+    lines, modules = text.decode().splitlines(), 0
+    frames = {}
+    for key, base in re.findall(r"^G (\S+) (\S+) ", text.decode(), re.M):
+        frames[key] = min(frames.get(key, 1 << 20), int(base, 16))
+    made = []
+    for line in lines:
+        segment = re.match(r'S (#\d+|"[^"]*"(?: "[^"]*")?) ([0-9A-F]+) (?:real|([0-9A-F]+) ([0-9A-F]+))', line)
+        if line.startswith("M "):
+            modules += 1
+            line = f"M #{modules}"
+        elif segment and " absolute " not in line:
+            frame = f"{int(segment[3], 16) + PARAGRAPH * paragraph:X} {int(segment[4], 16) + paragraph:X}" if segment[3] else "real"
+            line = f"S {segment[1]} {int(segment[2], 16) + PARAGRAPH * paragraph:X} {frame}"
+        elif line.startswith("G "):
+            key = line.split()[1]
+            line = f"G {key} {frames[key] + PARAGRAPH * paragraph:X} {frames[key] // PARAGRAPH + paragraph:X}"
+        made.append(line)
+    return ("\n".join(made) + "\n").encode()
+
+
+def memory_of(lines):
+    """The bytes by address, and the start, of what `omf-link image` prints."""
+    found = {}
+    for address, row in re.findall(rb"^([0-9A-F]{8}):((?: [0-9A-F]{2})+)$", lines, re.M):
+        found.update(enumerate(bytes.fromhex(row.decode()), int(address, 16)))
+    start = re.search(rb"^START ([0-9A-F]{4}):([0-9A-F]{8})$", lines, re.M)
+    return found, start and (int(start[1], 16), int(start[2], 16))
+
+
+def fixup(random_, at, count, has_group, externals):
+    """One fixup of a location at this offset, of the kinds that 16-bit modules have; now and then of another."""
+    location = random_.choice((1, 1, 2, 2, 3, 3, 3, 0, 4, 5, 9, 13, 11))
+    is_absolute = random_.randrange(2)
+    target = random_.choice((0, 0, 0, 1, 2, 2)) if externals else random_.choice((0, 0, 1))
+    target = 0 if target == 1 and not has_group else target
+    index = {0: random_.randrange(count) + 1, 1: 1, 2: random_.randrange(max(externals, 1)) + 1}[target]
+    frame = random_.choice((5, 5, 5, 4, 0, 1, 2))
+    frame = 5 if (frame == 1 and not has_group) or (frame == 2 and not externals) else frame
+    frame_index = {0: random_.randrange(count) + 1, 1: 1, 2: random_.randrange(max(externals, 1)) + 1}.get(frame)
+    body = struct.pack(">H", 0x8000 | (0x4000 if is_absolute or location in (2, 3, 11) else 0) | location << 10 | at)
+    body += bytes([frame << 4 | 4 | target]) + (bytes([frame_index]) if frame_index else b"") + bytes([index])
+    return body
+
+
+def module(random_, number, is_main):
+    """A module with a few segments, publics, externals, data and fixups."""
+    count, externals = random_.randrange(3) + 1, random_.randrange(3)
+    names = [b"", b"_TEXT", b"_DATA", b"STACK", b"CODE", b"DATA", b"DGROUP"]
+    records = [record(0x80, b"\x01" + bytes([0x41 + number])), record(0x96, b"".join(bytes([len(it)]) + it for it in names))]
+    sizes = [random_.choice((8, 12, 16, 33, 64, 300)) for _ in range(count)]
+    for size in sizes:
+        kind = random_.choice((0x28, 0x28, 0x48, 0x60, 0x68, 0x74))
+        frame = b""
+        if random_.randrange(24) == 0:
+            kind, frame = 0, struct.pack("<HB", random_.choice((0x40, 0xB800)), random_.randrange(16))
+        records.append(record(0x98, bytes([kind]) + frame + struct.pack("<H", size) + bytes([random_.randrange(2, 5), random_.randrange(5, 7), 1])))
+    has_group = random_.randrange(2) == 0
+    if has_group:
+        records.append(record(0x9A, b"\x07" + b"".join(bytes([0xFF, it + 1]) for it in range(count) if it == 0 or random_.randrange(2))))
+    if number < len(NAMES):
+        name = NAMES[number]
+        where = b"\0\0\0\0" if random_.randrange(24) == 0 else bytes([has_group and random_.randrange(2), random_.randrange(count) + 1])
+        records.append(record(0x90, where + bytes([len(name)]) + name + struct.pack("<HB", random_.randrange(8), 0)))
+    if externals:
+        records.append(record(0x8C, b"".join(bytes([len(it)]) + it + b"\0" for it in (random_.choice(NAMES) for _ in range(externals)))))
+    for segment, size in enumerate(sizes, 1):
+        if random_.randrange(5) == 0:
+            continue
+        length = min(size, random_.choice((8, 12, 24)))
+        start = random_.choice((0, 0, size - length))
+        records.append(record(0xA0, bytes([segment]) + struct.pack("<H", start) + random_.randbytes(length)))
+        places = range(0, length - 5, random_.choice((6, 6, 6, 6, 1)))
+        chosen = [fixup(random_, at, count, has_group, externals) for at in places if random_.randrange(2)]
+        if chosen:
+            records.append(record(0x9C, b"".join(chosen)))
+    start = b"\xC1\x00\x01\x01" + struct.pack("<H", random_.randrange(8)) if is_main else b"\x00"
+    return b"".join(records) + record(0x8A, start)
