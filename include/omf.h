@@ -59,7 +59,7 @@ enum omf_no_library {
 /* `reason` at OMF_NOT_LINKED. Modules count from 0; `record_count` is the module, and `index` the segment or the external, from 1. */
 enum omf_not_linked {
     OMF_NO_TEXT = 1,       /* what follows the modules from offset `size` on is no module and no text; omf_exe: is no module */
-    OMF_NO_MODULES = 2,
+    OMF_NO_MODULES = 2,    /* is not returned: an input without a module is OMF_REFUSED */
     OMF_UNDEFINED = 3,     /* no module has a public of the external's name */
     OMF_TWICE = 4,         /* two have */
     OMF_PUBLIC_HIGH = 5,   /* its address is 2^32 or more */

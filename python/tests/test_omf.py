@@ -216,7 +216,7 @@ class Links(unittest.TestCase):
         self.assertEqual((is_.reason, is_.module, str(is_)), (3, 0, "module 0 external 1 is not defined"))
         is_ = self.fault_of(omf.link, [ONE], TEXT, 0x7C01, 8)
         self.assertEqual((is_.reason, is_.module, str(is_)), (9, 0, "a byte at 00007C00 is outside"))
-        self.assertEqual(self.fault_of(omf.link_exe, []).reason, 2)
+        self.assertEqual(self.fault_of(omf.link_exe, []).fault.name, "NoEnd")
 
     def test_a_line_has_its_number(self):
         is_ = self.fault_of(omf.link, [ONE], TEXT.replace("T", "U"), 0x7C00, 8)

@@ -377,12 +377,12 @@ static struct omf_answer answer(uint32_t status, uint32_t reason, uint32_t kind,
 
 static void memories(void) {
     static const char unknown[] = "M \"A\"\nS \"U\" 7C00 real\n", one[] = "M \"A\"\nS \"T\" 7C00 real\n";
-    static const uint8_t other[] = {0xFF};
+    static const uint8_t other[] = {0x01};
     joins(with_stack, sizeof with_stack, addresses, strlen(addresses));
     links("link", 0x7BFE, memory, sizeof memory);
     if (!unlinked(0x7C01, answer(OMF_NOT_LINKED, OMF_OUTSIDE, 0, 1, 0, 0, 0x7C00, 0, 0, 0))) fail("link", "outside");
     input_length = 0;
-    if (!unlinked(1, answer(OMF_NOT_LINKED, OMF_NO_MODULES, 0, 0, 0, 0, 0, 0, 0, 0))) fail("link", "no modules");
+    if (!unlinked(1, answer(OMF_REFUSED, OMF_NO_END, 0, 0, 0, 0, 0, 0, 0, 0))) fail("link", "no modules");
     joins(with_stack, sizeof with_stack, other, sizeof other);
     if (!unlinked(1, answer(OMF_NOT_LINKED, OMF_NO_TEXT, 0, 0, 0, 0, 0, 0, sizeof with_stack, 0))) fail("link", "no text");
     joins(with_stack, sizeof with_stack, unknown, strlen(unknown));
