@@ -59,7 +59,7 @@ enum omf_no_library {
 /* `reason` at OMF_NOT_LINKED. Modules count from 0; `record_count` is the module, and `index` the segment or the external, from 1. */
 enum omf_not_linked {
     OMF_NO_TEXT = 1,       /* what follows the modules from offset `size` on is no module and no text; omf_exe: is no module */
-    OMF_NO_MODULES = 2,    /* is not returned: an input without a module is OMF_REFUSED */
+    OMF_NO_MODULES = 2,    /* there is no module */
     OMF_UNDEFINED = 3,     /* no module has a public of the external's name */
     OMF_TWICE = 4,         /* two have */
     OMF_PUBLIC_HIGH = 5,   /* its address is 2^32 or more */
@@ -68,7 +68,7 @@ enum omf_not_linked {
     OMF_OVERLAP = 8,       /* two segments have a byte at address `start`: that of `record_count`, `index`, and segment `within` of module `number` */
     OMF_OUTSIDE = 9,       /* a byte is at address `start`, which is not one of those asked for; `index` is 0 if no segment has it */
     OMF_HIGH = 10,         /* the program does not end below 2^20 */
-    OMF_MOVERS = 11,       /* is not returned */
+    OMF_MOVERS = 11,       /* what moves is not given for each segment and group of the module: omf_exe works it out itself */
     OMF_STAYS = 12,        /* the part at offset `within` of record `number`, which begins at `start`, does not move with the program */
     OMF_NO_START = 13,     /* no main module names a start */
     OMF_START_HIGH = 14,   /* the offset of the start is over 65,535 */
@@ -259,8 +259,8 @@ struct omf_answer omf_library_find(const uint8_t *bytes, size_t length, const ui
  * `reason` why: 1 not understood, 2 no M line before it, 3 names nothing, 4 names more than one, 5 a second line for the same. */
 struct omf_answer omf_link_image(const uint8_t *input, size_t length, uint32_t base, uint32_t size, uint8_t fill, uint8_t *out, size_t room);
 
-/* Makes a DOS program (.EXE) of the modules of `input`, one after another as above, with nothing after them: laid out from address 0 on in real mode, as
- * `omf-link exe` does; take members of libraries by omf_library_members and omf_library_find. Loaded at any paragraph, the file is what the modules are at
+/* Makes a DOS program (.EXE) of the modules of `input`, one after another as above, with nothing after them: laid out from address 0 on in real mode
+ * (docs/LINK.md). A member of a library is such a module, where omf_library_members has it. Loaded at any paragraph, the file is what the modules are at
  * their placements moved there. Returns OMF_DONE, OMF_NOT_LINKED, OMF_ROOM, OMF_MEMORY; or OMF_REFUSED or OMF_REACH with the module in
  * `record_count`. */
 struct omf_answer omf_exe(const uint8_t *input, size_t length, uint8_t *out, size_t room);

@@ -522,6 +522,6 @@ def link(modules: Iterable[Data], text: Union[str, bytes], base: int, size: int,
 
 
 def link_exe(modules: Iterable[Data]) -> bytes:
-    """A DOS program (.EXE) of modules, as `omf-link exe` makes it. Members of libraries are modules: Library.find. Raises NotLinked."""
+    """A DOS program (.EXE) of modules, laid out from address 0 on (docs/LINK.md). A member of a library is a module: Member.data. Raises NotLinked."""
     joined = b"".join(map(bytes, modules))
     return _linked(_library.omf_exe, joined, len(joined))
