@@ -31,4 +31,5 @@ pub mod ThreadLaws
 pub mod Walked
 pub mod Patience
 pub mod JudgingLaws
+pub mod AheadLaws
 pub mod CountedLaws

@@ -3,6 +3,7 @@ use Rattle.std.proofs.Common.{◌≡◌, ◌≢◌, ℕ, ◌+◌, ◌*◌, ◌^�
 use Rattle.std.specs.Prelude.{Option, Some, None, option_map, unwrap_or, All, IsTrue, is_some, IsSome, IsOk, ⊤, not, ◌==◌, ◌||◌, nat_le, Result}
 use Rattle.std.proofs.lemmas.Bool.{leb-true, le-leb, eqb-true, true≢false}
 use Rattle.std.proofs.lemmas.List.{append-nil, map-append}
+use Rattle.std.proofs.lemmas.List.Elements.{All-cons, All-nil}
 use Rattle.omf_frame.proofs.FaultLaws.{untrue, all_cons}
 use Rattle.omf_frame.specs.Bytes.{with_before}
 use Rattle.omf_frame.specs.Fault.{Fault, Rule, rule, broken, AreKept, least, first_step}
@@ -19,11 +20,11 @@ use Rattle.omf_records.specs.Layout.{when, le}
 use Rattle.omf_records.specs.Location.{location_size}
 use Rattle.omf_records.specs.Inner.Reading.{typed}
 use Rattle.omf_records.specs.Records.{contents, data_item, mod_end, IsTyped}
-use Rattle.omf_records.specs.Values.{At, Rec, Contents, Header, Names, Plain, Iterated, Fixups, ModEnd, DataItem, Subrecord, Thread, Fixup, Reference, width, is_wide, location_type, location_offset, Segment, SegmentItem, Publics, PublicItems, is_big}
+use Rattle.omf_records.specs.Values.{At, Rec, Contents, Header, Names, Plain, Iterated, Fixups, ModEnd, DataItem, Subrecord, Thread, Fixup, Reference, width, is_wide, location_type, location_offset, Segment, SegmentItem, Group, GroupItem, Publics, PublicItems, is_big}
 use Rattle.omf_records.proofs.LaidOut.{IsLaidOut, laid-out}
-use Rattle.omf_check.specs.Rules.{contents_rules, room, item_limit, item_places, data_rules, names_entry, names_entry_or_none, frame_rules, target_rules, reference_rules, judged_at, location_rule, subrecord_rules, start_rules, is_location_frame, length_of_segment}
-use Rattle.omf_check.specs.Sound.{FrameIsDefined, TargetIsDefined, ReferenceHolds, FixupHolds, SubrecordHolds, SubrecordsHold, StartHolds, DataHolds, BlocksHold, PublicsHold, ContentsHold, is_module_end, ModuleHolds}
-use Rattle.omf_check.specs.Tables.{segments, groups, item_count, subrecords, last_data, segment_length}
+use Rattle.omf_check.specs.Rules.{contents_rules, room, table_limit, item_limit, item_places, data_rules, names_entry, names_entry_or_none, frame_rules, target_rules, reference_rules, judged_at, location_rule, subrecord_rules, start_rules, is_location_frame, length_of_segment}
+use Rattle.omf_check.specs.Sound.{FrameIsDefined, TargetIsDefined, ReferenceHolds, FixupHolds, SubrecordHolds, SubrecordsHold, StartHolds, DataHolds, BlocksHold, SegmentHolds, GroupHolds, PublicsHold, ContentsHold, is_module_end, ModuleHolds}
+use Rattle.omf_check.specs.Tables.{names, segments, groups, is_defined, item_count, subrecords, last_data, segment_length}
 use Rattle.omf_check.specs.Threads.{FrameMethod, Of, F4, F5, TargetMethod, T0, frame_from, target_from, frame_setting, target_setting, frame_of, target_of}
 use Rattle.omf_check.specs.WellFormed.{IsWellFormed, HasTrees, recs}
 use Rattle.omf_check.specs.declared.profile.Profile.{Profile}
@@ -220,12 +221,44 @@ segment_fits kind s low = by (is_big s.attribute) (is_wide kind)
     by true false = omega arith
     by false wide = omega (arith, low)
 
+-- Segments and groups.
+segment_holds : (before : List Rec) (kind : ℕ) (s : SegmentItem) → s.size < 2 ^ 32
+    → AreKept (room table_limit (length (segments before)) (3 ∷ []) ++ names_entry_or_none (length (names before)) reason.UndefinedName s.name ∷ names_entry_or_none (length (names before)) reason.UndefinedName s.class ∷ []) → SegmentHolds before kind s
+segment_holds before kind s low h =
+    let first : Rule = names_entry_or_none (length (names before)) reason.UndefinedName s.name in
+    let second : Rule = names_entry_or_none (length (names before)) reason.UndefinedName s.class in
+    let both = all_right IsKept (room table_limit (length (segments before)) (3 ∷ [])) (first ∷ second ∷ []) h in
+    record {
+      name = first_kept first (second ∷ []) both;
+      class = first_kept second [] (all_rest IsKept first (second ∷ []) both);
+      short = segment_fits kind s low;
+    }
+
+members_hold : (n : ℕ) (ms : List (At (At ℕ))) → AreKept (map (λ m. names_entry n reason.UndefinedSegment m.item) ms) → All (λ m. is_defined n m.item.item ≡ true) ms
+members_hold n [] h = All-nil (λ m. is_defined n m.item.item ≡ true)
+members_hold n (m ∷ ms) h =
+    let first : Rule = names_entry n reason.UndefinedSegment m.item in
+    let others = map (λ x. names_entry n reason.UndefinedSegment x.item) ms in
+    All-cons (λ x. is_defined n x.item.item ≡ true) m ms (first_kept first others h) (members_hold n ms (all_rest IsKept first others h))
+
+group_holds : (before : List Rec) (g : GroupItem)
+    → AreKept (room table_limit (length (groups before)) (3 ∷ []) ++ names_entry_or_none (length (names before)) reason.UndefinedName g.name ∷ map (λ m. names_entry (length (segments before)) reason.UndefinedSegment m.item) g.members) → GroupHolds before g
+group_holds before g h =
+    let first : Rule = names_entry_or_none (length (names before)) reason.UndefinedName g.name in
+    let others = map (λ m. names_entry (length (segments before)) reason.UndefinedSegment m.item) g.members in
+    let all = all_right IsKept (room table_limit (length (groups before)) (3 ∷ [])) (first ∷ others) h in
+    record {
+      name = first_kept first others all;
+      members = members_hold (length (segments before)) g.members (all_rest IsKept first others all);
+    }
+
 -- The guarantees for the records of a module.
 by_contents : (profile : Profile) (limits : Limits) (before : List Rec) (kind n : ℕ) (c : Contents) → n ≤ 65534 → IsBrief n c → HasTrees limits kind c
     → AreKept (contents_rules profile limits before kind c) → ContentsHold limits before kind c
 by_contents profile limits before kind n (Plain d) short brief trees h = data_holds before d (length d.bytes) (omega (arith, brief, short)) h
 by_contents profile limits before kind n (Iterated d) short brief trees h = blocks_hold limits before kind d (omega (arith, brief, short)) trees h
-by_contents profile limits before kind n (Segment s) short brief trees h = segment_fits kind s brief
+by_contents profile limits before kind n (Segment s) short brief trees h = segment_holds before kind s brief h
+by_contents profile limits before kind n (Group g) short brief trees h = group_holds before g h
 by_contents profile limits before kind n (Publics p) short brief trees h = publics_hold before p brief h
 by_contents profile limits before kind n (Fixups subs) short brief trees h = subrecords_hold before subs h
 by_contents profile limits before kind n (ModEnd byte None) short brief trees h = tt

@@ -1,3 +1,4 @@
+pub mod Ahead
 pub mod Cells
 pub mod Judging
 pub mod Kept

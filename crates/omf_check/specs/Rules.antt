@@ -80,7 +80,8 @@ judged_at r datum = unwrap_or (option_map (λ a. a.within) datum) r.fix.within
 abbrev pub reference_rules : List Rec → List Subrecord → Reference → List Rule
 reference_rules before earlier r = frame_rules before (judged_at r r.frame) (frame_of earlier r) ++ target_rules before (judged_at r r.target) (target_of earlier r)
 
--- The location of a fixup is within the data of the last data record, which is an LEDATA.
+-- The location of a fixup is within the data of the last data record, which is an LEDATA. (Fixups on the blocks of an LIDATA are refused: this
+-- profile's rule.)
 abbrev pub location_rule : Option Contents → ℕ → ℕ → Rule
 location_rule (Some (Plain d)) within locat = rule (nat_le (location_offset locat + location_size (location_type locat)) (length d.bytes)) within reason.OutsideRecord
 location_rule (Some _) within locat = rule false within reason.FixupOnIterated

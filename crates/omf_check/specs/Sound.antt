@@ -1,12 +1,12 @@
 -- Guarantees for the records of a well-formed module: no thread, entry, data or byte that a record refers to is missing.
 use Rattle.std.specs.Prelude.{◌≡◌, ◌≢◌, ◌≤◌, ℕ, ◌+◌, ◌^◌, List, [], ◌∷◌, ◌++◌, length, map, All, Bool, true, false, ◌==◌, Some, None, is_some, IsSome, IsOk, ⊤}
 use Rattle.omf_records.specs.Location.{location_size}
-use Rattle.omf_records.specs.Values.{At, Rec, Contents, Segment, Publics, PublicItems, Plain, Iterated, Fixups, ModEnd, DataItem, Subrecord, Thread, Fixup, Reference, width, location_type, location_offset}
+use Rattle.omf_records.specs.Values.{At, Rec, Contents, Segment, SegmentItem, Group, GroupItem, Publics, PublicItems, Plain, Iterated, Fixups, ModEnd, DataItem, Subrecord, Thread, Fixup, Reference, width, location_type, location_offset}
 -- computed: blocks_are_read and lengths_are_decided of omf_image.
 use Rattle.omf_image.specs.Inner.Expanding.{expanded, expanded_length}
 use Rattle.omf_image.specs.declared.limits.Limits.{Limits}
 use Rattle.omf_check.specs.Rules.{length_of_segment}
-use Rattle.omf_check.specs.Tables.{segments, groups, entries, is_defined, is_none_or_defined, subrecords, last_data, segment_length}
+use Rattle.omf_check.specs.Tables.{names, segments, groups, entries, is_defined, is_none_or_defined, subrecords, last_data, segment_length}
 use Rattle.omf_check.specs.Threads.{FrameMethod, Of, F4, F5, TargetMethod, frame_setting, target_setting, plain}
 
 -- The entry that a target refers to is in its table after these records.
@@ -53,6 +53,18 @@ pub record BlocksHold (limits : Limits) (before : List Rec) (kind : ℕ) (d : Da
   pub expands : IsOk (expanded_length (width kind) limits d.bytes)
   pub lies : DataHolds before d (length (expanded (width kind) limits d.bytes))
 
+-- A SEGDEF: the names of the segment and of its class are defined or 0 for none, and it has 2^32 bytes at most. The index of the overlay name is not
+-- used.
+pub record SegmentHolds (before : List Rec) (kind : ℕ) (s : SegmentItem) : Type 0 where
+  pub name : is_none_or_defined (length (names before)) s.name.item ≡ true
+  pub class : is_none_or_defined (length (names before)) s.class.item ≡ true
+  pub short : segment_length kind s ≤ 2 ^ 32
+
+-- A GRPDEF: its name is defined or 0 for none, and each member is a segment that is defined.
+pub record GroupHolds (before : List Rec) (g : GroupItem) : Type 0 where
+  pub name : is_none_or_defined (length (names before)) g.name.item ≡ true
+  pub members : All (λ m. is_defined (length (segments before)) m.item.item ≡ true) g.members
+
 -- A PUBDEF or an LPUBDEF: the group and the segment of its base are defined or 0 for none, and it has a base frame number exactly if it
 -- has no segment.
 pub record PublicsHold (before : List Rec) (p : PublicItems) : Type 0 where
@@ -69,7 +81,8 @@ SubrecordsHold before subs = (done rest : List (At Subrecord)) (s : At Subrecord
 abbrev pub ContentsHold : Limits → List Rec → ℕ → Contents → Type 0
 ContentsHold limits before kind (Plain d) = DataHolds before d (length d.bytes)
 ContentsHold limits before kind (Iterated d) = BlocksHold limits before kind d
-ContentsHold limits before kind (Segment s) = segment_length kind s ≤ 2 ^ 32
+ContentsHold limits before kind (Segment s) = SegmentHolds before kind s
+ContentsHold limits before kind (Group g) = GroupHolds before g
 ContentsHold limits before kind (Publics p) = PublicsHold before p
 ContentsHold limits before kind (Fixups subs) = SubrecordsHold before subs
 ContentsHold limits before kind (ModEnd byte None) = ⊤

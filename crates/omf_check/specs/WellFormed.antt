@@ -15,7 +15,7 @@ use Rattle.omf_check.specs.declared.profile.Profile.{Profile}
 abbrev pub recs : List Raw → List Rec
 recs records = map typed records
 
--- The blocks of an LIDATA are within the limits.
+-- The blocks of an LIDATA are within the limits (this profile's rule).
 abbrev pub HasTrees : Limits → ℕ → Contents → Type 0
 HasTrees limits kind (Iterated d) = (trees : Blocks) × AreBlocks (width kind) limits d.bytes trees
 HasTrees limits kind _ = ⊤

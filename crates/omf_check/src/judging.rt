@@ -4,6 +4,7 @@ ghost use Rattle.std.specs.Prelude.{◌≡◌, ◌≤◌, ◌+◌, ◌*◌, ◌+
 ghost use Rattle.omf_frame.specs.Framer.{want_of, want_with};
 ghost use Rattle.omf_frame.specs.Framing.{is_whole};
 ghost use Rattle.omf_check.specs.Checking.{IsCheckFault, IsReadPatiently};
+ghost use Rattle.omf_check.specs.Inner.Ahead.{PassesAhead, StopsAhead, FailsAhead};
 ghost use Rattle.omf_check.specs.Inner.Passing.{IsPassing, Moves, Fails};
 ghost use Rattle.omf_check.specs.Inner.Stopping.{Stops};
 ghost use Rattle.omf_check.specs.Judging.{HasRead, Judges};
@@ -50,6 +51,61 @@ fn step(
             framer.next();
             Ok(fed)
         }
+    }
+}
+
+/// Judges the next record where the reader shows it, if it is there whole, and moves past it. Returns its size in bytes, or 0. A
+/// record that is refused is taken from the reader too.
+fn step_ahead<S: Source>(
+    framer: &mut Framer,
+    tables: &mut Tables,
+    profile: Profile,
+    reader: &mut S,
+) -> Result<usize, CheckFault>
+    requires { (taken : List ℕ) × IsPassing profile framer.old taken tables.old }
+    ensures moves { (taken : List ℕ) → IsPassing profile framer.old taken tables.old → IfOk result (λ size. PassesAhead profile taken size (S.seen reader.old).bytes (S.seen reader.new).bytes framer.new tables.new) }
+    ensures cause { (taken : List ℕ) → IsPassing profile framer.old taken tables.old → IfErr result (StopsAhead profile framer.old taken (S.shown reader.old) (S.seen reader.old).bytes (S.seen reader.new).bytes) }
+    ensures failures { (S.seen reader.new).failures ≡ (S.seen reader.old).failures }
+    ensures breaks { (S.seen reader.new).breaks ≡ (S.seen reader.old).breaks }
+{
+    let ahead = reader.ahead();
+    let Some(raw) = framer.raw_ahead(ahead) else {
+        return Ok(0);
+    };
+    match tables.take(profile, raw) {
+        Ok(()) => {
+            let size = framer.pass(ahead);
+            reader.consume(size);
+            Ok(size)
+        }
+        Err(fault) => {
+            let size = framer.pass(ahead);
+            reader.consume(size);
+            Err(fault)
+        }
+    }
+}
+
+/// Judges all records that the reader shows whole, up to the first that is refused. Returns their size in bytes.
+fn judge_ahead<S: Source>(
+    framer: &mut Framer,
+    tables: &mut Tables,
+    profile: Profile,
+    reader: &mut S,
+) -> Result<usize, CheckFault>
+    requires { (taken : List ℕ) × IsPassing profile framer.old taken tables.old }
+    ensures moves { (taken : List ℕ) → IsPassing profile framer.old taken tables.old → IfOk result (λ size. PassesAhead profile taken size (S.seen reader.old).bytes (S.seen reader.new).bytes framer.new tables.new) }
+    ensures cause { (taken : List ℕ) → IsPassing profile framer.old taken tables.old → IfErr result (FailsAhead profile taken (S.seen reader.old).bytes (S.seen reader.new).bytes) }
+    ensures failures { (S.seen reader.new).failures ≡ (S.seen reader.old).failures }
+    ensures breaks { (S.seen reader.new).breaks ≡ (S.seen reader.old).breaks }
+{
+    let mut size = 0;
+    loop {
+        let count = step_ahead(framer, tables, profile, reader)?;
+        if count == 0 {
+            return Ok(size);
+        }
+        size += count;
     }
 }
 
@@ -102,5 +158,7 @@ pub fn judge<S: Source>(
         }
         let fed = step(&mut framer, &mut tables, profile, &room[..count])?;
         size += fed.taken as u64;
+        let passed = judge_ahead(&mut framer, &mut tables, profile, reader)?;
+        size += passed as u64;
     }
 }

@@ -1,5 +1,5 @@
 -- The tests that the code makes find the fault of framing.
-use Rattle.std.proofs.Common.{◌≡◌, ℕ, ◌+◌, ◌*◌, ◌%◌, ◌<◌, Bool, true, false, cond, not, ◌||◌, Option, Some, None, List, [], ◌∷◌, length, sum, refl, sym, ap, ◌∙◌, arith, subst, lit<}
+use Rattle.std.proofs.Common.{◌≡◌, ℕ, ◌+◌, ◌*◌, ◌%◌, ◌<◌, Bool, true, false, cond, not, ◌||◌, is_none, Option, Some, None, List, [], ◌∷◌, length, sum, refl, sym, ap, ◌∙◌, arith, subst, lit<}
 use Rattle.std.specs.Prelude.{◌==◌, nat_le, slice_index, option_map}
 use Rattle.std.specs.Option.{option_or}
 use Rattle.omf_frame.specs.declared.fault.Reason.{Reason}
@@ -73,6 +73,18 @@ cut_tests true true false e c h len at q n = absurd (no_some _ n)
 cut_tests false true false e c h len at q n = absurd (no_some _ n)
 cut_tests false false false e c h len at q n = absurd (no_some _ n)
 cut_tests true false false e c h len at q n = refl
+
+-- what is not whole has a fault
+any_cut : (s t u w e c h : Bool) (len at : ℕ) → w ≡ false → is_none (least (first_step (steps s t u w e c h len at))) ≡ false
+any_cut false t u w e c h len at q = refl
+any_cut true true true w e c h len at q = refl
+any_cut true false true w e c h len at q = refl
+any_cut true false false w e c h len at q = refl
+any_cut true true false false e c h len at q = refl
+any_cut true true false true e c h len at q = absurd (untrue_is q)
+
+pub uncut : (is_first : Bool) (bytes : List ℕ) → is_whole bytes ≡ false → is_none (frame_fault is_first bytes) ≡ false
+uncut f bytes q = any_cut (is_nonempty bytes) (is_taken (slice_index bytes 0)) (is_unsupported (slice_index bytes 0)) (is_whole bytes) (stated_length bytes == 0) _ _ _ _ q
 
 -- what the tests say where no step has a fault
 pub clean_tests : (t u w e c h : Bool) (len at : ℕ) → least (first_step (steps true t u w e c h len at)) ≡ None → (t ≡ true) × (h ≡ true)

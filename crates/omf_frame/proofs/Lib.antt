@@ -6,6 +6,7 @@ pub mod FaultLaws
 pub mod FramingLaws
 pub mod States
 pub mod Records
+pub mod Ahead
 pub mod Standing
 pub mod RunLaws
 pub mod ModuleLaws

@@ -1,5 +1,5 @@
 -- The record that a whole record's bytes are.
-use Rattle.std.proofs.Common.{◌≡◌, ◌⊎◌, inl, inr, ℕ, suc, ◌+◌, ◌*◌, ◌-◌, ◌%◌, ◌<◌, ◌≤◌, Bool, true, false, not, ◌||◌, get_or, List, [], ◌∷◌, Option, Some, None, Err, length, sum, refl, arith}
+use Rattle.std.proofs.Common.{◌≡◌, ◌⊎◌, inl, inr, ℕ, suc, ◌+◌, ◌*◌, ◌-◌, ◌%◌, ◌<◌, ◌≤◌, Bool, true, false, not, ◌||◌, get_or, List, [], ◌∷◌, Some, None, Err, length, sum, refl, arith}
 use Rattle.std.specs.Prelude.{◌==◌, nat_le, slice_index}
 use borrow.Author.Tests.{eqb-true, eqb-false, leb-true}
 use Rattle.omf_frame.specs.declared.fault.Reason.TheVariants.{NoEnd, Cut}

@@ -1,6 +1,6 @@
 -- A record's bytes have no fault of framing exactly where they are a record of a known type, a header first.
 use Rattle.std.proofs.Common.{◌≡◌, ℕ, zero, suc, ◌+◌, ◌*◌, ◌-◌, ◌/◌, ◌%◌, ◌<◌, ◌≤◌, List, [], ◌∷◌, ◌++◌, refl, sym, ◌∙◌, ap, subst, length, arith, Bool, true, false, inl, inr, take, length-drop, Some, None}
-use Rattle.std.specs.Prelude.{IsTrue, not, ◌||◌, ◌&&◌, ◌==◌, ◌⊎◌, slice_index, sum}
+use Rattle.std.specs.Prelude.{IsTrue, not, ◌||◌, ◌==◌, ◌⊎◌, slice_index, sum}
 use Rattle.std.proofs.lemmas.Bool.{leb-true, le-leb, eqb-true, eq-eqb}
 use Rattle.std.proofs.lemmas.List.{length-take, take-append-drop}
 use Rattle.omf_frame.specs.declared.fault.Reason.{Reason}

@@ -3,7 +3,7 @@ use Rattle.std.specs.Prelude.{◌≡◌, ◌⊎◌, ◌≤◌, ◌<◌, ℕ, ◌
 use Rattle.omf_frame.specs.declared.fault.FrameFault.{FrameFault}
 use Rattle.omf_frame.specs.declared.fault.FrameFault.TheVariants.{Memory, Refused}
 use Rattle.omf_frame.specs.Fault.{Fault}
-use Rattle.omf_frame.specs.Framing.{present, is_whole, is_taken, wanted, is_end, type_faults, frame_fault, standing_fault, record_len}
+use Rattle.omf_frame.specs.Framing.{present, is_whole, is_nonempty, is_taken, wanted, is_end, type_faults, frame_fault, standing_fault, record_len}
 
 -- The bytes taken of the record at hand, its number and its offset in the input, whether MODEND was passed, and a permanent fault.
 pub record Held : Type 0 where
@@ -69,6 +69,22 @@ pub record FailsAs (old : Held) (piece : List ℕ) (fault : FrameFault) (new : H
   pub not_ended : old.ended ≡ false
   pub new_is : new ≡ record old { bytes = []; fault = Some fault }
   pub cause : ((old.fault ≡ Some fault) × (new ≡ old)) ⊎ ((old.fault ≡ None) × IsCause old piece fault)
+
+-- The framer with these bytes of the record at hand.
+abbrev pub with_bytes : Held → List ℕ → Held
+with_bytes held bytes = record held { bytes = bytes }
+
+-- The framer is between two records: it has passed one, holds no byte of the next, and has neither ended nor failed.
+pub record IsBetween (held : Held) : Type 0 where
+  pub later : 0 < held.number
+  pub none : held.bytes ≡ []
+  pub running : held.ended ≡ false
+  pub no_fault : held.fault ≡ None
+
+-- The same, as a test; and the next bytes begin with a complete record that has no framing fault.
+abbrev pub shows_record : Held → List ℕ → Bool
+shows_record held ahead =
+    (is_none held.fault && (not (held.number == 0) && (not held.ended && not (is_nonempty held.bytes)))) && is_none (frame_fault (held.number == 0) (present ahead))
 
 -- The state after the complete record.
 abbrev pub passed : Held → Held

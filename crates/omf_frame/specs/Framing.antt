@@ -17,7 +17,8 @@ pub record Raw : Type 0 where
 abbrev pub raw_bytes : Raw → List ℕ
 raw_bytes r = r.kind ∷ (length r.body + 1) % 256 ∷ (length r.body + 1) / 256 ∷ (r.body ++ r.checksum ∷ [])
 
--- The checksum byte is 0, or it makes the sum of all bytes 0 modulo 256.
+-- The checksum byte is 0, or it makes the sum of all bytes 0 modulo 256. A record may be as long as its length field can say (this profile's rule; the
+-- standard has 1,024 data bytes at most in an LEDATA).
 abbrev pub IsRecord : Raw → Type 0
 IsRecord r = (length r.body + 1 < 65536) × ((r.checksum ≡ 0) ⊎ (sum (raw_bytes r) % 256 ≡ 0))
 

@@ -182,6 +182,12 @@ impl<'a> Source for Script<'a> {
             }
         }
     }
+
+    fn ahead(&self) -> &[u8] {
+        &[]
+    }
+
+    fn consume(&mut self, count: usize) {}
 }
 
 /// A sink that keeps its bytes, with room for a chosen number.

@@ -1,9 +1,9 @@
 //! Splits bytes, given in any pieces, into records.
 
-ghost use Rattle.std.specs.Prelude.{◌≡◌, ◌≤◌, ◌<◌, ◌+◌, ◌-◌, ◌^◌, ◌++◌, ◌==◌, ◌||◌, [], true, false, None, IsTrue, length, take, slice_index, IfOk, IfErr, OnOk, OnErr, IfSome, OnSome, ℕ, List, is_some, vec_capacity};
+ghost use Rattle.std.specs.Prelude.{◌≡◌, ◌≤◌, ◌<◌, ◌+◌, ◌-◌, ◌^◌, ◌++◌, ◌==◌, ◌||◌, [], true, false, None, IsTrue, length, take, slice_index, IfOk, IfErr, OnOk, OnErr, IfSome, OnSome, ℕ, List, is_some, is_none, vec_capacity};
 ghost use Rattle.omf_frame.specs.Framing.{Raw, IsRecord, raw_bytes, present, front_record, frame_fault, standing_fault, is_whole, is_taken, is_end, record_len};
 ghost use Rattle.omf_frame.specs.Inner.Judging.{type_fault};
-ghost use Rattle.omf_frame.specs.Framer.{Held, at_start, open_at, next_bytes, stands, want_of, Takes, IsCause, FailsAs, passed, stop_of, want_with};
+ghost use Rattle.omf_frame.specs.Framer.{Held, at_start, open_at, next_bytes, stands, want_of, Takes, IsCause, FailsAs, passed, stop_of, want_with, with_bytes, shows_record, IsBetween};
 ghost use Rattle.omf_frame.specs.Inner.Standing.{longest_record};
 
 use crate::fault::{FrameFault, Place, Reason};
@@ -178,6 +178,36 @@ fn front(bytes: &[u8], number: u32, start: u64) -> Option<RawRecord<'_>>
     }
 }
 
+/// The record that these bytes begin with, if it is complete and has no framing fault.
+fn whole_front(bytes: &[u8], number: u32, start: u64) -> Option<RawRecord<'_>>
+    ensures stands { is_some result ≡ is_none (frame_fault (number == 0) (present bytes.now)) }
+    ensures kind { IfSome result (λ r. r.kind ≡ (front_record (present bytes.now)).kind) }
+    ensures body { IfSome result (λ r. r.body.now ≡ (front_record (present bytes.now)).body) }
+    ensures number { IfSome result (λ r. r.number ≡ number) }
+    ensures start { IfSome result (λ r. r.start ≡ start) }
+    ensures sound { OnSome result (frame_fault (number == 0) (present bytes.now) ≡ None) }
+    ensures record { OnSome result (IsRecord (front_record (present bytes.now))) }
+    ensures spelled { OnSome result (raw_bytes (front_record (present bytes.now)) ≡ present bytes.now) }
+    ensures taken { IfSome result (λ r. IsTrue (is_taken r.kind)) }
+    ensures small { IfSome result (λ r. length r.body.now ≤ 65534) }
+    ensures whole { OnSome result (is_whole (present bytes.now) ≡ true) }
+    ensures standing { OnSome result (standing_fault (number == 0) (present bytes.now) ≡ None) }
+    ensures present { OnSome result (record_len bytes.now ≤ length bytes.now) }
+{
+    let size = record_len(bytes);
+    if bytes.len() < size {
+        return None;
+    }
+    let bytes = &bytes[..size];
+    if let Some(_fault) = type_fault(bytes) {
+        return None;
+    }
+    if let Some(_fault) = whole_fault(number == 0, bytes) {
+        return None;
+    }
+    front(bytes, number, start)
+}
+
 impl Framer {
     /// A framer at the start of an input.
     pub fn new(alloc: Global) -> Framer
@@ -298,6 +328,51 @@ impl Framer {
             return None;
         }
         front(&self.bytes, self.number, self.start)
+    }
+
+    /// The record that `ahead` begins with, which are the next bytes, if it is complete there and has no framing fault. `None` before
+    /// the second record, within a record, after MODEND and after a fault.
+    ///
+    /// It shows what `raw` would after `feed` of these bytes, and copies nothing.
+    pub fn raw_ahead<'a>(&self, ahead: &'a [u8]) -> Option<RawRecord<'a>>
+        ensures stands { is_some result ≡ shows_record self.now ahead.now }
+        ensures between { OnSome result (IsBetween self.now) }
+        ensures fed { OnSome result (Takes self.now ahead.now (record_len ahead.now) true (with_bytes self.now (present ahead.now))) }
+        ensures kind { IfSome result (λ r. r.kind ≡ (front_record (present ahead.now)).kind) }
+        ensures body { IfSome result (λ r. r.body.now ≡ (front_record (present ahead.now)).body) }
+        ensures number { IfSome result (λ r. r.number ≡ self.now.number) }
+        ensures start { IfSome result (λ r. r.start ≡ self.now.start) }
+        ensures sound { OnSome result (frame_fault (self.now.number == 0) (present ahead.now) ≡ None) }
+        ensures record { OnSome result (IsRecord (front_record (present ahead.now))) }
+        ensures spelled { OnSome result (raw_bytes (front_record (present ahead.now)) ≡ present ahead.now) }
+        ensures taken { IfSome result (λ r. IsTrue (is_taken r.kind)) }
+        ensures small { IfSome result (λ r. length r.body.now ≤ 65534) }
+        ensures whole { OnSome result (is_whole (present ahead.now) ≡ true) }
+        ensures present { OnSome result (record_len ahead.now ≤ length ahead.now) }
+    {
+        if let Some(_fault) = self.fault {
+            return None;
+        }
+        if self.number == 0 || self.ended || self.bytes.len() != 0 {
+            return None;
+        }
+        whole_front(ahead, self.number, self.start)
+    }
+
+    /// Goes on after the record that `raw_ahead` shows, as `next` would after `feed` of these bytes. Returns its size in bytes. The
+    /// record's number must be below 2^32 - 1.
+    pub fn pass(&mut self, ahead: &[u8]) -> usize
+        requires between { IsBetween self.old }
+        requires sound { frame_fault (self.old.number == 0) (present ahead.now) ≡ None }
+        requires number { self.old.number < 2 ^ 32 - 1 }
+        ensures passed { self.new ≡ passed (with_bytes self.old (present ahead.now)) }
+        ensures size { result ≡ record_len ahead.now }
+    {
+        let size = record_len(ahead);
+        self.number += 1;
+        self.start += size as u64;
+        self.ended = is_end(ahead[0]);
+        size
     }
 
     /// Whether the input may end here. The record at hand must not be complete, unless it is a MODEND.

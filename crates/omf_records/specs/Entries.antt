@@ -36,7 +36,8 @@ public_item wide = do
   type_index ← index
   give (record { name = text; offset = offset; type_index = type_index })
 
--- COMDEF: a name, a type index, and the data type 62H (near) and a length, or 61H (far), the number of elements and their size.
+-- COMDEF: a name, a type index, and the data type 62H (near) and a length, or 61H (far), the number of elements and their size. Other data types
+-- (01H to 5FH, the segment indices of one vendor) are refused: this profile's rule.
 abbrev pub wrong_data_type : ℕ → List Reason
 wrong_data_type t = unless (is_one_of (0x61 ∷ 0x62 ∷ []) t) reason.CommunalType
 
@@ -79,7 +80,8 @@ reference wide = do
   displacement ← when (not (has_no_displacement fix.item)) (number_of wide)
   give (record { fix = fix; frame = frame; target = target; displacement = displacement })
 
--- A THREAD: one byte with bit 7 clear, and an index for F0, F1, F2, T0, T1, T2.
+-- A THREAD: one byte with bit 7 clear, and an index for F0, F1, F2, T0, T1, T2. Its bit 5 counts for nothing, nor does bit 4 of a target's (this
+-- profile's rule).
 abbrev pub wrong_thread : ℕ → List Reason
 wrong_thread b = if thread_is_frame b then unless (is_frame_method (thread_method b)) reason.FrameMethod
     else unless (nat_lt (thread_method b) 3) reason.TargetMethod

@@ -83,7 +83,8 @@ data_item wide = do
 abbrev pub fixups : Bool → Layout Contents
 fixups wide = called (many (subrecord wide)) Fixups
 
--- MODEND: type byte, and the start address if its bit 6 is set.
+-- MODEND: type byte, and the start address if its bit 6 is set. Its bit 0 counts for nothing, and the start may lack a displacement (this profile's
+-- rule; the standard has bit 0 set, and a displacement).
 abbrev pub mod_end : Bool → Layout Contents
 mod_end wide = do
   type_byte ← byte

@@ -96,7 +96,7 @@ short-if true o h = h
 short-if false o h = omega arith
 
 short-contents : (before : List Rec) (kind : ℕ) (c : Contents) → ContentsHold profile_limits before kind c → All IsShort (defined_segments kind c)
-short-contents before kind (Segment s) h = All-cons IsShort _ [] h (All-nil IsShort)
+short-contents before kind (Segment s) h = All-cons IsShort _ [] h.short (All-nil IsShort)
 short-contents before kind _ h = All-nil IsShort
 
 -- What data and the fixups on them are known to do: the data lie in their segment, and the locations in the data.

@@ -67,7 +67,7 @@ loop-buffer-preserved g c =
       no_fault = t.fault;
       profile = t.profile ∙ i.profile;
       consumed = feed_consumes c.args.profile s i.is_open i.no_fault i.profile piece c.ahead.result.now c.in_ok-feed.field-0.taken c.in_ok-feed.field-0.whole c.feed.new.self
-          (g.S.Source.seen c.args.reader.now).bytes (g.S.Source.seen c.loop-buffer.reader).bytes (g.S.Source.seen c.pull_piece.new.source).bytes running c.ahead.ensures low t i.consumed c.in-Ok.ensures.bytes;
+          (g.S.Source.seen c.args.reader.now).bytes (g.S.Source.seen c.loop-buffer.reader).bytes (g.S.Source.seen c.pull_piece.new.source).bytes running c.ahead.ensures.front low t i.consumed c.in-Ok.ensures.bytes;
       grows = omega (arith, first, second);
       passed = pulls_later (g.S.Source.seen c.args.reader.now).failures (g.S.Source.seen c.loop-buffer.reader).failures (g.S.Source.seen c.pull_piece.new.source).failures s.taken c.feed.new.self.taken i.passed c.in-Ok.ensures.bounded
           (fewer_left c.args.profile s i.is_open i.no_fault i.profile piece c.in_ok-feed.field-0.taken c.in_ok-feed.field-0.whole c.feed.new.self running
@@ -92,7 +92,7 @@ returns-in_err-feed-clause-cause g c =
     let e = err_from_is_err_and c.from_residual.result c.from_residual.ensures.1 in
     rw (e.1, e.2) (
     feed_cause c.args.profile s i.is_open i.no_fault i.profile c.in_err-feed.field-0.0 (take c.in-Ok.count c.pull_piece.new.buffer) c.ahead.result.now c.feed.new.self
-    (g.S.Source.seen c.args.reader.now).bytes (g.S.Source.seen c.loop-buffer.reader).bytes (g.S.Source.seen c.pull_piece.new.source).bytes (g.S.Source.seen c.args.reader.now).failures (g.S.Source.seen c.pull_piece.new.source).failures c.ahead.ensures low c.in_err-feed.ensures.err i.consumed c.in-Ok.ensures.bytes)
+    (g.S.Source.seen c.args.reader.now).bytes (g.S.Source.seen c.loop-buffer.reader).bytes (g.S.Source.seen c.pull_piece.new.source).bytes (g.S.Source.seen c.args.reader.now).failures (g.S.Source.seen c.pull_piece.new.source).failures c.ahead.ensures.front low c.in_err-feed.ensures.err i.consumed c.in-Ok.ensures.bytes)
 
 pub returns-then-want-eq0-clause-patient : goal.returns-then-want-eq0-clause-patient
 returns-then-want-eq0-clause-patient g c =

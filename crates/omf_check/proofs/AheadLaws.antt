@@ -1,0 +1,149 @@
+-- A record that is judged where a reader shows it is judged as one that was fed.
+use Rattle.std.proofs.Common.{◌≡◌, ◌∙◌, ℕ, ◌+◌, ◌-◌, ◌^◌, ◌<◌, ◌≤◌, Bool, true, false, List, [], ◌∷◌, ◌++◌, refl, sym, ap, subst, arith, append_assoc, length, length-append, take, min}
+use Rattle.std.specs.Prelude.{◌==◌, ◌&&◌, ◌||◌, not, cond, flat_map, IsTrue, Option, Some, None}
+use Rattle.std.specs.Io.KnownBytes.{Consumes}
+use Rattle.std.proofs.lemmas.List.{append-nil, length-take, take_all}
+use Rattle.omf_frame.specs.Bytes.{AreBytes}
+use Rattle.omf_frame.specs.Device.{Device, Shows}
+use Rattle.omf_frame.specs.Framer.{Held, IsBetween, passed, with_bytes, begins_record}
+use Rattle.omf_frame.specs.Framer.{next_bytes as next_of, Takes as FramerTakes}
+use Rattle.omf_frame.specs.Framing.{Raw, raw_bytes, IsRecord, present, front_record, frame_fault, standing_fault, is_nonempty, is_taken, record_len}
+use Rattle.omf_frame.proofs.Growing.{present_is}
+use Rattle.omf_frame.proofs.Standing.{present_twice}
+use Rattle.omf_records.specs.Inner.Steps.{AreBytes-take}
+use Rattle.omf_image.specs.Limits.{profile_limits}
+use Rattle.omf_check.specs.declared.fault.CheckFault.{CheckFault}
+use Rattle.omf_check.specs.declared.profile.Profile.{Profile}
+use Rattle.omf_check.specs.Inner.Ahead.{PassesAhead, StopsAhead, FailsAhead}
+use Rattle.omf_check.specs.Inner.Judging.{raw_fault, rec_of}
+use Rattle.omf_check.specs.Inner.Kept.{Kept, IsBounded, with_record}
+use Rattle.omf_check.specs.Inner.Passing.{IsPassing, Fails, IsStopped, here}
+use Rattle.omf_check.specs.Session.{Seen, want_of, want_with}
+use Rattle.omf_check.proofs.Advancing.{take_fails, record_passed}
+use Rattle.omf_check.proofs.CheckLaws.{consumes_more}
+use Rattle.omf_check.proofs.JudgingLaws.{consumes_start}
+use Rattle.omf_check.proofs.Moving.{taken_bound, start_bound, number_bound}
+
+begins_at : (ahead : List ℕ) → record_len ahead ≤ length ahead → is_taken (front_record (present ahead)).kind ≡ true → begins_record [] ahead ≡ true
+begins_at [] h e = absurd (omega (arith, h))
+begins_at (t ∷ []) h e = e
+begins_at (t ∷ lo ∷ []) h e = e
+begins_at (t ∷ lo ∷ hi ∷ rest) h e = e
+
+module _ (profile : Profile) (held : Held) (taken : List ℕ) (kept : Kept) (p : IsPassing profile held taken kept) (ahead : List ℕ) (b : IsBetween held)
+    (t : FramerTakes held ahead (record_len ahead) true (with_bytes held (present ahead))) (long : record_len ahead ≤ length ahead) where
+  abbrev piece : List ℕ
+  piece = take (record_len ahead) ahead
+
+  abbrev new : Held
+  new = with_bytes held (present ahead)
+
+  abbrev s : Seen
+  s = here profile held taken
+
+  pub piece_len : length piece ≡ record_len ahead
+  piece_len = let e = length-take (record_len ahead) ahead in omega (arith, e, long)
+
+  same_front : present piece ≡ present ahead
+  same_front = ap present (present_is ahead) ∙ present_twice ahead
+
+  next_same : next_of held piece ≡ next_of held ahead
+  next_same =
+      ap (λ x. cond held.ended [] (present (x ++ piece))) b.none
+      ∙ ap (λ x. cond held.ended [] x) same_front
+      ∙ ap (λ x. cond held.ended [] (present (x ++ ahead))) (sym b.none)
+
+  all_of : take (record_len ahead) piece ≡ piece
+  all_of = let e = piece_len in take_all (record_len ahead) piece (omega (arith, e))
+
+  piece_taken : FramerTakes held piece (record_len ahead) true new
+  piece_taken = record {
+    no_fault = t.no_fault;
+    new_is = t.new_is ∙ ap (λ x. with_bytes held x) (sym next_same);
+    grown = next_same ∙ t.grown ∙ ap (λ x. held.bytes ++ x) (sym all_of);
+    taken_is = t.taken_is ∙ ap length (sym next_same);
+    bound = let e = piece_len in omega (arith, e);
+    all_wanted = let e = piece_len in omega (arith, e);
+    whole_is = t.whole_is;
+    sound = ap (standing_fault (held.number == 0)) next_same ∙ t.sound;
+  }
+
+  pub start_fits : (start : ℕ) → start ≡ held.start → start < 2 ^ 40
+  start_fits start e = subst (λ x. x < 2 ^ 40) (sym e) (start_bound profile held taken kept p)
+
+  pub number_fits : held.number < 2 ^ 32 - 1
+  number_fits = let e = number_bound profile held taken kept p in omega (arith, e)
+
+  some_taken : is_nonempty taken ≡ true
+  some_taken = let later = b.later in let number = p.number in ap is_nonempty p.spelled ∙ by p.before (omega (arith, later, number))
+    where
+      by : (rs : List Raw) → 0 < length rs → is_nonempty (flat_map raw_bytes rs ++ held.bytes) ≡ true
+      by [] h = absurd (omega (arith, h))
+      by (r ∷ rs) h = refl
+
+  want_is : is_taken (front_record (present ahead)).kind ≡ true → want_with s ahead ≡ record_len ahead
+  want_is e =
+      ap (λ x. cond (x && (begins_record held.bytes ahead && not (held.ended || false))) (record_len ahead) (want_of s)) some_taken
+      ∙ ap (λ x. cond (x && not (held.ended || false)) (record_len ahead) (want_of s)) (ap (λ x. begins_record x ahead) b.none ∙ begins_at ahead long e)
+      ∙ ap (λ x. cond (not (x || false)) (record_len ahead) (want_of s)) b.running
+
+  -- the record, as it is shown
+  module _ (kind number start : ℕ) (body : List ℕ) (small : AreBytes ahead) (f : frame_fault (held.number == 0) (present ahead) ≡ None) (is : IsRecord (front_record (present ahead)))
+      (back : raw_bytes (front_record (present ahead)) ≡ present ahead) (k : kind ≡ (front_record (present ahead)).kind) (bd : body ≡ (front_record (present ahead)).body)
+      (n : number ≡ held.number) (st : start ≡ held.start) where
+    pub accepted : (after : Held) (tables : Kept) (size : ℕ) (old left : Option (List ℕ)) → size ≡ record_len ahead → Consumes old left (take size ahead) → after ≡ passed new
+        → raw_fault profile profile_limits kept kind body ≡ None → tables ≡ with_record kept start (rec_of kind body) → IsBounded tables → PassesAhead profile taken size old left after tables
+    accepted after tables size old left size_is c a judged kt bound = record {
+      passed = piece;
+      passing = record_passed profile held taken kept p piece (record_len ahead) true new piece_taken (taken ++ piece) after tables kind start body (ap (λ x. taken ++ x) (sym all_of))
+          (AreBytes-take (record_len ahead) ahead small) (sym t.whole_is) a f is back k bd st judged kt bound;
+      counted = size_is ∙ sym piece_len;
+      consumed = subst (λ m. Consumes old left (take m ahead)) size_is c;
+    }
+
+    pub refused : (fault : CheckFault) (size : ℕ) (old left : Option (List ℕ)) → Shows old ahead → size ≡ record_len ahead → Consumes old left (take size ahead) → IsTrue (is_taken kind)
+        → IsStopped (raw_fault profile profile_limits kept kind body) number start fault → StopsAhead profile held taken ahead old left fault
+    refused fault size old left sh size_is c is_kind h = record {
+      shows = sh;
+      running = b.running;
+      low = let e = want_is (ap is_taken (sym k) ∙ is_kind) in let l = piece_len in omega (arith, e, l);
+      consumed = subst (λ m. Consumes old left (take m ahead)) size_is c;
+      fails = take_fails profile held taken kept p piece (record_len ahead) true new piece_taken fault kind number start body (sym t.whole_is) f is back k bd n st
+          (AreBytes-take (record_len ahead) ahead small) h;
+    }
+
+-- no record is shown whole
+pub none_ahead : (profile : Profile) (held : Held) (taken : List ℕ) (kept : Kept) → IsPassing profile held taken kept → (o : Option (List ℕ)) → PassesAhead profile taken 0 o o held kept
+none_ahead profile held taken kept p o = record {
+  passed = [];
+  passing = subst (λ x. IsPassing profile held x kept) (sym (append-nil taken)) p;
+  counted = refl;
+  consumed = consumes_start o;
+}
+
+-- what was judged before a step, and what the step does
+pub record HasPassed (profile : Profile) (first : Held) (before : Kept) (old new : Device) (held : Held) (kept : Kept) (size : ℕ) : Type 0 where
+  pub moved : (taken : List ℕ) → IsPassing profile first taken before → PassesAhead profile taken size old.bytes new.bytes held kept
+  pub failures : new.failures ≡ old.failures
+  pub breaks : new.breaks ≡ old.breaks
+
+module _ (profile : Profile) (taken : List ℕ) (size : ℕ) (old between : Option (List ℕ)) (held : Held) (kept : Kept) (m : PassesAhead profile taken size old between held kept) where
+  pub joined : (count : ℕ) (new : Option (List ℕ)) (after : Held) (tables : Kept) → PassesAhead profile (taken ++ m.passed) count between new after tables → PassesAhead profile taken (size + count) old new after tables
+  joined count new after tables q = record {
+    passed = m.passed ++ q.passed;
+    passing = subst (λ x. IsPassing profile after x tables) (append_assoc taken m.passed q.passed) q.passing;
+    counted = let a = m.counted in let b = q.counted in let l = length-append m.passed q.passed in omega (arith, a, b, l);
+    consumed = consumes_more old between new m.passed q.passed m.consumed q.consumed;
+  }
+
+  pub joined_none : (count : ℕ) (new : Option (List ℕ)) (after : Held) (tables : Kept) → count ≡ 0 → PassesAhead profile (taken ++ m.passed) count between new after tables → PassesAhead profile taken size old new after tables
+  joined_none count new after tables z q =
+      let same : size + count ≡ size = omega (arith, z) in
+      subst (λ n. PassesAhead profile taken n old new after tables) same (joined count new after tables q)
+
+  pub stopped_later : (ahead : List ℕ) (new : Option (List ℕ)) (fault : CheckFault) → StopsAhead profile held (taken ++ m.passed) ahead between new fault → FailsAhead profile taken old new fault
+  stopped_later ahead new fault q = record { passed = m.passed; held = held; kept = kept; between = between; ahead = ahead; passing = m.passing; consumed = m.consumed; stops = q }
+
+  pub size_low : length taken + size < 2 ^ 37
+  size_low =
+      let a = m.counted in let l = length-append taken m.passed in let b = taken_bound profile held (taken ++ m.passed) kept m.passing in omega (arith, a, l, b)

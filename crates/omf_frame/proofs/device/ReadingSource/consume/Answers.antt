@@ -1,0 +1,8 @@
+use Rattle.omf_frame.proofs.Ahead.{nothing_taken, nothing_left}
+use Rattle.omf_frame.proofs.device.ReadingSource.consume.Goals as goal
+
+pub returns-clause-bytes : goal.returns-clause-bytes
+returns-clause-bytes g c = nothing_taken _ c.args.count
+
+pub returns-clause-rest : goal.returns-clause-rest
+returns-clause-rest g c = nothing_left c.args.count
