@@ -1,3 +1,4 @@
+pub mod Accounting
 pub mod Asked
 pub mod Names
 pub mod Search

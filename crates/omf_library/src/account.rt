@@ -1,11 +1,13 @@
 //! An account of the bytes of a library.
 
-ghost use Rattle.std.specs.Prelude.{◌≡◌, ◌≤◌, IfOk, length, max, min};
-ghost use Rattle.omf_library.specs.Account.{AreAdjacent};
+ghost use Rattle.std.specs.Prelude.{◌≡◌, ◌≤◌, ◌∷◌, ◌+◌, ◌-◌, ◌^◌, [], Some, IfOk, length, max, min};
+ghost use Rattle.omf_library.specs.Account.{AreAdjacent, account, blocks_at, blocks_end, cut, dictionary_cuts, end_cuts, extended_cuts, member_cuts, record_end};
+ghost use Rattle.omf_library.specs.Inner.Accounting.{Adds};
+ghost use Rattle.omf_library.specs.declared.account.RegionKind.TheVariants as kinds;
 
 use crate::dictionary::BLOCK;
 use crate::header::Header;
-use crate::spans::Spans;
+use crate::spans::{Span, Spans};
 use std::alloc::{AllocError, Global};
 
 /// What the bytes of a region are.
@@ -54,6 +56,7 @@ fn push_region(
     all: usize,
 ) -> Result<usize, AllocError>
     requires { from ≤ all }
+    ensures adds { IfOk result (Adds all from (cut kind to ∷ []) regions.old.items regions.new.items) }
     ensures ends { IfOk result (λ end. (end ≡ max from (min to all)) × (end ≤ all)) }
     ensures adjacent { IfOk result (λ end. AreAdjacent regions.old.items 0 from → AreAdjacent regions.new.items 0 end) }
 {
@@ -69,6 +72,23 @@ fn push_region(
     Ok(end)
 }
 
+/// Appends the regions of a member and of the padding before it. Returns where they end.
+fn push_member(
+    regions: &mut Vec<Region>,
+    from: usize,
+    span: Span<'_>,
+    all: usize,
+) -> Result<usize, AllocError>
+    requires { from ≤ all }
+    ensures adds { IfOk result (Adds all from (cut kinds.Padding span.entry.offset ∷ cut kinds.Member (span.entry.offset + length span.entry.bytes.now) ∷ []) regions.old.items regions.new.items) }
+    ensures ends { IfOk result (λ end. end ≤ all) }
+    ensures adjacent { IfOk result (λ end. AreAdjacent regions.old.items 0 from → AreAdjacent regions.new.items 0 end) }
+{
+    let end = span.offset.saturating_add(span.bytes.len());
+    let at = push_region(regions, RegionKind::Padding, from, span.offset, all)?;
+    push_region(regions, RegionKind::Member, at, end, all)
+}
+
 /// Appends the regions of the header and the members. Returns where they end.
 fn push_members(
     regions: &mut Vec<Region>,
@@ -76,32 +96,41 @@ fn push_members(
     spans: &Spans<'_>,
     all: usize,
 ) -> Result<usize, AllocError>
+    ensures adds { IfOk result (Adds all 0 (cut kinds.Header 10 ∷ cut kinds.Padding page ∷ member_cuts spans.now.members.items) regions.old.items regions.new.items) }
     ensures ends { IfOk result (λ end. end ≤ all) }
     ensures adjacent { IfOk result (λ end. AreAdjacent regions.old.items 0 0 → AreAdjacent regions.new.items 0 end) }
 {
     let mut at = push_region(regions, RegionKind::Header, 0, FIELDS, all)?;
     at = push_region(regions, RegionKind::Padding, at, page, all)?;
     for span in spans.members.iter() {
-        let end = span.offset.saturating_add(span.bytes.len());
-        at = push_region(regions, RegionKind::Padding, at, span.offset, all)?;
-        at = push_region(regions, RegionKind::Member, at, end, all)?;
+        at = push_member(regions, at, *span, all)?;
     }
     Ok(at)
 }
 
 /// The offset after a record, by its length field.
-fn record_end(bytes: &[u8], at: usize) -> usize {
+fn record_end(bytes: &[u8], at: usize) -> usize
+    ensures { result ≡ min (record_end bytes.now at) (2 ^ 64 - 1) }
+{
     let low = bytes.get(at.saturating_add(1)).copied().unwrap_or(0);
     let high = bytes.get(at.saturating_add(2)).copied().unwrap_or(0);
     at.saturating_add(HEAD)
-        .saturating_add(usize::from(u16::from_le_bytes([low, high])))
+        .saturating_add(usize::from(low) + 256 * usize::from(high))
+}
+
+/// Where the blocks of the dictionary end, by the header.
+fn blocks_end(header: Header) -> usize
+    ensures { result ≡ blocks_end header }
+{
+    header.dictionary as usize + BLOCK * header.blocks as usize
 }
 
 /// The offset of the dictionary, if there is one at or after the F1H and inside the bytes.
-fn dictionary_offset(header: Header, end: usize, all: usize) -> Option<usize> {
+fn blocks_at(header: Header, end: usize, all: usize) -> Option<usize>
+    ensures { result ≡ blocks_at header end all }
+{
     let offset = header.dictionary as usize;
-    let stop = offset.saturating_add(BLOCK.saturating_mul(header.blocks as usize));
-    if header.blocks == 0 || offset < end || stop > all {
+    if header.blocks == 0 || offset < end || all < blocks_end(header) {
         return None;
     }
     Some(offset)
@@ -116,23 +145,46 @@ fn push_dictionary(
     bytes: &[u8],
 ) -> Result<usize, AllocError>
     requires { from ≤ length bytes.now }
+    ensures adds { IfOk result (Adds (length bytes.now) from (dictionary_cuts header bytes.now (Some offset)) regions.old.items regions.new.items) }
     ensures ends { IfOk result (λ end. end ≤ length bytes.now) }
     ensures adjacent { IfOk result (λ end. AreAdjacent regions.old.items 0 from → AreAdjacent regions.new.items 0 end) }
 {
     let all = bytes.len();
-    let stop = offset.saturating_add(BLOCK.saturating_mul(header.blocks as usize));
+    let stop = blocks_end(header);
     let at = push_region(regions, RegionKind::Gap, from, offset, all)?;
     let at = push_region(regions, RegionKind::Dictionary, at, stop, all)?;
-    if bytes.get(at) != Some(&EXTENDED) {
+    if bytes.get(stop) != Some(&EXTENDED) {
         return Ok(at);
     }
     push_region(
         regions,
         RegionKind::Extended,
         at,
-        record_end(bytes, at),
+        record_end(bytes, stop),
         all,
     )
+}
+
+/// Appends the region of the F1H record at `end`, as far as it is before `limit`, with the padding before and after it. Returns where they end.
+fn push_end_record(
+    regions: &mut Vec<Region>,
+    from: usize,
+    end: usize,
+    limit: usize,
+    bytes: &[u8],
+) -> Result<usize, AllocError>
+    requires from { from ≤ length bytes.now }
+    requires limit { limit ≤ length bytes.now }
+    ensures adds { IfOk result (Adds (length bytes.now) from (cut kinds.Padding end ∷ cut kinds.End (min (end + 3) limit) ∷ cut kinds.Padding (min (record_end bytes.now end) limit) ∷ []) regions.old.items regions.new.items) }
+    ensures ends { IfOk result (λ stop. stop ≤ length bytes.now) }
+    ensures adjacent { IfOk result (λ stop. AreAdjacent regions.old.items 0 from → AreAdjacent regions.new.items 0 stop) }
+{
+    let all = bytes.len();
+    let head = end.saturating_add(HEAD).min(limit);
+    let stop = record_end(bytes, end).min(limit);
+    let at = push_region(regions, RegionKind::Padding, from, end, all)?;
+    let at = push_region(regions, RegionKind::End, at, head, all)?;
+    push_region(regions, RegionKind::Padding, at, stop, all)
 }
 
 /// Appends the regions from the F1H on. Returns where they end.
@@ -144,25 +196,16 @@ fn push_end(
     bytes: &[u8],
 ) -> Result<usize, AllocError>
     requires { from ≤ length bytes.now }
+    ensures adds { IfOk result (Adds (length bytes.now) from (end_cuts header bytes.now end (blocks_at header end (length bytes.now))) regions.old.items regions.new.items) }
     ensures ends { IfOk result (λ stop. stop ≤ length bytes.now) }
     ensures adjacent { IfOk result (λ stop. AreAdjacent regions.old.items 0 from → AreAdjacent regions.new.items 0 stop) }
 {
-    let all = bytes.len();
-    let stop = record_end(bytes, end);
-    let dictionary = dictionary_offset(header, end, all);
-    let limit = dictionary.unwrap_or(all);
-    let at = push_region(regions, RegionKind::Padding, from, end, all)?;
-    let at = push_region(
-        regions,
-        RegionKind::End,
-        at,
-        end.saturating_add(HEAD).min(limit),
-        all,
-    )?;
-    let at = push_region(regions, RegionKind::Padding, at, stop.min(limit), all)?;
-    match dictionary {
-        Some(offset) => push_dictionary(regions, header, at, offset, bytes),
-        None => Ok(at),
+    match blocks_at(header, end, bytes.len()) {
+        Some(offset) => {
+            let at = push_end_record(regions, from, end, offset, bytes)?;
+            push_dictionary(regions, header, at, offset, bytes)
+        }
+        None => push_end_record(regions, from, end, bytes.len(), bytes),
     }
 }
 
@@ -177,7 +220,8 @@ pub fn account_of(
     spans: &Spans<'_>,
     bytes: &[u8],
 ) -> Result<Vec<Region>, AllocError>
-    ensures { IfOk result (λ regions. AreAdjacent regions.items 0 (length bytes.now)) }
+    ensures exact { IfOk result (λ regions. regions.items ≡ account header spans.now.members.items spans.now.end bytes.now) }
+    ensures adjacent { IfOk result (λ regions. AreAdjacent regions.items 0 (length bytes.now)) }
 {
     let all = bytes.len();
     let mut regions = Vec::new(alloc);
