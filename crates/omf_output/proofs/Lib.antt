@@ -34,3 +34,4 @@ pub mod MovedWords
 pub mod ApartLaws
 pub mod LowLaws
 pub mod DerivingLaws
+pub mod ComLaws

@@ -219,12 +219,12 @@ judged-members (m ∷ ms) h r b u =
 
 -- ---- the first fault of a module
 
-pub found-fault : (m : Member) (rest ms : List Member) (f : ExeFault) (whole : Option ExeFault) → ms ≡ m ∷ rest → member_fault m ≡ Some f → slice_get (filter_map member_fault ms) 0 ≡ whole → Some f ≡ whole
-found-fault m rest ms f whole e g h = sym (ap (λ l. slice_get (filter_map member_fault l) 0) e ∙ ap (λ o. slice_get (cons_option o (filter_map member_fault rest)) 0) g) ∙ h
+module _ {A : Type 0} (fault_of : Member → Option A) (m : Member) (rest ms : List Member) where
+  pub found-fault : (f : A) (whole : Option A) → ms ≡ m ∷ rest → fault_of m ≡ Some f → slice_get (filter_map fault_of ms) 0 ≡ whole → Some f ≡ whole
+  found-fault f whole e g h = sym (ap (λ l. slice_get (filter_map fault_of l) 0) e ∙ ap (λ o. slice_get (cons_option o (filter_map fault_of rest)) 0) g) ∙ h
 
-pub no-fault-here : (m : Member) (rest ms : List Member) (whole : Option ExeFault) → ms ≡ m ∷ rest → member_fault m ≡ None → slice_get (filter_map member_fault ms) 0 ≡ whole
-    → slice_get (filter_map member_fault rest) 0 ≡ whole
-no-fault-here m rest ms whole e g h = sym (ap (λ l. slice_get (filter_map member_fault l) 0) e ∙ ap (λ o. slice_get (cons_option o (filter_map member_fault rest)) 0) g) ∙ h
+  pub no-fault-here : (whole : Option A) → ms ≡ m ∷ rest → fault_of m ≡ None → slice_get (filter_map fault_of ms) 0 ≡ whole → slice_get (filter_map fault_of rest) 0 ≡ whole
+  no-fault-here whole e g h = sym (ap (λ l. slice_get (filter_map fault_of l) 0) e ∙ ap (λ o. slice_get (cons_option o (filter_map fault_of rest)) 0) g) ∙ h
 
 -- ---- the first of all faults
 

@@ -1,11 +1,12 @@
 -- The memory that segments take, one segment after the other.
 use Rattle.std.proofs.Common.{◌≡◌, ℕ, List, [], ◌∷◌, Bool, true, false, cond, map, max, refl, sym, ◌∙◌, ap}
-use Rattle.std.specs.Prelude.{Option, Some, None, filter, filter_map, fold, zip}
+use Rattle.std.specs.Prelude.{Option, Some, None, filter, filter_map, fold, not, zip}
 use Rattle.std.proofs.lemmas.List.Sums.{fold-append}
 use Rattle.omf_records.specs.Values.{SegmentItem}
 use Rattle.omf_placement.specs.declared.frame.Placed.{Placed}
 use Rattle.omf_output.specs.declared.exe.room.Stack.{Stack}
 use Rattle.omf_output.specs.Inner.Rooms.{Room, no_room, with_portion, with_stack}
+use Rattle.omf_output.specs.Exe.Com.{without_stack}
 use Rattle.omf_output.specs.Exe.Members.{Member, Portion, joined, portion, portions, portions_in}
 
 abbrev stack_then : Option Stack → List Portion → Option Stack
@@ -19,6 +20,15 @@ stack-more (Some s) p ps = refl
 pub ends-fold : (room : Room) (ps : List Portion) → (fold with_portion room ps).end ≡ fold max room.end (map (λ p. p.end) ps)
 ends-fold room [] = refl
 ends-fold room (p ∷ ps) = ends-fold (with_portion room p) ps
+
+pub own-fold : (room : Room) (ps : List Portion) → (fold with_portion room ps).own_end ≡ fold max room.own_end (map (λ p. p.end) (without_stack ps))
+own-fold room [] = refl
+own-fold room (p ∷ ps) = own-fold (with_portion room p) ps ∙ by p.is_stack
+  where
+    by : (b : Bool) → fold max (cond b room.own_end (max room.own_end p.end)) (map (λ q. q.end) (without_stack ps))
+        ≡ fold max room.own_end (map (λ q. q.end) (cond (not b) (p ∷ without_stack ps) (without_stack ps)))
+    by true = refl
+    by false = refl
 
 pub stack-fold : (room : Room) (ps : List Portion) → (fold with_portion room ps).stack ≡ stack_then room.stack (filter (λ p. p.is_stack) ps)
 stack-fold room [] = by room.stack

@@ -14,3 +14,4 @@ pub mod Linked
 pub mod Rows
 pub mod Laws
 pub mod Derived
+pub mod Com

@@ -1,5 +1,9 @@
-//! MZ files (.EXE) of linked modules: what DOS loads at a paragraph is what the modules put there at their placements moved to that paragraph.
+//! DOS programs of linked modules, as MZ files (.EXE) and .COM files: what DOS loads at a paragraph is what the modules put there at their
+//! placements moved to that paragraph.
 
+mod com_fault;
+mod com_link;
+mod com_parts;
 mod fault;
 mod file;
 mod groups;
@@ -15,6 +19,8 @@ pub mod rows;
 mod starting;
 mod words;
 
+pub use com_fault::ComFault;
+pub use com_link::link_com;
 pub use fault::ExeFault;
 pub use file::{FarAddress, FileFault, Program, write_exe};
 pub use link::{ExeFile, link_exe};

@@ -63,3 +63,8 @@ base_under_offset =
     ∷ Fixed 0x9C ((fixup 0xC801 F5 (T0 1)).1 ∷ [])
     ∷ Fixed 0x9C ((fixup 0xC402 F5 (T0 1)).1 ∷ [])
     ∷ []
+
+-- The same of records.
+abbrev pub numbered_records : ℕ → List Rec → List (Place × Rec)
+numbered_records n [] = []
+numbered_records n (r ∷ rs) = (place n, r) ∷ numbered_records (n + 1) rs

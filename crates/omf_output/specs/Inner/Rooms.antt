@@ -3,17 +3,22 @@ use Rattle.std.specs.Prelude.{ℕ, max, Option, Some, None, if◌then◌else◌}
 use Rattle.omf_output.specs.Exe.Members.{Portion}
 use Rattle.omf_output.specs.declared.exe.room.Stack.{Stack}
 
--- The first address after the segments so far, and the stack so far.
+-- The first address after the segments so far; after those that are no part of the stack; and the stack so far.
 pub record Room : Type 0 where
   pub end : ℕ
+  pub own_end : ℕ
   pub stack : Option Stack
 
 abbrev pub no_room : Room
-no_room = record { end = 0; stack = None }
+no_room = record { end = 0; own_end = 0; stack = None }
 
 abbrev pub with_stack : Option Stack → Portion → Stack
 with_stack None p = record { frame = p.place.frame; end = p.end }
 with_stack (Some s) p = record { frame = s.frame; end = max s.end p.end }
 
 abbrev pub with_portion : Room → Portion → Room
-with_portion room p = record { end = max room.end p.end; stack = if p.is_stack then Some (with_stack room.stack p) else room.stack }
+with_portion room p = record {
+  end = max room.end p.end;
+  own_end = if p.is_stack then room.own_end else max room.own_end p.end;
+  stack = if p.is_stack then Some (with_stack room.stack p) else room.stack;
+}

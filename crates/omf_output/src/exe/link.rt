@@ -49,7 +49,7 @@ fn member_fault(member: &Member<'_>) -> Option<ExeFault>
 }
 
 /// The fault of the first module that has one.
-fn first_fault(members: &[Member<'_>]) -> Option<ExeFault>
+pub(crate) fn first_fault(members: &[Member<'_>]) -> Option<ExeFault>
     ensures { result ≡ slice_get (filter_map member_fault members.now) 0 }
 {
     for member in members {

@@ -124,7 +124,7 @@ fn data_segment(rec: &Rec<'_>) -> Option<u16>
 }
 
 /// The segment of the last data record, up to and including this piece.
-fn segment_after(piece: &Piece<'_>, last: Option<u16>) -> Option<u16>
+pub(crate) fn segment_after(piece: &Piece<'_>, last: Option<u16>) -> Option<u16>
     ensures { result ≡ segment_after (piece_seen piece.now) last }
 {
     match piece {

@@ -5,6 +5,7 @@ ghost use Rattle.omf_records.specs.Inner.Seen.{contents_seen, kind_seen, odd_if}
 ghost use Rattle.omf_records.specs.Values.{SegmentItem};
 ghost use Rattle.omf_check.specs.Module.{recs_of};
 ghost use Rattle.omf_check.specs.Tables.{segment_length};
+ghost use Rattle.omf_output.specs.Exe.Com.{without_stack};
 ghost use Rattle.omf_output.specs.Exe.Members.{is_stack, memory_end, portion, portions, portions_in, segdefs, segdefs_in, stack};
 ghost use Rattle.omf_output.specs.Inner.Rooms.{no_room, with_portion, with_stack};
 
@@ -29,6 +30,8 @@ pub struct Stack {
 pub(crate) struct Room {
     /// The first address after them.
     pub(crate) end: u64,
+    /// The first address after those that are no part of the stack.
+    pub(crate) own_end: u64,
     /// The stack, if one of them is a part of it.
     pub(crate) stack: Option<Stack>,
 }
@@ -38,7 +41,7 @@ impl Model for Room {
 
     ghost Value = { Rooms };
 
-    ghost view = { λ r. record { end = r.end; stack = r.stack } };
+    ghost view = { λ r. record { end = r.end; own_end = r.own_end; stack = r.stack } };
 }
 
 /// The length of a segment in bytes, in a SEGDEF of this width (TIS OMF 1.1, "SEGDEF", B bit).
@@ -91,6 +94,7 @@ impl Room {
     {
         Room {
             end: 0,
+            own_end: 0,
             stack: None,
         }
     }
@@ -103,13 +107,20 @@ impl Room {
             return self;
         }
         let end = u64::from(place.address) + segment_length(width, segment);
-        let stack = if is_stack(segment.attribute) {
+        let is_stack = is_stack(segment.attribute);
+        let stack = if is_stack {
             Some(with_stack(self.stack, place.frame, end))
         } else {
             self.stack
         };
+        let own_end = if is_stack {
+            self.own_end
+        } else {
+            self.own_end.max(end)
+        };
         Room {
             end: self.end.max(end),
+            own_end,
             stack,
         }
     }
@@ -153,6 +164,7 @@ fn with_member(before: Room, member: &Member<'_>) -> Room
 /// The memory that the segments of all modules take.
 pub(crate) fn room_of(members: &[Member<'_>]) -> Room
     ensures end { result.end ≡ memory_end (portions members.now) }
+    ensures own_end { result.own_end ≡ memory_end (without_stack (portions members.now)) }
     ensures stack { result.stack ≡ stack (portions members.now) }
 {
     let mut room = Room::new();

@@ -5,13 +5,15 @@ ghost use Rattle.std.specs.List.{repeat};
 ghost use Rattle.omf_check.specs.Threads.{F0, T0};
 ghost use Rattle.omf_check.specs.declared.method.FrameMethod.TheVariants.{Target as F5};
 ghost use Rattle.omf_reloc.specs.Image.{start};
+ghost use Rattle.omf_output.specs.declared.exe.com_fault.ComFault.TheVariants as com_fault;
+ghost use Rattle.omf_output.specs.Exe.Com.{com_loaded, first_low, first_word, is_low, start_fault};
 ghost use Rattle.omf_output.specs.Exe.Exe.{exe};
 ghost use Rattle.omf_output.specs.Exe.Memory.{IsProgram, program};
 ghost use Rattle.omf_output.specs.Exe.Judged.{pieces_move};
-ghost use Rattle.omf_reloc.specs.Plain.{pieces};
+ghost use Rattle.omf_reloc.specs.Plain.{Fixed, pieces};
 ghost use Rattle.omf_output.specs.Exe.Loading.{loaded};
 ghost use Rattle.omf_output.specs.Exe.Moved.{moved};
-ghost use Rattle.omf_output.specs.Exe.Rows.{at_0, base_under_offset, file, fixup, loads_its_segment, numbered, one_of_two, place};
+ghost use Rattle.omf_output.specs.Exe.Rows.{at_0, base_under_offset, file, fixup, loads_its_segment, numbered, numbered_records, one_of_two, place};
 ghost use Rattle.omf_output.specs.Exe.Overlaps.{all_words};
 ghost use Rattle.omf_reloc.specs.Inner.Pieces.{single_pieces};
 ghost use Rattle.omf_output.specs.Exe.Relocations.{moves_together, sites};
@@ -67,4 +69,24 @@ pub fn words_in_file_order()
     ensures after { all_words at_0.movers at_0.places None (numbered 0 (single_pieces loads_its_segment)) (4 ∷ []) ≡ Ok (4 ∷ 1 ∷ []) }
     ensures under_data { all_words at_0.movers at_0.places None (numbered 0 (single_pieces loads_its_segment)) (3 ∷ []) ≡ Err (place 1) }
     ensures under_fixup { all_words at_0.movers at_0.places None (numbered 0 base_under_offset) [] ≡ Err (place 2) }
+{}
+
+/// Two bytes, `int 20H`, in segment 1234H: they are at 12440H, and CS:IP is 1234H:100H. FFFFH is the last segment.
+pub fn com_file_in_a_segment()
+    ensures low { com_loaded (0xCD ∷ 0x20 ∷ []) 0x1234 ≡ record { address = 0x12440; bytes = 0xCD ∷ 0x20 ∷ []; code = (0x1234, 256) } }
+    ensures high { com_loaded (0xCD ∷ 0x20 ∷ []) 0xFFFF ≡ record { address = 0x1000F0; bytes = 0xCD ∷ 0x20 ∷ []; code = (0xFFFF, 256) } }
+{}
+
+/// What no .COM program has: a start that is not at 0:100H; a byte below 100H, as the data of the module that loads its own segment, which is
+/// its second record; a relocation word, as that of its first fixup, its third piece. A record without bytes is not below 100H, and an offset has no
+/// relocation word.
+pub fn what_no_com_file_has()
+    ensures begun { start_fault (Ok (0, 256)) ≡ None }
+    ensures elsewhere { start_fault (Ok (16, 256)) ≡ Some (com_fault.Start (record { selector = 16; offset = 256 })) }
+    ensures last_low_byte { is_low 255 1 ≡ true }
+    ensures first_byte { is_low 256 1 ≡ false }
+    ensures no_byte { is_low 0 0 ≡ false }
+    ensures data { first_low at_0.places (numbered_records 0 loads_its_segment) ≡ Some (place 1) }
+    ensures word { first_word at_0.movers None (numbered 0 (single_pieces loads_its_segment)) ≡ Some (place 2) }
+    ensures no_word { first_word one_of_two (Some 1) ((place 0, Fixed 0x9C ((fixup 0xC402 F5 (T0 1)).1 ∷ [])) ∷ []) ≡ None }
 {}

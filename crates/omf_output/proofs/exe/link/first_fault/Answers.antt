@@ -10,14 +10,14 @@ returns-in-Some c =
     let ms = c.args.members.now in
     let i = c.loop-member.member-index in
     let m = c.member-item.result in
-    found-fault m (drop (i + 1) ms) (drop i ms) c.in-Some.fault _ (next-of ms i m c.member-item.is c.loop-member-test.true) (sym c.member_fault.ensures ∙ c.in-Some.is) c.loop-member.invariant
+    found-fault member_fault m (drop (i + 1) ms) (drop i ms) c.in-Some.fault _ (next-of ms i m c.member-item.is c.loop-member-test.true) (sym c.member_fault.ensures ∙ c.in-Some.is) c.loop-member.invariant
 
 pub loop-member-preserved : goal.loop-member-preserved
 loop-member-preserved c =
     let ms = c.args.members.now in
     let i = c.loop-member.member-index in
     let m = c.member-item.result in
-    no-fault-here m (drop (i + 1) ms) (drop i ms) _ (next-of ms i m c.member-item.is c.loop-member-test.true) (sym c.member_fault.ensures ∙ c.in_default.is) c.loop-member.invariant
+    no-fault-here member_fault m (drop (i + 1) ms) (drop i ms) _ (next-of ms i m c.member-item.is c.loop-member-test.true) (sym c.member_fault.ensures ∙ c.in_default.is) c.loop-member.invariant
 
 pub returns : goal.returns
 returns c =

@@ -2,7 +2,7 @@ use Rattle.std.proofs.Common.{◌+◌, ◌∙◌, ap, drop}
 use Rattle.std.specs.Prelude.{fold}
 use Rattle.omf_output.specs.Inner.Rooms.{Room, no_room, with_portion}
 use Rattle.omf_output.specs.Exe.Members.{portions}
-use Rattle.omf_output.proofs.RoomLaws.{ends-fold, room-more, stack-fold, whole-room}
+use Rattle.omf_output.proofs.RoomLaws.{ends-fold, own-fold, room-more, stack-fold, whole-room}
 use Rattle.omf_output.proofs.Steps.{next-of, none-left}
 use Rattle.omf_output.proofs.exe.room.room_of.Goals as goal
 
@@ -21,6 +21,12 @@ returns-clause-end c =
     let ms = c.args.members.now in
     let whole = whole-room ms (drop c.loop-member.member-index ms) c.loop-member.room (none-left ms c.loop-member.member-index c.loop-member-test.false) c.loop-member.invariant in
     ap (λ (r : Room). r.end) whole ∙ ends-fold no_room (portions ms)
+
+pub returns-clause-own_end : goal.returns-clause-own_end
+returns-clause-own_end c =
+    let ms = c.args.members.now in
+    let whole = whole-room ms (drop c.loop-member.member-index ms) c.loop-member.room (none-left ms c.loop-member.member-index c.loop-member-test.false) c.loop-member.invariant in
+    ap (λ (r : Room). r.own_end) whole ∙ own-fold no_room (portions ms)
 
 pub returns-clause-stack : goal.returns-clause-stack
 returns-clause-stack c =

@@ -1,0 +1,12 @@
+use Rattle.std.proofs.Common.{◌∙◌, ap, sym, subst, [], arith}
+use Rattle.std.specs.Prelude.{All, option_to_list}
+use Rattle.std.proofs.lemmas.List.Elements.{All-head}
+use Rattle.omf_image.specs.Painting.{Fits}
+use Rattle.omf_output.proofs.exe.com_parts.has_low_data.Goals as goal
+
+pub overflow_add-first : goal.overflow_add-first
+overflow_add-first c =
+    let e = c.in-Some.extent in
+    let fits = All-head Fits e [] (subst (All Fits) (sym c.measure.ensures ∙ ap option_to_list c.in-Some.is) c.requires.1) in
+    let low = c.segment_address.ensures.low in
+    omega (arith, fits, low)

@@ -1,0 +1,106 @@
+-- .COM programs of linked modules: the file, what DOS makes of it, and why modules have none (this profile's rule; the order of faults too).
+use Rattle.std.specs.Prelude.{◌≡◌, ◌⊎◌, ℕ, ◌+◌, ◌*◌, ◌%◌, ◌==◌, ◌&&◌, List, [], ◌∷◌, drop, filter, filter_map, find, length, map, max, not, nat_lt, Bool, false, Option, Some, None, option_map, is_some, Result, Ok, Err, slice_get, if◌then◌else◌}
+use Rattle.std.specs.List.{list_any}
+use Rattle.std.specs.Option.{option_or}
+use Rattle.omf_frame.specs.declared.fault.Place.{Place}
+use Rattle.omf_records.specs.Values.{Contents, Plain, Iterated, Rec, width}
+-- computed: blocks_are_read and lengths_are_decided of omf_image.
+use Rattle.omf_image.specs.Inner.Expanding.{expanded}
+use Rattle.omf_image.specs.Limits.{profile_limits}
+use Rattle.omf_check.specs.Listed.{placed_from}
+use Rattle.omf_check.specs.Module.{records_in}
+use Rattle.omf_placement.specs.Placement.{Places}
+use Rattle.omf_reloc.specs.Plain.{Piece, Kept, Fixed, End}
+use Rattle.omf_output.specs.declared.exe.com_fault.ComFault.{ComFault}
+use Rattle.omf_output.specs.declared.exe.com_fault.ComFault.TheVariants as fault
+use Rattle.omf_output.specs.declared.exe.fault.ExeFault.{ExeFault}
+use Rattle.omf_output.specs.Exe.Linked.{linked, member_fault, one_start, placed, starts}
+use Rattle.omf_output.specs.Exe.Loading.{Loaded}
+use Rattle.omf_output.specs.Exe.Members.{Member, Portion, all_moving, memory_end, portions}
+use Rattle.omf_output.specs.Exe.Memory.{all_chunks, data_end, segment_address}
+use Rattle.omf_output.specs.Exe.Movable.{segment_after}
+use Rattle.omf_output.specs.Exe.Moved.{Movers}
+use Rattle.omf_output.specs.Exe.Relocations.{site}
+
+-- ---- the file
+
+-- What DOS makes of a .COM file: the address where the file's bytes are, the bytes, and CS:IP.
+pub record ComLoaded : Type 0 where
+  pub address : ℕ
+  pub bytes : List ℕ
+  pub code : ℕ × ℕ
+
+-- DOS loads the file at offset 100H of a segment, after the 256 bytes that it keeps there for itself (the program segment prefix), and starts it at its
+-- first byte, with all segment registers at the segment. Registers have 16 bits.
+abbrev pub com_loaded : List ℕ → ℕ → ComLoaded
+com_loaded bytes k = record { address = 16 * k + 256; bytes = bytes; code = (k % 65536, 256) }
+
+-- The same of what modules are at a paragraph: their bytes from offset 100H on, and their start.
+abbrev pub after_prefix : Loaded → ComLoaded
+after_prefix l = record { address = l.address + 256; bytes = drop 256 l.image; code = l.code }
+
+-- The file of linked modules: their bytes from 100H to the last byte of data.
+abbrev pub com_bytes : List Member → List ℕ
+com_bytes ms = drop 256 (linked ms).image
+
+-- ---- faults
+
+-- A fault of the start that an .EXE file has too; or a start that is not at offset 100H of the first paragraph.
+abbrev pub start_fault : Result (ℕ × ℕ) ExeFault → Option ComFault
+start_fault (Err f) = Some (fault.Exe f)
+start_fault (Ok s) = if (s.0 == 0) && (s.1 == 256) then None else Some (fault.Start (record { selector = s.0; offset = s.1 }))
+
+-- Whether bytes from an address on are there, and begin below 100H.
+abbrev pub is_low : ℕ → ℕ → Bool
+is_low address size = nat_lt address 256 && nat_lt 0 size
+
+-- Whether a record has a byte of data below 100H; and the place of the first that has.
+abbrev pub has_low_data : Places → ℕ → Contents → Bool
+has_low_data pl kind (Plain d) = is_low (segment_address pl d.segment.item + d.offset.item) (length d.bytes)
+has_low_data pl kind (Iterated d) = is_low (segment_address pl d.segment.item + d.offset.item) (length (expanded (width kind) profile_limits d.bytes))
+has_low_data pl kind _ = false
+
+abbrev pub is_low_record : Places → Rec → Bool
+is_low_record pl r = has_low_data pl r.kind r.contents
+
+abbrev pub first_low : Places → List (Place × Rec) → Option Place
+first_low pl rs = option_map (λ x. x.0) (find (λ x. is_low_record pl x.1) rs)
+
+-- Whether a piece has a fixup with a relocation word, of data in the segment of the last data record; and the place of the first that has.
+abbrev pub has_word : Movers → Option ℕ → Piece → Bool
+has_word mv last (Kept r) = false
+has_word mv None (Fixed kind fixups) = false
+has_word mv (Some segment) (Fixed kind fixups) = list_any (λ f. is_some (site mv segment f)) (map (λ f. (kind, f)) fixups)
+has_word mv last (End kind byte start) = false
+
+abbrev pub first_word : Movers → Option ℕ → List (Place × Piece) → Option Place
+first_word mv last [] = None
+first_word mv last (x ∷ xs) = if has_word mv last x.1 then Some x.0 else first_word mv (segment_after x.1 last) xs
+
+-- The fault of a module alone: data below 100H, or else a relocation word.
+abbrev pub part_fault : Member → Option ComFault
+part_fault m =
+    option_or (option_map (λ p. fault.Low m.number p) (first_low m.places (placed_from 0 0 (records_in m.bytes))))
+    (option_map (λ p. fault.Words m.number p) (first_word m.movers None (placed m)))
+
+-- The first address after the data and the segments. The segments of the stack do not count: DOS sets SS:SP to the end of the program's segment.
+abbrev pub without_stack : List Portion → List Portion
+without_stack ps = filter (λ p. not p.is_stack) ps
+
+abbrev pub com_end : List Member → ℕ
+com_end ms = max (data_end (all_chunks (all_moving ms))) (memory_end (without_stack (portions ms)))
+
+-- The program ends in its segment, of 65,536 bytes.
+abbrev pub long_fault : List Member → Option ComFault
+long_fault ms = if nat_lt 65536 (com_end ms) then Some fault.TooLong else None
+
+-- The first fault: that of a module that an .EXE file has too; that of the start; that of a module alone; that of the end.
+abbrev pub exe_part : List Member → Option ComFault
+exe_part ms = option_map fault.Exe (slice_get (filter_map member_fault ms) 0)
+
+abbrev pub com_fault : List Member → Option ComFault
+com_fault ms = option_or (exe_part ms) (option_or (start_fault (one_start (starts ms))) (option_or (slice_get (filter_map part_fault ms) 0) (long_fault ms)))
+
+-- A fault is the first one; or Memory, only if there is none.
+abbrev pub IsComFault : List Member → ComFault → Type 0
+IsComFault ms f = (com_fault ms ≡ Some f) ⊎ ((f ≡ fault.Memory) × (com_fault ms ≡ None))
