@@ -12,3 +12,4 @@ pub mod TextLaws
 pub mod LineLaws
 pub mod ReadLaws
 pub mod SeveralLaws
+pub mod OwnLaws

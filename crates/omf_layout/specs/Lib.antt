@@ -7,3 +7,4 @@ pub mod Rows
 pub mod Laws
 pub mod Several
 pub mod Inner
+pub mod Own

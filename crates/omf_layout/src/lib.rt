@@ -1,5 +1,6 @@
 //! A first layout of a module: an address and a frame for each of its segments and externals, a frame for each of its groups, and the
-//! placement text of these, with comments. The module `several` lays out several modules together.
+//! placement text of these, with comments. The module `several` lays out several modules together, and the module `own` writes modules that
+//! a linker adds to those that it is given.
 #![tactic(auto)]
 
 mod alignment;
@@ -8,6 +9,7 @@ mod fault;
 pub mod laws;
 mod laying;
 mod options;
+pub mod own;
 pub mod printing;
 pub mod room;
 pub mod rows;

@@ -1,13 +1,13 @@
 //! The layout of several modules together: the order of their segments, their addresses and their frames.
 
 mod arranging;
-mod gathering;
+pub(crate) mod gathering;
 mod groups;
 pub mod laws;
 mod laying;
 mod places;
 mod placing;
-mod portion;
+pub(crate) mod portion;
 pub mod rows;
 mod runs;
 

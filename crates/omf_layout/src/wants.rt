@@ -55,7 +55,7 @@ pub fn alignments_of(alloc: Global, module: &Checked) -> Result<Vec<Alignment>, 
 }
 
 /// Returns the length of a communal in bytes.
-fn room_of(size: CommunalSize) -> u64
+pub(crate) fn room_of(size: CommunalSize) -> u64
     ensures { result ≡ room_of (size_seen size) }
 {
     match size {

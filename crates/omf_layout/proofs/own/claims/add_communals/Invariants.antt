@@ -1,0 +1,9 @@
+use Rattle.std.proofs.Common.{◌≡◌, ◌++◌}
+use Rattle.std.specs.Prelude.{map}
+use Rattle.omf_layout.specs.Own.Claims.{communal_claim}
+use Rattle.omf_layout.specs.Several.Gathered.{named}
+use Rattle.omf_layout.proofs.own.claims.add_communals.Given as goal
+
+-- the claims so far, and those that are left
+abbrev pub invariant-loop-item : goal.invariant-loop-item
+invariant-loop-item l = map named l.claims.items ++ map communal_claim l.item-iterator ≡ map named l.fn.claims.items ++ map communal_claim l.fn.items

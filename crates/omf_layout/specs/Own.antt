@@ -1,0 +1,5 @@
+pub mod Written
+pub mod Claims
+pub mod Shared
+pub mod Communals
+pub mod Stack

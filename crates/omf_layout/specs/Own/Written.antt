@@ -1,0 +1,44 @@
+-- Modules that a linker writes itself: their records and their bytes (TIS OMF 1.1, the page of each record).
+use Rattle.std.specs.Prelude.{ℕ, List, [], ◌∷◌, flat_map, None}
+use Rattle.omf_frame.specs.Framing.{raw_bytes, raw_of}
+use Rattle.omf_records.specs.Shortest.{contents_bytes}
+use Rattle.omf_records.specs.Values.{Rec, Contents, Header, Names, Segment, Group, Publics, ModEnd, SegmentItem, nowhere}
+
+-- A record of a type with these contents.
+abbrev pub typed : ℕ → Contents → Rec
+typed kind contents = record { kind = kind; contents = contents }
+
+-- The bytes of a record: its shortest contents and the computed checksum byte; and the bytes of several.
+abbrev pub framed : Rec → List ℕ
+framed r = raw_bytes (raw_of r.kind (contents_bytes r.kind r.contents))
+
+abbrev pub written : List Rec → List ℕ
+written rs = flat_map framed rs
+
+-- A THEADR with the module's name.
+abbrev pub header : List ℕ → Rec
+header name = typed 0x80 (Header name)
+
+-- An LNAMES with one name.
+abbrev pub name_record : List ℕ → Rec
+name_record name = typed 0x96 (Names (nowhere name ∷ []))
+
+-- A SEGDEF of type 99H, whose length field has 32 bits. Its overlay name has index 1.
+abbrev pub segment : ℕ → ℕ → ℕ → ℕ → SegmentItem
+segment attribute size name class = record { attribute = attribute; absolute = None; size = size; name = nowhere name; class = nowhere class; overlay = 1 }
+
+abbrev pub segment_record : ℕ → ℕ → ℕ → ℕ → Rec
+segment_record attribute size name class = typed 0x99 (Segment (segment attribute size name class))
+
+-- A GRPDEF with one segment.
+abbrev pub group_record : ℕ → ℕ → Rec
+group_record name member = typed 0x9A (Group (record { name = nowhere name; members = nowhere (nowhere member) ∷ [] }))
+
+-- A PUBDEF of type 91H, whose offset has 32 bits, with one public.
+abbrev pub public_record : ℕ → ℕ → List ℕ → ℕ → Rec
+public_record group segment name offset =
+    typed 0x91 (Publics (record { group = nowhere group; segment = nowhere segment; frame = None; items = nowhere (record { name = name; offset = offset; type_index = 0 }) ∷ [] }))
+
+-- A MODEND of a module that is not a main module and has no start address.
+abbrev pub end_record : Rec
+end_record = typed 0x8A (ModEnd 0 None)
