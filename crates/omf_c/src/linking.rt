@@ -160,6 +160,7 @@ fn image_answer(fault: &ImageFault) -> Answer
 {
     match fault {
         ImageFault::Link { fault, .. } => link_answer(*fault),
+        ImageFault::Lines { fault, .. } => link_answer(*fault),
         ImageFault::Outside { address, owner } => outside(*address, *owner),
         ImageFault::NoRoom => unlinked(10),
         ImageFault::Write => fault_answer(RunFault::Write),

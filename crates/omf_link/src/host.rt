@@ -7,7 +7,7 @@ use omf_host::{
     Status, answer, end, misused, out_of_memory, program_and_arguments, put, question_in,
 };
 use omf_linker::asked::{Asked, sorted};
-use omf_linker::exe::{Call, call_of};
+use omf_linker::exe::call_of;
 use omf_linker::host::{read_or_tell, run_on_input, write_or_tell};
 use omf_linker::link::{FilesFault, InputFile, Link, Task, files_text, shown_text, task_of};
 use std::alloc::AllocError;
@@ -132,10 +132,9 @@ fn act<K: Sink>(rt: &HostRuntime, writer: &mut K) -> Result<Status, AllocError> 
         return answer(rt.alloc(), writer, question, "omf-link", Link::usage());
     }
     if let Some(asked) = sorted(rt.alloc(), &words, 2)? {
-        match call_of(&asked) {
-            Call::Other => {}
-            Call::Misused => return Ok(misused(writer, Link::usage())),
-            Call::Exe(output) => return exe::on_files(rt, asked.files.as_slice(), output, writer),
+        let call = call_of(&asked);
+        if let Some(status) = exe::on_files(rt, &asked, call, Link::usage(), writer)? {
+            return Ok(status);
         }
         let on_input_alone = is_on_input(&asked);
         if on_input_alone && asked.output.is_none() {

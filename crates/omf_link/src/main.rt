@@ -5,6 +5,7 @@
 
 mod exe;
 mod host;
+mod libraries;
 
 use std::process::ExitCode;
 

@@ -1,7 +1,7 @@
 -- The modules of a program, one after another; and as many placements and movers as modules.
-use Rattle.std.proofs.Common.{◌≡◌, ℕ, zero, suc, ◌+◌, ◌<◌, ◌≤◌, ◌∙◌, List, [], ◌∷◌, ◌++◌, length, drop, get_or, refl, sym, ap, ap₂, arith, append-nil, append_assoc, subst, true, false}
+use Rattle.std.proofs.Common.{◌≡◌, ℕ, zero, suc, ◌+◌, ◌<◌, ◌≤◌, ◌∙◌, List, [], ◌∷◌, ◌++◌, length, drop, get_or, refl, sym, ap, arith, append-nil, append_assoc, true, false}
 use Rattle.std.proofs.Math.Seq.{drop-nil}
-use Rattle.std.specs.Prelude.{map, zip, Some, Ok}
+use Rattle.std.specs.Prelude.{zip, Some, Ok}
 use Rattle.std.specs.List.{AllZip}
 use Rattle.std.proofs.lemmas.List.{length-map}
 use Rattle.std.proofs.lemmas.Option.{slice_get-get_or}
@@ -14,7 +14,7 @@ use Rattle.omf_placement.specs.Derive.{PlacedModule, placed_modules}
 use Rattle.omf_placement.specs.Inner.Derived.{derived}
 use Rattle.omf_placement.specs.Placement.{Places}
 use Rattle.omf_placement.proofs.DeriveLaws.{derived-fit}
-use Rattle.omf_output.specs.Exe.Derived.{AreMovers, all_movers, based, lows, movers_in}
+use Rattle.omf_output.specs.Exe.Derived.{AreMovers, based, lows, movers_in}
 use Rattle.omf_output.specs.Exe.Members.{Member}
 use Rattle.omf_output.specs.Exe.Moved.{Movers}
 use Rattle.omf_output.proofs.DerivingLaws.{derived-many}

@@ -17,3 +17,5 @@ pub mod PlacesLaws
 pub mod MapLaws
 pub mod SeenLaws
 pub mod ExeLaws
+pub mod UnresolvedLaws
+pub mod TakenLaws

@@ -31,7 +31,7 @@ use Rattle.omf_linking.specs.Starts.{main_starts, one_start}
 use Rattle.omf_linking.specs.declared.fault.LinkFault.{LinkFault}
 use Rattle.omf_linking.specs.declared.fault.LinkFault.TheVariants as link
 use Rattle.omf_cmd.specs.Runs.{IsUnbroken}
-use Rattle.omf_linker.specs.Link.Faults.{IsNamed, IsUnnamed, name_of}
+use Rattle.omf_linker.specs.Link.Faults.{IsNamed, IsUnnamed, is_unresolved, name_of}
 use Rattle.omf_linker.specs.Link.Drafted.{IsDrafted}
 use Rattle.omf_linker.specs.Link.Linked.{any, IsFirstFault, IsLinked}
 use Rattle.omf_linker.specs.Link.Mapped.{IsMapped}
@@ -45,15 +45,18 @@ use Rattle.omf_linker.specs.declared.link.words.Task.TheVariants as task
 
 -- ---- a fault with its name
 
-pub with_name : (Is : Result (List ℕ) LinkFault → Type 0) (ms : List (List Rec)) (f : LinkFault) (e : ImageFault) → Is (Err f) → IsNamed ms f e → IsNamedAs Is ms (Err e)
-with_name Is ms f (fault.Link g name) h (inl same) = inl (subst (λ (x : LinkFault). Is (Err x)) (sym same.0) h, same.1 ∙ ap (name_of ms) (sym same.0))
-with_name Is ms f (fault.Link g name) h (inr memory) = inr memory
-with_name Is ms f (fault.Outside a o) h n = absurd n
-with_name Is ms f fault.NoRoom h n = absurd n
-with_name Is ms f fault.Write h n = absurd n
+pub with_name : (Is : Result (List ℕ) LinkFault → Type 0) (ms : List (List Rec)) (text : List ℕ) (f : LinkFault) (e : ImageFault) → Is (Err f) → IsNamed ms text f e → IsNamedAs Is ms text (Err e)
+with_name Is ms text f (fault.Link g name) h (inl same) =
+    inl (subst (λ (x : LinkFault). Is (Err x)) (sym same.0) h, ap is_unresolved same.0 ∙ same.1, same.2 ∙ ap (name_of ms) (sym same.0))
+with_name Is ms text f (fault.Link g name) h (inr memory) = inr memory
+with_name Is ms text f (fault.Lines g lines) h n = (subst (λ (x : LinkFault). Is (Err x)) (sym n.0) h, ap is_unresolved n.0 ∙ n.1, n.2)
+with_name Is ms text f (fault.Outside a o) h n = absurd n
+with_name Is ms text f fault.NoRoom h n = absurd n
+with_name Is ms text f fault.Write h n = absurd n
 
 pub no_module : (t : Task) (input : List ℕ) (f : LinkFault) (e : ImageFault) → AreModules any input (Err f) → IsUnnamed f e → IsShownOf t input (Err e)
 no_module t input f (fault.Link g name) h n = inl (subst (λ (x : LinkFault). AreModules any input (Err x)) (sym n.0) h, n.1)
+no_module t input f (fault.Lines g lines) h n = absurd n
 no_module t input f (fault.Outside a o) h n = absurd n
 no_module t input f fault.NoRoom h n = absurd n
 no_module t input f fault.Write h n = absurd n
@@ -70,6 +73,7 @@ no_memory o ms (fault.Link (link.External f) name) n = let is = n.0 in absurd cc
 no_memory o ms (fault.Link (link.Reach j f) name) n = let is = n.0 in absurd cc
 no_memory o ms (fault.Link (link.Starts j k) name) n = let is = n.0 in absurd cc
 no_memory o ms (fault.Link (link.Space f) name) n = let is = n.0 in absurd cc
+no_memory o ms (fault.Lines g lines) n = absurd n
 no_memory o ms (fault.Outside a w) n = absurd n
 no_memory o ms fault.NoRoom n = absurd n
 no_memory o ms fault.Write n = absurd n
@@ -153,23 +157,24 @@ IsNoDevice (Err (fault.Link link.Memory name)) = name.items ≡ []
 IsNoDevice (Err fault.Write) = ⊥
 IsNoDevice _ = ⊤
 
-not_told : (Is : Result (List ℕ) LinkFault → Type 0) (ms : List (List Rec)) (r : Result (List ℕ) ImageFault) → (Is (Err link.Read) → ⊥) → IsNamedAs Is ms r → IsNoDevice r
-not_told Is ms (Ok shown) not h = tt
-not_told Is ms (Err (fault.Link link.Memory name)) not (inl h) = h.1
-not_told Is ms (Err (fault.Link link.Memory name)) not (inr h) = h.1
-not_told Is ms (Err (fault.Link link.Read name)) not (inl h) = not h.0
-not_told Is ms (Err (fault.Link link.Read name)) not (inr h) = let is = h.0 in absurd cc
-not_told Is ms (Err (fault.Link (link.Refused j why at) name)) not h = tt
-not_told Is ms (Err (fault.Link (link.NoText at) name)) not h = tt
-not_told Is ms (Err (fault.Link link.NoModules name)) not h = tt
-not_told Is ms (Err (fault.Link (link.Line n why) name)) not h = tt
-not_told Is ms (Err (fault.Link (link.External f) name)) not h = tt
-not_told Is ms (Err (fault.Link (link.Reach j f) name)) not h = tt
-not_told Is ms (Err (fault.Link (link.Starts j k) name)) not h = tt
-not_told Is ms (Err (fault.Link (link.Space f) name)) not h = tt
-not_told Is ms (Err (fault.Outside a o)) not h = tt
-not_told Is ms (Err fault.NoRoom) not h = tt
-not_told Is ms (Err fault.Write) not h = h
+not_told : (Is : Result (List ℕ) LinkFault → Type 0) (ms : List (List Rec)) (text : List ℕ) (r : Result (List ℕ) ImageFault) → (Is (Err link.Read) → ⊥) → IsNamedAs Is ms text r → IsNoDevice r
+not_told Is ms text (Ok shown) not h = tt
+not_told Is ms text (Err (fault.Link link.Memory name)) not (inl h) = h.2
+not_told Is ms text (Err (fault.Link link.Memory name)) not (inr h) = h.1
+not_told Is ms text (Err (fault.Link link.Read name)) not (inl h) = not h.0
+not_told Is ms text (Err (fault.Link link.Read name)) not (inr h) = let is = h.0 in absurd cc
+not_told Is ms text (Err (fault.Link (link.Refused j why at) name)) not h = tt
+not_told Is ms text (Err (fault.Link (link.NoText at) name)) not h = tt
+not_told Is ms text (Err (fault.Link link.NoModules name)) not h = tt
+not_told Is ms text (Err (fault.Link (link.Line n why) name)) not h = tt
+not_told Is ms text (Err (fault.Link (link.External f) name)) not h = tt
+not_told Is ms text (Err (fault.Link (link.Reach j f) name)) not h = tt
+not_told Is ms text (Err (fault.Link (link.Starts j k) name)) not h = tt
+not_told Is ms text (Err (fault.Link (link.Space f) name)) not h = tt
+not_told Is ms text (Err (fault.Lines g lines)) not h = tt
+not_told Is ms text (Err (fault.Outside a o)) not h = tt
+not_told Is ms text (Err fault.NoRoom) not h = tt
+not_told Is ms text (Err fault.Write) not h = h
 
 not_drafted : (o : Options) (ms : List (List Rec)) (r : Result (List ℕ) ImageFault) → IsDrafted o ms r → IsNoDevice r
 not_drafted o ms (Ok shown) h = tt
@@ -183,21 +188,23 @@ not_drafted o ms (Err (fault.Link (link.External f) name)) h = tt
 not_drafted o ms (Err (fault.Link (link.Reach j f) name)) h = tt
 not_drafted o ms (Err (fault.Link (link.Starts j k) name)) h = tt
 not_drafted o ms (Err (fault.Link (link.Space f) name)) h = tt
+not_drafted o ms (Err (fault.Lines g lines)) h = tt
 not_drafted o ms (Err (fault.Outside a w)) h = tt
 not_drafted o ms (Err fault.NoRoom) h = tt
 not_drafted o ms (Err fault.Write) h = h
 
 not_filed : (f : Form) (ms : List (List Rec)) (text : List ℕ) (r : Result (List ℕ) ImageFault) → IsRom f ms text r → IsNoDevice r
 not_filed f ms text (Ok file) h = tt
-not_filed f ms text (Err (fault.Link g name)) h = not_told (IsLinked ms text) ms (Err (fault.Link g name)) (not_first ms text) h
+not_filed f ms text (Err (fault.Link g name)) h = not_told (IsLinked ms text) ms text (Err (fault.Link g name)) (not_first ms text) h
+not_filed f ms text (Err (fault.Lines g lines)) h = tt
 not_filed f ms text (Err (fault.Outside a o)) h = tt
 not_filed f ms text (Err fault.NoRoom) h = tt
 not_filed f ms text (Err fault.Write) h = h
 
 not_shown : (t : Task) (ms : List (List Rec)) (text : List ℕ) (r : Result (List ℕ) ImageFault) → AreShown t ms text r → IsNoDevice r
-not_shown task.Image ms text r h = not_told (IsLinked ms text) ms r (not_first ms text) h
+not_shown task.Image ms text r h = not_told (IsLinked ms text) ms text r (not_first ms text) h
 not_shown (task.Rom f) ms text r h = not_filed f ms text r h
-not_shown task.Map ms text r h = not_told (IsMapped ms text) ms r (not_linked ms text) h
+not_shown task.Map ms text r h = not_told (IsMapped ms text) ms text r (not_linked ms text) h
 not_shown (task.Draft o) ms text r h = not_drafted o ms r h
 
 not_refused : (input : List ℕ) (r : Result (List ℕ) ImageFault) → IsNoModule input r → IsNoDevice r
@@ -212,6 +219,7 @@ not_refused input (Err (fault.Link (link.External f) name)) h = tt
 not_refused input (Err (fault.Link (link.Reach j f) name)) h = tt
 not_refused input (Err (fault.Link (link.Starts j k) name)) h = tt
 not_refused input (Err (fault.Link (link.Space f) name)) h = tt
+not_refused input (Err (fault.Lines g lines)) h = tt
 not_refused input (Err (fault.Outside a o)) h = tt
 not_refused input (Err fault.NoRoom) h = tt
 not_refused input (Err fault.Write) h = h
@@ -236,6 +244,7 @@ module _ (old new : Device) where
   unbroken (Err (fault.Link (link.Reach j f) name)) h n = h
   unbroken (Err (fault.Link (link.Starts j k) name)) h n = h
   unbroken (Err (fault.Link (link.Space f) name)) h n = h
+  unbroken (Err (fault.Lines g lines)) h n = h
   unbroken (Err (fault.Outside a o)) h n = h
   unbroken (Err fault.NoRoom) h n = h
   unbroken (Err fault.Write) h n = n
@@ -258,6 +267,7 @@ module _ (old new : Device) where
 
   pub part_cause : (A : Type 0) (f : LinkFault) (e : ImageFault) → IsReadCause {A = A} old new (Err f) → IsUnnamed f e → IsShowCause old new (Err e)
   part_cause A f (fault.Link g name) c n = subst (λ (x : LinkFault). IsShowCause old new (Err (fault.Link x name))) (sym n.0) (told_cause A f name n.1 c)
+  part_cause A f (fault.Lines g lines) c n = absurd n
   part_cause A f (fault.Outside a o) c n = absurd n
   part_cause A f fault.NoRoom c n = absurd n
   part_cause A f fault.Write c n = absurd n
@@ -274,6 +284,7 @@ read_whole t input old new (Err (fault.Link (link.External f) name)) c i = (c, i
 read_whole t input old new (Err (fault.Link (link.Reach j f) name)) c i = (c, i)
 read_whole t input old new (Err (fault.Link (link.Starts j k) name)) c i = (c, i)
 read_whole t input old new (Err (fault.Link (link.Space f) name)) c i = (c, i)
+read_whole t input old new (Err (fault.Lines g lines)) c i = (c, i)
 read_whole t input old new (Err (fault.Outside a o)) c i = (c, i)
 read_whole t input old new (Err fault.NoRoom) c i = (c, i)
 read_whole t input old new (Err fault.Write) c i = (c, i)
@@ -299,6 +310,7 @@ part_of t A input before after old new (link.Space d) name h p = absurd h
 pub part_read : (t : Task) (A : Type 0) (input : List ℕ) (before after : Device) (old new : Option (List ℕ)) (f : LinkFault) (e : ImageFault) → IsReadCause {A = A} before after (Err f) → IsPartRead old new → IsUnnamed f e
     → Shows t input old new (Err e)
 part_read t A input before after old new f (fault.Link g name) h p n = subst (λ (x : LinkFault). Shows t input old new (Err (fault.Link x name))) (sym n.0) (part_of t A input before after old new f name h p)
+part_read t A input before after old new f (fault.Lines g lines) h p n = absurd n
 part_read t A input before after old new f (fault.Outside a o) h p n = absurd n
 part_read t A input before after old new f fault.NoRoom h p n = absurd n
 part_read t A input before after old new f fault.Write h p n = absurd n

@@ -1,2 +1,4 @@
+pub mod Libraries
 pub mod Program
 pub mod Taken
+pub mod Sharing

@@ -3,6 +3,7 @@ pub mod Linked
 pub mod Mapped
 pub mod Rom
 pub mod Drafted
+pub mod Unresolved
 pub mod Faults
 pub mod Shown
 pub mod Runs

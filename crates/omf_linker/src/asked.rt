@@ -28,6 +28,9 @@ fn is_valued(argument: &str) -> bool
         "--size" => true,
         "--fill" => true,
         "--addresses" => true,
+        "--map" => true,
+        "--library-path" => true,
+        "--stack" => true,
         _ => false,
     }
 }

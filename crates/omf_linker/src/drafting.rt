@@ -8,3 +8,4 @@ mod part;
 pub mod rows;
 
 pub use draft::link_draft;
+pub(crate) use names::has_asked;

@@ -1,18 +1,30 @@
-//! DOS programs (.EXE) of modules and of members of libraries: the files of `omf-link exe`.
+//! DOS programs (.EXE and .COM) of modules and of members of libraries: the files of `omf-link exe` and `omf-link com`.
 
+mod added;
 mod asked;
+mod candidates;
+mod defaults;
 mod fault;
 mod files;
 mod input;
 mod joining;
 mod lines;
+mod listing;
 mod making;
+mod options;
+mod program;
 mod refusal;
+mod sharing;
 mod spot;
 
 pub use asked::{Call, call_of};
-pub use fault::ProgramFault;
-pub use files::exe_of_files;
+pub use candidates::library_files;
+pub use defaults::{missing_lines, sought};
+pub use fault::{ComProgramFault, PlacingFault, ProgramFault};
+pub(crate) use input::is_library;
 pub use joining::{Joined, join_needed};
-pub use making::program_of;
+pub use making::{com_of, map_of, program_of};
+pub use options::ExeOptions;
+pub use program::{ProgramModules, com_of_files, exe_of_files, share_communals};
 pub use refusal::Refusal;
+pub use sharing::{SharingFault, shared_module};

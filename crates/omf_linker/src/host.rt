@@ -1,12 +1,13 @@
 //! What the programs do with files and the standard input.
 
+use crate::exe::is_library;
 use crate::link::file_front;
 use omf_cmd::{Program, run_with};
 use omf_frame::{Buffered, Sink};
 use omf_host::{Status, put, read_input, write_whole};
 use std::alloc::{AllocError, Global};
-use std::io;
 use std::io::BufReader;
+use std::{fs, io};
 
 /// The number of bytes read from the standard input at once.
 const PIECE: usize = 65_536;
@@ -37,6 +38,14 @@ pub fn read_or_tell<K: Sink>(
             tell_failed(rt.alloc(), writer, name, "read", &error)?;
             Ok(None)
         }
+    }
+}
+
+/// Reads a library. None if there is no such file, if it cannot be read, or if it does not begin with F0H.
+pub fn read_library(rt: &HostRuntime, name: &str) -> Option<Vec<u8>> {
+    match fs::read(rt, name) {
+        Ok(bytes) if is_library(&bytes) => Some(bytes),
+        Ok(_) | Err(_) => None,
     }
 }
 

@@ -5,6 +5,7 @@ ghost use Rattle.clap.specs.Words.{Text, fault_of, subcommand_of};
 ghost use Rattle.omf_frame.specs.declared.fault.Reason.TheVariants as reason;
 ghost use Rattle.omf_check.specs.Rows.{place};
 ghost use Rattle.omf_placement.specs.declared.several.fault.DeriveFault.TheVariants as derive;
+ghost use Rattle.omf_reloc.specs.Modules.{constant_public, local_public, using, using_locally};
 ghost use Rattle.omf_reloc.specs.declared.fault.Kind.TheVariants as kind;
 ghost use Rattle.omf_reloc.specs.declared.fault.ReachFault.TheVariants as reach;
 ghost use Rattle.omf_layout.specs.declared.options.Frames.TheVariants.{Real, Flat};
@@ -12,7 +13,7 @@ ghost use Rattle.omf_linking.specs.declared.fault.LinkFault.TheVariants as link;
 ghost use Rattle.omf_linking.specs.declared.locator.fault.LineFault.TheVariants as why;
 ghost use Rattle.omf_linking.specs.declared.space.fault.MemoryFault.TheVariants as space;
 ghost use Rattle.omf_linker.specs.Options.{options_named};
-ghost use Rattle.omf_linker.specs.Link.Rows.{bytes_at, line_of, segment_of, started_text, text_of};
+ghost use Rattle.omf_linker.specs.Link.Rows.{bytes_at, line_of, names_of, segment_of, started_text, text_of};
 ghost use Rattle.omf_linker.specs.Link.Words.{IsAsked as AsksLink, link_app};
 ghost use Rattle.omf_linker.specs.Place.Words.{IsAsked as AsksPlace};
 ghost use Rattle.omf_linker.specs.declared.link.words.Task.TheVariants.{Image, Map, Draft};
@@ -65,6 +66,15 @@ pub fn fault_lines()
     ensures starts { line_of (link.Starts 0 2) [] ≡ codes "starts module 1 module 3" }
     ensures beyond { line_of (link.Space (space.Beyond (segment_of 1 3))) [] ≡ codes "beyond module 2 segment 3" }
     ensures overlap { line_of (link.Space (space.Overlap 0x10020 (segment_of 0 2) (segment_of 2 1))) [] ≡ codes "overlap 00010020 module 1 segment 2 module 3 segment 1" }
+{}
+
+/// The lines of the name X: none if one module defines it; else with the modules that ask for it, or those that define it. A public that is not
+/// local is not seen by a local external.
+pub fn lines_of_names()
+    ensures one { names_of (using ∷ constant_public ∷ []) ≡ [] }
+    ensures undefined { names_of (using ∷ using ∷ []) ≡ codes "undefined \"X\": module 1, module 2\n" }
+    ensures twice { names_of (constant_public ∷ using ∷ constant_public ∷ []) ≡ codes "twice \"X\": module 1, module 3\n" }
+    ensures local { names_of (constant_public ∷ using_locally [] ∷ using_locally local_public ∷ []) ≡ codes "undefined \"X\": module 2\n" }
 {}
 
 /// What arguments of `omf-link` ask for: a subcommand after the program's own name, alone; and `draft` with options.

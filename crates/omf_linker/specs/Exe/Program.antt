@@ -1,5 +1,5 @@
 -- The DOS program of modules (this profile's rule): they are laid out from address 0 on in real mode, and their externals are derived from their publics.
-use Rattle.std.specs.Prelude.{◌≡◌, ◌⊎◌, ⊤, ℕ, ◌+◌, List, [], ◌∷◌, Bool, Some, None, Ok, Err, is_some}
+use Rattle.std.specs.Prelude.{◌≡◌, ◌⊎◌, ⊤, ℕ, ◌+◌, ◌≤◌, List, [], ◌∷◌, Bool, Some, None, Ok, Err, is_some, length}
 use Rattle.omf_check.specs.Module.{Module, typed_modules}
 use Rattle.omf_placement.specs.declared.several.fault.DeriveFault.{DeriveFault}
 use Rattle.omf_placement.specs.Derive.{placed_modules}
@@ -10,13 +10,20 @@ use Rattle.omf_layout.specs.declared.options.Frames.TheVariants.{Real}
 use Rattle.omf_layout.specs.declared.options.Options.{Options}
 use Rattle.omf_layout.specs.Several.Laying.{laid}
 use Rattle.omf_layout.specs.Several.Placing.{arranged_places}
+use Rattle.omf_output.specs.declared.exe.com_fault.ComFault.{ComFault}
 use Rattle.omf_output.specs.declared.exe.fault.ExeFault.{ExeFault}
+use Rattle.omf_output.specs.Exe.Com.{IsComFault, after_prefix, com_bytes, com_fault, com_loaded}
 use Rattle.omf_output.specs.Exe.Derived.{AreMovers, IsMoversFault}
 use Rattle.omf_output.specs.Exe.Exe.{exe}
 use Rattle.omf_output.specs.Exe.Linked.{IsExeFault, linked, linked_at}
 use Rattle.omf_output.specs.Exe.Loading.{loaded}
 use Rattle.omf_output.specs.Exe.Members.{Member, portions, stack}
 use Rattle.omf_output.specs.Exe.Moved.{Movers}
+use Rattle.omf_linker.specs.Map.MapText.{map_text}
+use Rattle.omf_linker.specs.declared.exe.fault.ComProgramFault.{ComProgramFault}
+use Rattle.omf_linker.specs.declared.exe.fault.ComProgramFault.TheVariants as no_com
+use Rattle.omf_linker.specs.declared.exe.fault.PlacingFault.{PlacingFault}
+use Rattle.omf_linker.specs.declared.exe.fault.PlacingFault.TheVariants as no_place
 use Rattle.omf_linker.specs.declared.exe.fault.ProgramFault.{ProgramFault}
 use Rattle.omf_linker.specs.declared.exe.fault.ProgramFault.TheVariants as fault
 
@@ -55,6 +62,14 @@ pub record IsProgramOf (ms : List Module) (bytes : List ℕ) (has_stack : Bool) 
   pub loads : (k : ℕ) → loaded bytes k ≡ linked_at k members
   pub stack : has_stack ≡ is_some (stack (portions members))
 
+-- The map of a program: that of its modules at their placements.
+pub record IsMapOf (ms : List Module) (text : List ℕ) : Type 0 where
+  pub places : List Places
+  pub placements : List Places
+  pub laid : AreLaid ms places
+  pub derived : derived (placed_modules ms places) [] ≡ Ok placements
+  pub printed : text ≡ map_text (placed_modules ms placements)
+
 -- Why modules are no program: a segment does not end below 2^20; an external has no place; or the modules so placed have a fault. Memory may run out at any time.
 pub record IsExternalFault (ms : List Module) (f : DeriveFault) : Type 0 where
   pub places : List Places
@@ -71,3 +86,31 @@ IsProgramFault ms fault.Memory = ⊤
 IsProgramFault ms fault.NoRoom = arranged_places at_0 (typed_modules ms) ≡ None
 IsProgramFault ms (fault.External f) = IsExternalFault ms f
 IsProgramFault ms (fault.Exe f) = IsMemberFault ms f
+
+-- The same before the modules are linked.
+abbrev pub IsPlacingFault : List Module → PlacingFault → Type 0
+IsPlacingFault ms no_place.Memory = ⊤
+IsPlacingFault ms no_place.NoRoom = arranged_places at_0 (typed_modules ms) ≡ None
+IsPlacingFault ms (no_place.External f) = IsExternalFault ms f
+
+-- ---- .COM programs
+
+-- The bytes of the .COM program. What DOS makes of them in segment k, for every k, is what these modules are at their placements moved by k paragraphs, from
+-- offset 100H on. No byte of the modules is below 100H, and they end in the segment.
+pub record IsComOf (ms : List Module) (bytes : List ℕ) : Type 0 where
+  pub members : List Member
+  pub made : AreMade ms members
+  pub file : bytes ≡ com_bytes members
+  pub loads : (k : ℕ) → com_loaded bytes k ≡ after_prefix (linked_at k members)
+  pub short : length bytes ≤ 65280
+  pub none : com_fault members ≡ None
+
+-- Why modules are no .COM program: they have no places; or, at their places, they have a fault.
+pub record IsMemberComFault (ms : List Module) (f : ComFault) : Type 0 where
+  pub members : List Member
+  pub made : AreMade ms members
+  pub fault : IsComFault members f
+
+abbrev pub IsComProgramFault : List Module → ComProgramFault → Type 0
+IsComProgramFault ms (no_com.Placing f) = IsPlacingFault ms f
+IsComProgramFault ms (no_com.Modules f) = IsMemberComFault ms f

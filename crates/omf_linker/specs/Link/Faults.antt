@@ -1,5 +1,5 @@
 -- The faults of `omf-link`: the name of the external, the printed line, and what is reported (a rule of this profile).
-use Rattle.std.specs.Prelude.{◌≡◌, ◌⊎◌, ℕ, ◌+◌, List, [], ◌∷◌, ◌++◌, Option, Some, None, flat_map, option_and_then, unwrap_or, slice_get, codes, decimal}
+use Rattle.std.specs.Prelude.{◌≡◌, ◌⊎◌, ℕ, ◌+◌, Bool, true, false, List, [], ◌∷◌, ◌++◌, Option, Some, None, flat_map, option_and_then, unwrap_or, slice_get, codes, decimal}
 use Rattle.omf_check.specs.Tables.{entry, externals}
 use Rattle.omf_placement.specs.declared.several.fault.DeriveFault.{DeriveFault}
 use Rattle.omf_placement.specs.declared.several.fault.DeriveFault.TheVariants as derive
@@ -16,6 +16,7 @@ use Rattle.omf_cmd.specs.FaultLine.{fault_words as run_words}
 use Rattle.omf_placement.specs.Quoted.{hex, quoted}
 use Rattle.omf_cmd.specs.Programs.{FaultReport}
 use Rattle.omf_cmd.specs.declared.fault.RunFault.TheVariants as run
+use Rattle.omf_linker.specs.Link.Unresolved.{AreLines}
 use Rattle.omf_linker.specs.declared.link.fault.ImageFault.{ImageFault}
 use Rattle.omf_linker.specs.declared.link.fault.ImageFault.TheVariants as fault
 
@@ -32,15 +33,23 @@ name_of ms (link.External (derive.Twice j i)) = external_name ms j i
 name_of ms (link.External (derive.TooHigh j i)) = external_name ms j i
 name_of ms _ = []
 
+-- The fault is that of an external without a public, or with more than one: then there is a line for each such name, and not for one external alone.
+abbrev pub is_unresolved : LinkFault → Bool
+is_unresolved (link.External (derive.Undefined j i)) = true
+is_unresolved (link.External (derive.Twice j i)) = true
+is_unresolved _ = false
+
 -- A link fault without a name.
 abbrev pub IsUnnamed : LinkFault → ImageFault → Type 0
 IsUnnamed f (fault.Link g name) = (g ≡ f) × (name.items ≡ [])
 IsUnnamed f _ = ⊥
 
--- A link fault with the name of its external, or out of memory for the name.
-abbrev pub IsNamed : List (List Rec) → LinkFault → ImageFault → Type 0
-IsNamed ms f (fault.Link g name) = ((g ≡ f) × (name.items ≡ name_of ms f)) ⊎ ((g ≡ link.Memory) × (name.items ≡ []))
-IsNamed ms f _ = ⊥
+-- A link fault at the placements of a text: the lines of all names without a public or with more than one, if it is about such a name; any other with the name of
+-- its external; or out of memory for these.
+abbrev pub IsNamed : List (List Rec) → List ℕ → LinkFault → ImageFault → Type 0
+IsNamed ms text f (fault.Link g name) = ((g ≡ f) × (is_unresolved f ≡ false) × (name.items ≡ name_of ms f)) ⊎ ((g ≡ link.Memory) × (name.items ≡ []))
+IsNamed ms text f (fault.Lines g lines) = (g ≡ f) × (is_unresolved f ≡ true) × AreLines [] ms text lines.items
+IsNamed ms text f _ = ⊥
 
 -- ---- the line
 
@@ -106,9 +115,10 @@ abbrev pub outside_words : ℕ → Option Owner → List (List ℕ)
 outside_words a None = codes "outside" ∷ hex 8 a ∷ []
 outside_words a (Some o) = codes "outside" ∷ hex 8 a ∷ owner_words o
 
--- The line of a fault, in words.
+-- The line of a fault, in words. That of unresolved names is not made of words.
 abbrev pub fault_words : ImageFault → List (List ℕ)
 fault_words (fault.Link f name) = link_words f name.items
+fault_words (fault.Lines f lines) = lines.items ∷ []
 fault_words fault.NoRoom = no_room ∷ []
 fault_words (fault.Outside a o) = outside_words a o
 fault_words fault.Write = run_words run.Write
@@ -128,6 +138,7 @@ link_status _ = 1
 -- What is reported of a fault: the exit status, and the line and its line feed. Nothing is printed if the writer failed.
 abbrev pub report : ImageFault → FaultReport
 report (fault.Link f name) = record { status = link_status f; text = fault_line (fault.Link f name) ++ 10 ∷ [] }
+report (fault.Lines f lines) = record { status = 1; text = lines.items }
 report (fault.Outside a o) = record { status = 1; text = fault_line (fault.Outside a o) ++ 10 ∷ [] }
 report fault.NoRoom = record { status = 1; text = fault_line fault.NoRoom ++ 10 ∷ [] }
 report fault.Write = record { status = 3; text = [] }
@@ -135,7 +146,8 @@ report fault.Write = record { status = 3; text = [] }
 -- The usage.
 abbrev pub usage : List ℕ
 usage = flat_map (λ line. line ++ 10 ∷ [])
-    (codes "usage: omf-link exe -o FILE FILE .."
+    (codes "usage: omf-link exe -o FILE [--map FILE] [--stack SIZE] [--library-path DIR] [--no-default-libraries] FILE .."
+    ∷ codes "       omf-link com -o FILE [--map FILE] [--stack SIZE] [--library-path DIR] [--no-default-libraries] FILE .."
     ∷ codes "       omf-link image|map [-t TEXT] [-o FILE] [FILE ..]"
     ∷ codes "       omf-link bin --base ADDRESS --size SIZE [--fill BYTE] [-t TEXT] [-o FILE] [FILE ..]"
     ∷ codes "       omf-link hex [--addresses linear|segment] [-t TEXT] [-o FILE] [FILE ..]"

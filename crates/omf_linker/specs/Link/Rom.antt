@@ -1,5 +1,5 @@
 -- The memory of several modules as a file for a chip, or why there is none (a rule of this profile).
-use Rattle.std.specs.Prelude.{◌≡◌, ◌⊎◌, ℕ, List, [], zip, Option, option_map, slice_get, Result, Ok, Err}
+use Rattle.std.specs.Prelude.{◌≡◌, ◌⊎◌, ℕ, List, [], true, false, zip, Option, option_map, slice_get, Result, Ok, Err}
 use Rattle.omf_image.specs.Overlay.{byte_at}
 use Rattle.omf_records.specs.Values.{Rec}
 use Rattle.omf_linking.specs.Segments.{all_segments, with_images}
@@ -8,8 +8,9 @@ use Rattle.omf_linking.specs.declared.fault.LinkFault.TheVariants as link
 use Rattle.omf_linking.specs.declared.space.stretch.Owner.{Owner}
 use Rattle.omf_output.specs.Rom.Memory.{IsFileOr, IsFirstOutside}
 use Rattle.omf_output.specs.declared.rom.form.Form.{Form}
-use Rattle.omf_linker.specs.Link.Faults.{name_of}
+use Rattle.omf_linker.specs.Link.Faults.{is_unresolved, name_of}
 use Rattle.omf_linker.specs.Link.Linked.{AreTogether, IsFirstFault}
+use Rattle.omf_linker.specs.Link.Unresolved.{AreLines}
 use Rattle.omf_linker.specs.declared.link.fault.ImageFault.{ImageFault}
 use Rattle.omf_linker.specs.declared.link.linking.LinkedModules.{LinkedModules}
 use Rattle.omf_linker.specs.declared.link.fault.ImageFault.TheVariants as fault
@@ -32,12 +33,13 @@ pub record IsOutsideOf (f : Form) (ms : List (List Rec)) (text : List ℕ) (addr
   pub first : IsFirstOutside f (byte_at together.memory 0) address
   pub owned : owner ≡ owner_at ms text together address
 
--- The result for modules and a link text: the file of their memory; or the first fault of the image, with the name of its external; or a byte that the
+-- The result for modules and a link text: the file of their memory; or the first fault of the image, with the lines of names or the name of its external; or a byte that the
 -- form does not have. Out of memory is possible at any time.
 abbrev pub IsRom : Form → List (List Rec) → List ℕ → Result (List ℕ) ImageFault → Type 0
 IsRom f ms text (Ok file) = (t : AreTogether ms text) × IsFileOr f t.memory (Ok file)
 IsRom f ms text (Err (fault.Outside a o)) = IsOutsideOf f ms text a o
-IsRom f ms text (Err (fault.Link g name)) = (IsFirstFault ms text g × (name.items ≡ name_of ms g)) ⊎ ((g ≡ link.Memory) × (name.items ≡ []))
+IsRom f ms text (Err (fault.Link g name)) = (IsFirstFault ms text g × (is_unresolved g ≡ false) × (name.items ≡ name_of ms g)) ⊎ ((g ≡ link.Memory) × (name.items ≡ []))
+IsRom f ms text (Err (fault.Lines g lines)) = IsFirstFault ms text g × (is_unresolved g ≡ true) × AreLines [] ms text lines.items
 IsRom f ms text (Err _) = ⊥
 
 -- The fault for an address that the form does not have, of modules that are linked. Out of memory is possible.

@@ -1,11 +1,13 @@
 -- Definitions for the worked examples.
-use Rattle.std.specs.Prelude.{ℕ, List, Option}
+use Rattle.std.specs.Prelude.{ℕ, List, [], map, Option}
+use Rattle.omf_reloc.specs.Modules.{module_of}
 use Rattle.omf_image.specs.Inner.Joined.{runs_of}
 use Rattle.omf_image.specs.Overlay.{Laid, byte_at}
 use Rattle.omf_linking.specs.declared.fault.LinkFault.{LinkFault}
 use Rattle.omf_linking.specs.declared.space.stretch.Owner.{Owner}
 use Rattle.omf_placement.specs.Entries.{in_words}
 use Rattle.omf_linker.specs.Link.Faults.{link_words}
+use Rattle.omf_linker.specs.Link.Unresolved.{unresolved_text}
 use Rattle.omf_linker.specs.Link.MemoryText.{image_text, memory_text}
 
 -- bytes at an address
@@ -27,3 +29,7 @@ line_of f name = in_words (link_words f name)
 -- a segment of a module
 abbrev pub segment_of : ℕ → ℕ → Owner
 segment_of j i = record { «module» = j; segment = i }
+
+-- the lines of the names of modules, by their bytes
+abbrev pub names_of : List (List ℕ) → List ℕ
+names_of ms = unresolved_text [] (map module_of ms) []

@@ -1,31 +1,34 @@
 -- The text that a task prints for an input, or the first fault, with the name of its external.
-use Rattle.std.specs.Prelude.{◌≡◌, ◌⊎◌, ℕ, List, [], Result, Ok, Err}
+use Rattle.std.specs.Prelude.{◌≡◌, ◌⊎◌, ℕ, List, [], true, false, Result, Ok, Err}
 use Rattle.omf_check.specs.Module.{Module, typed_modules}
 use Rattle.omf_records.specs.Values.{Rec}
 use Rattle.omf_linking.specs.Reading.{AreModules}
 use Rattle.omf_linking.specs.declared.fault.LinkFault.{LinkFault}
 use Rattle.omf_linking.specs.declared.fault.LinkFault.TheVariants as link
 use Rattle.omf_linker.specs.Link.Drafted.{IsDrafted}
-use Rattle.omf_linker.specs.Link.Faults.{name_of}
+use Rattle.omf_linker.specs.Link.Faults.{is_unresolved, name_of}
 use Rattle.omf_linker.specs.Link.Linked.{any, IsLinked}
 use Rattle.omf_linker.specs.Link.Mapped.{IsMapped}
 use Rattle.omf_linker.specs.Link.Rom.{IsRom}
+use Rattle.omf_linker.specs.Link.Unresolved.{AreLines}
 use Rattle.omf_linker.specs.declared.link.fault.ImageFault.{ImageFault}
 use Rattle.omf_linker.specs.declared.link.fault.ImageFault.TheVariants as fault
 use Rattle.omf_linker.specs.declared.link.words.Task.{Task}
 use Rattle.omf_linker.specs.declared.link.words.Task.TheVariants as task
 
--- A result for modules, where a fault has the name of its external. Out of memory is possible at any time.
-abbrev pub IsNamedAs : (Result (List ℕ) LinkFault → Type 0) → List (List Rec) → Result (List ℕ) ImageFault → Type 0
-IsNamedAs Is ms (Ok shown) = Is (Ok shown)
-IsNamedAs Is ms (Err (fault.Link f name)) = (Is (Err f) × (name.items ≡ name_of ms f)) ⊎ ((f ≡ link.Memory) × (name.items ≡ []))
-IsNamedAs Is ms (Err _) = ⊥
+-- A result for modules and a link text, where a fault of names has a line for each of them, and any other the name of its external. Out of memory is possible at
+-- any time.
+abbrev pub IsNamedAs : (Result (List ℕ) LinkFault → Type 0) → List (List Rec) → List ℕ → Result (List ℕ) ImageFault → Type 0
+IsNamedAs Is ms text (Ok shown) = Is (Ok shown)
+IsNamedAs Is ms text (Err (fault.Link f name)) = (Is (Err f) × (is_unresolved f ≡ false) × (name.items ≡ name_of ms f)) ⊎ ((f ≡ link.Memory) × (name.items ≡ []))
+IsNamedAs Is ms text (Err (fault.Lines f lines)) = Is (Err f) × (is_unresolved f ≡ true) × AreLines [] ms text lines.items
+IsNamedAs Is ms text (Err _) = ⊥
 
 -- The result of a task for modules and a link text: their image as text, or as a file for a chip, or their map; or their draft, whatever the text is.
 abbrev pub AreShown : Task → List (List Rec) → List ℕ → Result (List ℕ) ImageFault → Type 0
-AreShown task.Image ms text r = IsNamedAs (IsLinked ms text) ms r
+AreShown task.Image ms text r = IsNamedAs (IsLinked ms text) ms text r
 AreShown (task.Rom f) ms text r = IsRom f ms text r
-AreShown task.Map ms text r = IsNamedAs (IsMapped ms text) ms r
+AreShown task.Map ms text r = IsNamedAs (IsMapped ms text) ms text r
 AreShown (task.Draft o) ms text r = IsDrafted o ms r
 
 -- An input is modules and a link text, and this is the result for them.

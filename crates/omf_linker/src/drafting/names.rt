@@ -20,7 +20,7 @@ fn is_local(kind: u8) -> bool
 }
 
 /// Returns whether a record of this type has publics of the kind asked for: local ones, or the others.
-fn has_asked(local: bool, kind: u8) -> bool
+pub(crate) fn has_asked(local: bool, kind: u8) -> bool
     ensures some { result ≡ true → (c : Contents) → names_asked local kind c ≡ names_in c }
     ensures none { result ≡ false → (c : Contents) → names_asked local kind c ≡ [] }
 {

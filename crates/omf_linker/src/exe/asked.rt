@@ -2,39 +2,40 @@
 
 use crate::asked::Asked;
 
-/// What the arguments ask for, as far as `omf-link exe` goes.
+/// What the arguments ask for, as far as `omf-link exe` and `omf-link com` go.
 pub enum Call<'a> {
     /// The task is another one.
     Other,
     /// Make a program of the files, and write it to this file.
     Exe(&'a str),
-    /// The task is `exe`, and the arguments are not understood: no output, no file, a text, or an option.
+    /// Make a .COM program of the files, and write it to this file.
+    Com(&'a str),
+    /// The task is `exe` or `com`, and the arguments are not understood: no output, no file, or a text.
     Misused,
 }
 
-/// Whether the task is `exe`.
-fn is_exe(asked: &Asked) -> bool {
+/// Whether this is the task.
+fn is_task(asked: &Asked, name: &str) -> bool {
     match asked.words.as_slice() {
-        [_program, task, ..] => task.as_str() == "exe",
+        [_program, task, ..] => task.as_str() == name,
         _ => false,
     }
 }
 
-/// Whether there are files, no text and no option.
-fn has_files_alone(asked: &Asked) -> bool {
-    asked.words.len() == 2 && asked.text.is_none() && !asked.files.is_empty()
+/// Whether there are files and no text.
+fn has_files(asked: &Asked) -> bool {
+    asked.text.is_none() && !asked.files.is_empty()
 }
 
-/// What the arguments ask for.
+/// What the arguments ask for. The options of `exe` and `com` are read by `ExeOptions::of`.
 pub fn call_of(asked: &Asked) -> Call<'_> {
-    if !is_exe(asked) {
+    let is_com = is_task(asked, "com");
+    if !is_com && !is_task(asked, "exe") {
         return Call::Other;
     }
-    if !has_files_alone(asked) {
-        return Call::Misused;
-    }
     match asked.output.as_ref() {
-        Some(output) => Call::Exe(output.as_str()),
-        None => Call::Misused,
+        Some(output) if has_files(asked) && is_com => Call::Com(output.as_str()),
+        Some(output) if has_files(asked) => Call::Exe(output.as_str()),
+        _ => Call::Misused,
     }
 }

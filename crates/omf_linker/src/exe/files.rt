@@ -1,19 +1,17 @@
-//! The program of files.
+//! Why there is no program: refusals of files and of communals.
 
-use crate::exe::fault::ProgramFault;
-use crate::exe::input::{Input, InputFault, Origin};
-use crate::exe::joining::{Joined, join_needed, move_all, taken};
-use crate::exe::lines::{Origins, library_line};
-use crate::exe::making::program_of;
+use crate::exe::input::InputFault;
+use crate::exe::lines::{library_line, sharing_line};
 use crate::exe::refusal::Refusal;
+use crate::exe::sharing::SharingFault;
 use crate::link::{FilesFault, ImageFault, InputFile, file_front};
+use omf_layout::own::CommunalsFault;
 use omf_library::LibraryFault;
 use omf_linking::LinkFault;
-use omf_output::exe::ExeFile;
 use std::alloc::{AllocError, Global};
 
 /// Out of memory.
-fn memory(alloc: Global) -> Refusal {
+pub(crate) fn memory(alloc: Global) -> Refusal {
     Refusal::Files(FilesFault::Link(ImageFault::Link {
         fault: LinkFault::Memory,
         name: Vec::new(alloc),
@@ -21,7 +19,7 @@ fn memory(alloc: Global) -> Refusal {
 }
 
 /// A line, if there is memory for it.
-fn in_line(alloc: Global, line: Result<Vec<u8>, AllocError>) -> Refusal {
+pub(crate) fn in_line(alloc: Global, line: Result<Vec<u8>, AllocError>) -> Refusal {
     match line {
         Ok(line) => Refusal::Line(line),
         Err(AllocError) => memory(alloc),
@@ -40,7 +38,7 @@ fn of_modules(alloc: Global, files: &[InputFile], file: usize, fault: LinkFault)
 }
 
 /// The refusal of files that are not read.
-fn of_input(alloc: Global, files: &[InputFile], fault: InputFault) -> Refusal {
+pub(crate) fn of_input(alloc: Global, files: &[InputFile], fault: InputFault) -> Refusal {
     match fault {
         InputFault::Memory => memory(alloc),
         InputFault::Library(_, LibraryFault::Memory) => memory(alloc),
@@ -49,53 +47,10 @@ fn of_input(alloc: Global, files: &[InputFile], fault: InputFault) -> Refusal {
     }
 }
 
-/// The modules of a program, with their origins.
-fn all_of(alloc: Global, input: Input) -> Result<(Joined, Vec<Origin>), AllocError> {
-    let Input {
-        given,
-        given_from,
-        members,
-        members_from,
-    } = input;
-    let joined = join_needed(alloc, given, members)?;
-    let mut from = given_from;
-    let own = taken(alloc, &joined.numbers, members_from)?;
-    move_all(own, &mut from)?;
-    Ok((joined, from))
-}
-
-/// The program of modules; out of memory if there are 2^32 or more.
-fn made(alloc: Global, joined: &Joined) -> Result<ExeFile, ProgramFault> {
-    if joined.modules.len() > u32::MAX as usize {
-        return Err(ProgramFault::Memory);
-    }
-    program_of(alloc, &joined.modules)
-}
-
-/// The MZ file (.EXE) of files, each with modules, which all take part, or a library, of which the members take part that are needed. The
-/// first library in the order of the files that defines a name serves.
-///
-/// # Errors
-///
-/// The first file that is not read; otherwise the fault of `program_of`.
-pub fn exe_of_files(alloc: Global, files: &[InputFile]) -> Result<ExeFile, Refusal> {
-    let input = match Input::of(alloc, files) {
-        Ok(input) => input,
-        Err(fault) => return Err(of_input(alloc, files, fault)),
-    };
-    let Ok((joined, from)) = all_of(alloc, input) else {
-        return Err(memory(alloc));
-    };
-    match made(alloc, &joined) {
-        Ok(file) => Ok(file),
-        Err(ProgramFault::Memory) => Err(memory(alloc)),
-        Err(fault) => {
-            let origins = Origins {
-                files,
-                modules: &joined.modules,
-                from: &from,
-            };
-            Err(in_line(alloc, origins.line_of(alloc, fault)))
-        }
+/// The refusal of communals that are not shared.
+pub(crate) fn of_sharing(alloc: Global, fault: &SharingFault<'_>) -> Refusal {
+    match fault {
+        SharingFault::Communals(CommunalsFault::Memory) => memory(alloc),
+        _ => in_line(alloc, sharing_line(alloc, fault)),
     }
 }

@@ -57,7 +57,7 @@ fn profile() -> Profile {
 }
 
 /// Whether bytes are meant as a library.
-fn is_library(bytes: &[u8]) -> bool {
+pub(crate) fn is_library(bytes: &[u8]) -> bool {
     match bytes {
         [] => false,
         [first, ..] => *first == LIBRARY,

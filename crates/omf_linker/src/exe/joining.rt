@@ -1,7 +1,9 @@
 //! The modules of a program: those that are given, and the members of libraries that they need.
 
 ghost use Rattle.std.specs.Prelude.{◌≡◌, ◌++◌, IfOk, OnOk, drop};
-ghost use Rattle.omf_linker.specs.Exe.Taken.{AreJoined, is_first, taken};
+ghost use Rattle.std.specs.List.Sorted.{IsStrictlyIncreasing};
+ghost use Rattle.omf_linker.specs.Exe.Taken.{AreJoined, values_at};
+ghost use Rattle.omf_linker.specs.Inner.Taking.{is_first, walked};
 
 use omf_check::Checked;
 use omf_library::needed_members;
@@ -27,13 +29,9 @@ fn others(left: &[usize]) -> &[usize]
     }
 }
 
-/// The values at these numbers, which rise.
-pub(crate) fn taken<T: Drop>(
-    alloc: Global,
-    numbers: &[usize],
-    values: Vec<T>,
-) -> Result<Vec<T>, AllocError>
-    ensures { IfOk result (λ v. v.items ≡ taken 0 numbers.now values.items) }
+/// The values at numbers, by a walk that meets the numbers in turn.
+fn walked<T: Drop>(alloc: Global, numbers: &[usize], values: Vec<T>) -> Result<Vec<T>, AllocError>
+    ensures { IfOk result (λ v. v.items ≡ walked 0 numbers.now values.items) }
 {
     let mut taken = Vec::new(alloc);
     let mut left = numbers;
@@ -46,6 +44,19 @@ pub(crate) fn taken<T: Drop>(
         number += 1;
     }
     Ok(taken)
+}
+
+/// The values at these numbers, which rise.
+#[tactic(auto, using(crate::proofs::TakenLaws::walk_is))]
+pub(crate) fn taken<T: Drop>(
+    alloc: Global,
+    numbers: &[usize],
+    values: Vec<T>,
+) -> Result<Vec<T>, AllocError>
+    requires { IsStrictlyIncreasing numbers.now }
+    ensures { IfOk result (λ v. v.items ≡ values_at numbers.now values.items) }
+{
+    walked(alloc, numbers, values)
 }
 
 /// Moves values to the end of others.
@@ -77,7 +88,7 @@ pub fn join_needed(
     given: Vec<Checked>,
     members: Vec<Checked>,
 ) -> Result<Joined, AllocError>
-    ensures { IfOk result (λ j. AreJoined given.items members.items j.modules.items) }
+    ensures { IfOk result (λ j. AreJoined given.items members.items j.modules.items j.numbers.items) }
 {
     let numbers = needed_members(alloc, &given, &members)?;
     let mut modules = given;

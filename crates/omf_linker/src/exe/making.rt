@@ -1,25 +1,26 @@
-//! The program of modules: their layout, their externals, what moves of them, and the file.
+//! The programs of modules: their layout, their externals, what moves of them, and the file.
 
-ghost use Rattle.std.specs.Prelude.{◌≡◌, ◌<◌, ◌^◌, [], IfErr, IfOk, Ok, length};
+ghost use Rattle.std.specs.Prelude.{◌≡◌, ◌<◌, ◌^◌, [], IfErr, IfOk, Ok, length, string_bytes};
 ghost use Rattle.omf_check.specs.Module.{typed_modules};
 ghost use Rattle.omf_output.specs.Exe.Derived.{AreMovers};
 ghost use Rattle.omf_placement.specs.Derive.{placed_modules};
 ghost use Rattle.omf_placement.specs.Inner.Derived.{derived};
-ghost use Rattle.omf_linker.specs.Exe.Program.{AreLaid, AreMade, IsExternalFault, IsProgramFault, IsProgramOf, members_from};
+ghost use Rattle.omf_linker.specs.Exe.Program.{AreLaid, AreMade, IsComOf, IsComProgramFault, IsExternalFault, IsMapOf, IsPlacingFault, IsProgramFault, IsProgramOf, members_from};
 
-use crate::exe::fault::ProgramFault;
+use crate::exe::fault::{ComProgramFault, PlacingFault, ProgramFault};
+use crate::map::map_text;
 use omf_check::Checked;
 use omf_layout::several::place_segments;
 use omf_layout::{Frames, LayoutFault, Options};
-use omf_output::exe::{ExeFault, ExeFile, Member, Movers, link_exe, movers_of};
+use omf_output::exe::{ExeFault, ExeFile, Member, Movers, link_com, link_exe, movers_of};
 use omf_placement::{DeriveFault, Placement, derive};
 use std::alloc::{AllocError, Global};
 
 /// The places of modules from address 0 on, in real mode.
-fn places_of(alloc: Global, modules: &[Checked]) -> Result<Vec<Placement>, ProgramFault>
+fn places_of(alloc: Global, modules: &[Checked]) -> Result<Vec<Placement>, PlacingFault>
     requires { length modules.now < 2 ^ 32 }
     ensures laid { IfOk result (λ v. AreLaid modules.now v.items) }
-    ensures fault { IfErr result (IsProgramFault modules.now) }
+    ensures fault { IfErr result (IsPlacingFault modules.now) }
 {
     let options = Options {
         base: 0,
@@ -27,8 +28,8 @@ fn places_of(alloc: Global, modules: &[Checked]) -> Result<Vec<Placement>, Progr
     };
     match place_segments(alloc, modules, options) {
         Ok((places, _free)) => Ok(places),
-        Err(LayoutFault::NoRoom) => Err(ProgramFault::NoRoom),
-        Err(LayoutFault::Memory) => Err(ProgramFault::Memory),
+        Err(LayoutFault::NoRoom) => Err(PlacingFault::NoRoom),
+        Err(LayoutFault::Memory) => Err(PlacingFault::Memory),
     }
 }
 
@@ -50,6 +51,22 @@ fn settle(alloc: Global, modules: &[Checked], places: &[Placement]) -> Result<Se
     let placements = derive(alloc, modules, places, &[])?;
     let movers = movers_of(alloc, modules, places, &[])?;
     Ok(Settled { placements, movers })
+}
+
+/// Settles modules from address 0 on.
+fn place_and_settle(alloc: Global, modules: &[Checked]) -> Result<Settled, PlacingFault>
+    requires { length modules.now < 2 ^ 32 }
+    ensures placed { IfOk result (λ s. length s.placements.items ≡ length modules.now) }
+    ensures moved { IfOk result (λ s. length s.movers.items ≡ length modules.now) }
+    ensures made { IfOk result (λ s. AreMade modules.now (members_from 0 modules.now s.placements.items s.movers.items)) }
+    ensures fault { IfErr result (IsPlacingFault modules.now) }
+{
+    let places = places_of(alloc, modules)?;
+    match settle(alloc, modules, &places) {
+        Ok(settled) => Ok(settled),
+        Err(DeriveFault::Memory) => Err(PlacingFault::Memory),
+        Err(fault) => Err(PlacingFault::External(fault)),
+    }
 }
 
 /// The members of the program.
@@ -107,12 +124,71 @@ pub fn program_of(alloc: Global, modules: &[Checked]) -> Result<ExeFile, Program
     ensures program { IfOk result (λ e. IsProgramOf modules.now e.bytes.items e.has_stack) }
     ensures fault { IfErr result (IsProgramFault modules.now) }
 {
-    let places = places_of(alloc, modules)?;
-    let settled = match settle(alloc, modules, &places) {
+    let settled = match place_and_settle(alloc, modules) {
         Ok(settled) => settled,
-        Err(DeriveFault::Memory) => return Err(ProgramFault::Memory),
-        Err(fault) => return Err(ProgramFault::External(fault)),
+        Err(PlacingFault::Memory) => return Err(ProgramFault::Memory),
+        Err(PlacingFault::NoRoom) => return Err(ProgramFault::NoRoom),
+        Err(PlacingFault::External(fault)) => return Err(ProgramFault::External(fault)),
     };
     let members = members_of(alloc, modules, &settled.placements, &settled.movers)?;
     file_of(alloc, modules, &members)
+}
+
+/// The .COM file of members.
+fn com_file_of(
+    alloc: Global,
+    modules: &[Checked],
+    members: &[Member<'_>],
+) -> Result<Vec<u8>, ComProgramFault>
+    requires { AreMade modules.now members.now }
+    ensures program { IfOk result (λ v. IsComOf modules.now v.items) }
+    ensures fault { IfErr result (IsComProgramFault modules.now) }
+{
+    match link_com(alloc, members) {
+        Ok(bytes) => Ok(bytes),
+        Err(fault) => Err(ComProgramFault::Modules(fault)),
+    }
+}
+
+/// The .COM file of modules, laid out as those of an .EXE file.
+///
+/// What DOS makes of it in segment k, for every k, is what the modules are at their placements moved by k paragraphs, from offset 100H on.
+///
+/// # Errors
+///
+/// `Placing` with `NoRoom` if a segment does not end below 2^20, otherwise with `External` for the first external without a place; otherwise
+/// `Modules` with the first fault of `link_com`. `Placing` with `Memory` if memory runs out before the modules are linked.
+pub fn com_of(alloc: Global, modules: &[Checked]) -> Result<Vec<u8>, ComProgramFault>
+    requires { length modules.now < 2 ^ 32 }
+    ensures program { IfOk result (λ v. IsComOf modules.now v.items) }
+    ensures fault { IfErr result (IsComProgramFault modules.now) }
+{
+    let settled = match place_and_settle(alloc, modules) {
+        Ok(settled) => settled,
+        Err(fault) => return Err(ComProgramFault::Placing(fault)),
+    };
+    let members = members_of(alloc, modules, &settled.placements, &settled.movers)?;
+    com_file_of(alloc, modules, &members)
+}
+
+/// The map of modules at the places of their program, as `map_text` prints it.
+///
+/// # Errors
+///
+/// `NoRoom` if a segment does not end below 2^20; otherwise `External` for the first external without a place. `Memory` if memory runs out.
+pub fn map_of(alloc: Global, modules: &[Checked]) -> Result<String, PlacingFault>
+    requires { length modules.now < 2 ^ 32 }
+    ensures map { IfOk result (λ text. IsMapOf modules.now (string_bytes text)) }
+    ensures fault { IfErr result (IsPlacingFault modules.now) }
+{
+    let places = places_of(alloc, modules)?;
+    let settled = match settle(alloc, modules, &places) {
+        Ok(settled) => settled,
+        Err(DeriveFault::Memory) => return Err(PlacingFault::Memory),
+        Err(fault) => return Err(PlacingFault::External(fault)),
+    };
+    match map_text(alloc, modules, &settled.placements) {
+        Ok(text) => Ok(text),
+        Err(AllocError) => Err(PlacingFault::Memory),
+    }
 }

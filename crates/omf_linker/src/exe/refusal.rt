@@ -10,6 +10,8 @@ use omf_host::Status;
 pub enum Refusal {
     /// A file does not hold modules and padding alone; or memory ran out.
     Files(FilesFault),
+    /// No module and no member defines an external, as a line.
+    Undefined(Vec<u8>),
     /// Any other reason, as a line.
     Line(Vec<u8>),
 }
@@ -19,7 +21,7 @@ impl Refusal {
     pub fn status(&self) -> Status {
         match self {
             Refusal::Files(fault) => Status::of_code(fault.status()),
-            Refusal::Line(_) => Status::Refused,
+            Refusal::Undefined(_) | Refusal::Line(_) => Status::Refused,
         }
     }
 
@@ -27,7 +29,7 @@ impl Refusal {
     pub fn print<K: Sink>(&self, writer: &mut K) {
         match self {
             Refusal::Files(fault) => fault.print(writer),
-            Refusal::Line(line) => tell(writer, line),
+            Refusal::Undefined(line) | Refusal::Line(line) => tell(writer, line),
         }
     }
 }

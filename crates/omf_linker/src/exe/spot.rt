@@ -1,8 +1,8 @@
 //! Parts of modules as a person finds them: a segment by its name, and an offset in it.
 
 use omf_check::Checked;
-use omf_frame::Place;
-use omf_records::Rec;
+use omf_frame::{Name, Place};
+use omf_records::{Kind, Rec};
 use omf_reloc::{Piece, pieces_of};
 
 /// Where a part of a module is: the index of the segment of its data, and its offset there.
@@ -78,6 +78,28 @@ pub(crate) fn spot_of(module: &Checked, place: Place) -> Option<Spot> {
             return spot;
         }
         last = next;
+    }
+    None
+}
+
+/// The name of the external that a piece refers to; none if it refers to none.
+fn external_of<'a>(module: &'a Checked, piece: &Piece<'_>) -> Option<Name<'a>> {
+    let Piece::Fixed { fixup, .. } = piece else {
+        return None;
+    };
+    match fixup.reference.target.kind {
+        Kind::External => module.external(fixup.reference.target.index.0),
+        Kind::Segment => None,
+        Kind::Group => None,
+    }
+}
+
+/// The name of the external that the fixup at a place of a module refers to; none if it refers to none.
+pub(crate) fn external_at(module: &Checked, place: Place) -> Option<Name<'_>> {
+    for (here, piece) in pieces_of(module) {
+        if here.number == place.number && here.within == place.within {
+            return external_of(module, &piece);
+        }
     }
     None
 }

@@ -3,7 +3,7 @@
 ghost use Rattle.omf_linker.specs.Link.Faults.{report};
 
 use crate::link::printed::{print_link, print_outside};
-use omf_cmd::{Fault, print_words};
+use omf_cmd::{Fault, print_words, tell};
 use omf_frame::Sink;
 use omf_linking::LinkFault;
 use omf_linking::space::Owner;
@@ -15,8 +15,15 @@ pub enum ImageFault {
     Link {
         /// The first fault.
         fault: LinkFault,
-        /// The name of the external without a place; empty for any other fault.
+        /// The name of the external whose address is too high; empty for any other fault.
         name: Vec<u8>,
+    },
+    /// Externals have no public or more than one.
+    Lines {
+        /// The fault of the first of them.
+        fault: LinkFault,
+        /// A line for each name.
+        lines: Vec<u8>,
     },
     /// A byte of the memory is at an address that the form of its file does not have.
     Outside {
@@ -36,6 +43,7 @@ impl Fault for ImageFault {
 
     fn status(&self) -> u8 {
         match self {
+            ImageFault::Lines { .. } => 1,
             ImageFault::Outside { .. } => 1,
             ImageFault::NoRoom => 1,
             ImageFault::Write => 3,
@@ -57,6 +65,7 @@ impl Fault for ImageFault {
     fn print<K: Sink>(&self, writer: &mut K) {
         match self {
             ImageFault::Link { fault, name } => print_link(writer, *fault, name),
+            ImageFault::Lines { lines, .. } => tell(writer, lines),
             ImageFault::Outside { address, owner } => print_outside(writer, *address, *owner),
             ImageFault::NoRoom => print_words(writer, &["no room below the last address"]),
             ImageFault::Write => {}

@@ -91,6 +91,6 @@ pub fn modules_file(
 {
     match linked_modules(alloc, modules, text) {
         Ok(linked) => linked_file(alloc, form, modules, &linked),
-        Err(fault) => Err(named(alloc, modules, fault)),
+        Err(fault) => Err(named(alloc, modules, text, fault)),
     }
 }

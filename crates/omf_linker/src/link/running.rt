@@ -25,22 +25,22 @@ use std::alloc::Global;
 /// The text of `modules_text`, or the first fault with the name of its external.
 fn image_shown(alloc: Global, modules: &[Checked], text: &[u8]) -> Result<Vec<u8>, ImageFault>
     requires { length modules.now < 2 ^ 32 }
-    ensures { IsNamedAs (IsLinked (typed_modules modules.now) text.now) (typed_modules modules.now) (map_ok (λ shown. shown.items) result) }
+    ensures { IsNamedAs (IsLinked (typed_modules modules.now) text.now) (typed_modules modules.now) text.now (map_ok (λ shown. shown.items) result) }
 {
     match modules_text(alloc, modules, text) {
         Ok(shown) => Ok(shown),
-        Err(fault) => Err(named(alloc, modules, fault)),
+        Err(fault) => Err(named(alloc, modules, text, fault)),
     }
 }
 
 /// The text of `modules_map`, or the first fault with the name of its external.
 fn map_shown(alloc: Global, modules: &[Checked], text: &[u8]) -> Result<Vec<u8>, ImageFault>
     requires { length modules.now < 2 ^ 32 }
-    ensures { IsNamedAs (IsMapped (typed_modules modules.now) text.now) (typed_modules modules.now) (map_ok (λ shown. shown.items) result) }
+    ensures { IsNamedAs (IsMapped (typed_modules modules.now) text.now) (typed_modules modules.now) text.now (map_ok (λ shown. shown.items) result) }
 {
     match modules_map(alloc, modules, text) {
         Ok(shown) => Ok(shown.into_bytes()),
-        Err(fault) => Err(named(alloc, modules, fault)),
+        Err(fault) => Err(named(alloc, modules, text, fault)),
     }
 }
 

@@ -1,0 +1,90 @@
+//! The options of `omf-link exe` and `omf-link com`.
+
+use std::alloc::{AllocError, Global};
+
+/// The options of `omf-link exe` and `omf-link com`.
+#[derive(Drop)]
+pub struct ExeOptions<'a> {
+    /// The name of the file for the map.
+    pub map: Option<&'a str>,
+    /// The folders in which libraries are looked for, in order, after the current one.
+    pub folders: Vec<&'a str>,
+    /// Whether the libraries that modules ask for are looked for.
+    pub default_libraries: bool,
+    /// The bytes that are added to the stack, from 1 to 65534.
+    pub stack: Option<u16>,
+}
+
+/// The size of a stack: a decimal number from 1 to 65534.
+fn stack_of(value: &str) -> Option<u16> {
+    if value.starts_with('+') {
+        return None;
+    }
+    match value.parse::<u16>() {
+        Ok(0 | u16::MAX) => None,
+        Ok(size) => Some(size),
+        Err(_) => None,
+    }
+}
+
+/// Puts a value where there is none. Returns false if there is one, or if there is no value.
+fn put_once<T: Copy>(slot: &mut Option<T>, value: Option<T>) -> bool {
+    if slot.is_some() {
+        return false;
+    }
+    *slot = value;
+    slot.is_some()
+}
+
+impl<'a> ExeOptions<'a> {
+    /// The options of a call without any.
+    pub fn new(alloc: Global) -> ExeOptions<'a> {
+        ExeOptions {
+            map: None,
+            folders: Vec::new(alloc),
+            default_libraries: true,
+            stack: None,
+        }
+    }
+
+    /// Takes an option with its value. Returns false if there is no such option, if the value is none of its values, or if it has one.
+    fn take(&mut self, name: &str, value: &'a str) -> Result<bool, AllocError> {
+        match name {
+            "--map" => Ok(put_once(&mut self.map, Some(value))),
+            "--library-path" => {
+                self.folders.push(value)?;
+                Ok(true)
+            }
+            "--stack" => Ok(put_once(&mut self.stack, stack_of(value))),
+            _ => Ok(false),
+        }
+    }
+
+    /// The options that arguments give. None if one is unknown, has no value or a wrong one, or is given twice, but for `--library-path`.
+    ///
+    /// # Errors
+    ///
+    /// `AllocError` if memory runs out.
+    pub fn of(
+        alloc: Global,
+        arguments: &'a [String],
+    ) -> Result<Option<ExeOptions<'a>>, AllocError> {
+        let mut options = ExeOptions::new(alloc);
+        let mut rest = arguments;
+        while let [name, others @ ..] = rest {
+            if name.as_str() == "--no-default-libraries" {
+                options.default_libraries = false;
+                rest = others;
+                continue;
+            }
+            let [value, others @ ..] = others else {
+                return Ok(None);
+            };
+            if !options.take(name.as_str(), value.as_str())? {
+                return Ok(None);
+            }
+            rest = others;
+        }
+        Ok(Some(options))
+    }
+}

@@ -1,0 +1,270 @@
+//! The externals of several modules for which no public or more than one is found, as text.
+
+ghost use Rattle.std.specs.Prelude.{◌≡◌, ◌++◌, ◌∷◌, [], ◌<◌, ◌^◌, Bool, IfOk, List, None, Some, ℕ, codes, false, flat_map, length, map, string_bytes};
+ghost use Rattle.std.specs.List.{enumerate_from};
+ghost use Rattle.omf_check.specs.Module.{recs_of, typed_modules};
+ghost use Rattle.omf_frame.specs.Bytes.{AddsText};
+ghost use Rattle.omf_placement.specs.Derive.{named_externals};
+ghost use Rattle.omf_linker.specs.Link.Unresolved.{IsByName, Row, after, asked_text, external_text, found_text, is_first, is_last, is_same, label_of, module_text, modules_text, name_line, next_text, spots_of, unresolved_text};
+
+use crate::link::by_name::{ByName, External, Spot, external_at, is_given};
+use omf_check::Checked;
+use omf_layout::printing::print_quoted;
+use omf_linking::locator::Sparse;
+use std::alloc::{AllocError, Global};
+use std::fmt::Write;
+
+/// Appends the label of a module, or its number if it has none.
+fn put_own(text: &mut String, labels: &[String], module: u32) -> Result<(), AllocError>
+    ensures { AddsText result (string_bytes text.old) (string_bytes text.new) (label_of (map string_bytes labels.now) «module») }
+{
+    match labels.get(module as usize) {
+        Some(label) => text.push_str(label.as_str()),
+        None => write!(text, "module {}", u64::from(module) + 1),
+    }
+}
+
+/// Appends the label of a module, after a comma if it is not the first.
+fn put_label(
+    text: &mut String,
+    labels: &[String],
+    last: Option<u32>,
+    module: u32,
+) -> Result<(), AllocError>
+    ensures { AddsText result (string_bytes text.old) (string_bytes text.new) (after last (label_of (map string_bytes labels.now) «module»)) }
+{
+    if last.is_some() {
+        text.push_str(", ")?;
+    }
+    put_own(text, labels, module)
+}
+
+/// Whether a module is the last one that was named.
+fn is_last(last: Option<u32>, module: u32) -> bool
+    ensures { result ≡ is_last last «module» }
+{
+    match last {
+        Some(last) => last == module,
+        None => false,
+    }
+}
+
+/// Appends the label of a module, if it is not the last one that was named.
+fn put_next(
+    text: &mut String,
+    labels: &[String],
+    last: Option<u32>,
+    module: u32,
+) -> Result<(), AllocError>
+    ensures { AddsText result (string_bytes text.old) (string_bytes text.new) (next_text (map string_bytes labels.now) last «module») }
+{
+    if is_last(last, module) {
+        return Ok(());
+    }
+    put_label(text, labels, last, module)
+}
+
+/// Appends the labels of the modules of externals or publics; a module that has several in a row is named once.
+fn put_modules(text: &mut String, labels: &[String], spots: &[Spot]) -> Result<(), AllocError>
+    ensures { AddsText result (string_bytes text.old) (string_bytes text.new) (modules_text (map string_bytes labels.now) None spots.now) }
+{
+    let mut last = None;
+    for spot in spots {
+        put_next(text, labels, last, spot.module)?;
+        last = Some(spot.module);
+    }
+    Ok(())
+}
+
+/// Appends the line of a name: what is wrong with it, and the modules.
+fn put_name(
+    text: &mut String,
+    labels: &[String],
+    what: &str,
+    name: &[u8],
+    spots: &[Spot],
+) -> Result<(), AllocError>
+    ensures { AddsText result (string_bytes text.old) (string_bytes text.new) (name_line (map string_bytes labels.now) what.now name.now spots.now) }
+{
+    text.push_str(what)?;
+    text.push_str(" ")?;
+    print_quoted(text, name)?;
+    text.push_str(": ")?;
+    put_modules(text, labels, spots)?;
+    text.push_str("\n")
+}
+
+/// Appends the line of a name, if it has no public or more than one.
+fn put_found(
+    text: &mut String,
+    labels: &[String],
+    name: &[u8],
+    found: &[Spot],
+    askers: &[Spot],
+) -> Result<(), AllocError>
+    ensures { AddsText result (string_bytes text.old) (string_bytes text.new) (found_text (map string_bytes labels.now) name.now found.now askers.now) }
+{
+    match found {
+        [] => put_name(text, labels, "undefined", name, askers),
+        [_] => Ok(()),
+        [_, _, ..] => put_name(text, labels, "twice", name, found),
+    }
+}
+
+/// Whether two externals are the same.
+fn is_same(one: Spot, other: Spot) -> bool
+    ensures { result ≡ is_same one other }
+{
+    one.module == other.module && one.external == other.external
+}
+
+/// Whether an external is the first of these.
+fn is_first(spots: &[Spot], spot: Spot) -> bool
+    ensures { result ≡ is_first spots.now spot }
+{
+    match spots.get(0) {
+        Some(first) => is_same(*first, spot),
+        None => false,
+    }
+}
+
+/// The publics and the externals of all modules, by name.
+#[derive(Drop)]
+struct Tables<'a> {
+    /// The publics that are not local.
+    publics: ByName<'a>,
+    /// The externals that are not local and have no place by hand.
+    asks: ByName<'a>,
+}
+
+/// Appends the line of a local external, by the local publics of its module.
+fn put_local<'a>(
+    text: &mut String,
+    labels: &[String],
+    own: &ByName<'a>,
+    name: &'a [u8],
+    spot: Spot,
+) -> Result<(), AllocError>
+    ensures { (rows : List Row) → IsByName own.now.spots rows → AddsText result (string_bytes text.old) (string_bytes text.new) (found_text (map string_bytes labels.now) name.now (spots_of rows name.now) (spot ∷ [])) }
+{
+    put_found(text, labels, name, own.spots(name), &[spot])
+}
+
+/// Appends the line of the name of an external that is not local, if it is the first that asks for it.
+fn put_shared<'a>(
+    text: &mut String,
+    labels: &[String],
+    tables: &Tables<'a>,
+    name: &'a [u8],
+    spot: Spot,
+) -> Result<(), AllocError>
+    ensures { (publics asks : List Row) → IsByName tables.now.publics.spots publics → IsByName tables.now.asks.spots asks → AddsText result (string_bytes text.old) (string_bytes text.new) (asked_text (map string_bytes labels.now) publics asks [] name.now false spot) }
+{
+    let askers = tables.asks.spots(name);
+    if !is_first(askers, spot) {
+        return Ok(());
+    }
+    put_found(text, labels, name, tables.publics.spots(name), askers)
+}
+
+/// Appends the line of an external that has no place by hand.
+fn put_asked<'a>(
+    text: &mut String,
+    labels: &[String],
+    tables: &Tables<'a>,
+    own: &ByName<'a>,
+    external: External<'a>,
+) -> Result<(), AllocError>
+    ensures { (publics asks rows : List Row) → IsByName tables.now.publics.spots publics → IsByName tables.now.asks.spots asks → IsByName own.now.spots rows → AddsText result (string_bytes text.old) (string_bytes text.new) (asked_text (map string_bytes labels.now) publics asks rows external.entry.name.now external.entry.local external.entry.spot) }
+{
+    if external.local {
+        put_local(text, labels, own, external.name, external.spot)
+    } else {
+        put_shared(text, labels, tables, external.name, external.spot)
+    }
+}
+
+/// Appends the line of an external, if it has no place by hand.
+fn put_external<'a>(
+    text: &mut String,
+    labels: &[String],
+    by_hand: &[Sparse],
+    tables: &Tables<'a>,
+    own: &ByName<'a>,
+    external: External<'a>,
+) -> Result<(), AllocError>
+    ensures { (publics asks rows : List Row) → IsByName tables.now.publics.spots publics → IsByName tables.now.asks.spots asks → IsByName own.now.spots rows → AddsText result (string_bytes text.old) (string_bytes text.new) (external_text (map string_bytes labels.now) by_hand.now publics asks rows external.entry.spot.«module» (external.entry.spot.external, (external.entry.name.now, external.entry.local))) }
+{
+    if is_given(by_hand, external.spot.module, external.spot.external) {
+        return Ok(());
+    }
+    put_asked(text, labels, tables, own, external)
+}
+
+/// Appends the lines of the externals of the module with this number.
+fn put_module<'a>(
+    text: &mut String,
+    labels: &[String],
+    by_hand: &[Sparse],
+    tables: &Tables<'a>,
+    own: &ByName<'a>,
+    module: &'a Checked,
+    number: u32,
+) -> Result<(), AllocError>
+    ensures { (publics asks rows : List Row) → IsByName tables.now.publics.spots publics → IsByName tables.now.asks.spots asks → IsByName own.now.spots rows → AddsText result (string_bytes text.old) (string_bytes text.new) (flat_map (external_text (map string_bytes labels.now) by_hand.now publics asks rows number) (enumerate_from 1 (named_externals (recs_of «module».entry.now.bytes)))) }
+{
+    for before in 0..module.externals() {
+        let spot = Spot {
+            module: number,
+            external: before + 1,
+        };
+        let external = external_at(module, spot);
+        put_external(text, labels, by_hand, tables, own, external)?;
+    }
+    Ok(())
+}
+
+/// Appends the lines of the externals of all modules.
+fn put_all<'a>(
+    alloc: Global,
+    text: &mut String,
+    labels: &[String],
+    by_hand: &[Sparse],
+    tables: &Tables<'a>,
+    modules: &'a [Checked],
+) -> Result<(), AllocError>
+    requires { length modules.now < 2 ^ 32 }
+    ensures { (publics asks : List Row) → IsByName tables.now.publics.spots publics → IsByName tables.now.asks.spots asks → AddsText result (string_bytes text.old) (string_bytes text.new) (flat_map (module_text (map string_bytes labels.now) by_hand.now publics asks) (enumerate_from 0 (typed_modules modules.entry.now))) }
+{
+    for (j, module) in modules.iter().enumerate() {
+        let own = ByName::of_locals(alloc, j as u32, module)?;
+        put_module(text, labels, by_hand, tables, &own, module, j as u32)?;
+    }
+    Ok(())
+}
+
+/// The externals of modules for which no public or more than one is found, as text: a line for each name, in the order in which the names
+/// first appear. `undefined "NAME": M, N` has the modules that ask for it, and `twice "NAME": M, N` the modules that define it. A local
+/// external has a line of its own. Externals that are given a place by hand are left out. A module is named by its label, or if it has
+/// none by its number from 1, as `module 1`.
+///
+/// # Errors
+///
+/// `AllocError` if memory runs out.
+pub fn unresolved_text(
+    alloc: Global,
+    labels: &[String],
+    modules: &[Checked],
+    by_hand: &[Sparse],
+) -> Result<String, AllocError>
+    requires { length modules.now < 2 ^ 32 }
+    ensures { IfOk result (λ t. string_bytes t ≡ unresolved_text (map string_bytes labels.now) (typed_modules modules.now) by_hand.now) }
+{
+    let tables = Tables {
+        publics: ByName::of(alloc, modules)?,
+        asks: ByName::of_externals(alloc, by_hand, modules)?,
+    };
+    let mut text = String::new(alloc);
+    put_all(alloc, &mut text, labels, by_hand, &tables, modules)?;
+    Ok(text)
+}
