@@ -25,6 +25,7 @@ mod libraries;
 mod limits;
 mod linking;
 mod needed;
+mod own;
 mod readers;
 mod reading;
 mod samples;

@@ -2,9 +2,11 @@
 
 mod calls;
 mod changes;
+mod com_files;
 mod devices;
 mod drafts;
 mod exe;
+mod exe_options;
 mod files;
 mod large;
 mod memory;

@@ -210,3 +210,35 @@ fn sources_show_what_is_ahead(rt: HostRuntime) {
     assert!(rt; ahead_of_one(&mut Reading::new(RECORD)) == Some((0, 1, 0)));
     assert!(rt; ahead_of_one(&mut Bytes::new(RECORD)) == Some((6, 1, 5)));
 }
+
+/// The number of bytes that a source shows after a pull of one byte, when up to `count` of those ahead are taken; and the byte that is
+/// pulled then.
+fn ahead_after<S: Source>(source: &mut S, count: usize) -> Option<(usize, u8)> {
+    let mut piece = [0; 1];
+    if source.pull(&mut piece).is_err() {
+        return None;
+    }
+    let count = count.min(source.ahead().len());
+    source.consume(count);
+    let left = source.ahead().len();
+    match source.pull(&mut piece) {
+        Ok(_) => Some((left, piece[0])),
+        Err(_) => None,
+    }
+}
+
+/// The same of a reader with a buffer of 4 bytes.
+fn ahead_after_in_buffer(alloc: Global, bytes: &[u8], count: usize) -> Option<(usize, u8)> {
+    match BufReader::with_capacity(alloc, 4, bytes) {
+        Ok(input) => ahead_after(&mut Buffered::new(input), count),
+        Err(_) => None,
+    }
+}
+
+#[test]
+fn bytes_ahead_are_taken(rt: HostRuntime) {
+    assert!(rt; ahead_after(&mut Bytes::new(RECORD), 2) == Some((3, 0x01)));
+    assert!(rt; ahead_after_in_buffer(rt.alloc(), RECORD, 2) == Some((1, 0x01)));
+    assert!(rt; ahead_after_in_buffer(rt.alloc(), RECORD, 3) == Some((0, 0x41)));
+    assert!(rt; ahead_after(&mut Reading::new(RECORD), 2) == Some((0, 0x03)));
+}

@@ -1,11 +1,11 @@
-//! MZ files, and which modules move with a program. Expected values are worked out by hand from the formats.
+//! MZ files and .COM files, and which modules move with a program. Expected values are worked out by hand from the formats.
 
 use super::module_of;
 use omf_check::Checked;
 use omf_frame::Place;
 use omf_output::exe::{
-    ExeFault, ExeFile, FarAddress, FileFault, Member, Movers, Moving, Program, Words, WordsFault,
-    link_exe, movable, write_exe,
+    ComFault, ExeFault, ExeFile, FarAddress, FileFault, Member, Movers, Moving, Program, Words,
+    WordsFault, link_com, link_exe, movable, write_exe,
 };
 use omf_placement::{Frame, Placement};
 use std::alloc::Global;
@@ -320,4 +320,64 @@ fn linked_without_a_stack(rt: HostRuntime) {
     let bytes =
         b"MZ\x24\0\x01\0\x01\0\x02\0\0\0\xFF\xFF\0\0\0\0\0\0\x02\0\0\0\x1C\0\0\0\x01\0\0\0\xB8\0\0\x90";
     assert!(rt; is_exe(alloc, &[put_at(BY_BASE, 0, 0, true)], bytes, false));
+}
+
+/// THEADR, LNAMES, SEGDEF of a segment of 258 bytes; LEDATA `int 20H` at 100H; MODEND with the start 100H in segment 1.
+const BY_INT: &[&str] = &[
+    "80 03 00 01 41 3B",
+    "96 04 00 00 01 54 11",
+    "98 07 00 28 02 01 02 01 01 32",
+    "A0 06 00 01 00 01 CD 20 6B",
+    "8A 07 00 C1 00 01 01 00 01 AB",
+];
+
+/// The .COM file of linked modules.
+fn com_of(alloc: Global, lying: &[Lying]) -> Option<Result<Vec<u8>, ComFault>> {
+    let laid = laid(alloc, lying)?;
+    let members = members_of(alloc, &laid)?;
+    Some(link_com(alloc, &members))
+}
+
+/// Whether these modules have this .COM file.
+fn is_com(alloc: Global, lying: &[Lying], bytes: &[u8]) -> bool {
+    match com_of(alloc, lying) {
+        Some(Ok(file)) => file.as_slice() == bytes,
+        _ => false,
+    }
+}
+
+/// Whether these modules have this fault in place of a .COM file.
+fn is_no_com(alloc: Global, lying: &[Lying], wanted: ComFault) -> bool {
+    match com_of(alloc, lying) {
+        Some(Err(fault)) => fault == wanted,
+        _ => false,
+    }
+}
+
+/// `BY_INT` at 0: its two bytes at 100H are all of the file. A stack segment after it, which has no data, adds nothing.
+#[test]
+fn linked_as_a_com_file(rt: HostRuntime) {
+    let alloc = rt.alloc();
+    let modules = [put_at(BY_INT, 0, 0, true), put_at(STACK, 0x110, 0x11, true)];
+    assert!(rt; is_com(alloc, &modules, b"\xCD\x20"));
+}
+
+/// `BY_INT` a paragraph higher starts at 1:100H. `BY_BASE` after it names a second start.
+#[test]
+fn no_com_file(rt: HostRuntime) {
+    let alloc = rt.alloc();
+    let start = ComFault::Start(FarAddress {
+        selector: 1,
+        offset: 0x100,
+    });
+    assert!(rt; is_no_com(alloc, &[put_at(BY_INT, 0x10, 1, true)], start));
+    let twice = ComFault::Exe(ExeFault::Starts {
+        first: 0,
+        second: 0,
+    });
+    let modules = [
+        put_at(BY_INT, 0, 0, true),
+        put_at(BY_BASE, 0x110, 0x11, true),
+    ];
+    assert!(rt; is_no_com(alloc, &modules, twice));
 }

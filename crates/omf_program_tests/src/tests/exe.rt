@@ -1,7 +1,7 @@
 //! Runs of `omf-link exe` over files.
 
 use omf_cmd::Gathered;
-use omf_linker::exe::exe_of_files;
+use omf_linker::exe::{ExeOptions, ProgramModules, exe_of_files};
 use omf_linker::link::InputFile;
 use omf_samples::bytes_of;
 use std::alloc::Global;
@@ -37,7 +37,14 @@ struct Case {
     line: &'static str,
 }
 
-static CASES: [Case; 7] = [
+/// A main module: `call far f` in the segment T, where f is a near communal of 2 bytes.
+const SHARES: &str =
+    "80030001413B 96040000015400 98070028050002010100 B00600016600620200 A009000100009A0000000000 9C0500CC01560100 8A0700C1000101000000";
+
+/// A module with f as a far communal of twice 1 byte.
+const FAR: &str = "800300014200 B0070001660061020100 8A02000000";
+
+static CASES: [Case; 11] = [
     // The word at 1 moves. Two paragraphs from the end of the image on, the stack ends at 1:10H.
     Case {
         files: &[("one.obj", ONE)],
@@ -62,7 +69,21 @@ static CASES: [Case; 7] = [
         files: &[("calls.obj", CALLS)],
         program: "",
         has_stack: false,
-        line: "file \"calls.obj\" module 1 external 1 Undefined \"f\"\n",
+        line: "undefined \"f\": file \"calls.obj\" module 1\n",
+    },
+    // Both modules ask for the name.
+    Case {
+        files: &[("a.obj", CALLS), ("b.obj", FRAMED)],
+        program: "",
+        has_stack: false,
+        line: "undefined \"f\": file \"a.obj\" module 1, file \"b.obj\" module 1\n",
+    },
+    // The two modules of the second and the third file define it.
+    Case {
+        files: &[("a.obj", CALLS), ("b.obj", ABSOLUTE), ("c.obj", ABSOLUTE)],
+        program: "",
+        has_stack: false,
+        line: "twice \"f\": file \"b.obj\" module 1, file \"c.obj\" module 1\n",
     },
     Case {
         files: &[("a.obj", ONE), ("b.obj", NO_STACK)],
@@ -77,6 +98,19 @@ static CASES: [Case; 7] = [
         has_stack: false,
         line: "file \"a.obj\" module 1 segment \"T\" offset 00000001: does not move with the program\n",
     },
+    // The communal is at 6, the first even address after T, and the selector at 3 moves. The segments end at 8, and the image at 5: one paragraph more.
+    Case {
+        files: &[("a.obj", SHARES)],
+        program: "4D5A2500010001000200 0100FFFF0000000000000000 00001C000000 03000000 9A06000000",
+        has_stack: false,
+        line: "",
+    },
+    Case {
+        files: &[("a.obj", SHARES), ("b.obj", FAR)],
+        program: "",
+        has_stack: false,
+        line: "communal \"f\": near in one module and far in another\n",
+    },
     Case {
         files: &[("l.lib", LIBRARY)],
         program: "",
@@ -86,7 +120,7 @@ static CASES: [Case; 7] = [
 ];
 
 /// A file with bytes in hexadecimal; `None` where it finds no memory.
-fn file_of(alloc: Global, name: &str, bytes: &str) -> Option<InputFile> {
+pub(super) fn file_of(alloc: Global, name: &str, bytes: &str) -> Option<InputFile> {
     let name = match name.to_string(alloc) {
         Ok(name) => name,
         Err(_) => return None,
@@ -136,5 +170,56 @@ fn is_right(alloc: Global, case: &Case) -> bool {
 fn files_are_programs_or_refused_by_name(rt: HostRuntime) {
     for (at, case) in CASES.iter().enumerate() {
         assert!(rt; is_right(rt.alloc(), case), "{at}");
+    }
+}
+
+/// The map of the program of `CALLS` and `LIBRARY`: only the second member takes part, and its byte is at 5.
+const MAP: &str = "module 1 file \"calls.obj\" module 1\n\
+    module 2 file \"l.lib\" module 2\n\
+    segment 1 1 00000000 00000005 \"T\" \"\"\n\
+    segment 2 1 00000005 00000001 \"T\" \"\"\n\
+    public 2 00000005 \"f\"\n\
+    external 1 1 00000005 \"f\"\n";
+
+/// Whether the map of files is a text.
+fn is_mapped(alloc: Global, files: &[InputFile], text: &str) -> bool {
+    match ProgramModules::of(alloc, files) {
+        Ok(modules) => match modules.map(alloc, files) {
+            Ok(map) => map.as_slice() == text.as_bytes(),
+            Err(_) => false,
+        },
+        Err(_) => false,
+    }
+}
+
+#[test]
+fn a_map_begins_with_the_modules(rt: HostRuntime) {
+    match files_of(rt.alloc(), &CASES[2]) {
+        Some(files) => assert!(rt; is_mapped(rt.alloc(), &files, MAP)),
+        None => assert!(rt; false),
+    }
+}
+
+/// Whether a stack of 16 bytes is added to the program of files, from 10H on: SS:SP of the header is 1:10H.
+fn has_added_stack(alloc: Global, files: &[InputFile]) -> bool {
+    let mut options = ExeOptions::new(alloc);
+    options.stack = Some(16);
+    let Ok(modules) = ProgramModules::of(alloc, files) else {
+        return false;
+    };
+    let Ok(all) = modules.with_added(alloc, &options) else {
+        return false;
+    };
+    match all.exe(alloc, files) {
+        Ok(file) => file.has_stack && file.bytes.get(14..18) == Some(&[1, 0, 16, 0]),
+        Err(_) => false,
+    }
+}
+
+#[test]
+fn a_stack_is_added(rt: HostRuntime) {
+    match files_of(rt.alloc(), &CASES[2]) {
+        Some(files) => assert!(rt; has_added_stack(rt.alloc(), &files)),
+        None => assert!(rt; false),
     }
 }

@@ -1,0 +1,136 @@
+//! Runs of `omf-link com` over files.
+
+use super::exe::file_of;
+use omf_cmd::Gathered;
+use omf_linker::exe::com_of_files;
+use omf_samples::bytes_of;
+use std::alloc::Global;
+
+/// A main module: `int 20H` at 100H of the segment T, which has 258 bytes, and is the start.
+const ONE: &str =
+    "80030001413B 960600000154015300 98070028020102010100 A00600010001CD2000 8A0700C1000101000100";
+
+/// The same with a stack of 65,535 bytes.
+const STACK: &str =
+    "80030001413B 960600000154015300 98070028020102010100 98070074FFFF03010100 A00600010001CD2000 8A0700C1000101000100";
+
+/// The same with 65,278 bytes after it, which no data record gives: they end at 65,536.
+const FULL: &str =
+    "80030001413B 960600000154015300 98070028020102010100 98070028FEFE03010100 A00600010001CD2000 8A0700C1000101000100";
+
+/// The same with 65,279 bytes.
+const LONG: &str =
+    "80030001413B 960600000154015300 98070028020102010100 98070028FFFE03010100 A00600010001CD2000 8A0700C1000101000100";
+
+/// A main module: `call f` at 100H of the segment T, which is public.
+const CALLS: &str =
+    "80030001413B 96040000015400 98070028030102010100 8C040001660000 A00700010001E8000000 9C05008401560100 8A0700C1000101000100";
+
+/// A library of two members, which have the publics g and f, each in the public segment T of one byte.
+const LIBRARY: &str =
+    "F00D0000000000000000000000000000 80030001420096040000015400980700280100020101009008000001016700000000A0050001000090008A020000000080030001420096040000015400980700280100020101009008000001016600000000A00500010000C3008A0200000000F1";
+
+/// A main module: `mov ax, SEGMENT` and `int 20H` at 100H of the segment T.
+const WORD: &str =
+    "80030001413B 96040000015400 98070028050102010100 A00900010001B80000CD2000 9C0500C801540100 8A0700C1000101000100";
+
+/// A main module whose data begin one byte below 100H.
+const LOW: &str =
+    "80030001413B 96040000015400 98070028020102010100 A0070001FF0090CD2000 8A0700C1000101000100";
+
+/// A main module that starts at 0.
+const AT_0: &str =
+    "80030001413B 96040000015400 98070028020102010100 A00600010001CD2000 8A0700C1000101000000";
+
+/// The names of files and their bytes, and the file of their program; without one, the line.
+struct Case {
+    files: &'static [(&'static str, &'static str)],
+    program: &'static str,
+    line: &'static str,
+}
+
+static CASES: [Case; 9] = [
+    Case {
+        files: &[("one.obj", ONE)],
+        program: "CD20",
+        line: "",
+    },
+    // The stack takes no room, and is not stored.
+    Case {
+        files: &[("stack.obj", STACK)],
+        program: "CD20",
+        line: "",
+    },
+    Case {
+        files: &[("full.obj", FULL)],
+        program: "CD20",
+        line: "",
+    },
+    Case {
+        files: &[("long.obj", LONG)],
+        program: "",
+        line: "the program ends after 65536, where the segment of a .COM file ends\n",
+    },
+    // Only the second member takes part: its byte is at 103H, right after the call.
+    Case {
+        files: &[("calls.obj", CALLS), ("l.lib", LIBRARY)],
+        program: "E80000C3",
+        line: "",
+    },
+    Case {
+        files: &[("calls.obj", CALLS)],
+        program: "",
+        line: "undefined \"f\": file \"calls.obj\" module 1\n",
+    },
+    Case {
+        files: &[("w.obj", WORD)],
+        program: "",
+        line: "file \"w.obj\" module 1 segment \"T\" offset 00000101: a .COM file has no relocation words\n",
+    },
+    Case {
+        files: &[("low.obj", LOW)],
+        program: "",
+        line: "file \"low.obj\" module 1 segment \"T\" offset 000000FF: data below 100H, where a .COM file begins\n",
+    },
+    Case {
+        files: &[("a.obj", AT_0)],
+        program: "",
+        line: "the start is 0000:0000, in a .COM file it is 0000:0100\n",
+    },
+];
+
+/// Whether a program's file is as it is to be.
+fn is_program(alloc: Global, case: &Case, bytes: &[u8]) -> bool {
+    match bytes_of(alloc, case.program) {
+        Ok(wanted) => bytes == wanted.as_slice(),
+        Err(_) => false,
+    }
+}
+
+/// Whether files give the program or the line that they are to give.
+fn is_right(alloc: Global, case: &Case) -> bool {
+    let mut files = Vec::new(alloc);
+    for (name, bytes) in case.files {
+        let Some(file) = file_of(alloc, *name, *bytes) else {
+            return false;
+        };
+        if files.push(file).is_err() {
+            return false;
+        }
+    }
+    match com_of_files(alloc, &files) {
+        Ok(bytes) => is_program(alloc, case, &bytes),
+        Err(refusal) => {
+            let mut sink = Gathered::new(alloc);
+            refusal.print(&mut sink);
+            sink.text.as_slice() == case.line.as_bytes()
+        }
+    }
+}
+
+#[test]
+fn files_are_com_programs_or_refused_by_name(rt: HostRuntime) {
+    for (at, case) in CASES.iter().enumerate() {
+        assert!(rt; is_right(rt.alloc(), case), "{at}");
+    }
+}

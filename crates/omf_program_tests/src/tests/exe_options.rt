@@ -1,0 +1,193 @@
+//! The options of `omf-link exe` and `com`, and the libraries that its modules ask for.
+
+use omf_linker::asked::{Asked, sorted};
+use omf_linker::exe::{Call, ExeOptions, ProgramModules, call_of, library_files, missing_lines};
+use omf_linker::link::InputFile;
+use omf_samples::bytes_of;
+use std::alloc::{AllocError, Global};
+
+/// Options as they are to be read.
+struct Read {
+    map: Option<&'static str>,
+    folders: &'static [&'static str],
+    default_libraries: bool,
+    stack: Option<u16>,
+}
+
+/// No options.
+const NONE: Read = Read {
+    map: None,
+    folders: &[],
+    default_libraries: true,
+    stack: None,
+};
+
+/// Arguments, separated by spaces, and the options that they give.
+type Case = (&'static str, Option<Read>);
+
+static CASES: [Case; 15] = [
+    ("", Some(NONE)),
+    (
+        "--map a.map",
+        Some(Read {
+            map: Some("a.map"),
+            ..NONE
+        }),
+    ),
+    (
+        "--library-path b --library-path a --no-default-libraries",
+        Some(Read {
+            folders: &["b", "a"],
+            default_libraries: false,
+            ..NONE
+        }),
+    ),
+    (
+        "--stack 1",
+        Some(Read {
+            stack: Some(1),
+            ..NONE
+        }),
+    ),
+    (
+        "--stack 65534",
+        Some(Read {
+            stack: Some(65534),
+            ..NONE
+        }),
+    ),
+    // A value is missing, wrong, or there twice; an option is unknown.
+    ("--map", None),
+    ("--stack", None),
+    ("--stack 0", None),
+    ("--stack 65535", None),
+    ("--stack +1", None),
+    ("--stack 10H", None),
+    ("--order dos", None),
+    ("--map a --map b", None),
+    ("--stack 1 --stack 1", None),
+    ("--base 0", None),
+];
+
+/// The arguments of a text.
+fn arguments_of(alloc: Global, text: &str) -> Result<Vec<String>, AllocError> {
+    let mut arguments = Vec::new(alloc);
+    for argument in text.split(' ') {
+        if !argument.is_empty() {
+            arguments.push(String::from_str(alloc, argument)?)?;
+        }
+    }
+    Ok(arguments)
+}
+
+/// Whether options are read as they are to be.
+fn are_read(options: &ExeOptions<'_>, read: &Read) -> bool {
+    options.map == read.map
+        && options.folders.as_slice() == read.folders
+        && options.default_libraries == read.default_libraries
+        && options.stack == read.stack
+}
+
+/// Whether arguments give the options of a case.
+fn is_right(alloc: Global, case: &Case) -> bool {
+    let Ok(arguments) = arguments_of(alloc, case.0) else {
+        return false;
+    };
+    match (ExeOptions::of(alloc, &arguments), &case.1) {
+        (Ok(Some(options)), Some(read)) => are_read(&options, read),
+        (Ok(None), None) => true,
+        _ => false,
+    }
+}
+
+#[test]
+fn options_are_read_or_refused(rt: HostRuntime) {
+    for (at, case) in CASES.iter().enumerate() {
+        assert!(rt; is_right(rt.alloc(), case), "{at}");
+    }
+}
+
+/// Whether sorted arguments make a program, have three options with their values, and name one file.
+fn is_call(asked: &Asked) -> bool {
+    match call_of(asked) {
+        Call::Exe(output) => output == "a.exe" && asked.words.len() == 8 && asked.files.len() == 1,
+        Call::Com(_) | Call::Other | Call::Misused => false,
+    }
+}
+
+/// Whether options with values may be before and after the files.
+fn options_have_values(alloc: Global) -> bool {
+    let text = "omf-link exe --map a.map a.obj --stack 8 -o a.exe --library-path b";
+    let Ok(arguments) = arguments_of(alloc, text) else {
+        return false;
+    };
+    match sorted(alloc, &arguments, 2) {
+        Ok(Some(asked)) => is_call(&asked),
+        Ok(None) | Err(AllocError) => false,
+    }
+}
+
+#[test]
+fn values_of_options_are_no_files(rt: HostRuntime) {
+    assert!(rt; options_have_values(rt.alloc()));
+}
+
+/// A module that asks for the libraries a, b and a.
+const ASKS: &str = "80030001413B 880400009F6100 880400009F6200 880400009F6100 8A02000074";
+
+/// The names that a module asks for besides a known one; `None` where it finds no memory.
+fn asked_besides(alloc: Global, known: &[Vec<u8>]) -> Option<Vec<Vec<u8>>> {
+    let Ok(bytes) = bytes_of(alloc, ASKS) else {
+        return None;
+    };
+    let mut files = Vec::new(alloc);
+    if files
+        .push(InputFile::new(String::new(alloc), bytes))
+        .is_err()
+    {
+        return None;
+    }
+    match ProgramModules::of(alloc, &files) {
+        Ok(modules) => modules.sought(alloc, known).ok(),
+        Err(_) => None,
+    }
+}
+
+/// Whether the lines of the libraries that are asked for are a text; of those that are asked for besides them there are none.
+fn are_asked(alloc: Global, lines: &str) -> bool {
+    let Some(names) = asked_besides(alloc, &[]) else {
+        return false;
+    };
+    let Some(others) = asked_besides(alloc, &names) else {
+        return false;
+    };
+    match missing_lines(alloc, &names) {
+        Ok(text) => text.as_str() == lines && others.is_empty(),
+        Err(AllocError) => false,
+    }
+}
+
+#[test]
+fn libraries_are_sought_once(rt: HostRuntime) {
+    let lines = "library \"a\" is not found\nlibrary \"b\" is not found\n";
+    assert!(rt; are_asked(rt.alloc(), lines));
+}
+
+/// Whether a library of this name is looked for in these files.
+fn are_files(alloc: Global, name: &str, files: &[&str]) -> bool {
+    let Ok(names) = library_files(alloc, name) else {
+        return false;
+    };
+    for (name, file) in names.iter().zip(files) {
+        if name.as_str() != *file {
+            return false;
+        }
+    }
+    names.len() == files.len()
+}
+
+#[test]
+fn libraries_are_looked_for_in_three_cases(rt: HostRuntime) {
+    let files = ["Clib", "Clib.lib", "clib", "clib.lib", "CLIB", "CLIB.LIB"];
+    assert!(rt; are_files(rt.alloc(), "Clib", &files));
+}
