@@ -51,12 +51,11 @@ def printed(command, source):
         return subprocess.run(command, stdin=given, stdout=subprocess.PIPE, check=False).stdout
 
 
-def plain_row(module, now, sha):
-    """The row of the plain program; it prints what `omf check` prints, or the measurement ends."""
+def plain_time(module):
+    """What the plain program takes; it prints what `omf check` prints, or the measurement ends."""
     if printed([PLAIN], module) != printed([OMF, "check"], module):
         sys.exit(f"{module}: the plain program prints something else")
-    plain = run([PLAIN], module)
-    return f"| {module.stem} | | | plain Rust, unproved | | {ratio(plain, sha)} (check: {now[0] / plain[0]:.2f} times this) | | {peak(plain)} |"
+    return run([PLAIN], module)
 
 
 def beside(job, module):
@@ -71,30 +70,29 @@ def beside(job, module):
     return [(name, command) for name, command in known.get(job, []) if shutil.which(command[0])]
 
 
+def row(omf, name, module, both, sha):
+    """The row of a program for a module: its ratios to sha256sum, and its peaks."""
+    found = {job: run([omf, job], both if job == "reloc" else module) for job in ("check", "list", "reloc", "canon")}
+    plain = plain_time(module) if PLAIN else None
+    times = "-" if plain is None or found["check"] is None else f"{found['check'][0] / plain[0]:.2f}"
+    cells = [ratio(found["check"], sha), ratio(plain, sha), times, *(ratio(found[job], sha) for job in ("list", "reloc", "canon"))]
+    return f"| {name} | {module.stat().st_size:,} | {sha:.1f} | {' | '.join(cells)} | {peak(found['check'])} | {peak(found['reloc'])} |"
+
+
 def main():
     folder = pathlib.Path(sys.argv[1])
-    modules = sorted(folder.glob("*.omf"))
-    print("| Module | Bytes | sha256sum, ms | job | before | now | peak before | peak now |")
-    print("|---|---|---|---|---|---|---|---|")
-    for module in modules:
+    print("| Module | Bytes | sha256sum, ms | check | plain Rust | check to plain | list | reloc | canon | peak of check, MB | of reloc |")
+    print("|---|---|---|---|---|---|---|---|---|---|---|")
+    for module in sorted(folder.glob("*.omf")):
         both = module.with_suffix(".both")
         both.write_bytes(module.read_bytes() + module.with_suffix(".place").read_bytes())
         sha = run(["sha256sum"], module)[0]
-        for job in "check", "list", "reloc", "canon":
-            source = both if job == "reloc" else module
-            now = run([OMF, job], source)
-            if now is None and job == "canon":
-                continue
-            then = run([BEFORE, job], source) if BEFORE else None
-            print(
-                f"| {module.stem} | {module.stat().st_size:,} | {sha:.1f} | {job} | {ratio(then, sha)} | {ratio(now, sha)}"
-                f" | {peak(then)} | {peak(now)} |",
-                flush=True,
-            )
-            if job == "check" and PLAIN:
-                print(plain_row(module, now, sha), flush=True)
+        print(row(OMF, module.stem, module, both, sha), flush=True)
+        if BEFORE:
+            print(row(BEFORE, f"{module.stem}, before", module, both, sha), flush=True)
+        for job in "list", "canon":
             for name, command in beside(job, module):
-                print(f"| {module.stem} | | | {name} | | {ratio(run(command, module), sha)} | | |", flush=True)
+                print(f"{module.stem}: {name} {ratio(run(command, module), sha)}", file=sys.stderr)
 
 
 main()

@@ -75,6 +75,7 @@ def large_pages(count):
 
 SHAPES = {
     "n members of 10 bytes": (tiny_members, 32_767, "lib", ["check", "list"]),
+    "n members of 10 bytes, shown": (tiny_members, 32_767, "dump", ["", "--json"]),
     "n members of one public": (one_public_each, 4_000, "lib", ["check", "list"]),
     "n publics, all of 251 blocks full": (lambda n: full_blocks(n, 251), 2_000, "lib", ["check"]),
     "251 publics, n blocks full": (lambda n: full_blocks(251, n), 2_000, "lib", ["check"]),

@@ -1,8 +1,10 @@
 """DOS programs (MZ files) as DOS loads them, and modules to link them of: made and read by the published formats, apart from the crates."""
 import re
 import struct
+import subprocess
 
 from libraries import record
+from modules import externals_of, publics_of
 
 PARAGRAPH = 16
 NAMES = (b"f", b"g", b"h")
@@ -42,6 +44,48 @@ def moved(text, paragraph):
             line = f"G {key} {frames[key] + PARAGRAPH * paragraph:X} {frames[key] // PARAGRAPH + paragraph:X}"
         made.append(line)
     return ("\n".join(made) + "\n").encode()
+
+
+def places_in(text):
+    """The places of segments and the frames of groups, by module and index, of a text whose lines are in the order of the indices."""
+    places = []
+    for line in text.decode().splitlines():
+        found = re.match(r'([MSG]) (?:#\d+|"[^"]*"(?: "[^"]*")?) ?(.*?)(?: ;.*)?$', line)
+        if found and found[1] == "M":
+            places.append(([], []))
+        elif found:
+            numbers = found[2].split()
+            if numbers[-1] == "real" and found[1] == "S":
+                at = int(numbers[0], 16)
+                numbers = [at, at // PARAGRAPH * PARAGRAPH, at // PARAGRAPH]
+            else:
+                numbers = [int(it, 16) for it in numbers]
+            places[-1]["SG".index(found[1])].append(numbers)
+    return places
+
+
+def public_place(places, group, segment, frame, offset):
+    """The address, the base and the selector of a public: its frame is its group's, else its segment's, else the paragraph that it names."""
+    segments, groups = places
+    at, base, selector = segments[segment - 1] if segment else (PARAGRAPH * frame, PARAGRAPH * frame, frame)
+    return (at + offset, *(groups[group - 1] if group else (base, selector)))
+
+
+def relocated(omf, modules, text):
+    """The memory and the start of modules, each relocated alone by `omf reloc` at its places of the text; or the first line with a fault."""
+    places, memory, start = places_in(text), {}, None
+    found = {one[0]: public_place(there, *one[1:]) for module_, there in zip(modules, places) for one in publics_of(module_)}
+    for module_, (segments, groups) in zip(modules, places):
+        lines = [f"S {it[0]:X} {it[1]:X} {it[2]:X}" for it in segments] + [f"G {it[0]:X} {it[1]:X}" for it in groups]
+        lines += ["E {:X} {:X} {:X}".format(*found[it]) for it in externals_of(module_)]
+        done = subprocess.run([omf, "reloc"], input=module_ + "\n".join(lines).encode(), stdout=subprocess.PIPE, timeout=60)
+        if done.returncode:
+            return done.stdout, None
+        for segment, offset, row in re.findall(rb"^([0-9A-F]{4}):([0-9A-F]{8})((?: [0-9A-F]{2})+)$", done.stdout, re.M):
+            memory.update(enumerate(bytes.fromhex(row.decode()), segments[int(segment, 16) - 1][0] + int(offset, 16)))
+        own = re.search(rb"^START ([0-9A-F]{4}):([0-9A-F]{8})$", done.stdout, re.M)
+        start = (int(own[1], 16), int(own[2], 16)) if own else start
+    return memory, start
 
 
 def memory_of(lines):

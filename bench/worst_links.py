@@ -1,0 +1,175 @@
+#!/usr/bin/env python3
+"""Makes the inputs that cost omf-link the most, and measures it on them: worst_links.py [PART]
+
+Each input has two sizes, n and 2n. For each run it prints the bytes of the larger input, the processor time at 2n as a ratio to that at n (less that
+of a run without files), that time, also as a ratio to `sha256sum` of the same bytes, the peak of memory in megabytes, the bytes written and the status.
+OMF_LINK names the program; PART is a part of the names of those that are wanted. Each time is the best of RUNS runs (2)."""
+import os
+import pathlib
+import struct
+import subprocess
+import sys
+import tempfile
+
+sys.path.insert(0, str(pathlib.Path(__file__).resolve().parent.parent / "tests" / "fuzz"))
+from libraries import BLOCK, library, record  # noqa: E402
+
+LINK = os.environ.get("OMF_LINK", "omf-link")
+RUNS = int(os.environ.get("RUNS", "2"))
+LIMIT_SECONDS = 120
+FRONT = record(0x96, b"\x00\x04CODE\x05STACK")
+SEGMENT = record(0x98, b"\x28\x01\x00\x02\x02\x01")
+NO_DICTIONARY = bytes(BLOCK)
+
+
+def module(name, publics=(), externals=(), start=False):
+    """A module of a segment of one byte, with these publics and externals."""
+    body = b"".join(record(0x90, b"\x00\x01" + bytes([len(it)]) + it + bytes(3)) for it in publics)
+    body += b"".join(record(0x8C, bytes([len(it)]) + it + b"\0") for it in externals)
+    data = record(0xA0, b"\x01\x00\x00\x90")
+    return record(0x80, bytes([len(name)]) + name) + FRONT + SEGMENT + body + data + record(0x8A, b"\xC1\x00\x01\x01\x00\x00" if start else b"\x00")
+
+
+def name_of(number, size=8):
+    return (b"x" * (size - 8) + b"%08d" % number)[-255:]
+
+
+def linked(number, count):
+    return module(name_of(number), [name_of(number)], [name_of(number + 1)] if number + 1 < count else [])
+
+
+def archive(members):
+    return library([(it, ()) for it in members], blocks=NO_DICTIONARY)
+
+
+def main_module(*externals):
+    return module(b"main", externals=externals, start=True)
+
+
+def chain_of_libraries(count, order=1):
+    return [main_module(name_of(0)), *[archive([linked(it, count)]) for it in range(count)][::order]]
+
+
+def chain_of_members(count, order=1):
+    return [main_module(name_of(0)), archive([linked(it, count) for it in range(count)][::order])]
+
+
+def not_needed(count):
+    return [main_module(), *[archive([module(name_of(it), [name_of(it, 255)])] * 16) for it in range(count)]]
+
+
+def many_names(count, size):
+    names = [name_of(it, size) for it in range(count)]
+    return [module(b"a", names, start=True), module(b"b", (), names)]
+
+
+def large(count):
+    """Segments of 65,520 bytes, with a far reference in each 16 bytes: 1 MB and 65,535 relocation words are the most that a program has."""
+    made = []
+    for number in range(count):
+        rows = b"".join(record(0xA0, b"\x01" + struct.pack("<H", at) + bytes(1008)) + record(0x9C, b"".join(struct.pack(">H", 0xC800 | it) + b"\x54\x01"
+                        for it in range(0, 1008, 16))) for at in range(0, 65520, 1008))
+        made.append(record(0x80, b"\x08" + name_of(number)) + FRONT + record(0x98, b"\x60" + struct.pack("<H", 65520) + b"\x02\x02\x01") + rows
+                    + record(0x8A, b"\xC1\x00\x01\x01\x00\x00" if number == 0 else b"\x00"))
+    return made
+
+
+def segments(count):
+    names = b"".join(record(0x96, b"\x08" + name_of(it)) for it in range(count))
+    index = [bytes([it]) if it < 128 else struct.pack(">H", 0x8000 | it) for it in range(1, count + 1)]
+    return [record(0x80, b"\x01A") + names + b"".join(record(0x98, b"\x28\x01\x00" + it * 2 + b"\x01") for it in index) + record(0x8A, b"\x00")]
+
+
+def text_of_names(count):
+    return 'M "A"\n' + "".join(f'S "{name_of(it).decode()}" {it:X} 0 0\n' for it in reversed(range(count)))
+
+
+def text_of_modules(count):
+    return "".join(f'M "{name_of(it).decode()}"\nS #1 {it:X} 0 0\n' for it in reversed(range(count)))
+
+
+def many_externals(count):
+    return [module(b"A", (), [name_of(it, 255) for it in range(count)])]
+
+
+def text_of_externals(count):
+    return 'M "A"\nS #1 0 0 0\n' + "".join(f'X "{name_of(it, 255).decode()}" {it:X} 0 0\n' for it in reversed(range(count)))
+
+
+IMAGE = ["image", "-t", "text"]
+SHAPES = {
+    "n libraries, each needs the next": (chain_of_libraries, None, 500, ["exe"]),
+    "n libraries, each needs the one before": (lambda n: chain_of_libraries(n, -1), None, 500, ["exe"]),
+    "a library of n members, each needs the next": (chain_of_members, None, 4000, ["exe"]),
+    "a library of n members, each needs the one before": (lambda n: chain_of_members(n, -1), None, 4000, ["exe"]),
+    "n libraries of 16 members, none needed": (not_needed, None, 500, ["exe"]),
+    "a library of n members of 10 bytes": (lambda n: [main_module(), archive([record(0x80, b"\x00") + record(0x8A, b"\x00")] * n)], None, 32_767, ["exe"]),
+    "n publics and n externals of 8 bytes": (lambda n: many_names(n, 8), None, 8000, ["exe"]),
+    "n publics and n externals of 255 bytes": (lambda n: many_names(n, 255), None, 8000, ["exe"]),
+    "n segments of 65,520 bytes": (large, None, 8, ["exe"]),
+    "n modules of one public": (lambda n: [module(name_of(it), [name_of(it)], start=it == 0) for it in range(n)], None, 1000, ["exe"]),
+    "n modules of one public, drafted": (lambda n: [module(name_of(it), [name_of(it)]) for it in range(n)], None, 1000, ["draft"]),
+    "n modules, a text that names each": (lambda n: [module(name_of(it)) for it in range(n)], text_of_modules, 1000, IMAGE),
+    "n segments of names of their own": (segments, None, 4000, ["draft"]),
+    "n segments, a text that names each": (segments, text_of_names, 4000, IMAGE),
+    "n segments, a text that numbers each": (segments, lambda n: 'M "A"\n' + "".join(f"S #{it + 1} {it:X} 0 0\n" for it in range(n)), 4000, IMAGE),
+    "n segments, a text that numbers each backwards": (segments, lambda n: 'M "A"\n' + "".join(f"S #{it + 1} {it:X} 0 0\n" for it in reversed(range(n))), 4000, IMAGE),
+    "n externals of 255 bytes, a text that names each": (many_externals, text_of_externals, 1000, IMAGE),
+    "n bytes of comment lines": (lambda n: segments(1), lambda n: 'M "A"\nS #1 0 0 0\n' + "; a comment of 19 b\n" * (n // 20), 2_000_000, IMAGE),
+    "n empty lines": (lambda n: segments(1), lambda n: 'M "A"\nS #1 0 0 0\n' + "\n" * n, 2_000_000, IMAGE),
+    "one line of n bytes": (lambda n: segments(1), lambda n: 'M "A"\nS #1 0 0 0\n;' + '"' * n, 2_000_000, IMAGE),
+    "one name of n bytes": (lambda n: segments(1), lambda n: 'M "A"\nS #1 0 0 0\nX "' + "x" * n + '" 0 0 0', 2_000_000, IMAGE),
+}
+
+
+def measure(launch, words, folder):
+    """The least processor time in milliseconds, the peak of memory in megabytes, the bytes written and the status; None where it takes too long."""
+    found = []
+    for _ in range(RUNS):
+        with tempfile.TemporaryFile() as out:
+            done = subprocess.run(["timeout", str(LIMIT_SECONDS), launch, *words], cwd=folder, stdout=out, stderr=subprocess.PIPE)
+            if done.returncode == 124:
+                return None
+            time, peak = done.stderr.split()[-2:]
+            out_file = folder / "out.exe"
+            written = out.seek(0, os.SEEK_END) + (out_file.stat().st_size if out_file.exists() else 0)
+            found.append((float(time), int(peak) / 1024, written, done.returncode))
+    return min(found)
+
+
+def show(name, folder, launch):
+    make, make_text, count, words = SHAPES[name]
+    found = []
+    for size in (count, 2 * count):
+        files, own = make(size), folder / str(size)
+        own.mkdir()
+        names = [f"{number}.o" for number in range(len(files))]
+        for file, bytes_ in zip(names, files):
+            (own / file).write_bytes(bytes_)
+        if make_text:
+            (own / "text").write_text(make_text(size))
+            names.append("text")
+        bytes_ = sum((own / it).stat().st_size for it in names)
+        task = [LINK, *words, *(["-o", "out.exe"] if words[0] == "exe" else []), *[it for it in names if it != "text"]]
+        found.append((measure(launch, task, own), measure(launch, ["sha256sum", *names], own), bytes_))
+    if None in (found[0][0], found[1][0]):
+        return print(f"| {name} | `{words[0]}` | {2 * count:,} | {bytes_:,} | over {LIMIT_SECONDS} s |", flush=True)
+    empty = measure(launch, [LINK, "--version"], folder)[0]
+    (small, _, _), (most, hash_, bytes_) = found
+    growth = max(most[0] - empty, 0.1) / max(small[0] - empty, 0.1)
+    print(f"| {name} | `{words[0]}` | {2 * count:,} | {bytes_:,} | {growth:.2f} | {most[0]:.0f} ms | {most[0] / hash_[0]:.1f} | {small[1]:.0f}, {most[1]:.0f} MB | "
+          f"{most[2]:,} | {most[3]} |", flush=True)
+
+
+def main():
+    print("| Input | Run | 2n | Bytes | Growth | Time | To `sha256sum` | Memory at n, 2n | Written | Status |\n|---|---|---|---|---|---|---|---|---|---|")
+    for name in SHAPES:
+        if len(sys.argv) < 2 or sys.argv[1] in name:
+            with tempfile.TemporaryDirectory() as made:
+                launch = str(pathlib.Path(made) / "launch")
+                subprocess.run(["cc", "-O1", "-o", launch, pathlib.Path(__file__).parent / "launch.c"], check=True)
+                show(name, pathlib.Path(made), launch)
+
+
+if __name__ == "__main__":
+    main()

@@ -1,0 +1,95 @@
+"""omf-link exe: the file as DOS loads it against the modules relocated one by one, and a library against the members that it must give."""
+import os
+import re
+import subprocess
+
+import executables
+import libraries
+from changes import changed_module
+from modules import as_library, externals_of, is_main, is_simple, members_needed, provider
+from promises import TIMEOUT, program, promised, run
+
+NO_STACK = b"no stack: SS:SP is 0:0 from the load address\n"
+
+
+class Exe:
+    IS_BATCH = False
+
+    def __init__(self, seeds, random_, every):
+        self.link, self.omf, self.random = program("omf_link"), program("omf"), random_
+        self.modules = [it for it in seeds if it[:1] != b"\xF0" and libraries.module_length(it)]
+        self.accepted = self.compared = 0
+
+    def inputs(self):
+        """Modules made at random, one of them perhaps changed; or a real module, and a made one that has what it needs."""
+        random_ = self.random
+        if random_.randrange(3) == 0:
+            real = random_.choice(self.modules)
+            own = provider(externals_of(real), not is_main(real))
+            return [changed_module(random_, [real]) if random_.randrange(4) == 0 else real, own]
+        main, count = random_.randrange(4), random_.randrange(4) + 1
+        made = [executables.module(random_, number, number == main % count) for number in range(count)]
+        if random_.randrange(8) == 0:
+            at = random_.randrange(count)
+            made[at] = changed_module(random_, [made[at]])
+        return made
+
+    def exe(self, file, names, folder):
+        """The status and the line of a link; where the status is 0 there is a file, and else none."""
+        (folder / file).unlink(missing_ok=True)
+        done = subprocess.run([self.link, "exe", "-o", file, *names], stdout=subprocess.PIPE, stderr=subprocess.PIPE, cwd=folder, timeout=TIMEOUT)
+        promised(done.returncode in (0, 1) and done.stderr.count(b"\n") <= 1 and done.stdout.count(b"\n") <= 1, f"exe: status {done.returncode}, {done}")
+        promised(all(it == 10 or 32 <= it < 127 for it in done.stdout + done.stderr), "exe: control characters")
+        promised((folder / file).exists() == (done.returncode == 0), f"exe: status {done.returncode}, and the file")
+        promised((done.stdout in (b"", NO_STACK)) == (done.returncode == 0), f"exe: {done.stdout[:200]}")
+        promised(not any(it.endswith(".tmp") for it in os.listdir(folder)), "a .tmp file is left")
+        return done.returncode, done.stdout
+
+    def look(self, inputs, folder):
+        names = [f"in{number}.obj" for number in range(len(inputs))]
+        for name, bytes_ in zip(names, inputs):
+            (folder / name).write_bytes(bytes_)
+        status, _ = self.exe("p.exe", names, folder)
+        if status == 0:
+            self.accepted += 1
+            self.compare(names, inputs, (folder / "p.exe").read_bytes(), folder)
+        if len(inputs) > 1 and self.random.randrange(3) == 0:
+            self.look_at_library(inputs, names, folder)
+
+    def look_at_library(self, inputs, names, folder):
+        """Some modules in a library: the members that are needed, as a second reader finds them, linked by name give the same file."""
+        count = self.random.randrange(1, len(inputs))
+        (folder / "rt.lib").write_bytes(as_library(inputs[count:]))
+        needed = members_needed(inputs[:count], inputs[count:])
+        if needed is None or any(libraries.module_length(it) != len(it) for it in inputs[count:]):
+            return
+        status, line = self.exe("l.exe", [*names[:count], "rt.lib"], folder)
+        refused = re.match(rb'file "rt.lib" module (\d+) (refused .*\n)', line)
+        if refused:
+            member = inputs[count + int(refused[1]) - 1]
+            return promised(run([self.omf, "check"], member) == (1, refused[2]), f"{line}, of a member that omf check accepts")
+        other, alone = self.exe("q.exe", [*names[:count], *(names[count + it] for it in needed)], folder)
+        promised(status == other, f"with the library {line[:200]}, without it {alone[:200]}")
+        same = status or (folder / "l.exe").read_bytes() == (folder / "q.exe").read_bytes()
+        promised(same, f"members {needed}: other files")
+        self.compared += 1
+
+    def compare(self, names, inputs, file, folder):
+        """The file at some paragraphs, and the memory of the modules there."""
+        status, text = run([self.link, "draft", "--base", "0", "--real", *names], folder=folder)
+        promised(status == 0, f"draft: {text[:200]}")
+        for paragraph in (0, self.random.randrange(1, 0x8000)):
+            image, start, _ = executables.loaded(file, paragraph)
+            (folder / "text").write_bytes(executables.moved(text, paragraph))
+            if self.random.randrange(2) and all(map(is_simple, inputs)):
+                memory, own = executables.relocated(self.omf, inputs, executables.moved(text, paragraph))
+            else:
+                status, lines = run([self.link, "image", "-t", "text", *names], folder=folder)
+                promised(status == 0, f"image at {paragraph}: {lines[:200]}")
+                memory, own = executables.memory_of(lines)
+            promised(own == start, f"start {own}, loaded {start}")
+            at = executables.PARAGRAPH * paragraph
+            promised(all(at <= it < at + len(image) and image[it - at] == byte for it, byte in memory.items()), f"other bytes at {paragraph}")
+            promised(all(byte == 0 or at + number in memory for number, byte in enumerate(image)), f"more bytes at {paragraph}")
+            promised(not memory or max(memory) == at + len(image) - 1, f"bytes after the last at {paragraph}")
+            self.compared += 1

@@ -1,0 +1,47 @@
+"""What the targets share: the programs, their runs, and promises that do not hold."""
+import os
+import pathlib
+import subprocess
+
+ROOT = pathlib.Path(__file__).resolve().parent.parent.parent
+TIMEOUT = 60
+NAME = rb'"((?:[ !#-\[\]-~]|\\x[0-9A-F]{2})*)"'
+
+
+class Broken(Exception):
+    """A promise that does not hold."""
+
+
+def promised(holds, text):
+    if not holds:
+        raise Broken(text)
+
+
+def program(crate):
+    """The program of a crate: by its variable, as built, or built without proofs."""
+    named, built = os.environ.get(crate.upper()), ROOT / "crates" / crate / "out" / crate
+    if named or built.exists():
+        return named or str(built)
+    made = subprocess.run([ROOT / "tests" / "unproved.sh", crate], check=True, stdout=subprocess.PIPE, text=True)
+    return str(ROOT / made.stdout.strip())
+
+
+def run(command, input=b"", folder=None):
+    try:
+        done = subprocess.run(command, input=input, stdout=subprocess.PIPE, stderr=subprocess.PIPE, cwd=folder, timeout=TIMEOUT, close_fds=False)
+    except subprocess.TimeoutExpired:
+        raise Broken(f"{' '.join(command)}: no end in {TIMEOUT} seconds") from None
+    promised(done.returncode in (0, 1, 2, 3) and not done.stderr, f"{' '.join(command)}: status {done.returncode} {done.stderr[-200:]}")
+    promised(all(it == 10 or 32 <= it < 127 for it in done.stdout), f"{' '.join(command)}: control characters")
+    return done.returncode, done.stdout
+
+
+def parts_of(text, names):
+    """What was printed of each file, after the line with its name."""
+    parts, rest = [], text
+    for name in reversed(names):
+        rest, mark, part = rest.rpartition(name)
+        promised(mark, f"no line {name}")
+        parts.append(part)
+    promised(rest == b"", "a text before the first name")
+    return parts[::-1]
