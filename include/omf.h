@@ -262,7 +262,8 @@ struct omf_answer omf_link_image(const uint8_t *input, size_t length, uint32_t b
 /* Makes a DOS program (.EXE) of the modules of `input`, one after another as above, with nothing after them: laid out from address 0 on in real mode
  * (docs/LINK.md). A member of a library is such a module, where omf_library_members has it. Loaded at any paragraph, the file is what the modules are at
  * their placements moved there. Returns OMF_DONE, OMF_NOT_LINKED, OMF_ROOM, OMF_MEMORY; or OMF_REFUSED or OMF_REACH with the module in
- * `record_count`. */
+ * `record_count`.
+ * A communal is an external here: some module must have a public of its name. `omf-link exe` adds a module for communals. */
 struct omf_answer omf_exe(const uint8_t *input, size_t length, uint8_t *out, size_t room);
 
 /* The name and the sentence of a reason, 1 to 33, as `Cut` and `the input ends inside a record`; nothing for any other number. They return

@@ -19,13 +19,15 @@ HEAD = """# What to believe
 
 > {promise}
 
-This page is that promise without English: the theorem, and every definition that it rests on, each once, as the source has it: {count:,} lines.
-If these definitions describe OMF as you know it, the promise holds: the prover has done the rest, and the gate repeats it. You need the
-standard (TIS OMF 1.1) beside the page, and nothing else of this project. `tests/believe.py` makes the page from the sources, and the gate compares.
+This page states that promise as definitions: the theorem, and every definition that it rests on, each once, as the source has it: {count:,} lines without comments and empty lines.
+If these definitions describe OMF as you know it, the promise holds: the prover has done the rest, and `rt ci` repeats it. You need the
+standard (TIS OMF 1.1) beside the page, and nothing else of this project. `tests/believe.py` makes the page from the sources, and `.ci/run` compares them.
+
+"Well formed" is narrower than the standard. Modules with COMDAT, CEXTDEF, backpatch (BAKPAT, NBKPAT) or vendors' records are refused, and so are fixups on LIDATA blocks, frame methods F3, F6 and F7 and target methods T3 and T7; every such narrowing is marked "this profile's rule" at its definition.
 
 The theorem is `Headline`, the contract of the call `check_and_relocate` (step 8). A profile, an input and a placement have one of three answers:
 
-- `Refused`: the input begins with no well-formed module (`IsAccepted`, steps 1 to 4). The reason and the place are those of its first fault (`IsRefused`, step 5).
+- `Refused`: the input begins with no well-formed module (`IsAccepted`, steps 1 to 4). If a yes or no is all you want, skip step 5. The reason and the place are those of its first fault (`IsRefused`, step 5).
 - `Relocated`: it begins with one, and the placement reaches (`Reaches`, step 7). Each byte of the image, and the start, are the defined ones (`image` and `start`, step 6).
 - `DoesNotReach`: it begins with one, and the placement does not reach. The fault is the first reason why not (`reach_fault`, step 7).
 
@@ -35,10 +37,10 @@ Beside it is the law `accepted_are_safe`, of every module that an input begins w
 
 | Written | Means |
 |---|---|
-| `f x y` | `f(x, y)` of C; `λ x. e` is a function without a name: of x, e |
+| `f x y` | `f(x, y)` of C; `f x` alone is a function of the argument that is left; `λ x. e` is a function without a name: of x, e. Arguments bind first, then `*` `/` `%`, `+` `-`, `++` and `∷` (to the right), comparisons and `≡`, `&&`, `\|\|`, then `×`, `⊎`, and `→` last |
 | `abbrev pub f : A → B → C` | f takes an A and a B and gives a C. The equations below it are tried from the first; `_` is any value |
 | `x : A`, `{{A : Type 0}}` | x is of the type A; a type as a parameter, left out in calls |
-| `Type 0` | the type of a statement: what `IsRecord r` gives holds or does not. Also the type of a struct or union (`Type 1`: of one that has statements in it) |
+| `Type 0` | the type of statements: `IsRecord r` is a statement, true or false. Also the type of a struct or union (`Type 1`: of one that has statements in it) |
 | `mutual`, `infixl 10 ◌>>=◌` | definitions that use one another; the sign between two arguments is a name |
 | `ℕ` | the whole numbers from 0, without a limit; `a * b`, `a < b`, `a ≤ b` as usual; `a - b` is 0 if b is larger, `/` rounds down, `%` is the remainder, `^` a power |
 | `a ≡ b`, `a ≢ b` | a and b are equal; are not |
@@ -50,7 +52,8 @@ Beside it is the law `accepted_are_safe`, of every module that an input begins w
 | `List A`, `[]`, `x ∷ xs`, `xs ++ ys` | a list; the empty one; x and then the list xs; xs and then ys |
 | `length`, `take n`, `drop n`, `filter test`, `repeat n`, `sum`, `sum_by f`, `max` | of a list: its length; its first n elements; all others; those that pass; it, n times; the sum of its numbers; of f of each. The larger of two numbers |
 | `find test xs` | the first element that passes, if there is one |
-| `map`, `filter_map`, `flat_map`, `zip`, `fold` | of a list: f of each; the same where it gives something; the lists that f gives, joined; pairs; f of the value so far and each element |
+| `map f xs`, `filter_map f xs`, `flat_map f xs` | f of each element; of an f that gives an Option, those values that are there; of an f that gives lists, all of them joined |
+| `zip xs ys`, `fold f x ys` | pairs of the elements at one place; f of x and the first element, then f of that and the second, and so on |
 | `slice_get xs i`, `slice_index xs i` | element i from 0, if there is one; of a list of numbers: element i, or 0 if there is none |
 | `All P xs`, `list_any test xs`, `Contains xs x` | P holds of each element; some element passes; x is an element |
 | `enumerate_from n xs`, `last_or None xs` | pairs of n, n + 1 and so on with the elements; the last element, if there is one |
@@ -65,13 +68,13 @@ Beside it is the law `accepted_are_safe`, of every module that an input begins w
 | `p >>= f` | the layout p, and then the layout f of its value: a sequence of fields |
 | `do`, `x ← p` | the same, one field to a line: x is the value of the layout p |
 | `requires {{ P }}`, `ensures name {{ P }}` | in contracts: what the caller must have; what holds when the call returns |
-| `x.old`, `x.new`, `x.now`, `«x»` | in contracts: an argument before the call, after it, and where it is only read; `result` is what is returned |
+| `x.old`, `x.new`, `x.now`, `«x»` | in contracts: what an argument refers to before the call, after it, and where it is only read; `«x»` is the argument x itself, whose name is a word of the notation; `result` is what is returned |
 | `S.seen reader.old` | in contracts: the reader as a `Device` (step 8). Its `bytes` are those that remain, if they are known |
 | `Consumes old new read`, `IsAtEnd left` | of a reader's known bytes: `old` are `read` and then `new`; none are left. They hold too if the bytes are not known |
 
 {twice}
 
-The code's own structs and enums are used as they are. Their numbers are those of the definitions, without the code's widths:
+The code's own structs and enums are used as they are. In definitions their numbers are ℕ, not u8, u16 or u32. `F4` and `F5` are the cases `Location` and `Target` of `FrameMethod`. Cases are written with the prefix of the last column, or without one where a file means one type alone:
 
 | Type | Declared in | Cases in definitions |
 |---|---|---|
@@ -83,11 +86,11 @@ STEPS = [
     ("Bytes and fields", "Bits of a number and parts of a list. Then the four encodings of fields: `IsIndex n bytes` means that exactly these bytes encode the index n."),
     ("Records and modules", "The types of records that are read, and of those that are carried: kept, and not read. A record is a type byte, two length bytes, contents and a checksum byte (`Raw`). `IsFramed`: the bytes are records, one after another, with a THEADR or LHEADR first (more may follow), and a MODEND last and nowhere else."),
     ("What contents encode", "The contents of each record as a value (`Values`), and the layout that encodes it (`Records`): compare these two with the page of each record in the standard. `Layout` has the parts that layouts are built from, and `Entries` what records repeat. A layout is two relations. Skip `Faults` at first: only step 5 needs it, by the law of `layout_faults`."),
-    ("What must hold", "The blocks of an LIDATA; the tables that records define; the threads in force; and the rules of each record, given the records before it, each with the place and the reason of its fault. Then `IsWellFormed`: the bytes are records, the contents of each encode a value, blocks are within the limits, and every record keeps its rules. `IsAccepted`: the input begins so. `typed r` is the record r with the value that its contents encode; `blocks_of` are the blocks of an LIDATA."),
-    ("Which refusal", "A record is judged in steps: six of framing, then layout and blocks, then the length of what the blocks expand to, then the rules. Refused is the first record at fault, for its first step that has a fault: of the faults of that step the one at the least place, and there of the least number. Read `IsRefused`, the last definition, first: the input is records without a fault, none of them a MODEND, and then a record with one, of which perhaps not all bytes are there (`present`)."),
-    ("What a placement makes of a module", "A placement (`Places`) has an address and a frame for each segment and external, and a frame for each group. `outcome`: what a fixup adds to the bytes of its location, or why it does not reach. `patched`: the data of an LEDATA after its fixups, in file order. `image`: at each place the byte of the last data record that covers it. `pieces` are the records with threads resolved. A thread that is not set counts as F5 or T0 0; no well-formed module uses one (`ModuleHolds`, step 8). Where the placement has no entry for a frame or a target, nothing reaches."),
-    ("Whether it reaches", "A placement fits if its lists are as long as the module's tables, and each absolute segment is where its SEGDEF puts it. It reaches if it fits, and no fixup and no start has a cause not to. `reach_faults` has all faults in the order in which they are reported."),
-    ("The theorem and the calls", "What holds of every accepted module (`ModuleHolds`: each thread and index that is used is defined) and of every image (`AllLieInside`: each patched byte is inside its data and its segment). Then the theorem, and the contracts that state it."),
+    ("What must hold", "The blocks of an LIDATA; the tables that records define; the threads in force; and the rules of each record, given the records before it, each with the place and the reason of its fault. Then `IsWellFormed`: the bytes are records, the contents of each encode a value, blocks are within the limits, and every record keeps its rules. `IsAccepted`: the input begins so. `typed r` is the record r with the value that its contents encode; `blocks_of` are the blocks of an LIDATA (both are computed: see the end of the page). The index of a THREAD is looked up where the thread is used, so one that is never used may be any number. The limits are those of `profile_limits` (step 8): 64 levels of blocks, 256 MB."),
+    ("Which refusal", "A record is judged in steps: six of framing, then layout and blocks, then the length of what the blocks expand to, then the rules. The refusal names the first record at fault and, of its faults, those of the first step that has one: the fault at the least offset, and at one offset the one of the least number. So a fault of layout late in a record comes before a broken rule early in it. Read `IsRefused`, the last definition, first: the input is records without a fault, none of them a MODEND, and then a record with one, of which perhaps not all bytes are there (`present`)."),
+    ("What a placement makes of a module", "A placement (`Places`) has an address and a frame for each segment and external, and a frame for each group. `outcome`: what a fixup adds to the bytes of its location, or why it does not reach. `patched`: the data of an LEDATA after its fixups, in file order. `image`: at each place the byte of the last data record that covers it. `pieces` are the records with threads resolved. A thread that is not set counts as F5 or T0 0; no well-formed module uses one (`ModuleHolds`, step 8). A reference whose frame or target has no entry does not reach. The image of the code is a list of runs (`laid_runs`): `byte_at` of it is what `get` returns for each offset of each segment."),
+    ("Whether it reaches", "A placement fits if its lists are as long as the module's tables, and each absolute segment is where its SEGDEF puts it. It reaches if it fits, and every fixup, and the start, reaches. `reach_faults` has all faults in the order in which they are reported. The places of references and their causes are two lists in one order, since in a well-formed module each fixup follows its data record."),
+    ("The theorem and the calls", "What holds of every accepted module (`ModuleHolds`: each thread, and each index of a reference, of data, of a public, of a group and its members, of a segment's and a class's name, is defined; indices of overlay names and of types are looked at by no rule) and of every image (`AllLieInside`: each patched byte is inside its data and its segment). Then the theorem, and the contracts that state it."),
 ]
 BEYOND = "What the calls that the theorem joins promise beyond it: how far a reader is read, when a failing reader is an answer, and the covered intervals of an image."
 # What the computed words are, and the laws that tie them to definitions.
@@ -120,10 +123,11 @@ END = """
 
 - That there is an answer. The theorem is about the three answers; a call may end with `Memory` or `Read` instead. `Read` comes only if the reader failed. That `Memory` comes only if an allocation failed is tested, not proved.
 - Readers that do not report their bytes: for them the theorem has no claim.
-- Anything of the placement but that it fits and reaches. It is the caller's: here no alignment, combine type, class or member of a group gives a segment its address, and no external is looked up by its name.
+- That a placement makes sense: only its fit and its reach are checked. It is the caller's: here no alignment, combine type, class or member of a group gives a segment its address, and no external is looked up by its name.
 - Time and memory.
 - That a linker adds, truncates and reads displacements as these definitions do, or that the standard is what you need.
-- The kit: its logic, its compiler and its library.
+- That what this profile refuses is wrong: a module with a COMDAT may be valid OMF, and is refused.
+- The prover and compiler (the kit): its logic, its compiler and its library.
 """
 FIRST = {1: [("omf_frame", "Bytes"), ("omf_frame", "Fields")], 2: [("omf_frame", "Types"), ("omf_frame", "Framing")]}
 CALLS = [
