@@ -7,15 +7,28 @@ use crate::options::{Asked, read_arguments};
 use crate::value::put_quoted;
 use omf_frame::{Sink, Writing};
 use omf_host::{
-    Status, answer, arguments, end, misused, out_of_memory, put, put_title, put_unread,
+    About, Status, arguments, end, explain, misused_by, out_of_memory, put, put_title, put_unread,
     question_in, read_input,
 };
 use std::alloc::{AllocError, Global};
 use std::io;
 use std::process::ExitCode;
 
-/// How the program is called.
-const USAGE: &[u8] = b"usage: omf-dump [--json] [--data N] [--refuse-vendor-comments] [FILE ..]\n";
+/// What the program shows of itself.
+const ABOUT: About = About {
+    name: "omf-dump",
+    usage: "usage: omf-dump [--json] [--data N] [--refuse-vendor-comments] [FILE ..]\n",
+    details: "
+Prints every field of each record of an object module (.OBJ), or of all members of
+a library (.LIB). Without a file, or where it is -, it reads the standard input.
+
+  --json                    one line of JSON for each record
+  --data N                  at most N bytes of data for each record
+  --refuse-vendor-comments  refuse comments of the classes C0H to FFH
+
+omf-dump(1) and docs/DUMP.md have more.
+",
+};
 
 /// The line for a file that could not be read; in JSON an object. No control character of its name is written as it is.
 fn unread(
@@ -118,15 +131,15 @@ fn show_inputs<K: Sink>(rt: &HostRuntime, asked: &Asked, writer: &mut K) -> Stat
 /// Does what the arguments ask for. Returns the status.
 fn act<K: Sink>(rt: &HostRuntime, writer: &mut K) -> Result<Status, AllocError> {
     let Some(words) = arguments(rt)? else {
-        return Ok(misused(writer, USAGE));
+        return misused_by(rt, writer, &ABOUT);
     };
     if let Some(question) = question_in(&words) {
-        return answer(rt.alloc(), writer, question, "omf-dump", USAGE);
+        return explain(rt.alloc(), writer, question, &ABOUT);
     }
     if let Some(asked) = read_arguments(rt.alloc(), words)? {
         return Ok(show_inputs(rt, &asked, writer));
     }
-    Ok(misused(writer, USAGE))
+    misused_by(rt, writer, &ABOUT)
 }
 
 /// Runs the program. Returns the exit status: 0 done, 1 an input is refused, 2 the arguments are not understood, 3 an input could not be read, the

@@ -11,15 +11,39 @@ use crate::taking::get;
 use omf_check::Profile;
 use omf_frame::{Sink, Writing};
 use omf_host::{
-    Status, answer, arguments, end, misused, out_of_memory, put, put_title, put_unread,
+    About, Status, arguments, end, explain, misused_by, out_of_memory, put, put_title, put_unread,
     question_in, read_input,
 };
 use std::alloc::{AllocError, Global};
 use std::process::ExitCode;
 
-/// How the program is called.
-const USAGE: &[u8] =
-    b"usage: omf-lib list|check [--refuse-vendor-comments] LIB ..\n       omf-lib find [--ignore-case] LIB NAME ..\n       omf-lib get LIB [MEMBER ..] -d DIR [--numbered]\n       omf-lib make [--refuse-vendor-comments] [--ignore-case] -o LIB FILE ..\n       omf-lib canon [--refuse-vendor-comments] -o LIB LIB\n";
+/// What the program shows of itself.
+const ABOUT: About = About {
+    name: "omf-lib",
+    usage: "usage: omf-lib list|check [--refuse-vendor-comments] LIB ..
+       omf-lib find [--ignore-case] LIB NAME ..
+       omf-lib get LIB [MEMBER ..] -d DIR [--numbered]
+       omf-lib make [--refuse-vendor-comments] [--ignore-case] -o LIB FILE ..
+       omf-lib canon [--refuse-vendor-comments] -o LIB LIB
+",
+    details: "
+  list    the members of libraries (.LIB) with their publics
+  check   whether each member is well formed, and each name is in the dictionary
+  find    the members that define a name
+  get     write members to files DIR/NAME.obj
+  make    a new library of object modules (.OBJ)
+  canon   a new library of the canonical bytes of a library's members
+
+  -o LIB                    the library to make, which must not exist
+  -d DIR                    the folder for the files, which must exist
+  --numbered                name the files by the members' numbers
+  --ignore-case             take names that differ in case as one
+  --refuse-vendor-comments  refuse comments of the classes C0H to FFH
+
+Where a library is -, omf-lib reads the standard input.
+omf-lib(1) and docs/LIBRARIES.md have more.
+",
+};
 
 /// The bytes of a file; None, after a line, if it could not be read.
 fn input_of<K: Sink>(
@@ -163,14 +187,14 @@ fn act<K: Sink>(rt: &HostRuntime, writer: &mut K, asked: &Asked) -> Status {
 /// Does what the arguments of the process ask for. Returns the status.
 fn on_arguments<K: Sink>(rt: &HostRuntime, writer: &mut K) -> Result<Status, AllocError> {
     let Some(words) = arguments(rt)? else {
-        return Ok(misused(writer, USAGE));
+        return misused_by(rt, writer, &ABOUT);
     };
     if let Some(question) = question_in(&words) {
-        return answer(rt.alloc(), writer, question, "omf-lib", USAGE);
+        return explain(rt.alloc(), writer, question, &ABOUT);
     }
     match read_arguments(rt.alloc(), words)? {
         Some(asked) => Ok(act(rt, writer, &asked)),
-        None => Ok(misused(writer, USAGE)),
+        None => misused_by(rt, writer, &ABOUT),
     }
 }
 

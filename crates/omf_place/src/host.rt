@@ -1,13 +1,33 @@
 //! The program on the arguments, the file, the standard input and the standard output of its process.
 
-use omf_cmd::{Program, run_with};
+use omf_cmd::run_with;
 use omf_frame::{Bytes, Sink, Writing};
-use omf_host::{Status, answer, end, misused, out_of_memory, program_and_arguments, question_in};
+use omf_host::{
+    About, Status, end, explain, misused_by, out_of_memory, program_and_arguments, question_in,
+};
 use omf_linker::asked::{Asked, sorted};
 use omf_linker::host::{read_or_tell, run_on_input};
-use omf_linker::place::Place;
+use omf_linker::place::{Place, options_of};
 use std::alloc::AllocError;
 use std::process::ExitCode;
+
+/// What the program shows of itself.
+const ABOUT: About = About {
+    name: "omf-place",
+    usage: "usage: omf-place [--base ADDRESS] [--real | --flat SELECTOR] [FILE]\n",
+    details: "
+Drafts a placement for an object module (.OBJ): the text with addresses that omf
+reloc reads after the module. Without a file, or where it is -, it reads the standard
+input.
+
+  --base ADDRESS   the address of the first segment, hexadecimal (default 10000)
+  --real           addresses for real mode, for 16-bit code
+  --flat SELECTOR  one frame with base 0 and this selector, hexadecimal; this is the
+                   default, with selector 0
+
+omf-place(1) and docs/PLACEMENT.md have more.
+",
+};
 
 /// Does what arguments ask for on a file. Returns the status.
 fn on_file<K: Sink>(
@@ -26,14 +46,15 @@ fn on_file<K: Sink>(
 /// Does what the arguments ask for. Returns the status.
 fn act<K: Sink>(rt: &HostRuntime, writer: &mut K) -> Result<Status, AllocError> {
     let Some(words) = program_and_arguments(rt)? else {
-        return Ok(misused(writer, Place::usage()));
+        return misused_by(rt, writer, &ABOUT);
     };
     if let Some(question) = question_in(words.get(1..).unwrap_or(&[])) {
-        return answer(rt.alloc(), writer, question, "omf-place", Place::usage());
+        return explain(rt.alloc(), writer, question, &ABOUT);
     }
     if let Some(asked) = sorted(rt.alloc(), &words, 1)?
         && asked.text.is_none()
         && asked.output.is_none()
+        && options_of(rt.alloc(), asked.words.as_slice())?.is_some()
     {
         match asked.files.as_slice() {
             [] => return run_on_input::<Place, _>(rt, asked.words.as_slice(), writer),
@@ -44,7 +65,7 @@ fn act<K: Sink>(rt: &HostRuntime, writer: &mut K) -> Result<Status, AllocError> 
             _ => {}
         }
     }
-    Ok(misused(writer, Place::usage()))
+    misused_by(rt, writer, &ABOUT)
 }
 
 /// Runs the program. Returns the exit status: 0 done, 1 the input is refused or has no room, 2 the arguments are not understood, 3 out of
