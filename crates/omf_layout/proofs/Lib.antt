@@ -13,3 +13,4 @@ pub mod LineLaws
 pub mod ReadLaws
 pub mod SeveralLaws
 pub mod OwnLaws
+mod OrderModule

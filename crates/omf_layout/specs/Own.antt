@@ -3,3 +3,5 @@ pub mod Claims
 pub mod Shared
 pub mod Communals
 pub mod Stack
+pub mod Order
+pub mod OrderFault

@@ -2,10 +2,15 @@
 
 mod claims;
 mod communals;
+mod dgroup;
+mod ends;
 mod fault;
+mod order;
 mod records;
+mod slots;
 mod stack;
 
 pub use communals::communals_module;
 pub use fault::{CommunalReason, CommunalsFault};
+pub use order::{OrderFault, ask_dos_order, order_module};
 pub use stack::stack_module;

@@ -9,7 +9,7 @@ mod places;
 mod placing;
 pub(crate) mod portion;
 pub mod rows;
-mod runs;
+pub(crate) mod runs;
 
 pub use arranging::arrange;
 pub use laying::Lying;

@@ -25,6 +25,7 @@ mod libraries;
 mod limits;
 mod linking;
 mod needed;
+mod order;
 mod own;
 mod readers;
 mod reading;

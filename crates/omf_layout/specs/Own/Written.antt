@@ -34,6 +34,10 @@ segment_record attribute size name class = typed 0x99 (Segment (segment attribut
 abbrev pub group_record : ℕ → ℕ → Rec
 group_record name member = typed 0x9A (Group (record { name = nowhere name; members = nowhere (nowhere member) ∷ [] }))
 
+-- A GRPDEF without a segment.
+abbrev pub empty_group_record : ℕ → Rec
+empty_group_record name = typed 0x9A (Group (record { name = nowhere name; members = [] }))
+
 -- A PUBDEF of type 91H, whose offset has 32 bits, with one public.
 abbrev pub public_record : ℕ → ℕ → List ℕ → ℕ → Rec
 public_record group segment name offset =

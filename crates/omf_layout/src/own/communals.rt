@@ -207,7 +207,7 @@ fn is_grouped(module: &Checked) -> bool
 }
 
 /// Returns whether one of the modules has a group DGROUP.
-fn are_grouped(modules: &[Checked]) -> bool
+pub(crate) fn are_grouped(modules: &[Checked]) -> bool
     ensures { result ≡ are_grouped (typed_modules modules.now) }
 {
     let mut found = false;

@@ -2,7 +2,7 @@
 
 ghost use Rattle.std.specs.Prelude.{◌≡◌, ◌≤◌, ◌++◌, ◌<◌, OnOk, All, length, map};
 ghost use Rattle.omf_frame.specs.Framing.{raw_bytes, raw_of};
-ghost use Rattle.omf_layout.specs.Own.Written.{end_record, framed, group_record, header, name_record, public_record, segment_record, written};
+ghost use Rattle.omf_layout.specs.Own.Written.{empty_group_record, end_record, framed, group_record, header, name_record, public_record, segment_record, written};
 
 use omf_frame::{Field, Index, Le32, Name, checksum};
 use std::alloc::{AllocError, Global};
@@ -99,6 +99,19 @@ pub(crate) fn put_group(
     name.put(&mut body)?;
     body.push(0xFF)?;
     member.put(&mut body)?;
+    put_record(out, 0x9A, &body)
+}
+
+/// Appends a GRPDEF without a segment (TIS OMF 1.1, "GRPDEF").
+pub(crate) fn put_empty_group(
+    alloc: Global,
+    out: &mut Vec<u8>,
+    name: Index,
+) -> Result<(), AllocError>
+    ensures { OnOk result (out.new.items ≡ out.old.items ++ framed (empty_group_record name)) }
+{
+    let mut body = Vec::new(alloc);
+    name.put(&mut body)?;
     put_record(out, 0x9A, &body)
 }
 
