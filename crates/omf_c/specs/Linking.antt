@@ -71,9 +71,9 @@ outside a None = record (unlinked 9) { start = a }
 outside a (Some o) = record (unlinked 9) { start = a; index = o.segment; record_count = o.«module» }
 
 abbrev pub of_image : ImageFault → Answer
-of_image (image.Link f name) = of_link f
+of_image (image.Link f) = of_link f
 of_image (image.Lines f lines) = of_link f
-of_image (image.Outside a o) = outside a o
+of_image (image.Outside a o lines) = outside a o
 of_image image.NoRoom = unlinked 10
 of_image image.Write = record done { status = 3 }
 

@@ -159,9 +159,9 @@ fn image_answer(fault: &ImageFault) -> Answer
     ensures { result ≡ of_image fault.now }
 {
     match fault {
-        ImageFault::Link { fault, .. } => link_answer(*fault),
+        ImageFault::Link(fault) => link_answer(*fault),
         ImageFault::Lines { fault, .. } => link_answer(*fault),
-        ImageFault::Outside { address, owner } => outside(*address, *owner),
+        ImageFault::Outside { address, owner, .. } => outside(*address, *owner),
         ImageFault::NoRoom => unlinked(10),
         ImageFault::Write => fault_answer(RunFault::Write),
     }

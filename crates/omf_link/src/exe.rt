@@ -1,16 +1,17 @@
 //! The tasks `omf-link exe` and `omf-link com`: a DOS program of modules and libraries.
 
+use crate::about::ABOUT;
 use crate::libraries::Sources;
 use omf_frame::Sink;
-use omf_host::{Status, misused, put};
+use omf_host::{Status, misused_by};
 use omf_linker::asked::Asked;
 use omf_linker::exe::{Call, ExeOptions, ProgramModules, Refusal, missing_lines};
 use omf_linker::host::write_or_tell;
 use omf_linker::link::InputFile;
 use std::alloc::{AllocError, Global};
 
-/// The line of a program without a stack.
-const NO_STACK: &[u8] = b"no stack: SS:SP is 0:0 from the load address\n";
+/// The warning of a program without a stack.
+const NO_STACK: &str = "no stack: SS:SP is 0:0 from the load address\n";
 
 /// Prints why there is no program; and on the standard error, if a name is not defined, the libraries that were not found.
 fn refuse<K: Sink>(
@@ -27,17 +28,29 @@ fn refuse<K: Sink>(
     Ok(refusal.status())
 }
 
-/// Writes the map of a program. Returns the status.
-fn write_map<K: Sink>(
-    rt: &HostRuntime,
-    name: &str,
+/// The map of a program, if that is asked for.
+fn map_of(
+    alloc: Global,
     modules: &ProgramModules,
     files: &[InputFile],
+    is_asked: bool,
+) -> Result<Option<Vec<u8>>, Refusal> {
+    if !is_asked {
+        return Ok(None);
+    }
+    Ok(Some(modules.map(alloc, files)?))
+}
+
+/// Writes the map of a program to a file, if there is one. Returns the status.
+fn write_map<K: Sink>(
+    rt: &HostRuntime,
+    name: Option<&str>,
+    map: Option<&Vec<u8>>,
     writer: &mut K,
 ) -> Result<Status, AllocError> {
-    match modules.map(rt.alloc(), files) {
-        Ok(map) => write_or_tell(rt, name, &map, writer),
-        Err(refusal) => refuse(rt, &refusal, &[], writer),
+    match (name, map) {
+        (Some(name), Some(map)) => write_or_tell(rt, name, map, writer),
+        _ => Ok(Status::Done),
     }
 }
 
@@ -77,7 +90,7 @@ struct Output<'a> {
     map: Option<&'a str>,
 }
 
-/// Writes the program of modules, and its map if that is asked for. Returns the status.
+/// Writes the program of modules, and its map if that is asked for. Nothing is written if one of them has a fault. Returns the status.
 fn write_program<K: Sink>(
     rt: &HostRuntime,
     modules: &ProgramModules,
@@ -89,14 +102,16 @@ fn write_program<K: Sink>(
         Ok(made) => made,
         Err(refusal) => return refuse(rt, &refusal, &sources.missing, writer),
     };
+    let map = match map_of(rt.alloc(), modules, &sources.files, output.map.is_some()) {
+        Ok(map) => map,
+        Err(refusal) => return refuse(rt, &refusal, &sources.missing, writer),
+    };
     let mut status = write_or_tell(rt, output.name, &made.bytes, writer)?;
-    if status == Status::Done
-        && let Some(map) = output.map
-    {
-        status = write_map(rt, map, modules, &sources.files, writer)?;
+    if status == Status::Done {
+        status = write_map(rt, output.map, map.as_ref(), writer)?;
     }
     if status == Status::Done && made.lacks_stack {
-        return Ok(put(writer, NO_STACK));
+        let _ = eprint!(rt; "{NO_STACK}");
     }
     Ok(status)
 }
@@ -123,12 +138,11 @@ fn write_to<K: Sink>(
     rt: &HostRuntime,
     asked: &Asked,
     output: Output<'_>,
-    usage: &[u8],
     writer: &mut K,
 ) -> Result<Status, AllocError> {
     let arguments = asked.words.get(2..).unwrap_or(&[]);
     let Some(options) = ExeOptions::of(rt.alloc(), arguments)? else {
-        return Ok(misused(writer, usage));
+        return misused_by(rt, writer, &ABOUT);
     };
     let map = options.map;
     with_options(rt, asked, &options, Output { map, ..output }, writer)
@@ -139,16 +153,15 @@ pub fn on_files<K: Sink>(
     rt: &HostRuntime,
     asked: &Asked,
     call: Call<'_>,
-    usage: &[u8],
     writer: &mut K,
 ) -> Result<Option<Status>, AllocError> {
     let (name, is_com) = match call {
         Call::Other => return Ok(None),
-        Call::Misused => return Ok(Some(misused(writer, usage))),
+        Call::Misused => return Ok(Some(misused_by(rt, writer, &ABOUT)?)),
         Call::Exe(name) => (name, false),
         Call::Com(name) => (name, true),
     };
     let map = None;
     let output = Output { name, is_com, map };
-    Ok(Some(write_to(rt, asked, output, usage, writer)?))
+    Ok(Some(write_to(rt, asked, output, writer)?))
 }

@@ -1,15 +1,19 @@
 //! The program on the arguments, the files, the standard input and the standard output of its process.
 
+use crate::about::ABOUT;
 use crate::exe;
-use omf_cmd::{Fault, Program};
+use omf_cmd::Fault;
 use omf_frame::{Sink, Writing};
 use omf_host::{
-    Status, answer, end, misused, out_of_memory, program_and_arguments, put, question_in,
+    Status, end, explain, misused_by, out_of_memory, program_and_arguments, put, question_in,
 };
 use omf_linker::asked::{Asked, sorted};
-use omf_linker::exe::call_of;
-use omf_linker::host::{read_or_tell, run_on_input, write_or_tell};
-use omf_linker::link::{FilesFault, InputFile, Link, Task, files_text, shown_text, task_of};
+use omf_linker::exe::{Call, call_of};
+use omf_linker::host::{read_or_tell, run_on_input, write_output_or_tell};
+use omf_linker::link::{FilesFault, InputFile, Link, Output, Task, task_of};
+use omf_linker::seen::{
+    Allowed, Request, SeenText, allowed_in, files_seen, input_seen, is_looked_at,
+};
 use std::alloc::AllocError;
 use std::process::ExitCode;
 
@@ -45,12 +49,15 @@ fn read_text<K: Sink>(
 fn written<K: Sink>(
     rt: &HostRuntime,
     name: Option<&str>,
-    shown: &[u8],
+    shown: &Output,
     writer: &mut K,
 ) -> Result<Status, AllocError> {
     match name {
-        Some(name) => write_or_tell(rt, name, shown, writer),
-        None => Ok(put(writer, shown)),
+        Some(name) => write_output_or_tell(rt, name, shown, writer),
+        None => Ok(match shown.print(writer) {
+            Ok(()) => Status::Done,
+            Err(_) => Status::Failed,
+        }),
     }
 }
 
@@ -59,8 +66,9 @@ fn of_files<K: Sink>(
     rt: &HostRuntime,
     task: Task,
     asked: &Asked,
+    allowed: Allowed,
     writer: &mut K,
-) -> Result<Option<Result<Vec<u8>, FilesFault>>, AllocError> {
+) -> Result<Option<Result<SeenText, FilesFault>>, AllocError> {
     let Some(files) = read_files(rt, asked.files.as_slice(), writer)? else {
         return Ok(None);
     };
@@ -68,22 +76,50 @@ fn of_files<K: Sink>(
     let Some(text) = read_text(rt, name, writer)? else {
         return Ok(None);
     };
-    Ok(Some(files_text(rt.alloc(), task, &files, &text)))
+    let request = Request {
+        task,
+        text: &text,
+        allowed,
+    };
+    Ok(Some(files_seen(rt.alloc(), request, files)))
 }
 
 /// Does a task for the standard input: modules, and a text after them. None if it could not be read.
 fn of_input<K: Sink>(
     rt: &HostRuntime,
     task: Task,
+    allowed: Allowed,
     writer: &mut K,
-) -> Result<Option<Result<Vec<u8>, FilesFault>>, AllocError> {
+) -> Result<Option<Result<SeenText, FilesFault>>, AllocError> {
     let Some(input) = read_or_tell(rt, "-", writer)? else {
         return Ok(None);
     };
-    match shown_text(rt.alloc(), task, &input) {
-        Ok(shown) => Ok(Some(Ok(shown))),
+    match input_seen(rt.alloc(), task, input, allowed) {
+        Ok(seen) => Ok(Some(Ok(seen))),
         Err(fault) => Ok(Some(Err(FilesFault::Link(fault)))),
     }
+}
+
+/// Writes the output of a task, after lines on standard error for what its link text does unseen. If that is not allowed, it writes these
+/// lines alone. Returns the status.
+fn written_or_told<K: Sink>(
+    rt: &HostRuntime,
+    name: Option<&str>,
+    seen: &SeenText,
+    writer: &mut K,
+) -> Result<Status, AllocError> {
+    let Ok(lines) = &seen.looked else {
+        return Err(AllocError);
+    };
+    if !lines.faults.is_empty() {
+        let _ = put(writer, lines.faults.as_bytes());
+        return Ok(Status::Refused);
+    }
+    if !lines.warnings.is_empty() {
+        let warnings = lines.warnings.as_str();
+        let _ = eprint!(rt; "{warnings}");
+    }
+    written(rt, name, &seen.shown, writer)
 }
 
 /// Does a task, and writes its output, or the line of its fault. Returns the status.
@@ -91,17 +127,18 @@ fn on_files<K: Sink>(
     rt: &HostRuntime,
     task: Task,
     asked: &Asked,
+    allowed: Allowed,
     writer: &mut K,
 ) -> Result<Status, AllocError> {
     let found = if is_on_input(asked) {
-        of_input(rt, task, writer)?
+        of_input(rt, task, allowed, writer)?
     } else {
-        of_files(rt, task, asked, writer)?
+        of_files(rt, task, asked, allowed, writer)?
     };
     match found {
-        Some(Ok(shown)) => {
+        Some(Ok(seen)) => {
             let name = asked.output.as_ref().map(|name| name.as_str());
-            written(rt, name, &shown, writer)
+            written_or_told(rt, name, &seen, writer)
         }
         Some(Err(fault)) => {
             fault.print(writer);
@@ -123,30 +160,69 @@ fn is_on_input(asked: &Asked) -> bool {
     }
 }
 
+/// Whether the arguments ask for a program for DOS.
+fn makes_program(asked: &Asked) -> bool {
+    match call_of(asked) {
+        Call::Other => false,
+        Call::Misused => true,
+        Call::Exe(_) => true,
+        Call::Com(_) => true,
+    }
+}
+
+/// Does a task that is no program for DOS. Returns the status.
+fn on_task<K: Sink>(
+    rt: &HostRuntime,
+    asked: &Asked,
+    allowed: Allowed,
+    writer: &mut K,
+) -> Result<Status, AllocError> {
+    let Some(task) = task_of(rt.alloc(), asked.words.as_slice())? else {
+        return misused_by(rt, writer, &ABOUT);
+    };
+    let looks = is_looked_at(task);
+    let on_input_alone = is_on_input(asked);
+    if (allowed.has_any() && !looks) || (!on_input_alone && asked.files.is_empty()) {
+        return misused_by(rt, writer, &ABOUT);
+    }
+    if on_input_alone && asked.output.is_none() && !looks {
+        return run_on_input::<Link, _>(rt, asked.words.as_slice(), writer);
+    }
+    on_files(rt, task, asked, allowed, writer)
+}
+
+/// Does what arguments ask for. Returns the status.
+fn on_words<K: Sink>(
+    rt: &HostRuntime,
+    words: &[String],
+    allowed: Allowed,
+    writer: &mut K,
+) -> Result<Status, AllocError> {
+    let Some(asked) = sorted(rt.alloc(), words, 2)? else {
+        return misused_by(rt, writer, &ABOUT);
+    };
+    if allowed.has_any() && makes_program(&asked) {
+        return misused_by(rt, writer, &ABOUT);
+    }
+    let call = call_of(&asked);
+    if let Some(status) = exe::on_files(rt, &asked, call, writer)? {
+        return Ok(status);
+    }
+    on_task(rt, &asked, allowed, writer)
+}
+
 /// Does what the arguments ask for. Returns the status.
 fn act<K: Sink>(rt: &HostRuntime, writer: &mut K) -> Result<Status, AllocError> {
     let Some(words) = program_and_arguments(rt)? else {
-        return Ok(misused(writer, Link::usage()));
+        return misused_by(rt, writer, &ABOUT);
     };
     if let Some(question) = question_in(words.get(1..).unwrap_or(&[])) {
-        return answer(rt.alloc(), writer, question, "omf-link", Link::usage());
+        return explain(rt.alloc(), writer, question, &ABOUT);
     }
-    if let Some(asked) = sorted(rt.alloc(), &words, 2)? {
-        let call = call_of(&asked);
-        if let Some(status) = exe::on_files(rt, &asked, call, Link::usage(), writer)? {
-            return Ok(status);
-        }
-        let on_input_alone = is_on_input(&asked);
-        if on_input_alone && asked.output.is_none() {
-            return run_on_input::<Link, _>(rt, asked.words.as_slice(), writer);
-        }
-        if let Some(task) = task_of(rt.alloc(), asked.words.as_slice())?
-            && (on_input_alone || !asked.files.is_empty())
-        {
-            return on_files(rt, task, &asked, writer);
-        }
+    match allowed_in(rt.alloc(), &words)? {
+        Some((allowed, words)) => on_words(rt, &words, allowed, writer),
+        None => misused_by(rt, writer, &ABOUT),
     }
-    Ok(misused(writer, Link::usage()))
 }
 
 /// Runs the program. Returns the exit status: 0 done, 1 an input or its text is refused, has no room or does not fit, 2 the arguments are not

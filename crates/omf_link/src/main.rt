@@ -3,6 +3,7 @@
 //! Without file names it reads modules and a text from the standard input (`omf_linker::link::Link`). With file names it reads the files.
 #![tactic(auto)]
 
+mod about;
 mod exe;
 mod host;
 mod libraries;

@@ -1,3 +1,4 @@
+pub mod BlockLaws
 pub mod ArgLaws
 pub mod AskedLaws
 pub mod LinkLines
@@ -19,3 +20,7 @@ pub mod SeenLaws
 pub mod ExeLaws
 pub mod UnresolvedLaws
 pub mod TakenLaws
+pub mod InputLaws
+pub mod OverlapLaws
+pub mod WideLaws
+pub mod LabelLaws

@@ -31,7 +31,8 @@ use Rattle.omf_linking.specs.Starts.{main_starts, one_start}
 use Rattle.omf_linking.specs.declared.fault.LinkFault.{LinkFault}
 use Rattle.omf_linking.specs.declared.fault.LinkFault.TheVariants as link
 use Rattle.omf_cmd.specs.Runs.{IsUnbroken}
-use Rattle.omf_linker.specs.Link.Faults.{IsNamed, IsUnnamed, is_unresolved, name_of}
+use Rattle.omf_linker.specs.Link.Faults.{IsNamed, is_of_modules}
+use Rattle.omf_linker.specs.Link.Named.{HasLines}
 use Rattle.omf_linker.specs.Link.Drafted.{IsDrafted}
 use Rattle.omf_linker.specs.Link.Linked.{any, IsFirstFault, IsLinked}
 use Rattle.omf_linker.specs.Link.Mapped.{IsMapped}
@@ -43,40 +44,19 @@ use Rattle.omf_linker.specs.declared.link.fault.ImageFault.TheVariants as fault
 use Rattle.omf_linker.specs.declared.link.words.Task.{Task}
 use Rattle.omf_linker.specs.declared.link.words.Task.TheVariants as task
 
--- ---- a fault with its name
+-- ---- a fault with its lines
 
-pub with_name : (Is : Result (List ℕ) LinkFault → Type 0) (ms : List (List Rec)) (text : List ℕ) (f : LinkFault) (e : ImageFault) → Is (Err f) → IsNamed ms text f e → IsNamedAs Is ms text (Err e)
-with_name Is ms text f (fault.Link g name) h (inl same) =
-    inl (subst (λ (x : LinkFault). Is (Err x)) (sym same.0) h, ap is_unresolved same.0 ∙ same.1, same.2 ∙ ap (name_of ms) (sym same.0))
-with_name Is ms text f (fault.Link g name) h (inr memory) = inr memory
-with_name Is ms text f (fault.Lines g lines) h n = (subst (λ (x : LinkFault). Is (Err x)) (sym n.0) h, ap is_unresolved n.0 ∙ n.1, n.2)
-with_name Is ms text f (fault.Outside a o) h n = absurd n
-with_name Is ms text f fault.NoRoom h n = absurd n
-with_name Is ms text f fault.Write h n = absurd n
+pub with_lines : (Is : Result (List ℕ) LinkFault → Type 0) (labels : List (List ℕ)) (ms : List (List Rec)) (text : List ℕ) (f : LinkFault) (e : ImageFault) → Is (Err f) → IsNamed labels ms text f e → IsNamedAs Is labels ms text (Err e)
+with_lines Is labels ms text f (fault.Link g) h (inl same) = inl (subst (λ (x : LinkFault). Is (Err x)) (sym same.0) h, ap is_of_modules same.0 ∙ same.1)
+with_lines Is labels ms text f (fault.Link g) h (inr memory) = inr memory
+with_lines Is labels ms text f (fault.Lines g lines) h n =
+    (subst (λ (x : LinkFault). Is (Err x)) (sym n.0) h, ap is_of_modules n.0 ∙ n.1, subst (λ (x : LinkFault). HasLines labels ms text x lines.items) (sym n.0) n.2)
+with_lines Is labels ms text f (fault.Outside a o lines) h n = absurd n
+with_lines Is labels ms text f fault.NoRoom h n = absurd n
+with_lines Is labels ms text f fault.Write h n = absurd n
 
-pub no_module : (t : Task) (input : List ℕ) (f : LinkFault) (e : ImageFault) → AreModules any input (Err f) → IsUnnamed f e → IsShownOf t input (Err e)
-no_module t input f (fault.Link g name) h n = inl (subst (λ (x : LinkFault). AreModules any input (Err x)) (sym n.0) h, n.1)
-no_module t input f (fault.Lines g lines) h n = absurd n
-no_module t input f (fault.Outside a o) h n = absurd n
-no_module t input f fault.NoRoom h n = absurd n
-no_module t input f fault.Write h n = absurd n
-
--- out of memory for a draft
-pub no_memory : (o : Options) (ms : List (List Rec)) (e : ImageFault) → IsUnnamed link.Memory e → IsDrafted o ms (Err e)
-no_memory o ms (fault.Link link.Memory name) n = n.1
-no_memory o ms (fault.Link link.Read name) n = let is = n.0 in absurd cc
-no_memory o ms (fault.Link (link.Refused j why at) name) n = let is = n.0 in absurd cc
-no_memory o ms (fault.Link (link.NoText at) name) n = let is = n.0 in absurd cc
-no_memory o ms (fault.Link link.NoModules name) n = let is = n.0 in absurd cc
-no_memory o ms (fault.Link (link.Line k why) name) n = let is = n.0 in absurd cc
-no_memory o ms (fault.Link (link.External f) name) n = let is = n.0 in absurd cc
-no_memory o ms (fault.Link (link.Reach j f) name) n = let is = n.0 in absurd cc
-no_memory o ms (fault.Link (link.Starts j k) name) n = let is = n.0 in absurd cc
-no_memory o ms (fault.Link (link.Space f) name) n = let is = n.0 in absurd cc
-no_memory o ms (fault.Lines g lines) n = absurd n
-no_memory o ms (fault.Outside a w) n = absurd n
-no_memory o ms fault.NoRoom n = absurd n
-no_memory o ms fault.Write n = absurd n
+pub no_module : (t : Task) (input : List ℕ) (f : LinkFault) → AreModules any input (Err f) → IsShownOf t input (Err (fault.Link f))
+no_module t input f h = inl h
 
 -- the result for modules is the result for their input
 pub in_input : (t : Task) (input : List ℕ) (r : Result (List ℕ) ImageFault) → AreShownIn t input r → IsShownOf t input r
@@ -150,83 +130,81 @@ not_first ms text (inr (inl h)) = not_far first_fault (enumerate_from 0 (zip ms 
 not_first ms text (inr (inr (inl h))) = h.1
 not_first ms text (inr (inr (inr h))) = not_started (main_starts (zip ms h.0.relocated)) h.2
 
--- a result that names no device, and in which out of memory has no name
+-- a result that names no device
 abbrev pub IsNoDevice : Result (List ℕ) ImageFault → Type 0
-IsNoDevice (Err (fault.Link link.Read name)) = ⊥
-IsNoDevice (Err (fault.Link link.Memory name)) = name.items ≡ []
+IsNoDevice (Err (fault.Link link.Read)) = ⊥
 IsNoDevice (Err fault.Write) = ⊥
 IsNoDevice _ = ⊤
 
-not_told : (Is : Result (List ℕ) LinkFault → Type 0) (ms : List (List Rec)) (text : List ℕ) (r : Result (List ℕ) ImageFault) → (Is (Err link.Read) → ⊥) → IsNamedAs Is ms text r → IsNoDevice r
-not_told Is ms text (Ok shown) not h = tt
-not_told Is ms text (Err (fault.Link link.Memory name)) not (inl h) = h.2
-not_told Is ms text (Err (fault.Link link.Memory name)) not (inr h) = h.1
-not_told Is ms text (Err (fault.Link link.Read name)) not (inl h) = not h.0
-not_told Is ms text (Err (fault.Link link.Read name)) not (inr h) = let is = h.0 in absurd cc
-not_told Is ms text (Err (fault.Link (link.Refused j why at) name)) not h = tt
-not_told Is ms text (Err (fault.Link (link.NoText at) name)) not h = tt
-not_told Is ms text (Err (fault.Link link.NoModules name)) not h = tt
-not_told Is ms text (Err (fault.Link (link.Line n why) name)) not h = tt
-not_told Is ms text (Err (fault.Link (link.External f) name)) not h = tt
-not_told Is ms text (Err (fault.Link (link.Reach j f) name)) not h = tt
-not_told Is ms text (Err (fault.Link (link.Starts j k) name)) not h = tt
-not_told Is ms text (Err (fault.Link (link.Space f) name)) not h = tt
-not_told Is ms text (Err (fault.Lines g lines)) not h = tt
-not_told Is ms text (Err (fault.Outside a o)) not h = tt
-not_told Is ms text (Err fault.NoRoom) not h = tt
-not_told Is ms text (Err fault.Write) not h = h
+not_told : (Is : Result (List ℕ) LinkFault → Type 0) (labels : List (List ℕ)) (ms : List (List Rec)) (text : List ℕ) (r : Result (List ℕ) ImageFault) → (Is (Err link.Read) → ⊥) → IsNamedAs Is labels ms text r → IsNoDevice r
+not_told Is labels ms text (Ok shown) not h = tt
+not_told Is labels ms text (Err (fault.Link link.Memory)) not h = tt
+not_told Is labels ms text (Err (fault.Link link.Read)) not (inl h) = not h.0
+not_told Is labels ms text (Err (fault.Link link.Read)) not (inr h) = absurd cc
+not_told Is labels ms text (Err (fault.Link (link.Refused j why at))) not h = tt
+not_told Is labels ms text (Err (fault.Link (link.NoText at))) not h = tt
+not_told Is labels ms text (Err (fault.Link link.NoModules)) not h = tt
+not_told Is labels ms text (Err (fault.Link (link.Line n why))) not h = tt
+not_told Is labels ms text (Err (fault.Link (link.External f))) not h = tt
+not_told Is labels ms text (Err (fault.Link (link.Reach j f))) not h = tt
+not_told Is labels ms text (Err (fault.Link (link.Starts j k))) not h = tt
+not_told Is labels ms text (Err (fault.Link (link.Space f))) not h = tt
+not_told Is labels ms text (Err (fault.Lines g lines)) not h = tt
+not_told Is labels ms text (Err (fault.Outside a o lines)) not h = tt
+not_told Is labels ms text (Err fault.NoRoom) not h = tt
+not_told Is labels ms text (Err fault.Write) not h = h
 
 not_drafted : (o : Options) (ms : List (List Rec)) (r : Result (List ℕ) ImageFault) → IsDrafted o ms r → IsNoDevice r
 not_drafted o ms (Ok shown) h = tt
-not_drafted o ms (Err (fault.Link link.Memory name)) h = h
-not_drafted o ms (Err (fault.Link link.Read name)) h = h
-not_drafted o ms (Err (fault.Link (link.Refused j why at) name)) h = tt
-not_drafted o ms (Err (fault.Link (link.NoText at) name)) h = tt
-not_drafted o ms (Err (fault.Link link.NoModules name)) h = tt
-not_drafted o ms (Err (fault.Link (link.Line n why) name)) h = tt
-not_drafted o ms (Err (fault.Link (link.External f) name)) h = tt
-not_drafted o ms (Err (fault.Link (link.Reach j f) name)) h = tt
-not_drafted o ms (Err (fault.Link (link.Starts j k) name)) h = tt
-not_drafted o ms (Err (fault.Link (link.Space f) name)) h = tt
+not_drafted o ms (Err (fault.Link link.Memory)) h = tt
+not_drafted o ms (Err (fault.Link link.Read)) h = h
+not_drafted o ms (Err (fault.Link (link.Refused j why at))) h = tt
+not_drafted o ms (Err (fault.Link (link.NoText at))) h = tt
+not_drafted o ms (Err (fault.Link link.NoModules)) h = tt
+not_drafted o ms (Err (fault.Link (link.Line n why))) h = tt
+not_drafted o ms (Err (fault.Link (link.External f))) h = tt
+not_drafted o ms (Err (fault.Link (link.Reach j f))) h = tt
+not_drafted o ms (Err (fault.Link (link.Starts j k))) h = tt
+not_drafted o ms (Err (fault.Link (link.Space f))) h = tt
 not_drafted o ms (Err (fault.Lines g lines)) h = tt
-not_drafted o ms (Err (fault.Outside a w)) h = tt
+not_drafted o ms (Err (fault.Outside a w lines)) h = tt
 not_drafted o ms (Err fault.NoRoom) h = tt
 not_drafted o ms (Err fault.Write) h = h
 
-not_filed : (f : Form) (ms : List (List Rec)) (text : List ℕ) (r : Result (List ℕ) ImageFault) → IsRom f ms text r → IsNoDevice r
-not_filed f ms text (Ok file) h = tt
-not_filed f ms text (Err (fault.Link g name)) h = not_told (IsLinked ms text) ms text (Err (fault.Link g name)) (not_first ms text) h
-not_filed f ms text (Err (fault.Lines g lines)) h = tt
-not_filed f ms text (Err (fault.Outside a o)) h = tt
-not_filed f ms text (Err fault.NoRoom) h = tt
-not_filed f ms text (Err fault.Write) h = h
+not_filed : (f : Form) (labels : List (List ℕ)) (ms : List (List Rec)) (text : List ℕ) (r : Result (List ℕ) ImageFault) → IsRom f labels ms text r → IsNoDevice r
+not_filed f labels ms text (Ok file) h = tt
+not_filed f labels ms text (Err (fault.Link g)) h = not_told (IsLinked ms text) labels ms text (Err (fault.Link g)) (not_first ms text) h
+not_filed f labels ms text (Err (fault.Lines g lines)) h = tt
+not_filed f labels ms text (Err (fault.Outside a o lines)) h = tt
+not_filed f labels ms text (Err fault.NoRoom) h = tt
+not_filed f labels ms text (Err fault.Write) h = h
 
-not_shown : (t : Task) (ms : List (List Rec)) (text : List ℕ) (r : Result (List ℕ) ImageFault) → AreShown t ms text r → IsNoDevice r
-not_shown task.Image ms text r h = not_told (IsLinked ms text) ms text r (not_first ms text) h
-not_shown (task.Rom f) ms text r h = not_filed f ms text r h
-not_shown task.Map ms text r h = not_told (IsMapped ms text) ms text r (not_linked ms text) h
-not_shown (task.Draft o) ms text r h = not_drafted o ms r h
+not_shown : (t : Task) (labels : List (List ℕ)) (ms : List (List Rec)) (text : List ℕ) (r : Result (List ℕ) ImageFault) → AreShown t labels ms text r → IsNoDevice r
+not_shown task.Image labels ms text r h = not_told (IsLinked ms text) labels ms text r (not_first ms text) h
+not_shown (task.Rom f) labels ms text r h = not_filed f labels ms text r h
+not_shown task.Map labels ms text r h = not_told (IsMapped ms text) labels ms text r (not_linked ms text) h
+not_shown (task.Draft o) labels ms text r h = not_drafted o ms r h
 
 not_refused : (input : List ℕ) (r : Result (List ℕ) ImageFault) → IsNoModule input r → IsNoDevice r
 not_refused input (Ok shown) h = tt
-not_refused input (Err (fault.Link link.Memory name)) h = h.1
-not_refused input (Err (fault.Link link.Read name)) h = h.0
-not_refused input (Err (fault.Link (link.Refused j why at) name)) h = tt
-not_refused input (Err (fault.Link (link.NoText at) name)) h = tt
-not_refused input (Err (fault.Link link.NoModules name)) h = tt
-not_refused input (Err (fault.Link (link.Line n why) name)) h = tt
-not_refused input (Err (fault.Link (link.External f) name)) h = tt
-not_refused input (Err (fault.Link (link.Reach j f) name)) h = tt
-not_refused input (Err (fault.Link (link.Starts j k) name)) h = tt
-not_refused input (Err (fault.Link (link.Space f) name)) h = tt
+not_refused input (Err (fault.Link link.Memory)) h = tt
+not_refused input (Err (fault.Link link.Read)) h = h
+not_refused input (Err (fault.Link (link.Refused j why at))) h = tt
+not_refused input (Err (fault.Link (link.NoText at))) h = tt
+not_refused input (Err (fault.Link link.NoModules)) h = tt
+not_refused input (Err (fault.Link (link.Line n why))) h = tt
+not_refused input (Err (fault.Link (link.External f))) h = tt
+not_refused input (Err (fault.Link (link.Reach j f))) h = tt
+not_refused input (Err (fault.Link (link.Starts j k))) h = tt
+not_refused input (Err (fault.Link (link.Space f))) h = tt
 not_refused input (Err (fault.Lines g lines)) h = tt
-not_refused input (Err (fault.Outside a o)) h = tt
+not_refused input (Err (fault.Outside a o lines)) h = tt
 not_refused input (Err fault.NoRoom) h = tt
 not_refused input (Err fault.Write) h = h
 
 no_device : (t : Task) (input : List ℕ) (r : Result (List ℕ) ImageFault) → IsShownOf t input r → IsNoDevice r
 no_device t input r (inl h) = not_refused input r h
-no_device t input r (inr h) = not_shown t (typed_modules h.modules) h.text r h.shown
+no_device t input r (inr h) = not_shown t [] (typed_modules h.modules) h.text r h.shown
 
 -- ---- an input that is read
 
@@ -234,18 +212,18 @@ module _ (old new : Device) where
   -- whole
   unbroken : (r : Result (List ℕ) ImageFault) → IsUnbroken old new → IsNoDevice r → IsShowCause old new r
   unbroken (Ok shown) h n = h
-  unbroken (Err (fault.Link link.Memory name)) h n = (h, n)
-  unbroken (Err (fault.Link link.Read name)) h n = absurd n
-  unbroken (Err (fault.Link (link.Refused j why at) name)) h n = h
-  unbroken (Err (fault.Link (link.NoText at) name)) h n = h
-  unbroken (Err (fault.Link link.NoModules name)) h n = h
-  unbroken (Err (fault.Link (link.Line k why) name)) h n = h
-  unbroken (Err (fault.Link (link.External f) name)) h n = h
-  unbroken (Err (fault.Link (link.Reach j f) name)) h n = h
-  unbroken (Err (fault.Link (link.Starts j k) name)) h n = h
-  unbroken (Err (fault.Link (link.Space f) name)) h n = h
+  unbroken (Err (fault.Link link.Memory)) h n = h
+  unbroken (Err (fault.Link link.Read)) h n = absurd n
+  unbroken (Err (fault.Link (link.Refused j why at))) h n = h
+  unbroken (Err (fault.Link (link.NoText at))) h n = h
+  unbroken (Err (fault.Link link.NoModules)) h n = h
+  unbroken (Err (fault.Link (link.Line k why))) h n = h
+  unbroken (Err (fault.Link (link.External f))) h n = h
+  unbroken (Err (fault.Link (link.Reach j f))) h n = h
+  unbroken (Err (fault.Link (link.Starts j k))) h n = h
+  unbroken (Err (fault.Link (link.Space f))) h n = h
   unbroken (Err (fault.Lines g lines)) h n = h
-  unbroken (Err (fault.Outside a o)) h n = h
+  unbroken (Err (fault.Outside a o lines)) h n = h
   unbroken (Err fault.NoRoom) h n = h
   unbroken (Err fault.Write) h n = n
 
@@ -253,39 +231,32 @@ module _ (old new : Device) where
   whole_cause t input r h i = unbroken r h (no_device t input r i)
 
   -- in part
-  told_cause : (A : Type 0) (f : LinkFault) (name : Vec ℕ Global) → name.items ≡ [] → IsReadCause {A = A} old new (Err f) → IsShowCause old new (Err (fault.Link f name))
-  told_cause A link.Memory name e h = (h, e)
-  told_cause A link.Read name e h = (h, e)
-  told_cause A (link.Refused j why at) name e h = absurd h
-  told_cause A (link.NoText at) name e h = absurd h
-  told_cause A link.NoModules name e h = absurd h
-  told_cause A (link.Line k why) name e h = absurd h
-  told_cause A (link.External d) name e h = absurd h
-  told_cause A (link.Reach j d) name e h = absurd h
-  told_cause A (link.Starts j k) name e h = absurd h
-  told_cause A (link.Space f) name e h = absurd h
-
-  pub part_cause : (A : Type 0) (f : LinkFault) (e : ImageFault) → IsReadCause {A = A} old new (Err f) → IsUnnamed f e → IsShowCause old new (Err e)
-  part_cause A f (fault.Link g name) c n = subst (λ (x : LinkFault). IsShowCause old new (Err (fault.Link x name))) (sym n.0) (told_cause A f name n.1 c)
-  part_cause A f (fault.Lines g lines) c n = absurd n
-  part_cause A f (fault.Outside a o) c n = absurd n
-  part_cause A f fault.NoRoom c n = absurd n
-  part_cause A f fault.Write c n = absurd n
+  pub part_cause : (A : Type 0) (f : LinkFault) → IsReadCause {A = A} old new (Err f) → IsShowCause old new (Err (fault.Link f))
+  part_cause A link.Memory h = h
+  part_cause A link.Read h = h
+  part_cause A (link.Refused j why at) h = absurd h
+  part_cause A (link.NoText at) h = absurd h
+  part_cause A link.NoModules h = absurd h
+  part_cause A (link.Line k why) h = absurd h
+  part_cause A (link.External d) h = absurd h
+  part_cause A (link.Reach j d) h = absurd h
+  part_cause A (link.Starts j k) h = absurd h
+  part_cause A (link.Space d) h = absurd h
 
 read_whole : (t : Task) (input : List ℕ) (old new : Option (List ℕ)) (r : Result (List ℕ) ImageFault) → Consumes old new input → IsShownOf t input r → Shows t input old new r
 read_whole t input old new (Ok shown) c i = (c, i)
-read_whole t input old new (Err (fault.Link link.Memory name)) c i = (input, c)
-read_whole t input old new (Err (fault.Link link.Read name)) c i = (input, c)
-read_whole t input old new (Err (fault.Link (link.Refused j why at) name)) c i = (c, i)
-read_whole t input old new (Err (fault.Link (link.NoText at) name)) c i = (c, i)
-read_whole t input old new (Err (fault.Link link.NoModules name)) c i = (c, i)
-read_whole t input old new (Err (fault.Link (link.Line n why) name)) c i = (c, i)
-read_whole t input old new (Err (fault.Link (link.External f) name)) c i = (c, i)
-read_whole t input old new (Err (fault.Link (link.Reach j f) name)) c i = (c, i)
-read_whole t input old new (Err (fault.Link (link.Starts j k) name)) c i = (c, i)
-read_whole t input old new (Err (fault.Link (link.Space f) name)) c i = (c, i)
+read_whole t input old new (Err (fault.Link link.Memory)) c i = (input, c)
+read_whole t input old new (Err (fault.Link link.Read)) c i = (input, c)
+read_whole t input old new (Err (fault.Link (link.Refused j why at))) c i = (c, i)
+read_whole t input old new (Err (fault.Link (link.NoText at))) c i = (c, i)
+read_whole t input old new (Err (fault.Link link.NoModules)) c i = (c, i)
+read_whole t input old new (Err (fault.Link (link.Line n why))) c i = (c, i)
+read_whole t input old new (Err (fault.Link (link.External f))) c i = (c, i)
+read_whole t input old new (Err (fault.Link (link.Reach j f))) c i = (c, i)
+read_whole t input old new (Err (fault.Link (link.Starts j k))) c i = (c, i)
+read_whole t input old new (Err (fault.Link (link.Space f))) c i = (c, i)
 read_whole t input old new (Err (fault.Lines g lines)) c i = (c, i)
-read_whole t input old new (Err (fault.Outside a o)) c i = (c, i)
+read_whole t input old new (Err (fault.Outside a o lines)) c i = (c, i)
 read_whole t input old new (Err fault.NoRoom) c i = (c, i)
 read_whole t input old new (Err fault.Write) c i = (c, i)
 
@@ -294,23 +265,15 @@ all_read t old new bytes input r told c end i =
     let h : IfSome old (λ xs. Shows t xs old new r) = Consumes-whole old new bytes (λ xs. Shows t xs old new r) c end (read_whole t bytes old new r c i) in
     subst (λ (o : Option (List ℕ)). IfSome o (λ xs. Shows t xs old new r)) told h
 
-part_of : (t : Task) (A : Type 0) (input : List ℕ) (before after : Device) (old new : Option (List ℕ)) (f : LinkFault) (name : Vec ℕ Global) → IsReadCause {A = A} before after (Err f) → IsPartRead old new
-    → Shows t input old new (Err (fault.Link f name))
-part_of t A input before after old new link.Memory name h p = p
-part_of t A input before after old new link.Read name h p = p
-part_of t A input before after old new (link.Refused j why at) name h p = absurd h
-part_of t A input before after old new (link.NoText at) name h p = absurd h
-part_of t A input before after old new link.NoModules name h p = absurd h
-part_of t A input before after old new (link.Line k why) name h p = absurd h
-part_of t A input before after old new (link.External d) name h p = absurd h
-part_of t A input before after old new (link.Reach j d) name h p = absurd h
-part_of t A input before after old new (link.Starts j k) name h p = absurd h
-part_of t A input before after old new (link.Space d) name h p = absurd h
-
-pub part_read : (t : Task) (A : Type 0) (input : List ℕ) (before after : Device) (old new : Option (List ℕ)) (f : LinkFault) (e : ImageFault) → IsReadCause {A = A} before after (Err f) → IsPartRead old new → IsUnnamed f e
-    → Shows t input old new (Err e)
-part_read t A input before after old new f (fault.Link g name) h p n = subst (λ (x : LinkFault). Shows t input old new (Err (fault.Link x name))) (sym n.0) (part_of t A input before after old new f name h p)
-part_read t A input before after old new f (fault.Lines g lines) h p n = absurd n
-part_read t A input before after old new f (fault.Outside a o) h p n = absurd n
-part_read t A input before after old new f fault.NoRoom h p n = absurd n
-part_read t A input before after old new f fault.Write h p n = absurd n
+pub part_read : (t : Task) (A : Type 0) (input : List ℕ) (before after : Device) (old new : Option (List ℕ)) (f : LinkFault) → IsReadCause {A = A} before after (Err f) → IsPartRead old new
+    → Shows t input old new (Err (fault.Link f))
+part_read t A input before after old new link.Memory h p = p
+part_read t A input before after old new link.Read h p = p
+part_read t A input before after old new (link.Refused j why at) h p = absurd h
+part_read t A input before after old new (link.NoText at) h p = absurd h
+part_read t A input before after old new link.NoModules h p = absurd h
+part_read t A input before after old new (link.Line k why) h p = absurd h
+part_read t A input before after old new (link.External d) h p = absurd h
+part_read t A input before after old new (link.Reach j d) h p = absurd h
+part_read t A input before after old new (link.Starts j k) h p = absurd h
+part_read t A input before after old new (link.Space d) h p = absurd h

@@ -1,4 +1,6 @@
 pub mod Libraries
+pub mod Input
 pub mod Program
 pub mod Taken
 pub mod Sharing
+pub mod Ordering

@@ -5,4 +5,5 @@ pub mod Map
 pub mod Link
 pub mod Place
 pub mod Exe
+pub mod Seen
 pub mod Inner

@@ -31,6 +31,7 @@ fn is_valued(argument: &str) -> bool
         "--map" => true,
         "--library-path" => true,
         "--stack" => true,
+        "--order" => true,
         _ => false,
     }
 }

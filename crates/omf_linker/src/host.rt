@@ -1,7 +1,7 @@
 //! What the programs do with files and the standard input.
 
 use crate::exe::is_library;
-use crate::link::file_front;
+use crate::link::{Output, file_front};
 use omf_cmd::{Program, run_with};
 use omf_frame::{Buffered, Sink};
 use omf_host::{Status, put, read_input, write_whole};
@@ -63,6 +63,17 @@ pub fn write_or_tell<K: Sink>(
             Ok(Status::Failed)
         }
     }
+}
+
+/// Writes an output to a file, which is never half written. Returns `Done`; or `Failed`, after a line on why, if it could not be written.
+pub fn write_output_or_tell<K: Sink>(
+    rt: &HostRuntime,
+    name: &str,
+    output: &Output,
+    writer: &mut K,
+) -> Result<Status, AllocError> {
+    let bytes = output.bytes(rt.alloc())?;
+    write_or_tell(rt, name, &bytes, writer)
 }
 
 /// Does what arguments ask of a program, on the standard input. Returns the status.

@@ -1,12 +1,16 @@
 //! The program `omf-link`: prints the memory image of several modules, their map, or a draft of a link text for them.
 
+mod block;
 mod by_name;
+mod digits;
 mod fault;
 mod files;
 mod files_fault;
 mod form_words;
+mod labels;
 mod linking;
 mod naming;
+mod output;
 mod printed;
 mod printing;
 mod program;
@@ -16,14 +20,17 @@ mod unresolved;
 mod words;
 
 pub use fault::ImageFault;
+pub(crate) use files::refused;
 pub use files::{file_front, files_text, run_files};
 pub use files_fault::FilesFault;
+pub(crate) use labels::LabeledModules;
 pub use linking::{modules_map, modules_text};
-pub(crate) use naming::is_unresolved;
 pub use omf_linking::InputFile;
-pub use printing::{image_text, memory_text};
+pub use output::Output;
 pub use program::Link;
 pub use rom::modules_file;
-pub use running::{run_task, shown_text};
+pub(crate) use running::{modules_shown, parted};
+pub use running::{run_task, shown_output, shown_text};
+pub(crate) use unresolved::put_own;
 pub use unresolved::unresolved_text;
 pub use words::{Task, task_of};

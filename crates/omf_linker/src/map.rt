@@ -16,3 +16,4 @@ mod printing;
 pub mod rows;
 
 pub use listing::map_text;
+pub(crate) use printing::print_digits;

@@ -6,6 +6,7 @@ ghost use Rattle.omf_frame.specs.declared.fault.Reason.TheVariants as reason;
 ghost use Rattle.omf_check.specs.Rows.{place};
 ghost use Rattle.omf_placement.specs.declared.several.fault.DeriveFault.TheVariants as derive;
 ghost use Rattle.omf_reloc.specs.Modules.{constant_public, local_public, using, using_locally};
+ghost use Rattle.omf_reloc.specs.declared.fault.Cause.TheVariants as cause;
 ghost use Rattle.omf_reloc.specs.declared.fault.Kind.TheVariants as kind;
 ghost use Rattle.omf_reloc.specs.declared.fault.ReachFault.TheVariants as reach;
 ghost use Rattle.omf_layout.specs.declared.options.Frames.TheVariants.{Real, Flat};
@@ -13,7 +14,9 @@ ghost use Rattle.omf_linking.specs.declared.fault.LinkFault.TheVariants as link;
 ghost use Rattle.omf_linking.specs.declared.locator.fault.LineFault.TheVariants as why;
 ghost use Rattle.omf_linking.specs.declared.space.fault.MemoryFault.TheVariants as space;
 ghost use Rattle.omf_linker.specs.Options.{options_named};
-ghost use Rattle.omf_linker.specs.Link.Rows.{bytes_at, line_of, names_of, segment_of, started_text, text_of};
+ghost use Rattle.omf_linker.specs.Link.Files.{module_labels};
+ghost use Rattle.omf_linker.specs.Link.Named.{beyond_line, far_line, high_line, outside_line, overlap_line, starts_line};
+ghost use Rattle.omf_linker.specs.Link.Rows.{bytes_at, line_of, names_of, one_label, reach_shown, segment_of, spot_of, started_text, text_of, two_modules};
 ghost use Rattle.omf_linker.specs.Link.Words.{IsAsked as AsksLink, link_app};
 ghost use Rattle.omf_linker.specs.Place.Words.{IsAsked as AsksPlace};
 ghost use Rattle.omf_linker.specs.declared.link.words.Task.TheVariants.{Image, Map, Draft};
@@ -47,25 +50,45 @@ pub fn texts_with_a_start()
     ensures none { started_text (bytes_at 0x7C00 (0xF4 ∷ []) ∷ []) None ≡ codes "00007C00: F4\n" }
 {}
 
-/// The line of each fault. Modules are counted from 1.
+/// The line of each fault, by numbers. Modules are counted from 1.
 pub fn fault_lines()
-    ensures memory { line_of link.Memory [] ≡ codes "memory" }
-    ensures read { line_of link.Read [] ≡ codes "read" }
-    ensures refused { line_of (link.Refused 1 reason.Cut (place 4 34 2)) [] ≡ codes "module 2 refused 2 Cut record 4 at 34 within 2" }
-    ensures no_text { line_of (link.NoText 153) [] ≡ codes "input at 153: no module and no text" }
-    ensures no_modules { line_of link.NoModules [] ≡ codes "no modules" }
-    ensures text { line_of (link.Line 3 why.NotUnderstood) [] ≡ codes "text line 3: not understood" }
-    ensures before { line_of (link.Line 1 why.NoModule) [] ≡ codes "text line 1: no M line before it" }
-    ensures unknown { line_of (link.Line 12 why.Unknown) [] ≡ codes "text line 12: names nothing" }
-    ensures several { line_of (link.Line 2 why.Several) [] ≡ codes "text line 2: names more than one" }
-    ensures again { line_of (link.Line 4 why.Twice) [] ≡ codes "text line 4: a second line for the same" }
-    ensures undefined { line_of (link.External (derive.Undefined 0 2)) (codes "_main") ≡ codes "module 1 external 2 Undefined \"_main\"" }
-    ensures twice { line_of (link.External (derive.Twice 2 1)) (0x22 ∷ 0xFF ∷ []) ≡ codes "module 3 external 1 Twice \"\\x22\\xFF\"" }
-    ensures high { line_of (link.External (derive.TooHigh 0 1)) [] ≡ codes "module 1 external 1 TooHigh \"\"" }
-    ensures reach { line_of (link.Reach 2 (reach.Missing kind.Segment 1)) [] ≡ codes "module 3 reach 1 Missing segment 1" }
-    ensures starts { line_of (link.Starts 0 2) [] ≡ codes "starts module 1 module 3" }
-    ensures beyond { line_of (link.Space (space.Beyond (segment_of 1 3))) [] ≡ codes "beyond module 2 segment 3" }
-    ensures overlap { line_of (link.Space (space.Overlap 0x10020 (segment_of 0 2) (segment_of 2 1))) [] ≡ codes "overlap 00010020 module 1 segment 2 module 3 segment 1" }
+    ensures memory { line_of link.Memory ≡ codes "memory" }
+    ensures read { line_of link.Read ≡ codes "read" }
+    ensures refused { line_of (link.Refused 1 reason.Cut (place 4 34 2)) ≡ codes "module 2 refused 2 Cut record 4 at 34 within 2" }
+    ensures no_text { line_of (link.NoText 153) ≡ codes "input at 153: no module and no text" }
+    ensures no_modules { line_of link.NoModules ≡ codes "no modules" }
+    ensures text { line_of (link.Line 3 why.NotUnderstood) ≡ codes "text line 3: not understood" }
+    ensures before { line_of (link.Line 1 why.NoModule) ≡ codes "text line 1: no M line before it" }
+    ensures unknown { line_of (link.Line 12 why.Unknown) ≡ codes "text line 12: names nothing" }
+    ensures several { line_of (link.Line 2 why.Several) ≡ codes "text line 2: names more than one" }
+    ensures again { line_of (link.Line 4 why.Twice) ≡ codes "text line 4: a second line for the same" }
+    ensures undefined { line_of (link.External (derive.Undefined 0 2)) ≡ codes "module 1 external 2 Undefined" }
+    ensures twice { line_of (link.External (derive.Twice 2 1)) ≡ codes "module 3 external 1 Twice" }
+    ensures high { line_of (link.External (derive.TooHigh 0 1)) ≡ codes "module 1 external 1 TooHigh" }
+    ensures reach { line_of (link.Reach 2 (reach.Missing kind.Segment 1)) ≡ codes "module 3 reach 1 Missing segment 1" }
+    ensures starts { line_of (link.Starts 0 2) ≡ codes "starts module 1 module 3" }
+    ensures beyond { line_of (link.Space (space.Beyond (segment_of 1 3))) ≡ codes "beyond module 2 segment 3" }
+    ensures overlap { line_of (link.Space (space.Overlap 0x10020 (segment_of 0 2) (segment_of 2 1))) ≡ codes "overlap 00010020 module 1 segment 2 module 3 segment 1" }
+{}
+
+/// The line of each fault about a module and its parts. The first of two modules is called by its file; each has a segment `T`, and an external
+/// `X`. A segment without a name has its index, and a start its record.
+pub fn lines_by_names()
+    ensures high { high_line one_label two_modules 0 1 ≡ codes "file \"a.obj\" module 1 external 1 TooHigh \"X\"\n" }
+    ensures missing { reach_shown 1 (reach.Missing kind.Segment 1) ≡ codes "module 2: no line for segment 1 \"T\"\n" }
+    ensures no_frame { reach_shown 0 (reach.Missing kind.Group 3) ≡ codes "file \"a.obj\" module 1: no frame for group 3\n" }
+    ensures absolute { reach_shown 1 (reach.Absolute 2) ≡ codes "module 2 reach 3 Absolute 2\n" }
+    ensures far { far_line one_label two_modules 0 4 cause.Distance (Some (spot_of 1 8)) (Some (codes "X")) ≡ codes "file \"a.obj\" module 1 segment \"T\" offset 00000008: TooFar Distance \"X\"\n" }
+    ensures start { far_line one_label two_modules 1 6 cause.Target None None ≡ codes "module 2 record 6: TooFar Target\n" }
+    ensures starts { starts_line one_label 0 1 ≡ codes "two starts: file \"a.obj\" module 1 and module 2\n" }
+    ensures beyond { beyond_line one_label two_modules (segment_of 1 1) ≡ codes "module 2 segment \"T\": beyond the last address\n" }
+    ensures overlap { overlap_line one_label two_modules 0x10020 (segment_of 0 1) (segment_of 1 7) ≡ codes "file \"a.obj\" module 1 segment \"T\" overlaps module 2 segment 7 at 00010020\n" }
+    ensures outside { outside_line one_label two_modules 0xFFFF0 (Some (segment_of 1 1)) ≡ codes "module 2 segment \"T\": outside the range at 000FFFF0\n" }
+{}
+
+/// What the modules of a file are called.
+pub fn labels_of_a_file()
+    ensures { module_labels (codes "a b.obj") 2 ≡ codes "file \"a b.obj\" module 1" ∷ codes "file \"a b.obj\" module 2" ∷ [] }
 {}
 
 /// The lines of the name X: none if one module defines it; else with the modules that ask for it, or those that define it. A public that is not

@@ -27,6 +27,10 @@ use Rattle.omf_linker.specs.declared.exe.fault.PlacingFault.TheVariants as no_pl
 use Rattle.omf_linker.specs.declared.exe.fault.ProgramFault.{ProgramFault}
 use Rattle.omf_linker.specs.declared.exe.fault.ProgramFault.TheVariants as fault
 
+-- The modules of a program.
+pub record ProgramModules : Type 0 where
+  pub modules : List Module
+
 -- Real mode, from address 0 on.
 abbrev pub at_0 : Options
 at_0 = record { base = 0; frames = Real }

@@ -1,5 +1,5 @@
 -- The module that a linker adds to the modules of a program for their communals (this profile's rule).
-use Rattle.std.specs.Prelude.{◌≡◌, ⊤, ℕ, List, [], ◌∷◌, ◌++◌, Bool, false, Option, Some, None, Ok, Err}
+use Rattle.std.specs.Prelude.{◌≡◌, ⊤, ℕ, List, [], ◌∷◌, ◌++◌, false, Option, Some, None, Ok, Err}
 use Rattle.omf_check.specs.Checking.{Decides}
 use Rattle.omf_check.specs.Module.{Module, typed_modules}
 use Rattle.omf_check.specs.declared.fault.CheckFault.TheVariants.{Refused}

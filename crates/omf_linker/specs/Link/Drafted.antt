@@ -1,5 +1,5 @@
 -- The draft of a link text for several modules, or why there is none.
-use Rattle.std.specs.Prelude.{◌≡◌, ℕ, List, [], Some, None, Result, Ok, Err}
+use Rattle.std.specs.Prelude.{◌≡◌, ⊤, ℕ, List, Some, None, Result, Ok, Err}
 use Rattle.omf_records.specs.Values.{Rec}
 use Rattle.omf_placement.specs.Placement.{Places}
 use Rattle.omf_layout.specs.Layout.{Laid}
@@ -20,5 +20,5 @@ pub record IsDraft (o : Options) (ms : List (List Rec)) (text : List ℕ) : Type
 abbrev pub IsDrafted : Options → List (List Rec) → Result (List ℕ) ImageFault → Type 0
 IsDrafted o ms (Ok text) = IsDraft o ms text
 IsDrafted o ms (Err fault.NoRoom) = drafted o ms ≡ None
-IsDrafted o ms (Err (fault.Link link.Memory name)) = name.items ≡ []
+IsDrafted o ms (Err (fault.Link link.Memory)) = ⊤
 IsDrafted o ms (Err _) = ⊥

@@ -1,5 +1,5 @@
 -- A run of `omf-link` over files (a rule of this profile).
-use Rattle.std.specs.Prelude.{◌≡◌, ◌⊎◌, ℕ, List, [], ◌∷◌, ◌++◌, Result, Ok, Err, codes, decimal, string_bytes}
+use Rattle.std.specs.Prelude.{◌≡◌, ◌⊎◌, ℕ, zero, suc, List, [], ◌∷◌, ◌++◌, length, Result, Ok, Err, codes, decimal, string_bytes}
 use Rattle.std.specs.Io.KnownBytes.{Appends}
 use Rattle.omf_frame.specs.Device.{Device}
 use Rattle.omf_check.specs.Module.{Module, typed_modules}
@@ -9,13 +9,14 @@ use Rattle.omf_cmd.specs.Runs.{HasGivenUp, IsPart, IsUnbroken, IsWritten}
 use Rattle.omf_placement.specs.Quoted.{quoted}
 use Rattle.omf_records.specs.Values.{Rec}
 use Rattle.omf_linking.specs.File.{InputFile}
-use Rattle.omf_linking.specs.Files.{AreFiles, IsFirstAtFault}
+use Rattle.omf_linking.specs.Files.{IsFile, IsFirstAtFault}
 use Rattle.omf_linking.specs.declared.fault.LinkFault.{LinkFault}
 use Rattle.omf_linking.specs.declared.fault.LinkFault.TheVariants as link
-use Rattle.omf_linker.specs.Link.Faults.{IsUnnamed, link_status, link_words, report}
+use Rattle.omf_linker.specs.Link.Faults.{link_status, link_words, report}
 use Rattle.omf_linker.specs.Link.Linked.{any}
 use Rattle.omf_linker.specs.Link.Shown.{AreShown}
 use Rattle.omf_linker.specs.declared.link.fault.ImageFault.{ImageFault}
+use Rattle.omf_linker.specs.declared.link.fault.ImageFault.TheVariants as image
 use Rattle.omf_linker.specs.declared.link.files_fault.FilesFault.{FilesFault}
 use Rattle.omf_linker.specs.declared.link.files_fault.FilesFault.TheVariants as fault
 use Rattle.omf_linker.specs.declared.link.words.Task.{Task}
@@ -33,35 +34,52 @@ file_at at = codes "at " ++ decimal at
 -- The rest of the line: what the file holds beside modules and padding, or the line of a link fault.
 abbrev pub file_line : LinkFault → List ℕ
 file_line (link.NoText at) = file_at at ++ line (codes ": neither a module nor padding" ∷ [])
-file_line f = line (link_words f [])
+file_line f = line (link_words f)
 
 -- What is reported of a fault.
 abbrev pub files_report : FilesFault → FaultReport
 files_report (fault.File f front) = record { status = link_status f; text = string_bytes front ++ file_line f }
 files_report (fault.Link f) = report f
 
+-- ---- the modules and their labels
+
+-- What a module of a file is called: the file's name, and the number of the module in it, from 1.
+abbrev pub module_label : List ℕ → ℕ → List ℕ
+module_label name i = file_front name ++ codes "module " ++ decimal i
+
+-- What the first n modules of a file are called.
+abbrev pub module_labels : List ℕ → ℕ → List (List ℕ)
+module_labels name zero = []
+module_labels name (suc n) = module_labels name n ++ module_label name (suc n) ∷ []
+
+-- The modules of files, in the order of the files, and what each is called.
+abbrev pub AreLabeled : List InputFile → List Module → List (List ℕ) → Type 0
+AreLabeled [] ms labels = (ms ≡ []) × (labels ≡ [])
+AreLabeled (f ∷ fs) ms labels = (own : List Module) × (others : List Module) × (names : List (List ℕ)) × IsFile any f.bytes (Ok own) × AreLabeled fs others names × (ms ≡ own ++ others)
+    × (labels ≡ module_labels f.name (length own) ++ names)
+
 -- ---- the result
 
 -- A file's fault with the front of its line, or out of memory for that.
 abbrev pub IsFileNamed : List ℕ → LinkFault → FilesFault → Type 0
 IsFileNamed name f (fault.File g front) = (g ≡ f) × (string_bytes front ≡ file_front name)
-IsFileNamed name f (fault.Link e) = IsUnnamed link.Memory e
+IsFileNamed name f (fault.Link e) = e ≡ image.Link link.Memory
 
--- The files hold modules, and this is the result of the task for these and the link text.
+-- The files hold modules, and this is the result of the task for these, by their labels, and the link text.
 abbrev pub AreShownFrom : Task → List InputFile → List ℕ → Result (List ℕ) ImageFault → Type 0
-AreShownFrom t files text r = (ms : List Module) × AreFiles any files (Ok ms) × AreShown t (typed_modules ms) text r
+AreShownFrom t files text r = (ms : List Module) × (labels : List (List ℕ)) × AreLabeled files ms labels × AreShown t labels (typed_modules ms) text r
 
 -- The result of a task for files and a link text: that for their modules; or the first file at fault, by its name. Memory may run out at any time.
 abbrev pub AreFilesShown : Task → List InputFile → List ℕ → Result (List ℕ) FilesFault → Type 0
 AreFilesShown t files text (Ok shown) = AreShownFrom t files text (Ok shown)
-AreFilesShown t files text (Err (fault.Link f)) = AreShownFrom t files text (Err f) ⊎ IsUnnamed link.Memory f
+AreFilesShown t files text (Err (fault.Link f)) = AreShownFrom t files text (Err f) ⊎ (f ≡ image.Link link.Memory)
 AreFilesShown t files text (Err (fault.File f front)) = (k : ℕ) × (a : IsFirstAtFault any files (record { file = k; fault = f })) × (string_bytes front ≡ file_front a.file.name)
 
 -- The result for modules and a link text, where the fault is one of a link.
-abbrev pub IsShownAs : Task → List (List Rec) → List ℕ → Result (List ℕ) FilesFault → Type 0
-IsShownAs t ms text (Ok shown) = AreShown t ms text (Ok shown)
-IsShownAs t ms text (Err (fault.Link f)) = AreShown t ms text (Err f)
-IsShownAs t ms text (Err (fault.File f front)) = ⊥
+abbrev pub IsShownAs : Task → List (List ℕ) → List (List Rec) → List ℕ → Result (List ℕ) FilesFault → Type 0
+IsShownAs t labels ms text (Ok shown) = AreShown t labels ms text (Ok shown)
+IsShownAs t labels ms text (Err (fault.Link f)) = AreShown t labels ms text (Err f)
+IsShownAs t labels ms text (Err (fault.File f front)) = ⊥
 
 -- ---- the run
 

@@ -1,5 +1,5 @@
 -- The memory of several modules as a file for a chip, or why there is none (a rule of this profile).
-use Rattle.std.specs.Prelude.{◌≡◌, ◌⊎◌, ℕ, List, [], true, false, zip, Option, option_map, slice_get, Result, Ok, Err}
+use Rattle.std.specs.Prelude.{◌≡◌, ◌⊎◌, ℕ, List, true, false, zip, Option, option_map, slice_get, Result, Ok, Err}
 use Rattle.omf_image.specs.Overlay.{byte_at}
 use Rattle.omf_records.specs.Values.{Rec}
 use Rattle.omf_linking.specs.Segments.{all_segments, with_images}
@@ -8,9 +8,9 @@ use Rattle.omf_linking.specs.declared.fault.LinkFault.TheVariants as link
 use Rattle.omf_linking.specs.declared.space.stretch.Owner.{Owner}
 use Rattle.omf_output.specs.Rom.Memory.{IsFileOr, IsFirstOutside}
 use Rattle.omf_output.specs.declared.rom.form.Form.{Form}
-use Rattle.omf_linker.specs.Link.Faults.{is_unresolved, name_of}
+use Rattle.omf_linker.specs.Link.Faults.{is_of_modules}
 use Rattle.omf_linker.specs.Link.Linked.{AreTogether, IsFirstFault}
-use Rattle.omf_linker.specs.Link.Unresolved.{AreLines}
+use Rattle.omf_linker.specs.Link.Named.{HasLines, outside_line}
 use Rattle.omf_linker.specs.declared.link.fault.ImageFault.{ImageFault}
 use Rattle.omf_linker.specs.declared.link.linking.LinkedModules.{LinkedModules}
 use Rattle.omf_linker.specs.declared.link.fault.ImageFault.TheVariants as fault
@@ -33,24 +33,28 @@ pub record IsOutsideOf (f : Form) (ms : List (List Rec)) (text : List ℕ) (addr
   pub first : IsFirstOutside f (byte_at together.memory 0) address
   pub owned : owner ≡ owner_at ms text together address
 
--- The result for modules and a link text: the file of their memory; or the first fault of the image, with the lines of names or the name of its external; or a byte that the
--- form does not have. Out of memory is possible at any time.
-abbrev pub IsRom : Form → List (List Rec) → List ℕ → Result (List ℕ) ImageFault → Type 0
-IsRom f ms text (Ok file) = (t : AreTogether ms text) × IsFileOr f t.memory (Ok file)
-IsRom f ms text (Err (fault.Outside a o)) = IsOutsideOf f ms text a o
-IsRom f ms text (Err (fault.Link g name)) = (IsFirstFault ms text g × (is_unresolved g ≡ false) × (name.items ≡ name_of ms g)) ⊎ ((g ≡ link.Memory) × (name.items ≡ []))
-IsRom f ms text (Err (fault.Lines g lines)) = IsFirstFault ms text g × (is_unresolved g ≡ true) × AreLines [] ms text lines.items
-IsRom f ms text (Err _) = ⊥
+-- The result for modules with these labels and a link text: the file of their memory; or the first fault of the image, with its lines if it is about a module and its
+-- parts; or a byte that the form does not have, with its line. Out of memory is possible at any time.
+abbrev pub IsRom : Form → List (List ℕ) → List (List Rec) → List ℕ → Result (List ℕ) ImageFault → Type 0
+IsRom f labels ms text (Ok file) = (t : AreTogether ms text) × IsFileOr f t.memory (Ok file)
+IsRom f labels ms text (Err (fault.Outside a o lines)) = IsOutsideOf f ms text a o × (lines.items ≡ outside_line labels ms a o)
+IsRom f labels ms text (Err (fault.Link g)) = (IsFirstFault ms text g × (is_of_modules g ≡ false)) ⊎ (g ≡ link.Memory)
+IsRom f labels ms text (Err (fault.Lines g lines)) = IsFirstFault ms text g × (is_of_modules g ≡ true) × HasLines labels ms text g lines.items
+IsRom f labels ms text (Err _) = ⊥
 
--- The fault for an address that the form does not have, of modules that are linked. Out of memory is possible.
-abbrev pub IsOwned : List (List Rec) → LinkedModules → ℕ → ImageFault → Type 0
-IsOwned ms l a (fault.Outside b o) = (b ≡ a) × (o ≡ linked_owner ms l a)
-IsOwned ms l a (fault.Link g name) = (g ≡ link.Memory) × (name.items ≡ [])
-IsOwned ms l a _ = ⊥
+-- The fault for an address that the form does not have. Out of memory is possible.
+abbrev pub IsOutside : List (List ℕ) → List (List Rec) → ℕ → Option Owner → ImageFault → Type 0
+IsOutside labels ms a o (fault.Outside b p lines) = (b ≡ a) × (p ≡ o) × (lines.items ≡ outside_line labels ms a o)
+IsOutside labels ms a o (fault.Link g) = g ≡ link.Memory
+IsOutside labels ms a o _ = ⊥
+
+-- The same of modules that are linked, with the first segment that has a byte there.
+abbrev pub IsOwned : List (List ℕ) → List (List Rec) → LinkedModules → ℕ → ImageFault → Type 0
+IsOwned labels ms l a f = IsOutside labels ms a (linked_owner ms l a) f
 
 -- The file of modules that are linked, or why there is none.
-abbrev pub IsLinkedFile : Form → List (List Rec) → LinkedModules → Result (List ℕ) ImageFault → Type 0
-IsLinkedFile f ms l (Ok file) = IsFileOr f l.memory (Ok file)
-IsLinkedFile f ms l (Err (fault.Outside a o)) = IsFirstOutside f (byte_at l.memory 0) a × (o ≡ linked_owner ms l a)
-IsLinkedFile f ms l (Err (fault.Link g name)) = (g ≡ link.Memory) × (name.items ≡ [])
-IsLinkedFile f ms l (Err _) = ⊥
+abbrev pub IsLinkedFile : Form → List (List ℕ) → List (List Rec) → LinkedModules → Result (List ℕ) ImageFault → Type 0
+IsLinkedFile f labels ms l (Ok file) = IsFileOr f l.memory (Ok file)
+IsLinkedFile f labels ms l (Err (fault.Outside a o lines)) = IsFirstOutside f (byte_at l.memory 0) a × (o ≡ linked_owner ms l a) × (lines.items ≡ outside_line labels ms a o)
+IsLinkedFile f labels ms l (Err (fault.Link g)) = g ≡ link.Memory
+IsLinkedFile f labels ms l (Err _) = ⊥

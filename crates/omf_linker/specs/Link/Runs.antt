@@ -1,5 +1,5 @@
 -- A run of `omf-link`: its result, and what it reads and writes.
-use Rattle.std.specs.Prelude.{◌≡◌, ℕ, List, [], Option, Some, Result, Err}
+use Rattle.std.specs.Prelude.{◌≡◌, ℕ, List, Option, Some, Result, Err}
 use Rattle.std.specs.Io.KnownBytes.{Consumes}
 use Rattle.omf_frame.specs.Device.{Device}
 use Rattle.omf_linking.specs.Reading.{IsPartRead}
@@ -16,14 +16,13 @@ IsWhole t input old new r = Consumes old new input × IsShownOf t input r
 
 -- The result of a task for an input, and how far it is read: to its end, or in part if memory ran out or the reader failed.
 abbrev pub Shows : Task → List ℕ → Option (List ℕ) → Option (List ℕ) → Result (List ℕ) ImageFault → Type 0
-Shows t input old new (Err (fault.Link link.Memory name)) = IsPartRead old new
-Shows t input old new (Err (fault.Link link.Read name)) = IsPartRead old new
+Shows t input old new (Err (fault.Link link.Memory)) = IsPartRead old new
+Shows t input old new (Err (fault.Link link.Read)) = IsPartRead old new
 Shows t input old new r = IsWhole t input old new r
 
--- The fault names the reader if it failed; otherwise the reader did not break. Neither that fault nor out of memory has a name.
+-- The fault names the reader if it failed; otherwise the reader did not break.
 abbrev pub IsShowCause : Device → Device → Result (List ℕ) ImageFault → Type 0
-IsShowCause old new (Err (fault.Link link.Read name)) = HasGivenUp old new × (name.items ≡ [])
-IsShowCause old new (Err (fault.Link link.Memory name)) = IsUnbroken old new × (name.items ≡ [])
+IsShowCause old new (Err (fault.Link link.Read)) = HasGivenUp old new
 IsShowCause old new (Err fault.Write) = ⊥
 IsShowCause old new r = IsUnbroken old new
 

@@ -1,4 +1,4 @@
--- The text that a task prints for an input, or the first fault, with the name of its external.
+-- The text that a task prints for an input, or the first fault, with its lines.
 use Rattle.std.specs.Prelude.{◌≡◌, ◌⊎◌, ℕ, List, [], true, false, Result, Ok, Err}
 use Rattle.omf_check.specs.Module.{Module, typed_modules}
 use Rattle.omf_records.specs.Values.{Rec}
@@ -6,42 +6,42 @@ use Rattle.omf_linking.specs.Reading.{AreModules}
 use Rattle.omf_linking.specs.declared.fault.LinkFault.{LinkFault}
 use Rattle.omf_linking.specs.declared.fault.LinkFault.TheVariants as link
 use Rattle.omf_linker.specs.Link.Drafted.{IsDrafted}
-use Rattle.omf_linker.specs.Link.Faults.{is_unresolved, name_of}
+use Rattle.omf_linker.specs.Link.Faults.{is_of_modules}
 use Rattle.omf_linker.specs.Link.Linked.{any, IsLinked}
 use Rattle.omf_linker.specs.Link.Mapped.{IsMapped}
 use Rattle.omf_linker.specs.Link.Rom.{IsRom}
-use Rattle.omf_linker.specs.Link.Unresolved.{AreLines}
+use Rattle.omf_linker.specs.Link.Named.{HasLines}
 use Rattle.omf_linker.specs.declared.link.fault.ImageFault.{ImageFault}
 use Rattle.omf_linker.specs.declared.link.fault.ImageFault.TheVariants as fault
 use Rattle.omf_linker.specs.declared.link.words.Task.{Task}
 use Rattle.omf_linker.specs.declared.link.words.Task.TheVariants as task
 
--- A result for modules and a link text, where a fault of names has a line for each of them, and any other the name of its external. Out of memory is possible at
--- any time.
-abbrev pub IsNamedAs : (Result (List ℕ) LinkFault → Type 0) → List (List Rec) → List ℕ → Result (List ℕ) ImageFault → Type 0
-IsNamedAs Is ms text (Ok shown) = Is (Ok shown)
-IsNamedAs Is ms text (Err (fault.Link f name)) = (Is (Err f) × (is_unresolved f ≡ false) × (name.items ≡ name_of ms f)) ⊎ ((f ≡ link.Memory) × (name.items ≡ []))
-IsNamedAs Is ms text (Err (fault.Lines f lines)) = Is (Err f) × (is_unresolved f ≡ true) × AreLines [] ms text lines.items
-IsNamedAs Is ms text (Err _) = ⊥
+-- A result for modules and a link text, where a fault about a module and its parts has its lines. Out of memory is possible at any time.
+abbrev pub IsNamedAs : (Result (List ℕ) LinkFault → Type 0) → List (List ℕ) → List (List Rec) → List ℕ → Result (List ℕ) ImageFault → Type 0
+IsNamedAs Is labels ms text (Ok shown) = Is (Ok shown)
+IsNamedAs Is labels ms text (Err (fault.Link f)) = (Is (Err f) × (is_of_modules f ≡ false)) ⊎ (f ≡ link.Memory)
+IsNamedAs Is labels ms text (Err (fault.Lines f lines)) = Is (Err f) × (is_of_modules f ≡ true) × HasLines labels ms text f lines.items
+IsNamedAs Is labels ms text (Err _) = ⊥
 
--- The result of a task for modules and a link text: their image as text, or as a file for a chip, or their map; or their draft, whatever the text is.
-abbrev pub AreShown : Task → List (List Rec) → List ℕ → Result (List ℕ) ImageFault → Type 0
-AreShown task.Image ms text r = IsNamedAs (IsLinked ms text) ms text r
-AreShown (task.Rom f) ms text r = IsRom f ms text r
-AreShown task.Map ms text r = IsNamedAs (IsMapped ms text) ms text r
-AreShown (task.Draft o) ms text r = IsDrafted o ms r
+-- The result of a task for modules with these labels and a link text: their image as text, or as a file for a chip, or their map; or their draft, whatever the text
+-- is.
+abbrev pub AreShown : Task → List (List ℕ) → List (List Rec) → List ℕ → Result (List ℕ) ImageFault → Type 0
+AreShown task.Image labels ms text r = IsNamedAs (IsLinked ms text) labels ms text r
+AreShown (task.Rom f) labels ms text r = IsRom f labels ms text r
+AreShown task.Map labels ms text r = IsNamedAs (IsMapped ms text) labels ms text r
+AreShown (task.Draft o) labels ms text r = IsDrafted o ms r
 
--- An input is modules and a link text, and this is the result for them.
+-- An input is modules and a link text, and this is the result for them. The modules have no labels: a fault counts them.
 pub record AreShownIn (t : Task) (input : List ℕ) (r : Result (List ℕ) ImageFault) : Type 0 where
   pub modules : List Module
   pub text : List ℕ
   pub spelled : AreModules any input (Ok (modules, text))
-  pub shown : AreShown t (typed_modules modules) text r
+  pub shown : AreShown t [] (typed_modules modules) text r
 
--- A module of the input is refused, and this is the fault of the first; or what follows the modules is no text. It has no name.
+-- A module of the input is refused, and this is the fault of the first; or what follows the modules is no text.
 abbrev pub IsNoModule : List ℕ → Result (List ℕ) ImageFault → Type 0
 IsNoModule input (Ok shown) = ⊥
-IsNoModule input (Err (fault.Link f name)) = AreModules any input (Err f) × (name.items ≡ [])
+IsNoModule input (Err (fault.Link f)) = AreModules any input (Err f)
 IsNoModule input (Err _) = ⊥
 
 -- The result of a task for an input: the first refused module, or what is no text; or the result for its modules and its text.

@@ -1,9 +1,9 @@
-//! The module that options add to those of a program.
+//! What options add to the modules of a program.
 
-use crate::exe::options::ExeOptions;
+use crate::exe::options::{ExeOptions, Order};
 use omf_check::{CheckFault, Checked, Profile, check};
 use omf_frame::Bytes;
-use omf_layout::own::stack_module;
+use omf_layout::own::{ask_dos_order, stack_module};
 use std::alloc::{AllocError, Global};
 
 /// The module of the stack that is asked for; none if none is.
@@ -21,5 +21,13 @@ pub(crate) fn stack_of(
     match check(alloc, &mut Bytes::new(&bytes), profile) {
         Ok(module) => Ok(Some(module)),
         Err(CheckFault::Refused { .. } | CheckFault::Memory | CheckFault::Read) => Err(AllocError),
+    }
+}
+
+/// Whether the modules are laid in DOS order: by the options; without `--order`, if a module asks for it.
+pub(crate) fn is_dos_ordered(modules: &[Checked], options: &ExeOptions<'_>) -> bool {
+    match options.order {
+        Some(order) => order == Order::Dos,
+        None => ask_dos_order(modules),
     }
 }

@@ -1,5 +1,12 @@
 //! The modules of files: those that are given, and the members of libraries.
 
+ghost use Rattle.std.specs.Prelude.{◌≡◌, ◌++◌, ◌∷◌, [], All, IfErr, IfOk, OnOk, false, true};
+ghost use Rattle.omf_library.specs.Library.{IsMember};
+ghost use Rattle.omf_library.specs.declared.fault.LibraryFault.TheVariants.{Memory};
+ghost use Rattle.omf_linker.specs.Exe.Input.{AllGive, IsFileFault, IsInputFault, IsModuleOf, is_library};
+ghost use Rattle.omf_linker.specs.Exe.Sharing.{any_profile};
+ghost use Rattle.omf_linker.specs.Inner.Input.{AddsMembers, IsAdded};
+
 use crate::exe::joining::move_all;
 use crate::link::InputFile;
 use omf_check::{CheckFault, Checked, Profile, check};
@@ -7,6 +14,7 @@ use omf_frame::Bytes;
 use omf_library::{LibraryFault, Member, members_in};
 use omf_linking::{FileFault, LinkFault, modules_of_files};
 use std::alloc::{AllocError, AllocFailed, Global};
+use std::slice::from_ref;
 
 /// The type of the record that a library begins with.
 const LIBRARY: u8 = 0xF0;
@@ -50,44 +58,50 @@ impl<T: Drop> From<AllocFailed<T>> for InputFault {
 }
 
 /// The profile of the check.
-fn profile() -> Profile {
+fn profile() -> Profile
+    ensures { result ≡ any_profile }
+{
     Profile {
         refuse_vendor_comments: false,
     }
 }
 
 /// Whether bytes are meant as a library.
-pub(crate) fn is_library(bytes: &[u8]) -> bool {
+pub(crate) fn is_library(bytes: &[u8]) -> bool
+    ensures { result ≡ is_library bytes.now }
+{
     match bytes {
         [] => false,
         [first, ..] => *first == LIBRARY,
     }
 }
 
-/// A member of a library.
-fn member_of(
-    alloc: Global,
-    bytes: &[u8],
-    number: usize,
-    member: Member,
-) -> Result<Checked, LibraryFault> {
+/// The module of a member of a library.
+///
+/// # Errors
+///
+/// `Memory` if memory runs out.
+fn member_of(alloc: Global, bytes: &[u8], member: &Member) -> Result<Checked, LibraryFault>
+    requires { IsMember any_profile bytes.now member.now }
+    ensures checked { IfOk result (IsModuleOf bytes.now member.now) }
+    ensures fault { IfErr result (λ f. f ≡ Memory) }
+{
     let start = (member.offset as usize).min(bytes.len());
     let (_before, rest) = bytes.split_at(start);
     match check(alloc, &mut Bytes::new(rest), profile()) {
-        Ok(module) => Ok(module),
-        Err(CheckFault::Refused { reason, place }) => Err(LibraryFault::Refused {
-            member: number as u64,
-            offset: member.offset,
-            reason,
-            place,
-        }),
-        Err(CheckFault::Memory | CheckFault::Read) => Err(LibraryFault::Memory),
+        Ok(checked) => Ok(checked),
+        Err(CheckFault::Memory) => Err(LibraryFault::Memory),
+        Err(CheckFault::Read) => unreachable!(),
+        Err(CheckFault::Refused { .. }) => unreachable!(),
     }
 }
 
 impl Input {
     /// That of no files.
-    fn new(alloc: Global) -> Input {
+    fn new(alloc: Global) -> Input
+        ensures given { result.given.items ≡ [] }
+        ensures members { result.members.items ≡ [] }
+    {
         Input {
             given: Vec::new(alloc),
             given_from: Vec::new(alloc),
@@ -97,70 +111,134 @@ impl Input {
     }
 
     /// Adds a member of a library.
-    fn add_member(&mut self, origin: Origin, module: Checked) -> Result<(), AllocError> {
-        self.members.push(module)?;
+    fn add_member(&mut self, origin: Origin, member: Checked) -> Result<(), AllocError>
+        ensures members { OnOk result (self.new.members.items ≡ self.old.members.items ++ member ∷ []) }
+        ensures given { OnOk result (self.new.given.items ≡ self.old.given.items) }
+    {
+        self.members.push(member)?;
         self.members_from.push(origin)?;
         Ok(())
     }
 
-    /// Adds the members of a library.
-    fn add_library(&mut self, alloc: Global, file: usize, bytes: &[u8]) -> Result<(), InputFault> {
-        let members = match members_in(alloc, profile(), bytes) {
-            Ok(members) => members,
-            Err(fault) => return Err(InputFault::Library(file, fault)),
-        };
-        for (module, member) in members.iter().enumerate() {
-            match member_of(alloc, bytes, module, *member) {
-                Ok(checked) => self.add_member(Origin { file, module }, checked)?,
-                Err(fault) => return Err(InputFault::Library(file, fault)),
+    /// Adds these members of a library.
+    ///
+    /// # Errors
+    ///
+    /// `Memory` if memory runs out.
+    fn add_members(
+        &mut self,
+        alloc: Global,
+        file: usize,
+        bytes: &[u8],
+        members: &[Member],
+    ) -> Result<(), LibraryFault>
+        requires { All (IsMember any_profile bytes.now) members.now }
+        ensures members { OnOk result (AddsMembers bytes.now members.now self.old.members.items self.new.members.items) }
+        ensures given { OnOk result (self.new.given.items ≡ self.old.given.items) }
+        ensures fault { IfErr result (λ f. f ≡ Memory) }
+    {
+        for (number, member) in members.iter().enumerate() {
+            let checked = member_of(alloc, bytes, member)?;
+            let origin = Origin {
+                file,
+                module: number,
+            };
+            if let Err(AllocError) = self.add_member(origin, checked) {
+                return Err(LibraryFault::Memory);
             }
         }
         Ok(())
     }
 
+    /// Adds the members of a library.
+    ///
+    /// # Errors
+    ///
+    /// `Library` with the first fault of the library. `Memory` if memory runs out.
+    fn add_library(&mut self, alloc: Global, file: usize, bytes: &[u8]) -> Result<(), InputFault>
+        requires { is_library bytes.now ≡ true }
+        ensures added { OnOk result (IsAdded bytes.now self.old.given.items self.old.members.items self.new.given.items self.new.members.items) }
+        ensures fault { IfErr result (IsFileFault file bytes.now) }
+    {
+        let members = match members_in(alloc, profile(), bytes) {
+            Ok(members) => members,
+            Err(fault) => return Err(InputFault::Library(file, fault)),
+        };
+        match self.add_members(alloc, file, bytes, &members) {
+            Ok(()) => Ok(()),
+            Err(fault) => Err(InputFault::Library(file, fault)),
+        }
+    }
+
     /// Adds modules of a file.
-    fn add_given(&mut self, file: usize, modules: Vec<Checked>) -> Result<(), AllocError> {
-        for module in 0..modules.len() {
-            self.given_from.push(Origin { file, module })?;
+    fn add_given(&mut self, file: usize, modules: Vec<Checked>) -> Result<(), AllocError>
+        ensures given { OnOk result (self.new.given.items ≡ self.old.given.items ++ modules.items) }
+        ensures members { OnOk result (self.new.members.items ≡ self.old.members.items) }
+    {
+        for number in 0..modules.len() {
+            let origin = Origin {
+                file,
+                module: number,
+            };
+            self.given_from.push(origin)?;
         }
         move_all(modules, &mut self.given)
     }
 
     /// Adds the modules of a file, as given ones.
+    ///
+    /// # Errors
+    ///
+    /// `Modules` if it does not hold modules and padding alone. `Memory` if memory runs out.
     fn add_modules(
         &mut self,
         alloc: Global,
         file: usize,
-        input: &[InputFile],
-    ) -> Result<(), InputFault> {
-        match modules_of_files(alloc, profile(), input) {
-            Ok(modules) => Ok(self.add_given(file, modules)?),
+        input: &InputFile,
+    ) -> Result<(), InputFault>
+        requires { is_library input.now.bytes ≡ false }
+        ensures added { OnOk result (IsAdded input.now.bytes self.old.given.items self.old.members.items self.new.given.items self.new.members.items) }
+        ensures fault { IfErr result (IsFileFault file input.now.bytes) }
+    {
+        match modules_of_files(alloc, profile(), from_ref(input)) {
+            Ok(modules) => match self.add_given(file, modules) {
+                Ok(()) => Ok(()),
+                Err(AllocError) => Err(InputFault::Memory),
+            },
             Err(FileFault { fault, .. }) => Err(InputFault::Modules(file, fault)),
         }
     }
 
-    /// Adds what a file holds.
-    fn add_file(
-        &mut self,
-        alloc: Global,
-        file: usize,
-        files: &[InputFile],
-    ) -> Result<(), InputFault> {
-        let Some((input, _others)) = files.split_first() else {
-            return Ok(());
-        };
+    /// Adds what a file gives.
+    ///
+    /// # Errors
+    ///
+    /// `Library` or `Modules` with the fault of the file. `Memory` if memory runs out.
+    fn add_file(&mut self, alloc: Global, file: usize, input: &InputFile) -> Result<(), InputFault>
+        ensures added { OnOk result (IsAdded input.now.bytes self.old.given.items self.old.members.items self.new.given.items self.new.members.items) }
+        ensures fault { IfErr result (IsFileFault file input.now.bytes) }
+    {
         if is_library(input.bytes()) {
             self.add_library(alloc, file, input.bytes())
         } else {
-            self.add_modules(alloc, file, &files[..1])
+            self.add_modules(alloc, file, input)
         }
     }
 
-    /// The modules of files.
-    pub(crate) fn of(alloc: Global, files: &[InputFile]) -> Result<Input, InputFault> {
+    /// What files give.
+    ///
+    /// # Errors
+    ///
+    /// The first file that gives nothing: `Library` or `Modules` with its fault. `Memory` if memory runs out.
+    pub(crate) fn of(alloc: Global, files: &[InputFile]) -> Result<Input, InputFault>
+        ensures input { IfOk result (λ i. AllGive files.now i.given.items i.members.items) }
+        ensures fault { IfErr result (IsInputFault files.now) }
+    {
         let mut input = Input::new(alloc);
-        for file in 0..files.len() {
-            input.add_file(alloc, file, &files[file..])?;
+        for (number, file) in files.iter().enumerate() {
+            if let Err(fault) = input.add_file(alloc, number, file) {
+                return Err(fault);
+            }
         }
         Ok(input)
     }

@@ -2,6 +2,24 @@
 
 use std::alloc::{AllocError, Global};
 
+/// The order of the segments of a program.
+#[derive(Clone, Copy, Debug, PartialEq, Eq)]
+pub enum Order {
+    /// DOS order: that of `order_module` of omf_layout.
+    Dos,
+    /// The order in which classes and names first appear in the modules.
+    Input,
+}
+
+/// The order that a value names.
+fn order_named(value: &str) -> Option<Order> {
+    match value {
+        "dos" => Some(Order::Dos),
+        "input" => Some(Order::Input),
+        _ => None,
+    }
+}
+
 /// The options of `omf-link exe` and `omf-link com`.
 #[derive(Drop)]
 pub struct ExeOptions<'a> {
@@ -13,6 +31,8 @@ pub struct ExeOptions<'a> {
     pub default_libraries: bool,
     /// The bytes that are added to the stack, from 1 to 65534.
     pub stack: Option<u16>,
+    /// The order of the segments. None: DOS order if a module asks for it, else that of the modules.
+    pub order: Option<Order>,
 }
 
 /// The size of a stack: a decimal number from 1 to 65534.
@@ -44,6 +64,7 @@ impl<'a> ExeOptions<'a> {
             folders: Vec::new(alloc),
             default_libraries: true,
             stack: None,
+            order: None,
         }
     }
 
@@ -56,6 +77,7 @@ impl<'a> ExeOptions<'a> {
                 Ok(true)
             }
             "--stack" => Ok(put_once(&mut self.stack, stack_of(value))),
+            "--order" => Ok(put_once(&mut self.order, order_named(value))),
             _ => Ok(false),
         }
     }

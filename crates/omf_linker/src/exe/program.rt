@@ -1,18 +1,22 @@
 //! The modules of a program, and what is made of them: its file and its map.
 
-ghost use Rattle.std.specs.Prelude.{IfOk};
+ghost use Rattle.std.specs.Prelude.{IfOk, List};
+ghost use Rattle.omf_linking.specs.File.{InputFile as FileModel};
+ghost use Rattle.omf_linker.specs.Exe.Input.{AllGive, AreOfFiles};
+ghost use Rattle.omf_linker.specs.Exe.Ordering.{AreOrdered};
 ghost use Rattle.omf_linker.specs.Exe.Sharing.{AreShared};
 
-use crate::exe::added::stack_of;
+use crate::exe::added::{is_dos_ordered, stack_of};
 use crate::exe::defaults::sought;
 use crate::exe::fault::{ComProgramFault, PlacingFault, ProgramFault};
-use crate::exe::files::{in_line, memory, of_input, of_sharing};
+use crate::exe::files::{in_line, memory, of_input, of_ordering, of_sharing};
 use crate::exe::input::{Input, Origin};
 use crate::exe::joining::{join_needed, move_all, taken};
 use crate::exe::lines::Origins;
 use crate::exe::listing::modules_text;
 use crate::exe::making::{com_of, map_of, program_of};
 use crate::exe::options::ExeOptions;
+use crate::exe::ordering::{order_of, with_front};
 use crate::exe::refusal::Refusal;
 use crate::exe::sharing::{shared_module, with_added};
 use crate::link::InputFile;
@@ -20,6 +24,7 @@ use omf_check::Checked;
 use omf_output::exe::{ComFault, ExeFile};
 use omf_placement::DeriveFault;
 use std::alloc::{AllocError, Global};
+use std::marker::Model;
 
 /// The modules of a program, with their origins.
 #[derive(Drop)]
@@ -36,8 +41,18 @@ fn put_origins(own: &[Origin], from: &mut Vec<Option<Origin>>) -> Result<(), All
     Ok(())
 }
 
+impl Model for ProgramModules {
+    ghost use Rattle.omf_linker.specs.Exe.Program.{ProgramModules as Seen};
+
+    ghost Value = { Seen };
+
+    ghost view = { λ p. record { modules = p.modules.items } };
+}
+
 /// The modules of files, with their origins.
-fn all_of(alloc: Global, input: Input) -> Result<ProgramModules, AllocError> {
+fn all_of(alloc: Global, input: Input) -> Result<ProgramModules, AllocError>
+    ensures { (files : List FileModel) → AllGive files input.given.items input.members.items → IfOk result (λ p. AreOfFiles files p.modules) }
+{
     let Input {
         given,
         given_from,
@@ -67,15 +82,36 @@ pub fn share_communals(alloc: Global, modules: Vec<Checked>) -> Result<Vec<Check
     };
     match with_added(modules, added) {
         Ok(all) => Ok(all),
-        Err(AllocError) => Err(memory(alloc)),
+        Err(AllocError) => Err(memory()),
+    }
+}
+
+/// Modules, and before them the module that puts them in DOS order.
+///
+/// # Errors
+///
+/// The fault of `order_of`; out of memory also if there are 2^32 modules or more.
+pub fn order_modules(alloc: Global, modules: Vec<Checked>) -> Result<Vec<Checked>, Refusal>
+    ensures { IfOk result (λ v. AreOrdered modules.items v.items) }
+{
+    if modules.len() > u32::MAX as usize {
+        return Err(memory());
+    }
+    let order = match order_of(alloc, &modules) {
+        Ok(order) => order,
+        Err(fault) => return Err(of_ordering(alloc, fault)),
+    };
+    match with_front(alloc, order, modules) {
+        Ok(all) => Ok(all),
+        Err(AllocError) => Err(memory()),
     }
 }
 
 /// The refusal of names that are not defined.
-fn undefined(alloc: Global, lines: Result<Vec<u8>, AllocError>) -> Refusal {
+fn undefined(lines: Result<Vec<u8>, AllocError>) -> Refusal {
     match lines {
         Ok(lines) => Refusal::Undefined(lines),
-        Err(AllocError) => memory(alloc),
+        Err(AllocError) => memory(),
     }
 }
 
@@ -86,22 +122,35 @@ impl ProgramModules {
     /// # Errors
     ///
     /// The first file that is not read; or out of memory.
-    pub fn of(alloc: Global, files: &[InputFile]) -> Result<ProgramModules, Refusal> {
+    pub fn of(alloc: Global, files: &[InputFile]) -> Result<ProgramModules, Refusal>
+        ensures { IfOk result (λ p. AreOfFiles files.now p.modules) }
+    {
         let input = match Input::of(alloc, files) {
             Ok(input) => input,
             Err(fault) => return Err(of_input(alloc, files, fault)),
         };
         match all_of(alloc, input) {
             Ok(modules) => Ok(modules),
-            Err(AllocError) => Err(memory(alloc)),
+            Err(AllocError) => Err(memory()),
         }
     }
 
-    /// The modules, and after them those that the linker adds: that of their communals, and that of the stack that the options ask for.
+    /// The modules, and before them the module that puts them in DOS order.
+    fn in_dos_order(self, alloc: Global) -> Result<ProgramModules, Refusal> {
+        let ProgramModules { modules, from } = self;
+        let modules = order_modules(alloc, modules)?;
+        match with_front(alloc, None, from) {
+            Ok(from) => Ok(ProgramModules { modules, from }),
+            Err(AllocError) => Err(memory()),
+        }
+    }
+
+    /// The modules with those that the linker adds: after them that of their communals, and that of the stack that the options ask for; before
+    /// all, in DOS order, that of the order, if the options ask for it or, where they name no order, a module does.
     ///
     /// # Errors
     ///
-    /// The fault of `share_communals`; or out of memory.
+    /// The fault of `share_communals`; that of `order_modules`; or out of memory.
     pub fn with_added(
         self,
         alloc: Global,
@@ -110,11 +159,17 @@ impl ProgramModules {
         let ProgramModules { modules, from } = self;
         let shared = share_communals(alloc, modules)?;
         let Ok(stack) = stack_of(alloc, options) else {
-            return Err(memory(alloc));
+            return Err(memory());
         };
-        match with_added(shared, stack) {
-            Ok(modules) => Ok(ProgramModules { modules, from }),
-            Err(AllocError) => Err(memory(alloc)),
+        let Ok(modules) = with_added(shared, stack) else {
+            return Err(memory());
+        };
+        let is_ordered = is_dos_ordered(&modules, options);
+        let all = ProgramModules { modules, from };
+        if is_ordered {
+            all.in_dos_order(alloc)
+        } else {
+            Ok(all)
         }
     }
 
@@ -140,10 +195,10 @@ impl ProgramModules {
     fn refused(&self, alloc: Global, files: &[InputFile], fault: ProgramFault) -> Refusal {
         let lines = self.origins(files).line_of(alloc, fault);
         match fault {
-            ProgramFault::Memory => memory(alloc),
-            ProgramFault::External(DeriveFault::Undefined { .. }) => undefined(alloc, lines),
+            ProgramFault::Memory => memory(),
+            ProgramFault::External(DeriveFault::Undefined { .. }) => undefined(lines),
             ProgramFault::NoRoom | ProgramFault::External(_) | ProgramFault::Exe(_) => {
-                in_line(alloc, lines)
+                in_line(lines)
             }
         }
     }
@@ -152,12 +207,12 @@ impl ProgramModules {
     fn com_refused(&self, alloc: Global, files: &[InputFile], fault: ComProgramFault) -> Refusal {
         let lines = self.origins(files).com_line_of(alloc, fault);
         match fault {
-            ComProgramFault::Placing(PlacingFault::Memory) => memory(alloc),
-            ComProgramFault::Modules(ComFault::Memory) => memory(alloc),
+            ComProgramFault::Placing(PlacingFault::Memory) => memory(),
+            ComProgramFault::Modules(ComFault::Memory) => memory(),
             ComProgramFault::Placing(PlacingFault::External(DeriveFault::Undefined { .. })) => {
-                undefined(alloc, lines)
+                undefined(lines)
             }
-            ComProgramFault::Placing(_) | ComProgramFault::Modules(_) => in_line(alloc, lines),
+            ComProgramFault::Placing(_) | ComProgramFault::Modules(_) => in_line(lines),
         }
     }
 
@@ -168,7 +223,7 @@ impl ProgramModules {
     /// The fault of `program_of`, as lines.
     pub fn exe(&self, alloc: Global, files: &[InputFile]) -> Result<ExeFile, Refusal> {
         if self.modules.len() > u32::MAX as usize {
-            return Err(memory(alloc));
+            return Err(memory());
         }
         match program_of(alloc, &self.modules) {
             Ok(file) => Ok(file),
@@ -183,7 +238,7 @@ impl ProgramModules {
     /// The fault of `com_of`, as lines.
     pub fn com(&self, alloc: Global, files: &[InputFile]) -> Result<Vec<u8>, Refusal> {
         if self.modules.len() > u32::MAX as usize {
-            return Err(memory(alloc));
+            return Err(memory());
         }
         match com_of(alloc, &self.modules) {
             Ok(bytes) => Ok(bytes),
@@ -198,7 +253,7 @@ impl ProgramModules {
     /// The fault of `map_of`, as lines.
     pub fn map(&self, alloc: Global, files: &[InputFile]) -> Result<Vec<u8>, Refusal> {
         if self.modules.len() > u32::MAX as usize {
-            return Err(memory(alloc));
+            return Err(memory());
         }
         let map = match map_of(alloc, &self.modules) {
             Ok(map) => map,
@@ -208,7 +263,7 @@ impl ProgramModules {
         };
         match self.listed(alloc, files, map.as_str()) {
             Ok(text) => Ok(text.into_bytes()),
-            Err(AllocError) => Err(memory(alloc)),
+            Err(AllocError) => Err(memory()),
         }
     }
 

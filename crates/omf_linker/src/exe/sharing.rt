@@ -18,7 +18,7 @@ pub enum SharingFault<'a> {
 }
 
 /// The profile of the check.
-fn any_profile() -> Profile
+pub(crate) fn any_profile() -> Profile
     ensures { result ≡ any_profile }
 {
     Profile {

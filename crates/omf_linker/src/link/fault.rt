@@ -2,7 +2,7 @@
 
 ghost use Rattle.omf_linker.specs.Link.Faults.{report};
 
-use crate::link::printed::{print_link, print_outside};
+use crate::link::printed::print_link;
 use omf_cmd::{Fault, print_words, tell};
 use omf_frame::Sink;
 use omf_linking::LinkFault;
@@ -11,18 +11,13 @@ use omf_linking::space::Owner;
 /// Why a run fails.
 #[derive(Drop)]
 pub enum ImageFault {
-    /// The modules of the input are not linked.
-    Link {
-        /// The first fault.
-        fault: LinkFault,
-        /// The name of the external whose address is too high; empty for any other fault.
-        name: Vec<u8>,
-    },
-    /// Externals have no public or more than one.
+    /// The modules of the input are not linked, and the fault is not about a module and its parts; or out of memory.
+    Link(LinkFault),
+    /// The modules of the input are not linked, and the fault is about a module and its parts.
     Lines {
-        /// The fault of the first of them.
+        /// The fault; that of the first name if names have no public or more than one.
         fault: LinkFault,
-        /// A line for each name.
+        /// Its line, by the names of files, modules and their parts; or a line for each such name.
         lines: Vec<u8>,
     },
     /// A byte of the memory is at an address that the form of its file does not have.
@@ -31,6 +26,8 @@ pub enum ImageFault {
         address: u32,
         /// The first segment with a byte there.
         owner: Option<Owner>,
+        /// The line, by the names of the segment and its module.
+        lines: Vec<u8>,
     },
     /// A segment of a draft has no room below the last address.
     NoRoom,
@@ -47,7 +44,7 @@ impl Fault for ImageFault {
             ImageFault::Outside { .. } => 1,
             ImageFault::NoRoom => 1,
             ImageFault::Write => 3,
-            ImageFault::Link { fault, .. } => match *fault {
+            ImageFault::Link(fault) => match *fault {
                 LinkFault::Memory => 3,
                 LinkFault::Read => 3,
                 LinkFault::Refused { .. } => 1,
@@ -64,9 +61,9 @@ impl Fault for ImageFault {
 
     fn print<K: Sink>(&self, writer: &mut K) {
         match self {
-            ImageFault::Link { fault, name } => print_link(writer, *fault, name),
+            ImageFault::Link(fault) => print_link(writer, *fault),
             ImageFault::Lines { lines, .. } => tell(writer, lines),
-            ImageFault::Outside { address, owner } => print_outside(writer, *address, *owner),
+            ImageFault::Outside { lines, .. } => tell(writer, lines),
             ImageFault::NoRoom => print_words(writer, &["no room below the last address"]),
             ImageFault::Write => {}
         }

@@ -1,22 +1,23 @@
 //! A run of `omf-link` over files, from their bytes to a writer.
 
-ghost use Rattle.std.specs.Prelude.{◌≡◌, ◌<◌, ◌^◌, ℕ, List, Err, IfOk, Ok, length, string_bytes};
+ghost use Rattle.std.specs.Prelude.{◌≡◌, ◌<◌, ◌^◌, ℕ, List, Err, IfOk, Ok, length, map, string_bytes};
 ghost use Rattle.omf_check.specs.Module.{typed_modules};
-ghost use Rattle.omf_records.specs.Inner.Seen.{map_ok};
 ghost use Rattle.omf_linking.specs.Files.{IsFirstAtFault};
 ghost use Rattle.omf_linker.specs.Link.Files.{AreFilesShown, EndsShown, HasRunFiles, IsFileNamed, IsShownAs, file_front};
 ghost use Rattle.omf_linker.specs.Link.Linked.{any};
 ghost use Rattle.omf_linker.specs.declared.link.words.Task.{Task as Asked};
 
+use crate::lines::Labeled;
+use crate::link::fault::ImageFault;
 use crate::link::files_fault::FilesFault;
-use crate::link::naming::unnamed;
+use crate::link::labels::LabeledModules;
+use crate::link::output::Output;
 use crate::link::running::modules_shown;
 use crate::link::words::Task;
-use omf_check::{Checked, Profile};
-use omf_cmd::{Fault, print_all};
+use omf_cmd::Fault;
 use omf_frame::Sink;
 use omf_layout::printing::print_quoted;
-use omf_linking::{FileFault, InputFile, LinkFault, modules_of_files};
+use omf_linking::{FileFault, InputFile, LinkFault};
 use std::alloc::{AllocError, Global};
 
 /// The front of the line of a file's fault: the word `file` and the name in quotes, with `\xHH` for bytes that are not plain.
@@ -36,66 +37,72 @@ fn in_file(alloc: Global, file: &InputFile, fault: LinkFault) -> FilesFault
 {
     match file_front(alloc, file.name()) {
         Ok(front) => FilesFault::File { fault, front },
-        Err(AllocError) => FilesFault::Link(unnamed(alloc, LinkFault::Memory)),
+        Err(AllocError) => FilesFault::Link(ImageFault::Link(LinkFault::Memory)),
     }
 }
 
-/// The text that a task prints for modules and a link text.
+/// What a task prints for modules and a link text.
 fn of_modules(
     alloc: Global,
     task: Task,
-    modules: &[Checked],
+    labeled: Labeled<'_>,
     text: &[u8],
-) -> Result<Vec<u8>, FilesFault>
-    requires { length modules.now < 2 ^ 32 }
-    ensures { IsShownAs task (typed_modules modules.now) text.now (map_ok (λ shown. shown.items) result) }
+) -> Result<Output, FilesFault>
+    requires { length labeled.modules.now < 2 ^ 32 }
+    ensures { IsShownAs task (map string_bytes labeled.entry.labels.now) (typed_modules labeled.entry.modules.now) text.now result }
 {
-    match modules_shown(alloc, task, modules, text) {
+    match modules_shown(alloc, task, labeled, text) {
         Ok(shown) => Ok(shown),
         Err(fault) => Err(FilesFault::Link(fault)),
     }
 }
 
 /// The fault of files that do not hold modules and padding alone: that of the first, with the front of its line.
-fn refused(alloc: Global, files: &[InputFile], fault: FileFault) -> FilesFault
+pub(crate) fn refused(alloc: Global, files: &[InputFile], fault: FileFault) -> FilesFault
     ensures { (task : Asked) (text : List ℕ) → IsFirstAtFault any files.now fault → AreFilesShown task files.now text (Err result) }
 {
     match files.get(fault.file) {
         Some(file) => in_file(alloc, file, fault.fault),
-        None => FilesFault::Link(unnamed(alloc, LinkFault::Memory)),
+        None => FilesFault::Link(ImageFault::Link(LinkFault::Memory)),
     }
 }
 
-/// The text that a task prints for the modules of files and a link text.
+/// What a task prints for the modules of files and a link text. The files are dropped once their modules are checked, so each module is kept
+/// once.
 ///
 /// # Errors
 ///
 /// `File` for the first file that does not hold modules and padding alone, as in `modules_of_files`; otherwise `Link` with the fault of
-/// `shown_text` for their modules and the link text. `Link` with `Memory` if memory runs out.
+/// `shown_text` for their modules and the link text. Its lines call each module by its file and its number there, from 1. `Link` with
+/// `Memory` if memory runs out.
 pub fn files_text(
     alloc: Global,
     task: Task,
-    files: &[InputFile],
+    files: Vec<InputFile>,
     text: &[u8],
-) -> Result<Vec<u8>, FilesFault>
-    ensures { AreFilesShown task files.now text.now (map_ok (λ shown. shown.items) result) }
+) -> Result<Output, FilesFault>
+    ensures { AreFilesShown task files.items text.now result }
 {
-    let profile = Profile {
-        refuse_vendor_comments: false,
-    };
-    match modules_of_files(alloc, profile, files) {
-        Ok(modules) => of_modules(alloc, task, &modules, text),
-        Err(fault) => Err(refused(alloc, files, fault)),
+    match LabeledModules::of(alloc, &files) {
+        Ok(all) => {
+            drop(files);
+            let labeled = Labeled {
+                labels: &all.labels,
+                modules: &all.modules,
+            };
+            of_modules(alloc, task, labeled, text)
+        }
+        Err(fault) => Err(refused(alloc, &files, fault)),
     }
 }
 
-/// Writes a text. Returns the exit status.
-fn write_shown<K: Sink>(writer: &mut K, shown: &[u8]) -> u8
+/// Writes an output. Returns the exit status.
+fn write_shown<K: Sink>(writer: &mut K, shown: &Output) -> u8
     ensures { EndsShown (K.seen writer.old) (K.seen writer.new) (Ok shown.now) result }
 {
-    match print_all(writer, shown, ()) {
+    match shown.print(writer) {
         Ok(()) => 0,
-        Err(()) => 3,
+        Err(_) => 3,
     }
 }
 
@@ -112,11 +119,11 @@ fn tell_fault<K: Sink>(writer: &mut K, fault: &FilesFault) -> u8
 pub fn run_files<K: Sink>(
     alloc: Global,
     task: Task,
-    files: &[InputFile],
+    files: Vec<InputFile>,
     text: &[u8],
     writer: &mut K,
 ) -> u8
-    ensures { HasRunFiles task files.now text.now (K.seen writer.old) (K.seen writer.new) result }
+    ensures { HasRunFiles task files.items text.now (K.seen writer.old) (K.seen writer.new) result }
 {
     match files_text(alloc, task, files, text) {
         Ok(shown) => write_shown(writer, &shown),

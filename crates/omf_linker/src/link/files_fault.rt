@@ -51,7 +51,7 @@ fn print_end<K: Sink>(writer: &mut K, fault: LinkFault)
 {
     match fault {
         LinkFault::NoText(at) => print_more(writer, at),
-        _ => print_link(writer, fault, &[]),
+        _ => print_link(writer, fault),
     }
 }
 

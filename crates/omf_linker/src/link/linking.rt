@@ -6,7 +6,7 @@ ghost use Rattle.omf_check.specs.Module.{typed_modules};
 ghost use Rattle.omf_linker.specs.Link.Linked.{AreLinked, IsLinked};
 ghost use Rattle.omf_linker.specs.Link.Mapped.{IsMapped};
 
-use crate::link::printing::image_text;
+use crate::link::output::Output;
 use crate::map::map_text;
 use omf_check::Checked;
 use omf_image::Image;
@@ -55,19 +55,20 @@ pub(crate) fn linked_modules(
 }
 
 /// The memory image of modules as text, at the placements that a link text gives them: the bytes of the memory that they share, and their
-/// start address, in the form of `image_text`.
+/// start address, in the form of `Output::of_memory`. The images of the single modules are dropped.
 ///
 /// # Errors
 ///
 /// The first of: `Line`, `Reach` and `External` if the text gives no placements, as in `link`; `Reach` for the first module whose placement
 /// does not reach; `Space` if the segments do not fit in one memory; `Starts` if two main modules have a start address. `Memory` if
 /// memory runs out.
-pub fn modules_text(alloc: Global, modules: &[Checked], text: &[u8]) -> Result<Vec<u8>, LinkFault>
+pub fn modules_text(alloc: Global, modules: &[Checked], text: &[u8]) -> Result<Output, LinkFault>
     requires { length modules.now < 2 ^ 32 }
-    ensures { IsLinked (typed_modules modules.now) text.now (map_ok (λ shown. shown.items) result) }
+    ensures { IsLinked (typed_modules modules.now) text.now result }
 {
     let linked = linked_modules(alloc, modules, text)?;
-    let shown = image_text(alloc, &linked.memory, linked.start)?;
+    let LinkedModules { memory, start, .. } = linked;
+    let shown = Output::of_memory(alloc, memory, start)?;
     Ok(shown)
 }
 

@@ -1,121 +1,126 @@
-//! Adds names to a fault.
+//! The lines of a fault, by names.
 
-ghost use Rattle.std.specs.Prelude.{◌≡◌, ◌<◌, ◌^◌, [], IfOk, false, length};
+ghost use Rattle.std.specs.Prelude.{◌≡◌, ◌<◌, ◌^◌, IfOk, List, ℕ, length, map, string_bytes};
 ghost use Rattle.omf_check.specs.Module.{typed_modules};
-ghost use Rattle.omf_linker.specs.Link.Faults.{IsNamed, IsUnnamed, external_name, is_unresolved, name_of};
+ghost use Rattle.omf_linking.specs.declared.fault.LinkFault.TheVariants.{External, Space};
+ghost use Rattle.omf_linker.specs.Link.Faults.{IsNamed, is_of_modules};
+ghost use Rattle.omf_linker.specs.Link.Named.{HasLines};
 ghost use Rattle.omf_linker.specs.Link.Unresolved.{AreLines};
 
+use crate::lines::{Labeled, beyond_line, high_line, overlap_line, reach_line, starts_line};
 use crate::link::fault::ImageFault;
 use crate::link::unresolved::unresolved_text;
-use omf_check::Checked;
 use omf_linking::LinkFault;
 use omf_linking::locator::sparse_places;
+use omf_linking::space::MemoryFault;
 use omf_reloc::DeriveFault;
 use std::alloc::{AllocError, Global};
 
-/// The name of an external, by the number of its module, from 0, and its index, from 1; empty if there is none.
-fn external_name(modules: &[Checked], number: u32, external: u16) -> &[u8]
-    ensures { result.now ≡ external_name (typed_modules modules.now) number external }
-{
-    let Some(module) = modules.get(number as usize) else {
-        return &[];
-    };
-    match module.external(external) {
-        Some(name) => name.0,
-        None => &[],
-    }
-}
-
-/// The name of the external that a fault is about; empty if it is about none.
-fn name_of(modules: &[Checked], fault: LinkFault) -> &[u8]
-    ensures { result.now ≡ name_of (typed_modules modules.now) fault }
-{
-    match fault {
-        LinkFault::External(DeriveFault::Undefined { module, external }) => {
-            external_name(modules, module, external)
-        }
-        LinkFault::External(DeriveFault::Twice { module, external }) => {
-            external_name(modules, module, external)
-        }
-        LinkFault::External(DeriveFault::TooHigh { module, external }) => {
-            external_name(modules, module, external)
-        }
-        LinkFault::External(DeriveFault::Memory) => &[],
-        LinkFault::Memory => &[],
-        LinkFault::Read => &[],
-        LinkFault::Refused { .. } => &[],
-        LinkFault::NoText(_) => &[],
-        LinkFault::NoModules => &[],
-        LinkFault::Line { .. } => &[],
-        LinkFault::Reach { .. } => &[],
-        LinkFault::Starts { .. } => &[],
-        LinkFault::Space(_) => &[],
-    }
-}
-
-/// A fault without a name.
-pub fn unnamed(alloc: Global, fault: LinkFault) -> ImageFault
-    ensures { IsUnnamed fault result }
-{
-    let name = Vec::new(alloc);
-    ImageFault::Link { fault, name }
-}
-
-/// Whether a fault is that of an external without a public, or with more than one.
-pub(crate) fn is_unresolved(fault: LinkFault) -> bool
-    ensures { result ≡ is_unresolved fault }
+/// Whether a fault is about a module and its parts: then it has a line by their names.
+fn is_of_modules(fault: LinkFault) -> bool
+    ensures { result ≡ is_of_modules fault }
 {
     match fault {
         LinkFault::External(DeriveFault::Undefined { .. }) => true,
         LinkFault::External(DeriveFault::Twice { .. }) => true,
-        LinkFault::External(DeriveFault::TooHigh { .. }) => false,
+        LinkFault::External(DeriveFault::TooHigh { .. }) => true,
         LinkFault::External(DeriveFault::Memory) => false,
+        LinkFault::Reach { .. } => true,
+        LinkFault::Starts { .. } => true,
+        LinkFault::Space(MemoryFault::Beyond(_)) => true,
+        LinkFault::Space(MemoryFault::Overlap { .. }) => true,
+        LinkFault::Space(MemoryFault::Memory) => false,
         LinkFault::Memory => false,
         LinkFault::Read => false,
         LinkFault::Refused { .. } => false,
         LinkFault::NoText(_) => false,
         LinkFault::NoModules => false,
         LinkFault::Line { .. } => false,
-        LinkFault::Reach { .. } => false,
-        LinkFault::Starts { .. } => false,
-        LinkFault::Space(_) => false,
     }
 }
 
 /// The lines of the names that have no public or more than one, at the placements of a link text.
-fn lines_of(alloc: Global, modules: &[Checked], text: &[u8]) -> Result<Vec<u8>, AllocError>
-    requires { length modules.now < 2 ^ 32 }
-    ensures { IfOk result (λ lines. AreLines [] (typed_modules modules.now) text.now lines.items) }
+fn unresolved_lines(alloc: Global, named: Labeled<'_>, text: &[u8]) -> Result<String, AllocError>
+    requires { length named.modules.now < 2 ^ 32 }
+    ensures { IfOk result (λ lines. AreLines (map string_bytes named.entry.labels.now) (typed_modules named.entry.modules.now) text.now (string_bytes lines)) }
 {
-    match sparse_places(alloc, modules, text) {
-        Ok(by_hand) => Ok(unresolved_text(alloc, &[], modules, &by_hand)?.into_bytes()),
+    match sparse_places(alloc, named.modules, text) {
+        Ok(by_hand) => unresolved_text(alloc, named.labels, named.modules, &by_hand),
         Err(_) => Err(AllocError),
     }
 }
 
-/// A fault that is not of names, with the name of its external. `Memory` if memory runs out for the name.
-fn with_name(alloc: Global, modules: &[Checked], text: &[u8], fault: LinkFault) -> ImageFault
-    requires { is_unresolved fault ≡ false }
-    ensures { IsNamed (typed_modules modules.now) text.now fault result }
+/// The line of segments that do not fit in one memory; none if memory ran out.
+fn space_line(alloc: Global, named: Labeled<'_>, fault: MemoryFault) -> Result<String, AllocError>
+    ensures { IfOk result (λ line. (text : List ℕ) → HasLines (map string_bytes named.entry.labels.now) (typed_modules named.entry.modules.now) text (Space fault) (string_bytes line)) }
 {
-    let mut name = Vec::new(alloc);
-    match name.extend_from_slice(name_of(modules, fault)) {
-        Ok(()) => ImageFault::Link { fault, name },
-        Err(_) => unnamed(alloc, LinkFault::Memory),
+    match fault {
+        MemoryFault::Memory => Ok(String::new(alloc)),
+        MemoryFault::Beyond(owner) => beyond_line(alloc, named, owner),
+        MemoryFault::Overlap {
+            address,
+            first,
+            second,
+        } => overlap_line(alloc, named, address, first, second),
     }
 }
 
-/// A fault of modules at the placements of a link text: a line for each name without a public or with more than one, if it is about such a
-/// name; any other with the name of its external. `Memory` if memory runs out for these.
-pub fn named(alloc: Global, modules: &[Checked], text: &[u8], fault: LinkFault) -> ImageFault
-    requires { length modules.now < 2 ^ 32 }
-    ensures { IsNamed (typed_modules modules.now) text.now fault result }
+/// The lines of a fault of an external; none if memory ran out.
+fn external_lines(
+    alloc: Global,
+    named: Labeled<'_>,
+    text: &[u8],
+    fault: DeriveFault,
+) -> Result<String, AllocError>
+    requires { length named.modules.now < 2 ^ 32 }
+    ensures { IfOk result (λ lines. HasLines (map string_bytes named.entry.labels.now) (typed_modules named.entry.modules.now) text.now (External fault) (string_bytes lines)) }
 {
-    if !is_unresolved(fault) {
-        return with_name(alloc, modules, text, fault);
+    match fault {
+        DeriveFault::Memory => Ok(String::new(alloc)),
+        DeriveFault::Undefined { .. } => unresolved_lines(alloc, named, text),
+        DeriveFault::Twice { .. } => unresolved_lines(alloc, named, text),
+        DeriveFault::TooHigh { module, external } => high_line(alloc, named, module, external),
     }
-    match lines_of(alloc, modules, text) {
-        Ok(lines) => ImageFault::Lines { fault, lines },
-        Err(AllocError) => unnamed(alloc, LinkFault::Memory),
+}
+
+/// The lines of a fault, by names; none for a fault that is not about a module and its parts.
+fn lines_of(
+    alloc: Global,
+    named: Labeled<'_>,
+    text: &[u8],
+    fault: LinkFault,
+) -> Result<String, AllocError>
+    requires { length named.modules.now < 2 ^ 32 }
+    ensures { IfOk result (λ lines. HasLines (map string_bytes named.entry.labels.now) (typed_modules named.entry.modules.now) text.now fault (string_bytes lines)) }
+{
+    match fault {
+        LinkFault::External(fault) => external_lines(alloc, named, text, fault),
+        LinkFault::Reach { module, fault } => reach_line(alloc, named, module, fault),
+        LinkFault::Starts { first, second } => starts_line(alloc, named.labels, first, second),
+        LinkFault::Space(fault) => space_line(alloc, named, fault),
+        LinkFault::Memory => Ok(String::new(alloc)),
+        LinkFault::Read => Ok(String::new(alloc)),
+        LinkFault::Refused { .. } => Ok(String::new(alloc)),
+        LinkFault::NoText(_) => Ok(String::new(alloc)),
+        LinkFault::NoModules => Ok(String::new(alloc)),
+        LinkFault::Line { .. } => Ok(String::new(alloc)),
+    }
+}
+
+/// A fault of modules at the placements of a link text, with its lines by names if it is about a module and its parts: a line for each name
+/// without a public or with more than one, if it is about such a name. `Memory` if memory runs out for these.
+pub(crate) fn named(alloc: Global, named: Labeled<'_>, text: &[u8], fault: LinkFault) -> ImageFault
+    requires { length named.modules.now < 2 ^ 32 }
+    ensures { IsNamed (map string_bytes named.entry.labels.now) (typed_modules named.entry.modules.now) text.now fault result }
+{
+    if !is_of_modules(fault) {
+        return ImageFault::Link(fault);
+    }
+    match lines_of(alloc, named, text, fault) {
+        Ok(lines) => ImageFault::Lines {
+            fault,
+            lines: lines.into_bytes(),
+        },
+        Err(AllocError) => ImageFault::Link(LinkFault::Memory),
     }
 }

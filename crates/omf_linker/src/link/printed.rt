@@ -1,19 +1,17 @@
 //! The line printed for a fault, written word by word.
 
-ghost use Rattle.std.specs.Prelude.{◌≡◌, ◌++◌, ◌∷◌, [], None, Ok, Some, codes, decimal, flat_map};
+ghost use Rattle.std.specs.Prelude.{◌≡◌, ◌++◌, ◌∷◌, [], Ok, codes, flat_map};
 ghost use Rattle.omf_cmd.specs.FaultLine.{fault_text};
 ghost use Rattle.omf_cmd.specs.Printed.{line, spaced};
 ghost use Rattle.omf_cmd.specs.Runs.{IsWritten, PrintsOr};
 ghost use Rattle.omf_cmd.specs.declared.fault.RunFault.TheVariants.{Write};
 ghost use Rattle.omf_placement.specs.Quoted.{hex};
-ghost use Rattle.omf_linker.specs.Link.Faults.{derive_words, external_words, input_at, link_words, module_words, outside_words, owner_words, space_words, text_line, why_text};
+ghost use Rattle.omf_linker.specs.Link.Faults.{derive_words, external_words, input_at, link_words, module_words, owner_words, space_words, text_line, why_text};
 ghost use Rattle.omf_linking.specs.declared.fault.LinkFault.TheVariants.{Line, NoText, Starts};
 ghost use Rattle.omf_linking.specs.declared.space.fault.MemoryFault.TheVariants.{Beyond, Overlap};
 
 use itoa::Buffer;
-use omf_cmd::{
-    Fault, RunFault, eight_digits, print_all, print_words, write_last_name, write_words,
-};
+use omf_cmd::{Fault, RunFault, eight_digits, print_all, print_words, write_words};
 use omf_frame::Sink;
 use omf_linking::LinkFault;
 use omf_linking::locator::LineFault;
@@ -37,56 +35,30 @@ fn print_in_module<K: Sink>(writer: &mut K, module: u32, fault: &RunFault)
     }
 }
 
-/// Writes the front of the line of an external without a place: all but its name.
-fn write_external<K: Sink>(
-    writer: &mut K,
-    module: u32,
-    external: u16,
-    why: &str,
-) -> Result<(), RunFault>
-    ensures { PrintsOr Write (K.seen writer.old) (K.seen writer.new) (Ok (flat_map spaced (module_words «module» ++ codes "external" ∷ decimal external ∷ why.now ∷ []))) result }
+/// Prints the line of an external without a place.
+fn print_external<K: Sink>(writer: &mut K, module: u32, external: u16, why: &str)
+    ensures { IsWritten (K.seen writer.old) (K.seen writer.new) (line (external_words «module» external why.now)) }
 {
     let (mut number, mut index) = (Buffer::new(), Buffer::new());
     let number = number.format(u64::from(module) + 1);
     let index = index.format(external);
-    write_words(writer, &["module", number, "external", index, why])
+    print_words(writer, &["module", number, "external", index, why]);
 }
 
-/// Writes the line of an external without a place.
-fn write_named<K: Sink>(
-    writer: &mut K,
-    module: u32,
-    external: u16,
-    why: &str,
-    name: &[u8],
-) -> Result<(), RunFault>
-    ensures { PrintsOr Write (K.seen writer.old) (K.seen writer.new) (Ok (line (external_words «module» external why.now name.now))) result }
-{
-    write_external(writer, module, external, why)?;
-    write_last_name(writer, name)
-}
-
-/// Prints the line of an external without a place.
-fn print_external<K: Sink>(writer: &mut K, module: u32, external: u16, why: &str, name: &[u8])
-    ensures { IsWritten (K.seen writer.old) (K.seen writer.new) (line (external_words «module» external why.now name.now)) }
-{
-    let _ = write_named(writer, module, external, why, name);
-}
-
-/// Prints the line of an external's fault, with the external's name.
-fn print_derive<K: Sink>(writer: &mut K, fault: DeriveFault, name: &[u8])
-    ensures { IsWritten (K.seen writer.old) (K.seen writer.new) (line (derive_words fault name.now)) }
+/// Prints the line of an external's fault.
+fn print_derive<K: Sink>(writer: &mut K, fault: DeriveFault)
+    ensures { IsWritten (K.seen writer.old) (K.seen writer.new) (line (derive_words fault)) }
 {
     match fault {
         DeriveFault::Memory => RunFault::Memory.print(writer),
         DeriveFault::Undefined { module, external } => {
-            print_external(writer, module, external, "Undefined", name);
+            print_external(writer, module, external, "Undefined");
         }
         DeriveFault::Twice { module, external } => {
-            print_external(writer, module, external, "Twice", name);
+            print_external(writer, module, external, "Twice");
         }
         DeriveFault::TooHigh { module, external } => {
-            print_external(writer, module, external, "TooHigh", name);
+            print_external(writer, module, external, "TooHigh");
         }
     }
 }
@@ -102,7 +74,7 @@ fn write_offset<K: Sink>(writer: &mut K, at: u64) -> Result<(), RunFault>
 
 /// Prints the line of what follows the modules and is no text.
 fn print_no_text<K: Sink>(writer: &mut K, at: u64)
-    ensures { IsWritten (K.seen writer.old) (K.seen writer.new) (line (link_words (NoText at) [])) }
+    ensures { IsWritten (K.seen writer.old) (K.seen writer.new) (line (link_words (NoText at))) }
 {
     if let Ok(()) = write_offset(writer, at) {
         print_words(writer, &[": no module and no text"]);
@@ -133,7 +105,7 @@ fn why_text(why: LineFault) -> &'static str
 
 /// Prints the line of a text's line that does not fit.
 fn print_text_line<K: Sink>(writer: &mut K, number: u64, why: LineFault)
-    ensures { IsWritten (K.seen writer.old) (K.seen writer.new) (line (link_words (Line number why) [])) }
+    ensures { IsWritten (K.seen writer.old) (K.seen writer.new) (line (link_words (Line number why))) }
 {
     if let Ok(()) = write_text_line(writer, number) {
         print_words(writer, &[why_text(why)]);
@@ -142,7 +114,7 @@ fn print_text_line<K: Sink>(writer: &mut K, number: u64, why: LineFault)
 
 /// Prints the line of two modules that both have a start address.
 fn print_starts<K: Sink>(writer: &mut K, first: u32, second: u32)
-    ensures { IsWritten (K.seen writer.old) (K.seen writer.new) (line (link_words (Starts first second) [])) }
+    ensures { IsWritten (K.seen writer.old) (K.seen writer.new) (line (link_words (Starts first second))) }
 {
     let (mut before, mut after) = (Buffer::new(), Buffer::new());
     let first = before.format(u64::from(first) + 1);
@@ -214,9 +186,9 @@ fn print_space<K: Sink>(writer: &mut K, fault: MemoryFault)
     }
 }
 
-/// Prints the line of a link fault, with the name of its external.
-pub fn print_link<K: Sink>(writer: &mut K, fault: LinkFault, name: &[u8])
-    ensures { IsWritten (K.seen writer.old) (K.seen writer.new) (line (link_words fault name.now)) }
+/// Prints the line of a link fault, by the numbers of modules, externals and segments.
+pub fn print_link<K: Sink>(writer: &mut K, fault: LinkFault)
+    ensures { IsWritten (K.seen writer.old) (K.seen writer.new) (line (link_words fault)) }
 {
     match fault {
         LinkFault::Memory => RunFault::Memory.print(writer),
@@ -229,65 +201,11 @@ pub fn print_link<K: Sink>(writer: &mut K, fault: LinkFault, name: &[u8])
         LinkFault::NoText(at) => print_no_text(writer, at),
         LinkFault::NoModules => print_words(writer, &["no modules"]),
         LinkFault::Line { line, why } => print_text_line(writer, line, why),
-        LinkFault::External(fault) => print_derive(writer, fault, name),
+        LinkFault::External(fault) => print_derive(writer, fault),
         LinkFault::Reach { module, fault } => {
             print_in_module(writer, module, &RunFault::Reach(fault));
         }
         LinkFault::Starts { first, second } => print_starts(writer, first, second),
         LinkFault::Space(fault) => print_space(writer, fault),
-    }
-}
-
-/// Writes the front of the line of a byte that a form does not have: its address in eight hexadecimal digits.
-fn write_outside<K: Sink>(writer: &mut K, address: u32) -> Result<(), RunFault>
-    ensures { PrintsOr Write (K.seen writer.old) (K.seen writer.new) (Ok (flat_map spaced (codes "outside" ∷ hex 8 address ∷ []))) result }
-{
-    print_all(writer, b"outside ", RunFault::Write)?;
-    print_all(writer, &eight_digits(address), RunFault::Write)?;
-    print_all(writer, b" ", RunFault::Write)
-}
-
-/// Prints the end of a line: a segment and its module.
-fn print_owner<K: Sink>(writer: &mut K, owner: Owner)
-    ensures { IsWritten (K.seen writer.old) (K.seen writer.new) (line (owner_words owner)) }
-{
-    let (mut number, mut index) = (Buffer::new(), Buffer::new());
-    let number = number.format(u64::from(owner.module) + 1);
-    let index = index.format(owner.segment);
-    print_words(writer, &["module", number, "segment", index]);
-}
-
-/// Prints the line of a byte in a segment that a form does not have.
-fn print_outside_in<K: Sink>(writer: &mut K, address: u32, owner: Owner)
-    ensures { IsWritten (K.seen writer.old) (K.seen writer.new) (line (outside_words address (Some owner))) }
-{
-    if let Ok(()) = write_outside(writer, address) {
-        print_owner(writer, owner);
-    }
-}
-
-/// Writes the line of a byte of no segment that a form does not have.
-fn write_outside_alone<K: Sink>(writer: &mut K, address: u32) -> Result<(), RunFault>
-    ensures { PrintsOr Write (K.seen writer.old) (K.seen writer.new) (Ok (line (outside_words address None))) result }
-{
-    print_all(writer, b"outside ", RunFault::Write)?;
-    print_all(writer, &eight_digits(address), RunFault::Write)?;
-    print_all(writer, b"\n", RunFault::Write)
-}
-
-/// Prints the line of a byte of no segment that a form does not have.
-fn print_outside_alone<K: Sink>(writer: &mut K, address: u32)
-    ensures { IsWritten (K.seen writer.old) (K.seen writer.new) (line (outside_words address None)) }
-{
-    let _ = write_outside_alone(writer, address);
-}
-
-/// Prints the line of a byte that a form does not have, and of its segment.
-pub fn print_outside<K: Sink>(writer: &mut K, address: u32, owner: Option<Owner>)
-    ensures { IsWritten (K.seen writer.old) (K.seen writer.new) (line (outside_words address owner)) }
-{
-    match owner {
-        Some(owner) => print_outside_in(writer, address, owner),
-        None => print_outside_alone(writer, address),
     }
 }

@@ -1,80 +1,67 @@
-//! The bytes of a memory as text.
+//! The bytes of a memory as text, written in blocks.
 
-ghost use Rattle.std.specs.Prelude.{◌≡◌, ◌+◌, ◌≤◌, ◌^◌, IfOk, length};
-ghost use Rattle.omf_frame.specs.Bytes.{AddsText};
-ghost use Rattle.omf_cmd.specs.Inner.RunLines.{line_text, lines_of};
+ghost use Rattle.std.specs.Prelude.{◌≡◌, ◌+◌, ◌++◌, ◌≤◌, ◌^◌, Ok, length};
+ghost use Rattle.omf_cmd.specs.Inner.RunLines.{lines_of};
+ghost use Rattle.omf_cmd.specs.Runs.{PrintsOr};
+ghost use Rattle.omf_cmd.specs.declared.fault.RunFault.TheVariants.{Write};
 ghost use Rattle.omf_image.specs.Inner.Joined.{runs_of};
 ghost use Rattle.omf_image.specs.Overlay.{byte_at};
-ghost use Rattle.omf_linker.specs.Link.MemoryText.{address_text, image_text, memory_text};
+ghost use Rattle.omf_linker.specs.Inner.Blocks.{Passes};
+ghost use Rattle.omf_linker.specs.Link.MemoryText.{address_text, memory_text};
 
-use omf_cmd::{eight_digits, print_bytes, print_start};
+use crate::link::block::Block;
+use omf_cmd::RunFault;
+use omf_frame::Sink;
 use omf_image::Image;
-use std::alloc::{AllocError, Global};
 
 /// The number of bytes on a full line.
 const LINE_BYTES: usize = 16;
 
-/// Appends a line: the address of its first byte, and its bytes.
-fn print_line(text: &mut Vec<u8>, address: u32, bytes: &[u8]) -> Result<(), AllocError>
-    requires { length bytes.now ≤ 16 }
-    ensures { AddsText result text.old.items text.new.items (line_text address_text address bytes.now) }
-{
-    text.extend_from_slice(&eight_digits(address))?;
-    text.push(b':')?;
-    print_bytes(text, bytes)?;
-    text.push(b'\n')?;
-    Ok(())
-}
-
-/// Appends a run: lines of 16 bytes from its first address on; the last line may be shorter.
-fn print_run(text: &mut Vec<u8>, first: u32, bytes: &[u8]) -> Result<(), AllocError>
+/// Prints a run: lines of 16 bytes from its first address on; the last line may be shorter.
+fn print_run<K: Sink>(
+    writer: &mut K,
+    block: &mut Block,
+    first: u32,
+    bytes: &[u8],
+) -> Result<(), RunFault>
     requires { first + length bytes.now ≤ 2 ^ 32 }
-    ensures { AddsText result text.old.items text.new.items (lines_of address_text first bytes.now) }
+    ensures { Passes Write (K.seen writer.old) (K.seen writer.new) result (block.old ++ lines_of address_text first bytes.now) block.new }
 {
     let mut address = u64::from(first);
     let mut rest = bytes;
     while !rest.is_empty() {
         let (line, others) = rest.split_at(rest.len().min(LINE_BYTES));
-        print_line(text, address as u32, line)?;
+        block.make_room(writer)?;
+        block.add_line(address as u32, line);
         address += line.len() as u64;
         rest = others;
     }
     Ok(())
 }
 
-/// The bytes of a memory as text. The memory is segment 0 of an image. Its runs of bytes come in rising order, each in lines of 16 bytes; the
-/// last line may be shorter. A line has the address of its first byte in eight hexadecimal digits, a colon, and each byte in two digits after
-/// a space.
-///
-/// # Errors
-///
-/// `AllocError` if memory runs out.
-pub fn memory_text(alloc: Global, memory: &Image) -> Result<Vec<u8>, AllocError>
-    ensures { IfOk result (λ text. text.items ≡ memory_text (byte_at memory.now 0) (runs_of memory.now 0)) }
+/// Prints the runs of a memory, in rising order.
+fn print_runs<K: Sink>(writer: &mut K, block: &mut Block, memory: &Image) -> Result<(), RunFault>
+    ensures { Passes Write (K.seen writer.old) (K.seen writer.new) result (block.old ++ memory_text (byte_at memory.now 0) (runs_of memory.now 0)) block.new }
 {
-    let mut text = Vec::new(alloc);
     let mut k = 0;
     while let Some((first, bytes)) = memory.run_with_bytes(0, k) {
-        print_run(&mut text, first, bytes)?;
+        print_run(writer, block, first, bytes)?;
         k += 1;
     }
-    Ok(text)
+    Ok(())
 }
 
-/// The text of `memory_text`, and the line of the start address, if there is one: its selector in four hexadecimal digits, a colon, and its
-/// offset in eight.
+/// Prints the bytes of a memory. The memory is segment 0 of an image. Its runs of bytes come in rising order, each in lines of 16 bytes; the
+/// last line may be shorter. A line has the address of its first byte in eight hexadecimal digits, a colon, and each byte in two digits after
+/// a space. The lines are written in blocks of 8 KB, and no memory is taken for them.
 ///
 /// # Errors
 ///
-/// `AllocError` if memory runs out.
-pub fn image_text(
-    alloc: Global,
-    memory: &Image,
-    start: Option<(u16, u32)>,
-) -> Result<Vec<u8>, AllocError>
-    ensures { IfOk result (λ text. text.items ≡ image_text (byte_at memory.now 0) (runs_of memory.now 0) start) }
+/// `Write` if the writer failed, or took nothing. A front of the text may then be written.
+pub(crate) fn print_memory<K: Sink>(writer: &mut K, memory: &Image) -> Result<(), RunFault>
+    ensures { PrintsOr Write (K.seen writer.old) (K.seen writer.new) (Ok (memory_text (byte_at memory.now 0) (runs_of memory.now 0))) result }
 {
-    let mut text = memory_text(alloc, memory)?;
-    print_start(&mut text, start)?;
-    Ok(text)
+    let mut block = Block::new();
+    print_runs(writer, &mut block, memory)?;
+    block.write(writer)
 }

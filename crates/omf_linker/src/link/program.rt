@@ -43,6 +43,6 @@ impl Program for Link {
     }
 
     fn usage() -> &'static [u8] {
-        b"usage: omf-link exe -o FILE [--map FILE] [--stack SIZE] [--library-path DIR] [--no-default-libraries] FILE ..\n       omf-link com -o FILE [--map FILE] [--stack SIZE] [--library-path DIR] [--no-default-libraries] FILE ..\n       omf-link image|map [-t TEXT] [-o FILE] [FILE ..]\n       omf-link bin --base ADDRESS --size SIZE [--fill BYTE] [-t TEXT] [-o FILE] [FILE ..]\n       omf-link hex [--addresses linear|segment] [-t TEXT] [-o FILE] [FILE ..]\n       omf-link srec [--addresses 16|24|32] [-t TEXT] [-o FILE] [FILE ..]\n       omf-link draft [--base ADDRESS] [--real | --flat SELECTOR] [-o FILE] [FILE ..]\n"
+        b"usage: omf-link exe -o FILE [--map FILE] [--stack SIZE] [--order dos|input] [--library-path DIR] [--no-default-libraries] FILE ..\n       omf-link com -o FILE [--map FILE] [--stack SIZE] [--order dos|input] [--library-path DIR] [--no-default-libraries] FILE ..\n       omf-link image [--allow KIND] [-t TEXT] [-o FILE] [FILE ..]\n       omf-link map [-t TEXT] [-o FILE] [FILE ..]\n       omf-link bin --base ADDRESS --size SIZE [--fill BYTE] [--allow KIND] [-t TEXT] [-o FILE] [FILE ..]\n       omf-link hex [--addresses linear|segment] [--allow KIND] [-t TEXT] [-o FILE] [FILE ..]\n       omf-link srec [--addresses 16|24|32] [--allow KIND] [-t TEXT] [-o FILE] [FILE ..]\n       omf-link draft [--base ADDRESS] [--real | --flat SELECTOR] [-o FILE] [FILE ..]\n"
     }
 }

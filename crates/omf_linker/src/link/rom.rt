@@ -1,14 +1,15 @@
 //! The memory of several modules as a file for a chip.
 
-ghost use Rattle.std.specs.Prelude.{◌≡◌, ◌<◌, ◌^◌, is_some, length};
+ghost use Rattle.std.specs.Prelude.{◌≡◌, ◌<◌, ◌^◌, is_some, length, map, string_bytes};
 ghost use Rattle.omf_check.specs.Module.{typed_modules};
 ghost use Rattle.omf_records.specs.Inner.Seen.{map_ok};
 ghost use Rattle.omf_linking.specs.Space.Segments.{segment_at, segments_at, share_in};
-ghost use Rattle.omf_linker.specs.Link.Rom.{IsLinkedFile, IsOwned, IsRom, first_owner};
+ghost use Rattle.omf_linker.specs.Link.Rom.{IsLinkedFile, IsOutside, IsOwned, IsRom, first_owner};
 
+use crate::lines::{Labeled, outside_line};
 use crate::link::fault::ImageFault;
 use crate::link::linking::{LinkedModules, linked_modules};
-use crate::link::naming::{named, unnamed};
+use crate::link::naming::named;
 use omf_check::Checked;
 use omf_linking::space::{Owner, PlacedSegment};
 use omf_linking::{LinkFault, segments_of};
@@ -38,20 +39,36 @@ fn first_owner(segments: &[PlacedSegment<'_>], address: u32) -> Option<Owner>
     None
 }
 
+/// The fault of a byte at an address that a form does not have: the address, its first segment, and the line. `Memory` if memory runs out.
+fn outside_of(alloc: Global, labeled: Labeled<'_>, address: u32, owner: Option<Owner>) -> ImageFault
+    ensures { IsOutside (map string_bytes labeled.entry.labels.now) (typed_modules labeled.entry.modules.now) address owner result }
+{
+    match outside_line(alloc, labeled, address, owner) {
+        Ok(lines) => ImageFault::Outside {
+            address,
+            owner,
+            lines: lines.into_bytes(),
+        },
+        Err(AllocError) => ImageFault::Link(LinkFault::Memory),
+    }
+}
+
 /// The fault of linked modules with a byte at an address that a form does not have: the address, and the first segment with a byte there.
 /// `Memory` if memory runs out.
-fn outside(alloc: Global, modules: &[Checked], linked: &LinkedModules, address: u32) -> ImageFault
-    requires few { length modules.now < 2 ^ 32 }
-    requires placed { length linked.now.placements.items ≡ length modules.now }
-    requires relocated { length linked.now.relocated.items ≡ length modules.now }
-    ensures { IsOwned (typed_modules modules.now) linked.now address result }
+fn outside(alloc: Global, labeled: Labeled<'_>, linked: &LinkedModules, address: u32) -> ImageFault
+    requires few { length labeled.modules.now < 2 ^ 32 }
+    requires placed { length linked.now.placements.items ≡ length labeled.modules.now }
+    requires relocated { length linked.now.relocated.items ≡ length labeled.modules.now }
+    ensures { IsOwned (map string_bytes labeled.entry.labels.now) (typed_modules labeled.entry.modules.now) linked.now address result }
 {
-    match segments_of(alloc, modules, &linked.placements, &linked.relocated) {
-        Ok(segments) => ImageFault::Outside {
-            address,
-            owner: first_owner(&segments, address),
-        },
-        Err(AllocError) => unnamed(alloc, LinkFault::Memory),
+    match segments_of(
+        alloc,
+        labeled.modules,
+        &linked.placements,
+        &linked.relocated,
+    ) {
+        Ok(segments) => outside_of(alloc, labeled, address, first_owner(&segments, address)),
+        Err(AllocError) => ImageFault::Link(LinkFault::Memory),
     }
 }
 
@@ -59,18 +76,34 @@ fn outside(alloc: Global, modules: &[Checked], linked: &LinkedModules, address: 
 fn linked_file(
     alloc: Global,
     form: Form,
-    modules: &[Checked],
+    labeled: Labeled<'_>,
     linked: &LinkedModules,
 ) -> Result<Vec<u8>, ImageFault>
-    requires few { length modules.now < 2 ^ 32 }
-    requires placed { length linked.now.placements.items ≡ length modules.now }
-    requires relocated { length linked.now.relocated.items ≡ length modules.now }
-    ensures { IsLinkedFile form (typed_modules modules.now) linked.now (map_ok (λ file. file.items) result) }
+    requires few { length labeled.modules.now < 2 ^ 32 }
+    requires placed { length linked.now.placements.items ≡ length labeled.modules.now }
+    requires relocated { length linked.now.relocated.items ≡ length labeled.modules.now }
+    ensures { IsLinkedFile form (map string_bytes labeled.entry.labels.now) (typed_modules labeled.entry.modules.now) linked.now (map_ok (λ file. file.items) result) }
 {
     match memory_file(alloc, form, &linked.memory) {
         Ok(file) => Ok(file),
-        Err(FileFault::Outside(address)) => Err(outside(alloc, modules, linked, address)),
-        Err(FileFault::Memory) => Err(unnamed(alloc, LinkFault::Memory)),
+        Err(FileFault::Outside(address)) => Err(outside(alloc, labeled, linked, address)),
+        Err(FileFault::Memory) => Err(ImageFault::Link(LinkFault::Memory)),
+    }
+}
+
+/// The memory of modules at the placements that a link text gives them, as a file in a form. A fault calls the modules by their labels.
+pub(crate) fn labeled_file(
+    alloc: Global,
+    form: Form,
+    labeled: Labeled<'_>,
+    text: &[u8],
+) -> Result<Vec<u8>, ImageFault>
+    requires { length labeled.modules.now < 2 ^ 32 }
+    ensures { IsRom form (map string_bytes labeled.entry.labels.now) (typed_modules labeled.entry.modules.now) text.now (map_ok (λ file. file.items) result) }
+{
+    match linked_modules(alloc, labeled.modules, text) {
+        Ok(linked) => linked_file(alloc, form, labeled, &linked),
+        Err(fault) => Err(named(alloc, labeled, text, fault)),
     }
 }
 
@@ -78,19 +111,18 @@ fn linked_file(
 ///
 /// # Errors
 ///
-/// Those of `modules_text`, with the name of the external if the fault is about one; otherwise `Outside` if a byte of the memory is at an
-/// address that the form does not have.
+/// Those of `modules_text`, with their lines if they are about a module and its parts; otherwise `Outside` if a byte of the memory is at an
+/// address that the form does not have. In the lines modules are called by their labels; a module without one is called `module` and its
+/// number from 1. `Link` with `Memory` if memory runs out.
 pub fn modules_file(
     alloc: Global,
     form: Form,
+    labels: &[String],
     modules: &[Checked],
     text: &[u8],
 ) -> Result<Vec<u8>, ImageFault>
     requires { length modules.now < 2 ^ 32 }
-    ensures { IsRom form (typed_modules modules.now) text.now (map_ok (λ file. file.items) result) }
+    ensures { IsRom form (map string_bytes labels.now) (typed_modules modules.now) text.now (map_ok (λ file. file.items) result) }
 {
-    match linked_modules(alloc, modules, text) {
-        Ok(linked) => linked_file(alloc, form, modules, &linked),
-        Err(fault) => Err(named(alloc, modules, text, fault)),
-    }
+    labeled_file(alloc, form, Labeled { labels, modules }, text)
 }

@@ -1,46 +1,48 @@
 //! A run of `omf-link`, from a reader to a writer.
 
-ghost use Rattle.std.specs.Prelude.{◌≡◌, ◌<◌, ◌^◌, ℕ, List, Some, length};
+ghost use Rattle.std.specs.Prelude.{◌≡◌, ◌<◌, ◌^◌, [], ℕ, IfOk, List, Some, length, map, string_bytes};
 ghost use Rattle.omf_records.specs.Inner.Seen.{map_ok};
 ghost use Rattle.omf_check.specs.Module.{typed_modules};
 ghost use Rattle.omf_linker.specs.Link.Drafted.{IsDrafted};
-ghost use Rattle.omf_linker.specs.Link.Linked.{IsLinked};
+ghost use Rattle.omf_linker.specs.Link.Linked.{any, IsLinked};
+ghost use Rattle.omf_linking.specs.Reading.{AreModules};
 ghost use Rattle.omf_linker.specs.Link.Mapped.{IsMapped};
 ghost use Rattle.omf_linker.specs.Link.Runs.{IsRun, IsShowCause, Shows};
 ghost use Rattle.omf_linker.specs.Link.Shown.{AreShown, IsNamedAs, IsShownOf};
 
 use crate::drafting::link_draft;
+use crate::lines::Labeled;
 use crate::link::fault::ImageFault;
 use crate::link::linking::{modules_map, modules_text};
-use crate::link::naming::{named, unnamed};
-use crate::link::rom::modules_file;
+use crate::link::naming::named;
+use crate::link::output::Output;
+use crate::link::rom::labeled_file;
 use crate::link::words::Task;
 use omf_check::{Checked, Profile};
-use omf_cmd::print_all;
 use omf_frame::{Sink, Source};
 use omf_layout::{LayoutFault, Options};
 use omf_linking::{LinkFault, modules_in, read_all};
-use std::alloc::Global;
+use std::alloc::{AllocError, Global};
 
-/// The text of `modules_text`, or the first fault with the name of its external.
-fn image_shown(alloc: Global, modules: &[Checked], text: &[u8]) -> Result<Vec<u8>, ImageFault>
-    requires { length modules.now < 2 ^ 32 }
-    ensures { IsNamedAs (IsLinked (typed_modules modules.now) text.now) (typed_modules modules.now) text.now (map_ok (λ shown. shown.items) result) }
+/// The text of `modules_text`, or the first fault with its lines.
+fn image_shown(alloc: Global, labeled: Labeled<'_>, text: &[u8]) -> Result<Output, ImageFault>
+    requires { length labeled.modules.now < 2 ^ 32 }
+    ensures { IsNamedAs (IsLinked (typed_modules labeled.entry.modules.now) text.now) (map string_bytes labeled.entry.labels.now) (typed_modules labeled.entry.modules.now) text.now result }
 {
-    match modules_text(alloc, modules, text) {
+    match modules_text(alloc, labeled.modules, text) {
         Ok(shown) => Ok(shown),
-        Err(fault) => Err(named(alloc, modules, text, fault)),
+        Err(fault) => Err(named(alloc, labeled, text, fault)),
     }
 }
 
-/// The text of `modules_map`, or the first fault with the name of its external.
-fn map_shown(alloc: Global, modules: &[Checked], text: &[u8]) -> Result<Vec<u8>, ImageFault>
-    requires { length modules.now < 2 ^ 32 }
-    ensures { IsNamedAs (IsMapped (typed_modules modules.now) text.now) (typed_modules modules.now) text.now (map_ok (λ shown. shown.items) result) }
+/// The text of `modules_map`, or the first fault with its lines.
+fn map_shown(alloc: Global, labeled: Labeled<'_>, text: &[u8]) -> Result<Vec<u8>, ImageFault>
+    requires { length labeled.modules.now < 2 ^ 32 }
+    ensures { IsNamedAs (IsMapped (typed_modules labeled.entry.modules.now) text.now) (map string_bytes labeled.entry.labels.now) (typed_modules labeled.entry.modules.now) text.now (map_ok (λ shown. shown.items) result) }
 {
-    match modules_map(alloc, modules, text) {
+    match modules_map(alloc, labeled.modules, text) {
         Ok(shown) => Ok(shown.into_bytes()),
-        Err(fault) => Err(named(alloc, modules, text, fault)),
+        Err(fault) => Err(named(alloc, labeled, text, fault)),
     }
 }
 
@@ -52,69 +54,142 @@ fn draft_shown(alloc: Global, modules: &[Checked], options: Options) -> Result<V
     match link_draft(alloc, modules, options) {
         Ok(shown) => Ok(shown.into_bytes()),
         Err(LayoutFault::NoRoom) => Err(ImageFault::NoRoom),
-        Err(LayoutFault::Memory) => Err(unnamed(alloc, LinkFault::Memory)),
+        Err(LayoutFault::Memory) => Err(ImageFault::Link(LinkFault::Memory)),
     }
 }
 
-/// The text that a task prints for modules and a link text.
+/// A result whose text is made.
+fn made(alloc: Global, made: Result<Vec<u8>, ImageFault>) -> Result<Output, ImageFault>
+    ensures { result ≡ map_ok (λ text. text.items) made }
+{
+    match made {
+        Ok(text) => Ok(Output::of_text(alloc, text)),
+        Err(fault) => Err(fault),
+    }
+}
+
+/// What a task prints for modules and a link text.
 pub(crate) fn modules_shown(
+    alloc: Global,
+    task: Task,
+    labeled: Labeled<'_>,
+    text: &[u8],
+) -> Result<Output, ImageFault>
+    requires { length labeled.modules.now < 2 ^ 32 }
+    ensures { AreShown task (map string_bytes labeled.entry.labels.now) (typed_modules labeled.entry.modules.now) text.now result }
+{
+    match task {
+        Task::Image => image_shown(alloc, labeled, text),
+        Task::Rom(form) => made(alloc, labeled_file(alloc, form, labeled, text)),
+        Task::Map => made(alloc, map_shown(alloc, labeled, text)),
+        Task::Draft(options) => made(alloc, draft_shown(alloc, labeled.modules, options)),
+    }
+}
+
+/// What a task prints for modules without labels and a link text: a fault counts the modules.
+fn unlabeled_shown(
     alloc: Global,
     task: Task,
     modules: &[Checked],
     text: &[u8],
-) -> Result<Vec<u8>, ImageFault>
+) -> Result<Output, ImageFault>
     requires { length modules.now < 2 ^ 32 }
-    ensures { AreShown task (typed_modules modules.now) text.now (map_ok (λ shown. shown.items) result) }
+    ensures { AreShown task [] (typed_modules modules.now) text.now result }
 {
-    match task {
-        Task::Image => image_shown(alloc, modules, text),
-        Task::Rom(form) => modules_file(alloc, form, modules, text),
-        Task::Map => map_shown(alloc, modules, text),
-        Task::Draft(options) => draft_shown(alloc, modules, options),
-    }
+    let labeled = Labeled {
+        labels: &[],
+        modules,
+    };
+    modules_shown(alloc, task, labeled, text)
 }
 
-/// The text that a task prints for an input, which is modules, one after another, followed by a link text: the memory image at the placements
-/// of the text, the map at these, or the draft of a link text. A draft ignores the text.
-///
-/// # Errors
-///
-/// `Link` with `Refused` for the first module that is not well formed, or with `NoText` if what follows the modules and their padding is no
-/// text; otherwise `Link` with the fault of `modules_text` or `modules_map`, and the name of its external if it is about one. `NoRoom` if a segment of the draft has no room. `Link` with `Memory` if memory runs out.
-pub fn shown_text(alloc: Global, task: Task, input: &[u8]) -> Result<Vec<u8>, ImageFault>
-    ensures { IsShownOf task input.now (map_ok (λ shown. shown.items) result) }
+/// What a task prints for the bytes of an input.
+fn shown_of(alloc: Global, task: Task, input: &[u8]) -> Result<Output, ImageFault>
+    ensures { IsShownOf task input.now result }
 {
     let profile = Profile {
         refuse_vendor_comments: false,
     };
     match modules_in(alloc, profile, input) {
-        Ok((modules, text)) => modules_shown(alloc, task, &modules, text),
-        Err(fault) => Err(unnamed(alloc, fault)),
+        Ok((modules, text)) => unlabeled_shown(alloc, task, &modules, text),
+        Err(fault) => Err(ImageFault::Link(fault)),
     }
 }
 
-/// The text that a task prints for the input of a reader. All of the input is read.
+/// The text that a task prints for an input, as that of `shown_output`, all at once.
+///
+/// # Errors
+///
+/// Those of `shown_output`.
+pub fn shown_text(alloc: Global, task: Task, input: &[u8]) -> Result<Vec<u8>, ImageFault>
+    ensures { IsShownOf task input.now (map_ok (λ shown. shown.items) result) }
+{
+    let output = shown_of(alloc, task, input)?;
+    match output.bytes(alloc) {
+        Ok(bytes) => Ok(bytes),
+        Err(AllocError) => Err(ImageFault::Link(LinkFault::Memory)),
+    }
+}
+
+/// The modules and the text of an input. The input is dropped, so each module is kept once.
+///
+/// # Errors
+///
+/// Those of `modules_in`.
+pub(crate) fn parted(alloc: Global, input: Vec<u8>) -> Result<(Vec<Checked>, Vec<u8>), LinkFault>
+    ensures modules { AreModules any input.items (map_ok (λ r. (r.0.items, r.1.items)) result) }
+    ensures few { IfOk result (λ r. length r.0.items < 2 ^ 32) }
+{
+    let profile = Profile {
+        refuse_vendor_comments: false,
+    };
+    match modules_in(alloc, profile, &input) {
+        Ok((modules, rest)) => {
+            let text = rest.to_vec(alloc)?;
+            Ok((modules, text))
+        }
+        Err(fault) => Err(fault),
+    }
+}
+
+/// What a task prints for an input, which is modules, one after another, followed by a link text: the memory image at the placements of the
+/// text, the map at these, or the draft of a link text. A draft ignores the text. The input is dropped once its modules are checked.
+///
+/// # Errors
+///
+/// `Link` with `Refused` for the first module that is not well formed, or with `NoText` if what follows the modules and their padding is no
+/// text; otherwise the fault of `modules_text` or `modules_map`, as `Lines` if it is about a module and its parts. `NoRoom` if a segment of the draft has no room. `Link` with `Memory` if memory runs out.
+pub fn shown_output(alloc: Global, task: Task, input: Vec<u8>) -> Result<Output, ImageFault>
+    ensures { IsShownOf task input.items result }
+{
+    match parted(alloc, input) {
+        Ok((modules, text)) => unlabeled_shown(alloc, task, &modules, &text),
+        Err(fault) => Err(ImageFault::Link(fault)),
+    }
+}
+
+/// What a task prints for the input of a reader. All of the input is read.
 fn read_and_shown<S: Source>(
     alloc: Global,
     task: Task,
     reader: &mut S,
-) -> Result<Vec<u8>, ImageFault>
-    ensures answer { (input : List ℕ) → (S.seen reader.old).bytes ≡ Some input → Shows task input (S.seen reader.old).bytes (S.seen reader.new).bytes (map_ok (λ shown. shown.items) result) }
-    ensures cause { IsShowCause (S.seen reader.old) (S.seen reader.new) (map_ok (λ shown. shown.items) result) }
+) -> Result<Output, ImageFault>
+    ensures answer { (input : List ℕ) → (S.seen reader.old).bytes ≡ Some input → Shows task input (S.seen reader.old).bytes (S.seen reader.new).bytes result }
+    ensures cause { IsShowCause (S.seen reader.old) (S.seen reader.new) result }
 {
     match read_all(alloc, reader) {
-        Ok(input) => shown_text(alloc, task, &input),
-        Err(fault) => Err(unnamed(alloc, fault)),
+        Ok(input) => shown_output(alloc, task, input),
+        Err(fault) => Err(ImageFault::Link(fault)),
     }
 }
 
-/// Does a task: writes the text of `shown_text` for the input, which is modules followed by a link text. All of the input is read. Nothing is
-/// written unless the text is complete.
+/// Does a task: writes the text of `shown_output` for the input, which is modules followed by a link text. All of the input is read. Nothing is
+/// written before nothing but the writer can fail.
 ///
 /// # Errors
 ///
-/// Those of `shown_text`: `Link` with `Refused` for the first module that is not well formed, or with `NoText` if what follows the modules and
-/// their padding is no text; otherwise `Link` with the fault of `modules_text` or `modules_map`, and the name of its external if it is about one; `NoRoom` if a segment of a draft has no room. `Link` with `Read` if the
+/// Those of `shown_output`: `Link` with `Refused` for the first module that is not well formed, or with `NoText` if what follows the modules and
+/// their padding is no text; otherwise the fault of `modules_text` or `modules_map`, as `Lines` if it is about a module and its parts; `NoRoom` if a segment of a draft has no room. `Link` with `Read` if the
 /// reader fails, `Write` if the writer fails, `Link` with `Memory` if memory runs out.
 pub fn run_task<S: Source, K: Sink>(
     alloc: Global,
@@ -124,6 +199,9 @@ pub fn run_task<S: Source, K: Sink>(
 ) -> Result<(), ImageFault>
     ensures { IsRun task (S.seen reader.old) (S.seen reader.new) (K.seen writer.old) (K.seen writer.new) result }
 {
-    let text = read_and_shown(alloc, task, reader)?;
-    print_all(writer, text.as_slice(), ImageFault::Write)
+    let output = read_and_shown(alloc, task, reader)?;
+    match output.print(writer) {
+        Ok(()) => Ok(()),
+        Err(_) => Err(ImageFault::Write),
+    }
 }

@@ -15,7 +15,7 @@ use std::alloc::{AllocError, Global};
 use std::fmt::Write;
 
 /// Appends the label of a module, or its number if it has none.
-fn put_own(text: &mut String, labels: &[String], module: u32) -> Result<(), AllocError>
+pub(crate) fn put_own(text: &mut String, labels: &[String], module: u32) -> Result<(), AllocError>
     ensures { AddsText result (string_bytes text.old) (string_bytes text.new) (label_of (map string_bytes labels.now) «module») }
 {
     match labels.get(module as usize) {

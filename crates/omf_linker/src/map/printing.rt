@@ -18,7 +18,7 @@ fn print_number(text: &mut String, number: usize) -> Result<(), AllocError>
 }
 
 /// Prints a space and a number of eight hexadecimal digits or more.
-fn print_digits(text: &mut String, number: u64) -> Result<(), AllocError>
+pub(crate) fn print_digits(text: &mut String, number: u64) -> Result<(), AllocError>
     ensures { AddsText result (string_bytes text.old) (string_bytes text.new) (32 ∷ hex 8 number) }
 {
     write!(text, " {number:08X}")

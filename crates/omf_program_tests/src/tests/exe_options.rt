@@ -1,7 +1,9 @@
 //! The options of `omf-link exe` and `com`, and the libraries that its modules ask for.
 
 use omf_linker::asked::{Asked, sorted};
-use omf_linker::exe::{Call, ExeOptions, ProgramModules, call_of, library_files, missing_lines};
+use omf_linker::exe::{
+    Call, ExeOptions, Order, ProgramModules, call_of, library_files, missing_lines,
+};
 use omf_linker::link::InputFile;
 use omf_samples::bytes_of;
 use std::alloc::{AllocError, Global};
@@ -12,6 +14,7 @@ struct Read {
     folders: &'static [&'static str],
     default_libraries: bool,
     stack: Option<u16>,
+    order: Option<Order>,
 }
 
 /// No options.
@@ -20,12 +23,13 @@ const NONE: Read = Read {
     folders: &[],
     default_libraries: true,
     stack: None,
+    order: None,
 };
 
 /// Arguments, separated by spaces, and the options that they give.
 type Case = (&'static str, Option<Read>);
 
-static CASES: [Case; 15] = [
+static CASES: [Case; 19] = [
     ("", Some(NONE)),
     (
         "--map a.map",
@@ -56,6 +60,20 @@ static CASES: [Case; 15] = [
             ..NONE
         }),
     ),
+    (
+        "--order dos",
+        Some(Read {
+            order: Some(Order::Dos),
+            ..NONE
+        }),
+    ),
+    (
+        "--order input",
+        Some(Read {
+            order: Some(Order::Input),
+            ..NONE
+        }),
+    ),
     // A value is missing, wrong, or there twice; an option is unknown.
     ("--map", None),
     ("--stack", None),
@@ -63,7 +81,9 @@ static CASES: [Case; 15] = [
     ("--stack 65535", None),
     ("--stack +1", None),
     ("--stack 10H", None),
-    ("--order dos", None),
+    ("--order", None),
+    ("--order DOS", None),
+    ("--order dos --order dos", None),
     ("--map a --map b", None),
     ("--stack 1 --stack 1", None),
     ("--base 0", None),
@@ -86,6 +106,7 @@ fn are_read(options: &ExeOptions<'_>, read: &Read) -> bool {
         && options.folders.as_slice() == read.folders
         && options.default_libraries == read.default_libraries
         && options.stack == read.stack
+        && options.order == read.order
 }
 
 /// Whether arguments give the options of a case.

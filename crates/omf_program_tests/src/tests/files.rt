@@ -21,6 +21,18 @@ const FOLLOWED: &str =
 const WITH_TEXT: &str =
     "80030001413B 96040000015411 98070028020002010100 A00600010000CCDD00 8A02000074 3B 0A";
 
+/// Two modules, each with one segment of two bytes.
+const TWO: &str =
+    "80030001413B 96040000015411 98070028020002010100 A00600010000CCDD00 8A02000074 80030001413B 96040000015411 98070028020002010100 A00600010000CCDD00 8A02000074";
+
+/// A main module with one segment of two bytes and a start.
+const MAIN: &str =
+    "80030001413B 96040000015411 98070020020002010100 A00600010000AABB00 8A0600C15001010000";
+
+/// A module with the external X, to which the word at offset 1 of its segment refers.
+const ASKING: &str =
+    "80030001413B 96040000015411 98070028040002010131 8C040001580017 A00800010000B80000900F 9C0500C401560143 8A02000074";
+
 /// The names of files and their bytes, the text of their link, and what `omf-link image` ends with and prints.
 struct Case {
     files: &'static [(&'static str, &'static str)],
@@ -29,7 +41,7 @@ struct Case {
     printed: &'static str,
 }
 
-static CASES: [Case; 6] = [
+static CASES: [Case; 11] = [
     Case {
         files: &[("a.obj", PADDED), ("b.obj", MODULE)],
         text: "M #1\nS #1 7C00 0 0\nM #2\nS #1 7C02 0 0",
@@ -64,7 +76,37 @@ static CASES: [Case; 6] = [
         files: &[("a.obj", MODULE), ("b.obj", MODULE)],
         text: "M #1\nS #1 7C00 0 0",
         status: 1,
-        printed: "module 2 reach 1 Missing segment 1\n",
+        printed: "file \"b.obj\" module 1: no line for segment 1 \"T\"\n",
+    },
+    Case {
+        files: &[("a.obj", MODULE), ("b.obj", TWO)],
+        text: "M #1\nS #1 7C00 0 0\nM #2\nS #1 7C02 0 0\nM #3\nS #1 7C01 0 0",
+        status: 1,
+        printed: "file \"a.obj\" module 1 segment \"T\" overlaps file \"b.obj\" module 2 segment \"T\" at 00007C01\n",
+    },
+    Case {
+        files: &[("a.obj", MODULE), ("b.obj", MODULE)],
+        text: "M #1\nS #1 7C00 0 0\nM #2\nS #1 FFFFFFFF 0 0",
+        status: 1,
+        printed: "file \"b.obj\" module 1 segment \"T\": beyond the last address\n",
+    },
+    Case {
+        files: &[("a.obj", MAIN), ("old b.obj", MAIN)],
+        text: "M #1\nS #1 7C00 0 0\nM #2\nS #1 7C02 0 0",
+        status: 1,
+        printed: "two starts: file \"a.obj\" module 1 and file \"old b.obj\" module 1\n",
+    },
+    Case {
+        files: &[("a.obj", MODULE), ("b.obj", ASKING)],
+        text: "M #1\nS #1 7C00 0 0\nM #2\nS #1 7C02 0 0",
+        status: 1,
+        printed: "undefined \"X\": file \"b.obj\" module 1\n",
+    },
+    Case {
+        files: &[("a.obj", MODULE), ("b.obj", ASKING)],
+        text: "M #1\nS #1 7C00 0 0\nM #2\nS #1 10020 10000 1000\nX #1 40000 20000 2000",
+        status: 1,
+        printed: "file \"b.obj\" module 1 segment \"T\" offset 00000001: TooFar Target \"X\"\n",
     },
 ];
 
@@ -98,7 +140,7 @@ fn is_right(alloc: Global, case: &Case) -> bool {
         return false;
     };
     let mut sink = Gathered::new(alloc);
-    let status = run_files(alloc, Task::Image, &files, case.text.as_bytes(), &mut sink);
+    let status = run_files(alloc, Task::Image, files, case.text.as_bytes(), &mut sink);
     status == case.status && sink.text.as_slice() == case.printed.as_bytes()
 }
 

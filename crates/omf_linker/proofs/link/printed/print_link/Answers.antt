@@ -5,11 +5,11 @@ use Rattle.omf_linker.proofs.link.printed.print_link.Goals as goal
 
 pub returns-in-Refused : goal.returns-in-Refused
 returns-in-Refused g c =
-    rw c.in-Refused.is (subst (λ (t : List ℕ). IsWritten (g.K.Sink.seen c.args.writer.now) (g.K.Sink.seen c.print_in_module.new.writer) t) (sym (refused_line c.in-Refused.«module» c.in-Refused.reason c.in-Refused.place c.args.name.now)) c.print_in_module.ensures)
+    rw c.in-Refused.is (subst (λ (t : List ℕ). IsWritten (g.K.Sink.seen c.args.writer.now) (g.K.Sink.seen c.print_in_module.new.writer) t) (sym (refused_line c.in-Refused.«module» c.in-Refused.reason c.in-Refused.place)) c.print_in_module.ensures)
 
 pub returns-in-Reach : goal.returns-in-Reach
 returns-in-Reach g c =
-    rw c.in-Reach.is (subst (λ (t : List ℕ). IsWritten (g.K.Sink.seen c.args.writer.now) (g.K.Sink.seen c.print_in_module-in-Reach.new.writer) t) (sym (reach_line c.in-Reach.«module» c.in-Reach.fault c.args.name.now)) c.print_in_module-in-Reach.ensures)
+    rw c.in-Reach.is (subst (λ (t : List ℕ). IsWritten (g.K.Sink.seen c.args.writer.now) (g.K.Sink.seen c.print_in_module-in-Reach.new.writer) t) (sym (reach_line c.in-Reach.«module» c.in-Reach.fault)) c.print_in_module-in-Reach.ensures)
 
 pub returns-in-Read : goal.returns-in-Read
 returns-in-Read g c = rw c.in-Read.is c.print-in-Read.ensures

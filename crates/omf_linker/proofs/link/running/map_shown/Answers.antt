@@ -1,7 +1,11 @@
+use Rattle.std.proofs.Common.{map}
+use Rattle.std.specs.Prelude.{string_bytes}
 use Rattle.omf_check.specs.Module.{typed_modules}
 use Rattle.omf_linker.specs.Link.Mapped.{IsMapped}
-use Rattle.omf_linker.proofs.LinkRuns.{with_name}
+use Rattle.omf_linker.proofs.LinkRuns.{with_lines}
 use Rattle.omf_linker.proofs.link.running.map_shown.Goals as goal
 
 pub returns-in-Err : goal.returns-in-Err
-returns-in-Err c = with_name (IsMapped (typed_modules c.args.modules.now) c.args.text.now) (typed_modules c.args.modules.now) c.args.text.now c.in-Err.fault c.named.result c.in-Err.ensures c.named.ensures
+returns-in-Err c =
+    let ms = typed_modules c.args.labeled.modules.now in
+    with_lines (IsMapped ms c.args.text.now) (map string_bytes c.args.labeled.labels.now) ms c.args.text.now c.in-Err.fault c.named.result c.in-Err.ensures c.named.ensures

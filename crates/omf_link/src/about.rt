@@ -1,0 +1,50 @@
+//! What the program shows of itself.
+
+use omf_host::About;
+
+/// Its name, how it is called, and what its tasks and options do. The second is that of `omf_linker::link::Link`.
+pub(crate) const ABOUT: About = About {
+    name: "omf-link",
+    usage: "usage: omf-link exe -o FILE [--map FILE] [--stack SIZE] [--order dos|input] [--library-path DIR] [--no-default-libraries] FILE ..
+       omf-link com -o FILE [--map FILE] [--stack SIZE] [--order dos|input] [--library-path DIR] [--no-default-libraries] FILE ..
+       omf-link image [--allow KIND] [-t TEXT] [-o FILE] [FILE ..]
+       omf-link map [-t TEXT] [-o FILE] [FILE ..]
+       omf-link bin --base ADDRESS --size SIZE [--fill BYTE] [--allow KIND] [-t TEXT] [-o FILE] [FILE ..]
+       omf-link hex [--addresses linear|segment] [--allow KIND] [-t TEXT] [-o FILE] [FILE ..]
+       omf-link srec [--addresses 16|24|32] [--allow KIND] [-t TEXT] [-o FILE] [FILE ..]
+       omf-link draft [--base ADDRESS] [--real | --flat SELECTOR] [-o FILE] [FILE ..]
+",
+    details: "
+  exe     a DOS program (.EXE) of object modules (.OBJ) and libraries (.LIB)
+  com     a DOS program without a header (.COM)
+  image   the memory of object modules at the addresses of a text, in hexadecimal
+  bin     the same memory as the bytes of a chip
+  hex     the same memory as Intel HEX
+  srec    the same memory as Motorola S-records
+  map     the addresses of segments, publics and externals
+  draft   a text with addresses, to begin with
+
+  -o FILE                  the output; without it the standard output
+  -t TEXT                  the text with the addresses
+  --map FILE               exe, com: the map of the program
+  --stack SIZE             exe, com: a stack of SIZE bytes more, decimal
+  --order dos|input        exe, com: segments in the order of DOS linkers, or as
+                           they come
+  --library-path DIR       exe, com: a folder for libraries that modules ask for
+  --no-default-libraries   exe, com: without the libraries that modules ask for
+  --allow KIND             image, bin, hex, srec: a warning in place of a fault where
+                           the text does this: overlap, align or group
+  --base ADDRESS           bin: the address of the first byte; draft: of the first
+                           segment (default 10000); hexadecimal
+  --size SIZE              bin: the number of bytes, hexadecimal
+  --fill BYTE              bin: the byte where no module has one (default FF)
+  --addresses linear|segment, --addresses 16|24|32
+                           hex, srec: the kind of addresses in the file
+  --real                   draft: addresses for real mode, for 16-bit code
+  --flat SELECTOR          draft: one frame with base 0 and this selector; this is
+                           the default, with selector 0
+
+Where a file is -, or there is none, omf-link reads the standard input.
+omf-link(1) and docs/LINK.md have examples and each line that is printed.
+",
+};

@@ -1,0 +1,7 @@
+use Rattle.std.proofs.Common.{take}
+use Rattle.omf_linker.specs.Exe.Input.{AllGive}
+use Rattle.omf_linker.proofs.exe.input.Input.of.Given as goal
+
+-- what the files so far give
+abbrev pub invariant-loop-number : goal.invariant-loop-number
+invariant-loop-number l = AllGive (take l.number l.files) l.input.given.items l.input.members.items

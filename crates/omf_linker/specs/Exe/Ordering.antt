@@ -1,0 +1,26 @@
+-- The module that a linker puts before the modules of a program for DOS order (this profile's rule).
+use Rattle.std.specs.Prelude.{◌≡◌, ⊤, ◌<◌, List, ◌∷◌, Ok, Err}
+use Rattle.omf_check.specs.Checking.{Decides}
+use Rattle.omf_check.specs.Module.{Module, typed_modules}
+use Rattle.omf_check.specs.declared.fault.CheckFault.TheVariants.{Refused}
+use Rattle.omf_layout.specs.Own.Order.{order_records}
+use Rattle.omf_layout.specs.Own.OrderFault.{IsOrderFault}
+use Rattle.omf_layout.specs.Own.Written.{written}
+use Rattle.omf_linker.specs.Exe.Sharing.{any_profile}
+use Rattle.omf_linker.specs.declared.exe.ordering.OrderingFault.{OrderingFault}
+use Rattle.omf_linker.specs.declared.exe.ordering.OrderingFault.TheVariants as ordering
+
+-- A module is the one that puts these in DOS order: the checked module of its bytes.
+abbrev pub IsOrderOf : List Module → Module → Type 0
+IsOrderOf ms m = Decides any_profile (written (order_records (typed_modules ms))) (Ok m)
+
+-- Modules, and before them that module.
+pub record AreOrdered (ms all : List Module) : Type 0 where
+  pub order : Module
+  pub made : IsOrderOf ms order
+  pub first : all ≡ order ∷ ms
+
+-- Why modules are not put in DOS order: there is no module for it; or it is refused.
+abbrev pub IsOrderingFault : List Module → OrderingFault → Type 0
+IsOrderingFault ms (ordering.Order f) = IsOrderFault (typed_modules ms) f
+IsOrderingFault ms (ordering.Refused why at) = Decides any_profile (written (order_records (typed_modules ms))) (Err (Refused why at))

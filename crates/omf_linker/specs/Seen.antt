@@ -1,0 +1,4 @@
+pub mod Overlaps
+pub mod Lying
+pub mod Wide
+pub mod Unseen

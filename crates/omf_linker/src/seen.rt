@@ -1,0 +1,19 @@
+//! What a link text does that may not be meant: segments with addresses in common, addresses that break an
+//! alignment, and groups that are too long.
+
+mod allowed;
+mod files;
+mod finding;
+mod lines;
+mod span;
+mod spans;
+mod sweep;
+mod wide;
+
+pub use allowed::{Allowed, allowed_in};
+pub use files::{Request, SeenLines, SeenText, files_seen, input_seen, is_looked_at};
+pub use finding::{Finding, Range, first_misaligned, unseen};
+pub use span::{Sharing, Span};
+pub use spans::spans_of;
+pub use sweep::first_overlap;
+pub use wide::{FarMember, first_wide};

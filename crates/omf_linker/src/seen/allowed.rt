@@ -1,0 +1,88 @@
+//! What a link text may do: the option `--allow`.
+
+use crate::seen::finding::Finding;
+use std::alloc::{AllocError, Global};
+
+/// What of the things that a link text does unseen is no fault.
+#[derive(Clone, Copy, Debug, PartialEq, Eq)]
+pub struct Allowed {
+    /// Segments may have addresses in common.
+    pub overlap: bool,
+    /// Addresses may break an alignment.
+    pub align: bool,
+    /// Groups may be longer than 64 KB.
+    pub group: bool,
+}
+
+impl Allowed {
+    /// Nothing is allowed.
+    pub fn nothing() -> Allowed {
+        Allowed {
+            overlap: false,
+            align: false,
+            group: false,
+        }
+    }
+
+    /// Allows a kind by its name. Returns false if there is no such kind.
+    fn allow(&mut self, kind: &str) -> bool {
+        match kind {
+            "overlap" => {
+                self.overlap = true;
+                true
+            }
+            "align" => {
+                self.align = true;
+                true
+            }
+            "group" => {
+                self.group = true;
+                true
+            }
+            _ => false,
+        }
+    }
+
+    /// Returns whether something is allowed.
+    pub fn has_any(&self) -> bool {
+        self.overlap || self.align || self.group
+    }
+
+    /// Returns whether what is found is allowed.
+    pub(crate) fn has(&self, found: Finding) -> bool {
+        match found {
+            Finding::Overlap { .. } => self.overlap,
+            Finding::Align { .. } => self.align,
+            Finding::Group(_) => self.group,
+        }
+    }
+}
+
+/// What the options `--allow KIND` of arguments allow, and the arguments without these options. None if a kind is missing or unknown.
+///
+/// # Errors
+///
+/// `AllocError` if memory runs out.
+pub fn allowed_in(
+    alloc: Global,
+    arguments: &[String],
+) -> Result<Option<(Allowed, Vec<String>)>, AllocError> {
+    let mut allowed = Allowed::nothing();
+    let mut words = Vec::new(alloc);
+    let mut rest = arguments;
+    while let [argument, others @ ..] = rest {
+        if argument.as_str() != "--allow" {
+            words.push(argument.clone()?)?;
+            rest = others;
+            continue;
+        }
+        let [kind, others @ ..] = others else {
+            return Ok(None);
+        };
+        if !allowed.allow(kind.as_str()) {
+            return Ok(None);
+        }
+        rest = others;
+    }
+    Ok(Some((allowed, words)))
+}

@@ -1,0 +1,81 @@
+//! Programs in DOS order.
+
+use super::exe::file_of;
+use omf_cmd::Gathered;
+use omf_linker::exe::{ExeOptions, Order, ProgramModules, Refusal};
+use omf_linker::link::InputFile;
+use std::alloc::Global;
+
+/// A main module: BSS of 2 bytes and DATA of 1 in DGROUP, both at even addresses, and after them CODE of 1 byte. It asks for _edata; and by a comment for
+/// DOS order.
+const ASKS: &str =
+    "80030001413B 880300009E00 9617000003425353044441544104434F4445064447524F555000 98070048020002020100 98070048010003030100 98070028010004040100 9A060005FF01FF0200 8C0900065F65646174610000 A00500030000CB00 8A0700C1000303000000";
+
+/// The same without the comment.
+const SILENT: &str =
+    "80030001413B 9617000003425353044441544104434F4445064447524F555000 98070048020002020100 98070048010003030100 98070028010004040100 9A060005FF01FF0200 8C0900065F65646174610000 A00500030000CB00 8A0700C1000303000000";
+
+/// The map in DOS order: code, data, the end of the data, BSS, its end.
+const MAP: &str = "module 1 \"order\"\n\
+    module 2 file \"a.obj\" module 1\n\
+    segment 1 1 00000000 00000000 \"CODE\" \"CODE\"\n\
+    segment 1 2 00000002 00000000 \"DATA\" \"DATA\"\n\
+    segment 1 3 00000003 00000000 \"END OF DATA\" \"END OF DATA\"\n\
+    segment 1 4 00000004 00000000 \"BSS\" \"BSS\"\n\
+    segment 1 5 00000006 00000000 \"END OF BSS\" \"END OF BSS\"\n\
+    segment 2 1 00000004 00000002 \"BSS\" \"BSS\"\n\
+    segment 2 2 00000002 00000001 \"DATA\" \"DATA\"\n\
+    segment 2 3 00000000 00000001 \"CODE\" \"CODE\"\n\
+    public 1 00000003 \"_edata\"\n\
+    external 2 1 00000003 \"_edata\"\n";
+
+/// The line in the order of the files.
+const UNDEFINED: &str = "undefined \"_edata\": file \"a.obj\" module 1\n";
+
+/// A module, the order that the options name, and the map or the line.
+static CASES: [(&str, Option<Order>, &str); 5] = [
+    (ASKS, None, MAP),
+    (ASKS, Some(Order::Dos), MAP),
+    (ASKS, Some(Order::Input), UNDEFINED),
+    (SILENT, Some(Order::Dos), MAP),
+    (SILENT, None, UNDEFINED),
+];
+
+/// The map of a program of files in this order.
+fn map_of(alloc: Global, files: &[InputFile], order: Option<Order>) -> Result<Vec<u8>, Refusal> {
+    let mut options = ExeOptions::new(alloc);
+    options.order = order;
+    let modules = ProgramModules::of(alloc, files)?;
+    modules.with_added(alloc, &options)?.map(alloc, files)
+}
+
+/// Whether a program of files in this order has this map, or this line.
+fn is_right(alloc: Global, files: &[InputFile], order: Option<Order>, text: &str) -> bool {
+    match map_of(alloc, files, order) {
+        Ok(map) => map.as_slice() == text.as_bytes(),
+        Err(refusal) => {
+            let mut sink = Gathered::new(alloc);
+            refusal.print(&mut sink);
+            sink.text.as_slice() == text.as_bytes()
+        }
+    }
+}
+
+/// The files of a case; `None` where they find no memory.
+fn files_of(alloc: Global, bytes: &str) -> Option<Vec<InputFile>> {
+    let mut files = Vec::new(alloc);
+    match files.push(file_of(alloc, "a.obj", bytes)?) {
+        Ok(()) => Some(files),
+        Err(_) => None,
+    }
+}
+
+#[test]
+fn programs_are_in_dos_order(rt: HostRuntime) {
+    for (at, (bytes, order, text)) in CASES.iter().enumerate() {
+        match files_of(rt.alloc(), *bytes) {
+            Some(files) => assert!(rt; is_right(rt.alloc(), &files, *order, *text), "{at}"),
+            None => assert!(rt; false),
+        }
+    }
+}

@@ -1,0 +1,279 @@
+//! What a link text does unseen: addresses in common, wrong alignments, and the option `--allow`.
+
+use omf_linker::link::{InputFile, Task};
+use omf_linker::seen::{Allowed, Request, SeenText, allowed_in, files_seen};
+use omf_samples::bytes_of;
+use std::alloc::Global;
+
+/// A module with one segment "T" of the two bytes CCH and DDH.
+const DATA: &str = "80030001413B 96040000015411 98070028020002010100 A00600010000CCDD00 8A02000074";
+
+/// A module with one segment "T" of four bytes without data.
+const ROOM: &str = "80030001423A 96040000015411 98070028040002010100 8A02000074";
+
+/// A module with one empty segment "T".
+const EMPTY: &str = "80030001423A 96040000015411 98070028000002010100 8A02000074";
+
+/// A module with one segment "T" of four bytes without data, aligned at 2.
+const WORDS: &str = "80030001423A 96040000015411 98070048040002010100 8A02000074";
+
+/// A module with one common segment "T" of four bytes without data.
+const COMMON: &str = "80030001423A 96040000015411 98070038040002010100 8A02000074";
+
+/// The same, named "U".
+const OTHER: &str = "80030001423A 96040000015510 98070038040002010100 8A02000074";
+
+/// A module with one absolute segment "T" of four bytes without data, at 0040:0000.
+const FIXED: &str = "80030001423A 96040000015411 980A0000400000040002010100 8A02000074";
+
+/// A module with one segment "T" of four bytes without data, in a group "G".
+const GROUP: &str =
+    "80030001423A 960600000154014700 98070028040002010100 9A040003FF0100 8A02000074";
+
+/// The same with a 32-bit segment.
+const WIDE_GROUP: &str =
+    "80030001423A 960600000154014700 98070029040002010100 9A040003FF0100 8A02000074";
+
+/// Allows nothing.
+const NOTHING: Allowed = Allowed {
+    overlap: false,
+    align: false,
+    group: false,
+};
+
+/// The modules of the files a.obj and b.obj, their link text, what that may do, and the lines on it: of faults, and of warnings.
+struct Case {
+    modules: [&'static str; 2],
+    text: &'static str,
+    allowed: Allowed,
+    faults: &'static str,
+    warnings: &'static str,
+}
+
+static CASES: [Case; 14] = [
+    // One after another.
+    Case {
+        modules: [DATA, ROOM],
+        text: "M #1\nS #1 7C00 0 0\nM #2\nS #1 7C02 0 0",
+        allowed: NOTHING,
+        faults: "",
+        warnings: "",
+    },
+    // The last byte of the first is the first of the second.
+    Case {
+        modules: [DATA, ROOM],
+        text: "M #1\nS #1 7C00 0 0\nM #2\nS #1 7C01 0 0",
+        allowed: NOTHING,
+        faults: "overlap: file \"a.obj\" module 1 segment \"T\" 00007C00 to 00007C01, file \"b.obj\" module 1 segment \"T\" 00007C01 to 00007C04\n",
+        warnings: "",
+    },
+    // The second begins first.
+    Case {
+        modules: [DATA, ROOM],
+        text: "M #1\nS #1 7C03 0 0\nM #2\nS #1 7C00 0 0",
+        allowed: NOTHING,
+        faults: "overlap: file \"b.obj\" module 1 segment \"T\" 00007C00 to 00007C03, file \"a.obj\" module 1 segment \"T\" 00007C03 to 00007C04\n",
+        warnings: "",
+    },
+    Case {
+        modules: [DATA, ROOM],
+        text: "M #1\nS #1 7C00 0 0\nM #2\nS #1 7C01 0 0",
+        allowed: Allowed {
+            overlap: true,
+            align: false,
+            group: false,
+        },
+        faults: "",
+        warnings: "overlap: file \"a.obj\" module 1 segment \"T\" 00007C00 to 00007C01, file \"b.obj\" module 1 segment \"T\" 00007C01 to 00007C04\n",
+    },
+    // An empty segment has no address.
+    Case {
+        modules: [DATA, EMPTY],
+        text: "M #1\nS #1 7C00 0 0\nM #2\nS #1 7C01 0 0",
+        allowed: NOTHING,
+        faults: "",
+        warnings: "",
+    },
+    Case {
+        modules: [DATA, WORDS],
+        text: "M #1\nS #1 7C00 0 0\nM #2\nS #1 7C03 0 0",
+        allowed: NOTHING,
+        faults: "align: file \"b.obj\" module 1 segment \"T\" 00007C03, alignment 2\n",
+        warnings: "",
+    },
+    // Both kinds, one of them allowed.
+    Case {
+        modules: [DATA, WORDS],
+        text: "M #1\nS #1 7C01 0 0\nM #2\nS #1 7C01 0 0",
+        allowed: Allowed {
+            overlap: false,
+            align: true,
+            group: false,
+        },
+        faults: "overlap: file \"a.obj\" module 1 segment \"T\" 00007C01 to 00007C02, file \"b.obj\" module 1 segment \"T\" 00007C01 to 00007C04\n",
+        warnings: "align: file \"b.obj\" module 1 segment \"T\" 00007C01, alignment 2\n",
+    },
+    // Common segments of one name and class share addresses; of two names they may not.
+    Case {
+        modules: [COMMON, COMMON],
+        text: "M #1\nS #1 7C00 0 0\nM #2\nS #1 7C00 0 0",
+        allowed: NOTHING,
+        faults: "",
+        warnings: "",
+    },
+    Case {
+        modules: [COMMON, OTHER],
+        text: "M #1\nS #1 7C00 0 0\nM #2\nS #1 7C03 0 0",
+        allowed: NOTHING,
+        faults: "overlap: file \"a.obj\" module 1 segment \"T\" 00007C00 to 00007C03, file \"b.obj\" module 1 segment \"U\" 00007C03 to 00007C06\n",
+        warnings: "",
+    },
+    // Absolute segments share addresses.
+    Case {
+        modules: [FIXED, FIXED],
+        text: "M #1\nS #1 400 400 40\nM #2\nS #1 400 400 40",
+        allowed: NOTHING,
+        faults: "",
+        warnings: "",
+    },
+    Case {
+        modules: [FIXED, ROOM],
+        text: "M #1\nS #1 400 400 40\nM #2\nS #1 3FD 0 0",
+        allowed: NOTHING,
+        faults: "overlap: file \"b.obj\" module 1 segment \"T\" 000003FD to 00000400, file \"a.obj\" module 1 segment \"T\" 00000400 to 00000403\n",
+        warnings: "",
+    },
+    // The last address of a member is the last that a 16-bit offset reaches, or the one after it; a 32-bit member may be anywhere.
+    Case {
+        modules: [DATA, GROUP],
+        text: "M #1\nS #1 7C00 0 0\nM #2\nS #1 1FFFC 10000 1000\nG #1 10000 1000",
+        allowed: NOTHING,
+        faults: "",
+        warnings: "",
+    },
+    Case {
+        modules: [DATA, GROUP],
+        text: "M #1\nS #1 7C00 0 0\nM #2\nS #1 1FFFD 10000 1000\nG #1 10000 1000",
+        allowed: NOTHING,
+        faults: "group: file \"b.obj\" module 1 \"G\" frame 00010000, segment \"T\" ends at 00020001\n",
+        warnings: "",
+    },
+    Case {
+        modules: [DATA, WIDE_GROUP],
+        text: "M #1\nS #1 7C00 0 0\nM #2\nS #1 1FFFD 10000 1000\nG #1 10000 1000",
+        allowed: NOTHING,
+        faults: "",
+        warnings: "",
+    },
+];
+
+/// A file with bytes in hexadecimal; `None` where it finds no memory.
+fn file_of(alloc: Global, name: &str, bytes: &str) -> Option<InputFile> {
+    let name = match name.to_string(alloc) {
+        Ok(name) => name,
+        Err(_) => return None,
+    };
+    match bytes_of(alloc, bytes) {
+        Ok(bytes) => Some(InputFile::new(name, bytes)),
+        Err(_) => None,
+    }
+}
+
+/// The files of a case; `None` where they find no memory.
+fn files_of(alloc: Global, case: &Case) -> Option<Vec<InputFile>> {
+    let [first, second] = case.modules;
+    let mut files = Vec::new(alloc);
+    if files.push(file_of(alloc, "a.obj", first)?).is_err() {
+        return None;
+    }
+    if files.push(file_of(alloc, "b.obj", second)?).is_err() {
+        return None;
+    }
+    Some(files)
+}
+
+/// Whether the lines are those of a case.
+fn has_lines(seen: &SeenText, case: &Case) -> bool {
+    match &seen.looked {
+        Ok(lines) => lines.faults.as_str() == case.faults
+            && lines.warnings.as_str() == case.warnings,
+        Err(_) => false,
+    }
+}
+
+/// Whether a case has its lines.
+fn is_right(alloc: Global, case: &Case) -> bool {
+    let Some(files) = files_of(alloc, case) else {
+        return false;
+    };
+    let request = Request {
+        task: Task::Image,
+        text: case.text.as_bytes(),
+        allowed: case.allowed,
+    };
+    match files_seen(alloc, request, files) {
+        Ok(seen) => has_lines(&seen, case),
+        Err(_) => false,
+    }
+}
+
+#[test]
+fn a_text_does_nothing_unseen(rt: HostRuntime) {
+    for case in &CASES {
+        assert!(rt; is_right(rt.alloc(), case));
+    }
+}
+
+/// Arguments, and what they allow; none if they are not understood.
+static ARGUMENTS: [(&'static [&'static str], Option<(Allowed, usize)>); 5] = [
+    (&["omf-link", "image"], Some((NOTHING, 2))),
+    (
+        &[
+            "omf-link", "--allow", "align", "image", "--allow", "overlap",
+        ],
+        Some((
+            Allowed {
+                overlap: true,
+                align: true,
+                group: false,
+            },
+            2,
+        )),
+    ),
+    (&["omf-link", "image", "--allow"], None),
+    (&["omf-link", "image", "--allow", "Align"], None),
+    (&["omf-link", "image", "--allow", "-o"], None),
+];
+
+/// Copies of arguments; `None` where they find no memory.
+fn words_of(alloc: Global, arguments: &[&str]) -> Option<Vec<String>> {
+    let mut words = Vec::new(alloc);
+    for argument in arguments {
+        let Ok(word) = argument.to_string(alloc) else {
+            return None;
+        };
+        if words.push(word).is_err() {
+            return None;
+        }
+    }
+    Some(words)
+}
+
+/// Whether arguments allow this much, and as many are left.
+fn allows(alloc: Global, arguments: &[&str], wanted: Option<(Allowed, usize)>) -> bool {
+    let Some(words) = words_of(alloc, arguments) else {
+        return false;
+    };
+    match allowed_in(alloc, &words) {
+        Ok(Some((allowed, left))) => wanted == Some((allowed, left.len())),
+        Ok(None) => wanted.is_none(),
+        Err(_) => false,
+    }
+}
+
+#[test]
+fn kinds_are_allowed_by_name(rt: HostRuntime) {
+    for (arguments, wanted) in &ARGUMENTS {
+        assert!(rt; allows(rt.alloc(), *arguments, *wanted));
+    }
+}
