@@ -4,7 +4,8 @@
 #
 # Each number is processor time on one core in milliseconds, the least of RUNS runs (5), and the peak of memory in megabytes.
 # `check` is the time of one `omf check` for each module, less that of as many for a module of a few bytes: what is left is checking,
-# without starting a program so often.
+# without starting a program so often. `image of files` reads each module from a file of its own; the others read all from the standard input.
+# The last line has the goals: `image` in at most 2.5 times `check`, with a peak of at most the modules, their memory and 8 MB.
 set -euo pipefail
 here=$(cd "$(dirname "$0")" && pwd)
 omf=${OMF:-omf}
@@ -39,8 +40,19 @@ one=$(checks "$work/one.omf")
 small=$(checks "$work/small.omf")
 check=$(echo "$one $small" | awk '{ printf "%.1f", $1 - $3 }')
 echo "check $check"
+# shown NAME FOUND: the line of a job.
+shown() {
+    echo "$1 $2: $(echo "$2 $check" | awk '{ printf "%.1f", $1 / $3 }') times check"
+}
+
 for job in 'draft --flat 8' map image; do
     # shellcheck disable=SC2086
-    found=$(least "$work/both" "$link" $job)
-    echo "${job%% *} $found: $(echo "$found $check" | awk '{ printf "%.1f", $1 / $3 }') times check"
+    shown "${job%% *}" "$(least "$work/both" "$link" $job)"
 done
+files=()
+for ((number = 0; number < count; number++)); do
+    files+=("$work/files/$number.obj")
+done
+shown 'image of files' "$(least /dev/null "$link" image -t "$work/text" "${files[@]}")"
+modules=$(stat -c %s "$work/modules.omf")
+echo "goals of image: $(echo "$check" | awk '{ printf "%.1f", 2.5 * $1 }') ms, $(echo "$modules $count" | awk '{ printf "%.1f", ($1 + 8000 * $2) / 1048576 + 8 }') MB"

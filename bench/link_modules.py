@@ -3,6 +3,7 @@
 
   modules.omf  COUNT modules of some 10 KB, one after another: each has two segments, 20 publics, 20 externals that other
                modules define, and 8,000 bytes of data with 440 fixups of 32-bit offsets, every third to an external
+  files/N.obj  each of them in a file
   one.omf      the first of them
 """
 import pathlib
@@ -53,11 +54,13 @@ def module(number, count):
 
 def main():
     folder, count = pathlib.Path(sys.argv[1]), int(sys.argv[2])
-    folder.mkdir(parents=True, exist_ok=True)
+    (folder / "files").mkdir(parents=True, exist_ok=True)
     (folder / "one.omf").write_bytes(module(0, count))
     with open(folder / "modules.omf", "wb") as out:
         for number in range(count):
-            out.write(module(number, count))
+            one = module(number, count)
+            out.write(one)
+            (folder / "files" / f"{number}.obj").write_bytes(one)
 
 
 if __name__ == "__main__":

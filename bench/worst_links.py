@@ -63,6 +63,12 @@ def many_names(count, size):
     return [module(b"a", names, start=True), module(b"b", (), names)]
 
 
+def asking(number, names, communals=()):
+    """A module that asks for these names, and has these communals of 2 bytes; the first is the main one."""
+    body = b"".join(record(0xB0, bytes([len(it)]) + it + b"\0\x62\x02") for it in communals)
+    return module(name_of(number), (), names, number == 0).replace(record(0xA0, b"\x01\0\0\x90"), body + record(0xA0, b"\x01\0\0\x90"))
+
+
 def large(count):
     """Segments of 65,520 bytes, with a far reference in each 16 bytes: 1 MB and 65,535 relocation words are the most that a program has."""
     made = []
@@ -106,6 +112,10 @@ SHAPES = {
     "a library of n members of 10 bytes": (lambda n: [main_module(), archive([record(0x80, b"\x00") + record(0x8A, b"\x00")] * n)], None, 32_767, ["exe"]),
     "n publics and n externals of 8 bytes": (lambda n: many_names(n, 8), None, 8000, ["exe"]),
     "n publics and n externals of 255 bytes": (lambda n: many_names(n, 255), None, 8000, ["exe"]),
+    "n names that nothing defines": (lambda n: [asking(0, [name_of(it) for it in range(n)])], None, 16_000, ["exe"]),
+    "n modules, 16 names that nothing defines": (lambda n: [asking(it, [name_of(it) for it in range(16)]) for it in range(n)], None, 1000, ["exe"]),
+    "n communals of names of their own": (lambda n: [asking(0, (), [name_of(it) for it in range(n)])], None, 8000, ["exe"]),
+    "n modules, 16 communals of the same names": (lambda n: [asking(it, (), [name_of(it) for it in range(16)]) for it in range(n)], None, 1000, ["exe"]),
     "n segments of 65,520 bytes": (large, None, 8, ["exe"]),
     "n modules of one public": (lambda n: [module(name_of(it), [name_of(it)], start=it == 0) for it in range(n)], None, 1000, ["exe"]),
     "n modules of one public, drafted": (lambda n: [module(name_of(it), [name_of(it)]) for it in range(n)], None, 1000, ["draft"]),

@@ -5,8 +5,8 @@ usage: tests/disk.py [KILLS]
 
 A disk of 64 KB is mounted (tmpfs, which needs root), and filled. Then a program is killed KILLS times (100), each a little later in its run, and the
 files that are there then have their whole content or are not there; FILE.tmp may be left. With strace it is also killed at each call that opens, writes,
-closes, links, renames or removes a file. At last members are taken whose names would leave the
-folder or control a terminal. OMF_LIB and OMF_LINK name the programs. The status is 0 where every promise held."""
+closes, links, renames or removes a file. At last members are taken whose names would leave the folder or control a terminal, and programs are linked
+of modules that ask for libraries by such names. OMF_LIB and OMF_LINK name the programs. The status is 0 where every promise held."""
 import os
 import pathlib
 import shutil
@@ -25,11 +25,11 @@ NAMES = (b"..\\x", b"/etc/x", b"a\x1bb", b"../x", b"..", b".", b"", b"x/../../y"
          b"$(touch z)", b"con", b"A" * 250, b"\xff" * 255)
 
 
-def large_module(name, size):
-    """A main module with that many bytes of data."""
-    data = b"".join(record(0xA0, b"\x01" + at.to_bytes(2, "little") + bytes(range(256)) * 4) for at in range(0, size, 1024))
-    return record(0x80, bytes([len(name)]) + name) + record(0x96, b"\0\x01T") + record(0x98, b"\x60" + size.to_bytes(2, "little") + b"\x02\x01\x01") + data \
-        + record(0x8A, b"\xC1\x00\x01\x01\x00\x00")
+def large_module(name, size, front=0):
+    """A main module with that many bytes of data after the front, and a start there."""
+    data = b"".join(record(0xA0, b"\x01" + at.to_bytes(2, "little") + bytes(range(256)) * 4) for at in range(front, front + size, 1024))
+    segment = record(0x98, b"\x60" + (front + size).to_bytes(2, "little") + b"\x02\x01\x01")
+    return record(0x80, bytes([len(name)]) + name) + record(0x96, b"\0\x01T") + segment + data + record(0x8A, b"\xC1\x00\x01\x01" + front.to_bytes(2, "little"))
 
 
 def run(words, folder, status):
@@ -110,6 +110,26 @@ def with_names(folder):
     print(f"{len(NAMES)} names: {len(os.listdir(inner))} files in the folder, none outside, status {done.returncode}")
 
 
+def with_asked_libraries(folder):
+    """A module asks for a library by such names (COMENT 9FH). None outside of the folder is read, and what is printed has no control character."""
+    outer, inner = folder / "asked", folder / "asked" / "inner"
+    inner.mkdir(parents=True)
+    found = library([(module(b"found", [b"f"]), [b"f"])])
+    front = record(0x80, b"\x01A") + record(0x96, b"\0\x01T\x05STACK") + record(0x98, b"\x28\x04\0\x02\x01\x01") + record(0x98, b"\x74\x10\0\x03\x01\x01")
+    back = record(0x8C, b"\x01f\0") + record(0xA0, b"\x01\0\0\x9A\0\0\0") + record(0x9C, b"\xC4\x01\x56\x01") + record(0x8A, b"\xC1\0\x01\x01\0\0")
+    (outer / "out.lib").write_bytes(found)
+    for name in (b"../out.lib", b"../out", os.fsencode(outer / "out.lib"), b"inner/../../out.lib", *NAMES):
+        (inner / "main.obj").write_bytes(front + record(0x88, b"\0\x9F" + name[:255]) + back)
+        done = run([LINK, "exe", "-o", "p.exe", "main.obj"], inner, (1,))
+        promised(done.stdout.startswith(b'undefined "f"'), f"{name}: {done.stdout[:200]}")
+        promised(all(it == 10 or 32 <= it < 127 for it in done.stdout + done.stderr), "a control character")
+        promised(os.listdir(inner) == ["main.obj"], f"{name}: {os.listdir(inner)}")
+    (inner / "out.lib").write_bytes(found)
+    (inner / "main.obj").write_bytes(front + record(0x88, b"\0\x9Fout") + back)
+    run([LINK, "exe", "-o", "p.exe", "main.obj"], inner, (0,))
+    print(f"{len(NAMES) + 4} names of libraries: none outside of the folder was read")
+
+
 def main():
     kills = int(sys.argv[1]) if len(sys.argv) > 1 else 100
     with tempfile.TemporaryDirectory() as made:
@@ -117,10 +137,12 @@ def main():
         seeds = [large_module(b"m%d" % it, 16384) for it in range(2)]
         for number, bytes_ in enumerate(seeds):
             (folder / f"{number}.obj").write_bytes(bytes_)
+        (folder / "com.obj").write_bytes(large_module(b"com", 16384, 256))
         (folder / "disk").mkdir()
         (folder / "two.lib").write_bytes(library([(it, ()) for it in seeds]))
         jobs = [("omf-lib get", [LIB, "get", "two.lib", "-d", "disk", "--numbered"]), ("omf-lib make", [LIB, "make", "-o", "disk/x.lib", "0.obj", "1.obj"]),
                 ("omf-lib canon", [LIB, "canon", "-o", "disk/x.lib", "two.lib"]), ("omf-link exe", [LINK, "exe", "-o", "disk/x.exe", "0.obj"]),
+                ("omf-link com", [LINK, "com", "-o", "disk/x.com", "com.obj"]),
                 ("omf-link bin", [LINK, "bin", "--base", "0", "--size", "8000", "-t", "text", "-o", "disk/x.bin", "0.obj"])]
         (folder / "text").write_text("M #1\nS #1 0 0 0\n")
         tried = []
@@ -134,6 +156,7 @@ def main():
         if shutil.which("strace"):
             when_killed_at_calls(folder, tried)
         with_names(folder)
+        with_asked_libraries(folder)
         if os.geteuid() == 0:
             on_full_disk(folder, tried)
         else:

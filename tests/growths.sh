@@ -167,6 +167,40 @@ refuse_each_of_get() {
     echo "omf_lib get of $(basename "$input"): $((number - 1)) growths"
 }
 
+# are_whole: whether each file of the folder `made` is the one of the folder `whole`.
+are_whole() {
+    local file
+    for file in made/*; do
+        [ ! -e "$file" ] || cmp -s "$file" "whole/${file##*/}" || return 1
+    done
+}
+
+# refuse_each_of_made PROGRAM ARGUMENT..: a run that writes files into the folder `made` writes them as without a refusal, or it prints a line of
+# memory and ends with the status 3; a file that is there then is whole.
+refuse_each_of_made() {
+    local program=$1 name number status
+    shift
+    name="$(basename "$program") $1 ${*: -1}"
+    if [ ! -x "$program" ]; then
+        skips "$name"
+        return
+    fi
+    cd "$here" && mkdir made && "$program" "$@" > wanted || fails "$name"
+    mv made whole
+    for ((number = 1; ; number++)); do
+        is_late "$name" $number && return
+        rm -rf made
+        mkdir made
+        refusing $number "$program" "$@" || break
+        if [ $status -eq 3 ] && grep -qE '^(file ".*" )?memory$|^(read .*|file ".*" read): out of memory$' out && are_whole; then continue; fi
+        [ $status -eq 0 ] && cmp -s out wanted && diff -r whole made > different && continue
+        fails "$name, growth $number: status $status, $(ls made)"
+        cat out
+    done
+    diff -r whole made > different || fails "$name: the run that meets no refusal"
+    echo "$name: $((number - 1)) growths"
+}
+
 # input NAME HEX TEXT: a module, written in hexadecimal, and the text after it.
 input() {
     printf "$(printf '%s' "$2" | tr -d ' \n' | sed 's/../\\x&/g')" > "$work/$1"
@@ -222,6 +256,13 @@ for task in list check; do
 done
 apart refuse_each_of_run 1 "$root/crates/omf_lib/data/no-entry.lib" "$lib" check -
 apart refuse_each_of_get "$root/examples/library/small.lib"
+
+examples=$root/examples
+apart refuse_each_of_made "$link" exe -o made/x.exe --map made/x.map "$examples"/exe/{main,show,report}.obj "$examples/library/small.lib"
+apart refuse_each_of_made "$link" com -o made/x.com "$examples"/com/{hello,say}.obj
+apart refuse_each_of_made "$link" bin --base 7C00 --size 200 -o made/x.bin "$examples"/link/{start,say,mark}.obj -t "$examples/link/program.link"
+apart refuse_each_of_made "$lib" make -o made/x.lib "$examples"/link/{say,mark}.obj
+apart refuse_each_of_made "$lib" canon -o made/x.lib "$examples/library/small.lib"
 
 # Such tests are named a_refused_growth_..
 for test in $(grep -rhoE --include='*.rt' 'fn a_refused_growth_\w+' "$root"/crates/*_tests/src | sed 's/^fn //' | sort -u); do

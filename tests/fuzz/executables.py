@@ -7,6 +7,9 @@ from libraries import record
 from modules import externals_of, publics_of
 
 PARAGRAPH = 16
+COM_FRONT = 0x100
+LOCATIONS = (1, 1, 2, 2, 3, 3, 3, 0, 4, 5, 9, 13, 11)
+NEAR_LOCATIONS = (1,) * 40 + (5, 9, 13, 2)
 NAMES = (b"f", b"g", b"h")
 
 
@@ -22,6 +25,11 @@ def loaded(file, paragraph):
         word = struct.unpack_from("<H", image, at)[0]
         struct.pack_into("<H", image, at, (word + paragraph) % 65536)
     return bytes(image), ((cs + paragraph) % 65536, ip), len(image) + PARAGRAPH * least
+
+
+def loaded_com(file, paragraph):
+    """What DOS makes of a .COM file at a paragraph: the bytes from there on, CS and IP, and the number of bytes of memory."""
+    return bytes(COM_FRONT) + file, (paragraph, COM_FRONT), COM_FRONT + len(file)
 
 
 def moved(text, paragraph):
@@ -97,9 +105,9 @@ def memory_of(lines):
     return found, start and (int(start[1], 16), int(start[2], 16))
 
 
-def fixup(random_, at, count, has_group, externals):
+def fixup(random_, at, count, has_group, externals, locations=LOCATIONS):
     """One fixup of a location at this offset, of the kinds that 16-bit modules have; now and then of another."""
-    location = random_.choice((1, 1, 2, 2, 3, 3, 3, 0, 4, 5, 9, 13, 11))
+    location = random_.choice(locations)
     is_absolute = random_.randrange(2)
     target = random_.choice((0, 0, 0, 1, 2, 2)) if externals else random_.choice((0, 0, 1))
     target = 0 if target == 1 and not has_group else target
@@ -112,12 +120,13 @@ def fixup(random_, at, count, has_group, externals):
     return body
 
 
-def module(random_, number, is_main):
-    """A module with a few segments, publics, externals, data and fixups."""
+def module(random_, number, is_main, front=0, locations=LOCATIONS):
+    """A module with a few segments, publics, externals, data and fixups. The first segment begins with that many bytes without data; a start is there."""
     count, externals = random_.randrange(3) + 1, random_.randrange(3)
     names = [b"", b"_TEXT", b"_DATA", b"STACK", b"CODE", b"DATA", b"DGROUP"]
     records = [record(0x80, b"\x01" + bytes([0x41 + number])), record(0x96, b"".join(bytes([len(it)]) + it for it in names))]
     sizes = [random_.choice((8, 12, 16, 33, 64, 300)) for _ in range(count)]
+    sizes[0] += front
     for size in sizes:
         kind = random_.choice((0x28, 0x28, 0x48, 0x60, 0x68, 0x74))
         frame = b""
@@ -136,12 +145,13 @@ def module(random_, number, is_main):
     for segment, size in enumerate(sizes, 1):
         if random_.randrange(5) == 0:
             continue
-        length = min(size, random_.choice((8, 12, 24)))
-        start = random_.choice((0, 0, size - length))
+        low = front if segment == 1 else 0
+        length = min(size - low, random_.choice((8, 12, 24)))
+        start = random_.choice((low, low, size - length))
         records.append(record(0xA0, bytes([segment]) + struct.pack("<H", start) + random_.randbytes(length)))
         places = range(0, length - 5, random_.choice((6, 6, 6, 6, 1)))
-        chosen = [fixup(random_, at, count, has_group, externals) for at in places if random_.randrange(2)]
+        chosen = [fixup(random_, at, count, has_group, externals, locations) for at in places if random_.randrange(2)]
         if chosen:
             records.append(record(0x9C, b"".join(chosen)))
-    start = b"\xC1\x00\x01\x01" + struct.pack("<H", random_.randrange(8)) if is_main else b"\x00"
+    start = b"\xC1\x00\x01\x01" + struct.pack("<H", front or random_.randrange(8)) if is_main else b"\x00"
     return b"".join(records) + record(0x8A, start)

@@ -1,4 +1,4 @@
-"""omf-link exe: the file as DOS loads it against the modules relocated one by one, and a library against the members that it must give."""
+"""omf-link exe and com: the file as DOS loads it against the modules relocated one by one, and a library against the members that it must give."""
 import os
 import re
 import subprocess
@@ -6,14 +6,13 @@ import subprocess
 import executables
 import libraries
 from changes import changed_module
-from modules import as_library, externals_of, is_main, is_simple, members_needed, provider
+from modules import UNRESOLVED, as_library, externals_of, is_main, is_simple, members_needed, provider, unresolved_lines
 from promises import TIMEOUT, program, promised, run
-
-NO_STACK = b"no stack: SS:SP is 0:0 from the load address\n"
 
 
 class Exe:
     IS_BATCH = False
+    TASK, LOADED = "exe", staticmethod(executables.loaded)
 
     def __init__(self, seeds, random_, every):
         self.link, self.omf, self.random = program("omf_link"), program("omf"), random_
@@ -35,13 +34,14 @@ class Exe:
         return made
 
     def exe(self, file, names, folder):
-        """The status and the line of a link; where the status is 0 there is a file, and else none."""
+        """The status and the line of a link, or its lines of names; where the status is 0 there is a file, and else none."""
         (folder / file).unlink(missing_ok=True)
-        done = subprocess.run([self.link, "exe", "-o", file, *names], stdout=subprocess.PIPE, stderr=subprocess.PIPE, cwd=folder, timeout=TIMEOUT)
-        promised(done.returncode in (0, 1) and done.stderr.count(b"\n") <= 1 and done.stdout.count(b"\n") <= 1, f"exe: status {done.returncode}, {done}")
-        promised(all(it == 10 or 32 <= it < 127 for it in done.stdout + done.stderr), "exe: control characters")
-        promised((folder / file).exists() == (done.returncode == 0), f"exe: status {done.returncode}, and the file")
-        promised((done.stdout in (b"", NO_STACK)) == (done.returncode == 0), f"exe: {done.stdout[:200]}")
+        done = subprocess.run([self.link, self.TASK, "-o", file, *names], stdout=subprocess.PIPE, stderr=subprocess.PIPE, cwd=folder, timeout=TIMEOUT)
+        is_said = done.stdout.count(b"\n") <= 1 or UNRESOLVED.fullmatch(done.stdout)
+        promised(done.returncode in (0, 1) and done.stderr.count(b"\n") <= 1 and is_said, f"{self.TASK}: status {done.returncode}, {done}")
+        promised(all(it == 10 or 32 <= it < 127 for it in done.stdout + done.stderr), f"{self.TASK}: control characters")
+        promised((folder / file).exists() == (done.returncode == 0), f"{self.TASK}: status {done.returncode}, and the file")
+        promised((done.stdout == b"") == (done.returncode == 0), f"{self.TASK}: {done.stdout[:200]}")
         promised(not any(it.endswith(".tmp") for it in os.listdir(folder)), "a .tmp file is left")
         return done.returncode, done.stdout
 
@@ -49,7 +49,10 @@ class Exe:
         names = [f"in{number}.obj" for number in range(len(inputs))]
         for name, bytes_ in zip(names, inputs):
             (folder / name).write_bytes(bytes_)
-        status, _ = self.exe("p.exe", names, folder)
+        status, lines = self.exe("p.exe", names, folder)
+        if all(is_simple(it) and libraries.module_length(it) == len(it) for it in inputs) and (status == 0 or UNRESOLVED.fullmatch(lines)):
+            wanted = unresolved_lines(inputs, [f'file "{it}" module 1' for it in names])
+            promised(wanted in (None, lines if status else b""), f"{lines}, not {wanted}")
         if status == 0:
             self.accepted += 1
             self.compare(names, inputs, (folder / "p.exe").read_bytes(), folder)
@@ -79,12 +82,12 @@ class Exe:
         status, text = run([self.link, "draft", "--base", "0", "--real", *names], folder=folder)
         promised(status == 0, f"draft: {text[:200]}")
         for paragraph in (0, self.random.randrange(1, 0x8000)):
-            image, start, _ = executables.loaded(file, paragraph)
+            image, start, _ = self.LOADED(file, paragraph)
             (folder / "text").write_bytes(executables.moved(text, paragraph))
             if self.random.randrange(2) and all(map(is_simple, inputs)):
                 memory, own = executables.relocated(self.omf, inputs, executables.moved(text, paragraph))
             else:
-                status, lines = run([self.link, "image", "-t", "text", *names], folder=folder)
+                status, lines = run([self.link, "image", "--allow", "align", "--allow", "group", "-t", "text", *names], folder=folder)
                 promised(status == 0, f"image at {paragraph}: {lines[:200]}")
                 memory, own = executables.memory_of(lines)
             promised(own == start, f"start {own}, loaded {start}")
@@ -93,3 +96,16 @@ class Exe:
             promised(all(byte == 0 or at + number in memory for number, byte in enumerate(image)), f"more bytes at {paragraph}")
             promised(not memory or max(memory) == at + len(image) - 1, f"bytes after the last at {paragraph}")
             self.compared += 1
+
+
+class Com(Exe):
+    TASK, LOADED = "com", staticmethod(executables.loaded_com)
+
+    def inputs(self):
+        """Modules made at random, the first with a start at 100H and no data below, and with few references that need a selector."""
+        random_, front, near = self.random, executables.COM_FRONT, executables.NEAR_LOCATIONS
+        made = [executables.module(random_, number, number == 0, 0 if number else front, near) for number in range(random_.randrange(4) + 1)]
+        if random_.randrange(8) == 0:
+            at = random_.randrange(len(made))
+            made[at] = changed_module(random_, [made[at]])
+        return made

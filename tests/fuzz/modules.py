@@ -1,4 +1,5 @@
 """What a linker needs of a module: its externals and publics, read here by the standard; and which members of a library are needed."""
+import re
 import struct
 
 import libraries
@@ -10,6 +11,7 @@ PUBLICS = (0x90, 0x91)
 LOCALS = (0xB4, 0xB5, 0xB6, 0xB7, 0xB8, 0xB9)
 ENDS = (0x8A, 0x8B)
 MOST_MEMBER = 4096
+UNRESOLVED = re.compile(rb'(?:(?:undefined|twice) "[^"]*": .*\n)+')
 
 
 def index_at(body, at):
@@ -75,6 +77,25 @@ def is_simple(bytes_):
 
 def is_main(bytes_):
     return any(body[0] & 0x80 and body[0] & 0x40 for _, body in bodies(bytes_, ENDS))
+
+
+def quoted(name):
+    return '"' + "".join(chr(it) if 0x20 <= it <= 0x7E and it not in b'"\\' else f"\\x{it:02X}" for it in name) + '"'
+
+
+def unresolved_lines(modules, places):
+    """A line for each name of an external that has no public, or more than one: in the order of the externals, with the places of the modules that ask
+    for it, or define it. None where a module defines a name twice."""
+    publics = [[it[0] for it in publics_of(one)] for one in modules]
+    externals = [externals_of(one) for one in modules]
+    if any(len(set(it)) < len(it) for it in publics):
+        return None
+    lines = []
+    for name in dict.fromkeys(it for one in externals for it in one):
+        definers, askers = ([place for place, names in zip(places, lists) if name in names] for lists in (publics, externals))
+        if len(definers) != 1:
+            lines.append(f"{'twice' if definers else 'undefined'} {quoted(name)}: {', '.join(definers or askers)}\n")
+    return "".join(lines).encode()
 
 
 def provider(names, starts):

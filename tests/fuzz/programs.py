@@ -1,7 +1,7 @@
 #!/usr/bin/env python3
 """Runs the programs on changed files and texts, and compares what they print with one another and with a second reading of the standard.
 
-usage: tests/fuzz/programs.py SECONDS [dump|library|exe|placement|linktext ..] [--seeds FOLDER] [--number N] [--keep FOLDER] [--every N]
+usage: tests/fuzz/programs.py SECONDS [dump|library|exe|com|placement|linktext ..] [--seeds FOLDER] [--number N] [--keep FOLDER] [--every N]
 
 dump       changed modules: omf-dump refuses exactly what `omf check` refuses, at the same place and for the same reason, and shows the records
            that `omf list` lists; each line of JSON is read by Python; text and JSON have the same records; a name gives no control characters
@@ -10,6 +10,7 @@ library    changed libraries: omf-lib finds the members that tests/fuzz/librarie
 exe        modules, made at random or real, some changed: what `omf-link exe` writes, loaded by tests/fuzz/executables.py at several paragraphs, has
            the bytes and the start of these modules, linked or each relocated alone, at addresses so much higher; with some of them in a library
            the file is that of the members that are needed; of a fault there is one line and no file
+com        the same for `omf-link com`
 placement  placement texts: a draft of omf-place is read back, another spelling of it has the same listing, and of a changed text the first line
            that a second reader does not understand is reported
 linktext   the same of link texts; the image is that of the modules, each relocated alone; HEX, S-records and raw binary have its bytes
@@ -30,13 +31,13 @@ import time
 
 from archives import Library
 from dumps import Dump
-from links import Exe
+from links import Com, Exe
 from linktexts import LinkText
 from promises import ROOT, Broken
 from texts import Placement
 
 MOST_BROKEN = 10
-TARGETS = {"dump": Dump, "library": Library, "exe": Exe, "placement": Placement, "linktext": LinkText}
+TARGETS = {"dump": Dump, "library": Library, "exe": Exe, "com": Com, "placement": Placement, "linktext": LinkText}
 
 
 def load_seeds(more):

@@ -1,6 +1,6 @@
 #!/usr/bin/env bash
 # Fuzzes the library for C and the programs: run.sh SECONDS [TARGET..]. The targets are check, canon and reloc of the library (all three), and
-# dump, library, exe, placement and linktext of the programs, which tests/fuzz/programs.py runs: they need neither the library nor clang.
+# dump, library, exe, com, placement and linktext of the programs, which tests/fuzz/programs.py runs: they need neither the library nor clang.
 #
 # `rt lib` builds the library, which takes a proof where there is none yet; on its way the bitcode that is handed to the kit's clang is
 # kept, and compiled a second time with counters of what is reached. So what runs is the proved code, built by a way that the kit does
@@ -24,7 +24,7 @@ calls=()
 for one in "$@"; do
     case $one in
     check | canon | reloc) calls+=("$one") ;;
-    dump | library | exe | placement | linktext) "$root/tests/fuzz/programs.py" "$seconds" "$one" ${SEEDS:+--seeds "$SEEDS"} --keep "$work" || failed=1 ;;
+    dump | library | exe | com | placement | linktext) "$root/tests/fuzz/programs.py" "$seconds" "$one" ${SEEDS:+--seeds "$SEEDS"} --keep "$work" || failed=1 ;;
     *)
         echo "no target $one" >&2
         exit 2
