@@ -91,12 +91,13 @@ refuse_each_of_test() {
 }
 
 # is_memory: whether a run ended for lack of memory. omf-dump and omf-lib may have written a beginning of their text before that; the other
-# programs write nothing but the fault.
+# programs write nothing but the fault, which names the input where omf-link could not read it.
 is_memory() {
     local text= size
     [ $status -eq 3 ] || return
     read -r -d '' text < "$here/out"
     [ "$text" = memory ] && return
+    [ "$text" = 'file "-" read: out of memory' ] && return
     [ -n "$in_pieces" ] || return
     case $text in
     '{"fault":"memory"}' | 'read -: out of memory' | '{"fault":"read","name":"-","error":"out of memory"}') return 0 ;;
