@@ -1,7 +1,8 @@
 -- A record that is judged where a reader shows it is judged as one that was fed.
-use Rattle.std.proofs.Common.{◌≡◌, ◌∙◌, ℕ, ◌+◌, ◌-◌, ◌^◌, ◌<◌, ◌≤◌, Bool, true, false, List, [], ◌∷◌, ◌++◌, refl, sym, ap, subst, arith, append_assoc, length, length-append, take, min}
-use Rattle.std.specs.Prelude.{◌==◌, ◌&&◌, ◌||◌, not, cond, flat_map, IsTrue, Option, Some, None}
-use Rattle.std.specs.Io.KnownBytes.{Consumes}
+use Rattle.std.proofs.Common.{◌≡◌, ◌∙◌, ℕ, ◌+◌, ◌-◌, ◌^◌, ◌<◌, ◌≤◌, true, false, List, [], ◌∷◌, ◌++◌, refl, sym, ap, subst, arith, append_assoc, length, length-append, take}
+use Rattle.std.specs.Prelude.{◌==◌, ◌&&◌, ◌||◌, not, cond, flat_map, IsTrue, Option, None}
+use Rattle.std.specs.Io.KnownBytes.{Consumes, Appends}
+use Rattle.std.proofs.KnownBytes.{Appends-nil, Appends-trans}
 use Rattle.std.proofs.lemmas.List.{append-nil, length-take, take_all}
 use Rattle.omf_frame.specs.Bytes.{AreBytes}
 use Rattle.omf_frame.specs.Device.{Device, Shows}
@@ -17,7 +18,7 @@ use Rattle.omf_check.specs.declared.profile.Profile.{Profile}
 use Rattle.omf_check.specs.Inner.Ahead.{PassesAhead, StopsAhead, FailsAhead}
 use Rattle.omf_check.specs.Inner.Judging.{raw_fault, rec_of}
 use Rattle.omf_check.specs.Inner.Kept.{Kept, IsBounded, with_record}
-use Rattle.omf_check.specs.Inner.Passing.{IsPassing, Fails, IsStopped, here}
+use Rattle.omf_check.specs.Inner.Passing.{IsPassing, IsStopped, here}
 use Rattle.omf_check.specs.Session.{Seen, want_of, want_with}
 use Rattle.omf_check.proofs.Advancing.{take_fails, record_passed}
 use Rattle.omf_check.proofs.CheckLaws.{consumes_more}
@@ -91,14 +92,15 @@ module _ (profile : Profile) (held : Held) (taken : List ℕ) (kept : Kept) (p :
   module _ (kind number start : ℕ) (body : List ℕ) (small : AreBytes ahead) (f : frame_fault (held.number == 0) (present ahead) ≡ None) (is : IsRecord (front_record (present ahead)))
       (back : raw_bytes (front_record (present ahead)) ≡ present ahead) (k : kind ≡ (front_record (present ahead)).kind) (bd : body ≡ (front_record (present ahead)).body)
       (n : number ≡ held.number) (st : start ≡ held.start) where
-    pub accepted : (after : Held) (tables : Kept) (size : ℕ) (old left : Option (List ℕ)) → size ≡ record_len ahead → Consumes old left (take size ahead) → after ≡ passed new
-        → raw_fault profile profile_limits kept kind body ≡ None → tables ≡ with_record kept start (rec_of kind body) → IsBounded tables → PassesAhead profile taken size old left after tables
-    accepted after tables size old left size_is c a judged kt bound = record {
+    pub accepted : (after : Held) (tables : Kept) (size : ℕ) (old left had has : Option (List ℕ)) → size ≡ record_len ahead → Consumes old left (take size ahead) → Appends had has (take size ahead) → after ≡ passed new
+        → raw_fault profile profile_limits kept kind body ≡ None → tables ≡ with_record kept start (rec_of kind body) → IsBounded tables → PassesAhead profile taken size old left had has after tables
+    accepted after tables size old left had has size_is c g a judged kt bound = record {
       passed = piece;
       passing = record_passed profile held taken kept p piece (record_len ahead) true new piece_taken (taken ++ piece) after tables kind start body (ap (λ x. taken ++ x) (sym all_of))
           (AreBytes-take (record_len ahead) ahead small) (sym t.whole_is) a f is back k bd st judged kt bound;
       counted = size_is ∙ sym piece_len;
       consumed = subst (λ m. Consumes old left (take m ahead)) size_is c;
+      grown = subst (λ m. Appends had has (take m ahead)) size_is g;
     }
 
     pub refused : (fault : CheckFault) (size : ℕ) (old left : Option (List ℕ)) → Shows old ahead → size ≡ record_len ahead → Consumes old left (take size ahead) → IsTrue (is_taken kind)
@@ -113,36 +115,38 @@ module _ (profile : Profile) (held : Held) (taken : List ℕ) (kept : Kept) (p :
     }
 
 -- no record is shown whole
-pub none_ahead : (profile : Profile) (held : Held) (taken : List ℕ) (kept : Kept) → IsPassing profile held taken kept → (o : Option (List ℕ)) → PassesAhead profile taken 0 o o held kept
-none_ahead profile held taken kept p o = record {
+pub none_ahead : (profile : Profile) (held : Held) (taken : List ℕ) (kept : Kept) → IsPassing profile held taken kept → (o had : Option (List ℕ)) → PassesAhead profile taken 0 o o had had held kept
+none_ahead profile held taken kept p o had = record {
   passed = [];
   passing = subst (λ x. IsPassing profile held x kept) (sym (append-nil taken)) p;
   counted = refl;
   consumed = consumes_start o;
+  grown = Appends-nil had;
 }
 
 -- what was judged before a step, and what the step does
-pub record HasPassed (profile : Profile) (first : Held) (before : Kept) (old new : Device) (held : Held) (kept : Kept) (size : ℕ) : Type 0 where
-  pub moved : (taken : List ℕ) → IsPassing profile first taken before → PassesAhead profile taken size old.bytes new.bytes held kept
+pub record HasPassed (profile : Profile) (first : Held) (before : Kept) (old new : Device) (had has : Option (List ℕ)) (held : Held) (kept : Kept) (size : ℕ) : Type 0 where
+  pub moved : (taken : List ℕ) → IsPassing profile first taken before → PassesAhead profile taken size old.bytes new.bytes had has held kept
   pub failures : new.failures ≡ old.failures
   pub breaks : new.breaks ≡ old.breaks
 
-module _ (profile : Profile) (taken : List ℕ) (size : ℕ) (old between : Option (List ℕ)) (held : Held) (kept : Kept) (m : PassesAhead profile taken size old between held kept) where
-  pub joined : (count : ℕ) (new : Option (List ℕ)) (after : Held) (tables : Kept) → PassesAhead profile (taken ++ m.passed) count between new after tables → PassesAhead profile taken (size + count) old new after tables
-  joined count new after tables q = record {
+module _ (profile : Profile) (taken : List ℕ) (size : ℕ) (old between had has : Option (List ℕ)) (held : Held) (kept : Kept) (m : PassesAhead profile taken size old between had has held kept) where
+  pub joined : (count : ℕ) (new then : Option (List ℕ)) (after : Held) (tables : Kept) → PassesAhead profile (taken ++ m.passed) count between new has then after tables → PassesAhead profile taken (size + count) old new had then after tables
+  joined count new then after tables q = record {
     passed = m.passed ++ q.passed;
     passing = subst (λ x. IsPassing profile after x tables) (append_assoc taken m.passed q.passed) q.passing;
     counted = let a = m.counted in let b = q.counted in let l = length-append m.passed q.passed in omega (arith, a, b, l);
     consumed = consumes_more old between new m.passed q.passed m.consumed q.consumed;
+    grown = Appends-trans had has then m.passed q.passed m.grown q.grown;
   }
 
-  pub joined_none : (count : ℕ) (new : Option (List ℕ)) (after : Held) (tables : Kept) → count ≡ 0 → PassesAhead profile (taken ++ m.passed) count between new after tables → PassesAhead profile taken size old new after tables
-  joined_none count new after tables z q =
+  pub joined_none : (count : ℕ) (new then : Option (List ℕ)) (after : Held) (tables : Kept) → count ≡ 0 → PassesAhead profile (taken ++ m.passed) count between new has then after tables → PassesAhead profile taken size old new had then after tables
+  joined_none count new then after tables z q =
       let same : size + count ≡ size = omega (arith, z) in
-      subst (λ n. PassesAhead profile taken n old new after tables) same (joined count new after tables q)
+      subst (λ n. PassesAhead profile taken n old new had then after tables) same (joined count new then after tables q)
 
-  pub stopped_later : (ahead : List ℕ) (new : Option (List ℕ)) (fault : CheckFault) → StopsAhead profile held (taken ++ m.passed) ahead between new fault → FailsAhead profile taken old new fault
-  stopped_later ahead new fault q = record { passed = m.passed; held = held; kept = kept; between = between; ahead = ahead; passing = m.passing; consumed = m.consumed; stops = q }
+  pub stopped_later : (ahead : List ℕ) (left : Option (List ℕ)) (fault : CheckFault) → StopsAhead profile held (taken ++ m.passed) ahead between left fault → FailsAhead profile taken old left fault
+  stopped_later ahead left fault q = record { passed = m.passed; held = held; kept = kept; between = between; ahead = ahead; passing = m.passing; consumed = m.consumed; stops = q }
 
   pub size_low : length taken + size < 2 ^ 37
   size_low =

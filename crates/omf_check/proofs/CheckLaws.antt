@@ -1,4 +1,4 @@
--- The results of a check, from those of its session.
+-- The results of a check, from those of a session that has the same bytes.
 use Rattle.std.proofs.Common.{◌≡◌, ℕ, zero, suc, ◌+◌, ◌-◌, ◌*◌, ◌^◌, ◌<◌, ◌≤◌, ◌⊎◌, Bool, true, false, List, [], ◌∷◌, ◌++◌, Result, Ok, Err, refl, sym, ◌∙◌, ap, subst, arith, append_assoc, length, take, drop, min, inl, inr}
 use Rattle.std.specs.Prelude.{Option, Some, None, is_some, not, ◌&&◌, ◌||◌, cond, IfErr, IsTrue, slice_index}
 use Rattle.std.specs.Io.{StartsWith}
@@ -6,7 +6,7 @@ use Rattle.std.specs.Io.KnownBytes.{Consumes, IsAtEnd, Keeps}
 use Rattle.std.proofs.KnownBytes.{Consumes-kept, starts_with_rest}
 use Rattle.std.proofs.lemmas.List.{append-nil, length-append, length-take, take_all, take-append-drop}
 use Rattle.omf_frame.specs.Device.{Shows}
-use Rattle.omf_frame.specs.Framer.{begins_record}
+use Rattle.omf_frame.specs.Framer.{Held, begins_record}
 use Rattle.omf_frame.specs.Framing.{is_nonempty, is_taken, present, wanted, stated_length, record_len}
 use Rattle.omf_frame.specs.declared.fault.Place.{Place}
 use Rattle.omf_frame.specs.declared.fault.Reason.{Reason}
@@ -17,15 +17,17 @@ use Rattle.omf_check.specs.declared.fault.CheckFault.{CheckFault}
 use Rattle.omf_check.specs.declared.fault.CheckFault.TheVariants as check
 use Rattle.omf_check.specs.declared.profile.Profile.{Profile}
 use Rattle.omf_check.specs.Checking.{Decides, IsCheckFault, IsUndecided}
+use Rattle.omf_check.specs.Inner.Kept.{Kept}
+use Rattle.omf_check.specs.Inner.Passing.{IsPassing, here}
+use Rattle.omf_check.specs.Inner.Taking.{HasTaken}
 use Rattle.omf_check.specs.Module.{Module, records_in}
 use Rattle.omf_check.specs.Refusal.{IsRefused, EndsWhereJudged, AreSoundSoFar}
 use Rattle.omf_check.specs.Session.{Seen, IsOpen, Takes, FailsAs, IsCause, Finishes, IsEndFault, RefusesHere, next_bytes, may_go_on, want_of, want_with}
 use Rattle.omf_check.specs.WellFormed.{IsAccepted, IsWellFormed}
+use Rattle.omf_check.proofs.Moving.{taken_bound}
+use Rattle.omf_check.proofs.Passing.{open_here}
 use Rattle.omf_check.proofs.SessionLaws.{records_of}
 use Rattle.omf_check.proofs.SoundBytes.{no_other}
-
-pub none_wanted : (m w k : ℕ) → m ≡ 0 → m ≡ min w 4096 → w ≡ k → k ≡ 0
-none_wanted m w k z e f = omega (arith, z, e, f)
 
 pub piece_low : (new buffer : List ℕ) (n m w k : ℕ) → length new ≡ length (take m buffer) → m ≡ min w 4096 → w ≡ k → length (take n new) ≤ k
 piece_low new buffer n m w k a e f = let x = length-take n new in let y = length-take m buffer in omega (arith, a, e, f, x, y)
@@ -178,7 +180,7 @@ module _ (profile : Profile) (s : Seen) (open_s : IsOpen s) (fault : s.fault ≡
       let done : Decides profile input (Ok m0) = (same, (a, refl)) in
       subst (λ x. Decides profile input (Ok x)) (sym h) done
 
-  ended_of_want : (b : Bool) → s.ended ≡ b → want_of s ≡ 0 → s.ended ≡ true
+  pub ended_of_want : (b : Bool) → s.ended ≡ b → want_of s ≡ 0 → s.ended ≡ true
   ended_of_want true e w = e
   ended_of_want false e w =
       let more : 0 < wanted s.at_hand = open_s.wants e in
@@ -188,16 +190,6 @@ module _ (profile : Profile) (s : Seen) (open_s : IsOpen s) (fault : s.fault ≡
       no : (n : ℕ) → 0 < n → n ≡ 0 → ⊥
       no n h e = omega (arith, h, e)
 
-  -- at the module's end
-  pub finish_ended : (result : Result Module CheckFault) (old left : Option (List ℕ)) → want_of s ≡ 0 → Finishes s result → Consumes old left s.taken
-      → (input : List ℕ) → old ≡ Some input → Decides profile input result
-  finish_ended (Ok m) old left w f c input e = let sp = spelled_of old left input s.taken e c in accepted m input sp.0 f.1 f.2 sp.1
-  finish_ended (Err why) old left w f c input e = by why f.1
-    where
-      by : (why : CheckFault) → EndsBy why → Decides profile input (Err why)
-      by why (inl h) = absurd (none_some s.fault why fault h)
-      by why (inr h) = absurd (clash s.ended (ended_of_want s.ended refl w) h.1)
-
   -- at the end of the input
   refused_at_end : (why : CheckFault) (old left : Option (List ℕ)) → IsEndFault s why → Consumes old left s.taken → IsAtEnd left → (input : List ℕ) → old ≡ Some input → Decides profile input (Err why)
   refused_at_end check.Memory old left f c k input e = tt
@@ -205,25 +197,28 @@ module _ (profile : Profile) (s : Seen) (open_s : IsOpen s) (fault : s.fault ≡
   refused_at_end (check.Refused why at) old left f c k input e =
       subst (λ x. IsRefused profile profile_limits x why at) (sym (all_of old left input s.taken e c k)) (subst (λ p. IsRefused p profile_limits s.taken why at) same f)
 
-  pub finish_decides : (result : Result Module CheckFault) (old left : Option (List ℕ)) → Finishes s result → Consumes old left s.taken → IsAtEnd left
+  -- at the end of the module, or of the input
+  pub finish_decides : (result : Result Module CheckFault) (old left : Option (List ℕ)) → Finishes s result → Consumes old left s.taken → (s.ended ≡ true) ⊎ IsAtEnd left
       → (input : List ℕ) → old ≡ Some input → Decides profile input result
   finish_decides (Ok m) old left f c k input e = let sp = spelled_of old left input s.taken e c in accepted m input sp.0 f.1 f.2 sp.1
-  finish_decides (Err why) old left f c k input e = by why f.1
+  finish_decides (Err why) old left f c k input e = by why f.1 k
     where
-      by : (why : CheckFault) → EndsBy why → Decides profile input (Err why)
-      by why (inl h) = absurd (none_some s.fault why fault h)
-      by why (inr h) = refused_at_end why old left h.2 c k input e
+      by : (why : CheckFault) → EndsBy why → (s.ended ≡ true) ⊎ IsAtEnd left → Decides profile input (Err why)
+      by why (inl h) z = absurd (none_some s.fault why fault h)
+      by why (inr h) (inl over) = absurd (clash s.ended over h.1)
+      by why (inr h) (inr z) = refused_at_end why old left h.2 c z input e
 
   fault_at_end : (why : CheckFault) (old left : Option (List ℕ)) (n k : ℕ) → IsEndFault s why → Consumes old left s.taken → IsAtEnd left → IsCheckFault profile old left n k why
   fault_at_end check.Memory old left n k f c z = absurd f
   fault_at_end check.Read old left n k f c z = absurd f
   fault_at_end (check.Refused why at) old left n k f c z = (s.taken, c, (subst (λ p. IsRefused p profile_limits s.taken why at) same f, inl (no_other s.profile profile_limits s.taken open_s.sound why at f, z)))
 
-  finish_cause : (why : CheckFault) (old left : Option (List ℕ)) (n k : ℕ) → EndsBy why → Consumes old left s.taken → IsAtEnd left → IsCheckFault profile old left n k why
+  finish_cause : (why : CheckFault) (old left : Option (List ℕ)) (n k : ℕ) → EndsBy why → Consumes old left s.taken → (s.ended ≡ true) ⊎ IsAtEnd left → IsCheckFault profile old left n k why
   finish_cause why old left n k (inl h) c z = absurd (none_some s.fault why fault h)
-  finish_cause why old left n k (inr h) c z = fault_at_end why old left n k h.2 c z
+  finish_cause why old left n k (inr h) c (inl over) = absurd (clash s.ended over h.1)
+  finish_cause why old left n k (inr h) c (inr z) = fault_at_end why old left n k h.2 c z
 
-  pub finish_err : (result : Result Module CheckFault) (old left : Option (List ℕ)) (n k : ℕ) → Finishes s result → Consumes old left s.taken → IsAtEnd left → IfErr result (IsCheckFault profile old left n k)
+  pub finish_err : (result : Result Module CheckFault) (old left : Option (List ℕ)) (n k : ℕ) → Finishes s result → Consumes old left s.taken → (s.ended ≡ true) ⊎ IsAtEnd left → IfErr result (IsCheckFault profile old left n k)
   finish_err (Ok m) old left n k f c z = tt
   finish_err (Err why) old left n k f c z = finish_cause why old left n k f.1 c z
 
@@ -417,15 +412,6 @@ module _ (profile : Profile) (s : Seen) (open_s : IsOpen s) (fault : s.fault ≡
       let room = t.is_open.bounded in
       omega (arith, want, is, least, most, size, part, room, some)
 
-  -- at the module's end there is no fault
-  pub finish_no_fault : (result : Result Module CheckFault) (old left : Option (List ℕ)) (n k : ℕ) → want_of s ≡ 0 → Finishes s result → IfErr result (IsCheckFault profile old left n k)
-  finish_no_fault (Ok m) old left n k w f = tt
-  finish_no_fault (Err why) old left n k w f = by f.1
-    where
-      by : EndsBy why → IsCheckFault profile old left n k why
-      by (inl h) = absurd (none_some s.fault why fault h)
-      by (inr h) = absurd (clash s.ended (ended_of_want s.ended refl w) h.1)
-
   pub feed_decides : (why : CheckFault) (piece : List ℕ) (new : Seen) (old between left : Option (List ℕ)) → FailsAs s piece why new → Consumes old between s.taken → Consumes between left piece
       → (input : List ℕ) → old ≡ Some input → Decides profile input (Err why)
   feed_decides why piece new old between left f c k input e = feed_by why piece old left (cause_of piece why new f f.cause) (consumes_more old between left s.taken piece c k) input e
@@ -449,3 +435,23 @@ module _ (profile : Profile) (s : Seen) (open_s : IsOpen s) (fault : s.fault ≡
       let o = by_want e piece ahead xs ys shows k low in
       let all : take count piece ≡ piece = grown_all e piece o.fits count t.grown in
       subst (λ x. Consumes (Some input) (Some ys) x) (sym (t.taken ∙ ap (λ x. s.taken ++ x) all)) (consumes_more (Some input) (Some xs) (Some ys) s.taken piece c k)
+
+-- Where the bytes that were taken are kept, they are a session's.
+module _ (profile : Profile) (old new : Option (List ℕ)) (had bytes : List ℕ) (held : Held) (kept : Kept) (size : ℕ) (none : had ≡ []) (h : HasTaken profile old new (Some had) (Some bytes) held kept size) where
+  all_kept : h.taken ≡ bytes
+  all_kept = sym (h.grown ∙ ap (λ x. x ++ h.taken) none)
+
+  pub kept_passing : IsPassing profile held bytes kept
+  kept_passing = subst (λ x. IsPassing profile held x kept) all_kept h.passing
+
+  kept_consumed : Consumes old new bytes
+  kept_consumed = subst (Consumes old new) all_kept h.consumed
+
+  kept_open : IsOpen (here profile held bytes)
+  kept_open = open_here profile held bytes kept kept_passing (taken_bound profile held bytes kept kept_passing) (here profile held bytes) refl refl refl refl
+
+  pub kept_decides : (result : Result Module CheckFault) → Finishes (here profile held bytes) result → (held.ended ≡ true) ⊎ IsAtEnd new → (input : List ℕ) → old ≡ Some input → Decides profile input result
+  kept_decides result f k input e = finish_decides profile (here profile held bytes) kept_open refl refl result old new f kept_consumed k input e
+
+  pub kept_cause : (result : Result Module CheckFault) (n k : ℕ) → Finishes (here profile held bytes) result → (held.ended ≡ true) ⊎ IsAtEnd new → IfErr result (IsCheckFault profile old new n k)
+  kept_cause result n k f z = finish_err profile (here profile held bytes) kept_open refl refl result old new n k f kept_consumed z

@@ -1,5 +1,5 @@
 -- The verdict without the module, from the check of a session that has kept the same bytes.
-use Rattle.std.proofs.Common.{◌≡◌, ◌∙◌, ℕ, zero, suc, ◌+◌, ◌*◌, ◌^◌, ◌<◌, ◌≤◌, Bool, true, false, List, [], ◌∷◌, ◌++◌, Result, Ok, Err, refl, sym, ap, subst, arith, length, take, min, inr, eqb-true}
+use Rattle.std.proofs.Common.{◌≡◌, ◌∙◌, ℕ, zero, suc, ◌+◌, ◌*◌, ◌^◌, ◌<◌, ◌≤◌, ◌⊎◌, Bool, true, false, List, [], ◌∷◌, ◌++◌, Result, Ok, Err, refl, sym, ap, subst, arith, length, take, min, inr, eqb-true}
 use Rattle.std.specs.Prelude.{◌==◌, ◌&&◌, ◌||◌, not, Option, Some, None, is_some, cond, IfOk, IfErr}
 use Rattle.std.specs.Io.KnownBytes.{Consumes, IsAtEnd, Keeps}
 use Rattle.std.proofs.lemmas.List.{length-append, length-take}
@@ -15,21 +15,19 @@ use Rattle.omf_check.specs.Checking.{Decides, IsCheckFault, IsUndecided, IsReadP
 use Rattle.omf_check.specs.Inner.Kept.{Kept}
 use Rattle.omf_check.specs.Inner.Passing.{IsPassing, Moves, Fails, here}
 use Rattle.omf_check.specs.Inner.Stopping.{Stops}
+use Rattle.omf_check.specs.Inner.Taking.{HasTaken}
 use Rattle.omf_check.specs.Judging.{HasRead, Judges}
 use Rattle.omf_check.specs.Module.{Module, records_in}
 use Rattle.omf_check.specs.Session.{Seen, IsOpen, Takes, FailsAs, Finishes, want_of, want_with}
-use Rattle.omf_check.proofs.CheckLaws.{finish_ended, finish_no_fault, finish_decides, finish_err, no_want, runs, fewer_left, read_failed, feed_decides, feed_cause, feed_consumes}
+use Rattle.omf_check.proofs.CheckLaws.{finish_decides, finish_err, ended_of_want, no_want, runs, fewer_left, read_failed, feed_decides, feed_cause, feed_consumes}
 use Rattle.omf_check.proofs.Moving.{taken_bound}
 use Rattle.omf_check.proofs.Passing.{open_here}
 use Rattle.omf_check.proofs.Patience.{feed_patient}
 use Rattle.omf_check.proofs.SessionLaws.{feeds, stop_fault, stop_ok, checked_of, framing_not_read, found_fault, wants_ahead}
 
--- The bytes that were taken are kept nowhere: there are some that were read, of which the framer and the tables are what is kept.
-pub record HasJudged (profile : Profile) (old new : Device) (held : Held) (kept : Kept) (size : ℕ) : Type 0 where
-  pub taken : List ℕ
-  pub passing : IsPassing profile held taken kept
-  pub counted : size ≡ length taken
-  pub consumed : Consumes old.bytes new.bytes taken
+-- What has been taken, and how often the reader failed meanwhile.
+pub record HasJudged (profile : Profile) (old new : Device) (had has : Option (List ℕ)) (held : Held) (kept : Kept) (size : ℕ) : Type 0 where
+  pub all : HasTaken profile old.bytes new.bytes had has held kept size
   pub grows : old.failures ≤ new.failures
   pub passed : new.failures ≤ old.failures + 1000 * size
   pub unbroken : new.breaks ≡ old.breaks
@@ -130,30 +128,22 @@ module _ (profile : Profile) (held : Held) (taken : List ℕ) (kept : Kept) (p :
     pub wanted_now : w ≡ want_with s ahead
     wanted_now = w_is ∙ wants size ahead e
 
-    pub ended_now : m ≡ 0 → want_of s ≡ 0
+    pub ended_now : m ≡ 0 → held.ended ≡ true
     ended_now z =
         let i = wanted_now in
         let none : want_with s ahead ≡ 0 = omega (arith, z, m_is, i) in
-        no_want profile s is_open refl refl ahead none
+        ended_of_want profile s is_open refl refl held.ended refl (no_want profile s is_open refl refl ahead none)
 
     pub running_now : (m ≡ 0 → ⊥) → s.ended ≡ false
     running_now some = runs profile s is_open refl refl ahead m w some m_is wanted_now
 
   module _ (size : ℕ) (e : size ≡ length taken) (r : Result Judged CheckFault) (st : Stops held size r) where
-    pub judges_ended : (old left : Option (List ℕ)) → want_of s ≡ 0 → Consumes old left taken → (input : List ℕ) → old ≡ Some input → Judges profile input r
-    judges_ended old left z c input h =
-        judges size r input e st (finish_ended profile s is_open refl refl (as_module profile taken r) old left z (finishes size r st) c input h)
-
-    pub judges_at_end : (old left : Option (List ℕ)) → Consumes old left taken → IsAtEnd left → (input : List ℕ) → old ≡ Some input → Judges profile input r
-    judges_at_end old left c k input h =
+    pub judges_end : (old left : Option (List ℕ)) → Consumes old left taken → (held.ended ≡ true) ⊎ IsAtEnd left → (input : List ℕ) → old ≡ Some input → Judges profile input r
+    judges_end old left c k input h =
         judges size r input e st (finish_decides profile s is_open refl refl (as_module profile taken r) old left (finishes size r st) c k input h)
 
-    pub cause_ended : (old left : Option (List ℕ)) (n k : ℕ) → want_of s ≡ 0 → IfErr r (IsCheckFault profile old left n k)
-    cause_ended old left n k z =
-        causes profile taken old left n k r (finish_no_fault profile s is_open refl refl (as_module profile taken r) old left n k z (finishes size r st))
-
-    pub cause_at_end : (old left : Option (List ℕ)) (n k : ℕ) → Consumes old left taken → IsAtEnd left → IfErr r (IsCheckFault profile old left n k)
-    cause_at_end old left n k c z =
+    pub cause_end : (old left : Option (List ℕ)) (n k : ℕ) → Consumes old left taken → (held.ended ≡ true) ⊎ IsAtEnd left → IfErr r (IsCheckFault profile old left n k)
+    cause_end old left n k c z =
         causes profile taken old left n k r (finish_err profile s is_open refl refl (as_module profile taken r) old left n k (finishes size r st) c z)
 
     pub reads : (old left : Option (List ℕ)) → Consumes old left taken → IfOk r (HasRead profile old left)

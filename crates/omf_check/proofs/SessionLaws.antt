@@ -1,5 +1,5 @@
 -- The results of a session's calls.
-use Rattle.std.proofs.Common.{◌≡◌, ◌≢◌, ℕ, zero, suc, ◌+◌, ◌<◌, ◌≤◌, Bool, true, false, List, [], ◌∷◌, ◌++◌, Result, Ok, Err, refl, sym, ◌∙◌, ap, subst, arith, length, min, length-append}
+use Rattle.std.proofs.Common.{◌≡◌, ◌≢◌, ℕ, zero, suc, ◌+◌, ◌<◌, ◌≤◌, Bool, true, false, List, [], ◌∷◌, ◌++◌, Result, Ok, Err, refl, sym, ◌∙◌, ap, subst, arith, length, take, min, length-append}
 use Rattle.std.specs.Prelude.{All, flat_map, ◌==◌, not, ◌&&◌, ◌||◌, Option, Some, None, is_some, cond}
 use Rattle.omf_frame.specs.Fault.{Fault}
 use Rattle.omf_frame.specs.Framing.{Raw, raw_bytes, IsRecord, IsFramed, is_nonempty, wanted, frame_fault, front_record, after_front, record_len}
@@ -47,6 +47,12 @@ pub feeds : (profile : Profile) (held new : Held) (taken now piece : List ℕ) (
 feeds profile held new taken now piece kept after count whole fault e s m q =
     subst (λ f. Takes (seen profile held taken f) piece count whole (seen profile new now f)) (sym e)
     (feeds_open profile held new taken now piece kept after count whole (subst (IsState profile held taken kept) e s) m q)
+
+pub feeds_kept : (profile : Profile) (held new : Held) (taken now piece : List ℕ) (kept after : Kept) (count : ℕ) (whole : Bool) (fault : Option CheckFault) → fault ≡ None → IsState profile held taken kept fault
+    → now ≡ taken ++ take count piece → Moves held taken piece count whole new (taken ++ take count piece) → IsPassing profile new (taken ++ take count piece) after
+    → Takes (seen profile held taken fault) piece count whole (seen profile new now fault)
+feeds_kept profile held new taken now piece kept after count whole fault e s same m q =
+    subst (λ x. Takes (seen profile held taken fault) piece count whole (seen profile new x fault)) (sym same) (feeds profile held new taken (taken ++ take count piece) piece kept after count whole fault e s m q)
 
 -- Its want for the next bytes.
 pub nonzero : (n : ℕ) → n == 0 ≡ false → 0 < n
@@ -152,11 +158,7 @@ checked_of profile held taken kept p e =
 pub state_of : (profile : Profile) (held : Held) (taken : List ℕ) (kept : Kept) (fault : Option CheckFault) → fault ≡ None → IsState profile held taken kept fault → IsPassing profile held taken kept
 state_of profile held taken kept fault e s = subst (IsState profile held taken kept) e s
 
--- neither a kept fault nor a new one is Read
-pub kept_fault : (profile : Profile) (held : Held) (taken : List ℕ) (kept : Kept) (fault : Option CheckFault) (why : CheckFault) → fault ≡ Some why → IsState profile held taken kept fault
-    → (held.ended ≡ false) × (why ≢ check.Read)
-kept_fault profile held taken kept fault why e s = subst (IsState profile held taken kept) e s
-
+-- no fault of a session is Read
 pub found_fault : (s : Seen) (piece : List ℕ) (why : CheckFault) → IsCause s piece why → why ≢ check.Read
 found_fault s piece check.Memory h = λ e. cc
 found_fault s piece check.Read h = absurd h
@@ -170,9 +172,6 @@ pub open_of : (profile : Profile) (held : Held) (taken : List ℕ) (kept : Kept)
 open_of profile held taken kept fault s e =
     let p = state_of profile held taken kept fault e s in
     subst (λ f. IsOpen (seen profile held taken f)) (sym e) (open_here profile held taken kept p (taken_bound profile held taken kept p) (seen profile held taken None) refl refl refl refl)
-
-pub end_fault : (profile : Profile) (held : Held) (taken : List ℕ) (fault : Option CheckFault) (why : CheckFault) → fault ≡ None → IsEndFault (seen profile held taken None) why → IsEndFault (seen profile held taken fault) why
-end_fault profile held taken fault why e h = subst (λ f. IsEndFault (seen profile held taken f) why) (sym e) h
 
 -- A new session.
 pub open_start : (profile : Profile) → IsOpen (seen profile at_start [] None)

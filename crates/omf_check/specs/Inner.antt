@@ -4,6 +4,7 @@ pub mod Judging
 pub mod Kept
 pub mod Parts
 pub mod Stopping
+pub mod Taking
 pub mod Passing
 pub mod Points
 pub mod Verdict

@@ -1,23 +1,16 @@
 //! The check of a module that is read from a source.
 
-ghost use Rattle.std.specs.Prelude.{◌≡◌, ◌≤◌, ◌+◌, ◌*◌, ℕ, List, Some, IfOk, IfErr, length, min};
+ghost use Rattle.std.specs.Prelude.{◌≡◌, ◌≤◌, ◌+◌, ◌*◌, ℕ, List, Some, IfOk, IfErr, length};
 ghost use Rattle.std.specs.Io.KnownBytes.{Consumes};
 ghost use Rattle.omf_check.specs.Checking.{IsCheckFault, IsReadPatiently, Decides};
-ghost use Rattle.omf_check.specs.Session.{want_with};
 
 use crate::checked::Checked;
 use crate::fault::CheckFault;
 use crate::profile::Profile;
-use crate::session::Session;
-use omf_frame::{Source, pull_piece};
+use crate::session::finished;
+use crate::taking::take_module;
+use omf_frame::Source;
 use std::alloc::Global;
-
-/// The number of bytes to read next, if `ahead` are the next bytes: those that the session wants, and no more than there is room for.
-fn next_len(session: &Session, ahead: &[u8], room: usize) -> usize
-    ensures { result ≡ min (want_with session.now ahead.now) room }
-{
-    session.want_with(ahead).min(room)
-}
 
 /// Reads and checks the module that the input begins with, and reads no further than its end.
 ///
@@ -43,20 +36,7 @@ pub fn check<S: Source>(
     ensures grows { (S.seen reader.old).failures ≤ (S.seen reader.new).failures }
     ensures profile { IfOk result (λ m. m.profile ≡ profile) }
 {
-    let mut session = Session::new(alloc, profile);
-    let mut buffer = [0; 4096];
-    loop {
-        let want = next_len(&session, reader.ahead(), buffer.len());
-        if want == 0 {
-            return session.finish();
-        }
-        let room = &mut buffer[..want];
-        let Ok(count) = pull_piece(reader, room) else {
-            return Err(CheckFault::Read);
-        };
-        if count == 0 {
-            return session.finish();
-        }
-        session.feed(&room[..count])?;
-    }
+    let mut bytes = Vec::new(alloc);
+    let taken = take_module(alloc, reader, &mut bytes, profile)?;
+    finished(profile, taken.framer, bytes, taken.tables)
 }

@@ -23,6 +23,7 @@ pub mod edges;
 mod fault;
 mod judged;
 mod judging;
+mod keeping;
 mod last_data;
 pub mod laws;
 mod method;
@@ -33,6 +34,7 @@ mod rule;
 mod segment;
 mod session;
 mod table;
+mod taking;
 mod threads;
 
 pub use checked::Checked;

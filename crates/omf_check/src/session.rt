@@ -1,13 +1,14 @@
 //! The incremental checker.
 
-ghost use Rattle.std.specs.Prelude.{◌≡◌, None, IfOk, IfErr, OnOk, OnErr, false};
+ghost use Rattle.std.specs.Prelude.{◌≡◌, None, IfOk, IfErr};
 ghost use Rattle.omf_check.specs.Session.{at_start, want_of, want_with, IsOpen, Takes, FailsAs, Finishes};
-ghost use Rattle.omf_check.specs.Inner.Passing.{IsPassing, Moves, Fails, framing_fault};
+ghost use Rattle.omf_check.specs.Inner.Passing.{IsPassing, here, framing_fault};
 
 use crate::checked::Checked;
 use crate::fault::CheckFault;
 use crate::profile::Profile;
 use crate::table::Tables;
+use crate::taking::step;
 use omf_frame::{Fed, FrameFault, Framer};
 use std::alloc::Global;
 use std::marker::Model;
@@ -45,38 +46,21 @@ pub(crate) fn framing_fault(fault: FrameFault) -> CheckFault
     }
 }
 
-/// Takes the bytes that the current record still lacks. If the record is then complete, checks it and moves past it. A fault takes
-/// no bytes.
-fn advance(
-    framer: &mut Framer,
-    bytes: &mut Vec<u8>,
-    tables: &mut Tables,
+/// The module whose bytes were taken, if its MODEND has been checked; else the refusal of an input that ends here.
+pub(crate) fn finished(
     profile: Profile,
-    piece: &[u8],
-) -> Result<Fed, CheckFault>
-    requires { IsPassing profile framer.old bytes.old.items tables.old }
-    ensures ok { IfOk result (λ fed. Moves framer.old bytes.old.items piece.now fed.taken fed.whole framer.new bytes.new.items) }
-    ensures passing { OnOk result (IsPassing profile framer.new bytes.new.items tables.new) }
-    ensures cause { IfErr result (Fails profile framer.old bytes.old.items piece.now) }
-    ensures same { OnErr result (bytes.new.items ≡ bytes.old.items) }
-    ensures running { OnErr result ((framer.old.ended ≡ false) × (framer.new.ended ≡ false)) }
+    framer: Framer,
+    bytes: Vec<u8>,
+    tables: Tables,
+) -> Result<Checked, CheckFault>
+    requires { IsPassing profile framer bytes.items tables }
+    ensures { Finishes (here profile framer bytes.items) result }
 {
-    let fed = match framer.feed(piece) {
-        Ok(fed) => fed,
-        Err(fault) => return Err(framing_fault(fault)),
-    };
-    match framer.raw() {
-        None => {
-            bytes.extend_from_slice(&piece[..fed.taken])?;
-            Ok(fed)
-        }
-        Some(raw) => {
-            tables.take(profile, raw)?;
-            bytes.extend_from_slice(&piece[..fed.taken])?;
-            framer.next();
-            Ok(fed)
-        }
+    if let Err(fault) = framer.stop() {
+        return Err(framing_fault(fault));
     }
+    let count = framer.number();
+    Ok(Checked::new(profile, bytes, tables, count))
 }
 
 impl Session {
@@ -144,10 +128,10 @@ impl Session {
         if let Some(fault) = self.fault {
             return Err(fault);
         }
-        match advance(
+        match step(
             &mut self.framer,
-            &mut self.bytes,
             &mut self.tables,
+            &mut self.bytes,
             self.profile,
             piece,
         ) {
@@ -170,10 +154,6 @@ impl Session {
         if let Some(fault) = self.fault {
             return Err(fault);
         }
-        if let Err(fault) = self.framer.stop() {
-            return Err(framing_fault(fault));
-        }
-        let count = self.framer.number();
-        Ok(Checked::new(self.profile, self.bytes, self.tables, count))
+        finished(self.profile, self.framer, self.bytes, self.tables)
     }
 }

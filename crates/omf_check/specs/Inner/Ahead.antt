@@ -1,6 +1,6 @@
 -- The records that are judged where a reader shows them.
 use Rattle.std.specs.Prelude.{◌≡◌, ◌≤◌, ℕ, false, List, ◌++◌, length, take, Option}
-use Rattle.std.specs.Io.KnownBytes.{Consumes}
+use Rattle.std.specs.Io.KnownBytes.{Consumes, Appends}
 use Rattle.omf_frame.specs.Device.{Shows}
 use Rattle.omf_frame.specs.Framer.{Held}
 use Rattle.omf_frame.specs.Framing.{record_len}
@@ -10,14 +10,15 @@ use Rattle.omf_check.specs.Session.{want_with}
 use Rattle.omf_check.specs.declared.fault.CheckFault.{CheckFault}
 use Rattle.omf_check.specs.declared.profile.Profile.{Profile}
 
--- Records of `size` bytes were accepted, and taken from the reader.
-pub record PassesAhead (profile : Profile) (taken : List ℕ) (size : ℕ) (old new : Option (List ℕ)) (held : Held) (kept : Kept) : Type 0 where
+-- Records of `size` bytes were accepted, taken from the reader, and kept.
+pub record PassesAhead (profile : Profile) (taken : List ℕ) (size : ℕ) (old new had has : Option (List ℕ)) (held : Held) (kept : Kept) : Type 0 where
   pub passed : List ℕ
   pub passing : IsPassing profile held (taken ++ passed) kept
   pub counted : size ≡ length passed
   pub consumed : Consumes old new passed
+  pub grown : Appends had has passed
 
--- The record that `ahead` begins with was refused, and taken from the reader; no more bytes than are wanted.
+-- The record that `ahead` begins with was refused or not kept, and taken from the reader; no more bytes than are wanted.
 pub record StopsAhead (profile : Profile) (held : Held) (taken ahead : List ℕ) (old new : Option (List ℕ)) (fault : CheckFault) : Type 0 where
   pub shows : Shows old ahead
   pub running : held.ended ≡ false

@@ -1,9 +1,0 @@
-use Rattle.std.proofs.Common.{◌-◌, ◌^◌}
-use Rattle.omf_check.proofs.AheadLaws.{HasPassed}
-use Rattle.omf_check.proofs.judging.judge_ahead.Given as goal
-
-abbrev pub invariant-loop-count : goal.invariant-loop-count
-invariant-loop-count g l = HasPassed l.fn.profile l.initial.framer l.initial.tables (g.S.Source.seen l.initial.reader) (g.S.Source.seen l.reader) l.framer l.tables l.size
-
-abbrev pub decreases-loop-count : goal.decreases-loop-count
-decreases-loop-count g l = 2 ^ 37 - l.size
