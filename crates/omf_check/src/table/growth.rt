@@ -62,8 +62,8 @@ fn add_alike<T: Item>(
 }
 
 /// The refusal of the record with this number that starts at this offset of the module.
-fn refused(number: u32, start: u64, fault: LayoutFault) -> CheckFault
-    ensures { result ≡ refused_at number start fault }
+fn refused(number: u32, start: u64, fault: &LayoutFault) -> CheckFault
+    ensures { result ≡ refused_at number start fault.now }
 {
     CheckFault::Refused {
         reason: fault.reason,
@@ -149,18 +149,20 @@ impl Tables {
     {
         if let Some(subrecords) = unread_fixups(&raw) {
             return match self.take_fixups(subrecords) {
-                Some(fault) => Err(refused(raw.number, raw.start, fault)),
+                Some(fault) => Err(refused(raw.number, raw.start, &fault)),
                 None => Ok(()),
             };
         }
-        let rec = match view(raw) {
+        // A typed record is large: it is seen where it is, and not moved.
+        let viewed = view(raw);
+        let rec = match &viewed {
             Ok(rec) => rec,
             Err(fault) => return Err(refused(raw.number, raw.start, fault)),
         };
-        if let Some(fault) = self.record_fault(profile, &rec) {
-            return Err(refused(raw.number, raw.start, fault));
+        if let Some(fault) = self.record_fault(profile, rec) {
+            return Err(refused(raw.number, raw.start, &fault));
         }
-        self.add(raw.start, &rec)?;
+        self.add(raw.start, rec)?;
         Ok(())
     }
 }

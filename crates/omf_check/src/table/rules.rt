@@ -1,7 +1,7 @@
 //! The rules of all records but FIXUPP.
 
 ghost use Rattle.std.specs.Prelude.{◌≡◌, ◌≤◌, ◌+◌, length, ◌-◌, [], ◌∷◌};
-ghost use Rattle.omf_check.specs.Rules.{item_limit};
+ghost use Rattle.omf_check.specs.Rules.{item_limit, table_limit};
 ghost use Rattle.omf_image.specs.Limits.{profile_limits};
 ghost use Rattle.omf_check.specs.Inner.Judging.{kept_length, data_fault, contents_fault, segment_fault, group_fault, base_fault, room_fault, data_size, fault_moved, record_fault, IsShort, IsNoFixupp};
 ghost use Rattle.omf_frame.specs.Types.{width_bytes};
@@ -120,25 +120,39 @@ impl Tables {
         )
     }
 
+    /// How many more names there may be.
+    fn name_room(&self) -> usize
+        ensures { result ≡ table_limit - length self.now.names }
+    {
+        TABLE_LIMIT.saturating_sub(self.names.len())
+    }
+
+    /// How many more externals there may be.
+    fn external_room(&self) -> usize
+        ensures { result ≡ table_limit - length self.now.externals }
+    {
+        TABLE_LIMIT.saturating_sub(self.externals.len())
+    }
+
     /// The rules of a record other than a FIXUPP. A data record has `size` bytes of data.
     fn contents_fault(&self, profile: Profile, size: usize, rec: &Rec<'_>) -> Option<LayoutFault>
         requires { IsNoFixupp (contents_seen rec.now) }
         ensures { result ≡ contents_fault profile self.now size (contents_seen rec.now) }
     {
-        let name_room = TABLE_LIMIT.saturating_sub(self.names.len());
-        let external_room = TABLE_LIMIT.saturating_sub(self.externals.len());
         match rec {
             Rec::Comment { class, .. } => comment_fault(profile, *class),
-            Rec::Names(items) => room_fault(items.iter(), name_room),
-            Rec::LocalNames(items) => room_fault(items.iter(), name_room),
+            Rec::Names(items) => room_fault(items.iter(), self.name_room()),
+            Rec::LocalNames(items) => room_fault(items.iter(), self.name_room()),
             Rec::Segment { segment, .. } => self.segment_fault(segment),
             Rec::Group { name, members } => self.group_fault(name, members.iter()),
-            Rec::Externs(items) => room_fault(items.iter(), external_room),
-            Rec::LocalExterns { externs, .. } => room_fault(externs.iter(), external_room),
+            Rec::Externs(items) => room_fault(items.iter(), self.external_room()),
+            Rec::LocalExterns { externs, .. } => {
+                room_fault(externs.iter(), self.external_room())
+            }
             Rec::Publics { group, segment, .. } => self.base_fault(group, segment),
             Rec::LocalPublics { group, segment, .. } => self.base_fault(group, segment),
-            Rec::Communals(items) => room_fault(items.iter(), external_room),
-            Rec::LocalCommunals(items) => room_fault(items.iter(), external_room),
+            Rec::Communals(items) => room_fault(items.iter(), self.external_room()),
+            Rec::LocalCommunals(items) => room_fault(items.iter(), self.external_room()),
             Rec::Plain {
                 segment,
                 offset,

@@ -1,4 +1,5 @@
 use Rattle.std.proofs.Common.{◌≡◌, ◌∙◌, ℕ, Bool, false, is_some, ap, sym, subst}
+use Rattle.std.specs.Prelude.{IfOk}
 use Rattle.omf_records.specs.declared.record.Rec.{Rec as CodeRec}
 use Rattle.omf_records.specs.Inner.Seen.{contents_seen, kind_seen, rec_seen}
 use Rattle.omf_records.specs.Valued.{is_fixupp}
@@ -16,21 +17,13 @@ other given kind rec none is same = not_fixupp rec (ap is_fixupp same ∙ sym is
 
 pub add-requires-clause-items : goal.add-requires-clause-items
 add-requires-clause-items c =
-    one_fits_on c.args.profile profile_limits c.args.self.now c.requires.bounded c.args.raw.start (rec_seen c.in-Ok.rec) (other _ c.args.raw.kind c.in-Ok.rec (ap is_some c.in_default.is) c.unread_fixups.ensures.given c.in-Ok.ensures.kind) (sym c.record_fault.ensures ∙ c.in_default-record_fault.is)
-
-pub add-requires-clause-other : goal.add-requires-clause-other
-add-requires-clause-other c = other _ c.args.raw.kind c.in-Ok.rec (ap is_some c.in_default.is) c.unread_fixups.ensures.given c.in-Ok.ensures.kind
+    let same = subst (λ x. IfOk x (λ r. kind_seen r ≡ c.args.raw.kind)) c.in-Ok.is c.view-viewed.ensures.kind in
+    one_fits_on c.args.profile profile_limits c.args.self.now c.requires.bounded c.args.raw.start (rec_seen c.in-Ok.rec) (other _ c.args.raw.kind c.in-Ok.rec (ap is_some c.in_default.is) c.unread_fixups.ensures.given same) (sym c.record_fault.ensures ∙ c.in_default-record_fault.is)
 
 pub returns-clause-bounded : goal.returns-clause-bounded
 returns-clause-bounded c =
     subst IsBounded (sym c.in_ok-add.ensures)
     (fits_on c.args.profile profile_limits c.args.self.now c.requires.bounded c.args.raw.start (rec_seen c.in-Ok.rec) (sym c.record_fault.ensures ∙ c.in_default-record_fault.is)).1
-
-pub record_fault-requires-clause-other : goal.record_fault-requires-clause-other
-record_fault-requires-clause-other c = other _ c.args.raw.kind c.in-Ok.rec (ap is_some c.in_default.is) c.unread_fixups.ensures.given c.in-Ok.ensures.kind
-
-pub record_fault-requires-clause-short : goal.record_fault-requires-clause-short
-record_fault-requires-clause-short c = spelled_short c.args.raw.kind c.args.raw.body.now (contents_seen c.in-Ok.rec) c.requires.short c.in-Ok.ensures.meets.spelled
 
 pub returns-in-None-clause-bounded : goal.returns-in-None-clause-bounded
 returns-in-None-clause-bounded c =
