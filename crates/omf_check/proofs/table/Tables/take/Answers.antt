@@ -7,7 +7,6 @@ use Rattle.omf_image.specs.Limits.{profile_limits}
 use Rattle.omf_check.specs.Inner.Kept.{IsBounded}
 use Rattle.omf_check.specs.Inner.Judging.{IsNoFixupp}
 use Rattle.omf_check.proofs.RecordLaws.{fits_on, one_fits_on, not_fixupp}
-use Rattle.omf_check.proofs.ShortLaws.{spelled_short}
 use Rattle.omf_check.proofs.Walked.{walked_bounded}
 use Rattle.omf_check.proofs.table.Tables.take.Goals as goal
 
