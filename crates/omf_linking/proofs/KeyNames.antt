@@ -19,7 +19,7 @@ use Rattle.omf_linking.specs.declared.locator.forms.KeyForm.TheVariants as form
 
 -- ---- a test that one number passes
 
-filter-none : (p : ℕ → Bool) (s n : ℕ) → ((k : ℕ) → s ≤ k → k < s + n → p k ≡ false) → filter p (count_from s n) ≡ []
+pub filter-none : (p : ℕ → Bool) (s n : ℕ) → ((k : ℕ) → s ≤ k → k < s + n → p k ≡ false) → filter p (count_from s n) ≡ []
 filter-none p s zero h = refl
 filter-none p s (suc n) h =
     cond-false (p s) (s ∷ filter p (count_from (s + 1) n)) (filter p (count_from (s + 1) n)) (h s (omega arith) (omega arith))

@@ -18,4 +18,5 @@ pub mod WalkLaws
 pub mod EachLaws
 pub mod KeyLaws
 pub mod KeyNames
+pub mod KeyTableLaws
 pub mod ItemLaws

@@ -1,6 +1,6 @@
 -- Finding what a key names, one after another.
-use Rattle.std.proofs.Common.{◌≡◌, ℕ, zero, suc, ◌+◌, ◌-◌, ◌<◌, ◌≤◌, ◌/◌, ◌%◌, Bool, true, false, List, [], ◌∷◌, ◌++◌, length, drop, get_or, add-one, drop-cons, refl, sym, ap, ap₂, ◌∙◌, arith}
-use Rattle.std.specs.Prelude.{◌==◌, if◌then◌else◌, filter, flat_map, is_some, option_map, slice_get, Option, Some, None, Result, Err}
+use Rattle.std.proofs.Common.{◌≡◌, ℕ, zero, suc, ◌+◌, ◌<◌, ◌/◌, ◌%◌, true, false, List, [], ◌∷◌, length, get_or, refl, sym, ap, ap₂, ◌∙◌, arith}
+use Rattle.std.specs.Prelude.{◌==◌, if◌then◌else◌, is_some, option_map, slice_get, Option, Some, None}
 use Rattle.std.specs.List.{count_by, slice_split}
 use Rattle.std.proofs.lemmas.Bool.{eqb-true, true≢false}
 use Rattle.std.proofs.lemmas.List.Splits.{length-slice_split}
@@ -15,59 +15,9 @@ use Rattle.omf_placement.specs.Inner.Parsing.{parts_after}
 use Rattle.std.specs.Fmt.{digit_glyph}
 use Rattle.omf_placement.specs.Quoted.{escaped, hex, is_plain}
 use Rattle.omf_linking.proofs.HexLaws.{hex_two}
-use Rattle.omf_linking.specs.Inner.Naming.{one_with}
-use Rattle.omf_linking.specs.Locator.Keys.{count_from, header_name, module_name, the_one}
+use Rattle.omf_linking.specs.Locator.Keys.{header_name, module_name}
 use Rattle.omf_linking.specs.Locator.LinkEntries.{Key, Named, class_after, classed_entry, entry_of_parts, frame_in, has_comment, name_entry, named_entry, opens, place_in}
 use Rattle.omf_placement.specs.Entries.{said}
-use Rattle.omf_linking.specs.declared.locator.fault.LineFault.{LineFault}
-use Rattle.omf_linking.specs.declared.locator.fault.LineFault.TheVariants as why
-
--- the bytes of a name that are left
-pub next_written : (name : List ℕ) (k d : ℕ) → k < length name → flat_map escaped (drop k name) ≡ escaped (get_or name k d) ++ flat_map escaped (drop (k + 1) name)
-next_written name k d h = rw (add-one, drop-cons name k d h) refl
-
--- the numbers that are left, up to n
-pub count_next : (i n : ℕ) → i < n → count_from i (n - i) ≡ i ∷ count_from (i + 1) (n - (i + 1))
-count_next i n h =
-    let e : n - i ≡ suc (n - (i + 1)) = omega arith in
-    rw e refl
-
-pub count_none : (i n : ℕ) → n ≤ i → count_from i (n - i) ≡ []
-count_none i n h = let e : n - i ≡ 0 = omega arith in rw e refl
-
-the_first : (i : ℕ) (is : List ℕ) → the_one (i ∷ is) ≡ one_with (Some i) is
-the_first i [] = refl
-the_first i (j ∷ is) = refl
-
-module _ (P : ℕ → Bool) (i n : ℕ) (all : Result ℕ LineFault) (more : i < n) where
-  -- a number that is not named
-  pub not_named : (found : Option ℕ) → P i ≡ false → one_with found (filter P (count_from i (n - i))) ≡ all → one_with found (filter P (count_from (i + 1) (n - (i + 1)))) ≡ all
-  not_named found e h =
-      let same : filter P (i ∷ count_from (i + 1) (n - (i + 1))) ≡ filter P (count_from (i + 1) (n - (i + 1))) = rw e refl in
-      ap (one_with found) (sym same) ∙ ap (λ (xs : List ℕ). one_with found (filter P xs)) (sym (count_next i n more)) ∙ h
-
-  -- one that is
-  found_one : P i ≡ true → filter P (count_from i (n - i)) ≡ i ∷ filter P (count_from (i + 1) (n - (i + 1)))
-  found_one e = ap (filter P) (count_next i n more) ∙ rw e refl
-
-  pub first_named : P i ≡ true → one_with None (filter P (count_from i (n - i))) ≡ all → one_with (Some i) (filter P (count_from (i + 1) (n - (i + 1)))) ≡ all
-  first_named e h = sym (the_first i (filter P (count_from (i + 1) (n - (i + 1))))) ∙ ap the_one (sym (found_one e)) ∙ h
-
-  pub second_named : (k : ℕ) → P i ≡ true → one_with (Some k) (filter P (count_from i (n - i))) ≡ all → all ≡ Err why.Several
-  second_named k e h = sym h ∙ ap (one_with (Some k)) (found_one e)
-
--- with what is found so far
-pub then_first : (P : ℕ → Bool) (i n : ℕ) (all : Result ℕ LineFault) → i < n → (found : Option ℕ) → is_some found ≡ false → P i ≡ true → one_with found (filter P (count_from i (n - i))) ≡ all → one_with (Some i) (filter P (count_from (i + 1) (n - (i + 1)))) ≡ all
-then_first P i n all more None s e h = first_named P i n all more e h
-then_first P i n all more (Some k) s e h = absurd cc
-
-pub then_second : (P : ℕ → Bool) (i n : ℕ) (all : Result ℕ LineFault) → i < n → (found : Option ℕ) → is_some found ≡ true → P i ≡ true → one_with found (filter P (count_from i (n - i))) ≡ all → Err why.Several ≡ all
-then_second P i n all more None s e h = absurd cc
-then_second P i n all more (Some k) s e h = sym (second_named P i n all more k e h)
-
--- at the end
-pub all_named : (P : ℕ → Bool) (i n : ℕ) (found : Option ℕ) (all : Result ℕ LineFault) → n ≤ i → one_with found (filter P (count_from i (n - i))) ≡ all → one_with found [] ≡ all
-all_named P i n found all e h = ap (λ (xs : List ℕ). one_with found (filter P xs)) (sym (count_none i n e)) ∙ h
 
 -- the name of the first record
 abbrev pub name_in : List (Place × Rec) → List ℕ

@@ -1,39 +1,47 @@
 -- The item of a line, from what is kept of the lines before it.
 use Rattle.std.proofs.Common.{◌≡◌, ℕ, zero, suc, cond, get_or, ◌+◌, ◌-◌, ◌<◌, ◌≤◌, Bool, true, false, List, [], ◌∷◌, ◌++◌, length, append-nil, set, refl, sym, ap, ap₂, ◌∙◌, arith, subst}
-use Rattle.std.specs.Prelude.{◌==◌, filter, filter_map, option_map, option_and_then, slice_get, Option, Some, Result, Ok, Err}
+use Rattle.std.specs.Prelude.{◌==◌, ◌||◌, not, filter, filter_map, option_map, option_and_then, slice_get, Option, Some, None, Result, Ok, Err}
+use Rattle.std.specs.BTreeSet.{Updates, contains}
+use Rattle.std.specs.Cmp.{unsigned_tied}
+use Rattle.std.specs.Global.{Vec}
 use Rattle.std.specs.List.{enumerate_from, last_or, list_any}
+use Rattle.std.specs.Ordering.{nat_cmp}
 use Rattle.std.proofs.lemmas.List.{length-map}
 use Rattle.std.proofs.lemmas.List.FromFn.{length-enumerate_from}
 use Rattle.std.proofs.lemmas.List.Elements.{filter_map-append}
+use Rattle.std.proofs.lemmas.List.Folds.{list_any-append}
 use Rattle.std.proofs.lemmas.Option.{get_or_from_slice_get, slice_get_past}
 use Rattle.omf_frame.specs.Bytes.{last}
 use Rattle.omf_records.specs.Values.{Rec}
 use Rattle.omf_records.specs.Inner.Seen.{map_ok}
 use Rattle.omf_reloc.specs.Reach.{entries}
 use Rattle.omf_reloc.specs.declared.fault.Kind.{Kind}
-use Rattle.omf_linking.specs.Inner.Walking.{AreLines, IsGiven, IsTaken}
+use Rattle.omf_linking.specs.Inner.KeyTables.{AreEntryKeys, AreModuleKeys}
+use Rattle.omf_linking.specs.Inner.Walking.{AreLines, IsCurrent, IsGiven, IsTaken}
 use Rattle.omf_linking.specs.Locator.Items.{Item, Nothing, Opened, Given, current, is_again, item_of, item_in, kind_of, module_at, opened, unless_again}
-use Rattle.omf_linking.specs.Locator.Keys.{count_from, entry_named, module_named, names_entry, the_one}
+use Rattle.omf_linking.specs.Locator.Keys.{count_from, entry_named, module_named, names_entry, names_module, the_one}
 use Rattle.omf_linking.specs.Locator.LinkEntries.{Key, Target, Opens, Gives}
 use Rattle.omf_linking.specs.Locator.Sparse.{Sparse, sparse_all, sparse_of}
 use Rattle.omf_linking.specs.declared.locator.fault.LineFault.{LineFault}
 use Rattle.omf_linking.specs.declared.locator.fault.LineFault.TheVariants as why
 use Rattle.omf_linking.specs.declared.locator.fault.LocatorFault.{LocatorFault}
 use Rattle.omf_linking.specs.declared.locator.fault.LocatorFault.TheVariants as fault
+use Rattle.omf_linking.specs.declared.locator.lines.Current.{Current}
 use Rattle.omf_linking.specs.declared.locator.lines.Lines.{Lines}
+use Rattle.omf_linking.specs.declared.locator.tables.EntryKeys.{EntryKeys}
 use Rattle.omf_linking.proofs.SparseLaws.{all_nothing_more, all_set, other_module, slice_get_all}
 
--- the last of a list
-last_after : (x : ℕ) (xs : List ℕ) → last_or (Some x) xs ≡ slice_get (x ∷ xs) (length xs)
-last_after x [] = refl
-last_after x (y ∷ ys) = last_after y ys
+-- what is kept of the lines, where a line opens no module
+abbrev IsSameWalk : Lines → Lines → Type 0
+IsSameWalk s new = (new.keys ≡ s.keys) × (new.opened ≡ s.opened) × (new.current ≡ s.current)
 
-last_is : (xs : List ℕ) → slice_get xs (length xs - 1) ≡ last xs
-last_is [] = refl
-last_is (x ∷ xs) = let e : suc (length xs) - 1 ≡ length xs = omega arith in rw e (sym (last_after x xs))
-
-pub current_is : (ms : List (List Rec)) (s : Lines) (items : List Item) (o : Option ℕ) → AreLines ms s items → o ≡ slice_get s.opened.items (length s.opened.items - 1) → current items ≡ o
-current_is ms s items o at e = ap last (sym at.opened_is) ∙ sym (last_is s.opened.items) ∙ sym e
+same_walk : (ms : List (List Rec)) (s new : Lines) (items more : List Item) → AreLines ms s items → filter_map opened more ≡ filter_map opened items → IsSameWalk s new → new.given.items ≡ sparse_all ms more → AreLines ms new more
+same_walk ms s new items more at e same g = record {
+  keys_are = subst (AreModuleKeys ms) (sym same.0) at.keys_are;
+  opened_is = λ j. ap (λ o. contains nat_cmp o j) same.1 ∙ at.opened_is j ∙ ap (list_any (λ k. k == j)) (sym e);
+  current_is = subst (λ (o : Option ℕ). IsCurrent ms new.current o) (ap last (sym e)) (subst (λ (c : Option Current). IsCurrent ms c (current items)) (sym same.2) at.current_is);
+  given_is = g;
+}
 
 -- a fault of a line
 pub fault_taken : (ms : List (List Rec)) (new : Lines) (items : List Item) (n : ℕ) (w : LineFault) (r : Result Item LineFault) (told : Result (Unit {0}) LocatorFault) → told ≡ Err (fault.Line n w) → r ≡ Err w → IsTaken ms new items n r told
@@ -54,21 +62,46 @@ module _ (ms : List (List Rec)) (items : List Item) (k : Key) (j : ℕ) (named :
 pub opens_none : (ms : List (List Rec)) (items : List Item) (k : Key) (w : LineFault) → module_named ms k ≡ Err w → item_of ms items (Some (Opens k)) ≡ Err w
 opens_none ms items k w e = ap (λ (r : Result ℕ LineFault). unless_again items (map_ok Opened r)) e
 
-pub more_opened : (ms : List (List Rec)) (s new : Lines) (items : List Item) (j : ℕ) → AreLines ms s items → new.opened.items ≡ s.opened.items ++ j ∷ [] → new.given.items ≡ s.given.items → AreLines ms new (items ++ Opened j ∷ [])
-more_opened ms s new items j at o g = record {
-  opened_is = o ∙ ap (λ (xs : List ℕ). xs ++ j ∷ []) at.opened_is ∙ sym (filter_map-append opened items (Opened j ∷ []));
-  given_is = g ∙ at.given_is ∙ sym (all_nothing_more items (Opened j) ms refl refl refl);
-}
+-- a module that was added to those whose lines began
+pub was_there : (added there : Bool) → added ≡ not there → added ≡ false → there ≡ true
+was_there true true e h = refl
+was_there false true e h = refl
+was_there true false e h = absurd cc
+was_there false false e h = absurd cc
+
+pub was_none : (added there : Bool) → added ≡ not there → added ≡ true → there ≡ false
+was_none true true e h = absurd cc
+was_none false true e h = absurd cc
+was_none true false e h = refl
+was_none false false e h = refl
+
+last_more : (o : Option ℕ) (xs : List ℕ) (j : ℕ) → last_or o (xs ++ j ∷ []) ≡ Some j
+last_more o [] j = refl
+last_more o (x ∷ xs) j = last_more (Some x) xs j
+
+or_only : (b a : Bool) → cond b true a ≡ (a || (b || false))
+or_only true true = refl
+or_only true false = refl
+or_only false true = refl
+or_only false false = refl
+
+pub more_opened : (ms : List (List Rec)) (s new : Lines) (items : List Item) (j : ℕ) (k : EntryKeys) → AreLines ms s items → Updates nat_cmp s.opened new.opened j true → ((m : List Rec) → slice_get ms j ≡ Some m → AreEntryKeys m k)
+    → new.keys ≡ s.keys → new.current ≡ Some (record { number = j; keys = k }) → new.given ≡ s.given → AreLines ms new (items ++ Opened j ∷ [])
+more_opened ms s new items j k at u own same here g =
+    let begun : filter_map opened (items ++ Opened j ∷ []) ≡ filter_map opened items ++ j ∷ [] = filter_map-append opened items (Opened j ∷ []) in
+    let now : current (items ++ Opened j ∷ []) ≡ Some j = ap last begun ∙ last_more None (filter_map opened items) j in
+    record {
+      keys_are = subst (AreModuleKeys ms) (sym same) at.keys_are;
+      opened_is = λ q.
+          u.0 q ∙ ap₂ (λ b a. cond b true a) (unsigned_tied j q) (at.opened_is q) ∙ or_only (j == q) (list_any (λ i. i == q) (filter_map opened items))
+          ∙ sym (ap (list_any (λ i. i == q)) begun ∙ list_any-append (λ i. i == q) (filter_map opened items) (j ∷ []));
+      current_is = subst (λ (c : Option Current). IsCurrent ms c (current (items ++ Opened j ∷ []))) (sym here) (now, own);
+      given_is = ap (λ (v : Vec Sparse). v.items) g ∙ at.given_is ∙ sym (all_nothing_more items (Opened j) ms refl refl refl);
+    }
 
 -- a line that does nothing
 pub more_nothing : (ms : List (List Rec)) (s : Lines) (items : List Item) → AreLines ms s items → AreLines ms s (items ++ Nothing ∷ [])
-more_nothing ms s items at = record {
-  opened_is = at.opened_is ∙ sym (same_opened items Nothing refl);
-  given_is = at.given_is ∙ sym (all_nothing_more items Nothing ms refl refl refl);
-}
-  where
-    same_opened : (xs : List Item) (x : Item) → filter_map opened (x ∷ []) ≡ [] → filter_map opened (xs ++ x ∷ []) ≡ filter_map opened xs
-    same_opened xs x e = filter_map-append opened xs (x ∷ []) ∙ ap (λ (ys : List ℕ). filter_map opened xs ++ ys) e ∙ append-nil (filter_map opened xs)
+more_nothing ms s items at = same_walk ms s s items (items ++ Nothing ∷ []) at (filter_map-append opened items (Nothing ∷ []) ∙ append-nil (filter_map opened items)) (refl, refl, refl) (at.given_is ∙ sym (all_nothing_more items Nothing ms refl refl refl))
 
 -- ---- an entry is given something
 
@@ -110,15 +143,10 @@ all_put items j i t ms m found =
 
 -- one module's tables after the line
 pub more_given : (ms : List (List Rec)) (s new : Lines) (items : List Item) (j i : ℕ) (t : Target) (m : List Rec) (v : Sparse) → AreLines ms s items → slice_get ms j ≡ Some m → v ≡ sparse_of (items ++ Given j i t ∷ []) (j, m)
-    → new.opened.items ≡ s.opened.items → new.given.items ≡ set s.given.items j v → AreLines ms new (items ++ Given j i t ∷ [])
-more_given ms s new items j i t m v at found is o g = record {
-  opened_is = o ∙ at.opened_is ∙ sym (same_opened items (Given j i t) refl);
-  given_is = g ∙ ap₂ (λ (xs : List Sparse) (x : Sparse). set xs j x) at.given_is is
-      ∙ sym (all_put items j i t ms m found);
-}
-  where
-    same_opened : (xs : List Item) (x : Item) → filter_map opened (x ∷ []) ≡ [] → filter_map opened (xs ++ x ∷ []) ≡ filter_map opened xs
-    same_opened xs x e = filter_map-append opened xs (x ∷ []) ∙ ap (λ (ys : List ℕ). filter_map opened xs ++ ys) e ∙ append-nil (filter_map opened xs)
+    → new.keys ≡ s.keys → new.opened ≡ s.opened → new.current ≡ s.current → new.given.items ≡ set s.given.items j v → AreLines ms new (items ++ Given j i t ∷ [])
+more_given ms s new items j i t m v at found is k o c g =
+    same_walk ms s new items (items ++ Given j i t ∷ []) at (filter_map-append opened items (Given j i t ∷ []) ∙ append-nil (filter_map opened items)) (k, o, c)
+    (g ∙ ap₂ (λ (xs : List Sparse) (x : Sparse). set xs j x) at.given_is is ∙ sym (all_put items j i t ms m found))
 
 pub as_many_lines : (ms : List (List Rec)) (s : Lines) (items : List Item) → AreLines ms s items → length s.given.items ≡ length ms
 as_many_lines ms s items at = ap length at.given_is ∙ length-map (enumerate_from 0 ms) (sparse_of items) ∙ length-enumerate_from 0 ms
@@ -157,3 +185,17 @@ named_within m kind k i e =
     let f = one_of (filter (names_entry m k kind) (count_from 1 (entries m kind))) i e in
     let h = in_count (names_entry m k kind) 1 (entries m kind) i f.0 f.1 in
     (h.0, omega (arith, h.1))
+
+pub module_within : (ms : List (List Rec)) (k : Key) (j : ℕ) → module_named ms k ≡ Ok j → j < length ms
+module_within ms k j e =
+    let f = one_of (filter (names_module ms k) (count_from 0 (length ms))) j e in
+    let h = (in_count (names_module ms k) 0 (length ms) j f.0 f.1).1 in
+    omega (arith, h)
+
+-- ---- the module whose lines follow
+
+pub none_current : (ms : List (List Rec)) (s : Lines) (items : List Item) → AreLines ms s items → s.current ≡ None → current items ≡ None
+none_current ms s items at e = subst (λ (c : Option Current). IsCurrent ms c (current items)) e at.current_is
+
+pub some_current : (ms : List (List Rec)) (s : Lines) (items : List Item) (c : Current) → AreLines ms s items → s.current ≡ Some c → (current items ≡ Some c.number) × ((m : List Rec) → slice_get ms c.number ≡ Some m → AreEntryKeys m c.keys)
+some_current ms s items c at e = subst (λ (o : Option Current). IsCurrent ms o (current items)) e at.current_is

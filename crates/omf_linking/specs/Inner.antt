@@ -4,6 +4,6 @@ pub mod Sweeping
 pub mod Searching
 pub mod Gathering
 pub mod LineParsing
-pub mod Naming
+pub mod KeyTables
 pub mod Walking
 pub mod Forms

@@ -23,9 +23,10 @@ pub mod laws;
 mod lines;
 pub mod rows;
 mod sparse;
+mod tables;
 
 pub use entry::{Key, LinkEntry, Target, link_entry_on};
 pub use fault::{LineFault, LocatorFault};
-pub use keys::{class_name, entry_count, entry_name, entry_named, module_name, module_named};
+pub use keys::{class_name, entry_count, entry_name, module_name};
 pub use lines::sparse_places;
 pub use sparse::Sparse;

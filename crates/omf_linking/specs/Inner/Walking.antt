@@ -1,17 +1,29 @@
 -- What the code keeps of the lines so far.
-use Rattle.std.specs.Prelude.{◌≡◌, ◌≤◌, ◌-◌, ⊤, ℕ, Option, Some, None, is_some, set, slice_get, List, [], ◌∷◌, ◌++◌, filter_map, Bool, true, false, Result, Ok, Err}
+use Rattle.std.specs.Prelude.{◌≡◌, ◌≤◌, ◌-◌, ◌==◌, ⊤, ℕ, Option, Some, None, is_some, set, slice_get, List, [], ◌∷◌, ◌++◌, filter_map, Bool, true, false, Result, Ok, Err}
+use Rattle.std.specs.BTreeSet.{contains}
+use Rattle.std.specs.List.{list_any}
+use Rattle.std.specs.Ordering.{nat_cmp}
 use Rattle.omf_records.specs.Values.{Rec}
-use Rattle.omf_linking.specs.Locator.Items.{Item, Given, is_again, kind_of, opened}
+use Rattle.omf_linking.specs.Inner.KeyTables.{AreEntryKeys, AreModuleKeys}
+use Rattle.omf_linking.specs.Locator.Items.{Item, Given, current, is_again, kind_of, opened}
 use Rattle.omf_linking.specs.Locator.LinkEntries.{Target}
 use Rattle.omf_reloc.specs.Reach.{entries}
 use Rattle.omf_linking.specs.Locator.Sparse.{Sparse, sparse_all, sparse_of}
 use Rattle.omf_linking.specs.declared.locator.fault.LineFault.{LineFault}
 use Rattle.omf_linking.specs.declared.locator.fault.LocatorFault.{LocatorFault}
 use Rattle.omf_linking.specs.declared.locator.fault.LocatorFault.TheVariants as fault
+use Rattle.omf_linking.specs.declared.locator.lines.Current.{Current}
 use Rattle.omf_linking.specs.declared.locator.lines.Lines.{Lines}
 
+-- The module whose lines follow, if there is one, with the keys of its entries.
+abbrev pub IsCurrent : List (List Rec) → Option Current → Option ℕ → Type 0
+IsCurrent ms None o = o ≡ None
+IsCurrent ms (Some c) o = (o ≡ Some c.number) × ((m : List Rec) → slice_get ms c.number ≡ Some m → AreEntryKeys m c.keys)
+
 pub record AreLines (ms : List (List Rec)) (s : Lines) (items : List Item) : Type 0 where
-  pub opened_is : s.opened.items ≡ filter_map opened items
+  pub keys_are : AreModuleKeys ms s.keys
+  pub opened_is : (j : ℕ) → contains nat_cmp s.opened j ≡ list_any (λ k. k == j) (filter_map opened items)
+  pub current_is : IsCurrent ms s.current (current items)
   pub given_is : s.given.items ≡ sparse_all ms items
 
 -- The result of a line after these items: it has an item, or this is why it has none; or memory ran out.

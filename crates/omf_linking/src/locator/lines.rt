@@ -13,18 +13,33 @@ ghost use Rattle.omf_linking.specs.declared.locator.fault.LocatorFault.TheVarian
 
 use crate::locator::entry::{Key, LinkEntry, Target, link_entry_on};
 use crate::locator::fault::{LineFault, LocatorFault};
-use crate::locator::keys::{entry_named, module_named};
 use crate::locator::sparse::Sparse;
+use crate::locator::tables::{EntryKeys, ModuleKeys};
 use omf_check::Checked;
 use omf_placement::cut::cut;
 use omf_reloc::Kind;
 use std::alloc::{AllocError, Global};
+use std::collections::BTreeSet;
+
+/// The module whose lines follow.
+#[derive(Drop)]
+pub struct Current {
+    /// Its number, from 0.
+    number: u32,
+    /// The keys of its entries.
+    keys: EntryKeys,
+}
 
 /// What the lines so far give the modules.
 #[derive(Drop)]
 pub struct Lines {
-    /// The modules whose lines began, by their numbers from 0. The last is that of the lines to come.
-    opened: Vec<u32>,
+    alloc: Global,
+    /// The keys of the modules.
+    keys: ModuleKeys,
+    /// The modules whose lines began, by their numbers from 0.
+    opened: BTreeSet<u32>,
+    /// The last of these.
+    current: Option<Current>,
     /// What is given to the entries of each module.
     given: Vec<Sparse>,
 }
@@ -50,6 +65,7 @@ fn at_fault(line: u64, why: LineFault) -> Result<(), LocatorFault>
 impl Lines {
     /// Returns what no lines give.
     fn new(alloc: Global, modules: &[Checked]) -> Result<Lines, AllocError>
+        requires { length modules.now < 2 ^ 32 }
         ensures { IfOk result (λ s. AreLines (typed_modules modules.now) s []) }
     {
         let mut given = Vec::new(alloc);
@@ -57,8 +73,14 @@ impl Lines {
             let sparse = Sparse::of(alloc, module)?;
             given.push(sparse)?;
         }
-        let opened = Vec::new(alloc);
-        Ok(Lines { opened, given })
+        let keys = ModuleKeys::of(alloc, modules)?;
+        Ok(Lines {
+            alloc,
+            keys,
+            opened: BTreeSet::new(alloc),
+            current: None,
+            given,
+        })
     }
 
     /// Adds a line with which the lines of a module begin.
@@ -66,14 +88,19 @@ impl Lines {
         requires { length modules.now < 2 ^ 32 }
         ensures { (items : List Item) → AreLines (typed_modules modules.now) self.old items → IsTaken (typed_modules modules.now) self.new items line (item_of (typed_modules modules.now) items (Some (Opens (key_seen key.entry)))) result }
     {
-        let number = match module_named(modules, key) {
+        let number = match self.keys.named(key) {
             Ok(number) => number,
             Err(why) => return at_fault(line, why),
         };
-        if self.opened.contains(&number) {
+        let at = number as usize;
+        if at >= modules.len() {
+            return at_fault(line, LineFault::Unknown);
+        }
+        if !self.opened.insert(number)? {
             return at_fault(line, LineFault::Twice);
         }
-        self.opened.push(number)?;
+        let keys = EntryKeys::of(self.alloc, &modules[at])?;
+        self.current = Some(Current { number, keys });
         Ok(())
     }
 
@@ -87,17 +114,20 @@ impl Lines {
     ) -> Result<(), LocatorFault>
         ensures { (items : List Item) → AreLines (typed_modules modules.now) self.old items → IsTaken (typed_modules modules.now) self.new items line (item_of (typed_modules modules.now) items (Some (Entry (key_seen key.entry) (target_seen target)))) result }
     {
-        let Some(number) = self.opened.last().copied() else {
+        let Some(current) = &self.current else {
             return at_fault(line, LineFault::NoModule);
         };
-        let at = number as usize;
+        let at = current.number as usize;
         if at >= modules.len() {
             return at_fault(line, LineFault::NoModule);
         }
         if at >= self.given.len() {
             return at_fault(line, LineFault::NoModule);
         }
-        let index = match entry_named(&modules[at], kind_of(target), key) {
+        let found = current
+            .keys
+            .named(self.alloc, &modules[at], kind_of(target), key)?;
+        let index = match found {
             Ok(index) => index,
             Err(why) => return at_fault(line, why),
         };

@@ -58,10 +58,10 @@ fn no_frames(alloc: Global, count: u16) -> Result<Vec<Option<Option<Frame>>>, Al
 }
 
 /// Sets the place with an index, from 1. Returns whether there was none.
-fn put_place(places: &mut Vec<Option<Placed>>, index: u16, place: Placed) -> bool
+fn put_place(places: &mut Vec<Option<Placed>>, index: u32, place: Placed) -> bool
     ensures { IsPut index place places.old.items places.new.items result }
 {
-    let index = usize::from(index);
+    let index = index as usize;
     if index == 0 || index > places.len() || places[index - 1].is_some() {
         return false;
     }
@@ -70,10 +70,10 @@ fn put_place(places: &mut Vec<Option<Placed>>, index: u16, place: Placed) -> boo
 }
 
 /// Sets the frame with an index, from 1. Returns whether there was none.
-fn put_frame(frames: &mut Vec<Option<Option<Frame>>>, index: u16, frame: Option<Frame>) -> bool
+fn put_frame(frames: &mut Vec<Option<Option<Frame>>>, index: u32, frame: Option<Frame>) -> bool
     ensures { IsPut index frame frames.old.items frames.new.items result }
 {
-    let index = usize::from(index);
+    let index = index as usize;
     if index == 0 || index > frames.len() || frames[index - 1].is_some() {
         return false;
     }
@@ -132,7 +132,7 @@ impl Sparse {
     }
 
     /// Gives the entry of a module with this index its place or its frame. Returns whether it had none.
-    pub(crate) fn give(&mut self, index: u16, target: Target) -> bool
+    pub(crate) fn give(&mut self, index: u32, target: Target) -> bool
         ensures { (m : ℕ × List Rec) → IsGiven m index (target_seen target) self.old self.new result }
     {
         match target {

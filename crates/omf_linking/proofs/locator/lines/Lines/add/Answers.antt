@@ -1,4 +1,4 @@
-use Rattle.std.proofs.Common.{◌≡◌, ◌≤◌, ◌-◌, ◌∙◌, List, ℕ, length, vec_len, get_or, refl, sym, ap, subst, arith, rules}
+use Rattle.std.proofs.Common.{◌≡◌, ◌≤◌, ◌∙◌, ℕ, length, vec_len, get_or, refl, sym, ap, subst, arith, rules}
 use Rattle.std.specs.Prelude.{Some, Ok, Err, slice_get}
 use Rattle.omf_check.specs.Module.{records_in, typed_modules}
 use Rattle.omf_check.specs.WellFormed.{recs}
@@ -8,30 +8,28 @@ use Rattle.omf_linking.specs.Locator.Keys.{entry_named}
 use Rattle.omf_linking.specs.declared.locator.fault.LineFault.TheVariants as why
 use Rattle.omf_linking.proofs.EachLaws.{typed_length}
 use Rattle.omf_linking.proofs.NamingLaws.{next_module}
-use Rattle.omf_linking.proofs.WalkLaws.{as_many_lines, current_is, fault_taken, gives_again, gives_far, gives_first, gives_none, more_given, named_within, not_given, now_given, own_tables}
+use Rattle.omf_linking.proofs.WalkLaws.{as_many_lines, fault_taken, gives_again, gives_far, gives_first, gives_none, more_given, named_within, not_given, now_given, own_tables, some_current}
 use Rattle.omf_linking.proofs.locator.lines.Lines.add.Goals as goal
 
 pub returns-then-at-modules : goal.returns-then-at-modules
 returns-then-at-modules c items at =
     let ms = typed_modules c.args.modules.now in
-    let j = c.in-Some.number in
+    let j = c.in-Some.current.number in
     let k = key_seen c.args.key in
     let t = target_seen c.args.target in
-    let last : Some j ≡ slice_get c.args.self.now.opened.items (length c.args.self.now.opened.items - 1)
-    = sym c.in-Some.is ∙ c.copied.ensures ∙ c.last.ensures.value ∙ ap (λ (xs : List ℕ). slice_get xs (length xs - 1)) c.deref.ensures.value in
-    let now : current items ≡ Some j = current_is ms c.args.self.now items (Some j) at last in
+    let here = some_current ms c.args.self.now items c.in-Some.current at c.in-Some.is in
+    let now : current items ≡ Some j = here.0 in
     let far : length ms ≤ j = subst (λ (n : ℕ). n ≤ j) (sym (typed_length c.args.modules.now)) c.if-at-modules.true in
     fault_taken ms c.args.self.now items c.args.line why.NoModule _ c.at_fault-then-at-modules.result c.at_fault-then-at-modules.ensures (gives_far ms items k t j now far)
 
 pub returns-then-at-len : goal.returns-then-at-len
 returns-then-at-len c items at =
     let ms = typed_modules c.args.modules.now in
-    let j = c.in-Some.number in
+    let j = c.in-Some.current.number in
     let k = key_seen c.args.key in
     let t = target_seen c.args.target in
-    let last : Some j ≡ slice_get c.args.self.now.opened.items (length c.args.self.now.opened.items - 1)
-    = sym c.in-Some.is ∙ c.copied.ensures ∙ c.last.ensures.value ∙ ap (λ (xs : List ℕ). slice_get xs (length xs - 1)) c.deref.ensures.value in
-    let now : current items ≡ Some j = current_is ms c.args.self.now items (Some j) at last in
+    let here = some_current ms c.args.self.now items c.in-Some.current at c.in-Some.is in
+    let now : current items ≡ Some j = here.0 in
     let many : vec_len c.args.self.now.given ≡ length c.args.self.now.given.items = search rules in
     let far : length ms ≤ j = omega (arith, as_many_lines ms c.args.self.now items at, many, c.len.ensures, c.if-at-len.true) in
     fault_taken ms c.args.self.now items c.args.line why.NoModule _ c.at_fault-then-at-len.result c.at_fault-then-at-len.ensures (gives_far ms items k t j now far)
@@ -39,29 +37,27 @@ returns-then-at-len c items at =
 pub returns-in-Err : goal.returns-in-Err
 returns-in-Err c items at =
     let ms = typed_modules c.args.modules.now in
-    let j = c.in-Some.number in
+    let j = c.in-Some.current.number in
     let k = key_seen c.args.key in
     let t = target_seen c.args.target in
-    let last : Some j ≡ slice_get c.args.self.now.opened.items (length c.args.self.now.opened.items - 1)
-    = sym c.in-Some.is ∙ c.copied.ensures ∙ c.last.ensures.value ∙ ap (λ (xs : List ℕ). slice_get xs (length xs - 1)) c.deref.ensures.value in
-    let now : current items ≡ Some j = current_is ms c.args.self.now items (Some j) at last in
+    let here = some_current ms c.args.self.now items c.in-Some.current at c.in-Some.is in
+    let now : current items ≡ Some j = here.0 in
     let m = recs (records_in c.index-modules-at.result.bytes) in
     let found : slice_get ms j ≡ Some m = next_module c.args.modules.now j c.index-modules-at.result c.index-modules-at.is c.if-at-modules.false in
-    let named : entry_named m (kind_of t) k ≡ Err c.in-Err.why = ap (λ d. entry_named m d k) (sym c.kind_of.ensures) ∙ sym c.entry_named.ensures ∙ c.in-Err.is in
+    let named : entry_named m (kind_of t) k ≡ Err c.in-Err.why = ap (λ d. entry_named m d k) (sym c.kind_of.ensures) ∙ sym (c.in_ok-found.ensures (here.1 m found)) ∙ c.in-Err.is in
     fault_taken ms c.args.self.now items c.args.line c.in-Err.why _ c.at_fault-in-Err.result c.at_fault-in-Err.ensures (gives_none ms items k t j now m found c.in-Err.why named)
 
 pub returns-then-not-give : goal.returns-then-not-give
 returns-then-not-give c items at =
     let ms = typed_modules c.args.modules.now in
-    let j = c.in-Some.number in
+    let j = c.in-Some.current.number in
     let k = key_seen c.args.key in
     let t = target_seen c.args.target in
-    let last : Some j ≡ slice_get c.args.self.now.opened.items (length c.args.self.now.opened.items - 1)
-    = sym c.in-Some.is ∙ c.copied.ensures ∙ c.last.ensures.value ∙ ap (λ (xs : List ℕ). slice_get xs (length xs - 1)) c.deref.ensures.value in
-    let now : current items ≡ Some j = current_is ms c.args.self.now items (Some j) at last in
+    let here = some_current ms c.args.self.now items c.in-Some.current at c.in-Some.is in
+    let now : current items ≡ Some j = here.0 in
     let m = recs (records_in c.index-modules-at.result.bytes) in
     let found : slice_get ms j ≡ Some m = next_module c.args.modules.now j c.index-modules-at.result c.index-modules-at.is c.if-at-modules.false in
-    let named : entry_named m (kind_of t) k ≡ Ok c.in-Ok.index = ap (λ d. entry_named m d k) (sym c.kind_of.ensures) ∙ sym c.entry_named.ensures ∙ c.in-Ok.is in
+    let named : entry_named m (kind_of t) k ≡ Ok c.in-Ok.index = ap (λ d. entry_named m d k) (sym c.kind_of.ensures) ∙ sym (c.in_ok-found.ensures (here.1 m found)) ∙ c.in-Ok.is in
     let mine : c.index_mut.result.now ≡ get_or c.args.self.now.given.items j c.index_mut.result.now = search rules in
     let own = own_tables ms c.args.self.now items j m c.index_mut.result.now at found mine in
     let within = named_within m (kind_of t) k c.in-Ok.index named in
@@ -71,16 +67,15 @@ returns-then-not-give c items at =
 pub returns : goal.returns
 returns c items at =
     let ms = typed_modules c.args.modules.now in
-    let j = c.in-Some.number in
+    let j = c.in-Some.current.number in
     let k = key_seen c.args.key in
     let t = target_seen c.args.target in
-    let last : Some j ≡ slice_get c.args.self.now.opened.items (length c.args.self.now.opened.items - 1)
-    = sym c.in-Some.is ∙ c.copied.ensures ∙ c.last.ensures.value ∙ ap (λ (xs : List ℕ). slice_get xs (length xs - 1)) c.deref.ensures.value in
-    let now : current items ≡ Some j = current_is ms c.args.self.now items (Some j) at last in
+    let here = some_current ms c.args.self.now items c.in-Some.current at c.in-Some.is in
+    let now : current items ≡ Some j = here.0 in
     let m = recs (records_in c.index-modules-at.result.bytes) in
     let found : slice_get ms j ≡ Some m = next_module c.args.modules.now j c.index-modules-at.result c.index-modules-at.is c.if-at-modules.false in
-    let named : entry_named m (kind_of t) k ≡ Ok c.in-Ok.index = ap (λ d. entry_named m d k) (sym c.kind_of.ensures) ∙ sym c.entry_named.ensures ∙ c.in-Ok.is in
+    let named : entry_named m (kind_of t) k ≡ Ok c.in-Ok.index = ap (λ d. entry_named m d k) (sym c.kind_of.ensures) ∙ sym (c.in_ok-found.ensures (here.1 m found)) ∙ c.in-Ok.is in
     let mine : c.index_mut.result.now ≡ get_or c.args.self.now.given.items j c.index_mut.result.now = search rules in
     let own = own_tables ms c.args.self.now items j m c.index_mut.result.now at found mine in
     let new = now_given (j, m) c.in-Ok.index t c.index_mut.result.now c.give.new.self c.give.result (c.give.ensures (j, m)) items own c.if-not-give.false in
-    (Given j c.in-Ok.index t, gives_first ms items k t j now m found c.in-Ok.index named new.0, more_given ms c.args.self.now _ items j c.in-Ok.index t m c.give.new.self at found new.1 refl refl)
+    (Given j c.in-Ok.index t, gives_first ms items k t j now m found c.in-Ok.index named new.0, more_given ms c.args.self.now _ items j c.in-Ok.index t m c.give.new.self at found new.1 refl refl refl refl)
