@@ -33,7 +33,8 @@ pub(crate) const ABOUT: About = About {
   --library-path DIR       exe, com: a folder for libraries that modules ask for
   --no-default-libraries   exe, com: without the libraries that modules ask for
   --allow KIND             image, bin, hex, srec: a warning in place of a fault where
-                           the text does this: overlap, align or group
+                           the text does this: overlap, align or group; or where
+                           modules define a name twice that none asks for: twice
   --base ADDRESS           bin: the address of the first byte; draft: of the first
                            segment (default 10000); hexadecimal
   --size SIZE              bin: the number of bytes, hexadecimal

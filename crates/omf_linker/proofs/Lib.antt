@@ -19,6 +19,7 @@ pub mod MapLaws
 pub mod SeenLaws
 pub mod ExeLaws
 pub mod UnresolvedLaws
+pub mod RepeatedLaws
 pub mod TakenLaws
 pub mod InputLaws
 pub mod OverlapLaws

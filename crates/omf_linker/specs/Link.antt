@@ -4,6 +4,7 @@ pub mod Mapped
 pub mod Rom
 pub mod Drafted
 pub mod Unresolved
+pub mod Repeated
 pub mod Named
 pub mod Faults
 pub mod Shown

@@ -88,7 +88,7 @@ fn spots_or_none(alloc: Global, found: Option<Vec<Spot>>) -> Vec<Spot>
 /// Externals or publics of several modules, by name; those of one name in the order in which they were added.
 #[derive(Drop)]
 pub(crate) struct ByName<'a> {
-    spots: BTreeMap<&'a [u8], Vec<Spot>>,
+    pub(super) spots: BTreeMap<&'a [u8], Vec<Spot>>,
 }
 
 impl<'a> ByName<'a> {

@@ -54,8 +54,33 @@ pub(crate) fn linked_modules(
     })
 }
 
+/// The memory image of modules as text, as that of `modules_text`, and their placements. The images of the single modules are dropped.
+///
+/// # Errors
+///
+/// Those of `modules_text`.
+pub(crate) fn text_at(
+    alloc: Global,
+    modules: &[Checked],
+    text: &[u8],
+) -> Result<(Output, Vec<Placement>), LinkFault>
+    requires { length modules.now < 2 ^ 32 }
+    ensures shown { IsLinked (typed_modules modules.now) text.now (map_ok (λ r. r.0) result) }
+    ensures placed { IfOk result (λ r. length r.1.items ≡ length modules.now) }
+{
+    let linked = linked_modules(alloc, modules, text)?;
+    let LinkedModules {
+        placements,
+        memory,
+        start,
+        ..
+    } = linked;
+    let shown = Output::of_memory(alloc, memory, start)?;
+    Ok((shown, placements))
+}
+
 /// The memory image of modules as text, at the placements that a link text gives them: the bytes of the memory that they share, and their
-/// start address, in the form of `Output::of_memory`. The images of the single modules are dropped.
+/// start address, in the form of `Output::of_memory`.
 ///
 /// # Errors
 ///
@@ -66,10 +91,13 @@ pub fn modules_text(alloc: Global, modules: &[Checked], text: &[u8]) -> Result<O
     requires { length modules.now < 2 ^ 32 }
     ensures { IsLinked (typed_modules modules.now) text.now result }
 {
-    let linked = linked_modules(alloc, modules, text)?;
-    let LinkedModules { memory, start, .. } = linked;
-    let shown = Output::of_memory(alloc, memory, start)?;
-    Ok(shown)
+    match text_at(alloc, modules, text) {
+        Ok((shown, placements)) => {
+            drop(placements);
+            Ok(shown)
+        }
+        Err(fault) => Err(fault),
+    }
 }
 
 /// The map of modules at the placements that a link text gives them, whether these reach or not.

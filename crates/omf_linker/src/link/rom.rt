@@ -1,6 +1,6 @@
 //! The memory of several modules as a file for a chip.
 
-ghost use Rattle.std.specs.Prelude.{◌≡◌, ◌<◌, ◌^◌, is_some, length, map, string_bytes};
+ghost use Rattle.std.specs.Prelude.{◌≡◌, ◌<◌, ◌^◌, IfOk, is_some, length, map, string_bytes};
 ghost use Rattle.omf_check.specs.Module.{typed_modules};
 ghost use Rattle.omf_records.specs.Inner.Seen.{map_ok};
 ghost use Rattle.omf_linking.specs.Space.Segments.{segment_at, segments_at, share_in};
@@ -14,6 +14,7 @@ use omf_check::Checked;
 use omf_linking::space::{Owner, PlacedSegment};
 use omf_linking::{LinkFault, segments_of};
 use omf_output::rom::{FileFault, Form, memory_file};
+use omf_placement::Placement;
 use std::alloc::{AllocError, Global};
 
 /// Whether a segment has a byte at an address.
@@ -91,18 +92,42 @@ fn linked_file(
     }
 }
 
-/// The memory of modules at the placements that a link text gives them, as a file in a form. A fault calls the modules by their labels.
-pub(crate) fn labeled_file(
+/// The memory of linked modules as a file in a form, and their placements; or why there is none.
+fn placed_file(
+    alloc: Global,
+    form: Form,
+    labeled: Labeled<'_>,
+    linked: LinkedModules,
+) -> Result<(Vec<u8>, Vec<Placement>), ImageFault>
+    requires few { length labeled.modules.now < 2 ^ 32 }
+    requires placed { length linked.placements.items ≡ length labeled.modules.now }
+    requires relocated { length linked.relocated.items ≡ length labeled.modules.now }
+    ensures file { IsLinkedFile form (map string_bytes labeled.entry.labels.now) (typed_modules labeled.entry.modules.now) linked (map_ok (λ r. r.0.items) result) }
+    ensures placed { IfOk result (λ r. length r.1.items ≡ length labeled.entry.modules.now) }
+{
+    match linked_file(alloc, form, labeled, &linked) {
+        Ok(file) => {
+            let LinkedModules { placements, .. } = linked;
+            Ok((file, placements))
+        }
+        Err(fault) => Err(fault),
+    }
+}
+
+/// The memory of modules at the placements that a link text gives them, as a file in a form, and these placements. A fault calls the modules
+/// by their labels.
+pub(crate) fn file_at(
     alloc: Global,
     form: Form,
     labeled: Labeled<'_>,
     text: &[u8],
-) -> Result<Vec<u8>, ImageFault>
+) -> Result<(Vec<u8>, Vec<Placement>), ImageFault>
     requires { length labeled.modules.now < 2 ^ 32 }
-    ensures { IsRom form (map string_bytes labeled.entry.labels.now) (typed_modules labeled.entry.modules.now) text.now (map_ok (λ file. file.items) result) }
+    ensures file { IsRom form (map string_bytes labeled.entry.labels.now) (typed_modules labeled.entry.modules.now) text.now (map_ok (λ r. r.0.items) result) }
+    ensures placed { IfOk result (λ r. length r.1.items ≡ length labeled.entry.modules.now) }
 {
     match linked_modules(alloc, labeled.modules, text) {
-        Ok(linked) => linked_file(alloc, form, labeled, &linked),
+        Ok(linked) => placed_file(alloc, form, labeled, linked),
         Err(fault) => Err(named(alloc, labeled, text, fault)),
     }
 }
@@ -124,5 +149,11 @@ pub fn modules_file(
     requires { length modules.now < 2 ^ 32 }
     ensures { IsRom form (map string_bytes labels.now) (typed_modules modules.now) text.now (map_ok (λ file. file.items) result) }
 {
-    labeled_file(alloc, form, Labeled { labels, modules }, text)
+    match file_at(alloc, form, Labeled { labels, modules }, text) {
+        Ok((file, placements)) => {
+            drop(placements);
+            Ok(file)
+        }
+        Err(fault) => Err(fault),
+    }
 }

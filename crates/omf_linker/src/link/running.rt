@@ -1,37 +1,73 @@
 //! A run of `omf-link`, from a reader to a writer.
 
-ghost use Rattle.std.specs.Prelude.{◌≡◌, ◌<◌, ◌^◌, [], ℕ, IfOk, List, Some, length, map, string_bytes};
+ghost use Rattle.std.specs.Prelude.{◌≡◌, ◌<◌, ◌^◌, [], ℕ, IfOk, IfSome, List, None, Some, length, map, string_bytes};
 ghost use Rattle.omf_records.specs.Inner.Seen.{map_ok};
 ghost use Rattle.omf_check.specs.Module.{typed_modules};
 ghost use Rattle.omf_linker.specs.Link.Drafted.{IsDrafted};
 ghost use Rattle.omf_linker.specs.Link.Linked.{any, IsLinked};
 ghost use Rattle.omf_linking.specs.Reading.{AreModules};
 ghost use Rattle.omf_linker.specs.Link.Mapped.{IsMapped};
+ghost use Rattle.omf_linker.specs.Link.Rom.{IsRom};
 ghost use Rattle.omf_linker.specs.Link.Runs.{IsRun, IsShowCause, Shows};
 ghost use Rattle.omf_linker.specs.Link.Shown.{AreShown, IsNamedAs, IsShownOf};
 
 use crate::drafting::link_draft;
 use crate::lines::Labeled;
 use crate::link::fault::ImageFault;
-use crate::link::linking::{modules_map, modules_text};
+use crate::link::linking::{modules_map, text_at};
 use crate::link::naming::named;
 use crate::link::output::Output;
-use crate::link::rom::labeled_file;
+use crate::link::rom::file_at;
 use crate::link::words::Task;
 use omf_check::{Checked, Profile};
 use omf_frame::{Sink, Source};
 use omf_layout::{LayoutFault, Options};
 use omf_linking::{LinkFault, modules_in, read_all};
+use omf_output::rom::Form;
+use omf_placement::Placement;
 use std::alloc::{AllocError, Global};
 
-/// The text of `modules_text`, or the first fault with its lines.
-fn image_shown(alloc: Global, labeled: Labeled<'_>, text: &[u8]) -> Result<Output, ImageFault>
+/// What a task prints for modules and a link text, and where the modules are.
+#[derive(Drop)]
+pub(crate) struct ShownAt {
+    /// What it prints.
+    pub shown: Output,
+    /// The placements that the text gives the modules, if the task puts them into memory.
+    pub placements: Option<Vec<Placement>>,
+}
+
+/// The text of `modules_text` and the placements of the modules, or the first fault with its lines.
+fn image_shown(alloc: Global, labeled: Labeled<'_>, text: &[u8]) -> Result<ShownAt, ImageFault>
     requires { length labeled.modules.now < 2 ^ 32 }
-    ensures { IsNamedAs (IsLinked (typed_modules labeled.entry.modules.now) text.now) (map string_bytes labeled.entry.labels.now) (typed_modules labeled.entry.modules.now) text.now result }
+    ensures shown { IsNamedAs (IsLinked (typed_modules labeled.entry.modules.now) text.now) (map string_bytes labeled.entry.labels.now) (typed_modules labeled.entry.modules.now) text.now (map_ok (λ s. s.shown) result) }
+    ensures placed { IfOk result (λ s. IfSome s.placements (λ p. length p.items ≡ length labeled.entry.modules.now)) }
 {
-    match modules_text(alloc, labeled.modules, text) {
-        Ok(shown) => Ok(shown),
+    match text_at(alloc, labeled.modules, text) {
+        Ok((shown, placements)) => Ok(ShownAt {
+            shown,
+            placements: Some(placements),
+        }),
         Err(fault) => Err(named(alloc, labeled, text, fault)),
+    }
+}
+
+/// The file of `modules_file` and the placements of the modules, or the first fault with its lines.
+fn file_shown(
+    alloc: Global,
+    form: Form,
+    labeled: Labeled<'_>,
+    text: &[u8],
+) -> Result<ShownAt, ImageFault>
+    requires { length labeled.modules.now < 2 ^ 32 }
+    ensures shown { IsRom form (map string_bytes labeled.entry.labels.now) (typed_modules labeled.entry.modules.now) text.now (map_ok (λ s. s.shown) result) }
+    ensures placed { IfOk result (λ s. IfSome s.placements (λ p. length p.items ≡ length labeled.entry.modules.now)) }
+{
+    match file_at(alloc, form, labeled, text) {
+        Ok((file, placements)) => Ok(ShownAt {
+            shown: Output::of_text(alloc, file),
+            placements: Some(placements),
+        }),
+        Err(fault) => Err(fault),
     }
 }
 
@@ -58,13 +94,36 @@ fn draft_shown(alloc: Global, modules: &[Checked], options: Options) -> Result<V
     }
 }
 
-/// A result whose text is made.
-fn made(alloc: Global, made: Result<Vec<u8>, ImageFault>) -> Result<Output, ImageFault>
-    ensures { result ≡ map_ok (λ text. text.items) made }
+/// A result whose text is made, by a task that puts no modules into memory.
+fn made(alloc: Global, made: Result<Vec<u8>, ImageFault>) -> Result<ShownAt, ImageFault>
+    ensures shown { map_ok (λ s. s.shown) result ≡ map_ok (λ text. text.items) made }
+    ensures placed { IfOk result (λ s. s.placements ≡ None) }
 {
     match made {
-        Ok(text) => Ok(Output::of_text(alloc, text)),
+        Ok(text) => Ok(ShownAt {
+            shown: Output::of_text(alloc, text),
+            placements: None,
+        }),
         Err(fault) => Err(fault),
+    }
+}
+
+/// What a task prints for modules and a link text, and where the modules are.
+pub(crate) fn shown_at(
+    alloc: Global,
+    task: Task,
+    labeled: Labeled<'_>,
+    text: &[u8],
+) -> Result<ShownAt, ImageFault>
+    requires { length labeled.modules.now < 2 ^ 32 }
+    ensures shown { AreShown task (map string_bytes labeled.entry.labels.now) (typed_modules labeled.entry.modules.now) text.now (map_ok (λ s. s.shown) result) }
+    ensures placed { IfOk result (λ s. IfSome s.placements (λ p. length p.items ≡ length labeled.entry.modules.now)) }
+{
+    match task {
+        Task::Image => image_shown(alloc, labeled, text),
+        Task::Rom(form) => file_shown(alloc, form, labeled, text),
+        Task::Map => made(alloc, map_shown(alloc, labeled, text)),
+        Task::Draft(options) => made(alloc, draft_shown(alloc, labeled.modules, options)),
     }
 }
 
@@ -78,11 +137,9 @@ pub(crate) fn modules_shown(
     requires { length labeled.modules.now < 2 ^ 32 }
     ensures { AreShown task (map string_bytes labeled.entry.labels.now) (typed_modules labeled.entry.modules.now) text.now result }
 {
-    match task {
-        Task::Image => image_shown(alloc, labeled, text),
-        Task::Rom(form) => made(alloc, labeled_file(alloc, form, labeled, text)),
-        Task::Map => made(alloc, map_shown(alloc, labeled, text)),
-        Task::Draft(options) => made(alloc, draft_shown(alloc, labeled.modules, options)),
+    match shown_at(alloc, task, labeled, text) {
+        Ok(at) => Ok(at.shown),
+        Err(fault) => Err(fault),
     }
 }
 

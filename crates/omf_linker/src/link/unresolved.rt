@@ -1,11 +1,15 @@
 //! The externals of several modules for which no public or more than one is found, as text.
 
-ghost use Rattle.std.specs.Prelude.{◌≡◌, ◌++◌, ◌∷◌, [], ◌<◌, ◌^◌, Bool, IfOk, List, None, Some, ℕ, codes, false, flat_map, length, map, string_bytes};
+ghost use Rattle.std.specs.Prelude.{◌≡◌, ◌++◌, ◌∷◌, [], ◌<◌, ◌^◌, Bool, IfOk, List, None, OnOk, Some, ℕ, codes, false, flat_map, length, map, string_bytes};
+ghost use Rattle.std.specs.BTreeMap.{IsOrdered};
+ghost use Rattle.std.specs.Cmp.Lexicographic.{slice_cmp};
 ghost use Rattle.std.specs.List.{enumerate_from};
+ghost use Rattle.std.specs.Ordering.{nat_cmp};
 ghost use Rattle.omf_check.specs.Module.{recs_of, typed_modules};
 ghost use Rattle.omf_frame.specs.Bytes.{AddsText};
 ghost use Rattle.omf_placement.specs.Derive.{named_externals};
-ghost use Rattle.omf_linker.specs.Link.Unresolved.{IsByName, Row, after, asked_text, external_text, found_text, is_first, is_last, is_same, label_of, module_text, modules_text, name_line, next_text, spots_of, unresolved_text};
+ghost use Rattle.omf_linker.specs.Link.Repeated.{IsRepeatedText, repeated_line};
+ghost use Rattle.omf_linker.specs.Link.Unresolved.{IsByName, Row, after, all_rows, asked_text, external_text, found_text, is_first, is_last, is_same, label_of, module_text, modules_text, name_line, next_text, spots_of, unresolved_text};
 
 use crate::link::by_name::{ByName, External, Spot, external_at, is_given};
 use omf_check::Checked;
@@ -266,5 +270,56 @@ pub fn unresolved_text(
     };
     let mut text = String::new(alloc);
     put_all(alloc, &mut text, labels, by_hand, &tables, modules)?;
+    Ok(text)
+}
+
+/// Appends the line of a name that several publics have.
+fn put_repeated(
+    text: &mut String,
+    labels: &[String],
+    name: &[u8],
+    spots: &[Spot],
+) -> Result<(), AllocError>
+    ensures { AddsText result (string_bytes text.old) (string_bytes text.new) (repeated_line (map string_bytes labels.now) name.now spots.now) }
+{
+    if spots.len() < 2 {
+        return Ok(());
+    }
+    put_name(text, labels, "twice", name, spots)
+}
+
+/// Appends the lines of the names that several publics have, in ascending order.
+fn put_all_repeated(
+    text: &mut String,
+    labels: &[String],
+    publics: &ByName<'_>,
+) -> Result<(), AllocError>
+    ensures lines { AddsText result (string_bytes text.old) (string_bytes text.new) (flat_map (λ e. repeated_line (map string_bytes labels.now) e.0.now e.1.items) publics.now.spots.entries) }
+    ensures ordered { OnOk result (IsOrdered (λ x y. slice_cmp nat_cmp x.now y.now) publics.now.spots) }
+{
+    for (name, spots) in &publics.spots {
+        put_repeated(text, labels, name, spots)?;
+    }
+    Ok(())
+}
+
+/// The names that more than one public of modules has, local ones left out, as text: a line for each, in ascending order of the names.
+/// `twice "NAME": M, N` has the modules that define it. A module is named by its label, or if it has none by its number from 1, as
+/// `module 1`.
+///
+/// # Errors
+///
+/// `AllocError` if memory runs out.
+pub fn repeated_text(
+    alloc: Global,
+    labels: &[String],
+    modules: &[Checked],
+) -> Result<String, AllocError>
+    requires { length modules.now < 2 ^ 32 }
+    ensures { IfOk result (λ t. IsRepeatedText (map string_bytes labels.now) (all_rows (typed_modules modules.now)) (string_bytes t)) }
+{
+    let publics = ByName::of(alloc, modules)?;
+    let mut text = String::new(alloc);
+    put_all_repeated(&mut text, labels, &publics)?;
     Ok(text)
 }

@@ -12,6 +12,8 @@ pub struct Allowed {
     pub align: bool,
     /// Groups may be longer than 64 KB.
     pub group: bool,
+    /// Several publics may have one name, if no external has it.
+    pub twice: bool,
 }
 
 impl Allowed {
@@ -21,6 +23,7 @@ impl Allowed {
             overlap: false,
             align: false,
             group: false,
+            twice: false,
         }
     }
 
@@ -39,13 +42,17 @@ impl Allowed {
                 self.group = true;
                 true
             }
+            "twice" => {
+                self.twice = true;
+                true
+            }
             _ => false,
         }
     }
 
     /// Returns whether something is allowed.
     pub fn has_any(&self) -> bool {
-        self.overlap || self.align || self.group
+        self.overlap || self.align || self.group || self.twice
     }
 
     /// Returns whether what is found is allowed.

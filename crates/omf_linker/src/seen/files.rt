@@ -1,6 +1,6 @@
 //! A task of `omf-link` over files or an input, with a look at what the link text does unseen.
 
-ghost use Rattle.std.specs.Prelude.{◌≡◌, ◌<◌, ◌^◌, [], length, map, string_bytes};
+ghost use Rattle.std.specs.Prelude.{◌≡◌, ◌<◌, ◌^◌, [], IfSome, length, map, string_bytes};
 ghost use Rattle.omf_check.specs.Module.{typed_modules};
 ghost use Rattle.omf_records.specs.Inner.Seen.{map_ok};
 ghost use Rattle.omf_linker.specs.Link.Files.{AreFilesShown, IsShownAs};
@@ -8,13 +8,13 @@ ghost use Rattle.omf_linker.specs.Link.Shown.{AreShown, IsShownOf};
 
 use crate::lines::Labeled;
 use crate::link::{
-    FilesFault, ImageFault, InputFile, LabeledModules, Output, Task, modules_shown, parted, refused,
+    FilesFault, ImageFault, InputFile, LabeledModules, Output, ShownAt, Task, parted, refused,
+    repeated_text, shown_at,
 };
 use crate::seen::allowed::Allowed;
 use crate::seen::finding::{Finding, unseen};
 use crate::seen::lines::put_line;
 use omf_check::Checked;
-use omf_linking::{LinkFault, link};
 use std::alloc::{AllocError, Global};
 
 /// The output of a task, and a line for each thing that the link text does unseen.
@@ -75,50 +75,63 @@ pub fn is_looked_at(task: Task) -> bool {
     }
 }
 
-/// What a link text does unseen with modules; nothing for a task that puts no segments into memory, and for a text that gives no placements.
-fn found_in(
-    alloc: Global,
-    task: Task,
-    modules: &[Checked],
-    text: &[u8],
-) -> Result<Vec<Finding>, AllocError>
-    requires { length modules.now < 2 ^ 32 }
+/// What a link text does unseen with modules at their placements; nothing for a task that puts no modules into memory.
+fn found_at(alloc: Global, modules: &[Checked], at: &ShownAt) -> Result<Vec<Finding>, AllocError>
+    requires few { length modules.now < 2 ^ 32 }
+    requires placed { IfSome at.now.placements (λ p. length p.items ≡ length modules.now) }
 {
-    if !is_looked_at(task) {
-        return Ok(Vec::new(alloc));
-    }
-    match link(alloc, modules, text) {
-        Ok(placements) => unseen(alloc, modules, &placements),
-        Err(LinkFault::Memory) => Err(AllocError),
-        Err(_) => Ok(Vec::new(alloc)),
+    match &at.placements {
+        Some(placements) => unseen(alloc, modules, placements),
+        None => Ok(Vec::new(alloc)),
     }
 }
 
-/// The lines of what is found: of what is not allowed, and of what is.
-fn lines_of(
+/// Appends the lines of the names that more than one public has, if a task puts modules into memory.
+fn add_repeated(
     alloc: Global,
+    lines: &mut SeenLines,
+    allowed: Allowed,
+    labeled: Labeled<'_>,
+    at: &ShownAt,
+) -> Result<(), AllocError>
+    requires { length labeled.modules.now < 2 ^ 32 }
+{
+    if at.placements.is_none() {
+        return Ok(());
+    }
+    let repeated = repeated_text(alloc, labeled.labels, labeled.modules)?;
+    lines.of(allowed.twice).push_str(repeated.as_str())
+}
+
+/// Appends the lines of what is found: of what is not allowed, and of what is.
+fn add_found(
+    lines: &mut SeenLines,
+    allowed: Allowed,
     labeled: Labeled<'_>,
     found: &[Finding],
-    allowed: Allowed,
-) -> Result<SeenLines, AllocError> {
-    let mut lines = SeenLines::new(alloc);
+) -> Result<(), AllocError> {
     for one in found {
         let text = lines.of(allowed.has(*one));
         put_line(text, labeled.labels, labeled.modules, *one)?;
     }
-    Ok(lines)
+    Ok(())
 }
 
-/// The lines of what a link text does unseen with modules.
+/// The lines of what a link text does unseen with modules at their placements.
 fn looked_at(
     alloc: Global,
-    request: Request<'_>,
+    allowed: Allowed,
     labeled: Labeled<'_>,
+    at: &ShownAt,
 ) -> Result<SeenLines, AllocError>
-    requires { length labeled.modules.now < 2 ^ 32 }
+    requires few { length labeled.modules.now < 2 ^ 32 }
+    requires placed { IfSome at.now.placements (λ p. length p.items ≡ length labeled.modules.now) }
 {
-    let found = found_in(alloc, request.task, labeled.modules, request.text)?;
-    lines_of(alloc, labeled, &found, request.allowed)
+    let found = found_at(alloc, labeled.modules, at)?;
+    let mut lines = SeenLines::new(alloc);
+    add_repeated(alloc, &mut lines, allowed, labeled, at)?;
+    add_found(&mut lines, allowed, labeled, &found)?;
+    Ok(lines)
 }
 
 /// The output of a task for modules, with the lines of what the link text does unseen.
@@ -130,11 +143,14 @@ fn modules_seen(
     requires { length labeled.modules.now < 2 ^ 32 }
     ensures { AreShown request.entry.task (map string_bytes labeled.entry.labels.now) (typed_modules labeled.entry.modules.now) request.entry.text.now (map_ok (λ s. s.shown) result) }
 {
-    match modules_shown(alloc, request.task, labeled, request.text) {
-        Ok(shown) => Ok(SeenText {
-            shown,
-            looked: looked_at(alloc, request, labeled),
-        }),
+    match shown_at(alloc, request.task, labeled, request.text) {
+        Ok(at) => {
+            let looked = looked_at(alloc, request.allowed, labeled, &at);
+            Ok(SeenText {
+                shown: at.shown,
+                looked,
+            })
+        }
         Err(fault) => Err(fault),
     }
 }

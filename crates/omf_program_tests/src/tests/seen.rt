@@ -34,11 +34,24 @@ const GROUP: &str =
 const WIDE_GROUP: &str =
     "80030001423A 960600000154014700 98070029040002010100 9A040003FF0100 8A02000074";
 
+/// A module with one segment "T" of two bytes, and in it the public "X".
+const PUBLIC: &str = "80030001413B 96040000015411 98070028020002010100 9008000001015800000000 A00600010000CCDD00 8A02000074";
+
+/// The same with the public twice.
+const BOTH: &str = "80030001413B 96040000015411 98070028020002010100 9008000001015800000000 9008000001015801000000 A00600010000CCDD00 8A02000074";
+
+/// The same with the publics "Y" and "X".
+const OTHERS: &str = "80030001413B 96040000015411 98070028020002010100 900D00000101590000000158010000 00 A00600010000CCDD00 8A02000074";
+
+/// The same with the local public "X".
+const LOCAL: &str = "80030001413B 96040000015411 98070028020002010100 B608000001015800000000 A00600010000CCDD00 8A02000074";
+
 /// Allows nothing.
 const NOTHING: Allowed = Allowed {
     overlap: false,
     align: false,
     group: false,
+    twice: false,
 };
 
 /// The modules of the files a.obj and b.obj, their link text, what that may do, and the lines on it: of faults, and of warnings.
@@ -50,7 +63,58 @@ struct Case {
     warnings: &'static str,
 }
 
-static CASES: [Case; 14] = [
+static CASES: [Case; 20] = [
+    // A name that two modules define and none asks for.
+    Case {
+        modules: [PUBLIC, PUBLIC],
+        text: "M #1\nS #1 7C00 0 0\nM #2\nS #1 7C02 0 0",
+        allowed: NOTHING,
+        faults: "twice \"X\": file \"a.obj\" module 1, file \"b.obj\" module 1\n",
+        warnings: "",
+    },
+    Case {
+        modules: [PUBLIC, PUBLIC],
+        text: "M #1\nS #1 7C00 0 0\nM #2\nS #1 7C02 0 0",
+        allowed: Allowed {
+            overlap: false,
+            align: false,
+            group: false,
+            twice: true,
+        },
+        faults: "",
+        warnings: "twice \"X\": file \"a.obj\" module 1, file \"b.obj\" module 1\n",
+    },
+    // Twice in one module.
+    Case {
+        modules: [BOTH, DATA],
+        text: "M #1\nS #1 7C00 0 0\nM #2\nS #1 7C02 0 0",
+        allowed: NOTHING,
+        faults: "twice \"X\": file \"a.obj\" module 1\n",
+        warnings: "",
+    },
+    // In ascending order of the names.
+    Case {
+        modules: [OTHERS, OTHERS],
+        text: "M #1\nS #1 7C00 0 0\nM #2\nS #1 7C02 0 0",
+        allowed: NOTHING,
+        faults: "twice \"X\": file \"a.obj\" module 1, file \"b.obj\" module 1\ntwice \"Y\": file \"a.obj\" module 1, file \"b.obj\" module 1\n",
+        warnings: "",
+    },
+    // Local publics are of their module alone.
+    Case {
+        modules: [LOCAL, LOCAL],
+        text: "M #1\nS #1 7C00 0 0\nM #2\nS #1 7C02 0 0",
+        allowed: NOTHING,
+        faults: "",
+        warnings: "",
+    },
+    Case {
+        modules: [PUBLIC, LOCAL],
+        text: "M #1\nS #1 7C00 0 0\nM #2\nS #1 7C02 0 0",
+        allowed: NOTHING,
+        faults: "",
+        warnings: "",
+    },
     // One after another.
     Case {
         modules: [DATA, ROOM],
@@ -82,6 +146,7 @@ static CASES: [Case; 14] = [
             overlap: true,
             align: false,
             group: false,
+            twice: false,
         },
         faults: "",
         warnings: "overlap: file \"a.obj\" module 1 segment \"T\" 00007C00 to 00007C01, file \"b.obj\" module 1 segment \"T\" 00007C01 to 00007C04\n",
@@ -109,6 +174,7 @@ static CASES: [Case; 14] = [
             overlap: false,
             align: true,
             group: false,
+            twice: false,
         },
         faults: "overlap: file \"a.obj\" module 1 segment \"T\" 00007C01 to 00007C02, file \"b.obj\" module 1 segment \"T\" 00007C01 to 00007C04\n",
         warnings: "align: file \"b.obj\" module 1 segment \"T\" 00007C01, alignment 2\n",
@@ -225,7 +291,7 @@ fn a_text_does_nothing_unseen(rt: HostRuntime) {
 }
 
 /// Arguments, and what they allow; none if they are not understood.
-static ARGUMENTS: [(&'static [&'static str], Option<(Allowed, usize)>); 5] = [
+static ARGUMENTS: [(&'static [&'static str], Option<(Allowed, usize)>); 6] = [
     (&["omf-link", "image"], Some((NOTHING, 2))),
     (
         &[
@@ -236,6 +302,19 @@ static ARGUMENTS: [(&'static [&'static str], Option<(Allowed, usize)>); 5] = [
                 overlap: true,
                 align: true,
                 group: false,
+                twice: false,
+            },
+            2,
+        )),
+    ),
+    (
+        &["omf-link", "image", "--allow", "twice"],
+        Some((
+            Allowed {
+                overlap: false,
+                align: false,
+                group: false,
+                twice: true,
             },
             2,
         )),
