@@ -309,7 +309,7 @@ class Page {
   // Placements.
   draftWords() {
     const kind = $("kind").value, base = $("base").value.trim();
-    return [...base ? ["--base", base] : [], ...kind === "real" ? ["--real"] : kind === "flat" ? ["--flat", "8"] : []];
+    return [...base ? ["--base", base] : [], ...kind === "real" ? ["--real"] : kind === "flat" ? ["--flat", "8"] : ["--flat", "0"]];
   }
 
   async place(placement, isOld) {

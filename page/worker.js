@@ -104,7 +104,7 @@ function merged(intervals) {
 }
 
 function draft(words) {
-  const tries = words ? [words] : [["--real"], []];
+  const tries = words ? [words] : [["--real"], ["--flat", "0"]];
   for (const these of tries) {
     const answer = run("omf_place", these, [current.bytes.subarray(0, current.size)]);
     if (answer.status === 0 || these === tries[tries.length - 1]) return { ok: answer.status === 0, text: said(answer), words: these };

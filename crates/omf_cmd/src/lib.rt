@@ -33,7 +33,7 @@ mod running;
 mod words;
 
 pub use called::{Ended, run_in_memory, run_on, words_from};
-pub use digits::eight_digits;
+pub use digits::{eight_digits, write_bytes};
 pub use fault::RunFault;
 pub use flushing::run_and_flush;
 pub use gathered::Gathered;

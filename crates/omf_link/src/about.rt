@@ -21,7 +21,8 @@ pub(crate) const ABOUT: About = About {
   bin     the same memory as the bytes of a chip
   hex     the same memory as Intel HEX
   srec    the same memory as Motorola S-records
-  map     the addresses of segments, publics and externals
+  map     the addresses of segments, publics and externals, as far as a text
+          gives them
   draft   a text with addresses, to begin with
 
   -o FILE                  the output; without it the standard output
@@ -41,9 +42,10 @@ pub(crate) const ABOUT: About = About {
   --fill BYTE              bin: the byte where no module has one (default FF)
   --addresses linear|segment, --addresses 16|24|32
                            hex, srec: the kind of addresses in the file
-  --real                   draft: addresses for real mode, for 16-bit code
-  --flat SELECTOR          draft: one frame with base 0 and this selector; this is
-                           the default, with selector 0
+  --real                   draft: addresses for real mode; the default for modules
+                           without 32-bit segments
+  --flat SELECTOR          draft: one frame with base 0 and this selector; the
+                           default for other modules, with selector 0
 
 Where a file is -, or there is none, omf-link reads the standard input.
 omf-link(1) and docs/LINK.md have examples and each line that is printed.

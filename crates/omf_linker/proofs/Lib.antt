@@ -16,6 +16,7 @@ pub mod DraftLaws
 pub mod FitLaws
 pub mod PlacesLaws
 pub mod MapLaws
+pub mod PublicLaws
 pub mod SeenLaws
 pub mod ExeLaws
 pub mod UnresolvedLaws

@@ -1,5 +1,5 @@
 -- A run of `omf-link`, from its steps.
-use Rattle.std.proofs.Common.{◌≡◌, ℕ, ◌+◌, List, [], ◌∷◌, Result, Ok, Err, Vec, Global, sym, ap, subst, ◌∙◌, inl, inr}
+use Rattle.std.proofs.Common.{◌≡◌, ℕ, ◌+◌, List, [], ◌∷◌, Result, Ok, Err, sym, ap, subst, ◌∙◌, inl, inr}
 use Rattle.std.specs.Io.KnownBytes.{Consumes, IsAtEnd}
 use Rattle.std.specs.Prelude.{⊤, Option, Some, None, IfSome, filter_map, option_map, slice_get, zip}
 use Rattle.std.proofs.KnownBytes.{Consumes-whole}
@@ -14,8 +14,8 @@ use Rattle.omf_placement.specs.Placement.{Places}
 use Rattle.omf_records.specs.Values.{Rec}
 use Rattle.omf_reloc.specs.declared.fault.ReachFault.{ReachFault}
 use Rattle.omf_output.specs.declared.rom.form.Form.{Form}
-use Rattle.omf_linking.specs.Faults.{far_by, of_derive}
-use Rattle.omf_linking.specs.Locator.Sparse.{Sparse, sparse}
+use Rattle.omf_linking.specs.Faults.{far_by, of_derive, of_locator}
+use Rattle.omf_linking.specs.Locator.Sparse.{IsOutcome, Sparse, sparse}
 use Rattle.omf_linking.specs.Placing.{all_given, by_sparse, derived_or, found, frames_given, given_of, in_front, linked, or_missing, placed_by, places_given, places_of, with_segments}
 use Rattle.omf_linking.specs.declared.locator.fault.LocatorFault.{LocatorFault}
 use Rattle.omf_linking.specs.declared.locator.fault.LocatorFault.TheVariants as locator
@@ -39,6 +39,7 @@ use Rattle.omf_linker.specs.Link.Mapped.{IsMapped}
 use Rattle.omf_linker.specs.Link.Rom.{IsRom}
 use Rattle.omf_linker.specs.Link.Runs.{IsShowCause, Shows}
 use Rattle.omf_linker.specs.Link.Shown.{AreShown, AreShownIn, IsNamedAs, IsNoModule, IsShownOf}
+use Rattle.omf_linker.specs.Suiting.{options_for}
 use Rattle.omf_linker.specs.declared.link.fault.ImageFault.{ImageFault}
 use Rattle.omf_linker.specs.declared.link.fault.ImageFault.TheVariants as fault
 use Rattle.omf_linker.specs.declared.link.words.Task.{Task}
@@ -57,6 +58,11 @@ with_lines Is labels ms text f fault.Write h n = absurd n
 
 pub no_module : (t : Task) (input : List ℕ) (f : LinkFault) → AreModules any input (Err f) → IsShownOf t input (Err (fault.Link f))
 no_module t input f h = inl h
+
+-- a text without a map
+pub not_mapped : (labels : List (List ℕ)) (ms : List (List Rec)) (text : List ℕ) (f : LocatorFault) → IsOutcome {A = List Sparse} (sparse ms text) (Err f) → IsMapped labels ms text (Err (of_locator f))
+not_mapped labels ms text locator.Memory h = tt
+not_mapped labels ms text (locator.Line n why) h = h
 
 -- the result for modules is the result for their input
 pub in_input : (t : Task) (input : List ℕ) (r : Result (List ℕ) ImageFault) → AreShownIn t input r → IsShownOf t input r
@@ -182,8 +188,8 @@ not_filed f labels ms text (Err fault.Write) h = h
 not_shown : (t : Task) (labels : List (List ℕ)) (ms : List (List Rec)) (text : List ℕ) (r : Result (List ℕ) ImageFault) → AreShown t labels ms text r → IsNoDevice r
 not_shown task.Image labels ms text r h = not_told (IsLinked ms text) labels ms text r (not_first ms text) h
 not_shown (task.Rom f) labels ms text r h = not_filed f labels ms text r h
-not_shown task.Map labels ms text r h = not_told (IsMapped ms text) labels ms text r (not_linked ms text) h
-not_shown (task.Draft o) labels ms text r h = not_drafted o ms r h
+not_shown task.Map labels ms text r h = not_told (IsMapped labels ms text) labels ms text r (λ read. read) h
+not_shown (task.Draft o) labels ms text r h = not_drafted (options_for ms o) ms r h
 
 not_refused : (input : List ℕ) (r : Result (List ℕ) ImageFault) → IsNoModule input r → IsNoDevice r
 not_refused input (Ok shown) h = tt

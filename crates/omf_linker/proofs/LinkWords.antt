@@ -5,7 +5,7 @@ use Rattle.std.specs.Str.{bytes_eq}
 use Rattle.clap.specs.Words.{Kinds, Row, Text, fault_of, is_simple_and_free, subcommand_of}
 use Rattle.clap.specs.declared.error.kind.ErrorKind.{ErrorKind}
 use Rattle.clap.proofs.OnLiterals.{clap_on_literals}
-use Rattle.omf_layout.specs.declared.options.Options.{Options}
+use Rattle.omf_linker.specs.declared.options.AskedOptions.{AskedOptions}
 use Rattle.omf_linker.specs.Options.{AreNamed, NameOnly}
 use Rattle.omf_output.specs.declared.rom.form.Form.{Form}
 use Rattle.omf_linker.specs.Link.FormWords.{IsFormNamed}
@@ -25,7 +25,7 @@ has_fault k ks e = absurd cc
 pub task_is : (name : Text) (rows : List Row) (asked : Task) (r : Option Task) → IsTask name rows asked → (bytes_eq name (codes "image") ≡ true → r ≡ Some task.Image)
     → (bytes_eq name (codes "image") ≡ false → bytes_eq name (codes "map") ≡ true → r ≡ Some task.Map)
     → ((f : Form) → IsFormNamed name rows f → r ≡ Some (task.Rom f))
-    → ((o : Options) → bytes_eq name (codes "image") ≡ false → bytes_eq name (codes "map") ≡ false → bytes_eq name (codes "draft") ≡ true → AreNamed rows o → r ≡ Some (task.Draft o)) → r ≡ Some asked
+    → ((o : AskedOptions) → bytes_eq name (codes "image") ≡ false → bytes_eq name (codes "map") ≡ false → bytes_eq name (codes "draft") ≡ true → AreNamed rows o → r ≡ Some (task.Draft o)) → r ≡ Some asked
 task_is name rows task.Image r is image map rom draft = image (ap (λ n. bytes_eq n (codes "image")) is)
 task_is name rows (task.Rom f) r is image map rom draft = rom f is
 task_is name rows task.Map r is image map rom draft = map (ap (λ n. bytes_eq n (codes "image")) is) (ap (λ n. bytes_eq n (codes "map")) is)

@@ -1,25 +1,21 @@
 -- The lines of a map, one after another: what is written, and the lines of what is left, are the whole.
-use Rattle.std.proofs.Common.{◌≡◌, ℕ, suc, ◌+◌, ◌≤◌, List, [], ◌∷◌, ◌++◌, length, drop, refl, sym, ap, ◌∙◌, arith, append_assoc}
-use Rattle.std.specs.Prelude.{flat_map, Option, Some, slice_get}
+use Rattle.std.proofs.Common.{◌≡◌, ℕ, zero, suc, ◌+◌, ◌<◌, ◌≤◌, Bool, List, [], ◌∷◌, ◌++◌, length, drop, get_or, refl, sym, ap, ap₂, ◌∙◌, arith, append_assoc, map}
+use Rattle.std.specs.Prelude.{flat_map, Option, Some, slice_get, zip}
 use Rattle.std.specs.List.{enumerate_from}
-use Rattle.std.proofs.Math.Seq.{drop-cons}
+use Rattle.std.proofs.Math.Seq.{drop-cons, drop-nil}
 use Rattle.std.proofs.lemmas.List.{append-nil, drop_all}
+use Rattle.std.proofs.lemmas.List.Concat.{flat_map-append}
 use Rattle.std.proofs.lemmas.Option.{slice_get_within, get_or_from_slice_get}
-use Rattle.omf_frame.specs.declared.kinds.Width.{Width}
-use Rattle.omf_frame.specs.declared.kinds.Width.TheVariants.{Bits16, Bits32}
-use Rattle.omf_records.specs.Inner.Seen.{contents_seen, kind_seen}
-use Rattle.omf_records.specs.Values.{At, PublicItem, Rec}
-use Rattle.omf_records.specs.declared.record.Rec.{Rec as CodeRec}
-use Rattle.omf_records.specs.declared.record.Rec.TheVariants as code
+use Rattle.omf_records.specs.Values.{Rec}
 use Rattle.omf_frame.specs.Framing.{Raw, raw_bytes}
 use Rattle.omf_frame.specs.declared.fault.Place.{Place}
 use Rattle.omf_records.specs.Inner.Reading.{typed}
 use Rattle.omf_check.specs.Listed.{placed_from}
+use Rattle.omf_check.specs.Module.{Module, records_in, typed_modules}
 use Rattle.omf_check.specs.Tables.{entry}
 use Rattle.omf_check.specs.WellFormed.{recs}
 use Rattle.omf_placement.proofs.NamedLaws.{entry-suc}
-use Rattle.omf_placement.specs.Placement.{Places}
-use Rattle.omf_linker.specs.Map.MapText.{base_at, public_line, public_lines, record_lines}
+use Rattle.omf_linker.specs.Map.Addresses.{NamedAddress, publics_asked, publics_of}
 
 pub record ArePrinted {A : Type 0} (f : ℕ × A → List ℕ) (xs : List A) (i : ℕ) (old now : List ℕ) : Type 0 where
   pub whole : now ++ flat_map f (enumerate_from (i + 1) (drop i xs)) ≡ old ++ flat_map f (enumerate_from 1 xs)
@@ -52,19 +48,38 @@ part_more old new part rest left all e f h = ap (λ t. t ++ rest) e ∙ append_a
 pub no_part_left : (old left all : List ℕ) → left ≡ [] → old ++ left ≡ all → old ≡ all
 no_part_left old left all e h = sym (append-nil old) ∙ ap (λ t. old ++ t) (sym e) ∙ h
 
--- those of a PUBDEF are not local
-abbrev pub shown_of : ℕ → Places → CodeRec → List ℕ
-shown_of number pl r = record_lines number pl (kind_seen r) (contents_seen r)
+-- the publics of records with their places
+abbrev pub listed_publics : Bool → List (Option ℕ) → List (Place × Rec) → List NamedAddress
+listed_publics local segments xs = flat_map (λ x. publics_asked local segments x.1.kind x.1.contents) xs
 
-pub pubdef_printed : (number : ℕ) (pl : Places) (width : Width) (group segment : At ℕ) (frame : Option ℕ) (items : List (At PublicItem))
-    → flat_map (public_line number (base_at pl segment.item frame)) items ≡ shown_of number pl (code.Publics width group segment frame items)
-pubdef_printed number pl Bits16 group segment frame items = refl
-pubdef_printed number pl Bits32 group segment frame items = refl
+pub listed-publics : (local : Bool) (segments : List (Option ℕ)) (number start : ℕ) (rs : List Raw) → listed_publics local segments (placed_from number start rs) ≡ publics_of local (recs rs, segments)
+listed-publics local segments number start [] = refl
+listed-publics local segments number start (r ∷ rs) =
+    ap (λ xs. publics_asked local segments r.kind (typed r).contents ++ xs) (listed-publics local segments (number + 1) (start + length (raw_bytes r)) rs)
 
--- the lines of the publics of records with their places
-abbrev pub listed_lines : ℕ → Places → List (Place × Rec) → List ℕ
-listed_lines number pl xs = flat_map (λ x. record_lines number pl x.1.kind x.1.contents) xs
+pub lines-more : (line : NamedAddress → List ℕ) (local : Bool) (segments : List (Option ℕ)) (left : List (Place × Rec)) (x : Place × Rec) (xs : List (Place × Rec)) → left ≡ x ∷ xs
+    → flat_map line (listed_publics local segments left) ≡ flat_map line (publics_asked local segments x.1.kind x.1.contents) ++ flat_map line (listed_publics local segments xs)
+lines-more line local segments left x xs e = ap (λ ys. flat_map line (listed_publics local segments ys)) e ∙ flat_map-append line (publics_asked local segments x.1.kind x.1.contents) (listed_publics local segments xs)
 
-pub listed-lines : (n : ℕ) (pl : Places) (number start : ℕ) (rs : List Raw) → listed_lines n pl (placed_from number start rs) ≡ public_lines (n, (recs rs, pl))
-listed-lines n pl number start [] = refl
-listed-lines n pl number start (r ∷ rs) = ap (λ t. record_lines n pl r.kind (typed r).contents ++ t) (listed-lines n pl (number + 1) (start + length (raw_bytes r)) rs)
+-- The next of several modules, with what belongs to it.
+pub next-pair : {B : Type 0} (ms : List Module) (bs : List B) (j : ℕ) (m : Module) (b : B) → m ≡ get_or ms j m → b ≡ get_or bs j b → j < length ms → length bs ≡ length ms
+    → drop j (zip (typed_modules ms) bs) ≡ (recs (records_in m.bytes), b) ∷ drop (j + 1) (zip (typed_modules ms) bs)
+next-pair [] bs j m b c d l e = absurd (omega (arith, l))
+next-pair (x ∷ ms) [] j m b c d l e = absurd (omega (arith, e))
+next-pair (x ∷ ms) (y ∷ bs) zero m b c d l e = ap₂ (λ u v. (recs (records_in u.bytes), v) ∷ zip (typed_modules ms) bs) (sym c) (sym d)
+next-pair (x ∷ ms) (y ∷ bs) (suc j) m b c d l e =
+    let same : suc (j + 1) ≡ suc j + 1 = omega arith in
+    next-pair ms bs j m b c d (omega (arith, l)) (omega (arith, e)) ∙ ap (λ n. (recs (records_in m.bytes), b) ∷ drop n (zip (typed_modules (x ∷ ms)) (y ∷ bs))) same
+
+pub no-pair : {B : Type 0} (ms : List Module) (bs : List B) (j : ℕ) → length ms ≤ j → drop j (zip (typed_modules ms) bs) ≡ []
+no-pair [] bs j h = drop-nil j
+no-pair (m ∷ ms) [] j h = drop-nil j
+no-pair (m ∷ ms) (b ∷ bs) zero h = absurd (omega (arith, h))
+no-pair (m ∷ ms) (b ∷ bs) (suc j) h = no-pair ms bs j (omega (arith, h))
+
+-- One value more of a list that is mapped, and no value left.
+pub one_mapped : {A B : Type 0} (f : A → B) (old new : List B) (x : A) (rest next : List A) (all : List B) → new ≡ old ++ f x ∷ [] → rest ≡ x ∷ next → old ++ map f rest ≡ all → new ++ map f next ≡ all
+one_mapped f old new x rest next all e left h = ap (λ t. t ++ map f next) e ∙ append_assoc old (f x ∷ []) (map f next) ∙ ap (λ l. old ++ map f l) (sym left) ∙ h
+
+pub no_more_mapped : {A B : Type 0} (f : A → B) (old : List B) (rest : List A) (all : List B) → rest ≡ [] → old ++ map f rest ≡ all → old ≡ all
+no_more_mapped f old rest all none h = sym (append-nil old) ∙ ap (λ l. old ++ map f l) (sym none) ∙ h

@@ -17,6 +17,8 @@ use Rattle.omf_cmd.specs.Reports.{of_check}
 use Rattle.omf_cmd.specs.Runs.{IsUnbroken}
 use Rattle.omf_cmd.specs.declared.fault.RunFault.TheVariants as run
 use Rattle.omf_linker.specs.Place.Drafts.{IsDrafted}
+use Rattle.omf_linker.specs.Suiting.{module_options}
+use Rattle.omf_linker.specs.declared.options.AskedOptions.{AskedOptions}
 use Rattle.omf_linker.specs.Place.Faults.{of_layout}
 use Rattle.omf_linker.specs.Place.Runs.{any, Drafts, IsDraftCause}
 use Rattle.omf_linker.specs.declared.place.fault.PlaceFault.{PlaceFault}
@@ -28,14 +30,14 @@ not-laid o m layout.Memory h = tt
 not-laid o m layout.NoRoom h = h
 
 -- there is no module
-pub not-checked : (o : Options) (input : List ℕ) (old new : Option (List ℕ)) (failed fails : ℕ) (e : CheckFault) → Decides any input (Err e) → IsCheckFault any old new failed fails e
+pub not-checked : (o : AskedOptions) (input : List ℕ) (old new : Option (List ℕ)) (failed fails : ℕ) (e : CheckFault) → Decides any input (Err e) → IsCheckFault any old new failed fails e
     → Drafts o input old new (Err (fault.Run (of_check e)))
 not-checked o input old new failed fails check.Memory d c = inl c
 not-checked o input old new failed fails check.Read d c = c.1
 not-checked o input old new failed fails (check.Refused why at) d c = (d, c)
 
 -- there is one, with these records
-pub is-drafted : (o : Options) (input : List ℕ) (rs : List Raw) (old new : Option (List ℕ)) (r : Result (List ℕ) PlaceFault) → IsReadFrom any input rs old new → IsDrafted o (recs rs) r → Drafts o input old new r
+pub is-drafted : (o : AskedOptions) (input : List ℕ) (rs : List Raw) (old new : Option (List ℕ)) (r : Result (List ℕ) PlaceFault) → IsReadFrom any input rs old new → IsDrafted (module_options (recs rs) o) (recs rs) r → Drafts o input old new r
 is-drafted o input rs old new (Ok text) read d = record { records = rs; read = read; draft = d }
 is-drafted o input rs old new (Err fault.NoRoom) read d = record { records = rs; read = read; none = d }
 is-drafted o input rs old new (Err (fault.Run run.Memory)) read d = inr (rs, read)

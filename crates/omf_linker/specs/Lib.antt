@@ -1,5 +1,6 @@
 pub mod Asked
 pub mod Options
+pub mod Suiting
 pub mod Drafting
 pub mod Map
 pub mod Link

@@ -14,3 +14,4 @@ pub mod place;
 pub mod rows;
 pub mod seen;
 mod spot;
+pub mod suiting;

@@ -2,7 +2,6 @@
 
 mod block;
 mod by_name;
-mod digits;
 mod fault;
 mod files;
 mod files_fault;
@@ -19,6 +18,7 @@ mod running;
 mod unresolved;
 mod words;
 
+pub(crate) use by_name::{External, Spot, external_at};
 pub use fault::ImageFault;
 pub(crate) use files::refused;
 pub use files::{file_front, files_text, run_files};

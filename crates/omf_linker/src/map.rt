@@ -11,9 +11,13 @@
 //! // external 1 1 00010042 "X"
 //! ```
 
+mod addresses;
+mod given;
 mod listing;
 mod printing;
+mod publics;
 pub mod rows;
 
+pub use given::given_text;
 pub use listing::map_text;
 pub(crate) use printing::print_digits;

@@ -6,12 +6,21 @@ ghost use Rattle.omf_cmd.specs.Words.{flag_text};
 ghost use Rattle.omf_linker.specs.Options.{base_id, base_named, flag_rule, flat_id, frames_named, options_named, real_id, value_rule, with_options};
 
 use clap::{Arg, ArgAction, ArgMatches, Command};
-use omf_layout::{Frames, Options};
+use omf_layout::Frames;
 use omf_placement::hexadecimal;
 use std::alloc::{AllocError, Global};
 
 /// The default base address.
 const BASE: u32 = 0x10000;
+
+/// The layout options that a command line gives.
+#[derive(Clone, Copy)]
+pub struct AskedOptions {
+    /// The lowest address: the first segment that is not absolute is at the first address of its alignment from here on.
+    pub base: u32,
+    /// The frames. None: those that suit the modules, real mode if they have no 32-bit segment.
+    pub frames: Option<Frames>,
+}
 
 /// Adds the layout options to a command: `--base` with an address, `--real`, and `--flat` with a selector. Numbers are hexadecimal.
 ///
@@ -45,9 +54,9 @@ fn real<'a>(alloc: Global) -> Arg<'a>
         .action(ArgAction::SetTrue)
 }
 
-/// Reads the layout options from the matches of a command of `with_options`. The default is base 10000H and a flat frame with selector 0.
+/// Reads the layout options from the matches of a command of `with_options`. The default is base 10000H and the frames that suit the modules.
 /// Returns `None` if a value is not such a number, or if both `--real` and `--flat` are given.
-pub fn options_in(matches: &ArgMatches<'_>) -> Option<Options>
+pub fn options_in(matches: &ArgMatches<'_>) -> Option<AskedOptions>
     ensures { (real : Bool) → one_of real_id (rows_of (found_of matches.now)) ≡ Some (flag_text real) → result ≡ options_named (first_of base_id (rows_of (found_of matches.now))) real (first_of flat_id (rows_of (found_of matches.now))) }
 {
     let base = base_named(matches.get_str("base"));
@@ -57,12 +66,12 @@ pub fn options_in(matches: &ArgMatches<'_>) -> Option<Options>
 }
 
 /// Builds the options, if both parts were read.
-fn options(base: Option<u32>, frames: Option<Frames>) -> Option<Options>
+fn options(base: Option<u32>, frames: Option<Option<Frames>>) -> Option<AskedOptions>
     ensures { result ≡ option_and_then (λ b. option_map (λ f. record { base = b; frames = f }) frames) base }
 {
     let base = base?;
     let frames = frames?;
-    Some(Options { base, frames })
+    Some(AskedOptions { base, frames })
 }
 
 /// The base address: 1 to 8 hexadecimal digits, 10000H by default.
@@ -75,8 +84,8 @@ fn base_named(word: Option<&str>) -> Option<u32>
     }
 }
 
-/// The frames: `--real`, or one flat frame with a selector of 1 to 4 hexadecimal digits, 0 by default.
-fn frames_named(real: bool, flat: Option<&str>) -> Option<Frames>
+/// The frames: `--real`, or one flat frame with a selector of 1 to 4 hexadecimal digits. Without either they are left open.
+fn frames_named(real: bool, flat: Option<&str>) -> Option<Option<Frames>>
     ensures { result ≡ frames_named real (option_map (λ w. w.now) flat.entry) }
 {
     match flat {
@@ -85,13 +94,13 @@ fn frames_named(real: bool, flat: Option<&str>) -> Option<Frames>
                 return None;
             }
             let selector = hexadecimal(word.as_bytes(), 4)? as u16;
-            Some(Frames::Flat { selector })
+            Some(Some(Frames::Flat { selector }))
         }
         None => {
             if real {
-                return Some(Frames::Real);
+                return Some(Some(Frames::Real));
             }
-            Some(Frames::Flat { selector: 0 })
+            Some(None)
         }
     }
 }

@@ -9,11 +9,12 @@ ghost use Rattle.omf_reloc.specs.Modules.{constant_public, local_public, using, 
 ghost use Rattle.omf_reloc.specs.declared.fault.Cause.TheVariants as cause;
 ghost use Rattle.omf_reloc.specs.declared.fault.Kind.TheVariants as kind;
 ghost use Rattle.omf_reloc.specs.declared.fault.ReachFault.TheVariants as reach;
+ghost use Rattle.omf_layout.specs.Several.Rows.{of_records, segment};
 ghost use Rattle.omf_layout.specs.declared.options.Frames.TheVariants.{Real, Flat};
 ghost use Rattle.omf_linking.specs.declared.fault.LinkFault.TheVariants as link;
 ghost use Rattle.omf_linking.specs.declared.locator.fault.LineFault.TheVariants as why;
-ghost use Rattle.omf_linking.specs.declared.space.fault.MemoryFault.TheVariants as space;
 ghost use Rattle.omf_linker.specs.Options.{options_named};
+ghost use Rattle.omf_linker.specs.Suiting.{options_for};
 ghost use Rattle.omf_linker.specs.Link.Files.{module_labels};
 ghost use Rattle.omf_linker.specs.Link.Named.{beyond_line, far_line, high_line, outside_line, overlap_line, starts_line};
 ghost use Rattle.omf_linker.specs.Link.Rows.{bytes_at, line_of, names_of, one_label, reach_shown, segment_of, spot_of, started_text, text_of, two_modules};
@@ -30,11 +31,20 @@ pub fn options_not_understood()
     ensures both { options_named None true (Some (codes "8")) ≡ None }
 {}
 
+/// The frames of modules where none are asked for: real mode for 16-bit segments (P bit 0), flat if one segment has 32 bits; else those that are asked for.
+pub fn frames_that_suit()
+    ensures none { (options_for [] (record { base = 0x7C00; frames = None })).frames ≡ Real }
+    ensures bits16 { (options_for (of_records (segment 0x28 5 2 2 ∷ []) ∷ []) (record { base = 0x7C00; frames = None })).frames ≡ Real }
+    ensures bits32 { (options_for (of_records (segment 0x28 5 2 2 ∷ []) ∷ of_records (segment 0x28 5 2 2 ∷ segment 0x29 5 2 2 ∷ []) ∷ []) (record { base = 0x7C00; frames = None })).frames ≡ Flat 0 }
+    ensures asked { (options_for (of_records (segment 0x29 5 2 2 ∷ []) ∷ []) (record { base = 0x7C00; frames = Some Real })).frames ≡ Real }
+    ensures base { (options_for [] (record { base = 0x7C00; frames = Some (Flat 8) })).base ≡ 0x7C00 }
+{}
+
 /// What arguments of `omf-place` ask for: none but the program's own name, a base in real mode, a base and a selector.
 pub fn place_asked()
-    ensures none { (program : Text) → AsksPlace (program ∷ []) (record { base = 0x10000; frames = Flat 0 }) }
-    ensures real { (program : Text) → AsksPlace (program ∷ codes "--base" ∷ codes "7C00" ∷ codes "--real" ∷ []) (record { base = 0x7C00; frames = Real }) }
-    ensures flat { (program : Text) → AsksPlace (program ∷ codes "--flat" ∷ codes "1b" ∷ codes "--base=401000" ∷ []) (record { base = 0x401000; frames = Flat 0x1B }) }
+    ensures none { (program : Text) → AsksPlace (program ∷ []) (record { base = 0x10000; frames = None }) }
+    ensures real { (program : Text) → AsksPlace (program ∷ codes "--base" ∷ codes "7C00" ∷ codes "--real" ∷ []) (record { base = 0x7C00; frames = Some Real }) }
+    ensures flat { (program : Text) → AsksPlace (program ∷ codes "--flat" ∷ codes "1b" ∷ codes "--base=401000" ∷ []) (record { base = 0x401000; frames = Some (Flat 0x1B) }) }
 {}
 
 /// Two bytes at 7C00H are one line, as is one byte at the last address. A run of 17 bytes is two lines.
@@ -50,7 +60,7 @@ pub fn texts_with_a_start()
     ensures none { started_text (bytes_at 0x7C00 (0xF4 ∷ []) ∷ []) None ≡ codes "00007C00: F4\n" }
 {}
 
-/// The line of each fault, by numbers. Modules are counted from 1.
+/// The line of each fault that is not about a module and its parts. Modules are counted from 1. Another fault has lines of its own.
 pub fn fault_lines()
     ensures memory { line_of link.Memory ≡ codes "memory" }
     ensures read { line_of link.Read ≡ codes "read" }
@@ -62,13 +72,8 @@ pub fn fault_lines()
     ensures unknown { line_of (link.Line 12 why.Unknown) ≡ codes "text line 12: names nothing" }
     ensures several { line_of (link.Line 2 why.Several) ≡ codes "text line 2: names more than one" }
     ensures again { line_of (link.Line 4 why.Twice) ≡ codes "text line 4: a second line for the same" }
-    ensures undefined { line_of (link.External (derive.Undefined 0 2)) ≡ codes "module 1 external 2 Undefined" }
-    ensures twice { line_of (link.External (derive.Twice 2 1)) ≡ codes "module 3 external 1 Twice" }
-    ensures high { line_of (link.External (derive.TooHigh 0 1)) ≡ codes "module 1 external 1 TooHigh" }
-    ensures reach { line_of (link.Reach 2 (reach.Missing kind.Segment 1)) ≡ codes "module 3 reach 1 Missing segment 1" }
-    ensures starts { line_of (link.Starts 0 2) ≡ codes "starts module 1 module 3" }
-    ensures beyond { line_of (link.Space (space.Beyond (segment_of 1 3))) ≡ codes "beyond module 2 segment 3" }
-    ensures overlap { line_of (link.Space (space.Overlap 0x10020 (segment_of 0 2) (segment_of 2 1))) ≡ codes "overlap 00010020 module 1 segment 2 module 3 segment 1" }
+    ensures external { line_of (link.External (derive.Undefined 0 2)) ≡ codes "not linked" }
+    ensures starts { line_of (link.Starts 0 2) ≡ codes "not linked" }
 {}
 
 /// The line of each fault about a module and its parts. The first of two modules is called by its file; each has a segment `T`, and an external
@@ -104,9 +109,9 @@ pub fn lines_of_names()
 pub fn link_asked()
     ensures image { (program : Text) → AsksLink (program ∷ codes "image" ∷ []) Image }
     ensures map { (program : Text) → AsksLink (program ∷ codes "map" ∷ []) Map }
-    ensures draft { (program : Text) → AsksLink (program ∷ codes "draft" ∷ []) (Draft (record { base = 0x10000; frames = Flat 0 })) }
-    ensures real { (program : Text) → AsksLink (program ∷ codes "draft" ∷ codes "--base" ∷ codes "7C00" ∷ codes "--real" ∷ []) (Draft (record { base = 0x7C00; frames = Real })) }
-    ensures flat { (program : Text) → AsksLink (program ∷ codes "draft" ∷ codes "--flat=1b" ∷ []) (Draft (record { base = 0x10000; frames = Flat 0x1B })) }
+    ensures draft { (program : Text) → AsksLink (program ∷ codes "draft" ∷ []) (Draft (record { base = 0x10000; frames = None })) }
+    ensures real { (program : Text) → AsksLink (program ∷ codes "draft" ∷ codes "--base" ∷ codes "7C00" ∷ codes "--real" ∷ []) (Draft (record { base = 0x7C00; frames = Some Real })) }
+    ensures flat { (program : Text) → AsksLink (program ∷ codes "draft" ∷ codes "--flat=1b" ∷ []) (Draft (record { base = 0x10000; frames = Some (Flat 0x1B) })) }
 {}
 
 /// Arguments without a subcommand, and arguments that clap refuses: another subcommand, two of them, an option of another subcommand.

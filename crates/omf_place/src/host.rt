@@ -21,9 +21,10 @@ reloc reads after the module. Without a file, or where it is -, it reads the sta
 input.
 
   --base ADDRESS   the address of the first segment, hexadecimal (default 10000)
-  --real           addresses for real mode, for 16-bit code
-  --flat SELECTOR  one frame with base 0 and this selector, hexadecimal; this is the
-                   default, with selector 0
+  --real           addresses for real mode; the default for a module without 32-bit
+                   segments
+  --flat SELECTOR  one frame with base 0 and this selector, hexadecimal; the default
+                   for other modules, with selector 0
 
 omf-place(1) and docs/PLACEMENT.md have more.
 ",

@@ -19,6 +19,7 @@ use Rattle.omf_output.specs.Exe.Linked.{IsExeFault, linked, linked_at}
 use Rattle.omf_output.specs.Exe.Loading.{loaded}
 use Rattle.omf_output.specs.Exe.Members.{Member, portions, stack}
 use Rattle.omf_output.specs.Exe.Moved.{Movers}
+use Rattle.omf_linker.specs.Map.Addresses.{addressed}
 use Rattle.omf_linker.specs.Map.MapText.{map_text}
 use Rattle.omf_linker.specs.declared.exe.fault.ComProgramFault.{ComProgramFault}
 use Rattle.omf_linker.specs.declared.exe.fault.ComProgramFault.TheVariants as no_com
@@ -72,7 +73,7 @@ pub record IsMapOf (ms : List Module) (text : List ℕ) : Type 0 where
   pub placements : List Places
   pub laid : AreLaid ms places
   pub derived : derived (placed_modules ms places) [] ≡ Ok placements
-  pub printed : text ≡ map_text (placed_modules ms placements)
+  pub printed : text ≡ map_text (addressed (typed_modules ms) placements)
 
 -- Why modules are no program: a segment does not end below 2^20; an external has no place; or the modules so placed have a fault. Memory may run out at any time.
 pub record IsExternalFault (ms : List Module) (f : DeriveFault) : Type 0 where

@@ -1,10 +1,7 @@
 -- The faults of `omf-link`: the lines by names, the printed line, and what is reported (a rule of this profile).
 use Rattle.std.specs.Prelude.{◌≡◌, ◌⊎◌, ℕ, ◌+◌, Bool, true, false, List, [], ◌∷◌, ◌++◌, flat_map, codes, decimal}
-use Rattle.omf_placement.specs.declared.several.fault.DeriveFault.{DeriveFault}
 use Rattle.omf_placement.specs.declared.several.fault.DeriveFault.TheVariants as derive
-use Rattle.omf_linking.specs.declared.space.fault.MemoryFault.{MemoryFault}
 use Rattle.omf_linking.specs.declared.space.fault.MemoryFault.TheVariants as space
-use Rattle.omf_linking.specs.declared.space.stretch.Owner.{Owner}
 use Rattle.omf_placement.specs.Entries.{in_words}
 use Rattle.omf_records.specs.Values.{Rec}
 use Rattle.omf_linking.specs.declared.fault.LinkFault.{LinkFault}
@@ -12,7 +9,6 @@ use Rattle.omf_linking.specs.declared.fault.LinkFault.TheVariants as link
 use Rattle.omf_linking.specs.declared.locator.fault.LineFault.{LineFault}
 use Rattle.omf_linking.specs.declared.locator.fault.LineFault.TheVariants as why
 use Rattle.omf_cmd.specs.FaultLine.{fault_words as run_words}
-use Rattle.omf_placement.specs.Quoted.{hex}
 use Rattle.omf_cmd.specs.Programs.{FaultReport}
 use Rattle.omf_cmd.specs.declared.fault.RunFault.TheVariants as run
 use Rattle.omf_linker.specs.Link.Named.{HasLines}
@@ -44,27 +40,6 @@ IsNamed labels ms text f _ = ⊥
 abbrev pub module_words : ℕ → List (List ℕ)
 module_words j = codes "module" ∷ decimal (j + 1) ∷ []
 
--- A segment of a module.
-abbrev pub owner_words : Owner → List (List ℕ)
-owner_words o = module_words o.«module» ++ codes "segment" ∷ decimal o.segment ∷ []
-
--- An external without a place, and why.
-abbrev pub external_words : ℕ → ℕ → List ℕ → List (List ℕ)
-external_words j i why = module_words j ++ codes "external" ∷ decimal i ∷ why ∷ []
-
--- The line of an external's fault.
-abbrev pub derive_words : DeriveFault → List (List ℕ)
-derive_words derive.Memory = run_words run.Memory
-derive_words (derive.Undefined j i) = external_words j i (codes "Undefined")
-derive_words (derive.Twice j i) = external_words j i (codes "Twice")
-derive_words (derive.TooHigh j i) = external_words j i (codes "TooHigh")
-
--- The line of segments that do not fit into one memory.
-abbrev pub space_words : MemoryFault → List (List ℕ)
-space_words space.Memory = run_words run.Memory
-space_words (space.Beyond o) = codes "beyond" ∷ owner_words o
-space_words (space.Overlap a s t) = codes "overlap" ∷ hex 8 a ∷ owner_words s ++ owner_words t
-
 -- What follows the modules and is no text: its offset in the input.
 abbrev pub input_at : ℕ → List ℕ
 input_at at = codes "input at " ++ decimal at
@@ -80,8 +55,11 @@ why_text why.Unknown = codes ": names nothing"
 why_text why.Several = codes ": names more than one"
 why_text why.Twice = codes ": a second line for the same"
 
--- The line of a link fault, by the numbers of modules and their parts. Refusals and placements that do not reach have the words of `omf`, after the number of
--- their module.
+-- A fault about a module and its parts has lines of its own, by their names.
+abbrev pub not_linked : List (List ℕ)
+not_linked = codes "not linked" ∷ []
+
+-- The line of any other link fault. Refusals have the words of `omf`, after the number of their module.
 abbrev pub link_words : LinkFault → List (List ℕ)
 link_words link.Memory = run_words run.Memory
 link_words link.Read = run_words run.Read
@@ -89,10 +67,10 @@ link_words (link.Refused j why at) = module_words j ++ run_words (run.Refused wh
 link_words (link.NoText at) = (input_at at ++ codes ": no module and no text") ∷ []
 link_words link.NoModules = codes "no modules" ∷ []
 link_words (link.Line n why) = (text_line n ++ why_text why) ∷ []
-link_words (link.External f) = derive_words f
-link_words (link.Reach j f) = module_words j ++ run_words (run.Reach f)
-link_words (link.Starts j k) = codes "starts" ∷ module_words j ++ module_words k
-link_words (link.Space f) = space_words f
+link_words (link.External f) = not_linked
+link_words (link.Reach j f) = not_linked
+link_words (link.Starts j k) = not_linked
+link_words (link.Space f) = not_linked
 
 -- The line if a draft has no room, as for `omf-place`.
 abbrev pub no_room : List ℕ

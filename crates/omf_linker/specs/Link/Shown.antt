@@ -11,6 +11,7 @@ use Rattle.omf_linker.specs.Link.Linked.{any, IsLinked}
 use Rattle.omf_linker.specs.Link.Mapped.{IsMapped}
 use Rattle.omf_linker.specs.Link.Rom.{IsRom}
 use Rattle.omf_linker.specs.Link.Named.{HasLines}
+use Rattle.omf_linker.specs.Suiting.{options_for}
 use Rattle.omf_linker.specs.declared.link.fault.ImageFault.{ImageFault}
 use Rattle.omf_linker.specs.declared.link.fault.ImageFault.TheVariants as fault
 use Rattle.omf_linker.specs.declared.link.words.Task.{Task}
@@ -28,8 +29,8 @@ IsNamedAs Is labels ms text (Err _) = ⊥
 abbrev pub AreShown : Task → List (List ℕ) → List (List Rec) → List ℕ → Result (List ℕ) ImageFault → Type 0
 AreShown task.Image labels ms text r = IsNamedAs (IsLinked ms text) labels ms text r
 AreShown (task.Rom f) labels ms text r = IsRom f labels ms text r
-AreShown task.Map labels ms text r = IsNamedAs (IsMapped ms text) labels ms text r
-AreShown (task.Draft o) labels ms text r = IsDrafted o ms r
+AreShown task.Map labels ms text r = IsNamedAs (IsMapped labels ms text) labels ms text r
+AreShown (task.Draft o) labels ms text r = IsDrafted (options_for ms o) ms r
 
 -- An input is modules and a link text, and this is the result for them. The modules have no labels: a fault counts them.
 pub record AreShownIn (t : Task) (input : List ℕ) (r : Result (List ℕ) ImageFault) : Type 0 where

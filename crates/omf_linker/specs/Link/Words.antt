@@ -1,7 +1,7 @@
 -- What the arguments of `omf-link` ask for (a rule of this profile), stated over clap's own definitions.
 use Rattle.std.specs.Prelude.{◌≡◌, ◌⊎◌, List, [], Option, Some, None, IfSome, codes}
 use Rattle.clap.specs.Words.{App, Row, Text, fault_of, new_app, subcommand_of, with_subcommand}
-use Rattle.omf_layout.specs.declared.options.Options.{Options}
+use Rattle.omf_linker.specs.declared.options.AskedOptions.{AskedOptions}
 use Rattle.omf_linker.specs.Options.{AreNamed, NameOnly, with_options}
 use Rattle.omf_linker.specs.Link.FormWords.{IsFormNamed, with_addresses, with_chip}
 use Rattle.omf_linker.specs.declared.link.words.Task.{Task}
@@ -14,7 +14,7 @@ link_app =
     (with_chip (new_app (codes "bin"))).top) (with_addresses (new_app (codes "hex"))).top) (with_addresses (new_app (codes "srec"))).top) (with_options (new_app (codes "draft"))).top
 
 -- A subcommand and the arguments after it, as clap parsed them, give a task. `named` relates these arguments to the options.
-abbrev pub NamesBy : (List Row → Options → Type 0) → Text → List Row → Task → Type 0
+abbrev pub NamesBy : (List Row → AskedOptions → Type 0) → Text → List Row → Task → Type 0
 NamesBy named name rows task.Image = name ≡ codes "image"
 NamesBy named name rows (task.Rom f) = IsFormNamed name rows f
 NamesBy named name rows task.Map = name ≡ codes "map"
@@ -25,11 +25,11 @@ abbrev pub IsTask : Text → List Row → Task → Type 0
 IsTask = NamesBy AreNamed
 
 -- What clap parsed gives a task.
-abbrev pub IsNamedIn : (List Row → Options → Type 0) → Option (Text × List Row) → Task → Type 0
+abbrev pub IsNamedIn : (List Row → AskedOptions → Type 0) → Option (Text × List Row) → Task → Type 0
 IsNamedIn named parse asked = (name : Text) × (rows : List Row) × (parse ≡ Some (name, rows)) × NamesBy named name rows asked
 
 -- The arguments ask for a task: clap finds no fault in them, and the subcommand that it parsed gives the task.
-pub record AsksBy (named : List Row → Options → Type 0) (words : List Text) (asked : Task) : Type 0 where
+pub record AsksBy (named : List Row → AskedOptions → Type 0) (words : List Text) (asked : Task) : Type 0 where
   pub name : Text
   pub rows : List Row
   pub sound : fault_of link_app words ≡ []

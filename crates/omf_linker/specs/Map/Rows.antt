@@ -1,13 +1,24 @@
 -- Definitions for the worked examples.
-use Rattle.std.specs.Prelude.{ℕ, List, [], ◌∷◌, ◌++◌, flat_map}
+use Rattle.std.specs.Prelude.{ℕ, List, [], ◌∷◌, ◌++◌, flat_map, map, Option}
 use Rattle.omf_check.specs.Rows.{H, N, S, M}
+use Rattle.omf_linking.specs.Locator.Sparse.{Sparse}
 use Rattle.omf_placement.specs.Placement.{Places}
-use Rattle.omf_reloc.specs.Rows.{joined}
+use Rattle.omf_placement.specs.declared.frame.Placed.{Placed}
+use Rattle.omf_reloc.specs.Modules.{module_of}
+use Rattle.omf_linker.specs.Map.Addresses.{addressed_by, addresses_of}
 use Rattle.omf_linker.specs.Map.MapText.{map_text}
 
 -- The map of modules, by their bytes.
 abbrev pub map_of : List (List ℕ × Places) → List ℕ
-map_of ms = map_text (joined ms)
+map_of ms = map_text (map (λ m. (module_of m.0, addresses_of m.1)) ms)
+
+-- The map of modules, by what a text gives them.
+abbrev pub map_by : List (List ℕ) → List Sparse → List ℕ
+map_by ms ss = map_text (addressed_by (map module_of ms) ss)
+
+-- A text gives a module these places.
+abbrev pub gives : List (Option Placed) → List (Option Placed) → Sparse
+gives segments externals = record { segments = segments; groups = []; externals = externals }
 
 -- A text of these lines.
 abbrev pub lines : List (List ℕ) → List ℕ

@@ -1,15 +1,13 @@
 //! Lines of a memory on the way to a writer.
 
-ghost use Rattle.std.specs.Prelude.{◌≡◌, ◌+◌, ◌*◌, ◌≤◌, [], ◌++◌, flat_map, length, Ok, OnOk};
+ghost use Rattle.std.specs.Prelude.{◌≡◌, ◌+◌, ◌*◌, ◌≤◌, [], ◌++◌, length, Ok, OnOk};
 ghost use Rattle.omf_cmd.specs.Inner.RunLines.{line_text};
-ghost use Rattle.omf_cmd.specs.Relocated.{byte_text};
 ghost use Rattle.omf_cmd.specs.Runs.{PrintsOr};
 ghost use Rattle.omf_cmd.specs.declared.fault.RunFault.TheVariants.{Write};
 ghost use Rattle.omf_linker.specs.Inner.Blocks.{Passes};
 ghost use Rattle.omf_linker.specs.Link.MemoryText.{address_text};
 
-use crate::link::digits::two_digits;
-use omf_cmd::{RunFault, eight_digits, print_all};
+use omf_cmd::{RunFault, eight_digits, print_all, write_bytes};
 use omf_frame::Sink;
 use std::marker::Model;
 
@@ -27,19 +25,6 @@ fn write_address(text: &mut [u8], address: u32)
     let (digits, colon) = text.split_at_mut(8);
     digits.copy_from_slice(&eight_digits(address));
     colon.copy_from_slice(b":");
-}
-
-/// Writes each byte as a space and two hexadecimal digits. The text is three times as long as the bytes.
-fn write_bytes(text: &mut [u8], bytes: &[u8])
-    requires { length text.old ≡ 3 * length bytes.now }
-    ensures { text.new ≡ flat_map byte_text bytes.now }
-{
-    for i in 0..bytes.len() {
-        let [high, low] = two_digits(bytes[i]);
-        text[3 * i] = b' ';
-        text[3 * i + 1] = high;
-        text[3 * i + 2] = low;
-    }
 }
 
 /// Writes a line over a text of its length: the address of its first byte, and its bytes.

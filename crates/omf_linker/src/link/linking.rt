@@ -1,15 +1,17 @@
 //! The memory image of several modules as text, and their map.
 
-ghost use Rattle.std.specs.Prelude.{◌≡◌, ◌<◌, ◌^◌, IfOk, length, string_bytes};
+ghost use Rattle.std.specs.Prelude.{◌≡◌, ◌<◌, ◌^◌, IfOk, length, map, string_bytes};
 ghost use Rattle.omf_records.specs.Inner.Seen.{map_ok};
 ghost use Rattle.omf_check.specs.Module.{typed_modules};
 ghost use Rattle.omf_linker.specs.Link.Linked.{AreLinked, IsLinked};
 ghost use Rattle.omf_linker.specs.Link.Mapped.{IsMapped};
 
 use crate::link::output::Output;
-use crate::map::map_text;
+use crate::link::unresolved::unresolved_text;
+use crate::map::given_text;
 use omf_check::Checked;
 use omf_image::Image;
+use omf_linking::locator::sparse_places;
 use omf_linking::{LinkFault, Relocated, link, memory_image, relocate_all, start_of};
 use omf_placement::Placement;
 use std::alloc::Global;
@@ -100,16 +102,24 @@ pub fn modules_text(alloc: Global, modules: &[Checked], text: &[u8]) -> Result<O
     }
 }
 
-/// The map of modules at the placements that a link text gives them, whether these reach or not.
+/// The map of modules at the addresses that a link text gives them, as `given_text` prints it, and after it the lines of `unresolved_text`: one for each
+/// name that an external asks for and no public or more than one has. The text need not give each entry a place.
 ///
 /// # Errors
 ///
-/// `Line`, `Reach` and `External` if the text gives no placements, as in `link`. `Memory` if memory runs out.
-pub fn modules_map(alloc: Global, modules: &[Checked], text: &[u8]) -> Result<String, LinkFault>
+/// `Line` for the first line of the text that does not fit, as in `sparse_places`. `Memory` if memory runs out.
+pub fn modules_map(
+    alloc: Global,
+    labels: &[String],
+    modules: &[Checked],
+    text: &[u8],
+) -> Result<String, LinkFault>
     requires { length modules.now < 2 ^ 32 }
-    ensures { IsMapped (typed_modules modules.now) text.now (map_ok (λ shown. string_bytes shown) result) }
+    ensures { IsMapped (map string_bytes labels.now) (typed_modules modules.now) text.now (map_ok (λ shown. string_bytes shown) result) }
 {
-    let placements = link(alloc, modules, text)?;
-    let shown = map_text(alloc, modules, &placements)?;
+    let given = sparse_places(alloc, modules, text)?;
+    let mut shown = given_text(alloc, modules, &given)?;
+    let unresolved = unresolved_text(alloc, labels, modules, &given)?;
+    shown.push_str(unresolved.as_str())?;
     Ok(shown)
 }

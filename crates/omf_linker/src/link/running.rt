@@ -10,6 +10,7 @@ ghost use Rattle.omf_linker.specs.Link.Mapped.{IsMapped};
 ghost use Rattle.omf_linker.specs.Link.Rom.{IsRom};
 ghost use Rattle.omf_linker.specs.Link.Runs.{IsRun, IsShowCause, Shows};
 ghost use Rattle.omf_linker.specs.Link.Shown.{AreShown, IsNamedAs, IsShownOf};
+ghost use Rattle.omf_linker.specs.Suiting.{options_for};
 
 use crate::drafting::link_draft;
 use crate::lines::Labeled;
@@ -19,6 +20,8 @@ use crate::link::naming::named;
 use crate::link::output::Output;
 use crate::link::rom::file_at;
 use crate::link::words::Task;
+use crate::options::AskedOptions;
+use crate::suiting::options_for;
 use omf_check::{Checked, Profile};
 use omf_frame::{Sink, Source};
 use omf_layout::{LayoutFault, Options};
@@ -74,9 +77,9 @@ fn file_shown(
 /// The text of `modules_map`, or the first fault with its lines.
 fn map_shown(alloc: Global, labeled: Labeled<'_>, text: &[u8]) -> Result<Vec<u8>, ImageFault>
     requires { length labeled.modules.now < 2 ^ 32 }
-    ensures { IsNamedAs (IsMapped (typed_modules labeled.entry.modules.now) text.now) (map string_bytes labeled.entry.labels.now) (typed_modules labeled.entry.modules.now) text.now (map_ok (λ shown. shown.items) result) }
+    ensures { IsNamedAs (IsMapped (map string_bytes labeled.entry.labels.now) (typed_modules labeled.entry.modules.now) text.now) (map string_bytes labeled.entry.labels.now) (typed_modules labeled.entry.modules.now) text.now (map_ok (λ shown. shown.items) result) }
 {
-    match modules_map(alloc, labeled.modules, text) {
+    match modules_map(alloc, labeled.labels, labeled.modules, text) {
         Ok(shown) => Ok(shown.into_bytes()),
         Err(fault) => Err(named(alloc, labeled, text, fault)),
     }
@@ -91,6 +94,21 @@ fn draft_shown(alloc: Global, modules: &[Checked], options: Options) -> Result<V
         Ok(shown) => Ok(shown.into_bytes()),
         Err(LayoutFault::NoRoom) => Err(ImageFault::NoRoom),
         Err(LayoutFault::Memory) => Err(ImageFault::Link(LinkFault::Memory)),
+    }
+}
+
+/// The draft of a link text for modules, with the frames that are asked for, or else those that suit the modules.
+fn draft_asked(
+    alloc: Global,
+    modules: &[Checked],
+    asked: AskedOptions,
+) -> Result<Vec<u8>, ImageFault>
+    requires { length modules.now < 2 ^ 32 }
+    ensures { IsDrafted (options_for (typed_modules modules.now) asked) (typed_modules modules.now) (map_ok (λ shown. shown.items) result) }
+{
+    match options_for(alloc, modules, asked) {
+        Ok(options) => draft_shown(alloc, modules, options),
+        Err(AllocError) => Err(ImageFault::Link(LinkFault::Memory)),
     }
 }
 
@@ -123,7 +141,7 @@ pub(crate) fn shown_at(
         Task::Image => image_shown(alloc, labeled, text),
         Task::Rom(form) => file_shown(alloc, form, labeled, text),
         Task::Map => made(alloc, map_shown(alloc, labeled, text)),
-        Task::Draft(options) => made(alloc, draft_shown(alloc, labeled.modules, options)),
+        Task::Draft(asked) => made(alloc, draft_asked(alloc, labeled.modules, asked)),
     }
 }
 

@@ -3,7 +3,7 @@
 ghost use Rattle.std.specs.Prelude.{◌≡◌, List, codes, map, string_bytes, IfOk, IfSome, Some, None, true, false};
 ghost use Rattle.std.specs.Str.{bytes_eq};
 ghost use Rattle.clap.specs.Words.{Row, Text, app_of, found_of, rows_of, subcommand_rows_of};
-ghost use Rattle.omf_layout.specs.declared.options.Options.{Options as At};
+ghost use Rattle.omf_linker.specs.declared.options.AskedOptions.{AskedOptions as At};
 ghost use Rattle.omf_output.specs.declared.rom.form.Form.{Form as AskedForm};
 ghost use Rattle.omf_linker.specs.Options.{AreNamed, NameOnly};
 ghost use Rattle.omf_linker.specs.Link.FormWords.{IsFormNamed};
@@ -12,10 +12,9 @@ ghost use Rattle.omf_linker.specs.declared.link.words.Task.{Task as Asked};
 ghost use Rattle.omf_linker.specs.declared.link.words.Task.TheVariants.{Image, Map, Draft, Rom};
 
 use crate::link::form_words::{form_named, with_addresses, with_chip};
-use crate::options::{options_in, with_options};
+use crate::options::{AskedOptions, options_in, with_options};
 use clap::{ArgMatches, Command};
 use omf_cmd::read_words;
-use omf_layout::Options;
 use omf_output::rom::Form;
 use std::alloc::{AllocError, Global};
 
@@ -29,7 +28,7 @@ pub enum Task {
     /// Write the map of the modules at these placements.
     Map,
     /// Write the draft of a link text for the modules.
-    Draft(Options),
+    Draft(AskedOptions),
 }
 
 /// The task that the arguments ask for, the program's own name first: a subcommand, followed by its options. Returns `None` if

@@ -1,15 +1,17 @@
 //! The map of several modules.
 
-ghost use Rattle.std.specs.Prelude.{◌≡◌, ◌+◌, IfOk, length, flat_map, option_map, string_bytes};
+ghost use Rattle.std.specs.Prelude.{◌≡◌, ◌∷◌, IfOk, length, flat_map, map, string_bytes, false, zip};
 ghost use Rattle.std.specs.List.{enumerate_from};
 ghost use Rattle.omf_frame.specs.Bytes.{AddsText};
 ghost use Rattle.omf_records.specs.Inner.Seen.{contents_seen, kind_seen};
-ghost use Rattle.omf_check.specs.Module.{recs_of};
-ghost use Rattle.omf_placement.specs.Derive.{placed_modules};
-ghost use Rattle.omf_linker.specs.Map.MapText.{address_at, base_at, external_lines, map_text, public_line, public_lines, record_lines, segment_line, segment_lines};
+ghost use Rattle.omf_check.specs.Module.{recs_of, typed_modules};
+ghost use Rattle.omf_linker.specs.Map.Addresses.{addressed, addresses_of, public_at, publics_asked, publics_at};
+ghost use Rattle.omf_linker.specs.Map.MapText.{external_lines, map_text, public_line, public_lines, segment_line, segment_lines};
 ghost use Rattle.omf_linker.specs.Inner.Steps.{part_lines};
 
+use crate::map::addresses::Addresses;
 use crate::map::printing::{print_external, print_public, print_segment};
+use crate::map::publics::{offset_from, publics_in};
 use omf_check::{Checked, SegInfo};
 use omf_placement::Placement;
 use omf_records::{At, Items, Public, Rec};
@@ -26,38 +28,18 @@ enum Part {
     Externals,
 }
 
-/// Returns the address of a segment, by its index from 1; none if it has no place.
-fn segment_address(placement: &Placement, index: u16) -> Option<u64>
-    ensures { result ≡ address_at placement.now.segments index }
-{
-    match placement.segment(usize::from(index)) {
-        Some(place) => Some(u64::from(place.address)),
-        None => None,
-    }
-}
-
-/// Returns the address of an external, by its index from 1; none if it has no place.
-fn external_address(placement: &Placement, index: u16) -> Option<u64>
-    ensures { result ≡ address_at placement.now.externals index }
-{
-    match placement.external(usize::from(index)) {
-        Some(place) => Some(u64::from(place.address)),
-        None => None,
-    }
-}
-
 /// Prints a segment's line.
 fn print_segment_of(
     text: &mut String,
     number: usize,
     index: u16,
     module: &Checked,
-    placement: &Placement,
+    addresses: &Addresses,
     segment: SegInfo,
 ) -> Result<(), AllocError>
-    ensures { AddsText result (string_bytes text.old) (string_bytes text.new) (segment_line number (recs_of «module».now.bytes, placement.now) (index, segment)) }
+    ensures { AddsText result (string_bytes text.old) (string_bytes text.new) (segment_line number (recs_of «module».now.bytes, addresses.now) (index, segment)) }
 {
-    let address = segment_address(placement, index);
+    let address = addresses.segment(index);
     let name = module.name(segment.name);
     let class = module.name(segment.class);
     print_segment(text, number, index, address, segment.length, name, class)
@@ -68,44 +50,18 @@ fn print_segments(
     text: &mut String,
     number: usize,
     module: &Checked,
-    placement: &Placement,
+    addresses: &Addresses,
 ) -> Result<(), AllocError>
-    ensures { AddsText result (string_bytes text.old) (string_bytes text.new) (segment_lines (number, (recs_of «module».now.bytes, placement.now))) }
+    ensures { AddsText result (string_bytes text.old) (string_bytes text.new) (segment_lines (number, (recs_of «module».now.bytes, addresses.now))) }
 {
     for before in 0..module.segments() {
         let index = before + 1;
         let Some(segment) = module.segment(index) else {
             unreachable!()
         };
-        print_segment_of(text, number, index, module, placement, segment)?;
+        print_segment_of(text, number, index, module, addresses, segment)?;
     }
     Ok(())
-}
-
-/// Returns the base address of a PUBDEF's publics: that of its segment, or that of its base frame if it names none.
-fn base_address(placement: &Placement, segment: u16, frame: Option<u16>) -> Option<u32>
-    ensures { result ≡ base_at placement.now segment frame }
-{
-    if segment == 0 {
-        return match frame {
-            Some(number) => Some(16 * u32::from(number)),
-            None => None,
-        };
-    }
-    match placement.segment(usize::from(segment)) {
-        Some(place) => Some(place.address),
-        None => None,
-    }
-}
-
-/// Returns the address at an offset from a base, if there is one.
-fn offset_from(base: Option<u32>, offset: u32) -> Option<u64>
-    ensures { result ≡ option_map (λ b. b + offset) base }
-{
-    match base {
-        Some(base) => Some(u64::from(base) + u64::from(offset)),
-        None => None,
-    }
 }
 
 /// Prints the line of a public at its offset from a base.
@@ -115,7 +71,7 @@ fn print_item(
     base: Option<u32>,
     public: &At<Public<'_>>,
 ) -> Result<(), AllocError>
-    ensures { AddsText result (string_bytes text.old) (string_bytes text.new) (public_line number base public.now) }
+    ensures { AddsText result (string_bytes text.old) (string_bytes text.new) (public_line number (public_at base public.now)) }
 {
     let item = &public.item;
     print_public(text, number, offset_from(base, item.offset), item.name.0)
@@ -126,11 +82,11 @@ fn print_items(
     text: &mut String,
     number: usize,
     base: Option<u32>,
-    publics: &Items<Public<'_>>,
+    publics: Items<Public<'_>>,
 ) -> Result<(), AllocError>
-    ensures { AddsText result (string_bytes text.old) (string_bytes text.new) (flat_map (public_line number base) publics.now) }
+    ensures { AddsText result (string_bytes text.old) (string_bytes text.new) (flat_map (public_line number) (publics_at base publics.entry)) }
 {
-    for public in publics.iter() {
+    for public in publics {
         print_item(text, number, base, &public)?;
     }
     Ok(())
@@ -140,22 +96,15 @@ fn print_items(
 fn print_record(
     text: &mut String,
     number: usize,
-    placement: &Placement,
+    addresses: &Addresses,
     rec: &Rec<'_>,
 ) -> Result<(), AllocError>
-    ensures { AddsText result (string_bytes text.old) (string_bytes text.new) (record_lines number placement.now (kind_seen rec.now) (contents_seen rec.now)) }
+    ensures { AddsText result (string_bytes text.old) (string_bytes text.new) (flat_map (public_line number) (publics_asked false addresses.now.segments (kind_seen rec.now) (contents_seen rec.now))) }
 {
-    let Rec::Publics {
-        segment,
-        frame,
-        publics,
-        ..
-    } = rec
-    else {
-        return Ok(());
-    };
-    let base = base_address(placement, segment.item.0, *frame);
-    print_items(text, number, base, publics)
+    match publics_in(false, rec, addresses.segments()) {
+        Some((base, publics)) => print_items(text, number, base, publics),
+        None => Ok(()),
+    }
 }
 
 /// Prints a line for each public of a module that is not local.
@@ -163,12 +112,12 @@ fn print_publics(
     text: &mut String,
     number: usize,
     module: &Checked,
-    placement: &Placement,
+    addresses: &Addresses,
 ) -> Result<(), AllocError>
-    ensures { AddsText result (string_bytes text.old) (string_bytes text.new) (public_lines (number, (recs_of «module».now.bytes, placement.now))) }
+    ensures { AddsText result (string_bytes text.old) (string_bytes text.new) (public_lines (number, (recs_of «module».now.bytes, addresses.now))) }
 {
     for (_, rec) in module.records() {
-        print_record(text, number, placement, &rec)?;
+        print_record(text, number, addresses, &rec)?;
     }
     Ok(())
 }
@@ -178,16 +127,16 @@ fn print_externals(
     text: &mut String,
     number: usize,
     module: &Checked,
-    placement: &Placement,
+    addresses: &Addresses,
 ) -> Result<(), AllocError>
-    ensures { AddsText result (string_bytes text.old) (string_bytes text.new) (external_lines (number, (recs_of «module».now.bytes, placement.now))) }
+    ensures { AddsText result (string_bytes text.old) (string_bytes text.new) (external_lines (number, (recs_of «module».now.bytes, addresses.now))) }
 {
     for before in 0..module.externals() {
         let index = before + 1;
         let Some(name) = module.external(index) else {
             unreachable!()
         };
-        let address = external_address(placement, index);
+        let address = addresses.external(index);
         print_external(text, number, index, address, name.0)?;
     }
     Ok(())
@@ -199,14 +148,14 @@ fn print_module(
     part: Part,
     number: usize,
     module: &Checked,
-    placement: &Placement,
+    addresses: &Addresses,
 ) -> Result<(), AllocError>
-    ensures { AddsText result (string_bytes text.old) (string_bytes text.new) (part_lines part (number, (recs_of «module».now.bytes, placement.now))) }
+    ensures { AddsText result (string_bytes text.old) (string_bytes text.new) (part_lines part (number, (recs_of «module».now.bytes, addresses.now))) }
 {
     match part {
-        Part::Segments => print_segments(text, number, module, placement),
-        Part::Publics => print_publics(text, number, module, placement),
-        Part::Externals => print_externals(text, number, module, placement),
+        Part::Segments => print_segments(text, number, module, addresses),
+        Part::Publics => print_publics(text, number, module, addresses),
+        Part::Externals => print_externals(text, number, module, addresses),
     }
 }
 
@@ -215,15 +164,47 @@ fn print_part(
     text: &mut String,
     part: Part,
     modules: &[Checked],
-    placements: &[Placement],
+    addresses: &[Addresses],
 ) -> Result<(), AllocError>
-    requires { length placements.now ≡ length modules.now }
-    ensures { AddsText result (string_bytes text.old) (string_bytes text.new) (flat_map (part_lines part) (enumerate_from 1 (placed_modules modules.now placements.now))) }
+    requires { length addresses.now ≡ length modules.now }
+    ensures { AddsText result (string_bytes text.old) (string_bytes text.new) (flat_map (part_lines part) (enumerate_from 1 (zip (typed_modules modules.now) addresses.now))) }
 {
     for (j, module) in modules.iter().enumerate() {
-        print_module(text, part, j + 1, module, &placements[j])?;
+        print_module(text, part, j + 1, module, &addresses[j])?;
     }
     Ok(())
+}
+
+/// Returns the map of modules by their addresses, in the form of `map_text`.
+///
+/// # Errors
+///
+/// Out of memory.
+pub(crate) fn addressed_text(
+    alloc: Global,
+    modules: &[Checked],
+    addresses: &[Addresses],
+) -> Result<String, AllocError>
+    requires { length addresses.now ≡ length modules.now }
+    ensures { IfOk result (λ text. string_bytes text ≡ map_text (zip (typed_modules modules.now) addresses.now)) }
+{
+    let mut text = String::new(alloc);
+    print_part(&mut text, Part::Segments, modules, addresses)?;
+    print_part(&mut text, Part::Publics, modules, addresses)?;
+    print_part(&mut text, Part::Externals, modules, addresses)?;
+    Ok(text)
+}
+
+/// Returns the addresses of modules at their placements.
+fn addresses_of_all(alloc: Global, placements: &[Placement]) -> Result<Vec<Addresses>, AllocError>
+    ensures addresses { IfOk result (λ v. v.items ≡ map addresses_of placements.now) }
+    ensures each { IfOk result (λ v. length v.items ≡ length placements.now) }
+{
+    let mut addresses = Vec::new(alloc);
+    for placement in placements {
+        addresses.push(Addresses::of(alloc, placement)?)?;
+    }
+    Ok(addresses)
 }
 
 /// Returns the map of modules at their placements, with the addresses of their segments, publics and externals:
@@ -247,11 +228,8 @@ pub fn map_text(
     placements: &[Placement],
 ) -> Result<String, AllocError>
     requires { length placements.now ≡ length modules.now }
-    ensures { IfOk result (λ text. string_bytes text ≡ map_text (placed_modules modules.now placements.now)) }
+    ensures { IfOk result (λ text. string_bytes text ≡ map_text (addressed (typed_modules modules.now) placements.now)) }
 {
-    let mut text = String::new(alloc);
-    print_part(&mut text, Part::Segments, modules, placements)?;
-    print_part(&mut text, Part::Publics, modules, placements)?;
-    print_part(&mut text, Part::Externals, modules, placements)?;
-    Ok(text)
+    let addresses = addresses_of_all(alloc, placements)?;
+    addressed_text(alloc, modules, &addresses)
 }

@@ -4,12 +4,12 @@ ghost use Rattle.omf_linker.specs.Place.Faults.{usage};
 ghost use Rattle.omf_linker.specs.Place.Runs.{IsRun};
 ghost use Rattle.omf_linker.specs.Place.Words.{IsFound};
 
+use crate::options::AskedOptions;
 use crate::place::fault::PlaceFault;
 use crate::place::running::run_place;
 use crate::place::words::options_of;
 use omf_cmd::Program;
 use omf_frame::{Sink, Source};
-use omf_layout::Options;
 use std::alloc::{AllocError, Global};
 
 /// The program `omf-place`.
@@ -19,7 +19,7 @@ use std::alloc::{AllocError, Global};
 pub struct Place;
 
 impl Program for Place {
-    type Task = Options;
+    type Task = AskedOptions;
 
     type Fault = PlaceFault;
 
@@ -29,13 +29,13 @@ impl Program for Place {
 
     ghost called = { usage };
 
-    fn task(alloc: Global, arguments: &[String]) -> Result<Option<Options>, AllocError> {
+    fn task(alloc: Global, arguments: &[String]) -> Result<Option<AskedOptions>, AllocError> {
         options_of(alloc, arguments)
     }
 
     fn perform<S: Source, K: Sink>(
         alloc: Global,
-        task: Options,
+        task: AskedOptions,
         reader: &mut S,
         writer: &mut K,
     ) -> Result<(), PlaceFault> {

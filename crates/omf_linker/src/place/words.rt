@@ -4,19 +4,18 @@ ghost use Rattle.std.specs.Prelude.{◌≡◌, map, string_bytes, IfOk};
 ghost use Rattle.clap.specs.Words.{app_of};
 ghost use Rattle.omf_linker.specs.Place.Words.{IsFound, place_app};
 
-use crate::options::{options_in, with_options};
+use crate::options::{AskedOptions, options_in, with_options};
 use clap::Command;
 use omf_cmd::read_words;
-use omf_layout::Options;
 use std::alloc::{AllocError, Global};
 
 /// The layout options that the arguments ask for, the program's own name first: `--base` with an address, and `--real`, or `--flat` with a
-/// selector, all hexadecimal. The default is base 10000H and a flat frame with selector 0. Returns `None` if the arguments are not understood.
+/// selector, all hexadecimal. The default is base 10000H and the frames that suit the module. Returns `None` if the arguments are not understood.
 ///
 /// # Errors
 ///
 /// `AllocError` if memory runs out.
-pub fn options_of(alloc: Global, words: &[String]) -> Result<Option<Options>, AllocError>
+pub fn options_of(alloc: Global, words: &[String]) -> Result<Option<AskedOptions>, AllocError>
     ensures { IfOk result (IsFound (map string_bytes words.now)) }
 {
     let place = program(alloc)?;

@@ -33,80 +33,99 @@ const MAIN: &str =
 const ASKING: &str =
     "80030001413B 96040000015411 98070028040002010131 8C040001580017 A00800010000B80000900F 9C0500C401560143 8A02000074";
 
-/// The names of files and their bytes, the text of their link, and what `omf-link image` ends with and prints.
+/// A task, the names of files and their bytes, the text of their link, and what `omf-link` ends with and prints.
 struct Case {
+    task: Task,
     files: &'static [(&'static str, &'static str)],
     text: &'static str,
     status: u8,
     printed: &'static str,
 }
 
-static CASES: [Case; 11] = [
+static CASES: [Case; 12] = [
     Case {
+        task: Task::Image,
         files: &[("a.obj", PADDED), ("b.obj", MODULE)],
         text: "M #1\nS #1 7C00 0 0\nM #2\nS #1 7C02 0 0",
         status: 0,
         printed: "00007C00: CC DD CC DD\n",
     },
     Case {
+        task: Task::Image,
         files: &[("a.obj", MODULE), ("old lib", "F00D00")],
         text: "M #1\nS #1 7C00 0 0",
         status: 1,
         printed: "file \"old lib\" module 1 refused 4 UnsupportedType record 0 at 0 within 0\n",
     },
     Case {
+        task: Task::Image,
         files: &[("b\u{1B}[2J", FOLLOWED), ("a.obj", MODULE)],
         text: "M #1\nS #1 7C00 0 0\nM #2\nS #1 7C02 0 0",
         status: 1,
         printed: "file \"b\\x1B[2J\" at 39: neither a module nor padding\n",
     },
     Case {
+        task: Task::Image,
         files: &[("a.obj", WITH_TEXT)],
         text: "M #1\nS #1 7C00 0 0",
         status: 1,
         printed: "file \"a.obj\" at 37: neither a module nor padding\n",
     },
     Case {
+        task: Task::Image,
         files: &[("a.obj", MODULE), ("empty.obj", "")],
         text: "M #1\nS #1 7C00 0 0",
         status: 1,
         printed: "file \"empty.obj\" module 1 refused 1 NoEnd record 0 at 0 within 0\n",
     },
     Case {
+        task: Task::Image,
         files: &[("a.obj", MODULE), ("b.obj", MODULE)],
         text: "M #1\nS #1 7C00 0 0",
         status: 1,
         printed: "file \"b.obj\" module 1: no line for segment 1 \"T\"\n",
     },
     Case {
+        task: Task::Image,
         files: &[("a.obj", MODULE), ("b.obj", TWO)],
         text: "M #1\nS #1 7C00 0 0\nM #2\nS #1 7C02 0 0\nM #3\nS #1 7C01 0 0",
         status: 1,
         printed: "file \"a.obj\" module 1 segment \"T\" overlaps file \"b.obj\" module 2 segment \"T\" at 00007C01\n",
     },
     Case {
+        task: Task::Image,
         files: &[("a.obj", MODULE), ("b.obj", MODULE)],
         text: "M #1\nS #1 7C00 0 0\nM #2\nS #1 FFFFFFFF 0 0",
         status: 1,
         printed: "file \"b.obj\" module 1 segment \"T\": beyond the last address\n",
     },
     Case {
+        task: Task::Image,
         files: &[("a.obj", MAIN), ("old b.obj", MAIN)],
         text: "M #1\nS #1 7C00 0 0\nM #2\nS #1 7C02 0 0",
         status: 1,
         printed: "two starts: file \"a.obj\" module 1 and file \"old b.obj\" module 1\n",
     },
     Case {
+        task: Task::Image,
         files: &[("a.obj", MODULE), ("b.obj", ASKING)],
         text: "M #1\nS #1 7C00 0 0\nM #2\nS #1 7C02 0 0",
         status: 1,
         printed: "undefined \"X\": file \"b.obj\" module 1\n",
     },
     Case {
+        task: Task::Image,
         files: &[("a.obj", MODULE), ("b.obj", ASKING)],
         text: "M #1\nS #1 7C00 0 0\nM #2\nS #1 10020 10000 1000\nX #1 40000 20000 2000",
         status: 1,
         printed: "file \"b.obj\" module 1 segment \"T\" offset 00000001: TooFar Target \"X\"\n",
+    },
+    Case {
+        task: Task::Map,
+        files: &[("a.obj", MODULE), ("b.obj", ASKING)],
+        text: "M #1\nS #1 7C00 0 0",
+        status: 0,
+        printed: "segment 1 1 00007C00 00000002 \"T\" \"\"\nsegment 2 1 - 00000004 \"T\" \"\"\nexternal 2 1 - \"X\"\nundefined \"X\": file \"b.obj\" module 1\n",
     },
 ];
 
@@ -140,7 +159,7 @@ fn is_right(alloc: Global, case: &Case) -> bool {
         return false;
     };
     let mut sink = Gathered::new(alloc);
-    let status = run_files(alloc, Task::Image, files, case.text.as_bytes(), &mut sink);
+    let status = run_files(alloc, case.task, files, case.text.as_bytes(), &mut sink);
     status == case.status && sink.text.as_slice() == case.printed.as_bytes()
 }
 

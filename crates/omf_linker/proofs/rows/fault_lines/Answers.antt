@@ -22,34 +22,6 @@ pub returns-clause-text : goal.returns-clause-text
 unfolding digits
 returns-clause-text c = refl
 
-pub returns-clause-undefined : goal.returns-clause-undefined
-unfolding digits
-returns-clause-undefined c = refl
-
-pub returns-clause-twice : goal.returns-clause-twice
-unfolding digits
-returns-clause-twice c = refl
-
-pub returns-clause-high : goal.returns-clause-high
-unfolding digits
-returns-clause-high c = refl
-
-pub returns-clause-reach : goal.returns-clause-reach
-unfolding digits
-returns-clause-reach c = refl
-
-pub returns-clause-starts : goal.returns-clause-starts
-unfolding digits
-returns-clause-starts c = refl
-
-pub returns-clause-beyond : goal.returns-clause-beyond
-unfolding digits
-returns-clause-beyond c = refl
-
-pub returns-clause-overlap : goal.returns-clause-overlap
-unfolding digits
-returns-clause-overlap c = refl
-
 pub returns-clause-before : goal.returns-clause-before
 unfolding digits
 returns-clause-before c = refl

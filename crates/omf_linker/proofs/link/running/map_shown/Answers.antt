@@ -8,4 +8,5 @@ use Rattle.omf_linker.proofs.link.running.map_shown.Goals as goal
 pub returns-in-Err : goal.returns-in-Err
 returns-in-Err c =
     let ms = typed_modules c.args.labeled.modules.now in
-    with_lines (IsMapped ms c.args.text.now) (map string_bytes c.args.labeled.labels.now) ms c.args.text.now c.in-Err.fault c.named.result c.in-Err.ensures c.named.ensures
+    let labels = map string_bytes c.args.labeled.labels.now in
+    with_lines (IsMapped labels ms c.args.text.now) labels ms c.args.text.now c.in-Err.fault c.named.result c.in-Err.ensures c.named.ensures

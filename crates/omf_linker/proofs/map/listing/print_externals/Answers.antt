@@ -14,11 +14,11 @@ pub loop-before-preserved : goal.loop-before-preserved
 loop-before-preserved c =
     let m = recs (records_in c.args.«module».now.bytes) in
     let told : entry (externals m) (c.loop-before.before + 1) ≡ Some c.in-Some.name = search rules in
-    one_more (external_line c.args.number (m, c.args.placement.now)) (externals m) c.loop-before.before _ _ c.in-Some.name _
+    one_more (external_line c.args.number (m, c.args.addresses.now)) (externals m) c.loop-before.before _ _ c.in-Some.name _
     (next_entry (externals m) c.loop-before.before c.in-Some.name told) (search rules) c.loop-before.invariant
 
 pub returns : goal.returns
 returns c =
     let m = recs (records_in c.args.«module».now.bytes) in
-    all_printed (external_line c.args.number (m, c.args.placement.now)) (externals m) c.loop-before.before _ _
+    all_printed (external_line c.args.number (m, c.args.addresses.now)) (externals m) c.loop-before.before _ _
     (none_left (externals m) c.loop-before.before (omega (arith, c.loop-before-test.false, c.externals-before-end.ensures.count))) c.loop-before.invariant

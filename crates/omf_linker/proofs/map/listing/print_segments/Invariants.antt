@@ -8,4 +8,4 @@ use Rattle.omf_linker.proofs.map.listing.print_segments.Given as goal
 
 -- the lines so far
 abbrev pub invariant-loop-before : goal.invariant-loop-before
-invariant-loop-before l = let m = recs (records_in l.«module».bytes) in ArePrinted (segment_line l.number (m, l.placement)) (segments m) l.before (string_bytes l.fn.text) (string_bytes l.text)
+invariant-loop-before l = let m = recs (records_in l.«module».bytes) in ArePrinted (segment_line l.number (m, l.addresses)) (segments m) l.before (string_bytes l.fn.text) (string_bytes l.text)

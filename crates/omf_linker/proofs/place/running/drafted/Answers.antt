@@ -7,6 +7,7 @@ use Rattle.omf_check.specs.Module.{records_in}
 use Rattle.omf_check.specs.WellFormed.{recs}
 use Rattle.omf_cmd.proofs.RunLaws.{check_cause, check_fault}
 use Rattle.omf_linker.specs.Place.Runs.{any}
+use Rattle.omf_linker.specs.Suiting.{module_options}
 use Rattle.omf_linker.proofs.PlaceRuns.{not-checked, is-drafted, drafted-cause}
 use Rattle.omf_linker.proofs.place.running.drafted.Goals as goal
 
@@ -23,12 +24,12 @@ pub returns-in_err-checked-clause-answer : goal.returns-in_err-checked-clause-an
 returns-in_err-checked-clause-answer g c input told =
     let e = err_from_is_err_and c.from_residual.result c.from_residual.ensures.1 in
     rw (e.1, e.2) (
-    not-checked c.args.options input (g.S.Source.seen c.args.reader.now).bytes (g.S.Source.seen c.check.new.reader).bytes
+    not-checked c.args.asked input (g.S.Source.seen c.args.reader.now).bytes (g.S.Source.seen c.check.new.reader).bytes
     (g.S.Source.seen c.args.reader.now).failures (g.S.Source.seen c.check.new.reader).failures c.in_err-checked.field-0.0 (c.in_err-checked.ensures.verdict input told) c.in_err-checked.ensures.cause)
 
 pub returns-clause-cause : goal.returns-clause-cause
 returns-clause-cause g c =
-    drafted-cause c.args.options (recs (records_in c.in_ok-checked.checked.bytes)) (g.S.Source.seen c.args.reader.now) (g.S.Source.seen c.check.new.reader) (map_ok (λ text. string_bytes text) c.placed_text.result)
+    drafted-cause (module_options (recs (records_in c.in_ok-checked.checked.bytes)) c.args.asked) (recs (records_in c.in_ok-checked.checked.bytes)) (g.S.Source.seen c.args.reader.now) (g.S.Source.seen c.check.new.reader) (map_ok (λ text. string_bytes text) c.placed_text.result)
     (c.in_ok-checked.ensures.patient, c.in_ok-checked.ensures.grows) c.placed_text.ensures
 
 pub returns-clause-answer : goal.returns-clause-answer
@@ -36,5 +37,5 @@ returns-clause-answer g c input told =
     let a = c.in_ok-checked.ensures.verdict input told in
     let old = (g.S.Source.seen c.args.reader.now).bytes in
     let new = (g.S.Source.seen c.check.new.reader).bytes in
-    is-drafted c.args.options input (records_in c.in_ok-checked.checked.bytes) old new (map_ok (λ text. string_bytes text) c.placed_text.result)
+    is-drafted c.args.asked input (records_in c.in_ok-checked.checked.bytes) old new (map_ok (λ text. string_bytes text) c.placed_text.result)
     (record { accepted = a.1.0; read = subst (Consumes old new) (sym a.1.1) c.in_ok-checked.ensures.read }) c.placed_text.ensures
