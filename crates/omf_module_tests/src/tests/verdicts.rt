@@ -3,8 +3,9 @@
 ghost use Rattle.std.specs.Prelude.{◌<◌};
 
 use omf_check::{CheckFault, Checked, Profile, Session, check};
-use omf_frame::{Bytes, Place, Reason, Source};
+use omf_frame::{Buffered, Bytes, Place, Reason, Source};
 use std::alloc::Global;
+use std::io::BufReader;
 
 /// Accepts comments of vendors.
 pub const ANY: Profile = Profile {
@@ -58,6 +59,14 @@ pub fn left_by(alloc: Global, bytes: &[u8]) -> (Answer, usize) {
     (answer, source.ahead().len())
 }
 
+/// Whether `check` gives this answer over a reader with a buffer of this size, in which records are whole or in part.
+fn is_buffered(alloc: Global, bytes: &[u8], capacity: usize, answer: Answer) -> bool {
+    match BufReader::with_capacity(alloc, capacity, bytes) {
+        Ok(input) => read_by(alloc, &mut Buffered::new(input)) == answer,
+        Err(_) => false,
+    }
+}
+
 /// How many bytes a session takes of a piece, and whether it has taken a whole record.
 pub fn taken(session: &mut Session, piece: &[u8]) -> Result<(usize, bool), CheckFault> {
     match session.feed(piece) {
@@ -100,10 +109,14 @@ fn by_pieces(alloc: Global, bytes: &[u8], size: usize) -> Answer
     }
 }
 
-/// Whether `check` gives a verdict over bytes and leaves this number of them, and a session in pieces of one size gives it too.
+/// Whether `check` gives a verdict over bytes and leaves this number of them, and gives it over small buffers, and a session in pieces of
+/// one size gives it too.
 pub fn is_answered(alloc: Global, bytes: &[u8], verdict: Verdict, left: usize, size: usize) -> bool
     requires { 0 < size }
 {
     let answer = verdict.answer();
-    left_by(alloc, bytes) == (answer, left) && by_pieces(alloc, bytes, size) == answer
+    left_by(alloc, bytes) == (answer, left)
+        && is_buffered(alloc, bytes, 4, answer)
+        && is_buffered(alloc, bytes, 21, answer)
+        && by_pieces(alloc, bytes, size) == answer
 }
