@@ -1,10 +1,10 @@
 -- The rows of a module's fixups (TIS OMF 1.1, "FIXUPP"; their form is this profile's rule).
-use Rattle.std.specs.Prelude.{ℕ, ◌+◌, List, [], ◌∷◌, ◌++◌, map, not, Option, Some, None}
+use Rattle.std.specs.Prelude.{ℕ, ◌+◌, List, [], ◌∷◌, ◌++◌, map, not, Option, Some, None, ◌*◌}
 use Rattle.omf_frame.specs.declared.fault.Place.{Place}
 use Rattle.omf_frame.specs.Framing.{Raw}
-use Rattle.omf_records.specs.Location.{location_size}
+use Rattle.omf_records.specs.Location.{location, row_of}
 use Rattle.omf_records.specs.Methods.{kind_number}
-use Rattle.omf_records.specs.Values.{DataItem, is_segment_relative, location_offset, location_type, width_bits}
+use Rattle.omf_records.specs.Values.{DataItem, is_segment_relative, location_offset, location_type, width}
 use Rattle.omf_check.specs.Listed.{placed_from}
 use Rattle.omf_check.specs.declared.method.FrameMethod.{FrameMethod}
 use Rattle.omf_check.specs.declared.method.FrameMethod.TheVariants.{Of, Location as F4, Target as F5}
@@ -40,14 +40,14 @@ fixup_row d p kind f = record {
   offset = d.offset + location_offset f.locat;
   segment = d.segment;
   location = location_type f.locat;
-  size = location_size (location_type f.locat);
+  size = (row_of (location_type f.locat)).size;
   is_self_relative = flag (not (is_segment_relative f.locat));
   frame_method = frame_number f.reference.frame;
   frame_index = frame_index f.reference.frame;
   target_method = kind_number f.reference.target.kind;
   target_index = f.reference.target.index;
   displacement = f.reference.displacement;
-  bits = width_bits kind;
+  bits = 8 * width kind;
   number = p.number;
   within = p.within;
 }

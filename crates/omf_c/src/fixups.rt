@@ -2,9 +2,10 @@
 
 ghost use Rattle.std.specs.Prelude.{◌≡◌, ◌++◌, IfOk, OnOk};
 ghost use Rattle.omf_check.specs.Module.{records_in};
+ghost use Rattle.omf_records.specs.Inner.Names.{width_bits};
 ghost use Rattle.omf_records.specs.Inner.Seen.{contents_seen};
 ghost use Rattle.omf_records.specs.Methods.{kind_number};
-ghost use Rattle.omf_records.specs.Values.{location_type, width_bits};
+ghost use Rattle.omf_records.specs.Values.{location_type};
 ghost use Rattle.omf_reloc.specs.Inner.PieceSeen.{piece_seen};
 ghost use Rattle.omf_reloc.specs.Inner.Widths.{fixupp_type};
 ghost use Rattle.omf_reloc.specs.Plain.{data_contents, data_of};

@@ -4,11 +4,13 @@ use Rattle.std.specs.Prelude.{map, filter_map, option_map, unwrap_or, ⊤}
 use Rattle.std.specs.List.{cons_option}
 use Rattle.std.proofs.lemmas.List.Elements.{filter_map-append}
 use Rattle.omf_frame.specs.Bytes.{with_before, last}
-use Rattle.omf_records.specs.Values.{At, nowhere, unplaced, Rec, Contents, Header, Comment, Names, Segment, Group, Externs, Publics, Communals, Plain, Iterated, Fixups, ModEnd, Carried, Reference, Subrecord, Thread, Fixup, frame_by_thread, frame_bits, frame_thread, target_by_thread, target_bits, reference_alone, subrecord_alone, contents_alone, alone}
-use Rattle.omf_check.specs.Threads.{Setting, setting, setting_of, frame_setting, target_setting, frame_from, target_from, T0, PlainReference, plain}
+use Rattle.omf_records.specs.Inner.Names.{frame_thread}
+use Rattle.omf_records.specs.Values.{At, nowhere, unplaced, Rec, Contents, Header, Comment, Names, Segment, Group, Externs, Publics, Communals, Plain, Iterated, Fixups, ModEnd, Carried, Reference, Subrecord, Thread, Fixup, frame_by_thread, frame_bits, target_by_thread, target_bits, reference_alone, subrecord_alone, contents_alone, alone}
+use Rattle.omf_check.specs.Inner.Names.{frame_from, target_from}
+use Rattle.omf_check.specs.Threads.{Setting, setting, setting_of, frame_setting, target_setting, T0, PlainReference, plain}
 use Rattle.omf_check.specs.declared.method.FrameMethod.TheVariants.{Target as F5}
 use Rattle.omf_reloc.specs.Plain.{Kept, Fixed, End, plain_fixup}
-use Rattle.omf_canon.specs.Skeleton.{end_byte}
+use Rattle.omf_canon.specs.Inner.Names.{end_byte}
 use Rattle.omf_canon.proofs.NormalLaws.{normal_of}
 
 -- Subrecords that set the same.

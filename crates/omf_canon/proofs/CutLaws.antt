@@ -12,8 +12,9 @@ use Rattle.omf_records.specs.Values.{At, Reference, is_wide, width}
 use Rattle.omf_records.specs.Shortest.{option_bytes, datum_bytes, reference_bytes}
 use Rattle.omf_check.specs.Threads.{PlainReference}
 use Rattle.omf_reloc.specs.Plain.{PlainFixup}
+use Rattle.omf_canon.specs.Inner.Names.{start_bytes}
 use Rattle.omf_canon.specs.Cut.{IsGreedyCut, body_limit, fixups_size, cut, cut_from}
-use Rattle.omf_canon.specs.PlainBytes.{fixup_bytes, start_bytes}
+use Rattle.omf_canon.specs.PlainBytes.{fixup_bytes}
 use Rattle.omf_canon.specs.Unthreaded.{unthreaded}
 
 -- A fixup has 11 bytes at most.

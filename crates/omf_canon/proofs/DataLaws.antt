@@ -7,11 +7,11 @@ use Rattle.byteorder.specs.Numbers.{little_from-cons}
 use Rattle.omf_frame.specs.Bytes.{AreBytes}
 use Rattle.omf_frame.specs.Fields.{IsIndex, IsLittle, index_bytes}
 use Rattle.omf_frame.specs.Inner.FieldLaws.{little_spelled, little_fits, by_lt}
+use Rattle.omf_records.specs.Shortest.{data_bytes, contents_bytes}
 use Rattle.omf_records.specs.Layout.{called}
 use Rattle.omf_records.specs.Inner.Reading.{read_body}
 use Rattle.omf_records.specs.Records.{data_item, contents}
 use Rattle.omf_records.specs.Inner.RecordReaders.{contents_whole}
-use Rattle.omf_records.specs.Shortest.{contents_bytes, data_bytes}
 use Rattle.omf_records.specs.Values.{Contents, DataItem, Plain, Iterated, is_wide, width, alone}
 use Rattle.omf_check.specs.declared.threads.Threads.{Threads}
 use Rattle.omf_reloc.specs.Plain.{Piece, Kept}

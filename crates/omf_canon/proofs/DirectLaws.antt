@@ -4,14 +4,16 @@ use Rattle.std.specs.Prelude.{◌==◌, ◌&&◌, ◌||◌, not, nat_lt, unwrap_
 use Rattle.std.proofs.lemmas.Bool.{cond-false, or_cases, eqb-true, eqb-false, ltb-true, cases_Bool}
 use Rattle.byteorder.specs.Endian.{little_bytes}
 use Rattle.omf_frame.specs.Bytes.{bits, has_bit}
+use Rattle.omf_records.specs.Inner.Names.{has_no_displacement}
 use Rattle.omf_records.specs.Inner.Direct.{is_zero, is_direct, IsDirect}
 use Rattle.omf_records.specs.Inner.Unread.{Pending}
-use Rattle.omf_records.specs.Values.{At, Reference, Subrecord, Thread, Fixup, width, frame_by_thread, frame_bits, target_by_thread, target_bits, has_no_displacement}
+use Rattle.omf_records.specs.Values.{At, Reference, Subrecord, Thread, Fixup, width, frame_by_thread, frame_bits, target_by_thread, target_bits}
 use Rattle.omf_records.specs.Entries.{is_frame_method}
 use Rattle.omf_records.specs.Shortest.{option_bytes, datum_bytes, subrecord_bytes}
 use Rattle.omf_records.proofs.DirectLaws.{no-reason}
 use Rattle.omf_records.specs.Valued.{IsThere, IsIndexValue, IsReferenceValue, IsSubrecordValue}
-use Rattle.omf_check.specs.Threads.{T0, setting, frame_from, target_from}
+use Rattle.omf_check.specs.Inner.Names.{frame_from, target_from}
+use Rattle.omf_check.specs.Threads.{T0, setting}
 use Rattle.omf_check.specs.declared.method.FrameMethod.{FrameMethod}
 use Rattle.omf_check.specs.declared.method.TargetMethod.{TargetMethod}
 use Rattle.omf_check.specs.declared.method.FrameMethod.TheVariants.{Target as F5}
@@ -20,8 +22,9 @@ use Rattle.omf_check.specs.Inner.Judging.{frame_cell, target_cell}
 use Rattle.omf_check.specs.Inner.Kept.{set_thread}
 use Rattle.omf_reloc.specs.Plain.{Fixed}
 use Rattle.omf_reloc.specs.Inner.Walking.{plain_fixup_by}
+use Rattle.omf_canon.specs.Inner.Names.{fix_byte}
 use Rattle.omf_canon.specs.PlainBytes.{fixup_bytes}
-use Rattle.omf_canon.specs.Unthreaded.{frame_index, fix_byte}
+use Rattle.omf_canon.specs.Unthreaded.{frame_index}
 use Rattle.omf_canon.proofs.UnthreadedLaws.{frame_code, target_code, target_index}
 use Rattle.omf_canon.specs.Inner.Writing.{Held, closed_by, held_with, subrecord_piece, ArePut, IsJoined}
 use Rattle.omf_canon.proofs.TakingLaws.{put-one, on-both, IsTaken, take-value, take-next}

@@ -16,8 +16,9 @@ use Rattle.omf_check.specs.Rules.{item_limit}
 use Rattle.omf_check.specs.Tables.{subrecords, item_count}
 use Rattle.omf_check.specs.WellFormed.{recs}
 use Rattle.omf_reloc.specs.Plain.{Piece, Kept, Fixed, End, PlainFixup, pieces}
+use Rattle.omf_canon.specs.Inner.Names.{canonical_bytes}
 use Rattle.omf_canon.proofs.NormalLaws.{normal_of, normal_at, normal_pieces, normal-pieces}
-use Rattle.omf_canon.specs.Canonical.{canonical_raws, canonical_bytes}
+use Rattle.omf_canon.specs.Canonical.{canonical_raws}
 use Rattle.omf_canon.specs.Cut.{cut}
 use Rattle.omf_canon.specs.Joined.{cut_pieces}
 use Rattle.omf_canon.specs.Laws.{CanonicalsAreWellFormed}

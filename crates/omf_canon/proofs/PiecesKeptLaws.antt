@@ -7,7 +7,7 @@ use Rattle.std.proofs.lemmas.List.{map-append}
 use Rattle.std.proofs.lemmas.List.Concat.{flat_map-append}
 use Rattle.omf_frame.specs.Bytes.{with_before}
 use Rattle.omf_image.specs.declared.limits.Limits.{Limits}
-use Rattle.omf_records.specs.Location.{location_size}
+use Rattle.omf_records.specs.Inner.Names.{location_size}
 use Rattle.omf_records.specs.Values.{At, unplaced, Rec, Contents, Header, Comment, Names, Segment, Group, Externs, Publics, Communals, Plain, Iterated, Fixups, ModEnd, Carried, DataItem, Reference, Subrecord, Thread, Fixup, location_type, location_offset, contents_alone, alone}
 use Rattle.omf_check.specs.Rules.{contents_rules}
 use Rattle.omf_check.specs.Sound.{FrameIsDefined, TargetIsDefined, SubrecordHolds, ContentsHold}

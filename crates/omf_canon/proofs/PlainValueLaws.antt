@@ -4,9 +4,11 @@ use Rattle.std.specs.Prelude.{map, filter_map, option_map, unwrap_or, All, not, 
 use Rattle.std.specs.List.{AllByRecursion as Each, cons_option, last_or}
 use Rattle.std.proofs.lemmas.List.Elements.{filter_map-append, All-head, All-tail}
 use Rattle.omf_frame.specs.Bytes.{with_before}
-use Rattle.omf_records.specs.Values.{At, Reference, Subrecord, Thread, Fixup, width, is_wide, thread_is_frame, thread_number, thread_method, frame_by_thread, frame_bits, frame_thread, target_by_thread, target_bits, has_frame_datum, has_target_datum, has_no_displacement}
+use Rattle.omf_records.specs.Inner.Names.{has_frame_datum, has_target_datum, thread_number, frame_thread, has_no_displacement}
+use Rattle.omf_records.specs.Values.{At, Reference, Subrecord, Thread, Fixup, width, is_wide, thread_is_frame, thread_method, frame_by_thread, frame_bits, target_by_thread, target_bits}
 use Rattle.omf_records.specs.Valued.{IsThere, IsIndexValue, IsReferenceValue, IsSubrecordValue}
-use Rattle.omf_check.specs.Threads.{T0, Setting, setting, setting_of, same, frame_setting, target_setting, frame_by, frame_from, target_from, plain}
+use Rattle.omf_check.specs.Inner.Names.{frame_from, target_from}
+use Rattle.omf_check.specs.Threads.{T0, Setting, setting, setting_of, same, frame_setting, target_setting, frame_by, plain}
 use Rattle.omf_records.specs.declared.method.FrameCode.{FrameCode}
 use Rattle.omf_check.specs.declared.method.FrameMethod.TheVariants.{Target as F5}
 use Rattle.omf_records.specs.Methods.{frame_code}

@@ -7,6 +7,7 @@ use Rattle.omf_frame.specs.Bytes.{with_before}
 use Rattle.omf_records.specs.Values.{Rec, Contents, Segment, Group, Externs, Communals, Subrecord}
 use Rattle.omf_check.specs.Tables.{segments, groups, externals, subrecords, defined_segments, defined_groups, defined_externals}
 use Rattle.omf_check.specs.declared.segment.SegInfo.{SegInfo}
+use Rattle.omf_reloc.specs.Inner.Names.{extra, missing, far_fault, reach_faults, all_kinds, given}
 use Rattle.omf_reloc.specs.declared.fault.Cause.{Cause}
 use Rattle.omf_reloc.specs.declared.fault.ReachFault.{ReachFault}
 use Rattle.omf_reloc.specs.declared.fault.ReachFault.TheVariants as fault
@@ -15,8 +16,9 @@ use Rattle.omf_reloc.specs.declared.fault.Kind.TheVariants as kinds
 use Rattle.std.specs.List.{enumerate_from}
 use Rattle.omf_reloc.specs.Plain.{Piece, Kept, Fixed, End, PlainFixup, pieces}
 use Rattle.omf_placement.specs.Placement.{Places}
-use Rattle.omf_reloc.specs.Reach.{all_kinds, entries, given, missing, extra, misplaced, causes, all_reference_places, far_fault, misfits, far_faults, reach_faults}
-use Rattle.omf_canon.specs.Laws.{placeless, reach_answer}
+use Rattle.omf_reloc.specs.Reach.{entries, misplaced, causes, all_reference_places, misfits, far_faults}
+use Rattle.omf_canon.specs.Inner.Names.{reach_answer}
+use Rattle.omf_canon.specs.Laws.{placeless}
 use Rattle.omf_canon.specs.Skeleton.{normal, skeleton, skeleton_of, join_front}
 use Rattle.omf_canon.proofs.NormalLaws.{normal_of, normal_at, normal-pieces}
 use Rattle.omf_canon.proofs.SkeletonLaws.{cause-skeleton}

@@ -6,26 +6,28 @@ use Rattle.std.proofs.lemmas.Bool.{le-leb}
 use Rattle.std.proofs.lemmas.List.{map-append}
 use Rattle.std.proofs.lemmas.List.Sums.{sum_by_push}
 use Rattle.std.proofs.lemmas.List.Elements.{All-head, All-tail}
+use Rattle.omf_frame.specs.Inner.Names.{AreKept}
 use Rattle.omf_frame.specs.Bytes.{with_before}
-use Rattle.omf_frame.specs.Fault.{AreKept}
 use Rattle.omf_frame.specs.Framing.{Raw}
 use Rattle.omf_image.specs.declared.limits.Limits.{Limits}
-use Rattle.omf_records.specs.Location.{location_size}
+use Rattle.omf_records.specs.Inner.Names.{location_size}
 use Rattle.omf_records.specs.Values.{At, nowhere, Rec, Contents, Header, Comment, Names, Segment, Group, Externs, Publics, Communals, Plain, Iterated, Fixups, ModEnd, Carried, DataItem, Reference, Subrecord, Thread, Fixup, location_type, location_offset, contents_alone, subrecord_alone, reference_alone}
 use Rattle.omf_records.specs.Inner.Reading.{typed}
-use Rattle.omf_check.specs.Rules.{item_limit, room, item_places, contents_rules, rules, location_rule, frame_rules, target_rules, reference_rules, judged_at, subrecord_rules, subrecord_rules_at, start_rules, is_location_frame}
+use Rattle.omf_check.specs.Inner.Names.{subrecord_rules, frame_from, target_from}
+use Rattle.omf_check.specs.Rules.{item_limit, room, item_places, contents_rules, rules, location_rule, frame_rules, target_rules, reference_rules, judged_at, subrecord_rules_at, start_rules, is_location_frame}
 use Rattle.omf_check.specs.Sound.{FrameIsDefined, TargetIsDefined, ContentsHold, ModuleHolds}
 use Rattle.omf_check.specs.Tables.{last_data, subrecords, item_count, items_in}
-use Rattle.omf_check.specs.Threads.{PlainReference, frame_of, target_of, frame_from, target_from}
+use Rattle.omf_check.specs.Threads.{PlainReference, frame_of, target_of}
 use Rattle.omf_check.specs.declared.method.FrameMethod.{FrameMethod}
 use Rattle.omf_check.specs.declared.method.TargetMethod.{TargetMethod}
 use Rattle.omf_check.specs.declared.method.FrameMethod.TheVariants.{Of, Location as F4, Target as F5}
 use Rattle.omf_check.specs.WellFormed.{IsWellFormed, HasTrees, recs}
 use Rattle.omf_check.specs.declared.profile.Profile.{Profile}
 use Rattle.omf_reloc.specs.Plain.{Piece, Kept, PlainFixup, plain_fixup, pieces}
+use Rattle.omf_canon.specs.Inner.Names.{unthreaded_fixup}
 use Rattle.omf_canon.specs.Skeleton.{normal}
 use Rattle.omf_canon.proofs.NormalLaws.{normal_of, normal_at, normal-pieces}
-use Rattle.omf_canon.specs.Unthreaded.{unthreaded, unthreaded_fixup}
+use Rattle.omf_canon.specs.Unthreaded.{unthreaded}
 use Rattle.omf_canon.proofs.AloneLaws.{IsOther, other-alone, twice-alone, twice-contents, same-frame, same-target}
 use Rattle.omf_canon.proofs.UnthreadedLaws.{frame-again, target-again}
 use Rattle.omf_canon.proofs.RulesLaws.{holds, AreTrue, kept-true, kept-front, kept-back, kept-both, items-bounded, SameTables, same-rules}

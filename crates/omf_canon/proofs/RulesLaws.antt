@@ -5,7 +5,8 @@ use Rattle.std.specs.List.{AllByRecursion as Each, enumerate_from}
 use Rattle.std.proofs.lemmas.Bool.{lt-ltb, ltb-true}
 use Rattle.std.proofs.lemmas.List.{length-map}
 use Rattle.std.proofs.lemmas.List.Elements.{All-nil, All-cons, All-head, All-tail}
-use Rattle.omf_frame.specs.Fault.{Rule, rule, AreKept}
+use Rattle.omf_frame.specs.Inner.Names.{AreKept}
+use Rattle.omf_frame.specs.Fault.{Rule, rule}
 use Rattle.omf_frame.specs.declared.fault.Reason.TheVariants as reason
 use Rattle.omf_image.specs.Blocks.{blocks_size}
 use Rattle.omf_image.specs.Inner.Expanding.{blocks_of}

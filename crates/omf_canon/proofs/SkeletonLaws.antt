@@ -14,7 +14,8 @@ use Rattle.omf_reloc.specs.Reach.{causes, causes_at, piece_causes}
 use Rattle.omf_reloc.specs.Offsets.{outcome}
 use Rattle.std.specs.Result.{result_err}
 use Rattle.omf_check.specs.Threads.{PlainReference}
-use Rattle.omf_canon.specs.Skeleton.{end_byte, normal, skeleton, skeleton_of, join_front}
+use Rattle.omf_canon.specs.Inner.Names.{end_byte}
+use Rattle.omf_canon.specs.Skeleton.{normal, skeleton, skeleton_of, join_front}
 
 -- the fixups of two FIXUPPs of one type, or one after the other
 fixups_two : (b : Bool) (kind other : ℕ) (fs gs : List PlainFixup) (ps : List Piece) → (b ≡ true → kind ≡ other)

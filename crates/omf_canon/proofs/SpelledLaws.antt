@@ -8,7 +8,8 @@ use Rattle.std.proofs.lemmas.List.Elements.{All-nil, All-cons, All-head, All-tai
 use Rattle.omf_frame.specs.Bytes.{with_before, bits}
 use Rattle.omf_frame.specs.Framing.{Raw, raw_of, is_end}
 use Rattle.omf_image.specs.declared.limits.Limits.{Limits}
-use Rattle.omf_records.specs.Values.{At, nowhere, Rec, Contents, Header, Comment, Names, Segment, Group, Externs, Publics, Communals, Plain, Iterated, Fixups, ModEnd, Carried, Reference, Subrecord, has_start, alone}
+use Rattle.omf_records.specs.Inner.Names.{has_start}
+use Rattle.omf_records.specs.Values.{At, nowhere, Rec, Contents, Header, Comment, Names, Segment, Group, Externs, Publics, Communals, Plain, Iterated, Fixups, ModEnd, Carried, Reference, Subrecord, alone}
 use Rattle.omf_records.specs.Shortest.{reference_bytes, contents_bytes}
 use Rattle.omf_records.specs.Inner.Reading.{typed}
 use Rattle.omf_records.specs.Records.{IsTyped}
@@ -19,14 +20,15 @@ use Rattle.omf_check.specs.Threads.{PlainReference, plain}
 use Rattle.omf_check.specs.WellFormed.{IsWellFormed, recs}
 use Rattle.omf_check.specs.declared.profile.Profile.{Profile}
 use Rattle.omf_reloc.specs.Plain.{Piece, Kept, Fixed, End, PlainFixup, plain_fixup, pieces}
+use Rattle.omf_canon.specs.Inner.Names.{start_bytes, end_byte, unthreaded_fixup}
 use Rattle.omf_canon.proofs.NormalLaws.{normal_of, normal_at, normal-pieces}
 use Rattle.omf_canon.specs.Canonical.{piece_raws, canonical_raws}
 use Rattle.omf_canon.specs.Cut.{cut, body_limit, fixups_size}
 use Rattle.omf_canon.specs.Joined.{cut_piece, cut_pieces}
 use Rattle.omf_canon.specs.Laws.{CanonicalHolds}
-use Rattle.omf_canon.specs.PlainBytes.{fixup_bytes, start_bytes}
-use Rattle.omf_canon.specs.Skeleton.{end_byte, join_front, normal, skeleton_of, skeleton}
-use Rattle.omf_canon.specs.Unthreaded.{unthreaded, unthreaded_fixup}
+use Rattle.omf_canon.specs.PlainBytes.{fixup_bytes}
+use Rattle.omf_canon.specs.Skeleton.{join_front, normal, skeleton_of, skeleton}
+use Rattle.omf_canon.specs.Unthreaded.{unthreaded}
 use Rattle.omf_canon.proofs.AloneLaws.{same-piece, twice-alone, IsOther}
 use Rattle.omf_canon.proofs.CutLaws.{cut-greedy, length-group, length-reference_bytes}
 use Rattle.omf_canon.proofs.JoinLaws.{skeleton-joined, cut-joined}

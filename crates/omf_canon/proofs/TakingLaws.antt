@@ -27,9 +27,9 @@ use Rattle.omf_reloc.proofs.PieceLaws.{pieces-listed, numbered_records, numbered
 use Rattle.omf_reloc.specs.Inner.Pieces.{subrecord_steps, contents_steps, steps_from, given, IsSet, SubrecordIsSet, SubrecordsAreSet, ContentsAreSet, RecordsAreSet}
 use Rattle.omf_reloc.specs.Plain.{Piece, Fixed, pieces}
 use Rattle.omf_reloc.specs.Inner.Walking.{plain_fixup_by, threads_after}
+use Rattle.omf_canon.specs.Inner.Names.{unthreaded_fixup}
 use Rattle.omf_canon.specs.Canonical.{canonical_raws}
 use Rattle.omf_canon.specs.Skeleton.{normal, skeleton}
-use Rattle.omf_canon.specs.Unthreaded.{unthreaded_fixup}
 use Rattle.omf_canon.specs.Inner.Writing.{Held, closed_by, held_with, piece_puts, piece_held, CanPut, bytes_left, subrecord_piece, subrecord_pieces, contents_pieces, record_pieces, ArePut}
 use Rattle.omf_canon.proofs.NormalLaws.{single-normal}
 use Rattle.omf_canon.proofs.WritingLaws.{IsWritten, normal_singles, write-first}

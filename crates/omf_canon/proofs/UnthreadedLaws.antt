@@ -5,18 +5,21 @@ use Rattle.std.proofs.lemmas.Bool.{cond-false}
 use Rattle.omf_frame.specs.Bytes.{bits, has_bit}
 use Rattle.omf_frame.specs.declared.fault.Reason.{Reason}
 use Rattle.omf_frame.specs.declared.fault.Reason.TheVariants as reason
-use Rattle.omf_records.specs.Values.{At, Subrecord, nowhere, width, frame_by_thread, frame_bits, target_by_thread, target_bits, has_no_displacement}
+use Rattle.omf_records.specs.Inner.Names.{wrong_head, has_no_displacement}
+use Rattle.omf_records.specs.Values.{At, Subrecord, nowhere, width, frame_by_thread, frame_bits, target_by_thread, target_bits}
 use Rattle.omf_records.specs.Methods.{kind_number, frame_number}
-use Rattle.omf_records.specs.Entries.{unless, wrong_head, is_frame_method}
+use Rattle.omf_records.specs.Entries.{unless, is_frame_method}
 use Rattle.omf_records.specs.Valued.{IsThere, IsIndexValue, IsReferenceValue, IsSubrecordValue}
-use Rattle.omf_check.specs.Threads.{T0, PlainReference, plain, setting, frame_from, target_from, frame_of, target_of}
+use Rattle.omf_check.specs.Inner.Names.{frame_from, target_from}
+use Rattle.omf_check.specs.Threads.{T0, PlainReference, plain, setting, frame_of, target_of}
 use Rattle.omf_records.specs.declared.method.Kind.{Kind}
 use Rattle.omf_check.specs.declared.method.FrameMethod.{FrameMethod}
 use Rattle.omf_check.specs.declared.method.TargetMethod.{TargetMethod}
 use Rattle.omf_check.specs.declared.method.FrameMethod.TheVariants.{Of, Location as F4, Target as F5}
 use Rattle.omf_records.specs.declared.method.Kind.TheVariants as kinds
 use Rattle.omf_reloc.specs.Plain.{PlainFixup}
-use Rattle.omf_canon.specs.Unthreaded.{code_of, frame_index, fix_byte, unthreaded, unthreaded_fixup}
+use Rattle.omf_canon.specs.Inner.Names.{fix_byte, unthreaded_fixup}
+use Rattle.omf_canon.specs.Unthreaded.{code_of, frame_index, unthreaded}
 
 -- ---- the bits of the fix data byte
 

@@ -4,7 +4,7 @@ use Rattle.std.specs.Prelude.{All, max}
 use Rattle.std.proofs.lemmas.List.{length-map}
 use Rattle.std.proofs.lemmas.List.Sums.{sum_by_push}
 use Rattle.std.proofs.lemmas.List.Elements.{All-nil, All-cons}
-use Rattle.omf_frame.specs.Fault.{AreKept}
+use Rattle.omf_frame.specs.Inner.Names.{AreKept}
 use Rattle.omf_frame.specs.Framing.{Raw}
 use Rattle.omf_image.specs.declared.limits.Limits.{Limits}
 use Rattle.omf_records.specs.Values.{At, nowhere, Rec, Contents, Fixups, ModEnd, Subrecord, contents_alone, subrecord_alone}
@@ -14,8 +14,8 @@ use Rattle.omf_check.specs.Tables.{item_count, items_in}
 use Rattle.omf_check.specs.WellFormed.{HasTrees, recs}
 use Rattle.omf_check.specs.declared.profile.Profile.{Profile}
 use Rattle.omf_reloc.specs.Plain.{Piece, Kept, Fixed, End}
+use Rattle.omf_canon.specs.Inner.Names.{unthreaded_fixup}
 use Rattle.omf_canon.specs.Joined.{piece_items}
-use Rattle.omf_canon.specs.Unthreaded.{unthreaded_fixup}
 use Rattle.omf_canon.proofs.AloneLaws.{IsOther, other-alone, alone-other}
 use Rattle.omf_canon.proofs.CountLaws.{items}
 use Rattle.omf_canon.proofs.RulesLaws.{holds, AreTrue, true-kept, kept-both, items-room, SameTables, same-rules}

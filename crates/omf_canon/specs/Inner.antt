@@ -1,2 +1,3 @@
 pub mod Streaming
 pub mod Writing
+pub mod Names

@@ -1,5 +1,5 @@
 -- Laws about the definitions, each the contract of a function of the same name.
-use Rattle.std.specs.Prelude.{◌≡◌, ◌↔◌, ℕ, ◌≤◌, List, Option, None, option_map, length, map, sum_by, All, Bool, true}
+use Rattle.std.specs.Prelude.{◌≡◌, ◌↔◌, ℕ, ◌≤◌, List, None, option_map, length, map, sum_by, All, Bool, true}
 use Rattle.omf_frame.specs.Framing.{Raw, raw_bytes}
 use Rattle.omf_image.specs.declared.limits.Limits.{Limits}
 use Rattle.omf_records.specs.Values.{Rec, Subrecord}
@@ -32,15 +32,12 @@ abbrev pub placeless : ReachFault → ReachFault
 placeless (fault.TooFar number within c) = fault.TooFar 0 0 c
 placeless f = f
 
-abbrev pub reach_answer : Places → List Rec → Option ReachFault
-reach_answer pl m = option_map placeless (reach_fault pl m)
-
 -- Two modules mean the same at a placement: the same image, the same start and the same result of reach; and each reference in turn
 -- reaches, or does not reach for the same cause.
 pub record MeanTheSame (limits : Limits) (pl : Places) (m n : List Rec) : Type 0 where
   pub image : (segment x : ℕ) → image limits pl m segment x ≡ image limits pl n segment x
   pub start : start pl m ≡ start pl n
-  pub reach : reach_answer pl m ≡ reach_answer pl n
+  pub reach : option_map placeless (reach_fault pl m) ≡ option_map placeless (reach_fault pl n)
   pub causes : causes pl (pieces m) ≡ causes pl (pieces n)
 
 -- Modules of equal skeletons mean the same at every placement.

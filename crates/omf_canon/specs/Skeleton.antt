@@ -1,20 +1,16 @@
 -- The skeleton of a module (this profile's rule): its records with their threads resolved, without what canonical bytes leave out; FIXUPPs
 -- without a fixup are dropped, and then adjacent FIXUPPs of one type are joined.
-use Rattle.std.specs.Prelude.{ℕ, ◌+◌, ◌*◌, List, [], ◌∷◌, ◌++◌, map, filter, Bool, true, false, ◌==◌, if◌then◌else◌}
+use Rattle.std.specs.Prelude.{◌+◌, ◌*◌, List, [], ◌∷◌, ◌++◌, map, filter, Bool, true, false, ◌==◌, if◌then◌else◌}
 use Rattle.omf_frame.specs.Bytes.{bits}
 use Rattle.omf_records.specs.Values.{Rec, alone}
 use Rattle.omf_reloc.specs.Plain.{Piece, Kept, Fixed, End, pieces}
 
--- MODEND's module type byte, normalized (TIS OMF 1.1, "MODEND"): bits 7 and 6 are kept, bit 0 is a copy of bit 6, and the ignored bits are
--- 0 (this profile's rule).
-abbrev pub end_byte : ℕ → ℕ
-end_byte byte = 128 * bits byte 7 1 + 64 * bits byte 6 1 + bits byte 6 1
-
--- A piece without the places of its items and without ignored bits.
+-- A piece without the places of its items and without ignored bits: of MODEND's module type byte (TIS OMF 1.1, "MODEND") bits 7 and 6 are kept, bit 0
+-- is a copy of bit 6, and the ignored bits are 0 (this profile's rule).
 abbrev pub normal : Piece → Piece
 normal (Kept r) = Kept (alone r)
 normal (Fixed kind fs) = Fixed kind fs
-normal (End kind byte start) = End kind (end_byte byte) start
+normal (End kind byte start) = End kind (128 * bits byte 7 1 + 64 * bits byte 6 1 + bits byte 6 1) start
 
 -- whether a piece is anything but a FIXUPP without fixups
 abbrev pub is_kept : Piece → Bool

@@ -5,9 +5,8 @@ ghost use Rattle.omf_records.specs.Inner.Direct.{is_direct};
 ghost use Rattle.omf_records.specs.Values.{Fixup, nowhere};
 ghost use Rattle.omf_reloc.specs.Inner.Pieces.{IsSet};
 ghost use Rattle.omf_reloc.specs.Inner.Walking.{plain_by, plain_fixup_by};
-ghost use Rattle.omf_canon.specs.PlainBytes.{start_bytes};
-ghost use Rattle.omf_canon.specs.Skeleton.{end_byte};
-ghost use Rattle.omf_canon.specs.Unthreaded.{code_of, frame_index, unthreaded, unthreaded_fixup};
+ghost use Rattle.omf_canon.specs.Inner.Names.{start_bytes, end_byte, unthreaded_fixup};
+ghost use Rattle.omf_canon.specs.Unthreaded.{code_of, frame_index, unthreaded};
 
 use omf_check::Threads;
 use omf_frame::Index;

@@ -13,10 +13,10 @@ ghost use Rattle.omf_records.specs.Values.{alone, Fixup};
 ghost use Rattle.omf_reloc.specs.Inner.Pieces.{IsSet, SubrecordIsSet, SubrecordsAreSet, ContentsAreSet};
 ghost use Rattle.omf_reloc.specs.Plain.{Kept, End};
 ghost use Rattle.omf_reloc.specs.Inner.Walking.{plain_by, threads_after};
+ghost use Rattle.omf_canon.specs.Inner.Names.{start_bytes, end_byte};
 ghost use Rattle.omf_canon.specs.Canonical.{canonical, canonical_raws};
-ghost use Rattle.omf_canon.specs.Skeleton.{end_byte, skeleton};
+ghost use Rattle.omf_canon.specs.Skeleton.{skeleton};
 ghost use Rattle.omf_canon.specs.Form.{IsFormOf};
-ghost use Rattle.omf_canon.specs.PlainBytes.{start_bytes};
 ghost use Rattle.omf_canon.specs.Inner.Writing.{Held, held, record_bytes, closed, has_room, held_with, closed_by, piece_puts, CanPut, subrecord_piece, subrecord_pieces, contents_pieces, ArePut, IsJoined, is_data, begins_short};
 
 use crate::laws;

@@ -3,7 +3,8 @@ use Rattle.std.proofs.Common.{◌≡◌, ℕ, ◌<◌, Bool, List, [], ◌∷◌
 use Rattle.std.specs.Prelude.{fold}
 use Rattle.std.specs.Option.{option_or}
 use Rattle.std.proofs.lemmas.List.{append-nil}
-use Rattle.omf_records.specs.Values.{Subrecord, thread_number}
+use Rattle.omf_records.specs.Inner.Names.{thread_number}
+use Rattle.omf_records.specs.Values.{Subrecord}
 use Rattle.omf_image.proofs.LastLaws.{last_filter_map}
 use Rattle.omf_check.specs.Threads.{setting_of, thread}
 use Rattle.omf_check.specs.Inner.Cells.{Cells, no_cells, set_cell, cells_after}

@@ -13,6 +13,7 @@ use Rattle.omf_frame.specs.declared.fault.Reason.{Reason}
 use Rattle.omf_frame.specs.declared.fault.Reason.TheVariants as reason
 use Rattle.omf_frame.proofs.FaultLaws.{untrue}
 use Rattle.omf_image.specs.Limits.{profile_limits}
+use Rattle.omf_check.specs.Inner.Names.{may_go_on}
 use Rattle.omf_check.specs.declared.fault.CheckFault.{CheckFault}
 use Rattle.omf_check.specs.declared.fault.CheckFault.TheVariants as check
 use Rattle.omf_check.specs.declared.profile.Profile.{Profile}
@@ -22,7 +23,7 @@ use Rattle.omf_check.specs.Inner.Passing.{IsPassing, here}
 use Rattle.omf_check.specs.Inner.Taking.{HasTaken}
 use Rattle.omf_check.specs.Module.{Module, records_in}
 use Rattle.omf_check.specs.Refusal.{IsRefused, EndsWhereJudged, AreSoundSoFar}
-use Rattle.omf_check.specs.Session.{Seen, IsOpen, Takes, FailsAs, IsCause, Finishes, IsEndFault, RefusesHere, next_bytes, may_go_on, want_of, want_with}
+use Rattle.omf_check.specs.Session.{Seen, IsOpen, Takes, FailsAs, IsCause, Finishes, IsEndFault, RefusesHere, next_bytes, want_of, want_with}
 use Rattle.omf_check.specs.WellFormed.{IsAccepted, IsWellFormed}
 use Rattle.omf_check.proofs.Moving.{taken_bound}
 use Rattle.omf_check.proofs.Passing.{open_here}

@@ -13,13 +13,14 @@ use Rattle.omf_records.specs.Values.{At, Rec, Contents, Header, Comment, Names, 
 use Rattle.omf_image.specs.Blocks.{blocks_size}
 use Rattle.omf_image.specs.Inner.Expanding.{blocks_of}
 use Rattle.omf_image.specs.declared.limits.Limits.{Limits}
+use Rattle.omf_check.specs.Inner.Names.{subrecord_rules}
 use Rattle.omf_check.specs.declared.profile.Profile.{Profile}
 use Rattle.omf_check.specs.declared.threads.Threads.{Threads}
 use Rattle.omf_check.specs.declared.segment.SegInfo.{SegInfo}
 use Rattle.omf_check.specs.Tables.{names, segments, groups, externals, item_count, subrecords, last_data, entries, is_defined, is_none_or_defined}
 use Rattle.omf_check.specs.Threads.{Kind, FrameMethod, Of, F4, F5, TargetMethod, frame_of, target_of}
 use Rattle.omf_records.specs.declared.method.Kind.TheVariants as kinds
-use Rattle.omf_check.specs.Rules.{table_limit, item_limit, room, places, item_places, names_entry, names_entry_or_none, data_rules, frame_rules, target_rules, judged_at, reference_rules, location_rule, subrecord_rules, subrecord_rules_at, is_location_frame, start_rules, contents_rules, rules, undefined}
+use Rattle.omf_check.specs.Rules.{table_limit, item_limit, room, places, item_places, names_entry, names_entry_or_none, data_rules, frame_rules, target_rules, judged_at, reference_rules, location_rule, subrecord_rules_at, is_location_frame, start_rules, contents_rules, rules, undefined}
 use Rattle.omf_check.specs.Inner.Kept.{Kept, Tells, HasThreads, set_thread, last_kept}
 use Rattle.omf_check.specs.Inner.Judging.{fault_unless, lesser, room_fault, optional_fault, kept_length, data_fault, kept_entries, frame_fault, target_fault, frame_cell, reference_fault, location_fault, subrecord_fault, subrecords_fault, start_fault, members_fault, contents_fault}
 use Rattle.omf_check.proofs.Lesser.{fault_of, fault_append, fault_one, fault_cons}

@@ -9,10 +9,12 @@ use Rattle.std.proofs.Math.ListN.{length-set}
 use Rattle.std.proofs.lemmas.Grind.{flat_map-append}
 use Rattle.std.specs.List.{last_or}
 use Rattle.omf_frame.specs.Bytes.{last}
-use Rattle.omf_records.specs.Values.{At, Rec, Contents, Names, Segment, Group, Externs, Communals, Plain, Iterated, Fixups, Subrecord, Thread, Fixup, thread_is_frame, thread_method, thread_number}
+use Rattle.omf_records.specs.Inner.Names.{thread_number}
+use Rattle.omf_records.specs.Values.{At, Rec, Contents, Names, Segment, Group, Externs, Communals, Plain, Iterated, Fixups, Subrecord, Thread, Fixup, thread_is_frame, thread_method}
 use Rattle.omf_frame.specs.Types.{is_local}
+use Rattle.omf_check.specs.Inner.Names.{frame_from, target_from}
 use Rattle.omf_check.specs.Tables.{names, groups, externals, item_count, items_in, subrecords, subrecords_in, data_in, defined_names, defined_segments, defined_groups, defined_externals}
-use Rattle.omf_check.specs.Threads.{Setting, setting, setting_of, same, frame_from, target_from, thread}
+use Rattle.omf_check.specs.Threads.{Setting, setting, setting_of, same, thread}
 use Rattle.omf_check.specs.Inner.Kept.{Kept, Tells, HasThreads, kept_frame, kept_target, set_thread, set_threads, no_threads, nothing_kept, with_contents, with_record, starts, last_kept}
 use Rattle.omf_check.specs.declared.threads.Threads.{Threads}
 use Rattle.omf_check.proofs.CellLaws.{thread-append, few_numbers}

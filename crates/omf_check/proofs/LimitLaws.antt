@@ -1,6 +1,6 @@
 -- A module within some limits on blocks is within all larger limits.
 use Rattle.std.proofs.Common.{◌≡◌, ℕ, ◌≤◌, List, ◌++◌, refl, sym, ◌∙◌, ap, subst}
-use Rattle.omf_frame.specs.Fault.{AreKept}
+use Rattle.omf_frame.specs.Inner.Names.{AreKept}
 use Rattle.omf_frame.specs.Framing.{Raw}
 use Rattle.omf_records.specs.Inner.Reading.{typed}
 use Rattle.omf_records.specs.Values.{Rec, Contents, Header, Iterated, width}

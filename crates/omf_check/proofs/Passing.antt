@@ -20,13 +20,14 @@ use Rattle.omf_frame.proofs.Standing.{present_twice, present_part, whole_present
 use Rattle.omf_frame.proofs.StepLaws.{clean_steps, framed_of}
 use Rattle.omf_records.specs.Inner.Steps.{AreBytes-front, AreBytes-back}
 use Rattle.omf_image.specs.Limits.{profile_limits}
+use Rattle.omf_check.specs.Inner.Names.{IsModule}
 use Rattle.omf_check.specs.declared.fault.CheckFault.TheVariants as check
 use Rattle.omf_check.specs.declared.profile.Profile.{Profile}
 use Rattle.omf_check.specs.Inner.Judging.{raw_fault}
 use Rattle.omf_check.specs.Inner.Kept.{Kept}
 use Rattle.omf_check.specs.Refusal.{IsRefused, AreSoundSoFar, faults_after, record_steps, is_empty}
 use Rattle.omf_check.specs.WellFormed.{IsAccepted}
-use Rattle.omf_check.specs.Session.{Seen, IsOpen, IsModule}
+use Rattle.omf_check.specs.Session.{Seen, IsOpen}
 use Rattle.omf_check.specs.Inner.Passing.{IsPassing, refused_at}
 use Rattle.omf_check.proofs.AcceptLaws.{never_both}
 use Rattle.omf_check.proofs.RecordLaws.{raw_law}

@@ -10,7 +10,8 @@ use Rattle.omf_records.specs.Inner.Reading.{read_body}
 use Rattle.omf_records.specs.Inner.RecordReaders.{contents_whole}
 use Rattle.omf_records.proofs.ReasonLaws.{layout_inner}
 use Rattle.omf_records.specs.Values.{At, Contents, Comment, Names, Segment, Group, Externs, Publics, Communals, Plain, Iterated, Fixups, ModEnd, Header, Subrecord, Thread, Fixup, Reference, width}
-use Rattle.omf_image.specs.Blocks.{Blocks, too_deep, block, blocks, Repeat, Nest, gathered, blocks_size}
+use Rattle.omf_image.specs.Inner.Names.{too_deep}
+use Rattle.omf_image.specs.Blocks.{Blocks, block, blocks, Repeat, Nest, gathered, blocks_size}
 use Rattle.omf_image.specs.Inner.BlockReaders.{blocks_whole}
 use Rattle.omf_image.specs.Inner.Expanding.{read_blocks, blocks_of, faults_of, length_or, expanded_length}
 use Rattle.omf_image.specs.declared.limits.Limits.{Limits}

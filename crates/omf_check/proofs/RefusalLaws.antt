@@ -3,6 +3,7 @@ use Rattle.std.proofs.Common.{◌≡◌, ℕ, List, [], ◌∷◌, ◌++◌, ref
 use Rattle.std.specs.Prelude.{nat_le, flat_map}
 use Rattle.std.proofs.lemmas.List.{take-append-le, length-take}
 use Rattle.std.proofs.lemmas.Bool.{leb-true}
+use Rattle.omf_check.specs.Inner.Names.{steps}
 use Rattle.omf_check.specs.declared.profile.Profile.{Profile}
 use Rattle.omf_image.specs.declared.limits.Limits.{Limits}
 use Rattle.omf_frame.specs.declared.fault.Place.{Place}
@@ -10,7 +11,7 @@ use Rattle.omf_frame.specs.declared.fault.Reason.{Reason}
 use Rattle.omf_frame.specs.declared.fault.Reason.TheVariants as reason
 use Rattle.omf_frame.specs.Fault.{Fault, IsLeast, first_step, broken, rule}
 use Rattle.omf_frame.specs.Framing.{Raw, raw_bytes, present, type_faults}
-use Rattle.omf_check.specs.Refusal.{IsRefused, steps}
+use Rattle.omf_check.specs.Refusal.{IsRefused}
 
 -- the least of one fault is that fault
 only_one : (f g : Fault) → IsLeast (f ∷ []) g → g ≡ f

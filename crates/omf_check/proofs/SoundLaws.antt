@@ -4,9 +4,10 @@ use Rattle.std.specs.Prelude.{Option, Some, None, option_map, unwrap_or, All, Is
 use Rattle.std.proofs.lemmas.Bool.{leb-true, le-leb, eqb-true, true≢false}
 use Rattle.std.proofs.lemmas.List.{append-nil, map-append}
 use Rattle.std.proofs.lemmas.List.Elements.{All-cons, All-nil}
+use Rattle.omf_frame.specs.Inner.Names.{AreKept}
 use Rattle.omf_frame.proofs.FaultLaws.{untrue, all_cons}
 use Rattle.omf_frame.specs.Bytes.{with_before}
-use Rattle.omf_frame.specs.Fault.{Fault, Rule, rule, broken, AreKept, least, first_step}
+use Rattle.omf_frame.specs.Fault.{Fault, Rule, rule, broken, least, first_step}
 use Rattle.omf_frame.specs.declared.fault.Reason.TheVariants as reason
 use Rattle.omf_frame.specs.Fields.{IsLittle}
 use Rattle.omf_frame.specs.Inner.FieldLaws.{little_fits}
@@ -16,16 +17,17 @@ use Rattle.omf_image.specs.Blocks.{Blocks, blocks_size, AreBlocks}
 use Rattle.omf_image.specs.Inner.BlockReaders.{blocks_whole}
 use Rattle.omf_image.specs.Inner.Expanding.{blocks_of, blocks_or_none, expanded_length, faults_of, length_or}
 use Rattle.omf_image.specs.declared.limits.Limits.{Limits}
+use Rattle.omf_records.specs.Inner.Names.{location_size}
 use Rattle.omf_records.specs.Layout.{when, le}
-use Rattle.omf_records.specs.Location.{location_size}
 use Rattle.omf_records.specs.Inner.Reading.{typed}
 use Rattle.omf_records.specs.Records.{contents, data_item, mod_end, IsTyped}
 use Rattle.omf_records.specs.Values.{At, Rec, Contents, Header, Names, Plain, Iterated, Fixups, ModEnd, DataItem, Subrecord, Thread, Fixup, Reference, width, is_wide, location_type, location_offset, Segment, SegmentItem, Group, GroupItem, Publics, PublicItems, is_big}
 use Rattle.omf_records.proofs.LaidOut.{IsLaidOut, laid-out}
-use Rattle.omf_check.specs.Rules.{contents_rules, room, table_limit, item_limit, item_places, data_rules, names_entry, names_entry_or_none, frame_rules, target_rules, reference_rules, judged_at, location_rule, subrecord_rules, start_rules, is_location_frame, length_of_segment}
+use Rattle.omf_check.specs.Inner.Names.{subrecord_rules, frame_from, target_from}
+use Rattle.omf_check.specs.Rules.{contents_rules, room, table_limit, item_limit, item_places, data_rules, names_entry, names_entry_or_none, frame_rules, target_rules, reference_rules, judged_at, location_rule, start_rules, is_location_frame, length_of_segment}
 use Rattle.omf_check.specs.Sound.{FrameIsDefined, TargetIsDefined, ReferenceHolds, FixupHolds, SubrecordHolds, SubrecordsHold, StartHolds, DataHolds, BlocksHold, SegmentHolds, GroupHolds, PublicsHold, ContentsHold, is_module_end, ModuleHolds}
 use Rattle.omf_check.specs.Tables.{names, segments, groups, is_defined, item_count, subrecords, last_data, segment_length}
-use Rattle.omf_check.specs.Threads.{FrameMethod, Of, F4, F5, TargetMethod, T0, frame_from, target_from, frame_setting, target_setting, frame_of, target_of}
+use Rattle.omf_check.specs.Threads.{FrameMethod, Of, F4, F5, TargetMethod, T0, frame_setting, target_setting, frame_of, target_of}
 use Rattle.omf_check.specs.WellFormed.{IsWellFormed, HasTrees, recs}
 use Rattle.omf_check.specs.declared.profile.Profile.{Profile}
 use Rattle.omf_check.proofs.AcceptLaws.{all_left, all_right, all_middle}

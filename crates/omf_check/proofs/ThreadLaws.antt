@@ -1,11 +1,13 @@
 -- The threads kept are always those in force.
 use Rattle.std.proofs.Common.{◌≡◌, ◌<◌, Bool, true, false, List, arith, refl, cond}
 use Rattle.std.specs.Prelude.{Option, Some, option_map}
-use Rattle.omf_records.specs.Values.{Subrecord, Reference, frame_by_thread, frame_thread, frame_bits, target_by_thread, target_bits}
+use Rattle.omf_records.specs.Inner.Names.{frame_thread}
+use Rattle.omf_records.specs.Values.{Subrecord, Reference, frame_by_thread, frame_bits, target_by_thread, target_bits}
+use Rattle.omf_check.specs.Inner.Names.{frame_from, target_from}
 use Rattle.omf_check.specs.Inner.Judging.{frame_cell, target_cell}
 use Rattle.omf_check.specs.Inner.Kept.{HasThreads}
 use Rattle.omf_check.specs.Laws.{ThreadsAreKept}
-use Rattle.omf_check.specs.Threads.{setting, frame_from, target_from, thread, frame_of, target_of}
+use Rattle.omf_check.specs.Threads.{setting, thread, frame_of, target_of}
 use Rattle.omf_check.specs.declared.threads.Threads.{Threads}
 use Rattle.omf_check.proofs.KeptLaws.{threads_more, threads_all, nothing_tells}
 

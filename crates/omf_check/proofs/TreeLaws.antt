@@ -15,7 +15,7 @@ use Rattle.omf_image.specs.Blocks.{Blocks, blocks_size, AreBlocks}
 use Rattle.omf_image.specs.Inner.BlockReaders.{blocks_whole}
 use Rattle.omf_image.specs.Inner.Expanding.{read_blocks, faults_of, blocks_or_none}
 use Rattle.omf_image.specs.declared.limits.Limits.{Limits}
-use Rattle.omf_check.specs.Refusal.{moved, short_or_deep, too_long}
+use Rattle.omf_check.specs.Inner.Names.{moved, short_or_deep, too_long}
 use Rattle.omf_check.specs.WellFormed.{HasTrees}
 
 -- the bytes of blocks in contents

@@ -2,13 +2,14 @@
 use Rattle.std.proofs.Common.{◌≡◌, ℕ, suc, ◌+◌, ◌<◌, List, [], ◌∷◌, ◌++◌, refl, sym, ◌∙◌, ap, subst, length, arith, append_assoc}
 use Rattle.std.specs.Prelude.{All, flat_map}
 use Rattle.std.proofs.lemmas.List.{append_cancel_left, append-nil}
+use Rattle.omf_check.specs.Inner.Names.{steps, place_after}
 use Rattle.omf_check.specs.declared.profile.Profile.{Profile}
 use Rattle.omf_image.specs.declared.limits.Limits.{Limits}
 use Rattle.omf_frame.specs.Fault.{Fault, IsLeast, first_step}
 use Rattle.omf_frame.specs.Framing.{Raw, raw_bytes, IsRecord, present, front_record}
 use Rattle.omf_frame.specs.declared.fault.Reason.{Reason}
 use Rattle.omf_frame.specs.declared.fault.Place.{Place}
-use Rattle.omf_check.specs.Refusal.{steps, IsRefused, place_after}
+use Rattle.omf_check.specs.Refusal.{IsRefused}
 use Rattle.omf_frame.proofs.FaultLaws.{least_unique}
 use Rattle.omf_frame.proofs.FramingLaws.{present_raw, front_raw}
 

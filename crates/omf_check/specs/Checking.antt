@@ -1,4 +1,5 @@
 -- The results of a check, and how far it reads.
+use Rattle.omf_frame.specs.Framing.{is_end_of_input}
 use Rattle.std.specs.Prelude.{◌≡◌, ◌⊎◌, ◌<◌, IsTrue, ⊤, ℕ, List, drop, length, Option, Result, Ok, Err}
 use Rattle.std.specs.Io.KnownBytes.{Consumes, IsAtEnd}
 use Rattle.omf_frame.specs.Device.{Device, HasFailed, GivesUp}
@@ -7,7 +8,6 @@ use Rattle.omf_frame.specs.declared.fault.Reason.{Reason}
 use Rattle.omf_image.specs.Limits.{profile_limits}
 use Rattle.omf_check.specs.Module.{Module, records_in}
 use Rattle.omf_check.specs.Refusal.{IsRefused, EndsWhereJudged, AreSoundSoFar}
-use Rattle.omf_check.specs.Session.{may_go_on}
 use Rattle.omf_check.specs.WellFormed.{IsAccepted}
 use Rattle.omf_check.specs.declared.fault.CheckFault.{CheckFault}
 use Rattle.omf_check.specs.declared.fault.CheckFault.TheVariants.{Memory, Read, Refused}
@@ -17,7 +17,7 @@ use Rattle.omf_check.specs.declared.profile.Profile.{Profile}
 -- else up to where the record at fault is refused.
 abbrev pub IsReadTo : Profile → List ℕ → Option (List ℕ) → Reason → Place → Type 0
 IsReadTo profile read left why at =
-    IsRefused profile profile_limits read why at × ((IsTrue (may_go_on why) × IsAtEnd left) ⊎ EndsWhereJudged why (drop at.start read))
+    IsRefused profile profile_limits read why at × ((IsTrue (is_end_of_input why) × IsAtEnd left) ⊎ EndsWhereJudged why (drop at.start read))
 
 -- The bytes read, possibly none, have no refusal other than for ending too early.
 abbrev pub IsUndecided : Profile → Option (List ℕ) → Option (List ℕ) → Type 0

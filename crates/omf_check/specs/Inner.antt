@@ -9,3 +9,4 @@ pub mod Passing
 pub mod Points
 pub mod Verdict
 pub mod Walking
+pub mod Names

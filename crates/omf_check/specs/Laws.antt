@@ -1,13 +1,13 @@
 -- Laws of the definitions, each the contract of a function of the same name.
 use Rattle.std.specs.Prelude.{◌≡◌, ◌≢◌, ◌⊎◌, ◌↔◌, ◌<◌, ◌≤◌, ℕ, Bool, false, IsTrue, List, [], ◌∷◌, ◌++◌, map, flat_map, drop}
 use Rattle.std.specs.Option.{option_or}
-use Rattle.omf_frame.specs.Bytes.{AreBytes}
+use Rattle.omf_frame.specs.Bytes.{AreBytes, bits}
 use Rattle.omf_frame.specs.Framing.{Raw, raw_bytes, is_end_of_input}
 use Rattle.omf_frame.specs.declared.fault.Place.{Place}
 use Rattle.omf_frame.specs.declared.fault.Reason.{Reason}
 use Rattle.omf_frame.specs.declared.fault.Reason.TheVariants as reason
 use Rattle.omf_image.specs.declared.limits.Limits.{Limits}
-use Rattle.omf_records.specs.Values.{At, Subrecord, Reference, thread_number}
+use Rattle.omf_records.specs.Values.{At, Subrecord, Reference}
 -- computed: cells_are_threads of omf_check.
 use Rattle.omf_check.specs.Inner.Cells.{cells_after}
 -- computed: threads_are_kept of omf_check.
@@ -90,7 +90,7 @@ RefusalsAreJudged = (profile : Profile) (limits : Limits) (input : List ℕ) (wh
 abbrev pub CellsAreThreads : Type 0
 CellsAreThreads = ((subs : List Subrecord) (is_frame : Bool) (k : ℕ) → cells_after subs is_frame k ≡ thread is_frame k subs)
     × ((subs : List Subrecord) (s : Subrecord) (is_frame : Bool) (k : ℕ) → thread is_frame k (subs ++ s ∷ []) ≡ option_or (setting_of is_frame k s) (thread is_frame k subs))
-    × ((byte : ℕ) → thread_number byte < 4)
+    × ((byte : ℕ) → (bits byte 0 2) < 4)
 
 -- A module that is well-formed with some limits on blocks is well-formed with all larger limits.
 abbrev pub LimitsMayGrow : Type 0

@@ -15,27 +15,20 @@ use Rattle.omf_check.specs.Rules.{rules}
 use Rattle.omf_check.specs.WellFormed.{IsWellFormed, recs}
 use Rattle.omf_check.specs.declared.profile.Profile.{Profile}
 
--- Faults whose places count from a place in the record, with places that count from its start.
+-- A fault whose place counts from a place in the record, with a place that counts from its start.
 abbrev pub fault_from : ℕ → Fault → Fault
 fault_from at f = record f { within = at + f.within }
 
-abbrev pub moved : ℕ → List Fault → List Fault
-moved at fs = map (fault_from at) fs
+-- Faults of the blocks of an LIDATA, which follow its offset.
+abbrev pub of_blocks : (ℕ → Limits → List ℕ → List Fault) → Limits → ℕ → Contents → List Fault
+of_blocks faults limits kind (Iterated d) = map (fault_from (d.offset.within + width kind)) (faults (width kind) limits d.bytes)
+of_blocks faults limits kind _ = []
 
--- The faults of the blocks of an LIDATA, which follow its offset: the first Short or TooDeep; and DataTooLong.
-abbrev pub short_or_deep : Limits → ℕ → Contents → List Fault
-short_or_deep limits kind (Iterated d) = moved (d.offset.within + width kind) (block_faults (width kind) limits d.bytes)
-short_or_deep limits kind _ = []
-
-abbrev pub too_long : Limits → ℕ → Contents → List Fault
-too_long limits kind (Iterated d) = moved (d.offset.within + width kind) (length_faults (width kind) limits d.bytes)
-too_long limits kind _ = []
-
--- The faults of a whole record after these records, in the order of the steps that check them: layout and blocks; the length of
--- the blocks' bytes; meaning.
+-- The faults of a whole record after these records, in the order of the steps that check them: layout, and the first Short or TooDeep of
+-- blocks; DataTooLong; meaning.
 abbrev pub record_steps : Profile → Limits → List Raw → Raw → List (List Fault)
-record_steps profile limits before r = (layout_faults r ++ short_or_deep limits r.kind (typed r).contents)
-    ∷ too_long limits r.kind (typed r).contents
+record_steps profile limits before r = (layout_faults r ++ of_blocks block_faults limits r.kind (typed r).contents)
+    ∷ of_blocks length_faults limits r.kind (typed r).contents
     ∷ broken (rules profile limits (recs before) (typed r))
     ∷ []
 
@@ -43,17 +36,9 @@ abbrev pub is_empty : List Raw → Bool
 is_empty [] = true
 is_empty (r ∷ rs) = false
 
--- The faults of the bytes present of one record after these records, by step: those of framing first.
-abbrev pub steps : Profile → Limits → List Raw → List ℕ → List (List Fault)
-steps profile limits before bytes = frame_steps (is_empty before) bytes ++ record_steps profile limits before (front_record bytes)
-
--- The faults of the first step that has any.
+-- The faults of the bytes present of one record after these records: those of the first step that has any; framing comes first.
 abbrev pub faults_after : Profile → Limits → List Raw → List ℕ → List Fault
-faults_after profile limits before bytes = first_step (steps profile limits before bytes)
-
--- The place of a fault in the input.
-abbrev pub place_after : List Raw → Fault → Place
-place_after before f = record { number = length before; start = length (flat_map raw_bytes before); within = f.within }
+faults_after profile limits before bytes = first_step (frame_steps (is_empty before) bytes ++ record_steps profile limits before (front_record bytes))
 
 -- The input is refused for this reason at this place: it begins with records without fault, none of them a MODEND, and this is the
 -- first fault, in the first step that has any, of the bytes that follow them.
@@ -67,7 +52,7 @@ pub record IsRefused (profile : Profile) (limits : Limits) (input : List ℕ) (w
   pub sound : (earlier later : List Raw) (r : Raw) → before ≡ earlier ++ r ∷ later → faults_after profile limits earlier (raw_bytes r) ≡ []
   pub least : IsLeast (faults_after profile limits before (present rest)) fault
   pub named : why ≡ fault.reason
-  pub there : at ≡ place_after before fault
+  pub there : at ≡ (record { number = length before; start = length (flat_map raw_bytes before); within = fault.within })
 
 -- The bytes of a record at fault end where it is refused for this reason: after its type byte, after a length of 0, or at its end.
 -- NoEnd and Cut are decided only by the end of the input.

@@ -5,14 +5,14 @@ use Rattle.omf_frame.specs.Bytes.{with_before}
 use Rattle.omf_frame.specs.Fault.{Rule, rule}
 use Rattle.omf_frame.specs.declared.fault.Reason.{Reason}
 use Rattle.omf_frame.specs.declared.fault.Reason.TheVariants as reason
-use Rattle.omf_records.specs.Location.{location_size}
-use Rattle.omf_records.specs.Values.{At, Rec, Contents, Header, Comment, Names, Segment, Group, Externs, Publics, Communals, Plain, Iterated, Fixups, ModEnd, Carried, DataItem, Subrecord, Thread, Fixup, Reference, width, location_type, location_offset}
+use Rattle.omf_records.specs.Location.{row_of}
+use Rattle.omf_records.specs.Values.{At, Rec, Contents, Comment, Names, Segment, Group, Externs, Publics, Communals, Plain, Iterated, Fixups, ModEnd, DataItem, Subrecord, Thread, Fixup, Reference, width, location_type, location_offset}
 use Rattle.omf_image.specs.Blocks.{blocks_size}
 -- computed: blocks_are_read and lengths_are_decided of omf_image.
 use Rattle.omf_image.specs.Inner.Expanding.{blocks_of}
 use Rattle.omf_image.specs.declared.limits.Limits.{Limits}
 use Rattle.omf_check.specs.Tables.{names, segments, groups, externals, is_defined, is_none_or_defined, entry, item_count, subrecords, last_data, entries}
-use Rattle.omf_check.specs.Threads.{Kind, FrameMethod, Of, F4, F5, TargetMethod, frame_of, target_of}
+use Rattle.omf_check.specs.Threads.{Kind, FrameMethod, Of, F4, TargetMethod, frame_of, target_of}
 use Rattle.omf_records.specs.declared.method.Kind.TheVariants as kinds
 use Rattle.omf_check.specs.declared.profile.Profile.{Profile}
 
@@ -70,8 +70,7 @@ target_rules before at (Some t) = rule (is_defined (entries before t.kind) t.ind
 abbrev pub frame_rules : List Rec → ℕ → Option FrameMethod → List Rule
 frame_rules before at None = rule false at reason.UndefinedThread ∷ []
 frame_rules before at (Some (Of t)) = target_rules before at (Some t)
-frame_rules before at (Some F4) = []
-frame_rules before at (Some F5) = []
+frame_rules before at (Some _) = []
 
 -- The place of a fault of a frame or a target: its own datum, or the fix data byte if it has none.
 abbrev pub judged_at : Reference → Option (At ℕ) → ℕ
@@ -83,7 +82,7 @@ reference_rules before earlier r = frame_rules before (judged_at r r.frame) (fra
 -- The location of a fixup is within the data of the last data record, which is an LEDATA. (Fixups on the blocks of an LIDATA are refused: this
 -- profile's rule.)
 abbrev pub location_rule : Option Contents → ℕ → ℕ → Rule
-location_rule (Some (Plain d)) within locat = rule (nat_le (location_offset locat + location_size (location_type locat)) (length d.bytes)) within reason.OutsideRecord
+location_rule (Some (Plain d)) within locat = rule (nat_le (location_offset locat + (row_of (location_type locat)).size) (length d.bytes)) within reason.OutsideRecord
 location_rule (Some _) within locat = rule false within reason.FixupOnIterated
 location_rule None within locat = rule false within reason.NoDataRecord
 
@@ -91,9 +90,6 @@ location_rule None within locat = rule false within reason.NoDataRecord
 abbrev pub subrecord_rules_at : List Rec → List Subrecord → ℕ → Subrecord → List Rule
 subrecord_rules_at before earlier within (Thread byte datum) = []
 subrecord_rules_at before earlier within (Fixup locat r) = location_rule (last_data before) within locat ∷ reference_rules before (subrecords before ++ earlier) r
-
-abbrev pub subrecord_rules : List Rec → List (At Subrecord) → At Subrecord → List Rule
-subrecord_rules before earlier s = subrecord_rules_at before (map (λ e. e.item) earlier) s.within s.item
 
 -- The start of a MODEND is a reference whose frame method is not F4.
 abbrev pub is_location_frame : Option FrameMethod → Bool
@@ -107,7 +103,6 @@ start_rules before (Some r) = reference_rules before (subrecords before) r
 
 -- The rules of a record of this type, by its contents. A SEGDEF or a GRPDEF above the limit has its fault at 3.
 abbrev pub contents_rules : Profile → Limits → List Rec → ℕ → Contents → List Rule
-contents_rules profile limits before kind (Header name) = []
 contents_rules profile limits before kind (Comment byte class text) = comment_rules profile class
 contents_rules profile limits before kind (Names items) = room table_limit (length (names before)) (places items)
 contents_rules profile limits before kind (Segment s) = room table_limit (length (segments before)) (3 ∷ [])
@@ -122,9 +117,9 @@ contents_rules profile limits before kind (Publics p) = names_entry_or_none (len
 contents_rules profile limits before kind (Communals items) = room table_limit (length (externals before)) (places items)
 contents_rules profile limits before kind (Plain d) = data_rules before d (length d.bytes)
 contents_rules profile limits before kind (Iterated d) = data_rules before d (blocks_size (blocks_of (width kind) limits d.bytes))
-contents_rules profile limits before kind (Fixups subs) = with_before (subrecord_rules before) [] subs
+contents_rules profile limits before kind (Fixups subs) = with_before (λ earlier s. subrecord_rules_at before (map (λ e. e.item) earlier) s.within s.item) [] subs
 contents_rules profile limits before kind (ModEnd byte start) = start_rules before start
-contents_rules profile limits before kind (Carried bytes) = []
+contents_rules profile limits before kind _ = []
 
 -- All the rules of a record, given the records before it.
 abbrev pub rules : Profile → Limits → List Rec → Rec → List Rule

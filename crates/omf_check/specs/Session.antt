@@ -1,7 +1,7 @@
 -- Sessions, as callers see them, and their calls.
 use Rattle.std.specs.Prelude.{◌≡◌, ◌≢◌, ◌⊎◌, ◌≤◌, ◌<◌, ◌^◌, IsTrue, ℕ, slice_index, Bool, true, false, not, ◌&&◌, ◌||◌, is_some, min, if◌then◌else◌, List, [], ◌++◌, length, take, drop, Option, Some, None, Result, Ok, Err}
 use Rattle.omf_frame.specs.Framer.{begins_record}
-use Rattle.omf_frame.specs.Framing.{Raw, is_end_of_input, is_nonempty, is_taken, is_whole, present, wanted, record_len}
+use Rattle.omf_frame.specs.Framing.{Raw, is_nonempty, is_taken, is_whole, present, wanted, record_len}
 use Rattle.omf_frame.specs.declared.fault.Place.{Place}
 use Rattle.omf_frame.specs.declared.fault.Reason.{Reason}
 use Rattle.omf_image.specs.Limits.{profile_limits}
@@ -37,19 +37,11 @@ want_with s ahead = if is_nonempty s.taken && (begins_record s.at_hand ahead && 
 abbrev pub next_bytes : Seen → List ℕ → List ℕ
 next_bytes s piece = if s.ended then [] else present (s.at_hand ++ piece)
 
--- The bytes taken are a module and nothing else.
-abbrev pub IsModule : Profile → List ℕ → Type 0
-IsModule profile bytes = (records : List Raw) × IsWellFormed profile profile_limits bytes records
-
--- Whether the reason is that the input ends too early. More bytes can remove such a refusal.
-abbrev pub may_go_on : Reason → Bool
-may_go_on why = is_end_of_input why
-
 -- A session without a fault: the bytes taken have no refusal other than for ending too early; and they are a module exactly if the
 -- session has ended.
 pub record IsOpen (s : Seen) : Type 0 where
   pub sound : AreSoundSoFar s.profile profile_limits s.taken
-  pub ended : s.ended ≡ true → IsModule s.profile s.taken
+  pub ended : s.ended ≡ true → (records : List Raw) × IsWellFormed s.profile profile_limits s.taken records
   pub running : s.ended ≡ false → (records : List Raw) → IsAccepted s.profile profile_limits s.taken records → ⊥
   pub bounded : length s.taken < 2 ^ 37
   pub wants : s.ended ≡ false → 0 < wanted s.at_hand

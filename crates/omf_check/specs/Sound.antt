@@ -1,13 +1,13 @@
 -- Guarantees for the records of a well-formed module: no thread, entry, data or byte that a record refers to is missing.
-use Rattle.std.specs.Prelude.{◌≡◌, ◌≢◌, ◌≤◌, ℕ, ◌+◌, ◌^◌, List, [], ◌∷◌, ◌++◌, length, map, All, Bool, true, false, ◌==◌, Some, None, is_some, IsSome, IsOk, ⊤}
-use Rattle.omf_records.specs.Location.{location_size}
+use Rattle.std.specs.Prelude.{◌≡◌, ◌≢◌, ◌≤◌, ℕ, ◌+◌, ◌^◌, List, [], ◌∷◌, ◌++◌, length, map, All, Bool, true, false, ◌==◌, Some, is_some, IsSome, IsOk, ⊤}
+use Rattle.omf_records.specs.Location.{row_of}
 use Rattle.omf_records.specs.Values.{At, Rec, Contents, Segment, SegmentItem, Group, GroupItem, Publics, PublicItems, Plain, Iterated, Fixups, ModEnd, DataItem, Subrecord, Thread, Fixup, Reference, width, location_type, location_offset}
 -- computed: blocks_are_read and lengths_are_decided of omf_image.
 use Rattle.omf_image.specs.Inner.Expanding.{expanded, expanded_length}
 use Rattle.omf_image.specs.declared.limits.Limits.{Limits}
 use Rattle.omf_check.specs.Rules.{length_of_segment}
 use Rattle.omf_check.specs.Tables.{names, segments, groups, entries, is_defined, is_none_or_defined, subrecords, last_data, segment_length}
-use Rattle.omf_check.specs.Threads.{FrameMethod, Of, F4, F5, TargetMethod, frame_setting, target_setting, plain}
+use Rattle.omf_check.specs.Threads.{FrameMethod, Of, F4, TargetMethod, frame_setting, target_setting, plain}
 
 -- The entry that a target refers to is in its table after these records.
 abbrev pub TargetIsDefined : List Rec → TargetMethod → Type 0
@@ -16,8 +16,7 @@ TargetIsDefined before t = is_defined (entries before t.kind) t.index ≡ true
 -- The entry that a frame refers to is in its table after these records; F4 and F5 refer to none.
 abbrev pub FrameIsDefined : List Rec → FrameMethod → Type 0
 FrameIsDefined before (Of t) = TargetIsDefined before t
-FrameIsDefined before F4 = ⊤
-FrameIsDefined before F5 = ⊤
+FrameIsDefined before _ = ⊤
 
 -- A reference after these records and subrecords: its threads are set, and its frame and its target are defined.
 pub record ReferenceHolds (before : List Rec) (earlier : List Subrecord) (r : Reference) : Type 0 where
@@ -30,7 +29,7 @@ pub record ReferenceHolds (before : List Rec) (earlier : List Subrecord) (r : Re
 pub record FixupHolds (before : List Rec) (earlier : List Subrecord) (locat : ℕ) (r : Reference) : Type 0 where
   pub data_record : DataItem
   pub last : last_data before ≡ Some (Plain data_record)
-  pub inside : location_offset locat + location_size (location_type locat) ≤ length data_record.bytes
+  pub inside : location_offset locat + (row_of (location_type locat)).size ≤ length data_record.bytes
   pub reference : ReferenceHolds before earlier r
 
 abbrev pub SubrecordHolds : List Rec → List Subrecord → Subrecord → Type 0
@@ -85,7 +84,6 @@ ContentsHold limits before kind (Segment s) = SegmentHolds before kind s
 ContentsHold limits before kind (Group g) = GroupHolds before g
 ContentsHold limits before kind (Publics p) = PublicsHold before p
 ContentsHold limits before kind (Fixups subs) = SubrecordsHold before subs
-ContentsHold limits before kind (ModEnd byte None) = ⊤
 ContentsHold limits before kind (ModEnd byte (Some r)) = StartHolds before r
 ContentsHold limits before kind _ = ⊤
 

@@ -1,19 +1,16 @@
 -- The tables that records define, in their order (TIS OMF 1.1, LNAMES, LLNAMES, SEGDEF, GRPDEF, EXTDEF, COMDEF, LEXTDEF, LCOMDEF).
 -- Indices count from 1.
-use Rattle.std.specs.Prelude.{ℕ, ◌-◌, ◌^◌, List, [], ◌∷◌, length, map, flat_map, sum_by, max, Bool, ◌&&◌, nat_le, Option, None, slice_get, if◌then◌else◌}
+use Rattle.std.specs.Prelude.{ℕ, ◌-◌, ◌^◌, List, [], ◌∷◌, length, map, flat_map, sum_by, max, Bool, ◌&&◌, nat_le, Option, None, slice_get, if◌then◌else◌, ◌*◌}
 use Rattle.omf_frame.specs.Bytes.{last}
 use Rattle.omf_frame.specs.Types.{is_local}
-use Rattle.omf_records.specs.Values.{Rec, Contents, Names, Segment, Group, Externs, Communals, Fixups, Plain, Iterated, SegmentItem, GroupItem, Subrecord, is_big, width_bits}
+use Rattle.omf_records.specs.Values.{Rec, Contents, Names, Segment, Group, Externs, Communals, Fixups, Plain, Iterated, SegmentItem, GroupItem, Subrecord, is_big, width}
 use Rattle.omf_records.specs.declared.method.Kind.{Kind}
 use Rattle.omf_records.specs.declared.method.Kind.TheVariants as kinds
 use Rattle.omf_check.specs.declared.segment.SegInfo.{SegInfo}
 
 -- The length of a segment in bytes: 2^16 for a big segment of 98H, 2^32 for one of 99H, else the length field.
 abbrev pub segment_length : ℕ → SegmentItem → ℕ
-segment_length kind s = if is_big s.attribute then 2 ^ width_bits kind else s.size
-
-abbrev pub segment_info : ℕ → SegmentItem → SegInfo
-segment_info kind s = record { length = segment_length kind s; absolute = s.absolute; name = s.name.item; class = s.class.item }
+segment_length kind s = if is_big s.attribute then 2 ^ (8 * width kind) else s.size
 
 -- The entries that one record defines. LNAMES and LLNAMES share one index space; EXTDEF, COMDEF, LEXTDEF and LCOMDEF share another.
 abbrev pub defined_names : Contents → List (List ℕ)
@@ -21,7 +18,7 @@ defined_names (Names items) = map (λ n. n.item) items
 defined_names _ = []
 
 abbrev pub defined_segments : ℕ → Contents → List SegInfo
-defined_segments kind (Segment s) = segment_info kind s ∷ []
+defined_segments kind (Segment s) = (record { length = segment_length kind s; absolute = s.absolute; name = s.name.item; class = s.class.item }) ∷ []
 defined_segments kind _ = []
 
 abbrev pub defined_groups : Contents → List GroupItem

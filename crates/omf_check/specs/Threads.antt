@@ -1,7 +1,7 @@
 -- Threads and plain references (TIS OMF 1.1, "FIXUPP": THREAD and FIXUP subrecords, frame and target methods).
-use Rattle.std.specs.Prelude.{ℕ, List, filter_map, Bool, true, false, ◌&&◌, ◌==◌, Option, Some, None, unwrap_or, option_map, if◌then◌else◌}
-use Rattle.omf_frame.specs.Bytes.{last}
-use Rattle.omf_records.specs.Values.{At, Subrecord, Thread, Fixup, Reference, thread_is_frame, thread_method, thread_number, frame_by_thread, frame_bits, frame_thread, target_by_thread, target_bits}
+use Rattle.std.specs.Prelude.{ℕ, List, filter_map, Bool, true, false, not, ◌&&◌, ◌==◌, Option, Some, None, unwrap_or, option_map, if◌then◌else◌}
+use Rattle.omf_frame.specs.Bytes.{last, bits}
+use Rattle.omf_records.specs.Values.{At, Subrecord, Thread, Fixup, Reference, thread_is_frame, thread_method, frame_by_thread, frame_bits, target_by_thread, target_bits}
 -- The tables that methods refer to, and frame methods without their index.
 pub use Rattle.omf_records.specs.declared.method.Kind.{Kind}
 use Rattle.omf_records.specs.declared.method.Kind.TheVariants as kinds
@@ -49,22 +49,14 @@ frame_by (codes.Of k) i = Of (record { kind = k; index = i })
 frame_by codes.Location i = F4
 frame_by codes.Target i = F5
 
-abbrev pub frame_from : Setting → FrameMethod
-frame_from s = frame_by (frame_code s.method) (unwrap_or s.datum 0)
-
-abbrev pub target_from : Setting → TargetMethod
-target_from s = record { kind = kind_of s.method; index = unwrap_or s.datum 0 }
-
 -- whether two truth values are equal
 abbrev pub same : Bool → Bool → Bool
-same true b = b
-same false true = false
-same false false = true
+same a b = if a then b else not b
 
 -- The setting that a subrecord makes, if it is a THREAD of this kind and number.
 abbrev pub setting_of : Bool → ℕ → Subrecord → Option Setting
 setting_of is_frame k (Thread byte datum) =
-    if same is_frame (thread_is_frame byte) && (thread_number byte == k) then Some (setting (thread_method byte) datum) else None
+    if same is_frame (thread_is_frame byte) && (bits byte 0 2 == k) then Some (setting (thread_method byte) datum) else None
 setting_of is_frame k (Fixup locat r) = None
 
 -- The setting of the thread of a kind and number: the last one made among all earlier subrecords of the module.
@@ -73,16 +65,16 @@ thread is_frame k earlier = last (filter_map (setting_of is_frame k) earlier)
 
 -- The frame and the target of a reference after these subrecords: by its own method, or by its thread.
 abbrev pub frame_setting : List Subrecord → Reference → Option Setting
-frame_setting earlier r = if frame_by_thread r.fix.item then thread true (frame_thread r.fix.item) earlier else Some (setting (frame_bits r.fix.item) r.frame)
+frame_setting earlier r = if frame_by_thread r.fix.item then thread true (bits r.fix.item 4 2) earlier else Some (setting (frame_bits r.fix.item) r.frame)
 
 abbrev pub target_setting : List Subrecord → Reference → Option Setting
 target_setting earlier r = if target_by_thread r.fix.item then thread false (target_bits r.fix.item) earlier else Some (setting (target_bits r.fix.item) r.target)
 
 abbrev pub frame_of : List Subrecord → Reference → Option FrameMethod
-frame_of earlier r = option_map frame_from (frame_setting earlier r)
+frame_of earlier r = option_map (λ s. frame_by (frame_code s.method) (unwrap_or s.datum 0)) (frame_setting earlier r)
 
 abbrev pub target_of : List Subrecord → Reference → Option TargetMethod
-target_of earlier r = option_map target_from (target_setting earlier r)
+target_of earlier r = option_map (λ s. record { kind = kind_of s.method; index = unwrap_or s.datum 0 }) (target_setting earlier r)
 
 -- A plain reference: methods without threads, and a displacement that is 0 if absent.
 pub record PlainReference : Type 0 where

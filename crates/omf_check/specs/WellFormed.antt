@@ -1,6 +1,5 @@
 -- Well-formed modules, and inputs that begin with one.
-use Rattle.std.specs.Prelude.{◌≡◌, ℕ, List, ◌∷◌, ◌++◌, map, All, ⊤}
-use Rattle.omf_frame.specs.Fault.{AreKept}
+use Rattle.std.specs.Prelude.{◌≡◌, ℕ, List, ◌∷◌, ◌++◌, map, All, ⊤, IsTrue}
 use Rattle.omf_frame.specs.Framing.{Raw, IsFramed}
 -- computed: readings_meet_layouts and contents_are_typed_once of omf_records.
 use Rattle.omf_records.specs.Inner.Reading.{typed}
@@ -26,7 +25,7 @@ pub record IsWellFormed (profile : Profile) (limits : Limits) (bytes : List ℕ)
   pub framed : IsFramed bytes records
   pub spelled : All (λ r. IsTyped (typed r) r.body) records
   pub blocks : All (λ r. HasTrees limits r.kind (typed r).contents) records
-  pub kept : (before after : List Raw) (r : Raw) → records ≡ before ++ r ∷ after → AreKept (rules profile limits (recs before) (typed r))
+  pub kept : (before after : List Raw) (r : Raw) → records ≡ before ++ r ∷ after → All (λ r. IsTrue r.holds) (rules profile limits (recs before) (typed r))
 
 -- The input begins with a well-formed module of these records; any bytes may follow.
 pub record IsAccepted (profile : Profile) (limits : Limits) (input : List ℕ) (records : List Raw) : Type 0 where

@@ -6,8 +6,9 @@ use Rattle.std.proofs.lemmas.Slice.Eq.{bytes_eq-Decides}
 use Rattle.clap.specs.Words.{App, Text, Row, fault_of, is_simple_and_free, one_of, subcommand_of}
 use Rattle.clap.specs.declared.parser.matches.ArgMatches.{ArgMatches}
 use Rattle.clap.proofs.OnLiterals.{clap_on_literals}
+use Rattle.omf_cmd.specs.Inner.Names.{flag}
 use Rattle.omf_cmd.specs.Parsed.{IsParse, IsParsed}
-use Rattle.omf_cmd.specs.Words.{asks, flag, flag_id, flag_text, job_name, job_named, jobs, omf_app, profile_of, with_flagged}
+use Rattle.omf_cmd.specs.Words.{asks, flag_id, flag_text, job_name, job_named, jobs, omf_app, profile_of, with_flagged}
 use Rattle.omf_cmd.specs.declared.words.Job.{Job}
 use Rattle.omf_cmd.specs.declared.words.Job.TheVariants as job
 use Rattle.omf_check.specs.declared.profile.Profile.{Profile}

@@ -4,9 +4,9 @@ use Rattle.std.specs.Prelude.{IfOk}
 use Rattle.clap.specs.Words.{Text, fault_of, subcommand_of}
 use Rattle.omf_check.specs.declared.profile.Profile.{Profile}
 use Rattle.omf_frame.specs.Device.{Device}
+use Rattle.omf_cmd.specs.Reports.{report, AnswersTo, IsFound, IsPerformed}
 use Rattle.omf_cmd.specs.Parsed.{IsParsed}
 use Rattle.omf_cmd.specs.Programs.{Acts, ProgramAnswers}
-use Rattle.omf_cmd.specs.Reports.{AnswersTo, IsFound, IsPerformed, report}
 use Rattle.omf_cmd.specs.Runs.{IsWritten, PrintsOr}
 use Rattle.omf_cmd.specs.Words.{asks, job_named, omf_app, profile_of, usage}
 use Rattle.omf_cmd.specs.declared.words.Job.{Job}

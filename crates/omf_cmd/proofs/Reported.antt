@@ -16,8 +16,8 @@ use Rattle.omf_records.specs.Values.{Rec, Contents, Group, GroupItem}
 use Rattle.omf_check.specs.Listed.{placed_from}
 use Rattle.omf_check.specs.Tables.{entry}
 use Rattle.omf_check.specs.WellFormed.{recs}
-use Rattle.omf_cmd.specs.Listing.{record_line}
 use Rattle.omf_frame.specs.Types.{type_name}
+use Rattle.omf_cmd.specs.Inner.Names.{record_line}
 use Rattle.omf_cmd.specs.Printed.{line}
 use Rattle.omf_placement.specs.Quoted.{hex}
 use Rattle.omf_cmd.specs.Runs.{IsPart}

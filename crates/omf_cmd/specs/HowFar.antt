@@ -1,5 +1,5 @@
 -- How far a run reads the input: no further than decides its answer.
-use Rattle.std.specs.Prelude.{◌≡◌, ◌⊎◌, ◌≤◌, ℕ, ◌+◌, List, ◌++◌, length, Option, Result, Ok, Err}
+use Rattle.std.specs.Prelude.{◌≡◌, ◌⊎◌, ◌≤◌, ℕ, ◌+◌, List, ◌++◌, length, Option, Result, Err}
 use Rattle.std.specs.Io.KnownBytes.{Consumes}
 use Rattle.omf_frame.specs.Framing.{Raw}
 use Rattle.omf_frame.specs.declared.fault.Place.{Place}
@@ -41,11 +41,8 @@ IsReadWithin profile input old new = (count : ℕ) × (count ≤ text_limit) × 
 -- How far `reloc` reads the input, by its answer: to where it is refused, to the first byte beyond the limit of the text, or to its end. If
 -- memory ran out or the reader failed, the bytes read are not refused, and their text is not too long.
 abbrev pub IsReadFor : Profile → List ℕ → Option (List ℕ) → Option (List ℕ) → Result (List ℕ) RunFault → Type 0
-IsReadFor profile input old new (Ok done) = Consumes old new input
-IsReadFor profile input old new (Err fault.Write) = Consumes old new input
-IsReadFor profile input old new (Err (fault.Line n)) = Consumes old new input
-IsReadFor profile input old new (Err (fault.Reach f)) = Consumes old new input
-IsReadFor profile input old new (Err fault.TooLong) = IsReadPast profile input old new (text_limit + 1)
 IsReadFor profile input old new (Err (fault.Refused why at)) = EndsAtRefusal profile old new why at
+IsReadFor profile input old new (Err fault.TooLong) = IsReadPast profile input old new (text_limit + 1)
 IsReadFor profile input old new (Err fault.Memory) = IsUnrefused profile old new ⊎ IsReadWithin profile input old new
 IsReadFor profile input old new (Err fault.Read) = IsUndecided profile old new ⊎ IsReadWithin profile input old new
+IsReadFor profile input old new _ = Consumes old new input

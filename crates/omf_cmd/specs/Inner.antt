@@ -2,3 +2,4 @@ pub mod FaultWords
 pub mod Printing
 pub mod RunLines
 pub mod Standing
+pub mod Names

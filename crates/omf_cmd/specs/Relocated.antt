@@ -20,13 +20,9 @@ place_text segment offset = hex 4 segment ++ 58 ∷ hex 8 offset
 abbrev pub byte_text : ℕ → List ℕ
 byte_text b = 32 ∷ hex 2 b
 
--- A line: the place of its first byte, and the bytes of an interval.
-abbrev pub bytes_line : (ℕ → List ℕ) → (ℕ → Option ℕ) → ℕ → ℕ → List ℕ
-bytes_line place byte first len = place first ++ flat_map (λ x. flat_map byte_text (option_to_list (byte x))) (range_with_len first len) ++ 10 ∷ []
-
 -- A run in lines of 16 bytes; the last line has what is left.
 abbrev pub run_lines : (ℕ → List ℕ) → (ℕ → Option ℕ) → Run → List ℕ
-run_lines place byte r = flat_map (λ k. bytes_line place byte (r.first + 16 * k) (min 16 (r.len - 16 * k))) (range_with_len 0 ((r.len + 15) / 16))
+run_lines place byte r = flat_map (λ k. (place (r.first + 16 * k) ++ flat_map (λ x. flat_map byte_text (option_to_list (byte x))) (range_with_len (r.first + 16 * k) (min 16 (r.len - 16 * k))) ++ 10 ∷ [])) (range_with_len 0 ((r.len + 15) / 16))
 
 -- The start: the selector in four digits, the offset in eight.
 abbrev pub start_line : Option (ℕ × ℕ) → List ℕ

@@ -60,14 +60,11 @@ IsOutcome m given (Err (fault.Reach f)) = reloc_outcome profile_limits m given �
 -- The answer to an input: the text to print, or the first fault of the module, the text or the placement. Memory may run out and the reader
 -- may fail at any time; the writer takes no part.
 abbrev pub Answers : Profile → List ℕ → Result (List ℕ) RunFault → Type 0
-Answers profile input (Ok text) = HasOutcome profile input (Ok text)
 Answers profile input (Err fault.Memory) = ⊤
 Answers profile input (Err fault.Read) = ⊤
 Answers profile input (Err fault.Write) = ⊥
 Answers profile input (Err (fault.Refused why at)) = IsRefused profile profile_limits input why at
-Answers profile input (Err (fault.Line n)) = HasOutcome profile input (Err (fault.Line n))
-Answers profile input (Err fault.TooLong) = HasOutcome profile input (Err fault.TooLong)
-Answers profile input (Err (fault.Reach f)) = HasOutcome profile input (Err (fault.Reach f))
+Answers profile input outcome = HasOutcome profile input outcome
 
 -- The answer to an input, and how far it is read.
 abbrev pub IsAnswered : Profile → List ℕ → Option (List ℕ) → Option (List ℕ) → Result (List ℕ) RunFault → Type 0

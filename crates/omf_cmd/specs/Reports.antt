@@ -44,9 +44,7 @@ Judges profile input records old new (Err fault.Write) = IsReadFrom profile inpu
 Judges profile input records old new (Err (fault.Refused why at)) = IsRefused profile profile_limits input why at × EndsAtRefusal profile old new why at
 Judges profile input records old new (Err fault.Memory) = (IsUnrefused profile old new × (records ≡ [])) ⊎ IsReadFrom profile input records old new
 Judges profile input records old new (Err fault.Read) = IsUndecided profile old new
-Judges profile input records old new (Err (fault.Line n)) = ⊥
-Judges profile input records old new (Err fault.TooLong) = ⊥
-Judges profile input records old new (Err (fault.Reach f)) = ⊥
+Judges profile input records old new _ = ⊥
 
 -- The result of a run that prints a text of the module's records, and what it reads and writes. `prints` gives how the text is written.
 abbrev pub ReportsBy : (Option (List ℕ) → Option (List ℕ) → Result (Unit {0}) RunFault → List ℕ → Type 0) → (List Raw → List ℕ) → Profile → Device → Device → Device → Device → Result (Unit {0}) RunFault → Type 0

@@ -6,7 +6,7 @@ use Rattle.omf_cmd.specs.declared.fault.RunFault.{RunFault}
 use Rattle.omf_cmd.specs.declared.fault.RunFault.TheVariants as fault
 use Rattle.omf_cmd.specs.declared.words.Job.{Job}
 use Rattle.omf_cmd.specs.declared.words.Job.TheVariants as job
-use Rattle.clap.specs.Words.{App, Rule, Text, new_app, new_rule, with_rule, with_subcommand}
+use Rattle.clap.specs.Words.{App, Text, new_app, new_rule, with_rule, with_subcommand}
 use Rattle.clap.specs.declared.builder.ArgAction.TheVariants.{SetTrue}
 
 -- The jobs, in the order of the usage line, and the names of their subcommands.
@@ -22,17 +22,13 @@ job_name job.Canon = codes "canon"
 abbrev pub job_named : List ℕ → Option Job
 job_named name = find (λ j. bytes_eq name (job_name j)) jobs
 
--- The flag that may follow a subcommand.
-abbrev pub flag : List ℕ
-flag = codes "--refuse-vendor-comments"
-
 abbrev pub profile_of : Bool → Profile
 profile_of refuses = record { refuse_vendor_comments = refuses }
 
 -- After the program's own name a subcommand, alone or followed by the flag.
 abbrev pub asks : List (List ℕ) → Option (Job × Profile)
 asks (program ∷ name ∷ []) = option_map (λ j. (j, profile_of false)) (job_named name)
-asks (program ∷ name ∷ f ∷ []) = if bytes_eq f flag then option_map (λ j. (j, profile_of true)) (job_named name) else None
+asks (program ∷ name ∷ f ∷ []) = if bytes_eq f (codes "--refuse-vendor-comments") then option_map (λ j. (j, profile_of true)) (job_named name) else None
 asks _ = None
 
 -- The exit status of a fault: 3 for memory and devices, 1 if the input is refused.
@@ -55,11 +51,8 @@ flag_text false = codes "false"
 abbrev pub flag_id : Text
 flag_id = codes "refuse-vendor-comments"
 
-abbrev pub flag_rule : Rule
-flag_rule = record (new_rule flag_id) { long = Some flag_id; action = Some SetTrue }
-
 abbrev pub with_flagged : App → Text → App
-with_flagged app name = with_subcommand app (with_rule (new_app name) flag_rule).top
+with_flagged app name = with_subcommand app (with_rule (new_app name) (record (new_rule flag_id) { long = Some flag_id; action = Some SetTrue })).top
 
 abbrev pub omf_app : App
 omf_app = fold with_flagged (new_app (codes "omf")) (map job_name jobs)

@@ -1,9 +1,10 @@
 //! Why a run of `omf` fails.
 
 ghost use Rattle.std.specs.Prelude.{◌≡◌};
+ghost use Rattle.omf_cmd.specs.Reports.{report};
 ghost use Rattle.omf_cmd.specs.declared.fault.RunFault.TheVariants.{Memory, Reach};
 ghost use Rattle.omf_cmd.specs.Relocating.{of_text, of_relocate};
-ghost use Rattle.omf_cmd.specs.Reports.{of_check, report};
+ghost use Rattle.omf_cmd.specs.Reports.{of_check};
 
 use crate::printed::print_fault;
 use crate::program::Fault;

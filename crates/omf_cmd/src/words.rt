@@ -1,7 +1,8 @@
 //! The arguments of `omf`.
 
 ghost use Rattle.std.specs.Prelude.{◌≡◌, ◌⊎◌, ℕ, List, [], map, string_bytes, IfOk, Bool, true, false, Some, None};
-ghost use Rattle.omf_cmd.specs.Words.{asks, flag_rule, job_name, job_named, omf_app, profile_of, with_flagged};
+ghost use Rattle.omf_cmd.specs.Inner.Names.{flag_rule};
+ghost use Rattle.omf_cmd.specs.Words.{asks, job_name, job_named, omf_app, profile_of, with_flagged};
 ghost use Rattle.clap.specs.Words.{app_of, fault_of, is_simple_and_free, rule_of, subcommand_of, subcommand_rows_of};
 ghost use Rattle.omf_cmd.specs.Parsed.{IsParse, IsParsed};
 

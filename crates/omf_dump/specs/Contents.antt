@@ -1,8 +1,9 @@
 -- What is shown of the contents of each record: their fields by the names of the standard (TIS OMF 1.1, the page of each record).
-use Rattle.std.specs.Prelude.{ℕ, ◌+◌, ◌-◌, ◌*◌, ◌^◌, List, [], ◌∷◌, ◌++◌, length, map, take, drop, not, ◌==◌, Option, Some, None, option_map, unwrap_or, Result, Ok, Err, nat_le, codes, if◌then◌else◌}
-use Rattle.omf_frame.specs.Bytes.{has_bit}
-use Rattle.omf_records.specs.Location.{location_size}
-use Rattle.omf_records.specs.Values.{At, SegmentItem, ExternalItem, PublicItem, CommunalSize, Near, Far, CommunalItem, Reference, Subrecord, Thread, Fixup, Contents, Header, Comment, Names, Segment, Group, Externs, Publics, Communals, Plain, Iterated, Fixups, ModEnd, Carried, alignment, combination, is_big, is_use32, thread_is_frame, thread_method, thread_number, is_segment_relative, location_type, location_offset, frame_by_thread, frame_thread, target_by_thread, target_bits}
+use Rattle.omf_records.specs.Methods.{frame_code, kind_of}
+use Rattle.std.specs.Prelude.{ℕ, ◌+◌, ◌-◌, ◌*◌, ◌^◌, List, [], ◌∷◌, ◌++◌, length, map, take, drop, not, Option, Some, None, option_map, unwrap_or, Result, Ok, Err, nat_le, codes, if◌then◌else◌}
+use Rattle.omf_frame.specs.Bytes.{has_bit, bits}
+use Rattle.omf_records.specs.Location.{row_of}
+use Rattle.omf_records.specs.Values.{At, SegmentItem, ExternalItem, PublicItem, CommunalSize, Near, Far, CommunalItem, Reference, Subrecord, Thread, Fixup, Contents, Header, Comment, Names, Segment, Group, Externs, Publics, Communals, Plain, Iterated, Fixups, ModEnd, Carried, alignment, combination, is_big, is_use32, thread_is_frame, thread_method, is_segment_relative, location_type, location_offset, frame_by_thread, target_by_thread, target_bits}
 use Rattle.omf_frame.specs.Types.{width_bytes}
 use Rattle.omf_frame.specs.declared.kinds.Width.{Width}
 use Rattle.omf_frame.specs.declared.kinds.Width.TheVariants.{Bits16}
@@ -14,7 +15,7 @@ use Rattle.omf_records.specs.declared.method.Kind.{Kind}
 use Rattle.omf_check.specs.declared.method.FrameMethod.{FrameMethod}
 use Rattle.omf_check.specs.declared.method.FrameMethod.TheVariants as frames
 use Rattle.omf_check.specs.declared.method.TargetMethod.{TargetMethod}
-use Rattle.omf_check.specs.Threads.{setting, frame_from, target_from, frame_of, target_of}
+use Rattle.omf_check.specs.Threads.{setting, frame_of, target_of, frame_by}
 use Rattle.omf_dump.specs.Blocks.{blocks_from}
 use Rattle.omf_dump.specs.Comments.{class_fields, class_items}
 use Rattle.omf_dump.specs.Fields.{Entry, Value, Number, Hex, Word, Characters, Marked, Named, Method, Flag, Field, field, Item, item, Shown, only_fields, with_items, with_block}
@@ -136,7 +137,7 @@ abbrev pub target_thread_of : Reference → Option ℕ
 target_thread_of r = if target_by_thread r.fix.item then Some (target_bits r.fix.item) else None
 
 abbrev pub frame_thread_of : Reference → Option ℕ
-frame_thread_of r = if frame_by_thread r.fix.item then Some (frame_thread r.fix.item) else None
+frame_thread_of r = if frame_by_thread r.fix.item then Some (bits r.fix.item 4 2) else None
 
 abbrev pub displacement_if : Width → Option ℕ → List Field
 displacement_if width None = []
@@ -159,10 +160,10 @@ abbrev pub bytes_before : Option Data → ℕ → List ℕ
 bytes_before fixed locat = drop (location_offset locat - 4) (take (location_offset locat) (data_or_none fixed))
 
 abbrev pub location_bytes : Option Data → ℕ → List ℕ
-location_bytes fixed locat = take (location_size (location_type locat)) (drop (location_offset locat) (data_or_none fixed))
+location_bytes fixed locat = take ((row_of (location_type locat)).size) (drop (location_offset locat) (data_or_none fixed))
 
 abbrev pub bytes_after : Option Data → ℕ → List ℕ
-bytes_after fixed locat = take 4 (drop (location_offset locat + location_size (location_type locat)) (data_or_none fixed))
+bytes_after fixed locat = take 4 (drop (location_offset locat + (row_of (location_type locat)).size) (data_or_none fixed))
 
 abbrev pub marked_location : Option Data → ℕ → Value
 marked_location fixed locat = Marked (bytes_before fixed locat) (location_bytes fixed locat) (bytes_after fixed locat)
@@ -174,8 +175,8 @@ location_fields fixed width locat = field (codes "at") (Hex (digits width) (loca
 -- A THREAD: its kind and number, and the method that it sets.
 abbrev pub thread_fields : Tables → ℕ → Option (At ℕ) → List Field
 thread_fields t byte datum =
-    if thread_is_frame byte then field (codes "frame-thread") (Number (thread_number byte)) ∷ field (codes "frame") (frame_value t (Some (frame_from (setting (thread_method byte) datum)))) ∷ []
-    else field (codes "target-thread") (Number (thread_number byte)) ∷ field (codes "target") (target_value t (Some (target_from (setting (thread_method byte) datum)))) ∷ []
+    if thread_is_frame byte then field (codes "frame-thread") (Number (bits byte 0 2)) ∷ field (codes "frame") (frame_value t (Some (frame_by (frame_code (setting (thread_method byte) datum).method) (unwrap_or (setting (thread_method byte) datum).datum 0)))) ∷ []
+    else field (codes "target-thread") (Number (bits byte 0 2)) ∷ field (codes "target") (target_value t (Some (record { kind = kind_of (setting (thread_method byte) datum).method; index = unwrap_or (setting (thread_method byte) datum).datum 0 }))) ∷ []
 
 -- A subrecord of a FIXUPP, after these records' tables, data and subrecords.
 abbrev pub subrecord_fields : Tables → Option Data → Width → List Subrecord → Subrecord → List Field

@@ -2,7 +2,8 @@
 
 ghost use Rattle.std.specs.Prelude.{◌≡◌, ◌∷◌, [], ◌+◌, Some, None, codes};
 ghost use Rattle.omf_frame.specs.Bytes.{AddsText};
-ghost use Rattle.omf_check.specs.Threads.{frame_from, setting, target_from};
+ghost use Rattle.omf_check.specs.Inner.Names.{frame_from, target_from};
+ghost use Rattle.omf_check.specs.Threads.{setting};
 ghost use Rattle.omf_dump.specs.Contents.{displacement_if, entry_value, frame_thread_of, frame_value, kind_entry, data_or_none, kind_word, location_fields, location_place, marked_location, reference_fields, target_thread_of, target_value, thread_fields, thread_if};
 ghost use Rattle.omf_dump.specs.Fields.{field};
 ghost use Rattle.omf_dump.specs.Render.{fields_text, value_text};

@@ -3,7 +3,8 @@
 ghost use Rattle.std.specs.Prelude.{◌≡◌, OnOk, true};
 ghost use Rattle.omf_frame.specs.Bytes.{AddsText};
 ghost use Rattle.omf_records.specs.Values.{thread_method};
-ghost use Rattle.omf_check.specs.Threads.{frame_from, index_or_none, setting, target_from};
+ghost use Rattle.omf_check.specs.Inner.Names.{frame_from, target_from};
+ghost use Rattle.omf_check.specs.Threads.{index_or_none, setting};
 ghost use Rattle.omf_check.specs.Inner.Kept.{set_threads};
 ghost use Rattle.omf_dump.specs.Contents.{thread_fields};
 ghost use Rattle.omf_dump.specs.Inner.Resolving.{reference_fields_by, start_items_by, subrecord_fields_by, subrecord_items_by};

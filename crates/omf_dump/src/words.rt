@@ -1,7 +1,7 @@
 //! The words for packed fields, classes and types (TIS OMF 1.1).
 
 ghost use Rattle.std.specs.Prelude.{◌≡◌};
-ghost use Rattle.omf_records.specs.Location.{location_number};
+ghost use Rattle.omf_records.specs.Inner.Names.{location_number};
 ghost use Rattle.omf_records.specs.Methods.{alignment_number, combination_number};
 ghost use Rattle.omf_dump.specs.Words.{alignment_word, class_word, combination_word, location_word, subtype_word};
 

@@ -5,9 +5,10 @@ use Rattle.std.proofs.lemmas.Bool.{leb-true, le-leb, eqb-true, eq-eqb}
 use Rattle.std.proofs.lemmas.Bool.Decides.{leb_tells}
 use Rattle.std.proofs.Common.{inl, inr}
 use Rattle.std.proofs.Common.{lit<}
+use Rattle.omf_frame.specs.Inner.Names.{AreKept}
 use Rattle.omf_frame.specs.declared.fault.Reason.{Reason}
 use Rattle.omf_frame.specs.declared.fault.Reason.TheVariants as reason
-use Rattle.omf_frame.specs.Fault.{Fault, IsLeast, is_before, least_or, Rule, AreKept, broken, reason_number}
+use Rattle.omf_frame.specs.Fault.{Fault, IsLeast, is_before, least_or, Rule, broken, reason_number}
 
 -- what every element of a list satisfies, the first and the others
 pub all_cons : {A : Type 0} (P : A → Type 0) (x : A) (xs : List A) → P x → All P xs → All P (x ∷ xs)

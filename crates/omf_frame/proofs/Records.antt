@@ -2,13 +2,14 @@
 use Rattle.std.proofs.Common.{◌≡◌, ◌⊎◌, inl, inr, ℕ, suc, ◌+◌, ◌*◌, ◌-◌, ◌%◌, ◌<◌, ◌≤◌, Bool, true, false, not, ◌||◌, get_or, List, [], ◌∷◌, Some, None, Err, length, sum, refl, arith}
 use Rattle.std.specs.Prelude.{◌==◌, nat_le, slice_index}
 use borrow.Author.Tests.{eqb-true, eqb-false, leb-true}
+use Rattle.omf_frame.specs.Inner.Names.{is_unsupported}
 use Rattle.omf_frame.specs.declared.fault.Reason.TheVariants.{NoEnd, Cut}
 use Rattle.omf_frame.specs.Bytes.{AreBytes}
 use Rattle.omf_frame.specs.Fault.{Fault}
 use Rattle.omf_frame.specs.declared.fault.Reason.{Reason}
 use Rattle.omf_frame.specs.declared.fault.FrameFault.TheVariants.{Refused}
 use Rattle.omf_frame.specs.Framer.{Held, stop_of}
-use Rattle.omf_frame.specs.Framing.{IsRecord, raw_bytes, front_record, is_whole, is_taken, is_unsupported, is_header, frame_fault, standing_fault, record_len}
+use Rattle.omf_frame.specs.Framing.{IsRecord, raw_bytes, front_record, is_whole, is_taken, is_header, frame_fault, standing_fault, record_len}
 use Rattle.omf_frame.proofs.Judged.{all_hold, cut_tests}
 use Rattle.omf_frame.proofs.FramingLaws.{raw_front, body_length}
 

@@ -2,8 +2,9 @@
 use Rattle.std.proofs.Common.{◌≡◌, ℕ, List, [], ◌∷◌, refl, subst, Bool, true, false, Option, Some, None}
 use Rattle.std.specs.Prelude.{IsTrue, ◌||◌, ◌&&◌, ◌==◌, find, if◌then◌else◌}
 use Rattle.std.proofs.lemmas.Bool.{eqb-true}
+use Rattle.omf_frame.specs.Inner.Names.{is_same, types_of, types_treated}
 use Rattle.omf_frame.specs.Bytes.{is_one_of}
-use Rattle.omf_frame.specs.Types.{row, record_types, type_of, is_same, types_treated, types_of, is_treated}
+use Rattle.omf_frame.specs.Types.{row, record_types, type_of, is_treated}
 use Rattle.omf_frame.specs.Inner.Typed.{has_treatment}
 use Rattle.omf_frame.specs.declared.kinds.RecordType.{RecordType}
 use Rattle.omf_frame.specs.declared.kinds.Treatment.{Treatment}

@@ -1,115 +1,62 @@
 -- The faults of a record, and which of them is reported.
-use Rattle.std.specs.Prelude.{ℕ, List, [], ◌∷◌, Option, Some, None, All, Contains, Bool, nat_lt, nat_le, ◌==◌, ◌&&◌, ◌||◌, if◌then◌else◌, IsTrue, codes}
+use denote.Enum.Declared.{tag_of}
+use Rattle.std.specs.Prelude.{ℕ, ◌+◌, List, [], ◌∷◌, Option, Some, None, All, Contains, Bool, nat_lt, nat_le, ◌==◌, ◌&&◌, ◌||◌, if◌then◌else◌, IsTrue, codes}
 use Rattle.omf_frame.specs.declared.fault.Reason.{Reason}
+use Rattle.omf_frame.specs.contracts.fault.Reason.{the_type}
 use Rattle.omf_frame.specs.declared.fault.Reason.TheVariants as reason
 
--- the number of a reason
+-- The number of a reason: its place in the declaration of Reason, from 1.
 abbrev pub reason_number : Reason → ℕ
-reason_number reason.NoEnd = 1
-reason_number reason.Cut = 2
-reason_number reason.UnknownType = 3
-reason_number reason.UnsupportedType = 4
-reason_number reason.EmptyRecord = 5
-reason_number reason.Checksum = 6
-reason_number reason.NoHeader = 7
-reason_number reason.Short = 8
-reason_number reason.Long = 9
-reason_number reason.Alignment = 10
-reason_number reason.BigLength = 11
-reason_number reason.GroupComponent = 12
-reason_number reason.CommunalType = 13
-reason_number reason.CommunalLength = 14
-reason_number reason.FrameMethod = 15
-reason_number reason.TargetMethod = 16
-reason_number reason.LocationType = 17
-reason_number reason.SelfRelative = 18
-reason_number reason.TooDeep = 19
-reason_number reason.DataTooLong = 20
-reason_number reason.UndefinedName = 21
-reason_number reason.UndefinedSegment = 22
-reason_number reason.UndefinedGroup = 23
-reason_number reason.UndefinedExternal = 24
-reason_number reason.UndefinedThread = 25
-reason_number reason.OutsideSegment = 26
-reason_number reason.OutsideRecord = 27
-reason_number reason.NoDataRecord = 28
-reason_number reason.FixupOnIterated = 29
-reason_number reason.TooMany = 30
-reason_number reason.OtherDialect = 31
-reason_number reason.VendorComment = 32
-reason_number reason.StartFrame = 33
+reason_number r = tag_of the_type r + 1
 
--- the name of a reason
+-- A reason: its name, and what it means.
+pub record ReasonRow : Type 0 where
+  pub name : List ℕ
+  pub sentence : List ℕ
+
+abbrev pub reason_of : List ℕ → List ℕ → ReasonRow
+reason_of name sentence = record { name = name; sentence = sentence }
+
+abbrev pub reason_row : Reason → ReasonRow
+reason_row reason.NoEnd = reason_of (codes "NoEnd") (codes "the input ends before a MODEND")
+reason_row reason.Cut = reason_of (codes "Cut") (codes "the input ends inside a record")
+reason_row reason.UnknownType = reason_of (codes "UnknownType") (codes "the record's type is unknown")
+reason_row reason.UnsupportedType = reason_of (codes "UnsupportedType") (codes "the record's type is not read")
+reason_row reason.EmptyRecord = reason_of (codes "EmptyRecord") (codes "the record's length is 0")
+reason_row reason.Checksum = reason_of (codes "Checksum") (codes "the record's checksum is wrong")
+reason_row reason.NoHeader = reason_of (codes "NoHeader") (codes "the first record is no header")
+reason_row reason.Short = reason_of (codes "Short") (codes "a field does not fit into its record")
+reason_row reason.Long = reason_of (codes "Long") (codes "bytes are left over in the record")
+reason_row reason.Alignment = reason_of (codes "Alignment") (codes "the segment's alignment has no meaning")
+reason_row reason.BigLength = reason_of (codes "BigLength") (codes "a Big segment has a length")
+reason_row reason.GroupComponent = reason_of (codes "GroupComponent") (codes "the group's component is no segment")
+reason_row reason.CommunalType = reason_of (codes "CommunalType") (codes "the communal is neither near nor far")
+reason_row reason.CommunalLength = reason_of (codes "CommunalLength") (codes "the communal's length is invalid")
+reason_row reason.FrameMethod = reason_of (codes "FrameMethod") (codes "the frame method is not read")
+reason_row reason.TargetMethod = reason_of (codes "TargetMethod") (codes "the target method is not read")
+reason_row reason.LocationType = reason_of (codes "LocationType") (codes "the location's type is unknown")
+reason_row reason.SelfRelative = reason_of (codes "SelfRelative") (codes "the location cannot be self-relative")
+reason_row reason.TooDeep = reason_of (codes "TooDeep") (codes "blocks are nested too deep")
+reason_row reason.DataTooLong = reason_of (codes "DataTooLong") (codes "repeated data are too long")
+reason_row reason.UndefinedName = reason_of (codes "UndefinedName") (codes "the name is not defined")
+reason_row reason.UndefinedSegment = reason_of (codes "UndefinedSegment") (codes "the segment is not defined")
+reason_row reason.UndefinedGroup = reason_of (codes "UndefinedGroup") (codes "the group is not defined")
+reason_row reason.UndefinedExternal = reason_of (codes "UndefinedExternal") (codes "the external is not defined")
+reason_row reason.UndefinedThread = reason_of (codes "UndefinedThread") (codes "the thread is not set")
+reason_row reason.OutsideSegment = reason_of (codes "OutsideSegment") (codes "data pass the end of their segment")
+reason_row reason.OutsideRecord = reason_of (codes "OutsideRecord") (codes "the location passes the end of its data")
+reason_row reason.NoDataRecord = reason_of (codes "NoDataRecord") (codes "a fixup precedes any data")
+reason_row reason.FixupOnIterated = reason_of (codes "FixupOnIterated") (codes "a fixup applies to repeated data")
+reason_row reason.TooMany = reason_of (codes "TooMany") (codes "a limit of the module's tables is passed")
+reason_row reason.OtherDialect = reason_of (codes "OtherDialect") (codes "the module is of another dialect")
+reason_row reason.VendorComment = reason_of (codes "VendorComment") (codes "a vendor's comment is refused")
+reason_row reason.StartFrame = reason_of (codes "StartFrame") (codes "the start's frame is that of a location")
+
 abbrev pub reason_name : Reason → List ℕ
-reason_name reason.NoEnd = codes "NoEnd"
-reason_name reason.Cut = codes "Cut"
-reason_name reason.UnknownType = codes "UnknownType"
-reason_name reason.UnsupportedType = codes "UnsupportedType"
-reason_name reason.EmptyRecord = codes "EmptyRecord"
-reason_name reason.Checksum = codes "Checksum"
-reason_name reason.NoHeader = codes "NoHeader"
-reason_name reason.Short = codes "Short"
-reason_name reason.Long = codes "Long"
-reason_name reason.Alignment = codes "Alignment"
-reason_name reason.BigLength = codes "BigLength"
-reason_name reason.GroupComponent = codes "GroupComponent"
-reason_name reason.CommunalType = codes "CommunalType"
-reason_name reason.CommunalLength = codes "CommunalLength"
-reason_name reason.FrameMethod = codes "FrameMethod"
-reason_name reason.TargetMethod = codes "TargetMethod"
-reason_name reason.LocationType = codes "LocationType"
-reason_name reason.SelfRelative = codes "SelfRelative"
-reason_name reason.TooDeep = codes "TooDeep"
-reason_name reason.DataTooLong = codes "DataTooLong"
-reason_name reason.UndefinedName = codes "UndefinedName"
-reason_name reason.UndefinedSegment = codes "UndefinedSegment"
-reason_name reason.UndefinedGroup = codes "UndefinedGroup"
-reason_name reason.UndefinedExternal = codes "UndefinedExternal"
-reason_name reason.UndefinedThread = codes "UndefinedThread"
-reason_name reason.OutsideSegment = codes "OutsideSegment"
-reason_name reason.OutsideRecord = codes "OutsideRecord"
-reason_name reason.NoDataRecord = codes "NoDataRecord"
-reason_name reason.FixupOnIterated = codes "FixupOnIterated"
-reason_name reason.TooMany = codes "TooMany"
-reason_name reason.OtherDialect = codes "OtherDialect"
-reason_name reason.VendorComment = codes "VendorComment"
-reason_name reason.StartFrame = codes "StartFrame"
+reason_name r = (reason_row r).name
 
--- what a reason means
 abbrev pub sentence : Reason → List ℕ
-sentence reason.NoEnd = codes "the input ends before a MODEND"
-sentence reason.Cut = codes "the input ends inside a record"
-sentence reason.UnknownType = codes "the record's type is unknown"
-sentence reason.UnsupportedType = codes "the record's type is not read"
-sentence reason.EmptyRecord = codes "the record's length is 0"
-sentence reason.Checksum = codes "the record's checksum is wrong"
-sentence reason.NoHeader = codes "the first record is no header"
-sentence reason.Short = codes "a field does not fit into its record"
-sentence reason.Long = codes "bytes are left over in the record"
-sentence reason.Alignment = codes "the segment's alignment has no meaning"
-sentence reason.BigLength = codes "a Big segment has a length"
-sentence reason.GroupComponent = codes "the group's component is no segment"
-sentence reason.CommunalType = codes "the communal is neither near nor far"
-sentence reason.CommunalLength = codes "the communal's length is invalid"
-sentence reason.FrameMethod = codes "the frame method is not read"
-sentence reason.TargetMethod = codes "the target method is not read"
-sentence reason.LocationType = codes "the location's type is unknown"
-sentence reason.SelfRelative = codes "the location cannot be self-relative"
-sentence reason.TooDeep = codes "blocks are nested too deep"
-sentence reason.DataTooLong = codes "repeated data are too long"
-sentence reason.UndefinedName = codes "the name is not defined"
-sentence reason.UndefinedSegment = codes "the segment is not defined"
-sentence reason.UndefinedGroup = codes "the group is not defined"
-sentence reason.UndefinedExternal = codes "the external is not defined"
-sentence reason.UndefinedThread = codes "the thread is not set"
-sentence reason.OutsideSegment = codes "data pass the end of their segment"
-sentence reason.OutsideRecord = codes "the location passes the end of its data"
-sentence reason.NoDataRecord = codes "a fixup precedes any data"
-sentence reason.FixupOnIterated = codes "a fixup applies to repeated data"
-sentence reason.TooMany = codes "a limit of the module's tables is passed"
-sentence reason.OtherDialect = codes "the module is of another dialect"
-sentence reason.VendorComment = codes "a vendor's comment is refused"
-sentence reason.StartFrame = codes "the start's frame is that of a location"
+sentence r = (reason_row r).sentence
 
 -- a fault of a record: the offset in the record of the field at fault, and the reason
 pub record Fault : Type 0 where
@@ -149,10 +96,6 @@ pub record Rule : Type 0 where
 
 abbrev pub rule : Bool → ℕ → Reason → Rule
 rule holds within r = record { holds = holds; within = within; reason = r }
-
--- all rules hold
-abbrev pub AreKept : List Rule → Type 0
-AreKept rules = All (λ r. IsTrue r.holds) rules
 
 -- the faults of the rules that do not hold
 abbrev pub broken : List Rule → List Fault

@@ -1,7 +1,8 @@
 -- Records, and how they form a module (TIS OMF 1.1, "Object record format" and "Order of records").
+use Rattle.omf_frame.specs.declared.kinds.RecordType.TheVariants.{Theadr, Lheadr, Modend}
 use Rattle.std.specs.Prelude.{◌≡◌, ℕ, ◌+◌, ◌*◌, ◌-◌, ◌/◌, ◌%◌, ◌<◌, ◌⊎◌, List, [], ◌∷◌, ◌++◌, length, sum, take, drop, All, flat_map, Bool, true, false, not, ◌||◌, ◌==◌, nat_le, IsTrue, slice_index, Option, Some, None, if◌then◌else◌}
 use Rattle.omf_frame.specs.Bytes.{is_one_of}
-use Rattle.omf_frame.specs.Types.{theadr, lheadr, modend, is_treated}
+use Rattle.omf_frame.specs.Types.{is_treated, row}
 use Rattle.omf_frame.specs.declared.kinds.Treatment.TheVariants.{Read, Carried, Refused}
 use Rattle.omf_frame.specs.Fault.{Fault, rule, broken, least, first_step}
 use Rattle.omf_frame.specs.declared.fault.Reason.{Reason}
@@ -34,16 +35,12 @@ raw_of kind body = record { kind = kind; body = body; checksum = checksum_of kin
 abbrev pub is_taken : ℕ → Bool
 is_taken kind = is_treated Read kind || is_treated Carried kind
 
--- The type is known, and a module with such a record is refused.
-abbrev pub is_unsupported : ℕ → Bool
-is_unsupported kind = is_treated Refused kind
-
 -- A module begins with a THEADR or an LHEADR, and ends with a MODEND.
 abbrev pub is_header : ℕ → Bool
-is_header kind = is_one_of (theadr ++ lheadr) kind
+is_header kind = is_one_of ((row Theadr).bytes ++ (row Lheadr).bytes) kind
 
 abbrev pub is_end : ℕ → Bool
-is_end kind = is_one_of modend kind
+is_end kind = is_one_of (row Modend).bytes kind
 
 -- The bytes are these records, of types that a module may have: a header first, a MODEND last and nowhere else.
 pub record IsFramed (bytes : List ℕ) (records : List Raw) : Type 0 where
@@ -92,7 +89,7 @@ front_record bytes = record { kind = slice_index bytes 0; body = []; checksum = 
 
 -- The faults of a type byte.
 abbrev pub type_faults : ℕ → List Fault
-type_faults kind = broken (rule (is_taken kind || is_unsupported kind) 0 reason.UnknownType ∷ rule (not (is_unsupported kind)) 0 reason.UnsupportedType ∷ [])
+type_faults kind = broken (rule (is_taken kind || (is_treated Refused kind)) 0 reason.UnknownType ∷ rule (not (is_treated Refused kind)) 0 reason.UnsupportedType ∷ [])
 
 -- The framing faults of the bytes present of one record, in the order of the checks: the input ends before the record, the type
 -- byte, the input ends inside the record, a length of 0, the checksum, a first record that is not a header.

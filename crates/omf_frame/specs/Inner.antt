@@ -3,3 +3,4 @@ pub mod FieldLaws
 pub mod Judging
 pub mod Standing
 pub mod Typed
+pub mod Names

@@ -1,8 +1,9 @@
 //! The types of records, and the width of their fields (TIS OMF 1.1, "Record types").
 
 ghost use Rattle.std.specs.Prelude.{◌≡◌};
-ghost use Rattle.omf_frame.specs.Types.{row, type_of, type_name, is_local, is_same, is_treated, width_of, width_bytes};
-ghost use Rattle.omf_frame.specs.Framing.{is_taken, is_unsupported, is_header, is_end};
+ghost use Rattle.omf_frame.specs.Inner.Names.{is_same, is_unsupported};
+ghost use Rattle.omf_frame.specs.Types.{row, type_of, type_name, is_local, is_treated, width_of, width_bytes};
+ghost use Rattle.omf_frame.specs.Framing.{is_taken, is_header, is_end};
 
 use std::fmt;
 

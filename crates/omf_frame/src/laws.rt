@@ -1,11 +1,12 @@
 //! Laws of the definitions, for all inputs.
 
 ghost use Rattle.std.specs.Prelude.{◌≡◌, ◌+◌, ◌<◌, ℕ, Bool, true, not, ◌||◌, IsTrue, List, [], ◌∷◌, ◌++◌, length, take, flat_map, Some, None};
+ghost use Rattle.omf_frame.specs.Inner.Names.{AreKept};
 ghost use Rattle.omf_frame.specs.declared.fault.Reason.{Reason};
 ghost use Rattle.omf_frame.specs.declared.fault.Place.{Place};
 ghost use Rattle.omf_frame.specs.declared.fault.FrameFault.TheVariants.{Refused};
 ghost use Rattle.omf_frame.specs.Bytes.{AreBytes};
-ghost use Rattle.omf_frame.specs.Fault.{Fault, reason_number, IsLeast, least, least_or, Rule, AreKept, broken};
+ghost use Rattle.omf_frame.specs.Fault.{Fault, reason_number, IsLeast, least, least_or, Rule, broken};
 ghost use Rattle.omf_frame.specs.Framing.{Raw, IsRecord, IsFramed, HasFront, raw_bytes, present, after_front, front_record, is_taken, is_header, frame_fault, standing_fault};
 ghost use Rattle.omf_frame.specs.Framer.{Held, at_start, Takes, FailsAs};
 ghost use Rattle.omf_frame.specs.Runs.{Run, run_over, settled, IsFed, IsOpen, IsFramingOf, before_all};

@@ -8,8 +8,9 @@ use Rattle.omf_records.specs.Layout.{fault, name, times}
 use Rattle.omf_records.specs.Inner.Readers.{refuse_first, times_reader, called_reader}
 use Rattle.omf_records.specs.Inner.Reads.{After, after, Reading, Reader, Shrinks, and_then, each_read, each}
 use Rattle.omf_records.specs.Inner.Steps.{and_then_ok}
+use Rattle.omf_image.specs.Inner.Names.{too_deep}
 use Rattle.omf_image.specs.Inner.BlockReaders.{block_reader, block_shrinks}
-use Rattle.omf_image.specs.Blocks.{Block, Blocks, NoBlocks, First, Repeat, Nest, gathered, too_deep, block}
+use Rattle.omf_image.specs.Blocks.{Block, Blocks, NoBlocks, First, Repeat, Nest, gathered, block}
 use Rattle.omf_image.specs.Inner.Expanding.{read_blocks}
 use Rattle.omf_image.specs.Inner.Folding.{Folded, fold_times, fold_contents, fold_block, fold_all}
 use Rattle.omf_image.proofs.ReadingSteps.{then_same, then_when, then_then, is_some}

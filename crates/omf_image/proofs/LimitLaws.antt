@@ -3,7 +3,8 @@ use Rattle.std.proofs.Common.{ℕ, zero, suc, ◌+◌, ◌≤◌, Bool, true, fa
 use Rattle.std.specs.Prelude.{◌==◌}
 use Rattle.omf_records.specs.Values.{At}
 use Rattle.omf_records.specs.Layout.{Layout, le, name, called, choose, times, SpellsEach}
-use Rattle.omf_image.specs.Blocks.{Block, Blocks, Repeat, Nest, gathered, block_contents, block, AreBlocks}
+use Rattle.omf_image.specs.Inner.Names.{block_contents}
+use Rattle.omf_image.specs.Blocks.{Block, Blocks, Repeat, Nest, gathered, block, AreBlocks}
 use Rattle.omf_image.specs.declared.limits.Limits.{Limits}
 
 -- what one layout spells, another does

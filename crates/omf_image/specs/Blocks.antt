@@ -1,8 +1,7 @@
 -- Repeated blocks of LIDATA (TIS OMF 1.1, "LIDATA", data blocks).
-use Rattle.std.specs.Prelude.{◌≡◌, ◌⊎◌, ◌<◌, ◌≤◌, IsTrue, Bool, if◌then◌else◌, ℕ, zero, suc, ◌+◌, ◌*◌, List, [], ◌∷◌, ◌++◌, length, map, ◌==◌}
+use Rattle.std.specs.Prelude.{◌≡◌, ◌⊎◌, ◌<◌, ◌≤◌, IsTrue, ℕ, zero, suc, ◌+◌, ◌*◌, List, [], ◌∷◌, ◌++◌, length, map, ◌==◌}
 use Rattle.std.specs.List.{repeat}
 use Rattle.omf_frame.specs.Fault.{Fault, is_before}
-use Rattle.omf_frame.specs.declared.fault.Reason.{Reason}
 use Rattle.omf_frame.specs.declared.fault.Reason.TheVariants as reason
 use Rattle.omf_records.specs.Layout.{Layout, fault, ◌>>=◌, le, name, checked, choose, called, times, many}
 use Rattle.omf_image.specs.declared.limits.Limits.{Limits}
@@ -21,17 +20,13 @@ abbrev pub gathered : List Block → Blocks
 gathered [] = NoBlocks
 gathered (b ∷ bs) = First b (gathered bs)
 
--- A repeat count of `width` bytes (four in a record of odd type, A3H; two in one of even type, A2H) and a block count of two; then a length byte and that many bytes if the block count is 0, else that
--- many blocks. Blocks nest at most `levels` deep; with no level left, the repeat count is refused.
-abbrev pub too_deep : ℕ → List Reason
-too_deep count = reason.TooDeep ∷ []
-
-abbrev pub block_contents : Layout Block → ℕ → ℕ → Layout Block
-block_contents inner count n = choose (n == 0) (called name (λ bytes. Repeat count bytes)) (called (times n inner) (λ bs. Nest count (gathered bs)))
-
+-- A repeat count of `width` bytes (four in a record of odd type, A3H; two in one of even type, A2H) and a block count of two; then a length byte
+-- and that many bytes if the block count is 0, else that many blocks. Blocks nest at most `levels` deep; with no level left, the repeat count is
+-- refused.
 abbrev pub block : ℕ → ℕ → Layout Block
-block width zero = called (checked (le width) too_deep) (λ count. Repeat count [])
-block width (suc levels) = le width >>= λ count. le 2 >>= λ n. block_contents (block width levels) count n
+block width zero = called (checked (le width) (λ count. reason.TooDeep ∷ [])) (λ count. Repeat count [])
+block width (suc levels) = le width >>= λ count. le 2 >>= λ n.
+    choose (n == 0) (called name (λ bytes. Repeat count bytes)) (called (times n (block width levels)) (λ bs. Nest count (gathered bs)))
 
 -- Blocks up to the end of the bytes. An outermost block has depth 1.
 abbrev pub blocks : ℕ → ℕ → Layout Blocks

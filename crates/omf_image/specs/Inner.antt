@@ -5,3 +5,4 @@ pub mod Folding
 pub mod Joined
 pub mod Lengths
 pub mod Sorted
+pub mod Names

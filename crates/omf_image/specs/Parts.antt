@@ -10,13 +10,9 @@ part_size part.Byte = 1
 part_size part.Word = 2
 part_size part.Dword = 4
 
--- The bytes of a little-endian number of n bytes after the value is added, modulo 256^n.
-abbrev pub sum_bytes : ℕ → List ℕ → ℕ → List ℕ
-sum_bytes n bytes value = little_bytes n ((little_number n bytes + value) % 256 ^ n)
-
 -- The value is added to the number at `pos`; no other byte changes.
 abbrev pub add_part : List ℕ → ℕ → Part → ℕ → List ℕ
-add_part bytes pos part value = take pos bytes ++ sum_bytes (part_size part) (drop pos bytes) value ++ drop (pos + part_size part) bytes
+add_part bytes pos part value = take pos bytes ++ little_bytes (part_size part) ((little_number (part_size part) (drop pos bytes) + value) % 256 ^ part_size part) ++ drop (pos + part_size part) bytes
 
 -- A number to add at an offset of a location.
 pub record Addition : Type 0 where

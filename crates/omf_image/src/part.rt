@@ -1,7 +1,8 @@
 //! Addition of numbers to the locations of fixups.
 
 ghost use Rattle.std.specs.Prelude.{◌≡◌, ◌≤◌, ◌+◌, ◌++◌, length, drop};
-ghost use Rattle.omf_image.specs.Parts.{part_size, sum_bytes, add_part};
+ghost use Rattle.omf_image.specs.Inner.Names.{sum_bytes};
+ghost use Rattle.omf_image.specs.Parts.{part_size, add_part};
 
 use byteorder::{ByteOrder, LittleEndian};
 

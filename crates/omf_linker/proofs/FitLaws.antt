@@ -11,12 +11,13 @@ use Rattle.omf_placement.specs.declared.frame.Placed.{Placed}
 use Rattle.omf_placement.specs.Placement.{Places}
 use Rattle.omf_placement.specs.Derivation.{KeepsPlace}
 use Rattle.omf_placement.proofs.DeriveLaws.{derived-fit}
+use Rattle.omf_reloc.specs.Inner.Names.{far_fault}
 use Rattle.omf_reloc.specs.declared.fault.Cause.{Cause}
 use Rattle.omf_reloc.specs.declared.fault.ReachFault.{ReachFault}
 use Rattle.omf_reloc.specs.declared.fault.ReachFault.TheVariants as fault
 use Rattle.omf_reloc.specs.Plain.{pieces}
 use Rattle.omf_reloc.specs.Laws.{Fits}
-use Rattle.omf_reloc.specs.Reach.{causes, all_reference_places, far_fault, far_faults, reach_fault}
+use Rattle.omf_reloc.specs.Reach.{causes, all_reference_places, far_faults, reach_fault}
 use Rattle.omf_reloc.proofs.ReachLaws.{fits-to}
 use Rattle.omf_layout.specs.Layout.{Laid}
 use Rattle.omf_layout.specs.declared.options.Options.{Options}

@@ -6,8 +6,9 @@ use Rattle.std.proofs.lemmas.List.Elements.{All-nil, All-cons, All-head, All-tai
 use Rattle.omf_frame.specs.Bytes.{with_after}
 use Rattle.omf_records.specs.Values.{Contents, Plain, Iterated, location_type, location_offset, is_segment_relative}
 use Rattle.omf_placement.specs.Placement.{Places}
+use Rattle.omf_reloc.specs.Inner.Names.{location_start}
 use Rattle.omf_reloc.specs.Additions.{type_of_number}
-use Rattle.omf_reloc.specs.Laws.{location_start, location_end}
+use Rattle.omf_reloc.specs.Laws.{location_end}
 use Rattle.omf_reloc.specs.Plain.{Piece, Kept, Fixed, End, PlainFixup, fixups_of_data, pieces}
 use Rattle.omf_output.specs.Exe.Moved.{Movers, AreMoversOf, frame_moves}
 use Rattle.omf_output.specs.Exe.Relocations.{IsApart, StandApart, selector_at, site, sites}

@@ -3,8 +3,8 @@ use Rattle.std.proofs.Common.{◌≡◌, ◌⊎◌, ℕ, ◌+◌, ◌≤◌, Lis
 use Rattle.std.specs.Prelude.{All, Option, Some, None, option_map, option_and_then, Result, Ok, Err, IsOk, ◌==◌, ◌&&◌, fold}
 use Rattle.std.specs.List.{cons_option}
 use Rattle.std.proofs.lemmas.List.Elements.{All-head, All-tail}
-use Rattle.omf_records.specs.Values.{DataItem, width_bits, location_type, location_offset, is_segment_relative}
-use Rattle.omf_records.specs.Location.{location_size, offset_bits, self_relative_bits}
+use Rattle.omf_records.specs.Inner.Names.{location_size, offset_bits, self_relative_bits, width_bits}
+use Rattle.omf_records.specs.Values.{DataItem, location_type, location_offset, is_segment_relative}
 use Rattle.omf_frame.specs.Bytes.{difference}
 use Rattle.omf_image.specs.Parts.{Addition, add_part, add_parts, part_size}
 use Rattle.omf_image.specs.declared.part.Part.TheVariants as part
@@ -15,11 +15,12 @@ use Rattle.omf_placement.specs.declared.frame.Frame.{Frame}
 use Rattle.omf_placement.specs.declared.frame.Placed.{Placed}
 use Rattle.omf_placement.specs.Placement.{Places}
 use Rattle.omf_check.specs.Tables.{entry}
+use Rattle.omf_reloc.specs.Inner.Names.{additions, location_start}
 use Rattle.omf_reloc.specs.declared.fault.Cause.{Cause}
 use Rattle.omf_reloc.specs.declared.fault.Cause.TheVariants as cause
-use Rattle.omf_reloc.specs.Additions.{additions, additions_at, type_of_number}
+use Rattle.omf_reloc.specs.Additions.{additions_at, type_of_number}
 use Rattle.omf_reloc.specs.Image.{added}
-use Rattle.omf_reloc.specs.Laws.{AreInside, location_start, location_end}
+use Rattle.omf_reloc.specs.Laws.{AreInside, location_end}
 use Rattle.omf_reloc.specs.Offsets.{offsets, first_or, map_ok, in_bits, in_frame, from_location, outcome, if_named, additions_in, named}
 use Rattle.omf_reloc.specs.Plain.{PlainFixup}
 use Rattle.omf_reloc.proofs.PatchLaws.{parts_inside}

@@ -12,10 +12,11 @@ use Rattle.omf_image.specs.Painting.{Fits, extent}
 use Rattle.omf_check.specs.Sound.{ModuleHolds}
 use Rattle.omf_check.specs.Tables.{subrecords}
 use Rattle.omf_placement.specs.Placement.{Places}
+use Rattle.omf_reloc.specs.Inner.Names.{plain_fixups}
 use Rattle.omf_reloc.specs.Image.{laid}
 use Rattle.omf_reloc.specs.Inner.Measuring.{CanMeasure, measured, measured_contents}
 use Rattle.omf_reloc.specs.Inner.Pieces.{one_by_one, single_pieces}
-use Rattle.omf_reloc.specs.Plain.{Piece, Kept, Fixed, End, PlainFixup, piece_of, pieces, plain_fixups}
+use Rattle.omf_reloc.specs.Plain.{Piece, Kept, Fixed, End, PlainFixup, piece_of, pieces}
 use Rattle.omf_reloc.proofs.GatherLaws.{pieces_from}
 use Rattle.omf_reloc.proofs.HoldLaws.{KeptHolds, PieceHolds, PiecesHold, PlainFixupHolds, data_after, data_kept, pieces-hold}
 use Rattle.omf_reloc.proofs.MeasureLaws.{places-are}

@@ -3,8 +3,9 @@ use Rattle.std.proofs.Common.{◌≡◌, ◌⊎◌, ℕ, ◌+◌, ◌*◌, ◌-�
 use Rattle.std.specs.Prelude.{All, fold, replicate}
 use Rattle.std.proofs.lemmas.List.{append_assoc, take_at, drop_at, drop-drop, length-take-le}
 use Rattle.std.proofs.lemmas.List.Elements.{All-head, All-tail, All-map, All-weaker}
+use Rattle.omf_image.specs.Inner.Names.{sum_bytes}
 use Rattle.omf_image.specs.declared.part.Part.TheVariants as part
-use Rattle.omf_image.specs.Parts.{add_part, sum_bytes}
+use Rattle.omf_image.specs.Parts.{add_part}
 use Rattle.omf_output.specs.Exe.Relocations.{words_moved}
 use Rattle.omf_output.specs.Exe.Memory.{Chunk, AreUncovered, LiesIn, chunk_words, flat_words, moved_chunk, put}
 use Rattle.omf_output.specs.Exe.Laws.{ImagesMove}

@@ -5,13 +5,15 @@ use Rattle.std.proofs.lemmas.List.{length-take-le}
 use Rattle.std.proofs.lemmas.List.Elements.{All-nil, All-cons, All-head, All-tail, All-weaker}
 use Rattle.omf_frame.specs.Bytes.{with_after}
 use Rattle.omf_records.specs.Values.{Contents, DataItem, Plain, Iterated, Rec, location_offset}
-use Rattle.omf_image.specs.Parts.{Addition, add_part, add_parts, part_size, sum_bytes}
+use Rattle.omf_image.specs.Inner.Names.{sum_bytes}
+use Rattle.omf_image.specs.Parts.{Addition, add_part, add_parts, part_size}
 use Rattle.omf_image.specs.declared.part.Part.{Part}
 use Rattle.omf_placement.specs.Placement.{Places}
+use Rattle.omf_reloc.specs.Inner.Names.{location_start}
 use Rattle.omf_reloc.specs.declared.fault.Cause.{Cause}
 use Rattle.omf_reloc.specs.Image.{added, patched}
 use Rattle.omf_reloc.specs.Inner.Pieces.{one_by_one, single_pieces}
-use Rattle.omf_reloc.specs.Laws.{AllLieInside, AreInside, location_end, location_start}
+use Rattle.omf_reloc.specs.Laws.{AllLieInside, AreInside, location_end}
 use Rattle.omf_reloc.specs.Offsets.{outcome, outcome_at}
 use Rattle.omf_reloc.specs.Plain.{Piece, Kept, Fixed, End, PlainFixup, fixups_of_data, pieces}
 use Rattle.omf_reloc.proofs.PatchLaws.{parts_inside, stays_inside}

@@ -6,8 +6,9 @@ use Rattle.std.proofs.lemmas.List.Elements.{All-nil, All-cons, All-head, All-tai
 use Rattle.std.proofs.Math.ListN.{get_or-append}
 use Rattle.byteorder.specs.Endian.{little_number}
 use Rattle.byteorder.specs.Numbers.{little_from-append, little_number-reads_back}
+use Rattle.omf_image.specs.Inner.Names.{sum_bytes}
 use Rattle.omf_image.specs.declared.part.Part.TheVariants as part
-use Rattle.omf_image.specs.Parts.{add_part, sum_bytes}
+use Rattle.omf_image.specs.Parts.{add_part}
 use Rattle.omf_output.specs.Exe.Loading.{word}
 use Rattle.omf_output.specs.Exe.Relocations.{words_moved}
 use Rattle.omf_output.specs.Exe.Words.{AreApart}

@@ -5,8 +5,8 @@ use Rattle.std.specs.Option.{option_zip}
 use Rattle.std.specs.List.{cons_option}
 use Rattle.std.proofs.lemmas.Bool.{le-leb, leb-true}
 use Rattle.omf_frame.specs.Bytes.{difference}
-use Rattle.omf_records.specs.Values.{width_bits, location_type, location_offset, is_segment_relative}
-use Rattle.omf_records.specs.Location.{offset_bits, self_relative_bits}
+use Rattle.omf_records.specs.Inner.Names.{offset_bits, self_relative_bits, width_bits}
+use Rattle.omf_records.specs.Values.{location_type, location_offset, is_segment_relative}
 use Rattle.omf_records.specs.declared.location.LocationType.{LocationType}
 use Rattle.omf_records.specs.declared.location.LocationType.TheVariants.{LowByte, Offset16, Base, Pointer16, HighByte, LoaderOffset16, Offset32, Pointer32, LoaderOffset32}
 use Rattle.omf_check.specs.Tables.{entry}
@@ -15,9 +15,10 @@ use Rattle.omf_image.specs.Parts.{Addition}
 use Rattle.omf_placement.specs.declared.frame.Frame.{Frame}
 use Rattle.omf_placement.specs.declared.frame.Placed.{Placed}
 use Rattle.omf_placement.specs.Placement.{place_of, framed}
+use Rattle.omf_reloc.specs.Inner.Names.{additions}
 use Rattle.omf_reloc.specs.declared.fault.Cause.{Cause}
 use Rattle.omf_reloc.specs.declared.fault.Cause.TheVariants as cause
-use Rattle.omf_reloc.specs.Additions.{additions, additions_at, type_of_number}
+use Rattle.omf_reloc.specs.Additions.{additions_at, type_of_number}
 use Rattle.omf_reloc.specs.Offsets.{readings, offsets, first_or, map_ok, in_bits, in_frame, from_location, if_named, additions_in}
 use Rattle.omf_reloc.specs.Plain.{PlainFixup}
 use Rattle.omf_output.specs.declared.exe.movers.Moving.{Moving}

@@ -11,9 +11,10 @@ use Rattle.omf_records.specs.Values.{Contents, DataItem, Plain, Iterated, Rec, w
 use Rattle.omf_image.specs.Inner.Expanding.{expanded}
 use Rattle.omf_image.specs.Limits.{profile_limits}
 use Rattle.omf_placement.specs.Placement.{Places}
+use Rattle.omf_reloc.specs.Inner.Names.{location_start}
 use Rattle.omf_reloc.specs.Image.{patched}
 use Rattle.omf_reloc.specs.Inner.Pieces.{one_by_one, single_pieces}
-use Rattle.omf_reloc.specs.Laws.{AllLieInside, AreInside, location_start, location_end}
+use Rattle.omf_reloc.specs.Laws.{AllLieInside, AreInside, location_end}
 use Rattle.omf_reloc.specs.Plain.{Piece, Kept, Fixed, End, PlainFixup, fixups_of_data, pieces}
 use Rattle.omf_reloc.proofs.InsideLaws.{all-inside}
 use Rattle.omf_reloc.proofs.PatchLaws.{stays_inside}

@@ -3,7 +3,8 @@ use Rattle.std.proofs.Common.{◌≡◌, ◌⊎◌, ℕ, ◌+◌, ◌≤◌, [],
 use Rattle.std.specs.Prelude.{All, IsOk}
 use Rattle.std.proofs.lemmas.List.Elements.{All-cons, All-nil}
 use Rattle.omf_records.specs.Values.{DataItem}
-use Rattle.omf_reloc.specs.Laws.{location_start, location_end}
+use Rattle.omf_reloc.specs.Inner.Names.{location_start}
+use Rattle.omf_reloc.specs.Laws.{location_end}
 use Rattle.omf_reloc.specs.Offsets.{outcome}
 use Rattle.omf_reloc.specs.Plain.{PlainFixup}
 use Rattle.omf_check.specs.Threads.{T0}

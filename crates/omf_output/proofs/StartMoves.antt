@@ -7,16 +7,18 @@ use Rattle.std.specs.List.{last_or}
 use Rattle.std.proofs.lemmas.List.{map-append}
 use Rattle.std.proofs.lemmas.List.Elements.{All-head, All-tail, All-same}
 use Rattle.omf_frame.specs.Bytes.{last}
-use Rattle.omf_records.specs.Values.{Contents, Plain, Iterated, DataItem, width_bits}
+use Rattle.omf_records.specs.Inner.Names.{width_bits}
+use Rattle.omf_records.specs.Values.{Contents, Plain, Iterated, DataItem}
 use Rattle.omf_check.specs.Threads.{PlainReference}
 use Rattle.omf_image.specs.Parts.{Addition}
 use Rattle.omf_placement.specs.declared.frame.Frame.{Frame}
 use Rattle.omf_placement.specs.declared.frame.Placed.{Placed}
 use Rattle.omf_placement.specs.Placement.{Places, absolute_place, framed, place_of}
+use Rattle.omf_reloc.specs.Inner.Names.{start_in}
 use Rattle.omf_reloc.specs.declared.fault.Cause.{Cause}
 use Rattle.omf_reloc.specs.declared.fault.Cause.TheVariants as cause
 use Rattle.omf_reloc.specs.Image.{piece_start}
-use Rattle.omf_reloc.specs.Offsets.{first_or, if_named, map_ok, offsets, outcome, start_in, start_outcome}
+use Rattle.omf_reloc.specs.Offsets.{first_or, if_named, map_ok, offsets, outcome, start_outcome}
 use Rattle.omf_reloc.specs.Plain.{Piece, Kept, Fixed, End, PlainFixup, data_contents, fixups_of_data, pieces}
 use Rattle.omf_reloc.specs.Reach.{causes, causes_at, piece_causes}
 use Rattle.omf_reloc.proofs.ReachLaws.{reach-decided}

@@ -4,9 +4,10 @@ use Rattle.std.specs.Prelude.{◌%◌, ◌^◌}
 use Rattle.std.proofs.lemmas.List.{append_assoc, take_at, drop_at, drop-drop}
 use Rattle.byteorder.specs.Endian.{little_number, little_bytes}
 use Rattle.byteorder.specs.Numbers.{length-bytes_low_first, little_from-append, little_number-reads_back}
+use Rattle.omf_image.specs.Inner.Names.{sum_bytes}
 use Rattle.omf_image.specs.declared.part.Part.{Part}
 use Rattle.omf_image.specs.declared.part.Part.TheVariants as part
-use Rattle.omf_image.specs.Parts.{part_size, sum_bytes, add_part}
+use Rattle.omf_image.specs.Parts.{part_size, add_part}
 use Rattle.omf_output.proofs.ChangeLaws.{IsChange, changes-apart, front_of, number_of, back_of, split, length-front, length-number, length-change}
 
 length-sum : (n : ℕ) (x : List ℕ) (v : ℕ) → length (sum_bytes n x v) ≡ n

@@ -5,3 +5,4 @@ pub mod Derived
 pub mod Deriving
 pub mod GivenTable
 pub mod PublicTable
+pub mod Names

@@ -22,9 +22,6 @@ abbrev pub bad_line : ℕ × Option Entry → Option ℕ
 bad_line (n, None) = Some n
 bad_line (n, Some e) = None
 
-abbrev pub bad_lines : List ℕ → List ℕ
-bad_lines text = filter_map bad_line (line_entries text)
-
 -- The entries of each letter, in order; those of groups with their line numbers.
 abbrev pub segment_entry : ℕ × Option Entry → Option Placed
 segment_entry (n, Some (SegmentEntry p)) = Some p
@@ -43,9 +40,6 @@ pub record Draft : Type 0 where
   pub groups : List (ℕ × Option Frame)
   pub externals : List Placed
 
-abbrev pub draft_of : List ℕ → Draft
-draft_of text = record { segments = filter_map segment_entry (line_entries text); groups = filter_map group_entry (line_entries text); externals = filter_map external_entry (line_entries text) }
-
 abbrev pub ok_or_first : {A : Type 0} → A → List ℕ → Result A ℕ
 ok_or_first a [] = Ok a
 ok_or_first a (n ∷ ns) = Err n
@@ -53,7 +47,7 @@ ok_or_first a (n ∷ ns) = Err n
 -- The draft that a text spells, or the first line at fault. It depends on no module, so a line that is no entry is reported before a group whose frame
 -- cannot be found.
 abbrev pub parsed : List ℕ → Result Draft ℕ
-parsed text = ok_or_first (draft_of text) (bad_lines text)
+parsed text = ok_or_first (record { segments = filter_map segment_entry (line_entries text); groups = filter_map group_entry (line_entries text); externals = filter_map external_entry (line_entries text) }) (filter_map bad_line (line_entries text))
 
 -- A result is the defined one: exactly this value, or exactly this line at fault. Memory is returned only if no line is at fault.
 abbrev pub IsAnswer : {A : Type 0} → Result A ℕ → Result A TextFault → Type 0

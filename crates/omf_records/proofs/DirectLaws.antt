@@ -7,16 +7,17 @@ use Rattle.omf_frame.specs.Bytes.{AreBytes}
 use Rattle.omf_frame.specs.Fault.{Fault}
 use Rattle.omf_frame.specs.declared.fault.Reason.{Reason}
 use Rattle.omf_frame.specs.declared.fault.Reason.TheVariants as reason
+use Rattle.omf_records.specs.Inner.Names.{wrong_head, has_frame_datum, has_target_datum, has_no_displacement}
 use Rattle.omf_records.specs.declared.here.Here.{Here}
 use Rattle.omf_records.specs.Inner.Direct.{begins_direct, is_zero, IsDirect, IsNonzero, Copies, PutsNext}
 use Rattle.omf_records.specs.Inner.Each.{each_turn, each_refused, with_first}
-use Rattle.omf_records.specs.Entries.{unless, is_frame_method, wrong_methods, wrong_head}
+use Rattle.omf_records.specs.Entries.{unless, is_frame_method, wrong_methods}
 use Rattle.omf_records.specs.Inner.EntryReaders.{datum_reader, displacement_reader, part_reader, subrecord_reader, subrecord_shrinks}
 use Rattle.omf_records.specs.Inner.Reads.{After, after, and_then, each}
 use Rattle.omf_records.specs.Inner.Readers.{refuse_first, at_place}
 use Rattle.omf_records.specs.Shortest.{option_bytes, datum_bytes, subrecord_bytes}
 use Rattle.omf_records.specs.Inner.Unread.{Pending}
-use Rattle.omf_records.specs.Values.{At, Reference, Subrecord, Fixup, width, frame_by_thread, frame_bits, target_by_thread, target_bits, has_frame_datum, has_target_datum, has_no_displacement}
+use Rattle.omf_records.specs.Values.{At, Reference, Subrecord, Fixup, width, frame_by_thread, frame_bits, target_by_thread, target_bits}
 
 -- ---- what is known of a reading that went well
 

@@ -4,9 +4,10 @@ use Rattle.std.specs.Prelude.{nat_lt, slice_index}
 use Rattle.std.proofs.lemmas.Bool.{lt-ltb, le-ltb}
 use Rattle.omf_frame.specs.Fault.{Fault}
 use Rattle.omf_frame.specs.declared.fault.Reason.{Reason}
+use Rattle.omf_records.specs.Inner.Names.{fixup, thread, wrong_head}
 use Rattle.omf_records.specs.declared.here.Here.{Here}
 use Rattle.omf_records.specs.Values.{Subrecord}
-use Rattle.omf_records.specs.Entries.{wrong_thread, wrong_location, wrong_head, thread, fixup}
+use Rattle.omf_records.specs.Entries.{wrong_thread, wrong_location}
 use Rattle.omf_records.specs.Inner.EntryReaders.{thread_reader, fixup_reader, part_reader, subrecord_reader}
 use Rattle.omf_records.specs.Inner.FieldReaders.{head_read}
 use Rattle.omf_records.specs.Inner.Readers.{choose_reader, refuse_first}

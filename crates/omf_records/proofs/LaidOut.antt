@@ -6,10 +6,11 @@ use Rattle.omf_frame.specs.Types.{fixupp, type_of}
 use Rattle.omf_frame.specs.declared.kinds.RecordType.{RecordType}
 use Rattle.omf_frame.specs.declared.kinds.RecordType.TheVariants.{Theadr, Lheadr, Coment, Lnames, Llnames, Segdef, Grpdef, Extdef, Lextdef, Pubdef, Lpubdef, Comdef, Lcomdef, Ledata, Lidata, Fixupp, Modend, Typdef, Linnum, Linsym, Alias, Vernum, Bakpat, Cextdef, Comdat, Nbkpat, Vendext, Library}
 use Rattle.omf_frame.specs.Framing.{is_end}
+use Rattle.omf_records.specs.Inner.Names.{communals, externs, fixups, names}
 use Rattle.omf_records.specs.Values.{Contents, Names, Segment, Externs, Publics, Communals, Plain, Iterated, Fixups, ModEnd, is_wide}
 use Rattle.omf_records.specs.Layout.{Layout, SpellsEach, called, name}
 use Rattle.omf_records.specs.Entries.{external, communal, subrecord}
-use Rattle.omf_records.specs.Records.{contents, header, comment, names, segment, group, externs, publics, communals, data_item, fixups, mod_end, carried, layout_of, layout_if}
+use Rattle.omf_records.specs.Records.{contents, header, comment, segment, group, publics, data_item, mod_end, carried, layout_of, layout_if}
 use Rattle.omf_records.proofs.TypeBytes.{type_holds}
 
 abbrev pub IsLaidOut : ℕ → ℕ → List ℕ → Contents → Type 0

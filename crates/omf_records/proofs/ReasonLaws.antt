@@ -8,11 +8,11 @@ use Rattle.omf_frame.specs.declared.kinds.RecordType.{RecordType}
 use Rattle.omf_frame.specs.declared.kinds.RecordType.TheVariants.{Theadr, Lheadr, Coment, Lnames, Llnames, Segdef, Grpdef, Extdef, Lextdef, Pubdef, Lpubdef, Comdef, Lcomdef, Ledata, Lidata, Fixupp, Modend, Typdef, Linnum, Linsym, Alias, Vernum, Bakpat, Cextdef, Comdat, Nbkpat, Vendext, Library}
 use Rattle.omf_frame.specs.declared.fault.Reason.{Reason}
 use Rattle.omf_frame.specs.declared.fault.Reason.TheVariants as reason
-use Rattle.omf_records.specs.Entries.{unless, wrong_component, member, external, public_item, wrong_data_type, far_size, communal_size, communal, wrong_methods, is_frame_method, reference, wrong_thread, thread, wrong_location, fixup, wrong_head, subrecord}
-use Rattle.omf_records.specs.Layout.{Layout, ◌>>=◌, give, ends, rest, many, times, field, field_or, name, index, byte, le, number_of, begins_length, length_reason, communal_length, head, IsIn, checked, with_place, called, choose, when}
-use Rattle.omf_records.specs.Location.{is_location, may_be_self_relative}
-use Rattle.omf_records.specs.Records.{header, comment, names, wrong_alignment, wrong_size, absolute, segment, group, externs, publics, communals, data_item, fixups, mod_end, carried, layout_of, layout_if, contents}
-use Rattle.omf_records.specs.Values.{Comment, Names, Externs, Communals, Plain, Iterated, Fixups, Near, Thread, Fixup, thread_is_frame, thread_method, is_segment_relative, location_type, frame_by_thread, frame_bits, target_by_thread, target_bits, is_wide, alignment, is_big, has_start, has_frame_datum, has_target_datum, has_no_displacement}
+use Rattle.omf_records.specs.Inner.Names.{fixup, thread, wrong_component, wrong_data_type, wrong_head, begins_length, is_location, may_be_self_relative, communals, externs, fixups, names, wrong_alignment, wrong_size, has_frame_datum, has_target_datum, has_start, has_no_displacement}
+use Rattle.omf_records.specs.Entries.{unless, member, external, public_item, far_size, communal_size, communal, wrong_methods, is_frame_method, reference, wrong_thread, wrong_location, subrecord}
+use Rattle.omf_records.specs.Layout.{Layout, ◌>>=◌, give, ends, rest, many, times, field, field_or, name, index, byte, le, number_of, length_reason, communal_length, head, IsIn, checked, with_place, called, choose, when}
+use Rattle.omf_records.specs.Records.{header, comment, absolute, segment, group, publics, data_item, mod_end, carried, layout_of, layout_if, contents}
+use Rattle.omf_records.specs.Values.{Comment, Names, Externs, Communals, Plain, Iterated, Fixups, Near, Thread, Fixup, thread_is_frame, thread_method, is_segment_relative, location_type, frame_by_thread, frame_bits, target_by_thread, target_bits, is_wide, alignment, is_big}
 
 abbrev pub IsInner : Reason → Type 0
 IsInner r = (8 ≤ reason_number r) × (reason_number r ≤ 18)

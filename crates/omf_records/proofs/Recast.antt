@@ -11,11 +11,12 @@ use Rattle.omf_frame.specs.declared.kinds.RecordType.TheVariants.{Theadr, Lheadr
 use Rattle.omf_frame.specs.Fields.{index_bytes, name_bytes, communal_length_bytes}
 use Rattle.omf_frame.specs.declared.fault.Reason.{Reason}
 use Rattle.omf_frame.specs.declared.fault.Reason.TheVariants as reason
-use Rattle.omf_records.specs.Values.{At, PublicItem, CommunalSize, Near, Far, DataItem, Thread, Fixup, Contents, Header, Comment, Names, Segment, Group, Externs, Publics, Communals, Plain, Iterated, Fixups, ModEnd, Carried, is_wide, width, alignment, thread_method, has_frame_datum, has_target_datum, has_no_displacement, has_start, nowhere, unplaced, reference_alone, subrecord_alone, contents_alone}
-use Rattle.omf_records.specs.Shortest.{option_bytes, datum_bytes, absolute_bytes, member_bytes, external_bytes, public_bytes, size_bytes, communal_bytes, reference_bytes, subrecord_bytes, data_bytes, contents_bytes}
+use Rattle.omf_records.specs.Inner.Names.{fixup, thread, near_size, wrong_component, wrong_data_type, communals, externs, fixups, names, has_frame_datum, has_target_datum, has_start, has_no_displacement, absolute_bytes}
+use Rattle.omf_records.specs.Shortest.{data_bytes, communal_bytes, public_bytes, external_bytes, member_bytes, option_bytes, datum_bytes, size_bytes, reference_bytes, subrecord_bytes, contents_bytes}
+use Rattle.omf_records.specs.Values.{At, PublicItem, CommunalSize, Near, Far, DataItem, Thread, Fixup, Contents, Header, Comment, Names, Segment, Group, Externs, Publics, Communals, Plain, Iterated, Fixups, ModEnd, Carried, is_wide, width, alignment, thread_method, nowhere, unplaced, reference_alone, subrecord_alone, contents_alone}
 use Rattle.omf_records.specs.Layout.{Layout, many, index, name, le, number_of, with_place, called, choose, when}
-use Rattle.omf_records.specs.Entries.{unless, wrong_component, member, external, public_item, wrong_data_type, near_size, far_size, communal_size, communal, reference, thread, fixup, subrecord}
-use Rattle.omf_records.specs.Records.{header, comment, names, absolute, segment, group, externs, publics, communals, data_item, fixups, mod_end, carried, layout_of, layout_if, contents}
+use Rattle.omf_records.specs.Entries.{unless, member, external, public_item, far_size, communal_size, communal, reference, subrecord}
+use Rattle.omf_records.specs.Records.{header, comment, absolute, segment, group, publics, data_item, mod_end, carried, layout_of, layout_if, contents}
 use Rattle.omf_records.proofs.Shorter.{Shorter, shorter_itself, shorter_then, shorter_last, Recasts, Plainly, itself, recast_plainly, plain_byte, plain_name, plain_index, plain_le, plain_length, recast_placed, recast_index, recast_called, recast_when, plain_when, recast_many}
 
 -- a test whose reason is not given holds

@@ -3,8 +3,8 @@ use Rattle.std.proofs.Common.{◌≡◌, ℕ, ◌/◌, ◌%◌, List, [], ◌∷
 use Rattle.std.specs.Prelude.{option_map}
 use Rattle.byteorder.specs.Endian.{little_bytes}
 use Rattle.omf_frame.specs.Fields.{name_bytes}
+use Rattle.omf_records.specs.Shortest.{communal_bytes, public_bytes, external_bytes, member_bytes, option_bytes, datum_bytes, reference_bytes, subrecord_bytes, contents_bytes}
 use Rattle.omf_records.specs.Values.{At, Reference, Subrecord, Thread, Fixup, Contents, Header, Comment, Names, Segment, Group, Externs, Publics, Communals, Plain, Iterated, Fixups, ModEnd, Carried, Rec, nowhere, unplaced, reference_alone, subrecord_alone, contents_alone, alone}
-use Rattle.omf_records.specs.Shortest.{option_bytes, datum_bytes, member_bytes, external_bytes, public_bytes, communal_bytes, reference_bytes, subrecord_bytes, contents_bytes}
 use Rattle.omf_records.specs.Inner.Meets.{whole_unique}
 use Rattle.omf_records.specs.Records.{contents, IsTyped}
 use Rattle.omf_records.specs.Inner.RecordReaders.{contents_whole}

@@ -9,11 +9,12 @@ use Rattle.omf_frame.specs.Bytes.{AreBytes}
 use Rattle.omf_frame.specs.Framing.{is_end}
 use Rattle.omf_frame.specs.Fields.{IsIndex, index_bytes}
 use Rattle.omf_frame.specs.Inner.FieldLaws.{little_spelled, little_fits, index_spelled, are_bytes_cons}
-use Rattle.omf_records.specs.Values.{At, nowhere, unplaced, Rec, Contents, Header, Comment, Names, Segment, Group, Externs, Publics, Communals, Plain, Iterated, Fixups, ModEnd, Carried, Reference, Subrecord, Thread, Fixup, is_wide, width, thread_method, has_frame_datum, has_target_datum, has_no_displacement, has_start, reference_alone, subrecord_alone, alone}
+use Rattle.omf_records.specs.Inner.Names.{fixup, thread, fixups, has_frame_datum, has_target_datum, has_start, has_no_displacement}
+use Rattle.omf_records.specs.Values.{At, nowhere, unplaced, Rec, Contents, Header, Comment, Names, Segment, Group, Externs, Publics, Communals, Plain, Iterated, Fixups, ModEnd, Carried, Reference, Subrecord, Thread, Fixup, is_wide, width, thread_method, reference_alone, subrecord_alone, alone}
 use Rattle.omf_records.specs.Shortest.{option_bytes, datum_bytes, reference_bytes, subrecord_bytes, contents_bytes}
 use Rattle.omf_records.specs.Layout.{Layout, many, index, number_of, with_place, when}
-use Rattle.omf_records.specs.Entries.{reference, thread, fixup, subrecord}
-use Rattle.omf_records.specs.Records.{fixups, mod_end, contents, IsTyped}
+use Rattle.omf_records.specs.Entries.{reference, subrecord}
+use Rattle.omf_records.specs.Records.{mod_end, contents, IsTyped}
 use Rattle.omf_records.specs.Inner.Steps.{AreBytes-none}
 use Rattle.omf_records.specs.Laws.{ValuesAreTyped, TypedHaveValues}
 use Rattle.omf_records.proofs.TypeBytes.{one_of_two}

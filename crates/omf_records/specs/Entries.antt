@@ -1,11 +1,11 @@
 -- The layouts of the items that records repeat, and of references (TIS OMF 1.1, the page of each record).
 -- `wide` is true in 32-bit records. A refused value has the list of its reasons.
-use Rattle.std.specs.Prelude.{ℕ, ◌==◌, ◌||◌, not, nat_lt, Bool, if◌then◌else◌, List, [], ◌∷◌, ◌++◌}
-use Rattle.omf_frame.specs.Bytes.{is_one_of}
+use Rattle.std.specs.Prelude.{ℕ, ◌==◌, ◌||◌, not, nat_lt, Bool, if◌then◌else◌, List, [], ◌∷◌, ◌++◌, is_some, ◌&&◌}
+use Rattle.omf_frame.specs.Bytes.{is_one_of, has_bit}
 use Rattle.omf_frame.specs.declared.fault.Reason.{Reason}
 use Rattle.omf_frame.specs.declared.fault.Reason.TheVariants as reason
-use Rattle.omf_records.specs.Values.{At, ExternalItem, PublicItem, CommunalSize, Near, Far, CommunalItem, Reference, Subrecord, Thread, Fixup, thread_is_frame, thread_method, is_segment_relative, location_type, frame_by_thread, frame_bits, target_by_thread, target_bits, has_no_displacement, has_frame_datum, has_target_datum}
-use Rattle.omf_records.specs.Location.{is_location, may_be_self_relative}
+use Rattle.omf_records.specs.Values.{At, ExternalItem, PublicItem, CommunalSize, Near, Far, CommunalItem, Reference, Subrecord, Thread, Fixup, thread_is_frame, thread_method, is_segment_relative, location_type, frame_by_thread, frame_bits, target_by_thread, target_bits}
+use Rattle.omf_records.specs.Location.{location_of, row_of}
 use Rattle.omf_records.specs.Layout.{Layout, ◌>>=◌, give, name, index, byte, number_of, communal_length, head, checked, with_place, called, choose, when}
 
 -- the reason, unless the test holds
@@ -13,12 +13,9 @@ abbrev pub unless : Bool → Reason → List Reason
 unless test r = if test then [] else r ∷ []
 
 -- GRPDEF: the component byte FFH, and a segment index (other components are refused: this profile's rule).
-abbrev pub wrong_component : ℕ → List Reason
-wrong_component c = unless (c == 0xFF) reason.GroupComponent
-
 abbrev pub member : Layout (At ℕ)
 member = do
-  component ← checked byte wrong_component
+  component ← checked byte (λ c. unless (c == 0xFF) reason.GroupComponent)
   with_place index
 
 -- EXTDEF: a name and a type index.
@@ -38,12 +35,6 @@ public_item wide = do
 
 -- COMDEF: a name, a type index, and the data type 62H (near) and a length, or 61H (far), the number of elements and their size. Other data types
 -- (01H to 5FH, the segment indices of one vendor) are refused: this profile's rule.
-abbrev pub wrong_data_type : ℕ → List Reason
-wrong_data_type t = unless (is_one_of (0x61 ∷ 0x62 ∷ []) t) reason.CommunalType
-
-abbrev pub near_size : Layout CommunalSize
-near_size = called communal_length Near
-
 abbrev pub far_size : Layout CommunalSize
 far_size = do
   count ← communal_length
@@ -52,8 +43,8 @@ far_size = do
 
 abbrev pub communal_size : Layout CommunalSize
 communal_size = do
-  data_type ← checked byte wrong_data_type
-  choose (data_type == 0x62) near_size far_size
+  data_type ← checked byte (λ t. unless (is_one_of (0x61 ∷ 0x62 ∷ []) t) reason.CommunalType)
+  choose (data_type == 0x62) (called communal_length Near) far_size
 
 abbrev pub communal : Layout CommunalItem
 communal = do
@@ -75,9 +66,9 @@ wrong_methods fix = unless (frame_by_thread fix || is_frame_method (frame_bits f
 abbrev pub reference : Bool → Layout Reference
 reference wide = do
   fix ← with_place (checked byte wrong_methods)
-  frame ← when (has_frame_datum fix.item) (with_place index)
-  target ← when (has_target_datum fix.item) (with_place index)
-  displacement ← when (not (has_no_displacement fix.item)) (number_of wide)
+  frame ← when (not (frame_by_thread fix.item) && nat_lt (frame_bits fix.item) 3) (with_place index)
+  target ← when (not (target_by_thread fix.item) && nat_lt (target_bits fix.item) 3) (with_place index)
+  displacement ← when (not (has_bit fix.item 2)) (number_of wide)
   give (record { fix = fix; frame = frame; target = target; displacement = displacement })
 
 -- A THREAD: one byte with bit 7 clear, and an index for F0, F1, F2, T0, T1, T2. Its bit 5 counts for nothing, nor does bit 4 of a target's (this
@@ -86,24 +77,15 @@ abbrev pub wrong_thread : ℕ → List Reason
 wrong_thread b = if thread_is_frame b then unless (is_frame_method (thread_method b)) reason.FrameMethod
     else unless (nat_lt (thread_method b) 3) reason.TargetMethod
 
-abbrev pub thread : ℕ → Layout Subrecord
-thread b = called (when (nat_lt (thread_method b) 3) (with_place index)) (Thread b)
-
 -- A FIXUP: two bytes, high byte first, with bit 15 set, and a reference. The location type must be defined, and one that may be
--- self-relative if bit M is 0.
+-- self-relative if bit M is 0. (`head` is one byte, or two if bit 7 of the first is set.)
 abbrev pub wrong_location : ℕ → List Reason
-wrong_location locat = if is_location (location_type locat)
-    then unless (is_segment_relative locat || may_be_self_relative (location_type locat)) reason.SelfRelative
+wrong_location locat = if is_some (location_of (location_type locat))
+    then unless (is_segment_relative locat || (row_of (location_type locat)).may_be_self_relative) reason.SelfRelative
     else (reason.LocationType ∷ [])
 
-abbrev pub fixup : Bool → ℕ → Layout Subrecord
-fixup wide locat = called (reference wide) (Fixup locat)
-
--- FIXUPP: a THREAD or a FIXUP.
-abbrev pub wrong_head : ℕ → List Reason
-wrong_head h = if nat_lt h 128 then wrong_thread h else wrong_location h
-
+-- FIXUPP: a THREAD or a FIXUP. A THREAD's index is there for methods 0, 1 and 2.
 abbrev pub subrecord : Bool → Layout Subrecord
 subrecord wide = do
-  h ← checked head wrong_head
-  choose (nat_lt h 128) (thread h) (fixup wide h)
+  h ← checked head (λ h. if nat_lt h 128 then wrong_thread h else wrong_location h)
+  choose (nat_lt h 128) (called (when (nat_lt (thread_method h) 3) (with_place index)) (Thread h)) (called (reference wide) (Fixup h))

@@ -17,3 +17,4 @@ pub mod Seen
 pub mod Sizes
 pub mod Steps
 pub mod Unread
+pub mod Names

@@ -90,11 +90,9 @@ name = field IsName
 abbrev pub index : Layout ℕ
 index = field IsIndex
 
-abbrev pub IsByte : ℕ → List ℕ → Type 0
-IsByte n bytes = (n < 256) × (bytes ≡ n ∷ [])
-
+-- a byte
 abbrev pub byte : Layout ℕ
-byte = field IsByte
+byte = field (λ n bytes. (n < 256) × (bytes ≡ n ∷ []))
 
 -- a little-endian number of k bytes
 abbrev pub le : ℕ → Layout ℕ
@@ -105,22 +103,16 @@ abbrev pub number_of : Bool → Layout ℕ
 number_of wide = le (cond wide 4 2)
 
 -- The first byte of a communal length is at most 128, or 81H, 84H, 88H. Any other is refused, whatever follows.
-abbrev pub begins_length : ℕ → Bool
-begins_length a = nat_le a 128 || is_one_of (0x81 ∷ 0x84 ∷ 0x88 ∷ []) a
-
 abbrev pub length_reason : List ℕ → Reason
 length_reason [] = reason.Short
-length_reason (a ∷ bytes) = if begins_length a then reason.Short else reason.CommunalLength
+length_reason (a ∷ bytes) = if nat_le a 128 || is_one_of (0x81 ∷ 0x84 ∷ 0x88 ∷ []) a then reason.Short else reason.CommunalLength
 
 abbrev pub communal_length : Layout ℕ
 communal_length = field_or length_reason IsCommunalLength
 
 -- One byte below 128, or two bytes, high byte first, with bit 7 of the first set. All other bytes are too short.
-abbrev pub IsHead : ℕ → List ℕ → Type 0
-IsHead n bytes = ((n < 128) × (bytes ≡ n ∷ [])) ⊎ ((32768 ≤ n) × (n < 65536) × (bytes ≡ n / 256 ∷ n % 256 ∷ []))
-
 abbrev pub head : Layout ℕ
-head = field IsHead
+head = field (λ n bytes. ((n < 128) × (bytes ≡ n ∷ [])) ⊎ ((32768 ≤ n) × (n < 65536) × (bytes ≡ n / 256 ∷ n % 256 ∷ [])))
 
 abbrev pub IsIn : Reason → List Reason → Type 0
 IsIn r [] = ⊥
@@ -135,24 +127,15 @@ checked {A} p refused = record {
 
 -- a field and its offset
 abbrev pub with_place : {A : Type 0} → Layout A → Layout (At A)
-with_place {A} p = record {
-  Spells = λ at bytes x. (x.within ≡ at) × p.Spells at bytes x.item;
-  Faults = p.Faults;
-}
+with_place {A} p = record { Spells = λ at bytes x. (x.within ≡ at) × p.Spells at bytes x.item; Faults = p.Faults }
 
 -- a layout, with f applied to its value
 abbrev pub called : {A B : Type 0} → Layout A → (A → B) → Layout B
-called {A} {B} p f = record {
-  Spells = λ at bytes y. (x : A) × p.Spells at bytes x × (y ≡ f x);
-  Faults = p.Faults;
-}
+called {A} {B} p f = record { Spells = λ at bytes y. (x : A) × p.Spells at bytes x × (y ≡ f x); Faults = p.Faults }
 
 -- one of two
 abbrev pub choose : {A : Type 0} → Bool → Layout A → Layout A → Layout A
-choose b p q = record {
-  Spells = λ at bytes x. cond b (p.Spells at bytes x) (q.Spells at bytes x);
-  Faults = λ at bytes e. cond b (p.Faults at bytes e) (q.Faults at bytes e);
-}
+choose b p q = record { Spells = λ at bytes x. cond b (p.Spells at bytes x) (q.Spells at bytes x); Faults = λ at bytes e. cond b (p.Faults at bytes e) (q.Faults at bytes e) }
 
 -- a layout if b, else nothing
 abbrev pub when : {A : Type 0} → Bool → Layout A → Layout (Option A)

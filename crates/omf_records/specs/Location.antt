@@ -1,5 +1,5 @@
 -- The types of locations (TIS OMF 1.1, "FIXUPP", LOCATION; the widths are this profile's rule).
-use Rattle.std.specs.Prelude.{ℕ, List, [], ◌∷◌, ◌==◌, Bool, true, false, Option, find, is_some, unwrap_or}
+use Rattle.std.specs.Prelude.{ℕ, List, [], ◌∷◌, ◌==◌, Bool, true, false, Option, find, unwrap_or}
 use Rattle.omf_records.specs.declared.location.LocationType.{LocationType}
 use Rattle.omf_records.specs.declared.location.LocationType.TheVariants.{LowByte, Offset16, Base, Pointer16, HighByte, LoaderOffset16, Offset32, Pointer32, LoaderOffset32}
 
@@ -31,32 +31,10 @@ location LoaderOffset32 = location_row 13 4 32 32 true
 abbrev pub location_types : List LocationType
 location_types = LowByte ∷ Offset16 ∷ Base ∷ Pointer16 ∷ HighByte ∷ LoaderOffset16 ∷ Offset32 ∷ Pointer32 ∷ LoaderOffset32 ∷ []
 
-abbrev pub location_number : LocationType → ℕ
-location_number t = (location t).number
-
 -- The type with a number, if it is defined.
 abbrev pub location_of : ℕ → Option LocationType
-location_of n = find (λ t. location_number t == n) location_types
-
-abbrev pub is_location : ℕ → Bool
-is_location n = is_some (location_of n)
+location_of n = find (λ t. (location t).number == n) location_types
 
 -- The row of a number. A valid FIXUP has a defined type; a number that is not defined counts as the largest type.
 abbrev pub row_of : ℕ → LocationRow
 row_of n = location (unwrap_or (location_of n) Pointer32)
-
--- The size in bytes of a location of a type.
-abbrev pub location_size : ℕ → ℕ
-location_size n = (row_of n).size
-
--- The number of bits of the offset in a location.
-abbrev pub offset_bits : ℕ → ℕ
-offset_bits n = (row_of n).offset_bits
-
--- The number of bits of a self-relative offset.
-abbrev pub self_relative_bits : ℕ → ℕ
-self_relative_bits n = (row_of n).self_relative_bits
-
--- Whether a self-relative fixup may have the type.
-abbrev pub may_be_self_relative : ℕ → Bool
-may_be_self_relative n = (row_of n).may_be_self_relative

@@ -1,6 +1,8 @@
 -- Frame and target methods, alignments and combinations by their numbers (TIS OMF 1.1, "FIXUPP", "SEGDEF").
+use denote.Enum.Declared.{tag_of}
 use Rattle.std.specs.Prelude.{ℕ, ◌==◌, if◌then◌else◌, List, [], ◌∷◌, Result, Ok, Err}
 use Rattle.omf_frame.specs.declared.fault.Reason.{Reason}
+use Rattle.omf_records.specs.contracts.method.Kind.{the_type}
 use Rattle.omf_records.specs.declared.method.Kind.{Kind}
 use Rattle.omf_records.specs.declared.method.Kind.TheVariants.{Segment, Group, External}
 use Rattle.omf_records.specs.declared.method.FrameCode.{FrameCode}
@@ -10,11 +12,9 @@ use Rattle.omf_records.specs.declared.acbp.Alignment.TheVariants as alignment
 use Rattle.omf_records.specs.declared.acbp.Combination.{Combination}
 use Rattle.omf_records.specs.declared.acbp.Combination.TheVariants as combination
 
--- Target methods T0, T1, T2.
+-- Target methods T0, T1, T2: the place of the kind in the declaration of Kind, from 0.
 abbrev pub kind_number : Kind → ℕ
-kind_number Segment = 0
-kind_number Group = 1
-kind_number External = 2
+kind_number k = tag_of the_type k
 
 -- Frame methods F0, F1, F2, F4, F5.
 abbrev pub frame_number : FrameCode → ℕ

@@ -23,10 +23,6 @@ abbrev pub size_bytes : CommunalSize → List ℕ
 size_bytes (Near n) = 0x62 ∷ communal_length_bytes n
 size_bytes (Far count size) = 0x61 ∷ (communal_length_bytes count ++ communal_length_bytes size)
 
--- the frame number and offset of an absolute segment
-abbrev pub absolute_bytes : ℕ × ℕ → List ℕ
-absolute_bytes a = little_bytes 2 a.0 ++ a.1 ∷ []
-
 -- the items of GRPDEF, EXTDEF, PUBDEF and COMDEF
 abbrev pub member_bytes : At ℕ → List ℕ
 member_bytes m = 0xFF ∷ datum_bytes m
@@ -41,7 +37,7 @@ abbrev pub communal_bytes : CommunalItem → List ℕ
 communal_bytes c = name_bytes c.name ++ (index_bytes c.type_index ++ size_bytes c.size)
 
 abbrev pub segment_bytes : ℕ → SegmentItem → List ℕ
-segment_bytes kind s = s.attribute ∷ (option_bytes absolute_bytes s.absolute ++ (little_bytes (width kind) s.size
+segment_bytes kind s = s.attribute ∷ (option_bytes (λ a. little_bytes 2 a.0 ++ a.1 ∷ []) s.absolute ++ (little_bytes (width kind) s.size
     ++ (datum_bytes s.name ++ (datum_bytes s.class ++ index_bytes s.overlay))))
 
 abbrev pub data_bytes : ℕ → DataItem → List ℕ

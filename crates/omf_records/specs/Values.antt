@@ -1,6 +1,6 @@
 -- Typed records (TIS OMF 1.1, the page of each record). A byte of packed bits is kept whole, so that no bit is lost; definitions
 -- at the end of the file extract its bits.
-use Rattle.std.specs.Prelude.{ℕ, ◌*◌, ◌%◌, ◌==◌, Bool, not, ◌&&◌, nat_lt, List, map, Option, option_map, if◌then◌else◌}
+use Rattle.std.specs.Prelude.{ℕ, ◌%◌, ◌==◌, Bool, List, map, Option, option_map, if◌then◌else◌}
 use Rattle.omf_frame.specs.Bytes.{bits, has_bit}
 
 -- a value, and the offset in the record of its first byte (0 is the type byte)
@@ -96,9 +96,6 @@ is_wide kind = kind % 2 == 1
 abbrev pub width : ℕ → ℕ
 width kind = if is_wide kind then 4 else 2
 
-abbrev pub width_bits : ℕ → ℕ
-width_bits kind = 8 * width kind
-
 -- SEGDEF's attribute byte: the alignment, the combination, whether the segment is Big, and whether its code has 32 bits.
 abbrev pub alignment : ℕ → ℕ
 alignment attribute = bits attribute 5 3
@@ -119,9 +116,6 @@ thread_is_frame byte = has_bit byte 6
 abbrev pub thread_method : ℕ → ℕ
 thread_method byte = if thread_is_frame byte then bits byte 2 3 else bits byte 2 2
 
-abbrev pub thread_number : ℕ → ℕ
-thread_number byte = bits byte 0 2
-
 -- FIXUP's first two bytes: M, the location type, the offset into the data.
 abbrev pub is_segment_relative : ℕ → Bool
 is_segment_relative locat = has_bit locat 14
@@ -139,28 +133,11 @@ frame_by_thread fix = has_bit fix 7
 abbrev pub frame_bits : ℕ → ℕ
 frame_bits fix = bits fix 4 3
 
-abbrev pub frame_thread : ℕ → ℕ
-frame_thread fix = bits fix 4 2
-
 abbrev pub target_by_thread : ℕ → Bool
 target_by_thread fix = has_bit fix 3
 
-abbrev pub has_no_displacement : ℕ → Bool
-has_no_displacement fix = has_bit fix 2
-
 abbrev pub target_bits : ℕ → ℕ
 target_bits fix = bits fix 0 2
-
--- Whether a frame datum, and a target datum, follows the fix data byte.
-abbrev pub has_frame_datum : ℕ → Bool
-has_frame_datum fix = not (frame_by_thread fix) && nat_lt (frame_bits fix) 3
-
-abbrev pub has_target_datum : ℕ → Bool
-has_target_datum fix = not (target_by_thread fix) && nat_lt (target_bits fix) 3
-
--- MODEND's type byte: whether there is a start address.
-abbrev pub has_start : ℕ → Bool
-has_start byte = has_bit byte 6
 
 -- A record with all its offsets set to 0: two encodings of one record differ in offsets only.
 abbrev pub nowhere : {A : Type 0} → A → At A
@@ -177,8 +154,6 @@ subrecord_alone (Thread byte datum) = Thread byte (option_map unplaced datum)
 subrecord_alone (Fixup locat r) = Fixup locat (reference_alone r)
 
 abbrev pub contents_alone : Contents → Contents
-contents_alone (Header name) = Header name
-contents_alone (Comment byte class text) = Comment byte class text
 contents_alone (Names items) = Names (map unplaced items)
 contents_alone (Segment s) = Segment (record s { name = unplaced s.name; class = unplaced s.class })
 contents_alone (Group g) = Group (record { name = unplaced g.name; members = map (λ m. nowhere (unplaced m.item)) g.members })
@@ -189,7 +164,7 @@ contents_alone (Plain d) = Plain (record d { segment = unplaced d.segment; offse
 contents_alone (Iterated d) = Iterated (record d { segment = unplaced d.segment; offset = unplaced d.offset })
 contents_alone (Fixups subs) = Fixups (map (λ s. nowhere (subrecord_alone s.item)) subs)
 contents_alone (ModEnd byte start) = ModEnd byte (option_map reference_alone start)
-contents_alone (Carried bytes) = Carried bytes
+contents_alone c = c
 
 abbrev pub alone : Rec → Rec
 alone r = record r { contents = contents_alone r.contents }

@@ -1,7 +1,8 @@
 //! The attribute byte of a SEGDEF (TIS OMF 1.1, "SEGDEF", ACBP).
-ghost use Rattle.std.specs.Prelude.{◌≡◌, IfOk};
+ghost use Rattle.std.specs.Prelude.{◌≡◌, IfOk, nat_lt};
+ghost use Rattle.omf_frame.specs.declared.fault.Reason.TheVariants as reason;
+ghost use Rattle.omf_records.specs.Entries.{unless};
 ghost use Rattle.omf_records.specs.Methods.{alignment_number, combination_number, refusal};
-ghost use Rattle.omf_records.specs.Records.{wrong_alignment};
 ghost use Rattle.omf_records.specs.Values.{alignment, combination, is_big, is_use32};
 
 use omf_frame::Reason;
@@ -51,7 +52,7 @@ pub struct Acbp(u8);
 
 impl Model for Acbp {
     ghost use Rattle.std.specs.Prelude.{◌≡◌, ℕ, []};
-    ghost use Rattle.omf_records.specs.Records.{wrong_alignment};
+    ghost use Rattle.omf_records.specs.Inner.Names.{wrong_alignment};
 
     ghost Value = { ℕ };
 
@@ -66,7 +67,7 @@ impl Acbp {
     /// The attribute byte, unless its alignment is refused.
     #[inline(always)]
     pub fn new(byte: u8) -> Result<Acbp, Reason>
-        ensures reason { refusal result ≡ wrong_alignment byte }
+        ensures reason { refusal result ≡ unless (nat_lt (alignment byte) 6) reason.Alignment }
         ensures ok { IfOk result (λ a. a ≡ byte) }
     {
         if byte / 32 > 5 {

@@ -1,9 +1,10 @@
 //! The packed bits of THREADs and FIXUPs (TIS OMF 1.1, "FIXUPP"). Each type keeps all bits of its field.
 ghost use Rattle.std.specs.Prelude.{◌≡◌, ◌<◌, ◌≤◌, ◌+◌, ◌*◌, IfOk, if◌then◌else◌};
+ghost use Rattle.omf_frame.specs.Bytes.{bits};
 ghost use Rattle.omf_records.specs.Entries.{is_frame_method, wrong_methods, wrong_thread, wrong_location};
-ghost use Rattle.omf_records.specs.Location.{location_number};
+ghost use Rattle.omf_records.specs.Location.{location};
 ghost use Rattle.omf_records.specs.Methods.{frame_code, frame_number, judged, kind_number, kind_of, refusal};
-ghost use Rattle.omf_records.specs.Values.{thread_is_frame, thread_method, thread_number, is_segment_relative, location_type, location_offset};
+ghost use Rattle.omf_records.specs.Values.{thread_is_frame, thread_method, is_segment_relative, location_type, location_offset};
 
 use crate::location::LocationType;
 use crate::method::{FrameCode, Kind};
@@ -123,7 +124,7 @@ impl ThreadByte {
     /// The number of the thread, 0 to 3.
     #[inline(always)]
     pub fn number(self) -> u8
-        ensures { result ≡ thread_number self }
+        ensures { result ≡ bits self 0 2 }
     {
         self.0 % 4
     }
@@ -211,7 +212,7 @@ impl Locat {
     /// The location type.
     #[inline(always)]
     pub fn location_type(self) -> LocationType
-        ensures { location_number result ≡ location_type self }
+        ensures { (location result).number ≡ location_type self }
     {
         match LocationType::of(self.0 / 1024 % 16) {
             Some(kind) => kind,
@@ -285,12 +286,13 @@ impl FixByte {
 impl Reference {
     ghost use Rattle.std.specs.Prelude.{◌≡◌, Some, None, if◌then◌else◌};
     ghost use Rattle.omf_records.specs.Methods.{frame_code, kind_of};
-    ghost use Rattle.omf_records.specs.Values.{frame_by_thread, frame_bits, frame_thread, target_by_thread, target_bits};
+    ghost use Rattle.omf_frame.specs.Bytes.{bits};
+    ghost use Rattle.omf_records.specs.Values.{frame_by_thread, frame_bits, target_by_thread, target_bits};
 
     /// The number of the frame thread, 0 to 3, if the frame is given by a thread.
     #[inline(always)]
     pub fn frame_thread(&self) -> Option<u8>
-        ensures { result ≡ (if frame_by_thread self.now.fix.item then Some (frame_thread self.now.fix.item) else None) }
+        ensures { result ≡ (if frame_by_thread self.now.fix.item then Some (bits self.now.fix.item 4 2) else None) }
     {
         let fix = self.fix.item.byte();
         if fix / 128 % 2 == 1 {

@@ -1,5 +1,9 @@
 //! The items that records repeat: names, members, external, public and communal names.
 ghost use Rattle.std.specs.Prelude.{◌≡◌, ◌++◌, OnOk, OnErr};
+ghost use Rattle.omf_records.specs.Shortest.{communal_bytes};
+ghost use Rattle.omf_records.specs.Shortest.{public_bytes};
+ghost use Rattle.omf_records.specs.Shortest.{external_bytes};
+ghost use Rattle.omf_records.specs.Shortest.{member_bytes};
 ghost use Rattle.omf_records.specs.Inner.Begins.{Grows, Lacks};
 ghost use Rattle.omf_records.specs.Shortest.{size_bytes};
 ghost use Rattle.omf_records.specs.Inner.Gives.{Gives};

@@ -1,6 +1,6 @@
 //! The types of locations (TIS OMF 1.1, "FIXUPP", LOCATION).
 ghost use Rattle.std.specs.Prelude.{◌≡◌};
-ghost use Rattle.omf_records.specs.Location.{location_of, location_number, location_size, offset_bits, self_relative_bits, may_be_self_relative};
+ghost use Rattle.omf_records.specs.Location.{location, location_of, row_of};
 
 /// What a fixup changes: the type of its location.
 #[derive(Clone, Copy)]
@@ -48,7 +48,7 @@ impl LocationType {
     /// The size in bytes: 1, 2, 4 or 6.
     #[inline(always)]
     pub fn size(self) -> u8
-        ensures { result ≡ location_size (location_number self) }
+        ensures { result ≡ (row_of (location self).number).size }
     {
         match self {
             LocationType::LowByte | LocationType::HighByte => 1,
@@ -60,7 +60,7 @@ impl LocationType {
 
     /// The bits of the offset: 16 or 32.
     pub fn offset_bits(self) -> u8
-        ensures { result ≡ offset_bits (location_number self) }
+        ensures { result ≡ (row_of (location self).number).offset_bits }
     {
         match self {
             LocationType::Offset32 | LocationType::Pointer32 | LocationType::LoaderOffset32 => 32,
@@ -75,7 +75,7 @@ impl LocationType {
 
     /// The bits of a self-relative offset: 16 or 32. A short jump is computed in 32 bits.
     pub fn self_relative_bits(self) -> u8
-        ensures { result ≡ self_relative_bits (location_number self) }
+        ensures { result ≡ (row_of (location self).number).self_relative_bits }
     {
         match self {
             LocationType::LowByte
@@ -92,7 +92,7 @@ impl LocationType {
 
     /// Whether a self-relative fixup may have this type.
     pub fn may_be_self_relative(self) -> bool
-        ensures { result ≡ may_be_self_relative (location_number self) }
+        ensures { result ≡ (row_of (location self).number).may_be_self_relative }
     {
         match self {
             LocationType::LowByte

@@ -1,6 +1,6 @@
 //! The subrecords of a FIXUPP, and the references of FIXUPs and of MODEND's start address.
 ghost use Rattle.std.specs.Prelude.{◌≡◌, not};
-ghost use Rattle.omf_records.specs.Values.{has_frame_datum, has_target_datum, has_no_displacement};
+ghost use Rattle.omf_records.specs.Inner.Names.{has_frame_datum, has_target_datum, has_no_displacement};
 ghost use Rattle.omf_records.specs.Inner.Gives.{Gives};
 ghost use Rattle.omf_records.specs.Inner.EntryReaders.{fix_reader, datum_reader, displacement_reader, reference_reader, thread_reader, fixup_reader};
 

@@ -1,8 +1,9 @@
 //! Reading the contents of each record.
 ghost use Rattle.std.specs.Prelude.{◌≡◌, ◌==◌, ℕ, ◌≤◌, length, IfOk, Bool, cond, if◌then◌else◌};
+ghost use Rattle.omf_records.specs.Inner.Names.{has_start};
 ghost use Rattle.omf_records.specs.Inner.Gives.{Gives};
 ghost use Rattle.omf_records.specs.Inner.Seen.{contents_seen, kind_seen, odd_if, width_if, map_ok};
-ghost use Rattle.omf_records.specs.Values.{alignment, has_start};
+ghost use Rattle.omf_records.specs.Values.{alignment};
 ghost use Rattle.omf_records.specs.Inner.RecordReaders.{header_whole, comment_whole, names_whole, attribute_reader, absolute_reader, size_reader, segment_whole, group_whole, externs_whole, base_reader, publics_whole, communals_whole, plain_whole, iterated_whole, fixups_whole, start_reader, mod_end_whole, carried_whole};
 
 use crate::acbp::Acbp;

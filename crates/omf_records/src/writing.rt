@@ -2,9 +2,12 @@
 ghost use Rattle.std.specs.Prelude.{◌≡◌, ◌<◌, ◌+◌, ◌++◌, ◌∷◌, [], OnOk, OnErr, flat_map, length, vec_len, vec_capacity};
 ghost use Rattle.byteorder.specs.Endian.{little_bytes};
 ghost use Rattle.omf_frame.specs.Fields.{index_bytes};
+ghost use Rattle.omf_records.specs.Inner.Names.{absolute_bytes};
+ghost use Rattle.omf_records.specs.Shortest.{public_bytes};
+ghost use Rattle.omf_records.specs.Shortest.{member_bytes};
 ghost use Rattle.omf_records.specs.Inner.Begins.{Grows, Lacks};
 ghost use Rattle.omf_records.specs.Inner.Seen.{contents_seen, kind_seen};
-ghost use Rattle.omf_records.specs.Shortest.{contents_bytes, segment_bytes, reference_bytes, datum_bytes, option_bytes, absolute_bytes, member_bytes, public_bytes};
+ghost use Rattle.omf_records.specs.Shortest.{contents_bytes, segment_bytes, reference_bytes, datum_bytes, option_bytes};
 ghost use Rattle.omf_records.specs.Values.{width};
 
 use crate::at::At;

@@ -6,11 +6,12 @@ use Rattle.std.proofs.lemmas.List.{append-nil}
 use Rattle.std.proofs.lemmas.List.Elements.{All-head, All-tail}
 use Rattle.omf_image.specs.declared.limits.Limits.{Limits}
 use Rattle.omf_records.specs.Values.{At, Rec, Contents, Names, Fixups, Subrecord, Reference}
+use Rattle.omf_check.specs.Inner.Names.{frame_from, target_from}
 use Rattle.omf_check.specs.Inner.Judging.{frame_cell, target_cell}
 use Rattle.omf_check.specs.Inner.Kept.{HasThreads}
 use Rattle.omf_check.specs.Sound.{SubrecordHolds, is_module_end, ModuleHolds}
 use Rattle.omf_check.specs.Tables.{subrecords, subrecords_in}
-use Rattle.omf_check.specs.Threads.{frame_from, target_from, frame_setting, target_setting, plain, PlainReference}
+use Rattle.omf_check.specs.Threads.{frame_setting, target_setting, plain, PlainReference}
 use Rattle.omf_check.specs.declared.method.FrameMethod.TheVariants.{Target as F5}
 use Rattle.omf_check.specs.Threads.{T0}
 use Rattle.omf_check.specs.declared.threads.Threads.{Threads}

@@ -7,6 +7,7 @@ use Rattle.omf_frame.specs.declared.fault.Place.{Place}
 use Rattle.omf_image.specs.declared.limits.Limits.{Limits}
 use Rattle.omf_records.specs.Values.{Rec, Contents, Names, Plain, Iterated}
 use Rattle.omf_check.specs.Sound.{ModuleHolds}
+use Rattle.omf_reloc.specs.Inner.Names.{far_fault}
 use Rattle.omf_reloc.specs.declared.fault.Cause.{Cause}
 use Rattle.omf_reloc.specs.declared.fault.ReachFault.{ReachFault}
 use Rattle.omf_reloc.specs.declared.fault.ReachFault.TheVariants as fault
@@ -14,7 +15,7 @@ use Rattle.omf_reloc.specs.Offsets.{outcome_at, start_outcome}
 use Rattle.omf_reloc.specs.Inner.Pieces.{single_pieces, references_at, reference_places, placed_pieces}
 use Rattle.omf_placement.specs.Placement.{Places}
 use Rattle.omf_reloc.specs.Plain.{Piece, Kept, Fixed, End, PlainFixup, pieces, fixups_of_data}
-use Rattle.omf_reloc.specs.Reach.{causes, all_reference_places, far_fault, far_faults}
+use Rattle.omf_reloc.specs.Reach.{causes, all_reference_places, far_faults}
 use Rattle.omf_reloc.specs.Inner.ReachSteps.{far_at, data_place, place_behind, piece_cause, pieces_far}
 use Rattle.omf_reloc.proofs.HoldLaws.{PlainFixupHolds, PieceHolds, PiecesHold, data_kept, data_after, pieces-hold}
 use Rattle.omf_reloc.proofs.PieceLaws.{numbered_records, pieces-listed, numbered-listed, numbered-placed}

@@ -10,10 +10,11 @@ use Rattle.omf_image.specs.Overlay.{Laid}
 use Rattle.omf_image.specs.declared.limits.Limits.{Limits}
 use Rattle.omf_records.specs.Values.{Rec, Contents, Plain, Iterated, Fixups, ModEnd, DataItem, Subrecord, width}
 use Rattle.omf_check.specs.Tables.{subrecords, subrecords_in}
+use Rattle.omf_reloc.specs.Inner.Names.{plain_fixups}
 use Rattle.omf_reloc.specs.Image.{laid, laid_contents, patched}
 use Rattle.omf_reloc.specs.Offsets.{outcome}
 use Rattle.omf_placement.specs.Placement.{Places}
-use Rattle.omf_reloc.specs.Plain.{Piece, Kept, Fixed, End, PlainFixup, piece_of, pieces, plain_fixups, fixups_of_data}
+use Rattle.omf_reloc.specs.Plain.{Piece, Kept, Fixed, End, PlainFixup, piece_of, pieces, fixups_of_data}
 use Rattle.omf_reloc.specs.Reach.{causes, piece_causes}
 use Rattle.omf_reloc.proofs.AddedLaws.{IsFine, left, right, fine-all}
 

@@ -13,7 +13,8 @@ use Rattle.omf_check.specs.WellFormed.{IsAccepted, recs}
 use Rattle.omf_check.specs.declared.profile.Profile.{Profile}
 use Rattle.omf_check.proofs.AcceptLaws.{never_both, accepted_once}
 use Rattle.omf_check.proofs.SoundLaws.{module_holds}
-use Rattle.omf_reloc.specs.Headline.{BeginsWith, Headline}
+use Rattle.omf_reloc.specs.Inner.Names.{BeginsWith}
+use Rattle.omf_reloc.specs.Headline.{Headline}
 use Rattle.std.specs.Prelude.{Option}
 use Rattle.omf_frame.specs.Bytes.{AreBytes}
 use Rattle.omf_check.proofs.UniqueLaws.{refused_once}
@@ -87,4 +88,4 @@ module _ (profile : Profile) (input : List ℕ) (pl : Places) where
 pub accepted-safe : AcceptedAreSafe
 accepted-safe = λ profile input records a.
     let holds = module_holds profile profile_limits a.bytes records a.well_formed in
-    record { defined = holds; inside = λ pl. all-inside pl (recs records) holds }
+    (holds, λ pl. all-inside pl (recs records) holds)

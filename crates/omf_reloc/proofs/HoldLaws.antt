@@ -6,7 +6,7 @@ use Rattle.std.proofs.lemmas.List.{append-nil}
 use Rattle.omf_frame.specs.Bytes.{last}
 use Rattle.omf_image.specs.Inner.Expanding.{expanded, expanded_length}
 use Rattle.omf_image.specs.declared.limits.Limits.{Limits}
-use Rattle.omf_records.specs.Location.{location_size}
+use Rattle.omf_records.specs.Inner.Names.{location_size}
 use Rattle.omf_records.specs.Values.{At, Rec, Contents, Names, Plain, Iterated, Fixups, ModEnd, DataItem, Subrecord, Thread, Fixup, Reference, width, location_type, location_offset}
 use Rattle.omf_check.specs.Sound.{FrameIsDefined, TargetIsDefined, ReferenceHolds, FixupHolds, SubrecordHolds, DataHolds, ContentsHold, is_module_end, ModuleHolds}
 use Rattle.omf_check.specs.Tables.{subrecords, data_in, last_data, entries, is_defined}
@@ -16,8 +16,9 @@ use Rattle.omf_check.specs.declared.method.FrameMethod.{FrameMethod}
 use Rattle.omf_check.specs.declared.method.FrameMethod.TheVariants.{Of, Location as F4, Target as F5}
 use Rattle.omf_records.specs.declared.method.Kind.{Kind}
 use Rattle.omf_records.specs.declared.method.Kind.TheVariants as kinds
+use Rattle.omf_reloc.specs.Inner.Names.{plain_fixups}
 use Rattle.omf_reloc.specs.Inner.Pieces.{one_by_one, single_pieces}
-use Rattle.omf_reloc.specs.Plain.{Piece, Kept, Fixed, End, PlainFixup, piece_of, plain_fixups}
+use Rattle.omf_reloc.specs.Plain.{Piece, Kept, Fixed, End, PlainFixup, piece_of}
 use Rattle.omf_reloc.proofs.EarlierLaws.{HoldFrom, hold-first, hold-rest, ends-here}
 use Rattle.omf_reloc.proofs.GatherLaws.{pieces_from}
 use Rattle.omf_reloc.proofs.SingleLaws.{singles}

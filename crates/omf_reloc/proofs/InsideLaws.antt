@@ -7,7 +7,8 @@ use Rattle.omf_image.specs.Limits.{profile_limits}
 use Rattle.omf_image.specs.Overlay.{Laid}
 use Rattle.omf_image.specs.Parts.{Addition}
 use Rattle.omf_check.specs.Sound.{ModuleHolds}
-use Rattle.omf_reloc.specs.Laws.{location_start, location_end, AreInside, LiesInSegment, PartsLieIn, PatchesLieIn, AllLieInside}
+use Rattle.omf_reloc.specs.Inner.Names.{PartsLieIn, location_start}
+use Rattle.omf_reloc.specs.Laws.{location_end, AreInside, LiesInSegment, PatchesLieIn, AllLieInside}
 use Rattle.omf_reloc.specs.Offsets.{outcome}
 use Rattle.omf_placement.specs.Placement.{Places}
 use Rattle.omf_reloc.specs.Plain.{Piece, Kept, PlainFixup, pieces, fixups_of_data}

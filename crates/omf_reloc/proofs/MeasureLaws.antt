@@ -20,11 +20,12 @@ use Rattle.omf_image.proofs.BlocksLaws.{length-blocks_bytes}
 use Rattle.omf_image.proofs.PaintLaws.{same_are_lost}
 use Rattle.omf_check.specs.Sound.{ContentsHold, ModuleHolds}
 use Rattle.omf_check.specs.Tables.{subrecords_in}
+use Rattle.omf_reloc.specs.Inner.Names.{plain_fixups}
 use Rattle.omf_reloc.specs.Image.{laid}
 use Rattle.omf_reloc.specs.Laws.{LiesInSegment}
 use Rattle.omf_reloc.specs.Inner.Measuring.{measured, measured_contents, HasMeasure, CanMeasure}
 use Rattle.omf_placement.specs.Placement.{Places}
-use Rattle.omf_reloc.specs.Plain.{pieces, plain_fixups}
+use Rattle.omf_reloc.specs.Plain.{pieces}
 use Rattle.omf_reloc.proofs.GatherLaws.{Gathered, Once, Repeated, more, tagged, closed_by, opened_by, gathered, gathered_from, gathered-all, laid_of, laid-gathered}
 use Rattle.omf_reloc.proofs.InsideLaws.{all-inside}
 use Rattle.omf_reloc.proofs.PatchLaws.{stays_inside}

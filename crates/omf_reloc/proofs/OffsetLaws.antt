@@ -9,8 +9,8 @@ use Rattle.omf_reloc.specs.declared.fault.Cause.TheVariants as cause
 use Rattle.omf_placement.specs.declared.frame.Frame.{Frame}
 use Rattle.omf_placement.specs.declared.frame.Placed.{Placed}
 use Rattle.omf_frame.specs.Bytes.{difference}
-use Rattle.omf_records.specs.Values.{width_bits, location_type, location_offset, is_segment_relative}
-use Rattle.omf_records.specs.Location.{offset_bits, self_relative_bits}
+use Rattle.omf_records.specs.Inner.Names.{offset_bits, self_relative_bits, width_bits}
+use Rattle.omf_records.specs.Values.{location_type, location_offset, is_segment_relative}
 use Rattle.omf_reloc.specs.Plain.{PlainFixup}
 use Rattle.omf_reloc.specs.Inner.Widths.{fixupp_type, modend_type, number_bits}
 use Rattle.omf_reloc.specs.Offsets.{offsets, first_or, map_ok, in_bits, in_frame, from_location, additions_in}

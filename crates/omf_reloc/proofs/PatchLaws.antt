@@ -7,15 +7,17 @@ use Rattle.std.proofs.lemmas.List.{get_or-append_right}
 use Rattle.std.proofs.lemmas.List.Elements.{All-nil, All-cons, All-head, All-tail}
 use Rattle.std.proofs.Math.ListN.{get_or-append}
 use Rattle.byteorder.specs.Numbers.{length-bytes_low_first}
+use Rattle.omf_image.specs.Inner.Names.{sum_bytes}
 use Rattle.omf_image.specs.declared.part.Part.{Part}
-use Rattle.omf_image.specs.Parts.{Addition, part_size, sum_bytes, add_part, add_parts}
-use Rattle.omf_records.specs.Location.{location_size}
+use Rattle.omf_image.specs.Parts.{Addition, part_size, add_part, add_parts}
+use Rattle.omf_records.specs.Inner.Names.{location_size}
 use Rattle.omf_records.specs.Values.{DataItem, location_type, location_offset, is_segment_relative}
+use Rattle.omf_reloc.specs.Inner.Names.{additions, AreElsewhere, location_start}
 use Rattle.omf_reloc.specs.declared.fault.Cause.{Cause}
 use Rattle.omf_reloc.specs.declared.fault.Cause.TheVariants as cause
-use Rattle.omf_reloc.specs.Additions.{additions, self_relative_additions}
+use Rattle.omf_reloc.specs.Additions.{self_relative_additions}
 use Rattle.omf_reloc.specs.Image.{added}
-use Rattle.omf_reloc.specs.Laws.{location_start, location_end, AreInside, AreElsewhere, StaysInside}
+use Rattle.omf_reloc.specs.Laws.{location_end, AreInside, StaysInside}
 use Rattle.omf_reloc.specs.Offsets.{outcome, outcome_at, additions_in, named, if_named, map_ok, from_location, first_or, is_near}
 use Rattle.omf_check.specs.Tables.{entry}
 use Rattle.omf_placement.specs.declared.frame.Frame.{Frame}

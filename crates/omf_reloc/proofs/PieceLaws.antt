@@ -17,8 +17,9 @@ use Rattle.omf_check.specs.Sound.{ReferenceHolds, SubrecordHolds, ContentsHold, 
 use Rattle.omf_check.specs.Tables.{subrecords}
 use Rattle.omf_check.specs.WellFormed.{recs}
 use Rattle.omf_check.specs.declared.threads.Threads.{Threads}
+use Rattle.omf_reloc.specs.Inner.Names.{plain_fixups}
 use Rattle.omf_reloc.specs.Inner.Pieces.{one_by_one, single_pieces, references_at, reference_places, subrecord_steps, contents_steps, steps_from, given, placed_pieces, IsSet, SubrecordIsSet, SubrecordsAreSet, ContentsAreSet, RecordsAreSet}
-use Rattle.omf_reloc.specs.Plain.{Piece, Fixed, End, PlainFixup, piece_of, plain_fixups}
+use Rattle.omf_reloc.specs.Plain.{Piece, Fixed, End, PlainFixup, piece_of}
 use Rattle.omf_reloc.specs.Reach.{fixup_place, reference_places as stood, all_reference_places}
 use Rattle.omf_reloc.specs.Inner.Walking.{threads_after}
 use Rattle.omf_reloc.proofs.EarlierLaws.{plain-by, threads-more, HoldFrom, hold-first, hold-rest, frame-there, target-there}

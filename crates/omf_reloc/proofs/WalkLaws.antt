@@ -15,8 +15,9 @@ use Rattle.omf_check.specs.Sound.{SubrecordHolds, SubrecordsHold, DataHolds, Con
 use Rattle.omf_check.specs.Tables.{segments, groups, externals, entry, is_defined, subrecords, subrecords_in, last_data, data_in, defined_segments, defined_groups, defined_externals}
 use Rattle.omf_check.specs.Threads.{plain}
 use Rattle.omf_check.specs.declared.segment.SegInfo.{SegInfo}
+use Rattle.omf_reloc.specs.Inner.Names.{plain_fixups}
 use Rattle.omf_reloc.specs.Laws.{location_end, AreInside, LiesInSegment}
-use Rattle.omf_reloc.specs.Plain.{PlainFixup, pieces, plain_fixup, plain_fixups}
+use Rattle.omf_reloc.specs.Plain.{PlainFixup, pieces, plain_fixup}
 use Rattle.omf_reloc.proofs.GatherLaws.{Gathered, Once, Repeated, more, tagged, gathered, closed_by, opened_by, gathered_from, gathered-all, subrecords-more}
 
 -- What holds of all holds of a part of them.

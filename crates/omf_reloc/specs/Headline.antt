@@ -19,13 +19,9 @@ pub record IsRelocated (pl : Places) (records : List Raw) (laid : ℕ → ℕ �
   pub bytes : (segment offset : ℕ) → laid segment offset ≡ image profile_limits pl (recs records) segment offset
   pub begins : begin ≡ start pl (recs records)
 
--- The input begins with a well-formed module of these records.
-abbrev pub BeginsWith : Profile → List ℕ → List Raw → Type 0
-BeginsWith profile input records = IsAccepted profile profile_limits input records
-
 -- The theorem. An input is refused exactly if it begins with no well-formed module, for the first reason, at its place. If it begins with
 -- one, it is relocated exactly if the placement reaches; or else the answer is the first reason why the placement does not reach.
 abbrev pub Headline : Profile → List ℕ → Places → Answer → Type 0
-Headline profile input pl (Refused reason place) = IsRefused profile profile_limits input reason place × ((records : List Raw) → BeginsWith profile input records → ⊥)
-Headline profile input pl (DoesNotReach fault) = (records : List Raw) × BeginsWith profile input records × (reach_fault pl (recs records) ≡ Some fault)
-Headline profile input pl (Relocated laid begin) = (records : List Raw) × BeginsWith profile input records × IsRelocated pl records (byte_at laid) begin
+Headline profile input pl (Refused reason place) = IsRefused profile profile_limits input reason place × ((records : List Raw) → IsAccepted profile profile_limits input records → ⊥)
+Headline profile input pl (DoesNotReach fault) = (records : List Raw) × IsAccepted profile profile_limits input records × (reach_fault pl (recs records) ≡ Some fault)
+Headline profile input pl (Relocated laid begin) = (records : List Raw) × IsAccepted profile profile_limits input records × IsRelocated pl records (byte_at laid) begin

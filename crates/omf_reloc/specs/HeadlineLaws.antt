@@ -6,10 +6,9 @@ use Rattle.omf_check.specs.declared.profile.Profile.{Profile}
 use Rattle.omf_placement.specs.Placement.{Places}
 use Rattle.omf_frame.specs.Framing.{Raw}
 use Rattle.omf_image.specs.Limits.{profile_limits}
-use Rattle.omf_records.specs.Values.{Rec}
 use Rattle.omf_check.specs.Sound.{ModuleHolds}
-use Rattle.omf_check.specs.WellFormed.{recs}
-use Rattle.omf_reloc.specs.Headline.{BeginsWith, Headline}
+use Rattle.omf_check.specs.WellFormed.{recs, IsAccepted}
+use Rattle.omf_reloc.specs.Headline.{Headline}
 use Rattle.omf_reloc.specs.Laws.{AllLieInside}
 use Rattle.omf_reloc.specs.declared.headline.Answer.{Answer}
 use Rattle.omf_reloc.specs.declared.headline.Answer.TheVariants.{Relocated}
@@ -29,9 +28,6 @@ AnswersAreUnique = (profile : Profile) (input : List ℕ) (pl : Places) (answer 
 
 -- In a module that an input begins with, every index and every thread that is used is defined. At every placement, every byte that is laid is
 -- inside its segment, and every byte that a fixup changes is inside its data record.
-pub record IsSafe (m : List Rec) : Type 0 where
-  pub defined : ModuleHolds profile_limits m
-  pub inside : (pl : Places) → AllLieInside pl m
-
 abbrev pub AcceptedAreSafe : Type 0
-AcceptedAreSafe = (profile : Profile) (input : List ℕ) (records : List Raw) → BeginsWith profile input records → IsSafe (recs records)
+AcceptedAreSafe = (profile : Profile) (input : List ℕ) (records : List Raw) → IsAccepted profile profile_limits input records
+    → ModuleHolds profile_limits (recs records) × ((pl : Places) → AllLieInside pl (recs records))

@@ -5,3 +5,4 @@ pub mod ReachSteps
 pub mod Seen
 pub mod Walking
 pub mod Widths
+pub mod Names

@@ -2,7 +2,7 @@
 use Rattle.std.specs.Prelude.{◌≡◌, ◌≢◌, ◌⊎◌, ◌↔◌, ℕ, ◌+◌, ◌<◌, ◌≤◌, List, Some, None, true, Ok, IsOk, ◌∷◌, ◌++◌, map, length, slice_index, All}
 use Rattle.std.specs.List.{AllZip}
 use Rattle.omf_frame.specs.declared.fault.Place.{Place}
-use Rattle.omf_records.specs.Location.{location_size}
+use Rattle.omf_records.specs.Location.{row_of}
 use Rattle.omf_records.specs.Values.{DataItem, Rec, Plain, Subrecord, Reference, location_type, location_offset}
 use Rattle.omf_image.specs.Limits.{profile_limits}
 use Rattle.omf_image.specs.Parts.{Addition, part_size}
@@ -32,23 +32,17 @@ use Rattle.omf_reloc.specs.Inner.Walking.{plain_by}
 use Rattle.omf_reloc.specs.Offsets.{outcome, start_outcome}
 use Rattle.omf_reloc.specs.Image.{laid, patched}
 
--- Where the location of a fixup begins and ends in the data; a location is inside data of this length; a byte is outside the location.
-abbrev pub location_start : ℕ × PlainFixup → ℕ
-location_start f = location_offset f.1.locat
-
+-- Where the location of a fixup ends in the data; all locations are inside data of this length.
 abbrev pub location_end : ℕ × PlainFixup → ℕ
-location_end f = location_offset f.1.locat + location_size (location_type f.1.locat)
+location_end f = location_offset f.1.locat + (row_of (location_type f.1.locat)).size
 
 abbrev pub AreInside : ℕ → List (ℕ × PlainFixup) → Type 0
 AreInside size fixups = All (λ f. location_end f ≤ size) fixups
 
-abbrev pub AreElsewhere : ℕ → List (ℕ × PlainFixup) → Type 0
-AreElsewhere x fixups = All (λ f. (x < location_start f) ⊎ (location_end f ≤ x)) fixups
-
 -- Fixups whose locations are inside their data change no other byte, and keep the data's length.
 pub record StaysInside (pl : Places) (d : DataItem) (fixups : List (ℕ × PlainFixup)) : Type 0 where
   pub size : length (patched pl d fixups) ≡ length d.bytes
-  pub elsewhere : (x : ℕ) → AreElsewhere x fixups → slice_index (patched pl d fixups) x ≡ slice_index d.bytes x
+  pub elsewhere : (x : ℕ) → All (λ f. (x < location_offset f.1.locat) ⊎ (location_end f ≤ x)) fixups → slice_index (patched pl d fixups) x ≡ slice_index d.bytes x
 
 abbrev pub PatchesStayInside : Type 0
 PatchesStayInside = (pl : Places) (d : DataItem) (fixups : List (ℕ × PlainFixup)) → AreInside (length d.bytes) fixups → StaysInside pl d fixups
@@ -92,16 +86,12 @@ pub record LiesInSegment (m : List Rec) (segment offset size : ℕ) : Type 0 whe
   pub segment_defined : is_defined (length (segments m)) segment ≡ true
   pub inside : offset + size ≤ length_of_segment m segment
 
--- Each part that a fixup adds to is inside the data.
-abbrev pub PartsLieIn : ℕ → ℕ → List Addition → Type 0
-PartsLieIn size start parts = All (λ a. start + a.offset + part_size a.part ≤ size) parts
-
 -- An LEDATA and its fixups: its data are inside their segment; each location, and each part that a fixup adds to, is inside the data; no
 -- other byte changes.
 pub record PatchesLieIn (pl : Places) (m : List Rec) (d : DataItem) (fixups : List (ℕ × PlainFixup)) : Type 0 where
   pub data_inside : LiesInSegment m d.segment.item d.offset.item (length d.bytes)
   pub locations : AreInside (length d.bytes) fixups
-  pub parts : All (λ f. (parts : List Addition) → outcome pl d f ≡ Ok parts → PartsLieIn (length d.bytes) (location_start f) parts) fixups
+  pub parts : All (λ f. (parts : List Addition) → outcome pl d f ≡ Ok parts → All (λ a. location_offset f.1.locat + a.offset + part_size a.part ≤ length d.bytes) parts) fixups
   pub stays : StaysInside pl d fixups
 
 -- Every byte that is laid is inside its segment, and every byte that a fixup changes is inside the data of its LEDATA.

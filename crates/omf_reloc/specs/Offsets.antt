@@ -1,16 +1,16 @@
 -- The offset of a reference in its frame, and whether it reaches (TIS OMF 1.1, "FIXUPP"; readings, ranges and causes are this profile's rule).
-use Rattle.std.specs.Prelude.{ℕ, ◌+◌, ◌-◌, ◌^◌, List, [], ◌∷◌, filter, filter_map, Bool, true, ◌==◌, ◌&&◌, nat_le, nat_lt, Option, Some, None, option_and_then, Result, Ok, Err, if◌then◌else◌}
+use Rattle.std.specs.Prelude.{ℕ, ◌+◌, ◌-◌, ◌^◌, List, [], ◌∷◌, filter, filter_map, Bool, true, ◌==◌, ◌&&◌, nat_le, nat_lt, Option, Some, None, option_and_then, Result, Ok, Err, if◌then◌else◌, ◌*◌}
 use Rattle.std.specs.Option.{option_zip}
 use Rattle.omf_reloc.specs.declared.fault.Cause.{Cause}
 use Rattle.omf_reloc.specs.declared.fault.Cause.TheVariants as cause
 use Rattle.omf_frame.specs.Bytes.{difference}
-use Rattle.omf_records.specs.Values.{DataItem, width_bits, location_type, location_offset, is_segment_relative}
-use Rattle.omf_records.specs.Location.{offset_bits, self_relative_bits}
+use Rattle.omf_records.specs.Values.{DataItem, location_type, location_offset, is_segment_relative, width}
+use Rattle.omf_records.specs.Location.{location, row_of}
 use Rattle.omf_check.specs.Tables.{entry}
 use Rattle.omf_check.specs.Threads.{PlainReference}
 use Rattle.omf_image.specs.Parts.{Addition}
 use Rattle.omf_reloc.specs.Plain.{PlainFixup}
-use Rattle.omf_reloc.specs.Additions.{additions, self_relative_additions}
+use Rattle.omf_reloc.specs.Additions.{self_relative_additions, type_of_number, additions_at}
 use Rattle.omf_placement.specs.declared.frame.Frame.{Frame}
 use Rattle.omf_placement.specs.declared.frame.Placed.{Placed}
 use Rattle.omf_placement.specs.Placement.{Places, place_of, frame_by}
@@ -45,7 +45,7 @@ in_bits w (Some l) = if nat_lt l (2 ^ w) then Some l else None
 -- The additions of a segment-relative fixup: of a base (type 2) whatever the offset; of any other by the first offset in range, or else the
 -- cause is Target.
 abbrev pub in_frame : ℕ → ℕ → List ℕ → Result (List Addition) Cause
-in_frame t selector os = if t == 2 then Ok (additions t 0 selector) else map_ok (λ o. additions t o selector) (first_or cause.Target os)
+in_frame t selector os = if t == 2 then Ok (additions_at (type_of_number t) 0 selector) else map_ok (λ o. (additions_at (type_of_number t) o selector)) (first_or cause.Target os)
 
 -- The additions of a self-relative fixup: some reading has its offset in range, or else the cause is Target; the location's offset is in
 -- range, or else Location; and the first of those offsets that is near enough counts, or else Distance.
@@ -72,8 +72,8 @@ additions_in here offset f frame address =
     let u = f.1.reference.displacement in
     let location = option_and_then (λ p. difference (p.address + offset + location_offset f.1.locat) frame.base) here in
     if is_segment_relative f.1.locat
-    then in_frame t frame.selector (offsets (offset_bits t) (width_bits f.0) address u frame.base)
-    else from_location t (offsets (self_relative_bits t) (width_bits f.0) address u frame.base) (in_bits (self_relative_bits t) location)
+    then in_frame t frame.selector (offsets ((row_of t).offset_bits) (8 * width f.0) address u frame.base)
+    else from_location t (offsets ((row_of t).self_relative_bits) (8 * width f.0) address u frame.base) (in_bits ((row_of t).self_relative_bits) location)
 
 abbrev pub outcome_at : Places → ℕ → ℕ → ℕ × PlainFixup → Result (List Addition) Cause
 outcome_at pl segment offset f = if_named (additions_in (entry pl.segments segment) offset f) (named pl segment f.1.reference)
@@ -81,10 +81,7 @@ outcome_at pl segment offset f = if_named (additions_in (entry pl.segments segme
 abbrev pub outcome : Places → DataItem → ℕ × PlainFixup → Result (List Addition) Cause
 outcome pl d f = outcome_at pl d.segment.item d.offset.item f
 
--- The selector and the offset of a start in this frame: its offset and its displacement have 16 bits in 8AH and 32 bits in 8BH. The frame
+-- The selector and the offset of a start in its frame: its offset and its displacement have 16 bits in 8AH and 32 bits in 8BH. The frame
 -- of a start is not F4, so no data record matters.
-abbrev pub start_in : ℕ → ℕ → Frame → ℕ → Result (ℕ × ℕ) Cause
-start_in bits u frame address = map_ok (λ o. (frame.selector, o)) (first_or cause.Target (offsets bits bits address u frame.base))
-
 abbrev pub start_outcome : Places → ℕ → PlainReference → Result (ℕ × ℕ) Cause
-start_outcome pl kind r = if_named (start_in (width_bits kind) r.displacement) (named pl 0 r)
+start_outcome pl kind r = if_named (λ frame address. map_ok (λ o. (frame.selector, o)) (first_or cause.Target (offsets (8 * width kind) (8 * width kind) address r.displacement frame.base))) (named pl 0 r)

@@ -1,7 +1,7 @@
 -- A module's records with their threads resolved, on which reach, the image and the start rest.
 use Rattle.std.specs.Prelude.{ℕ, List, [], ◌∷◌, map, flat_map, Option, Some, None, is_some, option_map}
 use Rattle.omf_frame.specs.Bytes.{with_before, up_to}
-use Rattle.omf_records.specs.Values.{At, Rec, Contents, Plain, Iterated, DataItem, Fixups, ModEnd, Subrecord, Thread, Fixup}
+use Rattle.omf_records.specs.Values.{Rec, Contents, Plain, Iterated, DataItem, Fixups, ModEnd, Subrecord, Thread, Fixup}
 use Rattle.omf_check.specs.Tables.{subrecords}
 use Rattle.omf_check.specs.Threads.{PlainReference, plain}
 
@@ -22,11 +22,8 @@ abbrev pub plain_fixup : List Subrecord → Subrecord → List PlainFixup
 plain_fixup earlier (Thread byte datum) = []
 plain_fixup earlier (Fixup locat r) = record { locat = locat; reference = plain earlier r } ∷ []
 
-abbrev pub plain_fixups : List Subrecord → List (At Subrecord) → List PlainFixup
-plain_fixups earlier subs = with_before plain_fixup earlier (map (λ s. s.item) subs)
-
 abbrev pub piece_of : List Subrecord → ℕ → Contents → Piece
-piece_of earlier kind (Fixups subs) = Fixed kind (plain_fixups earlier subs)
+piece_of earlier kind (Fixups subs) = Fixed kind (with_before plain_fixup earlier (map (λ s. s.item) subs))
 piece_of earlier kind (ModEnd byte start) = End kind byte (option_map (plain earlier) start)
 piece_of earlier kind c = Kept (record { kind = kind; contents = c })
 

@@ -43,27 +43,15 @@ reference_places _ = []
 abbrev pub all_reference_places : List Rec → List (ℕ × ℕ)
 all_reference_places m = flat_map (λ p. map (λ within. (p.0, within)) (reference_places p.1.contents)) (enumerate_from 0 m)
 
--- the fault of a reference at its place, if it does not reach
-abbrev pub far_fault : (ℕ × ℕ) × Option Cause → Option ReachFault
-far_fault p = option_map (λ c. fault.TooFar p.0.0 p.0.1 c) p.1
+-- Each kind, with the number of entries in the module's table and in the placement.
+abbrev pub counts : Places → List Rec → List (Kind × ℕ × ℕ)
+counts pl m = (kinds.Segment, length (segments m), length pl.segments) ∷ (kinds.Group, length (groups m), length pl.groups) ∷ (kinds.External, length (externals m), length pl.externals) ∷ []
 
--- The number of entries of each kind in the module's tables, and in the placement.
+-- The number of entries in the module's table of a kind.
 abbrev pub entries : List Rec → Kind → ℕ
 entries m kinds.Segment = length (segments m)
 entries m kinds.Group = length (groups m)
 entries m kinds.External = length (externals m)
-
-abbrev pub given : Places → Kind → ℕ
-given pl kinds.Segment = length pl.segments
-given pl kinds.Group = length pl.groups
-given pl kinds.External = length pl.externals
-
--- A table of n entries against a list of the placement: the first index without an entry, and the first entry without an index.
-abbrev pub missing : Kind → ℕ → ℕ → List ReachFault
-missing k n have = if nat_lt have n then fault.Missing k (have + 1) ∷ [] else []
-
-abbrev pub extra : Kind → ℕ → ℕ → List ReachFault
-extra k n have = if nat_lt n have then fault.Extra k (n + 1) ∷ [] else []
 
 -- An absolute segment that is not placed where its SEGDEF puts it. Its address, its frame's base and its selector all count.
 abbrev pub lies_at : Option Placed → Placed → Bool
@@ -74,28 +62,21 @@ abbrev pub misplaced : Places → ℕ → Option (ℕ × ℕ) → List ReachFaul
 misplaced pl i None = []
 misplaced pl i (Some a) = if lies_at (entry pl.segments i) (absolute_place a.0 a.1) then [] else fault.Absolute i ∷ []
 
--- All faults of the fit between a placement and a module: entries that are missing, entries that are extra, both by kind, and absolute
+-- All faults of the fit between a placement and a module: the first entry that is missing, and the first that is extra, both by kind, and absolute
 -- segments that are misplaced.
-abbrev pub all_kinds : List Kind
-all_kinds = kinds.Segment ∷ kinds.Group ∷ kinds.External ∷ []
-
 abbrev pub misfits : Places → List Rec → List ReachFault
 misfits pl m =
-    flat_map (λ k. missing k (entries m k) (given pl k)) all_kinds
-    ++ flat_map (λ k. extra k (entries m k) (given pl k)) all_kinds
+    flat_map (λ k. if nat_lt k.2 k.1 then fault.Missing k.0 (k.2 + 1) ∷ [] else []) (counts pl m)
+    ++ flat_map (λ k. if nat_lt k.1 k.2 then fault.Extra k.0 (k.1 + 1) ∷ [] else []) (counts pl m)
     ++ flat_map (λ s. misplaced pl s.0 s.1.absolute) (enumerate_from 1 (segments m))
 
 -- The faults of all references that do not reach.
 abbrev pub far_faults : Places → List Rec → List ReachFault
-far_faults pl m = filter_map far_fault (zip (all_reference_places m) (causes pl (pieces m)))
+far_faults pl m = filter_map (λ p. option_map (λ c. fault.TooFar p.0.0 p.0.1 c) p.1) (zip (all_reference_places m) (causes pl (pieces m)))
 
--- All faults of reach, in the order in which they are reported.
-abbrev pub reach_faults : Places → List Rec → List ReachFault
-reach_faults pl m = misfits pl m ++ far_faults pl m
-
--- The first fault of reach, if there is one.
+-- The first fault of reach, if there is one: those of the fit come first.
 abbrev pub reach_fault : Places → List Rec → Option ReachFault
-reach_fault pl m = slice_get (reach_faults pl m) 0
+reach_fault pl m = slice_get (misfits pl m ++ far_faults pl m) 0
 
 -- A placement reaches if it has no fault of reach: it fits the module, and every fixup and the start reach (law reach_is_decided).
 abbrev pub Reaches : Places → List Rec → Type 0

@@ -1,9 +1,10 @@
 //! The numbers that a fixup adds at its location (TIS OMF 1.1, "FIXUPP").
 
+ghost use Rattle.omf_records.specs.Inner.Names.{location_number};
 ghost use Rattle.std.specs.Prelude.{◌≡◌, ◌+◌, ◌≤◌, ◌<◌, ◌^◌, ◌∷◌, [], All, length};
 ghost use Rattle.omf_image.specs.Parts.{part_size, add_part, add_parts};
-ghost use Rattle.omf_records.specs.Location.{location_number};
-ghost use Rattle.omf_reloc.specs.Additions.{addition, additions, distance_part, self_relative_value, self_relative_additions};
+ghost use Rattle.omf_reloc.specs.Inner.Names.{additions, distance_part, self_relative_value};
+ghost use Rattle.omf_reloc.specs.Additions.{addition, self_relative_additions};
 
 use omf_image::{Part, add_part};
 use omf_records::LocationType;

@@ -10,9 +10,9 @@ use Rattle.omf_check.specs.Inner.Kept.{set_thread}
 use Rattle.omf_check.specs.declared.threads.Threads.{Threads}
 use Rattle.omf_reloc.specs.Plain.{Piece, Kept, Fixed, End}
 use Rattle.omf_reloc.specs.Inner.Walking.{plain_by, plain_fixup_by, threads_after}
+use Rattle.omf_canon.specs.Inner.Names.{start_bytes, end_byte}
 use Rattle.omf_canon.specs.Cut.{body_limit}
-use Rattle.omf_canon.specs.PlainBytes.{fixup_bytes, start_bytes}
-use Rattle.omf_canon.specs.Skeleton.{end_byte}
+use Rattle.omf_canon.specs.PlainBytes.{fixup_bytes}
 
 -- A FIXUPP whose record is not yet written.
 pub record Held : Type 0 where

@@ -3,16 +3,17 @@ use Rattle.std.specs.Prelude.{ℕ, ◌+◌, ◌-◌, List, [], ◌∷◌, length
 use Rattle.omf_frame.specs.Fault.{Fault, is_before}
 use Rattle.omf_frame.specs.declared.fault.Reason.{Reason}
 use Rattle.omf_frame.specs.declared.fault.Reason.TheVariants as reason
-use Rattle.omf_records.specs.Location.{location_size}
+use Rattle.omf_records.specs.Inner.Names.{location_size, frame_thread}
 use Rattle.omf_records.specs.Inner.Reading.{read_body, contents_or}
-use Rattle.omf_records.specs.Values.{At, Rec, Contents, Comment, Names, Segment, Group, Externs, Publics, Communals, Plain, Iterated, Fixups, ModEnd, SegmentItem, GroupItem, Subrecord, Thread, Fixup, Reference, width, location_type, location_offset, frame_by_thread, frame_thread, frame_bits, target_by_thread, target_bits}
+use Rattle.omf_records.specs.Values.{At, Rec, Contents, Comment, Names, Segment, Group, Externs, Publics, Communals, Plain, Iterated, Fixups, ModEnd, SegmentItem, GroupItem, Subrecord, Thread, Fixup, Reference, width, location_type, location_offset, frame_by_thread, frame_bits, target_by_thread, target_bits}
 use Rattle.omf_image.specs.Inner.Expanding.{expanded_length}
 use Rattle.omf_image.specs.declared.limits.Limits.{Limits}
+use Rattle.omf_check.specs.Inner.Names.{frame_from, target_from}
+use Rattle.omf_check.specs.Refusal.{fault_from}
 use Rattle.omf_check.specs.Tables.{is_defined, is_none_or_defined, entry}
-use Rattle.omf_check.specs.Threads.{Kind, FrameMethod, Of, F4, F5, TargetMethod, setting, frame_from, target_from}
+use Rattle.omf_check.specs.Threads.{Kind, FrameMethod, Of, F4, F5, TargetMethod, setting}
 use Rattle.omf_records.specs.declared.method.Kind.TheVariants as kinds
 use Rattle.omf_check.specs.Rules.{table_limit, item_limit, item_places, places, judged_at, is_location_frame, undefined}
-use Rattle.omf_check.specs.Refusal.{fault_from}
 use Rattle.omf_check.specs.Inner.Kept.{Kept, kept_frame, kept_target, set_thread}
 use Rattle.omf_check.specs.declared.profile.Profile.{Profile}
 use Rattle.omf_check.specs.declared.segment.SegInfo.{SegInfo}

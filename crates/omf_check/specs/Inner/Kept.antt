@@ -1,9 +1,11 @@
 -- The state that a checker keeps of the records so far.
 use Rattle.std.specs.Prelude.{◌≡◌, ◌<◌, ◌≤◌, ℕ, ◌+◌, List, [], ◌∷◌, ◌++◌, length, map, get_or, set, Bool, true, false, Option, Some, None, option_map, if◌then◌else◌}
 use Rattle.omf_frame.specs.Types.{is_local}
-use Rattle.omf_records.specs.Values.{At, Rec, Contents, Names, Segment, Group, Externs, Communals, Plain, Iterated, Fixups, Subrecord, Thread, Fixup, thread_is_frame, thread_method, thread_number}
-use Rattle.omf_check.specs.Tables.{names, segments, groups, externals, locals, item_count, items_in, subrecords, last_data, segment_info}
-use Rattle.omf_check.specs.Threads.{FrameMethod, TargetMethod, setting, frame_from, target_from, thread}
+use Rattle.omf_records.specs.Inner.Names.{thread_number}
+use Rattle.omf_records.specs.Values.{At, Rec, Contents, Names, Segment, Group, Externs, Communals, Plain, Iterated, Fixups, Subrecord, Thread, Fixup, thread_is_frame, thread_method}
+use Rattle.omf_check.specs.Inner.Names.{segment_info, frame_from, target_from}
+use Rattle.omf_check.specs.Tables.{names, segments, groups, externals, locals, item_count, items_in, subrecords, last_data}
+use Rattle.omf_check.specs.Threads.{FrameMethod, TargetMethod, setting, thread}
 use Rattle.omf_check.specs.declared.segment.SegInfo.{SegInfo}
 use Rattle.omf_check.specs.declared.last_data.LastData.{LastData}
 use Rattle.omf_check.specs.declared.last_data.LastData.TheVariants as last

@@ -1,13 +1,13 @@
 //! Checking a record, and keeping what it defines.
 
 ghost use Rattle.std.specs.Prelude.{◌≡◌, ◌≤◌, ◌<◌, ◌+◌, ◌^◌, ◌++◌, length, OnOk, IsTrue, IfErr, None};
+ghost use Rattle.omf_check.specs.Inner.Names.{segment_info};
 ghost use Rattle.omf_check.specs.Rules.{item_limit};
 ghost use Rattle.omf_image.specs.Limits.{profile_limits};
 ghost use Rattle.omf_check.specs.Inner.Kept.{starts, alike, with_record, with_contents, IsBounded};
 ghost use Rattle.omf_check.specs.Inner.Judging.{IsNoFixupp, raw_fault, rec_of};
 ghost use Rattle.omf_check.specs.Inner.Passing.{refused_at, IsStopped};
 ghost use Rattle.omf_frame.specs.Framing.{is_taken};
-ghost use Rattle.omf_check.specs.Tables.{segment_info};
 ghost use Rattle.omf_records.specs.Inner.Seen.{contents_seen, kind_seen, odd_if, rec_seen};
 
 use crate::fault::CheckFault;

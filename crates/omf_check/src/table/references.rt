@@ -6,7 +6,7 @@ ghost use Rattle.omf_check.specs.Inner.Judging.{kept_entries, index_fault, frame
 ghost use Rattle.omf_check.specs.Inner.Kept.{set_threads};
 ghost use Rattle.omf_check.specs.Inner.Walking.{walk_fault, fixups_fault};
 ghost use Rattle.omf_check.specs.Tables.{items_in};
-ghost use Rattle.omf_records.specs.Location.{location_size};
+ghost use Rattle.omf_records.specs.Inner.Names.{location_size};
 ghost use Rattle.omf_records.specs.Values.{Fixups, location_type, location_offset};
 
 use crate::last_data::LastData;

@@ -1,10 +1,11 @@
 -- The framing fault as the code computes it. proofs/Judged.antt shows that it is `standing_fault`.
 use Rattle.std.specs.Prelude.{ℕ, ◌+◌, ◌*◌, ◌%◌, Bool, not, ◌||◌, ◌==◌, nat_le, if◌then◌else◌, List, [], ◌∷◌, length, sum, slice_index, Option, Some, None}
 use Rattle.std.specs.Option.{option_or}
+use Rattle.omf_frame.specs.Inner.Names.{is_unsupported}
 use Rattle.omf_frame.specs.declared.fault.Reason.{Reason}
 use Rattle.omf_frame.specs.declared.fault.Reason.TheVariants.{UnknownType, UnsupportedType, EmptyRecord, Checksum, NoHeader}
 use Rattle.omf_frame.specs.Fault.{Fault}
-use Rattle.omf_frame.specs.Framing.{is_taken, is_unsupported, is_header}
+use Rattle.omf_frame.specs.Framing.{is_taken, is_header}
 
 -- a reason and an offset in the record, as a fault
 abbrev pub found : Reason × ℕ → Fault

@@ -7,7 +7,8 @@ use Rattle.omf_records.specs.Inner.Steps.{and_then_ok}
 use Rattle.omf_records.specs.Inner.FieldReaders.{le_reader, le_read, le_shrinks, name_reader}
 use Rattle.omf_records.specs.Inner.Readers.{◌>=>◌, then_shrinks, checked_reader, called_reader, called_whole, choose_reader, times_reader, renamed_shrinks, InOrder, refuse_first}
 use Rattle.omf_records.specs.Inner.Many.{each_whole}
-use Rattle.omf_image.specs.Blocks.{Repeat, Nest, gathered, too_deep, block_contents, block, blocks}
+use Rattle.omf_image.specs.Inner.Names.{too_deep, block_contents}
+use Rattle.omf_image.specs.Blocks.{Repeat, Nest, gathered, block, blocks}
 
 pub one_reason : (count : ℕ) → InOrder (too_deep count)
 one_reason count s i = absurd i

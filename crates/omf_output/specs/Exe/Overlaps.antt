@@ -2,7 +2,7 @@
 use Rattle.std.specs.Prelude.{◌≡◌, ℕ, ◌+◌, All, List, [], ◌∷◌, ◌++◌, length, map, Bool, true, false, ◌==◌, ◌||◌, nat_le, slice_index_or, Option, Some, None, option_map, option_to_list, Result, Ok, Err, if◌then◌else◌, ⊤, ◌<◌, ◌≤◌, ◌^◌}
 use Rattle.std.specs.List.{list_all, list_any}
 use Rattle.omf_frame.specs.declared.fault.Place.{Place}
-use Rattle.omf_records.specs.Values.{Contents, Plain, Iterated, Rec, width}
+use Rattle.omf_records.specs.Values.{Contents, Plain, Iterated, Rec, width, location_offset}
 -- computed: blocks_are_read and lengths_are_decided of omf_image.
 use Rattle.omf_image.specs.Inner.Expanding.{expanded}
 use Rattle.omf_image.specs.Limits.{profile_limits}
@@ -10,7 +10,7 @@ use Rattle.omf_check.specs.Sound.{ModuleHolds}
 use Rattle.omf_placement.specs.Placement.{Places}
 -- computed: threads_give_references and faults_are_walked of omf_reloc.
 use Rattle.omf_reloc.specs.Inner.Pieces.{single_pieces}
-use Rattle.omf_reloc.specs.Laws.{location_start, location_end}
+use Rattle.omf_reloc.specs.Laws.{location_end}
 use Rattle.omf_reloc.specs.Plain.{Piece, Kept, Fixed, End, PlainFixup, pieces}
 use Rattle.omf_reloc.specs.Reach.{Reaches}
 use Rattle.omf_output.specs.Exe.Memory.{Chunk, segment_address, AreUncovered, IsAway, chunks, flat_words, MovingModule, ModuleMoves, all_chunks}
@@ -45,7 +45,7 @@ word_of mv segment address f = option_to_list (option_map (λ at. address + at) 
 abbrev pub with_fixups : Movers → ℕ → ℕ → List (ℕ × PlainFixup) → List ℕ → Option (List ℕ)
 with_fixups mv segment address [] ws = Some ws
 with_fixups mv segment address (f ∷ fs) ws =
-    if are_clear ws (address + location_start f) (address + location_end f) then with_fixups mv segment address fs (ws ++ word_of mv segment address f) else None
+    if are_clear ws (address + (location_offset f.1.locat)) (address + location_end f) then with_fixups mv segment address fs (ws ++ word_of mv segment address f) else None
 
 abbrev pub with_data : ℕ → ℕ → List ℕ → Option (List ℕ)
 with_data address size ws = if are_clear ws address (address + size) then Some ws else None

@@ -9,7 +9,7 @@ use Rattle.omf_image.specs.Parts.{Addition, add_part}
 use Rattle.omf_image.specs.declared.part.Part.TheVariants as part
 use Rattle.omf_reloc.specs.Additions.{type_of_number}
 use Rattle.omf_reloc.specs.Plain.{PlainFixup}
-use Rattle.omf_reloc.specs.Laws.{location_start, location_end}
+use Rattle.omf_reloc.specs.Laws.{location_end}
 use Rattle.omf_output.specs.Exe.Moved.{Movers, moves, frame_moves, target_moves}
 
 -- Whether a fixup of data in a segment moves with the program. A base holds the frame's selector alone. Any other offset in a frame needs the target to
@@ -63,7 +63,7 @@ words_moved k words bytes = fold (λ bs at. add_part bs at part.Word k) bytes wo
 -- No location of these fixups overlaps the word.
 abbrev pub IsApart : List (ℕ × PlainFixup) → Option ℕ → Type 0
 IsApart fixups None = ⊤
-IsApart fixups (Some at) = All (λ f. (at + 2 ≤ location_start f) ⊎ (location_end f ≤ at)) fixups
+IsApart fixups (Some at) = All (λ f. (at + 2 ≤ (location_offset f.1.locat)) ⊎ (location_end f ≤ at)) fixups
 
 -- Each relocation word is apart from the locations of the later fixups.
 abbrev pub StandApart : Movers → ℕ → List (ℕ × PlainFixup) → Type 0

@@ -4,8 +4,8 @@ ghost use Rattle.std.specs.Prelude.{◌≡◌, ◌↔◌, ◌∷◌, [], ℕ, �
 ghost use Rattle.std.specs.List.{list_all};
 ghost use Rattle.omf_check.specs.Listed.{placed_from};
 ghost use Rattle.omf_check.specs.Module.{recs_of, records_in};
+ghost use Rattle.omf_records.specs.Inner.Names.{location_number};
 ghost use Rattle.omf_records.specs.Inner.Seen.{contents_seen};
-ghost use Rattle.omf_records.specs.Location.{location_number};
 ghost use Rattle.omf_reloc.specs.Additions.{type_of_number};
 ghost use Rattle.omf_reloc.specs.Inner.PieceSeen.{piece_seen};
 ghost use Rattle.omf_reloc.specs.Inner.Pieces.{placed_pieces};

@@ -5,10 +5,11 @@ ghost use Rattle.omf_check.specs.Listed.{placed_from};
 ghost use Rattle.omf_check.specs.Module.{recs_of, records_in};
 ghost use Rattle.omf_image.specs.Painting.{Fits};
 ghost use Rattle.omf_records.specs.Inner.Seen.{contents_seen, kind_seen, rec_seen};
+ghost use Rattle.omf_reloc.specs.Inner.Names.{location_start};
 ghost use Rattle.omf_reloc.specs.Inner.Measuring.{CanMeasure, measured};
 ghost use Rattle.omf_reloc.specs.Inner.PieceSeen.{piece_seen};
 ghost use Rattle.omf_reloc.specs.Inner.Pieces.{placed_pieces};
-ghost use Rattle.omf_reloc.specs.Laws.{location_start, location_end};
+ghost use Rattle.omf_reloc.specs.Laws.{location_end};
 ghost use Rattle.omf_output.specs.Inner.Taking.{CanTake};
 ghost use Rattle.omf_output.specs.Exe.Overlaps.{AddsWords, IsLow, IsWordsFault, all_words, are_clear, opened, opened_after, with_contents, with_fixups, with_piece, word_of};
 

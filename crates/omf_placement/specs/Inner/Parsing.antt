@@ -1,13 +1,13 @@
 -- The steps of parsing a placement text, and of resolving its draft.
 use Rattle.std.specs.Prelude.{ℕ, List, [], ◌∷◌, ◌++◌, filter_map, Option, Some, None, Result, ◌==◌}
 use Rattle.std.specs.List.{enumerate_from, slice_split}
+use Rattle.omf_placement.specs.PlacementText.{unresolved_group, Draft, ok_or_first, resolved_group}
 use Rattle.omf_placement.specs.declared.entry.Entry.TheVariants as code
 use Rattle.omf_placement.specs.declared.entry.Entry as written
 use Rattle.omf_placement.specs.Entries.{Entry, Blank, SegmentEntry, GroupEntry, ExternalEntry}
 use Rattle.omf_placement.specs.declared.frame.Frame.{Frame}
 use Rattle.omf_records.specs.Values.{Rec}
 use Rattle.omf_placement.specs.Placement.{Placed}
-use Rattle.omf_placement.specs.PlacementText.{Draft, ok_or_first, resolved_group, unresolved_group}
 
 -- an entry, by its representation in the code
 abbrev pub seen : written.Entry → Entry

@@ -4,13 +4,13 @@ use Rattle.std.specs.Prelude.{◌==◌, ◌||◌, not, nat_lt}
 use Rattle.omf_frame.specs.Fault.{reason_number}
 use Rattle.omf_frame.specs.declared.fault.Reason.{Reason}
 use Rattle.omf_frame.specs.declared.fault.Reason.TheVariants as reason
-use Rattle.omf_records.specs.Values.{Near, Thread, Fixup, thread_is_frame, thread_method, location_type, frame_by_thread, frame_bits, target_by_thread, target_bits, has_no_displacement, has_frame_datum, has_target_datum}
-use Rattle.omf_records.specs.Location.{is_location}
+use Rattle.omf_records.specs.Inner.Names.{fixup, thread, near_size, wrong_component, wrong_data_type, wrong_head, is_location, has_frame_datum, has_target_datum, has_no_displacement}
+use Rattle.omf_records.specs.Values.{Near, Thread, Fixup, thread_is_frame, thread_method, location_type, frame_by_thread, frame_bits, target_by_thread, target_bits}
 use Rattle.omf_records.specs.Layout.{checked, byte, head, with_place, index, number_of, IsIn, when, choose, communal_length}
 use Rattle.omf_records.specs.Inner.Reads.{Reader, Shrinks}
 use Rattle.omf_records.specs.Inner.FieldReaders.{name_reader, name_shrinks, index_reader, byte_reader, byte_shrinks, number_reader, head_reader, head_shrinks, communal_length_reader}
 use Rattle.omf_records.specs.Inner.Readers.{◌>=>◌, then_shrinks, checked_reader, checked_shrinks, choose_reader, when_reader, placed_reader, index_at, called_reader, give_reader, InOrder}
-use Rattle.omf_records.specs.Entries.{unless, wrong_component, member, external, public_item, wrong_data_type, near_size, far_size, communal_size, communal, is_frame_method, wrong_methods, reference, wrong_thread, thread, wrong_location, fixup, wrong_head, subrecord}
+use Rattle.omf_records.specs.Entries.{unless, member, external, public_item, far_size, communal_size, communal, is_frame_method, wrong_methods, reference, wrong_thread, wrong_location, subrecord}
 
 -- ---- reasons at one offset are in the order of their numbers
 

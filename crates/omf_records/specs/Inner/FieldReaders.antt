@@ -9,7 +9,8 @@ use Rattle.omf_frame.specs.Fault.{Fault}
 use Rattle.omf_frame.specs.Fields.{IsIndex, IsName, IsLittle, IsCommunalLength}
 use Rattle.omf_frame.specs.declared.fault.Reason.{Reason}
 use Rattle.omf_frame.specs.declared.fault.Reason.TheVariants as reason
-use Rattle.omf_records.specs.Layout.{fault, field_or, name, index, IsByte, byte, le, number_of, length_reason, communal_length, IsHead, head, Behind}
+use Rattle.omf_records.specs.Inner.Names.{IsByte, IsHead}
+use Rattle.omf_records.specs.Layout.{fault, field_or, name, index, byte, le, number_of, length_reason, communal_length, head, Behind}
 use Rattle.omf_records.specs.Inner.Reads.{After, after, Reading, Takes, Refuses, Reader, Falls, Shrinks}
 use Rattle.omf_records.specs.Inner.Steps.{guard_ok, guard_err, chosen, refused_by, AreBytes-take}
 

@@ -5,7 +5,8 @@ use Rattle.omf_frame.specs.Types.{type_of}
 use Rattle.omf_frame.specs.declared.kinds.RecordType.{RecordType}
 use Rattle.omf_frame.specs.declared.kinds.RecordType.TheVariants.{Theadr, Lheadr, Coment, Lnames, Llnames, Segdef, Grpdef, Extdef, Lextdef, Pubdef, Lpubdef, Comdef, Lcomdef, Ledata, Lidata, Fixupp, Modend, Typdef, Linnum, Linsym, Alias, Vernum, Bakpat, Cextdef, Comdat, Nbkpat, Vendext, Library}
 use Rattle.omf_frame.specs.declared.fault.Reason.TheVariants as reason
-use Rattle.omf_records.specs.Values.{Comment, Names, Group, Externs, Publics, Communals, Plain, Iterated, Fixups, Carried, is_wide, alignment, is_big, has_start}
+use Rattle.omf_records.specs.Inner.Names.{communals, externs, fixups, names, wrong_alignment, wrong_size, has_start}
+use Rattle.omf_records.specs.Values.{Comment, Names, Group, Externs, Publics, Communals, Plain, Iterated, Fixups, Carried, is_wide, alignment, is_big}
 use Rattle.omf_records.specs.Layout.{checked, byte, le, number_of, many, name, when, rest, called}
 use Rattle.omf_records.specs.Inner.Reads.{Reader, Whole}
 use Rattle.omf_records.specs.Inner.FieldReaders.{name_reader, name_shrinks, byte_reader, index_reader, le_reader, number_reader}
@@ -13,7 +14,7 @@ use Rattle.omf_records.specs.Inner.Readers.{◌>=>◌, ◌>=>|◌, checked_reade
 use Rattle.omf_records.specs.Inner.Many.{each_whole}
 use Rattle.omf_records.specs.Entries.{member, external, public_item, communal, reference, subrecord}
 use Rattle.omf_records.specs.Inner.EntryReaders.{one_reason, member_reader, member_shrinks, external_reader, external_shrinks, public_reader, public_shrinks, communal_reader, communal_shrinks, reference_reader, subrecord_reader, subrecord_shrinks}
-use Rattle.omf_records.specs.Records.{header, comment, names, wrong_alignment, wrong_size, absolute, segment, group, externs, publics, communals, data_item, fixups, mod_end, carried, layout_of, layout_if, contents}
+use Rattle.omf_records.specs.Records.{header, comment, absolute, segment, group, publics, data_item, mod_end, carried, layout_of, layout_if, contents}
 
 abbrev pub header_whole : Whole header
 header_whole = name_reader >=>| λ n. ends_whole _

@@ -6,12 +6,13 @@ use Rattle.std.specs.List.{enumerate_from}
 use Rattle.omf_frame.specs.declared.fault.Place.{Place}
 use Rattle.omf_records.specs.Values.{Rec, Contents, Plain, Iterated}
 use Rattle.omf_check.specs.declared.segment.SegInfo.{SegInfo}
+use Rattle.omf_reloc.specs.Inner.Names.{extra, missing, given, all_kinds}
 use Rattle.omf_reloc.specs.declared.fault.Cause.{Cause}
 use Rattle.omf_reloc.specs.declared.fault.ReachFault.{ReachFault}
 use Rattle.omf_reloc.specs.declared.fault.ReachFault.TheVariants as fault
 use Rattle.omf_reloc.specs.declared.fault.RelocateFault.{RelocateFault}
 use Rattle.omf_reloc.specs.declared.fault.RelocateFault.TheVariants as relocate
-use Rattle.omf_reloc.specs.Reach.{entries, given, all_kinds, missing, extra, misplaced}
+use Rattle.omf_reloc.specs.Reach.{entries, misplaced}
 use Rattle.omf_reloc.specs.Offsets.{outcome_at, start_outcome}
 use Rattle.omf_placement.specs.Placement.{Places}
 use Rattle.omf_reloc.specs.Plain.{Piece, Kept, Fixed, End}

@@ -1,7 +1,7 @@
 -- References resolved by the threads in force, and the steps of a walk over a module's pieces: the image so far and the last data record.
 -- Only private functions use these definitions; the contracts of public functions use the definition of the image.
 use Rattle.std.specs.Prelude.{◌≡◌, ◌≤◌, ◌+◌, ◌^◌, ⊤, ℕ, List, [], ◌∷◌, length, Option, Some, option_map, option_to_list, unwrap_or, IfSome, IsOk}
-use Rattle.omf_records.specs.Location.{location_size}
+use Rattle.omf_records.specs.Inner.Names.{location_size}
 use Rattle.omf_records.specs.Values.{Rec, Contents, Plain, Iterated, Fixups, Reference, width, location_type, location_offset}
 use Rattle.omf_image.specs.Inner.Expanding.{expanded, expanded_length}
 use Rattle.omf_image.specs.Limits.{profile_limits}

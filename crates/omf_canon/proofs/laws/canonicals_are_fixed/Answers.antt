@@ -1,5 +1,5 @@
 use Rattle.std.proofs.Common.{ap}
-use Rattle.omf_canon.specs.Canonical.{canonical_bytes}
+use Rattle.omf_canon.specs.Inner.Names.{canonical_bytes}
 use Rattle.omf_canon.proofs.laws.canonicals_are_fixed.Goals as goal
 
 pub returns : goal.returns

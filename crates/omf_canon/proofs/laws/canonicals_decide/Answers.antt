@@ -4,7 +4,8 @@ use Rattle.omf_frame.proofs.ModuleLaws.{framed_once}
 use Rattle.omf_image.specs.declared.limits.Limits.{Limits}
 use Rattle.omf_check.specs.WellFormed.{IsWellFormed, recs}
 use Rattle.omf_check.specs.declared.profile.Profile.{Profile}
-use Rattle.omf_canon.specs.Canonical.{canonical_raws, canonical_bytes, canonical}
+use Rattle.omf_canon.specs.Inner.Names.{canonical_bytes}
+use Rattle.omf_canon.specs.Canonical.{canonical_raws, canonical}
 use Rattle.omf_canon.specs.Laws.{CanonicalsHold, CanonicalsAreWellFormed}
 use Rattle.omf_canon.specs.Skeleton.{skeleton}
 use Rattle.omf_canon.proofs.laws.canonicals_decide.Goals as goal

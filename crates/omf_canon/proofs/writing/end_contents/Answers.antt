@@ -1,8 +1,8 @@
 use Rattle.std.proofs.Common.{List, ℕ, length, ap, arith, length-append}
 use Rattle.std.specs.Prelude.{option_map}
 use Rattle.omf_reloc.specs.Inner.Walking.{plain_by}
+use Rattle.omf_canon.specs.Inner.Names.{start_bytes}
 use Rattle.omf_canon.proofs.CutLaws.{length-start_bytes}
-use Rattle.omf_canon.specs.PlainBytes.{start_bytes}
 use Rattle.omf_canon.proofs.writing.end_contents.Goals as goal
 
 pub returns-clause-short : goal.returns-clause-short

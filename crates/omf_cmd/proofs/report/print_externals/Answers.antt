@@ -2,7 +2,7 @@ use Rattle.std.proofs.Common.{◌+◌, ◌++◌, sym, ap, ◌∙◌}
 use Rattle.omf_check.specs.Module.{records_in}
 use Rattle.omf_check.specs.Tables.{externals}
 use Rattle.omf_check.specs.WellFormed.{recs}
-use Rattle.omf_cmd.specs.Listing.{external_line}
+use Rattle.omf_cmd.specs.Inner.Names.{external_line}
 use Rattle.omf_cmd.proofs.Pieces.{halted, left_by, unbroken_on, went_on}
 use Rattle.omf_cmd.proofs.Reported.{entry_due, has_entry}
 use Rattle.omf_cmd.proofs.report.print_externals.Goals as goal

@@ -4,7 +4,7 @@ use Rattle.omf_records.specs.Inner.Seen.{contents_seen}
 use Rattle.omf_check.specs.Module.{records_in}
 use Rattle.omf_check.specs.Tables.{entry, groups}
 use Rattle.omf_check.specs.WellFormed.{recs}
-use Rattle.omf_cmd.specs.Listing.{group_line}
+use Rattle.omf_cmd.specs.Inner.Names.{group_line}
 use Rattle.omf_cmd.proofs.Pieces.{halted, left_by, unbroken_on, went_on}
 use Rattle.omf_cmd.proofs.Reported.{entry_due, group_here, has_entry, no_group}
 use Rattle.omf_cmd.proofs.report.print_groups.Goals as goal

@@ -4,7 +4,8 @@ use Rattle.omf_frame.specs.Bytes.{with_before}
 use Rattle.omf_records.specs.Values.{Rec}
 use Rattle.omf_check.specs.Module.{records_in}
 use Rattle.omf_check.specs.WellFormed.{recs}
-use Rattle.omf_cmd.specs.Listing.{record_line, segment_lines, group_lines, external_lines, public_lines}
+use Rattle.omf_cmd.specs.Inner.Names.{external_lines, group_lines, segment_lines, record_line}
+use Rattle.omf_cmd.specs.Listing.{public_lines}
 use Rattle.omf_cmd.proofs.Pieces.{begun_in_parts, last_part, part_done, part_stopped}
 use Rattle.omf_cmd.proofs.report.print_lines.Goals as goal
 

@@ -3,7 +3,7 @@ use Rattle.std.specs.Prelude.{codes, decimal, unwrap_or, option_map}
 use Rattle.omf_check.specs.Module.{records_in}
 use Rattle.omf_check.specs.Tables.{segments}
 use Rattle.omf_check.specs.WellFormed.{recs}
-use Rattle.omf_cmd.specs.Listing.{segment_line}
+use Rattle.omf_cmd.specs.Inner.Names.{segment_line}
 use Rattle.omf_cmd.specs.Printed.{line}
 use Rattle.omf_placement.specs.Quoted.{quoted}
 use Rattle.omf_cmd.proofs.Pieces.{halted, left_by, unbroken_on, went_on}

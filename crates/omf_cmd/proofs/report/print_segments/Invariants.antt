@@ -2,7 +2,7 @@ use Rattle.std.proofs.Common.{◌++◌}
 use Rattle.omf_check.specs.Module.{records_in}
 use Rattle.omf_check.specs.Tables.{segments}
 use Rattle.omf_check.specs.WellFormed.{recs}
-use Rattle.omf_cmd.specs.Listing.{segment_line}
+use Rattle.omf_cmd.specs.Inner.Names.{segment_line}
 use Rattle.omf_cmd.specs.Runs.{IsUnbroken}
 use Rattle.omf_cmd.specs.Inner.Printing.{IsWrittenUpTo}
 use Rattle.omf_cmd.proofs.Reported.{lines_from}

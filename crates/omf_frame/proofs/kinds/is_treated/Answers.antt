@@ -1,5 +1,5 @@
 use Rattle.std.proofs.Common.{sym, ◌∙◌, ap}
-use Rattle.omf_frame.specs.Types.{is_same}
+use Rattle.omf_frame.specs.Inner.Names.{is_same}
 use Rattle.omf_frame.specs.Inner.Typed.{has_treatment}
 use Rattle.omf_frame.proofs.TypeLaws.{treated_is}
 use Rattle.omf_frame.proofs.kinds.is_treated.Goals as goal

@@ -1,6 +1,7 @@
 use Rattle.std.proofs.Common.{ℕ, ◌+◌, ◌++◌, ◌∙◌, ap, sym}
 use Rattle.std.specs.Prelude.{Some}
-use Rattle.omf_reloc.specs.Laws.{location_start, location_end}
+use Rattle.omf_reloc.specs.Inner.Names.{location_start}
+use Rattle.omf_reloc.specs.Laws.{location_end}
 use Rattle.omf_reloc.specs.Plain.{PlainFixup}
 use Rattle.omf_output.specs.Exe.Overlaps.{are_clear, word_of}
 use Rattle.omf_output.proofs.MarkLaws.{not-taken, taken}
