@@ -25,6 +25,8 @@ standard (TIS OMF 1.1) beside the page, and nothing else of this project. `tests
 
 "Well formed" is narrower than the standard. Modules with COMDAT, CEXTDEF, backpatch (BAKPAT, NBKPAT) or vendors' records are refused, and so are fixups on LIDATA blocks, frame methods F3, F6 and F7 and target methods T3 and T7; every such narrowing is marked "this profile's rule" at its definition.
 
+Where the standard is silent or leaves a choice, this profile has its own rule, too. An index below 128 may have two bytes. A thread's number in a FIXUP is its bits 4 and 5, whatever bit 6 is. Index 0 as the name of a segment, a class or a group is no name. The combine type and the P bit of a SEGDEF are looked at by no rule. Of MODEND's type byte only bit 6 counts. A FIXUPP belongs to the last data record, also if other records are between them. A displacement is read as it is and then as a negative number; an offset that is out of range does not reach, and does not wrap. A repeat count may be 0. Of two data records that cover one byte the last counts, and of fixups that overlap each adds to what the ones before it left.
+
 The theorem is `Headline`, the contract of the call `check_and_relocate` (step 8). A profile, an input and a placement have one of three answers:
 
 - `Refused`: the input begins with no well-formed module (`IsAccepted`, steps 1 to 4). If a yes or no is all you want, skip step 5. The reason and the place are those of its first fault (`IsRefused`, step 5).
@@ -45,7 +47,7 @@ Beside it is the law `accepted_are_safe`, of every module that an input begins w
 | `ℕ` | the whole numbers from 0, without a limit; `a * b`, `a < b`, `a ≤ b` as usual; `a - b` is 0 if b is larger, `/` rounds down, `%` is the remainder, `^` a power |
 | `a ≡ b`, `a ≢ b` | a and b are equal; are not |
 | `(x : A) → P` | for every x of A, P holds; `P → Q`: if P holds, so does Q; `P ↔ Q`: both ways |
-| `(x : A) × P` | there is an x of A for which P holds; `P × Q`: both hold; also a pair, whose parts are `p.0` and `p.1` |
+| `(x : A) × P` | there is an x of A for which P holds; `P × Q`: both hold; also a pair or a triple, whose parts are `p.0`, `p.1` and `p.2` |
 | `P ⊎ Q`, `⊥`, `⊤`, `Unit {{0}}` | P or Q holds; what never holds; what always holds (the last two) |
 | `Bool`: `true`, `false`; `a == b`, `nat_lt a b`, `nat_le a b`, `&&`, `\\|\\|`, `not b` | truth values, which are computed: equal, less, less or equal, and, or, not. `IsTrue b` is the statement that b is true |
 | `if b then x else y`, `cond b x y`, `let x = e in y` | x or y; the same; y with the value of e for x |
@@ -59,11 +61,12 @@ Beside it is the law `accepted_are_safe`, of every module that an input begins w
 | `enumerate_from n xs`, `last_or None xs` | pairs of n, n + 1 and so on with the elements; the last element, if there is one |
 | `little_number k bytes`, `little_bytes k n` | the little-endian number in k bytes; n as k bytes, little-endian |
 | `0x1A`, `codes "TEXT"` | a hexadecimal number; the characters of a text as numbers |
-| `Option A`, `Some x`, `None` | an A or nothing; `option_map f o`: f of it, if it is there; `unwrap_or o x`: it, or else x; `option_or o p`: o if it is there, else p; `option_and_then f o`: f of it, or nothing; `option_zip o p`: the pair, if both are there; `option_to_list o`: the list of it, or the empty one |
+| `Option A`, `Some x`, `None` | an A or nothing; `option_map f o`: f of it, if it is there; `unwrap_or o x`: it, or else x; `option_or o p`: o if it is there, else p; `option_and_then f o`: f of it, or nothing; `option_zip o p`: the pair, if both are there; `option_to_list o`: the list of it, or the empty one; `option_copied o`: o itself |
 | `IsSome o`, `IsNone o`, `IfSome o P` | it is there; it is not; if it is there, P holds of it. `is_some o`: the same as a truth value |
 | `Result A E`, `Ok x`, `Err e` | an A, or a fault; `IsOk r`, `IfOk r P`, `IfErr r P`: it is Ok; if it is Ok (Err), P holds of its value. `result_ok r`, `result_err r`: the value, the fault, if it is there |
 | `record R where`, `data D where` | a struct: `r.field`, `record {{ field = .. }}`, and `record r {{ field = .. }}`, which is r with another field; a tagged union, with its cases. The fields of a struct that is a statement hold together |
 | `zero`, `suc n` | 0, and n + 1 |
+| `tag_of the_type x` | the place of x among the cases of its enum as declared in the table below, from 0 |
 | `Layout A`, `Spells`, `Faults` | how a value of A is encoded. `Spells at bytes x`: the bytes, from offset `at` of the record, are an encoding of x. `Faults at bytes e`: they have the fault e |
 | `p >>= f` | the layout p, and then the layout f of its value: a sequence of fields |
 | `do`, `x ← p` | the same, one field to a line: x is the value of the layout p |
@@ -89,7 +92,7 @@ STEPS = [
     ("What must hold", "The blocks of an LIDATA; the tables that records define; the threads in force; and the rules of each record, given the records before it, each with the place and the reason of its fault. Then `IsWellFormed`: the bytes are records, the contents of each encode a value, blocks are within the limits, and every record keeps its rules. `IsAccepted`: the input begins so. `typed r` is the record r with the value that its contents encode; `blocks_of` are the blocks of an LIDATA (both are computed: see the end of the page). The index of a THREAD is looked up where the thread is used, so one that is never used may be any number. The limits are those of `profile_limits` (step 8): 64 levels of blocks, 256 MB."),
     ("Which refusal", "A record is judged in steps: six of framing, then layout and blocks, then the length of what the blocks expand to, then the rules. The refusal names the first record at fault and, of its faults, those of the first step that has one: the fault at the least offset, and at one offset the one of the least number. So a fault of layout late in a record comes before a broken rule early in it. Read `IsRefused`, the last definition, first: the input is records without a fault, none of them a MODEND, and then a record with one, of which perhaps not all bytes are there (`present`)."),
     ("What a placement makes of a module", "A placement (`Places`) has an address and a frame for each segment and external, and a frame for each group. `outcome`: what a fixup adds to the bytes of its location, or why it does not reach. `patched`: the data of an LEDATA after its fixups, in file order. `image`: at each place the byte of the last data record that covers it. `pieces` are the records with threads resolved. A thread that is not set counts as F5 or T0 0; no well-formed module uses one (`ModuleHolds`, step 8). A reference whose frame or target has no entry does not reach. The image of the code is a list of runs (`laid_runs`): `byte_at` of it is what `get` returns for each offset of each segment."),
-    ("Whether it reaches", "A placement fits if its lists are as long as the module's tables, and each absolute segment is where its SEGDEF puts it. It reaches if it fits, and every fixup, and the start, reaches. `reach_faults` has all faults in the order in which they are reported. The places of references and their causes are two lists in one order, since in a well-formed module each fixup follows its data record."),
+    ("Whether it reaches", "A placement fits if its lists are as long as the module's tables, and each absolute segment is where its SEGDEF puts it. It reaches if it fits, and every fixup, and the start, reaches. The faults are reported in this order: `misfits`, then `far_faults`. The places of references and their causes are two lists in one order, since in a well-formed module each fixup follows its data record."),
     ("The theorem and the calls", "What holds of every accepted module (`ModuleHolds`: each thread, and each index of a reference, of data, of a public, of a group and its members, of a segment's and a class's name, is defined; indices of overlay names and of types are looked at by no rule) and of every image (`AllLieInside`: each patched byte is inside its data and its segment). Then the theorem, and the contracts that state it."),
 ]
 BEYOND = "What the calls that the theorem joins promise beyond it: how far a reader is read, when a failing reader is an answer, and the covered intervals of an image."
@@ -105,6 +108,8 @@ COMPUTED = {
     "layout_faults": ("The least fault of layout of a record; none if its contents encode a value", "AreDecided, FaultsAreLeast"),
     "typed": ("A record with the value that its contents encode; contents that have a fault are kept as bytes", "AreTyped, AreDecided"),
 }
+# The definition of `typed`, which no law has: the type, and contents with a fault.
+TYPED = [("omf_records", "Inner.Reading", "contents_or"), ("omf_records", "Inner.Reading", "typed")]
 # The statements of these laws.
 LAWS = [
     ("omf_records", "Laws", "AreTyped"), ("omf_records", "Laws", "AreDecided"), ("omf_records", "Laws", "FaultsAreLeast"), ("omf_image", "Laws", "BlocksAreExpanded"),
@@ -240,6 +245,8 @@ def code_types(definitions, them):
         text = (CRATES / one[0] / "specs" / (one[1].replace(".", "/") + ".antt")).read_text(encoding="utf-8")
         for crate, file, name, called in re.findall(r"^use Rattle\.(omf_\w+)\.specs\.declared\.(\w+)\.(\w+)\.TheVariants as (\w+)$", text, re.M):
             cases.setdefault((crate, file, name), {})[called] = f"`{called}.` and the case"
+    # The contract of the theorem's call names it; no definition does.
+    found["omf_reloc", "headline", "NoAnswer"] = None
     for crate, file, name in sorted(found):
         path = CRATES / crate / "src" / f"{file}.rt"
         written = ", ".join(text for _, text in sorted(cases.get((crate, file, name), {}).items()))
@@ -262,6 +269,8 @@ def computed(definitions, headline, them, text):
         meaning, laws = COMPUTED[word]
         by = ", ".join(f"`{law}`" for law in laws.split(", ")) if laws else "none: it is how a contract sees a value of the code"
         yield f"| `{word}` | {crate}, specs/{module.replace('.', '/')} | {meaning} | {by} |"
+    yield "\nThat `typed` keeps a record's type is in its own definition (`read_body`: the value that these contents encode, or a fault):\n"
+    yield from code(definitions, TYPED)
     place = {one: at for at, one in enumerate(definitions.lines)}
     cited = sorted((one for one in definitions.closed(LAWS) - set(them) if not one[1].startswith("Inner")), key=lambda one: place[one])
     yield f"\nThe laws, with what they cite beyond the page ({definitions.count(cited)} lines). Each is the contract of a function of its crate, and is proved; read them to see what the words mean:\n"
