@@ -7,7 +7,7 @@ import executables
 import libraries
 from changes import changed_module
 from modules import UNRESOLVED, as_library, externals_of, is_main, is_simple, members_needed, provider, unresolved_lines
-from promises import TIMEOUT, program, promised, run
+from promises import ALLOW_ALL, TIMEOUT, program, promised, run
 
 
 class Exe:
@@ -51,7 +51,7 @@ class Exe:
             (folder / name).write_bytes(bytes_)
         status, lines = self.exe("p.exe", names, folder)
         if all(is_simple(it) and libraries.module_length(it) == len(it) for it in inputs) and (status == 0 or UNRESOLVED.fullmatch(lines)):
-            wanted = unresolved_lines(inputs, [f'file "{it}" module 1' for it in names])
+            wanted = unresolved_lines(inputs, [f'file "in{number}.obj" module 1' for number in range(len(inputs))])
             promised(wanted in (None, lines if status else b""), f"{lines}, not {wanted}")
         if status == 0:
             self.accepted += 1
@@ -87,7 +87,7 @@ class Exe:
             if self.random.randrange(2) and all(map(is_simple, inputs)):
                 memory, own = executables.relocated(self.omf, inputs, executables.moved(text, paragraph))
             else:
-                status, lines = run([self.link, "image", "--allow", "align", "--allow", "group", "-t", "text", *names], folder=folder)
+                status, lines = run([self.link, "image", *ALLOW_ALL, "-t", "text", *names], folder=folder)
                 promised(status == 0, f"image at {paragraph}: {lines[:200]}")
                 memory, own = executables.memory_of(lines)
             promised(own == start, f"start {own}, loaded {start}")

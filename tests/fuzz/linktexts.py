@@ -3,7 +3,7 @@ import re
 
 import executables
 from modules import UNRESOLVED, is_simple, unresolved_lines
-from promises import program, promised, run
+from promises import ALLOW_ALL, program, promised, run
 from texts import TURNS, changed_text, first_bad, is_linked, respelled
 
 FAULT = re.compile(rb"(?:file|text line|module|two starts|no room|memory)\b")
@@ -56,10 +56,9 @@ class LinkText:
         """The status and the output of a task; of a fault one line, or one for each name."""
         if text is not None:
             (folder / "text").write_bytes(text)
-        text_options = [] if text is None else ["--allow", "overlap", "--allow", "align", "--allow", "group", "-t", "text"]
+        text_options = [] if text is None else [*ALLOW_ALL, "-t", "text"]
         status, answer = run([self.link, task, *options, *text_options, *names], folder=folder)
-        is_fault = (answer.count(b"
-") == 1 and FAULT.match(answer)) or UNRESOLVED.fullmatch(answer)
+        is_fault = (answer.count(b"\n") == 1 and FAULT.match(answer)) or UNRESOLVED.fullmatch(answer)
         promised(status == 0 or (status == 1 and is_fault), f"{task}: status {status}, {answer[:200]}")
         return status, answer
 
@@ -89,7 +88,7 @@ class LinkText:
     def compare(self, inputs, draft, answer):
         """The image is that of the modules, each relocated alone; or the first that does not reach is reported, or the names without one public."""
         if answer[0] == 0 or UNRESOLVED.fullmatch(answer[1]):
-            wanted = unresolved_lines(inputs, [f"module {number}" for number in range(1, len(inputs) + 1)])
+            wanted = unresolved_lines(inputs, [f'file "in{number}.obj" module 1' for number in range(len(inputs))])
             promised(wanted in (None, answer[1] if answer[0] else b""), f"{answer[1]}, not {wanted}")
         if answer[0] == 1 and not re.match(rb"module \d+ reach ", answer[1]):
             return
