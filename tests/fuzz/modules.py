@@ -71,8 +71,8 @@ def publics_of(bytes_):
 
 
 def is_simple(bytes_):
-    """No record of local names or of communals, so that each external has the public of its name."""
-    return not any(True for _ in bodies(bytes_, LOCALS + COMMUNALS))
+    """One module alone, without a record of local names or of communals, so that each external has the public of its name."""
+    return libraries.module_length(bytes_) == len(bytes_) and not any(True for _ in bodies(bytes_, LOCALS + COMMUNALS))
 
 
 def is_main(bytes_):
