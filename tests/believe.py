@@ -61,9 +61,9 @@ Beside it is the law `accepted_are_safe`, of every module that an input begins w
 | `enumerate_from n xs`, `last_or None xs` | pairs of n, n + 1 and so on with the elements; the last element, if there is one |
 | `little_number k bytes`, `little_bytes k n` | the little-endian number in k bytes; n as k bytes, little-endian |
 | `0x1A`, `codes "TEXT"` | a hexadecimal number; the characters of a text as numbers |
-| `Option A`, `Some x`, `None` | an A or nothing; `option_map f o`: f of it, if it is there; `unwrap_or o x`: it, or else x; `option_or o p`: o if it is there, else p; `option_and_then f o`: f of it, or nothing; `option_zip o p`: the pair, if both are there; `option_to_list o`: the list of it, or the empty one; `option_copied o`: o itself |
-| `IsSome o`, `IsNone o`, `IfSome o P` | it is there; it is not; if it is there, P holds of it. `is_some o`: the same as a truth value |
-| `Result A E`, `Ok x`, `Err e` | an A, or a fault; `IsOk r`, `IfOk r P`, `IfErr r P`: it is Ok; if it is Ok (Err), P holds of its value. `result_ok r`, `result_err r`: the value, the fault, if it is there |
+| `Option A`, `Some x`, `None` | an A or nothing; `option_map f o`: f of it, if it is there; `unwrap_or o x`: it, or else x; `option_or o p`: o if it is there, else p; `option_and_then f o`: f of it, or nothing; `option_map_or f o x`: f of it, or else x; `ok_or o e`: Ok of it, or else Err e; `option_zip o p`: the pair, if both are there; `option_to_list o`: the list of it, or the empty one; `option_copied o`: o itself |
+| `IsSome o`, `IsNone o`, `IfSome o P` | it is there; it is not; if it is there, P holds of it. `is_some o`, `is_none o`: the same as truth values |
+| `Result A E`, `Ok x`, `Err e` | an A, or a fault; `IsOk r`, `IfOk r P`, `IfErr r P`: it is Ok; if it is Ok (Err), P holds of its value. `result_ok r`, `result_err r`: the value, the fault, if it is there; `result_map_both f g r`: Ok of f of the value, or Err of g of the fault |
 | `record R where`, `data D where` | a struct: `r.field`, `record {{ field = .. }}`, and `record r {{ field = .. }}`, which is r with another field; a tagged union, with its cases. The fields of a struct that is a statement hold together |
 | `zero`, `suc n` | 0, and n + 1 |
 | `tag_of the_type x` | the place of x among the cases of its enum as declared in the table below, from 0 |

@@ -10,7 +10,8 @@ use Rattle.omf_reloc.specs.Plain.{Piece, Kept, Fixed, End, PlainFixup, pieces, f
 use Rattle.omf_placement.specs.Placement.{Places}
 use Rattle.omf_image.specs.Overlay.{byte_at}
 use Rattle.omf_reloc.specs.Image.{laid, laid_contents, laid_piece, image, patched, start, piece_start}
-use Rattle.omf_reloc.specs.Reach.{causes, causes_at, piece_causes}
+use Rattle.omf_reloc.specs.Reach.{causes, piece_causes}
+use Rattle.omf_reloc.specs.Inner.Names.{causes_at}
 use Rattle.omf_reloc.specs.Offsets.{outcome}
 use Rattle.std.specs.Result.{result_err}
 use Rattle.omf_check.specs.Threads.{PlainReference}

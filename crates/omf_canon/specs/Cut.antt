@@ -18,10 +18,10 @@ pub record IsGreedyCut (kind : ℕ) (fixups : List PlainFixup) (groups : List (L
   pub greedy : (front back : List (List PlainFixup)) (g fs : List PlainFixup) (f : PlainFixup)
       → groups ≡ front ++ g ∷ (f ∷ fs) ∷ back → body_limit < fixups_size kind (g ++ f ∷ [])
 
--- The same, computed.
+-- Each group takes the next fixup if it still fits.
 abbrev pub cut_from : ℕ → List PlainFixup → List PlainFixup → List (List PlainFixup)
 cut_from kind group [] = group ∷ []
-cut_from kind group (f ∷ fs) = if nat_le (fixups_size kind (group ++ f ∷ [])) body_limit then cut_from kind (group ++ f ∷ []) fs else group ∷ cut_from kind (f ∷ []) fs
+cut_from kind group (f ∷ fs) = if nat_le (sum_by (λ g. length (fixup_bytes kind g)) (group ++ f ∷ [])) body_limit then cut_from kind (group ++ f ∷ []) fs else group ∷ cut_from kind (f ∷ []) fs
 
 abbrev pub cut : ℕ → List PlainFixup → List (List PlainFixup)
 cut kind [] = []

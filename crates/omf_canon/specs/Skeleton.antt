@@ -26,8 +26,9 @@ abbrev pub joined : List Piece → List Piece
 joined [] = []
 joined (p ∷ ps) = join_front p (joined ps)
 
+-- The same of some pieces, for laws.
 abbrev pub skeleton_of : List Piece → List Piece
 skeleton_of ps = joined (filter is_kept ps)
 
 abbrev pub skeleton : List Rec → List Piece
-skeleton m = skeleton_of (map normal (pieces m))
+skeleton m = joined (filter is_kept (map normal (pieces m)))

@@ -2,7 +2,7 @@
 use Rattle.std.proofs.Common.{◌≡◌, ℕ, List, [], ◌∷◌, ◌++◌, refl, sym, ◌∙◌, ap, subst, arith, append_assoc, Bool, true, false}
 use Rattle.std.specs.Prelude.{All, flat_map, IsTrue, not, ◌||◌, slice_index}
 use Rattle.std.proofs.lemmas.List.{append_cancel_left, append-nil}
-use Rattle.omf_check.specs.Inner.Names.{steps}
+use Rattle.omf_check.specs.Inner.Names.{steps, is_empty}
 use Rattle.omf_check.specs.declared.profile.Profile.{Profile}
 use Rattle.omf_image.specs.declared.limits.Limits.{Limits}
 use Rattle.omf_frame.specs.declared.fault.Reason.{Reason}
@@ -11,7 +11,7 @@ use Rattle.omf_frame.specs.Fault.{Fault, IsLeast, first_step}
 use Rattle.omf_frame.specs.Framing.{Raw, raw_bytes, IsRecord, IsFramed, is_taken, is_header, is_end, present}
 use Rattle.omf_records.specs.Records.{IsTyped}
 use Rattle.omf_records.specs.Inner.Reading.{typed}
-use Rattle.omf_check.specs.Refusal.{is_empty, IsRefused}
+use Rattle.omf_check.specs.Refusal.{IsRefused}
 use Rattle.omf_check.specs.WellFormed.{IsWellFormed, IsAccepted, HasTrees}
 use Rattle.omf_records.specs.Inner.LawProofs.{are_typed}
 use Rattle.omf_check.proofs.TreeLaws.{no_block_fault}

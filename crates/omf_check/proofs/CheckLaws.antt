@@ -7,7 +7,8 @@ use Rattle.std.proofs.KnownBytes.{Consumes-kept, starts_with_rest}
 use Rattle.std.proofs.lemmas.List.{append-nil, length-append, length-take, take_all, take-append-drop}
 use Rattle.omf_frame.specs.Device.{Shows}
 use Rattle.omf_frame.specs.Framer.{Held, begins_record}
-use Rattle.omf_frame.specs.Framing.{is_nonempty, is_taken, present, wanted, stated_length, record_len}
+use Rattle.omf_frame.specs.Framing.{is_taken, present, wanted, stated_length, record_len}
+use Rattle.omf_frame.specs.Inner.Names.{is_nonempty}
 use Rattle.omf_frame.specs.declared.fault.Place.{Place}
 use Rattle.omf_frame.specs.declared.fault.Reason.{Reason}
 use Rattle.omf_frame.specs.declared.fault.Reason.TheVariants as reason

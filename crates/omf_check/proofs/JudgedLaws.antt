@@ -5,7 +5,8 @@ use Rattle.std.specs.Option.{option_or}
 use Rattle.std.proofs.lemmas.List.{append-nil, length-append, map-append, drop_at, take-append-drop}
 use Rattle.omf_frame.specs.Bytes.{AreBytes}
 use Rattle.omf_frame.specs.Fault.{Fault, IsLeast, least, least_or, first_step}
-use Rattle.omf_frame.specs.Framing.{Raw, raw_bytes, present, front_record, stated_length, is_end_of_input, lasting, frame_steps, frame_fault, standing_fault}
+use Rattle.omf_frame.specs.Framing.{Raw, raw_bytes, present, front_record, stated_length, is_end_of_input, frame_steps, frame_fault, standing_fault}
+use Rattle.omf_frame.specs.Inner.Names.{lasting}
 use Rattle.omf_frame.specs.Inner.Judging.{found, type_fault, whole_fault}
 use Rattle.omf_frame.specs.declared.fault.Place.{Place}
 use Rattle.omf_frame.specs.declared.fault.Reason.{Reason}
@@ -22,7 +23,8 @@ use Rattle.omf_check.specs.declared.profile.Profile.{Profile}
 use Rattle.omf_check.specs.Inner.Judging.{raw_fault}
 use Rattle.omf_check.specs.Inner.Kept.{Kept, Tells, nothing_kept, with_record}
 use Rattle.omf_check.specs.Laws.{NoneShorter}
-use Rattle.omf_check.specs.Refusal.{IsRefused, AreSoundSoFar, EndsWhereJudged, faults_after, record_steps, is_empty}
+use Rattle.omf_check.specs.Refusal.{IsRefused, AreSoundSoFar, EndsWhereJudged, faults_after, record_steps}
+use Rattle.omf_check.specs.Inner.Names.{is_empty}
 use Rattle.omf_check.specs.WellFormed.{IsAccepted, recs}
 use Rattle.omf_check.proofs.AcceptLaws.{never_both}
 use Rattle.omf_check.proofs.KeptLaws.{nothing_tells, tells_more}

@@ -6,7 +6,8 @@ use Rattle.std.proofs.lemmas.List.{length-append, length-take}
 use Rattle.omf_frame.specs.Device.{Device, Shows}
 use Rattle.omf_frame.specs.Framer.{Held, begins_record}
 use Rattle.omf_frame.specs.Framer.{want_of as framer_want, want_with as framer_want_with}
-use Rattle.omf_frame.specs.Framing.{is_nonempty, record_len}
+use Rattle.omf_frame.specs.Framing.{record_len}
+use Rattle.omf_frame.specs.Inner.Names.{is_nonempty}
 use Rattle.omf_check.specs.declared.fault.CheckFault.{CheckFault}
 use Rattle.omf_check.specs.declared.fault.CheckFault.TheVariants as check
 use Rattle.omf_check.specs.declared.judged.Judged.{Judged}

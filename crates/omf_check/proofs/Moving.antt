@@ -14,11 +14,11 @@ use Rattle.omf_frame.proofs.StepLaws.{least_none, clean_steps}
 use Rattle.omf_records.specs.Inner.Reading.{typed}
 use Rattle.omf_records.specs.Values.{Contents, Fixups, Names}
 use Rattle.omf_image.specs.Limits.{profile_limits}
-use Rattle.omf_check.specs.Inner.Names.{steps, place_after}
+use Rattle.omf_check.specs.Inner.Names.{steps, place_after, is_empty}
 use Rattle.omf_check.specs.declared.profile.Profile.{Profile}
 use Rattle.omf_check.specs.Inner.Judging.{raw_fault, rec_of}
 use Rattle.omf_check.specs.Inner.Kept.{Kept, Tells, IsBounded, nothing_kept, with_record}
-use Rattle.omf_check.specs.Refusal.{AreSoundSoFar, record_steps, is_empty}
+use Rattle.omf_check.specs.Refusal.{AreSoundSoFar, record_steps}
 use Rattle.omf_check.specs.Tables.{item_count, items_in}
 use Rattle.omf_check.specs.WellFormed.{recs, IsWellFormed}
 use Rattle.omf_check.specs.Inner.Passing.{IsPassing}

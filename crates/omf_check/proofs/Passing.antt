@@ -8,7 +8,8 @@ use Rattle.std.proofs.lemmas.Grind.{flat_map-append}
 use Rattle.std.proofs.lemmas.List.Elements.{All-append}
 use Rattle.omf_frame.specs.Bytes.{AreBytes}
 use Rattle.omf_frame.specs.Fault.{Fault, IsLeast, least, least_or, first_step}
-use Rattle.omf_frame.specs.Framing.{Raw, raw_bytes, is_end_of_input, is_whole, wanted, present, front_record, frame_steps, frame_fault, standing_fault, lasting}
+use Rattle.omf_frame.specs.Framing.{Raw, raw_bytes, is_end_of_input, is_whole, wanted, present, front_record, frame_steps, frame_fault, standing_fault}
+use Rattle.omf_frame.specs.Inner.Names.{lasting}
 use Rattle.omf_frame.specs.Framer.{Held, refused}
 use Rattle.omf_frame.specs.Framer.{next_bytes as next_of}
 use Rattle.omf_frame.specs.declared.fault.FrameFault.TheVariants as frame
@@ -20,12 +21,12 @@ use Rattle.omf_frame.proofs.Standing.{present_twice, present_part, whole_present
 use Rattle.omf_frame.proofs.StepLaws.{clean_steps, framed_of}
 use Rattle.omf_records.specs.Inner.Steps.{AreBytes-front, AreBytes-back}
 use Rattle.omf_image.specs.Limits.{profile_limits}
-use Rattle.omf_check.specs.Inner.Names.{IsModule}
+use Rattle.omf_check.specs.Inner.Names.{IsModule, is_empty}
 use Rattle.omf_check.specs.declared.fault.CheckFault.TheVariants as check
 use Rattle.omf_check.specs.declared.profile.Profile.{Profile}
 use Rattle.omf_check.specs.Inner.Judging.{raw_fault}
 use Rattle.omf_check.specs.Inner.Kept.{Kept}
-use Rattle.omf_check.specs.Refusal.{IsRefused, AreSoundSoFar, faults_after, record_steps, is_empty}
+use Rattle.omf_check.specs.Refusal.{IsRefused, AreSoundSoFar, faults_after, record_steps}
 use Rattle.omf_check.specs.WellFormed.{IsAccepted}
 use Rattle.omf_check.specs.Session.{Seen, IsOpen}
 use Rattle.omf_check.specs.Inner.Passing.{IsPassing, refused_at}

@@ -4,10 +4,10 @@ use Rattle.std.specs.Prelude.{flat_map, IsTrue, ◌==◌, ◌||◌, nat_le, not,
 use Rattle.std.specs.Option.{option_or}
 use Rattle.std.proofs.lemmas.Bool.{leb-true, leb-false, eqb-true}
 use Rattle.std.proofs.lemmas.List.{length-append, length-take, drop_at}
-use Rattle.omf_frame.specs.Inner.Names.{is_unsupported}
+use Rattle.omf_frame.specs.Inner.Names.{is_unsupported, lasting}
 use Rattle.omf_frame.specs.Bytes.{AreBytes}
 use Rattle.omf_frame.specs.Fault.{Fault, least, first_step}
-use Rattle.omf_frame.specs.Framing.{Raw, raw_bytes, is_taken, is_header, is_whole, present, front_record, stated_length, type_faults, frame_steps, frame_fault, standing_fault, lasting, record_len}
+use Rattle.omf_frame.specs.Framing.{Raw, raw_bytes, is_taken, is_header, is_whole, present, front_record, stated_length, type_faults, frame_steps, frame_fault, standing_fault, record_len}
 use Rattle.omf_frame.specs.Framer.{Held, refused}
 use Rattle.omf_frame.specs.Framer.{next_bytes as next_of}
 use Rattle.omf_frame.specs.Inner.Judging.{found, type_fault, whole_fault}

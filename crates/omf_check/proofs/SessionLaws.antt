@@ -2,7 +2,8 @@
 use Rattle.std.proofs.Common.{◌≡◌, ◌≢◌, ℕ, zero, suc, ◌+◌, ◌<◌, ◌≤◌, Bool, true, false, List, [], ◌∷◌, ◌++◌, Result, Ok, Err, refl, sym, ◌∙◌, ap, subst, arith, length, take, min, length-append}
 use Rattle.std.specs.Prelude.{All, flat_map, ◌==◌, not, ◌&&◌, ◌||◌, Option, Some, None, is_some, cond}
 use Rattle.omf_frame.specs.Fault.{Fault}
-use Rattle.omf_frame.specs.Framing.{Raw, raw_bytes, IsRecord, IsFramed, is_nonempty, wanted, frame_fault, front_record, after_front, record_len}
+use Rattle.omf_frame.specs.Framing.{Raw, raw_bytes, IsRecord, IsFramed, wanted, frame_fault, front_record, after_front, record_len}
+use Rattle.omf_frame.specs.Inner.Names.{is_nonempty}
 use Rattle.omf_frame.specs.Framer.{Held, at_start, begins_record, stop_of, refused}
 use Rattle.omf_frame.specs.Framer.{want_of as framer_want, want_with as framer_want_with}
 use Rattle.omf_frame.specs.declared.fault.FrameFault.{FrameFault}

@@ -1,7 +1,7 @@
 -- A record has no fault in any step exactly if it is sound.
 use Rattle.std.proofs.Common.{◌≡◌, ◌+◌, ◌<◌, List, [], ◌∷◌, ◌++◌, refl, sym, ◌∙◌, ap, length}
 use Rattle.std.specs.Prelude.{IsTrue, not, ◌||◌}
-use Rattle.omf_check.specs.Inner.Names.{steps, short_or_deep, too_long}
+use Rattle.omf_check.specs.Inner.Names.{steps, short_or_deep, too_long, is_empty}
 use Rattle.omf_check.specs.declared.profile.Profile.{Profile}
 use Rattle.omf_image.specs.declared.limits.Limits.{Limits}
 use Rattle.omf_frame.specs.Inner.Names.{AreKept}
@@ -9,7 +9,7 @@ use Rattle.omf_frame.specs.Fault.{Fault, first_step}
 use Rattle.omf_frame.specs.Framing.{Raw, raw_bytes, IsRecord, is_taken, is_header, frame_steps}
 use Rattle.omf_records.specs.Inner.Reading.{typed, layout_faults}
 use Rattle.omf_check.specs.Rules.{rules}
-use Rattle.omf_check.specs.Refusal.{record_steps, is_empty}
+use Rattle.omf_check.specs.Refusal.{record_steps}
 use Rattle.omf_check.specs.WellFormed.{recs}
 use Rattle.omf_frame.proofs.FaultLaws.{kept_none, none_kept}
 use Rattle.omf_frame.proofs.FramingLaws.{front_raw}

@@ -4,7 +4,7 @@ use Rattle.std.specs.Prelude.{All, flat_map, IsTrue, not, ◌⊎◌, ◌↔◌, 
 use Rattle.std.proofs.lemmas.List.{append-nil}
 use Rattle.std.proofs.lemmas.Grind.{flat_map-append}
 use Rattle.std.proofs.lemmas.List.Elements.{All-append}
-use Rattle.omf_check.specs.Inner.Names.{steps, place_after}
+use Rattle.omf_check.specs.Inner.Names.{steps, place_after, is_empty}
 use Rattle.omf_check.specs.declared.profile.Profile.{Profile}
 use Rattle.omf_image.specs.declared.limits.Limits.{Limits}
 use Rattle.omf_frame.specs.declared.fault.Reason.{Reason}
@@ -13,7 +13,7 @@ use Rattle.omf_frame.specs.Fault.{Fault, IsLeast, least, least_or, first_step}
 use Rattle.omf_frame.specs.Framing.{Raw, raw_bytes, IsRecord, is_taken, is_header, is_end, present, front_record, after_front, frame_steps, HasFront}
 use Rattle.omf_records.specs.Records.{IsTyped}
 use Rattle.omf_records.specs.Inner.Reading.{typed}
-use Rattle.omf_check.specs.Refusal.{record_steps, is_empty, IsRefused}
+use Rattle.omf_check.specs.Refusal.{record_steps, IsRefused}
 use Rattle.omf_check.specs.Inner.Verdict.{Verdict, Accepted, Refused, Unknown, verdict, verdict_from}
 use Rattle.omf_check.specs.WellFormed.{IsWellFormed, IsAccepted, HasTrees}
 use Rattle.omf_frame.specs.Bytes.{AreBytes}

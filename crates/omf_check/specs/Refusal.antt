@@ -1,5 +1,5 @@
 -- The first refusal of an input that does not begin with a module.
-use Rattle.std.specs.Prelude.{◌≡◌, ◌⊎◌, ℕ, ◌+◌, List, [], ◌∷◌, ◌++◌, length, map, flat_map, All, Bool, true, false, not, IsTrue}
+use Rattle.std.specs.Prelude.{◌≡◌, ◌⊎◌, ℕ, ◌+◌, List, [], ◌∷◌, ◌++◌, length, map, flat_map, All, Bool, true, false, not, IsTrue, slice_get, is_none}
 use Rattle.omf_frame.specs.Fault.{Fault, IsLeast, broken, first_step}
 use Rattle.omf_frame.specs.Framing.{Raw, raw_bytes, IsRecord, is_end, is_end_of_input, frame_steps, front_record, present, stated_length}
 use Rattle.omf_frame.specs.declared.fault.Place.{Place}
@@ -32,13 +32,9 @@ record_steps profile limits before r = (layout_faults r ++ of_blocks block_fault
     ∷ broken (rules profile limits (recs before) (typed r))
     ∷ []
 
-abbrev pub is_empty : List Raw → Bool
-is_empty [] = true
-is_empty (r ∷ rs) = false
-
 -- The faults of the bytes present of one record after these records: those of the first step that has any; framing comes first.
 abbrev pub faults_after : Profile → Limits → List Raw → List ℕ → List Fault
-faults_after profile limits before bytes = first_step (frame_steps (is_empty before) bytes ++ record_steps profile limits before (front_record bytes))
+faults_after profile limits before bytes = first_step (frame_steps (is_none (slice_get before 0)) bytes ++ record_steps profile limits before (front_record bytes))
 
 -- The input is refused for this reason at this place: it begins with records without fault, none of them a MODEND, and this is the
 -- first fault, in the first step that has any, of the bytes that follow them.

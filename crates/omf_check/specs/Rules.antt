@@ -27,7 +27,7 @@ item_limit = 1048576
 abbrev pub room : ℕ → ℕ → List ℕ → List Rule
 room limit taken places = map (λ p. rule (nat_lt (taken + p.0) limit) p.1 reason.TooMany) (enumerate_from 0 places)
 
--- The places of a record's items: those of the subrecords of a FIXUPP; 0 for every other record.
+-- The places of some items. The places of a record's items: those of the subrecords of a FIXUPP; 0 for every other record.
 abbrev pub places : {A : Type 0} → List (At A) → List ℕ
 places items = map (λ a. a.within) items
 
@@ -42,15 +42,11 @@ names_entry n r index = rule (is_defined n index.item) index.within r
 abbrev pub names_entry_or_none : ℕ → Reason → At ℕ → Rule
 names_entry_or_none n r index = rule (is_none_or_defined n index.item) index.within r
 
--- COMENT classes: AAH marks another dialect, C0H to FFH are reserved for vendors (rules of this profile). The class is at 4.
-abbrev pub comment_rules : Profile → ℕ → List Rule
-comment_rules profile class = rule (not (class == 0xAA)) 4 reason.OtherDialect
-    ∷ rule (not profile.refuse_vendor_comments || nat_lt class 0xC0) 4 reason.VendorComment ∷ []
-
--- The segment of the data exists, and their `size` bytes are within it.
+-- The length of the segment with an index; 0 if there is none.
 abbrev pub length_of_segment : List Rec → ℕ → ℕ
 length_of_segment before i = unwrap_or (option_map (λ s. s.length) (entry (segments before) i)) 0
 
+-- The segment of the data exists, and their `size` bytes are within it.
 abbrev pub data_rules : List Rec → DataItem → ℕ → List Rule
 data_rules before d size = names_entry (length (segments before)) reason.UndefinedSegment d.segment
     ∷ rule (nat_le (d.offset.item + size) (length_of_segment before d.segment.item)) d.offset.within reason.OutsideSegment ∷ []
@@ -101,9 +97,11 @@ start_rules before None = []
 start_rules before (Some r) = reference_rules before (subrecords before) r
     ++ rule (not (is_location_frame (frame_of (subrecords before) r))) r.fix.within reason.StartFrame ∷ []
 
--- The rules of a record of this type, by its contents. A SEGDEF or a GRPDEF above the limit has its fault at 3.
+-- The rules of a record of this type, by its contents. A SEGDEF or a GRPDEF above the limit has its fault at 3. COMENT classes, at 4: AAH marks
+-- another dialect, C0H to FFH are reserved for vendors (rules of this profile).
 abbrev pub contents_rules : Profile → Limits → List Rec → ℕ → Contents → List Rule
-contents_rules profile limits before kind (Comment byte class text) = comment_rules profile class
+contents_rules profile limits before kind (Comment byte class text) = rule (not (class == 0xAA)) 4 reason.OtherDialect
+    ∷ rule (not profile.refuse_vendor_comments || nat_lt class 0xC0) 4 reason.VendorComment ∷ []
 contents_rules profile limits before kind (Names items) = room table_limit (length (names before)) (places items)
 contents_rules profile limits before kind (Segment s) = room table_limit (length (segments before)) (3 ∷ [])
     ++ names_entry_or_none (length (names before)) reason.UndefinedName s.name

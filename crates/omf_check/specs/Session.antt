@@ -1,7 +1,7 @@
 -- Sessions, as callers see them, and their calls.
-use Rattle.std.specs.Prelude.{◌≡◌, ◌≢◌, ◌⊎◌, ◌≤◌, ◌<◌, ◌^◌, IsTrue, ℕ, slice_index, Bool, true, false, not, ◌&&◌, ◌||◌, is_some, min, if◌then◌else◌, List, [], ◌++◌, length, take, drop, Option, Some, None, Result, Ok, Err}
+use Rattle.std.specs.Prelude.{◌≡◌, ◌≢◌, ◌⊎◌, ◌≤◌, ◌<◌, ◌^◌, IsTrue, ℕ, slice_index, Bool, true, false, not, ◌&&◌, ◌||◌, is_some, min, if◌then◌else◌, List, [], ◌++◌, length, take, drop, Option, Some, None, Result, Ok, Err, slice_get}
 use Rattle.omf_frame.specs.Framer.{begins_record}
-use Rattle.omf_frame.specs.Framing.{Raw, is_nonempty, is_taken, is_whole, present, wanted, record_len}
+use Rattle.omf_frame.specs.Framing.{Raw, is_taken, is_whole, present, wanted, record_len}
 use Rattle.omf_frame.specs.declared.fault.Place.{Place}
 use Rattle.omf_frame.specs.declared.fault.Reason.{Reason}
 use Rattle.omf_image.specs.Limits.{profile_limits}
@@ -31,7 +31,7 @@ want_of s = if s.ended || is_some s.fault then 0 else wanted s.at_hand
 
 -- The same if `ahead` are the next bytes: after the first record, from a type byte without fault on, the length of the whole record.
 abbrev pub want_with : Seen → List ℕ → ℕ
-want_with s ahead = if is_nonempty s.taken && (begins_record s.at_hand ahead && not (s.ended || is_some s.fault)) then record_len ahead else want_of s
+want_with s ahead = if is_some (slice_get s.taken 0) && (begins_record s.at_hand ahead && not (s.ended || is_some s.fault)) then record_len ahead else want_of s
 
 -- The bytes of the current record after a piece has arrived, up to the record's end.
 abbrev pub next_bytes : Seen → List ℕ → List ℕ
@@ -92,9 +92,8 @@ pub record FailsAs (old : Seen) (piece : List ℕ) (fault : CheckFault) (new : S
 
 -- The result at the end of the input: the kept fault; or the module if it is complete; or the refusal of the bytes taken.
 abbrev pub IsEndFault : Seen → CheckFault → Type 0
-IsEndFault s Memory = ⊥
-IsEndFault s Read = ⊥
 IsEndFault s (Refused why at) = IsRefused s.profile profile_limits s.taken why at
+IsEndFault s _ = ⊥
 
 abbrev pub Finishes : Seen → Result Module CheckFault → Type 0
 Finishes s (Ok m) = (s.fault ≡ None) × (s.ended ≡ true) × (m ≡ record { bytes = s.taken; profile = s.profile })

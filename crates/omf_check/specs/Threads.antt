@@ -56,7 +56,7 @@ same a b = if a then b else not b
 -- The setting that a subrecord makes, if it is a THREAD of this kind and number.
 abbrev pub setting_of : Bool → ℕ → Subrecord → Option Setting
 setting_of is_frame k (Thread byte datum) =
-    if same is_frame (thread_is_frame byte) && (bits byte 0 2 == k) then Some (setting (thread_method byte) datum) else None
+    if (if is_frame then thread_is_frame byte else not (thread_is_frame byte)) && (bits byte 0 2 == k) then Some (setting (thread_method byte) datum) else None
 setting_of is_frame k (Fixup locat r) = None
 
 -- The setting of the thread of a kind and number: the last one made among all earlier subrecords of the module.
@@ -84,4 +84,4 @@ pub record PlainReference : Type 0 where
 
 -- The plain form of a reference after these subrecords. A thread that is not set counts as F5 or T0 0; a well-formed module uses none.
 abbrev pub plain : List Subrecord → Reference → PlainReference
-plain earlier r = record { frame = unwrap_or (frame_of earlier r) F5; target = unwrap_or (target_of earlier r) (T0 0); displacement = unwrap_or r.displacement 0 }
+plain earlier r = record { frame = unwrap_or (frame_of earlier r) F5; target = unwrap_or (target_of earlier r) (record { kind = kinds.Segment; index = 0 }); displacement = unwrap_or r.displacement 0 }

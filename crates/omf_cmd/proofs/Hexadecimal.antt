@@ -4,7 +4,7 @@ use Rattle.std.proofs.lemmas.List.{append-nil, drop_all, drop_more, take_all, ta
 use Rattle.std.specs.Fmt.{digits, digits_onto, digit_glyph}
 use Rattle.std.specs.Prelude.{replicate, flat_map}
 use Rattle.omf_placement.specs.Quoted.{hex}
-use Rattle.omf_cmd.specs.Relocated.{byte_text}
+use Rattle.omf_cmd.specs.Inner.Names.{byte_text}
 
 -- ---- a number of few enough digits, with zeros before them
 

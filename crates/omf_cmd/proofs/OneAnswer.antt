@@ -18,7 +18,9 @@ use Rattle.omf_placement.specs.PlacementText.{parsed}
 use Rattle.omf_reloc.specs.Reach.{reach_fault}
 use Rattle.omf_reloc.specs.declared.fault.ReachFault.{ReachFault}
 use Rattle.omf_cmd.specs.Laws.{is_settled, IsTheAnswer, InputsHaveOneAnswer}
-use Rattle.omf_cmd.specs.Outcome.{of_placement, placement_of, reloc_outcome, text_limit, unless_far}
+use Rattle.omf_cmd.specs.Outcome.{placement_of, reloc_outcome, text_limit}
+use Rattle.omf_cmd.specs.Inner.Names.{unless_far}
+use Rattle.omf_cmd.specs.Inner.Names.{of_placement}
 use Rattle.omf_cmd.specs.Relocating.{Answers, HasOutcome}
 use Rattle.omf_cmd.specs.declared.fault.RunFault.{RunFault}
 use Rattle.omf_cmd.specs.declared.fault.RunFault.TheVariants as fault

@@ -27,7 +27,9 @@ use Rattle.omf_reloc.specs.declared.fault.RelocateFault.TheVariants as relocate
 use Rattle.omf_placement.specs.declared.fault.TextFault.{TextFault}
 use Rattle.omf_placement.specs.declared.fault.TextFault.TheVariants as text_fault
 use Rattle.omf_cmd.specs.HowFar.{IsReadPast, IsReadWithin}
-use Rattle.omf_cmd.specs.Outcome.{of_placement, placement_of, reloc_outcome, text_limit, unless_far}
+use Rattle.omf_cmd.specs.Outcome.{placement_of, reloc_outcome, text_limit}
+use Rattle.omf_cmd.specs.Inner.Names.{unless_far}
+use Rattle.omf_cmd.specs.Inner.Names.{of_placement}
 use Rattle.omf_cmd.specs.Relocated.{image_text}
 use Rattle.omf_cmd.specs.Relocating.{HasOutcome, IsAnswered, IsPlaced, IsShortText, IsShown, IsTextFault, IsWholeText, of_relocate, of_text}
 use Rattle.omf_cmd.specs.Reports.{of_check}

@@ -13,8 +13,8 @@ use Rattle.omf_image.proofs.RunLaws.{joined_are_runs, runs_unique}
 use Rattle.omf_image.proofs.ShownLaws.{run_next}
 use Rattle.omf_image.proofs.TurnLaws.{images_are}
 use Rattle.std.proofs.Math.Path.{fun_ext}
-use Rattle.omf_cmd.specs.Inner.Names.{bytes_line}
-use Rattle.omf_cmd.specs.Relocated.{byte_text, image_text, run_lines}
+use Rattle.omf_cmd.specs.Inner.Names.{bytes_line, byte_text}
+use Rattle.omf_cmd.specs.Relocated.{image_text, run_lines}
 use Rattle.omf_cmd.specs.Inner.RunLines.{line_text, lines_of}
 
 -- ---- ranges

@@ -7,7 +7,6 @@ use Rattle.omf_frame.specs.Framing.{Raw, raw_bytes}
 use Rattle.omf_records.specs.Values.{Contents, Publics}
 use Rattle.omf_check.specs.Tables.{names, segments, groups, externals}
 use Rattle.omf_check.specs.WellFormed.{recs}
-use Rattle.omf_canon.specs.Canonical.{canonical}
 use Rattle.omf_cmd.specs.Printed.{line, index_or_dash}
 use Rattle.omf_placement.specs.Quoted.{hex, quoted, named}
 
@@ -28,7 +27,3 @@ list_text rs = with_before (λ before r. line (codes "R" ∷ decimal (length bef
 -- The text of `check`: the numbers of records and bytes.
 abbrev pub check_text : List Raw → List ℕ
 check_text rs = line (codes "OK" ∷ decimal (length rs) ∷ codes "records," ∷ decimal (length (flat_map raw_bytes rs)) ∷ codes "bytes" ∷ [])
-
--- The output of `canon`: the canonical bytes.
-abbrev pub canonical_text : List Raw → List ℕ
-canonical_text rs = canonical (recs rs)

@@ -1,4 +1,6 @@
 -- What `reloc` answers for a module and the placement text after it (this profile's rule).
+use Rattle.std.specs.Result.{result_flatten, result_map_both}
+use Rattle.std.specs.Option.{option_map_or}
 use Rattle.std.specs.Prelude.{ℕ, List, length, nat_lt, Option, Some, None, Result, Ok, Err, if◌then◌else◌}
 use Rattle.omf_image.specs.declared.limits.Limits.{Limits}
 use Rattle.omf_records.specs.Values.{Rec}
@@ -14,21 +16,12 @@ use Rattle.omf_cmd.specs.Relocated.{reloc_text}
 abbrev pub text_limit : ℕ
 text_limit = 4194304
 
--- The text to print if the placement fits and every fixup is in range, or the fault.
-abbrev pub unless_far : Limits → List Rec → Places → Option ReachFault → Result (List ℕ) RunFault
-unless_far limits m pl None = Ok (reloc_text limits pl m)
-unless_far limits m pl (Some f) = Err (fault.Reach f)
-
--- The same for a placement, or the number of the placement line at fault.
-abbrev pub of_placement : Limits → List Rec → Result Places ℕ → Result (List ℕ) RunFault
-of_placement limits m (Ok pl) = unless_far limits m pl (reach_fault pl m)
-of_placement limits m (Err n) = Err (fault.Line n)
-
 -- The placement that a text gives a module, or the number of the first line at fault.
 abbrev pub placement_of : List Rec → Result Draft ℕ → Result Places ℕ
-placement_of m (Ok d) = resolved m d
-placement_of m (Err n) = Err n
+placement_of m draft = result_flatten (result_map_both (resolved m) (λ n. n) draft)
 
 -- The text to print, or the first fault: a placement text that is too long, a line at fault, a placement that does not reach.
 abbrev pub reloc_outcome : Limits → List Rec → List ℕ → Result (List ℕ) RunFault
-reloc_outcome limits m text = if nat_lt text_limit (length text) then Err fault.TooLong else of_placement limits m (placement_of m (parsed text))
+reloc_outcome limits m text =
+    let relocated = λ (pl : Places). option_map_or (λ f. Err (fault.Reach f)) (reach_fault pl m) (Ok (reloc_text limits pl m)) in
+    if nat_lt text_limit (length text) then Err fault.TooLong else result_flatten (result_map_both relocated (λ n. fault.Line n) (placement_of m (parsed text)))

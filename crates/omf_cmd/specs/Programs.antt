@@ -39,9 +39,9 @@ abbrev pub ProgramAnswers : {T F : Type 0} → (List (List ℕ) → Option T →
 ProgramAnswers asks performs report usage arguments reader reader' writer writer' status =
     ((found : Option _) × asks arguments found × Acts performs report usage found reader reader' writer writer' status) ⊎ IsOutOfMemory reader reader' writer writer' status
 
--- The answer to arguments that are not understood: the usage, or out of memory. Nothing is read.
+-- The answer to arguments that are not understood: the usage, with status 2, or out of memory. Nothing is read.
 abbrev pub Misuses : List ℕ → Device → Device → Device → Device → ℕ → Type 0
-Misuses usage reader reader' writer writer' status = PrintsUsage usage reader reader' writer writer' status ⊎ IsOutOfMemory reader reader' writer writer' status
+Misuses usage reader reader' writer writer' status = ((reader' ≡ reader) × (status ≡ 2) × IsWritten writer writer' usage) ⊎ IsOutOfMemory reader reader' writer writer' status
 
 -- The exit status after the output was flushed, or could not be: 3 if the program was done but the flush failed.
 abbrev pub status_after : ℕ → Bool → ℕ

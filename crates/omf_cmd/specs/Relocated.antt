@@ -1,4 +1,5 @@
 -- The text that `reloc` prints of an image and a start (this profile's rule).
+use Rattle.std.specs.Option.{option_map_or}
 use Rattle.std.specs.Prelude.{ℕ, ◌+◌, ◌-◌, ◌*◌, ◌/◌, List, [], ◌∷◌, ◌++◌, length, flat_map, min, Option, Some, None, option_to_list, codes}
 use Rattle.std.specs.List.{range_with_len}
 -- computed: runs_are_maximal of omf_image.
@@ -16,22 +17,14 @@ use Rattle.omf_placement.specs.Quoted.{hex}
 abbrev pub place_text : ℕ → ℕ → List ℕ
 place_text segment offset = hex 4 segment ++ 58 ∷ hex 8 offset
 
--- A byte: a space and two digits.
-abbrev pub byte_text : ℕ → List ℕ
-byte_text b = 32 ∷ hex 2 b
-
--- A run in lines of 16 bytes; the last line has what is left.
+-- A run in lines of 16 bytes, each byte a space and two digits; the last line has what is left.
 abbrev pub run_lines : (ℕ → List ℕ) → (ℕ → Option ℕ) → Run → List ℕ
-run_lines place byte r = flat_map (λ k. (place (r.first + 16 * k) ++ flat_map (λ x. flat_map byte_text (option_to_list (byte x))) (range_with_len (r.first + 16 * k) (min 16 (r.len - 16 * k))) ++ 10 ∷ [])) (range_with_len 0 ((r.len + 15) / 16))
+run_lines place byte r = flat_map (λ k. (place (r.first + 16 * k) ++ flat_map (λ x. flat_map (λ b. 32 ∷ hex 2 b) (option_to_list (byte x))) (range_with_len (r.first + 16 * k) (min 16 (r.len - 16 * k))) ++ 10 ∷ [])) (range_with_len 0 ((r.len + 15) / 16))
 
--- The start: the selector in four digits, the offset in eight.
-abbrev pub start_line : Option (ℕ × ℕ) → List ℕ
-start_line None = []
-start_line (Some s) = codes "START " ++ hex 4 s.0 ++ 58 ∷ hex 8 s.1 ++ 10 ∷ []
-
--- The runs of the segments 1 to `count`, and then the start.
+-- The runs of the segments 1 to `count`, and then the start: the selector in four digits, the offset in eight.
 abbrev pub image_text : ℕ → (ℕ → ℕ → Option ℕ) → (ℕ → List Run) → Option (ℕ × ℕ) → List ℕ
-image_text count byte runs s = flat_map (λ segment. flat_map (run_lines (place_text segment) (byte segment)) (runs segment)) (range_with_len 1 count) ++ start_line s
+image_text count byte runs s = flat_map (λ segment. flat_map (run_lines (place_text segment) (byte segment)) (runs segment)) (range_with_len 1 count)
+    ++ option_map_or (λ f. codes "START " ++ hex 4 f.0 ++ 58 ∷ hex 8 f.1 ++ 10 ∷ []) s []
 
 -- The text of a module at a placement that reaches.
 abbrev pub reloc_text : Limits → Places → List Rec → List ℕ

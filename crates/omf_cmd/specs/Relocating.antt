@@ -1,4 +1,5 @@
 -- What `reloc` answers for an input: a module, and a placement text to the end.
+use Rattle.omf_cmd.specs.Relocated.{reloc_text}
 use Rattle.std.specs.Prelude.{◌≡◌, ◌⊎◌, ◌≤◌, ⊤, ℕ, ◌+◌, List, [], length, Option, Some, None, Result, Ok, Err, IsOk}
 use Rattle.std.specs.Io.KnownBytes.{Consumes, IsAtEnd}
 use Rattle.omf_frame.specs.Device.{Device}
@@ -17,7 +18,8 @@ use Rattle.omf_reloc.specs.Reach.{reach_fault}
 use Rattle.omf_reloc.specs.declared.fault.RelocateFault.{RelocateFault}
 use Rattle.omf_reloc.specs.declared.fault.RelocateFault.TheVariants as relocate
 use Rattle.omf_cmd.specs.HowFar.{IsReadFor}
-use Rattle.omf_cmd.specs.Outcome.{placement_of, reloc_outcome, text_limit, unless_far}
+use Rattle.omf_cmd.specs.Outcome.{placement_of, reloc_outcome, text_limit}
+use Rattle.std.specs.Option.{option_map_or}
 use Rattle.omf_cmd.specs.Runs.{PrintsInPieces}
 use Rattle.omf_cmd.specs.declared.fault.RunFault.{RunFault}
 use Rattle.omf_cmd.specs.declared.fault.RunFault.TheVariants as fault
@@ -101,7 +103,7 @@ IsPlaced m given (Err text.Memory) = IsOk (parsed given)
 
 -- The text to print of a module at a placement, or the first reason why the placement does not reach. Memory runs out only if it reaches.
 abbrev pub IsShown : Limits → List Rec → Places → Result (List ℕ) RunFault → Type 0
-IsShown limits m pl (Ok shown) = unless_far limits m pl (reach_fault pl m) ≡ Ok shown
+IsShown limits m pl (Ok shown) = option_map_or (λ f. Err (fault.Reach f)) (reach_fault pl m) (Ok (reloc_text limits pl m)) ≡ Ok shown
 IsShown limits m pl (Err fault.Memory) = reach_fault pl m ≡ None
 IsShown limits m pl (Err (fault.Reach f)) = reach_fault pl m ≡ Some f
 IsShown limits m pl (Err _) = ⊥

@@ -1,4 +1,6 @@
 -- What `check`, `list` and `canon` answer for an input: each prints a text of the module that it begins with. How `omf` answers its arguments.
+use Rattle.omf_check.specs.WellFormed.{recs}
+use Rattle.omf_canon.specs.Canonical.{canonical}
 use Rattle.std.specs.Prelude.{◌≡◌, ◌⊎◌, ⊤, IfErr, ℕ, Bool, List, [], Option, Some, None, Result, Ok, Err}
 use Rattle.clap.specs.Words.{Text, fault_of, subcommand_of}
 use Rattle.omf_frame.specs.Device.{Device}
@@ -11,7 +13,7 @@ use Rattle.omf_check.specs.declared.fault.CheckFault.TheVariants as check
 use Rattle.omf_check.specs.declared.profile.Profile.{Profile}
 use Rattle.omf_cmd.specs.FaultLine.{fault_text}
 use Rattle.omf_cmd.specs.HowFar.{EndsAtRefusal, IsReadFrom, IsUnrefused}
-use Rattle.omf_cmd.specs.Listing.{canonical_text, check_text, list_text}
+use Rattle.omf_cmd.specs.Listing.{check_text, list_text}
 use Rattle.omf_cmd.specs.Relocating.{IsRelocation}
 use Rattle.omf_cmd.specs.Programs.{FaultReport, IsOutOfMemory, Misuses, RunsAndEnds}
 use Rattle.omf_cmd.specs.Runs.{IsCausedBy, Prints, PrintsInPieces}
@@ -51,19 +53,11 @@ abbrev pub ReportsBy : (Option (List ℕ) → Option (List ℕ) → Result (Unit
 ReportsBy prints text profile reader reader' writer writer' ran =
     (records : List Raw) × prints writer.bytes writer'.bytes ran (text records) × ((input : List ℕ) → reader.bytes ≡ Some input → Judges profile input records reader.bytes reader'.bytes ran)
 
--- The text is written at once.
-abbrev pub Reports : (List Raw → List ℕ) → Profile → Device → Device → Device → Device → Result (Unit {0}) RunFault → Type 0
-Reports text profile reader reader' writer writer' ran = ReportsBy Prints text profile reader reader' writer writer' ran
-
--- The text is written in pieces, so that a front of it may be written if memory runs out.
-abbrev pub ReportsInPieces : (List Raw → List ℕ) → Profile → Device → Device → Device → Device → Result (Unit {0}) RunFault → Type 0
-ReportsInPieces text profile reader reader' writer writer' ran = ReportsBy PrintsInPieces text profile reader reader' writer writer' ran
-
--- The result of a job, and what it reads and writes.
+-- The result of a job, and what it reads and writes. A listing is written in pieces, so that a front of it may be written if memory runs out.
 abbrev pub IsRun : Job → Profile → Device → Device → Device → Device → Result (Unit {0}) RunFault → Type 0
-IsRun job.List profile reader reader' writer writer' ran = ReportsInPieces list_text profile reader reader' writer writer' ran
-IsRun job.Check profile reader reader' writer writer' ran = Reports check_text profile reader reader' writer writer' ran
-IsRun job.Canon profile reader reader' writer writer' ran = Reports canonical_text profile reader reader' writer writer' ran
+IsRun job.List profile reader reader' writer writer' ran = ReportsBy PrintsInPieces list_text profile reader reader' writer writer' ran
+IsRun job.Check profile reader reader' writer writer' ran = ReportsBy Prints check_text profile reader reader' writer writer' ran
+IsRun job.Canon profile reader reader' writer writer' ran = ReportsBy Prints (λ rs. canonical (recs rs)) profile reader reader' writer writer' ran
 IsRun job.Reloc profile reader reader' writer writer' ran = IsRelocation profile reader reader' writer writer' ran
 
 -- A job over the module alone has no fault of a placement, even if the bytes of its reader are unknown.
@@ -90,10 +84,6 @@ pub record IsFound (arguments : List Text) (found : Option (Job × Profile)) : T
   pub none : subcommand_of omf_app arguments ≡ None → found ≡ None
   pub refused : (found ≡ None) ⊎ (fault_of omf_app arguments ≡ [])
 
--- The answer of `omf` to arguments that are not understood.
-abbrev pub IsMisuse : Device → Device → Device → Device → ℕ → Type 0
-IsMisuse reader reader' writer writer' status = Misuses usage reader reader' writer writer' status
-
 -- The answer of `omf` to arguments that ask for a job: it was run, or memory ran out before.
 abbrev pub IsDone : Job × Profile → Device → Device → Device → Device → ℕ → Type 0
 IsDone asked reader reader' writer writer' status = RunsAndEnds (IsPerformed asked) report reader reader' writer writer' status ⊎ IsOutOfMemory reader reader' writer writer' status
@@ -103,5 +93,5 @@ IsDone asked reader reader' writer writer' status = RunsAndEnds (IsPerformed ask
 pub record AnswersTo (arguments : List Text) (reader reader' writer writer' : Device) (status : ℕ) : Type 0 where
   pub answer : (asked : Job × Profile) → asks arguments ≡ Some asked → IsDone asked reader reader' writer writer' status
   pub parsed : (name : Text) (job : Job) (refuses : Bool) → fault_of omf_app arguments ≡ [] → IsParsed (subcommand_of omf_app arguments) name refuses → job_named name ≡ Some job → IsDone (job, profile_of refuses) reader reader' writer writer' status
-  pub nothing : subcommand_of omf_app arguments ≡ None → IsMisuse reader reader' writer writer' status
-  pub misuse : (fault_of omf_app arguments ≡ [] → ⊥) → IsMisuse reader reader' writer writer' status
+  pub nothing : subcommand_of omf_app arguments ≡ None → Misuses usage reader reader' writer writer' status
+  pub misuse : (fault_of omf_app arguments ≡ [] → ⊥) → Misuses usage reader reader' writer writer' status

@@ -48,10 +48,8 @@ IsWritten old new text = (IsUnbroken old new × Appends old.bytes new.bytes text
 
 -- What is written of a text in pieces: all of it, a front of it if the writer failed or memory ran out, nothing at any other fault.
 abbrev pub PrintsInPieces : Option (List ℕ) → Option (List ℕ) → Result (Unit {0}) RunFault → List ℕ → Type 0
-PrintsInPieces old new (Ok done) text = Appends old new text
-PrintsInPieces old new (Err fault.Write) text = IsPart old new text
 PrintsInPieces old new (Err fault.Memory) text = IsPart old new text
-PrintsInPieces old new (Err e) text = Keeps old new
+PrintsInPieces old new ran text = Prints old new ran text
 
 -- What is written of an answer: a text, or a front of it if the writer failed, which is then the fault `unwritten`; nothing of a fault.
 abbrev pub PrintsOr : {F : Type 0} → F → Device → Device → Result (List ℕ) F → Result (Unit {0}) F → Type 0

@@ -44,8 +44,7 @@ usage = codes "usage: omf list|check|reloc|canon [--refuse-vendor-comments]" ++ 
 
 -- the value of the flag in clap
 abbrev pub flag_text : Bool → Text
-flag_text true = codes "true"
-flag_text false = codes "false"
+flag_text refuses = if refuses then codes "true" else codes "false"
 
 -- The command line of `omf` in clap's definitions: a subcommand for each job, which has the flag.
 abbrev pub flag_id : Text

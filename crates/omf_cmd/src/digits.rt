@@ -1,9 +1,8 @@
 //! Hexadecimal digits of numbers.
 
-ghost use Rattle.std.specs.Prelude.{◌≡◌, ◌*◌, ◌<◌, true, length, flat_map};
+ghost use Rattle.std.specs.Prelude.{◌≡◌, ◌*◌, ◌<◌, true, length, flat_map, ◌∷◌};
 ghost use Rattle.std.specs.Fmt.{digit_glyph};
 ghost use Rattle.omf_placement.specs.Quoted.{hex};
-ghost use Rattle.omf_cmd.specs.Relocated.{byte_text};
 
 /// The hexadecimal digits.
 const DIGITS: &[u8; 16] = b"0123456789ABCDEF";
@@ -58,7 +57,7 @@ pub fn four_digits(number: u16) -> [u8; 4]
 /// Writes each byte as a space and two hexadecimal digits. The text is three times as long as the bytes.
 pub fn write_bytes(text: &mut [u8], bytes: &[u8])
     requires { length text.old ≡ 3 * length bytes.now }
-    ensures { text.new ≡ flat_map byte_text bytes.now }
+    ensures { text.new ≡ flat_map (λ b. 32 ∷ hex 2 b) bytes.now }
 {
     for i in 0..bytes.len() {
         let [high, low] = two_digits(bytes[i]);

@@ -1,11 +1,13 @@
 //! The text of an image and its start: each run of covered bytes in lines of up to 16 bytes.
 
-ghost use Rattle.std.specs.Prelude.{◌≡◌, ◌+◌, ◌^◌, ◌≤◌, ◌++◌, flat_map, length, option_map, OnErr};
+ghost use Rattle.omf_placement.specs.Quoted.{hex};
+ghost use Rattle.std.specs.Option.{option_map_or};
+ghost use Rattle.std.specs.Prelude.{◌≡◌, ◌+◌, ◌^◌, ◌≤◌, ◌++◌, flat_map, length, option_map, OnErr, ◌∷◌, [], codes};
 ghost use Rattle.omf_frame.specs.Bytes.{AddsText};
 ghost use Rattle.omf_image.specs.Inner.Joined.{runs_of};
 ghost use Rattle.omf_image.specs.Overlay.{byte_at};
 ghost use Rattle.omf_records.specs.Inner.Begins.{Begins};
-ghost use Rattle.omf_cmd.specs.Relocated.{byte_text, image_text, place_text, run_lines, start_line};
+ghost use Rattle.omf_cmd.specs.Relocated.{image_text, place_text, run_lines};
 ghost use Rattle.omf_cmd.specs.Inner.RunLines.{line_text, lines_of, segments_text};
 ghost use Rattle.omf_cmd.specs.Runs.{PrintsInPieces, IsPrintCause};
 ghost use Rattle.omf_cmd.specs.Inner.Printing.{Passes};
@@ -34,7 +36,7 @@ fn print_place(text: &mut Vec<u8>, segment: u16, offset: u32) -> Result<(), Allo
 /// Appends the bytes of a line, at most 16, each as a space and two hexadecimal digits. If memory runs out, the text is unchanged.
 pub fn print_bytes(text: &mut Vec<u8>, bytes: &[u8]) -> Result<(), AllocError>
     requires { length bytes.now ≤ 16 }
-    ensures put { AddsText result text.old.items text.new.items (flat_map byte_text bytes.now) }
+    ensures put { AddsText result text.old.items text.new.items (flat_map (λ b. 32 ∷ hex 2 b) bytes.now) }
     ensures err { OnErr result (text.new.items ≡ text.old.items) }
 {
     let mut line = [0; 48];
@@ -99,7 +101,7 @@ fn print_runs<K: Sink>(
 /// Appends the line of a start, as `START 1001:00000012`; nothing if there is none. If memory runs out, the text may end in a front of it.
 #[tactic(auto, using(omf_records::specs::Inner::Begins::begins_itself, omf_records::specs::Inner::Begins::begins_more, omf_records::specs::Inner::Begins::begins_then))]
 pub fn print_start(text: &mut Vec<u8>, start: Option<(u16, u32)>) -> Result<(), AllocError>
-    ensures put { AddsText result text.old.items text.new.items (start_line start) }
+    ensures put { AddsText result text.old.items text.new.items (option_map_or (λ f. codes "START " ++ hex 4 f.0 ++ 58 ∷ hex 8 f.1 ++ 10 ∷ []) start []) }
     ensures grows { Begins text.old.items text.new.items }
 {
     let Some((selector, offset)) = start else {

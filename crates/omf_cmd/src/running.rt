@@ -1,11 +1,13 @@
 //! The jobs over a module alone: `check`, `list` and `canon`.
 
+ghost use Rattle.omf_check.specs.WellFormed.{recs};
+ghost use Rattle.omf_canon.specs.Canonical.{canonical};
 ghost use Rattle.std.specs.Prelude.{◌≡◌, List, IfErr, flat_map, length};
 ghost use Rattle.omf_frame.specs.Framing.{Raw, raw_bytes};
 ghost use Rattle.omf_check.specs.Module.{records_in};
-ghost use Rattle.omf_cmd.specs.Listing.{canonical_text, check_text, list_text};
-ghost use Rattle.omf_cmd.specs.Reports.{IsModuleFault, Reports, ReportsInPieces};
-ghost use Rattle.omf_cmd.specs.Runs.{IsCausedBy, IsPrintCause, Prints};
+ghost use Rattle.omf_cmd.specs.Listing.{check_text, list_text};
+ghost use Rattle.omf_cmd.specs.Reports.{IsModuleFault, ReportsBy};
+ghost use Rattle.omf_cmd.specs.Runs.{IsCausedBy, IsPrintCause, Prints, PrintsInPieces};
 
 use crate::fault::RunFault;
 use crate::output::write_all;
@@ -33,7 +35,7 @@ pub fn run_check<S: Source, K: Sink>(
     // There is no fault of a placement, even if the bytes of the reader are unknown.
     ensures module { IfErr result IsModuleFault }
     // The answer is the defined one. The whole text is written, or a front of it if the writer failed.
-    ensures prints { Reports check_text profile (S.seen reader.old) (S.seen reader.new) (K.seen writer.old) (K.seen writer.new) result }
+    ensures prints { ReportsBy Prints check_text profile (S.seen reader.old) (S.seen reader.new) (K.seen writer.old) (K.seen writer.new) result }
 {
     let judged = judge(alloc, reader, profile)?;
     print_check(alloc, judged, writer)
@@ -67,7 +69,7 @@ pub fn run_list<S: Source, K: Sink>(
     ensures module { IfErr result IsModuleFault }
     // The answer is the defined one. The whole text is written, or a front of it if the writer failed or memory ran out; nothing if memory
     // ran out before the module was read.
-    ensures prints { ReportsInPieces list_text profile (S.seen reader.old) (S.seen reader.new) (K.seen writer.old) (K.seen writer.new) result }
+    ensures prints { ReportsBy PrintsInPieces list_text profile (S.seen reader.old) (S.seen reader.new) (K.seen writer.old) (K.seen writer.new) result }
 {
     let checked = check(alloc, reader, profile)?;
     print_list(alloc, &checked, writer)
@@ -90,7 +92,7 @@ pub fn run_canon<S: Source, K: Sink>(
     // There is no fault of a placement, even if the bytes of the reader are unknown.
     ensures module { IfErr result IsModuleFault }
     // The answer is the defined one. All canonical bytes are written, or a front of them if the writer failed.
-    ensures prints { Reports canonical_text profile (S.seen reader.old) (S.seen reader.new) (K.seen writer.old) (K.seen writer.new) result }
+    ensures prints { ReportsBy Prints (λ rs. canonical (recs rs)) profile (S.seen reader.old) (S.seen reader.new) (K.seen writer.old) (K.seen writer.new) result }
 {
     let checked = check(alloc, reader, profile)?;
     print_canonical(alloc, &checked, writer)
@@ -102,7 +104,7 @@ fn print_canonical<K: Sink>(
     checked: &Checked,
     writer: &mut K,
 ) -> Result<(), RunFault>
-    ensures prints { Prints (K.seen writer.old).bytes (K.seen writer.new).bytes result (canonical_text (records_in checked.now.bytes)) }
+    ensures prints { Prints (K.seen writer.old).bytes (K.seen writer.new).bytes result (canonical (recs (records_in checked.now.bytes))) }
     ensures cause { IsPrintCause (K.seen writer.old) (K.seen writer.new) result }
 {
     match canon_to(alloc, checked, writer) {

@@ -2,11 +2,11 @@
 use Rattle.std.proofs.Common.{◌≡◌, ℕ, ◌+◌, ◌*◌, ◌%◌, ◌<◌, Bool, true, false, cond, not, ◌||◌, is_none, Option, Some, None, List, [], ◌∷◌, length, sum, refl, sym, ap, ◌∙◌, arith, subst, lit<}
 use Rattle.std.specs.Prelude.{◌==◌, nat_le, slice_index, option_map}
 use Rattle.std.specs.Option.{option_or}
-use Rattle.omf_frame.specs.Inner.Names.{is_unsupported}
+use Rattle.omf_frame.specs.Inner.Names.{is_unsupported, is_nonempty, lasting}
 use Rattle.omf_frame.specs.declared.fault.Reason.{Reason}
 use Rattle.omf_frame.specs.declared.fault.Reason.TheVariants as reason
 use Rattle.omf_frame.specs.Fault.{Fault, reason_number, rule, broken, least, first_step}
-use Rattle.omf_frame.specs.Framing.{is_taken, is_header, type_faults, lasting, standing_fault, frame_fault, is_nonempty, is_whole, stated_length}
+use Rattle.omf_frame.specs.Framing.{is_taken, is_header, type_faults, standing_fault, frame_fault, is_whole, stated_length}
 use Rattle.omf_frame.specs.Inner.Judging.{found, type_fault, whole_fault, fault_of}
 
 no_some : {A : Type 0} (x : A) → Some x ≡ None → ⊥

@@ -5,11 +5,11 @@ use Rattle.std.proofs.lemmas.List.{append-nil, length-append, get_or_append_left
 use Rattle.std.proofs.lemmas.List.Elements.{All-append}
 use Rattle.std.proofs.lemmas.Grind.{flat_map-append}
 use Rattle.std.proofs.lemmas.Bool.Decides.{leb_tells}
-use Rattle.omf_frame.specs.Inner.Names.{is_unsupported}
+use Rattle.omf_frame.specs.Inner.Names.{is_unsupported, lasting}
 use Rattle.omf_frame.specs.declared.fault.FrameFault.{FrameFault}
 use Rattle.omf_frame.specs.Bytes.{AreBytes}
 use Rattle.omf_frame.specs.Fault.{Fault}
-use Rattle.omf_frame.specs.Framing.{Raw, IsRecord, IsFramed, raw_bytes, present, is_whole, is_end, is_header, is_taken, front_record, frame_fault, standing_fault, lasting, record_len}
+use Rattle.omf_frame.specs.Framing.{Raw, IsRecord, IsFramed, raw_bytes, present, is_whole, is_end, is_header, is_taken, front_record, frame_fault, standing_fault, record_len}
 use Rattle.omf_frame.specs.Framer.{Held, open_at, refused, passed}
 use Rattle.omf_frame.specs.Runs.{Run, before_all, run_over, settled, judged, with_byte, AreSound, HasNoEnd, GoesOn, IsStopped, HasEnded, IsFramingOf}
 use Rattle.omf_frame.proofs.Growing.{is_short}

@@ -6,7 +6,8 @@ use borrow.Author.Tests.{leb-true, leb-false}
 use Rattle.std.proofs.lemmas.List.{length-append, length-take, take_at, take_all, append-nil}
 use Rattle.omf_frame.specs.declared.fault.Reason.{Reason}
 use Rattle.omf_frame.specs.Fault.{Fault}
-use Rattle.omf_frame.specs.Framing.{present, is_whole, standing_fault, lasting, is_end_of_input}
+use Rattle.omf_frame.specs.Framing.{present, is_whole, standing_fault, is_end_of_input}
+use Rattle.omf_frame.specs.Inner.Names.{lasting}
 use Rattle.omf_frame.specs.Inner.Judging.{found, type_fault, whole_fault}
 use Rattle.omf_frame.proofs.Judged.{standing_is}
 use Rattle.omf_frame.proofs.Growing.{type_same}

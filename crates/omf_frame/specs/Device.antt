@@ -36,11 +36,6 @@ abbrev pub is_interruption : ErrorKind → Bool
 is_interruption Interrupted = true
 is_interruption _ = false
 
--- a pull fails if it returns an error
-abbrev pub pull_fails : {E : Type 0} → Result ℕ E → Bool
-pull_fails (Ok n) = false
-pull_fails (Err e) = true
-
 -- a pull breaks if it returns an error other than an interruption
 abbrev pub pull_breaks : Result ℕ Error → Bool
 pull_breaks (Ok n) = false

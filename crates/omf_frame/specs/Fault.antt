@@ -10,53 +10,46 @@ abbrev pub reason_number : Reason → ℕ
 reason_number r = tag_of the_type r + 1
 
 -- A reason: its name, and what it means.
-pub record ReasonRow : Type 0 where
-  pub name : List ℕ
-  pub sentence : List ℕ
-
-abbrev pub reason_of : List ℕ → List ℕ → ReasonRow
-reason_of name sentence = record { name = name; sentence = sentence }
-
-abbrev pub reason_row : Reason → ReasonRow
-reason_row reason.NoEnd = reason_of (codes "NoEnd") (codes "the input ends before a MODEND")
-reason_row reason.Cut = reason_of (codes "Cut") (codes "the input ends inside a record")
-reason_row reason.UnknownType = reason_of (codes "UnknownType") (codes "the record's type is unknown")
-reason_row reason.UnsupportedType = reason_of (codes "UnsupportedType") (codes "the record's type is not read")
-reason_row reason.EmptyRecord = reason_of (codes "EmptyRecord") (codes "the record's length is 0")
-reason_row reason.Checksum = reason_of (codes "Checksum") (codes "the record's checksum is wrong")
-reason_row reason.NoHeader = reason_of (codes "NoHeader") (codes "the first record is no header")
-reason_row reason.Short = reason_of (codes "Short") (codes "a field does not fit into its record")
-reason_row reason.Long = reason_of (codes "Long") (codes "bytes are left over in the record")
-reason_row reason.Alignment = reason_of (codes "Alignment") (codes "the segment's alignment has no meaning")
-reason_row reason.BigLength = reason_of (codes "BigLength") (codes "a Big segment has a length")
-reason_row reason.GroupComponent = reason_of (codes "GroupComponent") (codes "the group's component is no segment")
-reason_row reason.CommunalType = reason_of (codes "CommunalType") (codes "the communal is neither near nor far")
-reason_row reason.CommunalLength = reason_of (codes "CommunalLength") (codes "the communal's length is invalid")
-reason_row reason.FrameMethod = reason_of (codes "FrameMethod") (codes "the frame method is not read")
-reason_row reason.TargetMethod = reason_of (codes "TargetMethod") (codes "the target method is not read")
-reason_row reason.LocationType = reason_of (codes "LocationType") (codes "the location's type is unknown")
-reason_row reason.SelfRelative = reason_of (codes "SelfRelative") (codes "the location cannot be self-relative")
-reason_row reason.TooDeep = reason_of (codes "TooDeep") (codes "blocks are nested too deep")
-reason_row reason.DataTooLong = reason_of (codes "DataTooLong") (codes "repeated data are too long")
-reason_row reason.UndefinedName = reason_of (codes "UndefinedName") (codes "the name is not defined")
-reason_row reason.UndefinedSegment = reason_of (codes "UndefinedSegment") (codes "the segment is not defined")
-reason_row reason.UndefinedGroup = reason_of (codes "UndefinedGroup") (codes "the group is not defined")
-reason_row reason.UndefinedExternal = reason_of (codes "UndefinedExternal") (codes "the external is not defined")
-reason_row reason.UndefinedThread = reason_of (codes "UndefinedThread") (codes "the thread is not set")
-reason_row reason.OutsideSegment = reason_of (codes "OutsideSegment") (codes "data pass the end of their segment")
-reason_row reason.OutsideRecord = reason_of (codes "OutsideRecord") (codes "the location passes the end of its data")
-reason_row reason.NoDataRecord = reason_of (codes "NoDataRecord") (codes "a fixup precedes any data")
-reason_row reason.FixupOnIterated = reason_of (codes "FixupOnIterated") (codes "a fixup applies to repeated data")
-reason_row reason.TooMany = reason_of (codes "TooMany") (codes "a limit of the module's tables is passed")
-reason_row reason.OtherDialect = reason_of (codes "OtherDialect") (codes "the module is of another dialect")
-reason_row reason.VendorComment = reason_of (codes "VendorComment") (codes "a vendor's comment is refused")
-reason_row reason.StartFrame = reason_of (codes "StartFrame") (codes "the start's frame is that of a location")
+abbrev pub reason_row : Reason → List ℕ × List ℕ
+reason_row reason.NoEnd = (codes "NoEnd", codes "the input ends before a MODEND")
+reason_row reason.Cut = (codes "Cut", codes "the input ends inside a record")
+reason_row reason.UnknownType = (codes "UnknownType", codes "the record's type is unknown")
+reason_row reason.UnsupportedType = (codes "UnsupportedType", codes "the record's type is not read")
+reason_row reason.EmptyRecord = (codes "EmptyRecord", codes "the record's length is 0")
+reason_row reason.Checksum = (codes "Checksum", codes "the record's checksum is wrong")
+reason_row reason.NoHeader = (codes "NoHeader", codes "the first record is no header")
+reason_row reason.Short = (codes "Short", codes "a field does not fit into its record")
+reason_row reason.Long = (codes "Long", codes "bytes are left over in the record")
+reason_row reason.Alignment = (codes "Alignment", codes "the segment's alignment has no meaning")
+reason_row reason.BigLength = (codes "BigLength", codes "a Big segment has a length")
+reason_row reason.GroupComponent = (codes "GroupComponent", codes "the group's component is no segment")
+reason_row reason.CommunalType = (codes "CommunalType", codes "the communal is neither near nor far")
+reason_row reason.CommunalLength = (codes "CommunalLength", codes "the communal's length is invalid")
+reason_row reason.FrameMethod = (codes "FrameMethod", codes "the frame method is not read")
+reason_row reason.TargetMethod = (codes "TargetMethod", codes "the target method is not read")
+reason_row reason.LocationType = (codes "LocationType", codes "the location's type is unknown")
+reason_row reason.SelfRelative = (codes "SelfRelative", codes "the location cannot be self-relative")
+reason_row reason.TooDeep = (codes "TooDeep", codes "blocks are nested too deep")
+reason_row reason.DataTooLong = (codes "DataTooLong", codes "repeated data are too long")
+reason_row reason.UndefinedName = (codes "UndefinedName", codes "the name is not defined")
+reason_row reason.UndefinedSegment = (codes "UndefinedSegment", codes "the segment is not defined")
+reason_row reason.UndefinedGroup = (codes "UndefinedGroup", codes "the group is not defined")
+reason_row reason.UndefinedExternal = (codes "UndefinedExternal", codes "the external is not defined")
+reason_row reason.UndefinedThread = (codes "UndefinedThread", codes "the thread is not set")
+reason_row reason.OutsideSegment = (codes "OutsideSegment", codes "data pass the end of their segment")
+reason_row reason.OutsideRecord = (codes "OutsideRecord", codes "the location passes the end of its data")
+reason_row reason.NoDataRecord = (codes "NoDataRecord", codes "a fixup precedes any data")
+reason_row reason.FixupOnIterated = (codes "FixupOnIterated", codes "a fixup applies to repeated data")
+reason_row reason.TooMany = (codes "TooMany", codes "a limit of the module's tables is passed")
+reason_row reason.OtherDialect = (codes "OtherDialect", codes "the module is of another dialect")
+reason_row reason.VendorComment = (codes "VendorComment", codes "a vendor's comment is refused")
+reason_row reason.StartFrame = (codes "StartFrame", codes "the start's frame is that of a location")
 
 abbrev pub reason_name : Reason → List ℕ
-reason_name r = (reason_row r).name
+reason_name r = (reason_row r).0
 
 abbrev pub sentence : Reason → List ℕ
-sentence r = (reason_row r).sentence
+sentence r = (reason_row r).1
 
 -- a fault of a record: the offset in the record of the field at fault, and the reason
 pub record Fault : Type 0 where

@@ -1,9 +1,10 @@
 -- The state of a framer, and the effect of its calls.
-use Rattle.std.specs.Prelude.{◌≡◌, ◌⊎◌, ◌≤◌, ◌<◌, ℕ, ◌+◌, Bool, false, not, ◌&&◌, ◌||◌, ◌==◌, is_some, is_none, min, if◌then◌else◌, List, [], ◌∷◌, ◌++◌, length, take, slice_index, Option, Some, None, option_map, Result, Ok, Err}
+use Rattle.std.specs.Option.{option_map_or}
+use Rattle.std.specs.Prelude.{◌≡◌, ◌⊎◌, ◌≤◌, ◌<◌, ℕ, ◌+◌, Bool, false, not, ◌&&◌, ◌||◌, ◌==◌, is_some, is_none, min, if◌then◌else◌, List, [], ◌∷◌, ◌++◌, length, take, slice_index, Option, Some, None, option_map, Result, Ok, Err, slice_get}
 use Rattle.omf_frame.specs.declared.fault.FrameFault.{FrameFault}
 use Rattle.omf_frame.specs.declared.fault.FrameFault.TheVariants.{Memory, Refused}
 use Rattle.omf_frame.specs.Fault.{Fault}
-use Rattle.omf_frame.specs.Framing.{present, is_whole, is_nonempty, is_taken, wanted, is_end, type_faults, frame_fault, standing_fault, record_len}
+use Rattle.omf_frame.specs.Framing.{present, is_whole, is_taken, wanted, is_end, type_faults, frame_fault, standing_fault, record_len}
 
 -- The bytes taken of the record at hand, its number and its offset in the input, whether MODEND was passed, and a permanent fault.
 pub record Held : Type 0 where
@@ -84,26 +85,13 @@ pub record IsBetween (held : Held) : Type 0 where
 -- The same, as a test; and the next bytes begin with a complete record that has no framing fault.
 abbrev pub shows_record : Held → List ℕ → Bool
 shows_record held ahead =
-    (is_none held.fault && (not (held.number == 0) && (not held.ended && not (is_nonempty held.bytes)))) && is_none (frame_fault (held.number == 0) (present ahead))
+    (is_none held.fault && (not (held.number == 0) && (not held.ended && is_none (slice_get held.bytes 0)))) && is_none (frame_fault (held.number == 0) (present ahead))
 
 -- The state after the complete record.
 abbrev pub passed : Held → Held
-passed held = record {
-  bytes = [];
-  number = held.number + 1;
-  start = held.start + length held.bytes;
-  ended = is_end (slice_index held.bytes 0);
-  fault = None;
-}
+passed held = record at_start { number = held.number + 1; start = held.start + length held.bytes; ended = is_end (slice_index held.bytes 0) }
 
 -- The result at the end of the input: the permanent fault; Ok after MODEND; else the framing fault of the bytes at hand.
 abbrev pub stop_of : Held → Result (Unit {0}) FrameFault
-stop_of held = at_fault held.fault
-  where
-    at_hand : Option Fault → Result (Unit {0}) FrameFault
-    at_hand None = Ok tt
-    at_hand (Some f) = Err (refused held f)
-
-    at_fault : Option FrameFault → Result (Unit {0}) FrameFault
-    at_fault (Some fault) = Err fault
-    at_fault None = if held.ended then Ok tt else at_hand (frame_fault (held.number == 0) held.bytes)
+stop_of held = option_map_or (λ fault. Err fault) held.fault
+    (if held.ended then Ok tt else option_map_or (λ f. Err (refused held f)) (frame_fault (held.number == 0) held.bytes) (Ok tt))

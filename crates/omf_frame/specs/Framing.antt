@@ -1,6 +1,6 @@
 -- Records, and how they form a module (TIS OMF 1.1, "Object record format" and "Order of records").
 use Rattle.omf_frame.specs.declared.kinds.RecordType.TheVariants.{Theadr, Lheadr, Modend}
-use Rattle.std.specs.Prelude.{◌≡◌, ℕ, ◌+◌, ◌*◌, ◌-◌, ◌/◌, ◌%◌, ◌<◌, ◌⊎◌, List, [], ◌∷◌, ◌++◌, length, sum, take, drop, All, flat_map, Bool, true, false, not, ◌||◌, ◌==◌, nat_le, IsTrue, slice_index, Option, Some, None, if◌then◌else◌}
+use Rattle.std.specs.Prelude.{◌≡◌, ℕ, ◌+◌, ◌*◌, ◌-◌, ◌/◌, ◌%◌, ◌<◌, ◌⊎◌, List, [], ◌∷◌, ◌++◌, length, sum, take, drop, All, flat_map, Bool, true, false, not, ◌||◌, ◌==◌, nat_le, IsTrue, slice_index, Option, Some, None, if◌then◌else◌, option_and_then, is_some, slice_get}
 use Rattle.omf_frame.specs.Bytes.{is_one_of}
 use Rattle.omf_frame.specs.Types.{is_treated, row}
 use Rattle.omf_frame.specs.declared.kinds.Treatment.TheVariants.{Read, Carried, Refused}
@@ -60,11 +60,6 @@ abbrev pub is_whole : List ℕ → Bool
 is_whole (t ∷ lo ∷ hi ∷ bytes) = nat_le (lo + 256 * hi) (length bytes)
 is_whole _ = false
 
--- There is a byte.
-abbrev pub is_nonempty : List ℕ → Bool
-is_nonempty [] = false
-is_nonempty (b ∷ bytes) = true
-
 -- The bytes after the record at the front.
 abbrev pub after_front : List ℕ → List ℕ
 after_front (t ∷ lo ∷ hi ∷ bytes) = drop (lo + 256 * hi) bytes
@@ -94,7 +89,7 @@ type_faults kind = broken (rule (is_taken kind || (is_treated Refused kind)) 0 r
 -- The framing faults of the bytes present of one record, in the order of the checks: the input ends before the record, the type
 -- byte, the input ends inside the record, a length of 0, the checksum, a first record that is not a header.
 abbrev pub frame_steps : Bool → List ℕ → List (List Fault)
-frame_steps is_first bytes = broken (rule (is_nonempty bytes) 0 reason.NoEnd ∷ [])
+frame_steps is_first bytes = broken (rule (is_some (slice_get bytes 0)) 0 reason.NoEnd ∷ [])
     ∷ type_faults (slice_index bytes 0)
     ∷ broken (rule (is_whole bytes) (length bytes) reason.Cut ∷ [])
     ∷ broken (rule (not (stated_length bytes == 0)) 1 reason.EmptyRecord ∷ [])
@@ -112,14 +107,9 @@ is_end_of_input reason.NoEnd = true
 is_end_of_input reason.Cut = true
 is_end_of_input _ = false
 
--- The fault, if more input cannot remove it.
-abbrev pub lasting : Option Fault → Option Fault
-lasting None = None
-lasting (Some f) = if is_end_of_input f.reason then None else Some f
-
--- The framing fault that remains whatever bytes follow.
+-- The framing fault, if more input cannot remove it.
 abbrev pub standing_fault : Bool → List ℕ → Option Fault
-standing_fault is_first bytes = lasting (frame_fault is_first bytes)
+standing_fault is_first bytes = option_and_then (λ f. if is_end_of_input f.reason then None else Some f) (frame_fault is_first bytes)
 
 -- The bytes begin with a complete record.
 pub record HasFront (bytes : List ℕ) : Type 0 where

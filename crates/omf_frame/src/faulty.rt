@@ -1,7 +1,7 @@
 //! A source and a sink for tests: they work in pieces of a chosen size, are interrupted, and fail at a chosen point, once or for good.
 
-ghost use Rattle.std.specs.Prelude.{◌≡◌, ◌<◌, ◌≤◌, ◌-◌, ◌^◌, [], length, take, min, replicate, Some, None, IfOk};
-ghost use Rattle.omf_frame.specs.Device.{Device, Pulls, Pushes, pull_fails, pull_breaks, push_fails, push_breaks, counted};
+ghost use Rattle.std.specs.Prelude.{◌≡◌, ◌<◌, ◌≤◌, ◌-◌, ◌^◌, [], length, take, min, replicate, Some, None, IfOk, is_err};
+ghost use Rattle.omf_frame.specs.Device.{Device, Pulls, Pushes, pull_breaks, push_fails, push_breaks, counted};
 
 use crate::device::{Sink, Source, Tally};
 use std::alloc::{AllocError, Global};
@@ -159,7 +159,7 @@ impl<'a> Source for Script<'a> {
         requires { 0 < length buf.old }
         ensures bound { IfOk result (λ n. n ≤ length buf.new) }
         ensures bytes { Pulls (told self.old.after self.old.bytes) (told self.new.after self.new.bytes) result buf.new }
-        ensures failures { self.new.failures ≡ counted (pull_fails result) self.old.failures }
+        ensures failures { self.new.failures ≡ counted (is_err result) self.old.failures }
         ensures breaks { self.new.breaks ≡ counted (pull_breaks result) self.old.breaks }
         ensures answer { IsPulled (pulled self.old (length buf.old)) result buf.new }
         ensures after { self.new ≡ after_pull self.old (length buf.old) }

@@ -7,7 +7,9 @@ use Rattle.std.proofs.lemmas.List.Elements.{All-nil, All-cons, All-head, All-tai
 use Rattle.omf_records.specs.Values.{Rec, GroupItem}
 use Rattle.omf_check.specs.Tables.{segments, groups, externals}
 use Rattle.omf_check.specs.declared.segment.SegInfo.{SegInfo}
-use Rattle.omf_placement.specs.PlacementText.{unresolved_group, Draft, line_entries, bad_line, segment_entry, group_entry, external_entry, ok_or_first, parsed, resolved, resolved_group, line_unless}
+use Rattle.omf_placement.specs.PlacementText.{unresolved_group, Draft, line_entries, segment_entry, group_entry, external_entry, parsed, resolved, resolved_group}
+use Rattle.omf_placement.specs.Inner.Names.{line_unless, ok_or_first}
+use Rattle.omf_placement.specs.Inner.Names.{bad_line}
 use Rattle.omf_placement.specs.declared.frame.Frame.{Frame}
 use Rattle.omf_placement.specs.declared.frame.Placed.{Placed}
 use Rattle.omf_placement.specs.Entries.{Entry, Blank, SegmentEntry, GroupEntry, ExternalEntry}

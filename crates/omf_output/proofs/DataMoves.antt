@@ -15,13 +15,13 @@ use Rattle.omf_placement.specs.declared.frame.Frame.{Frame}
 use Rattle.omf_placement.specs.declared.frame.Placed.{Placed}
 use Rattle.omf_placement.specs.Placement.{Places}
 use Rattle.omf_check.specs.Tables.{entry}
-use Rattle.omf_reloc.specs.Inner.Names.{additions, location_start}
+use Rattle.omf_reloc.specs.Inner.Names.{additions, location_start, map_ok, first_or, if_named}
 use Rattle.omf_reloc.specs.declared.fault.Cause.{Cause}
 use Rattle.omf_reloc.specs.declared.fault.Cause.TheVariants as cause
 use Rattle.omf_reloc.specs.Additions.{additions_at, type_of_number}
 use Rattle.omf_reloc.specs.Image.{added}
 use Rattle.omf_reloc.specs.Laws.{AreInside, location_end}
-use Rattle.omf_reloc.specs.Offsets.{offsets, first_or, map_ok, in_bits, in_frame, from_location, outcome, if_named, additions_in, named}
+use Rattle.omf_reloc.specs.Offsets.{offsets, in_frame, from_location, outcome, additions_in, named, in_bits}
 use Rattle.omf_reloc.specs.Plain.{PlainFixup}
 use Rattle.omf_reloc.proofs.PatchLaws.{parts_inside}
 use Rattle.omf_output.specs.Exe.Moved.{Movers, AreMoversOf, moved, frame_moves}

@@ -16,7 +16,8 @@ use Rattle.omf_check.specs.Tables.{groups, entry}
 use Rattle.std.specs.Prelude.{option_map}
 use Rattle.omf_placement.specs.declared.frame.Placed.{Placed}
 use Rattle.omf_placement.specs.Inner.Lowest.{lower_than}
-use Rattle.omf_placement.specs.Placement.{lower, lowest}
+use Rattle.omf_placement.specs.Placement.{lowest}
+use Rattle.omf_placement.specs.Inner.Names.{lower}
 use Rattle.omf_placement.proofs.GroupLaws.{if_low, if_high}
 use Rattle.omf_output.specs.Exe.Derived.{HasMore, IsLowTable, Named, low_of, of_name, value_of}
 

@@ -15,11 +15,11 @@ use Rattle.omf_image.specs.Parts.{Addition}
 use Rattle.omf_placement.specs.declared.frame.Frame.{Frame}
 use Rattle.omf_placement.specs.declared.frame.Placed.{Placed}
 use Rattle.omf_placement.specs.Placement.{place_of, framed}
-use Rattle.omf_reloc.specs.Inner.Names.{additions}
+use Rattle.omf_reloc.specs.Inner.Names.{additions, map_ok, first_or, if_named}
 use Rattle.omf_reloc.specs.declared.fault.Cause.{Cause}
 use Rattle.omf_reloc.specs.declared.fault.Cause.TheVariants as cause
 use Rattle.omf_reloc.specs.Additions.{additions_at, type_of_number}
-use Rattle.omf_reloc.specs.Offsets.{readings, offsets, first_or, map_ok, in_bits, in_frame, from_location, if_named, additions_in}
+use Rattle.omf_reloc.specs.Offsets.{readings, offsets, in_frame, from_location, additions_in, in_bits}
 use Rattle.omf_reloc.specs.Plain.{PlainFixup}
 use Rattle.omf_output.specs.declared.exe.movers.Moving.{Moving}
 use Rattle.omf_output.specs.Exe.Moved.{moved, moved_frame, moved_place, parted_place, moving_of, moves}

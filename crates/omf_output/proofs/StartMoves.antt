@@ -14,13 +14,13 @@ use Rattle.omf_image.specs.Parts.{Addition}
 use Rattle.omf_placement.specs.declared.frame.Frame.{Frame}
 use Rattle.omf_placement.specs.declared.frame.Placed.{Placed}
 use Rattle.omf_placement.specs.Placement.{Places, absolute_place, framed, place_of}
-use Rattle.omf_reloc.specs.Inner.Names.{start_in}
+use Rattle.omf_reloc.specs.Inner.Names.{start_in, map_ok, first_or, if_named, causes_at}
 use Rattle.omf_reloc.specs.declared.fault.Cause.{Cause}
 use Rattle.omf_reloc.specs.declared.fault.Cause.TheVariants as cause
 use Rattle.omf_reloc.specs.Image.{piece_start}
-use Rattle.omf_reloc.specs.Offsets.{first_or, if_named, map_ok, offsets, outcome, start_outcome}
+use Rattle.omf_reloc.specs.Offsets.{offsets, outcome, start_outcome}
 use Rattle.omf_reloc.specs.Plain.{Piece, Kept, Fixed, End, PlainFixup, data_contents, fixups_of_data, pieces}
-use Rattle.omf_reloc.specs.Reach.{causes, causes_at, piece_causes}
+use Rattle.omf_reloc.specs.Reach.{causes, piece_causes}
 use Rattle.omf_reloc.proofs.ReachLaws.{reach-decided}
 use Rattle.omf_output.specs.declared.exe.movers.Moving.{Moving}
 use Rattle.omf_output.specs.Exe.Moved.{Movers, AreMoversOf, moved, moved_frame, moved_place, moving_of, parted_place, where_moving, where_parted}

@@ -5,7 +5,8 @@ use Rattle.std.proofs.lemmas.Bool.{le-leb, lt-leb}
 use Rattle.std.proofs.lemmas.Bool.Decides.{leb_tells}
 use Rattle.omf_records.specs.Values.{At}
 use Rattle.omf_check.specs.Tables.{entry}
-use Rattle.omf_placement.specs.Placement.{Placed, lower, lowest, members_placed}
+use Rattle.omf_placement.specs.Placement.{Placed, lowest, members_placed}
+use Rattle.omf_placement.specs.Inner.Names.{lower}
 use Rattle.omf_placement.specs.Inner.Lowest.{lower_than}
 
 -- the place found so far, or the lowest of the remaining ones, if any

@@ -9,7 +9,8 @@ use Rattle.omf_records.specs.Values.{At, GroupItem, Rec}
 use Rattle.omf_check.specs.Tables.{groups, entry}
 use Rattle.omf_placement.specs.declared.frame.Frame.{Frame}
 use Rattle.omf_placement.specs.Laws.{IsLowest, TakesFrame}
-use Rattle.omf_placement.specs.Placement.{Placed, lower, lowest, members_placed, real_group}
+use Rattle.omf_placement.specs.Placement.{Placed, lowest, members_placed, real_group}
+use Rattle.omf_placement.specs.Inner.Names.{lower}
 use Rattle.omf_placement.proofs.GroupLaws.{if_low, if_high}
 
 -- A function's result for some value.

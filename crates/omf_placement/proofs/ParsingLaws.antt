@@ -3,10 +3,10 @@ use Rattle.std.proofs.Common.{◌≡◌, ℕ, ◌+◌, true, List, [], ◌∷◌
 use Rattle.std.specs.Prelude.{map, filter_map, is_some, Option, Some, None, option_map, Ok, Err, IsOk, ◌==◌}
 use Rattle.std.specs.List.{enumerate_from, slice_split}
 use Rattle.std.proofs.lemmas.List.Splits.{length-slice_split}
-use Rattle.omf_placement.specs.Inner.Names.{bad_lines}
+use Rattle.omf_placement.specs.Inner.Names.{bad_lines, bad_line}
 use Rattle.omf_placement.specs.Entries.{Entry, Blank, SegmentEntry, GroupEntry, ExternalEntry, said}
 use Rattle.omf_placement.specs.Inner.EntryReading.{entry_of_words, words_of, entry_said}
-use Rattle.omf_placement.specs.PlacementText.{Draft, line_entries, bad_line, segment_entry, group_entry, external_entry, parsed}
+use Rattle.omf_placement.specs.PlacementText.{Draft, line_entries, segment_entry, group_entry, external_entry, parsed}
 use Rattle.omf_placement.specs.Inner.Parsing.{parts_after, with_entry}
 
 -- five words or more are no entry

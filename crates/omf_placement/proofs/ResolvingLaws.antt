@@ -4,7 +4,8 @@ use Rattle.std.specs.Prelude.{filter_map, Option, Some, None, Result, Ok, Err, I
 use Rattle.std.specs.List.{enumerate_from}
 use Rattle.std.specs.Result.{is_err}
 use Rattle.std.proofs.lemmas.Bool.{true≢false}
-use Rattle.omf_placement.specs.PlacementText.{unresolved_group, ok_or_first, resolved_group}
+use Rattle.omf_placement.specs.PlacementText.{unresolved_group, resolved_group}
+use Rattle.omf_placement.specs.Inner.Names.{ok_or_first}
 use Rattle.omf_placement.specs.declared.frame.Frame.{Frame}
 use Rattle.omf_records.specs.Values.{Rec}
 use Rattle.omf_placement.specs.Placement.{Placed}

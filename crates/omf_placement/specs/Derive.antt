@@ -15,7 +15,7 @@ abbrev pub PlacedModule : Type 0
 PlacedModule = List Rec × Places
 
 -- Modules and their placements.
-abbrev pub placed_modules : List Module → List Places → List PlacedModule
+abbrev pub placed_modules : List Module → List Places → List (List Rec × Places)
 placed_modules ms pls = zip (typed_modules ms) pls
 
 -- A public: its name, and its place by the placement of its module.

@@ -1,4 +1,5 @@
 -- Placements: the addresses and frames of a module's segments, groups and externals (TIS OMF 1.1, "FIXUPP", frames and targets).
+use Rattle.std.specs.Option.{option_map_or}
 use Rattle.std.specs.Prelude.{ℕ, ◌+◌, ◌*◌, List, [], ◌∷◌, Option, Some, None, option_map, option_and_then, if◌then◌else◌, nat_le, nat_lt, ◌/◌, ◌^◌}
 use Rattle.omf_placement.specs.declared.frame.Frame.{Frame}
 pub use Rattle.omf_placement.specs.declared.frame.Placed.{Placed}
@@ -52,13 +53,9 @@ members_placed xs [] = Some []
 members_placed xs (m ∷ ms) = option_and_then (λ p. option_map (λ ps. p ∷ ps) (members_placed xs ms)) (entry xs m.item.item)
 
 -- The place with the lowest address, the first at a tie.
-abbrev pub lower : Placed → Option Placed → Placed
-lower p None = p
-lower p (Some q) = if nat_le p.address q.address then p else q
-
 abbrev pub lowest : List Placed → Option Placed
 lowest [] = None
-lowest (p ∷ ps) = Some (lower p (lowest ps))
+lowest (p ∷ ps) = Some (option_map_or (λ q. if nat_le p.address q.address then p else q) (lowest ps) p)
 
 -- The frame of a group by its members: that of its lowest member. None if the group does not exist or has no member, or a member has no place.
 abbrev pub real_group : List Rec → List Placed → ℕ → Option Frame

@@ -1,5 +1,6 @@
 -- Placement texts, and the placements that they give a module (a format of this profile).
-use Rattle.std.specs.Prelude.{◌≡◌, ℕ, List, [], ◌∷◌, map, filter_map, Option, Some, None, Result, Ok, Err, IsOk, ◌==◌}
+use Rattle.std.specs.Option.{option_or, option_map_or}
+use Rattle.std.specs.Prelude.{◌≡◌, ℕ, List, [], ◌∷◌, map, filter_map, Option, Some, None, Result, Ok, Err, IsOk, ◌==◌, is_some, slice_get, if◌then◌else◌}
 use Rattle.std.specs.List.{enumerate_from, slice_split}
 use Rattle.omf_placement.specs.declared.fault.TextFault.{TextFault}
 use Rattle.omf_placement.specs.declared.fault.TextFault.TheVariants.{Memory, Line}
@@ -16,11 +17,6 @@ numbered_lines text = enumerate_from 1 (slice_split (λ c. c == 10) text)
 
 abbrev pub line_entries : List ℕ → List (ℕ × Option Entry)
 line_entries text = map (λ l. (l.0, entry_said (said l.1))) (numbered_lines text)
-
--- The numbers of the lines that are neither blank nor an entry.
-abbrev pub bad_line : ℕ × Option Entry → Option ℕ
-bad_line (n, None) = Some n
-bad_line (n, Some e) = None
 
 -- The entries of each letter, in order; those of groups with their line numbers.
 abbrev pub segment_entry : ℕ × Option Entry → Option Placed
@@ -40,14 +36,11 @@ pub record Draft : Type 0 where
   pub groups : List (ℕ × Option Frame)
   pub externals : List Placed
 
-abbrev pub ok_or_first : {A : Type 0} → A → List ℕ → Result A ℕ
-ok_or_first a [] = Ok a
-ok_or_first a (n ∷ ns) = Err n
-
 -- The draft that a text spells, or the first line at fault. It depends on no module, so a line that is no entry is reported before a group whose frame
 -- cannot be found.
 abbrev pub parsed : List ℕ → Result Draft ℕ
-parsed text = ok_or_first (record { segments = filter_map segment_entry (line_entries text); groups = filter_map group_entry (line_entries text); externals = filter_map external_entry (line_entries text) }) (filter_map bad_line (line_entries text))
+parsed text = option_map_or (λ n. Err n) (slice_get (filter_map (λ l. if is_some l.1 then None else Some l.0) (line_entries text)) 0)
+    (Ok (record { segments = filter_map segment_entry (line_entries text); groups = filter_map group_entry (line_entries text); externals = filter_map external_entry (line_entries text) }))
 
 -- A result is the defined one: exactly this value, or exactly this line at fault. Memory is returned only if no line is at fault.
 abbrev pub IsAnswer : {A : Type 0} → Result A ℕ → Result A TextFault → Type 0
@@ -57,19 +50,14 @@ IsAnswer r (Err Memory) = IsOk r
 
 -- The frame of the k-th group entry, from 1: its own, or that of the lowest member of the k-th group.
 abbrev pub resolved_group : List Rec → List Placed → ℕ × (ℕ × Option Frame) → Option Frame
-resolved_group m placed_segments (k, (n, Some f)) = Some f
-resolved_group m placed_segments (k, (n, None)) = real_group m placed_segments k
+resolved_group m placed_segments g = option_or g.1.1 (real_group m placed_segments g.0)
 
--- the line of a group entry whose frame cannot be found
-abbrev pub line_unless : ℕ → Option Frame → Option ℕ
-line_unless n (Some f) = None
-line_unless n None = Some n
-
+-- The line of a group entry whose frame cannot be found.
 abbrev pub unresolved_group : List Rec → List Placed → ℕ × (ℕ × Option Frame) → Option ℕ
-unresolved_group m placed_segments g = line_unless g.1.0 (resolved_group m placed_segments g)
+unresolved_group m placed_segments g = if is_some (resolved_group m placed_segments g) then None else Some g.1.0
 
 -- The placement that a draft gives a module, or the line of the first group whose frame cannot be found. All segment entries count, also those after the group's.
 abbrev pub resolved : List Rec → Draft → Result Places ℕ
 resolved m d = let numbered = enumerate_from 1 d.groups in
-    ok_or_first (record { segments = d.segments; groups = filter_map (resolved_group m d.segments) numbered; externals = d.externals })
-    (filter_map (unresolved_group m d.segments) numbered)
+    option_map_or (λ n. Err n) (slice_get (filter_map (unresolved_group m d.segments) numbered) 0)
+    (Ok (record { segments = d.segments; groups = filter_map (resolved_group m d.segments) numbered; externals = d.externals }))

@@ -126,7 +126,7 @@ location_type locat = bits locat 10 4
 abbrev pub location_offset : ℕ → ℕ
 location_offset locat = bits locat 0 10
 
--- Fix data byte: F, frame method or thread, T, P, target method or thread.
+-- Fix data byte: bit 7 is F, bits 6-4 the frame's method or its thread, bit 3 is T, bit 2 is P, bits 1-0 the target's method or its thread.
 abbrev pub frame_by_thread : ℕ → Bool
 frame_by_thread fix = has_bit fix 7
 

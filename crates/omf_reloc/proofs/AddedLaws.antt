@@ -10,7 +10,8 @@ use Rattle.std.specs.Result.{result_err}
 use Rattle.omf_reloc.specs.Offsets.{outcome, start_outcome}
 use Rattle.omf_placement.specs.Placement.{Places}
 use Rattle.omf_reloc.specs.Plain.{Piece, Kept, End, PlainFixup, data_contents, fixups_of_data}
-use Rattle.omf_reloc.specs.Reach.{causes, causes_at, piece_causes}
+use Rattle.omf_reloc.specs.Reach.{causes, piece_causes}
+use Rattle.omf_reloc.specs.Inner.Names.{causes_at}
 
 abbrev pub IsFine : Option Cause → Type 0
 IsFine c = c ≡ None

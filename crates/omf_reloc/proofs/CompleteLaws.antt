@@ -6,7 +6,7 @@ use Rattle.std.proofs.lemmas.List.Elements.{All-nil, All-cons, All-head, All-tai
 use Rattle.std.proofs.lemmas.Option.{none-some, same_Some}
 use Rattle.omf_check.specs.Tables.{segments, entry}
 use Rattle.omf_check.specs.declared.segment.SegInfo.{SegInfo}
-use Rattle.omf_reloc.specs.Inner.Names.{far_fault, reach_faults, given}
+use Rattle.omf_reloc.specs.Inner.Names.{far_fault, reach_faults, given, lies_at}
 use Rattle.omf_reloc.specs.declared.fault.Cause.{Cause}
 use Rattle.omf_reloc.specs.declared.fault.Kind.{Kind}
 use Rattle.omf_reloc.specs.declared.fault.Kind.TheVariants as kinds
@@ -17,7 +17,7 @@ use Rattle.omf_placement.specs.Derivation.{IsPlaceOf, KeepsPlace}
 use Rattle.omf_placement.specs.Placement.{Places, absolute_place}
 use Rattle.omf_reloc.specs.Laws.{IsComplete, DerivedAreComplete}
 use Rattle.omf_reloc.specs.Plain.{pieces}
-use Rattle.omf_reloc.specs.Reach.{entries, misplaced, lies_at, causes, all_reference_places, far_faults}
+use Rattle.omf_reloc.specs.Reach.{entries, misplaced, causes, all_reference_places, far_faults}
 use Rattle.omf_placement.proofs.DeriveLaws.{derived-fit}
 use Rattle.omf_reloc.proofs.ReachLaws.{counts-fit}
 

@@ -13,7 +13,9 @@ use Rattle.omf_records.specs.Inner.Names.{offset_bits, self_relative_bits, width
 use Rattle.omf_records.specs.Values.{location_type, location_offset, is_segment_relative}
 use Rattle.omf_reloc.specs.Plain.{PlainFixup}
 use Rattle.omf_reloc.specs.Inner.Widths.{fixupp_type, modend_type, number_bits}
-use Rattle.omf_reloc.specs.Offsets.{offsets, first_or, map_ok, in_bits, in_frame, from_location, additions_in}
+use Rattle.omf_reloc.specs.Offsets.{offsets, in_frame, from_location, additions_in, in_bits}
+use Rattle.omf_reloc.specs.Inner.Names.{first_or}
+use Rattle.omf_reloc.specs.Inner.Names.{map_ok}
 
 -- the width of a displacement, by the type of its record
 fixupp_width : (width : Width) → number_bits width ≡ width_bits (fixupp_type width)

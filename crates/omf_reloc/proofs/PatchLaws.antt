@@ -12,13 +12,13 @@ use Rattle.omf_image.specs.declared.part.Part.{Part}
 use Rattle.omf_image.specs.Parts.{Addition, part_size, add_part, add_parts}
 use Rattle.omf_records.specs.Inner.Names.{location_size}
 use Rattle.omf_records.specs.Values.{DataItem, location_type, location_offset, is_segment_relative}
-use Rattle.omf_reloc.specs.Inner.Names.{additions, AreElsewhere, location_start}
+use Rattle.omf_reloc.specs.Inner.Names.{additions, AreElsewhere, location_start, map_ok, first_or, if_named}
 use Rattle.omf_reloc.specs.declared.fault.Cause.{Cause}
 use Rattle.omf_reloc.specs.declared.fault.Cause.TheVariants as cause
 use Rattle.omf_reloc.specs.Additions.{self_relative_additions}
 use Rattle.omf_reloc.specs.Image.{added}
 use Rattle.omf_reloc.specs.Laws.{location_end, AreInside, StaysInside}
-use Rattle.omf_reloc.specs.Offsets.{outcome, outcome_at, additions_in, named, if_named, map_ok, from_location, first_or, is_near}
+use Rattle.omf_reloc.specs.Offsets.{outcome, outcome_at, additions_in, named, from_location, is_near}
 use Rattle.omf_check.specs.Tables.{entry}
 use Rattle.omf_placement.specs.declared.frame.Frame.{Frame}
 use Rattle.omf_placement.specs.declared.frame.Placed.{Placed}

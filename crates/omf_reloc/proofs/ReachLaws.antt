@@ -12,7 +12,7 @@ use Rattle.omf_records.specs.Values.{At, Rec, Contents, Plain, Iterated, Fixups,
 use Rattle.omf_check.specs.Tables.{segments, groups, externals, subrecords, entry}
 use Rattle.omf_check.specs.Threads.{PlainReference}
 use Rattle.omf_check.specs.declared.segment.SegInfo.{SegInfo}
-use Rattle.omf_reloc.specs.Inner.Names.{plain_fixups, extra, missing, far_fault, reach_faults, given, all_kinds}
+use Rattle.omf_reloc.specs.Inner.Names.{plain_fixups, extra, missing, far_fault, reach_faults, given, all_kinds, lies_at, causes_at}
 use Rattle.omf_reloc.specs.declared.fault.Cause.{Cause}
 use Rattle.omf_reloc.specs.declared.fault.Kind.{Kind}
 use Rattle.omf_reloc.specs.declared.fault.Kind.TheVariants as kinds
@@ -24,7 +24,7 @@ use Rattle.omf_reloc.specs.Offsets.{outcome}
 use Rattle.omf_placement.specs.declared.frame.Placed.{Placed}
 use Rattle.omf_placement.specs.Placement.{Places, absolute_place}
 use Rattle.omf_reloc.specs.Plain.{Piece, Kept, Fixed, End, PlainFixup, piece_of, pieces, plain_fixup, fixups_of_data, fixups_in, data_of, data_contents}
-use Rattle.omf_reloc.specs.Reach.{causes, causes_at, piece_causes, fixup_place, reference_places, all_reference_places, entries, lies_at, misplaced, misfits, far_faults, Reaches}
+use Rattle.omf_reloc.specs.Reach.{causes, piece_causes, fixup_place, reference_places, all_reference_places, entries, misplaced, misfits, far_faults, Reaches}
 
 abbrev piece_at : List Rec → Rec → List Piece
 piece_at before r = piece_of (subrecords before) r.kind r.contents ∷ []

@@ -11,7 +11,8 @@ use Rattle.omf_reloc.specs.Offsets.{outcome}
 use Rattle.omf_reloc.specs.Inner.Pieces.{one_by_one}
 use Rattle.omf_placement.specs.Placement.{Places}
 use Rattle.omf_reloc.specs.Plain.{Piece, Kept, Fixed, End, PlainFixup, data_contents, data_of, fixups_in, fixups_of_data}
-use Rattle.omf_reloc.specs.Reach.{causes, causes_at, piece_causes}
+use Rattle.omf_reloc.specs.Reach.{causes, piece_causes}
+use Rattle.omf_reloc.specs.Inner.Names.{causes_at}
 
 abbrev pub singles : ℕ → List PlainFixup → List Piece
 singles kind fs = map (λ f. Fixed kind (f ∷ [])) fs

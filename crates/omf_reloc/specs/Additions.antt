@@ -23,7 +23,7 @@ additions_at Offset32 offset selector = addition 0 part.Dword offset ∷ []
 additions_at Pointer32 offset selector = addition 0 part.Dword offset ∷ addition 4 part.Word selector ∷ []
 additions_at LoaderOffset32 offset selector = addition 0 part.Dword offset ∷ []
 
--- The part of a size in bytes that a self-relative fixup adds to: that of a pointer is its offset and its selector, or the first four of its bytes.
+-- The part that a self-relative fixup adds to, by the size of its location in bytes. (A pointer, of 4 or 6 bytes, is never self-relative.)
 abbrev pub part_of : ℕ → Part
 part_of size = if size == 1 then part.Byte else (if size == 2 then part.Word else part.Dword)
 

@@ -1,4 +1,5 @@
 -- Whether a placement reaches, and the first reason why it does not.
+use Rattle.std.specs.Option.{option_map_or}
 use Rattle.std.specs.Prelude.{◌≡◌, ℕ, ◌+◌, List, [], ◌∷◌, ◌++◌, length, map, flat_map, filter_map, zip, Bool, false, ◌==◌, ◌&&◌, nat_lt, Option, Some, None, option_map, if◌then◌else◌, slice_get}
 use Rattle.std.specs.List.{enumerate_from}
 use Rattle.std.specs.Result.{result_err}
@@ -16,12 +17,8 @@ use Rattle.omf_placement.specs.Placement.{Places, absolute_place}
 use Rattle.omf_reloc.specs.Offsets.{outcome, start_outcome}
 
 -- Why each fixup of a data record does not reach, in file order; None for one that reaches.
-abbrev pub causes_at : Places → Option DataItem → List Piece → List (Option Cause)
-causes_at pl None after = []
-causes_at pl (Some d) after = map (λ f. result_err (outcome pl d f)) (fixups_of_data after)
-
 abbrev pub piece_causes : Places → Piece → List Piece → List (Option Cause)
-piece_causes pl (Kept r) after = causes_at pl (data_contents r.contents) after
+piece_causes pl (Kept r) after = option_map_or (λ d. map (λ f. result_err (outcome pl d f)) (fixups_of_data after)) (data_contents r.contents) []
 piece_causes pl (End kind byte (Some r)) after = result_err (start_outcome pl kind r) ∷ []
 piece_causes pl _ after = []
 
@@ -54,13 +51,11 @@ entries m kinds.Group = length (groups m)
 entries m kinds.External = length (externals m)
 
 -- An absolute segment that is not placed where its SEGDEF puts it. Its address, its frame's base and its selector all count.
-abbrev pub lies_at : Option Placed → Placed → Bool
-lies_at None q = false
-lies_at (Some p) q = (p.address == q.address) && (p.frame.base == q.frame.base) && (p.frame.selector == q.frame.selector)
-
 abbrev pub misplaced : Places → ℕ → Option (ℕ × ℕ) → List ReachFault
 misplaced pl i None = []
-misplaced pl i (Some a) = if lies_at (entry pl.segments i) (absolute_place a.0 a.1) then [] else fault.Absolute i ∷ []
+misplaced pl i (Some a) = let q = absolute_place a.0 a.1 in
+    let is_there = λ (p : Placed). (p.address == q.address) && (p.frame.base == q.frame.base) && (p.frame.selector == q.frame.selector) in
+    if option_map_or is_there (entry pl.segments i) false then [] else fault.Absolute i ∷ []
 
 -- All faults of the fit between a placement and a module: the first entry that is missing, and the first that is extra, both by kind, and absolute
 -- segments that are misplaced.

@@ -5,7 +5,7 @@ ghost use Rattle.std.specs.Prelude.{◌≡◌, ◌+◌, filter, option_and_then,
 ghost use Rattle.omf_frame.specs.Bytes.{difference};
 ghost use Rattle.omf_records.specs.Inner.Names.{location_number, offset_bits, self_relative_bits};
 ghost use Rattle.omf_records.specs.Values.{location_offset};
-ghost use Rattle.omf_reloc.specs.Offsets.{offsets, in_bits, is_near, in_frame, from_location, named, additions_in, outcome_at, start_outcome};
+ghost use Rattle.omf_reloc.specs.Offsets.{offsets, is_near, in_frame, from_location, named, additions_in, outcome_at, start_outcome, in_bits};
 ghost use Rattle.omf_reloc.specs.Inner.Widths.{fixupp_type, modend_type, number_bits};
 
 use crate::addition::Additions;

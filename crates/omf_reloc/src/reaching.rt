@@ -6,9 +6,9 @@ ghost use Rattle.omf_check.specs.Module.{recs_of};
 ghost use Rattle.omf_check.specs.Tables.{segments};
 ghost use Rattle.omf_placement.specs.Placement.{absolute_place};
 ghost use Rattle.omf_records.specs.Inner.Seen.{contents_seen};
-ghost use Rattle.omf_reloc.specs.Inner.Names.{extra, missing, given};
+ghost use Rattle.omf_reloc.specs.Inner.Names.{extra, missing, given, lies_at};
 ghost use Rattle.omf_reloc.specs.Inner.PieceSeen.{piece_seen};
-ghost use Rattle.omf_reloc.specs.Reach.{entries, lies_at, misplaced, misfits, far_faults, reach_fault};
+ghost use Rattle.omf_reloc.specs.Reach.{entries, misplaced, misfits, far_faults, reach_fault};
 ghost use Rattle.omf_reloc.specs.Inner.ReachSteps.{miscounts, misplaced_from, data_place, place_behind, piece_cause};
 
 use crate::fault::{Cause, Kind, ReachFault, too_far};

@@ -1,11 +1,11 @@
 -- Names for parts of definitions, used in proofs and in contracts of private functions.
 
-use Rattle.std.specs.Prelude.{◌++◌, ℕ, List, flat_map, length, map, unwrap_or, ◌+◌, Bool, []}
+use Rattle.std.specs.Prelude.{◌++◌, ℕ, List, flat_map, length, map, unwrap_or, ◌+◌, Bool, [], slice_get, is_none}
 use Rattle.omf_frame.specs.Fault.{Fault, Rule}
 use Rattle.omf_frame.specs.Framing.{frame_steps, Raw, front_record, raw_bytes, is_end_of_input}
 use Rattle.omf_check.specs.declared.profile.Profile.{Profile}
 use Rattle.omf_image.specs.declared.limits.Limits.{Limits}
-use Rattle.omf_check.specs.Refusal.{fault_from, record_steps, is_empty}
+use Rattle.omf_check.specs.Refusal.{fault_from, record_steps}
 use Rattle.omf_image.specs.Inner.Expanding.{block_faults, length_faults}
 use Rattle.omf_frame.specs.declared.fault.Place.{Place}
 use Rattle.omf_records.specs.Values.{Subrecord, Rec, At, SegmentItem, Contents, Iterated, width}
@@ -19,6 +19,10 @@ use Rattle.omf_check.specs.declared.method.TargetMethod.{TargetMethod}
 use Rattle.omf_check.specs.WellFormed.{IsWellFormed}
 use Rattle.omf_image.specs.Limits.{profile_limits}
 use Rattle.omf_frame.specs.declared.fault.Reason.{Reason}
+
+-- there is no record before
+abbrev pub is_empty : List Raw → Bool
+is_empty before = is_none (slice_get before 0)
 
 -- The faults of the bytes present of one record after these records, by step: those of framing first.
 abbrev pub steps : Profile → Limits → List Raw → List ℕ → List (List Fault)

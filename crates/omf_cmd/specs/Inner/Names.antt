@@ -1,6 +1,17 @@
 -- Names for parts of definitions, used in proofs and in contracts of private functions.
 
-use Rattle.std.specs.Prelude.{◌∷◌, codes, List, decimal, ℕ, flat_map, length, ◌++◌, Option, option_to_list, Some, []}
+use Rattle.omf_cmd.specs.Relocated.{reloc_text}
+use Rattle.omf_cmd.specs.declared.fault.RunFault.{RunFault}
+use Rattle.omf_cmd.specs.declared.fault.RunFault.TheVariants as fault
+use Rattle.omf_reloc.specs.Reach.{reach_fault}
+use Rattle.omf_reloc.specs.declared.fault.ReachFault.{ReachFault}
+use Rattle.omf_placement.specs.Placement.{Places}
+use Rattle.omf_image.specs.declared.limits.Limits.{Limits}
+use Rattle.omf_check.specs.WellFormed.{recs}
+use Rattle.omf_canon.specs.Canonical.{canonical}
+use Rattle.std.specs.Result.{result_flatten, result_map_both}
+use Rattle.std.specs.Option.{option_map_or}
+use Rattle.std.specs.Prelude.{◌∷◌, codes, List, decimal, ℕ, flat_map, length, ◌++◌, Option, option_to_list, Some, [], Result, Ok, Err}
 use Rattle.omf_cmd.specs.Printed.{line}
 use Rattle.omf_placement.specs.Quoted.{quoted, named, hex}
 use Rattle.omf_check.specs.Tables.{externals, names, groups, segments}
@@ -9,10 +20,29 @@ use Rattle.omf_records.specs.Values.{Rec, GroupItem}
 use Rattle.omf_check.specs.declared.segment.SegInfo.{SegInfo}
 use Rattle.omf_frame.specs.Types.{type_name}
 use Rattle.omf_frame.specs.Framing.{Raw, raw_bytes}
-use Rattle.omf_cmd.specs.Relocated.{byte_text}
 use Rattle.omf_cmd.specs.Words.{flag_id}
 use Rattle.clap.specs.declared.builder.ArgAction.TheVariants.{SetTrue}
 use Rattle.clap.specs.Words.{Rule, new_rule}
+
+-- The output of `canon`.
+abbrev pub canonical_text : List Raw → List ℕ
+canonical_text rs = canonical (recs rs)
+
+-- A byte: a space and two digits.
+abbrev pub byte_text : ℕ → List ℕ
+byte_text b = 32 ∷ hex 2 b
+
+-- The start: the selector in four digits, the offset in eight.
+abbrev pub start_line : Option (ℕ × ℕ) → List ℕ
+start_line s = option_map_or (λ f. codes "START " ++ hex 4 f.0 ++ 58 ∷ hex 8 f.1 ++ 10 ∷ []) s []
+
+-- The text to print if every fixup is in range, or the fault.
+abbrev pub unless_far : Limits → List Rec → Places → Option ReachFault → Result (List ℕ) RunFault
+unless_far limits m pl far = option_map_or (λ f. Err (fault.Reach f)) far (Ok (reloc_text limits pl m))
+
+-- The same for a placement, or the number of the placement line at fault.
+abbrev pub of_placement : Limits → List Rec → Result Places ℕ → Result (List ℕ) RunFault
+of_placement limits m placement = result_flatten (result_map_both (λ pl. unless_far limits m pl (reach_fault pl m)) (λ n. fault.Line n) placement)
 
 abbrev pub external_line : ℕ × List ℕ → List ℕ
 external_line e = line (codes "E" ∷ decimal e.0 ∷ quoted e.1 ∷ [])

@@ -2,7 +2,8 @@
 use Rattle.std.specs.Prelude.{ℕ, ◌+◌, ◌*◌, ◌/◌, List, [], ◌∷◌, ◌++◌, length, flat_map, take, drop, Option}
 use Rattle.std.specs.List.{range_with_len}
 use Rattle.omf_image.specs.declared.run.Run.{Run}
-use Rattle.omf_cmd.specs.Relocated.{byte_text, place_text, run_lines}
+use Rattle.omf_cmd.specs.Relocated.{place_text, run_lines}
+use Rattle.omf_cmd.specs.Inner.Names.{byte_text}
 
 -- the place, each byte, and a line feed
 abbrev pub line_text : (ℕ → List ℕ) → ℕ → List ℕ → List ℕ

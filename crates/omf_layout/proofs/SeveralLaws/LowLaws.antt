@@ -16,7 +16,8 @@ use Rattle.omf_check.specs.Tables.{groups, entry}
 use Rattle.omf_check.specs.WellFormed.{recs}
 use Rattle.omf_placement.specs.declared.frame.Placed.{Placed}
 use Rattle.omf_placement.specs.Inner.Lowest.{lower_than}
-use Rattle.omf_placement.specs.Placement.{lower, lowest}
+use Rattle.omf_placement.specs.Placement.{lowest}
+use Rattle.omf_placement.specs.Inner.Names.{lower}
 use Rattle.omf_placement.proofs.GroupLaws.{if_low, if_high}
 use Rattle.omf_layout.proofs.TableLaws.{entry-at}
 use Rattle.omf_layout.specs.Several.Gathered.{of_name}

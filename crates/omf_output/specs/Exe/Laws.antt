@@ -6,7 +6,8 @@ use Rattle.omf_placement.specs.Placement.{Places}
 use Rattle.omf_reloc.specs.Image.{patched, laid, start}
 use Rattle.omf_reloc.specs.Reach.{Reaches}
 use Rattle.omf_reloc.specs.Laws.{AreInside}
-use Rattle.omf_reloc.specs.Offsets.{map_ok, outcome, outcome_at}
+use Rattle.omf_reloc.specs.Offsets.{outcome, outcome_at}
+use Rattle.std.specs.Result.{result_map_both}
 use Rattle.omf_reloc.specs.Plain.{PlainFixup, pieces}
 use Rattle.omf_output.specs.Exe.Moved.{Movers, AreMoversOf, moved}
 use Rattle.omf_output.specs.Exe.Loading.{Loaded, loaded}
@@ -21,7 +22,7 @@ use Rattle.omf_output.specs.Exe.Relocations.{moves_together, selector_moving, mo
 -- frame that moves. Where there is no such selector, as in a distance, it is the same. And it reaches at the one exactly where it reaches at the other.
 abbrev pub OutcomesMove : Type 0
 OutcomesMove = (k : ℕ) (mv : Movers) (pl : Places) (segment offset : ℕ) (f : ℕ × PlainFixup) → AreMoversOf mv pl → moves_together mv segment f ≡ true
-    → outcome_at (moved k mv pl) segment offset f ≡ map_ok (more k (selector_moving mv segment f)) (outcome_at pl segment offset f)
+    → outcome_at (moved k mv pl) segment offset f ≡ result_map_both (more k (selector_moving mv segment f)) (λ c. c) (outcome_at pl segment offset f)
 
 -- A data record whose fixups lie inside it, reach and move with the program: its data at the placement moved by k paragraphs are its data at the
 -- placement, with k added at each relocation word, where these are apart from the other locations.

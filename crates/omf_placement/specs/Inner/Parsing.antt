@@ -1,7 +1,8 @@
 -- The steps of parsing a placement text, and of resolving its draft.
 use Rattle.std.specs.Prelude.{ℕ, List, [], ◌∷◌, ◌++◌, filter_map, Option, Some, None, Result, ◌==◌}
 use Rattle.std.specs.List.{enumerate_from, slice_split}
-use Rattle.omf_placement.specs.PlacementText.{unresolved_group, Draft, ok_or_first, resolved_group}
+use Rattle.omf_placement.specs.PlacementText.{unresolved_group, Draft, resolved_group}
+use Rattle.omf_placement.specs.Inner.Names.{ok_or_first}
 use Rattle.omf_placement.specs.declared.entry.Entry.TheVariants as code
 use Rattle.omf_placement.specs.declared.entry.Entry as written
 use Rattle.omf_placement.specs.Entries.{Entry, Blank, SegmentEntry, GroupEntry, ExternalEntry}

@@ -1,14 +1,17 @@
 -- Names for parts of definitions, used in proofs and in contracts of private functions.
 
-use Rattle.std.specs.Prelude.{ℕ, List, [], Result, ◌≤◌, ◌⊎◌, ◌<◌, All, ◌+◌, ◌-◌, ◌%◌, ◌^◌, map, ◌∷◌, nat_lt, option_map, Option, ◌++◌, length, if◌then◌else◌}
+use Rattle.omf_placement.specs.declared.frame.Placed.{Placed}
+use Rattle.std.specs.Result.{result_map_both, result_err}
+use Rattle.std.specs.Option.{option_map_or}
+use Rattle.std.specs.Prelude.{ℕ, List, [], Result, ◌≤◌, ◌⊎◌, ◌<◌, All, ◌+◌, ◌-◌, ◌%◌, ◌^◌, map, ◌∷◌, nat_lt, option_map, Option, ◌++◌, length, if◌then◌else◌, ok_or, slice_get, option_and_then, Some, None, Err, ◌==◌, ◌&&◌, Bool, false}
 use Rattle.omf_image.specs.Parts.{Addition, part_size}
 use Rattle.omf_reloc.specs.Additions.{type_of_number, additions_at, part_of}
 use Rattle.omf_reloc.specs.declared.fault.Cause.{Cause}
 use Rattle.omf_reloc.specs.declared.fault.Cause.TheVariants as cause
 use Rattle.omf_placement.specs.declared.frame.Frame.{Frame}
-use Rattle.omf_reloc.specs.Offsets.{first_or, offsets, map_ok}
-use Rattle.omf_reloc.specs.Plain.{PlainFixup, plain_fixup}
-use Rattle.omf_records.specs.Values.{Subrecord, At, Rec, location_offset, location_type}
+use Rattle.omf_reloc.specs.Offsets.{offsets, outcome}
+use Rattle.omf_reloc.specs.Plain.{PlainFixup, plain_fixup, Piece, fixups_of_data}
+use Rattle.omf_records.specs.Values.{Subrecord, At, Rec, location_offset, location_type, DataItem}
 use Rattle.omf_frame.specs.Bytes.{with_before}
 use Rattle.omf_reloc.specs.declared.fault.ReachFault.{ReachFault}
 use Rattle.omf_reloc.specs.declared.fault.ReachFault.TheVariants as fault
@@ -23,6 +26,25 @@ use Rattle.omf_check.specs.WellFormed.{IsAccepted}
 use Rattle.omf_records.specs.Location.{location, row_of}
 use Rattle.omf_records.specs.declared.location.LocationType.{LocationType}
 use Rattle.omf_image.specs.declared.part.Part.{Part}
+
+abbrev pub map_ok : {A B : Type 0} → (A → B) → Result A Cause → Result B Cause
+map_ok f r = result_map_both f (λ c. c) r
+
+-- the first offset, or this cause if there is none
+abbrev pub first_or : Cause → List ℕ → Result ℕ Cause
+first_or c os = ok_or (slice_get os 0) c
+
+-- with the frame and the target's address, or with cause Target
+abbrev pub if_named : {A : Type 0} → (Frame → ℕ → Result A Cause) → Option (Frame × Placed) → Result A Cause
+if_named f found = option_map_or (λ x. f x.0 x.1.address) found (Err cause.Target)
+
+-- whether a segment has this place: its address, its frame's base and its selector
+abbrev pub lies_at : Option Placed → Placed → Bool
+lies_at place q = option_map_or (λ p. (p.address == q.address) && (p.frame.base == q.frame.base) && (p.frame.selector == q.frame.selector)) place false
+
+-- why each fixup of a data record does not reach
+abbrev pub causes_at : Places → Option DataItem → List Piece → List (Option Cause)
+causes_at pl found after = option_map_or (λ d. map (λ f. result_err (outcome pl d f)) (fixups_of_data after)) found []
 
 abbrev pub additions : ℕ → ℕ → ℕ → List Addition
 additions t offset selector = additions_at (type_of_number t) offset selector

@@ -1,6 +1,6 @@
 use Rattle.std.proofs.Common.{◌≡◌, ◌*◌, ◌++◌, take, drop}
 use Rattle.std.specs.Prelude.{flat_map}
-use Rattle.omf_cmd.specs.Relocated.{byte_text}
+use Rattle.omf_cmd.specs.Inner.Names.{byte_text}
 use Rattle.omf_cmd.proofs.digits.write_bytes.Given as goal
 
 -- the bytes so far are written, and the others are still to come

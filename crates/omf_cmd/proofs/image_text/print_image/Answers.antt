@@ -2,7 +2,7 @@ use Rattle.std.proofs.Common.{◌∙◌}
 use Rattle.std.proofs.lemmas.Result.{err_from_is_err_and}
 use Rattle.omf_image.specs.Inner.Joined.{runs_of}
 use Rattle.omf_image.specs.Overlay.{byte_at}
-use Rattle.omf_cmd.specs.Relocated.{start_line}
+use Rattle.omf_cmd.specs.Inner.Names.{start_line}
 use Rattle.omf_cmd.specs.Inner.RunLines.{segments_text}
 use Rattle.omf_cmd.proofs.Pieces.{begun_empty, cause_later, kept_back, part_printed, passed_on, rest_printed, stopped}
 use Rattle.omf_cmd.proofs.image_text.print_image.Goals as goal

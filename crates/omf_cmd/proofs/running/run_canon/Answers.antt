@@ -1,6 +1,6 @@
 use Rattle.std.proofs.Common.{[]}
 use Rattle.std.proofs.lemmas.Result.{err_from_is_err_and}
-use Rattle.omf_cmd.specs.Listing.{canonical_text}
+use Rattle.omf_cmd.specs.Inner.Names.{canonical_text}
 use Rattle.omf_cmd.specs.Runs.{Prints}
 use Rattle.omf_cmd.proofs.RunLaws.{none_printed, not_reported, reported}
 use Rattle.omf_cmd.proofs.running.run_canon.Goals as goal
