@@ -9,4 +9,5 @@ pub mod Passing
 pub mod Points
 pub mod Verdict
 pub mod Walking
+pub mod Plain
 pub mod Names

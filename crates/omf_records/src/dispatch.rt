@@ -1,7 +1,8 @@
 //! Reading a record's contents by its type.
 ghost use Rattle.std.specs.Prelude.{◌≡◌, ◌≤◌, length, IfOk, IfSome, Some, Ok, is_ok, is_some, true, IsTrue};
 ghost use Rattle.omf_frame.specs.Framing.{is_taken};
-ghost use Rattle.omf_frame.specs.Types.{type_of};
+ghost use Rattle.omf_frame.specs.Bytes.{is_one_of};
+ghost use Rattle.omf_frame.specs.Types.{ledata, type_of};
 ghost use Rattle.omf_records.specs.Inner.Seen.{contents_seen, kind_seen, map_ok, type_byte};
 ghost use Rattle.omf_records.specs.Inner.Reading.{read_body};
 ghost use Rattle.omf_records.specs.Inner.RecordReaders.{whole_of};
@@ -11,17 +12,17 @@ ghost use Rattle.omf_records.specs.Entries.{subrecord};
 ghost use Rattle.omf_records.specs.Inner.Front.{AreInFront};
 ghost use Rattle.omf_records.specs.Inner.Unread.{fixups_read};
 ghost use Rattle.omf_records.specs.Valued.{is_fixupp};
-ghost use Rattle.omf_records.specs.Values.{is_wide};
+ghost use Rattle.omf_records.specs.Values.{Plain, is_wide};
 
 use crate::at::LayoutFault;
 use crate::here::Here;
-use crate::record::Rec;
+use crate::record::{PlainData, Rec};
 use crate::subrecord::Subrecord;
 use crate::unread::Unread;
 use crate::viewing::{
     carried_at, comment_at, communals_at, externs_at, fixups_at, group_at, header_at, iterated_at,
     local_communals_at, local_externs_at, local_names_at, mod_end_at, names_at, plain_at,
-    publics_at, segment_at,
+    plain_data_at, publics_at, segment_at,
 };
 use omf_frame::{RawRecord, RecordType, Width};
 
@@ -117,6 +118,25 @@ pub fn unread_fixups<'a>(raw: &RawRecord<'a>) -> Option<Unread<Subrecord<'a>>>
 {
     if is_fixupp(raw.kind) {
         Some(Unread::new(Here::start(raw.kind, raw.body)))
+    } else {
+        None
+    }
+}
+
+fn is_ledata(kind: u8) -> bool
+    ensures { result ≡ is_one_of ledata kind }
+{
+    kind == 0xA0 || kind == 0xA1
+}
+
+/// The contents of an LEDATA, or their first layout fault. `None` for a record of another type.
+pub fn plain_data<'a>(raw: &RawRecord<'a>) -> Option<Result<PlainData<'a>, LayoutFault>>
+    requires { length raw.now.body.now ≤ 65534 }
+    ensures read { IfSome result (λ r. map_ok Plain r ≡ read_body raw.now.kind raw.now.body.now) }
+    ensures given { is_some result ≡ is_one_of ledata raw.now.kind }
+{
+    if is_ledata(raw.kind) {
+        Some(plain_data_at(Here::start(raw.kind, raw.body)))
     } else {
         None
     }

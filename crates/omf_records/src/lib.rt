@@ -3,7 +3,7 @@
 //! `view` decodes a record's contents and borrows from them, or returns their first layout fault. `put_rec` writes contents in
 //! their shortest encoding. The items that a record repeats are an iterator, `Items`, which gives each with its offset in the
 //! record: match a `Rec` by reference, and iterate over `items.iter()`. `view_known` decodes contents that were checked before: it
-//! does not read the subrecords of a FIXUPP.
+//! does not read the subrecords of a FIXUPP. `unread_fixups` and `plain_data` decode a FIXUPP and an LEDATA without a `Rec`.
 //!
 //! ```
 //! let raw = RawRecord { kind: 0x96, body: b"\x00\x01T", number: 1, start: 6 };
@@ -45,14 +45,14 @@ mod writing;
 pub use acbp::{Acbp, Alignment, Combination};
 pub use at::{At, LayoutFault};
 pub use bits::{FixByte, Locat, ThreadByte};
-pub use dispatch::{unread_fixups, view, view_known};
+pub use dispatch::{plain_data, unread_fixups, view, view_known};
 pub use entry::{Communal, CommunalSize, Extern, Member, Public};
 pub use fixup::{FIXUP_LIMIT, put_fixup, put_reference};
 pub use here::Here;
 pub use item::{Cursor, Item, Items};
 pub use location::LocationType;
 pub use method::{FrameCode, Kind};
-pub use record::{Blocks, Rec, Segment};
+pub use record::{Blocks, PlainData, Rec, Segment};
 pub use subrecord::{Part, Reference, Subrecord};
 pub use unread::Unread;
 pub use writing::put_rec;

@@ -32,6 +32,22 @@ impl Model for Segment {
     ghost view = { λ s. record { attribute = s.attribute; absolute = s.absolute; size = s.size; name = s.name; class = s.class; overlay = s.overlay } };
 }
 
+/// The contents of an LEDATA: data at an offset in a segment, in bytes (TIS OMF 1.1, "LEDATA").
+#[derive(Drop)]
+pub struct PlainData<'a> {
+    pub segment: At<Index>,
+    pub offset: At<u32>,
+    pub bytes: &'a [u8],
+}
+
+impl<'a> Model for PlainData<'a> {
+    ghost use Rattle.omf_records.specs.Values.{DataItem};
+
+    ghost Value = { DataItem };
+
+    ghost view = { λ d. record { segment = d.segment; offset = d.offset; bytes = d.bytes.now } };
+}
+
 /// The repeated blocks of an LIDATA as bytes, and the width of their repeat counts.
 #[derive(Clone, Copy, Debug, Drop, PartialEq, Eq)]
 pub struct Blocks<'a> {

@@ -4,14 +4,14 @@ ghost use Rattle.omf_records.specs.Inner.Names.{has_start};
 ghost use Rattle.omf_records.specs.Inner.Gives.{Gives};
 ghost use Rattle.omf_records.specs.Inner.Seen.{contents_seen, kind_seen, odd_if, width_if, map_ok};
 ghost use Rattle.omf_records.specs.Values.{alignment};
-ghost use Rattle.omf_records.specs.Inner.RecordReaders.{header_whole, comment_whole, names_whole, attribute_reader, absolute_reader, size_reader, segment_whole, group_whole, externs_whole, base_reader, publics_whole, communals_whole, plain_whole, iterated_whole, fixups_whole, start_reader, mod_end_whole, carried_whole};
+ghost use Rattle.omf_records.specs.Inner.RecordReaders.{header_whole, comment_whole, names_whole, attribute_reader, absolute_reader, size_reader, segment_whole, group_whole, externs_whole, base_reader, publics_whole, communals_whole, data_whole, plain_whole, iterated_whole, fixups_whole, start_reader, mod_end_whole, carried_whole};
 
 use crate::acbp::Acbp;
 use crate::at::{At, LayoutFault};
 use crate::field::{byte, index, index_here, le16, name, number, number_here};
 use crate::here::Here;
 use crate::item::Items;
-use crate::record::{Blocks, Rec, Segment};
+use crate::record::{Blocks, PlainData, Rec, Segment};
 use crate::subrecord::{Reference, read_reference};
 use omf_frame::{Index, Reason};
 
@@ -203,21 +203,36 @@ pub(crate) fn local_communals_at<'a>(here: Here<'a>) -> Result<Rec<'a>, LayoutFa
     Ok(Rec::LocalCommunals(Items::new(here)?))
 }
 
+/// Reads the contents of an LEDATA.
+#[inline(always)]
+pub(crate) fn plain_data_at<'a>(here: Here<'a>) -> Result<PlainData<'a>, LayoutFault>
+    ensures { result ≡ (data_whole here.entry.wide).read here.entry.within here.entry.bytes.now }
+{
+    let (segment, here) = index_here(here)?;
+    let (offset, here) = number_here(here)?;
+    let bytes = here.bytes();
+    Ok(PlainData {
+        segment,
+        offset,
+        bytes,
+    })
+}
+
 /// LEDATA.
 pub(crate) fn plain_at<'a>(here: Here<'a>) -> Result<Rec<'a>, LayoutFault>
     ensures contents { map_ok contents_seen result ≡ (plain_whole here.entry.wide).read here.entry.within here.entry.bytes.now }
     ensures kind { IfOk result (λ r. kind_seen r ≡ odd_if (width_if here.entry.wide) 0xA0) }
 {
     let width = here.width();
-    let (segment, here) = index_here(here)?;
-    let (offset, here) = number_here(here)?;
-    let data = here.bytes();
-    Ok(Rec::Plain {
-        width,
-        segment,
-        offset,
-        data,
-    })
+    match plain_data_at(here) {
+        Ok(plain) => Ok(Rec::Plain {
+            width,
+            segment: plain.segment,
+            offset: plain.offset,
+            data: plain.bytes,
+        }),
+        Err(fault) => Err(fault),
+    }
 }
 
 /// LIDATA.

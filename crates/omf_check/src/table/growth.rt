@@ -1,22 +1,27 @@
 //! Checking a record, and keeping what it defines.
 
-ghost use Rattle.std.specs.Prelude.{◌≡◌, ◌≤◌, ◌<◌, ◌+◌, ◌^◌, ◌++◌, length, OnOk, IsTrue, IfErr, None};
+ghost use Rattle.std.specs.Prelude.{◌≡◌, ◌≤◌, ◌<◌, ◌+◌, ◌^◌, ◌++◌, length, OnOk, IsTrue, IfErr, Ok, None, Some};
 ghost use Rattle.omf_check.specs.Inner.Names.{segment_info};
 ghost use Rattle.omf_check.specs.Rules.{item_limit};
 ghost use Rattle.omf_image.specs.Limits.{profile_limits};
 ghost use Rattle.omf_check.specs.Inner.Kept.{starts, alike, with_record, with_contents, IsBounded};
 ghost use Rattle.omf_check.specs.Inner.Judging.{IsNoFixupp, raw_fault, rec_of};
 ghost use Rattle.omf_check.specs.Inner.Passing.{refused_at, IsStopped};
+ghost use Rattle.omf_check.specs.Inner.Plain.{plain_fault};
+ghost use Rattle.omf_check.specs.declared.last_data.LastData.TheVariants.{Plain};
 ghost use Rattle.omf_frame.specs.Framing.{is_taken};
 ghost use Rattle.omf_records.specs.Inner.Seen.{contents_seen, kind_seen, odd_if, rec_seen};
 
 use crate::fault::CheckFault;
 use crate::last_data::LastData;
 use crate::profile::Profile;
+use crate::rule::lesser;
 use crate::segment::SegInfo;
 use crate::table::Tables;
 use omf_frame::{Place, RawRecord, Width};
-use omf_records::{Item, Items, LayoutFault, Rec, Segment, unread_fixups, view};
+use omf_records::{
+    Item, Items, LayoutFault, PlainData, Rec, Segment, plain_data, unread_fixups, view,
+};
 use std::alloc::AllocError;
 
 /// The segment that a SEGDEF defines.
@@ -136,6 +141,28 @@ impl Tables {
         self.add_contents(at, rec)
     }
 
+    /// Checks an LEDATA, and keeps the number of its data bytes if it has no fault. A fault of its layout precedes all others.
+    fn take_plain(&mut self, read: Result<PlainData<'_>, LayoutFault>) -> Option<LayoutFault>
+        requires { self.old.items ≤ item_limit }
+        ensures found { result ≡ plain_fault self.old read.entry }
+        ensures kept { (d : _) → read.entry ≡ Ok d → result ≡ None → self.new ≡ record self.old { items = self.old.items + 1; last = Some (Plain (length d.bytes)) } }
+    {
+        let plain = match read {
+            Ok(plain) => plain,
+            Err(fault) => return Some(fault),
+        };
+        let size = plain.bytes.len();
+        let fault = lesser(
+            self.item_fault(),
+            self.data_fault(&plain.segment, &plain.offset, size),
+        );
+        if fault.is_none() {
+            self.items += 1;
+            self.last = Some(LastData::Plain(size));
+        }
+        fault
+    }
+
     /// Checks the next record, and keeps what it defines.
     pub fn take(&mut self, profile: Profile, raw: RawRecord<'_>) -> Result<(), CheckFault>
         requires taken { IsTrue (is_taken raw.kind) }
@@ -149,6 +176,12 @@ impl Tables {
     {
         if let Some(subrecords) = unread_fixups(&raw) {
             return match self.take_fixups(subrecords) {
+                Some(fault) => Err(refused(raw.number, raw.start, &fault)),
+                None => Ok(()),
+            };
+        }
+        if let Some(read) = plain_data(&raw) {
+            return match self.take_plain(read) {
                 Some(fault) => Err(refused(raw.number, raw.start, &fault)),
                 None => Ok(()),
             };

@@ -71,7 +71,12 @@ impl Tables {
     }
 
     /// Rule: the segment exists, and `size` bytes of data from `offset` on are within it.
-    fn data_fault(&self, segment: &At<Index>, offset: &At<u32>, size: usize) -> Option<LayoutFault>
+    pub(super) fn data_fault(
+        &self,
+        segment: &At<Index>,
+        offset: &At<u32>,
+        size: usize,
+    ) -> Option<LayoutFault>
         ensures { result ≡ data_fault self.now segment.now offset.now size }
     {
         let length = self.segment_length(segment.item.0);
@@ -170,7 +175,7 @@ impl Tables {
     }
 
     /// Rule: the module has room for one more item. A fault is at the record's start.
-    fn item_fault(&self) -> Option<LayoutFault>
+    pub(super) fn item_fault(&self) -> Option<LayoutFault>
         ensures { result ≡ room_fault (item_limit - self.now.items) (0 ∷ []) }
     {
         fault_unless(self.items < ITEM_LIMIT, 0, Reason::TooMany)
