@@ -1,14 +1,17 @@
 -- A record that is judged where a reader shows it is judged as one that was fed.
-use Rattle.std.proofs.Common.{◌≡◌, ◌∙◌, ℕ, ◌+◌, ◌-◌, ◌^◌, ◌<◌, ◌≤◌, true, false, List, [], ◌∷◌, ◌++◌, refl, sym, ap, subst, arith, append_assoc, length, length-append, take}
-use Rattle.std.specs.Prelude.{◌==◌, ◌&&◌, ◌||◌, not, cond, flat_map, IsTrue, Option, None}
+use Rattle.std.proofs.Common.{◌≡◌, ◌∙◌, ℕ, ◌+◌, ◌-◌, ◌^◌, ◌<◌, ◌≤◌, true, false, List, [], ◌∷◌, ◌++◌, Result, Ok, Err, refl, sym, ap, subst, arith, append_assoc, length, length-append, take, drop}
+use Rattle.std.specs.Prelude.{◌==◌, ◌&&◌, ◌||◌, not, cond, flat_map, IsTrue, Option, Some, None, IfOk, IfErr}
 use Rattle.std.specs.Io.KnownBytes.{Consumes, Appends}
-use Rattle.std.proofs.KnownBytes.{Appends-nil, Appends-trans}
-use Rattle.std.proofs.lemmas.List.{append-nil, length-take, take_all}
+use Rattle.std.specs.Io.{StartsWith}
+use Rattle.std.proofs.KnownBytes.{Appends-nil, Appends-trans, starts_with_rest}
+use Rattle.std.proofs.lemmas.List.{append-nil, append_cancel_left, length-take, take_all}
+use Rattle.std.proofs.Math.Seq.{take-append_seam}
 use Rattle.omf_frame.specs.Bytes.{AreBytes}
 use Rattle.omf_frame.specs.Device.{Device, Shows}
 use Rattle.omf_frame.specs.Framer.{Held, IsBetween, passed, with_bytes, begins_record}
 use Rattle.omf_frame.specs.Framer.{next_bytes as next_of, Takes as FramerTakes}
-use Rattle.omf_frame.specs.Framing.{Raw, raw_bytes, IsRecord, present, front_record, frame_fault, standing_fault, is_nonempty, is_taken, record_len}
+use Rattle.omf_frame.specs.Framing.{Raw, raw_bytes, IsRecord, present, front_record, frame_fault, standing_fault, is_taken, record_len}
+use Rattle.omf_frame.specs.Inner.Names.{is_nonempty}
 use Rattle.omf_frame.proofs.Growing.{present_is}
 use Rattle.omf_frame.proofs.Standing.{present_twice}
 use Rattle.omf_records.specs.Inner.Steps.{AreBytes-take}
@@ -151,3 +154,71 @@ module _ (profile : Profile) (taken : List ℕ) (size : ℕ) (old between had ha
   pub size_low : length taken + size < 2 ^ 37
   size_low =
       let a = m.counted in let l = length-append taken m.passed in let b = taken_bound profile held (taken ++ m.passed) kept m.passing in omega (arith, a, l, b)
+
+-- ---- a reader whose bytes are taken at once, after they were judged
+
+-- the bytes that are left begin after those that were judged
+front_is : (shown front left : List ℕ) → shown ≡ front ++ left → take (length shown - length left) shown ≡ front
+front_is shown front left e =
+    let len : length shown - length left ≡ length front = let a = ap length e in let l = length-append front left in omega (arith, a, l) in
+    ap (λ n. take n shown) len ∙ ap (take (length front)) e ∙ take-append_seam front left
+
+front_longer : (xs front rest : List ℕ) → StartsWith xs front → StartsWith (xs ++ rest) front
+front_longer xs front rest h =
+    let later = drop (length front) xs in
+    let e : xs ++ rest ≡ front ++ (later ++ rest) = ap (λ z. z ++ rest) (starts_with_rest xs front h) ∙ append_assoc front later rest in
+    ap (take (length front)) e ∙ take-append_seam front (later ++ rest)
+
+module _ (profile : Profile) (taken shown left : List ℕ) (had has : Option (List ℕ)) (held : Held) (kept : Kept) where
+  -- the bytes that were judged, and the record that was refused
+  failed_parts : (fault : CheckFault) (f : FailsAhead profile taken (Some shown) (Some left) fault) → shown ≡ (f.passed ++ take (record_len f.ahead) f.ahead) ++ left
+  failed_parts fault f = by f.between f.consumed f.stops.consumed
+    where
+      by : (between : Option (List ℕ)) → Consumes (Some shown) between f.passed → Consumes between (Some left) (take (record_len f.ahead) f.ahead) → shown ≡ (f.passed ++ take (record_len f.ahead) f.ahead) ++ left
+      by None c k = absurd c
+      by (Some b) c k = consumes_more (Some shown) (Some b) (Some left) f.passed (take (record_len f.ahead) f.ahead) c k
+
+  pub left_fits : (r : Result ℕ CheckFault) → IfOk r (λ size. PassesAhead profile taken size (Some shown) (Some left) had has held kept) → IfErr r (FailsAhead profile taken (Some shown) (Some left)) → length left ≤ length shown
+  left_fits (Ok size) h f = let a = ap length h.consumed in let l = length-append h.passed left in omega (arith, a, l)
+  left_fits (Err fault) h f =
+      let front = f.passed ++ take (record_len f.ahead) f.ahead in
+      let a = ap length (failed_parts fault f) in let l = length-append front left in omega (arith, a, l)
+
+  module _ (old new : Option (List ℕ)) (shows : Shows old shown) (took : Consumes old new (take (length shown - length left) shown)) where
+    pub shown_passes : (r : Result ℕ CheckFault) → IfOk r (λ size. PassesAhead profile taken size (Some shown) (Some left) had has held kept) → IfOk r (λ size. PassesAhead profile taken size old new had has held kept)
+    shown_passes (Ok size) h = record {
+      passed = h.passed;
+      passing = h.passing;
+      counted = h.counted;
+      consumed = subst (λ (xs : List ℕ). Consumes old new xs) (front_is shown h.passed left h.consumed) took;
+      grown = h.grown;
+    }
+    shown_passes (Err fault) h = tt
+
+    pub shown_fails : (r : Result ℕ CheckFault) → IfErr r (FailsAhead profile taken (Some shown) (Some left)) → IfErr r (FailsAhead profile taken old new)
+    shown_fails (Ok size) f = tt
+    shown_fails (Err fault) f =
+        let last = take (record_len f.ahead) f.ahead in
+        let b = from_refused f.passed f.ahead last old new f.between shows (subst (λ (xs : List ℕ). Consumes old new xs) (front_is shown (f.passed ++ last) left (failed_parts fault f)) took) f.consumed f.stops.shows f.stops.consumed in
+        record {
+          passed = f.passed;
+          held = f.held;
+          kept = f.kept;
+          between = b.0;
+          ahead = f.ahead;
+          passing = f.passing;
+          consumed = b.1;
+          stops = record { shows = b.2; running = f.stops.running; low = f.stops.low; consumed = b.3; fails = f.stops.fails };
+        }
+      where
+        -- what the reader has from the refused record on
+        from_refused : (passed ahead last : List ℕ) (old new between : Option (List ℕ)) → Shows old shown → Consumes old new (passed ++ last) → Consumes (Some shown) between passed → Shows between ahead → Consumes between (Some left) last
+            → (o : Option (List ℕ)) × Consumes old o passed × Shows o ahead × Consumes o new last
+        from_refused passed ahead last None new between s c a h k = (None, tt, tt, tt)
+        from_refused passed ahead last (Some xs) None between s c a h k = absurd c
+        from_refused passed ahead last (Some xs) (Some ys) None s c a h k = absurd a
+        from_refused passed ahead last (Some xs) (Some ys) (Some b) s c a h k =
+            let more = drop (length shown) xs in
+            let one : xs ≡ passed ++ (b ++ more) = starts_with_rest xs shown s ∙ ap (λ z. z ++ more) a ∙ append_assoc passed b more in
+            let two : xs ≡ passed ++ (last ++ ys) = c ∙ append_assoc passed last ys in
+            (Some (b ++ more), one, front_longer b ahead more h, append_cancel_left passed (b ++ more) (last ++ ys) (sym one ∙ two))

@@ -18,7 +18,7 @@ use crate::keeping::Keeper;
 use crate::profile::Profile;
 use crate::session::framing_fault;
 use crate::table::Tables;
-use omf_frame::{Fed, Framer, RawRecord, Source, pull_piece};
+use omf_frame::{Bytes, Fed, Framer, RawRecord, Source, pull_piece};
 use std::alloc::Global;
 
 /// The records taken from a reader: where the framer is after them, what later records need of them, and their size in bytes.
@@ -123,8 +123,8 @@ fn step_ahead<S: Source, K: Keeper>(
     Ok(size)
 }
 
-/// Judges all records that the reader shows whole, up to the first that is refused. Returns their size in bytes.
-fn take_ahead<S: Source, K: Keeper>(
+/// Judges all records that the reader shows whole, up to the first that is refused, one by one. Returns their size in bytes.
+fn pass_ahead<S: Source, K: Keeper>(
     framer: &mut Framer,
     tables: &mut Tables,
     keeper: &mut K,
@@ -145,6 +145,29 @@ fn take_ahead<S: Source, K: Keeper>(
         }
         size += count;
     }
+}
+
+/// Judges all records that the reader shows whole, up to the first that is refused, and takes them from the reader at once. Returns their
+/// size in bytes.
+fn take_ahead<S: Source, K: Keeper>(
+    framer: &mut Framer,
+    tables: &mut Tables,
+    keeper: &mut K,
+    profile: Profile,
+    reader: &mut S,
+) -> Result<usize, CheckFault>
+    requires { (taken : List ℕ) × IsPassing profile framer.old taken tables.old }
+    ensures moves { (taken : List ℕ) → IsPassing profile framer.old taken tables.old → IfOk result (λ size. PassesAhead profile taken size (S.seen reader.old).bytes (S.seen reader.new).bytes (K.kept keeper.old) (K.kept keeper.new) framer.new tables.new) }
+    ensures cause { (taken : List ℕ) → IsPassing profile framer.old taken tables.old → IfErr result (FailsAhead profile taken (S.seen reader.old).bytes (S.seen reader.new).bytes) }
+    ensures failures { (S.seen reader.new).failures ≡ (S.seen reader.old).failures }
+    ensures breaks { (S.seen reader.new).breaks ≡ (S.seen reader.old).breaks }
+{
+    let shown = reader.ahead();
+    let mut bytes = Bytes::new(shown);
+    let passed = pass_ahead(framer, tables, keeper, profile, &mut bytes);
+    let size = shown.len() - bytes.ahead().len();
+    reader.consume(size);
+    passed
 }
 
 /// Takes the module that the input begins with, up to its end or the end of the input, and judges each record. It reads as far as

@@ -1,49 +1,42 @@
-use Rattle.std.proofs.Common.{◌∙◌, ◌++◌, ◌+◌, refl, arith}
-use Rattle.std.proofs.lemmas.Result.{err_from_is_err_and}
-use Rattle.omf_check.proofs.AheadLaws.{none_ahead, joined, joined_none, stopped_later, size_low}
+use Rattle.std.proofs.Common.{◌≡◌, ℕ, ◌-◌, List, Some, ap, sym, subst, length, take}
+use Rattle.std.specs.Prelude.{IfOk, IfErr}
+use Rattle.std.specs.Io.KnownBytes.{Consumes}
+use Rattle.omf_frame.specs.Device.{Device}
+use Rattle.omf_check.specs.Inner.Ahead.{PassesAhead, FailsAhead}
+use Rattle.omf_check.proofs.AheadLaws.{left_fits, shown_passes, shown_fails}
 use Rattle.omf_check.proofs.taking.take_ahead.Goals as goal
 
-pub loop-count-init : goal.loop-count-init
-loop-count-init g c = record {
-  moved = λ taken p. none_ahead c.args.profile c.args.framer.now taken c.args.tables.now p (g.S.Source.seen c.args.reader.now).bytes (g.K.Keeper.kept c.args.keeper.now);
-  failures = refl;
-  breaks = refl;
-}
+-- what holds of the bytes of a source holds of those shown and of those left
+of_shown : (P : List ℕ → List ℕ → Type 0) (first shown left last : List ℕ) → Some first ≡ Some shown → left ≡ last → P first last → P shown left
+of_shown P first shown left last a b h =
+    let e : first ≡ shown = cc in
+    subst (λ (x : List ℕ). P x left) e (subst (λ (y : List ℕ). P first y) (sym b) h)
 
-pub step_ahead-requires : goal.step_ahead-requires
-step_ahead-requires g c = let m = (c.loop-count.invariant.moved c.requires.0 c.requires.1) in (c.requires.0 ++ m.passed, m.passing)
+pub overflow_sub-size : goal.overflow_sub-size
+overflow_sub-size g c =
+    let first = ap (λ (d : Device). d.bytes) c.new-bytes.ensures in
+    left_fits c.args.profile c.requires.0 c.ahead-shown.result.now c.ahead.result.now (g.K.Keeper.kept c.args.keeper.now) (g.K.Keeper.kept c.pass_ahead-passed.new.keeper) c.pass_ahead-passed.new.framer c.pass_ahead-passed.new.tables c.pass_ahead-passed.result
+    (of_shown (λ (x y : List ℕ). IfOk c.pass_ahead-passed.result (λ size. PassesAhead c.args.profile c.requires.0 size (Some x) (Some y) (g.K.Keeper.kept c.args.keeper.now) (g.K.Keeper.kept c.pass_ahead-passed.new.keeper) c.pass_ahead-passed.new.framer c.pass_ahead-passed.new.tables))
+    c.new-bytes.result.left.now c.ahead-shown.result.now c.ahead.result.now c.pass_ahead-passed.new.reader.left.now first c.ahead.ensures.all (c.pass_ahead-passed.ensures.moves c.requires.0 c.requires.1))
+    (of_shown (λ (x y : List ℕ). IfErr c.pass_ahead-passed.result (FailsAhead c.args.profile c.requires.0 (Some x) (Some y)))
+    c.new-bytes.result.left.now c.ahead-shown.result.now c.ahead.result.now c.pass_ahead-passed.new.reader.left.now first c.ahead.ensures.all (c.pass_ahead-passed.ensures.cause c.requires.0 c.requires.1))
 
-pub returns-in_err-count-clause-cause : goal.returns-in_err-count-clause-cause
-returns-in_err-count-clause-cause g c = λ taken p.
-    let m = (c.loop-count.invariant.moved taken p) in
-    let e = err_from_is_err_and c.from_residual.result c.from_residual.ensures.1 in
-    rw (e.1, e.2) (
-    stopped_later c.args.profile taken c.loop-count.size (g.S.Source.seen c.args.reader.now).bytes (g.S.Source.seen c.loop-count.reader).bytes (g.K.Keeper.kept c.args.keeper.now) (g.K.Keeper.kept c.loop-count.keeper) c.loop-count.framer c.loop-count.tables m (g.S.Source.shown c.loop-count.reader) (g.S.Source.seen c.step_ahead.new.reader).bytes c.in_err-count.field-0.0 (c.in_err-count.ensures.cause (taken ++ m.passed) m.passing))
+pub returns-clause-moves : goal.returns-clause-moves
+returns-clause-moves g c = λ taken p.
+    let first = ap (λ (d : Device). d.bytes) c.new-bytes.ensures in
+    shown_passes c.args.profile taken c.ahead-shown.result.now c.ahead.result.now (g.K.Keeper.kept c.args.keeper.now) (g.K.Keeper.kept c.pass_ahead-passed.new.keeper) c.pass_ahead-passed.new.framer c.pass_ahead-passed.new.tables
+    (g.S.Source.seen c.args.reader.now).bytes (g.S.Source.seen c.consume.new.self).bytes c.ahead-shown.ensures.front
+    (subst (λ (x : List ℕ). Consumes (g.S.Source.seen c.args.reader.now).bytes (g.S.Source.seen c.consume.new.self).bytes (take (length c.ahead-shown.result.now - length c.ahead.result.now) x)) (sym c.ahead-shown.ensures.all) c.consume.ensures.bytes)
+    c.pass_ahead-passed.result
+    (of_shown (λ (x y : List ℕ). IfOk c.pass_ahead-passed.result (λ size. PassesAhead c.args.profile taken size (Some x) (Some y) (g.K.Keeper.kept c.args.keeper.now) (g.K.Keeper.kept c.pass_ahead-passed.new.keeper) c.pass_ahead-passed.new.framer c.pass_ahead-passed.new.tables))
+    c.new-bytes.result.left.now c.ahead-shown.result.now c.ahead.result.now c.pass_ahead-passed.new.reader.left.now first c.ahead.ensures.all (c.pass_ahead-passed.ensures.moves taken p))
 
-pub returns-then-count-eq0-clause-moves : goal.returns-then-count-eq0-clause-moves
-returns-then-count-eq0-clause-moves g c = λ taken p.
-    let m = (c.loop-count.invariant.moved taken p) in
-    joined_none c.args.profile taken c.loop-count.size (g.S.Source.seen c.args.reader.now).bytes (g.S.Source.seen c.loop-count.reader).bytes (g.K.Keeper.kept c.args.keeper.now) (g.K.Keeper.kept c.loop-count.keeper) c.loop-count.framer c.loop-count.tables m c.in_ok-count.count (g.S.Source.seen c.step_ahead.new.reader).bytes (g.K.Keeper.kept c.step_ahead.new.keeper) c.step_ahead.new.framer c.step_ahead.new.tables c.if-count-eq0.true (c.in_ok-count.ensures.moves (taken ++ m.passed) m.passing)
-
-pub overflow_add-size : goal.overflow_add-size
-overflow_add-size g c =
-    let m = (c.loop-count.invariant.moved c.requires.0 c.requires.1) in
-    let q = joined c.args.profile c.requires.0 c.loop-count.size (g.S.Source.seen c.args.reader.now).bytes (g.S.Source.seen c.loop-count.reader).bytes (g.K.Keeper.kept c.args.keeper.now) (g.K.Keeper.kept c.loop-count.keeper) c.loop-count.framer c.loop-count.tables m c.in_ok-count.count (g.S.Source.seen c.step_ahead.new.reader).bytes (g.K.Keeper.kept c.step_ahead.new.keeper) c.step_ahead.new.framer c.step_ahead.new.tables (c.in_ok-count.ensures.moves (c.requires.0 ++ m.passed) m.passing) in
-    let low = size_low c.args.profile c.requires.0 (c.loop-count.size + c.in_ok-count.count) (g.S.Source.seen c.args.reader.now).bytes (g.S.Source.seen c.step_ahead.new.reader).bytes (g.K.Keeper.kept c.args.keeper.now) (g.K.Keeper.kept c.step_ahead.new.keeper) c.step_ahead.new.framer c.step_ahead.new.tables q in
-    omega (arith, low)
-
-pub loop-count-smaller : goal.loop-count-smaller
-loop-count-smaller g c =
-    let m = (c.loop-count.invariant.moved c.requires.0 c.requires.1) in
-    let q = joined c.args.profile c.requires.0 c.loop-count.size (g.S.Source.seen c.args.reader.now).bytes (g.S.Source.seen c.loop-count.reader).bytes (g.K.Keeper.kept c.args.keeper.now) (g.K.Keeper.kept c.loop-count.keeper) c.loop-count.framer c.loop-count.tables m c.in_ok-count.count (g.S.Source.seen c.step_ahead.new.reader).bytes (g.K.Keeper.kept c.step_ahead.new.keeper) c.step_ahead.new.framer c.step_ahead.new.tables (c.in_ok-count.ensures.moves (c.requires.0 ++ m.passed) m.passing) in
-    let low = size_low c.args.profile c.requires.0 (c.loop-count.size + c.in_ok-count.count) (g.S.Source.seen c.args.reader.now).bytes (g.S.Source.seen c.step_ahead.new.reader).bytes (g.K.Keeper.kept c.args.keeper.now) (g.K.Keeper.kept c.step_ahead.new.keeper) c.step_ahead.new.framer c.step_ahead.new.tables q in
-    omega (arith, low, c.if-count-eq0.false)
-
-pub loop-count-preserved : goal.loop-count-preserved
-loop-count-preserved g c = record {
-  moved = λ taken p.
-      let m = (c.loop-count.invariant.moved taken p) in
-      joined c.args.profile taken c.loop-count.size (g.S.Source.seen c.args.reader.now).bytes (g.S.Source.seen c.loop-count.reader).bytes (g.K.Keeper.kept c.args.keeper.now) (g.K.Keeper.kept c.loop-count.keeper) c.loop-count.framer c.loop-count.tables m c.in_ok-count.count (g.S.Source.seen c.step_ahead.new.reader).bytes (g.K.Keeper.kept c.step_ahead.new.keeper) c.step_ahead.new.framer c.step_ahead.new.tables (c.in_ok-count.ensures.moves (taken ++ m.passed) m.passing);
-  failures = c.step_ahead.ensures.failures ∙ c.loop-count.invariant.failures;
-  breaks = c.step_ahead.ensures.breaks ∙ c.loop-count.invariant.breaks;
-}
+pub returns-clause-cause : goal.returns-clause-cause
+returns-clause-cause g c = λ taken p.
+    let first = ap (λ (d : Device). d.bytes) c.new-bytes.ensures in
+    shown_fails c.args.profile taken c.ahead-shown.result.now c.ahead.result.now (g.K.Keeper.kept c.args.keeper.now) (g.K.Keeper.kept c.pass_ahead-passed.new.keeper) c.pass_ahead-passed.new.framer c.pass_ahead-passed.new.tables
+    (g.S.Source.seen c.args.reader.now).bytes (g.S.Source.seen c.consume.new.self).bytes c.ahead-shown.ensures.front
+    (subst (λ (x : List ℕ). Consumes (g.S.Source.seen c.args.reader.now).bytes (g.S.Source.seen c.consume.new.self).bytes (take (length c.ahead-shown.result.now - length c.ahead.result.now) x)) (sym c.ahead-shown.ensures.all) c.consume.ensures.bytes)
+    c.pass_ahead-passed.result
+    (of_shown (λ (x y : List ℕ). IfErr c.pass_ahead-passed.result (FailsAhead c.args.profile taken (Some x) (Some y)))
+    c.new-bytes.result.left.now c.ahead-shown.result.now c.ahead.result.now c.pass_ahead-passed.new.reader.left.now first c.ahead.ensures.all (c.pass_ahead-passed.ensures.cause taken p))

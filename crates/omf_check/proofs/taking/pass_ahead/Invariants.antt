@@ -1,6 +1,6 @@
 use Rattle.std.proofs.Common.{◌-◌, ◌^◌}
 use Rattle.omf_check.proofs.AheadLaws.{HasPassed}
-use Rattle.omf_check.proofs.taking.take_ahead.Given as goal
+use Rattle.omf_check.proofs.taking.pass_ahead.Given as goal
 
 abbrev pub invariant-loop-count : goal.invariant-loop-count
 invariant-loop-count g l = HasPassed l.fn.profile l.initial.framer l.initial.tables (g.S.Source.seen l.initial.reader) (g.S.Source.seen l.reader) (g.K.Keeper.kept l.initial.keeper) (g.K.Keeper.kept l.keeper) l.framer l.tables l.size
