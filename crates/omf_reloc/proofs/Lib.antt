@@ -11,6 +11,8 @@ pub mod WalkLaws
 pub mod WalkedLaws
 pub mod InsideLaws
 pub mod EndLaws
+pub mod TypeLaws
+pub mod LeftLaws
 pub mod MeasureLaws
 pub mod PieceLaws
 pub mod SingleLaws

@@ -14,9 +14,8 @@ ghost use Rattle.omf_reloc.specs.Headline.{Headline};
 
 pub mod laws;
 
-use crate::fault::ReachFault;
-use crate::reaching::reach;
-use crate::relocating::relocate;
+use crate::fault::{ReachFault, RelocateFault};
+use crate::reached::reach_and_relocate;
 use crate::starting::start;
 use omf_check::{CheckFault, Profile, check};
 use omf_frame::{Place, Reason, Source};
@@ -57,7 +56,7 @@ pub enum NoAnswer {
     Read,
 }
 
-/// Checks the module that the input begins with, and relocates it at a placement: `check`, `reach`, `relocate` and `start`.
+/// Checks the module that the input begins with, and relocates it at a placement: `check`, `reach_and_relocate` and `start`.
 ///
 /// # Errors
 ///
@@ -79,11 +78,10 @@ pub fn check_and_relocate<S: Source>(
             return Ok(Answer::Refused { reason, place });
         }
     };
-    if let Err(fault) = reach(&module, placement) {
-        return Ok(Answer::DoesNotReach(fault));
-    }
-    let Ok(image) = relocate(alloc, &module, placement) else {
-        return Err(NoAnswer::Memory);
+    let image = match reach_and_relocate(alloc, &module, placement) {
+        Ok(image) => image,
+        Err(RelocateFault::Memory) => return Err(NoAnswer::Memory),
+        Err(RelocateFault::Reach(fault)) => return Ok(Answer::DoesNotReach(fault)),
     };
     let start = start(&module, placement);
     Ok(Answer::Relocated { image, start })

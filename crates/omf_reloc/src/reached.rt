@@ -1,10 +1,12 @@
 //! The image of a module at a placement that may not reach.
 
-ghost use Rattle.std.specs.Prelude.{[], IfOk, IfErr};
+ghost use Rattle.std.specs.Prelude.{◌≡◌, ◌↔◌, ℕ, [], IfOk, IfErr, Option, slice_get};
+ghost use Rattle.omf_image.specs.Inner.Joined.{runs_of};
 ghost use Rattle.omf_image.specs.Limits.{profile_limits};
-ghost use Rattle.omf_image.specs.Overlay.{AreLaidOver};
+ghost use Rattle.omf_image.specs.Overlay.{AreLaidOver, IsRunAt, byte_at};
+ghost use Rattle.omf_image.specs.declared.run.Run.{Run};
 ghost use Rattle.omf_check.specs.Module.{recs_of};
-ghost use Rattle.omf_reloc.specs.Image.{laid};
+ghost use Rattle.omf_reloc.specs.Image.{laid, image};
 ghost use Rattle.omf_reloc.specs.Plain.{pieces};
 ghost use Rattle.omf_reloc.specs.Reach.{Reaches};
 ghost use Rattle.omf_reloc.specs.Reached.{IsRelocateFault};
@@ -27,7 +29,7 @@ fn without_memory(module: &Checked, placement: &Placement) -> RelocateFault
     }
 }
 
-/// Does `reach` and `relocate` in one pass: each reference is checked when it is applied.
+/// Does `reach` and `relocate` in one walk over the module's pieces: each reference is checked when it is applied.
 ///
 /// # Errors
 ///
@@ -39,6 +41,9 @@ pub fn reach_and_relocate(
 ) -> Result<Image, RelocateFault>
     ensures reaches { IfOk result (λ i. Reaches placement.now (recs_of «module».now.bytes)) }
     ensures laid { IfOk result (λ i. AreLaidOver [] (laid profile_limits placement.now (pieces (recs_of «module».now.bytes))) i) }
+    ensures bytes { IfOk result (λ i. (segment x : ℕ) → byte_at i segment x ≡ image profile_limits placement.now (recs_of «module».now.bytes) segment x) }
+    ensures runs { IfOk result (λ i. (segment k : ℕ) (run : Option Run) → IsRunAt (byte_at i segment) k run
+        ↔ (run ≡ slice_get (runs_of (laid profile_limits placement.now (pieces (recs_of «module».now.bytes))) segment) k)) }
     ensures err { IfErr result (IsRelocateFault placement.now (recs_of «module».now.bytes)) }
 {
     if let Some(fault) = misfit(module, placement) {

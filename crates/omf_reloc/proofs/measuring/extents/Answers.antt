@@ -1,41 +1,65 @@
-use Rattle.std.proofs.Common.{◌++◌, ◌∙◌, ap, sym, subst, List, append_assoc}
-use Rattle.std.specs.Prelude.{All, map, flat_map}
-use Rattle.std.proofs.lemmas.List.Elements.{All-head, All-tail}
-use Rattle.omf_frame.specs.declared.fault.Place.{Place}
-use Rattle.omf_records.specs.Inner.Seen.{rec_seen}
-use Rattle.omf_records.specs.Values.{Rec}
+use Rattle.std.proofs.Common.{◌∙◌, length, subst, sym}
+use Rattle.std.proofs.lemmas.Bool.{eqb-true}
+use Rattle.std.proofs.lemmas.List.{nil_from_length}
+use Rattle.omf_image.specs.Limits.{profile_limits}
 use Rattle.omf_check.specs.Module.{records_in}
 use Rattle.omf_check.specs.WellFormed.{recs}
-use Rattle.omf_reloc.specs.Inner.Measuring.{measured, CanMeasure}
-use Rattle.omf_reloc.proofs.MeasureLaws.{all-measure}
-use Rattle.omf_reloc.proofs.WalkedLaws.{records-listed}
+use Rattle.omf_check.proofs.ListedLaws.{not_empty}
+use Rattle.omf_reloc.proofs.LeftLaws.{left-starts, left-taken, left-short, left-less}
+use Rattle.omf_reloc.proofs.MeasureLaws.{AreMeasured, measure-first, measure-last, measure-spelled, measure-next}
 use Rattle.omf_reloc.proofs.measuring.extents.Goals as goal
 
-abbrev without_places : List (Place × Rec) → List Rec
-without_places xs = map (λ x. x.1) xs
+pub records-init : goal.records-init
+records-init c =
+    let b = c.args.module.now.bytes in
+    subst (λ left. AreMeasured (recs (records_in b)) c.new-extents.result.items left) (sym c.bytes-left.ensures.bytes)
+    (measure-first c.args.module.now.profile b c.new-extents.result.items c.bytes-left.ensures.well_formed
+    (c.modules_hold.ensures c.args.module.now.profile profile_limits b (records_in b) c.bytes-left.ensures.well_formed) c.new-extents.ensures.items)
 
-pub loop-place-init : goal.loop-place-init
-loop-place-init c =
-    let m = recs (records_in c.args.module.now.bytes) in
-    let r = c.records-place-items in
-    let e = ap without_places (c.into_iter-place-iterator.ensures.into_iter_gives ∙ r.ensures.listed) ∙ records-listed 0 0 (records_in c.args.module.now.bytes) in
-    record {
-      can = subst (All CanMeasure) (sym e) (all-measure m r.ensures.holds);
-      same = ap (λ xs. xs ++ flat_map measured (without_places c.into_iter-place-iterator.result)) c.new-extents.ensures.items ∙ ap (flat_map measured) e;
-    }
+pub split_record-requires : goal.split_record-requires
+split_record-requires c =
+    let h = c.records.invariant in
+    left-starts c.records.left.now h.records h.are_left (not_empty c.records.left.now c.is_empty.result c.is_empty.ensures c.records-test.true)
 
-pub push_measured-requires : goal.push_measured-requires
-push_measured-requires c =
-    All-head CanMeasure (rec_seen c.in-Some.rec) (without_places c.next.new.self)
-    (subst (λ xs. All CanMeasure (without_places xs)) c.in-Some.ensures.steps c.loop-place.invariant.can)
+pub push_extent-requires-clause-taken : goal.push_extent-requires-clause-taken
+push_extent-requires-clause-taken c =
+    let h = c.records.invariant in
+    left-taken c.records.left.now h.records h.are_left (not_empty c.records.left.now c.is_empty.result c.is_empty.ensures c.records-test.true) c.split_record.result.0.kind c.split_record.ensures.kind
 
-pub loop-place-preserved : goal.loop-place-preserved
-loop-place-preserved c =
-    let r = rec_seen c.in-Some.rec in
-    let rest = without_places c.next.new.self in
-    let e = ap without_places c.in-Some.ensures.steps in
-    record {
-      can = All-tail CanMeasure r rest (subst (All CanMeasure) e c.loop-place.invariant.can);
-      same = ap (λ xs. xs ++ flat_map measured rest) c.in_ok-push_measured.ensures ∙ append_assoc c.loop-place.extents.items (measured r) (flat_map measured rest)
-          ∙ ap (λ xs. c.loop-place.extents.items ++ flat_map measured xs) (sym e) ∙ c.loop-place.invariant.same;
-    }
+pub push_extent-requires-clause-short : goal.push_extent-requires-clause-short
+push_extent-requires-clause-short c =
+    let h = c.records.invariant in
+    left-short c.records.left.now h.records h.are_left (not_empty c.records.left.now c.is_empty.result c.is_empty.ensures c.records-test.true) c.split_record.result.0.body.now c.split_record.ensures.body
+
+pub push_extent-requires-clause-spelled : goal.push_extent-requires-clause-spelled
+push_extent-requires-clause-spelled c =
+    let raw = c.split_record.result.0 in
+    measure-spelled (recs (records_in c.args.module.now.bytes)) c.records.extents.items c.records.left.now c.records.invariant
+    (not_empty c.records.left.now c.is_empty.result c.is_empty.ensures c.records-test.true) raw.kind raw.body.now c.split_record.ensures.kind c.split_record.ensures.body
+
+pub records-smaller : goal.records-smaller
+records-smaller c =
+    let h = c.records.invariant in
+    left-less c.records.left.now h.records h.are_left (not_empty c.records.left.now c.is_empty.result c.is_empty.ensures c.records-test.true) c.split_record.result.1.now c.split_record.ensures.rest
+
+pub records-preserved : goal.records-preserved
+records-preserved c =
+    let raw = c.split_record.result.0 in
+    measure-next (recs (records_in c.args.module.now.bytes)) c.records.extents.items c.records.left.now c.records.invariant
+    (not_empty c.records.left.now c.is_empty.result c.is_empty.ensures c.records-test.true) raw.kind raw.body.now c.split_record.ensures.kind c.split_record.ensures.body
+    c.split_record.result.1.now c.split_record.ensures.rest c.push_extent.new.extents.items c.in_ok-push_extent.ensures
+
+pub returns-clause-listed : goal.returns-clause-listed
+returns-clause-listed c =
+    measure-last (recs (records_in c.args.module.now.bytes)) c.records.extents.items c.records.left.now c.records.invariant
+    (nil_from_length c.records.left.now (eqb-true (length c.records.left.now) 0 (sym c.is_empty.ensures ∙ c.records-test.false)))
+
+pub returns-clause-holds : goal.returns-clause-holds
+returns-clause-holds c =
+    let b = c.args.module.now.bytes in
+    c.modules_hold.ensures c.args.module.now.profile profile_limits b (records_in b) c.bytes-left.ensures.well_formed
+
+pub returns-in_err-push_extent-clause-holds : goal.returns-in_err-push_extent-clause-holds
+returns-in_err-push_extent-clause-holds c =
+    let b = c.args.module.now.bytes in
+    c.modules_hold.ensures c.args.module.now.profile profile_limits b (records_in b) c.bytes-left.ensures.well_formed
