@@ -1,19 +1,18 @@
 -- The texts of a module, line by line: what is written, what is kept, and the lines of what is left, are the whole text.
-use Rattle.std.proofs.Common.{◌≡◌, ℕ, suc, ◌+◌, ◌-◌, ◌<◌, ◌≤◌, List, [], ◌∷◌, ◌++◌, Bool, true, false, refl, sym, ap, subst, ◌∙◌, arith, length, length-append, append_assoc, drop}
+use Rattle.std.proofs.Common.{◌≡◌, ℕ, suc, ◌+◌, ◌-◌, ◌<◌, ◌≤◌, List, [], ◌∷◌, ◌++◌, Bool, true, false, refl, sym, ap, subst, ◌∙◌, arith, length, length-append, append_assoc, drop, inl, inr}
 use Rattle.std.proofs.lemmas.Grind.{flat_map-append}
-use Rattle.std.proofs.lemmas.List.{append-nil, drop_all}
+use Rattle.std.proofs.lemmas.List.{append-nil, drop_all, nil_from_length}
 use Rattle.std.proofs.lemmas.Bool.{le-leb}
 use Rattle.std.proofs.lemmas.Option.{slice_get_within, get_or_from_slice_get, slice_get-get_or}
-use Rattle.std.proofs.Math.Seq.{drop-cons, get_or-append_seam}
+use Rattle.std.proofs.Math.Seq.{drop-cons}
 use Rattle.std.specs.List.{enumerate_from}
 use Rattle.std.specs.Result.{IsErr}
-use Rattle.std.specs.Prelude.{flat_map, All, Result, Option, Some, None, option_map, slice_get, nat_le, cond, codes, decimal}
+use Rattle.std.specs.Prelude.{flat_map, Result, Option, Some, None, option_map, slice_get, nat_le, cond, codes, decimal}
 use Rattle.omf_frame.specs.Bytes.{with_before}
-use Rattle.omf_frame.specs.Framing.{Raw, raw_bytes, IsRecord, IsFramed}
-use Rattle.omf_frame.specs.declared.fault.Place.{Place}
+use Rattle.omf_frame.specs.Framing.{Raw, raw_bytes, front_record, present, after_front}
 use Rattle.omf_records.specs.Inner.Reading.{typed}
-use Rattle.omf_records.specs.Values.{Rec, Contents, Group, GroupItem}
-use Rattle.omf_check.specs.Listed.{placed_from}
+use Rattle.omf_records.specs.Records.{contents}
+use Rattle.omf_records.specs.Values.{Rec, Contents, Names, Group, GroupItem, Publics}
 use Rattle.omf_check.specs.Tables.{entry}
 use Rattle.omf_check.specs.WellFormed.{recs}
 use Rattle.omf_frame.specs.Types.{type_name}
@@ -22,7 +21,10 @@ use Rattle.omf_cmd.specs.Printed.{line}
 use Rattle.omf_placement.specs.Quoted.{hex}
 use Rattle.omf_cmd.specs.Runs.{IsPart}
 use Rattle.omf_cmd.specs.Inner.Printing.{IsWrittenUpTo, Passes}
-use Rattle.omf_cmd.specs.Inner.Standing.{StandsAt}
+use Rattle.omf_cmd.specs.Inner.Types.{has_publics}
+use Rattle.omf_cmd.specs.Listing.{public_lines}
+use Rattle.omf_reloc.proofs.LeftLaws.{AreLeft, none-left, parts, left-kind, left-body, left-next, left-spelled}
+use Rattle.omf_reloc.proofs.TypeLaws.{HasType, has-type, never-one}
 use Rattle.omf_cmd.specs.declared.fault.RunFault.{RunFault}
 use Rattle.omf_cmd.proofs.Pieces.{none_written, stopped_by, went_on}
 
@@ -86,123 +88,150 @@ pub no_group : (o : Option GroupItem) → None ≡ option_map Group o → o ≡ 
 no_group None e = refl
 no_group (Some g) e = absurd cc
 
--- ---- records with their places
+-- ---- records, one after another
 
--- where a walk over the records of a module stands
-pub record AreWritten (records : List Raw) (left : List (Place × Rec)) (held held' : Option (List ℕ)) (old now : List ℕ) : Type 0 where
-  pub before : List Raw
-  pub after : List Raw
-  pub all : records ≡ before ++ after
-  pub placed : left ≡ placed_from (length before) (length (flat_map raw_bytes before)) after
-  pub written : IsWrittenUpTo held held' (old ++ with_before record_line [] records) (now ++ with_before record_line before after)
+more_left : (records before after : List Raw) (number count : ℕ) → records ≡ before ++ after → number ≡ length before → count ≡ length records → number < count → 0 < length after
+more_left records before after number count all n c low =
+    let s = ap (λ (rs : List Raw). length rs) all ∙ length-append before after in
+    omega (arith, s, n, c, low)
 
-pub none_yet : (records : List Raw) (left : List (Place × Rec)) (held : Option (List ℕ)) (old : List ℕ) → left ≡ placed_from 0 0 records → AreWritten records left held held old old
-none_yet records left held old e = record { before = []; after = records; all = refl; placed = e; written = none_written held (old ++ with_before record_line [] records) }
-
--- the record that comes next
-pub record IsNext (records : List Raw) (x : Place × Rec) (left : List (Place × Rec)) (held held' : Option (List ℕ)) (old now : List ℕ) : Type 0 where
-  pub before : List Raw
-  pub one : Raw
-  pub after : List Raw
-  pub all : records ≡ before ++ one ∷ after
-  pub number : x.0.number ≡ length before
-  pub start : x.0.start ≡ length (flat_map raw_bytes before)
-  pub rec : x.1 ≡ typed one
-  pub placed : left ≡ placed_from (length before + 1) (length (flat_map raw_bytes before) + length (raw_bytes one)) after
-  pub written : IsWrittenUpTo held held' (old ++ with_before record_line [] records) (now ++ (record_line before one ++ with_before record_line (before ++ one ∷ []) after))
-
-next_by : (records before after : List Raw) (x : Place × Rec) (left : List (Place × Rec)) (held held' : Option (List ℕ)) (old now : List ℕ) → records ≡ before ++ after
-    → x ∷ left ≡ placed_from (length before) (length (flat_map raw_bytes before)) after
-    → IsWrittenUpTo held held' (old ++ with_before record_line [] records) (now ++ with_before record_line before after)
-    → IsNext records x left held held' old now
-next_by records before [] x left held held' old now all placed written = absurd (clash placed)
-  where
-    clash : x ∷ left ≡ [] → ⊥
-    clash e = cc
-next_by records before (r ∷ after) x left held held' old now all placed written = record {
-  before = before;
-  one = r;
-  after = after;
-  all = all;
-  number = ap (λ (p : Place × Rec). p.0.number) (head_is placed);
-  start = ap (λ (p : Place × Rec). p.0.start) (head_is placed);
-  rec = ap (λ (p : Place × Rec). p.1) (head_is placed);
-  placed = tail_is placed;
-  written = written;
-}
-  where
-    head_is : {A : Type 0} {a b : A} {xs ys : List A} → a ∷ xs ≡ b ∷ ys → a ≡ b
-    head_is e = cc
-
-    tail_is : {A : Type 0} {a b : A} {xs ys : List A} → a ∷ xs ≡ b ∷ ys → xs ≡ ys
-    tail_is e = cc
-
-pub next_of : (records : List Raw) (all left : List (Place × Rec)) (x : Place × Rec) (held held' : Option (List ℕ)) (old now : List ℕ) → AreWritten records all held held' old now → all ≡ x ∷ left → IsNext records x left held held' old now
-next_of records all left x held held' old now h e = next_by records h.before h.after x left held held' old now h.all (sym e ∙ h.placed) h.written
-
--- it stands where its place says
-pub stands : (records : List Raw) (bytes : List ℕ) (x : Place × Rec) (left : List (Place × Rec)) (held held' : Option (List ℕ)) (old now : List ℕ) → IsFramed bytes records → (n : IsNext records x left held held' old now) → StandsAt bytes x.0.start n.one
-stands records bytes x left held held' old now f n = record {
-  front = flat_map raw_bytes n.before;
-  rest = flat_map raw_bytes n.after;
-  spelled = f.spelled ∙ ap (flat_map raw_bytes) n.all ∙ flat_map-append raw_bytes n.before (n.one ∷ n.after);
-  place = n.start;
-  short =
-      let each : All IsRecord (n.before ++ n.one ∷ n.after) = subst (All IsRecord) n.all f.each in
-      let size : length (n.before ++ n.one ∷ n.after) ≡ length n.before + suc (length n.after) = length-append n.before (n.one ∷ n.after) in
-      let low : length n.before < length (n.before ++ n.one ∷ n.after) = omega (arith, size) in
-      (subst IsRecord (get_or-append_seam n.before n.one n.after n.one) (each (length n.before) n.one low)).0;
-}
-
--- its line is due, and those of the records after it
-line_due : (records : List Raw) (x : Place × Rec) (left : List (Place × Rec)) (held held' : Option (List ℕ)) (old now due : List ℕ) (n : IsNext records x left held held' old now) → due ≡ now ++ record_line n.before n.one
-    → due ++ with_before record_line (n.before ++ n.one ∷ []) n.after ≡ now ++ (record_line n.before n.one ++ with_before record_line (n.before ++ n.one ∷ []) n.after)
-line_due records x left held held' old now due n is =
-    ap (λ t. t ++ with_before record_line (n.before ++ n.one ∷ []) n.after) is ∙ append_assoc now (record_line n.before n.one) (with_before record_line (n.before ++ n.one ∷ []) n.after)
-
--- it went on
-pub more_written : (records : List Raw) (x : Place × Rec) (left : List (Place × Rec)) (held held' held'' : Option (List ℕ)) (old now due kept : List ℕ) (n : IsNext records x left held held' old now) → due ≡ now ++ record_line n.before n.one
-    → IsWrittenUpTo held' held'' due kept → AreWritten records left held held'' old kept
-more_written records x left held held' held'' old now due kept n is w =
-    let before = n.before ++ n.one ∷ [] in
-    let count : length before ≡ length n.before + 1 = length-append n.before (n.one ∷ []) in
-    let sizes : length (flat_map raw_bytes before) ≡ length (flat_map raw_bytes n.before) + length (raw_bytes n.one) =
-    ap length (flat_map-append raw_bytes n.before (n.one ∷ []) ∙ ap (λ t. flat_map raw_bytes n.before ++ t) (append-nil (raw_bytes n.one))) ∙ length-append (flat_map raw_bytes n.before) (raw_bytes n.one) in
-    record {
-      before = before;
-      after = n.after;
-      all = n.all ∙ sym (append_assoc n.before (n.one ∷ []) n.after);
-      placed = n.placed ∙ ap (λ k. placed_from k (length (flat_map raw_bytes n.before) + length (raw_bytes n.one)) n.after) (sym count) ∙ ap (λ k. placed_from (length before) k n.after) (sym sizes);
-      written =
-          went_on held held' held'' (old ++ with_before record_line [] records) (now ++ (record_line n.before n.one ++ with_before record_line before n.after)) due (with_before record_line before n.after) kept
-          n.written (line_due records x left held held' old now due n is) w;
-    }
-
--- a fault came while it went on
-pub line_stopped : (records : List Raw) (x : Place × Rec) (left : List (Place × Rec)) (held held' held'' : Option (List ℕ)) (old now due kept : List ℕ) (r : Result (Unit {0}) RunFault) (n : IsNext records x left held held' old now)
-    → due ≡ now ++ record_line n.before n.one → IsErr r → IsPart held' held'' due → Passes held held'' r (old ++ with_before record_line [] records) kept
-line_stopped records x left held held' held'' old now due kept r n is err p =
-    stopped_by held held' held'' (old ++ with_before record_line [] records) (now ++ (record_line n.before n.one ++ with_before record_line (n.before ++ n.one ∷ []) n.after)) due (with_before record_line (n.before ++ n.one ∷ []) n.after) kept r
-    err n.written (line_due records x left held held' old now due n is) p
-
-pub all_written : (records : List Raw) (left : List (Place × Rec)) (held held' : Option (List ℕ)) (old now : List ℕ) → AreWritten records left held held' old now → left ≡ [] → IsWrittenUpTo held held' (old ++ with_before record_line [] records) now
-all_written records left held held' old now h e =
-    let none : h.after ≡ [] = none_left h.after _ _ (sym h.placed ∙ e) in
-    subst (IsWrittenUpTo held held' (old ++ with_before record_line [] records)) (ap (λ l. now ++ with_before record_line h.before l) none ∙ append-nil now) h.written
-  where
-    none_left : (rs : List Raw) (n s : ℕ) → placed_from n s rs ≡ [] → rs ≡ []
-    none_left [] n s e = refl
-    none_left (r ∷ rs) n s e = absurd (clash e)
-      where
-        clash : {A : Type 0} {a : A} {rest : List A} → a ∷ rest ≡ [] → ⊥
-        clash e = cc
+filled_by : (rs : List Raw) (left : List ℕ) → left ≡ flat_map raw_bytes rs → 0 < length rs → 0 < length left
+filled_by [] left e low = absurd (omega (arith, low))
+filled_by (r ∷ rs) left e low = let s = ap (λ (b : List ℕ). length b) e ∙ length-append (raw_bytes r) (flat_map raw_bytes rs) in omega (arith, s)
 
 -- the line of a record, by what is printed
-pub line_of : (before : List Raw) (one : Raw) (number start kind size : ℕ) → number ≡ length before → start ≡ length (flat_map raw_bytes before) → kind ≡ one.kind → size ≡ length one.body
+line_of : (before : List Raw) (one : Raw) (number start kind size : ℕ) → number ≡ length before → start ≡ length (flat_map raw_bytes before) → kind ≡ one.kind → size ≡ length one.body
     → line (codes "R" ∷ decimal number ∷ hex 8 start ∷ hex 2 kind ∷ decimal size ∷ type_name kind ∷ []) ≡ record_line before one
 line_of before one number start kind size a b c d = rw (a, b, c, d) refl
 
--- what the records of a walk print
-pub placed_lines : (f : Contents → List ℕ) (rs : List Raw) (number start : ℕ) → flat_map (λ (p : Place × Rec). f p.1.contents) (placed_from number start rs) ≡ flat_map (λ (r : Rec). f r.contents) (recs rs)
-placed_lines f [] number start = refl
-placed_lines f (r ∷ rs) number start = ap (λ t. f (typed r).contents ++ t) (placed_lines f rs (number + 1) (start + length (raw_bytes r)))
+-- the records that are left, from one of this number on, and their lines, which are still to be written
+pub record AreWritten (records : List Raw) (number : ℕ) (left : List ℕ) (held held' : Option (List ℕ)) (old now : List ℕ) : Type 0 where
+  pub before : List Raw
+  pub after : List Raw
+  pub all : records ≡ before ++ after
+  pub count : number ≡ length before
+  pub are_left : AreLeft left after
+  pub written : IsWrittenUpTo held held' (old ++ with_before record_line [] records) (now ++ with_before record_line before after)
+
+pub none_yet : (records : List Raw) (left : List ℕ) (held : Option (List ℕ)) (old : List ℕ) → AreLeft left records → AreWritten records 0 left held held old old
+none_yet records left held old h = record { before = []; after = records; all = refl; count = refl; are_left = h; written = none_written held (old ++ with_before record_line [] records) }
+
+pub all_written : (records : List Raw) (number count : ℕ) (left : List ℕ) (held held' : Option (List ℕ)) (old now : List ℕ) → AreWritten records number left held held' old now → count ≡ length records → count ≤ number
+    → IsWrittenUpTo held held' (old ++ with_before record_line [] records) now
+all_written records number count left held held' old now h c low =
+    let s = ap (λ (rs : List Raw). length rs) h.all ∙ length-append h.before h.after in
+    let n = h.count in
+    let none : h.after ≡ [] = nil_from_length h.after (omega (arith, s, n, c, low)) in
+    subst (IsWrittenUpTo held held' (old ++ with_before record_line [] records)) (ap (λ l. now ++ with_before record_line h.before l) none ∙ append-nil now) h.written
+
+-- the bytes before them are those of the records before them
+pub not_before : (bytes : List ℕ) (records : List Raw) (number : ℕ) (left : List ℕ) (held held' : Option (List ℕ)) (old now : List ℕ) (h : AreWritten records number left held held' old now) → bytes ≡ flat_map raw_bytes records
+    → length bytes ≡ length (flat_map raw_bytes h.before) + length left
+not_before bytes records number left held held' old now h e =
+    ap (λ (b : List ℕ). length b) (e ∙ ap (flat_map raw_bytes) h.all ∙ flat_map-append raw_bytes h.before h.after)
+    ∙ length-append (flat_map raw_bytes h.before) (flat_map raw_bytes h.after)
+    ∙ ap (λ (b : List ℕ). length (flat_map raw_bytes h.before) + length b) (sym h.are_left.spelled)
+
+pub left_within : (bytes : List ℕ) (records : List Raw) (number : ℕ) (left : List ℕ) (held held' : Option (List ℕ)) (old now : List ℕ) → AreWritten records number left held held' old now → bytes ≡ flat_map raw_bytes records
+    → length left ≤ length bytes
+left_within bytes records number left held held' old now h e = let s = not_before bytes records number left held held' old now h e in omega (arith, s)
+
+module _ (records : List Raw) (number count : ℕ) (left : List ℕ) (held held' : Option (List ℕ)) (old now : List ℕ) (h : AreWritten records number left held held' old now) (c : count ≡ length records) (low : number < count) where
+  pub more_bytes : 0 < length left
+  more_bytes = filled_by h.after left h.are_left.spelled (more_left records h.before h.after number count h.all h.count c low)
+
+  abbrev one : Raw
+  one = (parts left h.after h.are_left more_bytes).0
+
+  abbrev more : List Raw
+  more = (parts left h.after h.are_left more_bytes).1
+
+  split : h.after ≡ one ∷ more
+  split = (parts left h.after h.are_left more_bytes).2
+
+  abbrev passed : List Raw
+  passed = h.before ++ one ∷ []
+
+  here : IsWrittenUpTo held held' (old ++ with_before record_line [] records) (now ++ (record_line h.before one ++ with_before record_line passed more))
+  here = subst (λ (rs : List Raw). IsWrittenUpTo held held' (old ++ with_before record_line [] records) (now ++ with_before record_line h.before rs)) split h.written
+
+  module _ (bytes : List ℕ) (e : bytes ≡ flat_map raw_bytes records) (start kind : ℕ) (body : List ℕ) (s : start ≡ length bytes - length left) (k : kind ≡ (front_record (present left)).kind) (b : body ≡ (front_record (present left)).body)
+      (due : List ℕ) (p : due ≡ now ++ line (codes "R" ∷ decimal number ∷ hex 8 start ∷ hex 2 kind ∷ decimal (length body) ∷ type_name kind ∷ [])) where
+    -- its line is due, and those of the records after it
+    line_due : due ++ with_before record_line passed more ≡ now ++ (record_line h.before one ++ with_before record_line passed more)
+    line_due =
+        let size = not_before bytes records number left held held' old now h e in
+        let at : start ≡ length (flat_map raw_bytes h.before) = omega (arith, s, size) in
+        ap (λ t. t ++ with_before record_line passed more)
+        (p ∙ ap (λ l. now ++ l) (line_of h.before one number start kind (length body) h.count at (left-kind left h.after h.are_left more_bytes kind k) (ap (λ (x : List ℕ). length x) (left-body left h.after h.are_left more_bytes body b))))
+        ∙ append_assoc now (record_line h.before one) (with_before record_line passed more)
+
+    -- it went on
+    pub more_written : (rest : List ℕ) → rest ≡ after_front left → (held'' : Option (List ℕ)) (kept : List ℕ) → IsWrittenUpTo held' held'' due kept → AreWritten records (number + 1) rest held held'' old kept
+    more_written rest r held'' kept w = record {
+      before = passed;
+      after = more;
+      all = h.all ∙ ap (λ (rs : List Raw). h.before ++ rs) split ∙ sym (append_assoc h.before (one ∷ []) more);
+      count = ap (λ (n : ℕ). n + 1) h.count ∙ sym (length-append h.before (one ∷ []));
+      are_left = left-next left h.after h.are_left more_bytes rest r;
+      written = went_on held held' held'' (old ++ with_before record_line [] records) (now ++ (record_line h.before one ++ with_before record_line passed more)) due (with_before record_line passed more) kept here line_due w;
+    }
+
+    -- a fault came while it went on
+    pub line_stopped : (held'' : Option (List ℕ)) (kept : List ℕ) (r : Result (Unit {0}) RunFault) → IsErr r → IsPart held' held'' due → Passes held held'' r (old ++ with_before record_line [] records) kept
+    line_stopped held'' kept r err part =
+        stopped_by held held' held'' (old ++ with_before record_line [] records) (now ++ (record_line h.before one ++ with_before record_line passed more)) due (with_before record_line passed more) kept r err here line_due part
+
+-- ---- publics, one record after another
+
+-- a record of another type has no publics
+pub no-publics : (kind : ℕ) (body : List ℕ) (c : Contents) → has_publics kind ≡ false → (contents kind).Spells 3 body c → public_lines c ≡ []
+no-publics kind body c other s = by c (has-type kind 3 body c s)
+  where
+    by : (c : Contents) → HasType kind c → public_lines c ≡ []
+    by (Publics p) is = elim is [ inl x ↦ absurd (never-one 0x90 0x91 kind has_publics refl refl other x) | inr x ↦ absurd (never-one 0xB6 0xB7 kind has_publics refl refl other x) ]
+    by (Names ns) is = refl
+    by _ is = refl
+
+abbrev pub rec_lines : Rec → List ℕ
+rec_lines r = public_lines r.contents
+
+-- the records that are left, and their publics, which are still to be written
+pub record ArePrinted (m : List Rec) (left : List ℕ) (held held' : Option (List ℕ)) (old now : List ℕ) : Type 0 where
+  pub records : List Raw
+  pub are_left : AreLeft left records
+  pub written : IsWrittenUpTo held held' (old ++ flat_map rec_lines m) (now ++ flat_map rec_lines (recs records))
+
+pub none_printed : (records : List Raw) (left : List ℕ) (held : Option (List ℕ)) (old : List ℕ) → AreLeft left records → ArePrinted (recs records) left held held old old
+none_printed records left held old h = record { records = records; are_left = h; written = none_written held (old ++ flat_map rec_lines (recs records)) }
+
+pub all_printed : (m : List Rec) (left : List ℕ) (held held' : Option (List ℕ)) (old now : List ℕ) → ArePrinted m left held held' old now → left ≡ [] → IsWrittenUpTo held held' (old ++ flat_map rec_lines m) now
+all_printed m left held held' old now h e =
+    subst (IsWrittenUpTo held held' (old ++ flat_map rec_lines m)) (ap (λ (rs : List Raw). now ++ flat_map rec_lines (recs rs)) (none-left h.records (sym e ∙ h.are_left.spelled)) ∙ append-nil now) h.written
+
+module _ (m : List Rec) (left : List ℕ) (held held' : Option (List ℕ)) (old now : List ℕ) (h : ArePrinted m left held held' old now) (low : 0 < length left) where
+  abbrev next : Raw
+  next = (parts left h.records h.are_left low).0
+
+  abbrev others : List Raw
+  others = (parts left h.records h.are_left low).1
+
+  printed_here : IsWrittenUpTo held held' (old ++ flat_map rec_lines m) (now ++ (rec_lines (typed next) ++ flat_map rec_lines (recs others)))
+  printed_here = subst (λ (rs : List Raw). IsWrittenUpTo held held' (old ++ flat_map rec_lines m) (now ++ flat_map rec_lines (recs rs))) (parts left h.records h.are_left low).2 h.written
+
+  module _ (kind : ℕ) (body : List ℕ) (k : kind ≡ (front_record (present left)).kind) (b : body ≡ (front_record (present left)).body) where
+    pub publics_printed : (rest : List ℕ) → rest ≡ after_front left → (held'' : Option (List ℕ)) (kept : List ℕ) → ((c : Contents) → (contents kind).Spells 3 body c → IsWrittenUpTo held' held'' (now ++ public_lines c) kept)
+        → ArePrinted m rest held held'' old kept
+    publics_printed rest r held'' kept w = record {
+      records = others;
+      are_left = left-next left h.records h.are_left low rest r;
+      written =
+          went_on held held' held'' (old ++ flat_map rec_lines m) (now ++ (rec_lines (typed next) ++ flat_map rec_lines (recs others))) (now ++ rec_lines (typed next)) (flat_map rec_lines (recs others)) kept printed_here
+          (append_assoc now (rec_lines (typed next)) (flat_map rec_lines (recs others))) (w (typed next).contents (left-spelled left h.records h.are_left low kind body k b));
+    }
+
+    pub publics_stopped : (held'' : Option (List ℕ)) (kept : List ℕ) (r : Result (Unit {0}) RunFault) → IsErr r → ((c : Contents) → (contents kind).Spells 3 body c → IsPart held' held'' (now ++ public_lines c))
+        → Passes held held'' r (old ++ flat_map rec_lines m) kept
+    publics_stopped held'' kept r err part =
+        stopped_by held held' held'' (old ++ flat_map rec_lines m) (now ++ (rec_lines (typed next) ++ flat_map rec_lines (recs others))) (now ++ rec_lines (typed next)) (flat_map rec_lines (recs others)) kept r err printed_here
+        (append_assoc now (rec_lines (typed next)) (flat_map rec_lines (recs others))) (part (typed next).contents (left-spelled left h.records h.are_left low kind body k b))

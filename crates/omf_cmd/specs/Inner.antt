@@ -1,5 +1,5 @@
 pub mod FaultWords
 pub mod Printing
 pub mod RunLines
-pub mod Standing
+pub mod Types
 pub mod Names

@@ -1,10 +1,12 @@
 //! The texts of `check` and `list`. The latter is written in pieces.
 
-ghost use Rattle.std.specs.Prelude.{◌≡◌, ◌++◌, ◌∷◌, [], IfOk, List, string_bytes, codes, decimal, flat_map, length};
+ghost use Rattle.std.specs.Prelude.{◌≡◌, ◌≤◌, ◌++◌, ◌∷◌, [], IfOk, IsTrue, List, string_bytes, codes, decimal, flat_map, is_ok, length, true};
 ghost use Rattle.omf_frame.specs.Bytes.{with_before, AddsText};
-ghost use Rattle.omf_frame.specs.Framing.{Raw, raw_bytes};
+ghost use Rattle.omf_frame.specs.Framing.{Raw, is_taken, raw_bytes};
+ghost use Rattle.omf_records.specs.Inner.Reading.{read_body};
 ghost use Rattle.omf_records.specs.Inner.Seen.{contents_seen};
-ghost use Rattle.omf_records.specs.Values.{Group, GroupItem};
+ghost use Rattle.omf_records.specs.Records.{contents};
+ghost use Rattle.omf_records.specs.Values.{Contents, Group, GroupItem};
 ghost use Rattle.omf_check.specs.Module.{recs_of, records_in};
 ghost use Rattle.omf_check.specs.Tables.{names};
 ghost use Rattle.omf_cmd.specs.Inner.Names.{external_lines, group_lines, segment_lines, record_line};
@@ -13,31 +15,19 @@ ghost use Rattle.omf_cmd.specs.Printed.{line, index_or_dash};
 ghost use Rattle.omf_placement.specs.Quoted.{hex, quoted, named};
 ghost use Rattle.omf_cmd.specs.Runs.{PrintsInPieces, IsPrintCause};
 ghost use Rattle.omf_cmd.specs.Inner.Printing.{Passes};
-ghost use Rattle.omf_cmd.specs.Inner.Standing.{StandsAt, HasRecord};
+ghost use Rattle.omf_cmd.specs.Inner.Types.{has_publics};
 
 use crate::fault::RunFault;
 use crate::output::{write_all, write_piece};
 use crate::printing::{
     print_external, print_group, print_public, print_record, print_segment, print_totals,
 };
-use omf_check::{Checked, Judged};
-use omf_frame::Sink;
-use omf_records::{At, Items, Public, Rec};
+use omf_check::{Checked, Judged, split_record};
+use omf_frame::{RawRecord, Sink};
+use omf_records::{At, Items, Public, Rec, view_known};
 use std::alloc::{AllocError, Global};
 
-/// The length of the contents of the record at an offset, without the checksum byte.
-fn contents_length(bytes: &[u8], start: u64) -> usize
-    requires { HasRecord bytes.now start }
-    ensures { (r : Raw) → StandsAt bytes.now start r → result ≡ length r.body }
-{
-    let (_front, record) = bytes.split_at(start as usize);
-    let [_kind, low, high, ..] = record else {
-        unreachable!()
-    };
-    usize::from(*low) + 256 * usize::from(*high) - 1
-}
-
-/// Prints a line for each record.
+/// Prints a line for each record, by its type byte and its length.
 fn print_records<K: Sink>(
     writer: &mut K,
     text: &mut Vec<u8>,
@@ -47,10 +37,13 @@ fn print_records<K: Sink>(
     ensures cause { IsPrintCause (K.seen writer.old) (K.seen writer.new) result }
 {
     let bytes = checked.bytes();
-    for (place, rec) in checked.records() {
-        let length = contents_length(bytes, place.start);
-        print_record(text, place.number, place.start, rec.kind(), length)?;
+    let mut left = bytes;
+    for number in 0..checked.record_count() {
+        let start = (bytes.len() - left.len()) as u64;
+        let (raw, rest) = split_record(left);
+        print_record(text, number, start, raw.kind, raw.body.len())?;
         write_piece(writer, text)?;
+        left = rest;
     }
     Ok(())
 }
@@ -202,6 +195,32 @@ fn print_publics_of<K: Sink>(
     }
 }
 
+/// Whether this is the type of a PUBDEF or an LPUBDEF.
+fn has_publics(kind: u8) -> bool
+    ensures { result ≡ has_publics kind }
+{
+    kind == 0x90 || kind == 0x91 || kind == 0xB6 || kind == 0xB7
+}
+
+/// Prints a line for each public name of a PUBDEF or an LPUBDEF. A record of another type is not read.
+fn print_publics_in<K: Sink>(
+    writer: &mut K,
+    text: &mut Vec<u8>,
+    raw: RawRecord<'_>,
+) -> Result<(), RunFault>
+    requires taken { IsTrue (is_taken raw.kind) }
+    requires short { length raw.body.now ≤ 65534 }
+    requires spelled { is_ok (read_body raw.kind raw.body.now) ≡ true }
+    ensures passes { (c : Contents) → (contents raw.entry.kind).Spells 3 raw.entry.body.now c → Passes (K.seen writer.old).bytes (K.seen writer.new).bytes result (text.old.items ++ public_lines c) (text.new.items) }
+    ensures cause { IsPrintCause (K.seen writer.old) (K.seen writer.new) result }
+{
+    if has_publics(raw.kind) {
+        print_publics_of(writer, text, &view_known(raw))
+    } else {
+        Ok(())
+    }
+}
+
 /// Prints a line for each public name of a module, in file order.
 fn print_publics<K: Sink>(
     writer: &mut K,
@@ -211,8 +230,11 @@ fn print_publics<K: Sink>(
     ensures passes { Passes (K.seen writer.old).bytes (K.seen writer.new).bytes result (text.old.items ++ flat_map (λ r. public_lines r.contents) (recs_of checked.now.bytes)) (text.new.items) }
     ensures cause { IsPrintCause (K.seen writer.old) (K.seen writer.new) result }
 {
-    for (_place, rec) in checked.records() {
-        print_publics_of(writer, text, &rec)?;
+    let mut left = checked.bytes();
+    'records: while !left.is_empty() {
+        let (raw, rest) = split_record(left);
+        print_publics_in(writer, text, raw)?;
+        left = rest;
     }
     Ok(())
 }

@@ -4,10 +4,8 @@ use Rattle.omf_cmd.proofs.Reported.{AreWritten}
 use Rattle.omf_cmd.proofs.report.print_records.Given as goal
 
 -- what is kept, and the lines of the records that are left, are still to be written
-abbrev pub invariant-loop-place : goal.invariant-loop-place
-invariant-loop-place g l = record {
-  written : AreWritten (records_in l.checked.bytes) l.place-iterator (g.K.Sink.seen l.initial.writer).bytes (g.K.Sink.seen l.writer).bytes (l.initial.text.items) (l.text.items);
+abbrev pub invariant-loop-number : goal.invariant-loop-number
+invariant-loop-number g l = record {
+  written : AreWritten (records_in l.checked.bytes) l.number l.left (g.K.Sink.seen l.initial.writer).bytes (g.K.Sink.seen l.writer).bytes (l.initial.text.items) (l.text.items);
   unbroken : IsUnbroken (g.K.Sink.seen l.initial.writer) (g.K.Sink.seen l.writer);
-  next : (goal.iterator-loop-place g).can_next l.place-iterator;
-  finite : (goal.iterator-loop-place g).is_finite l.place-iterator;
 }
