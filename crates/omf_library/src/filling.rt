@@ -73,19 +73,23 @@ struct Entry<'a> {
     page: u16,
 }
 
-/// Where a block has a place for an entry.
+/// Where a block has a place for an entry. Buckets with one entry, one after another, as those of a closed block, are compared with the name once.
 fn slot_of(block: &[u8], probe: Probe, entry: Entry<'_>) -> Slot
     requires whole { 37 ≤ length block.now }
     requires bucket { probe.bucket < 37 }
     requires step { probe.bucket_step < 37 }
 {
     let mut bucket = probe.bucket;
+    let mut other = 0;
     for _looked in 0..BUCKETS {
-        match look_of(entry.is_case_sensitive, block, bucket, entry.name) {
-            Look::Empty => return Slot::Free(bucket),
-            Look::Found(page) => return Slot::Twice(page),
-            Look::Other => bucket = (bucket + probe.bucket_step) % BUCKETS,
+        if other == 0 || block[bucket] != other {
+            match look_of(entry.is_case_sensitive, block, bucket, entry.name) {
+                Look::Empty => return Slot::Free(bucket),
+                Look::Found(page) => return Slot::Twice(page),
+                Look::Other => other = block[bucket],
+            }
         }
+        bucket = (bucket + probe.bucket_step) % BUCKETS;
     }
     Slot::Full
 }
