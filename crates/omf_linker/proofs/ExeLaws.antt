@@ -13,8 +13,9 @@ use Rattle.omf_placement.specs.Derivation.{IsPlaceOf, KeepsPlace}
 use Rattle.omf_placement.specs.Derive.{PlacedModule, placed_modules}
 use Rattle.omf_placement.specs.Inner.Derived.{derived}
 use Rattle.omf_placement.specs.Placement.{Places}
+use Rattle.omf_placement.specs.Weak.{with_weak}
 use Rattle.omf_placement.proofs.DeriveLaws.{derived-fit}
-use Rattle.omf_output.specs.Exe.Derived.{AreMovers, based, lows, movers_in}
+use Rattle.omf_output.specs.Exe.Derived.{AreMovers, all_based, based, lows, movers_in}
 use Rattle.omf_output.specs.Exe.Members.{Member}
 use Rattle.omf_output.specs.Exe.Moved.{Movers}
 use Rattle.omf_output.proofs.DerivingLaws.{derived-many}
@@ -86,7 +87,7 @@ placements-many ms pls out given e d =
 
 pub movers-many : (ms : List Module) (placed : List PlacedModule) (given : List Given) (mvs : List Movers) → AreMovers (typed_modules ms) placed given mvs → length mvs ≡ length ms
 movers-many ms placed given mvs a =
-    let low = derived-many (based false (lows placed)) ms given a.low a.at_0 in
-    let high = derived-many (based true (lows placed)) ms given a.high a.higher in
+    let low = derived-many (based false (lows placed)) ms (with_weak (all_based false (typed_modules ms) placed) given) a.low a.at_0 in
+    let high = derived-many (based true (lows placed)) ms (with_weak (all_based true (typed_modules ms) placed) given) a.high a.higher in
     ap length a.each ∙ length-map (zip (typed_modules ms) (zip a.low a.high)) (movers_in (lows placed))
     ∙ zip-many (typed_modules ms) (zip a.low a.high) (zip-many a.low a.high (high ∙ sym low) ∙ low ∙ sym (typed-many ms)) ∙ typed-many ms

@@ -3,6 +3,7 @@ pub mod ArgLaws
 pub mod AskedLaws
 pub mod LinkLines
 pub mod LinkFiles
+pub mod FoldedRuns
 pub mod LinkRuns
 pub mod LinkWords
 pub mod LinkedModules
@@ -26,3 +27,4 @@ pub mod InputLaws
 pub mod OverlapLaws
 pub mod WideLaws
 pub mod LabelLaws
+pub mod SettledLaws

@@ -11,6 +11,7 @@ use Rattle.omf_placement.specs.declared.several.fault.DeriveFault.{DeriveFault}
 use Rattle.omf_placement.specs.declared.several.fault.DeriveFault.TheVariants as derive
 use Rattle.omf_layout.specs.declared.options.Options.{Options}
 use Rattle.omf_placement.specs.Placement.{Places}
+use Rattle.omf_placement.specs.Weak.{with_weak}
 use Rattle.omf_records.specs.Values.{Rec}
 use Rattle.omf_reloc.specs.declared.fault.ReachFault.{ReachFault}
 use Rattle.omf_output.specs.declared.rom.form.Form.{Form}
@@ -113,7 +114,7 @@ not_placed j [] e = absurd cc
 not_placed j (m ∷ ms) e = front_found (places_given j m.0 m.1) (places_of (j + 1) ms) (not_given j m.0 m.1) (not_placed (j + 1) ms) e
 
 not_by : (ms : List (List Rec)) (ss : List Sparse) (r : Result (List Places) LinkFault) → (r ≡ Err link.Read → ⊥) → found ms ss r ≡ Err link.Read → ⊥
-not_by ms ss (Ok pls) not e = not_found (derived (zip ms pls) (given_of ss)) e
+not_by ms ss (Ok pls) not e = not_found (derived (zip ms pls) (with_weak (zip ms pls) (given_of ss))) e
 not_by ms ss (Err x) not e = let same : x ≡ link.Read = cc in not (ap Err same)
 
 not_read : (ms : List (List Rec)) (r : Result (List Sparse) LocatorFault) → by_sparse ms r ≡ Err link.Read → ⊥

@@ -2,6 +2,7 @@
 
 mod block;
 mod by_name;
+mod case;
 mod fault;
 mod files;
 mod files_fault;
@@ -15,12 +16,14 @@ mod printing;
 mod program;
 mod rom;
 mod running;
+mod settled;
 mod unresolved;
 mod words;
 
 pub(crate) use by_name::{External, Spot, external_at};
+pub use case::{CasedWords, case_in};
 pub use fault::ImageFault;
-pub(crate) use files::refused;
+pub(crate) use files::{in_file, refused};
 pub use files::{file_front, files_text, run_files};
 pub use files_fault::FilesFault;
 pub(crate) use labels::LabeledModules;

@@ -10,6 +10,7 @@ use Rattle.omf_placement.specs.declared.several.given.Given.{Given}
 use Rattle.omf_placement.specs.declared.frame.Frame.{Frame}
 use Rattle.omf_placement.specs.declared.frame.Placed.{Placed}
 use Rattle.omf_placement.specs.Placement.{Places, real_group}
+use Rattle.omf_placement.specs.Weak.{with_weak}
 use Rattle.omf_reloc.specs.declared.fault.Kind.{Kind}
 use Rattle.omf_reloc.specs.declared.fault.Kind.TheVariants as kinds
 use Rattle.omf_reloc.specs.declared.fault.ReachFault.TheVariants as reach
@@ -70,13 +71,14 @@ given_in s = filter_map (given_as s.0) (enumerate_from 1 s.1.externals)
 abbrev pub given_of : List Sparse → List Given
 given_of ss = flat_map given_in (enumerate_from 0 ss)
 
--- The placements of modules by a text; or the first fault: a line, or a module with an entry that has no place, or an external without a place.
+-- The placements of modules by a text, where weak externals without a public have the places of their defaults; or the first fault: a line, or a module with an
+-- entry that has no place, or an external without a place.
 abbrev pub derived_or : Result (List Places) DeriveFault → Result (List Places) LinkFault
 derived_or (Ok pls) = Ok pls
 derived_or (Err f) = Err (of_derive f)
 
 abbrev pub found : List (List Rec) → List Sparse → Result (List Places) LinkFault → Result (List Places) LinkFault
-found ms ss (Ok pls) = derived_or (derived (zip ms pls) (given_of ss))
+found ms ss (Ok pls) = derived_or (derived (zip ms pls) (with_weak (zip ms pls) (given_of ss)))
 found ms ss (Err f) = Err f
 
 abbrev pub by_sparse : List (List Rec) → Result (List Sparse) LocatorFault → Result (List Places) LinkFault

@@ -11,7 +11,7 @@ ghost use Rattle.omf_linking.specs.declared.fault.LinkFault.TheVariants.{Memory}
 use crate::fault::LinkFault;
 use crate::locator::{Sparse, sparse_places};
 use omf_check::Checked;
-use omf_placement::{Frame, Given, Placed, Placement, derive, real_group};
+use omf_placement::{Frame, Given, Placed, Placement, derive, real_group, with_weak};
 use omf_reloc::{Kind, ReachFault};
 use std::alloc::{AllocError, Global};
 
@@ -154,7 +154,8 @@ fn given_of(alloc: Global, sparse: &[Sparse]) -> Result<Vec<Given>, AllocError>
 }
 
 /// Returns the placements of modules by a text: segments, groups and externals at the places that `sparse_places` finds in it; each other
-/// external at that of the one public of its name, as `derive` finds it.
+/// external at that of the one public of its name, as `derive` finds it; a weak one without a public at that of its default, as `with_weak`
+/// finds it.
 ///
 /// # Errors
 ///
@@ -172,7 +173,8 @@ pub fn link(alloc: Global, modules: &[Checked], text: &[u8]) -> Result<Vec<Place
     }
     let sparse = sparse_places(alloc, modules, text)?;
     let places = places_of(alloc, modules, &sparse)?;
-    let given = given_of(alloc, &sparse)?;
+    let by_hand = given_of(alloc, &sparse)?;
+    let given = with_weak(alloc, modules, &places, &by_hand)?;
     let placements = derive(alloc, modules, &places, &given)?;
     Ok(placements)
 }

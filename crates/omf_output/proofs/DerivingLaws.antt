@@ -1,7 +1,9 @@
 -- The bases of modules, at which their externals are derived.
-use Rattle.std.proofs.Common.{◌≡◌, ℕ, zero, suc, ◌+◌, ◌<◌, ◌≤◌, ◌∙◌, List, [], ◌∷◌, length, drop, get_or, Bool, refl, sym, ap, ap₂, arith}
+use Rattle.omf_placement.specs.declared.several.fault.DeriveFault.{DeriveFault}
+use Rattle.omf_placement.specs.declared.several.fault.DeriveFault.TheVariants as fault
+use Rattle.std.proofs.Common.{◌≡◌, ℕ, zero, suc, ◌+◌, ◌<◌, ◌≤◌, ◌∙◌, List, [], ◌∷◌, length, drop, get_or, Bool, refl, sym, ap, ap₂, arith, inl, inr, true, false}
 use Rattle.std.proofs.Math.Seq.{drop-nil}
-use Rattle.std.specs.Prelude.{map, zip, Some, None, Ok, slice_get}
+use Rattle.std.specs.Prelude.{map, zip, Some, None, Ok, slice_get, Err, Result, IsOk, ◌⊎◌}
 use Rattle.std.specs.List.{AllZip}
 use Rattle.std.proofs.lemmas.List.{length-map}
 use Rattle.std.proofs.lemmas.Option.{none-some, same_Some, slice_get-get_or}
@@ -14,9 +16,10 @@ use Rattle.omf_placement.specs.Derivation.{IsPlaceOf, KeepsPlace}
 use Rattle.omf_placement.specs.Derive.{PlacedModule}
 use Rattle.omf_placement.specs.Inner.Derived.{derived}
 use Rattle.omf_placement.specs.Placement.{Places}
+use Rattle.omf_placement.specs.Weak.{with_weak}
 use Rattle.omf_placement.proofs.DeriveLaws.{derived-fit}
 use Rattle.omf_output.specs.Exe.Based.{is_movable, segments_moving}
-use Rattle.omf_output.specs.Exe.Derived.{Named, based, frame_at, name_at, name_moves, names_moving, place_at}
+use Rattle.omf_output.specs.Exe.Derived.{Named, based, frame_at, name_at, name_moves, names_moving, place_at, IsMoversFault, derived_at}
 use Rattle.omf_output.proofs.LowLaws.{next-at}
 
 pub bases-are-places : (up : Bool) (ls : List Named) (ms : List (List Rec)) → AllZip IsPlaceOf ms (map (based up ls) ms)
@@ -80,3 +83,23 @@ paired f (m ∷ ms) = ap suc (paired f ms)
 pub derived-many : (f : List Rec → Places) (ms : List Module) (given : List Given) (pls : List Places) → derived (zip (typed_modules ms) (map f (typed_modules ms))) given ≡ Ok pls → length pls ≡ length ms
 derived-many f ms given pls e =
     as-many (zip (typed_modules ms) (map f (typed_modules ms))) pls (derived-fit _ given pls e) ∙ paired f (typed_modules ms) ∙ length-map ms (λ (m : Module). recs (records_in m.bytes))
+
+-- The bases of modules are as many; and what is derived at them with the entries of weak externals.
+pub as-many-based : (f : List Rec → Places) (ms : List Module) → length (map f (typed_modules ms)) ≡ length ms
+as-many-based f ms = length-map (typed_modules ms) f ∙ length-map ms (λ (m : Module). recs (records_in m.bytes))
+
+pub weakly-derived : (ms : List (List Rec)) (bases one two : List Places) (given entries : List Given) → one ≡ bases → two ≡ bases → entries ≡ with_weak (zip ms one) given
+    → derived (zip ms bases) (with_weak (zip ms bases) given) ≡ derived (zip ms two) entries
+weakly-derived ms bases one two given entries a b c =
+    ap₂ (λ (xs : List Places) (gs : List Given). derived (zip ms xs) gs) (sym b) (sym (c ∙ ap (λ (xs : List Places). with_weak (zip ms xs) given) a))
+
+-- The fault of a derivation at the bases at 0, or at those 16 bytes higher.
+pub low-fault : (ms : List (List Rec)) (placed : List PlacedModule) (given : List Given) (d : Result (List Places) DeriveFault) (f : DeriveFault) → derived_at false ms placed given ≡ d
+    → ((f ≡ fault.Memory) × IsOk d) ⊎ (d ≡ Err f) → IsMoversFault ms placed given f
+low-fault ms placed given d f e (inl h) = inl h.0
+low-fault ms placed given d f e (inr h) = inr (inl (e ∙ h))
+
+pub high-fault : (ms : List (List Rec)) (placed : List PlacedModule) (given : List Given) (d : Result (List Places) DeriveFault) (f : DeriveFault) → derived_at true ms placed given ≡ d
+    → ((f ≡ fault.Memory) × IsOk d) ⊎ (d ≡ Err f) → IsMoversFault ms placed given f
+high-fault ms placed given d f e (inl h) = inl h.0
+high-fault ms placed given d f e (inr h) = inr (inr (e ∙ h))

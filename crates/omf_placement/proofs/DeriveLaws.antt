@@ -15,11 +15,11 @@ use Rattle.omf_placement.specs.declared.frame.Placed.{Placed}
 use Rattle.omf_placement.specs.Placement.{Places}
 use Rattle.omf_placement.proofs.NamedLaws.{named-count}
 
-nil-left : {A : Type 0} (xs ys : List A) → xs ++ ys ≡ [] → xs ≡ []
+pub nil-left : {A : Type 0} (xs ys : List A) → xs ++ ys ≡ [] → xs ≡ []
 nil-left [] ys h = refl
 nil-left (x ∷ xs) ys h = absurd (omega (arith, ap length h))
 
-nil-right : {A : Type 0} (xs ys : List A) → xs ++ ys ≡ [] → ys ≡ []
+pub nil-right : {A : Type 0} (xs ys : List A) → xs ++ ys ≡ [] → ys ≡ []
 nil-right [] ys h = h
 nil-right (x ∷ xs) ys h = absurd (omega (arith, ap length h))
 

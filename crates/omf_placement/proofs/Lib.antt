@@ -16,3 +16,4 @@ pub mod TableLaws
 pub mod PairTableLaws
 pub mod LinkageLaws
 pub mod SearchLaws
+pub mod WeakLaws

@@ -55,7 +55,7 @@ module _ (among : Bool → List PlacedPublic) (given : List Given) (j : ℕ) (m 
   IsSoFar ps i = map (λ p. Ok p) ps ++ outcomes_from i ≡ external_places among given j m
 
   module _ (i : ℕ) (x : List ℕ × Bool) (low : 1 ≤ i) (e : entry (named_externals m) i ≡ Some x) where
-    next-outcome : outcomes_from i ≡ external_place (among x.1) given j i x.0 ∷ outcomes_from (i + 1)
+    pub next-outcome : outcomes_from i ≡ external_place (among x.1) given j i x.0 ∷ outcomes_from (i + 1)
     next-outcome =
         let back : suc (i - 1) ≡ i = omega (arith, low) in
         let next : i - 1 + 1 ≡ i + 1 - 1 = omega (arith, low) in
@@ -73,6 +73,9 @@ module _ (among : Bool → List PlacedPublic) (given : List Given) (j : ℕ) (m 
       after = outcomes_from (i + 1);
       all = sym h ∙ ap (λ rs. map (λ q. Ok q) ps ++ rs) next-outcome ∙ ap (λ r. map (λ q. Ok q) ps ++ r ∷ outcomes_from (i + 1)) e;
     }
+
+  pub none_from : (i : ℕ) → length (externals m) + 1 ≤ i → outcomes_from i ≡ []
+  none_from i l = ap (λ xs. map outcome (enumerate_from i xs)) (drop-past (named_externals m) (i - 1) (omega (arith, l, named-count m)))
 
   pub all-placed : (ps : List Placed) (i : ℕ) → length (externals m) + 1 ≤ i → IsSoFar ps i → external_places among given j m ≡ map (λ p. Ok p) ps
   all-placed ps i l h =

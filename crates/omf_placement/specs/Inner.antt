@@ -6,3 +6,4 @@ pub mod Deriving
 pub mod GivenTable
 pub mod PublicTable
 pub mod Names
+pub mod Pairing

@@ -6,3 +6,5 @@ pub mod Inner
 pub mod Quoted
 pub mod Derive
 pub mod Derivation
+pub mod Weak
+pub mod Rows

@@ -4,9 +4,14 @@ mod fault;
 mod given;
 pub mod laws;
 mod linkage;
+mod pairs;
 mod publics;
+pub mod rows;
 mod search;
+mod weak;
 
 pub use fault::DeriveFault;
 pub use given::Given;
 pub use linkage::derive;
+pub use pairs::{WeakPair, weak_pairs};
+pub use weak::with_weak;

@@ -2,10 +2,12 @@
 use Rattle.std.specs.Prelude.{◌≡◌, ◌⊎◌, ⊤, ℕ, ◌+◌, ◌≤◌, List, [], ◌∷◌, Bool, Some, None, Ok, Err, is_some, length}
 use Rattle.omf_check.specs.Module.{Module, typed_modules}
 use Rattle.omf_placement.specs.declared.several.fault.DeriveFault.{DeriveFault}
+use Rattle.omf_placement.specs.declared.several.given.Given.{Given}
 use Rattle.omf_placement.specs.Derive.{placed_modules}
 -- computed: derived_is_taken of omf_placement.
 use Rattle.omf_placement.specs.Inner.Derived.{derived}
 use Rattle.omf_placement.specs.Placement.{Places}
+use Rattle.omf_placement.specs.Weak.{with_weak}
 use Rattle.omf_layout.specs.declared.options.Frames.TheVariants.{Real}
 use Rattle.omf_layout.specs.declared.options.Options.{Options}
 use Rattle.omf_layout.specs.Several.Laying.{laid}
@@ -48,13 +50,17 @@ pub record AreLaid (ms : List Module) (places : List Places) : Type 0 where
   pub free : ℕ
   pub laid : arranged_places at_0 (typed_modules ms) ≡ Some (laid places free)
 
--- The modules of a program: each with the placement that is derived at these places, and with what moves of it. No external has a place given by hand.
+-- The entries of externals for `derive`: those of weak externals without a public, at the places of their defaults. No external has a place given by hand.
+abbrev pub weak_of : List Module → List Places → List Given
+weak_of ms places = with_weak (placed_modules ms places) []
+
+-- The modules of a program: each with the placement that is derived at these places, and with what moves of it.
 pub record AreMade (ms : List Module) (members : List Member) : Type 0 where
   pub places : List Places
   pub placements : List Places
   pub movers : List Movers
   pub laid : AreLaid ms places
-  pub derived : derived (placed_modules ms places) [] ≡ Ok placements
+  pub derived : derived (placed_modules ms places) (weak_of ms places) ≡ Ok placements
   pub moving : AreMovers (typed_modules ms) (placed_modules ms places) [] movers
   pub numbered : members ≡ members_from 0 ms placements movers
 
@@ -72,14 +78,14 @@ pub record IsMapOf (ms : List Module) (text : List ℕ) : Type 0 where
   pub places : List Places
   pub placements : List Places
   pub laid : AreLaid ms places
-  pub derived : derived (placed_modules ms places) [] ≡ Ok placements
+  pub derived : derived (placed_modules ms places) (weak_of ms places) ≡ Ok placements
   pub printed : text ≡ map_text (addressed (typed_modules ms) placements)
 
 -- Why modules are no program: a segment does not end below 2^20; an external has no place; or the modules so placed have a fault. Memory may run out at any time.
 pub record IsExternalFault (ms : List Module) (f : DeriveFault) : Type 0 where
   pub places : List Places
   pub laid : AreLaid ms places
-  pub fault : (derived (placed_modules ms places) [] ≡ Err f) ⊎ IsMoversFault (typed_modules ms) (placed_modules ms places) [] f
+  pub fault : (derived (placed_modules ms places) (weak_of ms places) ≡ Err f) ⊎ IsMoversFault (typed_modules ms) (placed_modules ms places) [] f
 
 pub record IsMemberFault (ms : List Module) (f : ExeFault) : Type 0 where
   pub members : List Member

@@ -1,5 +1,5 @@
 -- The externals for which no public or more than one is found, as text: a line for each name (a rule of this profile).
-use Rattle.std.specs.Prelude.{◌≡◌, ℕ, ◌+◌, List, [], ◌∷◌, ◌++◌, map, flat_map, Bool, true, false, Option, Some, None, Ok, slice_get, unwrap_or, bytes_eq, codes, decimal, ◌==◌, ◌&&◌, if◌then◌else◌}
+use Rattle.std.specs.Prelude.{◌≡◌, ℕ, ◌+◌, ◌-◌, List, [], ◌∷◌, ◌++◌, length, map, filter, flat_map, set, Bool, true, false, Option, Some, None, Ok, option_and_then, option_map, slice_get, unwrap_or, bytes_eq, codes, decimal, ◌==◌, ◌&&◌, ◌||◌, if◌then◌else◌}
 use Rattle.std.specs.BTreeMap.{BTreeMap, get_by}
 use Rattle.std.specs.Cmp.Lexicographic.{slice_cmp}
 use Rattle.std.specs.List.{enumerate_from}
@@ -9,7 +9,9 @@ use denote.Ref.{Bor}
 use Rattle.omf_check.specs.Tables.{entry}
 use Rattle.omf_placement.specs.Derive.{named_externals}
 use Rattle.omf_placement.specs.Quoted.{quoted}
+use Rattle.omf_placement.specs.Weak.{weak_pairs}
 use Rattle.omf_placement.specs.declared.frame.Placed.{Placed}
+use Rattle.omf_placement.specs.declared.several.pairs.WeakPair.{WeakPair}
 use Rattle.omf_records.specs.Values.{Rec}
 use Rattle.omf_linking.specs.Locator.Sparse.{Sparse, sparse}
 use Rattle.omf_linker.specs.Drafting.Names.{public_names}
@@ -66,15 +68,56 @@ given_to (Some s) i = has_place (entry s.externals i)
 abbrev pub is_given : List Sparse → ℕ → ℕ → Bool
 is_given by_hand j i = given_to (slice_get by_hand j) i
 
--- The externals of all modules that are not local and have no place by hand: they look among the publics of all modules.
-abbrev pub asked_row : List Sparse → ℕ → ℕ × (List ℕ × Bool) → List Row
-asked_row by_hand j e = if e.1.1 then [] else if is_given by_hand j e.0 then [] else (e.1.0, spot j e.0) ∷ []
+-- ---- externals that need no public
 
-abbrev pub asked_rows : List Sparse → ℕ × List Rec → List Row
-asked_rows by_hand m = flat_map (asked_row by_hand m.0) (enumerate_from 1 (named_externals m.1))
+-- Marks of the externals of a module with a place by hand.
+abbrev pub given_marks : List Sparse → ℕ × List Rec → List Bool
+given_marks by_hand m = map (λ e. is_given by_hand m.0 e.0) (enumerate_from 1 (named_externals m.1))
 
-abbrev pub all_asked : List Sparse → List (List Rec) → List Row
-all_asked by_hand ms = flat_map (asked_rows by_hand) (enumerate_from 0 ms)
+-- How many publics an external sees: a local one among the local publics of its module, any other among those of all modules that are not local.
+abbrev pub seen_count : (Bool → List Row) → List Rec → ℕ → Option ℕ
+seen_count among m i = option_map (λ e. length (spots_of (among e.1) e.0)) (entry (named_externals m) i)
+
+-- A pair of a weak external and its default serves, if no public has the name of the external, and the default has a place: by hand, or the one public of its name.
+abbrev pub is_count : ℕ → Option ℕ → Bool
+is_count n None = false
+is_count n (Some k) = k == n
+
+abbrev pub serves : (Bool → List Row) → List Bool → List Rec → WeakPair → Bool
+serves among given m p = is_count 0 (seen_count among m p.weak) && (unwrap_or (entry given p.substitute) false || is_count 1 (seen_count among m p.substitute))
+
+-- The pairs of a module that serve.
+abbrev pub rows_seen : List Row → ℕ × List Rec → Bool → List Row
+rows_seen publics m local = if local then rows_in m.0 (public_names true m.1) else publics
+
+abbrev pub serving : List Row → List Sparse → ℕ × List Rec → List WeakPair
+serving publics by_hand m = filter (serves (rows_seen publics m) (given_marks by_hand m) m.1) (weak_pairs m.1)
+
+-- Marks, with those of the weak externals of these pairs.
+abbrev pub with_marks : List WeakPair → List Bool → List Bool
+with_marks [] marks = marks
+with_marks (p ∷ ps) marks = with_marks ps (set marks (p.weak - 1) true)
+
+-- Marks of the externals of a module that need no public: those with a place by hand, and weak ones that their default serves.
+abbrev pub settled_in : List Row → List Sparse → ℕ × List Rec → List Bool
+settled_in publics by_hand m = with_marks (serving publics by_hand m) (given_marks by_hand m)
+
+abbrev pub all_settled : List (List Rec) → List Sparse → List (List Bool)
+all_settled ms by_hand = map (settled_in (all_rows ms) by_hand) (enumerate_from 0 ms)
+
+-- External i of module j needs no public.
+abbrev pub is_settled : List (List Bool) → ℕ → ℕ → Bool
+is_settled settled j i = unwrap_or (option_and_then (λ marks. entry marks i) (slice_get settled j)) false
+
+-- The other externals of all modules that are not local: they look among the publics of all modules.
+abbrev pub asked_row : List (List Bool) → ℕ → ℕ × (List ℕ × Bool) → List Row
+asked_row settled j e = if e.1.1 then [] else if is_settled settled j e.0 then [] else (e.1.0, spot j e.0) ∷ []
+
+abbrev pub asked_rows : List (List Bool) → ℕ × List Rec → List Row
+asked_rows settled m = flat_map (asked_row settled m.0) (enumerate_from 1 (named_externals m.1))
+
+abbrev pub all_asked : List (List Bool) → List (List Rec) → List Row
+all_asked settled ms = flat_map (asked_rows settled) (enumerate_from 0 ms)
 
 -- ---- the lines
 
@@ -120,22 +163,26 @@ is_spot (Some t) s = is_same t s
 abbrev pub is_first : List Spot → Spot → Bool
 is_first ss s = is_spot (slice_get ss 0) s
 
--- The text of an external that has no place by hand. A local one looks among the local publics of its module, any other among those of all modules that are not
+-- The text of an external that needs a public. A local one looks among the local publics of its module, any other among those of all modules that are not
 -- local; its name has a line at the first external that asks for it.
 abbrev pub asked_text : List (List ℕ) → List Row → List Row → List Row → List ℕ → Bool → Spot → List ℕ
 asked_text labels publics asks own name true s = found_text labels name (spots_of own name) (s ∷ [])
 asked_text labels publics asks own name false s = if is_first (spots_of asks name) s then found_text labels name (spots_of publics name) (spots_of asks name) else []
 
-abbrev pub external_text : List (List ℕ) → List Sparse → List Row → List Row → List Row → ℕ → ℕ × (List ℕ × Bool) → List ℕ
-external_text labels by_hand publics asks own j e = if is_given by_hand j e.0 then [] else asked_text labels publics asks own e.1.0 e.1.1 (spot j e.0)
+abbrev pub external_text : List (List ℕ) → List (List Bool) → List Row → List Row → List Row → ℕ → ℕ × (List ℕ × Bool) → List ℕ
+external_text labels settled publics asks own j e = if is_settled settled j e.0 then [] else asked_text labels publics asks own e.1.0 e.1.1 (spot j e.0)
 
-abbrev pub module_text : List (List ℕ) → List Sparse → List Row → List Row → ℕ × List Rec → List ℕ
-module_text labels by_hand publics asks m =
-    flat_map (external_text labels by_hand publics asks (rows_in m.0 (public_names true m.1)) m.0) (enumerate_from 1 (named_externals m.1))
+abbrev pub module_text : List (List ℕ) → List (List Bool) → List Row → List Row → ℕ × List Rec → List ℕ
+module_text labels settled publics asks m =
+    flat_map (external_text labels settled publics asks (rows_in m.0 (public_names true m.1)) m.0) (enumerate_from 1 (named_externals m.1))
+
+-- The lines of modules, by which of their externals need no public.
+abbrev pub settled_text : List (List ℕ) → List (List Rec) → List (List Bool) → List ℕ
+settled_text labels ms settled = flat_map (module_text labels settled (all_rows ms) (all_asked settled ms)) (enumerate_from 0 ms)
 
 -- The lines of modules, by what their externals are given by hand.
 abbrev pub unresolved_text : List (List ℕ) → List (List Rec) → List Sparse → List ℕ
-unresolved_text labels ms by_hand = flat_map (module_text labels by_hand (all_rows ms) (all_asked by_hand ms)) (enumerate_from 0 ms)
+unresolved_text labels ms by_hand = settled_text labels ms (all_settled ms by_hand)
 
 -- The lines of modules at the placements of a link text. Modules are named by these labels.
 abbrev pub AreLines : List (List ℕ) → List (List Rec) → List ℕ → List ℕ → Type 0

@@ -1,11 +1,13 @@
 -- The addresses that a map shows: of the segments, the publics and the externals of modules (this profile's rule).
-use Rattle.std.specs.Prelude.{ℕ, ◌+◌, ◌*◌, List, [], ◌∷◌, map, flat_map, filter_map, zip, Bool, true, false, Option, Some, None, option_and_then, option_map, bytes_eq, ◌==◌, if◌then◌else◌}
+use Rattle.std.specs.Prelude.{ℕ, ◌+◌, ◌-◌, ◌*◌, List, [], ◌∷◌, map, flat_map, filter_map, set, zip, Bool, true, false, Option, Some, None, is_none, is_some, option_and_then, option_map, bytes_eq, ◌==◌, ◌&&◌, if◌then◌else◌}
 use Rattle.std.specs.List.{enumerate_from}
 use Rattle.omf_check.specs.Tables.{entry}
 use Rattle.omf_frame.specs.Types.{is_local}
 use Rattle.omf_linking.specs.Locator.Sparse.{Sparse}
 use Rattle.omf_placement.specs.Derive.{named_externals}
 use Rattle.omf_placement.specs.Placement.{Places}
+use Rattle.omf_placement.specs.Weak.{weak_pairs}
+use Rattle.omf_placement.specs.declared.several.pairs.WeakPair.{WeakPair}
 use Rattle.omf_placement.specs.declared.frame.Placed.{Placed}
 use Rattle.omf_records.specs.Values.{At, Contents, PublicItem, Publics, Rec}
 
@@ -113,8 +115,31 @@ external_given among s e = place_or (option_and_then some_place (entry s.externa
 abbrev pub externals_given : (Bool → List NamedAddress) → List Rec × Sparse → List (Option ℕ)
 externals_given among m = map (external_given among m.1) (enumerate_from 1 (named_externals m.0))
 
+-- A weak external that the text gives no place, and whose name no public that it sees has, has the address of its default: of several pairs of one external that of
+-- the first whose default has one (TIS OMF 1.1, "COMENT", class A8H).
+abbrev pub is_unnamed : List (Option ℕ) → Bool
+is_unnamed [] = true
+is_unnamed (a ∷ more) = false
+
+abbrev pub is_missing : (Bool → List NamedAddress) → Sparse → ℕ → Option (List ℕ × Bool) → Bool
+is_missing among s i None = false
+is_missing among s i (Some e) = is_none (option_and_then some_place (entry s.externals i)) && is_unnamed (filter_map (of_name e.0) (among e.1))
+
+abbrev pub or_default : List (Option ℕ) → List (Option ℕ) → WeakPair → List (Option ℕ)
+or_default first xs p = if is_some (address_at xs p.weak) then xs else set xs (p.weak - 1) (address_at first p.substitute)
+
+abbrev pub for_missing : (Bool → List NamedAddress) → List Rec × Sparse → List (Option ℕ) → List (Option ℕ) → WeakPair → List (Option ℕ)
+for_missing among m first xs p = if is_missing among m.1 p.weak (entry (named_externals m.0) p.weak) then or_default first xs p else xs
+
+abbrev pub with_defaults : (Bool → List NamedAddress) → List Rec × Sparse → List (Option ℕ) → List WeakPair → List (Option ℕ) → List (Option ℕ)
+with_defaults among m first [] xs = xs
+with_defaults among m first (p ∷ ps) xs = with_defaults among m first ps (for_missing among m first xs p)
+
+abbrev pub externals_settled : (Bool → List NamedAddress) → List Rec × Sparse → List (Option ℕ)
+externals_settled among m = with_defaults among m (externals_given among m) (weak_pairs m.0) (externals_given among m)
+
 abbrev pub addresses_given : List NamedAddress → List Rec × Sparse → Addresses
-addresses_given all m = record { segments = segments_given m.1; externals = externals_given (seen_given all m) m }
+addresses_given all m = record { segments = segments_given m.1; externals = externals_settled (seen_given all m) m }
 
 abbrev pub addressed_by : List (List Rec) → List Sparse → List AddressedModule
 addressed_by ms ss = zip ms (map (addresses_given (all_given ms ss)) (zip ms ss))

@@ -5,7 +5,7 @@ ghost use Rattle.omf_check.specs.Module.{typed_modules};
 ghost use Rattle.omf_output.specs.Exe.Derived.{AreMovers};
 ghost use Rattle.omf_placement.specs.Derive.{placed_modules};
 ghost use Rattle.omf_placement.specs.Inner.Derived.{derived};
-ghost use Rattle.omf_linker.specs.Exe.Program.{AreLaid, AreMade, IsComOf, IsComProgramFault, IsExternalFault, IsMapOf, IsPlacingFault, IsProgramFault, IsProgramOf, members_from};
+ghost use Rattle.omf_linker.specs.Exe.Program.{AreLaid, AreMade, IsComOf, IsComProgramFault, IsExternalFault, IsMapOf, IsPlacingFault, IsProgramFault, IsProgramOf, members_from, weak_of};
 
 use crate::exe::fault::{ComProgramFault, PlacingFault, ProgramFault};
 use crate::map::map_text;
@@ -13,7 +13,7 @@ use omf_check::Checked;
 use omf_layout::several::place_segments;
 use omf_layout::{Frames, LayoutFault, Options};
 use omf_output::exe::{ExeFault, ExeFile, Member, Movers, link_com, link_exe, movers_of};
-use omf_placement::{DeriveFault, Placement, derive};
+use omf_placement::{DeriveFault, Placement, derive, with_weak};
 use std::alloc::{AllocError, Global};
 
 /// The places of modules from address 0 on, in real mode.
@@ -44,11 +44,12 @@ struct Settled {
 fn settle(alloc: Global, modules: &[Checked], places: &[Placement]) -> Result<Settled, DeriveFault>
     requires few { length modules.now < 2 ^ 32 }
     requires laid { AreLaid modules.now places.now }
-    ensures derived { IfOk result (λ s. derived (placed_modules modules.now places.now) [] ≡ Ok s.placements.items) }
+    ensures derived { IfOk result (λ s. derived (placed_modules modules.now places.now) (weak_of modules.now places.now) ≡ Ok s.placements.items) }
     ensures moving { IfOk result (λ s. AreMovers (typed_modules modules.now) (placed_modules modules.now places.now) [] s.movers.items) }
     ensures fault { IfErr result (IsExternalFault modules.now) }
 {
-    let placements = derive(alloc, modules, places, &[])?;
+    let given = with_weak(alloc, modules, places, &[])?;
+    let placements = derive(alloc, modules, places, &given)?;
     let movers = movers_of(alloc, modules, places, &[])?;
     Ok(Settled { placements, movers })
 }
@@ -111,7 +112,7 @@ fn file_of(
     }
 }
 
-/// The MZ file (.EXE) of modules: laid out from address 0 on in real mode, each external at the only public of its name.
+/// The MZ file (.EXE) of modules: laid out from address 0 on in real mode, each external at the only public of its name, and a weak one without a public at its default.
 ///
 /// What DOS loads at paragraph k, for every k, is what the modules are at their placements moved by k paragraphs.
 ///

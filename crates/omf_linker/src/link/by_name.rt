@@ -9,6 +9,7 @@ ghost use Rattle.omf_linker.specs.Drafting.Names.{names_asked, names_in, names_o
 ghost use Rattle.omf_linker.specs.Link.Unresolved.{HasMore, IsByName, Row, all_asked, all_rows, asked_row, asked_rows, has_place, is_given, items_or, rows_in, spots_of};
 
 use crate::drafting::has_asked;
+use crate::link::settled::{Settled, is_settled};
 use omf_check::{Checked, entry_of};
 use omf_linking::locator::Sparse;
 use omf_placement::Placed;
@@ -220,58 +221,58 @@ impl<'a> ByName<'a> {
         Ok(table)
     }
 
-    /// Adds an external, if it is not local and has no place by hand.
+    /// Adds an external, if it is not local and needs a public.
     fn add_external(
         &mut self,
         alloc: Global,
-        by_hand: &[Sparse],
+        settled: &[Settled],
         external: External<'a>,
     ) -> Result<(), AllocError>
-        ensures { OnOk result (HasMore self.old.spots self.new.spots (asked_row by_hand.now external.entry.spot.«module» (external.entry.spot.external, (external.entry.name.now, external.entry.local)))) }
+        ensures { OnOk result (HasMore self.old.spots self.new.spots (asked_row settled.now external.entry.spot.«module» (external.entry.spot.external, (external.entry.name.now, external.entry.local)))) }
     {
         if external.local {
             return Ok(());
         }
-        if is_given(by_hand, external.spot.module, external.spot.external) {
+        if is_settled(settled, external.spot.module, external.spot.external) {
             return Ok(());
         }
         self.add(alloc, external.name, external.spot)
     }
 
-    /// Adds the externals of a module with this number that are not local and have no place by hand.
+    /// Adds the externals of a module with this number that are not local and need a public.
     fn add_externals(
         &mut self,
         alloc: Global,
-        by_hand: &[Sparse],
+        settled: &[Settled],
         number: u32,
         module: &'a Checked,
     ) -> Result<(), AllocError>
-        ensures { OnOk result (HasMore self.old.spots self.new.spots (asked_rows by_hand.now (number, recs_of «module».entry.now.bytes))) }
+        ensures { OnOk result (HasMore self.old.spots self.new.spots (asked_rows settled.now (number, recs_of «module».entry.now.bytes))) }
     {
         for before in 0..module.externals() {
             let spot = Spot {
                 module: number,
                 external: before + 1,
             };
-            self.add_external(alloc, by_hand, external_at(module, spot))?;
+            self.add_external(alloc, settled, external_at(module, spot))?;
         }
         Ok(())
     }
 
-    /// Returns the externals of all modules that are not local and have no place by hand.
+    /// Returns the externals of all modules that are not local and need a public.
     pub(crate) fn of_externals(
         alloc: Global,
-        by_hand: &[Sparse],
+        settled: &[Settled],
         modules: &'a [Checked],
     ) -> Result<ByName<'a>, AllocError>
         requires { length modules.now < 2 ^ 32 }
-        ensures { IfOk result (λ t. IsByName t.spots (all_asked by_hand.now (typed_modules modules.entry.now))) }
+        ensures { IfOk result (λ t. IsByName t.spots (all_asked settled.now (typed_modules modules.entry.now))) }
     {
         let mut table = ByName {
             spots: BTreeMap::new(alloc),
         };
         for (j, module) in modules.iter().enumerate() {
-            table.add_externals(alloc, by_hand, j as u32, module)?;
+            table.add_externals(alloc, settled, j as u32, module)?;
         }
         Ok(table)
     }

@@ -11,7 +11,8 @@ ghost use Rattle.omf_placement.specs.Derive.{named_externals};
 ghost use Rattle.omf_linker.specs.Link.Repeated.{IsRepeatedText, repeated_line};
 ghost use Rattle.omf_linker.specs.Link.Unresolved.{IsByName, Row, after, all_rows, asked_text, external_text, found_text, is_first, is_last, is_same, label_of, module_text, modules_text, name_line, next_text, spots_of, unresolved_text};
 
-use crate::link::by_name::{ByName, External, Spot, external_at, is_given};
+use crate::link::by_name::{ByName, External, Spot, external_at};
+use crate::link::settled::{Settled, all_settled, is_settled};
 use omf_check::Checked;
 use omf_layout::printing::print_quoted;
 use omf_linking::locator::Sparse;
@@ -137,7 +138,7 @@ fn is_first(spots: &[Spot], spot: Spot) -> bool
 struct Tables<'a> {
     /// The publics that are not local.
     publics: ByName<'a>,
-    /// The externals that are not local and have no place by hand.
+    /// The externals that are not local and need a public.
     asks: ByName<'a>,
 }
 
@@ -171,7 +172,7 @@ fn put_shared<'a>(
     put_found(text, labels, name, tables.publics.spots(name), askers)
 }
 
-/// Appends the line of an external that has no place by hand.
+/// Appends the line of an external that needs a public.
 fn put_asked<'a>(
     text: &mut String,
     labels: &[String],
@@ -188,18 +189,18 @@ fn put_asked<'a>(
     }
 }
 
-/// Appends the line of an external, if it has no place by hand.
+/// Appends the line of an external, if it needs a public.
 fn put_external<'a>(
     text: &mut String,
     labels: &[String],
-    by_hand: &[Sparse],
+    settled: &[Settled],
     tables: &Tables<'a>,
     own: &ByName<'a>,
     external: External<'a>,
 ) -> Result<(), AllocError>
-    ensures { (publics asks rows : List Row) → IsByName tables.now.publics.spots publics → IsByName tables.now.asks.spots asks → IsByName own.now.spots rows → AddsText result (string_bytes text.old) (string_bytes text.new) (external_text (map string_bytes labels.now) by_hand.now publics asks rows external.entry.spot.«module» (external.entry.spot.external, (external.entry.name.now, external.entry.local))) }
+    ensures { (publics asks rows : List Row) → IsByName tables.now.publics.spots publics → IsByName tables.now.asks.spots asks → IsByName own.now.spots rows → AddsText result (string_bytes text.old) (string_bytes text.new) (external_text (map string_bytes labels.now) settled.now publics asks rows external.entry.spot.«module» (external.entry.spot.external, (external.entry.name.now, external.entry.local))) }
 {
-    if is_given(by_hand, external.spot.module, external.spot.external) {
+    if is_settled(settled, external.spot.module, external.spot.external) {
         return Ok(());
     }
     put_asked(text, labels, tables, own, external)
@@ -209,13 +210,13 @@ fn put_external<'a>(
 fn put_module<'a>(
     text: &mut String,
     labels: &[String],
-    by_hand: &[Sparse],
+    settled: &[Settled],
     tables: &Tables<'a>,
     own: &ByName<'a>,
     module: &'a Checked,
     number: u32,
 ) -> Result<(), AllocError>
-    ensures { (publics asks rows : List Row) → IsByName tables.now.publics.spots publics → IsByName tables.now.asks.spots asks → IsByName own.now.spots rows → AddsText result (string_bytes text.old) (string_bytes text.new) (flat_map (external_text (map string_bytes labels.now) by_hand.now publics asks rows number) (enumerate_from 1 (named_externals (recs_of «module».entry.now.bytes)))) }
+    ensures { (publics asks rows : List Row) → IsByName tables.now.publics.spots publics → IsByName tables.now.asks.spots asks → IsByName own.now.spots rows → AddsText result (string_bytes text.old) (string_bytes text.new) (flat_map (external_text (map string_bytes labels.now) settled.now publics asks rows number) (enumerate_from 1 (named_externals (recs_of «module».entry.now.bytes)))) }
 {
     for before in 0..module.externals() {
         let spot = Spot {
@@ -223,7 +224,7 @@ fn put_module<'a>(
             external: before + 1,
         };
         let external = external_at(module, spot);
-        put_external(text, labels, by_hand, tables, own, external)?;
+        put_external(text, labels, settled, tables, own, external)?;
     }
     Ok(())
 }
@@ -233,23 +234,24 @@ fn put_all<'a>(
     alloc: Global,
     text: &mut String,
     labels: &[String],
-    by_hand: &[Sparse],
+    settled: &[Settled],
     tables: &Tables<'a>,
     modules: &'a [Checked],
 ) -> Result<(), AllocError>
     requires { length modules.now < 2 ^ 32 }
-    ensures { (publics asks : List Row) → IsByName tables.now.publics.spots publics → IsByName tables.now.asks.spots asks → AddsText result (string_bytes text.old) (string_bytes text.new) (flat_map (module_text (map string_bytes labels.now) by_hand.now publics asks) (enumerate_from 0 (typed_modules modules.entry.now))) }
+    ensures { (publics asks : List Row) → IsByName tables.now.publics.spots publics → IsByName tables.now.asks.spots asks → AddsText result (string_bytes text.old) (string_bytes text.new) (flat_map (module_text (map string_bytes labels.now) settled.now publics asks) (enumerate_from 0 (typed_modules modules.entry.now))) }
 {
     for (j, module) in modules.iter().enumerate() {
         let own = ByName::of_locals(alloc, j as u32, module)?;
-        put_module(text, labels, by_hand, tables, &own, module, j as u32)?;
+        put_module(text, labels, settled, tables, &own, module, j as u32)?;
     }
     Ok(())
 }
 
 /// The externals of modules for which no public or more than one is found, as text: a line for each name, in the order in which the names
 /// first appear. `undefined "NAME": M, N` has the modules that ask for it, and `twice "NAME": M, N` the modules that define it. A local
-/// external has a line of its own. Externals that are given a place by hand are left out. A module is named by its label, or if it has
+/// external has a line of its own. Externals that are given a place by hand are left out, and so are weak ones without a public whose default
+/// has a place by hand or the one public of its name. A module is named by its label, or if it has
 /// none by its number from 1, as `module 1`.
 ///
 /// # Errors
@@ -264,12 +266,12 @@ pub fn unresolved_text(
     requires { length modules.now < 2 ^ 32 }
     ensures { IfOk result (λ t. string_bytes t ≡ unresolved_text (map string_bytes labels.now) (typed_modules modules.now) by_hand.now) }
 {
-    let tables = Tables {
-        publics: ByName::of(alloc, modules)?,
-        asks: ByName::of_externals(alloc, by_hand, modules)?,
-    };
+    let publics = ByName::of(alloc, modules)?;
+    let settled = all_settled(alloc, &publics, by_hand, modules)?;
+    let asks = ByName::of_externals(alloc, &settled, modules)?;
+    let tables = Tables { publics, asks };
     let mut text = String::new(alloc);
-    put_all(alloc, &mut text, labels, by_hand, &tables, modules)?;
+    put_all(alloc, &mut text, labels, &settled, &tables, modules)?;
     Ok(text)
 }
 

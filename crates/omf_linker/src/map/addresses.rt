@@ -72,6 +72,13 @@ fn externals_of(alloc: Global, placement: &Placement) -> Result<Vec<Option<u64>>
     Ok(addresses)
 }
 
+/// The address of the entry with an index, from 1, if it has one.
+pub(crate) fn known_at(addresses: &[Option<u64>], index: u16) -> Option<u64>
+    ensures { result ≡ address_at addresses.now index }
+{
+    entry_of(addresses, usize::from(index))?
+}
+
 impl Addresses {
     /// These addresses.
     pub(crate) fn new(segments: Vec<Option<u32>>, externals: Vec<Option<u64>>) -> Addresses
@@ -119,6 +126,6 @@ impl Addresses {
     pub(crate) fn external(&self, index: u16) -> Option<u64>
         ensures { result ≡ address_at self.now.externals index }
     {
-        entry_of(&self.externals, usize::from(index))?
+        known_at(&self.externals, index)
     }
 }

@@ -1,10 +1,10 @@
 //! The addresses of publics, and a table of them by name.
 
-ghost use Rattle.std.specs.Prelude.{◌≡◌, ◌+◌, ◌∷◌, [], IfOk, List, OnOk, length, option_map, true};
+ghost use Rattle.std.specs.Prelude.{◌≡◌, ◌+◌, ◌∷◌, [], IfOk, List, OnOk, filter_map, length, option_map, true};
 ghost use Rattle.omf_check.specs.Module.{recs_of, typed_modules};
 ghost use Rattle.omf_records.specs.Inner.Seen.{contents_seen, kind_seen};
 ghost use Rattle.omf_linker.specs.Inner.PublicAddresses.{HasMore, IsTable, address_after, based};
-ghost use Rattle.omf_linker.specs.Map.Addresses.{NamedAddress, all_given, base_at, named_address, public_at, publics_asked, publics_at, publics_of, segments_given};
+ghost use Rattle.omf_linker.specs.Map.Addresses.{NamedAddress, all_given, base_at, is_unnamed, named_address, of_name, public_at, publics_asked, publics_at, publics_of, segments_given};
 
 use crate::map::addresses::given_addresses;
 use omf_check::{Checked, entry_of};
@@ -200,6 +200,13 @@ impl<'a> PublicAddresses<'a> {
             table.add_module(false, module, &segments)?;
         }
         Ok(table)
+    }
+
+    /// Whether no public has a name.
+    pub(crate) fn lacks(&self, name: &'a [u8]) -> bool
+        ensures { (among : List NamedAddress) → IsTable self.now.by_name among → result ≡ is_unnamed (filter_map (of_name name.now) among) }
+    {
+        self.by_name.get(&name).is_none()
     }
 
     /// The address of the one public of a name; none if there is no public, or more than one.

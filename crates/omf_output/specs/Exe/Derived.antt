@@ -16,6 +16,7 @@ use Rattle.omf_placement.specs.Derive.{PlacedModule}
 -- computed: derived_is_taken of omf_placement.
 use Rattle.omf_placement.specs.Inner.Derived.{derived}
 use Rattle.omf_placement.specs.Placement.{Places, lowest, members_placed}
+use Rattle.omf_placement.specs.Weak.{with_weak}
 use Rattle.omf_output.specs.declared.exe.movers.Moving.{Moving}
 use Rattle.omf_output.specs.Exe.Based.{segments_moving}
 use Rattle.omf_output.specs.Exe.Moved.{Movers, both}
@@ -116,9 +117,12 @@ movers_in ls x = record { segments = segments_moving x.0; groups = names_moving 
 abbrev pub all_movers : List Named → List (List Rec) → List Places → List Places → List Movers
 all_movers ls ms low high = map (movers_in ls) (zip ms (zip low high))
 
--- The placements that are derived at such bases.
+-- The placements that are derived at such bases, where weak externals without a public have the places of their defaults.
+abbrev pub all_based : Bool → List (List Rec) → List PlacedModule → List PlacedModule
+all_based up ms placed = zip ms (map (based up (lows placed)) ms)
+
 abbrev pub derived_at : Bool → List (List Rec) → List PlacedModule → List Given → Result (List Places) DeriveFault
-derived_at up ms placed given = derived (zip ms (map (based up (lows placed)) ms)) given
+derived_at up ms placed given = derived (all_based up ms placed) (with_weak (all_based up ms placed) given)
 
 -- What moves of modules at their places, where these places are given to externals by hand: those do not move.
 pub record AreMovers (ms : List (List Rec)) (placed : List PlacedModule) (given : List Given) (movers : List Movers) : Type 0 where

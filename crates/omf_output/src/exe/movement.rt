@@ -10,7 +10,7 @@ ghost use Rattle.omf_output.specs.Exe.Derived.{AreMovers, IsLowTable, IsMoversFa
 use crate::exe::groups::{LowTable, segments_moving};
 use crate::exe::movers::{Movers, Moving};
 use omf_check::Checked;
-use omf_placement::{DeriveFault, Frame, Given, Placed, Placement, derive};
+use omf_placement::{DeriveFault, Frame, Given, Placed, Placement, derive, with_weak};
 use std::alloc::{AllocError, Global};
 
 /// The frame at address 0, or 16 bytes higher.
@@ -186,7 +186,7 @@ fn all_movers<'a>(
 /// - a segment, unless it is absolute;
 /// - a group, if the lowest member of the groups of its name, over all modules, moves;
 /// - an external as the base of the public whose place it has: its address as the segment does, its frame as the group does, or the segment
-///   if there is no group. One with a place given by hand does not move.
+///   if there is no group. One with a place given by hand does not move; a weak one without a public moves as its default does.
 ///
 /// There must be one of `places` for each module, and fewer than 2^32 modules.
 ///
@@ -206,8 +206,10 @@ pub fn movers_of(
 {
     let table = LowTable::of(alloc, modules, places)?;
     let at_0 = all_based(alloc, false, &table, modules)?;
-    let low = derive(alloc, modules, &at_0, given)?;
+    let low_given = with_weak(alloc, modules, &at_0, given)?;
+    let low = derive(alloc, modules, &at_0, &low_given)?;
     let higher = all_based(alloc, true, &table, modules)?;
-    let high = derive(alloc, modules, &higher, given)?;
+    let high_given = with_weak(alloc, modules, &higher, given)?;
+    let high = derive(alloc, modules, &higher, &high_given)?;
     Ok(all_movers(alloc, &table, modules, &low, &high)?)
 }

@@ -38,7 +38,7 @@ fn external_place<'a>(
 }
 
 /// The place of an external with this name, by the publics that it can refer to: those of its own module if it is local, else all.
-fn visible_place<'a>(
+pub(crate) fn visible_place<'a>(
     all: &PublicTable<'a>,
     own: &PublicTable<'a>,
     given: &GivenTable,

@@ -6,3 +6,6 @@ derive-requires-clause-placed c = are-places c.args.modules.now c.args.places.no
 
 pub movers_of-requires-clause-placed : goal.movers_of-requires-clause-placed
 movers_of-requires-clause-placed c = laid-many c.args.modules.now c.args.places.now c.requires.laid
+
+pub with_weak-requires-clause-placed : goal.with_weak-requires-clause-placed
+with_weak-requires-clause-placed c = laid-many c.args.modules.now c.args.places.now c.requires.laid

@@ -16,7 +16,7 @@ loop-j-preserved c = λ publics asks h a.
     let ms = c.args.modules.now in
     let j = c.loop-j.j in
     let m = recs (records_in c.index-modules-j.result.bytes) in
-    let f = module_text (map string_bytes c.args.labels.now) c.args.by_hand.now publics asks in
+    let f = module_text (map string_bytes c.args.labels.now) c.args.settled.now publics asks in
     part_more _ _ (f (j, m)) _ _ _ (c.in_ok-put_module.ensures publics asks _ h a c.in_ok-own.ensures)
     (ap (λ xs. flat_map f (enumerate_from j xs)) (next-one ms j c.index-modules-j.result c.index-modules-j.is c.loop-j-test.true)) (c.loop-j.invariant publics asks h a)
 
@@ -24,5 +24,5 @@ pub returns : goal.returns
 returns c = λ publics asks h a.
     let ms = c.args.modules.now in
     let j = c.loop-j.j in
-    let f = module_text (map string_bytes c.args.labels.now) c.args.by_hand.now publics asks in
+    let f = module_text (map string_bytes c.args.labels.now) c.args.settled.now publics asks in
     no_part_left _ _ _ (ap (λ xs. flat_map f (enumerate_from j xs)) (none-left ms j c.loop-j-test.false)) (c.loop-j.invariant publics asks h a)

@@ -8,5 +8,5 @@ use Rattle.omf_linker.proofs.link.unresolved.put_all.Given as goal
 -- the lines so far, and those that are left
 abbrev pub invariant-loop-j : goal.invariant-loop-j
 invariant-loop-j l = (publics asks : List Row) → IsByName l.tables.publics.spots publics → IsByName l.tables.asks.spots asks
-    → let f = module_text (map string_bytes l.labels) l.by_hand publics asks in
+    → let f = module_text (map string_bytes l.labels) l.settled publics asks in
     string_bytes l.text ++ flat_map f (enumerate_from l.j (typed_modules (drop l.j l.modules))) ≡ string_bytes l.fn.text ++ flat_map f (enumerate_from 0 (typed_modules l.modules))

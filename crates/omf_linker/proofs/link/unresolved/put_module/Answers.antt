@@ -22,8 +22,8 @@ loop-before-preserved c =
     record {
       end = c.loop-before.invariant.end;
       lines = λ publics asks rows h a o.
-          let f = external_text (map string_bytes c.args.labels.now) c.args.by_hand.now publics asks rows c.args.number in
-          let g = external_text (map string_bytes c.args.labels.now) c.args.by_hand.now publics asks rows in
+          let f = external_text (map string_bytes c.args.labels.now) c.args.settled.now publics asks rows c.args.number in
+          let g = external_text (map string_bytes c.args.labels.now) c.args.settled.now publics asks rows in
           part_more _ _ (f (k + 1, (x.name.now, x.local))) _ _ _
           (c.in_ok-put_external.ensures publics asks rows h a o ∙ ap (λ (s : Spot). string_bytes c.loop-before.text ++ g s.«module» (s.external, (x.name.now, x.local))) e)
           (ap (λ xs. flat_map f (enumerate_from (k + 1) xs)) (next_entry (named_externals m) k (x.name.now, x.local) c.external_at-external.ensures.named)) (c.loop-before.invariant.lines publics asks rows h a o);
@@ -33,6 +33,6 @@ pub returns : goal.returns
 returns c = λ publics asks rows h a o.
     let m = recs (records_in c.args.«module».now.bytes) in
     let k = c.loop-before.before in
-    let f = external_text (map string_bytes c.args.labels.now) c.args.by_hand.now publics asks rows c.args.number in
+    let f = external_text (map string_bytes c.args.labels.now) c.args.settled.now publics asks rows c.args.number in
     no_part_left _ _ _ (ap (λ xs. flat_map f (enumerate_from (k + 1) xs)) (none_after (named_externals m) k (omega (arith, c.loop-before-test.false, c.loop-before.invariant.end, named-count m))))
     (c.loop-before.invariant.lines publics asks rows h a o)

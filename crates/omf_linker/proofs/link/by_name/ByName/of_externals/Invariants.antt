@@ -8,4 +8,4 @@ use Rattle.omf_linker.proofs.link.by_name.ByName.of_externals.Given as goal
 
 -- the externals of the modules so far are in the table
 abbrev pub invariant-loop-j : goal.invariant-loop-j
-invariant-loop-j l = IsFilled IsByName l.initial.table.spots l.table.spots (flat_map (asked_rows l.by_hand) (enumerate_from l.j (typed_modules (drop l.j l.modules)))) (all_asked l.by_hand (typed_modules l.modules))
+invariant-loop-j l = IsFilled IsByName l.initial.table.spots l.table.spots (flat_map (asked_rows l.settled) (enumerate_from l.j (typed_modules (drop l.j l.modules)))) (all_asked l.settled (typed_modules l.modules))
