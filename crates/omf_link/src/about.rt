@@ -5,14 +5,14 @@ use omf_host::About;
 /// Its name, how it is called, and what its tasks and options do. The second is that of `omf_linker::link::Link`.
 pub(crate) const ABOUT: About = About {
     name: "omf-link",
-    usage: "usage: omf-link exe -o FILE [--map FILE] [--stack SIZE] [--order dos|input] [--library-path DIR] [--no-default-libraries] FILE ..
-       omf-link com -o FILE [--map FILE] [--stack SIZE] [--order dos|input] [--library-path DIR] [--no-default-libraries] FILE ..
-       omf-link image [--allow KIND] [-t TEXT] [-o FILE] [FILE ..]
-       omf-link map [-t TEXT] [-o FILE] [FILE ..]
-       omf-link bin --base ADDRESS --size SIZE [--fill BYTE] [--allow KIND] [-t TEXT] [-o FILE] [FILE ..]
-       omf-link hex [--addresses linear|segment] [--allow KIND] [-t TEXT] [-o FILE] [FILE ..]
-       omf-link srec [--addresses 16|24|32] [--allow KIND] [-t TEXT] [-o FILE] [FILE ..]
-       omf-link draft [--base ADDRESS] [--real | --flat SELECTOR] [-o FILE] [FILE ..]
+    usage: "usage: omf-link exe -o FILE [--map FILE] [--stack SIZE] [--order dos|input] [--library-path DIR] [--no-default-libraries] [--ignore-case] FILE ..
+       omf-link com -o FILE [--map FILE] [--stack SIZE] [--order dos|input] [--library-path DIR] [--no-default-libraries] [--ignore-case] FILE ..
+       omf-link image [--allow KIND] [--ignore-case] [-t TEXT] [-o FILE] [FILE ..]
+       omf-link map [--ignore-case] [-t TEXT] [-o FILE] [FILE ..]
+       omf-link bin --base ADDRESS --size SIZE [--fill BYTE] [--allow KIND] [--ignore-case] [-t TEXT] [-o FILE] [FILE ..]
+       omf-link hex [--addresses linear|segment] [--allow KIND] [--ignore-case] [-t TEXT] [-o FILE] [FILE ..]
+       omf-link srec [--addresses 16|24|32] [--allow KIND] [--ignore-case] [-t TEXT] [-o FILE] [FILE ..]
+       omf-link draft [--base ADDRESS] [--real | --flat SELECTOR] [--ignore-case] [-o FILE] [FILE ..]
 ",
     details: "
   exe     a DOS program (.EXE) of object modules (.OBJ) and libraries (.LIB)
@@ -36,6 +36,8 @@ pub(crate) const ABOUT: About = About {
   --allow KIND             image, bin, hex, srec: a warning in place of a fault where
                            the text does this: overlap, align or group; or where
                            modules define a name twice that none asks for: twice
+  --ignore-case            the case of publics, externals and communals does not
+                           count; they are shown in lower case
   --base ADDRESS           bin: the address of the first byte; draft: of the first
                            segment (default 10000); hexadecimal
   --size SIZE              bin: the number of bytes, hexadecimal

@@ -10,11 +10,12 @@ use omf_host::{
 use omf_linker::asked::{Asked, sorted};
 use omf_linker::exe::{Call, call_of};
 use omf_linker::host::{read_or_tell, run_on_input, write_output_or_tell};
-use omf_linker::link::{FilesFault, InputFile, Link, Output, Task, task_of};
+use omf_linker::link::{FilesFault, ImageFault, InputFile, Link, Output, Task, case_in, task_of};
 use omf_linker::seen::{
-    Allowed, Request, SeenText, allowed_in, files_seen, input_seen, is_looked_at,
+    Allowed, Request, SeenText, allowed_in, files_folded, files_seen, input_folded, input_seen,
+    is_looked_at,
 };
-use std::alloc::AllocError;
+use std::alloc::{AllocError, Global};
 use std::process::ExitCode;
 
 /// Reads the files. None if one could not be read.
@@ -61,12 +62,52 @@ fn written<K: Sink>(
     }
 }
 
+/// How a task is done.
+#[derive(Clone, Copy)]
+struct Manner {
+    /// The task.
+    task: Task,
+    /// What the link text may do.
+    allowed: Allowed,
+    /// Whether names are compared without case.
+    ignores_case: bool,
+}
+
+impl Manner {
+    /// What the task gives for files and a link text.
+    fn seen(
+        self,
+        alloc: Global,
+        files: Vec<InputFile>,
+        text: &[u8],
+    ) -> Result<SeenText, FilesFault> {
+        let request = Request {
+            task: self.task,
+            text,
+            allowed: self.allowed,
+        };
+        if self.ignores_case {
+            files_folded(alloc, request, files)
+        } else {
+            files_seen(alloc, request, files)
+        }
+    }
+
+    /// What the task gives for an input.
+    fn seen_in(self, alloc: Global, input: Vec<u8>) -> Result<SeenText, ImageFault> {
+        if self.ignores_case {
+            input_folded(alloc, self.task, input, self.allowed)
+        } else {
+            input_seen(alloc, self.task, input, self.allowed)
+        }
+    }
+}
+
 /// Does a task for the files and the text that are named. None if one of them could not be read.
 fn of_files<K: Sink>(
     rt: &HostRuntime,
-    task: Task,
+    manner: Manner,
     asked: &Asked,
-    allowed: Allowed,
     writer: &mut K,
 ) -> Result<Option<Result<SeenText, FilesFault>>, AllocError> {
     let Some(files) = read_files(rt, asked.files.as_slice(), writer)? else {
@@ -76,25 +117,19 @@ fn of_files<K: Sink>(
     let Some(text) = read_text(rt, name, writer)? else {
         return Ok(None);
     };
-    let request = Request {
-        task,
-        text: &text,
-        allowed,
-    };
-    Ok(Some(files_seen(rt.alloc(), request, files)))
+    Ok(Some(manner.seen(rt.alloc(), files, &text)))
 }
 
 /// Does a task for the standard input: modules, and a text after them. None if it could not be read.
 fn of_input<K: Sink>(
     rt: &HostRuntime,
-    task: Task,
-    allowed: Allowed,
+    manner: Manner,
     writer: &mut K,
 ) -> Result<Option<Result<SeenText, FilesFault>>, AllocError> {
     let Some(input) = read_or_tell(rt, "-", writer)? else {
         return Ok(None);
     };
-    match input_seen(rt.alloc(), task, input, allowed) {
+    match manner.seen_in(rt.alloc(), input) {
         Ok(seen) => Ok(Some(Ok(seen))),
         Err(fault) => Ok(Some(Err(FilesFault::Link(fault)))),
     }
@@ -125,15 +160,14 @@ fn written_or_told<K: Sink>(
 /// Does a task, and writes its output, or the line of its fault. Returns the status.
 fn on_files<K: Sink>(
     rt: &HostRuntime,
-    task: Task,
+    manner: Manner,
     asked: &Asked,
-    allowed: Allowed,
     writer: &mut K,
 ) -> Result<Status, AllocError> {
     let found = if is_on_input(asked) {
-        of_input(rt, task, allowed, writer)?
+        of_input(rt, manner, writer)?
     } else {
-        of_files(rt, task, asked, allowed, writer)?
+        of_files(rt, manner, asked, writer)?
     };
     match found {
         Some(Ok(seen)) => {
@@ -177,7 +211,9 @@ fn on_task<K: Sink>(
     allowed: Allowed,
     writer: &mut K,
 ) -> Result<Status, AllocError> {
-    let Some(task) = task_of(rt.alloc(), asked.words.as_slice())? else {
+    let cased = case_in(rt.alloc(), asked.words.as_slice())?;
+    let ignores_case = cased.ignores_case;
+    let Some(task) = task_of(rt.alloc(), cased.words.as_slice())? else {
         return misused_by(rt, writer, &ABOUT);
     };
     let looks = is_looked_at(task);
@@ -185,10 +221,15 @@ fn on_task<K: Sink>(
     if (allowed.has_any() && !looks) || (!on_input_alone && asked.files.is_empty()) {
         return misused_by(rt, writer, &ABOUT);
     }
-    if on_input_alone && asked.output.is_none() && !looks {
+    if on_input_alone && asked.output.is_none() && !looks && !ignores_case {
         return run_on_input::<Link, _>(rt, asked.words.as_slice(), writer);
     }
-    on_files(rt, task, asked, allowed, writer)
+    let manner = Manner {
+        task,
+        allowed,
+        ignores_case,
+    };
+    on_files(rt, manner, asked, writer)
 }
 
 /// Does what arguments ask for. Returns the status.

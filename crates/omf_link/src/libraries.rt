@@ -127,13 +127,26 @@ impl Sources {
         Ok(self.files.len() > before)
     }
 
+    /// The modules of the files, with names in lower case if their case does not count.
+    fn of_files(
+        &self,
+        rt: &HostRuntime,
+        options: &ExeOptions<'_>,
+    ) -> Result<ProgramModules, Refusal> {
+        if options.ignore_case {
+            ProgramModules::folded(rt.alloc(), &self.files)
+        } else {
+            ProgramModules::of(rt.alloc(), &self.files)
+        }
+    }
+
     /// The modules of the files and of the libraries that they ask for.
     fn joined(
         &mut self,
         rt: &HostRuntime,
         options: &ExeOptions<'_>,
     ) -> Result<Result<ProgramModules, Refusal>, AllocError> {
-        let mut modules = ProgramModules::of(rt.alloc(), &self.files);
+        let mut modules = self.of_files(rt, options);
         if !options.default_libraries {
             return Ok(modules);
         }
@@ -145,7 +158,7 @@ impl Sources {
             if !self.take_all(rt, options, names)? {
                 return Ok(modules);
             }
-            modules = ProgramModules::of(rt.alloc(), &self.files);
+            modules = self.of_files(rt, options);
         }
         Ok(modules)
     }

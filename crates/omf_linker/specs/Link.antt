@@ -12,4 +12,6 @@ pub mod Runs
 pub mod FormWords
 pub mod Words
 pub mod Files
+pub mod Case
+pub mod Folded
 pub mod Rows

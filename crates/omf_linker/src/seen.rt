@@ -4,6 +4,7 @@
 mod allowed;
 mod files;
 mod finding;
+mod folded;
 mod lines;
 mod span;
 mod spans;
@@ -13,6 +14,7 @@ mod wide;
 pub use allowed::{Allowed, allowed_in};
 pub use files::{Request, SeenLines, SeenText, files_seen, input_seen, is_looked_at};
 pub use finding::{Finding, Range, first_misaligned, unseen};
+pub use folded::{files_folded, input_folded};
 pub use span::{Sharing, Span};
 pub use spans::spans_of;
 pub use sweep::first_overlap;

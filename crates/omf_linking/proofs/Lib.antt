@@ -20,3 +20,4 @@ pub mod KeyLaws
 pub mod KeyNames
 pub mod KeyTableLaws
 pub mod ItemLaws
+pub mod FoldLaws

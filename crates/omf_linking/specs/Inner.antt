@@ -7,3 +7,4 @@ pub mod LineParsing
 pub mod KeyTables
 pub mod Walking
 pub mod Forms
+pub mod Folding

@@ -12,3 +12,5 @@ pub mod Rows
 pub mod Space
 pub mod Locator
 pub mod Inner
+pub mod Folded
+pub mod FoldedText

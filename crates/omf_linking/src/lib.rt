@@ -5,6 +5,7 @@
 mod after;
 mod fault;
 mod files;
+mod folding;
 pub mod laws;
 pub mod locator;
 mod memory;
@@ -18,6 +19,7 @@ pub mod space;
 
 pub use fault::{FileFault, LinkFault};
 pub use files::{InputFile, modules_of_files};
+pub use folding::{folded, folded_all, folded_text};
 pub use memory::memory_image;
 pub use placing::link;
 pub use reading::{modules_in, read_all};

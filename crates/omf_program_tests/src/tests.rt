@@ -1,6 +1,7 @@
 //! `modules` has the modules, `tools` the programs, `scarce` memory that runs out, `calls` how a call is tested against it.
 
 mod calls;
+mod case;
 mod changes;
 mod com_files;
 mod devices;

@@ -9,6 +9,7 @@ use Rattle.omf_linking.specs.Files.{IsFile}
 use Rattle.omf_linking.specs.Reading.{BeginsWith}
 use Rattle.omf_linker.specs.Exe.Sharing.{any_profile}
 use Rattle.omf_linker.specs.Exe.Taken.{AreJoined}
+use Rattle.omf_linking.specs.Folded.{IsFolded}
 use Rattle.omf_linker.specs.declared.exe.input.InputFault.{InputFault}
 use Rattle.omf_linker.specs.declared.exe.input.InputFault.TheVariants as fault
 
@@ -47,6 +48,18 @@ pub record AreOfFiles (files : List InputFile) (ms : List Module) : Type 0 where
   pub numbers : List ℕ
   pub hold : AllGive files given members
   pub joined : AreJoined given members ms numbers
+
+-- The same with names compared without case (`--ignore-case`): those that the files give are folded first.
+pub record AreOfFolded (files : List InputFile) (ms : List Module) : Type 0 where
+  pub given : List Module
+  pub members : List Module
+  pub folded_given : List Module
+  pub folded_members : List Module
+  pub numbers : List ℕ
+  pub hold : AllGive files given members
+  pub fold_given : AllZip IsFolded given folded_given
+  pub fold_members : AllZip IsFolded members folded_members
+  pub joined : AreJoined folded_given folded_members ms numbers
 
 -- A file, by its number, gives nothing: why not. Memory may run out at any time.
 abbrev pub IsFileFault : ℕ → List ℕ → InputFault → Type 0

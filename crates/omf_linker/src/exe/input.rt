@@ -1,8 +1,10 @@
 //! The modules of files: those that are given, and the members of libraries.
 
 ghost use Rattle.std.specs.Prelude.{◌≡◌, ◌++◌, ◌∷◌, [], All, IfErr, IfOk, OnOk, false, true};
+ghost use Rattle.std.specs.List.{AllZip};
 ghost use Rattle.omf_library.specs.Library.{IsMember};
 ghost use Rattle.omf_library.specs.declared.fault.LibraryFault.TheVariants.{Memory};
+ghost use Rattle.omf_linking.specs.Folded.{IsFolded};
 ghost use Rattle.omf_linker.specs.Exe.Input.{AllGive, IsFileFault, IsInputFault, IsModuleOf, is_library};
 ghost use Rattle.omf_linker.specs.Exe.Sharing.{any_profile};
 ghost use Rattle.omf_linker.specs.Inner.Input.{AddsMembers, IsAdded};
@@ -12,7 +14,7 @@ use crate::link::InputFile;
 use omf_check::{CheckFault, Checked, Profile, check};
 use omf_frame::Bytes;
 use omf_library::{LibraryFault, Member, members_in};
-use omf_linking::{FileFault, LinkFault, modules_of_files};
+use omf_linking::{FileFault, LinkFault, folded_all, modules_of_files};
 use std::alloc::{AllocError, AllocFailed, Global};
 use std::slice::from_ref;
 
@@ -223,6 +225,29 @@ impl Input {
         } else {
             self.add_modules(alloc, file, input)
         }
+    }
+
+    /// The same with the names of publics, externals and communals in lower case.
+    ///
+    /// # Errors
+    ///
+    /// `AllocError` if memory runs out.
+    pub(crate) fn folded(self, alloc: Global) -> Result<Input, AllocError>
+        ensures given { IfOk result (λ i. AllZip IsFolded self.given.items i.given.items) }
+        ensures members { IfOk result (λ i. AllZip IsFolded self.members.items i.members.items) }
+    {
+        let Input {
+            given,
+            given_from,
+            members,
+            members_from,
+        } = self;
+        Ok(Input {
+            given: folded_all(alloc, given)?,
+            given_from,
+            members: folded_all(alloc, members)?,
+            members_from,
+        })
     }
 
     /// What files give.

@@ -29,6 +29,8 @@ pub struct ExeOptions<'a> {
     pub folders: Vec<&'a str>,
     /// Whether the libraries that modules ask for are looked for.
     pub default_libraries: bool,
+    /// Whether names are compared without case.
+    pub ignore_case: bool,
     /// The bytes that are added to the stack, from 1 to 65534.
     pub stack: Option<u16>,
     /// The order of the segments. None: DOS order if a module asks for it, else that of the modules.
@@ -63,8 +65,24 @@ impl<'a> ExeOptions<'a> {
             map: None,
             folders: Vec::new(alloc),
             default_libraries: true,
+            ignore_case: false,
             stack: None,
             order: None,
+        }
+    }
+
+    /// Takes an option without a value. Returns false if it is none.
+    fn take_flag(&mut self, name: &str) -> bool {
+        match name {
+            "--no-default-libraries" => {
+                self.default_libraries = false;
+                true
+            }
+            "--ignore-case" => {
+                self.ignore_case = true;
+                true
+            }
+            _ => false,
         }
     }
 
@@ -94,8 +112,7 @@ impl<'a> ExeOptions<'a> {
         let mut options = ExeOptions::new(alloc);
         let mut rest = arguments;
         while let [name, others @ ..] = rest {
-            if name.as_str() == "--no-default-libraries" {
-                options.default_libraries = false;
+            if options.take_flag(name.as_str()) {
                 rest = others;
                 continue;
             }

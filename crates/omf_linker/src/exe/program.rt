@@ -2,7 +2,10 @@
 
 ghost use Rattle.std.specs.Prelude.{IfOk, List};
 ghost use Rattle.omf_linking.specs.File.{InputFile as FileModel};
-ghost use Rattle.omf_linker.specs.Exe.Input.{AllGive, AreOfFiles};
+ghost use Rattle.std.specs.List.{AllZip};
+ghost use Rattle.omf_check.specs.Module.{Module};
+ghost use Rattle.omf_linking.specs.Folded.{IsFolded};
+ghost use Rattle.omf_linker.specs.Exe.Input.{AllGive, AreOfFiles, AreOfFolded};
 ghost use Rattle.omf_linker.specs.Exe.Ordering.{AreOrdered};
 ghost use Rattle.omf_linker.specs.Exe.Sharing.{AreShared};
 
@@ -51,7 +54,8 @@ impl Model for ProgramModules {
 
 /// The modules of files, with their origins.
 fn all_of(alloc: Global, input: Input) -> Result<ProgramModules, AllocError>
-    ensures { (files : List FileModel) → AllGive files input.given.items input.members.items → IfOk result (λ p. AreOfFiles files p.modules) }
+    ensures files { (files : List FileModel) → AllGive files input.given.items input.members.items → IfOk result (λ p. AreOfFiles files p.modules) }
+    ensures folded { (files : List FileModel) (given members : List Module) → AllGive files given members → AllZip IsFolded given input.given.items → AllZip IsFolded members input.members.items → IfOk result (λ p. AreOfFolded files p.modules) }
 {
     let Input {
         given,
@@ -130,6 +134,27 @@ impl ProgramModules {
             Err(fault) => return Err(of_input(alloc, files, fault)),
         };
         match all_of(alloc, input) {
+            Ok(modules) => Ok(modules),
+            Err(AllocError) => Err(memory()),
+        }
+    }
+
+    /// The same with names compared without case: those of publics, externals and communals are in lower case.
+    ///
+    /// # Errors
+    ///
+    /// The first file that is not read; or out of memory.
+    pub fn folded(alloc: Global, files: &[InputFile]) -> Result<ProgramModules, Refusal>
+        ensures { IfOk result (λ p. AreOfFolded files.now p.modules) }
+    {
+        let input = match Input::of(alloc, files) {
+            Ok(input) => input,
+            Err(fault) => return Err(of_input(alloc, files, fault)),
+        };
+        let Ok(folded) = input.folded(alloc) else {
+            return Err(memory());
+        };
+        match all_of(alloc, folded) {
             Ok(modules) => Ok(modules),
             Err(AllocError) => Err(memory()),
         }

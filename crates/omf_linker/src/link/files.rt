@@ -32,7 +32,7 @@ pub fn file_front(alloc: Global, name: &[u8]) -> Result<String, AllocError>
 }
 
 /// A file's fault with the front of its line. `Memory` if memory runs out for that.
-fn in_file(alloc: Global, file: &InputFile, fault: LinkFault) -> FilesFault
+pub(crate) fn in_file(alloc: Global, file: &InputFile, fault: LinkFault) -> FilesFault
     ensures { IsFileNamed file.now.name fault result }
 {
     match file_front(alloc, file.name()) {

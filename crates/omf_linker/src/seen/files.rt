@@ -135,7 +135,7 @@ fn looked_at(
 }
 
 /// The output of a task for modules, with the lines of what the link text does unseen.
-fn modules_seen(
+pub(crate) fn modules_seen(
     alloc: Global,
     request: Request<'_>,
     labeled: Labeled<'_>,

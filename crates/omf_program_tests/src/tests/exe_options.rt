@@ -13,6 +13,7 @@ struct Read {
     map: Option<&'static str>,
     folders: &'static [&'static str],
     default_libraries: bool,
+    ignore_case: bool,
     stack: Option<u16>,
     order: Option<Order>,
 }
@@ -22,6 +23,7 @@ const NONE: Read = Read {
     map: None,
     folders: &[],
     default_libraries: true,
+    ignore_case: false,
     stack: None,
     order: None,
 };
@@ -29,7 +31,7 @@ const NONE: Read = Read {
 /// Arguments, separated by spaces, and the options that they give.
 type Case = (&'static str, Option<Read>);
 
-static CASES: [Case; 19] = [
+static CASES: [Case; 20] = [
     ("", Some(NONE)),
     (
         "--map a.map",
@@ -43,6 +45,14 @@ static CASES: [Case; 19] = [
         Some(Read {
             folders: &["b", "a"],
             default_libraries: false,
+            ..NONE
+        }),
+    ),
+    (
+        "--ignore-case --map a.map",
+        Some(Read {
+            map: Some("a.map"),
+            ignore_case: true,
             ..NONE
         }),
     ),
@@ -105,6 +115,7 @@ fn are_read(options: &ExeOptions<'_>, read: &Read) -> bool {
     options.map == read.map
         && options.folders.as_slice() == read.folders
         && options.default_libraries == read.default_libraries
+        && options.ignore_case == read.ignore_case
         && options.stack == read.stack
         && options.order == read.order
 }

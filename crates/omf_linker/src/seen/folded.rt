@@ -1,0 +1,136 @@
+//! A task of `omf-link` over files or an input, with names compared without case.
+
+ghost use Rattle.std.specs.List.{AllZip};
+ghost use Rattle.std.specs.Prelude.{◌≡◌, ◌<◌, ◌^◌, Err, IfOk, List, length, map, string_bytes, ℕ};
+ghost use Rattle.omf_linking.specs.Files.{IsFirstAtFault};
+ghost use Rattle.omf_records.specs.Inner.Seen.{map_ok};
+ghost use Rattle.omf_linking.specs.Folded.{IsFolded};
+ghost use Rattle.omf_linking.specs.FoldedText.{folded_text};
+ghost use Rattle.omf_linker.specs.Link.Folded.{AreFilesFolded, IsFoldedOf, IsShownFolded, IsShownFoldedAs};
+ghost use Rattle.omf_linker.specs.Link.Linked.{any};
+ghost use Rattle.omf_linker.specs.declared.link.words.Task.{Task as Asked};
+
+use crate::lines::Labeled;
+use crate::link::{FilesFault, ImageFault, InputFile, LabeledModules, Task, in_file, parted};
+use crate::seen::allowed::Allowed;
+use crate::seen::files::{Request, SeenText, modules_seen};
+use omf_check::Checked;
+use omf_linking::{FileFault, LinkFault, folded_all, folded_text};
+use std::alloc::{AllocError, Global};
+
+/// Modules and a link text with names in lower case.
+#[derive(Drop)]
+struct Folded {
+    modules: Vec<Checked>,
+    text: Vec<u8>,
+}
+
+/// Modules and a link text with names in lower case.
+fn fold(alloc: Global, modules: Vec<Checked>, text: &[u8]) -> Result<Folded, AllocError>
+    ensures modules { IfOk result (λ f. AllZip IsFolded modules.items f.modules.items) }
+    ensures text { IfOk result (λ f. f.text.items ≡ folded_text text.now) }
+{
+    Ok(Folded {
+        modules: folded_all(alloc, modules)?,
+        text: folded_text(alloc, text)?,
+    })
+}
+
+/// The output of a task for modules and a link text, with names in lower case.
+fn folded_seen(
+    alloc: Global,
+    request: Request<'_>,
+    labels: &[String],
+    modules: Vec<Checked>,
+) -> Result<SeenText, ImageFault>
+    requires { length modules.items < 2 ^ 32 }
+    ensures { IsShownFolded request.entry.task (map string_bytes labels.now) modules.items request.entry.text.now (map_ok (λ s. s.shown) result) }
+{
+    let Ok(folded) = fold(alloc, modules, request.text) else {
+        return Err(ImageFault::Link(LinkFault::Memory));
+    };
+    let labeled = Labeled {
+        labels,
+        modules: &folded.modules,
+    };
+    let request = Request {
+        text: &folded.text,
+        ..request
+    };
+    modules_seen(alloc, request, labeled)
+}
+
+/// The same for the modules of files, with a fault as one of files.
+fn of_modules(
+    alloc: Global,
+    request: Request<'_>,
+    all: LabeledModules,
+) -> Result<SeenText, FilesFault>
+    requires { length all.modules.items < 2 ^ 32 }
+    ensures { IsShownFoldedAs request.entry.task (map string_bytes all.labels.items) all.modules.items request.entry.text.now (map_ok (λ s. s.shown) result) }
+{
+    let LabeledModules { modules, labels } = all;
+    match folded_seen(alloc, request, &labels, modules) {
+        Ok(seen) => Ok(seen),
+        Err(fault) => Err(FilesFault::Link(fault)),
+    }
+}
+
+/// The fault of files that do not hold modules and padding alone: that of the first, with the front of its line.
+fn refused(alloc: Global, files: &[InputFile], fault: FileFault) -> FilesFault
+    ensures { (task : Asked) (text : List ℕ) → IsFirstAtFault any files.now fault → AreFilesFolded task files.now text (Err result) }
+{
+    match files.get(fault.file) {
+        Some(file) => in_file(alloc, file, fault.fault),
+        None => FilesFault::Link(ImageFault::Link(LinkFault::Memory)),
+    }
+}
+
+/// The output of a task for the modules of files and a link text, as that of `files_seen`, with the names of publics, externals and communals
+/// in lower case: those of the modules, and those of the X lines of the text.
+///
+/// # Errors
+///
+/// Those of `files_seen`.
+pub fn files_folded(
+    alloc: Global,
+    request: Request<'_>,
+    files: Vec<InputFile>,
+) -> Result<SeenText, FilesFault>
+    ensures { AreFilesFolded request.entry.task files.items request.entry.text.now (map_ok (λ s. s.shown) result) }
+{
+    match LabeledModules::of(alloc, &files) {
+        Ok(all) => {
+            drop(files);
+            of_modules(alloc, request, all)
+        }
+        Err(fault) => Err(refused(alloc, &files, fault)),
+    }
+}
+
+/// The output of a task for an input, which is modules, one after another, followed by a link text, as that of `input_seen`, with names in
+/// lower case as in `files_folded`.
+///
+/// # Errors
+///
+/// Those of `input_seen`.
+pub fn input_folded(
+    alloc: Global,
+    task: Task,
+    input: Vec<u8>,
+    allowed: Allowed,
+) -> Result<SeenText, ImageFault>
+    ensures { IsFoldedOf task input.items (map_ok (λ s. s.shown) result) }
+{
+    match parted(alloc, input) {
+        Ok((modules, text)) => {
+            let request = Request {
+                task,
+                text: &text,
+                allowed,
+            };
+            folded_seen(alloc, request, &[], modules)
+        }
+        Err(fault) => Err(ImageFault::Link(fault)),
+    }
+}
