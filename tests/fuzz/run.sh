@@ -1,13 +1,14 @@
 #!/usr/bin/env bash
-# Fuzzes the library for C and the programs: run.sh SECONDS [TARGET..]. The targets are check, canon and reloc of the library (all three), and
-# dump, library, exe, com, placement and linktext of the programs, which tests/fuzz/programs.py runs: they need neither the library nor clang.
+# Fuzzes the library for C and the programs: run.sh SECONDS [TARGET..]. The targets are check, canon, reloc, members, link and program of the
+# library (all six); shown, which is omf-dump as a function beside the library; and dump, library, exe, com, placement and linktext of the programs,
+# which tests/fuzz/programs.py runs: they need neither the library nor clang.
 #
-# `rt lib` builds the library, which takes a proof where there is none yet; on its way the bitcode that is handed to the kit's clang is
-# kept, and compiled a second time with counters of what is reached. So what runs is the proved code, built by a way that the kit does
-# not vouch for. libFuzzer changes inputs, keeps those that reach something new in WORK/TARGET (WORK is a new folder if it is not set), and
+# `rt lib` builds the library, and for shown `rt run` builds omf-dump, which takes a proof where there is none yet; on the way the bitcode that is handed
+# to the kit's clang is kept, and compiled a second time with counters of what is reached. So what runs is the proved code, built by a way that the kit
+# does not vouch for. libFuzzer changes inputs, keeps those that reach something new in WORK/TARGET (WORK is a new folder if it is not set), and
 # stops where a promise does not hold, with that input in WORK. It needs a clang with libFuzzer: CLANG (clang).
-# LIBRARY names a library that is built already, as `make library` leaves it in crates/omf_c/out/libomf_c.a: it runs as it is, without
-# counters, so that libFuzzer goes by what its answers lead to in the targets alone.
+# LIBRARY names a library that is built already, as `make library` leaves it in crates/omf_c/out/libomf_c.a, or an object with its calls: it runs as it
+# is, so that without counters libFuzzer goes by what its answers lead to in the targets alone. PROGRAM is bitcode of omf-dump, for shown.
 # SEEDS is a folder of more modules to begin with (*.omf, *.obj, *.o), which are taken as they are.
 # The status is 0 where every promise held.
 set -euo pipefail
@@ -19,11 +20,11 @@ work=${WORK:-$(mktemp -d)}
 mkdir -p "$work"
 work=$(cd "$work" && pwd)
 failed=0
-[ $# -gt 0 ] || set -- check canon reloc
+[ $# -gt 0 ] || set -- check canon reloc members link program
 calls=()
 for one in "$@"; do
     case $one in
-    check | canon | reloc) calls+=("$one") ;;
+    check | canon | reloc | members | link | program | shown) calls+=("$one") ;;
     dump | library | exe | com | placement | linktext) "$root/tests/fuzz/programs.py" "$seconds" "$one" ${SEEDS:+--seeds "$SEEDS"} --keep "$work" || failed=1 ;;
     *)
         echo "no target $one" >&2
@@ -34,9 +35,8 @@ done
 [ ${#calls[@]} -gt 0 ] || exit $failed
 kit=$(dirname "$(rt doc)")
 
-# The kit as it is, but for a clang that keeps what it is given.
-kept=$work/omf_c.bc
-if [ -z "${LIBRARY:-}" ] && [ ! -f "$kept" ]; then
+# The kit as it is, but for a clang that keeps what it is given: the largest, since a small one may be given before.
+make_kit() {
     rm -rf "$work/kit"
     mkdir -p "$work/kit/bin" "$work/kit/toolchain/bin"
     ln -s "$kit"/* "$work/kit" 2> /dev/null || true
@@ -48,18 +48,37 @@ if [ -z "${LIBRARY:-}" ] && [ ! -f "$kept" ]; then
     rm "$work/kit/toolchain/bin/clang"
     cat > "$work/kit/toolchain/bin/clang" << WRAPPER
 #!/usr/bin/env bash
-for word in "\$@"; do case "\$word" in *.bc) cp "\$word" "$kept" ;; esac; done
+for word in "\$@"; do
+    case "\$word" in *.bc) [ "\$(stat -c %s "\$word")" -lt "\$(stat -c %s "\$KEPT" 2> /dev/null || echo 0)" ] || cp "\$word" "\$KEPT" ;; esac
+done
 exec "$kit/toolchain/bin/clang" "\$@"
 WRAPPER
     chmod +x "$work/kit/toolchain/bin/clang"
-    rm -f "$root/crates/omf_c/out/libomf_c.a"
-    (cd "$root/crates/omf_c" && "$work/kit/bin/rt" lib --backend llvm) > "$work/lib.log" 2>&1 || {
-        cat "$work/lib.log"
+}
+
+# keep CRATE WORD..: the bitcode of a crate, which `rt WORD..` hands to clang, in WORK/CRATE.bc.
+keep() {
+    local crate=$1
+    shift
+    [ ! -f "$work/$crate.bc" ] || return 0
+    [ -d "$work/kit" ] || make_kit
+    rm -f "$root/crates/$crate/out/lib$crate.a" "$root/crates/$crate/out/$crate"
+    (cd "$root/crates/$crate" && KEPT=$work/$crate.bc "$work/kit/bin/rt" "$@" --backend llvm < /dev/null) > "$work/$crate.log" 2>&1 || true
+    [ -f "$work/$crate.bc" ] || {
+        cat "$work/$crate.log"
         exit 1
     }
-fi
+}
+
+cover() { # cover BITCODE OBJECT: with counters of what is reached
+    "$kit/toolchain/bin/clang" -w -c -x ir "$1" -O2 -fPIE -fsanitize-coverage=inline-8bit-counters,pc-table -o "$2"
+}
+
 code=${LIBRARY:-$work/covered.o}
-[ -n "${LIBRARY:-}" ] || "$kit/toolchain/bin/clang" -w -c -x ir "$kept" -O2 -fPIE -fsanitize-coverage=inline-8bit-counters,pc-table -o "$work/covered.o"
+if [ -z "${LIBRARY:-}" ]; then
+    keep omf_c lib
+    cover "$work/omf_c.bc" "$code"
+fi
 
 # The first inputs: the examples and local.omf, which has every local record, each with its placement after it.
 mkdir -p "$work/seeds"
@@ -77,15 +96,28 @@ if [ -n "${SEEDS:-}" ]; then
     done
 fi
 
+"$root/tests/fuzz/seeds.py" "$work/seeds-of" ${SEEDS:+"$SEEDS"}
+
 for one in "${calls[@]}"; do
-    "$clang" -O1 -g -Wall -Wextra -I"$root/include" -fsanitize=fuzzer -Wl,--wrap=malloc,--wrap=realloc \
-        "$root/tests/fuzz/$one.c" "$root/tests/fuzz/mutate.c" "$code" "$kit/c/liblibc_c.a" -o "$work/fuzz-$one"
+    with=("$code") wrapped=malloc,--wrap=realloc folders=("$work/$one" "$work/seeds")
+    case $one in
+    members | link | program) folders+=("$work/seeds-of/$one") ;;
+    shown)
+        [ -n "${PROGRAM:-}" ] || keep omf_dump run
+        cover "${PROGRAM:-$work/omf_dump.bc}" "$work/shown.o"
+        (exec -a llvm-objcopy "$kit/toolchain/bin/clang" --redefine-sym main=omf_dump_main "$work/shown.o")
+        with+=("$work/shown.o") wrapped+=,--wrap=read,--wrap=write,--wrap=rattle_arg
+        folders+=("$work/seeds-of/members" "$work/seeds-of/program")
+        ;;
+    esac
+    "$clang" -O1 -g -Wall -Wextra -I"$root/include" -fsanitize=fuzzer "-Wl,--wrap=$wrapped" \
+        "$root/tests/fuzz/$one.c" "$root/tests/fuzz/mutate.c" "${with[@]}" "$kit/c/libos_c.a" "$kit/c/liblibc_c.a" -o "$work/fuzz-$one"
     mkdir -p "$work/$one"
     if ! "$work/fuzz-$one" -max_total_time="$seconds" -max_len=4096 -timeout=20 -artifact_prefix="$work/$one-" -print_final_stats=1 \
-        "$work/$one" "$work/seeds" > "$work/$one.log" 2>&1; then
+        "${folders[@]}" > "$work/$one.log" 2>&1; then
         failed=1
     fi
     grep -E 'not so|ERROR|SUMMARY|Done [0-9]|stat::number_of_executed_units|stat::average_exec_per_sec' "$work/$one.log" | sed "s/^/$one: /" || true
-    tail -n 30 "$work/$one.log" | grep -oE 'cov: [0-9]+ ft: [0-9]+' | tail -1 | sed "s/^/$one: /" || true
+    grep -oE 'cov: [0-9]+ ft: [0-9]+' "$work/$one.log" | tail -1 | sed "s/^/$one: /" || true
 done
 exit $failed
