@@ -1,3 +1,4 @@
 mod ImageLaws
 mod PlacedLaws
 mod RowLaws
+pub mod ProgramLaws
