@@ -2,7 +2,7 @@
 
 use omf_cmd::Gathered;
 use omf_linker::exe::ProgramModules;
-use omf_linker::link::{FilesFault, InputFile, Task, case_in};
+use omf_linker::link::{FilesFault, InputFile, Task};
 use omf_linker::seen::{Allowed, Request, SeenText, files_folded, files_seen, input_folded};
 use omf_samples::{bytes_of, joined};
 use std::alloc::Global;
@@ -219,32 +219,4 @@ fn member_is_left(alloc: Global) -> bool {
 fn members_are_found_without_case(rt: HostRuntime) {
     assert!(rt; member_is_taken(rt.alloc()));
     assert!(rt; member_is_left(rt.alloc()));
-}
-
-/// Whether the option is taken out of arguments, and the others stay.
-fn option_is_taken(alloc: Global) -> bool {
-    let mut words = Vec::new(alloc);
-    for word in ["omf-link", "map", "--ignore-case", "--base"] {
-        let Ok(word) = word.to_string(alloc) else {
-            return false;
-        };
-        if words.push(word).is_err() {
-            return false;
-        }
-    }
-    match (case_in(alloc, &words), case_in(alloc, &words[..2])) {
-        (Ok(with), Ok(without)) => {
-            with.ignores_case
-                && with.words.len() == 3
-                && with.words[2].as_str() == "--base"
-                && !without.ignores_case
-                && without.words.len() == 2
-        }
-        _ => false,
-    }
-}
-
-#[test]
-fn the_option_is_taken_out_of_arguments(rt: HostRuntime) {
-    assert!(rt; option_is_taken(rt.alloc()));
 }
