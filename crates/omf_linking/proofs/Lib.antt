@@ -8,6 +8,8 @@ pub mod RelocatedLaws
 pub mod StartLaws
 pub mod SegmentsLaws
 pub mod SpaceLaws
+pub mod TurnLaws
+pub mod TogetherLaws
 pub mod InputLaws
 pub mod DecimalLaws
 pub mod HexLaws

@@ -1,6 +1,7 @@
 pub mod Laying
 pub mod Runs
 pub mod Sweeping
+pub mod Turning
 pub mod Searching
 pub mod Gathering
 pub mod LineParsing

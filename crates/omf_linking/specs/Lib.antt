@@ -6,6 +6,7 @@ pub mod Files
 pub mod Laws
 pub mod Relocated
 pub mod Segments
+pub mod Together
 pub mod LinkedMemory
 pub mod Starts
 pub mod Rows

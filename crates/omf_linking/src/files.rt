@@ -75,7 +75,11 @@ fn alone(bytes: &[u8], modules: Vec<Checked>, rest: &[u8]) -> Result<Vec<Checked
 ///
 /// `Refused` for the first module that is not well formed. `NoText` if something else is left after the modules and their padding. `Memory`
 /// if memory runs out.
-fn file_modules(alloc: Global, profile: Profile, bytes: &[u8]) -> Result<Vec<Checked>, LinkFault>
+pub fn file_modules(
+    alloc: Global,
+    profile: Profile,
+    bytes: &[u8],
+) -> Result<Vec<Checked>, LinkFault>
     ensures { IsFile profile bytes.now (map_ok (λ v. v.items) result) }
 {
     match modules_in(alloc, profile, bytes) {

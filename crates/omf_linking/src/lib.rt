@@ -16,12 +16,15 @@ pub mod rows;
 mod search;
 mod segments;
 pub mod space;
+mod together;
+mod turns;
 
 pub use fault::{FileFault, LinkFault};
-pub use files::{InputFile, modules_of_files};
+pub use files::{InputFile, file_modules, modules_of_files};
 pub use folding::{folded, folded_all, folded_text};
 pub use memory::memory_image;
 pub use placing::link;
 pub use reading::{modules_in, read_all};
 pub use relocated::{Relocated, relocate_all, start_of};
 pub use segments::segments_of;
+pub use together::{Together, laid_together};

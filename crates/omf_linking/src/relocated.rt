@@ -62,7 +62,7 @@ fn is_main(module: &Checked) -> bool
 }
 
 /// Returns the start of a main module, if it names one.
-fn main_start(module: &Checked, relocated: &Relocated) -> Option<(u16, u32)>
+pub(crate) fn main_start(module: &Checked, relocated: &Relocated) -> Option<(u16, u32)>
     ensures { result ≡ main_start (recs_of «module».now.bytes, relocated.now) }
 {
     if is_main(module) {

@@ -96,17 +96,17 @@ fn placed_segment<'a>(
 
 /// A module of several.
 #[derive(Clone, Copy)]
-struct Member<'a> {
+pub(crate) struct Member<'a> {
     /// Its number, from 0.
-    number: u32,
+    pub number: u32,
     /// The module.
-    module: &'a Checked,
+    pub module: &'a Checked,
     /// Its placement.
-    placement: &'a Placement,
+    pub placement: &'a Placement,
 }
 
 /// Adds the segments of a module.
-fn add_module<'a>(
+pub(crate) fn add_module<'a>(
     alloc: Global,
     segments: &mut Vec<PlacedSegment<'a>>,
     member: &Member<'_>,

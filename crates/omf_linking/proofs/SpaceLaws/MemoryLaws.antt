@@ -1,5 +1,5 @@
 -- What is laid in memory, and which two segments overlap.
-use Rattle.std.proofs.Common.{◌≡◌, ℕ, ◌+◌, ◌-◌, ◌<◌, ◌≤◌, List, [], ◌∷◌, ◌++◌, length, take, drop, get_or, add-one, map, refl, sym, ap, subst, ◌∙◌, Bool, true, false, ◌&&◌, arith, nat_le, Option, Some, None, if◌then◌else◌, append_assoc}
+use Rattle.std.proofs.Common.{◌≡◌, ℕ, ◌+◌, ◌-◌, ◌<◌, ◌≤◌, List, [], ◌∷◌, ◌++◌, length, take, drop, get_or, add-one, map, refl, sym, ap, subst, ◌∙◌, Bool, true, false, ◌&&◌, arith, nat_le, Option, Some, None, if◌then◌else◌}
 use Rattle.std.specs.Prelude.{◌==◌, All, Ok, filter_map, option_map, slice_get, is_some, replicate}
 use Rattle.std.specs.Option.{option_or}
 use Rattle.std.specs.List.{last_or, cons_option}
@@ -89,23 +89,22 @@ same_extents (s ∷ ss) =
     let first : extent (zeros (extent_in s)) ≡ extent_in s = rw long refl in
     ap (λ (e : Extent). e ∷ map extent (all_zeros (extents_in ss))) first ∙ ap (λ (es : List Extent). extent_in s ∷ es) (same_extents ss)
 
-zeros_lost : (ss : List Stretch) (image : List Laid) → AreLaidOver [] (all_zeros (extents_in ss) ++ laid_pieces ss) image → AreLaidOver [] (laid_pieces ss) image
+pub zeros_lost : (ss : List Stretch) (image : List Laid) → AreLaidOver [] (all_zeros (extents_in ss) ++ laid_pieces ss) image → AreLaidOver [] (laid_pieces ss) image
 zeros_lost ss image h = same_are_lost (all_zeros (extents_in ss)) (laid_pieces ss) image (same_extents ss) h
 
 module _ (i : ℕ) (ss : List Stretch) where
-  pub laid_next : (d : Stretch) (zs old new : List Laid) (bytes : List ℕ) → i < length ss → bytes ≡ (get_or ss i d).bytes.now
+  pub laid_next : (d : Stretch) (base old new : List Laid) (bytes : List ℕ) → i < length ss → bytes ≡ (get_or ss i d).bytes.now
       → IsLaidOver old (record { segment = 0; offset = (get_or ss i d).address; bytes = bytes }) new
-      → AreLaidOver [] (zs ++ laid_pieces (take i ss)) old → AreLaidOver [] (zs ++ laid_pieces (take (i + 1) ss)) new
-  laid_next d zs old new bytes inside same h k =
+      → AreLaidOver base (laid_pieces (take i ss)) old → AreLaidOver base (laid_pieces (take (i + 1) ss)) new
+  laid_next d base old new bytes inside same h k =
       let s = get_or ss i d in
       let more : take (i + 1) ss ≡ take i ss ++ s ∷ [] = (take_at_read ss i d inside).1 in
-      let all : (zs ++ laid_pieces (take i ss)) ++ laid_piece s ∷ [] ≡ zs ++ laid_pieces (take (i + 1) ss)
-      = append_assoc zs (laid_pieces (take i ss)) (laid_piece s ∷ []) ∙ ap (λ (ls : List Laid). zs ++ ls) (sym (map-append laid_piece (take i ss) (s ∷ [])) ∙ ap laid_pieces (sym more)) in
+      let all : laid_pieces (take i ss) ++ laid_piece s ∷ [] ≡ laid_pieces (take (i + 1) ss) = sym (map-append laid_piece (take i ss) (s ∷ [])) ∙ ap laid_pieces (sym more) in
       let piece : IsLaidOver old (laid_piece s) new = subst (λ (bs : List ℕ). IsLaidOver old (record { segment = 0; offset = s.address; bytes = bs }) new) same h in
-      subst (λ (ls : List Laid). AreLaidOver [] ls new) all (laid_more [] old new (zs ++ laid_pieces (take i ss)) (laid_piece s) k piece)
+      subst (λ (ls : List Laid). AreLaidOver base ls new) all (laid_more base old new (laid_pieces (take i ss)) (laid_piece s) k piece)
 
-  pub all_laid : (image : List Laid) → length ss ≤ i → AreLaidOver [] (all_zeros (extents_in ss) ++ laid_pieces (take i ss)) image → AreLaidOver [] (laid_pieces ss) image
-  all_laid image past h = zeros_lost ss image (subst (λ (xs : List Stretch). AreLaidOver [] (all_zeros (extents_in ss) ++ laid_pieces xs) image) (take_all i ss past) h)
+  pub all_laid : (base image : List Laid) → length ss ≤ i → AreLaidOver base (laid_pieces (take i ss)) image → AreLaidOver base (laid_pieces ss) image
+  all_laid base image past h = subst (λ (xs : List Stretch). AreLaidOver base (laid_pieces xs) image) (take_all i ss past) h
 
 -- ---- the bytes of what was laid
 

@@ -1,6 +1,6 @@
 //! The image of several segments in memory.
 
-ghost use Rattle.std.specs.Prelude.{◌≡◌, [], All, Err, IfOk, is_some};
+ghost use Rattle.std.specs.Prelude.{◌≡◌, [], All, Err, IfOk, OnOk, is_some};
 ghost use Rattle.omf_image.specs.Overlay.{AreLaidOver};
 ghost use Rattle.omf_linking.specs.Space.Memory.{piece, pieces, Lies, share_of, shares, overlap, IsFirstOverlap, IsMemory};
 ghost use Rattle.omf_linking.specs.Inner.Laying.{excluded, extents_in, laid_pieces};
@@ -79,15 +79,28 @@ fn extents_of(alloc: Global, stretches: &[Stretch<'_>]) -> Result<Vec<Extent>, A
     Ok(extents)
 }
 
+/// Lays stretches in an image with the addresses of memory as the offsets of segment 0, one after another.
+pub(crate) fn lay_all(
+    alloc: Global,
+    image: &mut Image,
+    stretches: &[Stretch<'_>],
+) -> Result<(), AllocError>
+    requires { All Lies stretches.now }
+    ensures { OnOk result (AreLaidOver image.old (laid_pieces stretches.now) image.new) }
+{
+    for stretch in stretches {
+        image.lay(0, stretch.address, stretch.bytes.to_vec(alloc)?)?;
+    }
+    Ok(())
+}
+
 /// Returns an image with all stretches laid in it, one after another. Their places are reserved first, so no run grows or moves.
 fn laid(alloc: Global, stretches: &[Stretch<'_>]) -> Result<Image, AllocError>
     requires { All Lies stretches.now }
     ensures { IfOk result (λ i. AreLaidOver [] (laid_pieces stretches.now) i) }
 {
     let mut image = painted(alloc, extents_of(alloc, stretches)?)?;
-    for stretch in stretches {
-        image.lay(0, stretch.address, stretch.bytes.to_vec(alloc)?)?;
-    }
+    lay_all(alloc, &mut image, stretches)?;
     Ok(image)
 }
 
@@ -137,7 +150,7 @@ pub fn memory_of(alloc: Global, stretches: &[Stretch<'_>]) -> Result<Image, Memo
     ensures { IsMemory (shares (pieces stretches.now)) result }
 {
     let overlap = match intervals_of(alloc, stretches) {
-        Ok(intervals) => first_overlap(stretches, intervals),
+        Ok(intervals) => first_overlap(intervals),
         Err(_) => return Err(fault_at(stretches, lowest_overlap(stretches))),
     };
     if overlap.is_some() {

@@ -59,7 +59,7 @@ fn add_runs<'a>(
 }
 
 /// Returns the runs of segments, each at its address.
-fn stretches_of<'a>(
+pub(crate) fn stretches_of<'a>(
     alloc: Global,
     segments: &[PlacedSegment<'a>],
 ) -> Result<Vec<Stretch<'a>>, MemoryFault>

@@ -5,5 +5,6 @@ use Rattle.omf_linking.proofs.space.memory.memory_of.Goals as goal
 
 pub returns : goal.returns
 returns c =
+    let ss = c.args.stretches.now in
     let o = c.first_overlap-overlap.result in
-    is_memory c.args.stretches.now o c.in_ok-laid.field-0 (gone o (sym c.is_some.ensures ∙ c.if-is_some.false)) c.first_overlap-overlap.ensures c.in_ok-laid.ensures
+    is_memory ss o c.in_ok-laid.field-0 (gone o (sym c.is_some.ensures ∙ c.if-is_some.false)) (c.first_overlap-overlap.ensures ss c.requires c.in-Ok.ensures) c.in_ok-laid.ensures

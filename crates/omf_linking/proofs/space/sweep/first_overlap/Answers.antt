@@ -9,12 +9,11 @@ use Rattle.omf_linking.proofs.SpaceLaws.ShareLaws.{first_overlaps, long_interval
 use Rattle.omf_linking.proofs.space.sweep.first_overlap.Goals as goal
 
 pub returns : goal.returns
-returns c =
-    let ss = c.args.stretches.now in
+returns c ss lies of =
     let is = intervals (pieces ss) in
     let sorted = c.sort_unstable_by_key.new.self.items in
-    let moved : IsPermutation is sorted = subst (λ xs. IsPermutation xs sorted) c.requires.of c.sort_unstable_by_key.ensures.permutation in
+    let moved : IsPermutation is sorted = subst (λ xs. IsPermutation xs sorted) of c.sort_unstable_by_key.ensures.permutation in
     let up = IsNonDecreasingBy-from_sort_by_key (λ (i : Interval). i.first) sorted c.sort_unstable_by_key.ensures.sorted (λ a r f k. search rules) in
-    let long = All-permutation (λ (i : Interval). i.first < i.end) is sorted moved (long_intervals ss c.requires.lies) in
+    let long = All-permutation (λ (i : Interval). i.first < i.end) is sorted moved (long_intervals ss lies) in
     let found = first_overlaps (pieces ss) (swept 0 0 sorted) (sorted_finds is sorted moved (sorted_rise sorted up long)) in
     subst (IsFirstOverlap (shares (pieces ss))) (sym (c.sweep.ensures ∙ ap (swept 0 0) c.deref.ensures.value)) found
