@@ -1,6 +1,6 @@
 -- A run of `omf-link` with names compared without case, from its steps.
-use Rattle.std.proofs.Common.{◌≡◌, ℕ, List, ap, subst, sym, ◌∙◌, inl, inr, map}
-use Rattle.std.specs.Prelude.{Result, Ok, Err, string_bytes}
+use Rattle.std.proofs.Common.{◌≡◌, ℕ, List, subst, inl, inr, map}
+use Rattle.std.specs.Prelude.{Result, Ok, Err}
 use Rattle.std.specs.List.{AllZip}
 use Rattle.omf_check.specs.Module.{Module, typed_modules}
 use Rattle.omf_linking.proofs.FoldLaws.{typed-folded}
@@ -8,25 +8,17 @@ use Rattle.omf_linking.specs.Folded.{IsFolded, folded}
 use Rattle.omf_linking.specs.FoldedText.{folded_text}
 use Rattle.omf_records.specs.Values.{Rec}
 use Rattle.omf_linking.specs.File.{InputFile}
-use Rattle.omf_linking.specs.Files.{IsFirstAtFault}
-use Rattle.omf_linking.specs.declared.fault.LinkFault.{LinkFault}
-use Rattle.omf_linker.specs.Link.Files.{AreLabeled, IsFileNamed, file_front}
+use Rattle.omf_linker.specs.Link.Files.{AreLabeled, IsFileRefused}
 use Rattle.omf_linker.specs.Link.Folded.{AreFilesFolded, IsShownFolded, IsShownFoldedAs}
-use Rattle.omf_linker.specs.Link.Linked.{any}
 use Rattle.omf_linker.specs.Link.Shown.{AreShown}
 use Rattle.omf_linker.specs.declared.link.fault.ImageFault.{ImageFault}
 use Rattle.omf_linker.specs.declared.link.files_fault.FilesFault.{FilesFault}
 use Rattle.omf_linker.specs.declared.link.files_fault.FilesFault.TheVariants as fault
 use Rattle.omf_linker.specs.declared.link.words.Task.{Task}
 
--- the first file at fault, by its name
-pub folded-at-file : (t : Task) (files : List InputFile) (text : List ℕ) (k : ℕ) (f : LinkFault) (name : List ℕ) (e : FilesFault) (a : IsFirstAtFault any files (record { file = k; fault = f })) → a.file.name ≡ name
-    → IsFileNamed name f e → AreFilesFolded t files text (Err e)
-folded-at-file t files text k f name (fault.File g front) a n i =
-    let named : string_bytes front ≡ file_front a.file.name = i.1 ∙ ap file_front (sym n) in
-    let pair = subst (λ (x : LinkFault). (b : IsFirstAtFault any files (record { file = k; fault = x })) × (string_bytes front ≡ file_front b.file.name)) (sym i.0) (a, named) in
-    (k, pair.0, pair.1)
-folded-at-file t files text k f name (fault.Link e) a n i = inr i
+pub not-folded : (t : Task) (files : List InputFile) (text : List ℕ) (e : FilesFault) → IsFileRefused files e → AreFilesFolded t files text (Err e)
+not-folded t files text (fault.File f front) h = h
+not-folded t files text (fault.Link f) h = inr h
 
 -- the result for folded modules and a folded text
 pub shown-folded : (t : Task) (labels : List (List ℕ)) (ms ns : List Module) (text lower : List ℕ) (r : Result (List ℕ) ImageFault) → AllZip IsFolded ms ns → lower ≡ folded_text text → AreShown t labels (typed_modules ns) lower r

@@ -1,40 +1,17 @@
 -- The modules of files and their labels, one file after another.
-use Rattle.std.proofs.Common.{◌≡◌, ℕ, zero, suc, ◌+◌, ◌-◌, ◌<◌, ◌≤◌, ◌^◌, List, [], ◌∷◌, ◌++◌, length, map, take, drop, get_or, refl, sym, ap, ap₂, subst, ◌∙◌, append_assoc, append-nil, arith, String, Global}
-use Rattle.std.specs.Prelude.{Result, Ok, Err, Some, slice_get, slice_range, string_bytes}
-use Rattle.std.proofs.lemmas.List.{take_all, map-append}
-use Rattle.std.proofs.lemmas.Option.{get_or_from_slice_get, slice_get-get_or}
-use Rattle.std.proofs.Math.Seq.{drop-cons, take-suc}
+use Rattle.std.proofs.Common.{◌≡◌, ℕ, suc, ◌+◌, ◌≤◌, List, [], ◌∷◌, ◌++◌, length, map, take, refl, sym, ap, subst, ◌∙◌, append_assoc, append-nil, arith, String, Global}
+use Rattle.std.specs.Prelude.{Err, Ok, Some, slice_get, string_bytes}
+use Rattle.std.proofs.lemmas.List.{map-append}
 use Rattle.omf_check.specs.Module.{Module}
 use Rattle.omf_linking.specs.File.{InputFile}
-use Rattle.omf_linking.specs.Files.{AreFiles, HaveModules, IsFile, IsFirstAtFault}
-use Rattle.omf_linking.specs.declared.fault.FileFault.{FileFault}
+use Rattle.omf_linking.specs.Files.{HaveModules, IsFile, IsFirstAtFault}
 use Rattle.omf_linking.specs.declared.fault.LinkFault.{LinkFault}
-use Rattle.omf_linker.specs.Link.Files.{AreLabeled, module_label, module_labels}
+use Rattle.omf_linker.specs.Link.Files.{AreLabeled, IsFileNamed, IsFileRefused, module_label, module_labels}
 use Rattle.omf_linker.specs.Link.Linked.{any}
 use Rattle.omf_linker.specs.Inner.Gathering.{AreAdded}
+use Rattle.omf_linker.specs.declared.link.files_fault.FilesFault.{FilesFault}
 use Rattle.omf_linker.specs.declared.link.labels.LabeledModules.{LabeledModules}
-
--- ---- one file
-
--- a part of one file
-pub one_file : (fs : List InputFile) (i : ℕ) (f : InputFile) → i < length fs → slice_get fs i ≡ Some f → slice_range fs i (i + 1) ≡ f ∷ []
-one_file fs i f low h =
-    let one : (i + 1) - i ≡ 1 = omega arith in
-    ap (λ n. take n (drop i fs)) one ∙ ap (take 1) (drop-cons fs i f low ∙ ap (λ y. y ∷ drop (suc i) fs) (get_or_from_slice_get fs i f f h))
-
--- its modules
-pub own_held : (f : InputFile) (ms : List Module) → HaveModules any (f ∷ []) ms → IsFile any f.bytes (Ok ms)
-own_held f ms (own, others, held, none, e) =
-    let same : own ≡ ms = sym (append-nil own) ∙ ap (λ xs. own ++ xs) (sym none) ∙ sym e in
-    subst (λ (ns : List Module). IsFile any f.bytes (Ok ns)) same held
-
--- its fault
-found_one : (f g : InputFile) (k : ℕ) → slice_get (f ∷ []) k ≡ Some g → g ≡ f
-found_one f g zero e = cc
-found_one f g (suc k) e = absurd cc
-
-pub own_fails : (f : InputFile) (e : FileFault) → IsFirstAtFault any (f ∷ []) e → IsFile any f.bytes (Err e.fault)
-own_fails f e a = subst (λ (g : InputFile). IsFile any g.bytes (Err e.fault)) (found_one f a.file e.file a.found) a.fails
+use Rattle.omf_linker.proofs.LinkFiles.{at_file}
 
 -- ---- labels
 
@@ -68,36 +45,52 @@ labeled_more (g ∷ gs) ms labels f own (first, others, names, j, rest, e, l) i 
   ap (λ (xs : List (List ℕ)). xs ++ module_labels f.name (length own)) l ∙ append_assoc (module_labels g.name (length first)) names (module_labels f.name (length own)),
 )
 
--- one more file of the list
-pub file_labeled : (fs : List InputFile) (i : ℕ) (f : InputFile) (ms own now : List Module) (labels names : List (List ℕ)) → i < length fs → slice_get fs i ≡ Some f → AreLabeled (take i fs) ms labels → IsFile any f.bytes (Ok own)
-    → now ≡ ms ++ own → names ≡ labels ++ module_labels f.name (length own) → AreLabeled (take (i + 1) fs) now names
-file_labeled fs i f ms own now labels names low found h j e l =
-    let after : i + 1 ≡ suc i = omega arith in
-    let next : take (i + 1) fs ≡ take i fs ++ f ∷ [] = ap (λ (n : ℕ). take n fs) after ∙ take-suc fs i f low ∙ ap (λ (x : InputFile). take i fs ++ x ∷ []) (get_or_from_slice_get fs i f f found) in
-    subst (λ (xs : List InputFile). AreLabeled xs now names) (sym next)
-    (subst (λ (ns : List Module). AreLabeled (take i fs ++ f ∷ []) ns names) (sym e)
-    (subst (λ (ls : List (List ℕ)). AreLabeled (take i fs ++ f ∷ []) (ms ++ own) ls) (sym l) (labeled_more (take i fs) ms labels f own h j)))
-
-pub all_labeled : (fs : List InputFile) (i : ℕ) (ms : List Module) (labels : List (List ℕ)) → length fs ≤ i → AreLabeled (take i fs) ms labels → AreLabeled fs ms labels
-all_labeled fs i ms labels high h = subst (λ (xs : List InputFile). AreLabeled xs ms labels) (take_all i fs high) h
-
 -- the modules alone
 pub labeled_have : (fs : List InputFile) (ms : List Module) (labels : List (List ℕ)) → AreLabeled fs ms labels → HaveModules any fs ms
 labeled_have [] ms labels h = h.0
 labeled_have (f ∷ fs) ms labels (own, others, names, i, rest, e, l) = (own, others, i, labeled_have fs others names rest, e)
 
--- the file that is read next is at fault; it was added
-pub first_fails : (fs : List InputFile) (i : ℕ) (ms : List Module) (labels : List (List ℕ)) (e : LinkFault) → i < length fs → AreLabeled (take i fs) ms labels → ((f : InputFile) → slice_get fs i ≡ Some f → IsFile any f.bytes (Err e))
-    → IsFirstAtFault any fs (record { file = i; fault = e })
-first_fails fs i ms labels e low h fails =
-    let f = get_or fs i (record { name = []; bytes = [] }) in
-    let found : slice_get fs i ≡ Some f = slice_get-get_or fs i (record { name = []; bytes = [] }) low in
-    record { before = ms; file = f; have = labeled_have (take i fs) ms labels h; found = found; fails = fails f found }
+-- the files before those that are left hold these modules, with these labels
+pub record AreSoFar (files left : List InputFile) (all : LabeledModules) : Type 0 where
+  pub done : List InputFile
+  pub split : done ++ left ≡ files
+  pub labeled : AreLabeled done all.modules.items (map string_bytes all.labels.items)
 
-pub next_labeled : (fs : List InputFile) (i : ℕ) (old new : LabeledModules) → i < length fs → AreLabeled (take i fs) old.modules.items (map string_bytes old.labels.items) → ((f : InputFile) → slice_get fs i ≡ Some f → AreAdded f old new)
-    → AreLabeled (take (i + 1) fs) new.modules.items (map string_bytes new.labels.items) × (length new.modules.items < 2 ^ 32)
-next_labeled fs i old new low h added =
-    let f = get_or fs i (record { name = []; bytes = [] }) in
-    let found : slice_get fs i ≡ Some f = slice_get-get_or fs i (record { name = []; bytes = [] }) low in
-    let a : AreAdded f old new = added f found in
-    (file_labeled fs i f old.modules.items a.own new.modules.items (map string_bytes old.labels.items) (map string_bytes new.labels.items) low found h a.held a.modules a.labels, a.few)
+pub none_so_far : (files : List InputFile) (all : LabeledModules) → all.modules.items ≡ [] → all.labels.items ≡ [] → AreSoFar files files all
+none_so_far files all e l = record { done = []; split = refl; labeled = (e, ap (map string_bytes) l) }
+
+-- one more
+pub next_so_far : (files left rest : List InputFile) (f : InputFile) (old new : LabeledModules) → left ≡ f ∷ rest → AreAdded f old new → AreSoFar files left old → AreSoFar files rest new
+next_so_far files left rest f old new e a h = record {
+  done = h.done ++ f ∷ [];
+  split = append_assoc h.done (f ∷ []) rest ∙ ap (λ (xs : List InputFile). h.done ++ xs) (sym e) ∙ h.split;
+  labeled = subst (λ (ns : List Module). AreLabeled (h.done ++ f ∷ []) ns (map string_bytes new.labels.items)) (sym a.modules)
+      (subst (λ (ls : List (List ℕ)). AreLabeled (h.done ++ f ∷ []) (old.modules.items ++ a.own) ls) (sym a.labels) (labeled_more h.done old.modules.items (map string_bytes old.labels.items) f a.own h.labeled a.held));
+}
+
+pub all_so_far : (files left : List InputFile) (all : LabeledModules) → left ≡ [] → AreSoFar files left all → AreLabeled files all.modules.items (map string_bytes all.labels.items)
+all_so_far files left all e h =
+    let whole : h.done ≡ files = sym (append-nil h.done) ∙ ap (λ (xs : List InputFile). h.done ++ xs) (sym e) ∙ h.split in
+    subst (λ (xs : List InputFile). AreLabeled xs all.modules.items (map string_bytes all.labels.items)) whole h.labeled
+
+-- the next file is at fault
+found_after : (done rest : List InputFile) (f : InputFile) → slice_get (done ++ f ∷ rest) (length done) ≡ Some f
+found_after [] rest f = refl
+found_after (g ∷ done) rest f = found_after done rest f
+
+front_taken : (done rest : List InputFile) → take (length done) (done ++ rest) ≡ done
+front_taken [] [] = refl
+front_taken [] (f ∷ rest) = refl
+front_taken (g ∷ done) rest = ap (λ (xs : List InputFile). g ∷ xs) (front_taken done rest)
+
+pub file_refused : (files left rest : List InputFile) (f : InputFile) (all : LabeledModules) (e : LinkFault) (r : FilesFault) → left ≡ f ∷ rest → AreSoFar files left all → IsFile any f.bytes (Err e) → IsFileNamed f.name e r → IsFileRefused files r
+file_refused files left rest f all e r i h fails named =
+    let split : h.done ++ f ∷ rest ≡ files = ap (λ (xs : List InputFile). h.done ++ xs) (sym i) ∙ h.split in
+    let first : IsFirstAtFault any files (record { file = length h.done; fault = e }) = record {
+      before = all.modules.items;
+      file = f;
+      have = subst (λ (xs : List InputFile). HaveModules any xs all.modules.items) (sym (ap (λ (xs : List InputFile). take (length h.done) xs) (sym split) ∙ front_taken h.done (f ∷ rest))) (labeled_have h.done all.modules.items (map string_bytes all.labels.items) h.labeled);
+      found = subst (λ (xs : List InputFile). slice_get xs (length h.done) ≡ Some f) split (found_after h.done rest f);
+      fails = fails;
+    } in
+    at_file files (length h.done) e f.name r first refl named

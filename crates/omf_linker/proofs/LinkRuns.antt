@@ -133,9 +133,9 @@ not_started (s ∷ t ∷ more) e = absurd cc
 
 not_first : (ms : List (List Rec)) (text : List ℕ) → IsFirstFault ms text link.Read → ⊥
 not_first ms text (inl h) = not_linked ms text h
-not_first ms text (inr (inl h)) = not_far first_fault (enumerate_from 0 (zip ms h.0)) h.2
-not_first ms text (inr (inr (inl h))) = h.1
-not_first ms text (inr (inr (inr h))) = not_started (main_starts (zip ms h.0.relocated)) h.2
+not_first ms text (inr (pls, placed, inl h)) = not_far first_fault (enumerate_from 0 (zip ms pls)) h
+not_first ms text (inr (pls, placed, inr (inl h))) = h.1
+not_first ms text (inr (pls, placed, inr (inr h))) = not_started (main_starts (zip ms h.0.relocated)) h.2
 
 -- a result that names no device
 abbrev pub IsNoDevice : Result (List ℕ) ImageFault → Type 0

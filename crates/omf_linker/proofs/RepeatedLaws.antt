@@ -1,7 +1,7 @@
 -- The names that more than one public has, from a table of publics by name.
 use Rattle.std.proofs.Common.{◌≡◌, ℕ, Bool, true, false, List, [], ◌∷◌, ◌++◌, length, refl, sym, ap, ap₂, subst, ◌∙◌, inl, inr, Bor, Vec, Global, nat_cmp, cond}
-use Rattle.std.specs.Prelude.{Option, Some, None, bytes_eq, flat_map, nat_le, codes, ◌||◌}
-use Rattle.std.specs.BTreeMap.{IsOrdered, get_by, is_at}
+use Rattle.std.specs.Prelude.{Some, None, bytes_eq, flat_map, nat_le, codes, ◌||◌}
+use Rattle.std.specs.BTreeMap.{IsOrdered, is_at}
 use Rattle.std.specs.Cmp.Lexicographic.{slice_cmp}
 use Rattle.std.specs.List.{AllByRecursion}
 use Rattle.std.specs.List.Sorted.{IsStrictlySortedBy}
@@ -12,10 +12,10 @@ use Rattle.std.specs.declared.cmp.Ordering.TheVariants.{Less}
 use Rattle.std.proofs.lemmas.Bool.{cond-true, cond-false, cases_Bool, false≢true}
 use Rattle.std.proofs.lemmas.Map.Keys.{sorted_head, sorted_tail}
 use Rattle.std.proofs.lemmas.Map.Text.{is_eq-slice_cmp}
-use Rattle.std.proofs.lemmas.Option.{none-some, same_Some}
+use Rattle.std.proofs.lemmas.Option.{none-some}
 use Rattle.std.proofs.lemmas.Slice.Eq.{bytes_eq-Decides}
 use Rattle.omf_linker.specs.Drafting.Names.{has_name}
-use Rattle.omf_linker.specs.Link.Repeated.{AreRepeated, IsRepeatedText, repeated_line}
+use Rattle.omf_linker.specs.Link.Repeated.{IsRepeatedText, repeated_line}
 use Rattle.omf_linker.specs.Link.Unresolved.{IsByName, Row, Table, items_or, name_line, spots_of}
 use Rattle.omf_linker.specs.declared.link.by_name.Spot.{Spot}
 

@@ -36,10 +36,10 @@ not_linked f labels ms text g fault.NoRoom h n = absurd n
 not_linked f labels ms text g fault.Write h n = absurd n
 
 -- an address that the form does not have
-pub owned_file : (f : Form) (labels : List (List ℕ)) (ms : List (List Rec)) (l : LinkedModules) (a : ℕ) (e : ImageFault) → IsFirstOutside f (byte_at l.memory 0) a → IsOwned labels ms l a e → IsLinkedFile f labels ms l (Err e)
+pub owned_file : (f : Form) (labels : List (List ℕ)) (ms : List (List Rec)) (l : LinkedModules) (a : ℕ) (e : ImageFault) → IsFirstOutside f (byte_at l.together.memory 0) a → IsOwned labels ms l a e → IsLinkedFile f labels ms l (Err e)
 owned_file f labels ms l a (fault.Link g) h i = i
 owned_file f labels ms l a (fault.Outside b o lines) h i = (
-  subst (IsFirstOutside f (byte_at l.memory 0)) (sym i.0) h,
+  subst (IsFirstOutside f (byte_at l.together.memory 0)) (sym i.0) h,
   subst (λ (x : ℕ). o ≡ linked_owner ms l x) (sym i.0) i.1,
   i.2 ∙ ap (λ (p : Option Owner). outside_line labels ms a p) (sym i.1) ∙ ap (λ (x : ℕ). outside_line labels ms x o) (sym i.0),
 )

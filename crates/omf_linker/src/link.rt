@@ -23,7 +23,6 @@ mod words;
 pub(crate) use by_name::{External, Spot, external_at};
 pub use case::{CasedWords, case_in};
 pub use fault::ImageFault;
-pub(crate) use files::{in_file, refused};
 pub use files::{file_front, files_text, run_files};
 pub use files_fault::FilesFault;
 pub(crate) use labels::LabeledModules;

@@ -1,5 +1,5 @@
 -- Adding the modules of a file and their labels to those before it (the steps of the code).
-use Rattle.std.specs.Prelude.{◌≡◌, ◌<◌, ◌^◌, ℕ, List, ◌++◌, length, map, string_bytes, Result, Ok, Err}
+use Rattle.std.specs.Prelude.{◌≡◌, ◌<◌, ◌^◌, List, ◌++◌, length, map, string_bytes, Result, Ok, Err}
 use Rattle.omf_check.specs.Module.{Module}
 use Rattle.omf_linking.specs.File.{InputFile}
 use Rattle.omf_linking.specs.Files.{IsFile}

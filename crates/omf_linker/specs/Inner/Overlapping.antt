@@ -1,5 +1,5 @@
 -- A sweep over segments in rising order (the steps of the code).
-use Rattle.std.specs.Prelude.{ℕ, List, [], ◌∷◌, nat_lt, Option, Some, None, if◌then◌else◌}
+use Rattle.std.specs.Prelude.{List, [], ◌∷◌, nat_lt, Option, Some, None, if◌then◌else◌}
 use Rattle.omf_linker.specs.Seen.Overlaps.{may_share}
 use Rattle.omf_linker.specs.declared.seen.span.Span.{Span}
 

@@ -65,6 +65,11 @@ abbrev pub IsFileNamed : List ℕ → LinkFault → FilesFault → Type 0
 IsFileNamed name f (fault.File g front) = (g ≡ f) × (string_bytes front ≡ file_front name)
 IsFileNamed name f (fault.Link e) = e ≡ image.Link link.Memory
 
+-- The first file that does not hold modules and padding alone, by its name, or out of memory.
+abbrev pub IsFileRefused : List InputFile → FilesFault → Type 0
+IsFileRefused files (fault.File f front) = (k : ℕ) × (a : IsFirstAtFault any files (record { file = k; fault = f })) × (string_bytes front ≡ file_front a.file.name)
+IsFileRefused files (fault.Link f) = f ≡ image.Link link.Memory
+
 -- The files hold modules, and this is the result of the task for these, by their labels, and the link text.
 abbrev pub AreShownFrom : Task → List InputFile → List ℕ → Result (List ℕ) ImageFault → Type 0
 AreShownFrom t files text r = (ms : List Module) × (labels : List (List ℕ)) × AreLabeled files ms labels × AreShown t labels (typed_modules ms) text r
@@ -73,7 +78,7 @@ AreShownFrom t files text r = (ms : List Module) × (labels : List (List ℕ)) �
 abbrev pub AreFilesShown : Task → List InputFile → List ℕ → Result (List ℕ) FilesFault → Type 0
 AreFilesShown t files text (Ok shown) = AreShownFrom t files text (Ok shown)
 AreFilesShown t files text (Err (fault.Link f)) = AreShownFrom t files text (Err f) ⊎ (f ≡ image.Link link.Memory)
-AreFilesShown t files text (Err (fault.File f front)) = (k : ℕ) × (a : IsFirstAtFault any files (record { file = k; fault = f })) × (string_bytes front ≡ file_front a.file.name)
+AreFilesShown t files text (Err (fault.File f front)) = IsFileRefused files (fault.File f front)
 
 -- The result for modules and a link text, where the fault is one of a link.
 abbrev pub IsShownAs : Task → List (List ℕ) → List (List Rec) → List ℕ → Result (List ℕ) FilesFault → Type 0

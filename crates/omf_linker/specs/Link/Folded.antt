@@ -1,13 +1,12 @@
 -- A task of `omf-link` with names compared without case (`--ignore-case`; this profile's rule): that for the folded modules and the folded text.
-use Rattle.std.specs.Prelude.{◌≡◌, ◌⊎◌, ℕ, List, [], map, Result, Ok, Err, string_bytes}
+use Rattle.std.specs.Prelude.{◌≡◌, ◌⊎◌, ℕ, List, [], map, Result, Ok, Err}
 use Rattle.omf_check.specs.Module.{Module, typed_modules}
 use Rattle.omf_linking.specs.File.{InputFile}
-use Rattle.omf_linking.specs.Files.{IsFirstAtFault}
 use Rattle.omf_linking.specs.Reading.{AreModules}
 use Rattle.omf_linking.specs.declared.fault.LinkFault.TheVariants as link
 use Rattle.omf_linking.specs.Folded.{folded}
 use Rattle.omf_linking.specs.FoldedText.{folded_text}
-use Rattle.omf_linker.specs.Link.Files.{AreLabeled, file_front}
+use Rattle.omf_linker.specs.Link.Files.{AreLabeled, IsFileRefused}
 use Rattle.omf_linker.specs.Link.Linked.{any}
 use Rattle.omf_linker.specs.Link.Shown.{AreShown, IsNoModule}
 use Rattle.omf_linker.specs.declared.link.fault.ImageFault.{ImageFault}
@@ -34,7 +33,7 @@ AreFoldedFrom t files text r = (ms : List Module) × (labels : List (List ℕ)) 
 abbrev pub AreFilesFolded : Task → List InputFile → List ℕ → Result (List ℕ) FilesFault → Type 0
 AreFilesFolded t files text (Ok shown) = AreFoldedFrom t files text (Ok shown)
 AreFilesFolded t files text (Err (fault.Link f)) = AreFoldedFrom t files text (Err f) ⊎ (f ≡ image.Link link.Memory)
-AreFilesFolded t files text (Err (fault.File f front)) = (k : ℕ) × (a : IsFirstAtFault any files (record { file = k; fault = f })) × (string_bytes front ≡ file_front a.file.name)
+AreFilesFolded t files text (Err (fault.File f front)) = IsFileRefused files (fault.File f front)
 
 -- An input is modules and a link text, and this is the result for them.
 pub record IsFoldedIn (t : Task) (input : List ℕ) (r : Result (List ℕ) ImageFault) : Type 0 where

@@ -1,5 +1,5 @@
 -- What a link text does that may not be meant (this profile's rule).
-use Rattle.std.specs.Prelude.{◌≡◌, ℕ, ◌%◌, ◌==◌, Bool, not, List, ◌++◌, map, find, Option, option_map, option_to_list}
+use Rattle.std.specs.Prelude.{◌≡◌, ◌%◌, ◌==◌, Bool, not, List, ◌++◌, map, find, Option, option_map, option_to_list}
 use Rattle.omf_layout.specs.Wants.{bytes_aligned}
 use Rattle.omf_placement.specs.Derive.{PlacedModule}
 use Rattle.omf_linker.specs.Seen.Lying.{lyings, seen}

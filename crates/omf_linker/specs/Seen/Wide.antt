@@ -1,5 +1,5 @@
 -- Groups with a member too far from their frame (this profile's rule).
-use Rattle.std.specs.Prelude.{ℕ, ◌+◌, List, [], ◌∷◌, Bool, not, ◌&&◌, nat_lt, Option, Some, None, option_and_then, if◌then◌else◌}
+use Rattle.std.specs.Prelude.{ℕ, ◌+◌, List, [], ◌∷◌, not, ◌&&◌, nat_lt, Option, Some, None, option_and_then, if◌then◌else◌}
 use Rattle.std.specs.List.{enumerate_from}
 use Rattle.omf_check.specs.Tables.{entry, groups, segments}
 use Rattle.omf_check.specs.declared.segment.SegInfo.{SegInfo}

@@ -1,11 +1,8 @@
 //! A run of `omf-link` over files, from their bytes to a writer.
 
-ghost use Rattle.std.specs.Prelude.{◌≡◌, ◌<◌, ◌^◌, ℕ, List, Err, IfOk, Ok, length, map, string_bytes};
+ghost use Rattle.std.specs.Prelude.{◌≡◌, ◌<◌, ◌^◌, Err, IfOk, Ok, length, map, string_bytes};
 ghost use Rattle.omf_check.specs.Module.{typed_modules};
-ghost use Rattle.omf_linking.specs.Files.{IsFirstAtFault};
 ghost use Rattle.omf_linker.specs.Link.Files.{AreFilesShown, EndsShown, HasRunFiles, IsFileNamed, IsShownAs, file_front};
-ghost use Rattle.omf_linker.specs.Link.Linked.{any};
-ghost use Rattle.omf_linker.specs.declared.link.words.Task.{Task as Asked};
 
 use crate::lines::Labeled;
 use crate::link::fault::ImageFault;
@@ -17,7 +14,7 @@ use crate::link::words::Task;
 use omf_cmd::Fault;
 use omf_frame::Sink;
 use omf_layout::printing::print_quoted;
-use omf_linking::{FileFault, InputFile, LinkFault};
+use omf_linking::{InputFile, LinkFault};
 use std::alloc::{AllocError, Global};
 
 /// The front of the line of a file's fault: the word `file` and the name in quotes, with `\xHH` for bytes that are not plain.
@@ -57,17 +54,7 @@ fn of_modules(
     }
 }
 
-/// The fault of files that do not hold modules and padding alone: that of the first, with the front of its line.
-pub(crate) fn refused(alloc: Global, files: &[InputFile], fault: FileFault) -> FilesFault
-    ensures { (task : Asked) (text : List ℕ) → IsFirstAtFault any files.now fault → AreFilesShown task files.now text (Err result) }
-{
-    match files.get(fault.file) {
-        Some(file) => in_file(alloc, file, fault.fault),
-        None => FilesFault::Link(ImageFault::Link(LinkFault::Memory)),
-    }
-}
-
-/// What a task prints for the modules of files and a link text. The files are dropped once their modules are checked, so each module is kept
+/// What a task prints for the modules of files and a link text. Each file is dropped once its modules are checked, so each module is kept
 /// once.
 ///
 /// # Errors
@@ -83,16 +70,15 @@ pub fn files_text(
 ) -> Result<Output, FilesFault>
     ensures { AreFilesShown task files.items text.now result }
 {
-    match LabeledModules::of(alloc, &files) {
+    match LabeledModules::of(alloc, files) {
         Ok(all) => {
-            drop(files);
             let labeled = Labeled {
                 labels: &all.labels,
                 modules: &all.modules,
             };
             of_modules(alloc, task, labeled, text)
         }
-        Err(fault) => Err(refused(alloc, &files, fault)),
+        Err(fault) => Err(fault),
     }
 }
 

@@ -1,17 +1,14 @@
 //! The modules of files, and what each is called.
 
-ghost use Rattle.std.specs.Prelude.{◌≡◌, ◌++◌, ◌<◌, ◌^◌, IfErr, IfOk, OnOk, Some, length, map, slice_get, string_bytes};
-ghost use Rattle.omf_records.specs.Inner.Seen.{map_ok};
-ghost use Rattle.omf_linking.specs.File.{InputFile as Seen};
-ghost use Rattle.omf_linking.specs.Files.{IsFile, IsFirstAtFault};
+ghost use Rattle.std.specs.Prelude.{◌≡◌, ◌++◌, ◌<◌, ◌^◌, IfErr, IfOk, OnOk, length, map, string_bytes};
 ghost use Rattle.omf_linker.specs.Inner.Gathering.{IsAdded};
-ghost use Rattle.omf_linker.specs.Link.Files.{AreLabeled, module_label, module_labels};
-ghost use Rattle.omf_linker.specs.Link.Linked.{any};
+ghost use Rattle.omf_linker.specs.Link.Files.{AreLabeled, IsFileRefused, module_label, module_labels};
 
 use crate::exe::move_all;
-use crate::link::files::file_front;
+use crate::link::files::{file_front, in_file};
+use crate::link::files_fault::FilesFault;
 use omf_check::{Checked, Profile};
-use omf_linking::{FileFault, InputFile, LinkFault, modules_of_files};
+use omf_linking::{InputFile, LinkFault, file_modules};
 use std::alloc::{AllocError, Global};
 use std::fmt::Write;
 
@@ -48,20 +45,6 @@ fn add_labels(
     Ok(())
 }
 
-/// The modules of one of the files.
-fn own_modules(alloc: Global, files: &[InputFile], file: usize) -> Result<Vec<Checked>, LinkFault>
-    requires { file < length files.now }
-    ensures { (f : Seen) → slice_get files.now file ≡ Some f → IsFile any f.bytes (map_ok (λ v. v.items) result) }
-{
-    let profile = Profile {
-        refuse_vendor_comments: false,
-    };
-    match modules_of_files(alloc, profile, &files[file..file + 1]) {
-        Ok(modules) => Ok(modules),
-        Err(FileFault { fault, .. }) => Err(fault),
-    }
-}
-
 impl LabeledModules {
     /// Adds the modules of a file of this name, if there are at most 4,294,967,295 then.
     fn add(&mut self, alloc: Global, name: &[u8], own: Vec<Checked>) -> Result<(), AllocError>
@@ -77,17 +60,19 @@ impl LabeledModules {
         Ok(())
     }
 
-    /// Adds the modules of one of the files.
+    /// Adds the modules of a file.
     ///
     /// # Errors
     ///
-    /// The fault of `modules_of_files` for this file. `Memory` if memory runs out, or if there are more than 4,294,967,295 modules.
-    fn add_file(&mut self, alloc: Global, files: &[InputFile], file: usize) -> Result<(), LinkFault>
-        requires { file < length files.now }
-        ensures { (f : Seen) → slice_get files.now file ≡ Some f → IsAdded f self.old self.new result }
+    /// Those of `file_modules`. `Memory` if memory runs out, or if there are more than 4,294,967,295 modules.
+    fn add_file(&mut self, alloc: Global, file: &InputFile) -> Result<(), LinkFault>
+        ensures { IsAdded file.now self.old self.new result }
     {
-        match own_modules(alloc, files, file) {
-            Ok(own) => match self.add(alloc, files[file].name(), own) {
+        let profile = Profile {
+            refuse_vendor_comments: false,
+        };
+        match file_modules(alloc, profile, file.bytes()) {
+            Ok(own) => match self.add(alloc, file.name(), own) {
                 Ok(()) => Ok(()),
                 Err(AllocError) => Err(LinkFault::Memory),
             },
@@ -95,25 +80,26 @@ impl LabeledModules {
         }
     }
 
-    /// Reads the modules of files, in the order of the files, as `modules_of_files` does, and labels each by its file and its number there.
+    /// Reads the modules of files, in the order of the files, and labels each by its file and its number there. Each file is dropped once its
+    /// modules are checked, so that each module is kept once.
     ///
     /// # Errors
     ///
-    /// The first file that does not hold modules and padding alone. `Memory` if memory runs out, or if there are more than 4,294,967,295
-    /// modules.
-    pub(crate) fn of(alloc: Global, files: &[InputFile]) -> Result<LabeledModules, FileFault>
-        ensures labeled { IfOk result (λ l. AreLabeled files.now l.modules.items (map string_bytes l.labels.items)) }
+    /// `File` for the first file that does not hold modules and padding alone, as in `modules_of_files`. `Link` with `Memory` if memory runs
+    /// out, or if there are more than 4,294,967,295 modules.
+    pub(crate) fn of(alloc: Global, files: Vec<InputFile>) -> Result<LabeledModules, FilesFault>
+        ensures labeled { IfOk result (λ l. AreLabeled files.items l.modules.items (map string_bytes l.labels.items)) }
         ensures few { IfOk result (λ l. length l.modules.items < 2 ^ 32) }
-        ensures fault { IfErr result (IsFirstAtFault any files.now) }
+        ensures fault { IfErr result (IsFileRefused files.items) }
     {
         let mut all = LabeledModules {
             modules: Vec::new(alloc),
             labels: Vec::new(alloc),
         };
-        for file in 0..files.len() {
-            match all.add_file(alloc, files, file) {
+        for file in files {
+            match all.add_file(alloc, &file) {
                 Ok(()) => {}
-                Err(fault) => return Err(FileFault { file, fault }),
+                Err(fault) => return Err(in_file(alloc, &file, fault)),
             }
         }
         Ok(all)

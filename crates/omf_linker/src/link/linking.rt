@@ -10,9 +10,8 @@ use crate::link::output::Output;
 use crate::link::unresolved::unresolved_text;
 use crate::map::given_text;
 use omf_check::Checked;
-use omf_image::Image;
 use omf_linking::locator::sparse_places;
-use omf_linking::{LinkFault, Relocated, link, memory_image, relocate_all, start_of};
+use omf_linking::{LinkFault, Together, laid_together, link};
 use omf_placement::Placement;
 use std::alloc::Global;
 
@@ -21,12 +20,8 @@ use std::alloc::Global;
 pub struct LinkedModules {
     /// The placement of each module.
     pub placements: Vec<Placement>,
-    /// Each module, relocated to its placement.
-    pub relocated: Vec<Relocated>,
-    /// The memory that they share: segment 0 of an image.
-    pub memory: Image,
-    /// The selector and the offset of their start address.
-    pub start: Option<(u16, u32)>,
+    /// The memory that they share, and their start.
+    pub together: Together,
 }
 
 /// Links modules: gives them the placements of a link text, relocates each, and lays them in one memory.
@@ -42,21 +37,16 @@ pub(crate) fn linked_modules(
     requires { length modules.now < 2 ^ 32 }
     ensures linked { AreLinked (typed_modules modules.now) text.now result }
     ensures placed { IfOk result (λ l. length l.placements.items ≡ length modules.now) }
-    ensures relocated { IfOk result (λ l. length l.relocated.items ≡ length modules.now) }
 {
     let placements = link(alloc, modules, text)?;
-    let relocated = relocate_all(alloc, modules, &placements)?;
-    let memory = memory_image(alloc, modules, &placements, &relocated)?;
-    let start = start_of(modules, &relocated)?;
+    let together = laid_together(alloc, modules, &placements)?;
     Ok(LinkedModules {
         placements,
-        relocated,
-        memory,
-        start,
+        together,
     })
 }
 
-/// The memory image of modules as text, as that of `modules_text`, and their placements. The images of the single modules are dropped.
+/// The memory image of modules as text, as that of `modules_text`, and their placements.
 ///
 /// # Errors
 ///
@@ -73,11 +63,9 @@ pub(crate) fn text_at(
     let linked = linked_modules(alloc, modules, text)?;
     let LinkedModules {
         placements,
-        memory,
-        start,
-        ..
+        together,
     } = linked;
-    let shown = Output::of_memory(alloc, memory, start)?;
+    let shown = Output::of_memory(alloc, together.memory, together.start)?;
     Ok((shown, placements))
 }
 

@@ -4,6 +4,7 @@ ghost use Rattle.std.specs.Prelude.{◌≡◌, ◌<◌, ◌^◌, IfOk, is_some, 
 ghost use Rattle.omf_check.specs.Module.{typed_modules};
 ghost use Rattle.omf_records.specs.Inner.Seen.{map_ok};
 ghost use Rattle.omf_linking.specs.Space.Segments.{segment_at, segments_at, share_in};
+ghost use Rattle.omf_linking.specs.Together.{segments_of};
 ghost use Rattle.omf_linker.specs.Link.Rom.{IsLinkedFile, IsOutside, IsOwned, IsRom, first_owner};
 
 use crate::lines::{Labeled, outside_line};
@@ -12,7 +13,7 @@ use crate::link::linking::{LinkedModules, linked_modules};
 use crate::link::naming::named;
 use omf_check::Checked;
 use omf_linking::space::{Owner, PlacedSegment};
-use omf_linking::{LinkFault, segments_of};
+use omf_linking::{LinkFault, relocate_all, segments_of};
 use omf_output::rom::{FileFault, Form, memory_file};
 use omf_placement::Placement;
 use std::alloc::{AllocError, Global};
@@ -54,22 +55,32 @@ fn outside_of(alloc: Global, labeled: Labeled<'_>, address: u32, owner: Option<O
     }
 }
 
-/// The fault of linked modules with a byte at an address that a form does not have: the address, and the first segment with a byte there.
-/// `Memory` if memory runs out.
+/// The first segment of modules at their placements with a byte at an address.
+fn owner_at(
+    alloc: Global,
+    modules: &[Checked],
+    placements: &[Placement],
+    address: u32,
+) -> Result<Option<Owner>, LinkFault>
+    requires few { length modules.now < 2 ^ 32 }
+    requires placed { length placements.now ≡ length modules.now }
+    ensures { IfOk result (λ owner. owner ≡ first_owner (segments_of (typed_modules modules.now) placements.now) address) }
+{
+    let relocated = relocate_all(alloc, modules, placements)?;
+    let segments = segments_of(alloc, modules, placements, &relocated)?;
+    Ok(first_owner(&segments, address))
+}
+
+/// The fault of linked modules with a byte at an address that a form does not have: the address, and the first segment with a byte there. To
+/// find it the modules are relocated again. `Memory` if memory runs out.
 fn outside(alloc: Global, labeled: Labeled<'_>, linked: &LinkedModules, address: u32) -> ImageFault
     requires few { length labeled.modules.now < 2 ^ 32 }
     requires placed { length linked.now.placements.items ≡ length labeled.modules.now }
-    requires relocated { length linked.now.relocated.items ≡ length labeled.modules.now }
     ensures { IsOwned (map string_bytes labeled.entry.labels.now) (typed_modules labeled.entry.modules.now) linked.now address result }
 {
-    match segments_of(
-        alloc,
-        labeled.modules,
-        &linked.placements,
-        &linked.relocated,
-    ) {
-        Ok(segments) => outside_of(alloc, labeled, address, first_owner(&segments, address)),
-        Err(AllocError) => ImageFault::Link(LinkFault::Memory),
+    match owner_at(alloc, labeled.modules, &linked.placements, address) {
+        Ok(owner) => outside_of(alloc, labeled, address, owner),
+        Err(_) => ImageFault::Link(LinkFault::Memory),
     }
 }
 
@@ -82,10 +93,9 @@ fn linked_file(
 ) -> Result<Vec<u8>, ImageFault>
     requires few { length labeled.modules.now < 2 ^ 32 }
     requires placed { length linked.now.placements.items ≡ length labeled.modules.now }
-    requires relocated { length linked.now.relocated.items ≡ length labeled.modules.now }
     ensures { IsLinkedFile form (map string_bytes labeled.entry.labels.now) (typed_modules labeled.entry.modules.now) linked.now (map_ok (λ file. file.items) result) }
 {
-    match memory_file(alloc, form, &linked.memory) {
+    match memory_file(alloc, form, &linked.together.memory) {
         Ok(file) => Ok(file),
         Err(FileFault::Outside(address)) => Err(outside(alloc, labeled, linked, address)),
         Err(FileFault::Memory) => Err(ImageFault::Link(LinkFault::Memory)),
@@ -101,7 +111,6 @@ fn placed_file(
 ) -> Result<(Vec<u8>, Vec<Placement>), ImageFault>
     requires few { length labeled.modules.now < 2 ^ 32 }
     requires placed { length linked.placements.items ≡ length labeled.modules.now }
-    requires relocated { length linked.relocated.items ≡ length labeled.modules.now }
     ensures file { IsLinkedFile form (map string_bytes labeled.entry.labels.now) (typed_modules labeled.entry.modules.now) linked (map_ok (λ r. r.0.items) result) }
     ensures placed { IfOk result (λ r. length r.1.items ≡ length labeled.entry.modules.now) }
 {

@@ -8,7 +8,7 @@ ghost use Rattle.omf_linker.specs.Link.Shown.{AreShown, IsShownOf};
 
 use crate::lines::Labeled;
 use crate::link::{
-    FilesFault, ImageFault, InputFile, LabeledModules, Output, ShownAt, Task, parted, refused,
+    FilesFault, ImageFault, InputFile, LabeledModules, Output, ShownAt, Task, parted,
     repeated_text, shown_at,
 };
 use crate::seen::allowed::Allowed;
@@ -187,7 +187,7 @@ fn of_modules(
 }
 
 /// The output of a task for the modules of files and a link text, as that of `files_text`, with the lines of what the text does unseen.
-/// The files are dropped once their modules are checked.
+/// Each file is dropped once its modules are checked.
 ///
 /// # Errors
 ///
@@ -199,16 +199,15 @@ pub fn files_seen(
 ) -> Result<SeenText, FilesFault>
     ensures { AreFilesShown request.entry.task files.items request.entry.text.now (map_ok (λ s. s.shown) result) }
 {
-    match LabeledModules::of(alloc, &files) {
+    match LabeledModules::of(alloc, files) {
         Ok(all) => {
-            drop(files);
             let labeled = Labeled {
                 labels: &all.labels,
                 modules: &all.modules,
             };
             of_modules(alloc, request, labeled)
         }
-        Err(fault) => Err(refused(alloc, &files, fault)),
+        Err(fault) => Err(fault),
     }
 }
 

@@ -1,21 +1,18 @@
 //! A task of `omf-link` over files or an input, with names compared without case.
 
 ghost use Rattle.std.specs.List.{AllZip};
-ghost use Rattle.std.specs.Prelude.{◌≡◌, ◌<◌, ◌^◌, Err, IfOk, List, length, map, string_bytes, ℕ};
-ghost use Rattle.omf_linking.specs.Files.{IsFirstAtFault};
+ghost use Rattle.std.specs.Prelude.{◌≡◌, ◌<◌, ◌^◌, IfOk, length, map, string_bytes};
 ghost use Rattle.omf_records.specs.Inner.Seen.{map_ok};
 ghost use Rattle.omf_linking.specs.Folded.{IsFolded};
 ghost use Rattle.omf_linking.specs.FoldedText.{folded_text};
 ghost use Rattle.omf_linker.specs.Link.Folded.{AreFilesFolded, IsFoldedOf, IsShownFolded, IsShownFoldedAs};
-ghost use Rattle.omf_linker.specs.Link.Linked.{any};
-ghost use Rattle.omf_linker.specs.declared.link.words.Task.{Task as Asked};
 
 use crate::lines::Labeled;
-use crate::link::{FilesFault, ImageFault, InputFile, LabeledModules, Task, in_file, parted};
+use crate::link::{FilesFault, ImageFault, InputFile, LabeledModules, Task, parted};
 use crate::seen::allowed::Allowed;
 use crate::seen::files::{Request, SeenText, modules_seen};
 use omf_check::Checked;
-use omf_linking::{FileFault, LinkFault, folded_all, folded_text};
+use omf_linking::{LinkFault, folded_all, folded_text};
 use std::alloc::{AllocError, Global};
 
 /// Modules and a link text with names in lower case.
@@ -76,16 +73,6 @@ fn of_modules(
     }
 }
 
-/// The fault of files that do not hold modules and padding alone: that of the first, with the front of its line.
-fn refused(alloc: Global, files: &[InputFile], fault: FileFault) -> FilesFault
-    ensures { (task : Asked) (text : List ℕ) → IsFirstAtFault any files.now fault → AreFilesFolded task files.now text (Err result) }
-{
-    match files.get(fault.file) {
-        Some(file) => in_file(alloc, file, fault.fault),
-        None => FilesFault::Link(ImageFault::Link(LinkFault::Memory)),
-    }
-}
-
 /// The output of a task for the modules of files and a link text, as that of `files_seen`, with the names of publics, externals and communals
 /// in lower case: those of the modules, and those of the X lines of the text.
 ///
@@ -99,12 +86,9 @@ pub fn files_folded(
 ) -> Result<SeenText, FilesFault>
     ensures { AreFilesFolded request.entry.task files.items request.entry.text.now (map_ok (λ s. s.shown) result) }
 {
-    match LabeledModules::of(alloc, &files) {
-        Ok(all) => {
-            drop(files);
-            of_modules(alloc, request, all)
-        }
-        Err(fault) => Err(refused(alloc, &files, fault)),
+    match LabeledModules::of(alloc, files) {
+        Ok(all) => of_modules(alloc, request, all),
+        Err(fault) => Err(fault),
     }
 }
 

@@ -1,4 +1,4 @@
-use Rattle.std.proofs.Common.{◌+◌, ◌∙◌, ◌∷◌, ap, drop, sym}
+use Rattle.std.proofs.Common.{◌+◌, ◌∙◌, ap, drop, sym}
 use Rattle.omf_linker.specs.Link.Unresolved.{with_marks}
 use Rattle.omf_linker.proofs.MapLaws.{none_left}
 use Rattle.omf_linker.proofs.SettledLaws.{next_at, no_pair}

@@ -1,4 +1,4 @@
-use Rattle.std.proofs.Common.{◌≡◌, ◌++◌, List, Bool, drop}
+use Rattle.std.proofs.Common.{◌≡◌, ◌++◌, List, drop}
 use Rattle.std.specs.Prelude.{filter}
 use Rattle.omf_check.specs.Module.{recs_of}
 use Rattle.omf_linker.specs.Link.Unresolved.{IsByName, Row, rows_seen, serves}

@@ -1,4 +1,4 @@
-use Rattle.std.proofs.Common.{◌≡◌, ◌+◌, ◌∙◌, ◌∷◌, List, ap, ap₂, drop, get_or, subst, sym}
+use Rattle.std.proofs.Common.{◌≡◌, ◌+◌, ◌∙◌, List, ap, ap₂, drop, get_or, sym}
 use Rattle.std.specs.Prelude.{Option, ℕ}
 use Rattle.omf_check.specs.Module.{recs_of}
 use Rattle.omf_linking.specs.Locator.Sparse.{Sparse}

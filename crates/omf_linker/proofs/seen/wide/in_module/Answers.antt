@@ -1,8 +1,8 @@
-use Rattle.std.proofs.Common.{◌≡◌, ◌+◌, ◌∙◌, ap, sym, arith, ℕ, refl, drop, List, [], length, ◌≤◌}
-use Rattle.std.specs.Prelude.{Some, None, option_and_then}
+use Rattle.std.proofs.Common.{◌≡◌, ◌+◌, ◌∙◌, ap, sym, arith, refl, drop, []}
+use Rattle.std.specs.Prelude.{option_and_then}
 use Rattle.std.specs.List.{enumerate_from}
 use Rattle.omf_check.specs.Module.{records_in}
-use Rattle.omf_check.specs.Tables.{entry, groups}
+use Rattle.omf_check.specs.Tables.{groups}
 use Rattle.omf_check.specs.WellFormed.{recs}
 use Rattle.omf_placement.specs.Derive.{PlacedModule}
 use Rattle.omf_records.specs.Values.{GroupItem}
