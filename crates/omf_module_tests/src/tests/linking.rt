@@ -5,7 +5,8 @@ use omf_check::Checked;
 use omf_frame::faulty::{Script, Then};
 use omf_image::Image;
 use omf_linking::{
-    LinkFault, Relocated, link, memory_image, modules_in, read_all, relocate_all, start_of,
+    LinkFault, Relocated, laid_together, link, memory_image, modules_in, read_all, relocate_all,
+    start_of,
 };
 use omf_placement::Placement;
 use omf_samples::{BadHex, HEADER, NAMES, joined};
@@ -86,6 +87,26 @@ fn memory_of(alloc: Global, input: &[u8]) -> Result<Memory, LinkFault> {
     memory_by(alloc, &modules, text)
 }
 
+/// The memory and the start of modules at their placements, laid one after another.
+fn together_at(
+    alloc: Global,
+    modules: &[Checked],
+    placements: &[Placement],
+) -> Result<Memory, LinkFault> {
+    if modules.len() > 8 || placements.len() != modules.len() {
+        return Err(LinkFault::Read);
+    }
+    let together = laid_together(alloc, modules, placements)?;
+    Ok((together.memory, together.start))
+}
+
+/// The same, of the modules of an input.
+fn together_of(alloc: Global, input: &[u8]) -> Result<Memory, LinkFault> {
+    let (modules, text) = modules_in(alloc, ANY, input)?;
+    let placements = linked(alloc, &modules, text)?;
+    together_at(alloc, &modules, &placements)
+}
+
 /// Whether a memory is one run, and the start is that of the main module; or a growth is refused.
 fn is_linked(found: Result<Memory, LinkFault>) -> bool {
     match found {
@@ -101,7 +122,9 @@ fn is_linked(found: Result<Memory, LinkFault>) -> bool {
 /// Whether the modules are linked so, or a growth is refused.
 fn is_right(alloc: Global) -> bool {
     match input_of(alloc) {
-        Ok(input) => is_linked(memory_of(alloc, &input)),
+        Ok(input) => {
+            is_linked(memory_of(alloc, &input)) && is_linked(together_of(alloc, &input))
+        }
         Err(_) => true,
     }
 }
