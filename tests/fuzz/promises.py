@@ -5,7 +5,8 @@ import re
 import subprocess
 
 ROOT = pathlib.Path(__file__).resolve().parent.parent.parent
-TIMEOUT = 60
+# Seconds of the clock for one run.
+TIMEOUT = float(os.environ.get("TIMEOUT", "60"))
 # What `omf-link` lets pass with these options, and its lines of that on standard error.
 ALLOW_ALL = [it for kind in ("overlap", "align", "group", "twice") for it in ("--allow", kind)]
 ALLOWED = re.compile(rb'(?:(?:(?:overlap|align|group): |twice ").*\n)*')
@@ -34,7 +35,7 @@ def run(command, input=b"", folder=None):
     try:
         done = subprocess.run(command, input=input, stdout=subprocess.PIPE, stderr=subprocess.PIPE, cwd=folder, timeout=TIMEOUT, close_fds=False)
     except subprocess.TimeoutExpired:
-        raise Broken(f"{' '.join(command)}: no end in {TIMEOUT} seconds") from None
+        raise Broken(f"{' '.join(command)}: no end in {TIMEOUT:.0f} seconds") from None
     warned = ALLOWED.fullmatch(done.stderr) if "--allow" in command else not done.stderr
     promised(done.returncode in (0, 1, 2, 3) and warned, f"{' '.join(command)}: status {done.returncode} {done.stderr[-200:]}")
     promised(all(it == 10 or 32 <= it < 127 for it in done.stdout), f"{' '.join(command)}: control characters")

@@ -1,15 +1,18 @@
 #!/usr/bin/env bash
 # Fuzzes the library for C and the programs: run.sh SECONDS [TARGET..]. The targets are check, canon, reloc, members, link and program of the
 # library (all six); shown, which is omf-dump as a function beside the library; and dump, library, exe, com, placement and linktext of the programs,
-# which tests/fuzz/programs.py runs: they need neither the library nor clang.
+# which tests/fuzz/programs.py runs: they need neither the library nor clang. SECONDS is for each target: of the clock for those of programs.py, and
+# of processor time for the others, so that other work that goes first does not shorten a run.
 #
 # `rt lib` builds the library, and for shown `rt run` builds omf-dump, which takes a proof where there is none yet; on the way the bitcode that is handed
 # to the kit's clang is kept, and compiled a second time with counters of what is reached. So what runs is the proved code, built by a way that the kit
 # does not vouch for. libFuzzer changes inputs, keeps those that reach something new in WORK/TARGET (WORK is a new folder if it is not set), and
 # stops where a promise does not hold, with that input in WORK. It needs a clang with libFuzzer: CLANG (clang).
+# UNPROVED=1 builds both without a proof, with run-time checks, by `rt try`, and compiles them at -O1: for a look, or where proofs take the machine.
 # LIBRARY names a library that is built already, as `make library` leaves it in crates/omf_c/out/libomf_c.a, or an object with its calls: it runs as it
 # is, so that without counters libFuzzer goes by what its answers lead to in the targets alone. PROGRAM is bitcode of omf-dump, for shown.
 # SEEDS is a folder of more modules to begin with (*.omf, *.obj, *.o), which are taken as they are.
+# TIMEOUT is the seconds of the clock that one input may take (20); where other work goes first it must be longer.
 # The status is 0 where every promise held.
 set -euo pipefail
 seconds=${1:?seconds for each target}
@@ -35,7 +38,7 @@ done
 [ ${#calls[@]} -gt 0 ] || exit $failed
 kit=$(dirname "$(rt doc)")
 
-# The kit as it is, but for a clang that keeps what it is given: the largest, since a small one may be given before.
+# The kit as it is, but for a clang that keeps what it is given.
 make_kit() {
     rm -rf "$work/kit"
     mkdir -p "$work/kit/bin" "$work/kit/toolchain/bin"
@@ -45,38 +48,58 @@ make_kit() {
     cp "$kit/bin/rt" "$kit/bin/rtlib.py" "$work/kit/bin"
     ln -s "$kit/toolchain/lib" "$work/kit/toolchain/lib"
     ln -s "$kit"/toolchain/bin/* "$work/kit/toolchain/bin"
+}
+
+# The clang that keeps bitcode in a file: the largest, since a small one may be given before. It has the name in it, since `rt try` hands on no variables.
+make_clang() {
     rm "$work/kit/toolchain/bin/clang"
     cat > "$work/kit/toolchain/bin/clang" << WRAPPER
 #!/usr/bin/env bash
 for word in "\$@"; do
-    case "\$word" in *.bc) [ "\$(stat -c %s "\$word")" -lt "\$(stat -c %s "\$KEPT" 2> /dev/null || echo 0)" ] || cp "\$word" "\$KEPT" ;; esac
+    case "\$word" in *.bc) [ "\$(stat -c %s "\$word")" -lt "\$(stat -c %s "$1" 2> /dev/null || echo 0)" ] || cp "\$word" "$1" ;; esac
 done
 exec "$kit/toolchain/bin/clang" "\$@"
 WRAPPER
     chmod +x "$work/kit/toolchain/bin/clang"
 }
 
-# keep CRATE WORD..: the bitcode of a crate, which `rt WORD..` hands to clang, in WORK/CRATE.bc.
+# keep FOLDER WORD..: the bitcode of the crate in that folder, which `rt WORD..` hands to clang, in WORK/CRATE.bc.
 keep() {
-    local crate=$1
+    local folder=$1 crate=${1##*/}
     shift
     [ ! -f "$work/$crate.bc" ] || return 0
     [ -d "$work/kit" ] || make_kit
-    rm -f "$root/crates/$crate/out/lib$crate.a" "$root/crates/$crate/out/$crate"
-    (cd "$root/crates/$crate" && KEPT=$work/$crate.bc "$work/kit/bin/rt" "$@" --backend llvm < /dev/null) > "$work/$crate.log" 2>&1 || true
+    make_clang "$work/$crate.bc"
+    [ "$1" = try ] || rm -f "$folder/out/lib$crate.a" "$folder/out/$crate"
+    (cd "$folder" && "$work/kit/bin/rt" "$@" < /dev/null) > "$work/$crate.log" 2>&1 || true
     [ -f "$work/$crate.bc" ] || {
         cat "$work/$crate.log"
         exit 1
     }
 }
 
+# The library as the program of its tests has it, in WORK/omf_c.ll: in a copy, where a further test has the calls that the others lack.
+keep_unproved() {
+    [ ! -f "$work/omf_c.ll" ] || return 0
+    mkdir -p "$work/copy"
+    tar -C "$root" --exclude=out -cf - crates crates.txt HANDLES | tar -C "$work/copy" -xf -
+    "$root/tests/fuzz/exported.py" test >> "$work/copy/crates/omf_c/src/tests.rt"
+    keep "$work/copy/crates/omf_c" try --test
+    "$kit/toolchain/bin/clang" -w -S -emit-llvm -x ir "$work/omf_c.bc" -O0 -Xclang -disable-llvm-passes -o - | "$root/tests/fuzz/exported.py" names > "$work/omf_c.ll"
+}
+
+level=2
+[ -z "${UNPROVED:-}" ] || level=1
 cover() { # cover BITCODE OBJECT: with counters of what is reached
-    "$kit/toolchain/bin/clang" -w -c -x ir "$1" -O2 -fPIE -fsanitize-coverage=inline-8bit-counters,pc-table -o "$2"
+    "$kit/toolchain/bin/clang" -w -c -x ir "$1" "-O$level" -fPIE -fsanitize-coverage=inline-8bit-counters,pc-table -o "$2"
 }
 
 code=${LIBRARY:-$work/covered.o}
-if [ -z "${LIBRARY:-}" ]; then
-    keep omf_c lib
+if [ -z "${LIBRARY:-}" ] && [ -n "${UNPROVED:-}" ]; then
+    keep_unproved
+    cover "$work/omf_c.ll" "$code"
+elif [ -z "${LIBRARY:-}" ]; then
+    keep "$root/crates/omf_c" lib --backend llvm
     cover "$work/omf_c.bc" "$code"
 fi
 
@@ -103,7 +126,11 @@ for one in "${calls[@]}"; do
     case $one in
     members | link | program) folders+=("$work/seeds-of/$one") ;;
     shown)
-        [ -n "${PROGRAM:-}" ] || keep omf_dump run
+        if [ -z "${PROGRAM:-}" ] && [ -n "${UNPROVED:-}" ]; then
+            keep "$root/crates/omf_dump" try
+        elif [ -z "${PROGRAM:-}" ]; then
+            keep "$root/crates/omf_dump" run --backend llvm
+        fi
         cover "${PROGRAM:-$work/omf_dump.bc}" "$work/shown.o"
         (exec -a llvm-objcopy "$kit/toolchain/bin/clang" --redefine-sym main=omf_dump_main "$work/shown.o")
         with+=("$work/shown.o") wrapped+=,--wrap=read,--wrap=write,--wrap=rattle_arg
@@ -113,11 +140,11 @@ for one in "${calls[@]}"; do
     "$clang" -O1 -g -Wall -Wextra -I"$root/include" -fsanitize=fuzzer "-Wl,--wrap=$wrapped" \
         "$root/tests/fuzz/$one.c" "$root/tests/fuzz/mutate.c" "${with[@]}" "$kit/c/libos_c.a" "$kit/c/liblibc_c.a" -o "$work/fuzz-$one"
     mkdir -p "$work/$one"
-    if ! "$work/fuzz-$one" -max_total_time="$seconds" -max_len=4096 -timeout=20 -artifact_prefix="$work/$one-" -print_final_stats=1 \
-        "${folders[@]}" > "$work/$one.log" 2>&1; then
+    if ! "$root/tests/fuzz/processor.py" "$seconds" "$work/fuzz-$one" -max_len=4096 -timeout="${TIMEOUT:-20}" -artifact_prefix="$work/$one-" \
+        -print_final_stats=1 "${folders[@]}" > "$work/$one.log" 2>&1; then
         failed=1
     fi
-    grep -E 'not so|ERROR|SUMMARY|Done [0-9]|stat::number_of_executed_units|stat::average_exec_per_sec' "$work/$one.log" | sed "s/^/$one: /" || true
+    grep -E 'not so|ERROR|SUMMARY|stat::number_of_executed_units|stat::processor_seconds' "$work/$one.log" | sed "s/^/$one: /" || true
     grep -oE 'cov: [0-9]+ ft: [0-9]+' "$work/$one.log" | tail -1 | sed "s/^/$one: /" || true
 done
 exit $failed
