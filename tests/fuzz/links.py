@@ -6,7 +6,7 @@ import subprocess
 import executables
 import libraries
 from changes import changed_module
-from modules import UNRESOLVED, as_library, externals_of, is_main, is_simple, members_needed, provider, unresolved_lines
+from modules import UNRESOLVED, as_library, externals_of, is_main, is_simple, members_needed, provider, unresolved_lines, with_names
 from promises import ALLOW_ALL, TIMEOUT, program, promised, run
 
 
@@ -58,6 +58,8 @@ class Exe:
             self.compare(names, inputs, (folder / "p.exe").read_bytes(), folder)
         if len(inputs) > 1 and self.random.randrange(3) == 0:
             self.look_at_library(inputs, names, folder)
+        if self.random.randrange(4) == 0:
+            self.look_at_case(inputs, folder)
 
     def look_at_library(self, inputs, names, folder):
         """Some modules in a library: the members that are needed, as a second reader finds them, linked by name give the same file."""
@@ -75,6 +77,20 @@ class Exe:
         promised(status == other, f"with the library {line[:200]}, without it {alone[:200]}")
         same = status or (folder / "l.exe").read_bytes() == (folder / "q.exe").read_bytes()
         promised(same, f"members {needed}: other files")
+        self.compared += 1
+
+    def look_at_case(self, inputs, folder):
+        """With --ignore-case, modules whose names have any case are linked as those are that have these names in lower case."""
+        if any(run([self.omf, "check"], it)[0] or libraries.module_length(it) != len(it) for it in inputs):
+            return
+        turns = (bytes.lower, bytes.upper, bytes.swapcase, bytes)
+        for task, change in (("a", lambda it: self.random.choice(turns)(it)), ("b", bytes.lower)):
+            for number, one in enumerate(inputs):
+                (folder / f"{task}{number}.obj").write_bytes(with_names(one, change))
+        status, lines = self.exe("c.exe", ["--ignore-case", *(f"a{it}.obj" for it in range(len(inputs)))], folder)
+        other, lower = self.exe("d.exe", [f"b{it}.obj" for it in range(len(inputs))], folder)
+        promised(status == other and lines == re.sub(rb'file "b(\d+\.obj")', rb'file "a\1', lower), f"--ignore-case {lines[:200]}, in lower case {lower[:200]}")
+        promised(status or (folder / "c.exe").read_bytes() == (folder / "d.exe").read_bytes(), "--ignore-case: other files")
         self.compared += 1
 
     def compare(self, names, inputs, file, folder):

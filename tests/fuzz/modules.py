@@ -9,6 +9,10 @@ from libraries import record
 EXTERNALS, COMMUNALS = (0x8C,), (0xB0,)
 PUBLICS = (0x90, 0x91)
 LOCALS = (0xB4, 0xB5, 0xB6, 0xB7, 0xB8, 0xB9)
+LOCAL_PUBLICS, LOCAL_COMMUNALS = (0xB6, 0xB7), (0xB8, 0xB9)
+# The comments that pair an external with its default, by their class.
+WEAK = (b"\xA8", b"\xA9")
+NAMED = EXTERNALS + COMMUNALS + PUBLICS + LOCALS
 ENDS = (0x8A, 0x8B)
 MOST_MEMBER = 4096
 UNRESOLVED = re.compile(rb'(?:(?:undefined|twice) "[^"]*": .*\n)+')
@@ -70,9 +74,41 @@ def publics_of(bytes_):
     return found
 
 
+def name_places(kind, body):
+    """Where the names of a record of publics, externals or communals, local or not, begin and end in its body."""
+    at, is_public = 0, kind in PUBLICS or kind in LOCAL_PUBLICS
+    if is_public:
+        _, at = index_at(body, at)
+        segment, at = index_at(body, at)
+        at += 0 if segment else 2
+    while at < len(body):
+        begin = at + 1
+        _, at = name_at(body, at)
+        yield begin, at
+        _, at = index_at(body, at + (4 if kind & 1 else 2) if is_public else at)
+        if kind in COMMUNALS or kind in LOCAL_COMMUNALS:
+            count, at = (2 if body[at] == 0x61 else 1), at + 1
+            for _ in range(count):
+                at = after_number(body, at)
+
+
+def with_names(bytes_, spelled):
+    """The module with each name of a public, an external or a communal as `spelled` gives it, which is as long."""
+    made = []
+    for one in records_of(bytes_)[0]:
+        if one[0] in NAMED:
+            body = bytes(one[3:-1])
+            for begin, end in name_places(one[0], body):
+                one[3 + begin:3 + end] = spelled(body[begin:end])
+            one[-1] = 0
+        made.append(bytes(one))
+    return b"".join(made)
+
+
 def is_simple(bytes_):
-    """One module alone, without a record of local names or of communals, so that each external has the public of its name."""
-    return libraries.module_length(bytes_) == len(bytes_) and not any(True for _ in bodies(bytes_, LOCALS + COMMUNALS))
+    """One module alone, without a record of local names or of communals and without weak externals, so that each external has the public of its name."""
+    is_plain = not any(True for _ in bodies(bytes_, LOCALS + COMMUNALS)) and not any(body[1:2] in WEAK for _, body in bodies(bytes_, (0x88,)))
+    return is_plain and libraries.module_length(bytes_) == len(bytes_)
 
 
 def is_main(bytes_):
