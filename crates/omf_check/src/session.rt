@@ -60,6 +60,8 @@ pub(crate) fn finished(
         return Err(framing_fault(fault));
     }
     let count = framer.number();
+    let mut bytes = bytes;
+    bytes.shrink_to_fit();
     Ok(Checked::new(profile, bytes, tables, count))
 }
 

@@ -193,7 +193,7 @@ pub(crate) fn take_module<S: Source, K: Keeper>(
     let mut framer = Framer::new(alloc);
     let mut tables = Tables::new(alloc);
     let mut size: u64 = 0;
-    let mut buffer = [0; 4096];
+    let mut buffer = [0; 1024];
     loop {
         let want = wanted(&framer, size, reader.ahead()).min(buffer.len());
         if want == 0 {
