@@ -1,13 +1,13 @@
 -- Steps of the loops that make the module for DOS order.
 use Rattle.std.proofs.Math.Seq.{drop-nil}
-use Rattle.std.proofs.Common.{◌≡◌, ◌≤◌, ℕ, zero, suc, drop, arith, ◌+◌, true, false, List, [], ◌∷◌, ◌++◌, length, refl, sym, ap, ◌∙◌, subst, inl, inr, append-nil, append_assoc, Bor, nat_cmp}
+use Rattle.std.proofs.Common.{◌≡◌, ◌≤◌, ℕ, zero, suc, drop, arith, ◌+◌, true, false, List, [], ◌∷◌, ◌++◌, length, refl, sym, ap, ◌∙◌, inl, inr, append-nil, append_assoc, Bor}
 use Rattle.std.specs.Prelude.{Bool, flat_map, is_some, bytes_eq, ◌||◌, Some}
 use Rattle.std.specs.List.{list_any}
-use Rattle.std.specs.BTreeMap.{BTreeMap, get_by, is_at, UpdatesBy}
+use Rattle.std.specs.BTreeMap.{BTreeMap, get_by, is_at}
 use Rattle.std.specs.Map.{lookup}
-use Rattle.std.specs.Cmp.Lexicographic.{slice_cmp}
 use Rattle.std.proofs.lemmas.Bool.{cond-true, cond-false, cases_Bool}
-use Rattle.std.proofs.lemmas.Map.Text.{btree_map_updates_str}
+use Rattle.omf_names.specs.Names.{name_cmp}
+use Rattle.omf_names.proofs.NameTables.{IsUpdated}
 use Rattle.omf_frame.specs.Framing.{Raw, raw_bytes}
 use Rattle.omf_frame.specs.declared.fault.Place.{Place}
 use Rattle.omf_records.specs.Inner.Reading.{typed}
@@ -19,7 +19,7 @@ use Rattle.omf_placement.proofs.Filling.{Adds}
 use Rattle.omf_layout.specs.Own.Written.{framed, written}
 use Rattle.omf_layout.proofs.SeveralLaws.LowLaws.{next-at}
 use Rattle.omf_layout.proofs.TableLaws.{entry-at}
-use Rattle.omf_layout.specs.Own.Order.{IsNameTable, asks_dos_order, asks_for, classes_in, has_name, is_dosseg, module_classes}
+use Rattle.omf_layout.specs.Own.Order.{IsNameTable, asks_dos_order, asks_for, classes_in, has_name, is_dosseg}
 
 -- The classes in DGROUP of numbered records, by the tables of a module.
 abbrev pub classes-by : List Rec → List (Place × Rec) → List (List ℕ)
@@ -63,19 +63,19 @@ has-other xs y name b = has-append xs (y ∷ []) name ∙ ap (λ t. has_name xs 
 abbrev pub Table : Type 0
 Table = BTreeMap (Bor (List ℕ)) (Unit {0})
 
-pub name-more : (m n : Table) (y : List ℕ) (v : Unit {0}) → UpdatesBy (λ (k l : Bor (List ℕ)). slice_cmp nat_cmp k.now l.now) (λ k. slice_cmp nat_cmp y k.now) m n (Some v)
+pub name-more : (m n : Table) (y : List ℕ) (v : Unit {0}) → IsUpdated y m n (Some v)
     → Adds IsNameTable m n (y ∷ [])
 name-more m n y v up names h name = elim (cases_Bool (bytes_eq y name)) [
   | inl e ↦
-      ap is_some (btree_map_updates_str y m n (Some v) up name ∙ cond-true (bytes_eq y name) (Some v) (get_by (λ k. slice_cmp nat_cmp name k.now) m) e) ∙ sym (has-here names y name e)
+      ap is_some (up name ∙ cond-true (bytes_eq y name) (Some v) (get_by (λ k. name_cmp name k.now) m) e) ∙ sym (has-here names y name e)
   | inr e ↦
-      ap is_some (btree_map_updates_str y m n (Some v) up name ∙ cond-false (bytes_eq y name) (Some v) (get_by (λ k. slice_cmp nat_cmp name k.now) m) e)
+      ap is_some (up name ∙ cond-false (bytes_eq y name) (Some v) (get_by (λ k. name_cmp name k.now) m) e)
       ∙ h name ∙ sym (has-other names y name e)
 ]
 
 -- An empty map is the table of no names.
 pub name-empty : (m n : Table) (all : List (List ℕ)) → m.entries ≡ [] → Adds IsNameTable m n all → IsNameTable n all
-name-empty m n all e g = g [] (λ name. ap is_some (ap (lookup (is_at (λ k. slice_cmp nat_cmp name k.now))) e))
+name-empty m n all e g = g [] (λ name. ap is_some (ap (lookup (is_at (λ k. name_cmp name k.now))) e))
 
 -- Nothing is left of a list.
 pub none-left : {A : Type 0} (xs : List A) (j : ℕ) → length xs ≤ j → drop j xs ≡ []

@@ -1,13 +1,13 @@
 -- Names, each once.
-use Rattle.std.proofs.Common.{◌≡◌, ℕ, Bool, true, false, List, [], ◌∷◌, ◌++◌, refl, sym, ap, ◌∙◌, subst, inl, inr, append-nil, Bor, nat_cmp}
+use Rattle.std.proofs.Common.{◌≡◌, ℕ, Bool, true, false, List, [], ◌∷◌, ◌++◌, refl, sym, ap, ◌∙◌, subst, inl, inr, append-nil, Bor}
 use Rattle.std.specs.Prelude.{Some, is_some, not, filter, bytes_eq, ◌||◌}
-use Rattle.std.specs.BTreeMap.{get_by, is_at, UpdatesBy}
+use Rattle.std.specs.BTreeMap.{get_by, is_at}
 use Rattle.std.specs.Map.{lookup}
-use Rattle.std.specs.Cmp.Lexicographic.{slice_cmp}
 use Rattle.std.proofs.lemmas.Bool.{cond-true, cond-false, cases_Bool}
 use Rattle.std.proofs.lemmas.List.Elements.{filter-append}
-use Rattle.std.proofs.lemmas.Map.Text.{btree_map_updates_str}
 use Rattle.std.proofs.lemmas.Slice.Eq.{bytes_eq-Decides}
+use Rattle.omf_names.specs.Names.{name_cmp}
+use Rattle.omf_names.proofs.NameTables.{IsUpdated}
 use Rattle.omf_library.specs.Needed.{has_name}
 use Rattle.omf_library.specs.Defaults.{once}
 use Rattle.omf_library.specs.Inner.Asked.{HasAsked, is_known}
@@ -65,15 +65,15 @@ asked-known a done y k h = record {
 }
 
 pub asked-new : (a b : Asked) (done : List (List ℕ)) (y : List ℕ) (v : Unit {0}) → is_known a y ≡ false → names_seen b.names.items ≡ names_seen a.names.items ++ y ∷ []
-    → UpdatesBy (λ (k l : Bor (List ℕ)). slice_cmp nat_cmp k.now l.now) (λ k. slice_cmp nat_cmp y k.now) a.known b.known (Some v) → HasAsked a done → HasAsked b (done ++ y ∷ [])
+    → IsUpdated y a.known b.known (Some v) → HasAsked a done → HasAsked b (done ++ y ∷ [])
 asked-new a b done y v k names up h = record {
   kept = names ∙ ap (λ zs. zs ++ y ∷ []) h.kept ∙ sym (once-new done y (sym (h.known y) ∙ k));
   known = λ name. elim (cases_Bool (bytes_eq y name)) [
     | inl e ↦
-        ap is_some (btree_map_updates_str y a.known b.known (Some v) up name ∙ cond-true (bytes_eq y name) (Some v) (get_by (λ k. slice_cmp nat_cmp name k.now) a.known) e)
+        ap is_some (up name ∙ cond-true (bytes_eq y name) (Some v) (get_by (λ k. name_cmp name k.now) a.known) e)
         ∙ sym (has-here done y name e)
     | inr e ↦
-        ap is_some (btree_map_updates_str y a.known b.known (Some v) up name ∙ cond-false (bytes_eq y name) (Some v) (get_by (λ k. slice_cmp nat_cmp name k.now) a.known) e)
+        ap is_some (up name ∙ cond-false (bytes_eq y name) (Some v) (get_by (λ k. name_cmp name k.now) a.known) e)
         ∙ h.known name ∙ sym (has-other done y name e)
   ];
 }
@@ -85,4 +85,4 @@ seen-push ns ms b e = ap names_seen e ∙ pushed ns where
   pushed (x ∷ xs) = ap (λ zs. x.now ∷ zs) (pushed xs)
 
 pub asked-none : (a : Asked) → a.names.items ≡ [] → a.known.entries ≡ [] → HasAsked a []
-asked-none a e f = record { kept = ap names_seen e; known = λ name. ap (λ xs. is_some (lookup (is_at (λ k. slice_cmp nat_cmp name k.now)) xs)) f }
+asked-none a e f = record { kept = ap names_seen e; known = λ name. ap (λ xs. is_some (lookup (is_at (λ k. name_cmp name k.now)) xs)) f }

@@ -1,17 +1,17 @@
 -- Members by need: the table of definers, and the walk from module to member.
-use Rattle.std.proofs.Common.{◌≡◌, ℕ, zero, suc, ◌+◌, ◌<◌, ◌≤◌, Bool, true, false, List, [], ◌∷◌, ◌++◌, length, take, get_or, set, refl, sym, ap, ◌∙◌, subst, inl, inr, ◌⊎◌, arith, append_assoc, append-nil, Bor, nat_cmp}
+use Rattle.std.proofs.Common.{◌≡◌, ℕ, zero, suc, ◌+◌, ◌<◌, ◌≤◌, Bool, true, false, List, [], ◌∷◌, ◌++◌, length, take, get_or, set, refl, sym, ap, ◌∙◌, subst, inl, inr, ◌⊎◌, arith, append_assoc, append-nil, Bor}
 use Rattle.std.specs.Prelude.{map, Option, Some, None, option_map, is_some, slice_get, Result, Ok, Err, IfOk, OnOk, Vec, bytes_eq, ◌||◌, if◌then◌else◌, All, Contains, replicate}
-use Rattle.std.specs.BTreeMap.{is_at, UpdatesBy}
-use Rattle.std.specs.Cmp.Lexicographic.{slice_cmp}
+use Rattle.std.specs.BTreeMap.{is_at}
 use Rattle.std.specs.Global.{Global}
 use Rattle.std.specs.List.Sorted.{IsStrictlyIncreasing}
 use Rattle.std.specs.Map.{lookup}
 use Rattle.std.proofs.lemmas.Bool.{cond-true, cond-false, cases_Bool, cases_lt}
 use Rattle.std.proofs.lemmas.List.{take_all, get_or_default, length-append, length-set, length-map, length-replicate}
 use Rattle.std.proofs.lemmas.List.Elements.{All-nil, All-cons, All-append, All-weaker, All-contains, All-push, Contains-get_or, Contains-push, Contains-append_left}
-use Rattle.std.proofs.lemmas.Map.Text.{btree_map_updates_str}
 use Rattle.std.proofs.lemmas.Option.{none-some, same_Some, slice_get_read, slice_get-map}
 use Rattle.std.proofs.lemmas.Slice.Eq.{bytes_eq-Decides}
+use Rattle.omf_names.specs.Names.{name_cmp}
+use Rattle.omf_names.proofs.NameTables.{IsUpdated, twice_updated}
 use Rattle.omf_library.specs.Needed.{Linkage, Offer, has_name, is_defined, definer, member_of, Needs, AreClosed, AreNeeded, EndsChain, IsChained}
 use Rattle.omf_library.specs.Inner.Names.{names_seen}
 use Rattle.omf_library.specs.Inner.Search.{found_at, first_some, some_if, HasMore, IsTable, definer_among, numbered}
@@ -105,16 +105,27 @@ more-known t x e d h name = elim (cases_Bool (bytes_eq x name)) [
 ]
 
 pub more-new : (t u : Definers) (x : List ℕ) (d : Definer) → found_at t x ≡ None
-    → UpdatesBy (λ (k l : Bor (List ℕ)). slice_cmp nat_cmp k.now l.now) (λ k. slice_cmp nat_cmp x k.now) t.by_name u.by_name (Some d) → HasMore t u (x ∷ []) d
+    → IsUpdated x t.by_name u.by_name (Some d) → HasMore t u (x ∷ []) d
 more-new t u x d h up name = elim (cases_Bool (bytes_eq x name)) [
   | inl b ↦
       let none : found_at t name ≡ None = subst (λ y. found_at t y ≡ None) ((bytes_eq-Decides x name).0 b) h in
-      btree_map_updates_str x t.by_name u.by_name (Some d) up name ∙ cond-true (bytes_eq x name) (Some d) (found_at t name) b
+      up name ∙ cond-true (bytes_eq x name) (Some d) (found_at t name) b
       ∙ sym (ap (λ o. first_some o (some_if (has_name (x ∷ []) name) d)) none ∙ ap (λ c. some_if (c || false) d) b)
   | inr b ↦
-      btree_map_updates_str x t.by_name u.by_name (Some d) up name ∙ cond-false (bytes_eq x name) (Some d) (found_at t name) b
+      up name ∙ cond-false (bytes_eq x name) (Some d) (found_at t name) b
       ∙ sym (ap (λ c. first_some (found_at t name) (some_if (c || false) d)) b ∙ first-none (found_at t name))
 ]
+
+-- A name that had a definer, after it was given another and then its own again.
+pub more-again : (t u v : Definers) (x : List ℕ) (e d : Definer) → Some e ≡ found_at t x → IsUpdated x t.by_name u.by_name (Some d) → IsUpdated x u.by_name v.by_name (Some e) → HasMore t v (x ∷ []) d
+more-again t u v x e d was f g name =
+    let same : found_at v name ≡ found_at t name = elim (cases_Bool (bytes_eq x name)) [
+      | inl b ↦
+          twice_updated x t.by_name u.by_name v.by_name (Some d) (Some e) f g name ∙ cond-true (bytes_eq x name) (Some e) (found_at t name) b
+          ∙ was ∙ ap (found_at t) ((bytes_eq-Decides x name).0 b)
+      | inr b ↦ twice_updated x t.by_name u.by_name v.by_name (Some d) (Some e) f g name ∙ cond-false (bytes_eq x name) (Some e) (found_at t name) b
+    ] in
+    same ∙ more-known t x e d (sym was) name
 
 -- Names after names.
 pub more-more : (t u v : Definers) (xs ys zs : List (List ℕ)) (d : Definer) → zs ≡ xs ++ ys → HasMore t u xs d → HasMore u v ys d → HasMore t v zs d
@@ -135,7 +146,7 @@ given-or true c = refl
 given-or false c = refl
 
 pub table-empty : (t : Definers) → t.by_name.entries ≡ [] → IsTable t [] []
-table-empty t e name = ap (λ xs. lookup (is_at (λ k. slice_cmp nat_cmp name k.now)) xs) e
+table-empty t e name = ap (λ xs. lookup (is_at (λ k. name_cmp name k.now)) xs) e
 
 pub table-given : (t u : Definers) (gs hs : List Linkage) (m : Linkage) → hs ≡ gs ++ m ∷ [] → HasMore t u m.publics Given → IsTable t gs [] → IsTable u hs []
 table-given t u gs hs m e f g = subst (λ ms. IsTable u ms []) (sym e) (λ name.

@@ -1,12 +1,13 @@
 -- A table of names grows name by name.
-use Rattle.std.proofs.Common.{◌≡◌, ℕ, zero, suc, ◌+◌, ◌<◌, ◌≤◌, Bool, true, false, List, [], ◌∷◌, ◌++◌, length, drop, get_or, refl, sym, ap, ◌∙◌, subst, inl, inr, append-nil, arith, Bor, nat_cmp}
-use Rattle.std.specs.Prelude.{flat_map, Option, Some, is_some, bytes_eq, ◌||◌}
+use Rattle.std.proofs.Common.{◌≡◌, ℕ, zero, suc, ◌+◌, ◌<◌, ◌≤◌, Bool, true, false, List, [], ◌∷◌, ◌++◌, length, drop, get_or, refl, sym, ap, ◌∙◌, subst, inl, inr, append-nil, arith, Bor}
+use Rattle.std.specs.Prelude.{flat_map, Option, Some, is_some, bytes_eq, ◌||◌, cond}
 use Rattle.std.proofs.Math.Seq.{drop-nil}
-use Rattle.std.specs.BTreeMap.{BTreeMap, get_by, is_at, UpdatesBy}
-use Rattle.std.specs.Cmp.Lexicographic.{slice_cmp}
+use Rattle.std.specs.BTreeMap.{BTreeMap, get_by, is_at}
 use Rattle.std.specs.Map.{lookup}
-use Rattle.std.proofs.lemmas.Bool.{cond-true, cond-false, cases_Bool}
-use Rattle.std.proofs.lemmas.Map.Text.{btree_map_updates_str}
+use Rattle.std.proofs.lemmas.Bool.{cond-true, cond-false, cases_Bool, true≢false}
+use Rattle.std.proofs.lemmas.Slice.Eq.{bytes_eq-Decides}
+use Rattle.omf_names.specs.Names.{name_cmp}
+use Rattle.omf_names.proofs.NameTables.{IsUpdated}
 use Rattle.omf_frame.specs.Framing.{Raw, raw_bytes}
 use Rattle.omf_frame.specs.declared.fault.Place.{Place}
 use Rattle.omf_records.specs.Inner.Reading.{typed}
@@ -14,13 +15,14 @@ use Rattle.omf_records.specs.Values.{Rec}
 use Rattle.omf_check.specs.Listed.{placed_from}
 use Rattle.omf_check.specs.Module.{Module, records_in, typed_modules}
 use Rattle.omf_check.specs.WellFormed.{recs}
-use Rattle.omf_linker.specs.Drafting.Names.{names_asked, public_names, has_name, IsNameTable, HasMore}
+use Rattle.omf_linker.specs.Drafting.Names.{AreApart, count_of, names_asked, public_names, has_name, IsNameTable, HasMore}
+use Rattle.omf_linker.specs.declared.drafting.names.NameTable.{NameTable}
 
 abbrev pub Map : Type 0
 Map = BTreeMap (Bor (List ℕ)) (Unit {0})
 
 abbrev pub found_at : Map → List ℕ → Option (Unit {0})
-found_at m name = get_by (λ k. slice_cmp nat_cmp name k.now) m
+found_at m name = get_by (λ k. name_cmp name k.now) m
 
 or-assoc : (a b c : Bool) → (a || (b || c)) ≡ ((a || b) || c)
 or-assoc true b c = refl
@@ -38,27 +40,80 @@ has-more : (xs ys : List (List ℕ)) (name : List ℕ) → has_name (xs ++ ys) n
 has-more [] ys name = refl
 has-more (x ∷ xs) ys name = ap (λ b. bytes_eq x name || b) (has-more xs ys name) ∙ or-assoc (bytes_eq x name) (has_name xs name) (has_name ys name)
 
--- One more name.
-pub table-more : (m n : Map) (x : List ℕ) (v : Unit {0}) → UpdatesBy (λ (k l : Bor (List ℕ)). slice_cmp nat_cmp k.now l.now) (λ k. slice_cmp nat_cmp x k.now) m n (Some v) → HasMore m n (x ∷ [])
-table-more m n x v u names h name = elim (cases_Bool (bytes_eq x name)) [
+-- ---- how often a name is there
+
+none-counted : (xs : List (List ℕ)) (name : List ℕ) → has_name xs name ≡ false → count_of xs name ≡ 0
+none-counted [] name h = refl
+none-counted (x ∷ xs) name h = elim (cases_Bool (bytes_eq x name)) [
+  | inl t ↦ absurd (true≢false (sym (ap (λ b. b || has_name xs name) t) ∙ h))
+  | inr f ↦ cond-false (bytes_eq x name) (suc (count_of xs name)) (count_of xs name) f ∙ none-counted xs name (sym (ap (λ b. b || has_name xs name) f) ∙ h)
+]
+
+count-more : (xs : List (List ℕ)) (x name : List ℕ) → count_of (xs ++ x ∷ []) name ≡ count_of xs name + cond (bytes_eq x name) 1 0
+count-more [] x name =
+    let same : (n : ℕ) → n ≡ 0 + n = λ n. omega arith in
+    same (cond (bytes_eq x name) 1 0)
+count-more (y ∷ xs) x name =
+    let more : count_of (xs ++ x ∷ []) name ≡ count_of xs name + cond (bytes_eq x name) 1 0 = count-more xs x name in
+    elim (cases_Bool (bytes_eq y name)) [
+      | inl t ↦
+          let left : count_of (y ∷ xs ++ x ∷ []) name ≡ suc (count_of (xs ++ x ∷ []) name) = cond-true (bytes_eq y name) (suc (count_of (xs ++ x ∷ []) name)) (count_of (xs ++ x ∷ []) name) t in
+          let right : count_of (y ∷ xs) name ≡ suc (count_of xs name) = cond-true (bytes_eq y name) (suc (count_of xs name)) (count_of xs name) t in
+          omega (arith, left, right, more)
+      | inr f ↦
+          let left : count_of (y ∷ xs ++ x ∷ []) name ≡ count_of (xs ++ x ∷ []) name = cond-false (bytes_eq y name) (suc (count_of (xs ++ x ∷ []) name)) (count_of (xs ++ x ∷ []) name) f in
+          let right : count_of (y ∷ xs) name ≡ count_of xs name = cond-false (bytes_eq y name) (suc (count_of xs name)) (count_of xs name) f in
+          omega (arith, left, right, more)
+    ]
+
+still-apart : (xs : List (List ℕ)) (x : List ℕ) → AreApart xs → has_name xs x ≡ false → AreApart (xs ++ x ∷ [])
+still-apart xs x h none name = elim (cases_Bool (bytes_eq x name)) [
   | inl b ↦
-      ap is_some (btree_map_updates_str x m n (Some v) u name ∙ cond-true (bytes_eq x name) (Some v) (found_at m name) b)
+      let here : count_of xs name ≡ 0 = none-counted xs name (subst (λ n. has_name xs n ≡ false) ((bytes_eq-Decides x name).0 b) none) in
+      let more : count_of (xs ++ x ∷ []) name ≡ count_of xs name + 1 = count-more xs x name ∙ ap (λ c. count_of xs name + cond c 1 0) b in
+      omega (arith, here, more)
+  | inr b ↦
+      let most : count_of xs name ≤ 1 = h name in
+      let more : count_of (xs ++ x ∷ []) name ≡ count_of xs name + 0 = count-more xs x name ∙ ap (λ c. count_of xs name + cond c 1 0) b in
+      omega (arith, most, more)
+]
+
+-- ---- one more name
+
+found-more : (m n : Map) (x : List ℕ) (v : Unit {0}) → IsUpdated x m n (Some v) → (names : List (List ℕ)) → ((name : List ℕ) → is_some (found_at m name) ≡ has_name names name)
+    → (name : List ℕ) → is_some (found_at n name) ≡ has_name (names ++ x ∷ []) name
+found-more m n x v u names h name = elim (cases_Bool (bytes_eq x name)) [
+  | inl b ↦
+      ap is_some (u name ∙ cond-true (bytes_eq x name) (Some v) (found_at m name) b)
       ∙ sym (or-true (has_name names name)) ∙ ap (λ t. has_name names name || (t || false)) (sym b) ∙ sym (has-more names (x ∷ []) name)
   | inr b ↦
-      ap is_some (btree_map_updates_str x m n (Some v) u name ∙ cond-false (bytes_eq x name) (Some v) (found_at m name) b)
+      ap is_some (u name ∙ cond-false (bytes_eq x name) (Some v) (found_at m name) b)
       ∙ h name ∙ sym (or-false (has_name names name)) ∙ ap (λ t. has_name names name || (t || false)) (sym b) ∙ sym (has-more names (x ∷ []) name)
 ]
 
--- An empty map is the table of no names.
-pub fill-empty : (m n : Map) (all : List (List ℕ)) → m.entries ≡ [] → HasMore m n all → IsNameTable n all
-fill-empty m n all e g = g [] (λ name. ap (λ xs. is_some (lookup (is_at (λ k. slice_cmp nat_cmp name k.now)) xs)) e)
+module _ (t : NameTable) (n : Map) (x : List ℕ) (v : Unit {0}) (old : Option (Unit {0})) (was : old ≡ found_at t.names x) (u : IsUpdated x t.names n (Some v)) where
+  pub one-new : is_some old ≡ false → HasMore t (record { names = n; repeats = t.repeats }) (x ∷ [])
+  one-new e names h = record {
+    found = found-more t.names n x v u names h.found;
+    apart = λ r. still-apart names x (h.apart r) (sym (h.found x) ∙ ap is_some (sym was) ∙ e);
+  }
+
+  pub one-again : HasMore t (record { names = n; repeats = true }) (x ∷ [])
+  one-again names h = record { found = found-more t.names n x v u names h.found; apart = λ r. absurd (true≢false r) }
+
+-- An empty table has no names.
+pub fill-empty : (t u : NameTable) (all : List (List ℕ)) → t.names.entries ≡ [] → HasMore t u all → IsNameTable u all
+fill-empty t u all e g = g [] (record {
+  found = λ name. ap (λ xs. is_some (lookup (is_at (λ k. name_cmp name k.now)) xs)) e;
+  apart = λ r name. omega arith;
+})
 
 -- No further name; and the same names written in another way.
-pub none_more : (m : Map) (xs : List (List ℕ)) → xs ≡ [] → HasMore m m xs
-none_more m xs e = subst (HasMore m m) (sym e) (λ names h. subst (IsNameTable m) (sym (append-nil names)) h)
+pub none_more : (t : NameTable) (xs : List (List ℕ)) → xs ≡ [] → HasMore t t xs
+none_more t xs e = subst (HasMore t t) (sym e) (λ names h. subst (IsNameTable t) (sym (append-nil names)) h)
 
-pub same_more : (m n : Map) (xs ys : List (List ℕ)) → ys ≡ xs → HasMore m n xs → HasMore m n ys
-same_more m n xs ys e h = subst (HasMore m n) (sym e) h
+pub same_more : (t u : NameTable) (xs ys : List (List ℕ)) → ys ≡ xs → HasMore t u xs → HasMore t u ys
+same_more t u xs ys e h = subst (HasMore t u) (sym e) h
 
 -- The names of the records with their places.
 abbrev pub listed_names : Bool → List (Place × Rec) → List (List ℕ)

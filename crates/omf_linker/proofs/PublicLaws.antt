@@ -1,20 +1,20 @@
 -- A table of the addresses of publics grows public by public.
-use Rattle.std.proofs.Common.{◌≡◌, ℕ, List, [], ◌∷◌, ◌++◌, refl, sym, ap, ◌∙◌, inl, inr, append-nil, Bor, nat_cmp}
-use Rattle.std.specs.Prelude.{◌≢◌, filter_map, Option, Some, None, bytes_eq, cond}
-use Rattle.std.specs.BTreeMap.{get_by, is_at, UpdatesBy}
-use Rattle.std.specs.Cmp.Lexicographic.{slice_cmp}
+use Rattle.std.proofs.Common.{◌≡◌, ℕ, List, [], ◌∷◌, ◌++◌, refl, sym, ap, ◌∙◌, inl, inr, append-nil}
+use Rattle.std.specs.Prelude.{◌≢◌, filter_map, Option, Some, None, bytes_eq, cond, not, is_some}
+use Rattle.std.specs.BTreeMap.{get_by, is_at}
 use Rattle.std.specs.List.{cons_option}
 use Rattle.std.specs.Map.{lookup}
 use Rattle.std.proofs.lemmas.Bool.{cond-true, cond-false, cases_Bool, false_from_ne_true}
 use Rattle.std.proofs.lemmas.Bool.Decides.{not_from_Decides}
 use Rattle.std.proofs.lemmas.List.Elements.{filter_map-append}
-use Rattle.std.proofs.lemmas.Map.Text.{btree_map_updates_str}
 use Rattle.std.proofs.lemmas.Slice.Eq.{bytes_eq-Decides}
+use Rattle.omf_names.specs.Names.{name_cmp}
+use Rattle.omf_names.proofs.NameTables.{IsUpdated}
 use Rattle.omf_linker.specs.Inner.PublicAddresses.{Table, address_after, summed, HasMore, IsTable}
-use Rattle.omf_linker.specs.Map.Addresses.{NamedAddress, of_name, the_one}
+use Rattle.omf_linker.specs.Map.Addresses.{NamedAddress, is_unnamed, of_name, the_one}
 
 abbrev pub found_at : Table → List ℕ → Option (Option ℕ)
-found_at m name = get_by (λ k. slice_cmp nat_cmp name k.now) m
+found_at m name = get_by (λ k. name_cmp name k.now) m
 
 summed-more : (xs : List (Option ℕ)) (a : Option ℕ) → summed (xs ++ a ∷ []) ≡ Some (address_after a (summed xs))
 summed-more [] a = refl
@@ -29,19 +29,19 @@ named-elsewhere name p n = ap (λ b. cons_option (cond b (Some p.1) None) []) (f
 
 -- One more public.
 module _ (m n : Table) (p : NamedAddress) (a : Option ℕ) (e : a ≡ address_after p.1 (found_at m p.0)) where
-  module _ (u : UpdatesBy (λ (x y : Bor (List ℕ)). slice_cmp nat_cmp x.now y.now) (λ k. slice_cmp nat_cmp p.0 k.now) m n (Some a)) where
+  module _ (u : IsUpdated p.0 m n (Some a)) where
     pub table-more : HasMore m n (p ∷ [])
     table-more among h name = elim (cases_Bool (bytes_eq p.0 name)) [
       | inl b ↦
           let same : p.0 ≡ name = (bytes_eq-Decides p.0 name).0 b in
-          btree_map_updates_str p.0 m n (Some a) u name ∙ cond-true (bytes_eq p.0 name) (Some a) (found_at m name) b
+          u name ∙ cond-true (bytes_eq p.0 name) (Some a) (found_at m name) b
           ∙ ap Some e ∙ ap (λ x. Some (address_after p.1 (found_at m x))) same ∙ ap (λ o. Some (address_after p.1 o)) (h name)
           ∙ sym (summed-more (filter_map (of_name name) among) p.1)
           ∙ ap (λ xs. summed (filter_map (of_name name) among ++ xs)) (sym (named-here name p (sym same)))
           ∙ ap summed (sym (filter_map-append (of_name name) among (p ∷ [])))
       | inr b ↦
           let other : name ≢ p.0 = λ s. not_from_Decides (bytes_eq p.0 name) (bytes_eq-Decides p.0 name) b (sym s) in
-          btree_map_updates_str p.0 m n (Some a) u name ∙ cond-false (bytes_eq p.0 name) (Some a) (found_at m name) b
+          u name ∙ cond-false (bytes_eq p.0 name) (Some a) (found_at m name) b
           ∙ h name ∙ ap summed (sym (append-nil (filter_map (of_name name) among)))
           ∙ ap (λ xs. summed (filter_map (of_name name) among ++ xs)) (sym (named-elsewhere name p other))
           ∙ ap summed (sym (filter_map-append (of_name name) among (p ∷ [])))
@@ -49,7 +49,7 @@ module _ (m n : Table) (p : NamedAddress) (a : Option ℕ) (e : a ≡ address_af
 
 -- An empty map is the table of no publics.
 pub fill-empty : (m n : Table) (all : List NamedAddress) → m.entries ≡ [] → HasMore m n all → IsTable n all
-fill-empty m n all e g = g [] (λ name. ap (lookup (is_at (λ k. slice_cmp nat_cmp name k.now))) e)
+fill-empty m n all e g = g [] (λ name. ap (lookup (is_at (λ k. name_cmp name k.now))) e)
 
 -- The address of the one public is what the table has.
 pub the_one-summed : (xs : List (Option ℕ)) (a : Option ℕ) → summed xs ≡ Some a → the_one xs ≡ a
@@ -61,3 +61,8 @@ pub the_one-none : (xs : List (Option ℕ)) → summed xs ≡ None → the_one x
 the_one-none [] e = refl
 the_one-none (b ∷ []) e = absurd cc
 the_one-none (b ∷ c ∷ xs) e = refl
+
+pub lacking : (xs : List (Option ℕ)) → not (is_some (summed xs)) ≡ is_unnamed xs
+lacking [] = refl
+lacking (a ∷ []) = refl
+lacking (a ∷ b ∷ more) = refl

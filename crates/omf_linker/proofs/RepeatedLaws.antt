@@ -1,22 +1,24 @@
 -- The names that more than one public has, from a table of publics by name.
-use Rattle.std.proofs.Common.{◌≡◌, ℕ, Bool, true, false, List, [], ◌∷◌, ◌++◌, length, refl, sym, ap, ap₂, subst, ◌∙◌, inl, inr, Bor, Vec, Global, nat_cmp, cond}
+use Rattle.std.proofs.Common.{◌≡◌, ◌+◌, ◌≤◌, ℕ, suc, arith, map, Bool, true, false, List, [], ◌∷◌, ◌++◌, length, refl, sym, ap, ap₂, subst, ◌∙◌, inl, inr, Bor, Vec, Global, nat_cmp, cond}
 use Rattle.std.specs.Prelude.{Some, None, bytes_eq, flat_map, nat_le, codes, ◌||◌}
 use Rattle.std.specs.BTreeMap.{IsOrdered, is_at}
 use Rattle.std.specs.Cmp.Lexicographic.{slice_cmp}
-use Rattle.std.specs.List.{AllByRecursion}
+use Rattle.std.specs.List.{AllByRecursion, enumerate_from}
 use Rattle.std.specs.List.Sorted.{IsStrictlySortedBy}
 use Rattle.std.specs.Map.{keys_of, lookup}
 use Rattle.std.specs.Ordering.{is_eq}
 use Rattle.std.specs.declared.cmp.Ordering.{Ordering}
 use Rattle.std.specs.declared.cmp.Ordering.TheVariants.{Less}
-use Rattle.std.proofs.lemmas.Bool.{cond-true, cond-false, cases_Bool, false≢true}
+use Rattle.std.proofs.lemmas.Bool.{cond-true, cond-false, cases_Bool, false≢true, lt-leb}
+use Rattle.std.proofs.lemmas.List.{map-append}
 use Rattle.std.proofs.lemmas.Map.Keys.{sorted_head, sorted_tail}
 use Rattle.std.proofs.lemmas.Map.Text.{is_eq-slice_cmp}
 use Rattle.std.proofs.lemmas.Option.{none-some}
 use Rattle.std.proofs.lemmas.Slice.Eq.{bytes_eq-Decides}
-use Rattle.omf_linker.specs.Drafting.Names.{has_name}
+use Rattle.omf_records.specs.Values.{Rec}
+use Rattle.omf_linker.specs.Drafting.Names.{AreApart, all_names, count_of, has_name, public_names}
 use Rattle.omf_linker.specs.Link.Repeated.{IsRepeatedText, repeated_line}
-use Rattle.omf_linker.specs.Link.Unresolved.{IsByName, Row, Table, items_or, name_line, spots_of}
+use Rattle.omf_linker.specs.Link.Unresolved.{IsByName, Row, Table, all_rows, items_or, module_rows, name_line, rows_in, spots_of}
 use Rattle.omf_linker.specs.declared.link.by_name.Spot.{Spot}
 
 abbrev Entry : Type 0
@@ -166,3 +168,37 @@ module _ (labels : List (List ℕ)) (rows : List Row) where
     record { ascending = big-ascend m.entries s; each = λ name. has-big name m.entries s ∙ ap (λ (ss : List Spot). nat_le 2 (length ss)) (h name) },
     e ∙ ap (λ t. t ++ flat_map entry_line m.entries) none ∙ big-lines m.entries s (table-finds m h),
   )
+
+-- ---- where no name is there twice
+
+spots-counted : (rs : List Row) (name : List ℕ) → length (spots_of rs name) ≡ count_of (map (λ r. r.0) rs) name
+spots-counted [] name = refl
+spots-counted (r ∷ rs) name =
+    let others = count_of (map (λ (q : Row). q.0) rs) name in
+    elim (cases_Bool (bytes_eq r.0 name)) [
+      | inl t ↦
+          ap length (cond-true (bytes_eq r.0 name) (r.1 ∷ spots_of rs name) (spots_of rs name) t) ∙ ap suc (spots-counted rs name)
+          ∙ sym (cond-true (bytes_eq r.0 name) (suc others) others t)
+      | inr f ↦
+          ap length (cond-false (bytes_eq r.0 name) (r.1 ∷ spots_of rs name) (spots_of rs name) f) ∙ spots-counted rs name
+          ∙ sym (cond-false (bytes_eq r.0 name) (suc others) others f)
+    ]
+
+names-in : (j : ℕ) (names : List (List ℕ)) → map (λ r. r.0) (rows_in j names) ≡ names
+names-in j [] = refl
+names-in j (x ∷ xs) = ap (λ ys. x ∷ ys) (names-in j xs)
+
+names-from : (i : ℕ) (ms : List (List Rec)) → map (λ r. r.0) (flat_map module_rows (enumerate_from i ms)) ≡ all_names ms
+names-from i [] = refl
+names-from i (m ∷ ms) =
+    map-append (λ r. r.0) (rows_in i (public_names false m)) (flat_map module_rows (enumerate_from (i + 1) ms))
+    ∙ ap₂ (λ xs ys. xs ++ ys) (names-in i (public_names false m)) (names-from (i + 1) ms)
+
+pub none-repeated : (labels : List (List ℕ)) (ms : List (List Rec)) → AreApart (all_names ms) → IsRepeatedText labels (all_rows ms) []
+none-repeated labels ms h = ([], record { ascending = none-sorted; each = none }, refl)
+  where
+    none : (name : List ℕ) → false ≡ nat_le 2 (length (spots_of (all_rows ms) name))
+    none name =
+        let many : length (spots_of (all_rows ms) name) ≡ count_of (all_names ms) name = spots-counted (all_rows ms) name ∙ ap (λ ns. count_of ns name) (names-from 0 ms) in
+        let most : count_of (all_names ms) name ≤ 1 = h name in
+        sym (lt-leb 2 (length (spots_of (all_rows ms) name)) (omega (arith, many, most)))

@@ -3,7 +3,7 @@
 
 mod draft;
 pub mod laws;
-mod names;
+pub(crate) mod names;
 mod part;
 pub mod rows;
 

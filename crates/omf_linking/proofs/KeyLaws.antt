@@ -1,17 +1,17 @@
 -- Tables of texts, and the keys of the entries of a module.
-use Rattle.std.proofs.Common.{◌≡◌, ℕ, zero, suc, ◌+◌, ◌-◌, ◌<◌, ◌≤◌, Bool, true, false, ◌&&◌, List, [], ◌∷◌, ◌++◌, length, drop, get_or, refl, sym, ap, ap₂, ◌∙◌, inl, inr, append_assoc, append-nil, arith, Bor, nat_cmp, cond}
+use Rattle.std.proofs.Common.{◌≡◌, ℕ, zero, suc, ◌+◌, ◌-◌, ◌<◌, ◌≤◌, Bool, true, false, ◌&&◌, List, [], ◌∷◌, ◌++◌, length, drop, get_or, refl, sym, ap, ap₂, ◌∙◌, inl, inr, append_assoc, append-nil, arith, Bor, cond}
 use Rattle.std.specs.Prelude.{String, map, string_bytes, Option, Some, None, is_some, unwrap_or, bytes_eq, ◌||◌, slice_get, nat_le, if◌then◌else◌}
-use Rattle.std.specs.BTreeMap.{BTreeMap, get_by, is_at, UpdatesBy}
-use Rattle.std.specs.Cmp.Lexicographic.{slice_cmp}
+use Rattle.std.specs.BTreeMap.{BTreeMap, get_by, is_at}
 use Rattle.std.specs.List.{range_with_len}
 use Rattle.std.specs.Map.{lookup}
 use Rattle.std.proofs.Math.Seq.{drop-cons, drop-nil}
 use Rattle.std.proofs.lemmas.Bool.{cond-true, cond-false, cases_Bool, false≢true, le-leb}
 use Rattle.std.proofs.lemmas.List.{length-map, drop_all, get_or-map}
 use Rattle.std.proofs.lemmas.List.FromFn.{get_or-map-range_with_len, length-map-range_with_len}
-use Rattle.std.proofs.lemmas.Map.Text.{btree_map_updates_str}
 use Rattle.std.proofs.lemmas.Option.{slice_get-get_or}
 use Rattle.std.proofs.lemmas.Slice.Eq.{bytes_eq-Decides}
+use Rattle.omf_names.specs.Names.{name_cmp}
+use Rattle.omf_names.proofs.NameTables.{IsUpdated}
 use Rattle.omf_records.specs.Values.{Rec}
 use Rattle.omf_check.specs.Module.{Module, records_in, typed_modules}
 use Rattle.omf_check.specs.Tables.{entry}
@@ -56,7 +56,7 @@ abbrev pub Texts : Type 0
 Texts = BTreeMap (Bor (List ℕ)) Bool
 
 abbrev pub kept_of : Texts → List ℕ → Option Bool
-kept_of m text = get_by (λ k. slice_cmp nat_cmp text k.now) m
+kept_of m text = get_by (λ k. name_cmp text k.now) m
 
 -- What a table has for a text that is there or not, and repeated or not.
 abbrev kept : Bool → Bool → Option Bool
@@ -97,7 +97,7 @@ some-kept : (there again : Bool) → is_some (kept there again) ≡ there
 some-kept true again = refl
 some-kept false again = refl
 
-pub text-more : (m n : Texts) (x : List ℕ) (v : Bool) → v ≡ is_some (kept_of m x) → UpdatesBy (λ (k l : Bor (List ℕ)). slice_cmp nat_cmp k.now l.now) (λ k. slice_cmp nat_cmp x k.now) m n (Some v)
+pub text-more : (m n : Texts) (x : List ℕ) (v : Bool) → v ≡ is_some (kept_of m x) → IsUpdated x m n (Some v)
     → (texts : List (List ℕ)) → IsTextTable m texts → IsTextTable n (texts ++ x ∷ [])
 text-more m n x v e u texts h text =
     let there = has_text texts text in
@@ -111,7 +111,7 @@ text-more m n x v e u texts h text =
           cond-true b (Some v) (kept_of m text) t ∙ ap Some (was ∙ ap (has_text texts) ((bytes_eq-Decides x text).0 t)) ∙ sym (cond-true b (Some there) (kept there again) t)
       | inr t ↦ cond-false b (Some v) (kept_of m text) t ∙ h text ∙ sym (cond-false b (Some there) (kept there again) t)
     ] in
-    btree_map_updates_str x m n (Some v) u text ∙ same ∙ sym after
+    u text ∙ same ∙ sym after
 
 pub kept-repeated : (m : Texts) (text : List ℕ) (texts : List (List ℕ)) → IsTextTable m texts → unwrap_or (kept_of m text) false ≡ is_repeated texts text
 kept-repeated m text texts h = ap (λ o. unwrap_or o false) (h text) ∙ by (has_text texts text) (is_repeated texts text) (repeated-is-there texts text) where
@@ -121,7 +121,7 @@ kept-repeated m text texts h = ap (λ o. unwrap_or o false) (h text) ∙ by (has
   by false false f = refl
 
 pub empty-table : (m : Texts) → m.entries ≡ [] → IsTextTable m []
-empty-table m e text = ap (λ xs. lookup (is_at (λ k. slice_cmp nat_cmp text k.now)) xs) e
+empty-table m e text = ap (λ xs. lookup (is_at (λ k. name_cmp text k.now)) xs) e
 
 -- ---- lists that grow from the left
 

@@ -1,6 +1,6 @@
 -- As many placements are derived as there are modules; and what a link gives, from its steps.
 use Rattle.std.proofs.Common.{◌≡◌, ℕ, List, [], ◌∷◌, length, arith, refl, sym, ap, ◌∙◌, inl, inr}
-use Rattle.std.specs.Prelude.{Ok, Err, Result, map, zip, ◌==◌, Bool, true, false, ◌⊎◌, IsOk}
+use Rattle.std.specs.Prelude.{Ok, Err, Result, map, zip, ◌==◌, false, ◌⊎◌, IsOk}
 use Rattle.std.specs.List.{enumerate_from}
 use Rattle.std.proofs.lemmas.List.{length-map}
 use Rattle.std.proofs.lemmas.List.FromFn.{length-enumerate_from}

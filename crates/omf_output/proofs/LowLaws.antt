@@ -1,16 +1,16 @@
 -- The lowest members of groups of one name, group by group.
-use Rattle.std.proofs.Common.{◌≡◌, ℕ, zero, suc, ◌+◌, ◌<◌, ◌≤◌, ◌-◌, Bool, true, false, List, [], ◌∷◌, ◌++◌, length, drop, get_or, refl, sym, ap, ap₂, ◌∙◌, subst, inl, inr, append-nil, append_assoc, arith, Bor, nat_cmp}
+use Rattle.std.proofs.Common.{◌≡◌, ℕ, zero, suc, ◌+◌, ◌<◌, ◌-◌, true, false, List, [], ◌∷◌, ◌++◌, drop, refl, sym, ap, ap₂, ◌∙◌, subst, inl, inr, append-nil, append_assoc, arith, Bor}
 use Rattle.std.specs.Prelude.{map, filter_map, cond, Option, Some, None, slice_get, nat_le, bytes_eq}
 use Rattle.std.specs.List.{cons_option, range_with_len}
-use Rattle.std.specs.BTreeMap.{BTreeMap, get_by, is_at, UpdatesBy}
-use Rattle.std.specs.Cmp.Lexicographic.{slice_cmp}
+use Rattle.std.specs.BTreeMap.{BTreeMap, get_by, is_at}
 use Rattle.std.specs.Map.{lookup}
 use Rattle.std.proofs.lemmas.Bool.{cond-true, cond-false, cases_Bool, le-leb, lt-leb, false_from_ne_true}
 use Rattle.std.proofs.lemmas.Bool.Decides.{leb_tells, not_from_Decides}
 use Rattle.std.proofs.lemmas.List.Elements.{filter_map-append}
-use Rattle.std.proofs.lemmas.Map.Text.{btree_map_updates_str}
-use Rattle.std.proofs.lemmas.Option.{none-some, same_Some, slice_get-get_or}
+use Rattle.std.proofs.lemmas.Option.{none-some, same_Some}
 use Rattle.std.proofs.lemmas.Slice.Eq.{bytes_eq-Decides}
+use Rattle.omf_names.specs.Names.{name_cmp}
+use Rattle.omf_names.proofs.NameTables.{IsUpdated}
 use Rattle.omf_records.specs.Values.{Contents, Rec, Group, GroupItem}
 use Rattle.omf_check.specs.Tables.{groups, entry}
 use Rattle.std.specs.Prelude.{option_map}
@@ -70,18 +70,18 @@ abbrev pub Map : Type 0
 Map = BTreeMap (Bor (List ℕ)) Placed
 
 abbrev pub low_at : Map → Name → Option Placed
-low_at m name = get_by (λ k. slice_cmp nat_cmp name k.now) m
+low_at m name = get_by (λ k. name_cmp name k.now) m
 
 -- One more group.
-pub low-more : (m n : Map) (x : Name) (p q : Placed) → q ≡ lower_than (low_at m x) p → UpdatesBy (λ (k l : Bor (List ℕ)). slice_cmp nat_cmp k.now l.now) (λ k. slice_cmp nat_cmp x k.now) m n (Some q)
+pub low-more : (m n : Map) (x : Name) (p q : Placed) → q ≡ lower_than (low_at m x) p → IsUpdated x m n (Some q)
     → HasMore m n ((x, p) ∷ [])
 low-more m n x p q e u ls h name = elim (cases_Bool (bytes_eq x name)) [
   | inl b ↦
       let this = same x name b in
-      btree_map_updates_str x m n (Some q) u name ∙ cond-true (bytes_eq x name) (Some q) (low_at m name) b
+      u name ∙ cond-true (bytes_eq x name) (Some q) (low_at m name) b
       ∙ ap Some (e ∙ ap (λ o. lower_than o p) (h x)) ∙ sym (lowest-more (of_name ls x) p) ∙ ap lowest (sym (of-this ls x p)) ∙ ap (λ y. lowest (of_name (ls ++ (x, p) ∷ []) y)) this
   | inr b ↦
-      btree_map_updates_str x m n (Some q) u name ∙ cond-false (bytes_eq x name) (Some q) (low_at m name) b
+      u name ∙ cond-false (bytes_eq x name) (Some q) (low_at m name) b
       ∙ h name ∙ ap lowest (sym (of-other ls x p name (back x name b)))
 ]
 
@@ -90,7 +90,7 @@ none-more m xs e = subst (HasMore m m) (sym e) (λ ls h. subst (IsLowTable m) (s
 
 -- An empty map is the table of no groups.
 pub fill-empty : (m n : Map) (all : List Named) → m.entries ≡ [] → HasMore m n all → IsLowTable n all
-fill-empty m n all e g = g [] (λ name. ap (lookup (is_at (λ k. slice_cmp nat_cmp name k.now))) e)
+fill-empty m n all e g = g [] (λ name. ap (lookup (is_at (λ k. name_cmp name k.now))) e)
 
 -- The next of a list.
 pub next-at : {A : Type 0} (xs : List A) (j : ℕ) (x : A) → slice_get xs j ≡ Some x → drop j xs ≡ x ∷ drop (j + 1) xs

@@ -1,15 +1,15 @@
 -- A table of publics grows public by public.
-use Rattle.std.proofs.Common.{◌≡◌, ℕ, zero, suc, ◌+◌, ◌<◌, ◌≤◌, List, [], ◌∷◌, ◌++◌, length, drop, get_or, refl, sym, ap, ap₂, ◌∙◌, subst, inl, inr, append-nil, arith, Bor, nat_cmp}
-use Rattle.std.specs.Prelude.{◌≢◌, flat_map, filter_map, Option, Some, None, bytes_eq, cond, Bool}
+use Rattle.std.proofs.Common.{◌≡◌, ℕ, zero, suc, ◌+◌, ◌<◌, ◌≤◌, List, [], ◌∷◌, ◌++◌, length, drop, get_or, refl, sym, ap, ap₂, ◌∙◌, subst, inl, inr, append-nil, arith, Bor}
+use Rattle.std.specs.Prelude.{◌≢◌, flat_map, filter_map, Option, Some, None, bytes_eq, cond, Bool, is_some, true, false}
 use Rattle.std.proofs.Math.Seq.{drop-nil}
-use Rattle.std.specs.BTreeMap.{BTreeMap, get_by, is_at, UpdatesBy}
-use Rattle.std.specs.Cmp.Lexicographic.{slice_cmp}
+use Rattle.std.specs.BTreeMap.{BTreeMap, get_by, is_at}
 use Rattle.std.specs.List.{cons_option}
 use Rattle.std.specs.Map.{lookup}
-use Rattle.std.proofs.lemmas.Bool.{cond-true, cond-false, cases_Bool, false_from_ne_true}
+use Rattle.std.proofs.lemmas.Bool.{cond-true, cond-false, cases_Bool, false_from_ne_true, true≢false, false≢true}
 use Rattle.std.proofs.lemmas.Bool.Decides.{not_from_Decides}
 use Rattle.std.proofs.lemmas.List.Elements.{filter_map-append}
-use Rattle.std.proofs.lemmas.Map.Text.{btree_map_updates_str}
+use Rattle.omf_names.specs.Names.{name_cmp}
+use Rattle.omf_names.proofs.NameTables.{twice_updated}
 use Rattle.std.proofs.lemmas.Slice.Eq.{bytes_eq-Decides}
 use Rattle.omf_frame.specs.Framing.{Raw, raw_bytes}
 use Rattle.omf_frame.specs.declared.fault.Place.{Place}
@@ -20,6 +20,7 @@ use Rattle.omf_check.specs.Module.{Module, records_in}
 use Rattle.omf_check.specs.WellFormed.{recs}
 use Rattle.omf_placement.specs.declared.frame.Frame.{Frame}
 use Rattle.omf_placement.specs.declared.several.publics.Found.{Found}
+use Rattle.omf_placement.specs.declared.several.publics.Found.TheVariants.{One, Several}
 use Rattle.omf_placement.specs.Derive.{PlacedPublic, public_at, record_publics, publics, placed_modules}
 use Rattle.omf_placement.specs.Inner.Derived.{of_name}
 use Rattle.omf_placement.specs.declared.frame.Placed.{Placed}
@@ -41,34 +42,54 @@ abbrev pub Map : Type 0
 Map = BTreeMap (Bor (List ℕ)) Found
 
 abbrev pub found_at : Map → List ℕ → Option Found
-found_at m name = get_by (λ k. slice_cmp nat_cmp name k.now) m
+found_at m name = get_by (λ k. name_cmp name k.now) m
+
+none-before : (p : Placed) (old : Option Found) → is_some old ≡ false → One p.address p.frame ≡ found_after p old
+none-before p None e = refl
+none-before p (Some f) e = absurd (true≢false e)
+
+some-before : (p : Placed) (old : Option Found) → is_some old ≡ true → Several ≡ found_after p old
+some-before p None e = absurd (false≢true e)
+some-before p (Some f) e = refl
 
 -- One more public.
 module _ (m n : Map) (p : PlacedPublic) (f : Found) (e : f ≡ found_after p.place (found_at m p.name)) where
-  module _ (u : UpdatesBy (λ (x y : Bor (List ℕ)). slice_cmp nat_cmp x.now y.now) (λ k. slice_cmp nat_cmp p.name k.now) m n (Some f)) where
+  module _ (u : (name : List ℕ) → found_at n name ≡ cond (bytes_eq p.name name) (Some f) (found_at m name)) where
     pub table-more : HasMore m n (p ∷ [])
     table-more among h name = elim (cases_Bool (bytes_eq p.name name)) [
       | inl b ↦
           let same : p.name ≡ name = (bytes_eq-Decides p.name name).0 b in
-          btree_map_updates_str p.name m n (Some f) u name ∙ cond-true (bytes_eq p.name name) (Some f) (found_at m name) b
+          u name ∙ cond-true (bytes_eq p.name name) (Some f) (found_at m name) b
           ∙ ap Some e ∙ ap (λ x. Some (found_after p.place (found_at m x))) same ∙ ap (λ o. Some (found_after p.place o)) (h name)
           ∙ sym (summed-more (filter_map (of_name name) among) p.place)
           ∙ ap (λ xs. summed (filter_map (of_name name) among ++ xs)) (sym (named-here name p (sym same)))
           ∙ ap summed (sym (filter_map-append (of_name name) among (p ∷ [])))
       | inr b ↦
           let other : name ≢ p.name = λ s. not_from_Decides (bytes_eq p.name name) (bytes_eq-Decides p.name name) b (sym s) in
-          btree_map_updates_str p.name m n (Some f) u name ∙ cond-false (bytes_eq p.name name) (Some f) (found_at m name) b
+          u name ∙ cond-false (bytes_eq p.name name) (Some f) (found_at m name) b
           ∙ h name ∙ ap summed (sym (append-nil (filter_map (of_name name) among)))
           ∙ ap (λ xs. summed (filter_map (of_name name) among ++ xs)) (sym (named-elsewhere name p other))
           ∙ ap summed (sym (filter_map-append (of_name name) among (p ∷ [])))
     ]
+
+-- A public of a new name, and one of a name that is there.
+module _ (m n : Map) (p : PlacedPublic) (old : Option Found) (was : old ≡ found_at m p.name) where
+  pub one-new : is_some old ≡ false → ((name : List ℕ) → found_at n name ≡ cond (bytes_eq p.name name) (Some (One p.place.address p.place.frame)) (found_at m name)) → HasMore m n (p ∷ [])
+  one-new e u = table-more m n p (One p.place.address p.place.frame) (none-before p.place old e ∙ ap (found_after p.place) was) u
+
+module _ (m k n : Map) (p : PlacedPublic) (old : Option Found) (was : old ≡ found_at m p.name) where
+  pub one-again : is_some old ≡ true → ((name : List ℕ) → found_at k name ≡ cond (bytes_eq p.name name) (Some (One p.place.address p.place.frame)) (found_at m name))
+      → ((name : List ℕ) → found_at n name ≡ cond (bytes_eq p.name name) (Some Several) (found_at k name)) → HasMore m n (p ∷ [])
+  one-again e g u =
+      table-more m n p Several (some-before p.place old e ∙ ap (found_after p.place) was)
+      (twice_updated p.name m k n (Some (One p.place.address p.place.frame)) (Some Several) g u)
 
 pub same-public : (m n : Map) (name other : List ℕ) (address place : ℕ) (frame : Frame) → name ≡ other → address ≡ place → HasMore m n (public_at name address frame ∷ []) → HasMore m n (public_at other place frame ∷ [])
 same-public m n name other address place frame a b h = subst (λ p. HasMore m n (p ∷ [])) (ap₂ (λ x y. public_at x y frame) a b) h
 
 -- An empty map is the table of no publics.
 pub fill-empty : (m n : Map) (all : List PlacedPublic) → m.entries ≡ [] → HasMore m n all → IsTable n all
-fill-empty m n all e g = g [] (λ name. ap (lookup (is_at (λ k. slice_cmp nat_cmp name k.now))) e)
+fill-empty m n all e g = g [] (λ name. ap (lookup (is_at (λ k. name_cmp name k.now))) e)
 
 -- The publics of the records with their places.
 abbrev pub listed_publics : Bool → Places → List (Place × Rec) → List PlacedPublic

@@ -1,6 +1,6 @@
 -- Placement texts, and the placements that they give a module (a format of this profile).
 use Rattle.std.specs.Option.{option_or, option_map_or}
-use Rattle.std.specs.Prelude.{◌≡◌, ℕ, List, [], ◌∷◌, map, filter_map, Option, Some, None, Result, Ok, Err, IsOk, ◌==◌, is_some, slice_get, if◌then◌else◌}
+use Rattle.std.specs.Prelude.{◌≡◌, ℕ, List, map, filter_map, Option, Some, None, Result, Ok, Err, IsOk, ◌==◌, is_some, slice_get, if◌then◌else◌}
 use Rattle.std.specs.List.{enumerate_from, slice_split}
 use Rattle.omf_placement.specs.declared.fault.TextFault.{TextFault}
 use Rattle.omf_placement.specs.declared.fault.TextFault.TheVariants.{Memory, Line}

@@ -1,6 +1,6 @@
 -- Each segment is found among those that are laid.
 use Rattle.std.proofs.Common.{◌≡◌, ℕ, zero, suc, ◌+◌, ◌<◌, ◌≤◌, List, [], ◌∷◌, ◌++◌, length, Bool, true, refl, sym, ap, ap₂, ◌∙◌, subst, inl, inr, get_or, arith}
-use Rattle.std.specs.Prelude.{map, flat_map, find, Some, None, option_map, unwrap_or, slice_get, bytes_eq, ◌==◌, ◌&&◌}
+use Rattle.std.specs.Prelude.{map, flat_map, find, Some, None, option_map, slice_get, bytes_eq, ◌==◌, ◌&&◌}
 use Rattle.std.specs.List.{filter, zip, enumerate_from, cons_option}
 use Rattle.std.proofs.lemmas.Bool.{cond-true, cond-false, cases_Bool, eq-eqb, eqb-true, and_parts, and_from}
 use Rattle.std.proofs.lemmas.Option.{none-some, same_Some, slice_get-get_or}

@@ -1,17 +1,17 @@
 -- Values gathered by name, one more at a time.
-use Rattle.std.proofs.Common.{append_assoc, ◌≡◌, ℕ, zero, suc, ◌<◌, List, [], ◌∷◌, ◌++◌, length, Bool, true, false, refl, sym, ap, ap₂, ◌∙◌, subst, inl, inr, append-nil, arith, Bor, nat_cmp, Vec, Global, slice_set, get_or}
+use Rattle.std.proofs.Common.{append_assoc, ◌≡◌, ℕ, zero, suc, ◌<◌, List, [], ◌∷◌, ◌++◌, length, Bool, true, false, refl, sym, ap, ap₂, ◌∙◌, subst, inl, inr, append-nil, arith, Bor, Vec, Global, slice_set, get_or}
 use Rattle.std.specs.Prelude.{map, not, cond, ◌||◌, Option, Some, None, is_some, option_map, bytes_eq, ⊤}
 use Rattle.std.specs.List.{filter, list_any, cons_option}
-use Rattle.std.specs.BTreeMap.{BTreeMap, get_by, is_at, UpdatesBy}
-use Rattle.std.specs.Cmp.Lexicographic.{slice_cmp}
+use Rattle.std.specs.BTreeMap.{BTreeMap, get_by, is_at}
 use Rattle.std.specs.Map.{lookup}
 use Rattle.std.proofs.lemmas.Bool.{cond-true, cond-false, cases_Bool, false_from_ne_true, true≢false, or_parts}
 use Rattle.std.proofs.lemmas.Bool.Decides.{not_from_Decides}
 use Rattle.std.proofs.lemmas.List.Elements.{filter_map-append, filter-append}
 use Rattle.std.proofs.lemmas.List.{length-map}
-use Rattle.std.proofs.lemmas.Map.Text.{btree_map_updates_str}
 use Rattle.std.proofs.lemmas.Option.{none-some, same_Some}
 use Rattle.std.proofs.lemmas.Slice.Eq.{bytes_eq-Decides}
+use Rattle.omf_names.specs.Names.{name_cmp}
+use Rattle.omf_names.proofs.NameTables.{IsUpdated}
 use Rattle.omf_layout.specs.Several.Gathered.{distinct, value_of, of_name, names_in, gathered, place_of, with_value, IsTable, AreGathered}
 
 abbrev pub Name : Type 0
@@ -161,13 +161,13 @@ place-other n x e (z ∷ zs) = ap (λ o. cond (bytes_eq n z) (Some 0) (option_ma
 
 -- The table has one more name.
 table-step : (m n : BTreeMap (Bor (List ℕ)) ℕ) (x : Name) (ds : List Name) → IsTable m ds → has x ds ≡ false
-    → UpdatesBy (λ (k l : Bor (List ℕ)). slice_cmp nat_cmp k.now l.now) (λ k. slice_cmp nat_cmp x k.now) m n (Some (length ds)) → IsTable n (ds ++ x ∷ [])
+    → IsUpdated x m n (Some (length ds)) → IsTable n (ds ++ x ∷ [])
 table-step m n x ds h a u name = elim (cases_Bool (bytes_eq x name)) [
   | inl t ↦
-      btree_map_updates_str x m n (Some (length ds)) u name ∙ cond-true (bytes_eq x name) (Some (length ds)) (get_by (λ k. slice_cmp nat_cmp name k.now) m) t
+      u name ∙ cond-true (bytes_eq x name) (Some (length ds)) (get_by (λ k. name_cmp name k.now) m) t
       ∙ sym (place-end x ds a) ∙ ap (λ y. place_of y (ds ++ x ∷ [])) (same x name t)
   | inr f ↦
-      btree_map_updates_str x m n (Some (length ds)) u name ∙ cond-false (bytes_eq x name) (Some (length ds)) (get_by (λ k. slice_cmp nat_cmp name k.now) m) f
+      u name ∙ cond-false (bytes_eq x name) (Some (length ds)) (get_by (λ k. name_cmp name k.now) m) f
       ∙ h name ∙ sym (place-other name x (back x name f) ds)
 ]
 
@@ -231,7 +231,7 @@ module _ {A : Type 0} where
         ap (map more) (distinct-names false h) ∙ map-end ds
         ∙ ap₂ (λ rs r. rs ++ r ∷ []) (unchanged ds h) (of-this xs x v ∙ ap (λ r. r ++ v ∷ []) (of-none xs x (sym (has-distinct x (names_in xs)) ∙ h)))
 
-    pub value-added : (m : BTreeMap (Bor (List ℕ)) ℕ) (runs new : List (List A)) (i : ℕ) → AreGathered m runs xs → get_by (λ k. slice_cmp nat_cmp x k.now) m ≡ Some i → new ≡ with_value i v runs → AreGathered m new (xs ++ (x, v) ∷ [])
+    pub value-added : (m : BTreeMap (Bor (List ℕ)) ℕ) (runs new : List (List A)) (i : ℕ) → AreGathered m runs xs → get_by (λ k. name_cmp x k.now) m ≡ Some i → new ≡ with_value i v runs → AreGathered m new (xs ++ (x, v) ∷ [])
     value-added m runs new i g e w =
         let here : place_of x (distinct (names_in xs)) ≡ Some i = sym (g.found x) ∙ e in
         record {
@@ -239,19 +239,19 @@ module _ {A : Type 0} where
           all = w ∙ ap (with_value i v) g.all ∙ sym (gathered-old i here);
         }
 
-    pub run-added : (m n : BTreeMap (Bor (List ℕ)) ℕ) (runs new : List (List A)) (count : ℕ) → AreGathered m runs xs → get_by (λ k. slice_cmp nat_cmp x k.now) m ≡ None → count ≡ length runs
-        → UpdatesBy (λ (k l : Bor (List ℕ)). slice_cmp nat_cmp k.now l.now) (λ k. slice_cmp nat_cmp x k.now) m n (Some count) → new ≡ runs ++ (v ∷ []) ∷ [] → AreGathered n new (xs ++ (x, v) ∷ [])
+    pub run-added : (m n : BTreeMap (Bor (List ℕ)) ℕ) (runs new : List (List A)) (count : ℕ) → AreGathered m runs xs → get_by (λ k. name_cmp x k.now) m ≡ None → count ≡ length runs
+        → IsUpdated x m n (Some count) → new ≡ runs ++ (v ∷ []) ∷ [] → AreGathered n new (xs ++ (x, v) ∷ [])
     run-added m n runs new count g e c u w =
         let ds = distinct (names_in xs) in
         let absent : has x ds ≡ false = has-unplaced x ds (sym (g.found x) ∙ e) in
         let many : count ≡ length ds = c ∙ ap length g.all ∙ length-map ds (of_name xs) in
         record {
           found = subst (IsTable n) (sym (distinct-names false absent))
-              (table-step m n x ds g.found absent (subst (λ k. UpdatesBy (λ (k l : Bor (List ℕ)). slice_cmp nat_cmp k.now l.now) (λ k. slice_cmp nat_cmp x k.now) m n (Some k)) many u));
+              (table-step m n x ds g.found absent (subst (λ k. IsUpdated x m n (Some k)) many u));
           all = w ∙ ap (λ rs. rs ++ (v ∷ []) ∷ []) g.all ∙ sym (gathered-new absent);
         }
 
-  pub place-in-runs : (xs : List (Name × A)) (m : BTreeMap (Bor (List ℕ)) ℕ) (runs : List (List A)) (x : Name) (i : ℕ) → AreGathered m runs xs → get_by (λ k. slice_cmp nat_cmp x k.now) m ≡ Some i → i < length runs
+  pub place-in-runs : (xs : List (Name × A)) (m : BTreeMap (Bor (List ℕ)) ℕ) (runs : List (List A)) (x : Name) (i : ℕ) → AreGathered m runs xs → get_by (λ k. name_cmp x k.now) m ≡ Some i → i < length runs
   place-in-runs xs m runs x i g e =
       let ds = distinct (names_in xs) in
       let low = place-below x ds i (sym (g.found x) ∙ e) in
@@ -259,7 +259,7 @@ module _ {A : Type 0} where
       omega (arith, low, many)
 
   pub none-gathered : (m : BTreeMap (Bor (List ℕ)) ℕ) → m.entries ≡ [] → AreGathered {A = A} m [] []
-  none-gathered m e = record { found = λ name. ap (lookup (is_at (λ k. slice_cmp nat_cmp name k.now))) e; all = refl }
+  none-gathered m e = record { found = λ name. ap (lookup (is_at (λ k. name_cmp name k.now))) e; all = refl }
 
 -- A list with one more value.
 module _ {A : Type 0} where

@@ -1,13 +1,12 @@
 -- The module that gives the segments of a program DOS order, and the names that a linker defines in that order (Microsoft LINK's option DOSSEG; the records are
 -- this profile's rule).
-use Rattle.std.specs.Prelude.{◌≡◌, ⊤, ℕ, ◌+◌, ◌*◌, ◌<◌, List, [], ◌∷◌, ◌++◌, length, map, flat_map, filter_map, find, Bool, true, false, not, ◌&&◌, ◌||◌, ◌==◌, Option, Some, None, option_map, is_some, unwrap_or, slice_get, codes, bytes_eq, eqb, if◌then◌else◌}
+use Rattle.std.specs.Prelude.{◌≡◌, ℕ, ◌+◌, ◌*◌, List, [], ◌∷◌, ◌++◌, length, map, flat_map, filter_map, find, Bool, true, false, not, ◌&&◌, ◌==◌, Option, option_map, is_some, unwrap_or, slice_get, codes, bytes_eq, eqb, if◌then◌else◌}
 use Rattle.std.specs.List.{filter, list_any, ends_with}
 use Rattle.std.specs.BTreeMap.{BTreeMap, get_by}
-use Rattle.std.specs.Ordering.{nat_cmp}
-use Rattle.std.specs.Cmp.Lexicographic.{slice_cmp}
 use denote.Ref.{Bor}
-use Rattle.omf_records.specs.Values.{At, Rec, Contents, Comment, Group, GroupItem}
-use Rattle.omf_check.specs.Tables.{segments, groups, externals, entry}
+use Rattle.omf_names.specs.Names.{name_cmp}
+use Rattle.omf_records.specs.Values.{At, Rec, Contents, Comment, Group}
+use Rattle.omf_check.specs.Tables.{segments, externals, entry}
 use Rattle.omf_layout.specs.declared.alignment.Alignment.{Alignment}
 use Rattle.omf_layout.specs.declared.alignment.Alignment.TheVariants as aligned
 use Rattle.omf_layout.specs.declared.several.portion.Combination.{Combination}
@@ -21,7 +20,7 @@ use Rattle.omf_layout.specs.Several.Portions.{name_at}
 use Rattle.omf_layout.specs.Own.Claims.{Claim, all_claims}
 use Rattle.omf_layout.specs.Own.Communals.{are_grouped, is_dgroup}
 use Rattle.omf_layout.specs.Several.Portions.{Named}
-use Rattle.omf_layout.specs.Own.Written.{header, name_record, segment_record, empty_group_record, public_record, end_record, written}
+use Rattle.omf_layout.specs.Own.Written.{header, name_record, segment_record, empty_group_record, public_record, end_record}
 
 -- ---- The classes of DGROUP
 
@@ -47,7 +46,7 @@ has_name names name = list_any (λ x. bytes_eq x name) names
 
 -- A table has exactly these names.
 abbrev pub IsNameTable : BTreeMap (Bor (List ℕ)) (Unit {0}) → List (List ℕ) → Type 0
-IsNameTable t names = (name : List ℕ) → is_some (get_by (λ k. slice_cmp nat_cmp name k.now) t) ≡ has_name names name
+IsNameTable t names = (name : List ℕ) → is_some (get_by (λ k. name_cmp name k.now) t) ≡ has_name names name
 
 -- ---- The empty segments
 

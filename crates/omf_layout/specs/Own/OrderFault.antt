@@ -1,5 +1,5 @@
 -- Why there is no module for DOS order.
-use Rattle.std.specs.Prelude.{⊤, ℕ, ◌<◌, List, length}
+use Rattle.std.specs.Prelude.{⊤, ◌<◌, List, length}
 use Rattle.omf_records.specs.Values.{Rec}
 use Rattle.omf_layout.specs.declared.own.order.OrderFault.{OrderFault}
 use Rattle.omf_layout.specs.declared.own.order.OrderFault.TheVariants as fault

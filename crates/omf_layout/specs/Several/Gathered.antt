@@ -2,9 +2,8 @@
 use Rattle.std.specs.Prelude.{◌≡◌, ℕ, zero, suc, List, [], ◌∷◌, ◌++◌, map, filter_map, not, Option, Some, None, option_map, bytes_eq, if◌then◌else◌}
 use Rattle.std.specs.List.{filter}
 use Rattle.std.specs.BTreeMap.{BTreeMap, get_by}
-use Rattle.std.specs.Ordering.{nat_cmp}
-use Rattle.std.specs.Cmp.Lexicographic.{slice_cmp}
 use denote.Ref.{Bor}
+use Rattle.omf_names.specs.Names.{name_cmp}
 
 -- The names of a list, each once, in the order of first appearance.
 abbrev pub distinct : List (List ℕ) → List (List ℕ)
@@ -42,7 +41,7 @@ named x = (x.0.now, x.1)
 
 -- A table has the position of each of these names.
 abbrev pub IsTable : BTreeMap (Bor (List ℕ)) ℕ → List (List ℕ) → Type 0
-IsTable m names = (name : List ℕ) → get_by (λ k. slice_cmp nat_cmp name k.now) m ≡ place_of name names
+IsTable m names = (name : List ℕ) → get_by (λ k. name_cmp name k.now) m ≡ place_of name names
 
 -- A table of these values' names, and the values of each.
 pub record AreGathered {A : Type 0} (m : BTreeMap (Bor (List ℕ)) ℕ) (runs : List (List A)) (xs : List (List ℕ × A)) : Type 0 where

@@ -3,8 +3,8 @@ use Rattle.std.specs.Prelude.{◌≡◌, ℕ, List, [], ◌++◌, length, map, f
 use Rattle.std.specs.List.{range_with_len, enumerate_from}
 use Rattle.std.specs.BTreeMap.{BTreeMap, get, get_by}
 use Rattle.std.specs.Ordering.{nat_cmp, ordering_then}
-use Rattle.std.specs.Cmp.Lexicographic.{slice_cmp}
 use denote.Ref.{Bor}
+use Rattle.omf_names.specs.Names.{name_cmp}
 use Rattle.omf_records.specs.Values.{Rec, GroupItem}
 use Rattle.omf_check.specs.Tables.{segments, groups}
 use Rattle.omf_placement.specs.declared.frame.Frame.{Frame}
@@ -72,7 +72,7 @@ IsPlaceTable m ls = (j i : ℕ) → get (λ x y. ordering_then (nat_cmp x.0 y.0)
 
 -- A table of lowest places by name.
 abbrev pub IsLowTable : BTreeMap (Bor (List ℕ)) Placed → List (Named Placed) → Type 0
-IsLowTable m ls = (name : List ℕ) → get_by (λ k. slice_cmp nat_cmp name k.now) m ≡ lowest (of_name ls name)
+IsLowTable m ls = (name : List ℕ) → get_by (λ k. name_cmp name k.now) m ≡ lowest (of_name ls name)
 
 -- A table has these places in addition to those of another.
 abbrev pub HasMore : BTreeMap (Bor (List ℕ)) Placed → BTreeMap (Bor (List ℕ)) Placed → List (Named Placed) → Type 0

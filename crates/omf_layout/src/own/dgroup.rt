@@ -10,12 +10,13 @@ ghost use Rattle.omf_layout.specs.Own.Order.{IsNameTable, class_at, classes_in, 
 
 use crate::several::portion::name_at;
 use omf_check::Checked;
+use omf_names::NameKey;
 use omf_records::{Items, Member, Rec};
 use std::alloc::{AllocError, Global};
 use std::collections::BTreeMap;
 
 /// Names, to look them up.
-pub(crate) type NameTable<'a> = BTreeMap<&'a [u8], ()>;
+pub(crate) type NameTable<'a> = BTreeMap<NameKey<'a>, ()>;
 
 /// Returns the class of a group's member.
 fn class_of<'a>(module: &'a Checked, member: &Member<'_>) -> Option<&'a [u8]>
@@ -104,7 +105,7 @@ fn table_of<'a>(alloc: Global, names: &[&'a [u8]]) -> Result<NameTable<'a>, Allo
 {
     let mut table = BTreeMap::new(alloc);
     for name in names {
-        table.insert(*name, ())?;
+        table.insert(NameKey::of(*name), ())?;
     }
     Ok(table)
 }

@@ -4,7 +4,7 @@ ghost use Rattle.std.specs.Prelude.{◌≡◌, ◌<◌, ◌^◌, ◌++◌, ℕ, 
 ghost use Rattle.omf_check.specs.Module.{recs_of, typed_modules};
 ghost use Rattle.omf_layout.specs.Several.Order.{runs};
 ghost use Rattle.omf_layout.specs.Several.Portions.{name_at};
-ghost use Rattle.omf_layout.specs.Own.Order.{IsNameTable, alignment_bits, bss_slots, combination_bits, data_slots, dgroup_classes, dos_slots, first_of, in_part, marker, module_at, part_of, slot, slots};
+ghost use Rattle.omf_layout.specs.Own.Order.{IsNameTable, alignment_bits, bss_slots, combination_bits, data_slots, dgroup_classes, dos_slots, first_of, has_name, in_part, marker, module_at, part_of, slot, slots};
 
 use crate::Alignment;
 use crate::own::dgroup::{NameTable, dgroup_classes};
@@ -12,6 +12,7 @@ use crate::several::portion::{Combination, Portion, portions_of};
 use crate::several::runs::runs_in;
 use omf_check::Checked;
 use omf_frame::Name;
+use omf_names::NameKey;
 use std::alloc::{AllocError, Global};
 
 /// The parts of a program in DOS order.
@@ -40,6 +41,13 @@ pub(crate) struct Slot<'a> {
     pub attribute: u8,
 }
 
+/// Whether a class has a segment in DGROUP.
+fn is_inside<'a>(inside: &NameTable<'a>, class: &'a [u8]) -> bool
+    ensures { (names : List (List ℕ)) → IsNameTable inside.now names → result ≡ has_name names class.now }
+{
+    inside.contains_key(&NameKey::of(class))
+}
+
 /// Returns the part in which a class is.
 fn part_of<'a>(inside: &NameTable<'a>, class: &'a [u8]) -> DosPart
     ensures { (names : List (List ℕ)) → IsNameTable inside.now names → result ≡ part_of names class.now }
@@ -48,7 +56,7 @@ fn part_of<'a>(inside: &NameTable<'a>, class: &'a [u8]) -> DosPart
         DosPart::Code
     } else if class == b"STACK".as_slice() {
         DosPart::Stack
-    } else if inside.get(&class).is_none() {
+    } else if !is_inside(inside, class) {
         DosPart::Outside
     } else if class == b"BEGDATA".as_slice() {
         DosPart::Begin

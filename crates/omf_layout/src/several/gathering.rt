@@ -3,13 +3,14 @@
 ghost use Rattle.std.specs.Prelude.{◌≡◌, ◌<◌, ◌∷◌, ◌++◌, [], length, map, List, ℕ, OnOk, IfOk};
 ghost use Rattle.omf_layout.specs.Several.Gathered.{AreGathered, gathered, named, with_value};
 
+use omf_names::NameKey;
 use std::alloc::{AllocError, Global};
 use std::collections::BTreeMap;
 
 /// The groups so far: the position of each name, and the values at each position.
 #[derive(Drop)]
 struct Gathering<'a, T> {
-    places: BTreeMap<&'a [u8], usize>,
+    places: BTreeMap<NameKey<'a>, usize>,
     runs: Vec<Vec<T>>,
 }
 
@@ -38,10 +39,10 @@ impl<'a, T: Drop> Gathering<'a, T> {
         requires { (xs : List (List ℕ × T)) × AreGathered self.old.places (map (λ r. r.items) self.old.runs.items) xs }
         ensures { (xs : List (List ℕ × T)) → AreGathered self.old.places (map (λ r. r.items) self.old.runs.items) xs → OnOk result (AreGathered self.new.places (map (λ r. r.items) self.new.runs.items) (xs ++ (name.entry.now, value) ∷ [])) }
     {
-        match self.places.get(&name).copied() {
+        match self.places.get(&NameKey::of(name)).copied() {
             Some(place) => add_at(&mut self.runs, place, value),
             None => {
-                self.places.insert(name, self.runs.len())?;
+                self.places.insert(NameKey::of(name), self.runs.len())?;
                 add_run(alloc, &mut self.runs, value)
             }
         }

@@ -11,6 +11,7 @@ use crate::Frames;
 use crate::draft::group_name;
 use crate::several::portion::name_at;
 use omf_check::Checked;
+use omf_names::NameKey;
 use omf_placement::{Frame, Placed, lower, lowest_member};
 use omf_records::Rec;
 use std::alloc::{AllocError, Global};
@@ -19,7 +20,7 @@ use std::collections::BTreeMap;
 /// The places of the lowest members of groups, by group name.
 #[derive(Drop)]
 pub struct LowTable<'a> {
-    by_name: BTreeMap<&'a [u8], Placed>,
+    by_name: BTreeMap<NameKey<'a>, Placed>,
 }
 
 impl<'a> LowTable<'a> {
@@ -27,8 +28,8 @@ impl<'a> LowTable<'a> {
     fn add(&mut self, name: &'a [u8], place: Placed) -> Result<(), AllocError>
         ensures { OnOk result (HasMore self.old.by_name self.new.by_name ((name.entry.now, place) ∷ [])) }
     {
-        let low = lower(self.by_name.get(&name).copied(), place);
-        self.by_name.insert(name, low)?;
+        let low = lower(self.by_name.get(&NameKey::of(name)).copied(), place);
+        self.by_name.insert(NameKey::of(name), low)?;
         Ok(())
     }
 
@@ -85,7 +86,7 @@ impl<'a> LowTable<'a> {
     {
         match frames {
             Frames::Flat { selector } => Frame { base: 0, selector },
-            Frames::Real => match self.by_name.get(&name) {
+            Frames::Real => match self.by_name.get(&NameKey::of(name)) {
                 Some(place) => place.frame,
                 None => Frame {
                     base: 0,

@@ -1,8 +1,7 @@
 -- The table of the definers of names.
 use Rattle.std.specs.Prelude.{◌≡◌, ℕ, Bool, List, Option, Some, None, option_map, if◌then◌else◌}
 use Rattle.std.specs.BTreeMap.{get_by}
-use Rattle.std.specs.Cmp.Lexicographic.{slice_cmp}
-use Rattle.std.specs.Ordering.{nat_cmp}
+use Rattle.omf_names.specs.Names.{name_cmp}
 use Rattle.omf_library.specs.Needed.{Linkage, Offer, offer, has_name, is_defined, definer}
 use Rattle.omf_library.specs.declared.needed.search.Definer.{Definer}
 use Rattle.omf_library.specs.declared.needed.search.Definer.TheVariants.{Given, Member}
@@ -10,7 +9,7 @@ use Rattle.omf_library.specs.declared.needed.search.Definers.{Definers}
 use Rattle.omf_library.specs.declared.needed.search.Search.{Search}
 
 abbrev pub found_at : Definers → List ℕ → Option Definer
-found_at t name = get_by (λ k. slice_cmp nat_cmp name k.now) t.by_name
+found_at t name = get_by (λ k. name_cmp name k.now) t.by_name
 
 -- The first of two, if there is one.
 abbrev pub first_some : {A : Type 0} → Option A → Option A → Option A

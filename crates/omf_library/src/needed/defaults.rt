@@ -8,6 +8,7 @@ ghost use Rattle.omf_library.specs.Inner.Asked.{HasAsked};
 ghost use Rattle.omf_library.specs.Inner.Names.{names_seen};
 
 use omf_check::Checked;
+use omf_names::NameKey;
 use omf_records::Rec;
 use std::alloc::{AllocError, Global};
 use std::collections::BTreeMap;
@@ -19,7 +20,7 @@ const DEFAULT_LIBRARY: u8 = 0x9F;
 #[derive(Drop)]
 struct Asked<'a> {
     /// Those so far, to look them up.
-    known: BTreeMap<&'a [u8], ()>,
+    known: BTreeMap<NameKey<'a>, ()>,
     /// The same in order.
     names: Vec<&'a [u8]>,
 }
@@ -29,10 +30,10 @@ impl<'a> Asked<'a> {
     fn add(&mut self, name: &'a [u8]) -> Result<(), AllocError>
         ensures { (done : List (List ℕ)) → HasAsked self.old done → OnOk result (HasAsked self.new (done ++ name.entry.now ∷ [])) }
     {
-        if self.known.get(&name).is_some() {
+        if self.known.get(&NameKey::of(name)).is_some() {
             return Ok(());
         }
-        self.known.insert(name, ())?;
+        self.known.insert(NameKey::of(name), ())?;
         self.names.push(name)?;
         Ok(())
     }

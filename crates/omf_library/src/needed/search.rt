@@ -7,6 +7,7 @@ ghost use Rattle.omf_library.specs.Inner.Search.{HasMore, IsReady, IsTable, numb
 
 use crate::needed::names::{Side, names_of};
 use omf_check::Checked;
+use omf_names::NameKey;
 use std::alloc::{AllocError, Global};
 use std::collections::BTreeMap;
 
@@ -22,7 +23,7 @@ pub(crate) enum Definer {
 /// The first definer of each name.
 #[derive(Drop)]
 pub(crate) struct Definers<'a> {
-    by_name: BTreeMap<&'a [u8], Definer>,
+    by_name: BTreeMap<NameKey<'a>, Definer>,
 }
 
 /// The modules and members, and the first definer of each name.
@@ -38,10 +39,9 @@ impl<'a> Definers<'a> {
     fn add(&mut self, name: &'a [u8], definer: Definer) -> Result<(), AllocError>
         ensures { OnOk result (HasMore self.old self.new (name.entry.now ∷ []) definer) }
     {
-        if self.by_name.get(&name).is_some() {
-            return Ok(());
+        if let Some(first) = self.by_name.insert(NameKey::of(name), definer)? {
+            self.by_name.insert(NameKey::of(name), first)?;
         }
-        self.by_name.insert(name, definer)?;
         Ok(())
     }
 
@@ -131,6 +131,6 @@ impl<'a> Search<'a> {
         requires { IsReady self.now }
         ensures { result ≡ member_of (offered self.now) name.entry.now }
     {
-        number_of(self.definers.by_name.get(&name).copied())
+        number_of(self.definers.by_name.get(&NameKey::of(name)).copied())
     }
 }

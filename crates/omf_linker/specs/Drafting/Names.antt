@@ -1,11 +1,10 @@
 -- The names that publics define, and those that an external sees (TIS OMF 1.1, "PUBDEF", "LPUBDEF").
-use Rattle.std.specs.Prelude.{◌≡◌, ℕ, List, [], ◌∷◌, ◌++◌, map, flat_map, Bool, true, false, ◌||◌, bytes_eq, is_some, if◌then◌else◌}
-use Rattle.std.specs.BTreeMap.{BTreeMap, get_by}
-use Rattle.std.specs.Cmp.Lexicographic.{slice_cmp}
-use Rattle.std.specs.Ordering.{nat_cmp}
-use denote.Ref.{Bor}
+use Rattle.std.specs.Prelude.{◌≡◌, ◌≤◌, ℕ, suc, List, [], ◌∷◌, ◌++◌, map, flat_map, Bool, true, false, ◌||◌, bytes_eq, is_some, if◌then◌else◌}
+use Rattle.std.specs.BTreeMap.{get_by}
+use Rattle.omf_names.specs.Names.{name_cmp}
 use Rattle.omf_frame.specs.Types.{is_local}
 use Rattle.omf_records.specs.Values.{At, Rec, Contents, Publics, PublicItem}
+use Rattle.omf_linker.specs.declared.drafting.names.NameTable.{NameTable}
 
 -- The names that a record defines.
 abbrev pub names_of : List (At PublicItem) → List (List ℕ)
@@ -36,10 +35,19 @@ abbrev pub has_name : List (List ℕ) → List ℕ → Bool
 has_name [] name = false
 has_name (x ∷ xs) name = bytes_eq x name || has_name xs name
 
--- A table has these names.
-abbrev pub IsNameTable : BTreeMap (Bor (List ℕ)) (Unit {0}) → List (List ℕ) → Type 0
-IsNameTable m names = (name : List ℕ) → is_some (get_by (λ k. slice_cmp nat_cmp name k.now) m) ≡ has_name names name
+-- How often a list has a name; and no name twice.
+abbrev pub count_of : List (List ℕ) → List ℕ → ℕ
+count_of [] name = 0
+count_of (x ∷ xs) name = if bytes_eq x name then suc (count_of xs name) else count_of xs name
+
+abbrev pub AreApart : List (List ℕ) → Type 0
+AreApart names = (name : List ℕ) → count_of names name ≤ 1
+
+-- A table has these names, and knows whether one of them was added twice.
+pub record IsNameTable (t : NameTable) (names : List (List ℕ)) : Type 0 where
+  pub found : (name : List ℕ) → is_some (get_by (λ k. name_cmp name k.now) t.names) ≡ has_name names name
+  pub apart : t.repeats ≡ false → AreApart names
 
 -- A table has these names in addition to those of another.
-abbrev pub HasMore : BTreeMap (Bor (List ℕ)) (Unit {0}) → BTreeMap (Bor (List ℕ)) (Unit {0}) → List (List ℕ) → Type 0
-HasMore m n more = (names : List (List ℕ)) → IsNameTable m names → IsNameTable n (names ++ more)
+abbrev pub HasMore : NameTable → NameTable → List (List ℕ) → Type 0
+HasMore t u more = (names : List (List ℕ)) → IsNameTable t names → IsNameTable u (names ++ more)

@@ -1,5 +1,5 @@
 -- The module that a linker puts before the modules of a program for DOS order (this profile's rule).
-use Rattle.std.specs.Prelude.{◌≡◌, ⊤, ◌<◌, List, ◌∷◌, Ok, Err}
+use Rattle.std.specs.Prelude.{◌≡◌, List, ◌∷◌, Ok, Err}
 use Rattle.omf_check.specs.Checking.{Decides}
 use Rattle.omf_check.specs.Module.{Module, typed_modules}
 use Rattle.omf_check.specs.declared.fault.CheckFault.TheVariants.{Refused}

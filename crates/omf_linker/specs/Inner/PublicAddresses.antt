@@ -1,9 +1,8 @@
 -- A table of the addresses of publics by name. Its entry for a name sums up the publics of the name.
 use Rattle.std.specs.Prelude.{◌≡◌, ℕ, List, [], ◌∷◌, ◌++◌, filter_map, Option, Some, None}
 use Rattle.std.specs.BTreeMap.{BTreeMap, get_by}
-use Rattle.std.specs.Cmp.Lexicographic.{slice_cmp}
-use Rattle.std.specs.Ordering.{nat_cmp}
 use denote.Ref.{Bor}
+use Rattle.omf_names.specs.Names.{name_cmp}
 use Rattle.omf_linker.specs.Map.Addresses.{NamedAddress, of_name, publics_at}
 use Rattle.omf_records.specs.Values.{At, PublicItem}
 
@@ -23,7 +22,7 @@ abbrev pub Table : Type 0
 Table = BTreeMap (Bor (List ℕ)) (Option ℕ)
 
 abbrev pub IsTable : Table → List NamedAddress → Type 0
-IsTable m among = (name : List ℕ) → get_by (λ k. slice_cmp nat_cmp name k.now) m ≡ summed (filter_map (of_name name) among)
+IsTable m among = (name : List ℕ) → get_by (λ k. name_cmp name k.now) m ≡ summed (filter_map (of_name name) among)
 
 abbrev pub HasMore : Table → Table → List NamedAddress → Type 0
 HasMore m n more = (among : List NamedAddress) → IsTable m among → IsTable n (among ++ more)

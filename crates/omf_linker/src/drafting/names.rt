@@ -5,9 +5,10 @@ ghost use Rattle.omf_check.specs.Module.{recs_of, typed_modules};
 ghost use Rattle.omf_frame.specs.Types.{is_local};
 ghost use Rattle.omf_records.specs.Inner.Seen.{contents_seen, kind_seen};
 ghost use Rattle.omf_records.specs.Values.{Contents};
-ghost use Rattle.omf_linker.specs.Drafting.Names.{HasMore, IsNameTable, all_names, has_name, names_asked, names_in, names_of, public_names};
+ghost use Rattle.omf_linker.specs.Drafting.Names.{AreApart, HasMore, IsNameTable, all_names, has_name, names_asked, names_in, names_of, public_names};
 
 use omf_check::Checked;
+use omf_names::NameKey;
 use omf_records::{Items, Public, Rec};
 use std::alloc::{AllocError, Global};
 use std::collections::BTreeMap;
@@ -31,31 +32,34 @@ pub(crate) fn has_asked(local: bool, kind: u8) -> bool
     }
 }
 
-/// Names, each once.
+/// Names, each once, and whether one of them was added twice.
 #[derive(Drop)]
 pub struct NameTable<'a> {
-    names: BTreeMap<&'a [u8], ()>,
+    names: BTreeMap<NameKey<'a>, ()>,
+    repeats: bool,
 }
 
 impl<'a> NameTable<'a> {
     /// Adds a name.
     fn add(&mut self, name: &'a [u8]) -> Result<(), AllocError>
-        ensures { OnOk result (HasMore self.old.names self.new.names (name.entry.now ∷ [])) }
+        ensures { OnOk result (HasMore self.old self.new (name.entry.now ∷ [])) }
     {
-        self.names.insert(name, ())?;
+        if self.names.insert(NameKey::of(name), ())?.is_some() {
+            self.repeats = true;
+        }
         Ok(())
     }
 
     /// Adds the name of a public.
     fn add_public(&mut self, public: &Public<'a>) -> Result<(), AllocError>
-        ensures { OnOk result (HasMore self.old.names self.new.names (public.now.name ∷ [])) }
+        ensures { OnOk result (HasMore self.old self.new (public.now.name ∷ [])) }
     {
         self.add(public.name.0)
     }
 
     /// Adds the names of publics.
     fn add_items(&mut self, items: Items<Public<'a>>) -> Result<(), AllocError>
-        ensures { OnOk result (HasMore self.old.names self.new.names (names_of items.entry)) }
+        ensures { OnOk result (HasMore self.old self.new (names_of items.entry)) }
     {
         for public in items {
             self.add_public(&public.item)?;
@@ -65,7 +69,7 @@ impl<'a> NameTable<'a> {
 
     /// Adds the names of a record's publics.
     fn add_record(&mut self, rec: &Rec<'a>) -> Result<(), AllocError>
-        ensures { OnOk result (HasMore self.old.names self.new.names (names_in (contents_seen rec.now))) }
+        ensures { OnOk result (HasMore self.old self.new (names_in (contents_seen rec.now))) }
     {
         match rec {
             Rec::Publics { publics, .. } => self.add_items(publics.iter()),
@@ -91,7 +95,7 @@ impl<'a> NameTable<'a> {
     /// Adds the names of a record's publics if they are of the kind asked for.
     #[tactic(auto, using(crate::proofs::NameLaws::none_more, crate::proofs::NameLaws::same_more))]
     fn add_asked(&mut self, local: bool, rec: &Rec<'a>) -> Result<(), AllocError>
-        ensures { OnOk result (HasMore self.old.names self.new.names (names_asked local (kind_seen rec.now) (contents_seen rec.now))) }
+        ensures { OnOk result (HasMore self.old self.new (names_asked local (kind_seen rec.now) (contents_seen rec.now))) }
     {
         if !has_asked(local, rec.kind()) {
             return Ok(());
@@ -101,7 +105,7 @@ impl<'a> NameTable<'a> {
 
     /// Adds the names of a module's local publics, or of the others.
     fn add_module(&mut self, local: bool, module: &'a Checked) -> Result<(), AllocError>
-        ensures { OnOk result (HasMore self.old.names self.new.names (public_names local (recs_of «module».entry.now.bytes))) }
+        ensures { OnOk result (HasMore self.old self.new (public_names local (recs_of «module».entry.now.bytes))) }
     {
         for (_, rec) in module.records() {
             self.add_asked(local, &rec)?;
@@ -111,10 +115,11 @@ impl<'a> NameTable<'a> {
 
     /// Returns the names of the local publics of a module.
     pub fn of_locals(alloc: Global, module: &'a Checked) -> Result<NameTable<'a>, AllocError>
-        ensures { IfOk result (λ t. IsNameTable t.names (public_names true (recs_of «module».entry.now.bytes))) }
+        ensures { IfOk result (λ t. IsNameTable t (public_names true (recs_of «module».entry.now.bytes))) }
     {
         let mut table = NameTable {
             names: BTreeMap::new(alloc),
+            repeats: false,
         };
         table.add_module(true, module)?;
         Ok(table)
@@ -122,10 +127,11 @@ impl<'a> NameTable<'a> {
 
     /// Returns the names of the publics of all modules that are not local.
     pub fn of(alloc: Global, modules: &'a [Checked]) -> Result<NameTable<'a>, AllocError>
-        ensures { IfOk result (λ t. IsNameTable t.names (all_names (typed_modules modules.entry.now))) }
+        ensures { IfOk result (λ t. IsNameTable t (all_names (typed_modules modules.entry.now))) }
     {
         let mut table = NameTable {
             names: BTreeMap::new(alloc),
+            repeats: false,
         };
         for module in modules {
             table.add_module(false, module)?;
@@ -135,8 +141,15 @@ impl<'a> NameTable<'a> {
 
     /// Returns whether a name is in the table.
     pub fn has(&self, name: &'a [u8]) -> bool
-        ensures { (names : List (List ℕ)) → IsNameTable self.now.names names → result ≡ has_name names name.now }
+        ensures { (names : List (List ℕ)) → IsNameTable self.now names → result ≡ has_name names name.now }
     {
-        self.names.get(&name).is_some()
+        self.names.contains_key(&NameKey::of(name))
+    }
+
+    /// Returns whether a name was added twice.
+    pub fn repeats(&self) -> bool
+        ensures { (names : List (List ℕ)) → IsNameTable self.now names → result ≡ false → AreApart names }
+    {
+        self.repeats
     }
 }

@@ -266,7 +266,7 @@ fn print_wanted(
 /// Returns whether an external sees a public of its name: among the publics of all modules, or if it is local among its module's own
 /// local ones.
 fn is_public<'a>(all: &NameTable<'a>, own: &NameTable<'a>, name: &'a [u8], local: bool) -> bool
-    ensures { (among : Bool → List (List ℕ)) → IsNameTable all.now.names (among false) → IsNameTable own.now.names (among true) → result ≡ has_name (among local) name.now }
+    ensures { (among : Bool → List (List ℕ)) → IsNameTable all.now (among false) → IsNameTable own.now (among true) → result ≡ has_name (among local) name.now }
 {
     if local { own.has(name) } else { all.has(name) }
 }
@@ -300,7 +300,7 @@ fn print_wanted_lines<'a>(
     requires keys { AreKeys (recs_of «module».now.bytes) Externals keys.now.by_name.items keys.now.by_class.items }
     requires asked { asked.now ≡ rooms (recs_of «module».now.bytes) }
     requires as_many { length asked.now ≡ length (externals (recs_of «module».now.bytes)) }
-    ensures { (among : Bool → List (List ℕ)) → IsNameTable all.now.names (among false) → IsNameTable own.now.names (among true) → AddsText result (string_bytes text.old) (string_bytes text.new) (wanted_lines among (recs_of «module».entry.now.bytes)) }
+    ensures { (among : Bool → List (List ℕ)) → IsNameTable all.now (among false) → IsNameTable own.now (among true) → AddsText result (string_bytes text.old) (string_bytes text.new) (wanted_lines among (recs_of «module».entry.now.bytes)) }
 {
     for before in 0..module.externals() {
         let index = before + 1;
@@ -325,7 +325,7 @@ fn print_wanted_part<'a>(
     module: &'a Checked,
     all: &NameTable<'a>,
 ) -> Result<(), AllocError>
-    ensures { (among : Bool → List (List ℕ)) → IsNameTable all.now.names (among false) → among true ≡ public_names true (recs_of «module».entry.now.bytes) → AddsText result (string_bytes text.old) (string_bytes text.new) (wanted_lines among (recs_of «module».entry.now.bytes)) }
+    ensures { (among : Bool → List (List ℕ)) → IsNameTable all.now (among false) → among true ≡ public_names true (recs_of «module».entry.now.bytes) → AddsText result (string_bytes text.old) (string_bytes text.new) (wanted_lines among (recs_of «module».entry.now.bytes)) }
 {
     let rooms = rooms_of(alloc, module)?;
     let own = NameTable::of_locals(alloc, module)?;
@@ -348,7 +348,7 @@ pub fn print_part<'a>(
     ensures few_groups { OnOk result (length (groups (recs_of «module».now.bytes)) < 2 ^ 32) }
     ensures segments { OnOk result (All IsShortPlace placement.now.segments) }
     ensures groups { OnOk result (All IsShortFrame placement.now.groups) }
-    ensures text { (among : Bool → List (List ℕ)) → IsNameTable all.now.names (among false) → among true ≡ public_names true (recs_of «module».entry.now.bytes) → AddsText result (string_bytes text.old) (string_bytes text.new) (part_text frames among (recs_of «module».entry.now.bytes) placement.now) }
+    ensures text { (among : Bool → List (List ℕ)) → IsNameTable all.now (among false) → among true ≡ public_names true (recs_of «module».entry.now.bytes) → AddsText result (string_bytes text.old) (string_bytes text.new) (part_text frames among (recs_of «module».entry.now.bytes) placement.now) }
 {
     print_segment_lines(alloc, text, module, frames, placement)?;
     print_group_lines(alloc, text, module, placement)?;

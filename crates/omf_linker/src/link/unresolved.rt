@@ -11,6 +11,7 @@ ghost use Rattle.omf_placement.specs.Derive.{named_externals};
 ghost use Rattle.omf_linker.specs.Link.Repeated.{IsRepeatedText, repeated_line};
 ghost use Rattle.omf_linker.specs.Link.Unresolved.{IsByName, Row, after, all_rows, asked_text, external_text, found_text, is_first, is_last, is_same, label_of, module_text, modules_text, name_line, next_text, spots_of, unresolved_text};
 
+use crate::drafting::names::NameTable;
 use crate::link::by_name::{ByName, External, Spot, external_at};
 use crate::link::settled::{Settled, all_settled, is_settled};
 use omf_check::Checked;
@@ -320,8 +321,11 @@ pub fn repeated_text(
     requires { length modules.now < 2 ^ 32 }
     ensures { IfOk result (λ t. IsRepeatedText (map string_bytes labels.now) (all_rows (typed_modules modules.now)) (string_bytes t)) }
 {
-    let publics = ByName::of(alloc, modules)?;
     let mut text = String::new(alloc);
+    if !NameTable::of(alloc, modules)?.repeats() {
+        return Ok(text);
+    }
+    let publics = ByName::of(alloc, modules)?;
     put_all_repeated(&mut text, labels, &publics)?;
     Ok(text)
 }

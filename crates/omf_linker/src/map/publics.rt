@@ -9,6 +9,7 @@ ghost use Rattle.omf_linker.specs.Map.Addresses.{NamedAddress, all_given, base_a
 use crate::map::addresses::given_addresses;
 use omf_check::{Checked, entry_of};
 use omf_linking::locator::Sparse;
+use omf_names::NameKey;
 use omf_records::{Items, Public, Rec};
 use std::alloc::{AllocError, Global};
 use std::collections::BTreeMap;
@@ -100,7 +101,7 @@ fn address_after(address: Option<u64>, found: Option<Option<u64>>) -> Option<u64
 /// The addresses of publics by name; none where two publics have the name, or the only one has no address.
 #[derive(Drop)]
 pub(crate) struct PublicAddresses<'a> {
-    by_name: BTreeMap<&'a [u8], Option<u64>>,
+    by_name: BTreeMap<NameKey<'a>, Option<u64>>,
 }
 
 impl<'a> PublicAddresses<'a> {
@@ -108,8 +109,8 @@ impl<'a> PublicAddresses<'a> {
     fn add(&mut self, name: &'a [u8], address: Option<u64>) -> Result<(), AllocError>
         ensures { OnOk result (HasMore self.old.by_name self.new.by_name ((name.entry.now, address) ∷ [])) }
     {
-        let found = address_after(address, self.by_name.get(&name).copied());
-        self.by_name.insert(name, found)?;
+        let found = address_after(address, self.by_name.get(&NameKey::of(name)).copied());
+        self.by_name.insert(NameKey::of(name), found)?;
         Ok(())
     }
 
@@ -206,13 +207,13 @@ impl<'a> PublicAddresses<'a> {
     pub(crate) fn lacks(&self, name: &'a [u8]) -> bool
         ensures { (among : List NamedAddress) → IsTable self.now.by_name among → result ≡ is_unnamed (filter_map (of_name name.now) among) }
     {
-        self.by_name.get(&name).is_none()
+        !self.by_name.contains_key(&NameKey::of(name))
     }
 
     /// The address of the one public of a name; none if there is no public, or more than one.
     pub(crate) fn address(&self, name: &'a [u8]) -> Option<u64>
         ensures { (among : List NamedAddress) → IsTable self.now.by_name among → result ≡ named_address among name.now }
     {
-        self.by_name.get(&name).copied()?
+        self.by_name.get(&NameKey::of(name)).copied()?
     }
 }

@@ -2,10 +2,9 @@
 -- number.
 use Rattle.std.specs.Prelude.{◌≡◌, ℕ, ◌+◌, List, [], ◌∷◌, ◌++◌, flat_map, map, Bool, true, false, ◌&&◌, ◌||◌, not, Option, Some, None, option_map, unwrap_or, is_some, bytes_eq, codes, decimal, if◌then◌else◌}
 use Rattle.std.specs.BTreeMap.{BTreeMap, get_by}
-use Rattle.std.specs.Cmp.Lexicographic.{slice_cmp}
 use Rattle.std.specs.List.{range_with_len}
-use Rattle.std.specs.Ordering.{nat_cmp}
 use denote.Ref.{Bor}
+use Rattle.omf_names.specs.Names.{name_cmp}
 use Rattle.omf_records.specs.Values.{Rec}
 use Rattle.omf_placement.specs.Quoted.{escaped, quoted}
 use Rattle.omf_reloc.specs.declared.fault.Kind.{Kind}
@@ -68,7 +67,7 @@ module_texts ms = map (λ m. quoted (module_name m)) ms
 
 -- A table of texts: each once, with whether it is repeated.
 abbrev pub IsTextTable : BTreeMap (Bor (List ℕ)) Bool → List (List ℕ) → Type 0
-IsTextTable m texts = (text : List ℕ) → get_by (λ k. slice_cmp nat_cmp text k.now) m ≡ (if has_text texts text then Some (is_repeated texts text) else None)
+IsTextTable m texts = (text : List ℕ) → get_by (λ k. name_cmp text k.now) m ≡ (if has_text texts text then Some (is_repeated texts text) else None)
 
 -- The key of that form: the names as they are between quotes.
 abbrev pub spelled : Option (List ℕ) → List ℕ

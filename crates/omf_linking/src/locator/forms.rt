@@ -17,6 +17,7 @@ use crate::locator::keys::{class_name, entry_count, entry_name, module_name};
 use omf_check::{Checked, entry_of};
 use omf_frame::Name;
 use omf_layout::printing::{print_name, print_quoted};
+use omf_names::NameKey;
 use omf_reloc::Kind;
 use std::alloc::{AllocError, Global};
 use std::collections::BTreeMap;
@@ -110,7 +111,7 @@ fn key_texts(
 /// Texts, each once, with whether it is repeated.
 #[derive(Drop)]
 pub struct TextTable<'a> {
-    repeated: BTreeMap<&'a [u8], bool>,
+    repeated: BTreeMap<NameKey<'a>, bool>,
 }
 
 impl<'a> TextTable<'a> {
@@ -118,8 +119,8 @@ impl<'a> TextTable<'a> {
     fn add(&mut self, text: &'a [u8]) -> Result<(), AllocError>
         ensures { OnOk result ((texts : List (List ℕ)) → IsTextTable self.old.repeated texts → IsTextTable self.new.repeated (texts ++ text.entry.now ∷ [])) }
     {
-        let again = self.repeated.contains_key(&text);
-        self.repeated.insert(text, again)?;
+        let again = self.repeated.contains_key(&NameKey::of(text));
+        self.repeated.insert(NameKey::of(text), again)?;
         Ok(())
     }
 
@@ -140,7 +141,10 @@ impl<'a> TextTable<'a> {
     pub fn is_repeated(&self, text: &'a [u8]) -> bool
         ensures { (texts : List (List ℕ)) → IsTextTable self.now.repeated texts → result ≡ is_repeated texts text.now }
     {
-        self.repeated.get(&text).copied().unwrap_or(false)
+        self.repeated
+            .get(&NameKey::of(text))
+            .copied()
+            .unwrap_or(false)
     }
 }
 

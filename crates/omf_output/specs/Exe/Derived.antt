@@ -2,9 +2,8 @@
 use Rattle.std.specs.Prelude.{◌≡◌, ◌⊎◌, ℕ, List, [], map, flat_map, filter_map, length, not, zip, Bool, true, false, Option, Some, None, option_and_then, option_map, unwrap_or, Ok, Err, bytes_eq, ◌==◌, ◌&&◌, ◌++◌, Result, if◌then◌else◌}
 use Rattle.std.specs.List.{range_with_len}
 use Rattle.std.specs.BTreeMap.{BTreeMap, get_by}
-use Rattle.std.specs.Ordering.{nat_cmp}
-use Rattle.std.specs.Cmp.Lexicographic.{slice_cmp}
 use denote.Ref.{Bor}
+use Rattle.omf_names.specs.Names.{name_cmp}
 use Rattle.omf_records.specs.Values.{GroupItem, Rec}
 use Rattle.omf_check.specs.Tables.{entry, groups, names}
 use Rattle.omf_placement.specs.declared.frame.Frame.{Frame}
@@ -66,7 +65,7 @@ names_moving ls m = map (λ g. name_moves ls (name_at m g.name.item)) (groups m)
 
 -- A table of lowest marked places by name; one with these places in addition to those of another.
 abbrev pub IsLowTable : BTreeMap (Bor (List ℕ)) Placed → List Named → Type 0
-IsLowTable m ls = (name : List ℕ) → get_by (λ k. slice_cmp nat_cmp name k.now) m ≡ lowest (of_name ls name)
+IsLowTable m ls = (name : List ℕ) → get_by (λ k. name_cmp name k.now) m ≡ lowest (of_name ls name)
 
 abbrev pub HasMore : BTreeMap (Bor (List ℕ)) Placed → BTreeMap (Bor (List ℕ)) Placed → List Named → Type 0
 HasMore m n more = (ls : List Named) → IsLowTable m ls → IsLowTable n (ls ++ more)

@@ -10,6 +10,7 @@ ghost use Rattle.omf_output.specs.Exe.Based.{is_movable, segments_moving};
 ghost use Rattle.omf_output.specs.Exe.Derived.{HasMore, IsLowTable, Named, low_of, lows, lows_in, marked, marks, name_at, name_moves, names_moving};
 
 use omf_check::{Checked, SegInfo};
+use omf_names::NameKey;
 use omf_placement::{Frame, Placed, Placement, lower, lowest_member};
 use omf_records::Rec;
 use std::alloc::{AllocError, Global};
@@ -89,7 +90,7 @@ fn group_name(group: &Rec<'_>) -> u16
 /// The marked places of the lowest members of groups, by group name.
 #[derive(Drop)]
 pub(crate) struct LowTable<'a> {
-    by_name: BTreeMap<&'a [u8], Placed>,
+    by_name: BTreeMap<NameKey<'a>, Placed>,
 }
 
 impl<'a> LowTable<'a> {
@@ -97,8 +98,8 @@ impl<'a> LowTable<'a> {
     fn add(&mut self, name: &'a [u8], place: Placed) -> Result<(), AllocError>
         ensures { OnOk result (HasMore self.old.by_name self.new.by_name ((name.entry.now, place) ∷ [])) }
     {
-        let low = lower(self.by_name.get(&name).copied(), place);
-        self.by_name.insert(name, low)?;
+        let low = lower(self.by_name.get(&NameKey::of(name)).copied(), place);
+        self.by_name.insert(NameKey::of(name), low)?;
         Ok(())
     }
 
@@ -166,7 +167,7 @@ impl<'a> LowTable<'a> {
     fn name_moves(&self, name: &'a [u8]) -> bool
         ensures { (ls : List Named) → IsLowTable self.now.by_name ls → result ≡ name_moves ls name.now }
     {
-        match self.by_name.get(&name) {
+        match self.by_name.get(&NameKey::of(name)) {
             Some(place) => place.frame.selector == 1,
             None => false,
         }

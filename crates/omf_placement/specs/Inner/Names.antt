@@ -3,9 +3,8 @@
 use Rattle.omf_placement.specs.Entries.{Entry}
 use Rattle.std.specs.Option.{option_map_or}
 use Rattle.std.specs.Prelude.{filter_map, List, ℕ, Option, is_some, None, Some, nat_le, if◌then◌else◌, Result, Ok, Err, slice_get}
-use Rattle.omf_placement.specs.PlacementText.{line_entries, resolved_group}
+use Rattle.omf_placement.specs.PlacementText.{line_entries}
 use Rattle.omf_placement.specs.declared.frame.Frame.{Frame}
-use Rattle.omf_records.specs.Values.{Rec}
 use Rattle.omf_placement.specs.Placement.{Placed}
 
 abbrev pub ok_or_first : {A : Type 0} → A → List ℕ → Result A ℕ

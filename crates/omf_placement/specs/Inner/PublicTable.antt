@@ -1,8 +1,7 @@
 -- A table of publics by name. Its entry for a name sums up the publics with that name.
 use Rattle.std.specs.Prelude.{◌≡◌, ℕ, List, [], ◌∷◌, ◌++◌, filter_map, Option, Some, None, bytes_eq, if◌then◌else◌}
-use Rattle.std.specs.Ordering.{nat_cmp}
 use Rattle.std.specs.BTreeMap.{BTreeMap, get_by}
-use Rattle.std.specs.Cmp.Lexicographic.{slice_cmp}
+use Rattle.omf_names.specs.Names.{name_cmp}
 use denote.Ref.{Bor}
 use Rattle.omf_placement.specs.declared.several.publics.Found.{Found}
 use Rattle.omf_placement.specs.declared.several.publics.Found.TheVariants.{One, Several}
@@ -24,7 +23,7 @@ found_after p (Some f) = Several
 
 -- A table holds these publics.
 abbrev pub IsTable : BTreeMap (Bor (List ℕ)) Found → List PlacedPublic → Type 0
-IsTable m among = (name : List ℕ) → get_by (λ k. slice_cmp nat_cmp name k.now) m ≡ summed (filter_map (of_name name) among)
+IsTable m among = (name : List ℕ) → get_by (λ k. name_cmp name k.now) m ≡ summed (filter_map (of_name name) among)
 
 -- The second table holds these publics in addition to those of the first.
 abbrev pub HasMore : BTreeMap (Bor (List ℕ)) Found → BTreeMap (Bor (List ℕ)) Found → List PlacedPublic → Type 0

@@ -13,6 +13,7 @@ use crate::placement::Placement;
 use crate::several::fault::DeriveFault;
 use omf_check::Checked;
 use omf_frame::Index;
+use omf_names::NameKey;
 use omf_records::{Items, Public, Rec};
 use std::alloc::{AllocError, Global};
 use std::collections::BTreeMap;
@@ -137,7 +138,7 @@ pub(crate) fn publics_of<'a>(
 /// Publics by name.
 #[derive(Drop)]
 pub struct PublicTable<'a> {
-    by_name: BTreeMap<&'a [u8], Found>,
+    by_name: BTreeMap<NameKey<'a>, Found>,
 }
 
 /// The publics with one name after one more is added.
@@ -155,8 +156,10 @@ impl<'a> PublicTable<'a> {
     fn add(&mut self, name: &'a [u8], address: u64, frame: Frame) -> Result<(), AllocError>
         ensures { OnOk result (HasMore self.old.by_name self.new.by_name (public_at name.entry.now address frame ∷ [])) }
     {
-        let found = with_one_more(self.by_name.get(&name).copied(), address, frame);
-        self.by_name.insert(name, found)?;
+        let one = Found::One { address, frame };
+        if self.by_name.insert(NameKey::of(name), one)?.is_some() {
+            self.by_name.insert(NameKey::of(name), Found::Several)?;
+        }
         Ok(())
     }
 
@@ -250,7 +253,11 @@ impl<'a> PublicTable<'a> {
     ) -> Result<Placed, DeriveFault>
         ensures { (among : List PlacedPublic) → IsTable self.now.by_name among → result ≡ one_public «module» external (filter_map (of_name name.now) among) }
     {
-        place_found(self.by_name.get(&name).copied(), module, external)
+        place_found(
+            self.by_name.get(&NameKey::of(name)).copied(),
+            module,
+            external,
+        )
     }
 }
 

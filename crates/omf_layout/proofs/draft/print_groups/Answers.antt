@@ -1,4 +1,4 @@
-use Rattle.std.proofs.Common.{◌≡◌, ◌+◌, refl, sym, arith, rules}
+use Rattle.std.proofs.Common.{◌≡◌, ◌+◌, refl, arith, rules}
 use Rattle.std.specs.Prelude.{Some, option_map}
 use Rattle.std.specs.List.{zip}
 use Rattle.omf_check.specs.Module.{records_in}

@@ -1,4 +1,4 @@
-use Rattle.std.proofs.Common.{◌≡◌, ◌+◌, ◌∙◌, sym, true, false, rules}
+use Rattle.std.proofs.Common.{◌≡◌, ◌+◌, true, false, rules}
 use Rattle.std.specs.Prelude.{Some, bytes_eq}
 use Rattle.omf_check.specs.Module.{records_in}
 use Rattle.omf_check.specs.Tables.{externals, entry}

@@ -1,4 +1,4 @@
-use Rattle.std.proofs.Common.{◌+◌, ◌*◌, ◌∷◌, []}
+use Rattle.std.proofs.Common.{◌+◌, ◌*◌}
 use Rattle.std.specs.Prelude.{codes}
 use Rattle.omf_layout.specs.Own.Written.{empty_group_record, name_record}
 use Rattle.omf_layout.proofs.OrderModule.{two-records}

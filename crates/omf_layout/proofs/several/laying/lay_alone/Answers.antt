@@ -1,4 +1,4 @@
-use Rattle.std.proofs.Common.{ap, sym, ◌∙◌, ◌+◌, arith}
+use Rattle.std.proofs.Common.{ap, sym, arith}
 use Rattle.std.specs.Prelude.{option_map}
 use Rattle.omf_layout.specs.Several.Laying.{alone_laid, lying_there}
 use Rattle.omf_layout.proofs.SeveralLaws.LayingLaws.{next-laid, no-room}

@@ -27,7 +27,7 @@ loop-before-preserved c =
     let named : entry (named_externals m) (j + 1) ≡ Some (c.in-Some.name, local) = named-entry m (j + 1) c.in-Some.name (omega arith) told in
     let form : c.form-form.result ≡ key_form m kinds.External (j + 1)
     = c.form-form.ensures m kinds.External c.requires.keys (omega arith) (omega (arith, c.loop-before-test.true, c.loop-before.invariant.end)) in
-    let seen : (among : Bool → List (List ℕ)) → IsNameTable c.args.all.now.names (among false) → IsNameTable c.args.own.now.names (among true) → c.is_public-seen.result ≡ has_name (among local) c.in-Some.name
+    let seen : (among : Bool → List (List ℕ)) → IsNameTable c.args.all.now (among false) → IsNameTable c.args.own.now (among true) → c.is_public-seen.result ≡ has_name (among local) c.in-Some.name
     = λ among h k. c.is_public-seen.ensures among h k ∙ ap₂ (λ (n : List ℕ) (b : Bool). has_name (among b) n) c.name.view_is same_local in
     record {
       end = c.loop-before.invariant.end;

@@ -14,5 +14,5 @@ use Rattle.omf_linker.proofs.drafting.part.print_wanted_lines.Given as goal
 abbrev pub invariant-loop-before : goal.invariant-loop-before
 invariant-loop-before l = let m = recs (records_in l.«module».bytes) in record {
   end : l.before-end ≡ length (externals m);
-  lines : (among : Bool → List (List ℕ)) → IsNameTable l.all.names (among false) → IsNameTable l.own.names (among true) → ArePrinted (external_text among m) (zip (named_externals m) (rooms m)) l.before (string_bytes l.fn.text) (string_bytes l.text);
+  lines : (among : Bool → List (List ℕ)) → IsNameTable l.all (among false) → IsNameTable l.own (among true) → ArePrinted (external_text among m) (zip (named_externals m) (rooms m)) l.before (string_bytes l.fn.text) (string_bytes l.text);
 }

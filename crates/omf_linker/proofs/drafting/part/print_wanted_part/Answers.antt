@@ -8,7 +8,7 @@ use Rattle.omf_linker.proofs.drafting.part.print_wanted_part.Goals as goal
 
 pub returns : goal.returns
 returns c = λ among h e.
-    let own : IsNameTable c.in_ok-own.own.names (among true) = subst (IsNameTable c.in_ok-own.own.names) (sym e) c.in_ok-own.ensures in
+    let own : IsNameTable c.in_ok-own.own (among true) = subst (IsNameTable c.in_ok-own.own) (sym e) c.in_ok-own.ensures in
     c.print_wanted_lines.ensures among h own
 
 pub print_wanted_lines-requires-clause-as_many : goal.print_wanted_lines-requires-clause-as_many

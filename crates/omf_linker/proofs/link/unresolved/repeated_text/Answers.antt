@@ -1,9 +1,17 @@
-use Rattle.std.proofs.Common.{map}
+use Rattle.std.proofs.Common.{map, subst, sym}
 use Rattle.std.specs.Prelude.{string_bytes}
 use Rattle.omf_check.specs.Module.{typed_modules}
+use Rattle.omf_linker.specs.Drafting.Names.{all_names}
+use Rattle.omf_linker.specs.Link.Repeated.{IsRepeatedText}
 use Rattle.omf_linker.specs.Link.Unresolved.{all_rows}
-use Rattle.omf_linker.proofs.RepeatedLaws.{repeated-lines}
+use Rattle.omf_linker.proofs.RepeatedLaws.{none-repeated, repeated-lines}
 use Rattle.omf_linker.proofs.link.unresolved.repeated_text.Goals as goal
+
+pub returns-then-not-repeats : goal.returns-then-not-repeats
+returns-then-not-repeats c =
+    let ms = typed_modules c.args.modules.now in
+    subst (λ t. IsRepeatedText (map string_bytes c.args.labels.now) (all_rows ms) t) (sym c.new-text.ensures.bytes)
+    (none-repeated (map string_bytes c.args.labels.now) ms (c.repeats.ensures (all_names ms) c.in_ok-of.ensures c.if-not-repeats.true))
 
 pub returns : goal.returns
 returns c =

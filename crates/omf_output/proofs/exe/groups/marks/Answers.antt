@@ -1,5 +1,5 @@
-use Rattle.std.proofs.Common.{◌≡◌, ◌++◌, ◌∙◌, List, Bool, ap, append-nil, drop, sym}
-use Rattle.std.specs.Prelude.{Some, map, slice_get, zip}
+use Rattle.std.proofs.Common.{◌++◌, ◌∙◌, List, Bool, ap, append-nil, sym}
+use Rattle.std.specs.Prelude.{map, zip}
 use Rattle.std.proofs.lemmas.Option.{slice_get-get_or}
 use Rattle.omf_output.specs.Exe.Derived.{marked}
 use Rattle.omf_output.proofs.LowLaws.{entry-at, more-of}

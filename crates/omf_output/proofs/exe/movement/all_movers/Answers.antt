@@ -1,6 +1,5 @@
-use Rattle.std.proofs.Common.{◌≡◌, ◌+◌, ◌∷◌, ◌++◌, ◌∙◌, ap, drop, append-nil, sym}
-use Rattle.std.specs.Prelude.{map, zip}
-use Rattle.omf_check.specs.Module.{typed_modules}
+use Rattle.std.proofs.Common.{◌++◌, ◌∙◌, ap, append-nil, sym}
+use Rattle.std.specs.Prelude.{map}
 use Rattle.omf_output.specs.Exe.Derived.{movers_in}
 use Rattle.omf_output.proofs.LowLaws.{more-of}
 use Rattle.omf_output.proofs.DerivingLaws.{next-triple, no-triple}

@@ -4,4 +4,4 @@ use Rattle.omf_linker.proofs.drafting.names.NameTable.add_items.Given as goal
 
 -- the names so far are in the table
 abbrev pub invariant-loop-public : goal.invariant-loop-public
-invariant-loop-public l = IsFilled IsNameTable l.fn.self.names l.self.names (names_of l.public-iterator) (names_of l.fn.items)
+invariant-loop-public l = IsFilled IsNameTable l.fn.self l.self (names_of l.public-iterator) (names_of l.fn.items)

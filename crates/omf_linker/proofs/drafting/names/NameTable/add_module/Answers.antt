@@ -9,13 +9,13 @@ use Rattle.omf_linker.proofs.drafting.names.NameTable.add_module.Goals as goal
 pub loop-rec-init : goal.loop-rec-init
 loop-rec-init c =
     let local = c.args.local in
-    fill-start IsNameTable c.args.self.now.names _ _ (ap (listed_names local) (c.into_iter-rec-iterator.ensures.into_iter_gives ∙ c.records-rec-items.ensures.listed) ∙ listed-names local 0 0 (records_in c.args.«module».now.bytes))
+    fill-start IsNameTable c.args.self.now _ _ (ap (listed_names local) (c.into_iter-rec-iterator.ensures.into_iter_gives ∙ c.records-rec-items.ensures.listed) ∙ listed-names local 0 0 (records_in c.args.«module».now.bytes))
 
 pub loop-rec-preserved : goal.loop-rec-preserved
 loop-rec-preserved c =
     let local = c.args.local in
-    fill-more IsNameTable c.args.self.now.names c.loop-rec.self.names c.add_asked.new.self.names (names_asked local (kind_seen c.in-Some.rec) (contents_seen c.in-Some.rec)) (listed_names local c.loop-rec.rec-iterator) _ _
+    fill-more IsNameTable c.args.self.now c.loop-rec.self c.add_asked.new.self (names_asked local (kind_seen c.in-Some.rec) (contents_seen c.in-Some.rec)) (listed_names local c.loop-rec.rec-iterator) _ _
     (ap (listed_names local) c.in-Some.ensures.steps) c.in_ok-add_asked.ensures c.loop-rec.invariant
 
 pub returns : goal.returns
-returns c = fill-end IsNameTable c.args.self.now.names c.loop-rec.self.names _ _ (ap (listed_names c.args.local) c.in-None.ensures.steps.0) c.loop-rec.invariant
+returns c = fill-end IsNameTable c.args.self.now c.loop-rec.self _ _ (ap (listed_names c.args.local) c.in-None.ensures.steps.0) c.loop-rec.invariant

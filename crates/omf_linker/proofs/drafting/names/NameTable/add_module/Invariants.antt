@@ -7,4 +7,4 @@ use Rattle.omf_linker.proofs.drafting.names.NameTable.add_module.Given as goal
 
 -- the names of the records so far are in the table
 abbrev pub invariant-loop-rec : goal.invariant-loop-rec
-invariant-loop-rec l = IsFilled IsNameTable l.fn.self.names l.self.names (listed_names l.local l.rec-iterator) (public_names l.local (recs (records_in l.«module».bytes)))
+invariant-loop-rec l = IsFilled IsNameTable l.fn.self l.self (listed_names l.local l.rec-iterator) (public_names l.local (recs (records_in l.«module».bytes)))

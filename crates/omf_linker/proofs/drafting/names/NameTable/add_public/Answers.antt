@@ -5,5 +5,5 @@ use Rattle.omf_linker.proofs.drafting.names.NameTable.add_public.Goals as goal
 
 pub returns : goal.returns
 returns c =
-    subst (λ x. OnOk c.add.result (HasMore c.args.self.now.names c.add.new.self.names (x ∷ [])))
+    subst (λ x. OnOk c.add.result (HasMore c.args.self.now c.add.new.self (x ∷ [])))
     (ap (λ q. q.name) c.public-inside.view_is ∙ ap (λ q. q.name) c.public.view_is) c.add.ensures

@@ -10,12 +10,12 @@ pub loop-module-preserved : goal.loop-module-preserved
 loop-module-preserved c =
     let ms = c.args.modules.now in
     let j = c.loop-module.module-index in
-    fill-more IsNameTable c.new.result c.loop-module.table.names c.add_module.new.self.names (public_names false (recs (records_in c.module-item.result.bytes))) (all_names (typed_modules (drop j ms))) (all_names (typed_modules (drop (j + 1) ms))) (all_names (typed_modules ms))
+    fill-more IsNameTable (record { names = c.new.result; repeats = false }) c.loop-module.table c.add_module.new.self (public_names false (recs (records_in c.module-item.result.bytes))) (all_names (typed_modules (drop j ms))) (all_names (typed_modules (drop (j + 1) ms))) (all_names (typed_modules ms))
     (ap all_names (next-one ms j c.module-item.result c.module-item.is c.loop-module-test.true)) c.in_ok-add_module.ensures c.loop-module.invariant
 
 pub returns : goal.returns
 returns c =
     let ms = c.args.modules.now in
     let j = c.loop-module.module-index in
-    fill-empty c.new.result c.loop-module.table.names (all_names (typed_modules ms)) c.new.ensures.empty
-    (fill-end IsNameTable c.new.result c.loop-module.table.names (all_names (typed_modules (drop j ms))) (all_names (typed_modules ms)) (ap all_names (none-left ms j c.loop-module-test.false)) c.loop-module.invariant)
+    fill-empty (record { names = c.new.result; repeats = false }) c.loop-module.table (all_names (typed_modules ms)) c.new.ensures.empty
+    (fill-end IsNameTable (record { names = c.new.result; repeats = false }) c.loop-module.table (all_names (typed_modules (drop j ms))) (all_names (typed_modules ms)) (ap all_names (none-left ms j c.loop-module-test.false)) c.loop-module.invariant)

@@ -6,4 +6,4 @@ use Rattle.omf_linker.proofs.drafting.names.NameTable.of.Given as goal
 
 -- the names of the modules so far are in the table
 abbrev pub invariant-loop-module : goal.invariant-loop-module
-invariant-loop-module l = IsFilled IsNameTable l.initial.table.names l.table.names (all_names (typed_modules (drop l.module-index l.modules))) (all_names (typed_modules l.modules))
+invariant-loop-module l = IsFilled IsNameTable l.initial.table l.table (all_names (typed_modules (drop l.module-index l.modules))) (all_names (typed_modules l.modules))

@@ -1,4 +1,5 @@
-use Rattle.std.proofs.Common.{◌≡◌, ap, ◌∙◌}
+use Rattle.std.proofs.Common.{◌≡◌, Some, ap, ◌∙◌}
+use Rattle.omf_names.proofs.NameTables.{is_updated, was_at}
 use Rattle.omf_linker.specs.Inner.PublicAddresses.{address_after}
 use Rattle.omf_linker.specs.Map.Addresses.{NamedAddress}
 use Rattle.omf_linker.proofs.PublicLaws.{found_at, table-more}
@@ -8,5 +9,7 @@ pub returns : goal.returns
 returns c =
     let p : NamedAddress = (c.args.name.now, c.args.address) in
     let m = c.args.self.now.by_name in
-    let e : c.address_after-found.result ≡ address_after p.1 (found_at m p.0) = c.address_after-found.ensures ∙ ap (address_after p.1) (c.copied.ensures ∙ c.get.ensures.value) in
-    table-more m c.insert.new.self p c.address_after-found.result e c.in_ok-insert.ensures.updates
+    let e : c.address_after-found.result ≡ address_after p.1 (found_at m p.0) =
+    c.address_after-found.ensures ∙ ap (address_after p.1) (was_at c.args.name c.of.result c.of.ensures m c.copied.result (c.copied.ensures ∙ c.get.ensures.value)) in
+    table-more m c.insert.new.self p c.address_after-found.result e
+    (is_updated c.args.name c.of-2.result c.of-2.ensures m c.insert.new.self (Some c.address_after-found.result) c.in_ok-insert.ensures.updates)
