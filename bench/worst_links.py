@@ -63,6 +63,36 @@ def many_names(count, size):
     return [module(b"a", names, start=True), module(b"b", (), names)]
 
 
+# What can be added to the 40 bytes of a name without a change of its number (crates/omf_names/specs/Names.antt); 3 is for nothing.
+STEPS = """
+4443534143334324531332323353334133343333
+3224412433434333531423331435353343434333
+3244545124324223334325223233214023343333
+3433353232333135323255442221133124333333
+2544233224443215331243424342253153243333
+2134422452323453123324551414344324423333
+5142234314224322435434234332314431343433
+3413343132223222444345242132202125424343
+4253345335324422032114335332424321343323
+6443443123245222423234341331114113444333
+2314235434414212353223214234332344333243
+2442142323452124305253144321341433333333
+4122523242314523352522542434425344233433
+3231345243323524352315534432314231334423
+4231142332354225523344343434132323434333
+""".split()
+
+
+def same_number(count):
+    """Names of 40 bytes that all have the same number; at most 32,768."""
+    return [bytes(96 + sum(int(step[at]) - 3 for bit, step in enumerate(STEPS) if it >> bit & 1) for at in range(40)) for it in range(count)]
+
+
+def names_of_one_number(count):
+    names = same_number(count)
+    return [module(b"a", names, start=True), module(b"b", (), names)]
+
+
 def asking(number, names, communals=()):
     """A module that asks for these names, and has these communals of 2 bytes; the first is the main one."""
     body = b"".join(record(0xB0, bytes([len(it)]) + it + b"\0\x62\x02") for it in communals)
@@ -112,6 +142,7 @@ SHAPES = {
     "a library of n members of 10 bytes": (lambda n: [main_module(), archive([record(0x80, b"\x00") + record(0x8A, b"\x00")] * n)], None, 32_767, ["exe"]),
     "n publics and n externals of 8 bytes": (lambda n: many_names(n, 8), None, 8000, ["exe"]),
     "n publics and n externals of 255 bytes": (lambda n: many_names(n, 255), None, 8000, ["exe"]),
+    "n publics and n externals of one number": (names_of_one_number, None, 8000, ["exe"]),
     "n names that nothing defines": (lambda n: [asking(0, [name_of(it) for it in range(n)])], None, 16_000, ["exe"]),
     "n modules, 16 names that nothing defines": (lambda n: [asking(it, [name_of(it) for it in range(16)]) for it in range(n)], None, 1000, ["exe"]),
     "n communals of names of their own": (lambda n: [asking(0, (), [name_of(it) for it in range(n)])], None, 8000, ["exe"]),
