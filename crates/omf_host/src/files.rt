@@ -5,17 +5,21 @@ use std::fs::File;
 use std::io::{Read, Write};
 use std::{fs, io};
 
-/// The bytes of a file, or of the standard input if its name is `-`.
+/// The bytes of a file, or of the standard input if its name is `-`. They take no room beyond their own, since a program may hold
+/// thousands of files.
 ///
 /// # Errors
 ///
 /// Those of the system; out of memory is one of them.
 pub fn read_input(rt: &HostRuntime, name: &str) -> io::Result<Vec<u8>> {
-    if name != "-" {
-        return fs::read(rt, name);
-    }
-    let mut bytes = Vec::new(rt.alloc());
-    rt.stdin().read_to_end(&mut bytes)?;
+    let mut bytes = if name == "-" {
+        let mut bytes = Vec::new(rt.alloc());
+        rt.stdin().read_to_end(&mut bytes)?;
+        bytes
+    } else {
+        fs::read(rt, name)?
+    };
+    bytes.shrink_to_fit();
     Ok(bytes)
 }
 
