@@ -13,7 +13,7 @@ ghost use Rattle.omf_c.specs.Fixups.{fixup_row, fixup_rows, frame_index, frame_n
 
 use crate::rows::FixupRow;
 use crate::tables::flag;
-use omf_check::Checked;
+use omf_check::{Checked, Undecoded};
 use omf_frame::{Place, Width};
 use omf_records::{Kind, Locat, Rec};
 use omf_reloc::{FrameMethod, Piece, PlainFixup, pieces_of};
@@ -68,6 +68,16 @@ fn place_after(before: DataPlace, rec: &Rec<'_>) -> DataPlace
         | Rec::LocalPublics { .. }
         | Rec::LocalCommunals(_)
         | Rec::Carried { .. } => before,
+    }
+}
+
+/// The same for a record that is not decoded yet. It is decoded only if it has data.
+fn undecoded_place(before: DataPlace, record: &Undecoded<'_>) -> DataPlace
+    ensures { result ≡ place_or before (data_contents «record».now.contents) }
+{
+    match record.data() {
+        Some(rec) => place_after(before, &rec),
+        None => before,
     }
 }
 
@@ -146,7 +156,7 @@ fn add_piece(
     ensures last { IfOk result (λ next. next ≡ place_or last (data_of (piece_seen piece.now))) }
 {
     match piece {
-        Piece::Kept(rec) => Ok(place_after(last, rec)),
+        Piece::Kept(record) => Ok(undecoded_place(last, record)),
         Piece::Fixed { width, fixup } => {
             rows.push(fixup_row(last, place, *width, fixup))?;
             Ok(last)

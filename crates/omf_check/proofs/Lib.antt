@@ -25,6 +25,8 @@ pub mod CheckLaws
 pub mod NameLaws
 pub mod ListedLaws
 pub mod LastLaws
+pub mod TypeLaws
+pub mod KnownLaws
 pub mod LimitLaws
 pub mod SoundLaws
 pub mod ThreadLaws

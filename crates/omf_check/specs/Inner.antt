@@ -11,3 +11,4 @@ pub mod Verdict
 pub mod Walking
 pub mod Plain
 pub mod Names
+pub mod Known

@@ -19,6 +19,7 @@ use crate::profile::Profile;
 use crate::records::{Records, first_record, last_record};
 use crate::segment::SegInfo;
 use crate::table::Tables;
+use crate::undecoded::UndecodedRecords;
 use omf_frame::{Field, Name};
 use omf_records::Rec;
 use std::marker::Model;
@@ -157,6 +158,14 @@ impl Checked {
         ensures holds { ModuleHolds profile_limits (recs_of self.now.bytes) }
     {
         Records::new(&self.bytes)
+    }
+
+    /// The same, but no record is decoded: for who needs those of some types alone.
+    pub fn undecoded(&self) -> UndecodedRecords<'_>
+        ensures listed { result ≡ placed_from 0 0 (records_in self.now.bytes) }
+        ensures holds { ModuleHolds profile_limits (recs_of self.now.bytes) }
+    {
+        UndecodedRecords::new(&self.bytes)
     }
 
     /// Its last record, the MODEND. Records before it are skipped by their lengths.

@@ -36,6 +36,7 @@ mod session;
 mod table;
 mod taking;
 mod threads;
+mod undecoded;
 
 pub use checked::Checked;
 pub use checking::check;
@@ -49,3 +50,4 @@ pub use segment::SegInfo;
 pub use session::Session;
 pub use table::entry_of;
 pub use threads::Threads;
+pub use undecoded::{Undecoded, UndecodedRecords};

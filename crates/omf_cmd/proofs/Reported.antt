@@ -24,7 +24,8 @@ use Rattle.omf_cmd.specs.Inner.Printing.{IsWrittenUpTo, Passes}
 use Rattle.omf_cmd.specs.Inner.Types.{has_publics}
 use Rattle.omf_cmd.specs.Listing.{public_lines}
 use Rattle.omf_reloc.proofs.LeftLaws.{AreLeft, none-left, parts, left-kind, left-body, left-next, left-spelled}
-use Rattle.omf_reloc.proofs.TypeLaws.{HasType, has-type, never-one}
+use Rattle.omf_check.proofs.TypeLaws.{has-type, never-one}
+use Rattle.omf_check.specs.Inner.Known.{HasType}
 use Rattle.omf_cmd.specs.declared.fault.RunFault.{RunFault}
 use Rattle.omf_cmd.proofs.Pieces.{none_written, stopped_by, went_on}
 

@@ -1,6 +1,6 @@
 //! Parts of modules as a person finds them: a segment by its name, and an offset in it.
 
-use omf_check::Checked;
+use omf_check::{Checked, Undecoded};
 use omf_frame::{Name, Place};
 use omf_records::{Kind, Rec};
 use omf_reloc::{Piece, pieces_of};
@@ -49,11 +49,19 @@ fn data_spot(rec: &Rec<'_>) -> Option<Spot> {
     }
 }
 
+/// The same for a record that is not decoded yet. It is decoded only if it has data.
+fn undecoded_spot(record: &Undecoded<'_>) -> Option<Spot> {
+    match record.data() {
+        Some(rec) => data_spot(&rec),
+        None => None,
+    }
+}
+
 /// The spot of a piece, and the spot of the last data record up to and including it.
 fn spots(piece: &Piece<'_>, last: Option<Spot>) -> (Option<Spot>, Option<Spot>) {
     match piece {
-        Piece::Kept(rec) => {
-            let spot = data_spot(rec);
+        Piece::Kept(record) => {
+            let spot = undecoded_spot(record);
             (spot, spot.or(last))
         }
         Piece::Fixed { fixup, .. } => match last {

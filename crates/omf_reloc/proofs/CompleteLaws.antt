@@ -1,5 +1,5 @@
 -- A derived placement has no missing and no extra entry.
-use Rattle.std.proofs.Common.{◌≡◌, ℕ, true, false, List, [], ◌∷◌, ◌++◌, length, refl, ap, ◌∙◌, subst}
+use Rattle.std.proofs.Common.{◌≡◌, ℕ, true, false, List, [], ◌∷◌, ◌++◌, length, ap, ◌∙◌, subst}
 use Rattle.std.specs.Prelude.{All, flat_map, filter_map, zip, slice_get, cond, Bool, Option, Some, None, ⊤}
 use Rattle.std.specs.List.{AllZip, enumerate_from}
 use Rattle.std.proofs.lemmas.List.Elements.{All-nil, All-cons, All-head, All-tail, All-append, All-same}

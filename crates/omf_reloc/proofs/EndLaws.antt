@@ -1,7 +1,7 @@
 -- The start of a module is the one that its last record names, by the threads in force there.
 use Rattle.omf_frame.specs.declared.kinds.Width.{Width}
 use Rattle.std.proofs.Common.{◌≡◌, ℕ, List, [], ◌∷◌, ◌++◌, append_assoc, refl, sym, ap, ap₂, subst, ◌∙◌, false}
-use Rattle.std.specs.Prelude.{All, Bool, flat_map, option_to_list, Option, Some, None, IsSome, unwrap_or}
+use Rattle.std.specs.Prelude.{All, flat_map, option_to_list, Option, Some, None, IsSome, unwrap_or}
 use Rattle.std.specs.Result.{result_ok}
 use Rattle.std.proofs.lemmas.Bool.{true≢false}
 use Rattle.std.proofs.lemmas.List.{append-nil}

@@ -11,7 +11,6 @@ pub mod WalkLaws
 pub mod WalkedLaws
 pub mod InsideLaws
 pub mod EndLaws
-pub mod TypeLaws
 pub mod LeftLaws
 pub mod MeasureLaws
 pub mod PieceLaws

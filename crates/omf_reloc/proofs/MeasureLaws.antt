@@ -1,12 +1,9 @@
 -- The extents of a module's data records are those of what is laid.
-use Rattle.std.proofs.Common.{false, ◌≡◌, ℕ, List, [], ◌∷◌, ◌++◌, append_assoc, length, refl, sym, ap, ap₂, subst, ◌∙◌, arith, ◌<◌}
+use Rattle.std.proofs.Common.{◌≡◌, ℕ, List, [], ◌∷◌, ◌++◌, append_assoc, length, refl, sym, ap, ap₂, subst, ◌∙◌, arith}
 use Rattle.std.specs.Prelude.{All, map, flat_map, IsOk, Option, Some, None, option_map, option_to_list, Result, Ok, Err}
 use Rattle.std.proofs.lemmas.List.{append-nil, map-append, length-replicate}
 use Rattle.std.proofs.lemmas.List.Elements.{All-nil, All-cons, All-head, All-tail}
 use Rattle.omf_frame.specs.Fault.{Fault}
-use Rattle.omf_frame.specs.Framing.{Raw, front_record, present, after_front}
-use Rattle.omf_records.specs.Inner.Reading.{typed}
-use Rattle.omf_records.specs.Records.{contents}
 use Rattle.omf_records.specs.Values.{Rec, Contents, Names, Plain, Iterated, Fixups, Subrecord, width}
 use Rattle.omf_records.specs.Inner.Seen.{odd_if}
 use Rattle.omf_image.specs.Blocks.{blocks_size}
@@ -21,17 +18,12 @@ use Rattle.omf_image.specs.declared.limits.Limits.{Limits}
 use Rattle.omf_image.specs.declared.painting.Extent.{Extent}
 use Rattle.omf_image.proofs.BlocksLaws.{length-blocks_bytes}
 use Rattle.omf_image.proofs.PaintLaws.{same_are_lost}
-use Rattle.omf_check.specs.Module.{records_in}
-use Rattle.omf_check.specs.WellFormed.{IsWellFormed, recs}
-use Rattle.omf_check.specs.declared.profile.Profile.{Profile}
 use Rattle.omf_check.specs.Sound.{ContentsHold, ModuleHolds}
 use Rattle.omf_check.specs.Tables.{subrecords_in}
 use Rattle.omf_reloc.specs.Inner.Names.{plain_fixups}
 use Rattle.omf_reloc.specs.Image.{laid}
 use Rattle.omf_reloc.specs.Laws.{LiesInSegment}
-use Rattle.omf_reloc.specs.Inner.Measuring.{is_data, measured, measured_contents, HasMeasure, CanMeasure}
-use Rattle.omf_reloc.proofs.LeftLaws.{AreLeft, all-left, none-left, parts, left-kind, left-next, left-spelled}
-use Rattle.omf_reloc.proofs.TypeLaws.{HasType, has-type, never-one}
+use Rattle.omf_reloc.specs.Inner.Measuring.{measured, measured_contents, HasMeasure, CanMeasure}
 use Rattle.omf_placement.specs.Placement.{Places}
 use Rattle.omf_reloc.specs.Plain.{pieces}
 use Rattle.omf_reloc.proofs.GatherLaws.{Gathered, Once, Repeated, more, tagged, closed_by, opened_by, gathered, gathered_from, gathered-all, laid_of, laid-gathered}
@@ -70,69 +62,36 @@ measures-from m before (r ∷ rest) holds e =
 pub all-measure : (m : List Rec) → ModuleHolds profile_limits m → All CanMeasure m
 all-measure m holds = measures-from m [] m holds refl
 
--- A record of another type has no extent.
-pub no-measure : (kind : ℕ) (body : List ℕ) (c : Contents) → is_data kind ≡ false → (contents kind).Spells 3 body c → measured_contents kind c ≡ []
-no-measure kind body c other s = by c (has-type kind 3 body c s)
-  where
-    by : (c : Contents) → HasType kind c → measured_contents kind c ≡ []
-    by (Plain d) is = absurd (never-one 0xA0 0xA1 kind is_data refl refl other is)
-    by (Iterated d) is = absurd (never-one 0xA2 0xA3 kind is_data refl refl other is)
-    by (Names ns) is = refl
-    by _ is = refl
-
 -- The extents so far, with those of the records that are left, are all of them.
-pub record AreMeasured (m : List Rec) (out : List Extent) (left : List ℕ) : Type 0 where
-  pub records : List Raw
-  pub are_left : AreLeft left records
-  pub can : All CanMeasure (recs records)
-  pub same : out ++ flat_map measured (recs records) ≡ flat_map measured m
+pub record AreMeasured (m : List Rec) (out : List Extent) (left : List Rec) : Type 0 where
+  pub can : All CanMeasure left
+  pub same : out ++ flat_map measured left ≡ flat_map measured m
 
-pub measure-first : (profile : Profile) (bytes : List ℕ) (out : List Extent) → IsWellFormed profile profile_limits bytes (records_in bytes) → ModuleHolds profile_limits (recs (records_in bytes)) → out ≡ []
-    → AreMeasured (recs (records_in bytes)) out bytes
-measure-first profile bytes out w holds none = record {
-  records = records_in bytes;
-  are_left = all-left profile profile_limits bytes w;
-  can = all-measure (recs (records_in bytes)) holds;
-  same = ap (λ xs. xs ++ flat_map measured (recs (records_in bytes))) none;
+pub measure-first : (m left : List Rec) (out : List Extent) → ModuleHolds profile_limits m → left ≡ m → out ≡ [] → AreMeasured m out left
+measure-first m left out holds e none = record {
+  can = subst (All CanMeasure) (sym e) (all-measure m holds);
+  same = ap (λ xs. xs ++ flat_map measured left) none ∙ ap (flat_map measured) e;
 }
 
-pub measure-last : (m : List Rec) (out : List Extent) (left : List ℕ) → AreMeasured m out left → left ≡ [] → out ≡ flat_map measured m
-measure-last m out left h e =
-    sym (append-nil out) ∙ sym (ap (λ (rs : List Raw). out ++ flat_map measured (recs rs)) (none-left h.records (sym e ∙ h.are_left.spelled))) ∙ h.same
+pub measure-last : (m left : List Rec) (out : List Extent) → AreMeasured m out left → left ≡ [] → out ≡ flat_map measured m
+measure-last m left out h e = sym (append-nil out) ∙ sym (ap (λ (rs : List Rec). out ++ flat_map measured rs) e) ∙ h.same
 
-module _ (m : List Rec) (out : List Extent) (left : List ℕ) (h : AreMeasured m out left) (low : 0 < length left) where
-  abbrev one : Raw
-  one = (parts left h.records h.are_left low).0
+module _ (m left : List Rec) (out : List Extent) (h : AreMeasured m out left) (r : Rec) (rest : List Rec) (e : left ≡ r ∷ rest) where
+  can-here : All CanMeasure (r ∷ rest)
+  can-here = subst (All CanMeasure) e h.can
 
-  abbrev others : List Raw
-  others = (parts left h.records h.are_left low).1
+  pub measure-can : CanMeasure r
+  measure-can = All-head CanMeasure r rest can-here
 
-  split : h.records ≡ one ∷ others
-  split = (parts left h.records h.are_left low).2
-
-  can-here : All CanMeasure (typed one ∷ recs others)
-  can-here = subst (λ (rs : List Raw). All CanMeasure (recs rs)) split h.can
-
-  module _ (kind : ℕ) (body : List ℕ) (k : kind ≡ (front_record (present left)).kind) (b : body ≡ (front_record (present left)).body) where
-    pub measure-spelled : (c : Contents) × (contents kind).Spells 3 body c × HasMeasure kind c
-    measure-spelled = (
-      (typed one).contents,
-      left-spelled left h.records h.are_left low kind body k b,
-      subst (λ (x : ℕ). HasMeasure x (typed one).contents) (sym (left-kind left h.records h.are_left low kind k)) (All-head CanMeasure (typed one) (recs others) can-here),
-    )
-
-    pub measure-next : (rest : List ℕ) → rest ≡ after_front left → (new : List Extent) → ((c : Contents) → (contents kind).Spells 3 body c → new ≡ out ++ measured_contents kind c) → AreMeasured m new rest
-    measure-next rest e new put = record {
-      records = others;
-      are_left = left-next left h.records h.are_left low rest e;
-      can = All-tail CanMeasure (typed one) (recs others) can-here;
-      same =
-          ap (λ (xs : List Extent). xs ++ flat_map measured (recs others)) (put (typed one).contents (left-spelled left h.records h.are_left low kind body k b))
-          ∙ append_assoc out (measured_contents kind (typed one).contents) (flat_map measured (recs others))
-          ∙ ap (λ (x : ℕ). out ++ (measured_contents x (typed one).contents ++ flat_map measured (recs others))) (left-kind left h.records h.are_left low kind k)
-          ∙ sym (ap (λ (rs : List Raw). out ++ flat_map measured (recs rs)) split)
-          ∙ h.same;
-    }
+  pub measure-next : (new : List Extent) → new ≡ out ++ measured r → AreMeasured m new rest
+  measure-next new put = record {
+    can = All-tail CanMeasure r rest can-here;
+    same =
+        ap (λ (xs : List Extent). xs ++ flat_map measured rest) put
+        ∙ append_assoc out (measured r) (flat_map measured rest)
+        ∙ sym (ap (λ (rs : List Rec). out ++ flat_map measured rs) e)
+        ∙ h.same;
+  }
 
 -- What is gathered has the extents of the records.
 abbrev place_of : Gathered → Extent

@@ -1,5 +1,5 @@
 -- A placement reaches exactly if it has no fault of reach.
-use Rattle.std.proofs.Common.{◌≡◌, ℕ, zero, suc, ◌+◌, ◌<◌, ◌≤◌, List, [], ◌∷◌, ◌++◌, refl, sym, ◌∙◌, ap, ap₂, Bool, true, false, cond, length, arith, length-append}
+use Rattle.std.proofs.Common.{◌≡◌, ℕ, zero, suc, ◌+◌, ◌≤◌, List, [], ◌∷◌, ◌++◌, refl, sym, ◌∙◌, ap, ap₂, Bool, true, false, cond, length, arith, length-append}
 use Rattle.std.specs.Prelude.{All, map, flat_map, filter_map, zip, slice_get, option_to_list, is_some, Option, Some, None, ◌==◌, ◌&&◌, nat_lt}
 use Rattle.std.specs.List.{enumerate_from, cons_option}
 use Rattle.std.proofs.lemmas.Bool.{ltb-false, le-ltb, eqb-true, eq-eqb, and_parts, and_from, true≢false, false≢true}
@@ -9,7 +9,7 @@ use Rattle.std.proofs.lemmas.Option.{none-some, same_Some}
 use Rattle.std.specs.Result.{result_err}
 use Rattle.omf_frame.specs.Bytes.{with_before, up_to}
 use Rattle.omf_records.specs.Values.{At, Rec, Contents, Plain, Iterated, Fixups, ModEnd, Subrecord, Thread, Fixup}
-use Rattle.omf_check.specs.Tables.{segments, groups, externals, subrecords, entry}
+use Rattle.omf_check.specs.Tables.{segments, subrecords, entry}
 use Rattle.omf_check.specs.Threads.{PlainReference}
 use Rattle.omf_check.specs.declared.segment.SegInfo.{SegInfo}
 use Rattle.omf_reloc.specs.Inner.Names.{plain_fixups, extra, missing, far_fault, reach_faults, given, all_kinds, lies_at, causes_at}

@@ -1,6 +1,6 @@
 -- Whether a placement reaches, and the first reason why it does not.
 use Rattle.std.specs.Option.{option_map_or}
-use Rattle.std.specs.Prelude.{◌≡◌, ℕ, ◌+◌, List, [], ◌∷◌, ◌++◌, length, map, flat_map, filter_map, zip, Bool, false, ◌==◌, ◌&&◌, nat_lt, Option, Some, None, option_map, if◌then◌else◌, slice_get}
+use Rattle.std.specs.Prelude.{◌≡◌, ℕ, ◌+◌, List, [], ◌∷◌, ◌++◌, length, map, flat_map, filter_map, zip, false, ◌==◌, ◌&&◌, nat_lt, Option, Some, None, option_map, if◌then◌else◌, slice_get}
 use Rattle.std.specs.List.{enumerate_from}
 use Rattle.std.specs.Result.{result_err}
 use Rattle.omf_reloc.specs.declared.fault.Cause.{Cause}
@@ -9,7 +9,7 @@ use Rattle.omf_reloc.specs.declared.fault.Kind.TheVariants as kinds
 use Rattle.omf_reloc.specs.declared.fault.ReachFault.{ReachFault}
 use Rattle.omf_reloc.specs.declared.fault.ReachFault.TheVariants as fault
 use Rattle.omf_frame.specs.Bytes.{with_after}
-use Rattle.omf_records.specs.Values.{Rec, Contents, Fixups, ModEnd, DataItem, Subrecord, Thread, Fixup}
+use Rattle.omf_records.specs.Values.{Rec, Contents, Fixups, ModEnd, Subrecord, Thread, Fixup}
 use Rattle.omf_check.specs.Tables.{segments, groups, externals, entry}
 use Rattle.omf_reloc.specs.Plain.{Piece, Kept, End, pieces, data_contents, fixups_of_data}
 use Rattle.omf_placement.specs.declared.frame.Placed.{Placed}

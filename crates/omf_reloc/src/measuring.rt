@@ -1,22 +1,19 @@
 //! The extents of a module's data records.
 
-ghost use Rattle.std.specs.Prelude.{◌≡◌, ◌≤◌, ◌++◌, length, flat_map, IfOk, OnOk, IsTrue, option_to_list};
-ghost use Rattle.omf_frame.specs.Framing.{is_taken};
+ghost use Rattle.std.specs.Prelude.{◌≡◌, ◌++◌, length, flat_map, IfOk, OnOk, option_to_list};
 ghost use Rattle.omf_records.specs.Inner.Seen.{odd_if, rec_seen};
-ghost use Rattle.omf_records.specs.Records.{contents};
-ghost use Rattle.omf_records.specs.Values.{Contents, width};
+ghost use Rattle.omf_records.specs.Values.{width};
 ghost use Rattle.omf_image.specs.Inner.Expanding.{expanded};
 ghost use Rattle.omf_image.specs.Limits.{profile_limits};
 ghost use Rattle.omf_check.specs.Module.{recs_of};
 ghost use Rattle.omf_check.specs.Sound.{ModuleHolds};
-ghost use Rattle.omf_reloc.specs.Inner.Measuring.{is_data, measured, measured_contents, CanMeasure, HasMeasure};
+ghost use Rattle.omf_reloc.specs.Inner.Measuring.{measured, CanMeasure};
 ghost use Rattle.omf_reloc.specs.Inner.Walking.{Expands};
 
-use omf_check::laws::modules_hold;
-use omf_check::{Checked, split_record};
-use omf_frame::{Index, RawRecord};
+use omf_check::{Checked, Undecoded};
+use omf_frame::Index;
 use omf_image::{Extent, Limits, expanded_len};
-use omf_records::{At, Blocks, Rec, view_known};
+use omf_records::{At, Blocks, Rec};
 use std::alloc::{AllocError, Global};
 
 /// The expanded length of an LIDATA's blocks, in bytes.
@@ -91,39 +88,25 @@ fn push_measured(extents: &mut Vec<Extent>, rec: &Rec<'_>) -> Result<(), AllocEr
     }
 }
 
-/// Whether this is the type of an LEDATA or an LIDATA.
-fn is_data(kind: u8) -> bool
-    ensures { result ≡ is_data kind }
+/// The same for a record that is not decoded yet. It is decoded only if it has data.
+fn push_extent(extents: &mut Vec<Extent>, record: &Undecoded<'_>) -> Result<(), AllocError>
+    requires { CanMeasure «record».now }
+    ensures { OnOk result (extents.new.items ≡ extents.old.items ++ measured «record».now) }
 {
-    kind == 0xA0 || kind == 0xA1 || kind == 0xA2 || kind == 0xA3
-}
-
-/// Appends the extent of a data record. A record of another type is not read.
-fn push_extent(extents: &mut Vec<Extent>, raw: RawRecord<'_>) -> Result<(), AllocError>
-    requires taken { IsTrue (is_taken raw.kind) }
-    requires short { length raw.body.now ≤ 65534 }
-    requires spelled { (c : Contents) × (contents raw.kind).Spells 3 raw.body.now c × HasMeasure raw.kind c }
-    ensures { (c : Contents) → (contents raw.entry.kind).Spells 3 raw.entry.body.now c → OnOk result (extents.new.items ≡ extents.old.items ++ measured_contents raw.entry.kind c) }
-{
-    if is_data(raw.kind) {
-        push_measured(extents, &view_known(raw))
-    } else {
-        Ok(())
+    match record.data() {
+        Some(rec) => push_measured(extents, &rec),
+        None => Ok(()),
     }
 }
 
-/// The extents of a module's data records, in file order. The other records are skipped by their lengths.
+/// The extents of a module's data records, in file order.
 pub(crate) fn extents(alloc: Global, module: &Checked) -> Result<Vec<Extent>, AllocError>
     ensures listed { IfOk result (λ v. v.items ≡ flat_map measured (recs_of «module».now.bytes)) }
     ensures holds { ModuleHolds profile_limits (recs_of «module».now.bytes) }
 {
-    modules_hold();
     let mut extents = Vec::new(alloc);
-    let mut left = module.bytes();
-    'records: while !left.is_empty() {
-        let (raw, rest) = split_record(left);
-        push_extent(&mut extents, raw)?;
-        left = rest;
+    for (_, record) in module.undecoded() {
+        push_extent(&mut extents, &record)?;
     }
     Ok(extents)
 }

@@ -11,12 +11,12 @@ ghost use Rattle.omf_reloc.specs.Inner.Pieces.{subrecord_step, contents_steps, o
 ghost use Rattle.omf_reloc.specs.Inner.Widths.{fixupp_type, modend_type};
 ghost use Rattle.omf_reloc.specs.Plain.{End};
 ghost use Rattle.omf_reloc.specs.Inner.Walking.{plain_by, threads_after};
-ghost use Rattle.omf_records.specs.Inner.Seen.{contents_seen, kind_seen};
+ghost use Rattle.omf_records.specs.Inner.Seen.{contents_seen, kind_seen, rec_seen};
 ghost use Rattle.omf_records.specs.Values.{ModEnd};
 ghost use Rattle.omf_reloc.specs.Reach.{all_reference_places};
 
 use crate::plain::{PlainFixup, PlainReference, plain_reference};
-use omf_check::{Checked, Records, Threads};
+use omf_check::{Checked, Threads, Undecoded, UndecodedRecords};
 use omf_frame::{Place, Width};
 use omf_records::{At, Items, Part, Rec, Reference, Subrecord};
 use std::marker::Model;
@@ -24,8 +24,8 @@ use std::marker::Model;
 /// A piece of a module. It refers to no thread.
 #[derive(Drop)]
 pub enum Piece<'a> {
-    /// A record that is neither a FIXUPP nor a MODEND.
-    Kept(Rec<'a>),
+    /// A record that is neither a FIXUPP nor a MODEND. It is not decoded yet.
+    Kept(Undecoded<'a>),
     /// A fixup, and the width of its FIXUPP's fields.
     Fixed {
         width: Width,
@@ -120,7 +120,7 @@ fn end_piece<'a>(
 /// A walk over the records and the subrecords of FIXUPPs. Each step gives a piece or nothing.
 #[derive(Drop)]
 struct Steps<'a> {
-    records: Records<'a>,
+    records: UndecodedRecords<'a>,
     /// The FIXUPP being read.
     fixups: Option<OpenFixups<'a>>,
     /// The threads in force.
@@ -140,18 +140,21 @@ impl<'a> Model for Steps<'a> {
     ghost invariant = { λ s. AreSet s.threads s.fixups s.records };
 }
 
-/// The piece of a record. A FIXUPP has none; its subrecords come next.
-fn record_step<'a>(
+/// The piece of a record that is decoded; one that is neither a FIXUPP nor a MODEND is kept as it was. A FIXUPP has none; its subrecords
+/// come next.
+fn decoded_step<'a>(
     threads: &Threads,
     at: Place,
-    rec: Rec<'a>,
+    rec: &Rec<'a>,
+    record: Undecoded<'a>,
 ) -> (Option<(Place, Piece<'a>)>, Option<OpenFixups<'a>>)
-    requires { ContentsAreSet threads.now (contents_seen rec) }
-    ensures step { step_seen result.0 ∷ open_steps threads.now result.1 ≡ contents_steps threads.now at (kind_seen rec.entry) (contents_seen rec.entry) }
-    ensures threads { threads_behind threads.now result.1 ≡ threads_after threads.now (contents_seen rec.entry) }
+    requires same { rec_seen rec.now ≡ «record» }
+    requires contents { ContentsAreSet threads.now (contents_seen rec.now) }
+    ensures step { step_seen result.0 ∷ open_steps threads.now result.1 ≡ contents_steps threads.now at (kind_seen rec.now) (contents_seen rec.now) }
+    ensures threads { threads_behind threads.now result.1 ≡ threads_after threads.now (contents_seen rec.now) }
     ensures set { OpenIsSet threads.now result.1 }
 {
-    match &rec {
+    match rec {
         Rec::Fixups { width, subrecords } => {
             let fixups = OpenFixups {
                 place: at,
@@ -182,13 +185,30 @@ fn record_step<'a>(
         | Rec::LocalExterns { .. }
         | Rec::LocalPublics { .. }
         | Rec::LocalCommunals(_)
-        | Rec::Carried { .. } => (Some((at, Piece::Kept(rec))), None),
+        | Rec::Carried { .. } => (Some((at, Piece::Kept(record))), None),
+    }
+}
+
+/// The piece of a record. A FIXUPP has none; its subrecords come next. Only a FIXUPP and a MODEND are decoded.
+fn record_step<'a>(
+    threads: &Threads,
+    at: Place,
+    record: Undecoded<'a>,
+) -> (Option<(Place, Piece<'a>)>, Option<OpenFixups<'a>>)
+    requires { ContentsAreSet threads.now «record».contents }
+    ensures step { step_seen result.0 ∷ open_steps threads.now result.1 ≡ contents_steps threads.now at «record».entry.kind «record».entry.contents }
+    ensures threads { threads_behind threads.now result.1 ≡ threads_after threads.now «record».entry.contents }
+    ensures set { OpenIsSet threads.now result.1 }
+{
+    match record.references() {
+        Some(rec) => decoded_step(threads, at, &rec, record),
+        None => (Some((at, Piece::Kept(record))), None),
     }
 }
 
 impl<'a> Steps<'a> {
     /// A walk from the first record on.
-    fn new(records: Records<'a>) -> Steps<'a>
+    fn new(records: UndecodedRecords<'a>) -> Steps<'a>
         requires { RecordsAreSet no_threads records }
         ensures { result ≡ steps_from no_threads records.entry }
     {
@@ -219,8 +239,8 @@ impl<'a> Iterator for Steps<'a> {
             }
         }
         self.fixups = None;
-        let (place, rec) = self.records.next()?;
-        let (step, fixups) = record_step(&self.threads, place, rec);
+        let (place, record) = self.records.next()?;
+        let (step, fixups) = record_step(&self.threads, place, record);
         self.fixups = fixups;
         Some(step)
     }
@@ -272,6 +292,6 @@ pub fn pieces_of(module: &Checked) -> Pieces<'_>
     ensures holds { ModuleHolds profile_limits (recs_of «module».now.bytes) }
 {
     Pieces {
-        steps: Steps::new(module.records()),
+        steps: Steps::new(module.undecoded()),
     }
 }

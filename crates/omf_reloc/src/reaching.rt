@@ -14,7 +14,7 @@ ghost use Rattle.omf_reloc.specs.Inner.ReachSteps.{miscounts, misplaced_from, da
 use crate::fault::{Cause, Kind, ReachFault, too_far};
 use crate::offset::{outcome, start_outcome};
 use crate::pieces::{Piece, pieces_of};
-use omf_check::Checked;
+use omf_check::{Checked, Undecoded};
 use omf_placement::{Placed, Placement};
 use omf_records::Rec;
 
@@ -182,12 +182,22 @@ fn data_place(rec: &Rec<'_>) -> Option<(u16, u32)>
     }
 }
 
-/// The segment and the offset of the last data record, up to and including this piece.
+/// The segment and the offset of the last data record, up to and including this record. It is decoded only if it has data.
+fn place_after(record: &Undecoded<'_>, last: Option<(u16, u32)>) -> Option<(u16, u32)>
+    ensures { result ≡ data_place «record».now.contents last }
+{
+    match record.data() {
+        Some(rec) => data_place(&rec).or(last),
+        None => last,
+    }
+}
+
+/// The same, up to and including this piece.
 fn data_after(piece: &Piece<'_>, last: Option<(u16, u32)>) -> Option<(u16, u32)>
     ensures { result ≡ place_behind (piece_seen piece.now) last }
 {
     match piece {
-        Piece::Kept(rec) => data_place(rec).or(last),
+        Piece::Kept(record) => place_after(record, last),
         Piece::Fixed { .. } | Piece::End { .. } => last,
     }
 }

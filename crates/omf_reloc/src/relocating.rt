@@ -27,7 +27,7 @@ use crate::measuring::extents;
 use crate::offset::{outcome, start_outcome};
 use crate::pieces::{Piece, pieces_of};
 use crate::plain::PlainFixup;
-use omf_check::Checked;
+use omf_check::{Checked, Undecoded};
 use omf_frame::{Index, Width};
 use omf_image::{Image, Limits, expand, painted};
 use omf_placement::Placement;
@@ -204,6 +204,19 @@ impl Walk {
         }
     }
 
+    /// The same for a record that is not decoded yet. It is decoded only if it has data.
+    fn take_undecoded(&mut self, alloc: Global, record: &Undecoded<'_>) -> Result<(), AllocError>
+        requires offsets { IfSome self.old.open_data HasOffsets }
+        requires expands { CanExpand «record».now.kind «record».now.contents }
+        ensures image { OnOk result (AreLaidOver self.old.image (closed_by «record».now.contents self.old.open_data) self.new.image) }
+        ensures open_data { OnOk result (self.new.open_data ≡ opened_by «record».now.kind «record».now.contents self.old.open_data) }
+    {
+        match record.data() {
+            Some(rec) => self.take_record(alloc, &rec),
+            None => Ok(()),
+        }
+    }
+
     /// Takes the next piece. Returns why it does not reach, if it does not.
     fn take(
         &mut self,
@@ -216,8 +229,8 @@ impl Walk {
         ensures cause { IfOk result (λ cause. cause ≡ piece_cause placement.now (open_place self.old.open_data) (piece_seen piece.now)) }
     {
         match piece {
-            Piece::Kept(rec) => {
-                self.take_record(alloc, rec)?;
+            Piece::Kept(record) => {
+                self.take_undecoded(alloc, record)?;
                 Ok(None)
             }
             Piece::Fixed { width, fixup } => Ok(self.fix(placement, *width, fixup)),

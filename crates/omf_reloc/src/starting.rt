@@ -11,7 +11,7 @@ ghost use Rattle.omf_reloc.specs.Inner.Walking.{threads_after, threads_through};
 
 use crate::offset::start_outcome;
 use crate::plain::plain_reference;
-use omf_check::{Checked, Threads};
+use omf_check::{Checked, Threads, Undecoded};
 use omf_placement::Placement;
 use omf_records::{Rec, Reference};
 
@@ -24,13 +24,22 @@ fn set_threads(threads: &mut Threads, rec: &Rec<'_>)
     }
 }
 
+/// The same for a record that is not decoded yet. It is decoded only if it is a FIXUPP or a MODEND.
+fn set_undecoded(threads: &mut Threads, record: &Undecoded<'_>)
+    ensures { threads.new ≡ threads_after threads.old «record».now.contents }
+{
+    if let Some(rec) = record.references() {
+        set_threads(threads, &rec);
+    }
+}
+
 /// The threads in force at the end of a module.
 fn threads_at_end(module: &Checked) -> Threads
     ensures { result ≡ threads_through no_threads (recs_of «module».now.bytes) }
 {
     let mut threads = Threads::new();
-    for (_place, rec) in module.records() {
-        set_threads(&mut threads, &rec);
+    for (_place, record) in module.undecoded() {
+        set_undecoded(&mut threads, &record);
     }
     threads
 }

@@ -16,7 +16,7 @@ use crate::exe::laying::segment_address;
 use crate::exe::member::Member;
 use crate::exe::movers::Movers;
 use crate::exe::moving::{segment_after, site};
-use omf_check::Checked;
+use omf_check::{Checked, Undecoded};
 use omf_frame::{Place, Width};
 use omf_placement::Placement;
 use omf_records::Rec;
@@ -36,12 +36,23 @@ fn has_low_data(placement: &Placement, rec: &Rec<'_>) -> bool
     }
 }
 
+/// The same for a record that is not decoded yet. It is decoded only if it has data.
+fn has_low_undecoded(placement: &Placement, record: &Undecoded<'_>) -> bool
+    requires { CanEnd «record».now }
+    ensures { result ≡ has_low_data placement.now «record».now.kind «record».now.contents }
+{
+    match record.data() {
+        Some(rec) => has_low_data(placement, &rec),
+        None => false,
+    }
+}
+
 /// The place of a module's first data record with a byte below 100H.
 fn first_low(module: &Checked, placement: &Placement) -> Option<Place>
     ensures { result ≡ first_low placement.now (placed_from 0 0 (records_in «module».now.bytes)) }
 {
-    for (place, rec) in module.records() {
-        if has_low_data(placement, &rec) {
+    for (place, record) in module.undecoded() {
+        if has_low_undecoded(placement, &record) {
             return Some(place);
         }
     }

@@ -17,7 +17,7 @@ ghost use Rattle.omf_output.specs.Exe.Memory.{all_chunks, chunks, data_end, flat
 ghost use Rattle.omf_output.specs.Exe.Moved.{Movers};
 
 use crate::exe::member::Member;
-use omf_check::Checked;
+use omf_check::{Checked, Undecoded};
 use omf_frame::{Index, Width};
 use omf_image::{Limits, expand};
 use omf_placement::Placement;
@@ -107,6 +107,22 @@ fn put_data(
     }
 }
 
+/// The same for a record that is not decoded yet. It is decoded only if it has data.
+fn put_undecoded(
+    alloc: Global,
+    image: &mut [u8],
+    placement: &Placement,
+    record: &Undecoded<'_>,
+) -> Result<(), AllocError>
+    requires { DataFit placement.now (length image.old) «record».now.kind «record».now.contents }
+    ensures { OnOk result (image.new ≡ with_data placement.now «record».now.kind «record».now.contents image.old) }
+{
+    match record.data() {
+        Some(rec) => put_data(alloc, image, placement, &rec),
+        None => Ok(()),
+    }
+}
+
 /// The segment of an LEDATA and the offset of its first byte there.
 type Source = (u16, u32);
 
@@ -139,12 +155,22 @@ fn source_in(rec: &Rec<'_>, last: Option<Source>) -> Option<Source>
     }
 }
 
+/// The same for a record that is not decoded yet. It is decoded only if it has data.
+fn undecoded_source(record: &Undecoded<'_>, last: Option<Source>) -> Option<Source>
+    ensures { result ≡ source_in «record».now.contents last }
+{
+    match record.data() {
+        Some(rec) => source_in(&rec, last),
+        None => last,
+    }
+}
+
 /// The same, up to and including this piece.
 fn source_after(piece: &Piece<'_>, last: Option<Source>) -> Option<Source>
     ensures { result ≡ source_after (piece_seen piece.now) last }
 {
     match piece {
-        Piece::Kept(rec) => source_in(rec, last),
+        Piece::Kept(record) => undecoded_source(record, last),
         Piece::Fixed { .. } | Piece::End { .. } => last,
     }
 }
@@ -173,7 +199,7 @@ fn take(
     ensures { OnOk result (image.new ≡ laid_by placement.now last (piece_seen piece.now) image.old) }
 {
     match piece {
-        Piece::Kept(rec) => put_data(alloc, image, placement, rec),
+        Piece::Kept(record) => put_undecoded(alloc, image, placement, record),
         Piece::Fixed { width, fixup } => {
             if let Some(source) = last {
                 fix(image, placement, source, *width, fixup);
@@ -236,14 +262,25 @@ fn record_end(placement: &Placement, rec: &Rec<'_>) -> usize
     }
 }
 
+/// The same for a record that is not decoded yet. It is decoded only if it has data.
+fn undecoded_end(placement: &Placement, record: &Undecoded<'_>) -> usize
+    requires { CanEnd «record».now }
+    ensures { result ≡ fold max 0 (record_ends placement.now «record».now) }
+{
+    match record.data() {
+        Some(rec) => record_end(placement, &rec),
+        None => 0,
+    }
+}
+
 /// The first address after the data of a module, and of those before it.
 fn with_end(before: usize, module: &Checked, placement: &Placement) -> usize
     ensures end { result ≡ fold max before (flat_map (record_ends placement.now) (recs_of «module».now.bytes)) }
     ensures holds { ModuleHolds profile_limits (recs_of «module».now.bytes) }
 {
     let mut end = before;
-    for (_place, rec) in module.records() {
-        end = end.max(record_end(placement, &rec));
+    for (_place, record) in module.undecoded() {
+        end = end.max(undecoded_end(placement, &record));
     }
     end
 }

@@ -9,7 +9,7 @@ ghost use Rattle.omf_output.specs.Inner.Laying.{flags_left};
 ghost use Rattle.omf_output.specs.Exe.Members.{segdefs, segdefs_in};
 ghost use Rattle.omf_output.specs.Exe.Moved.{both, frame_moves, moves, moving_of, target_moves};
 
-use omf_check::{Checked, FrameMethod, TargetMethod, entry_of};
+use omf_check::{Checked, FrameMethod, TargetMethod, Undecoded, entry_of};
 use omf_placement::Placement;
 use omf_records::{Kind, Rec};
 use std::alloc::{AllocError, Global};
@@ -66,13 +66,23 @@ fn flags_after<'a>(left: &'a [bool], rec: &Rec<'_>) -> Option<&'a [bool]>
     }
 }
 
+/// The same for a record that is not decoded yet. It is decoded only if it is a SEGDEF.
+fn undecoded_flags<'a>(left: &'a [bool], record: &Undecoded<'_>) -> Option<&'a [bool]>
+    ensures { (rest : List (ℕ × SegmentItem)) → same_flags left.now (segdefs_in «record».now.kind «record».now.contents ++ rest) ≡ flags_left (option_map (λ b. b.now) result) rest }
+{
+    match record.segment() {
+        Some(rec) => flags_after(left, &rec),
+        None => Some(left),
+    }
+}
+
 /// Whether these are the flags of a module's segments, each set exactly if its segment is not absolute.
 fn are_flags(flags: &[bool], module: &Checked) -> bool
     ensures { result ≡ same_flags flags.now (segdefs (recs_of «module».now.bytes)) }
 {
     let mut left = flags;
-    for (_place, rec) in module.records() {
-        match flags_after(left, &rec) {
+    for (_place, record) in module.undecoded() {
+        match undecoded_flags(left, &record) {
             Some(rest) => left = rest,
             None => return false,
         }

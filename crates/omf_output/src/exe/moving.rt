@@ -16,7 +16,7 @@ ghost use Rattle.omf_output.specs.Exe.Movable.{data_segment, first_unmoved, move
 ghost use Rattle.omf_output.specs.Exe.Relocations.{moves_together, selector_at, site};
 
 use crate::exe::movers::Movers;
-use omf_check::Checked;
+use omf_check::{Checked, Undecoded};
 use omf_frame::{Place, Width};
 use omf_records::{LocationType, Rec};
 use omf_reloc::{Piece, PlainFixup, PlainReference, pieces_of};
@@ -123,21 +123,31 @@ fn data_segment(rec: &Rec<'_>) -> Option<u16>
     }
 }
 
-/// The segment of the last data record, up to and including this piece.
+/// The segment of the last data record, up to and including this record. It is decoded only if it has data.
+fn undecoded_segment(record: &Undecoded<'_>, last: Option<u16>) -> Option<u16>
+    ensures { result ≡ data_segment «record».now.contents last }
+{
+    match record.data() {
+        Some(rec) => data_segment(&rec).or(last),
+        None => last,
+    }
+}
+
+/// The same, up to and including this piece.
 pub(crate) fn segment_after(piece: &Piece<'_>, last: Option<u16>) -> Option<u16>
     ensures { result ≡ segment_after (piece_seen piece.now) last }
 {
     match piece {
-        Piece::Kept(rec) => data_segment(rec).or(last),
+        Piece::Kept(record) => undecoded_segment(record, last),
         Piece::Fixed { .. } | Piece::End { .. } => last,
     }
 }
 
 /// Whether the segment of a data record moves; any other record does.
-fn segment_moves(movers: &Movers, rec: &Rec<'_>) -> bool
-    ensures { result ≡ segment_moves movers.now (contents_seen rec.now) }
+fn segment_moves(movers: &Movers, record: &Undecoded<'_>) -> bool
+    ensures { result ≡ segment_moves movers.now «record».now.contents }
 {
-    match data_segment(rec) {
+    match undecoded_segment(record, None) {
         Some(segment) => movers.segment_moves(usize::from(segment)),
         None => true,
     }
@@ -158,7 +168,7 @@ fn moves_after(movers: &Movers, last: Option<u16>, piece: &Piece<'_>) -> bool
     ensures { result ≡ moves_after movers.now last (piece_seen piece.now) }
 {
     match piece {
-        Piece::Kept(rec) => segment_moves(movers, rec),
+        Piece::Kept(record) => segment_moves(movers, record),
         Piece::Fixed { width, fixup } => fixup_moves(movers, last, *width, fixup),
         Piece::End { start, .. } => start_moves(movers, start),
     }

@@ -10,7 +10,7 @@ ghost use Rattle.omf_output.specs.Exe.Members.{is_stack, memory_end, portion, po
 ghost use Rattle.omf_output.specs.Inner.Rooms.{no_room, with_portion, with_stack};
 
 use crate::exe::member::Member;
-use omf_check::Checked;
+use omf_check::{Checked, Undecoded};
 use omf_frame::Width;
 use omf_placement::{Frame, Placed};
 use omf_records::{Acbp, Combination, Rec, Segment};
@@ -140,14 +140,28 @@ fn take<'a>(room: Room, left: &'a [Placed], rec: &Rec<'_>) -> (Room, &'a [Placed
     }
 }
 
+/// The same for a record that is not decoded yet. It is decoded only if it is a SEGDEF.
+fn take_undecoded<'a>(
+    room: Room,
+    left: &'a [Placed],
+    record: &Undecoded<'_>,
+) -> (Room, &'a [Placed])
+    ensures { (rest : List (ℕ × SegmentItem)) → fold with_portion result.0 (filter_map portion (zip result.1.now rest)) ≡ fold with_portion room (filter_map portion (zip left.entry.now (segdefs_in «record».now.kind «record».now.contents ++ rest))) }
+{
+    match record.segment() {
+        Some(rec) => take(room, left, &rec),
+        None => (room, left),
+    }
+}
+
 /// The memory with that of a module's segments, which are at these places.
 fn with_module(before: Room, module: &Checked, places: &[Placed]) -> Room
     ensures { result ≡ fold with_portion before (filter_map portion (zip places.now (segdefs (recs_of «module».now.bytes)))) }
 {
     let mut room = before;
     let mut left = places;
-    for (_place, rec) in module.records() {
-        let (next, rest) = take(room, left, &rec);
+    for (_place, record) in module.undecoded() {
+        let (next, rest) = take_undecoded(room, left, &record);
         room = next;
         left = rest;
     }

@@ -17,7 +17,7 @@ use crate::exe::laying::segment_address;
 use crate::exe::member::Member;
 use crate::exe::movers::Movers;
 use crate::exe::moving::site;
-use omf_check::Checked;
+use omf_check::{Checked, Undecoded};
 use omf_frame::Place;
 use omf_placement::Placement;
 use omf_records::Rec;
@@ -141,6 +141,18 @@ fn is_record_clear(words: &Words, placement: &Placement, rec: &Rec<'_>) -> bool
     }
 }
 
+/// The same for a record that is not decoded yet. It is decoded only if it has data.
+fn is_undecoded_clear(words: &Words, placement: &Placement, record: &Undecoded<'_>) -> bool
+    requires measured { CanMeasure «record».now }
+    requires fits { All Fits (measured «record».now) }
+    ensures { with_contents placement.now «record».now.kind «record».now.contents words.now ≡ (if result then Some words.now else None) }
+{
+    match record.data() {
+        Some(rec) => is_record_clear(words, placement, &rec),
+        None => true,
+    }
+}
+
 /// The segment of an LEDATA and the address of its first byte, up to and including this record.
 fn opened(placement: &Placement, rec: &Rec<'_>, last: Option<(u16, usize)>) -> Option<(u16, usize)>
     requires { IfSome last IsLow }
@@ -175,6 +187,22 @@ fn opened(placement: &Placement, rec: &Rec<'_>, last: Option<(u16, usize)>) -> O
     }
 }
 
+/// The same for a record that is not decoded yet. It is decoded only if it has data.
+fn undecoded_opened(
+    placement: &Placement,
+    record: &Undecoded<'_>,
+    last: Option<(u16, usize)>,
+) -> Option<(u16, usize)>
+    requires { IfSome last IsLow }
+    ensures value { result ≡ opened placement.now «record».now.contents last }
+    ensures low { IfSome result IsLow }
+{
+    match record.data() {
+        Some(rec) => opened(placement, &rec, last),
+        None => last,
+    }
+}
+
 /// The same, up to and including this piece.
 fn opened_after(
     placement: &Placement,
@@ -186,7 +214,7 @@ fn opened_after(
     ensures low { IfSome result IsLow }
 {
     match piece {
-        Piece::Kept(rec) => opened(placement, rec, last),
+        Piece::Kept(record) => undecoded_opened(placement, record, last),
         Piece::Fixed { .. } | Piece::End { .. } => last,
     }
 }
@@ -247,7 +275,7 @@ fn take(
     ensures { IfOk result (λ clear. with_piece movers.now placement.now last (piece_seen piece.now) words.old ≡ (if clear then Some words.new else None)) }
 {
     match piece {
-        Piece::Kept(rec) => Ok(is_record_clear(words, placement, rec)),
+        Piece::Kept(record) => Ok(is_undecoded_clear(words, placement, record)),
         Piece::Fixed { fixup, .. } => match last {
             Some(source) => take_fixup(words, movers, source, fixup),
             None => Ok(true),

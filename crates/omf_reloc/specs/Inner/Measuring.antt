@@ -1,6 +1,6 @@
 -- The extents of data records. Only private functions use these definitions; the contracts of public functions use the definition of the
 -- image.
-use Rattle.std.specs.Prelude.{⊤, ℕ, List, [], ◌∷◌, length, Bool, ◌==◌, ◌||◌}
+use Rattle.std.specs.Prelude.{⊤, ℕ, List, [], ◌∷◌, length}
 use Rattle.omf_records.specs.Values.{Rec, Contents, Plain, Iterated, width}
 use Rattle.omf_image.specs.Inner.Expanding.{expanded}
 use Rattle.omf_image.specs.Limits.{profile_limits}
@@ -23,7 +23,3 @@ HasMeasure kind _ = ⊤
 
 abbrev pub CanMeasure : Rec → Type 0
 CanMeasure r = HasMeasure r.kind r.contents
-
--- The type bytes of LEDATA and LIDATA.
-abbrev pub is_data : ℕ → Bool
-is_data kind = (kind == 0xA0) || ((kind == 0xA1) || ((kind == 0xA2) || (kind == 0xA3)))

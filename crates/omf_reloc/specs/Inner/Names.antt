@@ -3,7 +3,7 @@
 use Rattle.omf_placement.specs.declared.frame.Placed.{Placed}
 use Rattle.std.specs.Result.{result_map_both, result_err}
 use Rattle.std.specs.Option.{option_map_or}
-use Rattle.std.specs.Prelude.{ℕ, List, [], Result, ◌≤◌, ◌⊎◌, ◌<◌, All, ◌+◌, ◌-◌, ◌%◌, ◌^◌, map, ◌∷◌, nat_lt, option_map, Option, ◌++◌, length, if◌then◌else◌, ok_or, slice_get, option_and_then, Some, None, Err, ◌==◌, ◌&&◌, Bool, false}
+use Rattle.std.specs.Prelude.{ℕ, List, [], Result, ◌≤◌, ◌⊎◌, ◌<◌, All, ◌+◌, ◌-◌, ◌%◌, ◌^◌, map, ◌∷◌, nat_lt, option_map, Option, ◌++◌, length, if◌then◌else◌, ok_or, slice_get, Err, ◌==◌, ◌&&◌, Bool, false}
 use Rattle.omf_image.specs.Parts.{Addition, part_size}
 use Rattle.omf_reloc.specs.Additions.{type_of_number, additions_at, part_of}
 use Rattle.omf_reloc.specs.declared.fault.Cause.{Cause}

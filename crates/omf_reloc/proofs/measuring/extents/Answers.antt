@@ -1,65 +1,36 @@
-use Rattle.std.proofs.Common.{◌∙◌, length, subst, sym}
-use Rattle.std.proofs.lemmas.Bool.{eqb-true}
-use Rattle.std.proofs.lemmas.List.{nil_from_length}
-use Rattle.omf_image.specs.Limits.{profile_limits}
+use Rattle.std.proofs.Common.{◌∙◌, ap, List}
+use Rattle.std.specs.Prelude.{map}
+use Rattle.omf_frame.specs.declared.fault.Place.{Place}
+use Rattle.omf_records.specs.Values.{Rec}
 use Rattle.omf_check.specs.Module.{records_in}
 use Rattle.omf_check.specs.WellFormed.{recs}
-use Rattle.omf_check.proofs.ListedLaws.{not_empty}
-use Rattle.omf_reloc.proofs.LeftLaws.{left-starts, left-taken, left-short, left-less}
-use Rattle.omf_reloc.proofs.MeasureLaws.{AreMeasured, measure-first, measure-last, measure-spelled, measure-next}
+use Rattle.omf_reloc.proofs.MeasureLaws.{measure-first, measure-last, measure-can, measure-next}
+use Rattle.omf_reloc.proofs.WalkedLaws.{records-listed}
 use Rattle.omf_reloc.proofs.measuring.extents.Goals as goal
 
-pub records-init : goal.records-init
-records-init c =
-    let b = c.args.module.now.bytes in
-    subst (λ left. AreMeasured (recs (records_in b)) c.new-extents.result.items left) (sym c.bytes-left.ensures.bytes)
-    (measure-first c.args.module.now.profile b c.new-extents.result.items c.bytes-left.ensures.well_formed
-    (c.modules_hold.ensures c.args.module.now.profile profile_limits b (records_in b) c.bytes-left.ensures.well_formed) c.new-extents.ensures.items)
+abbrev without_places : List (Place × Rec) → List Rec
+without_places xs = map (λ x. x.1) xs
 
-pub split_record-requires : goal.split_record-requires
-split_record-requires c =
-    let h = c.records.invariant in
-    left-starts c.records.left.now h.records h.are_left (not_empty c.records.left.now c.is_empty.result c.is_empty.ensures c.records-test.true)
+pub loop-record-init : goal.loop-record-init
+loop-record-init c =
+    let raws = records_in c.args.module.now.bytes in
+    let u = c.undecoded-record-items.ensures in
+    measure-first (recs raws) (without_places c.into_iter-record-iterator.result) c.new-extents.result.items u.holds
+    (ap without_places (c.into_iter-record-iterator.ensures.into_iter_gives ∙ u.listed) ∙ records-listed 0 0 raws) c.new-extents.ensures.items
 
-pub push_extent-requires-clause-taken : goal.push_extent-requires-clause-taken
-push_extent-requires-clause-taken c =
-    let h = c.records.invariant in
-    left-taken c.records.left.now h.records h.are_left (not_empty c.records.left.now c.is_empty.result c.is_empty.ensures c.records-test.true) c.split_record.result.0.kind c.split_record.ensures.kind
+pub push_extent-requires : goal.push_extent-requires
+push_extent-requires c =
+    let l = c.loop-record in
+    measure-can (recs (records_in c.args.module.now.bytes)) (without_places l.record-iterator) l.extents.items l.invariant
+    c.in-Some.record (without_places c.next.new.self) (ap without_places c.in-Some.ensures.steps)
 
-pub push_extent-requires-clause-short : goal.push_extent-requires-clause-short
-push_extent-requires-clause-short c =
-    let h = c.records.invariant in
-    left-short c.records.left.now h.records h.are_left (not_empty c.records.left.now c.is_empty.result c.is_empty.ensures c.records-test.true) c.split_record.result.0.body.now c.split_record.ensures.body
-
-pub push_extent-requires-clause-spelled : goal.push_extent-requires-clause-spelled
-push_extent-requires-clause-spelled c =
-    let raw = c.split_record.result.0 in
-    measure-spelled (recs (records_in c.args.module.now.bytes)) c.records.extents.items c.records.left.now c.records.invariant
-    (not_empty c.records.left.now c.is_empty.result c.is_empty.ensures c.records-test.true) raw.kind raw.body.now c.split_record.ensures.kind c.split_record.ensures.body
-
-pub records-smaller : goal.records-smaller
-records-smaller c =
-    let h = c.records.invariant in
-    left-less c.records.left.now h.records h.are_left (not_empty c.records.left.now c.is_empty.result c.is_empty.ensures c.records-test.true) c.split_record.result.1.now c.split_record.ensures.rest
-
-pub records-preserved : goal.records-preserved
-records-preserved c =
-    let raw = c.split_record.result.0 in
-    measure-next (recs (records_in c.args.module.now.bytes)) c.records.extents.items c.records.left.now c.records.invariant
-    (not_empty c.records.left.now c.is_empty.result c.is_empty.ensures c.records-test.true) raw.kind raw.body.now c.split_record.ensures.kind c.split_record.ensures.body
-    c.split_record.result.1.now c.split_record.ensures.rest c.push_extent.new.extents.items c.in_ok-push_extent.ensures
+pub loop-record-preserved : goal.loop-record-preserved
+loop-record-preserved c =
+    let l = c.loop-record in
+    measure-next (recs (records_in c.args.module.now.bytes)) (without_places l.record-iterator) l.extents.items l.invariant
+    c.in-Some.record (without_places c.next.new.self) (ap without_places c.in-Some.ensures.steps) c.push_extent.new.extents.items c.in_ok-push_extent.ensures
 
 pub returns-clause-listed : goal.returns-clause-listed
 returns-clause-listed c =
-    measure-last (recs (records_in c.args.module.now.bytes)) c.records.extents.items c.records.left.now c.records.invariant
-    (nil_from_length c.records.left.now (eqb-true (length c.records.left.now) 0 (sym c.is_empty.ensures ∙ c.records-test.false)))
-
-pub returns-clause-holds : goal.returns-clause-holds
-returns-clause-holds c =
-    let b = c.args.module.now.bytes in
-    c.modules_hold.ensures c.args.module.now.profile profile_limits b (records_in b) c.bytes-left.ensures.well_formed
-
-pub returns-in_err-push_extent-clause-holds : goal.returns-in_err-push_extent-clause-holds
-returns-in_err-push_extent-clause-holds c =
-    let b = c.args.module.now.bytes in
-    c.modules_hold.ensures c.args.module.now.profile profile_limits b (records_in b) c.bytes-left.ensures.well_formed
+    let l = c.loop-record in
+    measure-last (recs (records_in c.args.module.now.bytes)) (without_places l.record-iterator) l.extents.items l.invariant (ap without_places c.in-None.ensures.steps.0)

@@ -16,15 +16,15 @@ without_places xs = map (λ x. x.1) xs
 pub new-requires : goal.new-requires
 new-requires c =
     let raws = records_in c.args.module.now.bytes in
-    records-set profile_limits (recs raws) c.records.result c.records.ensures.holds (ap without_places c.records.ensures.listed ∙ records-listed 0 0 raws)
+    records-set profile_limits (recs raws) c.undecoded.result c.undecoded.ensures.holds (ap without_places c.undecoded.ensures.listed ∙ records-listed 0 0 raws)
 
 pub returns-clause-listed : goal.returns-clause-listed
 returns-clause-listed c =
     let raws = records_in c.args.module.now.bytes in
     ap (λ s. map (λ p. p.1) (given s)) c.new.ensures
-    ∙ pieces-listed (recs raws) c.records.result (ap without_places c.records.ensures.listed ∙ records-listed 0 0 raws)
+    ∙ pieces-listed (recs raws) c.undecoded.result (ap without_places c.undecoded.ensures.listed ∙ records-listed 0 0 raws)
 
 pub returns-clause-places : goal.returns-clause-places
 returns-clause-places c =
     let raws = records_in c.args.module.now.bytes in
-    ap (λ s. reference_places (given s)) c.new.ensures ∙ ap (λ xs. reference_places (placed_pieces xs)) c.records.ensures.listed ∙ pieces-placed raws
+    ap (λ s. reference_places (given s)) c.new.ensures ∙ ap (λ xs. reference_places (placed_pieces xs)) c.undecoded.ensures.listed ∙ pieces-placed raws

@@ -36,10 +36,6 @@ take-requires c =
     can-walk c.new-walk.result.image pl m c.pieces_of-place-items.ensures.holds w (piece_seen c.in-Some.piece) (without_places c.next.new.self)
     (subst (λ xs. IsWalked c.new-walk.result.image pl m w (without_places xs)) c.in-Some.ensures.steps c.loop-place.invariant.walked)
 
-pub loop-place-preserved-in_default : goal.loop-place-preserved-in_default
-loop-place-preserved-in_default c =
-    go-on (c.in-Some.place, piece_seen c.in-Some.piece) c.pieces_of-place-items.ensures.holds c.in-Some.ensures.steps c.in_ok-cause.ensures.next c.in_ok-cause.ensures.cause c.in_default.is c.loop-place.invariant
-
 pub loop-place-preserved : goal.loop-place-preserved
 loop-place-preserved c =
     go-on (c.in-Some.place, piece_seen c.in-Some.piece) c.pieces_of-place-items.ensures.holds c.in-Some.ensures.steps c.in_ok-cause.ensures.next c.in_ok-cause.ensures.cause c.in_default.is c.loop-place.invariant

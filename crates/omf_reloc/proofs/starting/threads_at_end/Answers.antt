@@ -16,12 +16,12 @@ pub loop-place-init : goal.loop-place-init
 loop-place-init c =
     let raws = records_in c.args.module.now.bytes in
     ap (λ t. threads_through t (without_places c.into_iter-place-iterator.result)) c.new-threads.ensures
-    ∙ ap (threads_through no_threads) (ap without_places (c.into_iter-place-iterator.ensures.into_iter_gives ∙ c.records-place-items.ensures.listed) ∙ records-listed 0 0 raws)
+    ∙ ap (threads_through no_threads) (ap without_places (c.into_iter-place-iterator.ensures.into_iter_gives ∙ c.undecoded-place-items.ensures.listed) ∙ records-listed 0 0 raws)
 
 pub loop-place-preserved : goal.loop-place-preserved
 loop-place-preserved c =
     let m = recs (records_in c.args.module.now.bytes) in
-    ap (λ t. threads_through t (without_places c.next.new.self)) c.set_threads.ensures
+    ap (λ t. threads_through t (without_places c.next.new.self)) c.set_undecoded.ensures
     ∙ subst (λ xs. threads_through c.loop-place.threads (without_places xs) ≡ threads_through no_threads m) c.in-Some.ensures.steps c.loop-place.invariant
 
 pub returns : goal.returns

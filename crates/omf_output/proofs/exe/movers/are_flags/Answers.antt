@@ -8,7 +8,7 @@ use Rattle.omf_output.proofs.exe.movers.are_flags.Goals as goal
 
 pub loop-place-init : goal.loop-place-init
 loop-place-init c =
-    let r = c.records-place-items in
+    let r = c.undecoded-place-items in
     let e = ap without_places_of (c.into_iter-place-iterator.ensures.into_iter_gives ∙ r.ensures.listed) ∙ records-listed 0 0 (records_in c.args.module.now.bytes) in
     ap (λ l. same_flags c.args.flags.now (segdefs l)) e
 

@@ -10,13 +10,13 @@ use Rattle.omf_output.proofs.exe.room.with_module.Goals as goal
 
 pub loop-place-init : goal.loop-place-init
 loop-place-init c =
-    let r = c.records-place-items in
+    let r = c.undecoded-place-items in
     let e = ap without_places_of (c.into_iter-place-iterator.ensures.into_iter_gives ∙ r.ensures.listed) ∙ records-listed 0 0 (records_in c.args.module.now.bytes) in
     ap (λ l. fold with_portion c.args.before (filter_map portion (zip c.args.places.now (segdefs l)))) e
 
 pub loop-place-preserved : goal.loop-place-preserved
 loop-place-preserved c =
-    c.take-next.ensures (segdefs (without_places_of c.next.new.self))
+    c.take_undecoded-next.ensures (segdefs (without_places_of c.next.new.self))
     ∙ sym (ap (λ l. fold with_portion c.loop-place.room (filter_map portion (zip c.loop-place.left.now (segdefs (without_places_of l))))) c.in-Some.ensures.steps) ∙ c.loop-place.invariant
 
 pub returns : goal.returns

@@ -26,17 +26,6 @@ pub take-requires-clause-measured : goal.take-requires-clause-measured
 take-requires-clause-measured c =
     All-head CanTake (piece_seen c.in-Some.piece) (map (λ x. x.1) c.next.new.self) (subst (All CanTake) (ap (map (λ x. x.1)) c.in-Some.ensures.steps) c.loop-place.invariant.can)
 
-pub loop-place-preserved-else-not-branch : goal.loop-place-preserved-else-not-branch
-loop-place-preserved-else-not-branch c =
-    let p = piece_seen c.in-Some.piece in
-    let rest = c.next.new.self in
-    record {
-      same = one-taken c.args.movers.now c.args.placement.now c.loop-place.last c.opened_after-last.result (c.in-Some.place, p) c.loop-place.place-iterator rest c.loop-place.words c.take.new.words
-          c.in_ok-take.field-0 c.in-Some.ensures.steps c.in_ok-take.ensures c.if-not-branch.false c.opened_after-last.ensures.value ∙ c.loop-place.invariant.same;
-      can = All-tail CanTake p (map (λ x. x.1) rest) (subst (All CanTake) (ap (map (λ x. x.1)) c.in-Some.ensures.steps) c.loop-place.invariant.can);
-      low = c.opened_after-last.ensures.low;
-    }
-
 pub loop-place-preserved : goal.loop-place-preserved
 loop-place-preserved c =
     let p = piece_seen c.in-Some.piece in
