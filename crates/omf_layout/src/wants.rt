@@ -9,7 +9,7 @@ ghost use Rattle.omf_check.specs.Tables.{segments};
 ghost use Rattle.omf_layout.specs.Wants.{alignment_named, alignments, attributes, attributes_in, rooms, rooms_in, room_of};
 
 use crate::alignment::Alignment;
-use omf_check::Checked;
+use omf_check::{Checked, Undecoded};
 use omf_records::{Acbp, Communal, CommunalSize, Extern, Items, Rec};
 use std::alloc::{AllocError, Global};
 
@@ -23,14 +23,24 @@ fn add_attribute(attributes: &mut Vec<Acbp>, rec: &Rec<'_>) -> Result<(), AllocE
     Ok(())
 }
 
+/// The same for a record that is not decoded yet. It is decoded only if it is a SEGDEF.
+fn add_undecoded(attributes: &mut Vec<Acbp>, record: &Undecoded<'_>) -> Result<(), AllocError>
+    ensures { OnOk result (attributes.new.items ≡ attributes.old.items ++ attributes_in «record».now.contents) }
+{
+    match record.segment() {
+        Some(rec) => add_attribute(attributes, &rec),
+        None => Ok(()),
+    }
+}
+
 /// Returns the attributes of a module's segments, in order.
 pub fn attributes_of(alloc: Global, module: &Checked) -> Result<Vec<Acbp>, AllocError>
     ensures all { IfOk result (λ v. v.items ≡ attributes (recs_of «module».now.bytes)) }
     ensures each { IfOk result (λ v. length v.items ≡ length (segments (recs_of «module».now.bytes))) }
 {
     let mut attributes = Vec::new(alloc);
-    for (_, rec) in module.records() {
-        add_attribute(&mut attributes, &rec)?;
+    for (_, record) in module.undecoded() {
+        add_undecoded(&mut attributes, &record)?;
     }
     Ok(attributes)
 }

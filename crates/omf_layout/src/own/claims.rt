@@ -8,7 +8,7 @@ ghost use Rattle.omf_layout.specs.Own.Claims.{all_claims, claimed, communal_clai
 ghost use Rattle.omf_layout.specs.Several.Gathered.{named};
 
 use crate::wants::room_of;
-use omf_check::Checked;
+use omf_check::{Checked, Undecoded};
 use omf_frame::Name;
 use omf_records::{Communal, CommunalSize, Items, Public, Rec};
 use std::alloc::{AllocError, Global};
@@ -117,12 +117,28 @@ fn add_record<'a>(claims: &mut Vec<NamedClaim<'a>>, rec: &Rec<'a>) -> Result<(),
     }
 }
 
+/// The same for a record that is not decoded yet. It is decoded only if it is a PUBDEF, or has externals or communals.
+fn add_undecoded<'a>(
+    claims: &mut Vec<NamedClaim<'a>>,
+    record: &Undecoded<'a>,
+) -> Result<(), AllocError>
+    ensures { OnOk result (map named claims.new.items ≡ map named claims.old.items ++ record_claims «record».now.kind «record».now.contents) }
+{
+    if let Some(rec) = record.publics(false) {
+        return add_record(claims, &rec);
+    }
+    match record.externals() {
+        Some(rec) => add_record(claims, &rec),
+        None => Ok(()),
+    }
+}
+
 /// Adds the names that a module defines for others.
 fn add_module<'a>(claims: &mut Vec<NamedClaim<'a>>, module: &'a Checked) -> Result<(), AllocError>
     ensures { OnOk result (map named claims.new.items ≡ map named claims.old.items ++ module_claims (recs_of «module».entry.now.bytes)) }
 {
-    for (_, rec) in module.records() {
-        add_record(claims, &rec)?;
+    for (_, record) in module.undecoded() {
+        add_undecoded(claims, &record)?;
     }
     Ok(())
 }

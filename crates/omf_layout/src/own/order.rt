@@ -15,7 +15,7 @@ use crate::own::records::{
     put_segment,
 };
 use crate::own::slots::{Ordered, Slot, in_dos_order, slots_of};
-use omf_check::Checked;
+use omf_check::{Checked, Undecoded};
 use omf_frame::{Index, Name};
 use omf_records::Rec;
 use std::alloc::{AllocError, AllocFailed, Global};
@@ -82,13 +82,23 @@ fn is_dosseg(rec: &Rec<'_>) -> bool
     }
 }
 
+/// The same for a record that is not decoded yet. It is decoded only if it is a comment.
+fn is_undecoded_dosseg(record: &Undecoded<'_>) -> bool
+    ensures { result ≡ is_dosseg «record».now.contents }
+{
+    match record.comment() {
+        Some(rec) => is_dosseg(&rec),
+        None => false,
+    }
+}
+
 /// Returns whether a module asks for DOS order.
 fn asks_dos_order(module: &Checked) -> bool
     ensures { result ≡ asks_dos_order (recs_of «module».now.bytes) }
 {
     let mut found = false;
-    for (_, rec) in module.records() {
-        found = found || is_dosseg(&rec);
+    for (_, record) in module.undecoded() {
+        found = found || is_undecoded_dosseg(&record);
     }
     found
 }

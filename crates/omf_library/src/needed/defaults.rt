@@ -7,7 +7,7 @@ ghost use Rattle.omf_library.specs.Defaults.{asked, asked_by, asked_in, once};
 ghost use Rattle.omf_library.specs.Inner.Asked.{HasAsked};
 ghost use Rattle.omf_library.specs.Inner.Names.{names_seen};
 
-use omf_check::Checked;
+use omf_check::{Checked, Undecoded};
 use omf_names::NameKey;
 use omf_records::Rec;
 use std::alloc::{AllocError, Global};
@@ -69,12 +69,22 @@ fn push_record<'a>(names: &mut Vec<&'a [u8]>, rec: &Rec<'a>) -> Result<(), Alloc
     }
 }
 
+/// The same for a record that is not decoded yet. It is decoded only if it is a comment.
+fn push_undecoded<'a>(names: &mut Vec<&'a [u8]>, record: &Undecoded<'a>) -> Result<(), AllocError>
+    ensures { OnOk result (names_seen names.new.items ≡ names_seen names.old.items ++ asked_in «record».now.contents) }
+{
+    match record.comment() {
+        Some(rec) => push_record(names, &rec),
+        None => Ok(()),
+    }
+}
+
 /// Adds the names that a module asks for.
 fn push_module<'a>(names: &mut Vec<&'a [u8]>, module: &'a Checked) -> Result<(), AllocError>
     ensures { OnOk result (names_seen names.new.items ≡ names_seen names.old.items ++ asked_by (recs_of «module».entry.now.bytes)) }
 {
-    for (_, rec) in module.records() {
-        push_record(names, &rec)?;
+    for (_, record) in module.undecoded() {
+        push_undecoded(names, &record)?;
     }
     Ok(())
 }

@@ -8,7 +8,7 @@ ghost use Rattle.omf_check.specs.Tables.{defined_externals};
 ghost use Rattle.omf_library.specs.Needed.{defined_publics, shared, shared_of};
 ghost use Rattle.omf_library.specs.Inner.Names.{names_by, names_seen};
 
-use omf_check::Checked;
+use omf_check::{Checked, Undecoded};
 use omf_records::{Communal, Extern, Items, Public, Rec};
 use std::alloc::{AllocError, Global};
 
@@ -124,6 +124,24 @@ fn push_shared<'a>(names: &mut Vec<&'a [u8]>, side: Side, rec: &Rec<'a>) -> Resu
     }
 }
 
+/// The same for a record that is not decoded yet. It is decoded only if it has names of this side.
+fn push_undecoded<'a>(
+    names: &mut Vec<&'a [u8]>,
+    side: Side,
+    record: &Undecoded<'a>,
+) -> Result<(), AllocError>
+    ensures { OnOk result (names_seen names.new.items ≡ names_seen names.old.items ++ shared_of (names_by side) «record».now.kind «record».now.contents) }
+{
+    let decoded = match side {
+        Side::Publics => record.publics(false),
+        Side::Externals => record.externals(),
+    };
+    match decoded {
+        Some(rec) => push_shared(names, side, &rec),
+        None => Ok(()),
+    }
+}
+
 /// The names of a module's publics or externals, those of local ones left out.
 pub(crate) fn names_of<'a>(
     alloc: Global,
@@ -133,8 +151,8 @@ pub(crate) fn names_of<'a>(
     ensures { IfOk result (λ names. names_seen names.items ≡ shared (names_by side) (recs_of «module».entry.now.bytes)) }
 {
     let mut names = Vec::new(alloc);
-    for (_, rec) in module.records() {
-        push_shared(&mut names, side, &rec)?;
+    for (_, record) in module.undecoded() {
+        push_undecoded(&mut names, side, &record)?;
     }
     Ok(names)
 }

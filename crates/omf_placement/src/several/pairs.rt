@@ -6,7 +6,7 @@ ghost use Rattle.omf_records.specs.Inner.Seen.{contents_seen};
 ghost use Rattle.omf_placement.specs.Inner.Pairing.{front_index, pairs_after};
 ghost use Rattle.omf_placement.specs.Weak.{indices, paired, pairs_in, weak_pairs};
 
-use omf_check::Checked;
+use omf_check::{Checked, Undecoded};
 use omf_records::Rec;
 use std::alloc::{AllocError, Global};
 
@@ -97,6 +97,16 @@ fn put_record(pairs: &mut Vec<WeakPair>, rec: &Rec<'_>) -> Result<(), AllocError
     }
 }
 
+/// The same for a record that is not decoded yet. It is decoded only if it is a comment.
+fn put_undecoded(pairs: &mut Vec<WeakPair>, record: &Undecoded<'_>) -> Result<(), AllocError>
+    ensures { OnOk result (pairs.new.items ≡ pairs.old.items ++ pairs_in «record».now.contents) }
+{
+    match record.comment() {
+        Some(rec) => put_record(pairs, &rec),
+        None => Ok(()),
+    }
+}
+
 /// Returns the pairs of a module, in order.
 ///
 /// # Errors
@@ -106,8 +116,8 @@ pub fn weak_pairs(alloc: Global, module: &Checked) -> Result<Vec<WeakPair>, Allo
     ensures { IfOk result (λ v. v.items ≡ weak_pairs (recs_of «module».now.bytes)) }
 {
     let mut pairs = Vec::new(alloc);
-    for (_, rec) in module.records() {
-        put_record(&mut pairs, &rec)?;
+    for (_, record) in module.undecoded() {
+        put_undecoded(&mut pairs, &record)?;
     }
     Ok(pairs)
 }

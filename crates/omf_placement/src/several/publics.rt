@@ -11,7 +11,7 @@ ghost use Rattle.omf_placement.specs.declared.frame.Placed.{Placed as Place};
 use crate::frame::{Frame, Placed};
 use crate::placement::Placement;
 use crate::several::fault::DeriveFault;
-use omf_check::Checked;
+use omf_check::{Checked, Undecoded};
 use omf_frame::Index;
 use omf_names::NameKey;
 use omf_records::{Items, Public, Rec};
@@ -196,6 +196,21 @@ impl<'a> PublicTable<'a> {
         }
     }
 
+    /// The same for a record that is not decoded yet. It is decoded only if it has such publics.
+    fn add_undecoded(
+        &mut self,
+        local: bool,
+        record: &Undecoded<'a>,
+        placement: &Placement,
+    ) -> Result<(), AllocError>
+        ensures { OnOk result (HasMore self.old.by_name self.new.by_name (record_publics local placement.now «record».now.kind «record».now.contents)) }
+    {
+        match record.publics(local) {
+            Some(rec) => self.add_record(local, &rec, placement),
+            None => Ok(()),
+        }
+    }
+
     /// Adds the local publics of a module, or its other publics.
     fn add_module(
         &mut self,
@@ -205,8 +220,8 @@ impl<'a> PublicTable<'a> {
     ) -> Result<(), AllocError>
         ensures { OnOk result (HasMore self.old.by_name self.new.by_name (publics local (recs_of «module».entry.now.bytes, placement.now))) }
     {
-        for (_, rec) in module.records() {
-            self.add_record(local, &rec, placement)?;
+        for (_, record) in module.undecoded() {
+            self.add_undecoded(local, &record, placement)?;
         }
         Ok(())
     }

@@ -6,5 +6,5 @@ use Rattle.omf_layout.proofs.Gathered.{given_by}
 use Rattle.omf_layout.proofs.wants.attributes_of.Given as goal
 
 -- those of the records so far, and those that are left
-abbrev pub invariant-loop-rec : goal.invariant-loop-rec
-invariant-loop-rec l = l.attributes.items ++ given_by attributes_in l.rec-iterator ≡ attributes (recs (records_in l.«module».bytes))
+abbrev pub invariant-loop-record : goal.invariant-loop-record
+invariant-loop-record l = l.attributes.items ++ given_by attributes_in l.record-iterator ≡ attributes (recs (records_in l.«module».bytes))
