@@ -6,8 +6,12 @@ import subprocess
 import executables
 import libraries
 from changes import changed_module
-from modules import UNRESOLVED, as_library, externals_of, is_main, is_simple, members_needed, provider, unresolved_lines, with_names
+from modules import TWICE, UNRESOLVED, as_library, externals_of, is_main, is_simple, members_needed, provider, repeated_lines, unresolved_lines, with_names
 from promises import ALLOW_ALL, TIMEOUT, program, promised, run
+
+
+# Names that no made and no real module has.
+UNASKED = (b"\xFFz", b"Unasked", b"Una")
 
 
 class Exe:
@@ -20,7 +24,8 @@ class Exe:
         self.accepted = self.compared = 0
 
     def inputs(self):
-        """Modules made at random, one of them perhaps changed; or a real module, and a made one that has what it needs."""
+        """Modules made at random, one of them perhaps changed, or one that defines the name of another; or a real module, and a made one that has what
+        it needs."""
         random_ = self.random
         if random_.randrange(3) == 0:
             real = random_.choice(self.modules)
@@ -28,9 +33,15 @@ class Exe:
             return [changed_module(random_, [real]) if random_.randrange(4) == 0 else real, own]
         main, count = random_.randrange(4), random_.randrange(4) + 1
         made = [executables.module(random_, number, number == main % count) for number in range(count)]
-        if random_.randrange(8) == 0:
-            at = random_.randrange(count)
-            made[at] = changed_module(random_, [made[at]])
+        return self.changed(made)
+
+    def changed(self, made):
+        """Made modules, of which one is perhaps changed; or one more, which defines the name of another."""
+        kind, at = self.random.randrange(8), self.random.randrange(len(made))
+        if kind == 0:
+            made[at] = changed_module(self.random, [made[at]])
+        elif kind == 1:
+            made.append(executables.module(self.random, at, False))
         return made
 
     def exe(self, file, names, folder):
@@ -51,15 +62,38 @@ class Exe:
             (folder / name).write_bytes(bytes_)
         status, lines = self.exe("p.exe", names, folder)
         if all(is_simple(it) and libraries.module_length(it) == len(it) for it in inputs) and (status == 0 or UNRESOLVED.fullmatch(lines)):
-            wanted = unresolved_lines(inputs, [f'file "in{number}.obj" module 1' for number in range(len(inputs))])
+            places = [f'file "in{number}.obj" module 1' for number in range(len(inputs))]
+            wanted = unresolved_lines(inputs, places)
+            wanted = repeated_lines(inputs, places) if wanted == b"" else wanted
             promised(wanted in (None, lines if status else b""), f"{lines}, not {wanted}")
-        if status == 0:
+        if status == 0 or (TWICE.fullmatch(lines) and self.is_allowed(lines, names, folder)):
             self.accepted += 1
             self.compare(names, inputs, (folder / "p.exe").read_bytes(), folder)
+        if status == 0 and self.random.randrange(3) == 0:
+            self.look_at_repeated(inputs, names, folder)
         if len(inputs) > 1 and self.random.randrange(3) == 0:
             self.look_at_library(inputs, names, folder)
         if self.random.randrange(4) == 0:
             self.look_at_case(inputs, folder)
+
+    def is_allowed(self, lines, names, folder):
+        """Whether --allow twice makes a program: the lines are then on standard error. Where an external asks for one of the names it is refused as before."""
+        done = subprocess.run([self.link, self.TASK, "-o", "p.exe", "--allow", "twice", *names], stdout=subprocess.PIPE, stderr=subprocess.PIPE, cwd=folder, timeout=TIMEOUT)
+        is_made = done.returncode == 0 and done.stdout == b"" and done.stderr.startswith(lines) and done.stderr[len(lines):].count(b"\n") <= 1
+        promised(is_made or (done.returncode, done.stdout, done.stderr) == (1, lines, b""), f"--allow twice: status {done.returncode}, {done}")
+        promised((folder / "p.exe").exists() == is_made, "--allow twice: the file")
+        return is_made
+
+    def look_at_repeated(self, inputs, names, folder):
+        """With two more modules, which define names that no other module has, there is a line for each name; and a program, if that is allowed."""
+        own, files = [provider(UNASKED[:self.random.randrange(3) + 1], False)] * 2, ["u.obj", "v.obj"]
+        for name, bytes_ in zip(files, own):
+            (folder / name).write_bytes(bytes_)
+        status, lines = self.exe("p.exe", [*names, *files], folder)
+        wanted = repeated_lines(own, [f'file "{it}" module 1' for it in files])
+        promised(status == 1 and (lines == wanted or not TWICE.fullmatch(lines)), f"{lines}, not {wanted}")
+        if lines == wanted and self.is_allowed(lines, [*names, *files], folder):
+            self.compare([*names, *files], [*inputs, *own], (folder / "p.exe").read_bytes(), folder)
 
     def look_at_library(self, inputs, names, folder):
         """Some modules in a library: the members that are needed, as a second reader finds them, linked by name give the same file."""
@@ -121,7 +155,4 @@ class Com(Exe):
         """Modules made at random, the first with a start at 100H and no data below, and with few references that need a selector."""
         random_, front, near = self.random, executables.COM_FRONT, executables.NEAR_LOCATIONS
         made = [executables.module(random_, number, number == 0, 0 if number else front, near) for number in range(random_.randrange(4) + 1)]
-        if random_.randrange(8) == 0:
-            at = random_.randrange(len(made))
-            made[at] = changed_module(random_, [made[at]])
-        return made
+        return self.changed(made)

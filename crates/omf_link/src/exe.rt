@@ -4,8 +4,8 @@ use crate::about::ABOUT;
 use crate::libraries::Sources;
 use omf_frame::Sink;
 use omf_host::{Status, misused_by};
-use omf_linker::asked::Asked;
-use omf_linker::exe::{Call, ExeOptions, ProgramModules, Refusal, missing_lines};
+use omf_linker::asked::{Asked, sorted};
+use omf_linker::exe::{Call, ExeOptions, ProgramModules, Refusal, call_of, missing_lines};
 use omf_linker::host::write_or_tell;
 use omf_linker::link::InputFile;
 use std::alloc::{AllocError, Global};
@@ -54,40 +54,65 @@ fn write_map<K: Sink>(
     }
 }
 
-/// The bytes of a program, and whether the line about a missing stack is printed.
+/// A program, its map if that is asked for, and the warnings about it.
 #[derive(Drop)]
 struct MadeProgram {
     bytes: Vec<u8>,
+    map: Option<Vec<u8>>,
+    repeated: String,
     lacks_stack: bool,
 }
 
-/// The program that is asked for, of modules.
-fn made(
-    alloc: Global,
-    modules: &ProgramModules,
-    files: &[InputFile],
-    is_com: bool,
-) -> Result<MadeProgram, Refusal> {
-    if is_com {
-        let bytes = modules.com(alloc, files)?;
-        return Ok(MadeProgram {
-            bytes,
-            lacks_stack: false,
-        });
-    }
-    let file = modules.exe(alloc, files)?;
-    Ok(MadeProgram {
-        bytes: file.bytes,
-        lacks_stack: !file.has_stack,
-    })
-}
-
-/// What is written: the program, as a .COM file or not, and its map.
+/// What is written: the program, as a .COM file or not, and its map; and whether more than one public may have a name.
 #[derive(Clone, Copy)]
 struct Output<'a> {
     name: &'a str,
     is_com: bool,
     map: Option<&'a str>,
+    allows_twice: bool,
+}
+
+/// The bytes of the program of modules, and whether it lacks a stack that it is to have.
+fn bytes_of(
+    alloc: Global,
+    modules: &ProgramModules,
+    files: &[InputFile],
+    is_com: bool,
+) -> Result<(Vec<u8>, bool), Refusal> {
+    if is_com {
+        return Ok((modules.com(alloc, files)?, false));
+    }
+    let file = modules.exe(alloc, files)?;
+    Ok((file.bytes, !file.has_stack))
+}
+
+/// The program of modules, with what belongs to it.
+fn made(
+    alloc: Global,
+    modules: &ProgramModules,
+    files: &[InputFile],
+    output: Output<'_>,
+) -> Result<MadeProgram, Refusal> {
+    let (bytes, lacks_stack) = bytes_of(alloc, modules, files, output.is_com)?;
+    let map = map_of(alloc, modules, files, output.map.is_some())?;
+    let repeated = modules.repeated(alloc, files, output.allows_twice)?;
+    Ok(MadeProgram {
+        bytes,
+        map,
+        repeated,
+        lacks_stack,
+    })
+}
+
+/// Prints the warnings of a program on the standard error.
+fn warn(rt: &HostRuntime, made: &MadeProgram) {
+    if !made.repeated.is_empty() {
+        let lines = made.repeated.as_str();
+        let _ = eprint!(rt; "{lines}");
+    }
+    if made.lacks_stack {
+        let _ = eprint!(rt; "{NO_STACK}");
+    }
 }
 
 /// Writes the program of modules, and its map if that is asked for. Nothing is written if one of them has a fault. Returns the status.
@@ -98,20 +123,16 @@ fn write_program<K: Sink>(
     output: Output<'_>,
     writer: &mut K,
 ) -> Result<Status, AllocError> {
-    let made = match made(rt.alloc(), modules, &sources.files, output.is_com) {
+    let made = match made(rt.alloc(), modules, &sources.files, output) {
         Ok(made) => made,
-        Err(refusal) => return refuse(rt, &refusal, &sources.missing, writer),
-    };
-    let map = match map_of(rt.alloc(), modules, &sources.files, output.map.is_some()) {
-        Ok(map) => map,
         Err(refusal) => return refuse(rt, &refusal, &sources.missing, writer),
     };
     let mut status = write_or_tell(rt, output.name, &made.bytes, writer)?;
     if status == Status::Done {
-        status = write_map(rt, output.map, map.as_ref(), writer)?;
+        status = write_map(rt, output.map, made.map.as_ref(), writer)?;
     }
-    if status == Status::Done && made.lacks_stack {
-        let _ = eprint!(rt; "{NO_STACK}");
+    if status == Status::Done {
+        warn(rt, &made);
     }
     Ok(status)
 }
@@ -133,35 +154,29 @@ fn with_options<K: Sink>(
     }
 }
 
-/// Makes a program of the files of the arguments, and writes it. Returns the status.
-fn write_to<K: Sink>(
+/// Does what arguments ask for, whose task is `exe` or `com`. Returns the status.
+pub fn on_words<K: Sink>(
     rt: &HostRuntime,
-    asked: &Asked,
-    output: Output<'_>,
+    words: &[String],
     writer: &mut K,
 ) -> Result<Status, AllocError> {
+    let Some(asked) = sorted(rt.alloc(), words, 2)? else {
+        return misused_by(rt, writer, &ABOUT);
+    };
+    let (name, is_com) = match call_of(&asked) {
+        Call::Other | Call::Misused => return misused_by(rt, writer, &ABOUT),
+        Call::Exe(name) => (name, false),
+        Call::Com(name) => (name, true),
+    };
     let arguments = asked.words.get(2..).unwrap_or(&[]);
     let Some(options) = ExeOptions::of(rt.alloc(), arguments)? else {
         return misused_by(rt, writer, &ABOUT);
     };
-    let map = options.map;
-    with_options(rt, asked, &options, Output { map, ..output }, writer)
-}
-
-/// Does what the arguments ask for, if that is `exe` or `com`. Returns the status.
-pub fn on_files<K: Sink>(
-    rt: &HostRuntime,
-    asked: &Asked,
-    call: Call<'_>,
-    writer: &mut K,
-) -> Result<Option<Status>, AllocError> {
-    let (name, is_com) = match call {
-        Call::Other => return Ok(None),
-        Call::Misused => return Ok(Some(misused_by(rt, writer, &ABOUT)?)),
-        Call::Exe(name) => (name, false),
-        Call::Com(name) => (name, true),
+    let output = Output {
+        name,
+        is_com,
+        map: options.map,
+        allows_twice: options.allows_twice,
     };
-    let map = None;
-    let output = Output { name, is_com, map };
-    Ok(Some(write_to(rt, asked, output, writer)?))
+    with_options(rt, &asked, &options, output, writer)
 }

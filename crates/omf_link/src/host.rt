@@ -8,7 +8,6 @@ use omf_host::{
     Status, end, explain, misused_by, out_of_memory, program_and_arguments, put, question_in,
 };
 use omf_linker::asked::{Asked, sorted};
-use omf_linker::exe::{Call, call_of};
 use omf_linker::host::{read_or_tell, run_on_input, write_output_or_tell};
 use omf_linker::link::{FilesFault, ImageFault, InputFile, Link, Output, Task, case_in, task_of};
 use omf_linker::seen::{
@@ -194,13 +193,11 @@ fn is_on_input(asked: &Asked) -> bool {
     }
 }
 
-/// Whether the arguments ask for a program for DOS.
-fn makes_program(asked: &Asked) -> bool {
-    match call_of(asked) {
-        Call::Other => false,
-        Call::Misused => true,
-        Call::Exe(_) => true,
-        Call::Com(_) => true,
+/// Whether the task is a program for DOS, which has an option `--allow` of its own.
+fn makes_program(words: &[String]) -> bool {
+    match words {
+        [_program, task, ..] => task.as_str() == "exe" || task.as_str() == "com",
+        _ => false,
     }
 }
 
@@ -232,7 +229,7 @@ fn on_task<K: Sink>(
     on_files(rt, manner, asked, writer)
 }
 
-/// Does what arguments ask for. Returns the status.
+/// Does what arguments ask for, which have no option `--allow`. Returns the status.
 fn on_words<K: Sink>(
     rt: &HostRuntime,
     words: &[String],
@@ -242,13 +239,6 @@ fn on_words<K: Sink>(
     let Some(asked) = sorted(rt.alloc(), words, 2)? else {
         return misused_by(rt, writer, &ABOUT);
     };
-    if allowed.has_any() && makes_program(&asked) {
-        return misused_by(rt, writer, &ABOUT);
-    }
-    let call = call_of(&asked);
-    if let Some(status) = exe::on_files(rt, &asked, call, writer)? {
-        return Ok(status);
-    }
     on_task(rt, &asked, allowed, writer)
 }
 
@@ -259,6 +249,9 @@ fn act<K: Sink>(rt: &HostRuntime, writer: &mut K) -> Result<Status, AllocError> 
     };
     if let Some(question) = question_in(words.get(1..).unwrap_or(&[])) {
         return explain(rt.alloc(), writer, question, &ABOUT);
+    }
+    if makes_program(&words) {
+        return exe::on_words(rt, &words, writer);
     }
     match allowed_in(rt.alloc(), &words)? {
         Some((allowed, words)) => on_words(rt, &words, allowed, writer),

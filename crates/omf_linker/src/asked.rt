@@ -32,6 +32,7 @@ fn is_valued(argument: &str) -> bool
         "--library-path" => true,
         "--stack" => true,
         "--order" => true,
+        "--allow" => true,
         _ => false,
     }
 }

@@ -14,6 +14,7 @@ mod memory;
 mod modules;
 mod order;
 mod printing;
+mod repeated;
 mod scarce;
 mod seen;
 mod spelled;

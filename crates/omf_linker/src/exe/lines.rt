@@ -5,7 +5,7 @@ use crate::exe::input::Origin;
 use crate::exe::ordering::OrderingFault;
 use crate::exe::sharing::SharingFault;
 use crate::lines::{Labeled, high_line, put_part, reach_line, starts_line};
-use crate::link::{InputFile, put_own, unresolved_text};
+use crate::link::{InputFile, put_own, repeated_text, unresolved_text};
 use omf_check::Checked;
 use omf_cmd::{RunFault, fault_line};
 use omf_frame::Place;
@@ -83,6 +83,19 @@ impl<'a> Origins<'a> {
             labels.push(label)?;
         }
         Ok(labels)
+    }
+
+    /// The lines of the names that more than one public has, in ascending order. Out of memory if there are 2^32 modules or more.
+    pub(crate) fn repeated_lines(&self, alloc: Global) -> Result<String, AllocError> {
+        if self.modules.len() > u32::MAX as usize {
+            return Err(AllocError);
+        }
+        let numbered = repeated_text(alloc, &[], self.modules)?;
+        if numbered.is_empty() {
+            return Ok(numbered);
+        }
+        let labels = self.labels(alloc)?;
+        repeated_text(alloc, &labels, self.modules)
     }
 
     /// The lines of a program's fault.

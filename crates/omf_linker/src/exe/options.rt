@@ -35,6 +35,8 @@ pub struct ExeOptions<'a> {
     pub stack: Option<u16>,
     /// The order of the segments. None: DOS order if a module asks for it, else that of the modules.
     pub order: Option<Order>,
+    /// Whether several publics may have one name, if no external has it.
+    pub allows_twice: bool,
 }
 
 /// The size of a stack: a decimal number from 1 to 65534.
@@ -68,7 +70,17 @@ impl<'a> ExeOptions<'a> {
             ignore_case: false,
             stack: None,
             order: None,
+            allows_twice: false,
         }
+    }
+
+    /// Allows what a value names. Returns false if that is none of what a program may do, or if it is allowed already.
+    fn allow(&mut self, kind: &str) -> bool {
+        if self.allows_twice || kind != "twice" {
+            return false;
+        }
+        self.allows_twice = true;
+        true
     }
 
     /// Takes an option without a value. Returns false if it is none.
@@ -96,6 +108,7 @@ impl<'a> ExeOptions<'a> {
             }
             "--stack" => Ok(put_once(&mut self.stack, stack_of(value))),
             "--order" => Ok(put_once(&mut self.order, order_named(value))),
+            "--allow" => Ok(self.allow(value)),
             _ => Ok(false),
         }
     }

@@ -271,6 +271,28 @@ impl ProgramModules {
         }
     }
 
+    /// The lines of the names that more than one public of the modules has, in ascending order; empty if there are none. A program without a
+    /// fault has no external of these names.
+    ///
+    /// # Errors
+    ///
+    /// The lines, if there are any and they are not allowed; or out of memory.
+    pub fn repeated(
+        &self,
+        alloc: Global,
+        files: &[InputFile],
+        is_allowed: bool,
+    ) -> Result<String, Refusal> {
+        let Ok(lines) = self.origins(files).repeated_lines(alloc) else {
+            return Err(memory());
+        };
+        if is_allowed || lines.is_empty() {
+            Ok(lines)
+        } else {
+            Err(Refusal::Line(lines.into_bytes()))
+        }
+    }
+
     /// The map of the program: a line for each module, and the map of the modules at the places of the program.
     ///
     /// # Errors
@@ -305,22 +327,26 @@ impl ProgramModules {
 ///
 /// # Errors
 ///
-/// The first file that is not read; otherwise the fault of `share_communals`; otherwise that of `program_of`.
+/// The first file that is not read; otherwise the fault of `share_communals`; otherwise that of `program_of`; otherwise the names that more
+/// than one public has.
 pub fn exe_of_files(alloc: Global, files: &[InputFile]) -> Result<ExeFile, Refusal> {
-    let modules = ProgramModules::of(alloc, files)?;
-    modules
-        .with_added(alloc, &ExeOptions::new(alloc))?
-        .exe(alloc, files)
+    let options = ExeOptions::new(alloc);
+    let modules = ProgramModules::of(alloc, files)?.with_added(alloc, &options)?;
+    let file = modules.exe(alloc, files)?;
+    let _ = modules.repeated(alloc, files, options.allows_twice)?;
+    Ok(file)
 }
 
 /// The .COM file of files, whose modules take part as those of an .EXE file.
 ///
 /// # Errors
 ///
-/// The first file that is not read; otherwise the fault of `share_communals`; otherwise that of `com_of`.
+/// The first file that is not read; otherwise the fault of `share_communals`; otherwise that of `com_of`; otherwise the names that more than
+/// one public has.
 pub fn com_of_files(alloc: Global, files: &[InputFile]) -> Result<Vec<u8>, Refusal> {
-    let modules = ProgramModules::of(alloc, files)?;
-    modules
-        .with_added(alloc, &ExeOptions::new(alloc))?
-        .com(alloc, files)
+    let options = ExeOptions::new(alloc);
+    let modules = ProgramModules::of(alloc, files)?.with_added(alloc, &options)?;
+    let bytes = modules.com(alloc, files)?;
+    let _ = modules.repeated(alloc, files, options.allows_twice)?;
+    Ok(bytes)
 }

@@ -12,7 +12,7 @@ pub enum Refusal {
     Files(FilesFault),
     /// No module and no member defines an external, as a line.
     Undefined(Vec<u8>),
-    /// Any other reason, as a line.
+    /// Any other reason, as a line; as a line for each name if more than one public has it.
     Line(Vec<u8>),
 }
 

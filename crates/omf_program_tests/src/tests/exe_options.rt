@@ -16,6 +16,7 @@ struct Read {
     ignore_case: bool,
     stack: Option<u16>,
     order: Option<Order>,
+    allows_twice: bool,
 }
 
 /// No options.
@@ -26,12 +27,13 @@ const NONE: Read = Read {
     ignore_case: false,
     stack: None,
     order: None,
+    allows_twice: false,
 };
 
 /// Arguments, separated by spaces, and the options that they give.
 type Case = (&'static str, Option<Read>);
 
-static CASES: [Case; 20] = [
+static CASES: [Case; 26] = [
     ("", Some(NONE)),
     (
         "--map a.map",
@@ -84,6 +86,22 @@ static CASES: [Case; 20] = [
             ..NONE
         }),
     ),
+    (
+        "--allow twice",
+        Some(Read {
+            allows_twice: true,
+            ..NONE
+        }),
+    ),
+    (
+        "--map a.map --allow twice --order dos",
+        Some(Read {
+            map: Some("a.map"),
+            order: Some(Order::Dos),
+            allows_twice: true,
+            ..NONE
+        }),
+    ),
     // A value is missing, wrong, or there twice; an option is unknown.
     ("--map", None),
     ("--stack", None),
@@ -94,6 +112,10 @@ static CASES: [Case; 20] = [
     ("--order", None),
     ("--order DOS", None),
     ("--order dos --order dos", None),
+    ("--allow", None),
+    ("--allow overlap", None),
+    ("--allow TWICE", None),
+    ("--allow twice --allow twice", None),
     ("--map a --map b", None),
     ("--stack 1 --stack 1", None),
     ("--base 0", None),
@@ -118,6 +140,7 @@ fn are_read(options: &ExeOptions<'_>, read: &Read) -> bool {
         && options.ignore_case == read.ignore_case
         && options.stack == read.stack
         && options.order == read.order
+        && options.allows_twice == read.allows_twice
 }
 
 /// Whether arguments give the options of a case.
@@ -139,17 +162,17 @@ fn options_are_read_or_refused(rt: HostRuntime) {
     }
 }
 
-/// Whether sorted arguments make a program, have three options with their values, and name one file.
+/// Whether sorted arguments make a program, have four options with their values, and name one file.
 fn is_call(asked: &Asked) -> bool {
     match call_of(asked) {
-        Call::Exe(output) => output == "a.exe" && asked.words.len() == 8 && asked.files.len() == 1,
+        Call::Exe(output) => output == "a.exe" && asked.words.len() == 10 && asked.files.len() == 1,
         Call::Com(_) | Call::Other | Call::Misused => false,
     }
 }
 
 /// Whether options with values may be before and after the files.
 fn options_have_values(alloc: Global) -> bool {
-    let text = "omf-link exe --map a.map a.obj --stack 8 -o a.exe --library-path b";
+    let text = "omf-link exe --map a.map a.obj --stack 8 -o a.exe --allow twice --library-path b";
     let Ok(arguments) = arguments_of(alloc, text) else {
         return false;
     };
