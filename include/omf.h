@@ -74,7 +74,8 @@ enum omf_not_linked {
     OMF_START_HIGH = 14,   /* the offset of the start is over 65,535 */
     OMF_STACK_HIGH = 15,   /* the end of the stack is not in its frame */
     OMF_WORD_OVERLAP = 16, /* the part at offset `within` of record `number` overlaps a relocation word */
-    OMF_MANY_WORDS = 17    /* more than 65,535 relocation words */
+    OMF_MANY_WORDS = 17,   /* more than 65,535 relocation words */
+    OMF_REPEATED = 18      /* omf_exe: more than one public has a name that no external asks for */
 };
 
 /* `kind` at OMF_MISSING and OMF_EXTRA. */
@@ -263,7 +264,8 @@ struct omf_answer omf_link_image(const uint8_t *input, size_t length, uint32_t b
  * (docs/LINK.md). A member of a library is such a module, where omf_library_members has it. Loaded at any paragraph, the file is what the modules are at
  * their placements moved there. Returns OMF_DONE, OMF_NOT_LINKED, OMF_ROOM, OMF_MEMORY; or OMF_REFUSED or OMF_REACH with the module in
  * `record_count`.
- * A communal is an external here: some module must have a public of its name. `omf-link exe` adds a module for communals. */
+ * A communal is an external here: some module must have a public of its name. `omf-link exe` adds a module for communals. A name with more than one
+ * public is a fault also if no external asks for it: OMF_REPEATED. */
 struct omf_answer omf_exe(const uint8_t *input, size_t length, uint8_t *out, size_t room);
 
 /* The name and the sentence of a reason, 1 to 33, as `Cut` and `the input ends inside a record`; nothing for any other number. They return

@@ -473,7 +473,7 @@ _LINKS = {
     12: "module {0.record_count} record {0.number} at {0.start} within {0.within} does not move with the program",
     13: "no start: no main module names one", 14: "module {0.record_count} start: its offset is over 65535",
     15: "the end of the stack is not in its frame", 16: "module {0.record_count} record {0.number} at {0.start} within {0.within} overlaps a relocation word",
-    17: "more than 65535 relocation words",
+    17: "more than 65535 relocation words", 18: "a name that no external asks for has more than one public",
 }
 
 

@@ -192,6 +192,8 @@ class Libraries(unittest.TestCase):
 # in the frame of T.
 ONE = bytes.fromhex("80030001413B 960600000154015300 98070028040002010100 98070074100003010100 A00800010000B80000CB00 9C0500C801540100 8A0700C1000101000000")
 FRAMED = bytes.fromhex("80030001413B 96040000015400 98070028030002010100 8C040001660000 A00700010000BB000000 9C0600C40106010100 8A0700C1000101000000")
+STARTS = bytes.fromhex("80030001413B 96040000015400 98070028010002010100 9008000001016600000000 A00500010000CB00 8A0700C1000101000000")
+DEFINES = bytes.fromhex("800300014200 96040000015400 98070028010002010100 9008000001016600000000 A005000100009000 8A02000000")
 ABSOLUTE = bytes.fromhex("80030001420096040000015400 900A0000000000016634120000 8A02000000")
 TEXT = 'M "A"\nS "T" 7C00 real\nS "S" 7D00 real\n'
 
@@ -216,6 +218,8 @@ class Links(unittest.TestCase):
         self.assertEqual((is_.reason, is_.module, str(is_)), (3, 0, "module 0 external 1 is not defined"))
         is_ = self.fault_of(omf.link, [ONE], TEXT, 0x7C01, 8)
         self.assertEqual((is_.reason, is_.module, str(is_)), (9, 0, "a byte at 00007C00 is outside"))
+        is_ = self.fault_of(omf.link_exe, [STARTS, DEFINES])
+        self.assertEqual((is_.reason, is_.module, str(is_)), (18, None, "a name that no external asks for has more than one public"))
         self.assertEqual(self.fault_of(omf.link_exe, []).fault.name, "NoEnd")
 
     def test_a_line_has_its_number(self):

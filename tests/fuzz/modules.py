@@ -15,6 +15,7 @@ WEAK = (b"\xA8", b"\xA9")
 NAMED = EXTERNALS + COMMUNALS + PUBLICS + LOCALS
 ENDS = (0x8A, 0x8B)
 MOST_MEMBER = 4096
+TWICE = re.compile(rb'(?:twice "[^"]*": .*\n)+')
 UNRESOLVED = re.compile(rb'(?:(?:undefined|twice) "[^"]*": .*\n)+')
 
 
@@ -132,6 +133,13 @@ def unresolved_lines(modules, places):
         if len(definers) != 1:
             lines.append(f"{'twice' if definers else 'undefined'} {quoted(name)}: {', '.join(definers or askers)}\n")
     return "".join(lines).encode()
+
+
+def repeated_lines(modules, places):
+    """A line for each name that more than one of the modules defines, in ascending order, with their places."""
+    publics = [{it[0] for it in publics_of(one)} for one in modules]
+    definers = {name: [place for place, names in zip(places, publics) if name in names] for name in sorted(set().union(*publics))}
+    return "".join(f"twice {quoted(name)}: {', '.join(own)}\n" for name, own in definers.items() if len(own) > 1).encode()
 
 
 def provider(names, starts):

@@ -78,7 +78,7 @@ static void look_at_fault(struct omf_answer answer, size_t length, const struct 
             look_at_place(answer, in, false);
         }
     } else {
-        PROMISED(answer.status == OMF_NOT_LINKED && answer.reason >= OMF_UNDEFINED && answer.reason <= OMF_MANY_WORDS);
+        PROMISED(answer.status == OMF_NOT_LINKED && answer.reason >= OMF_UNDEFINED && answer.reason <= OMF_REPEATED);
         PROMISED(answer.reason < OMF_BEYOND || answer.reason >= OMF_HIGH);
         PROMISED(answer.record_count < in->count && answer.reason != OMF_MOVERS);
         PROMISED(answer.reason != OMF_STARTS || (answer.record_count < answer.size && answer.size < in->count));

@@ -9,7 +9,8 @@ library    changed libraries: omf-lib finds the members that tests/fuzz/librarie
            exactly the members, only into its folder, and changes no file that is there; `make` of them and `canon` give libraries without faults
 exe        modules, made at random or real, some changed: what `omf-link exe` writes, loaded by tests/fuzz/executables.py at several paragraphs, has
            the bytes and the start of these modules, linked or each relocated alone, at addresses so much higher; with some of them in a library
-           the file is that of the members that are needed; of a fault there is one line and no file
+           the file is that of the members that are needed; of a fault there is one line, or one for each name, and no file; names that more than one
+           module defines are those that a second reader finds, and with --allow twice they are lines on standard error
 com        the same for `omf-link com`
 placement  placement texts: a draft of omf-place is read back, another spelling of it has the same listing, and of a changed text the first line
            that a second reader does not understand is reported

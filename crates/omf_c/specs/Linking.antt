@@ -1,7 +1,7 @@
 -- The results of the calls that link modules (this profile's rule).
 use Rattle.std.specs.Prelude.{◌≡◌, ◌⊎◌, ◌≢◌, ℕ, ◌+◌, List, [], length, Bool, false, Option, Some, None, Result, Ok, Err}
 use Rattle.omf_frame.specs.Fault.{reason_number}
-use Rattle.omf_check.specs.Module.{Module}
+use Rattle.omf_check.specs.Module.{Module, typed_modules}
 use Rattle.omf_check.specs.declared.profile.Profile.{Profile}
 use Rattle.omf_placement.specs.declared.several.fault.DeriveFault.{DeriveFault}
 use Rattle.omf_placement.specs.declared.several.fault.DeriveFault.TheVariants as derive
@@ -18,7 +18,9 @@ use Rattle.omf_output.specs.declared.exe.fault.ExeFault.TheVariants as exe
 use Rattle.omf_output.specs.declared.rom.form.Chip.{Chip}
 use Rattle.omf_output.specs.declared.rom.form.Form.TheVariants.{Binary}
 use Rattle.omf_linker.specs.Exe.Program.{IsProgramFault, IsProgramOf}
+use Rattle.omf_linker.specs.Link.Repeated.{IsRepeatedText}
 use Rattle.omf_linker.specs.Link.Shown.{IsShownOf}
+use Rattle.omf_linker.specs.Link.Unresolved.{all_rows}
 use Rattle.omf_linker.specs.declared.exe.fault.ProgramFault.{ProgramFault}
 use Rattle.omf_linker.specs.declared.exe.fault.ProgramFault.TheVariants as program
 use Rattle.omf_linker.specs.declared.link.fault.ImageFault.{ImageFault}
@@ -112,13 +114,20 @@ of_program (program.Exe f) = of_exe f
 abbrev pub any : Profile
 any = record { refuse_vendor_comments = false }
 
--- The program of an input that is modules, one after another; or why it is none: a module is refused, something is left after the modules, or they are no program.
+-- The program of modules in which no name has more than one public; or why it is none: the modules are no program, or a name has more.
+abbrev pub IsProgramMade : List Module → Result (List ℕ) Answer → Type 0
+IsProgramMade modules (Ok bytes) = IsRepeatedText [] (all_rows (typed_modules modules)) [] × ((has_stack : Bool) × IsProgramOf modules bytes has_stack)
+IsProgramMade modules (Err answer) =
+    ((f : ProgramFault) × IsProgramFault modules f × (answer ≡ of_program f))
+    ⊎ ((lines : List ℕ) × IsRepeatedText [] (all_rows (typed_modules modules)) lines × (lines ≢ []) × (answer ≡ unlinked 18))
+
+-- The program of an input that is modules, one after another; or why it is none: a module is refused, something is left after the modules, or their program is not made.
 abbrev pub IsProgramIn : List ℕ → Result (List ℕ) Answer → Type 0
-IsProgramIn input (Ok bytes) = (modules : List Module) × AreModules any input (Ok (modules, [])) × ((has_stack : Bool) × IsProgramOf modules bytes has_stack)
+IsProgramIn input (Ok bytes) = (modules : List Module) × AreModules any input (Ok (modules, [])) × IsProgramMade modules (Ok bytes)
 IsProgramIn input (Err answer) =
     ((f : LinkFault) × AreModules any input (Err f) × (answer ≡ of_link f))
     ⊎ (((modules : List Module) × (text : List ℕ) × AreModules any input (Ok (modules, text)) × (text ≢ []) × (answer.size + length text ≡ length input) × (answer ≡ of_link (link.NoText answer.size)))
-    ⊎ ((modules : List Module) × AreModules any input (Ok (modules, [])) × ((f : ProgramFault) × IsProgramFault modules f × (answer ≡ of_program f))))
+    ⊎ ((modules : List Module) × AreModules any input (Ok (modules, [])) × IsProgramMade modules (Err answer)))
 
 abbrev pub ShowsProgram : Result (List ℕ) Answer → Answer → List ℕ → List ℕ → Type 0
 ShowsProgram (Ok bytes) answer old new = HandsOut bytes answer old new

@@ -2,14 +2,14 @@
 
 ghost use Rattle.std.specs.Prelude.{◌≡◌, ◌^◌, ◌<◌, length};
 ghost use Rattle.omf_records.specs.Inner.Seen.{map_ok};
-ghost use Rattle.omf_c.specs.Linking.{IsChipAnswered, IsProgramAnswered, IsProgramIn, of_derive, of_exe, of_image, of_link, of_program, of_space, outside, unlinked, why_number};
+ghost use Rattle.omf_c.specs.Linking.{IsChipAnswered, IsProgramAnswered, IsProgramIn, IsProgramMade, of_derive, of_exe, of_image, of_link, of_program, of_space, outside, unlinked, why_number};
 
 use crate::answer::{Answer, NOTHING, fault_answer, hand_out, reach_answer};
-use omf_check::Profile;
+use omf_check::{Checked, Profile};
 use omf_cmd::RunFault;
 use omf_frame::Place;
 use omf_linker::exe::{ProgramFault, program_of};
-use omf_linker::link::{ImageFault, Task, shown_text};
+use omf_linker::link::{ImageFault, Task, repeated_text, shown_text};
 use omf_linking::locator::LineFault;
 use omf_linking::space::{MemoryFault, Owner};
 use omf_linking::{LinkFault, modules_in};
@@ -247,6 +247,24 @@ fn program_answer(fault: ProgramFault) -> Answer
     }
 }
 
+/// The program of modules in which no name has more than one public.
+fn made(alloc: Global, modules: &[Checked]) -> Result<Vec<u8>, Answer>
+    requires { length modules.now < 2 ^ 32 }
+    ensures { IsProgramMade modules.now (map_ok (λ v. v.items) result) }
+{
+    let file = match program_of(alloc, modules) {
+        Ok(file) => file,
+        Err(fault) => return Err(program_answer(fault)),
+    };
+    let Ok(lines) = repeated_text(alloc, &[], modules) else {
+        return Err(program_answer(ProgramFault::Memory));
+    };
+    if !lines.is_empty() {
+        return Err(unlinked(18));
+    }
+    Ok(file.bytes)
+}
+
 /// The program of an input that is modules, one after another.
 fn program_in(alloc: Global, input: &[u8]) -> Result<Vec<u8>, Answer>
     ensures { IsProgramIn input.now (map_ok (λ v. v.items) result) }
@@ -262,14 +280,12 @@ fn program_in(alloc: Global, input: &[u8]) -> Result<Vec<u8>, Answer>
         let at = (input.len() - text.len()) as u64;
         return Err(link_answer(LinkFault::NoText(at)));
     }
-    match program_of(alloc, &modules) {
-        Ok(file) => Ok(file.bytes),
-        Err(fault) => Err(program_answer(fault)),
-    }
+    made(alloc, &modules)
 }
 
 /// Makes a DOS program (an MZ file) of the modules of an input, one after another, each with padding or none, and nothing after them. What DOS makes of
-/// it at any paragraph is what the modules are at their placements moved there. At status 0 the file is at the start of the buffer.
+/// it at any paragraph is what the modules are at their placements moved there. No name has more than one public. At status 0 the file is at the
+/// start of the buffer.
 #[unsafe(no_mangle)]
 pub extern "C" fn omf_exe(alloc: Global, input: &[u8], out: &mut [u8]) -> Answer
     ensures { IsProgramAnswered input.now result out.old out.new }

@@ -349,3 +349,39 @@ fn modules_are_linked(rt: HostRuntime) {
         "a memory"
     );
 }
+
+/// The main module of a program: the segment T (retf), the public f, and a start at offset 0 of T; and a module that defines f again.
+const REPEATED: &[&str] = &[
+    "80 03 00 01 41 3B",
+    "96 04 00 00 01 54 00",
+    "98 07 00 28 01 00 02 01 01 00",
+    "90 08 00 00 01 01 66 00 00 00 00",
+    "A0 05 00 01 00 00 CB 00",
+    "8A 07 00 C1 00 01 01 00 00 00",
+    "80 03 00 01 42 00",
+    "96 04 00 00 01 54 00",
+    "98 07 00 28 01 00 02 01 01 00",
+    "90 08 00 00 01 01 66 00 00 00 00",
+    "A0 05 00 01 00 00 90 00",
+    "8A 02 00 00 00",
+];
+
+/// Whether no program is made of these records, for a name that no external asks for and that has two publics.
+fn is_repeated(alloc: Global, rows: &[&str]) -> bool {
+    let Ok(input) = joined(alloc, rows) else {
+        return false;
+    };
+    let mut buffer = [7; 48];
+    let answer = omf_exe(alloc, &input, &mut buffer);
+    let wanted = Answer {
+        status: 10,
+        reason: 18,
+        ..NOTHING
+    };
+    answer == wanted && buffer == [7; 48]
+}
+
+#[test]
+fn a_name_with_two_publics_is_refused(rt: HostRuntime) {
+    assert!(rt; is_repeated(rt.alloc(), REPEATED));
+}
