@@ -114,12 +114,16 @@ of_program (program.Exe f) = of_exe f
 abbrev pub any : Profile
 any = record { refuse_vendor_comments = false }
 
--- The program of modules in which no name has more than one public; or why it is none: the modules are no program, or a name has more.
+-- Modules have a program.
+abbrev pub IsLinkable : List Module → Type 0
+IsLinkable modules = (bytes : List ℕ) × (has_stack : Bool) × IsProgramOf modules bytes has_stack
+
+-- The program of modules in which no name has more than one public; or why it is none: the modules have no program; or else a name has more.
 abbrev pub IsProgramMade : List Module → Result (List ℕ) Answer → Type 0
 IsProgramMade modules (Ok bytes) = IsRepeatedText [] (all_rows (typed_modules modules)) [] × ((has_stack : Bool) × IsProgramOf modules bytes has_stack)
 IsProgramMade modules (Err answer) =
     ((f : ProgramFault) × IsProgramFault modules f × (answer ≡ of_program f))
-    ⊎ ((lines : List ℕ) × IsRepeatedText [] (all_rows (typed_modules modules)) lines × (lines ≢ []) × (answer ≡ unlinked 18))
+    ⊎ (IsLinkable modules × ((lines : List ℕ) × IsRepeatedText [] (all_rows (typed_modules modules)) lines × (lines ≢ []) × (answer ≡ unlinked 18)))
 
 -- The program of an input that is modules, one after another; or why it is none: a module is refused, something is left after the modules, or their program is not made.
 abbrev pub IsProgramIn : List ℕ → Result (List ℕ) Answer → Type 0

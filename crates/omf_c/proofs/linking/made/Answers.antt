@@ -22,7 +22,7 @@ returns-then-not-is_empty c =
     let text = c.in-Ok-repeated_text.lines.bytes in
     let many : vec_len text ≡ length text.items = search rules in
     let empty = c.is_empty.ensures ∙ ap (λ (n : ℕ). n == 0) many in
-    inr (text.items, c.in-Ok-repeated_text.ensures, some text.items c.is_empty.result empty c.if-not-is_empty.true, c.unlinked.ensures)
+    inr ((c.in-Ok.file.bytes.items, c.in-Ok.file.has_stack, c.in-Ok.ensures.program), (text.items, c.in-Ok-repeated_text.ensures, some text.items c.is_empty.result empty c.if-not-is_empty.true, c.unlinked.ensures))
 
 pub returns : goal.returns
 returns c =
