@@ -2,7 +2,8 @@
 
 tests/fuzz/libraries.py PROGRAM FOLDER runs omf-lib on the libraries of a folder: `list` shows the members that this reader finds, `get` writes
 exactly their bytes, `check` says OK only where this reader finds each entry by both searches, `canon` writes a library that is its own
-canonical one, and each cut and each changed byte of the smallest library has an answer."""
+canonical one, and each cut and each changed byte of the smallest library has an answer. Searches that would be long end: `check` has the fault 16,
+and `make` refuses."""
 import os
 import struct
 import subprocess
@@ -210,6 +211,40 @@ def try_changes(program, file):
     print(f"{file}: {2 * len(bytes_)} changes, each with an answer")
 
 
+def full_block(name):
+    """A block marked as full, whose buckets all lead to one entry."""
+    block = bytearray(BLOCK)
+    block[:BUCKETS + 1] = bytes([20]) * BUCKETS + b"\xFF"
+    block[40:41 + len(name)] = bytes([len(name)]) + name
+    return bytes(block)
+
+
+def names_of_one_hash(count):
+    """Names that differ in the case of their letters alone: the hash sets the bit 20H of each character."""
+    return [bytes((0x41 if number >> at & 1 else 0x61) + at for at in range(14)) for number in range(count)]
+
+
+def try_long_searches(program):
+    """Each name of the first library has a block of its own, which a search reaches after half of the others. The names of the second one fill
+    200 blocks and more, of 24 names each at most, and all searches begin in one block."""
+    blocks = b"".join(full_block(b"x" * 251 + struct.pack("<I", it)) for it in range(1500))
+    with tempfile.TemporaryDirectory() as folder:
+        with open(f"{folder}/x.lib", "wb") as it:
+            it.write(library([(module(b"", ()), ())], blocks=blocks))
+        lines, status = run(program, "check", f"{folder}/x.lib")
+        assert status == 1 and lines[-1] == "fault 16 LongSearches at 512", f"long searches: {lines[-1]}"
+        for count in (100, 5000):
+            names = names_of_one_hash(count)
+            assert len({probe(it, 65521) for it in names}) == 1
+            with open(f"{folder}/{count}.obj", "wb") as it:
+                it.write(module(b"", names))
+            lines, status = run(program, "make", "-o", f"{folder}/{count}.lib", f"{folder}/{count}.obj")
+            assert status == (count > 100), f"{count} names of one hash: {lines}"
+        assert lines == [f"refused {folder}/5000.lib: the searches for its names would be too long"] and not os.path.exists(f"{folder}/5000.lib")
+        try_file(program, f"{folder}/100.lib")
+    print("long searches: fault 16, and make refuses")
+
+
 if __name__ == "__main__":
     if len(sys.argv) != 3:
         sys.exit(__doc__)
@@ -219,3 +254,4 @@ if __name__ == "__main__":
         try_file(sys.argv[1], name)
         try_canon(sys.argv[1], name)
     try_changes(sys.argv[1], min(files, key=os.path.getsize))
+    try_long_searches(sys.argv[1])

@@ -12,15 +12,11 @@ use crate::text::put_note;
 use omf_check::Profile;
 use omf_frame::Sink;
 use omf_host::Status;
-use omf_library::{BLOCK, BUCKETS, Bucket, Defined, Dictionary, Kind, Rule, defined_names};
+use omf_library::{
+    BLOCK, BUCKETS, Bucket, Defined, Dictionary, Kind, Rule, Sought, credit_of, defined_names,
+};
 use std::alloc::{AllocError, Global};
 use std::fmt::Write;
-
-/// What each search may cost: full blocks passed, times the length of the name and one more.
-const CREDIT: u64 = 256;
-
-/// What the searches of a library may cost beyond that.
-const FIRST_CREDIT: u64 = 1 << 20;
 
 /// The lines so far, and what was counted.
 #[derive(Drop)]
@@ -31,32 +27,49 @@ struct Report {
     publics: u64,
     entries: u64,
     /// What the searches may still cost. They end where it would be less than 0, so the time of a check is linear in the
-    /// number of publics and entries.
+    /// size of the library.
     credit: Option<u64>,
+}
+
+/// What the two searches of a name find: the page of a member, or none.
+#[derive(Clone, Copy)]
+struct Both {
+    restart: Option<u16>,
+    keep: Option<u16>,
 }
 
 impl Report {
     /// Searches for a name. Returns None once the searches have cost too much.
-    fn search(
-        &mut self,
-        dictionary: Dictionary<'_>,
-        rule: Rule,
-        name: &[u8],
-    ) -> Option<Option<u16>> {
+    fn search(&mut self, dictionary: Dictionary<'_>, rule: Rule, name: &[u8]) -> Option<Sought> {
         let credit = self.credit?;
         let sought = dictionary.search(rule, name);
-        let cost = (sought.passed as u64).saturating_mul((name.len() as u64).saturating_add(1));
-        self.credit = credit.saturating_add(CREDIT).checked_sub(cost);
-        Some(sought.page)
+        self.credit = credit.checked_sub(sought.cost);
+        Some(sought)
+    }
+
+    /// Searches for a name by both rules. They differ only after a full block, so that one search will do if it passes none.
+    /// Returns None once the searches have cost too much.
+    fn search_twice(&mut self, dictionary: Dictionary<'_>, name: &[u8]) -> Option<Both> {
+        let restart = self.search(dictionary, Rule::Restart, name)?;
+        let keep = if restart.passed == 0 {
+            restart.page
+        } else {
+            self.search(dictionary, Rule::Keep, name)?.page
+        };
+        Some(Both {
+            restart: restart.page,
+            keep,
+        })
     }
 
     /// Searches for a name by the rule of the standard, and then by the other one. Returns None once the searches have cost
     /// too much.
     fn search_both(&mut self, dictionary: Dictionary<'_>, name: &[u8]) -> Option<Option<u16>> {
-        match self.search(dictionary, Rule::Restart, name)? {
-            Some(page) => Some(Some(page)),
-            None => self.search(dictionary, Rule::Keep, name),
+        let restart = self.search(dictionary, Rule::Restart, name)?;
+        if restart.page.is_some() || restart.passed == 0 {
+            return Some(restart.page);
         }
+        Some(self.search(dictionary, Rule::Keep, name)?.page)
     }
 }
 
@@ -151,48 +164,34 @@ fn pages_of(alloc: Global, library: &Library<'_>) -> Result<Vec<bool>, AllocErro
     Ok(pages)
 }
 
-/// Looks up an entry of the dictionary by a rule. `fault` is what it is if it is not found.
-fn look_up_entry<'a>(
-    report: &mut Report,
-    dictionary: Dictionary<'_>,
-    rule: Rule,
-    entry: Named<'a>,
-    fault: Fault<'a>,
-) -> Result<(), AllocError> {
-    match report.search(dictionary, rule, entry.name) {
-        Some(page) if page != Some(entry.page) => report.shown.fault(fault),
-        _ => Ok(()),
-    }
-}
-
-/// Checks an entry of the dictionary.
+/// Checks an entry of the dictionary. `known` is what the searches find, if another bucket points to this entry.
 fn judge_entry(
     report: &mut Report,
     dictionary: Dictionary<'_>,
     pages: &[bool],
     entry: Named<'_>,
+    known: &mut Option<Both>,
 ) -> Result<(), AllocError> {
     report.entries = report.entries.saturating_add(1);
     if pages.get(usize::from(entry.page)) != Some(&true) {
         report.shown.fault(Fault::EntryNowhere(entry))?;
     }
-    look_up_entry(
-        report,
-        dictionary,
-        Rule::Restart,
-        entry,
-        Fault::NotFound(entry),
-    )?;
-    look_up_entry(
-        report,
-        dictionary,
-        Rule::Keep,
-        entry,
-        Fault::NotFoundKept(entry),
-    )
+    if known.is_none() {
+        *known = report.search_twice(dictionary, entry.name);
+    }
+    let Some(found) = *known else {
+        return Ok(());
+    };
+    if found.restart != Some(entry.page) {
+        report.shown.fault(Fault::NotFound(entry))?;
+    }
+    if found.keep != Some(entry.page) {
+        report.shown.fault(Fault::NotFoundKept(entry))?;
+    }
+    Ok(())
 }
 
-/// Checks the entries of a block, which begins at an offset of the file.
+/// Checks the entries of a block, which begins at an offset of the file. Each is searched once, however many buckets point to it.
 fn judge_block(
     report: &mut Report,
     dictionary: Dictionary<'_>,
@@ -202,6 +201,8 @@ fn judge_block(
 ) -> Result<(), AllocError>
     requires { number < block_count dictionary.bytes.now }
 {
+    let first = BLOCK.saturating_mul(number);
+    let mut found = [None; 256];
     for bucket in 0..BUCKETS {
         let offset = start.saturating_add(bucket);
         match dictionary.bucket(number, bucket) {
@@ -209,7 +210,11 @@ fn judge_block(
             Bucket::Outside => report.shown.fault(Fault::EntryOutside(offset))?,
             Bucket::Entry { page, name } => {
                 let entry = Named { offset, page, name };
-                judge_entry(report, dictionary, pages, entry)?;
+                if let Some(byte) = dictionary.bytes.get(first.saturating_add(bucket))
+                    && let Some(known) = found.get_mut(usize::from(*byte))
+                {
+                    judge_entry(report, dictionary, pages, entry, known)?;
+                }
             }
         }
     }
@@ -304,7 +309,7 @@ pub fn judge_file<K: Sink>(
         notes: String::new(alloc),
         publics: 0,
         entries: 0,
-        credit: Some(FIRST_CREDIT),
+        credit: Some(credit_of(bytes.len())),
     };
     match read_library(alloc, bytes)? {
         Ok(library) => judge_library(&mut report, writer, profile, &library)?,

@@ -121,6 +121,9 @@ fn put_fault(
             }
         }
         MakeFault::TooLarge => shown.refuse(output, "too large")?,
+        MakeFault::LongSearches => {
+            shown.refuse(output, "the searches for its names would be too long")?
+        }
         MakeFault::Refused { .. } | MakeFault::Unlike => {
             shown.refuse(output, "not read back as it was made")?
         }

@@ -4,16 +4,17 @@ use Rattle.std.specs.Prelude.{IsTrue, slice_index, Ok}
 use Rattle.std.proofs.lemmas.List.{get_or-drop, length-append, length-drop}
 use Rattle.std.proofs.lemmas.Bool.{leb-true, leb-false}
 use Rattle.std.proofs.Math.Dec.{leb}
-use Rattle.omf_frame.specs.Framing.{Raw, is_header}
+use Rattle.omf_frame.specs.Framing.{is_header}
 use Rattle.omf_frame.specs.declared.fault.Place.{Place}
 use Rattle.omf_frame.specs.declared.fault.Reason.{Reason}
 use Rattle.omf_image.specs.Limits.{profile_limits}
+use Rattle.omf_check.specs.Checking.{Decides}
+use Rattle.omf_check.specs.Module.{Module, records_in}
 use Rattle.omf_check.specs.Refusal.{IsRefused}
-use Rattle.omf_check.specs.WellFormed.{IsAccepted}
 use Rattle.omf_check.specs.declared.profile.Profile.{Profile}
 use Rattle.omf_check.proofs.AcceptLaws.{accepted_once, never_both}
 use Rattle.omf_library.specs.Laws.{LiesInside}
-use Rattle.omf_library.specs.Library.{AreMembers, IsLibrary, IsLibraryFault, IsMember, IsMemberRead, library_end, next_page, page_size}
+use Rattle.omf_library.specs.Library.{AreMembers, IsLibrary, IsLibraryFault, IsMember, IsMemberRead, IsModuleRead, library_end, next_page, page_size}
 use Rattle.omf_library.specs.declared.member.Member.{Member}
 use Rattle.omf_library.specs.declared.fault.LibraryFault.{LibraryFault}
 use Rattle.omf_library.specs.declared.fault.LibraryFault.TheVariants as fault
@@ -158,16 +159,22 @@ module _ (profile : Profile) (bytes : List ℕ) where
       let low : offset < length bytes = subst (λ n. n < length bytes) (sym same.1) (end_inside end h.ended) in
       absurd (omega (arith, low, f.1))
 
-  -- the member that a check of the bytes from an offset on finds
-  pub member_read : (at count : ℕ) (rest own seen : List ℕ) (records : List Raw) → rest ≡ drop at bytes → (a : IsAccepted profile profile_limits rest records) → a.bytes ≡ own → seen ≡ own → at ≤ length bytes
-      → IsMemberRead profile bytes count at (Ok (record { offset = at; length = length seen }))
-  member_read at count rest own seen records e a m s low =
-      let b : IsAccepted profile profile_limits (drop at bytes) records = record { bytes = a.bytes; rest = a.rest; spelled = sym e ∙ a.spelled; well_formed = a.well_formed } in
-      let is : IsMember profile bytes (record { offset = at; length = length seen }) = (records, b, ap length (m ∙ sym s)) in
-      let long : length a.bytes ≡ length seen = ap length (m ∙ sym s) in
-      let whole : length (drop at bytes) ≡ length a.bytes + length a.rest = ap length b.spelled ∙ length-append a.bytes a.rest in
+  -- the module that a check of the bytes from an offset on finds, and its member
+  pub module_member : (at : ℕ) (m : Module) → Decides profile (drop at bytes) (Ok m) → IsMember profile bytes (record { offset = at; length = length m.bytes })
+  module_member at m d = (records_in m.bytes, d.1.0, ap length d.1.1)
+
+  pub module_read : (at count : ℕ) (rest : List ℕ) (m : Module) → rest ≡ drop at bytes → Decides profile rest (Ok m) → at ≤ length bytes → IsModuleRead profile bytes count at (Ok m)
+  module_read at count rest m e h low =
+      let d : Decides profile (drop at bytes) (Ok m) = subst (λ bs. Decides profile bs (Ok m)) e h in
+      let a = d.1.0 in
+      let is : IsMember profile bytes (record { offset = at; length = length m.bytes }) = module_member at m d in
+      let long : length a.bytes ≡ length m.bytes = ap length d.1.1 in
+      let whole : length (drop at bytes) ≡ length a.bytes + length a.rest = ap length a.spelled ∙ length-append a.bytes a.rest in
       let left : length (drop at bytes) ≡ length bytes - at = length-drop at bytes in
-      (refl, is, has_bytes (record { offset = at; length = length seen }) is, omega (arith, long, whole, left, low))
+      (d, has_bytes (record { offset = at; length = length m.bytes }) is, omega (arith, long, whole, left, low))
+
+  pub member_read : (at count : ℕ) (m : Module) (seen : List ℕ) → IsModuleRead profile bytes count at (Ok m) → seen ≡ m.bytes → IsMemberRead profile bytes count at (Ok (record { offset = at; length = length seen }))
+  member_read at count m seen h e = subst (λ bs. IsMemberRead profile bytes count at (Ok (record { offset = at; length = length bs }))) (sym e) (refl, module_member at m h.0, h.1, h.2)
 
   -- one member more
   pub members_more : (page at : ℕ) (ms : List Member) (to : ℕ) (m : Member) → AreMembers profile bytes page at ms to → m.offset ≡ to → IsMember profile bytes m → AreMembers profile bytes page at (ms ++ m ∷ []) (next_page page (to + m.length))

@@ -1,5 +1,6 @@
 pub mod Accounting
 pub mod Asked
+pub mod Modules
 pub mod Names
 pub mod Search
 pub mod Walk

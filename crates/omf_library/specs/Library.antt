@@ -1,8 +1,11 @@
 -- Libraries of object modules (TIS OMF 1.1, appendix 2): the header, the members, and why bytes are no library.
 use Rattle.std.specs.Prelude.{◌≡◌, ◌≢◌, ⊤, ℕ, ◌+◌, ◌-◌, ◌*◌, ◌/◌, ◌≤◌, ◌<◌, Bool, true, false, List, [], ◌∷◌, length, drop, slice_index, Result, Ok, Err}
+use Rattle.std.specs.List.{AllZip}
 use Rattle.omf_frame.specs.Bytes.{is_one_of}
 use Rattle.omf_frame.specs.Framing.{Raw}
 use Rattle.omf_image.specs.Limits.{profile_limits}
+use Rattle.omf_check.specs.Checking.{Decides}
+use Rattle.omf_check.specs.Module.{Module}
 use Rattle.omf_check.specs.Refusal.{IsRefused}
 use Rattle.omf_check.specs.WellFormed.{IsAccepted}
 use Rattle.omf_check.specs.declared.profile.Profile.{Profile}
@@ -84,6 +87,21 @@ abbrev pub AreMembersIn : Profile → List ℕ → Result (List Member) LibraryF
 AreMembersIn profile bytes (Ok members) = (end : ℕ) × IsLibrary profile bytes members end
 AreMembersIn profile bytes (Err f) = IsLibraryFault profile bytes f
 
+-- The module of a member: the one that the bytes from its offset on begin with.
+abbrev pub IsModuleOf : Profile → List ℕ → Member → Module → Type 0
+IsModuleOf profile bytes member m = Decides profile (drop member.offset bytes) (Ok m)
+
+-- The modules of a library's members, in order.
+pub record AreOfMembers (profile : Profile) (bytes : List ℕ) (ms : List Module) : Type 0 where
+  pub members : List Member
+  pub library : AreMembersIn profile bytes (Ok members)
+  pub modules : AllZip (IsModuleOf profile bytes) members ms
+
+-- The modules of a library's members, or why the bytes are none. Memory may run out at any time.
+abbrev pub AreModulesIn : Profile → List ℕ → Result (List Module) LibraryFault → Type 0
+AreModulesIn profile bytes (Ok ms) = AreOfMembers profile bytes ms
+AreModulesIn profile bytes (Err f) = IsLibraryFault profile bytes f
+
 -- The header of bytes, or why they begin with none.
 abbrev pub IsHeaderRead : List ℕ → Result Header LibraryFault → Type 0
 IsHeaderRead bytes (Ok h) = HasHeader bytes × (h ≡ header_of bytes)
@@ -98,3 +116,10 @@ IsMemberRead profile bytes count at (Ok m) = (m.offset ≡ at) × IsMember profi
 IsMemberRead profile bytes count at (Err fault.Memory) = ⊤
 IsMemberRead profile bytes count at (Err (fault.Refused member offset why place)) = (member ≡ count) × (offset ≡ at) × IsRefused profile profile_limits (drop at bytes) why place
 IsMemberRead profile bytes count at (Err _) = ⊥
+
+-- The module at an offset, after those of `count` members, or why none is there.
+abbrev pub IsModuleRead : Profile → List ℕ → ℕ → ℕ → Result Module LibraryFault → Type 0
+IsModuleRead profile bytes count at (Ok m) = Decides profile (drop at bytes) (Ok m) × (0 < length m.bytes) × (at + length m.bytes ≤ length bytes)
+IsModuleRead profile bytes count at (Err fault.Memory) = ⊤
+IsModuleRead profile bytes count at (Err (fault.Refused member offset why place)) = (member ≡ count) × (offset ≡ at) × IsRefused profile profile_limits (drop at bytes) why place
+IsModuleRead profile bytes count at (Err _) = ⊥

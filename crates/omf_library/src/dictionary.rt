@@ -32,7 +32,7 @@ pub enum Bucket<'a> {
 }
 
 /// A character as names are compared.
-fn folded(is_case_sensitive: bool, c: u8) -> u8
+pub(crate) fn folded(is_case_sensitive: bool, c: u8) -> u8
     ensures { result ≡ folded is_case_sensitive c }
 {
     if !is_case_sensitive && c >= b'A' && c <= b'Z' {
@@ -46,6 +46,9 @@ fn folded(is_case_sensitive: bool, c: u8) -> u8
 pub(crate) fn is_same_name(is_case_sensitive: bool, one: &[u8], other: &[u8]) -> bool
     ensures { result ≡ is_same_name is_case_sensitive one.now other.now }
 {
+    if one.len() != other.len() {
+        return false;
+    }
     let mut rest = one;
     let mut others = other;
     while let [c, cs @ ..] = rest {
@@ -92,6 +95,17 @@ fn page_at(block: &[u8], at: usize) -> u16
 {
     let low = at + 1 + usize::from(block[at]);
     u16::from(block[low]) + 256 * u16::from(block[low + 1])
+}
+
+/// The length of the name to whose entry a bucket points, if that is in the block.
+pub(crate) fn entry_length(block: &[u8], bucket: usize) -> Option<usize>
+    requires { bucket < length block.now }
+{
+    let at = 2 * usize::from(block[bucket]);
+    match block.get(at) {
+        Some(length) if at != 0 => Some(usize::from(*length)),
+        _ => None,
+    }
 }
 
 /// What a bucket has for a name.

@@ -3,10 +3,11 @@
 
 ghost use Rattle.std.specs.Prelude.{◌≡◌, ◌+◌, ◌*◌, ◌<◌, ◌≤◌, ◌^◌, length};
 
-use crate::dictionary::{BLOCK, Look, look_of};
+use crate::dictionary::{BLOCK, Dictionary, Look, look_of};
 use crate::hash::{BUCKETS, Probe, probe_of};
 use crate::making::{MakeFault, Part};
 use crate::names::{Defined, Kind, is_strong};
+use crate::search::{Rule, credit_of, hash_cost, look_cost};
 use std::alloc::{AllocError, Global};
 
 /// The page sizes.
@@ -25,6 +26,15 @@ const ROOM: usize = BLOCK - BUCKETS - 1;
 
 /// Half the offset of the first entry of a block.
 const FIRST_ENTRY: u8 = (BUCKETS as u8 + 1) / 2;
+
+/// How many searches for a name a check of the library makes: one for the name, two for its entry.
+const SEARCHES: u64 = 3;
+
+/// What an empty block costs, as searches are counted.
+const EMPTY: u64 = 64;
+
+/// The filling may cost this many times what the searches may.
+const TRIES: u64 = 2;
 
 /// Where a block has a place for a name.
 enum Slot {
@@ -73,8 +83,9 @@ struct Entry<'a> {
     page: u16,
 }
 
-/// Where a block has a place for an entry. Buckets with one entry, one after another, as those of a closed block, are compared with the name once.
-fn slot_of(block: &[u8], probe: Probe, entry: Entry<'_>) -> Slot
+/// Where a block has a place for an entry, and adds what it cost to look for it. Buckets with one entry, one after another, as
+/// those of a closed block, are compared with the name once.
+fn slot_of(block: &[u8], probe: Probe, entry: Entry<'_>, cost: &mut u64) -> Slot
     requires whole { 37 ≤ length block.now }
     requires bucket { probe.bucket < 37 }
     requires step { probe.bucket_step < 37 }
@@ -83,6 +94,7 @@ fn slot_of(block: &[u8], probe: Probe, entry: Entry<'_>) -> Slot
     let mut other = 0;
     for _looked in 0..BUCKETS {
         if other == 0 || block[bucket] != other {
+            *cost = cost.saturating_add(look_cost(block, bucket, entry.name));
             match look_of(entry.is_case_sensitive, block, bucket, entry.name) {
                 Look::Empty => return Slot::Free(bucket),
                 Look::Found(page) => return Slot::Twice(page),
@@ -137,12 +149,12 @@ fn close_block(block: &mut [u8]) {
 }
 
 /// Puts an entry into a block. A block that has no room for it is full from then on.
-fn put_in_block(block: &mut [u8], probe: Probe, entry: Entry<'_>) -> Placed
+fn put_in_block(block: &mut [u8], probe: Probe, entry: Entry<'_>, cost: &mut u64) -> Placed
     requires whole { 37 ≤ length block.old }
     requires bucket { probe.bucket < 37 }
     requires step { probe.bucket_step < 37 }
 {
-    match slot_of(block, probe, entry) {
+    match slot_of(block, probe, entry, cost) {
         Slot::Twice(page) => Placed::Twice(page),
         Slot::Free(bucket) if write_entry(block, bucket, entry) => Placed::Done,
         Slot::Free(_) | Slot::Full => {
@@ -152,23 +164,37 @@ fn put_in_block(block: &mut [u8], probe: Probe, entry: Entry<'_>) -> Placed
     }
 }
 
-/// Puts an entry into a dictionary, where both searches find it.
-fn put_entry(blocks: &mut [u8], entry: Entry<'_>) -> Placed {
+/// A dictionary that is filled.
+#[derive(Drop)]
+struct Filled {
+    blocks: Vec<u8>,
+    is_case_sensitive: bool,
+    /// The bytes that its entries take.
+    used: usize,
+    /// What the filling may still cost, as searches are counted. At 0 it ends.
+    credit: u64,
+}
+
+/// Puts an entry into a dictionary, where both searches find it, and takes what it cost from the credit. It ends at 0.
+fn put_entry(blocks: &mut [u8], entry: Entry<'_>, credit: &mut u64) -> Placed {
     let count = blocks.len() / BLOCK;
     if count == 0 {
         return Placed::Full;
     }
     let probe = probe_of(count, entry.name);
     let mut number = probe.block;
+    let mut cost = hash_cost(entry.name);
+    let mut placed = Placed::Full;
     for _passed in 0..count {
         let start = BLOCK * number;
-        let placed = put_in_block(&mut blocks[start..start + BLOCK], probe, entry);
-        if !matches!(placed, Placed::Full) {
-            return placed;
+        placed = put_in_block(&mut blocks[start..start + BLOCK], probe, entry, &mut cost);
+        if cost >= *credit || !matches!(placed, Placed::Full) {
+            break;
         }
         number = (number + probe.block_step) % count;
     }
-    Placed::Full
+    *credit = credit.saturating_sub(cost);
+    placed
 }
 
 /// The number of a part's first page.
@@ -203,15 +229,6 @@ fn part_at(pages: &[First], page: u16) -> usize {
     }
 }
 
-/// A dictionary that is filled.
-#[derive(Drop)]
-struct Filled {
-    blocks: Vec<u8>,
-    is_case_sensitive: bool,
-    /// The bytes that its entries take.
-    used: usize,
-}
-
 /// Which names of the parts are put.
 #[derive(Clone, Copy, PartialEq, Eq)]
 enum Turn {
@@ -229,7 +246,8 @@ fn has_turn(turn: Turn, kind: Kind) -> bool {
     }
 }
 
-/// Puts the names of a part that have their turn. Returns whether each has a place.
+/// Puts the names of a part that have their turn. Returns whether each has a place, and the blocks are not too full; it ends
+/// where they are.
 fn put_names(
     filled: &mut Filled,
     turn: Turn,
@@ -246,8 +264,13 @@ fn put_names(
             name: defined.name.as_slice(),
             page: first.page,
         };
-        match put_entry(&mut filled.blocks, entry) {
-            Placed::Done => filled.used = filled.used.saturating_add(entry_size(entry.name)),
+        match put_entry(&mut filled.blocks, entry, &mut filled.credit) {
+            Placed::Done => {
+                filled.used = filled.used.saturating_add(entry_size(entry.name));
+                if !has_room(filled.blocks.len() / BLOCK, filled.used) {
+                    return Ok(false);
+                }
+            }
             Placed::Full => return Ok(false),
             Placed::Twice(_) if turn == Turn::Communal => {}
             Placed::Twice(page) => {
@@ -293,28 +316,61 @@ fn has_room(count: usize, used: usize) -> bool {
     used.saturating_add(used / 4) <= count.saturating_mul(ROOM)
 }
 
-/// The dictionary in this number of blocks; None if a name has no place, or if the blocks are too full.
+/// What the searches for names cost that a check of the library makes. It ends at `most`.
+fn names_cost(dictionary: Dictionary<'_>, names: &[Defined], most: u64) -> u64 {
+    let mut cost = 0u64;
+    for defined in names {
+        if cost >= most {
+            break;
+        }
+        let sought = dictionary.search(Rule::Restart, defined.name.as_slice());
+        cost = cost.saturating_add(sought.cost.saturating_mul(SEARCHES));
+    }
+    cost
+}
+
+/// What the searches for the names of all parts cost. It ends at `most`.
+fn search_cost(filled: &Filled, parts: &[Part], most: u64) -> u64 {
+    let dictionary = Dictionary {
+        bytes: filled.blocks.as_slice(),
+        is_case_sensitive: filled.is_case_sensitive,
+    };
+    let mut cost = 0u64;
+    for part in parts {
+        if cost >= most {
+            break;
+        }
+        let names = part.names.as_slice();
+        cost = cost.saturating_add(names_cost(dictionary, names, most - cost));
+    }
+    cost
+}
+
+/// Whether the searches for the names cost less than a check of the library allows.
+fn is_short(filled: &mut Filled, parts: &[Part]) -> bool {
+    let allowed = credit_of(size_of(parts).saturating_add(filled.blocks.len()));
+    let most = allowed.min(filled.credit);
+    let cost = search_cost(filled, parts, most);
+    filled.credit = filled.credit.saturating_sub(cost);
+    cost < most
+}
+
+/// Fills a dictionary in this number of blocks. Returns whether each name has a place, and the blocks are not too full.
 fn fill(
     alloc: Global,
-    is_case_sensitive: bool,
+    filled: &mut Filled,
     count: usize,
     pages: &[First],
     parts: &[Part],
-) -> Result<Option<Vec<u8>>, MakeFault>
+) -> Result<bool, MakeFault>
     requires { count < 65536 }
 {
-    let mut filled = Filled {
-        blocks: empty_blocks(alloc, count)?,
-        is_case_sensitive,
-        used: 0,
-    };
-    let is_whole = put_all(&mut filled, Turn::Strong, pages, parts)?
-        && put_all(&mut filled, Turn::Communal, pages, parts)?;
-    if is_whole && has_room(count, filled.used) {
-        Ok(Some(filled.blocks))
-    } else {
-        Ok(None)
-    }
+    filled.blocks = empty_blocks(alloc, count)?;
+    filled.used = 0;
+    filled.credit = filled.credit.saturating_sub(count as u64 * EMPTY);
+    let is_whole = put_all(filled, Turn::Strong, pages, parts)?
+        && put_all(filled, Turn::Communal, pages, parts)?;
+    Ok(is_whole && has_room(count, filled.used) && is_short(filled, parts))
 }
 
 /// Whether a number from 2 to 65,535 is prime.
@@ -353,6 +409,15 @@ fn least_blocks(parts: &[Part]) -> usize {
     size.saturating_add(size / 4).div_ceil(ROOM).max(2)
 }
 
+/// The bytes of the parts together.
+fn size_of(parts: &[Part]) -> usize {
+    let mut size = 0usize;
+    for part in parts {
+        size = size.saturating_add(part.bytes.len());
+    }
+    size
+}
+
 /// The dictionary of the parts: the least number of blocks is tried first, then primes that grow by a quarter.
 fn dictionary_of(
     alloc: Global,
@@ -360,11 +425,20 @@ fn dictionary_of(
     pages: &[First],
     parts: &[Part],
 ) -> Result<Vec<u8>, MakeFault> {
+    let mut filled = Filled {
+        blocks: Vec::new(alloc),
+        is_case_sensitive,
+        used: 0,
+        credit: credit_of(size_of(parts)).saturating_mul(TRIES),
+    };
     let mut next = least_blocks(parts);
     for count in 2..=MOST_BLOCKS {
         if count >= next && is_prime(count) {
-            if let Some(blocks) = fill(alloc, is_case_sensitive, count, pages, parts)? {
-                return Ok(blocks);
+            if fill(alloc, &mut filled, count, pages, parts)? {
+                return Ok(filled.blocks);
+            }
+            if filled.credit == 0 {
+                return Err(MakeFault::LongSearches);
             }
             next = count + count / 4 + 1;
         }

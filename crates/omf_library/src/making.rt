@@ -15,6 +15,7 @@ use crate::member::Member;
 use crate::members::members_in;
 use crate::names::{Defined, Kind, defined_names, is_strong};
 use crate::search::Rule;
+use crate::spots::{Spot, number_in, ordered_spots};
 use omf_check::{Checked, Profile};
 use omf_frame::{Place, Reason};
 use std::alloc::{AllocError, AllocFailed, Global};
@@ -70,6 +71,9 @@ pub enum MakeFault {
     /// The library would have too many pages, or a dictionary with too many blocks.
     #[error("the library would be too large")]
     TooLarge,
+    /// No dictionary was found in which the searches for the names are short.
+    #[error("the searches for the names would be too long")]
+    LongSearches,
     /// What was built would not be read back as these modules: a part has bytes after its module.
     #[error("the library would not be read back as these modules")]
     Unlike,
@@ -180,20 +184,66 @@ struct Opened<'a> {
     dictionary: Dictionary<'a>,
     members: &'a [Member],
     parts: &'a [Part],
+    spots: &'a [Spot],
 }
 
-/// Whether one of the names is this one.
-fn has_name(is_case_sensitive: bool, names: &[Defined], name: &[u8]) -> bool
+/// The members and the parts from one on.
+#[derive(Clone, Copy)]
+struct Rest<'a> {
+    members: &'a [Member],
+    parts: &'a [Part],
+}
+
+/// Whether the first of the names is this one.
+fn is_first_name(is_case_sensitive: bool, names: &[Defined], name: &[u8]) -> bool
     ensures { OnTrue result (HasName is_case_sensitive names.now name.now) }
 {
-    let mut rest = names;
-    while let [defined, others @ ..] = rest {
-        if is_same_name(is_case_sensitive, defined.name.as_slice(), name) {
-            return true;
-        }
-        rest = others;
+    match names {
+        [] => false,
+        [defined, ..] => is_same_name(is_case_sensitive, defined.name.as_slice(), name),
     }
-    false
+}
+
+/// Whether the name of this number is this one.
+fn has_name_at(is_case_sensitive: bool, names: &[Defined], number: usize, name: &[u8]) -> bool
+    ensures { OnTrue result (HasName is_case_sensitive names.now name.now) }
+{
+    if names.len() < number {
+        return false;
+    }
+    is_first_name(is_case_sensitive, names.split_at(number).1, name)
+}
+
+/// Whether the first member begins at a page, and its part has a name with this number.
+fn is_defined_first(
+    opened: Opened<'_>,
+    rest: Rest<'_>,
+    number: usize,
+    name: &[u8],
+    page: usize,
+) -> bool
+    requires { 0 < opened.page }
+    ensures { OnTrue result (IsDefinedAt (opened_seen opened.entry) rest.entry.members.now rest.entry.parts.now name.now page) }
+{
+    match rest.members {
+        [] => false,
+        [member, ..] => match rest.parts {
+            [] => false,
+            [part, ..] => {
+                let is_sensitive = opened.dictionary.is_case_sensitive;
+                member.offset as usize / opened.page == page
+                    && has_name_at(is_sensitive, part.names.as_slice(), number, name)
+            }
+        },
+    }
+}
+
+/// The number of the member that begins at a page, if there is one.
+fn number_at(opened: Opened<'_>, page: usize) -> usize {
+    let start = opened.page.saturating_mul(page) as u64;
+    opened
+        .members
+        .partition_point(|member| member.offset < start)
 }
 
 /// Whether the member that begins at a page defines a name.
@@ -201,22 +251,17 @@ fn is_defined_at(opened: Opened<'_>, name: &[u8], page: usize) -> bool
     requires { 0 < opened.page }
     ensures { OnTrue result (IsDefinedAt (opened_seen opened.entry) opened.entry.members.now opened.entry.parts.now name.now page) }
 {
-    let mut rest = opened.members;
-    let mut others = opened.parts;
-    while let [member, members @ ..] = rest {
-        match others {
-            [] => return false,
-            [part, parts @ ..] => {
-                if member.offset as usize / opened.page == page {
-                    let is_sensitive = opened.dictionary.is_case_sensitive;
-                    return has_name(is_sensitive, part.names.as_slice(), name);
-                }
-                rest = members;
-                others = parts;
-            }
-        }
+    let at = number_at(opened, page);
+    if opened.members.len() < at || opened.parts.len() < at {
+        return false;
     }
-    false
+    let is_sensitive = opened.dictionary.is_case_sensitive;
+    let number = number_in(is_sensitive, opened.parts, opened.spots, at, name);
+    let rest = Rest {
+        members: opened.members.split_at(at).1,
+        parts: opened.parts.split_at(at).1,
+    };
+    is_defined_first(opened, rest, number, name, page)
 }
 
 /// Whether both searches find a communal, with the page of a member that defines the name.
@@ -314,12 +359,14 @@ fn read_back(
     let Some(dictionary) = dictionary_in(header, bytes) else {
         return Err(MakeFault::Unlike);
     };
+    let spots = ordered_spots(alloc, dictionary.is_case_sensitive, parts)?;
     let opened = Opened {
         bytes,
         page: header.page as usize,
         dictionary,
         members: members.as_slice(),
         parts,
+        spots: spots.as_slice(),
     };
     if header.flags != u8::from(is_case_sensitive) || !are_parts(opened) {
         return Err(MakeFault::Unlike);
@@ -390,8 +437,11 @@ fn sure(is_case_sensitive: bool, parts: &[Part], fault: MakeFault) -> MakeFault
                 MakeFault::Unlike
             }
         }
-        MakeFault::Memory | MakeFault::Refused { .. } | MakeFault::TooLarge | MakeFault::Unlike =>
-            fault,
+        MakeFault::Memory
+        | MakeFault::Refused { .. }
+        | MakeFault::TooLarge
+        | MakeFault::LongSearches
+        | MakeFault::Unlike => fault,
     }
 }
 
@@ -403,7 +453,8 @@ fn sure(is_case_sensitive: bool, parts: &[Part], fault: MakeFault) -> MakeFault
 /// # Errors
 ///
 /// `Refused` if a part is no module under the profile, `Twice` if two parts define one name other than as a communal (or
-/// one part twice), `TooLarge`, `Unlike` if a part has bytes after its module. `Memory` if out of memory.
+/// one part twice), `TooLarge`, `LongSearches` if no dictionary was found with short searches, as where many names have one
+/// hash, `Unlike` if a part has bytes after its module. `Memory` if out of memory.
 pub fn make(
     alloc: Global,
     profile: Profile,

@@ -2,12 +2,12 @@
 
 ghost use Rattle.std.specs.Prelude.{◌≡◌, ◌+◌, ◌<◌, ◌≤◌, ◌^◌, length};
 ghost use Rattle.omf_records.specs.Inner.Seen.{map_ok};
-ghost use Rattle.omf_library.specs.Library.{AreMembersIn, IsMemberRead, next_page};
+ghost use Rattle.omf_library.specs.Library.{AreMembersIn, IsMemberRead, IsModuleRead, next_page};
 
 use crate::fault::LibraryFault;
 use crate::header::read_header;
 use crate::member::Member;
-use omf_check::{CheckFault, Profile, check};
+use omf_check::{CheckFault, Checked, Profile, check};
 use omf_frame::Bytes;
 use std::alloc::Global;
 
@@ -21,6 +21,39 @@ pub(crate) fn next_page(page: usize, at: usize) -> usize
     ensures { result ≡ next_page page at }
 {
     (at + (page - 1)) / page * page
+}
+
+/// The module at an offset, after those of `count` members.
+///
+/// # Errors
+///
+/// `Refused` where no module begins there. `Memory` if out of memory.
+pub(crate) fn module_at(
+    alloc: Global,
+    profile: Profile,
+    bytes: &[u8],
+    count: u64,
+    at: usize,
+) -> Result<Checked, LibraryFault>
+    requires { at ≤ length bytes.now }
+    ensures { IsModuleRead profile bytes.now count at result }
+{
+    let (_before, rest) = bytes.split_at(at);
+    match check(alloc, &mut Bytes::new(rest), profile) {
+        Ok(module) => Ok(module),
+        Err(CheckFault::Memory) => Err(LibraryFault::Memory),
+        Err(CheckFault::Read) => unreachable!(),
+        Err(CheckFault::Refused { reason, place }) => {
+            let member = count;
+            let offset = at as u64;
+            Err(LibraryFault::Refused {
+                member,
+                offset,
+                reason,
+                place,
+            })
+        }
+    }
 }
 
 /// The member at an offset, after `count` others.
@@ -38,24 +71,12 @@ fn member_at(
     requires { at ≤ length bytes.now }
     ensures { IsMemberRead profile bytes.now count at result }
 {
-    let (_before, rest) = bytes.split_at(at);
-    match check(alloc, &mut Bytes::new(rest), profile) {
+    match module_at(alloc, profile, bytes, count, at) {
         Ok(module) => Ok(Member {
             offset: at as u64,
             length: module.bytes().len() as u64,
         }),
-        Err(CheckFault::Memory) => Err(LibraryFault::Memory),
-        Err(CheckFault::Read) => unreachable!(),
-        Err(CheckFault::Refused { reason, place }) => {
-            let member = count;
-            let offset = at as u64;
-            Err(LibraryFault::Refused {
-                member,
-                offset,
-                reason,
-                place,
-            })
-        }
+        Err(fault) => Err(fault),
     }
 }
 

@@ -3,8 +3,27 @@
 ghost use Rattle.std.specs.Prelude.{◌≡◌, ◌<◌, ◌≤◌, length};
 ghost use Rattle.omf_library.specs.Dictionary.{block_count, next_first, task_of, IsEnded, IsSought};
 
-use crate::dictionary::{Dictionary, Look, block_count, block_of, look_of};
+use crate::dictionary::{Dictionary, Look, block_count, block_of, entry_length, look_of};
 use crate::hash::{BUCKETS, probe_of};
+
+/// What a look at a bucket costs, beside the characters that are compared.
+const LOOK: u64 = 4;
+
+/// How often a search reads each character of its name for the hash.
+const HASHED: u64 = 4;
+
+/// What the searches of a library may cost, whatever its size.
+const FIRST_CREDIT: u64 = 1 << 26;
+
+/// What the searches of a library may cost for each of its bytes.
+const CREDIT: u64 = 64;
+
+/// What all searches of a library of this size may cost together.
+pub fn credit_of(size: usize) -> u64 {
+    (size as u64)
+        .saturating_mul(CREDIT)
+        .saturating_add(FIRST_CREDIT)
+}
 
 /// How the search of one block ends.
 #[derive(Clone, Copy, Debug, PartialEq, Eq)]
@@ -33,6 +52,8 @@ pub struct Sought {
     pub page: Option<u16>,
     /// The number of full blocks that the search passed.
     pub passed: usize,
+    /// What it cost: about the number of characters that it read.
+    pub cost: u64,
 }
 
 /// What a search looks for in one block: a name, from a bucket on, by steps.
@@ -44,21 +65,43 @@ struct Task<'a> {
     step: usize,
 }
 
-/// Searches a block.
-fn search_block(block: &[u8], task: Task<'_>) -> Ended
+/// What it costs to hash a name.
+pub(crate) fn hash_cost(name: &[u8]) -> u64 {
+    (name.len() as u64).saturating_add(1).saturating_mul(HASHED)
+}
+
+/// What it costs to look at a bucket: the name is compared with those that are as long.
+pub(crate) fn look_cost(block: &[u8], bucket: usize, name: &[u8]) -> u64
+    requires { bucket < length block.now }
+{
+    if entry_length(block, bucket) == Some(name.len()) {
+        LOOK.saturating_add(name.len() as u64)
+    } else {
+        LOOK
+    }
+}
+
+/// Searches a block, and adds what it cost. Buckets with one entry, one after another, are compared with the name once.
+fn search_block(block: &[u8], task: Task<'_>, cost: &mut u64) -> Ended
     requires whole { 37 < length block.now }
     requires first { task.first < 37 }
     requires step { task.step < 37 }
     ensures { IsEnded (record { is_case_sensitive = task.entry.is_case_sensitive; name = task.entry.name.now; first = task.entry.first; step = task.entry.step }) block.now result }
 {
     let mut bucket = task.first;
+    let mut other = 0;
     for _k in 0..BUCKETS {
-        match look_of(task.is_case_sensitive, block, bucket, task.name) {
-            Look::Found(page) => return Ended::Found(page),
-            Look::Empty if block[BUCKETS] == 0xFF => return Ended::Full(bucket),
-            Look::Empty => return Ended::Absent,
-            Look::Other => bucket = (bucket + task.step) % BUCKETS,
+        let entry = block[bucket];
+        if other == 0 || entry != other {
+            *cost = cost.saturating_add(look_cost(block, bucket, task.name));
+            match look_of(task.is_case_sensitive, block, bucket, task.name) {
+                Look::Found(page) => return Ended::Found(page),
+                Look::Empty if block[BUCKETS] == 0xFF => return Ended::Full(bucket),
+                Look::Empty => return Ended::Absent,
+                Look::Other => other = entry,
+            }
         }
+        bucket = (bucket + task.step) % BUCKETS;
     }
     Ended::Full(bucket)
 }
@@ -79,10 +122,12 @@ fn search(rule: Rule, is_case_sensitive: bool, bytes: &[u8], name: &[u8]) -> Sou
     ensures { IsSought rule is_case_sensitive bytes.now name.now result }
 {
     let count = block_count(bytes);
+    let mut cost = hash_cost(name);
     if count == 0 {
         return Sought {
             page: None,
             passed: 0,
+            cost,
         };
     }
     let probe = probe_of(count, name);
@@ -95,14 +140,21 @@ fn search(rule: Rule, is_case_sensitive: bool, bytes: &[u8], name: &[u8]) -> Sou
             first,
             step: probe.bucket_step,
         };
-        match search_block(block_of(bytes, number), task) {
+        match search_block(block_of(bytes, number), task, &mut cost) {
             Ended::Found(page) => {
                 return Sought {
                     page: Some(page),
                     passed,
+                    cost,
                 };
             }
-            Ended::Absent => return Sought { page: None, passed },
+            Ended::Absent => {
+                return Sought {
+                    page: None,
+                    passed,
+                    cost,
+                };
+            }
             Ended::Full(stopped) => {
                 first = next_first(rule, probe.bucket, stopped);
                 number = (number + probe.block_step) % count;
@@ -112,6 +164,7 @@ fn search(rule: Rule, is_case_sensitive: bool, bytes: &[u8], name: &[u8]) -> Sou
     Sought {
         page: None,
         passed: count,
+        cost,
     }
 }
 

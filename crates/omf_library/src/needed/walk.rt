@@ -130,6 +130,21 @@ fn numbers_of(alloc: Global, joined: &[bool]) -> Result<Vec<usize>, AllocError>
     Ok(numbers)
 }
 
+/// The numbers of the members that the given modules need, by a walk over all modules.
+fn by_walk(
+    alloc: Global,
+    modules: &[Checked],
+    members: &[Checked],
+) -> Result<Vec<usize>, AllocError>
+    ensures needed { IfOk result (λ numbers. AreNeeded (offer modules.now members.now) numbers.items) }
+    ensures chained { IfOk result (λ numbers. All (λ n. IsChained (offer modules.now members.now) n) numbers.items) }
+{
+    let search = Search::new(alloc, modules, members)?;
+    let mut walk = Walk::of_given(alloc, &search)?;
+    walk.go_on(alloc, &search)?;
+    numbers_of(alloc, &walk.joined)
+}
+
 /// The members that a program takes, by their numbers, from 0, in rising order.
 ///
 /// `members` are those of all libraries, in the order in which the libraries are searched. The first member that defines
@@ -148,8 +163,8 @@ pub fn needed_members(
     ensures needed { IfOk result (λ numbers. AreNeeded (offer modules.now members.now) numbers.items) }
     ensures chained { IfOk result (λ numbers. All (λ n. IsChained (offer modules.now members.now) n) numbers.items) }
 {
-    let search = Search::new(alloc, modules, members)?;
-    let mut walk = Walk::of_given(alloc, &search)?;
-    walk.go_on(alloc, &search)?;
-    numbers_of(alloc, &walk.joined)
+    match members {
+        [] => Ok(Vec::new(alloc)),
+        [_, ..] => by_walk(alloc, modules, members),
+    }
 }

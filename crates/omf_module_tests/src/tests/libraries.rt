@@ -1,10 +1,11 @@
-//! Libraries: one of one module of 11 bytes, with pages of 16 bytes; offsets worked out by hand.
+//! Libraries: one of one module of 11 bytes, and one of two, with pages of 16 bytes; offsets worked out by hand.
 
 use super::verdicts::ANY;
+use omf_check::Checked;
 use omf_frame::Reason;
 use omf_library::{
     Header, LibraryFault, Member, Part, Region, RegionKind, Spans, account_of, make, members_in,
-    read_header, spans_in,
+    modules_in, read_header, spans_in,
 };
 use std::alloc::{AllocError, Global};
 
@@ -12,6 +13,13 @@ use std::alloc::{AllocError, Global};
 const LIBRARY: &[u8] = &[
     0xF0, 0x0D, 0, 0, 0, 0, 0, 0, 0, 0, 0, 0, 0, 0, 0, 0, 0x80, 3, 0, 1, 0x41, 0x3B, 0x8A, 2, 0, 0,
     0x74, 0, 0, 0, 0, 0, 0xF1, 0, 0,
+];
+
+/// The same page and module; a module of 12 bytes; four bytes of padding; the F1H.
+const TWO_MEMBERS: &[u8] = &[
+    0xF0, 0x0D, 0, 0, 0, 0, 0, 0, 0, 0, 0, 0, 0, 0, 0, 0, 0x80, 3, 0, 1, 0x41, 0x3B, 0x8A, 2, 0, 0,
+    0x74, 0, 0, 0, 0, 0, 0x80, 4, 0, 2, 0x42, 0x43, 0xF5, 0x8A, 2, 0, 0, 0x74, 0, 0, 0, 0, 0xF1, 0,
+    0,
 ];
 
 /// The members of the first bytes of the library.
@@ -30,9 +38,9 @@ fn member_of(alloc: Global, length: usize) -> Option<(u64, u64)> {
     }
 }
 
-/// The number, the offset and the kind of the fault in the first bytes of the library: no end, or a member that is cut.
-fn fault_of(alloc: Global, length: usize) -> Option<(u64, u64, bool)> {
-    match members_of(alloc, length) {
+/// The number, the offset and the kind of a fault: no end, or a member that is cut.
+fn fault_of<T: Drop>(answer: Result<Vec<T>, LibraryFault>) -> Option<(u64, u64, bool)> {
+    match answer {
         Ok(_) => None,
         Err(LibraryFault::NoEnd { member, offset }) => Some((member, offset, false)),
         Err(
@@ -54,8 +62,38 @@ fn a_member_and_an_end(rt: HostRuntime) {
 
 #[test]
 fn no_end_and_a_member_that_is_cut(rt: HostRuntime) {
-    assert!(rt; fault_of(rt.alloc(), 32) == Some((1, 32, false)));
-    assert!(rt; fault_of(rt.alloc(), 26) == Some((0, 16, true)));
+    assert!(rt; fault_of(members_of(rt.alloc(), 32)) == Some((1, 32, false)));
+    assert!(rt; fault_of(members_of(rt.alloc(), 26)) == Some((0, 16, true)));
+}
+
+/// The modules of the first bytes of the library of two.
+fn modules_of(alloc: Global, length: usize) -> Result<Vec<Checked>, LibraryFault> {
+    modules_in(alloc, ANY, TWO_MEMBERS.get(..length).unwrap_or(&[]))
+}
+
+/// Whether these are both modules of it, byte for byte.
+fn are_both(modules: &[Checked]) -> bool {
+    match modules {
+        [first, second] => {
+            first.bytes() == TWO_MEMBERS.get(16..27).unwrap_or(&[])
+                && second.bytes() == TWO_MEMBERS.get(32..44).unwrap_or(&[])
+        }
+        _ => false,
+    }
+}
+
+#[test]
+fn modules_of_both_members(rt: HostRuntime) {
+    match modules_of(rt.alloc(), 51) {
+        Ok(modules) => assert!(rt; are_both(&modules)),
+        Err(_) => assert!(rt; false),
+    }
+}
+
+#[test]
+fn no_end_and_a_second_module_that_is_cut(rt: HostRuntime) {
+    assert!(rt; fault_of(modules_of(rt.alloc(), 48)) == Some((2, 48, false)));
+    assert!(rt; fault_of(modules_of(rt.alloc(), 43)) == Some((1, 32, true)));
 }
 
 /// The part of a module, without publics; `None` if memory runs out.

@@ -4,7 +4,7 @@ use Rattle.omf_library.specs.Needed.{AreNeeded, IsChained, Offer, offer}
 use Rattle.omf_library.specs.Inner.Search.{offered}
 use Rattle.omf_library.specs.Inner.Walk.{numbers_from}
 use Rattle.omf_library.proofs.NeededLaws.{all-chained, are-needed, on-items}
-use Rattle.omf_library.proofs.needed.walk.needed_members.Goals as goal
+use Rattle.omf_library.proofs.needed.walk.by_walk.Goals as goal
 
 pub returns-clause-needed : goal.returns-clause-needed
 returns-clause-needed c =
