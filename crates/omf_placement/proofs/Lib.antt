@@ -13,7 +13,9 @@ pub mod TakenLaws
 pub mod DerivedLaws
 pub mod Filling
 pub mod TableLaws
+pub mod SourceLaws
 pub mod PairTableLaws
 pub mod LinkageLaws
+pub mod LinkedLaws
 pub mod SearchLaws
 pub mod WeakLaws

@@ -26,13 +26,13 @@ same-length (m ∷ ms) [] h = absurd h
 same-length (m ∷ ms) (p ∷ pls) h = ap (λ n. suc n) (same-length ms pls h.1)
 
 -- The entries of a table from one on.
-drop-some : {A : Type 0} (xs : List A) (k : ℕ) (x : A) → slice_get xs k ≡ Some x → drop k xs ≡ x ∷ drop (k + 1) xs
+pub drop-some : {A : Type 0} (xs : List A) (k : ℕ) (x : A) → slice_get xs k ≡ Some x → drop k xs ≡ x ∷ drop (k + 1) xs
 drop-some [] k x h = absurd (none-some x h)
 drop-some (y ∷ xs) zero x h = ap (λ z. z ∷ xs) (same_Some y x h)
 drop-some (y ∷ xs) (suc k) x h =
     let e : suc (k + 1) ≡ suc k + 1 = omega arith in drop-some xs k x h ∙ ap (λ n. x ∷ drop n (y ∷ xs)) e
 
-drop-past : {A : Type 0} (xs : List A) (k : ℕ) → length xs ≤ k → drop k xs ≡ []
+pub drop-past : {A : Type 0} (xs : List A) (k : ℕ) → length xs ≤ k → drop k xs ≡ []
 drop-past [] k h = drop-nil k
 drop-past (x ∷ xs) zero h = absurd (omega arith)
 drop-past (x ∷ xs) (suc k) h = drop-past xs k (omega arith)

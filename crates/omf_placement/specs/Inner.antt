@@ -5,5 +5,6 @@ pub mod Derived
 pub mod Deriving
 pub mod GivenTable
 pub mod PublicTable
+pub mod Linkage
 pub mod Names
 pub mod Pairing

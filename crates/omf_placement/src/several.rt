@@ -8,10 +8,11 @@ mod pairs;
 mod publics;
 pub mod rows;
 mod search;
+mod sources;
 mod weak;
 
 pub use fault::DeriveFault;
 pub use given::Given;
-pub use linkage::derive;
+pub use linkage::{Linkage, derive, derive_linked, with_weak_linked};
 pub use pairs::{WeakPair, weak_pairs};
 pub use weak::with_weak;

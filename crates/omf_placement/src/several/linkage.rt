@@ -1,107 +1,251 @@
 //! Derivation of the places of externals from the publics of several modules.
 
-ghost use Rattle.std.specs.Prelude.{◌≡◌, ◌<◌, ◌^◌, length, List, Bool, true, false};
-ghost use Rattle.omf_records.specs.Inner.Seen.{map_ok};
+ghost use Rattle.std.specs.Prelude.{◌≡◌, ◌<◌, ◌^◌, Err, IfOk, length, List, Bool, true, false, filter_map, Option};
 ghost use Rattle.std.specs.List.{AllZip};
+ghost use Rattle.omf_records.specs.Values.{Rec};
+ghost use Rattle.omf_records.specs.Inner.Seen.{map_ok};
 ghost use Rattle.omf_check.specs.Module.{recs_of, typed_modules};
+ghost use Rattle.omf_check.specs.Tables.{externals};
+ghost use Rattle.omf_placement.specs.declared.frame.Placed.{Placed as Place};
 ghost use Rattle.omf_placement.specs.declared.several.given.Given.{Given as Entry};
 ghost use Rattle.omf_placement.specs.Derive.{PlacedPublic, placed_modules};
-ghost use Rattle.omf_placement.specs.Inner.Derived.{external_place, external_places, derived};
+ghost use Rattle.omf_placement.specs.Inner.Derived.{derived, external_places, given_or, given_place, one_public};
 ghost use Rattle.omf_placement.specs.Inner.GivenTable.{IsGivenTable};
 ghost use Rattle.omf_placement.specs.Derivation.{IsDerived, IsPlaceOf};
 ghost use Rattle.omf_placement.specs.Inner.Deriving.{IsFound, IsTried};
-ghost use Rattle.omf_placement.specs.Inner.PublicTable.{IsTable};
+ghost use Rattle.omf_placement.specs.Inner.Linkage.{AreFound, IsLinkage, IsSourceTable, NamedSource, definer, definers, found_by, of_source};
+ghost use Rattle.omf_placement.specs.Inner.PublicTable.{summed};
+ghost use Rattle.omf_placement.specs.Weak.{with_weak};
 
 use crate::frame::Placed;
 use crate::placement::Placement;
 use crate::several::fault::DeriveFault;
 use crate::several::given::{Given, GivenTable};
-use crate::several::publics::PublicTable;
+use crate::several::publics::place_found;
 use crate::several::search::first_fault;
+use crate::several::sources::{Definer, SourceTable, found_by};
+use crate::several::weak::{has_pairs, with_weak};
 use omf_check::Checked;
-use std::alloc::Global;
+use std::alloc::{AllocError, Global};
+use std::marker::Model;
 
-/// The place of an external with this name: the given one, or else that of the only public with its name.
-fn external_place<'a>(
-    table: &PublicTable<'a>,
-    given: &GivenTable,
+/// The publics that each external of a module refers to, in order.
+#[derive(Drop)]
+struct Links {
+    of_external: Vec<Option<Definer>>,
+}
+
+impl Model for Links {
+    ghost use Rattle.std.specs.Prelude.{List, Option};
+    ghost use Rattle.omf_placement.specs.declared.several.sources.Definer.{Definer as Known};
+
+    ghost Value = { List (Option Known) };
+
+    ghost view = { λ l. l.of_external.items };
+}
+
+/// What is known of several modules, whatever their places: the publics that their externals refer to, whether two publics may have one
+/// name, and whether externals may be weak.
+#[derive(Drop)]
+pub struct Linkage {
+    of_module: Vec<Links>,
+    repeats: bool,
+    is_weak: bool,
+}
+
+impl Model for Linkage {
+    ghost use Rattle.omf_placement.specs.Inner.Linkage.{Known};
+
+    ghost Value = { Known };
+
+    ghost view = { λ l. record { links = l.of_module.items; repeats = l.repeats; is_weak = l.is_weak } };
+}
+
+/// The publics with a name: those of its own module for a local external, else those of all modules.
+fn visible_definer<'a>(
+    all: &SourceTable<'a>,
+    own: &SourceTable<'a>,
     name: &'a [u8],
+    local: bool,
+) -> Option<Definer>
+    ensures { (among : Bool → List NamedSource) → IsSourceTable all.now (among false) → IsSourceTable own.now (among true) → result ≡ definer (filter_map (of_source name.now) (among local)) }
+{
+    if local {
+        own.definer(name)
+    } else {
+        all.definer(name)
+    }
+}
+
+/// The publics that the externals of a module refer to.
+fn links_of<'a>(
+    alloc: Global,
+    all: &SourceTable<'a>,
+    own: &SourceTable<'a>,
+    module: &'a Checked,
+) -> Result<Links, AllocError>
+    ensures links { (among : Bool → List NamedSource) → IsSourceTable all.now (among false) → IsSourceTable own.now (among true) → IfOk result (λ l. l ≡ definers among (recs_of «module».entry.now.bytes)) }
+    ensures few { IfOk result (λ l. length (externals (recs_of «module».entry.now.bytes)) < 32768) }
+{
+    let mut of_external = Vec::new(alloc);
+    for i in 1..module.externals() + 1 {
+        let local = module.local(i).unwrap_or(false);
+        let definer = match module.external(i) {
+            Some(name) => visible_definer(all, own, name.0, local),
+            None => unreachable!(),
+        };
+        of_external.push(definer)?;
+    }
+    Ok(Links { of_external })
+}
+
+impl Linkage {
+    /// The publics that the externals of modules refer to: an EXTDEF or a COMDEF to the PUBDEFs of all modules, a LEXTDEF or an LCOMDEF to
+    /// the LPUBDEFs of its own.
+    ///
+    /// # Errors
+    ///
+    /// `AllocError` if out of memory.
+    pub fn of(alloc: Global, modules: &[Checked]) -> Result<Linkage, AllocError>
+        ensures { IfOk result (IsLinkage (typed_modules modules.now)) }
+    {
+        let all = SourceTable::of(alloc, modules)?;
+        let is_weak = has_pairs(alloc, modules)?;
+        let mut of_module = Vec::new(alloc);
+        for (j, module) in modules.iter().enumerate() {
+            let own = SourceTable::of_locals(alloc, module, j)?;
+            of_module.push(links_of(alloc, &all, &own, module)?)?;
+        }
+        Ok(Linkage {
+            of_module,
+            repeats: all.repeats(),
+            is_weak,
+        })
+    }
+
+    /// Whether two publics of PUBDEFs may have one name: false only if none have.
+    pub fn repeats(&self) -> bool
+        ensures { result ≡ self.now.repeats }
+    {
+        self.repeats
+    }
+}
+
+/// The same as `with_weak`, by what is known of the modules: without a weak external they are not looked at.
+///
+/// # Errors
+///
+/// `AllocError` if out of memory.
+pub fn with_weak_linked(
+    alloc: Global,
+    linkage: &Linkage,
+    modules: &[Checked],
+    places: &[Placement],
+    given: &[Given],
+) -> Result<Vec<Given>, AllocError>
+    requires few { length modules.now < 2 ^ 32 }
+    requires linked { IsLinkage (typed_modules modules.now) linkage.now }
+    requires placed { length places.now ≡ length modules.now }
+    ensures { IfOk result (λ v. v.items ≡ with_weak (placed_modules modules.now places.now) given.now) }
+{
+    if !linkage.is_weak {
+        let entries = given.to_vec(alloc)?;
+        return Ok(entries);
+    }
+    with_weak(alloc, modules, places, given)
+}
+
+/// The place of an external: the given one, or else that of the only public that it refers to.
+fn linked_place(
+    places: &[Placement],
+    given: &GivenTable,
+    definer: Option<Definer>,
     module: u32,
     external: u16,
 ) -> Result<Placed, DeriveFault>
-    ensures { (among : List PlacedPublic) (entries : List Entry) → IsTable table.now.by_name among → IsGivenTable given.now.by_external entries → result ≡ external_place among entries «module» external name.now }
+    ensures { (entries : List Entry) (ps : List Place) → IsGivenTable given.now.by_external entries → found_by places.now definer ≡ summed ps → result ≡ given_or (given_place entries «module» external) (one_public «module» external ps) }
 {
     match given.place_of(module, external) {
         Some(place) => Ok(place),
-        None => table.place_of(name, module, external),
+        None => place_found(found_by(places, definer), module, external),
     }
 }
 
-/// The place of an external with this name, by the publics that it can refer to: those of its own module if it is local, else all.
-pub(crate) fn visible_place<'a>(
-    all: &PublicTable<'a>,
-    own: &PublicTable<'a>,
-    given: &GivenTable,
-    name: &'a [u8],
-    local: bool,
-    module: u32,
-    external: u16,
-) -> Result<Placed, DeriveFault>
-    ensures { (among : Bool → List PlacedPublic) (entries : List Entry) → IsTable all.now.by_name (among false) → IsTable own.now.by_name (among true) → IsGivenTable given.now.by_external entries → result ≡ external_place (among local) entries «module» external name.now }
-{
-    if local {
-        external_place(own, given, name, module, external)
-    } else {
-        external_place(all, given, name, module, external)
-    }
-}
-
-/// The places of the externals of the module with this number, or the fault of the first that has none. A local external refers to the
-/// module's own local publics.
-fn external_places<'a>(
+/// The places of the externals of the module with this number, or the fault of the first that has none.
+fn linked_places(
     alloc: Global,
-    all: &PublicTable<'a>,
-    own: &PublicTable<'a>,
+    links: &Links,
+    places: &[Placement],
     given: &GivenTable,
-    module: &'a Checked,
     number: u32,
 ) -> Result<Vec<Placed>, DeriveFault>
-    ensures { (among : Bool → List PlacedPublic) (entries : List Entry) → IsTable all.now.by_name (among false) → IsTable own.now.by_name (among true) → IsGivenTable given.now.by_external entries → IsFound (external_places among entries number (recs_of «module».entry.now.bytes)) (map_ok (λ v. v.items) result) }
+    requires { length links.now < 65536 }
+    ensures { (among : Bool → List PlacedPublic) (entries : List Entry) (m : List Rec) → IsGivenTable given.now.by_external entries → AreFound places.now links.now among m → IsFound (external_places among entries number m) (map_ok (λ v. v.items) result) }
 {
-    let mut places = Vec::new(alloc);
-    for i in 1..module.externals() + 1 {
-        let local = module.local(i).unwrap_or(false);
-        let place = match module.external(i) {
-            Some(name) => visible_place(all, own, given, name.0, local, number, i),
-            None => unreachable!(),
-        };
-        places.push(place?)?;
+    let mut found = Vec::new(alloc);
+    for (before, definer) in links.of_external.iter().enumerate() {
+        let external = before as u16 + 1;
+        found.push(linked_place(places, given, *definer, number, external)?)?;
     }
-    Ok(places)
+    Ok(found)
 }
 
-/// The derived placements, by tables of the publics and of the given places. Out of memory, it may hide a fault.
+/// The derived placements. Out of memory, it may hide a fault.
 fn try_derive(
     alloc: Global,
+    linkage: &Linkage,
     modules: &[Checked],
     places: &[Placement],
     given: &[Given],
 ) -> Result<Vec<Placement>, DeriveFault>
     requires few { length modules.now < 2 ^ 32 }
-    requires placed { length places.now ≡ length modules.now }
+    requires linked { IsLinkage (typed_modules modules.now) linkage.now }
+    requires placed { AllZip IsPlaceOf (typed_modules modules.now) places.now }
     ensures { IsTried (derived (placed_modules modules.now places.now) given.now) (map_ok (λ v. v.items) result) }
 {
-    let table = PublicTable::of(alloc, modules, places)?;
     let first_given = GivenTable::of(alloc, given)?;
+    let of_module = linkage.of_module.as_slice();
     let mut placements = Vec::new(alloc);
-    for (j, module) in modules.iter().enumerate() {
-        let place = &places[j];
-        let own = PublicTable::of_locals(alloc, module, place)?;
-        let externals = external_places(alloc, &table, &own, &first_given, module, j as u32)?;
+    for (j, place) in places.iter().enumerate() {
+        let links = &of_module[j];
+        let externals = linked_places(alloc, links, places, &first_given, j as u32)?;
         let placement = place.with_externals(externals)?;
         placements.push(placement)?;
     }
     Ok(placements)
+}
+
+/// The first external without a place; `Memory` if each has one.
+fn fault_or_memory(modules: &[Checked], places: &[Placement], given: &[Given]) -> DeriveFault
+    requires few { length modules.now < 2 ^ 32 }
+    requires placed { AllZip IsPlaceOf (typed_modules modules.now) places.now }
+    ensures { IsDerived (derived (placed_modules modules.now places.now) given.now) (Err result) }
+{
+    first_fault(modules, places, given).unwrap_or(DeriveFault::Memory)
+}
+
+/// The same as `derive`, by the publics that the externals refer to: so modules are derived at several places without looking for names
+/// again.
+///
+/// # Errors
+///
+/// Those of `derive`.
+pub fn derive_linked(
+    alloc: Global,
+    linkage: &Linkage,
+    modules: &[Checked],
+    places: &[Placement],
+    given: &[Given],
+) -> Result<Vec<Placement>, DeriveFault>
+    requires few { length modules.now < 2 ^ 32 }
+    requires linked { IsLinkage (typed_modules modules.now) linkage.now }
+    requires placed { AllZip IsPlaceOf (typed_modules modules.now) places.now }
+    ensures { IsDerived (derived (placed_modules modules.now places.now) given.now) (map_ok (λ v. v.items) result) }
+{
+    match try_derive(alloc, linkage, modules, places, given) {
+        Err(DeriveFault::Memory) => Err(fault_or_memory(modules, places, given)),
+        answer => answer,
+    }
 }
 
 /// Derives the placement of each module: the segments and groups of its placement in `places`, and a place for each of its externals.
@@ -127,10 +271,8 @@ pub fn derive(
     requires placed { AllZip IsPlaceOf (typed_modules modules.now) places.now }
     ensures { IsDerived (derived (placed_modules modules.now places.now) given.now) (map_ok (λ v. v.items) result) }
 {
-    match try_derive(alloc, modules, places, given) {
-        Err(DeriveFault::Memory) => {
-            Err(first_fault(modules, places, given).unwrap_or(DeriveFault::Memory))
-        }
-        answer => answer,
+    match Linkage::of(alloc, modules) {
+        Ok(linkage) => derive_linked(alloc, &linkage, modules, places, given),
+        Err(AllocError) => Err(fault_or_memory(modules, places, given)),
     }
 }

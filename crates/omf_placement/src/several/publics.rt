@@ -33,7 +33,7 @@ pub enum Found {
 }
 
 /// The place at the start of the frame with this number.
-fn paragraph(number: u16) -> Placed
+pub(crate) fn paragraph(number: u16) -> Placed
     ensures { result ≡ paragraph number }
 {
     let base = 16 * u32::from(number);
@@ -49,7 +49,7 @@ fn paragraph(number: u16) -> Placed
 
 /// The base of a PUBDEF with these indices of its group and its segment, and, if the segment is 0, this number of its base frame. `None` if
 /// the placement has no entry for one of them.
-fn base_of(
+pub(crate) fn base_of(
     placement: &Placement,
     group: Index,
     segment: Index,

@@ -5,7 +5,7 @@ ghost use Rattle.std.specs.List.{enumerate_from};
 ghost use Rattle.omf_check.specs.Module.{recs_of, typed_modules};
 ghost use Rattle.omf_check.specs.Tables.{entry};
 ghost use Rattle.omf_placement.specs.Derive.{PlacedModule, PlacedPublic, placed_modules, seen_publics};
-ghost use Rattle.omf_placement.specs.Inner.Derived.{external_places};
+ghost use Rattle.omf_placement.specs.Inner.Derived.{external_place, external_places};
 ghost use Rattle.omf_placement.specs.Inner.GivenTable.{IsGivenTable};
 ghost use Rattle.omf_placement.specs.Inner.PublicTable.{IsTable};
 ghost use Rattle.omf_placement.specs.Weak.{default_place, is_undefined, pair_given, weak_in, weak_pairs, with_weak};
@@ -15,7 +15,6 @@ use crate::frame::{Frame, Placed};
 use crate::placement::Placement;
 use crate::several::fault::DeriveFault;
 use crate::several::given::{Given, GivenTable};
-use crate::several::linkage::visible_place;
 use crate::several::pairs::{WeakPair, weak_pairs};
 use crate::several::publics::PublicTable;
 use omf_check::{Checked, entry_of};
@@ -72,6 +71,41 @@ fn pair_given(module: u32, outcomes: &[Outcome], pair: WeakPair) -> Option<Given
         address: place.address,
         frame: place.frame,
     })
+}
+
+/// The place of an external with this name: the given one, or else that of the only public with its name.
+fn external_place<'a>(
+    table: &PublicTable<'a>,
+    given: &GivenTable,
+    name: &'a [u8],
+    module: u32,
+    external: u16,
+) -> Result<Placed, DeriveFault>
+    ensures { (among : List PlacedPublic) (entries : List Entry) → IsTable table.now.by_name among → IsGivenTable given.now.by_external entries → result ≡ external_place among entries «module» external name.now }
+{
+    match given.place_of(module, external) {
+        Some(place) => Ok(place),
+        None => table.place_of(name, module, external),
+    }
+}
+
+/// The place of an external with this name, by the publics that it can refer to: those of its own module if it is local, else all.
+fn visible_place<'a>(
+    all: &PublicTable<'a>,
+    own: &PublicTable<'a>,
+    given: &GivenTable,
+    name: &'a [u8],
+    local: bool,
+    module: u32,
+    external: u16,
+) -> Result<Placed, DeriveFault>
+    ensures { (among : Bool → List PlacedPublic) (entries : List Entry) → IsTable all.now.by_name (among false) → IsTable own.now.by_name (among true) → IsGivenTable given.now.by_external entries → result ≡ external_place (among local) entries «module» external name.now }
+{
+    if local {
+        external_place(own, given, name, module, external)
+    } else {
+        external_place(all, given, name, module, external)
+    }
 }
 
 /// Returns the outcomes of the externals of the module with this number, in order.
@@ -144,7 +178,7 @@ fn put_module<'a>(
 }
 
 /// Returns whether some module has a pair.
-fn has_pairs(alloc: Global, modules: &[Checked]) -> Result<bool, AllocError>
+pub(crate) fn has_pairs(alloc: Global, modules: &[Checked]) -> Result<bool, AllocError>
     ensures { IfOk result (λ b. b ≡ false → flat_map weak_pairs (typed_modules modules.now) ≡ []) }
 {
     for module in modules {

@@ -1,6 +1,5 @@
 use Rattle.std.proofs.Common.{◌∙◌, ap}
 use Rattle.omf_check.specs.Module.{records_in}
-use Rattle.omf_records.specs.Inner.Seen.{contents_seen, kind_seen}
 use Rattle.omf_placement.specs.Derive.{record_publics}
 use Rattle.omf_placement.specs.Inner.PublicTable.{IsTable}
 use Rattle.omf_placement.proofs.Filling.{fill-start, fill-more, fill-end}
