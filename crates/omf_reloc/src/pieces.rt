@@ -1,13 +1,13 @@
 //! The pieces of a checked module: its records and its fixups, with threads resolved.
 
-ghost use Rattle.std.specs.Prelude.{◌≡◌, ◌∷◌, map, None, option_map};
+ghost use Rattle.std.specs.Prelude.{◌≡◌, ◌∷◌, [], map, IfNone, IfSome, None, option_map};
 ghost use Rattle.omf_image.specs.Limits.{profile_limits};
 ghost use Rattle.omf_check.specs.Inner.Kept.{no_threads};
 ghost use Rattle.omf_check.specs.Listed.{placed_from};
 ghost use Rattle.omf_check.specs.Module.{recs_of, records_in};
 ghost use Rattle.omf_check.specs.Sound.{ModuleHolds};
 ghost use Rattle.omf_reloc.specs.Inner.PieceSeen.{step_seen, placed_seen};
-ghost use Rattle.omf_reloc.specs.Inner.Pieces.{subrecord_step, contents_steps, open_steps, steps_from, threads_behind, end_at, single_pieces, reference_places, placed_pieces, SubrecordIsSet, ContentsAreSet, OpenIsSet, RecordsAreSet};
+ghost use Rattle.omf_reloc.specs.Inner.Pieces.{subrecord_step, contents_steps, open_steps, threads_behind, end_at, single_pieces, reference_places, placed_pieces, SubrecordIsSet, ContentsAreSet, OpenIsSet, RecordsAreSet};
 ghost use Rattle.omf_reloc.specs.Inner.Widths.{fixupp_type, modend_type};
 ghost use Rattle.omf_reloc.specs.Plain.{End};
 ghost use Rattle.omf_reloc.specs.Inner.Walking.{plain_by, threads_after};
@@ -117,27 +117,28 @@ fn end_piece<'a>(
     }
 }
 
-/// A walk over the records and the subrecords of FIXUPPs. Each step gives a piece or nothing.
-#[derive(Drop)]
-struct Steps<'a> {
-    records: UndecodedRecords<'a>,
-    /// The FIXUPP being read.
-    fixups: Option<OpenFixups<'a>>,
-    /// The threads in force.
-    threads: Threads,
-}
-
-impl<'a> Model for Steps<'a> {
-    ghost use Rattle.std.specs.Prelude.{List, Option};
-    ghost use Rattle.omf_frame.specs.declared.fault.Place.{Place as PlaceModel};
-    ghost use Rattle.omf_reloc.specs.Plain.{Piece as Plain};
-    ghost use Rattle.omf_reloc.specs.Inner.Pieces.{steps_left, AreSet};
-
-    ghost Value = { List (Option (PlaceModel × Plain)) };
-
-    ghost view = { λ s. steps_left s.threads s.fixups s.records };
-
-    ghost invariant = { λ s. AreSet s.threads s.fixups s.records };
+/// Takes the next subrecord of the FIXUPP being read: sets its thread, or gives its fixup. `None` if none is left; then no FIXUPP is read.
+#[inline(always)]
+fn open_step<'a>(
+    threads: &mut Threads,
+    fixups: &mut Option<OpenFixups<'_>>,
+) -> Option<Option<(Place, Piece<'a>)>>
+    requires { OpenIsSet threads.old fixups.old }
+    ensures some { IfSome result (λ step. open_steps threads.old fixups.old ≡ step_seen step ∷ open_steps threads.new fixups.new) }
+    ensures none { IfNone result (open_steps threads.old fixups.old ≡ []) }
+    ensures closed { IfNone result (fixups.new ≡ None) }
+    ensures threads { threads_behind threads.new fixups.new ≡ threads_behind threads.old fixups.old }
+    ensures set { OpenIsSet threads.new fixups.new }
+{
+    if let Some(open) = fixups {
+        if let Some(subrecord) = open.left.next() {
+            let step = subrecord_step(threads, open.place, open.width, &subrecord);
+            threads.set(&subrecord.item);
+            return Some(step);
+        }
+        *fixups = None;
+    }
+    None
 }
 
 /// The piece of a record that is decoded; one that is neither a FIXUPP nor a MODEND is kept as it was. A FIXUPP has none; its subrecords
@@ -189,79 +190,42 @@ fn decoded_step<'a>(
     }
 }
 
-/// The piece of a record. A FIXUPP has none; its subrecords come next. Only a FIXUPP and a MODEND are decoded.
-fn record_step<'a>(
-    threads: &Threads,
-    at: Place,
-    record: Undecoded<'a>,
-) -> (Option<(Place, Piece<'a>)>, Option<OpenFixups<'a>>)
-    requires { ContentsAreSet threads.now «record».contents }
-    ensures step { step_seen result.0 ∷ open_steps threads.now result.1 ≡ contents_steps threads.now at «record».entry.kind «record».entry.contents }
-    ensures threads { threads_behind threads.now result.1 ≡ threads_after threads.now «record».entry.contents }
-    ensures set { OpenIsSet threads.now result.1 }
-{
-    match record.references() {
-        Some(rec) => decoded_step(threads, at, &rec, record),
-        None => (Some((at, Piece::Kept(record))), None),
-    }
-}
-
-impl<'a> Steps<'a> {
-    /// A walk from the first record on.
-    fn new(records: UndecodedRecords<'a>) -> Steps<'a>
-        requires { RecordsAreSet no_threads records }
-        ensures { result ≡ steps_from no_threads records.entry }
-    {
-        Steps {
-            records,
-            fixups: None,
-            threads: Threads::new(),
-        }
-    }
-}
-
-impl<'a> Iterator for Steps<'a> {
-    ghost use Rattle.std.specs.Iterator.{YieldsFirstBy, item_count};
-    ghost use Rattle.omf_reloc.specs.Inner.PieceSeen.{step_seen};
-
-    type Item = Option<(Place, Piece<'a>)>;
-
-    ghost next_gives = { YieldsFirstBy step_seen (λ s. s) };
-
-    ghost remaining = { item_count (λ s. s) };
-
-    fn next(&mut self) -> Option<Option<(Place, Piece<'a>)>> {
-        if let Some(open) = &mut self.fixups {
-            if let Some(subrecord) = open.left.next() {
-                let step = subrecord_step(&self.threads, open.place, open.width, &subrecord);
-                self.threads.set(&subrecord.item);
-                return Some(step);
-            }
-        }
-        self.fixups = None;
-        let (place, record) = self.records.next()?;
-        let (step, fixups) = record_step(&self.threads, place, record);
-        self.fixups = fixups;
-        Some(step)
-    }
-}
-
 /// An iterator over a module's pieces, each with its place: a record is at its type byte, a fixup at its first byte, and the MODEND at the
 /// fix data byte of its start, or at its type byte if it names no start.
 #[derive(Drop)]
 pub struct Pieces<'a> {
-    steps: Steps<'a>,
+    records: UndecodedRecords<'a>,
+    /// The FIXUPP being read.
+    fixups: Option<OpenFixups<'a>>,
+    /// The threads in force.
+    threads: Threads,
 }
 
 impl<'a> Model for Pieces<'a> {
     ghost use Rattle.std.specs.Prelude.{List};
     ghost use Rattle.omf_frame.specs.declared.fault.Place.{Place as PlaceModel};
     ghost use Rattle.omf_reloc.specs.Plain.{Piece as Plain};
-    ghost use Rattle.omf_reloc.specs.Inner.Pieces.{given};
+    ghost use Rattle.omf_reloc.specs.Inner.Pieces.{given, steps_left, AreSet};
 
     ghost Value = { List (PlaceModel × Plain) };
 
-    ghost view = { λ p. given p.steps };
+    ghost view = { λ p. given (steps_left p.threads p.fixups p.records) };
+
+    ghost invariant = { λ p. AreSet p.threads p.fixups p.records };
+}
+
+impl<'a> Pieces<'a> {
+    /// Those of these records, from the first on.
+    fn new(records: UndecodedRecords<'a>) -> Pieces<'a>
+        requires { RecordsAreSet no_threads records }
+        ensures { result ≡ placed_pieces records.entry }
+    {
+        Pieces {
+            records,
+            fixups: None,
+            threads: Threads::new(),
+        }
+    }
 }
 
 impl<'a> Iterator for Pieces<'a> {
@@ -275,12 +239,23 @@ impl<'a> Iterator for Pieces<'a> {
     ghost remaining = { item_count (λ s. s) };
 
     fn next(&mut self) -> Option<(Place, Piece<'a>)> {
-        while let Some(step) = self.steps.next() {
-            if step.is_some() {
-                return step;
+        loop {
+            if let Some(step) = open_step(&mut self.threads, &mut self.fixups) {
+                if step.is_some() {
+                    return step;
+                }
+            } else {
+                let (place, record) = self.records.next()?;
+                let Some(rec) = record.references() else {
+                    return Some((place, Piece::Kept(record)));
+                };
+                let (end, fixups) = decoded_step(&self.threads, place, &rec, record);
+                self.fixups = fixups;
+                if end.is_some() {
+                    return end;
+                }
             }
         }
-        None
     }
 }
 
@@ -291,7 +266,5 @@ pub fn pieces_of(module: &Checked) -> Pieces<'_>
     ensures places { reference_places result ≡ all_reference_places (recs_of «module».now.bytes) }
     ensures holds { ModuleHolds profile_limits (recs_of «module».now.bytes) }
 {
-    Pieces {
-        steps: Steps::new(module.undecoded()),
-    }
+    Pieces::new(module.undecoded())
 }

@@ -5,7 +5,7 @@ use Rattle.omf_image.specs.Limits.{profile_limits}
 use Rattle.omf_records.specs.Values.{Rec}
 use Rattle.omf_check.specs.Module.{records_in}
 use Rattle.omf_check.specs.WellFormed.{recs}
-use Rattle.omf_reloc.specs.Inner.Pieces.{given, placed_pieces, reference_places}
+use Rattle.omf_reloc.specs.Inner.Pieces.{placed_pieces, reference_places}
 use Rattle.omf_reloc.proofs.PieceLaws.{pieces-listed, pieces-placed, records-set}
 use Rattle.omf_reloc.proofs.WalkedLaws.{records-listed}
 use Rattle.omf_reloc.proofs.pieces.pieces_of.Goals as goal
@@ -21,10 +21,10 @@ new-requires c =
 pub returns-clause-listed : goal.returns-clause-listed
 returns-clause-listed c =
     let raws = records_in c.args.module.now.bytes in
-    ap (λ s. map (λ p. p.1) (given s)) c.new.ensures
+    ap (λ s. map (λ p. p.1) s) c.new.ensures
     ∙ pieces-listed (recs raws) c.undecoded.result (ap without_places c.undecoded.ensures.listed ∙ records-listed 0 0 raws)
 
 pub returns-clause-places : goal.returns-clause-places
 returns-clause-places c =
     let raws = records_in c.args.module.now.bytes in
-    ap (λ s. reference_places (given s)) c.new.ensures ∙ ap (λ xs. reference_places (placed_pieces xs)) c.undecoded.ensures.listed ∙ pieces-placed raws
+    ap reference_places c.new.ensures ∙ ap (λ xs. reference_places (placed_pieces xs)) c.undecoded.ensures.listed ∙ pieces-placed raws
