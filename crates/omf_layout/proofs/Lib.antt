@@ -14,3 +14,4 @@ pub mod ReadLaws
 pub mod SeveralLaws
 pub mod OwnLaws
 mod OrderModule
+mod ComdefLaws

@@ -1,5 +1,6 @@
 -- The names that the PUBDEF and COMDEF records of modules define (TIS OMF 1.1, "PUBDEF", "COMDEF").
-use Rattle.std.specs.Prelude.{ℕ, List, [], map, flat_map, if◌then◌else◌}
+use Rattle.std.specs.Prelude.{ℕ, Bool, true, false, List, [], map, flat_map, if◌then◌else◌}
+use Rattle.std.specs.List.{list_any}
 use Rattle.omf_frame.specs.Types.{is_local}
 use Rattle.omf_records.specs.Values.{At, Rec, Contents, Publics, Communals, PublicItem, CommunalItem, CommunalSize, Near, Far}
 use Rattle.omf_layout.specs.declared.own.claims.ClaimKind.{ClaimKind}
@@ -42,3 +43,17 @@ module_claims m = flat_map (λ r. record_claims r.kind r.contents) m
 
 abbrev pub all_claims : List (List Rec) → List (Named Claim)
 all_claims ms = flat_map module_claims ms
+
+-- Whether a record is a COMDEF, and whether a module has one, or one of several modules.
+abbrev pub holds_communals : Contents → Bool
+holds_communals (Communals items) = true
+holds_communals _ = false
+
+abbrev pub is_comdef : ℕ → Contents → Bool
+is_comdef kind c = if is_local kind then false else holds_communals c
+
+abbrev pub has_comdef : List Rec → Bool
+has_comdef m = list_any (λ r. is_comdef r.kind r.contents) m
+
+abbrev pub have_comdefs : List (List Rec) → Bool
+have_comdefs ms = list_any has_comdef ms

@@ -4,7 +4,7 @@ ghost use Rattle.std.specs.Prelude.{◌≡◌, ◌++◌, OnOk, IfOk, map};
 ghost use Rattle.omf_check.specs.Module.{recs_of, typed_modules};
 ghost use Rattle.omf_records.specs.Inner.Seen.{contents_seen, kind_seen};
 ghost use Rattle.omf_records.specs.Inner.Sizes.{size_seen};
-ghost use Rattle.omf_layout.specs.Own.Claims.{all_claims, claimed, communal_claim, kind_of, module_claims, public_claim, record_claims};
+ghost use Rattle.omf_layout.specs.Own.Claims.{all_claims, claimed, communal_claim, has_comdef, have_comdefs, is_comdef, kind_of, module_claims, public_claim, record_claims};
 ghost use Rattle.omf_layout.specs.Several.Gathered.{named};
 
 use crate::wants::room_of;
@@ -155,4 +155,43 @@ pub fn claims_of<'a>(
         add_module(&mut claims, module)?;
     }
     Ok(claims)
+}
+
+/// Returns whether a record is a COMDEF.
+fn is_comdef(rec: &Rec<'_>) -> bool
+    ensures { result ≡ is_comdef (kind_seen rec.now) (contents_seen rec.now) }
+{
+    matches!(rec, Rec::Communals(_))
+}
+
+/// The same for a record that is not decoded yet. It is decoded only if it has externals or communals.
+fn is_undecoded_comdef(record: &Undecoded<'_>) -> bool
+    ensures { result ≡ is_comdef «record».now.kind «record».now.contents }
+{
+    match record.externals() {
+        Some(rec) => is_comdef(&rec),
+        None => false,
+    }
+}
+
+/// Returns whether a module has a COMDEF.
+fn has_comdef(module: &Checked) -> bool
+    ensures { result ≡ has_comdef (recs_of «module».now.bytes) }
+{
+    let mut found = false;
+    for (_, record) in module.undecoded() {
+        found = found || is_undecoded_comdef(&record);
+    }
+    found
+}
+
+/// Returns whether one of the modules has a COMDEF.
+pub(crate) fn have_comdefs(modules: &[Checked]) -> bool
+    ensures { result ≡ have_comdefs (typed_modules modules.now) }
+{
+    let mut found = false;
+    for module in modules {
+        found = found || has_comdef(module);
+    }
+    found
 }

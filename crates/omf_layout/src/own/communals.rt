@@ -9,7 +9,7 @@ ghost use Rattle.omf_layout.specs.Own.Communals.{AreCommunals, IsCommunalsFault,
 ghost use Rattle.omf_layout.specs.Own.Written.{framed, written};
 
 use crate::draft::group_name;
-use crate::own::claims::{Claim, ClaimKind, claims_of};
+use crate::own::claims::{Claim, ClaimKind, claims_of, have_comdefs};
 use crate::own::fault::{CommunalReason, CommunalsFault};
 use crate::own::records::{
     Public, Segment, put_end, put_group, put_header, put_names, put_public, put_segment,
@@ -141,6 +141,9 @@ fn communals_in<'a>(
     ensures sound { IfOk result (λ v. faults_of (typed_modules modules.entry.now) ≡ []) }
     ensures fault { IfErr result (IsCommunalsFault (typed_modules modules.entry.now)) }
 {
+    if !have_comdefs(modules) {
+        return Ok(Vec::new(alloc));
+    }
     let Ok(claims) = claims_of(alloc, modules) else {
         return Err(CommunalsFault::Memory);
     };
@@ -319,6 +322,7 @@ fn put_near_publics(
     requires { near_room communals.now < 2 ^ 32 }
     ensures { OnOk result (out.new.items ≡ out.old.items ++ written (near_publics (group_index grouped) 0 (nears communals.now))) }
 {
+    let mut body = Vec::new(alloc);
     let mut offset = 0;
     for communal in communals {
         if !communal.far {
@@ -328,7 +332,7 @@ fn put_near_publics(
                 name: &Name(communal.name),
                 offset: offset as u32,
             };
-            put_public(alloc, out, &public)?;
+            put_public(&mut body, out, &public)?;
             offset += room(communal);
         }
     }
@@ -352,6 +356,7 @@ fn put_far_publics(
     requires { length communals.now ≤ 32766 }
     ensures { OnOk result (out.new.items ≡ out.old.items ++ written (far_publics (first_far communals.now) (fars communals.now))) }
 {
+    let mut body = Vec::new(alloc);
     let mut index = first_far(communals);
     for communal in communals {
         if communal.far {
@@ -361,7 +366,7 @@ fn put_far_publics(
                 name: &Name(communal.name),
                 offset: 0,
             };
-            put_public(alloc, out, &public)?;
+            put_public(&mut body, out, &public)?;
             index += 1;
         }
     }

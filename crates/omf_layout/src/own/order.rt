@@ -191,6 +191,7 @@ fn put_publics(
     requires { segment < 32768 }
     ensures { OnOk result (out.new.items ≡ out.old.items ++ written (end_publics segment names.now)) }
 {
+    let mut body = Vec::new(alloc);
     for name in names {
         let public = Public {
             group: Index(1),
@@ -198,7 +199,7 @@ fn put_publics(
             name: &Name(name.0),
             offset: 0,
         };
-        put_public(alloc, out, &public)?;
+        put_public(&mut body, out, &public)?;
     }
     Ok(())
 }

@@ -124,22 +124,22 @@ pub(crate) struct Public<'a> {
     pub offset: u32,
 }
 
-/// Appends a PUBDEF of type 91H with one public (TIS OMF 1.1, "PUBDEF").
+/// Appends a PUBDEF of type 91H with one public (TIS OMF 1.1, "PUBDEF"). Its contents are built in `body`, whatever that had.
 pub(crate) fn put_public(
-    alloc: Global,
+    body: &mut Vec<u8>,
     out: &mut Vec<u8>,
     public: &Public<'_>,
 ) -> Result<(), AllocError>
     requires { length public.now.name.now < 256 }
     ensures { OnOk result (out.new.items ≡ out.old.items ++ framed (public_record public.now.group public.now.segment public.now.name.now public.now.offset)) }
 {
-    let mut body = Vec::new(alloc);
-    public.group.put(&mut body)?;
-    public.segment.put(&mut body)?;
-    public.name.put(&mut body)?;
-    Le32(public.offset).put(&mut body)?;
-    Index(0).put(&mut body)?;
-    put_record(out, 0x91, &body)
+    body.clear();
+    public.group.put(body)?;
+    public.segment.put(body)?;
+    public.name.put(body)?;
+    Le32(public.offset).put(body)?;
+    Index(0).put(body)?;
+    put_record(out, 0x91, body)
 }
 
 /// Appends a MODEND of a module that is not a main module (TIS OMF 1.1, "MODEND").

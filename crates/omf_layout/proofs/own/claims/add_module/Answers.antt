@@ -1,7 +1,6 @@
 use Rattle.std.proofs.Common.{◌++◌, ap, ◌∙◌}
 use Rattle.std.specs.Prelude.{map}
 use Rattle.omf_check.specs.Module.{records_in}
-use Rattle.omf_records.specs.Inner.Seen.{contents_seen, kind_seen}
 use Rattle.omf_layout.specs.Own.Claims.{record_claims}
 use Rattle.omf_layout.specs.Several.Gathered.{named}
 use Rattle.omf_layout.proofs.Gathered.{more-given, all-given}
